@@ -8,7 +8,7 @@ use Rattle.std.proofs.lemmas.List.Sums.{fold-append, fold_more}
 use Rattle.std.proofs.lemmas.Nat.{pow-add, same_from_place}
 use Rattle.std.specs.Int.{byte_at, bytes_high_first}
 
--- the number that these bytes make behind those that made `high`
+-- the number that these bytes make after those that made `high`
 abbrev pub number_onto : ℕ → List ℕ → ℕ
 number_onto high bytes = fold (λ number byte. number * 256 + byte) high bytes
 

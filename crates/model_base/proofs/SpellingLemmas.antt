@@ -110,7 +110,7 @@ slice_index-append (x ∷ xs) ys some = refl
 pub same_number : (k m n : ℕ) → m < 256 ^ k → n < 256 ^ k → bytes_high_first k m ≡ bytes_high_first k n → m ≡ n
 same_number k m n sm sn same = sym (number-bytes k m sm) ∙ ap (number_onto 0) same ∙ number-bytes k n sn
 
--- two lists of one length with something behind them that begin the same text
+-- two lists of one length with something after them that begin the same text
 same_fronts : (xs ys x y : List ℕ) → length xs ≡ length ys → xs ++ x ≡ ys ++ y → (xs ≡ ys) × (x ≡ y)
 same_fronts xs ys x y len same =
     let front : xs ≡ ys = sym (take_at xs x (length ys) len) ∙ ap (take (length ys)) same ∙ take_at ys y (length ys) refl in

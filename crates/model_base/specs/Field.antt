@@ -6,6 +6,6 @@ use Rattle.byteorder.specs.Endian.{big_number}
 abbrev pub field : ℕ → ℕ → List ℕ → ℕ
 field n at bytes = big_number n (drop at bytes)
 
--- the bytes, with zeros behind them up to n bytes
+-- the bytes, with zeros after them up to n bytes
 abbrev pub padded_to : ℕ → List ℕ → List ℕ
 padded_to n bytes = bytes ++ replicate (n - length bytes) 0

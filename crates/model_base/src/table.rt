@@ -22,7 +22,7 @@ pub const SEVEN_BITS: Row = Row {
     text: 0,
 };
 
-/// Numbers of up to 14 bits, behind the mark 80.
+/// Numbers of up to 14 bits, after the mark 80.
 pub const FOURTEEN_BITS: Row = Row {
     first: 0x80,
     last: 0x3FFF,
@@ -30,7 +30,7 @@ pub const FOURTEEN_BITS: Row = Row {
     text: 0x8080,
 };
 
-/// Numbers of up to 21 bits, behind the mark C0.
+/// Numbers of up to 21 bits, after the mark C0.
 pub const TWENTY_ONE_BITS: Row = Row {
     first: 0x4000,
     last: 0x1F_FFFF,
@@ -38,7 +38,7 @@ pub const TWENTY_ONE_BITS: Row = Row {
     text: 0xC0_4000,
 };
 
-/// Numbers of up to 28 bits, behind the mark E0.
+/// Numbers of up to 28 bits, after the mark E0.
 pub const TWENTY_EIGHT_BITS: Row = Row {
     first: 0x20_0000,
     last: 0x0FFF_FFFF,
@@ -46,7 +46,7 @@ pub const TWENTY_EIGHT_BITS: Row = Row {
     text: 0xE020_0000,
 };
 
-/// Numbers in four bytes, behind the byte F0.
+/// Numbers in four bytes, after the byte F0.
 pub const WHOLE: Row = Row {
     first: 0x1000_0000,
     last: 0xFEFF_FFFF,
@@ -54,7 +54,7 @@ pub const WHOLE: Row = Row {
     text: 0xF0_1000_0000,
 };
 
-/// Numbers just below 2^32, by their low 24 bits, behind the byte FE.
+/// Numbers just below 2^32, by their low 24 bits, after the byte FE.
 pub const LOW_24_BITS: Row = Row {
     first: 0xFF00_0000,
     last: 0xFFFD_FFFF,
@@ -62,7 +62,7 @@ pub const LOW_24_BITS: Row = Row {
     text: 0xFE00_0000,
 };
 
-/// Numbers just below 2^32, by their low 17 bits, behind the mark FC.
+/// Numbers just below 2^32, by their low 17 bits, after the mark FC.
 pub const LOW_17_BITS: Row = Row {
     first: 0xFFFE_0000,
     last: 0xFFFF_FBFF,
@@ -70,7 +70,7 @@ pub const LOW_17_BITS: Row = Row {
     text: 0xFC_0000,
 };
 
-/// Numbers just below 2^32, by their low 10 bits, behind the mark F8.
+/// Numbers just below 2^32, by their low 10 bits, after the mark F8.
 pub const LOW_10_BITS: Row = Row {
     first: 0xFFFF_FC00,
     last: 0xFFFF_FFFF,

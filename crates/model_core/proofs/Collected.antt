@@ -1,5 +1,5 @@
 -- What is collected below a number, and that a group has a text.
-use Rattle.std.proofs.Common.{List, [], ap, arith, length, length-append, refl, suc, zero, ℕ, ◌++◌, ◌+◌, ◌<◌, ◌∷◌, ◌≡◌}
+use Rattle.std.proofs.Common.{List, [], ap, arith, length, length-append, refl, suc, ℕ, ◌++◌, ◌+◌, ◌<◌, ◌∷◌, ◌≡◌}
 use Rattle.std.specs.List.{flat_map}
 use Rattle.model_core.specs.Changes.{collected}
 use Rattle.model_log.specs.{group_text, IsGroup, record_text, single_text}

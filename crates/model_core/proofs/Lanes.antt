@@ -175,7 +175,7 @@ pub lsn_within : (x i : ℕ) → i < left_in_word x → lsn (x + i) ≡ lsn x + 
 unfolding lsn
 lsn_within x i l = omega arith
 
--- behind them the next word begins
+-- after them the next word begins
 pub later_word : (x y : ℕ) → x + left_in_word x ≤ y → lsn x / 8 < lsn y / 8
 unfolding lsn
 later_word x y h = omega arith
@@ -260,7 +260,7 @@ module _ (u : UserState) where
 pub lanes_decide : (xs ys : List ℕ) → ((i : ℕ) → slice_index xs i ≡ slice_index ys i) → from_le_bytes w64 xs ≡ from_le_bytes w64 ys
 lanes_decide xs ys h = omega (arith, h 0, h 1, h 2, h 3, h 4, h 5, h 6, h 7)
 
--- zeros behind change nothing
+-- zeros at the end change nothing
 pub zeros_behind : (xs : List ℕ) (n i : ℕ) → slice_index (xs ++ replicate n 0) i ≡ slice_index xs i
 zeros_behind [] zero i = refl
 zeros_behind [] (suc n) zero = refl

@@ -6,6 +6,9 @@ pub mod Groups
 pub mod Lanes
 pub mod Lists
 pub mod Lsns
+pub mod TailHolders
+pub mod Tails
+pub mod TailsFree
 pub mod Waiting
 pub mod WaitingWords
 pub mod WordCounts

@@ -19,6 +19,11 @@ module _ {A : Type 0} where
   set_else (x ∷ xs) (suc i) zero a n = refl
   set_else (x ∷ xs) (suc i) (suc j) a n = set_else xs i j a (λ e. n (ap suc e))
 
+  pub set_at : (l : List A) (i : ℕ) (a b : A) → get_elem? l i ≡ some a → get_elem? (set l i b) i ≡ some b
+  set_at [] i a b e = absurd (some-ne-none a (sym e))
+  set_at (x ∷ xs) zero a b e = refl
+  set_at (x ∷ xs) (suc i) a b e = set_at xs i a b e
+
   pub set_again : (l : List A) (i : ℕ) (a : A) → get_elem? l i ≡ some a → set l i a ≡ l
   set_again [] i a e = refl
   set_again (x ∷ xs) zero a e = λ k. sym (some-injective x a e) k ∷ xs

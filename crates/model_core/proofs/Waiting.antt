@@ -1,18 +1,21 @@
 -- What a wait leaves: the actor checks FAILED next, and then takes the same step again, or begins its round anew.
 use Rattle.std.proofs.Common.{Bool, [], cond, eqb, false, length, refl, true, ℕ, ◌+◌, ◌-◌, ◌≡◌}
 use Rattle.model_core.specs.Actors.{Actor}
+use Rattle.model_core.specs.Advancing.{advance_took, frees, stays_put}
 use Rattle.model_core.specs.Answers.{has_taken, heard, old_of, on_take}
 use Rattle.model_core.specs.CheckpointerProgram.{checkpointer_took, is_above}
 use Rattle.model_core.specs.CleanerProgram.{cleaner_took, next_in_round}
 use Rattle.model_core.specs.CloserProgram.{closer_took}
 use Rattle.model_core.specs.FlusherProgram.{flusher_took}
 use Rattle.model_core.specs.Program.{is_checking, own_took}
-use Rattle.model_core.specs.States.{CheckpointerState, CleanerState, CloserState, FlusherState, UserState, WriterState}
+use Rattle.model_core.specs.States.{Advance, CheckpointerState, CleanerState, CloserState, FlusherState, UserState, WriterState}
+use Rattle.model_core.specs.Tails.{tail_of}
 use Rattle.model_core.specs.UserProgram.{can_close, can_link, has_passed, has_room, has_space, user_took}
-use Rattle.model_core.specs.Waiting.{checkpointer_again, checkpointer_waits, cleaner_again, cleaner_waits, closer_waits, finds_none, flusher_waits, opposite, user_again, user_waits, waits, writer_waits}
-use Rattle.model_core.specs.WriterProgram.{has_log_space, stands_outside, writer_took}
+use Rattle.model_core.specs.Waiting.{checkpointer_again, checkpointer_waits, cleaner_again, cleaner_waits, closer_again, closer_waits, finds_none, flusher_waits, opposite, user_again, user_waits, waits, writer_again, writer_waits}
+use Rattle.model_core.specs.WriterProgram.{finds_no_more, has_log_space, stands_outside, tail_after, writer_took}
 use Rattle.model_core.specs.declared.limits.TheConstants.{BATCH_PAGES}
 use Rattle.model_core.specs.declared.ops.Answer.{Answer}
+use Rattle.model_core.specs.declared.steps.AdvanceStep.{AdvanceStep}
 use Rattle.model_core.specs.declared.steps.CheckpointerStep.{CheckpointerStep}
 use Rattle.model_core.specs.declared.steps.CleanerStep.{CleanerStep}
 use Rattle.model_core.specs.declared.steps.CloserStep.{CloserStep}
@@ -21,6 +24,7 @@ use Rattle.model_core.specs.declared.steps.UserStep.{UserStep}
 use Rattle.model_core.specs.declared.steps.WriterStep.{WriterStep}
 use Rattle.model_core.specs.Actors as actor
 use Rattle.model_core.specs.declared.ops.Answer.TheVariants as answer
+use Rattle.model_core.specs.declared.steps.AdvanceStep.TheVariants as advance_step
 use Rattle.model_core.specs.declared.steps.CheckpointerStep.TheVariants as checkpointer_step
 use Rattle.model_core.specs.declared.steps.CleanerStep.TheVariants as cleaner_step
 use Rattle.model_core.specs.declared.steps.CloserStep.TheVariants as closer_step
@@ -36,12 +40,19 @@ user_else : (b : Bool) (x y : UserState) (s : UserStep) → opposite b ≡ true 
 user_else true x y s e h = absurd (cc)
 user_else false x y s e h = h
 
+-- an advance of a user that leaves the tail where it was
+stayed : (u : UserState) (v : Advance) (on first : UserStep) (b : Bool) → b ≡ true → UserIs (record u { advance = v; checks = b; step = cond b first on }) first
+stayed u v on first true e = (refl, refl)
+stayed u v on first false e = absurd (cc)
+
 pub user_wait : (u : UserState) (n : ℕ) (s : UserStep) → user_waits u n s ≡ true → UserIs (user_took u n s) (user_again s)
 user_wait u n user_step.LoadSn e = user_else (has_space u n) _ _ user_step.LoadCheckpoint e (refl, refl)
 user_wait u n user_step.TakeLatch e = user_else (eqb n 0) _ _ user_step.TakeLatch e (refl, refl)
 user_wait u n user_step.LoadWrite e = user_else (has_room u n) _ _ user_step.LoadWrite e (refl, refl)
-user_wait u n user_step.LoadWtail e = user_else (can_link u n) _ _ user_step.LoadWtail e (refl, refl)
-user_wait u n user_step.LoadCtail e = user_else (can_close u n) _ _ user_step.LoadCtail e (refl, refl)
+user_wait u n (user_step.AdvanceWritten s) e = stayed u (advance_took u.advance n s) _ user_step.LoadWtail (stays_put u.advance n s) e
+user_wait u n user_step.ReloadWtail e = user_else (can_link u (tail_of n)) _ _ user_step.LoadWtail e (refl, refl)
+user_wait u n (user_step.AdvanceClosed s) e = stayed u (advance_took u.advance n s) _ user_step.LoadCtail (stays_put u.advance n s) e
+user_wait u n user_step.ReloadCtail e = user_else (can_close u (tail_of n)) _ _ user_step.LoadCtail e (refl, refl)
 user_wait u n user_step.AddToList e = by (eqb n 0) e
   where
     by : (b : Bool) → opposite b ≡ true → UserIs (record u { checks = cond b false true; step = cond b user_step.StoreOldest user_step.AddToList }) user_step.AddToList
@@ -53,13 +64,12 @@ user_wait u n _ e = absurd (cc)
 abbrev WriterIs : WriterState → WriterStep → Type 0
 WriterIs s f = (s.checks ≡ true) × (s.step ≡ f)
 
-pub writer_wait : (s : WriterState) (a : Answer) (f : WriterStep) → writer_waits s a f ≡ true → WriterIs (writer_took s a f) f
-writer_wait s a writer_step.LoadLink e = by (eqb (old_of a) 0) (eqb s.tail s.write) e
+pub writer_wait : (s : WriterState) (a : Answer) (f : WriterStep) → writer_waits s a f ≡ true → WriterIs (writer_took s a f) (writer_again f)
+writer_wait s a (writer_step.Advance v) e = by (advance_took s.advance (old_of a) v) (tail_after s (old_of a) v) _ (finds_no_more s (old_of a) v) e
   where
-    by : (b d : Bool) → cond b d false ≡ true → WriterIs (cond b (cond d (record s { checks = true; step = writer_step.LoadLink }) (record s { step = writer_step.StoreWtail })) (record s { link = old_of a; step = writer_step.ClearLink })) writer_step.LoadLink
-    by true true e = (refl, refl)
-    by true false e = absurd (cc)
-    by false d e = absurd (cc)
+    by : (w : Advance) (t : ℕ) (on : WriterStep) (b : Bool) → b ≡ true → WriterIs (record s { advance = w; tail = t; checks = b; step = cond b (writer_step.Advance advance_step.LoadTail) on }) (writer_step.Advance advance_step.LoadTail)
+    by w t on true e = (refl, refl)
+    by w t on false e = absurd (cc)
 writer_wait s a writer_step.LoadCheckpoint e = by (has_log_space s (old_of a)) (stands_outside s) e
   where
     by : (b d : Bool) → opposite b ≡ true → WriterIs (cond b (record s { ckpt = old_of a; step = cond d writer_step.LoadFirst writer_step.LoadCell }) (record s { ckpt = old_of a; checks = true; step = writer_step.LoadCheckpoint })) writer_step.LoadCheckpoint
@@ -93,12 +103,13 @@ flusher_wait f a _ e = absurd (cc)
 abbrev CloserIs : CloserState → CloserStep → Type 0
 CloserIs t s = (t.checks ≡ true) × (t.step ≡ s)
 
-pub closer_wait : (t : CloserState) (a : Answer) (s : CloserStep) → closer_waits a s ≡ true → CloserIs (closer_took t a s) s
-closer_wait t a closer_step.LoadClosedLink e = by (eqb (old_of a) 0) e
+pub closer_wait : (t : CloserState) (a : Answer) (s : CloserStep) → closer_waits t a s ≡ true → CloserIs (closer_took t a s) (closer_again s)
+closer_wait t a (closer_step.Advance v) e = by (advance_took t.advance (old_of a) v) (frees v) _ (stays_put t.advance (old_of a) v) e
   where
-    by : (b : Bool) → b ≡ true → CloserIs (cond b (record t { checks = true; step = closer_step.LoadClosedLink }) (record t { link = old_of a; step = closer_step.ClearClosedLink })) closer_step.LoadClosedLink
-    by true e = (refl, refl)
-    by false e = absurd (cc)
+    by : (w : Advance) (f : Bool) (on : AdvanceStep) (b : Bool) → b ≡ true → CloserIs (record t { advance = w; checks = b; step = closer_step.Advance (cond (cond f true b) advance_step.LoadTail on) }) (closer_step.Advance advance_step.LoadTail)
+    by w true on true e = (refl, refl)
+    by w false on true e = (refl, refl)
+    by w f on false e = absurd (cc)
 closer_wait t a _ e = absurd (cc)
 
 abbrev CleanerIs : CleanerState → CleanerStep → Type 0

@@ -15,7 +15,7 @@ pub same_word_of : (x y : ℕ) → data_word x ≡ data_word y → lsn x / 8 ≡
 unfolding lsn
 same_word_of x y h = omega arith
 
--- behind the bytes of a word the next number comes, and within them none
+-- after the bytes of a word the next number comes, and within them none
 pub next_number : (x : ℕ) → data_word (x + left_in_word x) ≡ data_word x + 1
 unfolding lsn
 next_number x = omega arith

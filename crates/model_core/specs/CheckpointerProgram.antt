@@ -3,6 +3,7 @@ use Rattle.std.specs.Prelude.{Bool, None, Option, Some, cond, false, min, nat_lt
 use Rattle.model_core.specs.Answers.{on_call, code_of, oldest_in, old_of, on_take, has_taken}
 use Rattle.model_core.specs.Lsn.{floor}
 use Rattle.model_core.specs.States.{CheckpointerState}
+use Rattle.model_core.specs.Tails.{tail_of}
 use Rattle.model_core.specs.declared.ops.Answer.{Answer}
 use Rattle.model_core.specs.declared.ops.Op.{Op}
 use Rattle.model_core.specs.declared.steps.CheckpointerStep.{CheckpointerStep}
@@ -38,7 +39,7 @@ abbrev pub is_above : CheckpointerState → ℕ → Bool
 is_above t n = nat_lt t.own (candidate t n)
 
 abbrev pub checkpointer_took : CheckpointerState → Answer → CheckpointerStep → CheckpointerState
-checkpointer_took t a checkpointer_step.LoadCtail = record t { ctail = old_of a; to = old_of a; list = 0; step = checkpointer_step.ReadList }
+checkpointer_took t a checkpointer_step.LoadCtail = record t { ctail = tail_of (old_of a); to = tail_of (old_of a); list = 0; step = checkpointer_step.ReadList }
 checkpointer_took t a checkpointer_step.ReadList = cond (has_taken a) (record t { to = lowered t.to (oldest_in a); step = checkpointer_step.GiveList }) (record t { checks = true; step = checkpointer_step.ReadList })
 checkpointer_took t a checkpointer_step.GiveList = record t { list = t.list + 1; step = cond (t.list + 1 == FLUSH_LISTS) checkpointer_step.LoadFlushed checkpointer_step.ReadList }
 checkpointer_took t a checkpointer_step.LoadFlushed = cond (is_above t (old_of a)) (record t { flushed = old_of a; to = candidate t (old_of a); step = checkpointer_step.TakeDevice }) (record t { flushed = old_of a; checks = true; step = checkpointer_step.LoadCtail })

@@ -1,5 +1,6 @@
 -- The program of the closer.
-use Rattle.std.specs.Prelude.{cond, false, true, ℕ, ◌%◌, ◌+◌, ◌==◌}
+use Rattle.std.specs.Prelude.{cond, false, ℕ, ◌==◌}
+use Rattle.model_core.specs.Advancing.{advance_next, advance_op, advance_took, ends, stays_put}
 use Rattle.model_core.specs.Answers.{old_of}
 use Rattle.model_core.specs.States.{CloserState}
 use Rattle.model_core.specs.declared.ops.Answer.{Answer}
@@ -7,19 +8,20 @@ use Rattle.model_core.specs.declared.ops.Op.{Op}
 use Rattle.model_core.specs.declared.steps.CloserStep.{CloserStep}
 use Rattle.model_core.specs.declared.words.Word.TheVariants as word
 use Rattle.model_core.specs.declared.ops.Op.TheVariants as op
+use Rattle.model_core.specs.declared.steps.AdvanceStep.TheVariants as advance_step
 use Rattle.model_core.specs.declared.steps.CloserStep.TheVariants as closer_step
-use Rattle.model_core.specs.declared.limits.TheConstants.{CLOSED_LINKS}
+use Rattle.model_core.specs.declared.words.LinkBuffer.TheVariants as link_buffer
 
 abbrev pub closer_op : CloserState → CloserStep → Op
-closer_op t closer_step.LoadClosedLink = op.Load (word.Clink (t.tail % CLOSED_LINKS))
-closer_op t closer_step.ClearClosedLink = op.Store (word.Clink (t.tail % CLOSED_LINKS)) 0
-closer_op t closer_step.StoreCtail = op.Store word.Ctail t.tail
+closer_op t (closer_step.Advance v) = advance_op link_buffer.Closed t.advance v
 closer_op t closer_step.Failed = op.Rest
 
 abbrev pub closer_took : CloserState → Answer → CloserStep → CloserState
-closer_took t a closer_step.LoadClosedLink = cond (old_of a == 0) (record t { checks = true; step = closer_step.LoadClosedLink }) (record t { link = old_of a; step = closer_step.ClearClosedLink })
-closer_took t a closer_step.ClearClosedLink = record t { tail = t.tail + t.link; step = closer_step.StoreCtail }
-closer_took t a closer_step.StoreCtail = record t { step = closer_step.LoadClosedLink }
+closer_took t a (closer_step.Advance v) = record t {
+  advance = advance_took t.advance (old_of a) v;
+  checks = stays_put t.advance (old_of a) v;
+  step = closer_step.Advance (cond (ends t.advance (old_of a) v) advance_step.LoadTail (advance_next t.advance (old_of a) v));
+}
 closer_took t a closer_step.Failed = t
 
 abbrev pub closer_checked : CloserState → ℕ → CloserState

@@ -27,7 +27,7 @@ pub record Entry : Type 0 where
   pub bytes : List ℕ
   pub changes : List PageChange
 
--- the place behind its last byte
+-- the place after its last byte
 abbrev pub end_of : Entry → ℕ
 end_of e = e.start + length e.bytes
 
@@ -59,7 +59,7 @@ abbrev pub crossing : ℕ → List Entry → ℕ
 crossing q [] = 0
 crossing q (e ∷ es) = cond (crosses q e) (end_of e % BLOCK_DATA + BLOCK_HEADER) (crossing q es)
 
--- the first offset of block q: in the run's first block its first data byte, else behind the group that crosses into it
+-- the first offset of block q: in the run's first block its first data byte, else after the group that crosses into it
 abbrev pub first_of : ℕ → List Entry → ℕ → ℕ
 first_of base log q = cond (q == base / BLOCK_DATA) BLOCK_HEADER (crossing q log)
 

@@ -1,10 +1,21 @@
--- Which actor holds the log part.
-use Rattle.std.specs.Prelude.{Bool, false, true}
+-- Which actor holds the log part, and which a tail.
+use Rattle.std.specs.Prelude.{Bool, List, false, true, ℕ, ◌≡◌}
+use lib.ListN.{get_elem?}
+use mathlib.Core.Option.{some}
 use Rattle.model_core.specs.Actors.{Actor}
+use Rattle.model_core.specs.Advancing.{advance_holds}
+use Rattle.model_core.specs.Program.{is_checking}
+use Rattle.model_core.specs.States.{Advance, no_advance}
 use Rattle.model_core.specs.declared.steps.CheckpointerStep.{CheckpointerStep}
+use Rattle.model_core.specs.declared.steps.CloserStep.{CloserStep}
+use Rattle.model_core.specs.declared.steps.UserStep.{UserStep}
 use Rattle.model_core.specs.declared.steps.WriterStep.{WriterStep}
+use Rattle.model_core.specs.declared.words.LinkBuffer.{LinkBuffer}
 use Rattle.model_core.specs.declared.steps.FlusherStep.{FlusherStep}
+use Rattle.model_core.specs.declared.steps.CloserStep.TheVariants as closer_step
+use Rattle.model_core.specs.declared.steps.UserStep.TheVariants as user_step
 use Rattle.model_core.specs.declared.steps.WriterStep.TheVariants as writer_step
+use Rattle.model_core.specs.declared.words.LinkBuffer.TheVariants as link_buffer
 use Rattle.model_core.specs.declared.steps.FlusherStep.TheVariants as flusher_step
 use Rattle.model_core.specs.declared.steps.CheckpointerStep.TheVariants as checkpointer_step
 use Rattle.model_core.specs.Actors as actor
@@ -45,3 +56,38 @@ holds (actor.Closer t) = false
 holds (actor.Cleaner v) = false
 holds (actor.Checkpointer t) = checkpointer_holds t.step
 holds (actor.Joined es) = false
+
+-- whether an actor holds the tail of a link buffer: only while it advances it
+abbrev pub user_holds_tail : LinkBuffer → UserStep → Bool
+user_holds_tail link_buffer.Written (user_step.AdvanceWritten s) = advance_holds s
+user_holds_tail link_buffer.Closed (user_step.AdvanceClosed s) = advance_holds s
+user_holds_tail _ _ = false
+
+abbrev pub writer_holds_tail : LinkBuffer → WriterStep → Bool
+writer_holds_tail link_buffer.Written (writer_step.Advance v) = advance_holds v
+writer_holds_tail _ _ = false
+
+abbrev pub closer_holds_tail : LinkBuffer → CloserStep → Bool
+closer_holds_tail link_buffer.Closed (closer_step.Advance v) = advance_holds v
+closer_holds_tail _ _ = false
+
+abbrev pub holds_tail : LinkBuffer → Actor → Bool
+holds_tail b (actor.User u) = user_holds_tail b u.step
+holds_tail b (actor.Writer s) = writer_holds_tail b s.step
+holds_tail b (actor.Closer t) = closer_holds_tail b t.step
+holds_tail b _ = false
+
+-- an actor holds it
+abbrev pub HasHolder : LinkBuffer → List Actor → Type 0
+HasHolder b actors = (seat : ℕ) × (a : Actor) × (get_elem? actors seat ≡ some a) × (holds_tail b a ≡ true)
+
+-- the advance that an actor makes
+abbrev pub advance_of : Actor → Advance
+advance_of (actor.User u) = u.advance
+advance_of (actor.Writer s) = s.advance
+advance_of (actor.Closer t) = t.advance
+advance_of _ = no_advance
+
+-- an actor that checks for a failure holds no tail
+abbrev pub ChecksWithoutTail : Actor → Type 0
+ChecksWithoutTail a = is_checking a ≡ true → (b : LinkBuffer) → holds_tail b a ≡ false

@@ -1,6 +1,6 @@
 -- The eight byte lanes of a word: lane j is worth 256^j. The byte of an lsn stands in the word of its eight, in the lane of
 -- its place there.
-use Rattle.std.specs.Prelude.{List, [], min, replicate, slice_index, ℕ, ◌%◌, ◌++◌, ◌+◌, ◌-◌, ◌/◌, ◌∷◌}
+use Rattle.std.specs.Prelude.{List, [], min, replicate, slice_index, ℕ, ◌%◌, ◌++◌, ◌-◌, ◌/◌, ◌∷◌}
 use Rattle.std.specs.Int.{byte_at, bytes_low_first, from_le_bytes, w64}
 use Rattle.model_core.specs.Lsn.{lsn}
 use Rattle.model_core.specs.declared.limits.TheConstants.{BUFFER_WORDS, WORD_LANES}

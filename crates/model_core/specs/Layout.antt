@@ -1,5 +1,6 @@
 -- Where each word stands in the list of words.
-use Rattle.std.specs.Prelude.{List, [], get_or, length, slice_index, slice_set, ℕ, ◌*◌, ◌++◌, ◌+◌, ◌<◌, ◌∷◌, ◌≡◌}
+use Rattle.std.specs.Prelude.{Bool, List, [], get_or, length, slice_index, slice_set, ℕ, ◌*◌, ◌++◌, ◌+◌, ◌<◌, ◌∷◌, ◌≡◌}
+use Rattle.model_core.specs.Tails.{is_held, tail_of, tail_word}
 use Rattle.model_core.specs.declared.words.Word.{Word}
 use Rattle.model_core.specs.declared.words.Word.TheVariants as word
 use Rattle.model_core.specs.declared.limits.TheConstants.{BUFFER_BLOCKS, BUFFER_WORDS, WRITTEN_LINKS, CLOSED_LINKS, FLUSH_LISTS, FRAME_WORDS}
@@ -86,14 +87,17 @@ abbrev pub flat_page_words : List PageWords → List ℕ
 flat_page_words [] = []
 flat_page_words (w ∷ ws) = w.latch ∷ w.newest ∷ w.oldest ∷ (w.frame ++ flat_page_words ws)
 
--- the words by name. A change of one leaves the others as they are by computation alone
+-- The words by name, the two tails each with whether it is held. A change of one leaves the others as they are by computation
+-- alone.
 pub record SharedWords : Type 0 where
   pub sn : ℕ
   pub write : ℕ
   pub wtail : ℕ
+  pub wheld : Bool
   pub flushed : ℕ
   pub ckpt : ℕ
   pub ctail : ℕ
+  pub cheld : Bool
   pub failed : ℕ
   pub device : ℕ
   pub lists : List ℕ
@@ -116,15 +120,15 @@ abbrev pub rows : SharedWords → List ℕ
 rows m = m.lists ++ (m.wlinks ++ (m.clinks ++ (m.cells ++ (m.firsts ++ flat_page_words m.page_words))))
 
 abbrev pub flat : SharedWords → List ℕ
-flat m = m.sn ∷ m.write ∷ m.wtail ∷ m.flushed ∷ m.ckpt ∷ m.ctail ∷ m.failed ∷ m.device ∷ rows m
+flat m = m.sn ∷ m.write ∷ tail_word m.wtail m.wheld ∷ m.flushed ∷ m.ckpt ∷ tail_word m.ctail m.cheld ∷ m.failed ∷ m.device ∷ rows m
 
 abbrev pub read : SharedWords → Word → ℕ
 read m word.Sn = m.sn
 read m word.Write = m.write
-read m word.Wtail = m.wtail
+read m word.Wtail = tail_word m.wtail m.wheld
 read m word.Flushed = m.flushed
 read m word.Ckpt = m.ckpt
-read m word.Ctail = m.ctail
+read m word.Ctail = tail_word m.ctail m.cheld
 read m word.Failed = m.failed
 read m word.Device = m.device
 read m (word.List i) = slice_index m.lists i
@@ -143,10 +147,10 @@ with_page_words m p w = record m { page_words = slice_set m.page_words p w }
 abbrev pub wrote : SharedWords → Word → ℕ → SharedWords
 wrote m word.Sn x = record m { sn = x }
 wrote m word.Write x = record m { write = x }
-wrote m word.Wtail x = record m { wtail = x }
+wrote m word.Wtail x = record m { wtail = tail_of x; wheld = is_held x }
 wrote m word.Flushed x = record m { flushed = x }
 wrote m word.Ckpt x = record m { ckpt = x }
-wrote m word.Ctail x = record m { ctail = x }
+wrote m word.Ctail x = record m { ctail = tail_of x; cheld = is_held x }
 wrote m word.Failed x = record m { failed = x }
 wrote m word.Device x = record m { device = x }
 wrote m (word.List i) x = record m { lists = slice_set m.lists i x }

@@ -1,7 +1,8 @@
 -- The actors as a run begins, with nothing done. The run starts at an lsn that is the place of a block's first data byte.
 use Rattle.std.specs.Prelude.{List, [], cond, false, length, true, ℕ, ◌*◌, ◌-◌, ◌/◌, ◌==◌}
 use Rattle.model_base.specs.declared.limits.TheConstants.{BLOCK_SIZE}
-use Rattle.model_core.specs.States.{CheckpointerState, CleanerState, CloserState, FlusherState, Line, UserState, WriterState, none_loaded}
+use Rattle.model_core.specs.States.{CheckpointerState, CleanerState, CloserState, FlusherState, Line, UserState, WriterState, no_advance, none_loaded}
+use Rattle.model_core.specs.declared.steps.AdvanceStep.TheVariants as advance_step
 use Rattle.model_core.specs.declared.steps.CheckpointerStep.TheVariants as checkpointer_step
 use Rattle.model_core.specs.declared.steps.CleanerStep.TheVariants as cleaner_step
 use Rattle.model_core.specs.declared.steps.CloserStep.TheVariants as closer_step
@@ -24,6 +25,7 @@ new_user user blocks lines = record {
   cell = 0;
   word = 0;
   loaded = none_loaded;
+  advance = no_advance;
   code = 0;
   checks = cond (length lines == 0) false true;
   step = cond (length lines == 0) user_step.Done user_step.LoadCheckpoint;
@@ -38,20 +40,20 @@ new_writer blocks start = record {
   from = start / BLOCK_SIZE * BLOCK_DATA;
   kept = [];
   firsts = [];
-  link = 0;
+  advance = no_advance;
   first = 0;
   word = 0;
   ckpt = 0;
   code = 0;
   checks = false;
-  step = writer_step.LoadLink;
+  step = writer_step.Advance advance_step.LoadTail;
 }
 
 abbrev pub new_flusher : ℕ → FlusherState
 new_flusher start = record { last = start; write = 0; mark = 0; code = 0; checks = false; step = flusher_step.LoadWrite }
 
-abbrev pub new_closer : ℕ → CloserState
-new_closer start = record { tail = start; link = 0; code = 0; checks = false; step = closer_step.LoadClosedLink }
+abbrev pub new_closer : CloserState
+new_closer = record { advance = no_advance; code = 0; checks = false; step = closer_step.Advance advance_step.LoadTail }
 
 abbrev pub new_cleaner : ℕ → CleanerState
 new_cleaner pages = record {

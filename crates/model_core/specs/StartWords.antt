@@ -1,5 +1,5 @@
 -- The words of a store as a run begins.
-use Rattle.std.specs.Prelude.{cond, slice_index, ℕ, ◌%◌, ◌+◌, ◌-◌, ◌/◌, ◌<◌, ◌==◌, ◌≡◌, ◌≤◌}
+use Rattle.std.specs.Prelude.{cond, false, slice_index, ℕ, ◌%◌, ◌+◌, ◌-◌, ◌/◌, ◌<◌, ◌==◌, ◌≡◌, ◌≤◌}
 use Rattle.model_core.specs.Lanes.{frame_bytes}
 use Rattle.model_core.specs.Layout.{IsSized, page_words_at, PageWords, SharedWords}
 use Rattle.model_core.specs.Lsn.{lsn}
@@ -18,6 +18,7 @@ pub record StartWords (c : Setup) (m : SharedWords) : Type 0 where
   pub sn : m.sn ≡ c.base
   pub write : m.write ≡ lsn c.base
   pub wtail : m.wtail ≡ lsn c.base
+  pub wheld : m.wheld ≡ false
   pub flushed : m.flushed ≡ lsn c.base
   pub ckpt : m.ckpt ≡ start_checkpoint c
   pub failed : m.failed ≡ 0
@@ -33,4 +34,5 @@ pub record StartPageWords (c : Setup) (m : SharedWords) : Type 0 where
   pub frames : (p : ℕ) → p < c.pages → frame_bytes (page_words_at m.page_words p).frame ≡ (c.opened p).bytes
   pub early : (p : ℕ) → p < c.pages → (c.opened p).lsn ≤ lsn c.base
   pub ctail : m.ctail ≡ lsn c.base
+  pub cheld : m.cheld ≡ false
   pub clinks : (i : ℕ) → slice_index m.clinks i ≡ 0

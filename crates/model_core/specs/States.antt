@@ -8,6 +8,16 @@ use Rattle.model_core.specs.declared.steps.CheckpointerStep.{CheckpointerStep}
 use Rattle.model_core.specs.declared.steps.WriterStep.{WriterStep}
 use Rattle.model_core.specs.declared.steps.FlusherStep.{FlusherStep}
 
+-- An advance of a tail: the tail that it has loaded, the place to which it has followed links, and the link that it has found
+-- there.
+pub record Advance : Type 0 where
+  pub tail : ℕ
+  pub place : ℕ
+  pub link : ℕ
+
+abbrev pub no_advance : Advance
+no_advance = record { tail = 0; place = 0; link = 0 }
+
 -- a user's line: the text of its group, the pages that the group changes, and what its commit waits for: the flush (1),
 -- the write (2), or nothing (0)
 pub record Line : Type 0 where
@@ -15,7 +25,7 @@ pub record Line : Type 0 where
   pub bytes : List ℕ
   pub changes : List PageChange
 
--- the marks that a user has loaded last
+-- the marks that a user has loaded last; of the two tails without whether they are held
 pub record LoadedMarks : Type 0 where
   pub ckpt : ℕ
   pub write : ℕ
@@ -43,13 +53,14 @@ pub record UserState : Type 0 where
   -- the word of that page's frame that it has loaded
   pub word : ℕ
   pub loaded : LoadedMarks
+  pub advance : Advance
   pub code : ℕ
   pub checks : Bool
   pub step : UserStep
 
--- The writer. `tail` and `write`, its last stored mark, are lsns; `kept` are the stream's bytes from the sn `from`, the start
--- of a block, up to its read place, and `firsts` the first offsets of the blocks from there on that it has entered. `link`,
--- `first`, `word` and `ckpt` are what it has loaded last.
+-- The writer. `tail`, with which it goes on, and `write`, its last stored mark, are lsns; `kept` are the stream's bytes from
+-- the sn `from`, the start of a block, up to its read place, and `firsts` the first offsets of the blocks from there on that it
+-- has entered. `first`, `word` and `ckpt` are what it has loaded last.
 pub record WriterState : Type 0 where
   pub blocks : ℕ
   pub tail : ℕ
@@ -57,7 +68,7 @@ pub record WriterState : Type 0 where
   pub from : ℕ
   pub kept : List ℕ
   pub firsts : List ℕ
-  pub link : ℕ
+  pub advance : Advance
   pub first : ℕ
   pub word : ℕ
   pub ckpt : ℕ
@@ -74,10 +85,9 @@ pub record FlusherState : Type 0 where
   pub checks : Bool
   pub step : FlusherStep
 
--- The closer. `tail` is an lsn, `link` the link that it has found there.
+-- The closer.
 pub record CloserState : Type 0 where
-  pub tail : ℕ
-  pub link : ℕ
+  pub advance : Advance
   pub code : ℕ
   pub checks : Bool
   pub step : CloserStep

@@ -1,15 +1,20 @@
 -- The program of a user: its next Op, and its state after the answer.
 use Rattle.std.specs.Prelude.{Bool, List, [], cond, drop, false, get_or, length, min, nat_le, nat_lt, slice_set, suc, take, true, ℕ, ◌%◌, ◌*◌, ◌++◌, ◌+◌, ◌-◌, ◌/◌, ◌==◌, ◌∷◌}
+use Rattle.model_core.specs.Advancing.{advance_next, advance_op, advance_took, frees, loaded_tail, stays_put}
 use Rattle.model_core.specs.Groups.{PageChange, CellWrite}
 use Rattle.model_core.specs.Lanes.{cell_of, lane_of, left_in_word}
 unfoldable use Rattle.model_core.specs.Lanes.{lanes, packed}
 use Rattle.model_core.specs.Lsn.{floor, lsn}
 use Rattle.model_core.specs.States.{Line, LoadedMarks, UserState}
+use Rattle.model_core.specs.Tails.{tail_of}
 use Rattle.model_core.specs.declared.ops.Op.{Op}
+use Rattle.model_core.specs.declared.steps.AdvanceStep.{AdvanceStep}
 use Rattle.model_core.specs.declared.steps.UserStep.{UserStep}
 use Rattle.model_core.specs.declared.words.Word.TheVariants as word
 use Rattle.model_core.specs.declared.ops.Op.TheVariants as op
+use Rattle.model_core.specs.declared.steps.AdvanceStep.TheVariants as advance_step
 use Rattle.model_core.specs.declared.steps.UserStep.TheVariants as user_step
+use Rattle.model_core.specs.declared.words.LinkBuffer.TheVariants as link_buffer
 use Rattle.model_base.specs.declared.limits.TheConstants.{BLOCK_SIZE}
 use Rattle.model_log.specs.declared.layout.TheConstants.{BLOCK_DATA}
 use Rattle.model_core.specs.declared.limits.TheConstants.{BUFFER_BLOCKS, CLOSED_LINKS, FLUSH_LISTS, FREE_MARGIN, LOG_BUFFER, WORD_LANES, WRITTEN_LINKS}
@@ -96,8 +101,12 @@ user_op u user_step.LoadWrite = op.Load word.Write
 user_op u user_step.AddCell = op.Add (word.Cell (cell_of (copy_place u))) (packed (lane_of (copy_place u)) (next_bytes u))
 user_op u user_step.StoreFirst = op.Store (word.First (lsn (group_end u) / BLOCK_SIZE % BUFFER_BLOCKS)) (lsn (group_end u) % BLOCK_SIZE)
 user_op u user_step.LoadWtail = op.Load word.Wtail
+user_op u (user_step.AdvanceWritten s) = advance_op link_buffer.Written u.advance s
+user_op u user_step.ReloadWtail = op.Load word.Wtail
 user_op u user_step.StoreLink = op.Store (word.Wlink (lsn u.start % WRITTEN_LINKS)) (lsn (group_end u) - lsn u.start)
 user_op u user_step.LoadCtail = op.Load word.Ctail
+user_op u (user_step.AdvanceClosed s) = advance_op link_buffer.Closed u.advance s
+user_op u user_step.ReloadCtail = op.Load word.Ctail
 user_op u user_step.LoadFrame = op.Load (word.Frame (page_of u) (frame_word u))
 user_op u user_step.StoreFrame = op.Store (word.Frame (page_of u) (frame_word u)) (stored_word u)
 user_op u user_step.StoreNewest = op.Store (word.Newest (page_of u)) (lsn (group_end u))
@@ -119,7 +128,7 @@ has_space u n = nat_le (lsn n + FREE_MARGIN) (u.loaded.ckpt + BLOCK_SIZE * u.blo
 abbrev pub has_room : UserState → ℕ → Bool
 has_room u n = nat_lt (lsn (group_end u)) (floor n + LOG_BUFFER)
 
--- the recent-written buffer has the place of its link, where WTAIL is this; the recent-closed buffer, where CTAIL is this
+-- the recent-written buffer has the place of its link, where its tail is this; the recent-closed buffer, where its tail is this
 abbrev pub can_link : UserState → ℕ → Bool
 can_link u n = nat_lt (lsn u.start) (n + WRITTEN_LINKS)
 
@@ -146,6 +155,30 @@ with_mark u n = cond (mode u == 1) (record u.loaded { flushed = n }) (record u.l
 abbrev pub to_next_page : UserState → UserState
 to_next_page u = record u { page = u.page + 1; cell = 0; step = cond (u.page + 1 == length (changes u)) user_step.StoreClosedLink (cond (0 == length (change_at (changes u) (u.page + 1)).cells) user_step.StoreNewest (word_step (change_at (changes u) (u.page + 1)).cells 0)) }
 
+-- it has found room in the recent-written buffer, where the word WTAIL is this; it hasn't
+abbrev pub with_link_room : UserState → ℕ → UserState
+with_link_room u n = record u { loaded = record u.loaded { wtail = tail_of n }; step = user_step.StoreLink }
+
+abbrev pub without_link_room : UserState → ℕ → Bool → UserStep → UserState
+without_link_room u n waits s = record u { loaded = record u.loaded { wtail = tail_of n }; checks = waits; step = s }
+
+-- the same of the recent-closed buffer, where the word CTAIL is this
+abbrev pub with_close_room : UserState → ℕ → UserState
+with_close_room u n = record u { loaded = record u.loaded { ctail = tail_of n }; step = cond (u.cell == length (cells_of u)) user_step.StoreNewest (word_step (cells_of u) u.cell) }
+
+abbrev pub without_close_room : UserState → ℕ → Bool → UserStep → UserState
+without_close_room u n waits s = record u { loaded = record u.loaded { ctail = tail_of n }; checks = waits; step = s }
+
+-- It advances a tail, with these marks as the last that it has loaded. Where the tail has moved it loads it again; where it
+-- hasn't it waits, and then begins with the first load of it.
+abbrev pub user_advanced : UserState → ℕ → AdvanceStep → (loaded : LoadedMarks) → (on moved first : UserStep) → UserState
+user_advanced u n s loaded on moved first = record u {
+  loaded = loaded;
+  advance = advance_took u.advance n s;
+  checks = stays_put u.advance n s;
+  step = cond (stays_put u.advance n s) first (cond (frees s) moved on);
+}
+
 abbrev pub user_took : UserState → ℕ → UserStep → UserState
 user_took u n user_step.LoadCheckpoint = record u { loaded = record u.loaded { ckpt = n }; step = user_step.LoadSn }
 user_took u n user_step.LoadSn = cond (has_space u n) (record u { page = 0; cell = 0; step = cond (length (changes u) == 0) user_step.Reserve user_step.TakeLatch }) (record u { checks = true; step = user_step.LoadCheckpoint })
@@ -154,9 +187,13 @@ user_took u n user_step.Reserve = record u { starts = u.starts ++ n ∷ []; star
 user_took u n user_step.LoadWrite = cond (has_room u n) (record u { loaded = record u.loaded { write = n }; step = user_step.AddCell }) (record u { loaded = record u.loaded { write = n }; checks = true; step = user_step.LoadWrite })
 user_took u n user_step.AddCell = record u { copied = u.copied + next_count u; step = cond (u.copied + next_count u == length (group_bytes u)) (cond (nat_lt (u.start / BLOCK_DATA) (group_end u / BLOCK_DATA)) user_step.StoreFirst user_step.LoadWtail) user_step.AddCell }
 user_took u n user_step.StoreFirst = record u { step = user_step.LoadWtail }
-user_took u n user_step.LoadWtail = cond (can_link u n) (record u { loaded = record u.loaded { wtail = n }; step = user_step.StoreLink }) (record u { loaded = record u.loaded { wtail = n }; checks = true; step = user_step.LoadWtail })
+user_took u n user_step.LoadWtail = cond (can_link u (tail_of n)) (with_link_room u n) (without_link_room u n false (user_step.AdvanceWritten advance_step.LoadTail))
+user_took u n (user_step.AdvanceWritten s) = user_advanced u n s (record u.loaded { wtail = loaded_tail u.loaded.wtail n s }) (user_step.AdvanceWritten (advance_next u.advance n s)) user_step.ReloadWtail user_step.LoadWtail
+user_took u n user_step.ReloadWtail = cond (can_link u (tail_of n)) (with_link_room u n) (without_link_room u n true user_step.LoadWtail)
 user_took u n user_step.StoreLink = cond (length (changes u) == 0) (after_link u) (record u { step = user_step.LoadCtail })
-user_took u n user_step.LoadCtail = cond (can_close u n) (record u { loaded = record u.loaded { ctail = n }; step = cond (u.cell == length (cells_of u)) user_step.StoreNewest (word_step (cells_of u) u.cell) }) (record u { loaded = record u.loaded { ctail = n }; checks = true; step = user_step.LoadCtail })
+user_took u n user_step.LoadCtail = cond (can_close u (tail_of n)) (with_close_room u n) (without_close_room u n false (user_step.AdvanceClosed advance_step.LoadTail))
+user_took u n (user_step.AdvanceClosed s) = user_advanced u n s (record u.loaded { ctail = loaded_tail u.loaded.ctail n s }) (user_step.AdvanceClosed (advance_next u.advance n s)) user_step.ReloadCtail user_step.LoadCtail
+user_took u n user_step.ReloadCtail = cond (can_close u (tail_of n)) (with_close_room u n) (without_close_room u n true user_step.LoadCtail)
 user_took u n user_step.LoadFrame = record u { word = n; step = user_step.StoreFrame }
 user_took u n user_step.StoreFrame = record u { cell = u.cell + frame_count u; word = 0; step = cond (u.cell + frame_count u == length (cells_of u)) user_step.StoreNewest (word_step (cells_of u) (u.cell + frame_count u)) }
 user_took u n user_step.StoreNewest = record u { step = user_step.LoadOldest }

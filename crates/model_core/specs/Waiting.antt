@@ -1,13 +1,15 @@
 -- How a step ends. An actor waits where a condition of its step doesn't hold yet: it checks FAILED, and then takes the same
 -- step again, or begins its round anew. Each waiting condition stands here once.
-use Rattle.std.specs.Prelude.{Bool, cond, false, length, true, ℕ, ◌==◌, ◌≡◌}
+use Rattle.std.specs.Prelude.{Bool, cond, false, length, true, ℕ, ◌==◌, ◌≡◌, ◌⊎◌}
 use Rattle.model_core.specs.Actors.{Actor}
+use Rattle.model_core.specs.Advancing.{stays_put}
 use Rattle.model_core.specs.Answers.{has_taken, heard, old_of, on_take}
 use Rattle.model_core.specs.CheckpointerProgram.{is_above}
 use Rattle.model_core.specs.Program.{is_checking, own_took}
-use Rattle.model_core.specs.States.{CheckpointerState, CleanerState, FlusherState, UserState, WriterState}
+use Rattle.model_core.specs.States.{CheckpointerState, CleanerState, CloserState, FlusherState, UserState, WriterState}
+use Rattle.model_core.specs.Tails.{tail_of}
 use Rattle.model_core.specs.UserProgram.{can_close, can_link, has_passed, has_room, has_space}
-use Rattle.model_core.specs.WriterProgram.{has_log_space}
+use Rattle.model_core.specs.WriterProgram.{finds_no_more, has_log_space}
 use Rattle.model_core.specs.declared.ops.Answer.{Answer}
 use Rattle.model_core.specs.declared.ops.Step.{Step}
 use Rattle.model_core.specs.declared.ops.Step.TheVariants as step
@@ -17,6 +19,7 @@ use Rattle.model_core.specs.declared.steps.CloserStep.{CloserStep}
 use Rattle.model_core.specs.declared.steps.FlusherStep.{FlusherStep}
 use Rattle.model_core.specs.declared.steps.UserStep.{UserStep}
 use Rattle.model_core.specs.declared.steps.WriterStep.{WriterStep}
+use Rattle.model_core.specs.declared.steps.AdvanceStep.TheVariants as advance_step
 use Rattle.model_core.specs.declared.steps.CheckpointerStep.TheVariants as checkpointer_step
 use Rattle.model_core.specs.declared.steps.CleanerStep.TheVariants as cleaner_step
 use Rattle.model_core.specs.declared.steps.CloserStep.TheVariants as closer_step
@@ -33,15 +36,17 @@ abbrev pub user_waits : UserState → ℕ → UserStep → Bool
 user_waits u n user_step.LoadSn = opposite (has_space u n)
 user_waits u n user_step.TakeLatch = opposite (n == 0)
 user_waits u n user_step.LoadWrite = opposite (has_room u n)
-user_waits u n user_step.LoadWtail = opposite (can_link u n)
-user_waits u n user_step.LoadCtail = opposite (can_close u n)
+user_waits u n (user_step.AdvanceWritten s) = stays_put u.advance n s
+user_waits u n user_step.ReloadWtail = opposite (can_link u (tail_of n))
+user_waits u n (user_step.AdvanceClosed s) = stays_put u.advance n s
+user_waits u n user_step.ReloadCtail = opposite (can_close u (tail_of n))
 user_waits u n user_step.AddToList = opposite (n == 0)
 user_waits u n user_step.AwaitMark = opposite (has_passed u n)
 user_waits u n _ = false
 
--- the writer: for a link, for space in the log, for the log part
+-- the writer: for a tail above WRITE, for space in the log, for the log part
 abbrev pub writer_waits : WriterState → Answer → WriterStep → Bool
-writer_waits s a writer_step.LoadLink = cond (old_of a == 0) (s.tail == s.write) false
+writer_waits s a (writer_step.Advance v) = finds_no_more s (old_of a) v
 writer_waits s a writer_step.LoadCheckpoint = opposite (has_log_space s (old_of a))
 writer_waits s a writer_step.TakeDevice = on_take a false false true
 writer_waits s a _ = false
@@ -53,9 +58,9 @@ flusher_waits f a flusher_step.TakeDevice = on_take a false false true
 flusher_waits f a _ = false
 
 -- the closer: for a link
-abbrev pub closer_waits : Answer → CloserStep → Bool
-closer_waits a closer_step.LoadClosedLink = old_of a == 0
-closer_waits a _ = false
+abbrev pub closer_waits : CloserState → Answer → CloserStep → Bool
+closer_waits t a (closer_step.Advance v) = stays_put t.advance (old_of a) v
+closer_waits t a _ = false
 
 -- the round ends with no page to write
 abbrev pub finds_none : CleanerState → Bool
@@ -81,21 +86,38 @@ abbrev pub waits : Actor → Answer → Bool
 waits (actor.User u) a = user_waits u (heard a) u.step
 waits (actor.Writer s) a = writer_waits s a s.step
 waits (actor.Flusher f) a = flusher_waits f a f.step
-waits (actor.Closer t) a = closer_waits a t.step
+waits (actor.Closer t) a = closer_waits t a t.step
 waits (actor.Cleaner v) a = cleaner_waits v a v.step
 waits (actor.Checkpointer t) a = checkpointer_waits t a t.step
 waits (actor.Joined es) a = false
 
--- the cleaner is about to release a latch, since a group on its page isn't flushed
-abbrev pub IsReleasing : Actor → Type 0
-IsReleasing (actor.Cleaner v) = v.step ≡ cleaner_step.ReleaseSkipped
-IsReleasing _ = ⊥
+-- The cleaner is about to release a latch, since a group on its page isn't flushed; or the actor is about to free a tail. A
+-- user and the closer then store the tail that they have loaded.
+abbrev pub IsFreeing : Actor → Type 0
+IsFreeing (actor.User u) = ((u.step ≡ user_step.AdvanceWritten advance_step.FreeTail) ⊎ (u.step ≡ user_step.AdvanceClosed advance_step.FreeTail)) × (u.advance.place ≡ u.advance.tail)
+IsFreeing (actor.Writer s) = s.step ≡ writer_step.Advance advance_step.FreeTail
+IsFreeing (actor.Closer t) = (t.step ≡ closer_step.Advance advance_step.FreeTail) × (t.advance.place ≡ t.advance.tail)
+IsFreeing (actor.Cleaner v) = v.step ≡ cleaner_step.ReleaseSkipped
+IsFreeing _ = ⊥
 
--- Which rounds begin anew: after a wait a user checks the free space again from its first part, the cleaner goes round
--- again, and the checkpointer seeks another candidate. Every other wait repeats its step.
+-- Which rounds begin anew: after a wait a user checks the free space again from its first part, and loads a tail again from
+-- the first; an advance begins anew; the cleaner goes round again, and the checkpointer seeks another candidate. Every other
+-- wait repeats its step.
 abbrev pub user_again : UserStep → UserStep
 user_again user_step.LoadSn = user_step.LoadCheckpoint
+user_again (user_step.AdvanceWritten s) = user_step.LoadWtail
+user_again user_step.ReloadWtail = user_step.LoadWtail
+user_again (user_step.AdvanceClosed s) = user_step.LoadCtail
+user_again user_step.ReloadCtail = user_step.LoadCtail
 user_again s = s
+
+abbrev pub writer_again : WriterStep → WriterStep
+writer_again (writer_step.Advance v) = writer_step.Advance advance_step.LoadTail
+writer_again s = s
+
+abbrev pub closer_again : CloserStep → CloserStep
+closer_again (closer_step.Advance v) = closer_step.Advance advance_step.LoadTail
+closer_again s = s
 
 abbrev pub cleaner_again : CleanerStep → CleanerStep
 cleaner_again cleaner_step.RemoveFromList = cleaner_step.RemoveFromList

@@ -1,19 +1,24 @@
 -- The program of the writer.
-use Rattle.std.specs.Prelude.{Bool, [], cond, drop, false, length, nat_le, nat_lt, true, ℕ, ◌%◌, ◌*◌, ◌++◌, ◌+◌, ◌-◌, ◌/◌, ◌==◌, ◌∷◌}
+use Rattle.std.specs.Prelude.{Bool, [], cond, drop, false, length, nat_le, true, ℕ, ◌%◌, ◌*◌, ◌++◌, ◌+◌, ◌-◌, ◌/◌, ◌==◌, ◌∷◌}
+use Rattle.model_core.specs.Advancing.{advance_next, advance_op, advance_took, ends}
 use Rattle.model_core.specs.Answers.{on_call, code_of, old_of, on_take}
 use Rattle.model_core.specs.Lanes.{cell_of, lane_of, left_in_word}
 unfoldable use Rattle.model_core.specs.Lanes.{lanes}
 use Rattle.model_core.specs.Lsn.{ceiling, lsn}
 use Rattle.model_core.specs.States.{WriterState}
+use Rattle.model_core.specs.Tails.{tail_of}
 use Rattle.model_core.specs.declared.ops.Answer.{Answer}
 use Rattle.model_core.specs.declared.ops.Op.{Op}
+use Rattle.model_core.specs.declared.steps.AdvanceStep.{AdvanceStep}
 use Rattle.model_core.specs.declared.steps.WriterStep.{WriterStep}
 use Rattle.model_core.specs.declared.words.Word.TheVariants as word
 use Rattle.model_core.specs.declared.ops.Op.TheVariants as op
+use Rattle.model_core.specs.declared.steps.AdvanceStep.TheVariants as advance_step
 use Rattle.model_core.specs.declared.steps.WriterStep.TheVariants as writer_step
+use Rattle.model_core.specs.declared.words.LinkBuffer.TheVariants as link_buffer
 use Rattle.model_base.specs.declared.limits.TheConstants.{BLOCK_SIZE}
 use Rattle.model_log.specs.declared.layout.TheConstants.{BLOCK_DATA}
-use Rattle.model_core.specs.declared.limits.TheConstants.{BUFFER_BLOCKS, WRITTEN_LINKS}
+use Rattle.model_core.specs.declared.limits.TheConstants.{BUFFER_BLOCKS}
 
 abbrev pub read_place : WriterState → ℕ
 read_place s = s.from + length s.kept
@@ -26,9 +31,7 @@ abbrev pub full_blocks : WriterState → ℕ
 full_blocks s = length s.kept / BLOCK_DATA
 
 abbrev pub writer_op : WriterState → WriterStep → Op
-writer_op s writer_step.LoadLink = op.Load (word.Wlink (s.tail % WRITTEN_LINKS))
-writer_op s writer_step.ClearLink = op.Store (word.Wlink (s.tail % WRITTEN_LINKS)) 0
-writer_op s writer_step.StoreWtail = op.Store word.Wtail s.tail
+writer_op s (writer_step.Advance v) = advance_op link_buffer.Written s.advance v
 writer_op s writer_step.LoadCheckpoint = op.Load word.Ckpt
 writer_op s writer_step.LoadFirst = op.Load (word.First (lsn (read_place s) / BLOCK_SIZE % BUFFER_BLOCKS))
 writer_op s writer_step.ClearFirst = op.Store (word.First (lsn (read_place s) / BLOCK_SIZE % BUFFER_BLOCKS)) 0
@@ -43,7 +46,7 @@ writer_op s writer_step.StoreFailed = op.Store word.Failed s.code
 writer_op s writer_step.GiveFailed = op.GiveDevice
 writer_op s writer_step.Failed = op.Rest
 
--- the place behind the last byte in the word of the read place; and whether all bytes there are below the tail
+-- the place after the last byte in the word of the read place; and whether all bytes there are below the tail
 abbrev pub word_end : WriterState → ℕ
 word_end s = read_place s + left_in_word (read_place s)
 
@@ -54,13 +57,23 @@ has_whole_word s = nat_le (left_in_word (read_place s)) (s.tail - lsn (read_plac
 abbrev pub has_log_space : WriterState → ℕ → Bool
 has_log_space s n = nat_le (ceiling s.tail) (n + BLOCK_SIZE * s.blocks)
 
+-- the tail with which it goes on: that which an advance has loaded, or that which it leaves
+abbrev pub tail_after : WriterState → ℕ → AdvanceStep → ℕ
+tail_after s n advance_step.LoadTail = tail_of n
+tail_after s n advance_step.FreeTail = s.advance.place
+tail_after s n _ = s.tail
+
+-- an advance ends, and that isn't above its last stored mark
+abbrev pub finds_no_more : WriterState → ℕ → AdvanceStep → Bool
+finds_no_more s n v = cond (ends s.advance n v) (nat_le (tail_after s n v) s.write) false
+
 abbrev pub writer_took : WriterState → Answer → WriterStep → WriterState
-writer_took s a writer_step.LoadLink =
-    cond (old_of a == 0)
-    (cond (s.tail == s.write) (record s { checks = true; step = writer_step.LoadLink }) (record s { step = writer_step.StoreWtail }))
-    (record s { link = old_of a; step = writer_step.ClearLink })
-writer_took s a writer_step.ClearLink = record s { tail = s.tail + s.link; link = 0; step = cond (nat_lt (s.tail + s.link) (s.write + WRITTEN_LINKS)) writer_step.LoadLink writer_step.StoreWtail }
-writer_took s a writer_step.StoreWtail = record s { step = writer_step.LoadCheckpoint }
+writer_took s a (writer_step.Advance v) = record s {
+  advance = advance_took s.advance (old_of a) v;
+  tail = tail_after s (old_of a) v;
+  checks = finds_no_more s (old_of a) v;
+  step = cond (finds_no_more s (old_of a) v) (writer_step.Advance advance_step.LoadTail) (cond (ends s.advance (old_of a) v) writer_step.LoadCheckpoint (writer_step.Advance (advance_next s.advance (old_of a) v)));
+}
 writer_took s a writer_step.LoadCheckpoint =
     cond (has_log_space s (old_of a))
     (record s { ckpt = old_of a; step = cond (stands_outside s) writer_step.LoadFirst writer_step.LoadCell })
@@ -86,7 +99,7 @@ writer_took s a writer_step.StoreWrite = record s {
   firsts = drop (full_blocks s) s.firsts;
   step = writer_step.GiveDevice;
 }
-writer_took s a writer_step.GiveDevice = record s { step = writer_step.LoadLink }
+writer_took s a writer_step.GiveDevice = record s { step = writer_step.Advance advance_step.LoadTail }
 writer_took s a writer_step.StoreFailed = record s { step = writer_step.GiveFailed }
 writer_took s a writer_step.GiveFailed = record s { step = writer_step.Failed }
 writer_took s a writer_step.Failed = s

@@ -1,13 +1,15 @@
 // What holds of every store that runs. A caller learns it by calling a function that does nothing.
-ghost use Rattle.std.specs.Prelude.{◌≡◌, ◌<◌, ◌⊎◌, ℕ, Bool, List, true};
+ghost use Rattle.std.specs.Prelude.{◌≡◌, ◌<◌, ◌⊎◌, ℕ, Bool, List, false, true};
 ghost use Rattle.model_core.specs.Actors.{Actor};
 ghost use Rattle.model_core.specs.FlushLists.{Listed};
 ghost use Rattle.model_core.specs.Layout.{IsWord, index, word_count};
-ghost use Rattle.model_core.specs.Program.{is_checking, own_op, own_took};
-ghost use Rattle.model_core.specs.Waiting.{waits, IsReleasing, HasStopped};
+ghost use Rattle.model_core.specs.Holding.{ChecksWithoutTail, holds_tail};
+ghost use Rattle.model_core.specs.Program.{is_checking, own_op, own_took, took};
+ghost use Rattle.model_core.specs.Waiting.{waits, IsFreeing, HasStopped};
 ghost use Rattle.model_core.specs.WordTurn.{answer_of, words_left};
 ghost use Rattle.model_core.specs.declared.ops.Answer.{Answer};
 ghost use Rattle.model_core.specs.declared.ops.Op.TheVariants as op;
+ghost use Rattle.model_core.specs.declared.words.LinkBuffer.{LinkBuffer};
 ghost use Rattle.model_core.specs.declared.words.Word.{Word};
 
 /// The words of a store have numbers below their count.
@@ -22,16 +24,29 @@ pub fn a_wait_leads_to_a_check()
     ensures { (a : Actor) (r : Answer) → waits a r ≡ true → is_checking (own_took a r) ≡ true }
 {}
 
-/// A wait changes no word, but that the cleaner, whose round finds no page to write, may have released a latch.
+/// A wait changes no word, but that the cleaner, whose round finds no page to write, may have released a latch, and that an
+/// advance which finds no link frees its tail. A user or the closer then stores the tail that it has loaded.
 #[tactic(auto, using(crate::proofs::WaitingWords::wait_words))]
 pub fn a_wait_changes_no_word()
     ensures { (lists : ℕ → List Listed) (broken : Bool) (code mark : ℕ) (words : List ℕ) (a : Actor)
         → waits a (answer_of lists broken code mark words (own_op a)) ≡ true
-        → (words_left words (own_op a) ≡ words) ⊎ IsReleasing a }
+        → (words_left words (own_op a) ≡ words) ⊎ IsFreeing a }
 {}
 
 /// An actor that has ended asks for nothing, and stays as it is.
 #[tactic(auto, using(crate::proofs::Ended::ended_rests))]
 pub fn an_ended_actor_rests()
     ensures { (a : Actor) (r : Answer) → HasStopped a → (own_op a ≡ op.Rest) × (own_took a r ≡ a) }
+{}
+
+/// Whoever checks for a failure holds no tail: an actor gives a tail back before it waits.
+#[tactic(auto, using(crate::proofs::TailsFree::took_free))]
+pub fn a_check_holds_no_tail()
+    ensures { (a : Actor) (r : Answer) → ChecksWithoutTail a → ChecksWithoutTail (took a r) }
+{}
+
+/// An actor that has ended holds no tail.
+#[tactic(auto, using(crate::proofs::TailsFree::stopped_free))]
+pub fn an_ended_actor_holds_no_tail()
+    ensures { (a : Actor) → HasStopped a → (b : LinkBuffer) → holds_tail b a ≡ false }
 {}

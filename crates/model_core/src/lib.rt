@@ -12,12 +12,15 @@ mod words;
 
 pub use change_laws::cells_decide;
 pub use laws::{
-    a_wait_changes_no_word, a_wait_leads_to_a_check, an_ended_actor_rests, words_are_numbered,
+    a_check_holds_no_tail, a_wait_changes_no_word, a_wait_leads_to_a_check,
+    an_ended_actor_holds_no_tail, an_ended_actor_rests, words_are_numbered,
 };
 pub use limits::{
-    BATCH_PAGES, BUFFER_BLOCKS, BUFFER_WORDS, CLOSED_LINKS, FLUSH_LISTS, FRAME_CELLS, FRAME_WORDS,
-    FREE_MARGIN, LOG_BUFFER, WORD_LANES, WRITTEN_LINKS,
+    ADVANCE_PLACES, BATCH_PAGES, BUFFER_BLOCKS, BUFFER_WORDS, CLOSED_LINKS, FLUSH_LISTS,
+    FRAME_CELLS, FRAME_WORDS, FREE_MARGIN, LOG_BUFFER, WORD_LANES, WRITTEN_LINKS,
 };
 pub use ops::{Answer, Op, Step};
-pub use steps::{CheckpointerStep, CleanerStep, CloserStep, FlusherStep, UserStep, WriterStep};
-pub use words::{Layout, Word};
+pub use steps::{
+    AdvanceStep, CheckpointerStep, CleanerStep, CloserStep, FlusherStep, UserStep, WriterStep,
+};
+pub use words::{Layout, LinkBuffer, Word};

@@ -13,6 +13,8 @@ pub const BUFFER_BLOCKS: u64 = 128;
 pub const WRITTEN_LINKS: u64 = 32_768;
 /// Links of the recent-closed buffer: one for each lsn of its window.
 pub const CLOSED_LINKS: u64 = 16_384;
+/// An advance loads links less than so many places past its tail.
+pub const ADVANCE_PLACES: u64 = 32_768;
 /// Bytes of the log that stay free for groups which have begun: a user begins one only with so much space beyond SN.
 pub const FREE_MARGIN: u64 = 278_528;
 /// Flush lists. A page stands in the list of its number modulo this.

@@ -1,6 +1,21 @@
 // Where each actor stands in its program. A step is named for the next Op of the actor, which is a load of FAILED first
 // where the actor checks for a failure.
 
+/// An advance of a tail: whoever makes it takes the tail's word, follows links from there on, and frees the word.
+#[derive(Clone, Copy, Debug, PartialEq, Eq)]
+pub enum AdvanceStep {
+    /// The tail's word, which may be held.
+    LoadTail,
+    /// A compare-exchange of it, from free to held.
+    TakeTail,
+    /// At its place.
+    LoadLink,
+    /// The link that it has found; its place goes on.
+    ClearLink,
+    /// Its place as the tail, free.
+    FreeTail,
+}
+
 /// A user's.
 #[derive(Clone, Copy, Debug, PartialEq, Eq)]
 pub enum UserStep {
@@ -18,12 +33,20 @@ pub enum UserStep {
     AddCell,
     /// The first offset of the block in which its group ends.
     StoreFirst,
-    /// Waits for room in the recent-written buffer.
+    /// Whether the recent-written buffer has room.
     LoadWtail,
+    /// It hasn't, so the user advances its tail.
+    AdvanceWritten(AdvanceStep),
+    /// Waits for room there, where the tail has moved.
+    ReloadWtail,
     /// Its group is copied.
     StoreLink,
-    /// Waits for room in the recent-closed buffer.
+    /// Whether the recent-closed buffer has room.
     LoadCtail,
+    /// It hasn't, so the user advances its tail.
+    AdvanceClosed(AdvanceStep),
+    /// Waits for room there, where the tail has moved.
+    ReloadCtail,
     /// The next word of the page's frame that the group changes.
     LoadFrame,
     /// That word, with the bytes that the group changes there.
@@ -53,17 +76,13 @@ pub enum UserStep {
 /// The writer's.
 #[derive(Clone, Copy, Debug, PartialEq, Eq)]
 pub enum WriterStep {
-    /// At its tail.
-    LoadLink,
-    /// The link that it has found; its tail goes on.
-    ClearLink,
-    /// Its tail, for the users.
-    StoreWtail,
+    /// Of the tail of the recent-written buffer; it goes on with the tail that it finds or leaves.
+    Advance(AdvanceStep),
     /// Waits for room in the log.
     LoadCheckpoint,
     /// The first offset of the block that it enters.
     LoadFirst,
-    /// The same.
+    /// Clears that first offset.
     ClearFirst,
     /// The word of its read place.
     LoadCell,
@@ -113,12 +132,8 @@ pub enum FlusherStep {
 /// The closer's.
 #[derive(Clone, Copy, Debug, PartialEq, Eq)]
 pub enum CloserStep {
-    /// At its tail.
-    LoadClosedLink,
-    /// The link that it has found; its tail goes on.
-    ClearClosedLink,
-    /// Its tail, for the users.
-    StoreCtail,
+    /// Of the tail of the recent-closed buffer.
+    Advance(AdvanceStep),
     /// It has ended by a failure.
     Failed,
 }
@@ -128,11 +143,11 @@ pub enum CloserStep {
 pub enum CleanerStep {
     /// A round begins.
     LoadFlushed,
-    /// Of the page that it is at.
+    /// Loads OLDEST of the page that it is at.
     LoadOldest,
-    /// Of that page, if it is free.
+    /// Tries the page's latch; a held page is skipped.
     TakeLatch,
-    /// Of that page.
+    /// Loads NEWEST of that page.
     LoadNewest,
     /// Its latch: a group on it isn't flushed.
     ReleaseSkipped,
@@ -142,7 +157,7 @@ pub enum CleanerStep {
     WriteBatch,
     /// The batch's first page.
     RemoveFromList,
-    /// The same.
+    /// Clears OLDEST of the batch's first page.
     ClearOldest,
     /// Its flush list, back.
     GiveList,

@@ -7,13 +7,14 @@ pub enum Word {
     Sn,
     /// The log is written up to this lsn.
     Write,
-    /// The tail of the recent-written buffer: all below it is copied into the log buffer.
+    /// The tail of the recent-written buffer: all below it is copied into the log buffer. The word is twice the tail, and 1
+    /// more while an actor holds it.
     Wtail,
     /// The log is flushed up to this lsn.
     Flushed,
     /// The newest checkpoint.
     Ckpt,
-    /// The tail of the recent-closed buffer: all below it stands in the flush lists.
+    /// The tail of the recent-closed buffer: all below it stands in the flush lists. Its word is made alike.
     Ctail,
     /// 0, or the code of a failure that ends the run.
     Failed,
@@ -37,6 +38,15 @@ pub enum Word {
     Oldest(u32),
     /// Eight bytes of a page's frame, in its lanes.
     Frame(u32, u32),
+}
+
+/// One of the two link buffers.
+#[derive(Clone, Copy, Debug, PartialEq, Eq)]
+pub enum LinkBuffer {
+    /// Recent-written: its tail is WTAIL, its links are WLINK.
+    Written,
+    /// Recent-closed: its tail is CTAIL, its links are CLINK.
+    Closed,
 }
 
 /// Which words there are: those of a store of so many pages.

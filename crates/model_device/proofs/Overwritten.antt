@@ -10,7 +10,7 @@ length-overwritten at new old fits = search (rules, places)
 pub part-overwritten_before : (n m at : ℕ) (new old : List ℕ) → m + n ≤ at → at + length new ≤ length old → take n (drop m (overwritten at new old)) ≡ take n (drop m old)
 part-overwritten_before n m at new old before fits = same_lists _ _ (search (rules, places)) (λ k d h. grind (arith, places))
 
--- a part behind the write
+-- a part past the write
 pub part-overwritten_behind : (n m at : ℕ) (new old : List ℕ) → at + length new ≤ m → at + length new ≤ length old → take n (drop m (overwritten at new old)) ≡ take n (drop m old)
 part-overwritten_behind n m at new old behind fits = same_lists _ _ (search (rules, places)) (λ k d h. grind (arith, places))
 

@@ -19,7 +19,7 @@ pub record FailsWrite (write : Write) (old new : Disk) : Type 0 where
   pub pending : ((new.writes ≡ old.writes) × (new.reads ≡ old.reads))
       ⊎ ((new.writes ≡ old.writes ++ write ∷ []) × IsMixed write old.reads new.reads)
 
--- a write with a sync behind it, one of which failed: the write did, or it is pending
+-- a write with a sync after it, one of which failed: the write did, or it is pending
 abbrev pub IsPutOrNot : Write → Disk → Disk → Type 0
 IsPutOrNot write old new = FailsWrite write old new ⊎ (new ≡ written old write)
 

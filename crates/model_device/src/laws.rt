@@ -44,7 +44,7 @@ pub fn images_are_made_of_sectors()
 {}
 
 /// What the calls do to what a sector may hold. A good write adds what it puts there, a failed one adds that at the most,
-/// and behind a good sync only what reads give is left.
+/// and after a good sync only what reads give is left.
 pub fn calls_add_to_sectors()
     ensures adds { (disk : Disk) (write : Write) → Adds write disk (written disk write) }
     ensures keeps { (disk : Disk) (write : Write) (k : ℕ) (bytes : List ℕ) → MayHold disk k bytes

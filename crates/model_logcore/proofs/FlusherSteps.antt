@@ -6,7 +6,7 @@ use Rattle.model_core.specs.{Actor, Entry, flusher_holds, flusher_took, FlusherS
 use Rattle.model_core.specs.LogSide.{LogSide}
 use Rattle.model_core.specs.Setup.{Setup}
 use Rattle.model_logcore.proofs.DeviceSteps.{stays}
-use Rattle.model_logcore.proofs.Frame.{Later, Still, others_flusher, moved_on}
+use Rattle.model_logcore.proofs.Frame.{unchanged, Kept, Later, Still, others_flusher, moved_on}
 use Rattle.model_logcore.proofs.Same.{facts_same, later_marks, numbers_sized, part_kept, part_same, still_same}
 use Rattle.model_logcore.specs.LogFacts.{LogGhost, LogFacts, LogPartFacts}
 use Rattle.model_logcore.specs.LogFits.{FlusherAt, FlusherFits}
@@ -30,7 +30,7 @@ module _ (D : LogSide) (L : LogLaws D) (c : Setup) (spare : ℕ) (m : SharedWord
 
   -- the flusher moves, and holds what it held
   fsteps : (m' : SharedWords) (g' : LogGhost) (q : D.Part) (point : D.ckpt q ≡ D.ckpt p) (w : FlusherState) → IsSized c.pages m' → LogFacts D c m' g' q → FlusherFits D c m' g' q seat w → Later D c m g m' g' seat → Still D c m m' g g' p q → m'.ckpt ≡ m.ckpt → m'.device ≡ m.device → g'.holder ≡ g.holder → g'.log ≡ g.log → m'.sn ≡ m.sn
-      → flusher_holds w.step ≡ flusher_holds f.step → (flusher_holds f.step ≡ false → ◌≡◌ {A = D.Part} q p) → LogHalf D c spare m' g' q (set actors seat (actor.Flusher w))
+      → flusher_holds w.step ≡ flusher_holds f.step → (flusher_holds f.step ≡ false → ◌≡◌ {A = D.Part} q p) → Kept D c spare m' g' q (set actors seat (actor.Flusher w))
   fsteps m' g' q point w sized global fit later still ckpt device holder log sn keep same = moved_on D c spare m m' g g' p q actors seat (actor.Flusher f) (actor.Flusher w) before at sized global fit
       (λ j a n e. others_flusher D c m m' g g' p q seat hers.alone before.global later still (record { ckpt_word = ckpt; failed = later.failed; ckpt = point }) j a n (others_by q same j a n e) (before.each j a e))
       device holder log sn keep refl (omega arith)
@@ -38,16 +38,16 @@ module _ (D : LogSide) (L : LogLaws D) (c : Setup) (spare : ℕ) (m : SharedWord
   never_asks : flusher_holds f.step ≡ true → f.checks ≡ true → ⊥
   never_asks held z = let y = hers.no_device_while_checking z in let x : true ≡ false = sym held ∙ y in cc
 
-  look_by : (b : Bool) → flusher_holds f.step ≡ false → LogHalf D c spare m g p (set actors seat (actor.Flusher (cond b (record f { write = m.write; checks = true; step = flusher_step.LoadWrite }) (record f { write = m.write; step = flusher_step.TakeDevice }))))
+  look_by : (b : Bool) → flusher_holds f.step ≡ false → Kept D c spare m g p (set actors seat (actor.Flusher (cond b (record f { write = m.write; checks = true; step = flusher_step.LoadWrite }) (record f { write = m.write; step = flusher_step.TakeDevice }))))
   look_by true free = stays D c spare m g p actors seat (actor.Flusher f) before at (actor.Flusher (record f { write = m.write; checks = true; step = flusher_step.LoadWrite })) (sym free) (record { alone = hers.alone; last = hers.last; write = omega arith; no_device_while_checking = λ z. refl; step = tt }) refl (omega arith)
   look_by false free = stays D c spare m g p actors seat (actor.Flusher f) before at (actor.Flusher (record f { write = m.write; step = flusher_step.TakeDevice })) (sym free) (record { alone = hers.alone; last = hers.last; write = omega arith; no_device_while_checking = λ z. refl; step = tt }) refl (omega arith)
 
   -- it loads WRITE
-  pub keeps_watch : f.step ≡ flusher_step.LoadWrite → LogHalf D c spare m g p (set actors seat (actor.Flusher (flusher_took f (answer.Old m.write) flusher_step.LoadWrite)))
+  pub keeps_watch : f.step ≡ flusher_step.LoadWrite → Kept D c spare m g p (set actors seat (actor.Flusher (flusher_took f (answer.Old m.write) flusher_step.LoadWrite)))
   keeps_watch is = look_by (eqb m.write f.last) (ap flusher_holds is)
 
   -- it stores FLUSHED
-  pub keeps_flushed : f.step ≡ flusher_step.StoreFlushed → FlusherAt D c m g p f flusher_step.StoreFlushed → (h : LogGhost) × LogHalf D c spare (record m { flushed = f.mark }) h p (set actors seat (actor.Flusher (flusher_took f (answer.Old 0) flusher_step.StoreFlushed))) × (◌≡◌ {A = List Entry} (h.log) (g.log))
+  pub keeps_flushed : f.step ≡ flusher_step.StoreFlushed → FlusherAt D c m g p f flusher_step.StoreFlushed → (h : LogGhost) × Kept D c spare (record m { flushed = f.mark }) h p (set actors seat (actor.Flusher (flusher_took f (answer.Old 0) flusher_step.StoreFlushed))) × (◌≡◌ {A = List Entry} (h.log) (g.log))
   keeps_flushed is h =
       let G = before.global in let O = G.order in let P = G.part in
       let m' : SharedWords = record m { flushed = f.mark } in
@@ -66,14 +66,18 @@ module _ (D : LogSide) (L : LogLaws D) (c : Setup) (spare : ℕ) (m : SharedWord
                 flushed_is = h ∙ P.stable_is;
                 base_write = O.base_write;
                 write_read = O.write_read;
-                read_wtail = O.read_wtail;
+                read_target = O.read_target;
+                target_wtail = O.target_wtail;
                 wtail_tail = O.wtail_tail;
+                free = O.free;
                 tail_sn = O.tail_sn;
+                near = O.near;
                 read_entered = O.read_entered;
-                entered_tail = O.entered_tail;
+                entered_target = O.entered_target;
                 write_bound = O.write_bound;
                 wtail_bound = O.wtail_bound;
                 tail_bound = O.tail_bound;
+                target_bound = O.target_bound;
                 flushed_bound = P.stable_bound;
               };
               ring_cells = G.ring_cells;
@@ -83,14 +87,14 @@ module _ (D : LogSide) (L : LogLaws D) (c : Setup) (spare : ℕ) (m : SharedWord
               part = part_same D c m g p P P.write_written P.given_wtail (omega arith) P.ckpt_part P.turn_word;
             })
             (record { alone = hers.alone; last = refl; write = hers.write; no_device_while_checking = λ z. absurd (never_asks held z); step = tt })
-            (later_marks D c m g p (omega arith) (omega arith) (omega arith) up (λ z. z))
+            (later_marks D c m g p (omega arith) (omega arith) (omega arith) up (λ z. z) (λ _ _. unchanged))
             (still_same D c m g p (omega arith) (λ z. z) refl)
             refl refl refl refl refl (sym held) (λ z. refl),
         refl,
       )
 
   -- it stores FAILED
-  pub keeps_fault : f.step ≡ flusher_step.StoreFailed → FlusherAt D c m g p f flusher_step.StoreFailed → LogHalf D c spare (record m { failed = f.code }) g p (set actors seat (actor.Flusher (flusher_took f (answer.Old 0) flusher_step.StoreFailed)))
+  pub keeps_fault : f.step ≡ flusher_step.StoreFailed → FlusherAt D c m g p f flusher_step.StoreFailed → Kept D c spare (record m { failed = f.code }) g p (set actors seat (actor.Flusher (flusher_took f (answer.Old 0) flusher_step.StoreFailed)))
   keeps_fault is h =
       let G = before.global in let P = G.part in let h0 = h.0 in
       let m' : SharedWords = record m { failed = f.code } in
@@ -99,16 +103,16 @@ module _ (D : LogSide) (L : LogLaws D) (c : Setup) (spare : ℕ) (m : SharedWord
       (numbers_sized before.sized)
       (facts_same D c m g p G.part G)
       (record { alone = hers.alone; last = hers.last; write = hers.write; no_device_while_checking = λ z. absurd (never_asks held z); step = h0 })
-      (later_marks D c m g p (omega arith) (omega arith) (omega arith) (omega arith) (λ z. h0))
+      (later_marks D c m g p (omega arith) (omega arith) (omega arith) (omega arith) (λ z. h0) (λ _ _. unchanged))
       (still_same D c m g p (omega arith) (λ z. h0) refl)
       refl refl refl refl refl (sym held) (λ z. refl)
 
   pub syncs_by : (q : D.Part) (code : ℕ) (b : Bool) → eqb code 0 ≡ b → f.step ≡ flusher_step.Sync → AfterSync D c.blocks c.base g.log code p q
-      → LogHalf D c spare m g q (set actors seat (actor.Flusher (flusher_took f (cond b (answer.Called (D.stable q)) (answer.Failed code)) flusher_step.Sync)))
+      → Kept D c spare m g q (set actors seat (actor.Flusher (flusher_took f (cond b (answer.Called (D.stable q)) (answer.Failed code)) flusher_step.Sync)))
   syncs_by q code b b_is is A =
       let P = before.global.part in
       fsteps m g q A.ckpt (flusher_took f (cond b (answer.Called (D.stable q)) (answer.Failed code)) flusher_step.Sync) before.sized (facts_same D c m g p (parted b b_is) before.global) (fit b b_is)
-      (later_marks D c m g p (omega arith) (omega arith) (omega arith) (omega arith) (λ z. z))
+      (later_marks D c m g p (omega arith) (omega arith) (omega arith) (omega arith) (λ z. z) (λ _ _. unchanged))
       (still_same D c m g p (omega arith) (λ z. z) A.written)
       refl refl refl refl refl (keep b) (λ e. let z : true ≡ false = sym (ap flusher_holds is) ∙ e in absurd (cc))
     where
@@ -147,9 +151,9 @@ module _ (D : LogSide) (L : LogLaws D) (c : Setup) (spare : ℕ) (m : SharedWord
       fit false e = let n = eqb-false code 0 e in let pos : 0 < code = omega arith in record { alone = hers.alone; last = hers.last; write = hers.write; no_device_while_checking = λ z. absurd (never_asks (ap flusher_holds is) z); step = (pos, A.cause pos) }
 
   -- it loads FAILED
-  pub flusher_checked : f.checks ≡ true → LogHalf D c spare m g p (set actors seat (actor.Flusher (cond (eqb m.failed 0) (record f { checks = false }) (record f { checks = false; code = m.failed; step = flusher_step.Failed }))))
+  pub flusher_checked : f.checks ≡ true → Kept D c spare m g p (set actors seat (actor.Flusher (cond (eqb m.failed 0) (record f { checks = false }) (record f { checks = false; code = m.failed; step = flusher_step.Failed }))))
   flusher_checked checks = by (eqb m.failed 0) refl
     where
-      by : (b : Bool) → eqb m.failed 0 ≡ b → LogHalf D c spare m g p (set actors seat (actor.Flusher (cond b (record f { checks = false }) (record f { checks = false; code = m.failed; step = flusher_step.Failed }))))
+      by : (b : Bool) → eqb m.failed 0 ≡ b → Kept D c spare m g p (set actors seat (actor.Flusher (cond b (record f { checks = false }) (record f { checks = false; code = m.failed; step = flusher_step.Failed }))))
       by true e = stays D c spare m g p actors seat (actor.Flusher f) before at (actor.Flusher (record f { checks = false })) refl (record { alone = hers.alone; last = hers.last; write = hers.write; no_device_while_checking = λ z. absurd (cc); step = hers.step }) refl (omega arith)
       by false e = stays D c spare m g p actors seat (actor.Flusher f) before at (actor.Flusher (record f { checks = false; code = m.failed; step = flusher_step.Failed })) (sym (hers.no_device_while_checking checks)) (record { alone = hers.alone; last = hers.last; write = hers.write; no_device_while_checking = λ z. refl; step = (let n = eqb-false m.failed 0 e in omega arith) }) refl (omega arith)

@@ -1,24 +1,27 @@
 -- What stays of the invariant when one actor moves.
-use Rattle.std.proofs.Common.{List, [], ap, arith, length, refl, set, subst, suc, sym, true, zero, ℕ, ⊎_elim, ◌%◌, ◌*◌, ◌+◌, ◌/◌, ◌<◌, ◌∙◌, ◌∷◌, ◌≡◌, ◌≢◌, ◌≤◌, inl, inr}
+use Rattle.std.proofs.Common.{Bool, List, [], ap, arith, length, refl, set, subst, suc, sym, true, zero, ℕ, ⊎_elim, ◌%◌, ◌*◌, ◌+◌, ◌/◌, ◌<◌, ◌∙◌, ◌∷◌, ◌≡◌, ◌≢◌, ◌≤◌, inl, inr}
 use Rattle.std.specs.Prelude.{slice_index}
 use lib.ListN.{get_elem?}
 use mathlib.Core.Option.{some, some-injective, some-ne-none}
 use native.Mathlib.Decide.{ℕ_discrete}
 use Rattle.model_base.specs.declared.limits.TheConstants.{LSN_LIMIT}
-use Rattle.model_core.proofs.Lists.{at_set, set_else}
+use Rattle.model_core.proofs.Lists.{at_set, set_at, set_else}
 use Rattle.model_core.proofs.Groups.{tiles_at}
 use Rattle.model_core.proofs.Lsns.{floor_grows, lsn_below}
-use Rattle.model_core.specs.{Actor, byte_at, checkpointer_holds, CheckpointerState, CleanerState, end_of, entries, Entry, first_of, flusher_holds, FlusherState, group_bytes, holds, IsSized, left_in_word, LoadedMarks, lsn, read_place, SharedWords, sum_of, Tiles, UserState, word_end, writer_holds, WriterState}
+use Rattle.model_core.specs.{Actor, Advance, byte_at, ChecksWithoutTail, checkpointer_holds, CheckpointerState, CleanerState, end_of, entries, Entry, first_of, flusher_holds, FlusherState, group_bytes, HasHolder, holds, IsSized, left_in_word, LoadedMarks, lsn, read_place, SharedWords, sum_of, Tiles, UserState, word_end, writer_holds, WriterState}
 use Rattle.model_core.specs.LogSide.{LogSide}
 use Rattle.model_core.specs.Setup.{Setup}
+use Rattle.model_core.specs.declared.steps.AdvanceStep.{AdvanceStep}
 use Rattle.model_core.specs.declared.steps.UserStep.{UserStep}
 use Rattle.model_core.specs.declared.steps.CheckpointerStep.{CheckpointerStep}
 use Rattle.model_core.specs.declared.steps.WriterStep.{WriterStep}
 use Rattle.model_core.specs.declared.steps.FlusherStep.{FlusherStep}
 use Rattle.model_logcore.specs.LogFacts.{LogGhost, LogFacts, Place, count_of, sum_over_actors}
-use Rattle.model_logcore.specs.LogFits.{AreBelow, CheckpointerAt, CheckpointerFits, CleanerTold, Fits, FlusherAt, FlusherFits, Hand, LacksFirst, UserAt, UserFits, WriterAt, WriterFits, HasLinked, HasStoppedAt}
+use Rattle.model_logcore.specs.LogFits.{AdvanceAt, AreBelow, CheckpointerAt, CheckpointerFits, CleanerTold, Fits, FlusherAt, FlusherFits, Hand, LacksFirst, HasAllCopied, HasLinked, HasStoppedAt, HoldsWtail, UserAt, UserFits, WriterAt, WriterFits}
 use Rattle.model_logcore.specs.LogHalf.{Counted, LogHalf, HasTaker, left_to_reserve}
+use Rattle.model_core.specs.declared.steps.AdvanceStep.TheVariants as advance_step
 use Rattle.model_core.specs.declared.steps.UserStep.TheVariants as user_step
+use Rattle.model_core.specs.declared.words.LinkBuffer.TheVariants as link_buffer
 use Rattle.model_core.specs.declared.steps.WriterStep.TheVariants as writer_step
 use Rattle.model_core.specs.declared.steps.FlusherStep.TheVariants as flusher_step
 use Rattle.model_core.specs.declared.steps.CheckpointerStep.TheVariants as checkpointer_step
@@ -37,11 +40,6 @@ counted_same actors log seat a b e same c h =
     let u = c h in
     omega arith
 
-pub set_at : {V : Type 0} (l : List V) (i : ℕ) (a b : V) → get_elem? l i ≡ some a → get_elem? (set l i b) i ≡ some b
-set_at [] i a b e = absurd (some-ne-none a (sym e))
-set_at (x ∷ xs) zero a b e = refl
-set_at (x ∷ xs) (suc i) a b e = set_at xs i a b e
-
 -- the holder still holds the part
 pub taken_same : (actors : List Actor) (seat : ℕ) (a b : Actor) (holder : ℕ) → get_elem? actors seat ≡ some a → (holds a ≡ true → holds b ≡ true) → HasTaker actors holder → HasTaker (set actors seat b) holder
 taken_same actors seat a b holder at kept t = elim (ℕ_discrete holder seat) [
@@ -55,7 +53,22 @@ pub budget_same : (actors : List Actor) (seat spare n : ℕ) (a b : Actor) → g
 budget_same actors seat spare n a b e le h = let s = total_set left_to_reserve actors seat a b e in
     lsn_below (n + sum_over_actors left_to_reserve (set actors seat b) + spare) (n + sum_over_actors left_to_reserve actors + spare) LSN_LIMIT (omega arith) h
 
+-- what a step leaves to the actor that holds WTAIL
+pub record StillHeld (h h' : Bool) (a a' w w' t t' : ℕ) (links links' : List ℕ) : Type 0 where
+  pub held : h' ≡ h
+  pub advancer : a' ≡ a
+  pub wtail : w' ≡ w
+  pub tail : t' ≡ t
+  pub link : 0 < slice_index links (lsn t % 32768) → slice_index links' (lsn t % 32768) ≡ slice_index links (lsn t % 32768)
+
+pub unchanged : {h : Bool} {a w t : ℕ} {links : List ℕ} → StillHeld h h a a w w t t links links
+unchanged = record { held = refl; advancer = refl; wtail = refl; tail = refl; link = λ z. refl }
+
 module _ (D : LogSide) (c : Setup) where
+  -- the invariant, where a held tail has a holder, and who checks for a failure holds none
+  abbrev pub Kept : ℕ → SharedWords → LogGhost → D.Part → List Actor → Type 0
+  Kept spare m g p actors = (m.wheld ≡ true → HasHolder link_buffer.Written actors) → ((seat : ℕ) (a : Actor) → get_elem? actors seat ≡ some a → ChecksWithoutTail a) → LogHalf D c spare m g p actors
+
   -- the actor at one seat moves
   pub moved : (spare : ℕ) (m m' : SharedWords) (g g' : LogGhost) (p p' : D.Part) (actors : List Actor) (seat : ℕ) (b : Actor) → LogHalf D c spare m g p actors
       → IsSized c.pages m' → LogFacts D c m' g' p' → Fits D c m' g' p' seat b
@@ -65,8 +78,8 @@ module _ (D : LogSide) (c : Setup) where
       → Counted (set actors seat b) g'.log
       → lsn (m'.sn + sum_over_actors left_to_reserve (set actors seat b) + spare) < LSN_LIMIT
       → (m'.device ≡ 1 → HasTaker (set actors seat b) g'.holder)
-      → LogHalf D c spare m' g' p' (set actors seat b)
-  moved spare m m' g g' p p' actors seat b before sized global mine others turn turns counted room taken = record {
+      → Kept spare m' g' p' (set actors seat b)
+  moved spare m m' g g' p p' actors seat b before sized global mine others turn turns counted room taken = λ advanced without_tail. record {
     sized = sized;
     global = global;
     each = λ j a e. ⊎_elim (λ t. subst (λ (z : ℕ × Actor). Fits D c m' g' p' z.0 z.1) (λ i. (sym t.0 i, t.1 i)) mine) (λ t. others j a t.0 t.1) (at_set actors seat j b a e);
@@ -74,6 +87,8 @@ module _ (D : LogSide) (c : Setup) where
     counted = counted;
     room = room;
     taken = taken;
+    advanced = advanced;
+    without_tail = without_tail;
   }
 
   -- the same where it holds what it held, and its groups stay
@@ -82,7 +97,7 @@ module _ (D : LogSide) (c : Setup) where
       → ((j : ℕ) (x : Actor) → j ≢ seat → get_elem? actors j ≡ some x → Fits D c m' g' p' j x)
       → m'.device ≡ m.device → g'.holder ≡ g.holder → g'.log ≡ g.log → m'.sn ≡ m.sn
       → holds b ≡ holds a → ◌≡◌ {A = List Entry} (entries b) (entries a) → left_to_reserve b ≤ left_to_reserve a
-      → LogHalf D c spare m' g' p' (set actors seat b)
+      → Kept spare m' g' p' (set actors seat b)
   moved_on spare m m' g g' p p' actors seat a b before at sized global mine others device holder log sn keep same le = moved spare m m' g g' p p' actors seat b before sized global mine others
       (λ e. let t = before.turns seat a at (sym keep ∙ e) in (device ∙ t.0, t.1 ∙ sym holder))
       (λ j x n e h. let t = before.turns j x e h in (device ∙ t.0, t.1 ∙ sym holder))
@@ -106,6 +121,7 @@ module _ (D : LogSide) (c : Setup) where
     pub seats : (v : ℕ) → g'.seat_of v ≡ g.seat_of v
     pub counts : (v : ℕ) → g.seat_of v ≢ seat → count_of v g'.log ≡ count_of v g.log
     pub answers : (v : ℕ) → g.seat_of v ≢ seat → g'.answered v ≡ g.answered v
+    pub holder : g.advancer ≢ seat → m.wheld ≡ true → StillHeld m.wheld m'.wheld g.advancer g'.advancer m.wtail m'.wtail g.tail g'.tail m.wlinks m'.wlinks
 
   module _ (m m' : SharedWords) (g g' : LogGhost) (p p' : D.Part) where
     in_hand_later : (seat j : ℕ) (u : UserState) → Tiles c.base g.log m.sn → Later m g m' g' seat → j ≢ seat → u.copied ≤ length (group_bytes u) → Hand D c m g p j u → Hand D c m' g' p' j u
@@ -131,6 +147,21 @@ module _ (D : LogSide) (c : Setup) where
         (λ z. inl (in_hand_later seat j u T later ne z.1 z.0, z.1, (λ some. let e = z.2 some in let f = floor_grows m.write m'.write later.write in omega arith), (λ part. lacks_later seat j u later ne z.0 (z.3 part)), (λ all cross. later.firsts _ (z.4 all cross))))
         (λ z. inr (linked_later j u T later z)) h
 
+    holds_later : (seat j : ℕ) (v : Advance) → Later m g m' g' seat → j ≢ seat → HoldsWtail D c m g p j v → HoldsWtail D c m' g' p' j v
+    holds_later seat j v later ne h = let k = later.holder (λ e. ne (sym h.mine ∙ e)) h.held in record { held = k.held ∙ h.held; mine = k.advancer ∙ h.mine; tail = h.tail ∙ sym k.wtail; place = h.place ∙ ap lsn (sym k.tail) }
+
+    advance_later : (seat j : ℕ) (v : Advance) → Later m g m' g' seat → j ≢ seat → (s : AdvanceStep) → AdvanceAt D c m g p j v s → AdvanceAt D c m' g' p' j v s
+    advance_later seat j v later ne advance_step.LoadTail h = tt
+    advance_later seat j v later ne advance_step.TakeTail h = tt
+    advance_later seat j v later ne advance_step.LoadLink h = holds_later seat j v later ne h
+    advance_later seat j v later ne advance_step.ClearLink h = let k = later.holder (λ e. ne (sym h.0.mine ∙ e)) h.0.held in
+        let here : slice_index m.wlinks (lsn g.tail % 32768) ≡ v.link = subst (λ (t : ℕ). slice_index m.wlinks (t % 32768) ≡ v.link) h.0.place h.2 in
+        (holds_later seat j v later ne h.0, h.1, subst (λ (t : ℕ). slice_index m'.wlinks (t % 32768) ≡ v.link) (sym h.0.place) (k.link (let z = h.1 in omega arith) ∙ here))
+    advance_later seat j v later ne advance_step.FreeTail h = holds_later seat j v later ne h
+
+    all_copied_later : (seat j : ℕ) (u : UserState) → Tiles c.base g.log m.sn → Later m g m' g' seat → j ≢ seat → HasAllCopied D c m g p j u → HasAllCopied D c m' g' p' j u
+    all_copied_later seat j u T later ne h = (h.0, h.1, in_hand_later seat j u T later ne (let e = h.3 in omega arith) h.2, h.3, (λ l. later.firsts _ (h.4 l)))
+
     user_at_later : (seat j : ℕ) (u : UserState) → Tiles c.base g.log m.sn → Later m g m' g' seat → j ≢ seat → (f : UserStep) → UserAt D c m g p j u f → UserAt D c m' g' p' j u f
     user_at_later seat j u T later ne user_step.LoadCheckpoint h = h
     user_at_later seat j u T later ne user_step.LoadSn h = h
@@ -138,11 +169,15 @@ module _ (D : LogSide) (c : Setup) where
     user_at_later seat j u T later ne user_step.LoadWrite h = (h.0, h.1, in_hand_later seat j u T later ne (let e = h.3 in omega arith) h.2, h.3, lacks_later seat j u later ne h.2 h.4)
     user_at_later seat j u T later ne user_step.AddCell h = (h.0, h.1, in_hand_later seat j u T later ne (let e = h.3 in omega arith) h.2, h.3, (let e = h.4 in let f = floor_grows m.write m'.write later.write in omega arith), lacks_later seat j u later ne h.2 h.5, h.6)
     user_at_later seat j u T later ne user_step.StoreFirst h = (h.0, h.1, in_hand_later seat j u T later ne (let e = h.3 in omega arith) h.2, h.3, (let e = h.4 in let f = floor_grows m.write m'.write later.write in omega arith), h.5, lacks_later seat j u later ne h.2 h.6, h.7)
-    user_at_later seat j u T later ne user_step.LoadWtail h = (h.0, h.1, in_hand_later seat j u T later ne (let e = h.3 in omega arith) h.2, h.3, (λ l. later.firsts _ (h.4 l)))
+    user_at_later seat j u T later ne user_step.LoadWtail h = all_copied_later seat j u T later ne h
+    user_at_later seat j u T later ne (user_step.AdvanceWritten s) h = (all_copied_later seat j u T later ne h.0, advance_later seat j u.advance later ne s h.1)
+    user_at_later seat j u T later ne user_step.ReloadWtail h = all_copied_later seat j u T later ne h
     user_at_later seat j u T later ne user_step.StoreLink h = (h.0, h.1, in_hand_later seat j u T later ne (let e = h.3 in omega arith) h.2, h.3, (λ l. later.firsts _ (h.4 l)), (let e = h.5 in let w = later.wtail in omega arith))
     user_at_later seat j u T later ne user_step.AwaitMark h = (h.0, h.1, linked_later j u T later h.2, h.3)
     user_at_later seat j u T later ne user_step.TakeLatch h = h
     user_at_later seat j u T later ne user_step.LoadCtail h = (h.0, h.1, linked_later j u T later h.2)
+    user_at_later seat j u T later ne (user_step.AdvanceClosed s) h = (h.0, h.1, linked_later j u T later h.2)
+    user_at_later seat j u T later ne user_step.ReloadCtail h = (h.0, h.1, linked_later j u T later h.2)
     user_at_later seat j u T later ne user_step.LoadFrame h = (h.0, h.1, linked_later j u T later h.2)
     user_at_later seat j u T later ne user_step.StoreFrame h = (h.0, h.1, linked_later j u T later h.2)
     user_at_later seat j u T later ne user_step.StoreNewest h = (h.0, h.1, linked_later j u T later h.2)
@@ -182,42 +217,32 @@ module _ (D : LogSide) (c : Setup) where
     pub record Still : Type 0 where
       pub writer : g'.writer ≡ g.writer
       pub gwrite : g'.write ≡ g.write
-      pub gwtail : g'.wtail ≡ g.wtail
-      pub tail : g'.tail ≡ g.tail
+      pub target : g'.target ≡ g.target
       pub read : g'.read ≡ g.read
       pub entered : g'.entered ≡ g.entered
       pub write : m'.write ≡ m.write
       pub ckpt : m.ckpt ≤ m'.ckpt
       pub failed : 0 < m.failed → 0 < m'.failed
-      pub link : 0 < slice_index m.wlinks (lsn g.tail % 32768) → slice_index m'.wlinks (lsn g.tail % 32768) ≡ slice_index m.wlinks (lsn g.tail % 32768)
-      pub bytes : (x : ℕ) → c.base ≤ x → x < g.tail → byte_at c.base g'.log x ≡ byte_at c.base g.log x
-      pub firsts : (q : ℕ) → 496 * q < g.tail → first_of c.base g'.log q ≡ first_of c.base g.log q
+      pub bytes : (x : ℕ) → c.base ≤ x → x < g.target → byte_at c.base g'.log x ≡ byte_at c.base g.log x
+      pub firsts : (q : ℕ) → 496 * q < g.target → first_of c.base g'.log q ≡ first_of c.base g.log q
       pub written : D.written p' ≡ D.written p
 
-    module _ (s : WriterState) (j : ℕ) (still : Still) (base : c.base % 496 ≡ 0) (low : c.base ≤ g.write) (reads : g.read ≤ g.wtail) (tails : g.wtail ≤ g.tail) where
+    module _ (s : WriterState) (seat j : ℕ) (later : Later m g m' g' seat) (ne : j ≢ seat) (still : Still) (base : c.base % 496 ≡ 0) (low : c.base ≤ g.write) (reads : g.read ≤ g.target) where
       idle_later : (g.read ≡ g.write) × (D.written p ≡ m.write) → (g'.read ≡ g'.write) × (D.written p' ≡ m'.write)
       idle_later h = (still.read ∙ h.0 ∙ sym still.gwrite, still.written ∙ h.1 ∙ sym still.write)
 
-      busy_later : (g.wtail ≡ g.tail) × (g.write < g.tail) × (D.written p ≡ m.write) → (g'.wtail ≡ g'.tail) × (g'.write < g'.tail) × (D.written p' ≡ m'.write)
-      busy_later h = (still.gwtail ∙ h.0 ∙ sym still.tail, (let a = h.1 in let b = still.gwrite in let d = still.tail in omega arith), still.written ∙ h.2 ∙ sym still.write)
+      busy_later : (g.write < g.target) × (D.written p ≡ m.write) → (g'.write < g'.target) × (D.written p' ≡ m'.write)
+      busy_later h = ((let a = h.0 in let b = still.gwrite in let d = still.target in omega arith), still.written ∙ h.1 ∙ sym still.write)
 
-      less_later : g.read < g.tail → g'.read < g'.tail
-      less_later h = let b = still.read in let d = still.tail in omega arith
+      less_later : g.read < g.target → g'.read < g'.target
+      less_later h = let b = still.read in let d = still.target in omega arith
 
-      within : (i n : ℕ) → i < n → read_place s + n ≤ g.tail → read_place s + i < g.tail
+      within : (i n : ℕ) → i < n → read_place s + n ≤ g.target → read_place s + i < g.target
       within i n l le = omega arith
 
-      writer_at_later : s.tail ≡ lsn g.tail → s.from ≡ g.write / 496 * 496 → s.from + length s.kept ≡ g.read → s.from + 496 * length s.firsts ≡ 496 * g.entered
+      writer_at_later : s.tail ≡ lsn g.target → s.from ≡ g.write / 496 * 496 → s.from + length s.kept ≡ g.read → s.from + 496 * length s.firsts ≡ 496 * g.entered
           → (st : WriterStep) → (writer_holds st ≡ true → ◌≡◌ {A = D.Part} p' p) → WriterAt D c m g p j s st → WriterAt D c m' g' p' j s st
-      writer_at_later tail from long wide writer_step.LoadLink part h = (idle_later h.0, h.1)
-      writer_at_later tail from long wide writer_step.ClearLink part h = (
-        idle_later h.0,
-        h.1,
-        h.2,
-        (let k : slice_index m.wlinks (lsn g.tail % 32768) ≡ s.link = subst (λ (t : ℕ). slice_index m.wlinks (t % 32768) ≡ s.link) tail h.3 in
-            subst (λ (t : ℕ). slice_index m'.wlinks (t % 32768) ≡ s.link) (sym tail) (still.link (let z = h.2 in omega arith) ∙ k)),
-      )
-      writer_at_later tail from long wide writer_step.StoreWtail part h = (idle_later h.0, (let b = still.gwrite in let d = still.tail in let e = h.1 in omega arith))
+      writer_at_later tail from long wide (writer_step.Advance v) part h = (idle_later h.0, advance_later seat j s.advance later ne v h.1)
       writer_at_later tail from long wide writer_step.LoadCheckpoint part h = (busy_later h.0, still.read ∙ h.1 ∙ sym still.gwrite)
       writer_at_later tail from long wide writer_step.LoadFirst part h = (busy_later h.0, less_later h.1, h.2, h.3)
       writer_at_later tail from long wide writer_step.ClearFirst part h = (
@@ -233,31 +258,30 @@ module _ (D : LogSide) (c : Setup) where
         less_later h.1,
         h.2,
         h.3,
-        subst (λ (t : ℕ). word_end s ≤ t) (sym still.tail) h.4,
+        subst (λ (t : ℕ). word_end s ≤ t) (sym still.target) h.4,
         (λ i l. h.5 i l ∙ sym (still.bytes (read_place s + i) (let f = from in omega arith) (within i (left_in_word (read_place s)) l h.4))),
       )
-      writer_at_later tail from long wide writer_step.TakeDevice part h = (busy_later h.0, still.read ∙ h.1 ∙ sym still.tail, h.2)
-      writer_at_later tail from long wide writer_step.GiveBroken part h = (busy_later h.0, still.read ∙ h.1 ∙ sym still.tail, h.2)
-      writer_at_later tail from long wide writer_step.WriteTo part h = (busy_later h.0, still.read ∙ h.1 ∙ sym still.tail, h.2, ap D.failed (part refl) ∙ h.3)
-      writer_at_later tail from long wide writer_step.StoreWrite part h = (still.gwtail ∙ h.0 ∙ sym still.tail, (let a = h.1 in let b = still.gwrite in let d = still.tail in omega arith), still.written ∙ h.2, still.read ∙ h.3 ∙ sym still.tail)
+      writer_at_later tail from long wide writer_step.TakeDevice part h = (busy_later h.0, still.read ∙ h.1 ∙ sym still.target, h.2)
+      writer_at_later tail from long wide writer_step.GiveBroken part h = (busy_later h.0, still.read ∙ h.1 ∙ sym still.target, h.2)
+      writer_at_later tail from long wide writer_step.WriteTo part h = (busy_later h.0, still.read ∙ h.1 ∙ sym still.target, h.2, ap D.failed (part refl) ∙ h.3)
+      writer_at_later tail from long wide writer_step.StoreWrite part h = ((let a = h.0 in let b = still.gwrite in let d = still.target in omega arith), still.written ∙ h.1, still.read ∙ h.2 ∙ sym still.target)
       writer_at_later tail from long wide writer_step.GiveDevice part h = (idle_later h.0, h.1)
       writer_at_later tail from long wide writer_step.StoreFailed part h = (h.0, subst (λ (q : D.Part). D.Cause q s.code) (sym (part refl)) h.1)
       writer_at_later tail from long wide writer_step.GiveFailed part h = still.failed h
       writer_at_later tail from long wide writer_step.Failed part h = still.failed h
 
-      pub writer_later : g.entered * 496 < g.tail + 496 → (writer_holds s.step ≡ true → ◌≡◌ {A = D.Part} p' p) → WriterFits D c m g p j s → WriterFits D c m' g' p' j s
+      pub writer_later : g.entered * 496 < g.target + 496 → (writer_holds s.step ≡ true → ◌≡◌ {A = D.Part} p' p) → WriterFits D c m g p j s → WriterFits D c m' g' p' j s
       writer_later near part h =
           let f = h.from in let lg = h.long in let w = h.wide in record {
             alone = h.alone ∙ sym still.writer;
             blocks = h.blocks;
-            tail = h.tail ∙ ap lsn (sym still.tail);
+            tail = h.tail ∙ ap lsn (sym still.target);
             write = h.write ∙ sym still.write;
             from = h.from ∙ ap (λ (t : ℕ). t / 496 * 496) (sym still.gwrite);
             long = h.long ∙ sym still.read;
             kept = λ k lt. h.kept k lt ∙ sym (still.bytes (s.from + k) (omega arith) (omega arith));
             wide = h.wide ∙ ap (λ (t : ℕ). 496 * t) (sym still.entered);
             firsts = λ i lt. h.firsts i lt ∙ sym (still.firsts (g.write / 496 + i) (omega arith)) ∙ ap (λ (t : ℕ). first_of c.base g'.log (t / 496 + i)) (sym still.gwrite);
-            small = h.small;
             ckpt = (let a = h.ckpt in let b = still.ckpt in omega arith);
             no_device_while_checking = h.no_device_while_checking;
             step = writer_at_later h.tail h.from h.long h.wide s.step part h.step;
@@ -317,7 +341,7 @@ module _ (D : LogSide) (c : Setup) where
     -- every other actor is as before
     pub others_later : (seat : ℕ) → LogFacts D c m g p → Later m g m' g' seat → Still → Same → (j : ℕ) (a : Actor) → j ≢ seat → (holds a ≡ true → ◌≡◌ {A = D.Part} p' p) → Fits D c m g p j a → Fits D c m' g' p' j a
     others_later seat G later still same j (actor.User u) ne part h = user_later seat j u G.tiled.tiles later ne h
-    others_later seat G later still same j (actor.Writer s) ne part h = let O = G.order in writer_later s j still O.base_even O.base_write O.read_wtail O.wtail_tail (let e = O.entered_tail in omega arith) part h
+    others_later seat G later still same j (actor.Writer s) ne part h = let O = G.order in writer_later s seat j later ne still O.base_even O.base_write O.read_target (let e = O.entered_target in omega arith) part h
     others_later seat G later still same j (actor.Flusher f) ne part h = flusher_later j f later.write same part h
     others_later seat G later still same j (actor.Closer t) ne part h = λ z. same.failed (h z)
     others_later seat G later still same j (actor.Cleaner v) ne part h = cleaner_told_later v (record { ckpt_word = same.ckpt_word; failed = same.failed; ckpt = same.point }) h
@@ -337,7 +361,7 @@ module _ (D : LogSide) (c : Setup) where
     -- the same where the flusher moves, which is alone
     pub others_flusher : (seat : ℕ) → seat ≡ g.writer + 1 → LogFacts D c m g p → Later m g m' g' seat → Still → Rest → (j : ℕ) (a : Actor) → j ≢ seat → (holds a ≡ true → ◌≡◌ {A = D.Part} p' p) → Fits D c m g p j a → Fits D c m' g' p' j a
     others_flusher seat is G later still rest j (actor.User u) ne part h = user_later seat j u G.tiled.tiles later ne h
-    others_flusher seat is G later still rest j (actor.Writer s) ne part h = let O = G.order in writer_later s j still O.base_even O.base_write O.read_wtail O.wtail_tail (let e = O.entered_tail in omega arith) part h
+    others_flusher seat is G later still rest j (actor.Writer s) ne part h = let O = G.order in writer_later s seat j later ne still O.base_even O.base_write O.read_target (let e = O.entered_target in omega arith) part h
     others_flusher seat is G later still rest j (actor.Flusher f) ne part h = absurd (ne (h.alone ∙ sym is))
     others_flusher seat is G later still rest j (actor.Closer t) ne part h = λ z. rest.failed (h z)
     others_flusher seat is G later still rest j (actor.Cleaner v) ne part h = cleaner_told_later v rest h
@@ -347,7 +371,7 @@ module _ (D : LogSide) (c : Setup) where
     -- the same where the checkpointer moves, which is alone, and the newest checkpoint may change
     pub others_pointer : (seat : ℕ) → seat ≡ c.checkpointer → LogFacts D c m g p → Later m g m' g' seat → Still → m'.flushed ≡ m.flushed → (j : ℕ) (a : Actor) → j ≢ seat → (holds a ≡ true → ◌≡◌ {A = D.Part} p' p) → Fits D c m g p j a → Fits D c m' g' p' j a
     others_pointer seat is G later still fl j (actor.User u) ne part h = user_later seat j u G.tiled.tiles later ne h
-    others_pointer seat is G later still fl j (actor.Writer s) ne part h = let O = G.order in writer_later s j still O.base_even O.base_write O.read_wtail O.wtail_tail (let e = O.entered_tail in omega arith) part h
+    others_pointer seat is G later still fl j (actor.Writer s) ne part h = let O = G.order in writer_later s seat j later ne still O.base_even O.base_write O.read_target (let e = O.entered_target in omega arith) part h
     others_pointer seat is G later still fl j (actor.Flusher f) ne part h = flusher_later_by j f later.write still.writer fl later.failed part h
     others_pointer seat is G later still fl j (actor.Closer t) ne part h = λ z. later.failed (h z)
     others_pointer seat is G later still fl j (actor.Cleaner v) ne part h = ((λ z. later.failed (h.0 z)), h.1)

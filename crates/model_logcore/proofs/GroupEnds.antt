@@ -34,5 +34,5 @@ hand_end_near D c m g p seat u G h all stored some =
       | yes d ↦ d
       | no n ↦ (let two = G.written_links.linked u.start (omega arith) (omega arith) in absurd (omega arith))
     ] in
-    let O = G.order in let read = O.read_wtail in let tail = O.wtail_tail in
+    let O = G.order in let read = O.read_target in let target = O.target_wtail in let tail = O.wtail_tail in
     end_near c.base m.firsts m.write g.write g.log g.first g.state g.entered u.start u.start (group_end u) O.write_is G.first_offsets (omega arith) (G.ring_cells.stands u.start (word_grows g.read u.start (omega arith)) (omega arith) (omega arith)).1 stored

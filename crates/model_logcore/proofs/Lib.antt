@@ -1,3 +1,4 @@
+pub mod AdvanceSteps
 pub mod AnswerSteps
 pub mod AnswersFit
 pub mod DeviceSteps
@@ -15,9 +16,11 @@ pub mod ReserveSteps
 pub mod RingSteps
 pub mod Same
 pub mod StartHolds
+pub mod UserAdvances
 pub mod UserGroups
 pub mod UserSteps
 pub mod Watermarks
+pub mod WriterAdvances
 pub mod WriterCells
 pub mod WriterSteps
 pub mod WriterStores

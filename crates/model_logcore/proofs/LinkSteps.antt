@@ -12,7 +12,7 @@ use Rattle.model_core.specs.LogSide.{LogSide}
 use Rattle.model_core.specs.Setup.{Setup}
 use Rattle.model_core.specs.declared.steps.UserStep.{UserStep}
 use Rattle.model_logcore.proofs.AnswerSteps.{answer_global, answered_fits}
-use Rattle.model_logcore.proofs.Frame.{Later}
+use Rattle.model_logcore.proofs.Frame.{StillHeld, Kept, Later}
 use Rattle.model_logcore.proofs.RingSteps.{above_tail, commits_states, hand_lies, refit, steps, still_words}
 use Rattle.model_logcore.proofs.Same.{wlinks_sized, stored_here, stored_else}
 use Rattle.model_logcore.specs.LogFacts.{LogGhost, LogFacts, WrittenLink, Place, count_of}
@@ -163,8 +163,9 @@ module _ (D : LogSide) (L : LogLaws D) (c : Setup) (spare : ℕ) (m : SharedWord
 
     -- what the link leaves to the others, whatever becomes of the user's commits
     pub tie_later : (h' : LogGhost) → h'.log ≡ g.log → ((x : ℕ) → ◌≡◌ {A = Place} (h'.place x) (g.place x)) → ((x : ℕ) → h'.state x ≡ tied.state x) → ((x : ℕ) → h'.first x ≡ g.first x) → ((x : ℕ) → h'.seat_of x ≡ g.seat_of x) → ((x : ℕ) → g.seat_of x ≢ seat → h'.answered x ≡ g.answered x)
+        → (g.advancer ≢ seat → m.wheld ≡ true → StillHeld m.wheld (chained i v).wheld g.advancer h'.advancer m.wtail (chained i v).wtail g.tail h'.tail m.wlinks (chained i v).wlinks)
         → Later D c m g (chained i v) h' seat
-    tie_later h' lo pl st fi se an = record {
+    tie_later h' lo pl st fi se an ho = record {
       write = omega arith;
       wtail = omega arith;
       ckpt = omega arith;
@@ -179,40 +180,44 @@ module _ (D : LogSide) (L : LogLaws D) (c : Setup) (spare : ℕ) (m : SharedWord
       seats = se;
       counts = λ x n. ap (count_of x) lo;
       answers = an;
+      holder = ho;
     }
 
     link_still : 0 < slice_index m.wlinks (lsn g.tail % 32768) → slice_index (chained i v).wlinks (lsn g.tail % 32768) ≡ slice_index m.wlinks (lsn g.tail % 32768)
     link_still s = stored_else m.wlinks i v (lsn g.tail % 32768) (λ e. empty (subst (λ (y : ℕ). 0 < slice_index m.wlinks y) e s))
 
+    held_then : g.advancer ≢ seat → m.wheld ≡ true → StillHeld m.wheld m.wheld g.advancer g.advancer m.wtail m.wtail g.tail g.tail m.wlinks (chained i v).wlinks
+    held_then _ _ = record { held = refl; advancer = refl; wtail = refl; tail = refl; link = link_still }
+
     other_user : (x : ℕ) → g.seat_of x ≢ seat → x ≢ u.user
     other_user x n e = n (ap g.seat_of e ∙ mine.own_seat)
 
     -- the link stands, and the user goes on to a step
-    tie_to : (st : UserStep) → UserAt D c (chained i v) tied p seat (record u { step = st }) st → left_to_reserve (actor.User (record u { step = st })) ≤ left_to_reserve (actor.User u) → LogHalf D c spare (chained i v) tied p (set actors seat (actor.User (record u { step = st })))
+    tie_to : (st : UserStep) → UserAt D c (chained i v) tied p seat (record u { step = st }) st → left_to_reserve (actor.User (record u { step = st })) ≤ left_to_reserve (actor.User u) → Kept D c spare (chained i v) tied p (set actors seat (actor.User (record u { step = st })))
     tie_to st z le = steps D c spare m g p actors seat u before at (chained i v) tied (record u { step = st }) (wlinks_sized i v before.sized) tie_global
         (refit D c spare m g p actors seat u before at (chained i v) tied u.page u.cell u.copied u.loaded u.code u.checks st refl refl refl mine.loaded z)
-        (tie_later tied refl (λ x. refl) (λ x. refl) (λ x. refl) (λ x. refl) (λ x n. refl))
-        (still_words D c spare m g p actors seat u before at (chained i v) tied refl refl refl refl refl refl refl refl refl refl link_still)
+        (tie_later tied refl (λ x. refl) (λ x. refl) (λ x. refl) (λ x. refl) (λ x n. refl) held_then)
+        (still_words D c spare m g p actors seat u before at (chained i v) tied refl refl refl refl refl refl refl refl refl)
         refl refl refl refl refl refl refl le
 
-    tie_by : (b : Bool) → eqb (mode u) 0 ≡ b → (g' : LogGhost) × LogHalf D c spare (chained i v) g' p (set actors seat (actor.User (cond b (answered u) (record u { step = user_step.AwaitMark })))) × (◌≡◌ {A = List Entry} (g'.log) (g.log))
+    tie_by : (b : Bool) → eqb (mode u) 0 ≡ b → (g' : LogGhost) × Kept D c spare (chained i v) g' p (set actors seat (actor.User (cond b (answered u) (record u { step = user_step.AwaitMark })))) × (◌≡◌ {A = List Entry} (g'.log) (g.log))
     tie_by true e = let g' : LogGhost = record tied { answered = changed g.answered u.user (u.k + 1) } in
         let none : mode u ≡ 0 = eqb-true (mode u) 0 e in (
           g',
           steps D c spare m g p actors seat u before at (chained i v) g' (answered u) (wlinks_sized i v before.sized) (answer_global D L c spare m g p actors seat u before at (chained i v) tied h.2.at h.2.is mine.answers (λ z. absurd (omega arith)) (λ z. absurd (omega arith)) inside tie_global)
               (answered_fits D L c spare m g p actors seat u before at u.loaded (chained i v) g' refl refl (changed_here g.answered u.user (u.k + 1) u.user refl) mine.loaded h.0 h.1)
-              (tie_later g' refl (λ x. refl) (λ x. refl) (λ x. refl) (λ x. refl) (λ x n. changed_else g.answered u.user (u.k + 1) x (other_user x n)))
-              (still_words D c spare m g p actors seat u before at (chained i v) g' refl refl refl refl refl refl refl refl refl refl link_still)
+              (tie_later g' refl (λ x. refl) (λ x. refl) (λ x. refl) (λ x. refl) (λ x n. changed_else g.answered u.user (u.k + 1) x (other_user x n)) held_then)
+              (still_words D c spare m g p actors seat u before at (chained i v) g' refl refl refl refl refl refl refl refl refl)
               refl refl refl refl refl refl refl (omega arith),
           refl,
         )
     tie_by false e = (tied, tie_to user_step.AwaitMark (h.0, h.1, (h.2.at, h.2.is, inside), eqb-false (mode u) 0 e) (omega arith), refl)
 
-    tie_any : (b : Bool) → (g' : LogGhost) × LogHalf D c spare (chained i v) g' p (set actors seat (actor.User (cond b (cond (eqb (mode u) 0) (answered u) (record u { step = user_step.AwaitMark })) (record u { step = user_step.LoadCtail })))) × (◌≡◌ {A = List Entry} (g'.log) (g.log))
+    tie_any : (b : Bool) → (g' : LogGhost) × Kept D c spare (chained i v) g' p (set actors seat (actor.User (cond b (cond (eqb (mode u) 0) (answered u) (record u { step = user_step.AwaitMark })) (record u { step = user_step.LoadCtail })))) × (◌≡◌ {A = List Entry} (g'.log) (g.log))
     tie_any true = tie_by (eqb (mode u) 0) refl
     -- it has pages to change
     tie_any false = (tied, tie_to user_step.LoadCtail (h.0, h.1, (h.2.at, h.2.is, inside)) (omega arith), refl)
 
   -- it stores the link
-  pub keeps_store_link : UserAt D c m g p seat u user_step.StoreLink → (h : LogGhost) × LogHalf D c spare (record m { wlinks = slice_set m.wlinks (lsn u.start % 32768) (lsn (group_end u) - lsn u.start) }) h p (set actors seat (actor.User (user_took u 0 user_step.StoreLink))) × (◌≡◌ {A = List Entry} (h.log) (g.log))
+  pub keeps_store_link : UserAt D c m g p seat u user_step.StoreLink → (h : LogGhost) × Kept D c spare (record m { wlinks = slice_set m.wlinks (lsn u.start % 32768) (lsn (group_end u) - lsn u.start) }) h p (set actors seat (actor.User (user_took u 0 user_step.StoreLink))) × (◌≡◌ {A = List Entry} (h.log) (g.log))
   keeps_store_link h = tie_any (lsn u.start % 32768) (lsn (group_end u) - lsn u.start) refl refl h (eqb (length (changes u)) 0)

@@ -5,7 +5,7 @@ use lib.ListN.{get_elem?}
 use Rattle.model_core.specs.{Actor, checkpointer_holds, checkpointer_took, CheckpointerState, entries, Entry, holds, IsSized, PageWords, SharedWords}
 use Rattle.model_core.specs.LogSide.{LogSide}
 use Rattle.model_core.specs.Setup.{Setup}
-use Rattle.model_logcore.proofs.Frame.{others_later, others_pointer, moved_on}
+use Rattle.model_logcore.proofs.Frame.{unchanged, Kept, others_later, others_pointer, moved_on}
 use Rattle.model_logcore.proofs.Same.{facts_same, later_marks, part_kept, part_same, still_same}
 use Rattle.model_logcore.specs.LogFacts.{LogGhost}
 use Rattle.model_logcore.specs.LogFits.{Fits, CheckpointerFits}
@@ -18,24 +18,24 @@ use Rattle.model_core.specs.Actors as actor
 
 module _ (D : LogSide) (c : Setup) (spare : ℕ) (m : SharedWords) (g : LogGhost) (p : D.Part) (actors : List Actor) (seat : ℕ) (a : Actor) (before : LogHalf D c spare m g p actors) (at : get_elem? actors seat ≡ maybe.some a) where
   -- words that the log half doesn't read change, FAILED to a code, or CKPT up to the newest checkpoint
-  pub page_aside : (lists clinks : List ℕ) (page_words : List PageWords) (ctail ckpt failed : ℕ) (b : Actor) → IsSized c.pages (record m { lists = lists; clinks = clinks; page_words = page_words; ctail = ctail; ckpt = ckpt; failed = failed })
+  pub page_aside : (lists clinks : List ℕ) (page_words : List PageWords) (ctail : ℕ) (cheld : Bool) (ckpt failed : ℕ) (b : Actor) → IsSized c.pages (record m { lists = lists; clinks = clinks; page_words = page_words; ctail = ctail; cheld = cheld; ckpt = ckpt; failed = failed })
       → m.ckpt ≤ ckpt → ckpt ≤ D.ckpt p → (0 < m.failed → 0 < failed) → (ckpt ≡ m.ckpt) ⊎ (seat ≡ c.checkpointer)
-      → Fits D c (record m { lists = lists; clinks = clinks; page_words = page_words; ctail = ctail; ckpt = ckpt; failed = failed }) g p seat b → holds b ≡ holds a → ◌≡◌ {A = List Entry} (entries b) (entries a) → left_to_reserve b ≤ left_to_reserve a
-      → LogHalf D c spare (record m { lists = lists; clinks = clinks; page_words = page_words; ctail = ctail; ckpt = ckpt; failed = failed }) g p (set actors seat b)
-  page_aside lists clinks page_words ctail ckpt failed b sized up low fails who f keep same le =
-      let m' : SharedWords = record m { lists = lists; clinks = clinks; page_words = page_words; ctail = ctail; ckpt = ckpt; failed = failed } in
+      → Fits D c (record m { lists = lists; clinks = clinks; page_words = page_words; ctail = ctail; cheld = cheld; ckpt = ckpt; failed = failed }) g p seat b → holds b ≡ holds a → ◌≡◌ {A = List Entry} (entries b) (entries a) → left_to_reserve b ≤ left_to_reserve a
+      → Kept D c spare (record m { lists = lists; clinks = clinks; page_words = page_words; ctail = ctail; cheld = cheld; ckpt = ckpt; failed = failed }) g p (set actors seat b)
+  page_aside lists clinks page_words ctail cheld ckpt failed b sized up low fails who f keep same le =
+      let m' : SharedWords = record m { lists = lists; clinks = clinks; page_words = page_words; ctail = ctail; cheld = cheld; ckpt = ckpt; failed = failed } in
       let G = before.global in let P = G.part in
       moved_on D c spare m m' g g p p actors seat a b before at sized
       (facts_same D c m g p (part_same D c m g p P P.write_written P.given_wtail P.flushed_stable low P.turn_word) G)
       f
       (λ j x n e. ⊎_elim
       (λ z. others_later D c m m' g g p p seat G
-      (later_marks D c m g p (omega arith) (omega arith) up (omega arith) fails)
+      (later_marks D c m g p (omega arith) (omega arith) up (omega arith) fails (λ _ _. unchanged))
       (still_same D c m g p up fails refl)
       (record { writer = refl; flushed = refl; ckpt_word = z; failed = fails; point = refl })
       j x n (λ _. refl) (before.each j x e))
       (λ z. others_pointer D c m m' g g p p seat z G
-      (later_marks D c m g p (omega arith) (omega arith) up (omega arith) fails)
+      (later_marks D c m g p (omega arith) (omega arith) up (omega arith) fails (λ _ _. unchanged))
       (still_same D c m g p up fails refl)
       refl j x n (λ _. refl) (before.each j x e))
       who)
@@ -47,7 +47,7 @@ module _ (D : LogSide) (c : Setup) (spare : ℕ) (m : SharedWords) (g : LogGhost
   his = before.each seat (actor.Checkpointer t) at
 
   pub points_by : (q : D.Part) (code : ℕ) (b : Bool) → eqb code 0 ≡ b → t.step ≡ checkpointer_step.Checkpoint → D.ckpt p ≡ t.own → D.ckpt p < t.to → t.to ≤ D.stable p → AfterCheckpoint D c.blocks c.base g.log t.to code p q
-      → LogHalf D c spare m g q (set actors seat (actor.Checkpointer (checkpointer_took t (cond b (answer.Called 0) (answer.Failed code)) checkpointer_step.Checkpoint)))
+      → Kept D c spare m g q (set actors seat (actor.Checkpointer (checkpointer_took t (cond b (answer.Called 0) (answer.Failed code)) checkpointer_step.Checkpoint)))
   points_by q code b b_is is own more below A =
       let G = before.global in let P = G.part in
       let held : checkpointer_holds t.step ≡ true = ap checkpointer_holds is in
@@ -68,7 +68,7 @@ module _ (D : LogSide) (c : Setup) (spare : ℕ) (m : SharedWords) (g : LogGhost
       (facts_same D c m g p (part_kept D c m g p P A.holds A.written A.stable (let z = P.written_given in omega arith) (let z = P.given_wtail in omega arith) (let z = P.ckpt_part in omega arith) (let z = A.asked in omega arith) (let z = A.asked in omega arith)) G)
       (fit b b_is)
       (λ j x n e. others_pointer D c m m g g p q seat his.alone G
-      (later_marks D c m g p (omega arith) (omega arith) (omega arith) (omega arith) (λ z. z))
+      (later_marks D c m g p (omega arith) (omega arith) (omega arith) (omega arith) (λ z. z) (λ _ _. unchanged))
       (still_same D c m g p (omega arith) (λ z. z) A.written)
       refl j x n (λ h. absurd (n ((before.turns j x e h).1 ∙ sym (before.turns seat (actor.Checkpointer t) at held).1))) (before.each j x e))
       refl refl refl refl (keep b ∙ sym held) refl (omega arith)

@@ -1,15 +1,18 @@
 -- Whatever an actor's next Op is, its turn over the words by name keeps the invariant.
-use Rattle.std.proofs.Common.{Bool, List, [], ap, arith, cond, drop, eqb, eqb-true, false, inl, inr, leb, length, ltb, refl, set, subst, sym, true, ℕ, ◌%◌, ◌++◌, ◌+◌, ◌-◌, ◌/◌, ◌<◌, ◌∙◌, ◌∷◌, ◌≡◌, ◌≤◌}
+use Rattle.std.proofs.Common.{Bool, List, [], ap, arith, cond, drop, eqb, eqb-true, false, inl, inr, leb, length, ltb, refl, set, subst, sym, true, ℕ, ⊎_elim, ◌%◌, ◌++◌, ◌+◌, ◌-◌, ◌/◌, ◌<◌, ◌∙◌, ◌∷◌, ◌≡◌, ◌≤◌}
 use Rattle.std.proofs.lemmas.Bool.{eqb-false}
 use Rattle.std.specs.Prelude.{None, min, slice_index, slice_set}
 use lib.ListN.{get_elem?}
-use Rattle.model_core.proofs.Lists.{set_again}
+use Rattle.model_core.proofs.Lists.{at_set, set_again}
+use Rattle.model_core.proofs.TailHolders.{holder_stays}
+use Rattle.model_core.proofs.TailsFree.{took_free}
 unfoldable use Rattle.model_core.specs.{lanes}
-use Rattle.model_core.specs.{Actor, Batch, Blocks, checked, checkpointer_holds, checkpointer_op, checkpointer_took, CheckpointerState, cleaner_op, cleaner_took, CleanerState, closer_op, closer_took, CloserState, Entry, first_of_batch, floor, flusher_holds, flusher_op, flusher_took, FlusherState, heard, IsSized, lent, Listed, log_left, LogServed, lowered, next, next_in_round, Nothing, old_of, oldest_end, own_took, page_loaded, page_of, page_words_at, PageWords, phase_log, shared_answer, shared_left, SharedWords, took, user_op, user_took, UserState, with_page_words, writer_holds, writer_op, writer_took, WriterState}
+use Rattle.model_core.specs.{Actor, Advance, Batch, Blocks, checked, ChecksWithoutTail, checkpointer_holds, checkpointer_op, checkpointer_took, CheckpointerState, cleaner_op, cleaner_took, CleanerState, closer_op, closer_took, CloserState, Entry, first_of_batch, floor, flusher_holds, flusher_op, flusher_took, FlusherState, heard, is_held, IsSized, lent, Listed, log_left, LogServed, lowered, next, next_in_round, Nothing, old_of, oldest_end, own_took, page_loaded, page_of, page_words_at, PageWords, phase_log, shared_answer, shared_left, SharedWords, tail_of, tail_word, took, user_op, user_took, UserState, with_page_words, writer_holds, writer_op, writer_took, WriterState}
 use Rattle.model_core.specs.LogSide.{LogSide}
 use Rattle.model_core.specs.Setup.{Setup}
 use Rattle.model_core.specs.declared.ops.Answer.{Answer}
 use Rattle.model_core.specs.declared.ops.Op.{Op}
+use Rattle.model_core.specs.declared.steps.AdvanceStep.{AdvanceStep}
 use Rattle.model_core.specs.declared.steps.CleanerStep.{CleanerStep}
 use Rattle.model_core.specs.declared.steps.CloserStep.{CloserStep}
 use Rattle.model_core.specs.declared.steps.UserStep.{UserStep}
@@ -21,9 +24,11 @@ use Rattle.model_logcore.proofs.DeviceSteps.{can_write, gives, stays, takes, wri
 use Rattle.model_logcore.proofs.FlusherSteps.{flusher_checked, keeps_fault, keeps_flushed, keeps_watch, syncs_by}
 use Rattle.model_logcore.proofs.Same.{clinks_sized, lists_sized, numbers_sized, page_sized}
 use Rattle.model_logcore.proofs.UserSteps.{user_give, user_keeps, user_list, user_checked}
+use Rattle.model_logcore.proofs.WriterAdvances.{keeps_clear_link, keeps_free_tail, keeps_load_link, keeps_load_tail, keeps_take_tail}
 use Rattle.model_logcore.proofs.WriterCells.{keeps_clear_cell, keeps_clear_first, keeps_load_cell, keeps_load_checkpoint, keeps_load_first, writer_checked}
-use Rattle.model_logcore.proofs.WriterSteps.{keeps_clear_link, keeps_load_link, staged}
-use Rattle.model_logcore.proofs.WriterStores.{keeps_store_failed, keeps_store_write, keeps_store_wtail}
+use Rattle.model_logcore.proofs.WriterSteps.{staged}
+use Rattle.model_logcore.proofs.WriterStores.{keeps_store_failed, keeps_store_write}
+use Rattle.model_logcore.proofs.Frame.{Kept}
 use Rattle.model_logcore.specs.LogFacts.{LogGhost}
 use Rattle.model_logcore.specs.LogFits.{CleanerTold, CheckpointerAt, CheckpointerFits, WriterAt, WriterFits, FlusherAt, FlusherFits, UserAt}
 use Rattle.model_logcore.specs.LogHalf.{LogHalf}
@@ -32,6 +37,8 @@ use mathlib.Core.Option as maybe
 use Rattle.model_core.specs.declared.words.Word.TheVariants as word
 use Rattle.model_core.specs.declared.ops.Op.TheVariants as op
 use Rattle.model_core.specs.declared.ops.Answer.TheVariants as answer
+use Rattle.model_core.specs.declared.steps.AdvanceStep.TheVariants as advance_step
+use Rattle.model_core.specs.declared.words.LinkBuffer.TheVariants as link_buffer
 use Rattle.model_core.specs.declared.steps.UserStep.TheVariants as user_step
 use Rattle.model_core.specs.declared.steps.WriterStep.TheVariants as writer_step
 use Rattle.model_core.specs.declared.steps.FlusherStep.TheVariants as flusher_step
@@ -41,21 +48,21 @@ use Rattle.model_core.specs.declared.steps.CheckpointerStep.TheVariants as check
 use Rattle.model_core.specs.Actors as actor
 
 module _ (D : LogSide) (L : LogLaws D) (c : Setup) (spare : ℕ) (m : SharedWords) (g : LogGhost) (p : D.Part) (actors : List Actor) (seat : ℕ) (before : LogHalf D c spare m g p actors) (code : ℕ) (q : D.Part) (ls : ℕ → List Listed) (can : (t : CheckpointerState) → get_elem? actors seat ≡ maybe.some (actor.Checkpointer t) → t.step ≡ checkpointer_step.Checkpoint → CanCheckpoint D c.blocks c.base g.log t.to p) where
-  abbrev pub KeptTo : List Entry → Op → (Answer → Actor) → Type 0
-  KeptTo l o f = (h : LogGhost) × LogHalf D c spare (shared_left m o) h q (set actors seat (f (shared_answer ls (D.failed p) code (D.stable q) m o))) × (◌≡◌ {A = List Entry} (h.log) l)
+  abbrev LeftTo : List Entry → Op → (Answer → Actor) → Type 0
+  LeftTo l o f = (h : LogGhost) × Kept D c spare (shared_left m o) h q (set actors seat (f (shared_answer ls (D.failed p) code (D.stable q) m o))) × (◌≡◌ {A = List Entry} (h.log) l)
 
-  abbrev pub KeptSo : Op → (Answer → Actor) → Type 0
-  KeptSo o f = KeptTo g.log o f
+  abbrev LeftSo : Op → (Answer → Actor) → Type 0
+  LeftSo o f = LeftTo g.log o f
 
   -- the part is as before
-  same : {l : List Entry} (m' : SharedWords) (b : Actor) → ◌≡◌ {A = D.Part} q p → (h : LogGhost) × LogHalf D c spare m' h p (set actors seat b) × (◌≡◌ {A = List Entry} (h.log) l) → (h : LogGhost) × LogHalf D c spare m' h q (set actors seat b) × (◌≡◌ {A = List Entry} (h.log) l)
-  same {l} m' b e k = subst (λ (r : D.Part). (h : LogGhost) × LogHalf D c spare m' h r (set actors seat b) × (◌≡◌ {A = List Entry} (h.log) l)) (sym e) k
+  same : {l : List Entry} (m' : SharedWords) (b : Actor) → ◌≡◌ {A = D.Part} q p → (h : LogGhost) × Kept D c spare m' h p (set actors seat b) × (◌≡◌ {A = List Entry} (h.log) l) → (h : LogGhost) × Kept D c spare m' h q (set actors seat b) × (◌≡◌ {A = List Entry} (h.log) l)
+  same {l} m' b e k = subst (λ (r : D.Part). (h : LogGhost) × Kept D c spare m' h r (set actors seat b) × (◌≡◌ {A = List Entry} (h.log) l)) (sym e) k
 
-  rested : (a : Actor) → get_elem? actors seat ≡ maybe.some a → ◌≡◌ {A = D.Part} q p → (h : LogGhost) × LogHalf D c spare m h q (set actors seat a) × (◌≡◌ {A = List Entry} (h.log) g.log)
-  rested a at e = same m a e (g, subst (λ (z : List Actor). LogHalf D c spare m g p z) (sym (set_again actors seat a at)) before, refl)
+  rested : (a : Actor) → get_elem? actors seat ≡ maybe.some a → ◌≡◌ {A = D.Part} q p → (h : LogGhost) × Kept D c spare m h q (set actors seat a) × (◌≡◌ {A = List Entry} (h.log) g.log)
+  rested a at e = same m a e (g, (λ advanced without. subst (λ (z : List Actor). LogHalf D c spare m g p z) (sym (set_again actors seat a at)) before), refl)
 
   module _ (u : UserState) (at : get_elem? actors seat ≡ maybe.some (actor.User u)) where
-    user_own : (f : UserStep) → u.step ≡ f → UserAt D c m g p seat u f → u.checks ≡ false → LogServed D p Nothing (user_op u f) code q → KeptTo (phase_log g.log m.sn u f) (user_op u f) (λ r. actor.User (user_took u (heard r) f))
+    user_own : (f : UserStep) → u.step ≡ f → UserAt D c m g p seat u f → u.checks ≡ false → LogServed D p Nothing (user_op u f) code q → LeftTo (phase_log g.log m.sn u f) (user_op u f) (λ r. actor.User (user_took u (heard r) f))
     user_own user_step.LoadCheckpoint is h unasked s = same _ _ s (user_keeps D L c spare m g p actors seat u before at user_step.LoadCheckpoint is h unasked tt)
     user_own user_step.LoadSn is h unasked s = same _ _ s (user_keeps D L c spare m g p actors seat u before at user_step.LoadSn is h unasked tt)
     user_own user_step.TakeLatch is h unasked s = same _ _ s (user_keeps D L c spare m g p actors seat u before at user_step.TakeLatch is h unasked tt)
@@ -64,8 +71,20 @@ module _ (D : LogSide) (L : LogLaws D) (c : Setup) (spare : ℕ) (m : SharedWord
     user_own user_step.AddCell is h unasked s = same _ _ s (user_keeps D L c spare m g p actors seat u before at user_step.AddCell is h unasked tt)
     user_own user_step.StoreFirst is h unasked s = same _ _ s (user_keeps D L c spare m g p actors seat u before at user_step.StoreFirst is h unasked tt)
     user_own user_step.LoadWtail is h unasked s = same _ _ s (user_keeps D L c spare m g p actors seat u before at user_step.LoadWtail is h unasked tt)
+    user_own (user_step.AdvanceWritten advance_step.LoadTail) is h unasked s = same _ _ s (user_keeps D L c spare m g p actors seat u before at (user_step.AdvanceWritten advance_step.LoadTail) is h unasked tt)
+    user_own (user_step.AdvanceWritten advance_step.TakeTail) is h unasked s = same _ _ s (user_keeps D L c spare m g p actors seat u before at (user_step.AdvanceWritten advance_step.TakeTail) is h unasked tt)
+    user_own (user_step.AdvanceWritten advance_step.LoadLink) is h unasked s = same _ _ s (user_keeps D L c spare m g p actors seat u before at (user_step.AdvanceWritten advance_step.LoadLink) is h unasked tt)
+    user_own (user_step.AdvanceWritten advance_step.ClearLink) is h unasked s = same _ _ s (user_keeps D L c spare m g p actors seat u before at (user_step.AdvanceWritten advance_step.ClearLink) is h unasked tt)
+    user_own (user_step.AdvanceWritten advance_step.FreeTail) is h unasked s = same _ _ s (user_keeps D L c spare m g p actors seat u before at (user_step.AdvanceWritten advance_step.FreeTail) is h unasked tt)
+    user_own user_step.ReloadWtail is h unasked s = same _ _ s (user_keeps D L c spare m g p actors seat u before at user_step.ReloadWtail is h unasked tt)
     user_own user_step.StoreLink is h unasked s = same _ _ s (user_keeps D L c spare m g p actors seat u before at user_step.StoreLink is h unasked tt)
     user_own user_step.LoadCtail is h unasked s = same _ _ s (user_keeps D L c spare m g p actors seat u before at user_step.LoadCtail is h unasked tt)
+    user_own (user_step.AdvanceClosed advance_step.LoadTail) is h unasked s = same _ _ s (user_keeps D L c spare m g p actors seat u before at (user_step.AdvanceClosed advance_step.LoadTail) is h unasked tt)
+    user_own (user_step.AdvanceClosed advance_step.TakeTail) is h unasked s = same _ _ s (user_keeps D L c spare m g p actors seat u before at (user_step.AdvanceClosed advance_step.TakeTail) is h unasked tt)
+    user_own (user_step.AdvanceClosed advance_step.LoadLink) is h unasked s = same _ _ s (user_keeps D L c spare m g p actors seat u before at (user_step.AdvanceClosed advance_step.LoadLink) is h unasked tt)
+    user_own (user_step.AdvanceClosed advance_step.ClearLink) is h unasked s = same _ _ s (user_keeps D L c spare m g p actors seat u before at (user_step.AdvanceClosed advance_step.ClearLink) is h unasked tt)
+    user_own (user_step.AdvanceClosed advance_step.FreeTail) is h unasked s = same _ _ s (user_keeps D L c spare m g p actors seat u before at (user_step.AdvanceClosed advance_step.FreeTail) is h unasked tt)
+    user_own user_step.ReloadCtail is h unasked s = same _ _ s (user_keeps D L c spare m g p actors seat u before at user_step.ReloadCtail is h unasked tt)
     user_own user_step.LoadFrame is h unasked s = same _ _ s (user_keeps D L c spare m g p actors seat u before at user_step.LoadFrame is h unasked tt)
     user_own user_step.StoreFrame is h unasked s = same _ _ s (user_keeps D L c spare m g p actors seat u before at user_step.StoreFrame is h unasked tt)
     user_own user_step.StoreNewest is h unasked s = same _ _ s (user_keeps D L c spare m g p actors seat u before at user_step.StoreNewest is h unasked tt)
@@ -77,7 +96,7 @@ module _ (D : LogSide) (L : LogLaws D) (c : Setup) (spare : ℕ) (m : SharedWord
     user_own user_step.AddToList is h unasked s = list_by (eqb (slice_index m.lists (page_of u % 4)) 0) h s
       where
         list_by : (b : Bool) → UserAt D c m g p seat u user_step.AddToList → ◌≡◌ {A = D.Part} q p
-            → (k : LogGhost) × LogHalf D c spare (cond b (record m { lists = slice_set m.lists (page_of u % 4) 1 }) m) k q (set actors seat (actor.User (user_took u (heard (cond b (answer.Taken None) answer.Held)) user_step.AddToList))) × (◌≡◌ {A = List Entry} (k.log) g.log)
+            → (k : LogGhost) × Kept D c spare (cond b (record m { lists = slice_set m.lists (page_of u % 4) 1 }) m) k q (set actors seat (actor.User (user_took u (heard (cond b (answer.Taken None) answer.Held)) user_step.AddToList))) × (◌≡◌ {A = List Entry} (k.log) g.log)
         list_by true h s = same _ _ s (g, user_list D L c spare m g p actors seat u before at true h, refl)
         list_by false h s = same _ _ s (g, user_list D L c spare m g p actors seat u before at false h, refl)
     user_own user_step.GiveList is h unasked s = same _ _ s (g, user_give D L c spare m g p actors seat u before at h, refl)
@@ -85,7 +104,7 @@ module _ (D : LogSide) (L : LogLaws D) (c : Setup) (spare : ℕ) (m : SharedWord
     user_own user_step.Failed is h unasked s = rested (actor.User u) at s
 
     user_any : (b : Bool) → u.checks ≡ b → LogServed D p Nothing (cond b (op.Load word.Failed) (user_op u u.step)) code q
-        → KeptTo (cond b g.log (phase_log g.log m.sn u u.step)) (cond b (op.Load word.Failed) (user_op u u.step)) (λ r. cond b (checked (actor.User u) (old_of r)) (own_took (actor.User u) r))
+        → LeftTo (cond b g.log (phase_log g.log m.sn u u.step)) (cond b (op.Load word.Failed) (user_op u u.step)) (λ r. cond b (checked (actor.User u) (old_of r)) (own_took (actor.User u) r))
     user_any true checks s = same _ _ s (g, user_checked D L c spare m g p actors seat u before at checks, refl)
     user_any false checks s = user_own u.step refl (before.each seat (actor.User u) at).step checks s
 
@@ -94,27 +113,29 @@ module _ (D : LogSide) (L : LogLaws D) (c : Setup) (spare : ℕ) (m : SharedWord
     mine = before.each seat (actor.Writer s) at
 
     seize : (b d : Bool) → eqb m.device 0 ≡ b → D.failed p ≡ d → ◌≡◌ {A = D.Part} q p → s.step ≡ writer_step.TakeDevice → WriterAt D c m g p seat s writer_step.TakeDevice
-        → (h : LogGhost) × LogHalf D c spare (cond b (record m { device = 1 }) m) h q (set actors seat (actor.Writer (writer_took s (cond b (cond d answer.Broken (answer.Taken None)) answer.Held) writer_step.TakeDevice))) × (◌≡◌ {A = List Entry} (h.log) g.log)
+        → (h : LogGhost) × Kept D c spare (cond b (record m { device = 1 }) m) h q (set actors seat (actor.Writer (writer_took s (cond b (cond d answer.Broken (answer.Taken None)) answer.Held) writer_step.TakeDevice))) × (◌≡◌ {A = List Entry} (h.log) g.log)
     seize true true e f same_part is h = same _ _ same_part (takes D c spare m g p actors seat (actor.Writer s) before at (actor.Writer (record s { checks = false; step = writer_step.GiveBroken })) (eqb-true m.device 0 e) refl
-        (staged D c spare m g p actors seat s before at s.link s.first s.ckpt s.code false writer_step.GiveBroken mine.ckpt (λ z. absurd (cc)) h) refl (omega arith))
+        (staged D c spare m g p actors seat s before at s.first s.ckpt s.code false writer_step.GiveBroken mine.ckpt (λ z. absurd (cc)) h) refl (omega arith))
     seize true false e f same_part is h = same _ _ same_part (takes D c spare m g p actors seat (actor.Writer s) before at (actor.Writer (record s { checks = false; step = writer_step.WriteTo })) (eqb-true m.device 0 e) refl
-        (staged D c spare m g p actors seat s before at s.link s.first s.ckpt s.code false writer_step.WriteTo mine.ckpt (λ z. absurd (cc)) (h.0, h.1, h.2, f)) refl (omega arith))
+        (staged D c spare m g p actors seat s before at s.first s.ckpt s.code false writer_step.WriteTo mine.ckpt (λ z. absurd (cc)) (h.0, h.1, h.2, f)) refl (omega arith))
     seize false d e f same_part is h = same _ _ same_part (
       g,
       stays D c spare m g p actors seat (actor.Writer s) before at (actor.Writer (record s { checks = true; step = writer_step.TakeDevice })) (sym (ap writer_holds is))
-          (staged D c spare m g p actors seat s before at s.link s.first s.ckpt s.code true writer_step.TakeDevice mine.ckpt (λ z. refl) h) refl (omega arith),
+          (staged D c spare m g p actors seat s before at s.first s.ckpt s.code true writer_step.TakeDevice mine.ckpt (λ z. refl) h) refl (omega arith),
       refl,
     )
 
     give : (checks : Bool) (st : WriterStep) → ◌≡◌ {A = D.Part} q p → writer_holds s.step ≡ true → writer_holds st ≡ false → WriterAt D c m g p seat (record s { checks = checks; step = st }) st
-        → (h : LogGhost) × LogHalf D c spare (record m { device = 0 }) h q (set actors seat (actor.Writer (record s { checks = checks; step = st }))) × (◌≡◌ {A = List Entry} (h.log) g.log)
+        → (h : LogGhost) × Kept D c spare (record m { device = 0 }) h q (set actors seat (actor.Writer (record s { checks = checks; step = st }))) × (◌≡◌ {A = List Entry} (h.log) g.log)
     give checks st same_part had free h = same _ _ same_part (gives D c spare m g p actors seat (actor.Writer s) before at (actor.Writer (record s { checks = checks; step = st })) had free
-        (staged D c spare m g p actors seat s before at s.link s.first s.ckpt s.code checks st mine.ckpt (λ z. free) h) refl (omega arith))
+        (staged D c spare m g p actors seat s before at s.first s.ckpt s.code checks st mine.ckpt (λ z. free) h) refl (omega arith))
 
-    writer_own : (f : WriterStep) → s.step ≡ f → WriterAt D c m g p seat s f → LogServed D p (Blocks s.kept s.firsts) (writer_op s f) code q → KeptSo (writer_op s f) (λ r. actor.Writer (writer_took s r f))
-    writer_own writer_step.LoadLink is h v = same _ _ v (g, keeps_load_link D c spare m g p actors seat s before at is h, refl)
-    writer_own writer_step.ClearLink is h v = same _ _ v (keeps_clear_link D c spare m g p actors seat s before at is h)
-    writer_own writer_step.StoreWtail is h v = same _ _ v (keeps_store_wtail D c spare m g p actors seat s before at is h)
+    writer_own : (f : WriterStep) → s.step ≡ f → WriterAt D c m g p seat s f → LogServed D p (Blocks s.kept s.firsts) (writer_op s f) code q → LeftSo (writer_op s f) (λ r. actor.Writer (writer_took s r f))
+    writer_own (writer_step.Advance advance_step.LoadTail) is h v = same _ _ v (keeps_load_tail D c spare m g p actors seat s before at is h.0)
+    writer_own (writer_step.Advance advance_step.TakeTail) is h v = same _ _ v (keeps_take_tail D c spare m g p actors seat s before at is h.0)
+    writer_own (writer_step.Advance advance_step.LoadLink) is h v = same _ _ v (keeps_load_link D c spare m g p actors seat s before at is h)
+    writer_own (writer_step.Advance advance_step.ClearLink) is h v = same _ _ v (keeps_clear_link D c spare m g p actors seat s before at is h)
+    writer_own (writer_step.Advance advance_step.FreeTail) is h v = same _ _ v (keeps_free_tail D c spare m g p actors seat s before at is h)
     writer_own writer_step.LoadCheckpoint is h v = same _ _ v (g, keeps_load_checkpoint D c spare m g p actors seat s before at is h, refl)
     writer_own writer_step.LoadFirst is h v = same _ _ v (g, keeps_load_first D c spare m g p actors seat s before at is h, refl)
     writer_own writer_step.ClearFirst is h v = same _ _ v (keeps_clear_first D c spare m g p actors seat s before at is h)
@@ -125,17 +146,17 @@ module _ (D : LogSide) (L : LogLaws D) (c : Setup) (spare : ℕ) (m : SharedWord
     writer_own writer_step.WriteTo is h v = (
       g,
       writes_by D L c spare m g p actors seat s before at q code (eqb code 0) refl is h
-          (L.writes c.blocks c.base g.log g.write g.tail code s.kept s.firsts p q before.global.part.holds (can_write D L c spare m g p actors seat s before at h) (subst (λ (t : ℕ). D.Wrote t s.kept s.firsts code p q) mine.tail v)),
+          (L.writes c.blocks c.base g.log g.write g.target code s.kept s.firsts p q before.global.part.holds (can_write D L c spare m g p actors seat s before at h) (subst (λ (t : ℕ). D.Wrote t s.kept s.firsts code p q) mine.tail v)),
       refl,
     )
     writer_own writer_step.StoreWrite is h v = same _ _ v (keeps_store_write D c spare m g p actors seat s before at is h)
-    writer_own writer_step.GiveDevice is h v = give s.checks writer_step.LoadLink v (ap writer_holds is) refl (h.0, (let z = h.1 in omega arith))
+    writer_own writer_step.GiveDevice is h v = give s.checks (writer_step.Advance advance_step.LoadTail) v (ap writer_holds is) refl (h.0, tt)
     writer_own writer_step.StoreFailed is h v = same _ _ v (g, keeps_store_failed D c spare m g p actors seat s before at is h, refl)
     writer_own writer_step.GiveFailed is h v = give s.checks writer_step.Failed v (ap writer_holds is) refl h
     writer_own writer_step.Failed is h v = rested (actor.Writer s) at v
 
     writer_any : (b : Bool) → s.checks ≡ b → LogServed D p (Blocks s.kept s.firsts) (cond b (op.Load word.Failed) (writer_op s s.step)) code q
-        → KeptSo (cond b (op.Load word.Failed) (writer_op s s.step)) (λ r. cond b (checked (actor.Writer s) (old_of r)) (own_took (actor.Writer s) r))
+        → LeftSo (cond b (op.Load word.Failed) (writer_op s s.step)) (λ r. cond b (checked (actor.Writer s) (old_of r)) (own_took (actor.Writer s) r))
     writer_any true checks v = same _ _ v (g, writer_checked D c spare m g p actors seat s before at checks, refl)
     writer_any false checks v = writer_own s.step refl mine.step v
 
@@ -144,7 +165,7 @@ module _ (D : LogSide) (L : LogLaws D) (c : Setup) (spare : ℕ) (m : SharedWord
     hers = before.each seat (actor.Flusher f) at
 
     seizes : (b d : Bool) → eqb m.device 0 ≡ b → D.failed p ≡ d → ◌≡◌ {A = D.Part} q p → f.step ≡ flusher_step.TakeDevice
-        → (h : LogGhost) × LogHalf D c spare (cond b (record m { device = 1 }) m) h q (set actors seat (actor.Flusher (flusher_took f (cond b (cond d answer.Broken (answer.Taken None)) answer.Held) flusher_step.TakeDevice))) × (◌≡◌ {A = List Entry} (h.log) g.log)
+        → (h : LogGhost) × Kept D c spare (cond b (record m { device = 1 }) m) h q (set actors seat (actor.Flusher (flusher_took f (cond b (cond d answer.Broken (answer.Taken None)) answer.Held) flusher_step.TakeDevice))) × (◌≡◌ {A = List Entry} (h.log) g.log)
     seizes true true e k same_part is = same _ _ same_part (takes D c spare m g p actors seat (actor.Flusher f) before at (actor.Flusher (record f { checks = false; step = flusher_step.GiveBroken })) (eqb-true m.device 0 e) refl
         (record { alone = hers.alone; last = hers.last; write = hers.write; no_device_while_checking = λ z. absurd (cc); step = tt }) refl (omega arith))
     seizes true false e k same_part is = same _ _ same_part (takes D c spare m g p actors seat (actor.Flusher f) before at (actor.Flusher (record f { checks = false; step = flusher_step.Sync })) (eqb-true m.device 0 e) refl
@@ -157,11 +178,11 @@ module _ (D : LogSide) (L : LogLaws D) (c : Setup) (spare : ℕ) (m : SharedWord
     )
 
     yields : (checks : Bool) (st : FlusherStep) → ◌≡◌ {A = D.Part} q p → flusher_holds f.step ≡ true → flusher_holds st ≡ false → FlusherAt D c m g p (record f { checks = checks; step = st }) st
-        → (h : LogGhost) × LogHalf D c spare (record m { device = 0 }) h q (set actors seat (actor.Flusher (record f { checks = checks; step = st }))) × (◌≡◌ {A = List Entry} (h.log) g.log)
+        → (h : LogGhost) × Kept D c spare (record m { device = 0 }) h q (set actors seat (actor.Flusher (record f { checks = checks; step = st }))) × (◌≡◌ {A = List Entry} (h.log) g.log)
     yields checks st same_part had free h = same _ _ same_part (gives D c spare m g p actors seat (actor.Flusher f) before at (actor.Flusher (record f { checks = checks; step = st })) had free
         (record { alone = hers.alone; last = hers.last; write = hers.write; no_device_while_checking = λ z. free; step = h }) refl (omega arith))
 
-    flusher_own : (w : FlusherStep) → f.step ≡ w → FlusherAt D c m g p f w → LogServed D p Nothing (flusher_op f w) code q → KeptSo (flusher_op f w) (λ r. actor.Flusher (flusher_took f r w))
+    flusher_own : (w : FlusherStep) → f.step ≡ w → FlusherAt D c m g p f w → LogServed D p Nothing (flusher_op f w) code q → LeftSo (flusher_op f w) (λ r. actor.Flusher (flusher_took f r w))
     flusher_own flusher_step.LoadWrite is h v = same _ _ v (g, keeps_watch D L c spare m g p actors seat f before at is, refl)
     flusher_own flusher_step.TakeDevice is h v = seizes (eqb m.device 0) (D.failed p) refl refl v is
     flusher_own flusher_step.GiveBroken is h v = yields true flusher_step.TakeDevice v (ap flusher_holds is) refl tt
@@ -173,7 +194,7 @@ module _ (D : LogSide) (L : LogLaws D) (c : Setup) (spare : ℕ) (m : SharedWord
     flusher_own flusher_step.Failed is h v = rested (actor.Flusher f) at v
 
     flusher_any : (b : Bool) → f.checks ≡ b → LogServed D p Nothing (cond b (op.Load word.Failed) (flusher_op f f.step)) code q
-        → KeptSo (cond b (op.Load word.Failed) (flusher_op f f.step)) (λ r. cond b (checked (actor.Flusher f) (old_of r)) (own_took (actor.Flusher f) r))
+        → LeftSo (cond b (op.Load word.Failed) (flusher_op f f.step)) (λ r. cond b (checked (actor.Flusher f) (old_of r)) (own_took (actor.Flusher f) r))
     flusher_any true checks v = same _ _ v (g, flusher_checked D L c spare m g p actors seat f before at checks, refl)
     flusher_any false checks v = flusher_own f.step refl hers.step v
 
@@ -181,26 +202,32 @@ module _ (D : LogSide) (L : LogLaws D) (c : Setup) (spare : ℕ) (m : SharedWord
     closer_fits : t.step ≡ closer_step.Failed → 0 < m.failed
     closer_fits = before.each seat (actor.Closer t) at
 
-    closer_keeps : (clinks : List ℕ) (ctail : ℕ) (x : CloserState) → IsSized c.pages (record m { clinks = clinks; ctail = ctail }) → (x.step ≡ closer_step.Failed → 0 < m.failed) → ◌≡◌ {A = D.Part} q p
-        → (h : LogGhost) × LogHalf D c spare (record m { clinks = clinks; ctail = ctail }) h q (set actors seat (actor.Closer x)) × (◌≡◌ {A = List Entry} (h.log) g.log)
-    closer_keeps clinks ctail x sized f v = same _ _ v (g, page_aside D c spare m g p actors seat (actor.Closer t) before at m.lists clinks m.page_words ctail m.ckpt m.failed (actor.Closer x) sized (omega arith) before.global.part.ckpt_part (λ z. z) (inl refl) f refl refl (omega arith), refl)
+    closer_keeps : (clinks : List ℕ) (ctail : ℕ) (cheld : Bool) (x : CloserState) → IsSized c.pages (record m { clinks = clinks; ctail = ctail; cheld = cheld }) → (x.step ≡ closer_step.Failed → 0 < m.failed) → ◌≡◌ {A = D.Part} q p
+        → (h : LogGhost) × Kept D c spare (record m { clinks = clinks; ctail = ctail; cheld = cheld }) h q (set actors seat (actor.Closer x)) × (◌≡◌ {A = List Entry} (h.log) g.log)
+    closer_keeps clinks ctail cheld x sized f v = same _ _ v (g, page_aside D c spare m g p actors seat (actor.Closer t) before at m.lists clinks m.page_words ctail cheld m.ckpt m.failed (actor.Closer x) sized (omega arith) before.global.part.ckpt_part (λ z. z) (inl refl) f refl refl (omega arith), refl)
 
-    closer_own : (f : CloserStep) → t.step ≡ f → LogServed D p Nothing (closer_op t f) code q → KeptSo (closer_op t f) (λ r. actor.Closer (closer_took t r f))
-    closer_own closer_step.LoadClosedLink is v = by (eqb (slice_index m.clinks (t.tail % 16384)) 0)
+    advances : (clinks : List ℕ) (ctail : ℕ) (cheld : Bool) (advance : Advance) (checks : Bool) (x : AdvanceStep) → IsSized c.pages (record m { clinks = clinks; ctail = ctail; cheld = cheld }) → ◌≡◌ {A = D.Part} q p
+        → (h : LogGhost) × Kept D c spare (record m { clinks = clinks; ctail = ctail; cheld = cheld }) h q (set actors seat (actor.Closer (record t { advance = advance; checks = checks; step = closer_step.Advance x }))) × (◌≡◌ {A = List Entry} (h.log) g.log)
+    advances clinks ctail cheld advance checks x sized v = closer_keeps clinks ctail cheld (record t { advance = advance; checks = checks; step = closer_step.Advance x }) sized (λ z. absurd (cc)) v
+
+    closer_own : (f : CloserStep) → t.step ≡ f → LogServed D p Nothing (closer_op t f) code q → LeftSo (closer_op t f) (λ r. actor.Closer (closer_took t r f))
+    closer_own (closer_step.Advance advance_step.LoadTail) is v = advances m.clinks m.ctail m.cheld (record t.advance { tail = tail_of (tail_word m.ctail m.cheld) }) (is_held (tail_word m.ctail m.cheld)) (cond (is_held (tail_word m.ctail m.cheld)) advance_step.LoadTail advance_step.TakeTail) before.sized v
+    closer_own (closer_step.Advance advance_step.TakeTail) is v = by (eqb (tail_word m.ctail m.cheld) (tail_word t.advance.tail false))
       where
-        by : (b : Bool) → (h : LogGhost) × LogHalf D c spare m h q (set actors seat (actor.Closer (cond b (record t { checks = true; step = closer_step.LoadClosedLink }) (record t { link = slice_index m.clinks (t.tail % 16384); step = closer_step.ClearClosedLink })))) × (◌≡◌ {A = List Entry} (h.log) g.log)
-        by true = closer_keeps m.clinks m.ctail (record t { checks = true; step = closer_step.LoadClosedLink }) before.sized (λ z. absurd (cc)) v
-        by false = closer_keeps m.clinks m.ctail (record t { link = slice_index m.clinks (t.tail % 16384); step = closer_step.ClearClosedLink }) before.sized (λ z. absurd (cc)) v
-    closer_own closer_step.ClearClosedLink is v = closer_keeps (slice_set m.clinks (t.tail % 16384) 0) m.ctail (record t { tail = t.tail + t.link; step = closer_step.StoreCtail }) (clinks_sized (t.tail % 16384) 0 before.sized) (λ z. absurd (cc)) v
-    closer_own closer_step.StoreCtail is v = closer_keeps m.clinks t.tail (record t { step = closer_step.LoadClosedLink }) (numbers_sized before.sized) (λ z. absurd (cc)) v
+        by : (b : Bool) → (h : LogGhost) × Kept D c spare (cond b (record m { ctail = tail_of (tail_word t.advance.tail true); cheld = is_held (tail_word t.advance.tail true) }) m) h q (set actors seat (actor.Closer (record t { advance = record t.advance { place = t.advance.tail }; checks = cond b false true; step = closer_step.Advance (cond (cond b false true) advance_step.LoadTail advance_step.LoadLink) }))) × (◌≡◌ {A = List Entry} (h.log) g.log)
+        by true = advances m.clinks (tail_of (tail_word t.advance.tail true)) (is_held (tail_word t.advance.tail true)) (record t.advance { place = t.advance.tail }) false advance_step.LoadLink (numbers_sized before.sized) v
+        by false = advances m.clinks m.ctail m.cheld (record t.advance { place = t.advance.tail }) true advance_step.LoadTail before.sized v
+    closer_own (closer_step.Advance advance_step.LoadLink) is v = advances m.clinks m.ctail m.cheld (record t.advance { link = slice_index m.clinks (t.advance.place % 16384) }) false (cond (eqb (slice_index m.clinks (t.advance.place % 16384)) 0) advance_step.FreeTail advance_step.ClearLink) before.sized v
+    closer_own (closer_step.Advance advance_step.ClearLink) is v = advances (slice_set m.clinks (t.advance.place % 16384) 0) m.ctail m.cheld (record t.advance { place = t.advance.place + t.advance.link; link = 0 }) false (cond (ltb (t.advance.place + t.advance.link) (t.advance.tail + 32768)) advance_step.LoadLink advance_step.FreeTail) (clinks_sized (t.advance.place % 16384) 0 before.sized) v
+    closer_own (closer_step.Advance advance_step.FreeTail) is v = advances m.clinks (tail_of (tail_word t.advance.place false)) (is_held (tail_word t.advance.place false)) t.advance (eqb t.advance.place t.advance.tail) advance_step.LoadTail (numbers_sized before.sized) v
     closer_own closer_step.Failed is v = rested (actor.Closer t) at v
 
-    closer_any : (b : Bool) → LogServed D p Nothing (cond b (op.Load word.Failed) (closer_op t t.step)) code q → KeptSo (cond b (op.Load word.Failed) (closer_op t t.step)) (λ r. cond b (checked (actor.Closer t) (old_of r)) (own_took (actor.Closer t) r))
+    closer_any : (b : Bool) → LogServed D p Nothing (cond b (op.Load word.Failed) (closer_op t t.step)) code q → LeftSo (cond b (op.Load word.Failed) (closer_op t t.step)) (λ r. cond b (checked (actor.Closer t) (old_of r)) (own_took (actor.Closer t) r))
     closer_any true v = by (eqb m.failed 0) refl
       where
-        by : (b : Bool) → eqb m.failed 0 ≡ b → (h : LogGhost) × LogHalf D c spare m h q (set actors seat (actor.Closer (cond b (record t { checks = false }) (record t { checks = false; code = m.failed; step = closer_step.Failed })))) × (◌≡◌ {A = List Entry} (h.log) g.log)
-        by true e = closer_keeps m.clinks m.ctail (record t { checks = false }) before.sized closer_fits v
-        by false e = closer_keeps m.clinks m.ctail (record t { checks = false; code = m.failed; step = closer_step.Failed }) before.sized (λ _. let k = eqb-false m.failed 0 e in omega arith) v
+        by : (b : Bool) → eqb m.failed 0 ≡ b → (h : LogGhost) × Kept D c spare m h q (set actors seat (actor.Closer (cond b (record t { checks = false }) (record t { checks = false; code = m.failed; step = closer_step.Failed })))) × (◌≡◌ {A = List Entry} (h.log) g.log)
+        by true e = closer_keeps m.clinks m.ctail m.cheld (record t { checks = false }) before.sized closer_fits v
+        by false e = closer_keeps m.clinks m.ctail m.cheld (record t { checks = false; code = m.failed; step = closer_step.Failed }) before.sized (λ _. let k = eqb-false m.failed 0 e in omega arith) v
     closer_any false v = closer_own t.step refl v
 
   module _ (x : CleanerState) (at : get_elem? actors seat ≡ maybe.some (actor.Cleaner x)) where
@@ -208,11 +235,11 @@ module _ (D : LogSide) (L : LogLaws D) (c : Setup) (spare : ℕ) (m : SharedWord
     told_fits = before.each seat (actor.Cleaner x) at
 
     cleaner_keeps : (lists : List ℕ) (page_words : List PageWords) (failed : ℕ) (y : CleanerState) → IsSized c.pages (record m { lists = lists; page_words = page_words; failed = failed }) → (0 < m.failed → 0 < failed) → (y.step ≡ cleaner_step.Failed → 0 < failed) → (y.step ≡ cleaner_step.StoreFailed → 0 < y.code) → ◌≡◌ {A = D.Part} q p
-        → (h : LogGhost) × LogHalf D c spare (record m { lists = lists; page_words = page_words; failed = failed }) h q (set actors seat (actor.Cleaner y)) × (◌≡◌ {A = List Entry} (h.log) g.log)
-    cleaner_keeps lists page_words failed y sized up a b v = same _ _ v (g, page_aside D c spare m g p actors seat (actor.Cleaner x) before at lists m.clinks page_words m.ctail m.ckpt failed (actor.Cleaner y) sized (omega arith) before.global.part.ckpt_part up (inl refl) (a, b) refl refl (omega arith), refl)
+        → (h : LogGhost) × Kept D c spare (record m { lists = lists; page_words = page_words; failed = failed }) h q (set actors seat (actor.Cleaner y)) × (◌≡◌ {A = List Entry} (h.log) g.log)
+    cleaner_keeps lists page_words failed y sized up a b v = same _ _ v (g, page_aside D c spare m g p actors seat (actor.Cleaner x) before at lists m.clinks page_words m.ctail m.cheld m.ckpt failed (actor.Cleaner y) sized (omega arith) before.global.part.ckpt_part up (inl refl) (a, b) refl refl (omega arith), refl)
 
     abbrev CleanerDone : SharedWords → CleanerState → Type 0
-    CleanerDone m' y = (h : LogGhost) × LogHalf D c spare m' h q (set actors seat (actor.Cleaner y)) × (◌≡◌ {A = List Entry} (h.log) g.log)
+    CleanerDone m' y = (h : LogGhost) × Kept D c spare m' h q (set actors seat (actor.Cleaner y)) × (◌≡◌ {A = List Entry} (h.log) g.log)
 
     plain : (y : CleanerState) → (y.step ≡ cleaner_step.Failed → ⊥) → (y.step ≡ cleaner_step.StoreFailed → ⊥) → ◌≡◌ {A = D.Part} q p → CleanerDone m y
     plain y a b v = cleaner_keeps m.lists m.page_words m.failed y before.sized (λ z. z) (λ z. absurd (a z)) (λ z. absurd (b z)) v
@@ -231,7 +258,7 @@ module _ (D : LogSide) (L : LogLaws D) (c : Setup) (spare : ℕ) (m : SharedWord
         by true false = ((λ z. absurd (cc)), (λ z. absurd (cc)))
         by false d = ((λ z. absurd (cc)), (λ z. absurd (cc)))
 
-    cleaner_own : (f : CleanerStep) → x.step ≡ f → LogServed D p (Batch x.batch) (cleaner_op x f) code q → KeptSo (cleaner_op x f) (λ r. actor.Cleaner (cleaner_took x r f))
+    cleaner_own : (f : CleanerStep) → x.step ≡ f → LogServed D p (Batch x.batch) (cleaner_op x f) code q → LeftSo (cleaner_op x f) (λ r. actor.Cleaner (cleaner_took x r f))
     cleaner_own cleaner_step.LoadFlushed is v = plain (record x { flushed = m.flushed; left = x.pages; batch = []; step = cleaner_step.LoadOldest }) (λ z. absurd (cc)) (λ z. absurd (cc)) v
     cleaner_own cleaner_step.LoadOldest is v = by (eqb (page_words_at m.page_words x.page).oldest 0)
       where
@@ -274,7 +301,7 @@ module _ (D : LogSide) (L : LogLaws D) (c : Setup) (spare : ℕ) (m : SharedWord
     cleaner_own cleaner_step.StoreFailed is v = let pos = told_fits.1 is in cleaner_keeps m.lists m.page_words x.code (record x { step = cleaner_step.Failed }) (numbers_sized before.sized) (λ _. pos) (λ _. pos) (λ z. absurd (cc)) v
     cleaner_own cleaner_step.Failed is v = rested (actor.Cleaner x) at v
 
-    cleaner_any : (b : Bool) → LogServed D p (Batch x.batch) (cond b (op.Load word.Failed) (cleaner_op x x.step)) code q → KeptSo (cond b (op.Load word.Failed) (cleaner_op x x.step)) (λ r. cond b (checked (actor.Cleaner x) (old_of r)) (own_took (actor.Cleaner x) r))
+    cleaner_any : (b : Bool) → LogServed D p (Batch x.batch) (cond b (op.Load word.Failed) (cleaner_op x x.step)) code q → LeftSo (cond b (op.Load word.Failed) (cleaner_op x x.step)) (λ r. cond b (checked (actor.Cleaner x) (old_of r)) (own_took (actor.Cleaner x) r))
     cleaner_any true v = by (eqb m.failed 0) refl
       where
         by : (b : Bool) → eqb m.failed 0 ≡ b → CleanerDone m (cond b (record x { checks = false }) (record x { checks = false; code = m.failed; step = cleaner_step.Failed }))
@@ -287,11 +314,11 @@ module _ (D : LogSide) (L : LogLaws D) (c : Setup) (spare : ℕ) (m : SharedWord
     its = before.each seat (actor.Checkpointer t) at
 
     abbrev CheckpointerDone : SharedWords → CheckpointerState → Type 0
-    CheckpointerDone m' y = (h : LogGhost) × LogHalf D c spare m' h q (set actors seat (actor.Checkpointer y)) × (◌≡◌ {A = List Entry} (h.log) g.log)
+    CheckpointerDone m' y = (h : LogGhost) × Kept D c spare m' h q (set actors seat (actor.Checkpointer y)) × (◌≡◌ {A = List Entry} (h.log) g.log)
 
     checkpointer_keeps : (lists : List ℕ) (ckpt failed : ℕ) (y : CheckpointerState) → IsSized c.pages (record m { lists = lists; ckpt = ckpt; failed = failed }) → m.ckpt ≤ ckpt → ckpt ≤ D.ckpt p → (0 < m.failed → 0 < failed) → CheckpointerFits D c (record m { lists = lists; ckpt = ckpt; failed = failed }) g p seat y → checkpointer_holds y.step ≡ checkpointer_holds t.step → ◌≡◌ {A = D.Part} q p
         → CheckpointerDone (record m { lists = lists; ckpt = ckpt; failed = failed }) y
-    checkpointer_keeps lists ckpt failed y sized a b up f keep v = same _ _ v (g, page_aside D c spare m g p actors seat (actor.Checkpointer t) before at lists m.clinks m.page_words m.ctail ckpt failed (actor.Checkpointer y) sized a b up (inr its.alone) f keep refl (omega arith), refl)
+    checkpointer_keeps lists ckpt failed y sized a b up f keep v = same _ _ v (g, page_aside D c spare m g p actors seat (actor.Checkpointer t) before at lists m.clinks m.page_words m.ctail m.cheld ckpt failed (actor.Checkpointer y) sized a b up (inr its.alone) f keep refl (omega arith), refl)
 
     easy : (y : CheckpointerState) → CheckpointerFits D c m g p seat y → checkpointer_holds y.step ≡ checkpointer_holds t.step → ◌≡◌ {A = D.Part} q p → CheckpointerDone m y
     easy y f keep v = checkpointer_keeps m.lists m.ckpt m.failed y before.sized (omega arith) before.global.part.ckpt_part (λ z. z) f keep v
@@ -302,8 +329,8 @@ module _ (D : LogSide) (L : LogLaws D) (c : Setup) (spare : ℕ) (m : SharedWord
     gives_back : (y : CheckpointerState) → checkpointer_holds t.step ≡ true → checkpointer_holds y.step ≡ false → CheckpointerFits D c m g p seat y → ◌≡◌ {A = D.Part} q p → CheckpointerDone (record m { device = 0 }) y
     gives_back y had free f v = same _ _ v (gives D c spare m g p actors seat (actor.Checkpointer t) before at (actor.Checkpointer y) had free f refl (omega arith))
 
-    checkpointer_own : (f : CheckpointerStep) → t.step ≡ f → CheckpointerAt D c m g p t f → LogServed D p Nothing (checkpointer_op t f) code q → KeptSo (checkpointer_op t f) (λ r. actor.Checkpointer (checkpointer_took t r f))
-    checkpointer_own checkpointer_step.LoadCtail is h v = easy (record t { ctail = m.ctail; to = m.ctail; list = 0; step = checkpointer_step.ReadList }) (record { alone = its.alone; own = its.own; no_device_while_checking = λ _. refl; step = h }) (sym (ap checkpointer_holds is)) v
+    checkpointer_own : (f : CheckpointerStep) → t.step ≡ f → CheckpointerAt D c m g p t f → LogServed D p Nothing (checkpointer_op t f) code q → LeftSo (checkpointer_op t f) (λ r. actor.Checkpointer (checkpointer_took t r f))
+    checkpointer_own checkpointer_step.LoadCtail is h v = easy (record t { ctail = tail_of (tail_word m.ctail m.cheld); to = tail_of (tail_word m.ctail m.cheld); list = 0; step = checkpointer_step.ReadList }) (record { alone = its.alone; own = its.own; no_device_while_checking = λ _. refl; step = h }) (sym (ap checkpointer_holds is)) v
     checkpointer_own checkpointer_step.ReadList is h v = by (eqb (slice_index m.lists t.list) 0)
       where
         by : (b : Bool) → CheckpointerDone (cond b (record m { lists = slice_set m.lists t.list 1 }) m) (checkpointer_took t (cond b (answer.Taken (oldest_end (ls t.list))) answer.Held) checkpointer_step.ReadList)
@@ -335,7 +362,7 @@ module _ (D : LogSide) (L : LogLaws D) (c : Setup) (spare : ℕ) (m : SharedWord
     checkpointer_own checkpointer_step.GiveFailed is h v = gives_back (record t { step = checkpointer_step.Failed }) (ap checkpointer_holds is) refl (record { alone = its.alone; own = its.own; no_device_while_checking = λ _. refl; step = h }) v
     checkpointer_own checkpointer_step.Failed is h v = rested (actor.Checkpointer t) at v
 
-    checkpointer_any : (b : Bool) → t.checks ≡ b → LogServed D p Nothing (cond b (op.Load word.Failed) (checkpointer_op t t.step)) code q → KeptSo (cond b (op.Load word.Failed) (checkpointer_op t t.step)) (λ r. cond b (checked (actor.Checkpointer t) (old_of r)) (own_took (actor.Checkpointer t) r))
+    checkpointer_any : (b : Bool) → t.checks ≡ b → LogServed D p Nothing (cond b (op.Load word.Failed) (checkpointer_op t t.step)) code q → LeftSo (cond b (op.Load word.Failed) (checkpointer_op t t.step)) (λ r. cond b (checked (actor.Checkpointer t) (old_of r)) (own_took (actor.Checkpointer t) r))
     checkpointer_any true checks v = by (eqb m.failed 0) refl
       where
         by : (b : Bool) → eqb m.failed 0 ≡ b → CheckpointerDone m (cond b (record t { checks = false }) (record t { checks = false; code = m.failed; step = checkpointer_step.Failed }))
@@ -343,12 +370,22 @@ module _ (D : LogSide) (L : LogLaws D) (c : Setup) (spare : ℕ) (m : SharedWord
         by false e = let pos : 0 < m.failed = (let k = eqb-false m.failed 0 e in omega arith) in easy (record t { checks = false; code = m.failed; step = checkpointer_step.Failed }) (record { alone = its.alone; own = its.own; no_device_while_checking = λ _. refl; step = pos }) (sym (its.no_device_while_checking checks)) v
     checkpointer_any false checks v = checkpointer_own t.step refl its.step v
 
+  left : (a : Actor) → get_elem? actors seat ≡ maybe.some a → LogServed D p (lent a) (next a) code q → LeftTo (log_left g.log m.sn a) (next a) (took a)
+  left (actor.User u) at v = user_any u at u.checks refl v
+  left (actor.Writer s) at v = writer_any s at s.checks refl v
+  left (actor.Flusher f) at v = flusher_any f at f.checks refl v
+  left (actor.Closer t) at v = closer_any t at t.checks v
+  left (actor.Cleaner x) at v = cleaner_any x at x.checks v
+  left (actor.Checkpointer t) at v = checkpointer_any t at t.checks refl v
+  left (actor.Joined es) at v = rested (actor.Joined es) at v
+
+  abbrev pub KeptTo : List Entry → Op → (Answer → Actor) → Type 0
+  KeptTo l o f = (h : LogGhost) × LogHalf D c spare (shared_left m o) h q (set actors seat (f (shared_answer ls (D.failed p) code (D.stable q) m o))) × (◌≡◌ {A = List Entry} (h.log) l)
+
   -- Whatever the actor's next Op is, its turn keeps the invariant
   pub keeps : (a : Actor) → get_elem? actors seat ≡ maybe.some a → LogServed D p (lent a) (next a) code q → KeptTo (log_left g.log m.sn a) (next a) (took a)
-  keeps (actor.User u) at v = user_any u at u.checks refl v
-  keeps (actor.Writer s) at v = writer_any s at s.checks refl v
-  keeps (actor.Flusher f) at v = flusher_any f at f.checks refl v
-  keeps (actor.Closer t) at v = closer_any t at t.checks v
-  keeps (actor.Cleaner x) at v = cleaner_any x at x.checks v
-  keeps (actor.Checkpointer t) at v = checkpointer_any t at t.checks refl v
-  keeps (actor.Joined es) at v = rested (actor.Joined es) at v
+  keeps a at v =
+      let k = left a at v in
+      let free : (j : ℕ) (x : Actor) → get_elem? (set actors seat (took a (shared_answer ls (D.failed p) code (D.stable q) m (next a)))) j ≡ maybe.some x → ChecksWithoutTail x = λ j x e.
+      ⊎_elim (λ t. subst ChecksWithoutTail t.1 (took_free a (shared_answer ls (D.failed p) code (D.stable q) m (next a)))) (λ t. before.without_tail j x t.1) (at_set actors seat j _ x e) in
+      (k.0, k.1 (holder_stays m ls (D.failed p) code (D.stable q) link_buffer.Written actors seat a at (before.without_tail seat a at) before.advanced) free, k.2)

@@ -6,14 +6,14 @@ use Rattle.model_base.specs.declared.limits.TheConstants.{LSN_LIMIT}
 use Rattle.model_core.proofs.Lsns.{lsn_below}
 use Rattle.model_core.proofs.Groups.{at_end, changed, changed_else, changed_here}
 use Rattle.model_core.proofs.Lists.{at_longer}
-use Rattle.model_core.specs.{Actor, entries, entries_from, Entry, holds, LoadedMarks, SharedWords, sum_of, UserState}
+use Rattle.model_core.specs.{Actor, ChecksWithoutTail, entries, entries_from, Entry, holds, LoadedMarks, SharedWords, sum_of, UserState}
 use Rattle.model_core.specs.LogSide.{LogSide}
 use Rattle.model_core.specs.Setup.{Setup}
 use Rattle.model_logcore.proofs.UserGroups.{count_some}
 use Rattle.model_logcore.specs.LogFacts.{LogGhost, count_of, sum_over_actors}
 use Rattle.model_logcore.specs.LogFits.{AreBelow, Fits, UserAt, UserFits}
 use Rattle.model_logcore.specs.LogHalf.{LogHalf, left_to_reserve}
-use Rattle.model_logcore.proofs.NewUsers.{new_user_is}
+use Rattle.model_logcore.proofs.NewUsers.{new_free, new_user_is}
 use Rattle.model_logcore.specs.Start.{StartUser}
 use Rattle.model_core.specs.Actors as actor
 use mathlib.Core.Option as maybe
@@ -53,6 +53,8 @@ half_seats_user D c spare m g p actors u S k other none =
           (at_end actors (actor.User u) a j e);
       turns = λ j a e h. ⊎_elim (λ t. k.turns j a t h) (λ t. let z : false ≡ true = ap holds t.1 ∙ h in absurd (cc)) (at_end actors (actor.User u) a j e);
       taken = λ d. let t = k.taken d in (t.0, at_longer actors (actor.User u ∷ []) g.holder t.0 t.1, t.2);
+      advanced = λ d. let t = k.advanced d in (t.0, t.1, at_longer actors (actor.User u ∷ []) t.0 t.1 t.2, t.3);
+      without_tail = λ j a e. ⊎_elim (λ t. k.without_tail j a t) (λ t. subst ChecksWithoutTail t.1 (new_free c u S)) (at_end actors (actor.User u) a j e);
       counted = λ h. let t = sum_end (λ x. sum_of h (entries x)) actors (actor.User u) in let z : sum_of h (entries (actor.User u)) ≡ 0 = ap (λ (s : List ℕ). sum_of h (entries_from u.user u.lines 0 s)) (new_user_is c u S).starts in let v = k.counted h in omega arith;
       room = let t = sum_end left_to_reserve actors (actor.User u) in
           lsn_below (m.sn + sum_over_actors left_to_reserve (actors ++ actor.User u ∷ []) + spare) (m.sn + sum_over_actors left_to_reserve actors + (left_to_reserve (actor.User u) + spare)) LSN_LIMIT (omega arith) k.room;
@@ -74,7 +76,7 @@ half_seats_user D c spare m g p actors u S k other none =
       loaded = h.loaded;
       step = h.step;
     }
-    others D c m g p user n j (actor.Writer s) ne h = record { alone = h.alone; blocks = h.blocks; tail = h.tail; write = h.write; from = h.from; long = h.long; kept = h.kept; wide = h.wide; firsts = h.firsts; small = h.small; ckpt = h.ckpt; no_device_while_checking = h.no_device_while_checking; step = h.step }
+    others D c m g p user n j (actor.Writer s) ne h = record { alone = h.alone; blocks = h.blocks; tail = h.tail; write = h.write; from = h.from; long = h.long; kept = h.kept; wide = h.wide; firsts = h.firsts; ckpt = h.ckpt; no_device_while_checking = h.no_device_while_checking; step = h.step }
     others D c m g p user n j (actor.Flusher f) ne h = record { alone = h.alone; last = h.last; write = h.write; no_device_while_checking = h.no_device_while_checking; step = h.step }
     others D c m g p user n j (actor.Closer t) ne h = h
     others D c m g p user n j (actor.Cleaner v) ne h = h

@@ -1,10 +1,12 @@
 -- Who asks for the log part doesn't have it; who gives it back or calls it has it, and the call's conditions hold.
 use Rattle.std.proofs.Common.{Bool, List, ap, cond, false, refl, true, ℕ, ◌≡◌}
 use lib.ListN.{get_elem?}
-use Rattle.model_core.specs.{Actor, checkpointer_holds, checkpointer_op, CheckpointerState, cleaner_op, CleanerState, closer_op, CloserState, flusher_holds, flusher_op, FlusherState, next, SharedWords, user_op, UserState, writer_holds, writer_op, WriterState}
+use Rattle.model_core.specs.{Actor, Advance, advance_op, checkpointer_holds, checkpointer_op, CheckpointerState, cleaner_op, CleanerState, closer_op, CloserState, flusher_holds, flusher_op, FlusherState, next, SharedWords, user_op, UserState, writer_holds, writer_op, WriterState}
 use Rattle.model_core.specs.LogSide.{LogSide}
 use Rattle.model_core.specs.Setup.{Setup}
 use Rattle.model_core.specs.declared.ops.Op.{Op}
+use Rattle.model_core.specs.declared.steps.AdvanceStep.{AdvanceStep}
+use Rattle.model_core.specs.declared.words.LinkBuffer.{LinkBuffer}
 use Rattle.model_core.specs.declared.steps.CheckpointerStep.{CheckpointerStep}
 use Rattle.model_core.specs.declared.steps.CleanerStep.{CleanerStep}
 use Rattle.model_core.specs.declared.steps.CloserStep.{CloserStep}
@@ -19,6 +21,8 @@ use Rattle.model_logcore.specs.LogLaws.{CanCheckpoint, LogLaws}
 use Rattle.model_logcore.specs.Ready.{Ready}
 use Rattle.model_core.specs.declared.words.Word.TheVariants as word
 use Rattle.model_core.specs.declared.ops.Op.TheVariants as op
+use Rattle.model_core.specs.declared.steps.AdvanceStep.TheVariants as advance_step
+use Rattle.model_core.specs.declared.words.LinkBuffer.TheVariants as link_buffer
 use Rattle.model_core.specs.declared.steps.UserStep.TheVariants as user_step
 use Rattle.model_core.specs.declared.steps.WriterStep.TheVariants as writer_step
 use Rattle.model_core.specs.declared.steps.FlusherStep.TheVariants as flusher_step
@@ -29,11 +33,18 @@ use Rattle.model_core.specs.Actors as actor
 use mathlib.Core.Option as maybe
 
 module _ (D : LogSide) (L : LogLaws D) (c : Setup) (spare : ℕ) (m : SharedWords) (g : LogGhost) (p : D.Part) (actors : List Actor) (seat : ℕ) (before : LogHalf D c spare m g p actors) where
+  advance_ready : (a : Actor) (b : LinkBuffer) (v : Advance) (s : AdvanceStep) → Ready D c g p a (advance_op b v s)
+  advance_ready a b v advance_step.LoadTail = tt
+  advance_ready a b v _ = tt
+
   user_ready : (u : UserState) (f : UserStep) → Ready D c g p (actor.User u) (user_op u f)
   user_ready u user_step.LoadCheckpoint = tt
+  user_ready u (user_step.AdvanceWritten s) = advance_ready (actor.User u) link_buffer.Written u.advance s
+  user_ready u (user_step.AdvanceClosed s) = advance_ready (actor.User u) link_buffer.Closed u.advance s
   user_ready u _ = tt
 
   writer_ready : (s : WriterState) → get_elem? actors seat ≡ maybe.some (actor.Writer s) → (f : WriterStep) → s.step ≡ f → WriterAt D c m g p seat s f → Ready D c g p (actor.Writer s) (writer_op s f)
+  writer_ready s at (writer_step.Advance v) is h = advance_ready (actor.Writer s) link_buffer.Written s.advance v
   writer_ready s at writer_step.TakeDevice is h = ap writer_holds is
   writer_ready s at writer_step.GiveBroken is h = ap writer_holds is
   writer_ready s at writer_step.WriteTo is h = let mine : WriterFits D c m g p seat s = before.each seat (actor.Writer s) at in (ap writer_holds is, (mine.tail, can_write D L c spare m g p actors seat s before at h))
@@ -50,8 +61,8 @@ module _ (D : LogSide) (L : LogLaws D) (c : Setup) (spare : ℕ) (m : SharedWord
   flusher_ready f _ is h = tt
 
   closer_ready : (t : CloserState) (f : CloserStep) → Ready D c g p (actor.Closer t) (closer_op t f)
-  closer_ready t closer_step.LoadClosedLink = tt
-  closer_ready t _ = tt
+  closer_ready t (closer_step.Advance v) = advance_ready (actor.Closer t) link_buffer.Closed t.advance v
+  closer_ready t closer_step.Failed = tt
 
   cleaner_ready : (v : CleanerState) (f : CleanerStep) → Ready D c g p (actor.Cleaner v) (cleaner_op v f)
   cleaner_ready v cleaner_step.LoadFlushed = tt

@@ -15,7 +15,7 @@ use Rattle.model_core.specs.{Actor, byte_at, end_of, entries, Entry, entry, firs
 use Rattle.model_core.specs.LogSide.{LogSide}
 use Rattle.model_core.specs.Setup.{Setup}
 use Rattle.model_logcore.proofs.UserGroups.{count_snoc, entries_snoc, lengths_step, none_of, one_of}
-use Rattle.model_logcore.proofs.Frame.{moved, others_later, taken_same, total_set}
+use Rattle.model_logcore.proofs.Frame.{unchanged, Kept, moved, others_later, taken_same, total_set}
 use Rattle.model_logcore.proofs.Same.{numbers_sized}
 use Rattle.model_logcore.specs.LogFacts.{LogGhost, Place, count_of, sum_over_actors}
 use Rattle.model_logcore.specs.LogFits.{UserAt, UserFits}
@@ -40,7 +40,7 @@ module _ (D : LogSide) (L : LogLaws D) (c : Setup) (spare : ℕ) (m : SharedWord
   mine = before.each seat (actor.User u) at
 
   -- it reserves a group
-  pub keeps_reserve : UserAt D c m g p seat u user_step.Reserve → (h : LogGhost) × LogHalf D c spare (record m { sn = m.sn + length (group_bytes u) }) h p (set actors seat (actor.User (user_took u m.sn user_step.Reserve))) × (◌≡◌ {A = List Entry} (h.log) (g.log ++ entry u.user u.k m.sn (line u) ∷ []))
+  pub keeps_reserve : UserAt D c m g p seat u user_step.Reserve → (h : LogGhost) × Kept D c spare (record m { sn = m.sn + length (group_bytes u) }) h p (set actors seat (actor.User (user_took u m.sn user_step.Reserve))) × (◌≡◌ {A = List Entry} (h.log) (g.log ++ entry u.user u.k m.sn (line u) ∷ []))
   keeps_reserve is =
       let n : ℕ = m.sn in
       let b : ℕ = length (group_bytes u) in
@@ -55,7 +55,7 @@ module _ (D : LogSide) (L : LogLaws D) (c : Setup) (spare : ℕ) (m : SharedWord
       let P = G.part in
       let sound = mine.sound u.k is.1 in
       let pos = sound.0 in let few = sound.1 in
-      let o1 = O.write_read in let o2 = O.read_wtail in let o3 = O.wtail_tail in let o4 = O.tail_sn in let o5 = O.base_write in
+      let o1 = O.write_read in let o2 = O.read_target in let o6 = O.target_wtail in let o3 = O.wtail_tail in let o4 = O.tail_sn in let o5 = O.base_write in
       let line : u.lines ≡ c.script u.user = mine.lines in
       let below : (x : ℕ) → x < n → ◌≡◌ {A = Place} (g'.place x) (g.place x) = λ x l. ranged_below g.place n (n + b) q x l in
       let state_below : (x : ℕ) → x < n → g'.state x ≡ g.state x = λ x l. ranged_below g.state n (n + b) 0 x l in
@@ -69,7 +69,7 @@ module _ (D : LogSide) (L : LogLaws D) (c : Setup) (spare : ℕ) (m : SharedWord
       let last : get_elem? (g.log ++ e ∷ []) (length g.log) ≡ some e = at_last g.log e (length g.log) refl in
       let counted : count_of u.user (g.log ++ e ∷ []) ≡ length w.starts = (let a = count_snoc u.user g.log e in let o = one_of u.user e refl in let z = mine.counted in omega (arith, length-append u.starts (n ∷ []))) in
       let long : length w.starts ≡ u.k + 1 = (let z = is.0 in omega (arith, length-append u.starts (n ∷ []))) in
-      let first_old : (r : ℕ) → 496 * r < g.tail → first_of c.base g'.log r ≡ first_of c.base g.log r = λ r l. first_snoc c.base g.log e r (omega arith) in
+      let first_old : (r : ℕ) → 496 * r < g.target → first_of c.base g'.log r ≡ first_of c.base g.log r = λ r l. first_snoc c.base g.log e r (omega arith) in
       let added : entries (actor.User w) ≡ entries (actor.User u) ++ e ∷ [] = entries_snoc u.user u.lines 0 u.starts n ∙ ap (λ (j : ℕ). entries (actor.User u) ++ entry u.user j n (line_at u.lines j) ∷ []) (let z : 0 + length u.starts ≡ u.k = (let y = is.0 in omega arith) in z) in
       let rest : lengths (drop (length u.starts) u.lines) ≡ b + lengths (drop (length w.starts) u.lines) =
       ap (λ (j : ℕ). lengths (drop j u.lines)) is.0 ∙ lengths_step u.lines u.k is.1 ∙ ap (λ (j : ℕ). b + lengths (drop j u.lines)) (sym long) in (
@@ -103,14 +103,18 @@ module _ (D : LogSide) (L : LogLaws D) (c : Setup) (spare : ℕ) (m : SharedWord
                 flushed_is = O.flushed_is;
                 base_write = O.base_write;
                 write_read = O.write_read;
-                read_wtail = O.read_wtail;
+                read_target = O.read_target;
+                target_wtail = O.target_wtail;
                 wtail_tail = O.wtail_tail;
+                free = O.free;
                 tail_sn = omega arith;
+                near = O.near;
                 read_entered = O.read_entered;
-                entered_tail = O.entered_tail;
+                entered_target = O.entered_target;
                 write_bound = bound_snoc g.log c.base g.write e O.write_bound;
                 wtail_bound = bound_snoc g.log c.base g.wtail e O.wtail_bound;
                 tail_bound = bound_snoc g.log c.base g.tail e O.tail_bound;
+                target_bound = bound_snoc g.log c.base g.target e O.target_bound;
                 flushed_bound = bound_snoc g.log c.base g.flushed e O.flushed_bound;
               };
               ring_cells = record {
@@ -223,8 +227,9 @@ module _ (D : LogSide) (L : LogLaws D) (c : Setup) (spare : ℕ) (m : SharedWord
               seats = λ v. refl;
               counts = λ v other. let a = count_snoc v g.log e in let z = none_of v e (λ y. other (ap g.seat_of (sym y) ∙ mine.own_seat)) in omega arith;
               answers = λ v other. refl;
+              holder = λ _ _. unchanged;
             })
-            (record { writer = refl; gwrite = refl; gwtail = refl; tail = refl; read = refl; entered = refl; write = refl; ckpt = omega arith; failed = λ z. z; link = λ z. refl; bytes = λ x lo hi. old x lo (omega arith); firsts = first_old; written = refl })
+            (record { writer = refl; gwrite = refl; target = refl; read = refl; entered = refl; write = refl; ckpt = omega arith; failed = λ z. z; bytes = λ x lo hi. old x lo (omega arith); firsts = first_old; written = refl })
             (record { writer = refl; flushed = refl; ckpt_word = refl; failed = λ z. z; point = refl })
             j a ne (λ h. refl) (before.each j a a_is))
             (λ h. absurd (cc)) (λ j a ne a_is h. before.turns j a a_is h)

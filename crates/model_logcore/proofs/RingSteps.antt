@@ -9,12 +9,12 @@ use Rattle.model_core.proofs.Groups.{changed, changed_else, changed_here, entry_
 use Rattle.model_core.proofs.Lanes.{add_else, add_here, add_wide, cell_word, left_fits, next_are, next_few, next_lanes, next_long, next_some, next_within, same_word, word_grows, word_up}
 use Rattle.model_core.proofs.Lsns.{block_below, block_window, floor_grows, lsn_block, lsn_le, lsn_less, lsn_offset, lsn_wide, ring_same}
 unfoldable use Rattle.model_core.specs.{lane, packed}
-use Rattle.model_core.specs.{Actor, byte_at, byte_in, cell_of, copy_place, end_of, entries, Entry, entry, first_of, floor, group_bytes, group_end, IsSized, lane_of, line, LoadedMarks, lsn, next_bytes, next_count, SharedWords, user_took, UserState}
+use Rattle.model_core.specs.{Actor, Advance, byte_at, byte_in, cell_of, copy_place, end_of, entries, Entry, entry, first_of, floor, group_bytes, group_end, IsSized, lane_of, line, LoadedMarks, lsn, next_bytes, next_count, SharedWords, user_took, UserState}
 use Rattle.model_core.specs.LogSide.{LogSide}
 use Rattle.model_core.specs.Setup.{Setup}
 use Rattle.model_core.specs.declared.steps.UserStep.{UserStep}
 use Rattle.model_logcore.proofs.UserGroups.{crossing_same, first_is}
-use Rattle.model_logcore.proofs.Frame.{Later, Still, others_later, moved_on}
+use Rattle.model_logcore.proofs.Frame.{unchanged, Kept, Later, Still, others_later, moved_on}
 use Rattle.model_logcore.proofs.Same.{cells_sized, firsts_sized, stored_here, stored_else}
 use Rattle.model_logcore.specs.LogFacts.{WrittenLinks, IsBare, LogGhost, LogFacts, FirstOffsets, InHand, RingCells, count_of, Commits}
 use Rattle.model_logcore.specs.LogFits.{AreBelow, Hand, UserAt, UserFits}
@@ -58,11 +58,26 @@ module _ (D : LogSide) (c : Setup) (spare : ℕ) (m : SharedWords) (g : LogGhost
     step = h;
   }
 
+  -- the same where its advance goes on
+  pub refit_advance : (m' : SharedWords) (g' : LogGhost) (loaded : LoadedMarks) (advance : Advance) (checks : Bool) (ph : UserStep) → g'.seat_of u.user ≡ g.seat_of u.user → count_of u.user g'.log ≡ count_of u.user g.log → g'.answered u.user ≡ g.answered u.user
+      → AreBelow loaded m'.ckpt m'.write m'.wtail m'.flushed → UserAt D c m' g' p seat (record u { loaded = loaded; advance = advance; checks = checks; step = ph }) ph → UserFits D c m' g' p seat (record u { loaded = loaded; advance = advance; checks = checks; step = ph })
+  refit_advance m' g' loaded advance checks ph a b d le h = record {
+    own_seat = a ∙ fits.own_seat;
+    blocks = fits.blocks;
+    lines = fits.lines;
+    sound = fits.sound;
+    are_bytes = fits.are_bytes;
+    counted = b ∙ fits.counted;
+    answers = d ∙ fits.answers;
+    loaded = le;
+    step = h;
+  }
+
   -- the user moves, and words other than SN and DEVICE, or places of its own, change
   pub steps : (m' : SharedWords) (g' : LogGhost) (w : UserState) → IsSized c.pages m' → LogFacts D c m' g' p → UserFits D c m' g' p seat w → Later D c m g m' g' seat → Still D c m m' g g' p p
       → m'.flushed ≡ m.flushed → m'.ckpt ≡ m.ckpt → m'.device ≡ m.device → g'.holder ≡ g.holder → g'.log ≡ g.log → m'.sn ≡ m.sn
       → ◌≡◌ {A = List Entry} (entries (actor.User w)) (entries (actor.User u)) → left_to_reserve (actor.User w) ≤ left_to_reserve (actor.User u)
-      → LogHalf D c spare m' g' p (set actors seat (actor.User w))
+      → Kept D c spare m' g' p (set actors seat (actor.User w))
   steps m' g' w sized global f later still flushed ckpt device holder log sn same le = moved_on D c spare m m' g g' p p actors seat (actor.User u) (actor.User w) before at sized global f
       (λ j a n e. others_later D c m m' g g' p p seat before.global later still (record { writer = still.writer; flushed = flushed; ckpt_word = ckpt; failed = later.failed; point = refl }) j a n (λ h. refl) (before.each j a e))
       device holder log sn refl same le
@@ -76,20 +91,17 @@ module _ (D : LogSide) (c : Setup) (spare : ℕ) (m : SharedWords) (g : LogGhost
   above_tail x lo ne = elim (dec_le g.tail x) [ yes d ↦ d | no d ↦ absurd (ne (before.global.written_links.linked x lo (omega arith))) ]
 
   -- nothing of what the writer sees changes
-  pub still_words : (m' : SharedWords) (g' : LogGhost) → g'.writer ≡ g.writer → g'.write ≡ g.write → g'.wtail ≡ g.wtail → g'.tail ≡ g.tail → g'.read ≡ g.read → g'.entered ≡ g.entered → g'.log ≡ g.log
-      → m'.write ≡ m.write → m'.ckpt ≡ m.ckpt → m'.failed ≡ m.failed
-      → (0 < slice_index m.wlinks (lsn g.tail % 32768) → slice_index m'.wlinks (lsn g.tail % 32768) ≡ slice_index m.wlinks (lsn g.tail % 32768)) → Still D c m m' g g' p p
-  still_words m' g' a b d e f h i j k l n = record {
+  pub still_words : (m' : SharedWords) (g' : LogGhost) → g'.writer ≡ g.writer → g'.write ≡ g.write → g'.target ≡ g.target → g'.read ≡ g.read → g'.entered ≡ g.entered → g'.log ≡ g.log
+      → m'.write ≡ m.write → m'.ckpt ≡ m.ckpt → m'.failed ≡ m.failed → Still D c m m' g g' p p
+  still_words m' g' a b e f h i j k l = record {
     writer = a;
     gwrite = b;
-    gwtail = d;
-    tail = e;
+    target = e;
     read = f;
     entered = h;
     write = j;
     ckpt = omega arith;
     failed = λ z. omega arith;
-    link = n;
     bytes = λ x _ _. ap (λ (z : List Entry). byte_at c.base z x) i;
     firsts = λ q _. ap (λ (z : List Entry). first_of c.base z q) i;
     written = refl;
@@ -140,7 +152,7 @@ module _ (D : LogSide) (c : Setup) (spare : ℕ) (m : SharedWords) (g : LogGhost
     up = let w = lies.0 in let l = h.3 in let z = h.2.bare place (omega arith) (omega arith) in above_tail place (omega arith) (λ e. omega arith)
 
     from_read : g.read ≤ place
-    from_read = let o2 = before.global.order.read_wtail in let o3 = before.global.order.wtail_tail in let z = up in omega arith
+    from_read = let o2 = before.global.order.read_target in let o4 = before.global.order.target_wtail in let o3 = before.global.order.wtail_tail in let z = up in omega arith
 
     low : floor m.write ≤ lsn place
     low = let O = before.global.order in let a = O.write_is in let w = lsn_le g.write place (let o1 = O.write_read in let z = from_read in omega arith) in omega arith
@@ -262,7 +274,7 @@ module _ (D : LogSide) (c : Setup) (spare : ℕ) (m : SharedWords) (g : LogGhost
 
   -- it adds its next bytes
   pub keeps_add_cell : u.step ≡ user_step.AddCell → UserAt D c m g p seat u user_step.AddCell
-      → (h : LogGhost) × LogHalf D c spare (record m { cells = slice_set m.cells (cell_of (copy_place u)) (slice_index m.cells (cell_of (copy_place u)) + packed (lane_of (copy_place u)) (next_bytes u)) }) h p (set actors seat (actor.User (user_took u 0 user_step.AddCell))) × (◌≡◌ {A = List Entry} (h.log) (g.log))
+      → (h : LogGhost) × Kept D c spare (record m { cells = slice_set m.cells (cell_of (copy_place u)) (slice_index m.cells (cell_of (copy_place u)) + packed (lane_of (copy_place u)) (next_bytes u)) }) h p (set actors seat (actor.User (user_took u 0 user_step.AddCell))) × (◌≡◌ {A = List Entry} (h.log) (g.log))
   keeps_add_cell is h =
       let k : ℕ = copy_place u in
       let n : ℕ = next_count u in
@@ -320,18 +332,19 @@ module _ (D : LogSide) (c : Setup) (spare : ℕ) (m : SharedWords) (g : LogGhost
               seats = λ v. refl;
               counts = λ v n. refl;
               answers = λ v n. refl;
+              holder = λ _ _. unchanged;
             })
-            (still_words m' g' refl refl refl refl refl refl refl refl refl refl (λ z. refl))
+            (still_words m' g' refl refl refl refl refl refl refl refl refl)
             refl refl refl refl refl refl refl (omega arith),
         refl,
       )
 
   -- it stores the first offset of the block in which the group ends
   pub keeps_store_first : u.step ≡ user_step.StoreFirst → UserAt D c m g p seat u user_step.StoreFirst
-      → (h : LogGhost) × LogHalf D c spare (record m { firsts = slice_set m.firsts (lsn (group_end u) / 512 % 128) (lsn (group_end u) % 512) }) h p (set actors seat (actor.User (user_took u 0 user_step.StoreFirst))) × (◌≡◌ {A = List Entry} (h.log) (g.log))
+      → (h : LogGhost) × Kept D c spare (record m { firsts = slice_set m.firsts (lsn (group_end u) / 512 % 128) (lsn (group_end u) % 512) }) h p (set actors seat (actor.User (user_took u 0 user_step.StoreFirst))) × (◌≡◌ {A = List Entry} (h.log) (g.log))
   keeps_store_first is h = stored (lsn (group_end u) / 512 % 128) (lsn (group_end u) % 512) (ap (λ (k : ℕ). k % 128) (lsn_block (group_end u))) (lsn_offset (group_end u))
     where
-      stored : (i v : ℕ) → i ≡ group_end u / 496 % 128 → v ≡ group_end u % 496 + 12 → (h : LogGhost) × LogHalf D c spare (record m { firsts = slice_set m.firsts i v }) h p (set actors seat (actor.User (user_took u 0 user_step.StoreFirst))) × (◌≡◌ {A = List Entry} (h.log) (g.log))
+      stored : (i v : ℕ) → i ≡ group_end u / 496 % 128 → v ≡ group_end u % 496 + 12 → (h : LogGhost) × Kept D c spare (record m { firsts = slice_set m.firsts i v }) h p (set actors seat (actor.User (user_took u 0 user_step.StoreFirst))) × (◌≡◌ {A = List Entry} (h.log) (g.log))
       stored i v i_is v_is =
           let q : ℕ = group_end u / 496 in
           let m' : SharedWords = record m { firsts = slice_set m.firsts i v } in
@@ -347,7 +360,7 @@ module _ (D : LogSide) (c : Setup) (spare : ℕ) (m : SharedWords) (g : LogGhost
           let lies0 = lies.0 in let lies1 = lies.1 in let lies2 = lies.2 in
           let one : g.state u.start ≡ 1 = hand.done u.start (omega arith) (omega arith) in
           let up : g.tail ≤ u.start = above_tail u.start (omega arith) (λ z. omega arith) in
-          let o0 = O.entered_tail in let o1 = O.write_read in let o2 = O.read_entered in
+          let o0 = O.entered_target in let o3 = O.target_wtail in let o4 = O.wtail_tail in let o1 = O.write_read in let o2 = O.read_entered in
           let from : g.entered ≤ q = omega arith in
           let to : q < g.entered + 128 = block_window (group_end u) g.write m.write g.entered O.write_is (omega arith) hi in
           let here : (x : ℕ) → x ≡ q → g'.first x ≡ v = λ x e. changed_here g.first q v x e in
@@ -405,8 +418,9 @@ module _ (D : LogSide) (c : Setup) (spare : ℕ) (m : SharedWords) (g : LogGhost
                   seats = λ x. refl;
                   counts = λ x n. refl;
                   answers = λ x n. refl;
+                  holder = λ _ _. unchanged;
                 })
-                (still_words m' g' refl refl refl refl refl refl refl refl refl refl (λ z. refl))
+                (still_words m' g' refl refl refl refl refl refl refl refl refl)
                 refl refl refl refl refl refl refl (omega arith),
             refl,
           )

@@ -2,11 +2,11 @@
 use Rattle.std.proofs.Common.{Bool, List, ap, arith, false, get_or-set_other, get_or-set_same, length, length-set, refl, set, subst, sym, true, ℕ, ◌*◌, ◌+◌, ◌<◌, ◌∙◌, ◌≡◌, ◌≤◌, ◌≢◌}
 use Rattle.std.specs.Prelude.{slice_set, slice_index}
 use native.Mathlib.Decide.{ℕ_discrete}
-use Rattle.model_core.specs.{blank_words, IsBound, IsSized, page_words_at, PageWords, SharedWords, with_page_words, writer_holds, WriterState}
+use Rattle.model_core.specs.{Advance, blank_words, IsBound, IsSized, lsn, page_words_at, PageWords, SharedWords, with_page_words, writer_holds, WriterState}
 use Rattle.model_core.specs.LogSide.{LogSide}
 use Rattle.model_core.specs.Setup.{Setup}
 use Rattle.model_core.specs.declared.steps.WriterStep.{WriterStep}
-use Rattle.model_logcore.proofs.Frame.{Later, Still}
+use Rattle.model_logcore.proofs.Frame.{Later, Still, StillHeld}
 use Rattle.model_logcore.specs.LogFacts.{LogFacts, LogGhost, LogPartFacts, MarkOrder}
 use Rattle.model_logcore.specs.LogFits.{WriterAt, WriterFits}
 
@@ -18,13 +18,13 @@ pub stored_else : (l : List ℕ) (i v j : ℕ) → j ≢ i → slice_index (slic
 stored_else l i v j n = rw get_or-set_other refl
 
 -- numbers change, and lists to lists as long as before
-pub sized_same : {pages : ℕ} {m : SharedWords} {sn write wtail flushed ckpt ctail failed device : ℕ} {lists wlinks clinks cells firsts : List ℕ}
+pub sized_same : {pages : ℕ} {m : SharedWords} {sn write wtail flushed ckpt ctail failed device : ℕ} {wheld cheld : Bool} {lists wlinks clinks cells firsts : List ℕ}
     → length lists ≡ length m.lists → length wlinks ≡ length m.wlinks → length clinks ≡ length m.clinks → length cells ≡ length m.cells → length firsts ≡ length m.firsts → IsSized pages m
-    → IsSized pages (record { sn = sn; write = write; wtail = wtail; flushed = flushed; ckpt = ckpt; ctail = ctail; failed = failed; device = device; lists = lists; wlinks = wlinks; clinks = clinks; cells = cells; firsts = firsts; page_words = m.page_words })
+    → IsSized pages (record { sn = sn; write = write; wtail = wtail; wheld = wheld; flushed = flushed; ckpt = ckpt; ctail = ctail; cheld = cheld; failed = failed; device = device; lists = lists; wlinks = wlinks; clinks = clinks; cells = cells; firsts = firsts; page_words = m.page_words })
 sized_same a b d e f z = record { lists = a ∙ z.lists; wlinks = b ∙ z.wlinks; clinks = d ∙ z.clinks; cells = e ∙ z.cells; firsts = f ∙ z.firsts; page_words = z.page_words; frames = z.frames }
 
-pub numbers_sized : {pages : ℕ} {m : SharedWords} {sn write wtail flushed ckpt ctail failed device : ℕ} → IsSized pages m
-    → IsSized pages (record m { sn = sn; write = write; wtail = wtail; flushed = flushed; ckpt = ckpt; ctail = ctail; failed = failed; device = device })
+pub numbers_sized : {pages : ℕ} {m : SharedWords} {sn write wtail flushed ckpt ctail failed device : ℕ} {wheld cheld : Bool} → IsSized pages m
+    → IsSized pages (record m { sn = sn; write = write; wtail = wtail; wheld = wheld; flushed = flushed; ckpt = ckpt; ctail = ctail; cheld = cheld; failed = failed; device = device })
 numbers_sized z = sized_same refl refl refl refl refl z
 
 pub lists_sized : {pages : ℕ} {m : SharedWords} (i x : ℕ) → IsSized pages m → IsSized pages (record m { lists = slice_set m.lists i x })
@@ -103,58 +103,63 @@ module _ (D : LogSide) (c : Setup) (m : SharedWords) (g : LogGhost) (p : D.Part)
     turn_word = P.turn_word;
   }
 
-  -- the writer's tail, its read place and the blocks that it has entered go on
-  pub order_on : {tail read entered : ℕ} → MarkOrder c.base g.log m.sn m.write m.wtail m.flushed g.write g.wtail g.flushed g.tail g.read g.entered
-      → g.write ≤ read → read ≤ g.wtail → g.wtail ≤ tail → tail ≤ m.sn → read ≤ 496 * entered → 496 * entered < tail + 496 → IsBound c.base g.log tail
-      → MarkOrder c.base g.log m.sn m.write m.wtail m.flushed g.write g.wtail g.flushed tail read entered
-  order_on O low high up end within next bound = record {
+  -- the tail with which the writer goes on, its read place and the blocks that it has entered go on
+  pub order_on : {target read entered : ℕ} → MarkOrder c.base g.log m.sn m.write m.wtail m.wheld m.flushed g.write g.wtail g.flushed g.tail g.target g.read g.entered
+      → g.write ≤ read → read ≤ target → target ≤ g.wtail → read ≤ 496 * entered → 496 * entered < target + 496 → IsBound c.base g.log target
+      → MarkOrder c.base g.log m.sn m.write m.wtail m.wheld m.flushed g.write g.wtail g.flushed g.tail target read entered
+  order_on O low high up within next bound = record {
     base_even = O.base_even;
     write_is = O.write_is;
     wtail_is = O.wtail_is;
     flushed_is = O.flushed_is;
     base_write = O.base_write;
     write_read = low;
-    read_wtail = high;
-    wtail_tail = up;
-    tail_sn = end;
+    read_target = high;
+    target_wtail = up;
+    wtail_tail = O.wtail_tail;
+    free = O.free;
+    tail_sn = O.tail_sn;
+    near = O.near;
     read_entered = within;
-    entered_tail = next;
+    entered_target = next;
     write_bound = O.write_bound;
     wtail_bound = O.wtail_bound;
-    tail_bound = bound;
+    tail_bound = O.tail_bound;
+    target_bound = bound;
     flushed_bound = O.flushed_bound;
   }
 
   -- the words that only the part's facts speak of change, or the part itself
-  pub facts_same : {ckpt ctail failed device holder : ℕ} {lists clinks : List ℕ} {page_words : List PageWords} {q : D.Part} → LogPartFacts D c m.write m.wtail m.flushed ckpt device g.log q → LogFacts D c m g p
-      → LogFacts D c (record m { ckpt = ckpt; ctail = ctail; failed = failed; device = device; lists = lists; clinks = clinks; page_words = page_words }) (record g { holder = holder }) q
+  pub facts_same : {ckpt ctail failed device holder : ℕ} {cheld : Bool} {lists clinks : List ℕ} {page_words : List PageWords} {q : D.Part} → LogPartFacts D c m.write m.wtail m.flushed ckpt device g.log q → LogFacts D c m g p
+      → LogFacts D c (record m { ckpt = ckpt; ctail = ctail; cheld = cheld; failed = failed; device = device; lists = lists; clinks = clinks; page_words = page_words }) (record g { holder = holder }) q
   facts_same part G = record { tiled = G.tiled; order = G.order; ring_cells = G.ring_cells; first_offsets = G.first_offsets; written_links = G.written_links; commits = G.commits; part = part }
 
   -- the marks go on
-  pub later_marks : {m' : SharedWords} {seat write wtail flushed tail read entered writer holder : ℕ} → m.write ≤ m'.write → m.wtail ≤ m'.wtail → m.ckpt ≤ m'.ckpt → m.flushed ≤ m'.flushed → (0 < m.failed → 0 < m'.failed)
-      → Later D c m g m' (record g { write = write; wtail = wtail; flushed = flushed; tail = tail; read = read; entered = entered; writer = writer; holder = holder }) seat
-  later_marks a b d f e = record { write = a; wtail = b; ckpt = d; flushed = f; failed = e; logs = λ _ _ z. z; places = λ _ _ _. refl; states = λ _ _ _. refl; linked = λ _ _ two. two; firsts = λ _ z. z; bare = λ _ _ _ _ _ z. z; seats = λ _. refl; counts = λ _ _. refl; answers = λ _ _. refl }
+  pub later_marks : {m' : SharedWords} {seat write wtail flushed tail advancer target read entered writer holder : ℕ} → m.write ≤ m'.write → m.wtail ≤ m'.wtail → m.ckpt ≤ m'.ckpt → m.flushed ≤ m'.flushed → (0 < m.failed → 0 < m'.failed)
+      → (g.advancer ≢ seat → m.wheld ≡ true → StillHeld m.wheld m'.wheld g.advancer advancer m.wtail m'.wtail g.tail tail m.wlinks m'.wlinks)
+      → Later D c m g m' (record g { write = write; wtail = wtail; flushed = flushed; tail = tail; advancer = advancer; target = target; read = read; entered = entered; writer = writer; holder = holder }) seat
+  later_marks a b d f e h = record { write = a; wtail = b; ckpt = d; flushed = f; failed = e; logs = λ _ _ z. z; places = λ _ _ _. refl; states = λ _ _ _. refl; linked = λ _ _ two. two; firsts = λ _ z. z; bare = λ _ _ _ _ _ z. z; seats = λ _. refl; counts = λ _ _. refl; answers = λ _ _. refl; holder = h }
 
   -- the words that the writer doesn't read change
-  pub still_same : {wtail flushed ckpt ctail failed device gflushed holder : ℕ} {lists clinks : List ℕ} {page_words : List PageWords} {q : D.Part} → m.ckpt ≤ ckpt → (0 < m.failed → 0 < failed) → D.written q ≡ D.written p
-      → Still D c m (record m { wtail = wtail; flushed = flushed; ckpt = ckpt; ctail = ctail; failed = failed; device = device; lists = lists; clinks = clinks; page_words = page_words }) g (record g { flushed = gflushed; holder = holder }) p q
-  still_same up fails written = record { writer = refl; gwrite = refl; gwtail = refl; tail = refl; read = refl; entered = refl; write = refl; ckpt = up; failed = fails; link = λ _. refl; bytes = λ _ _ _. refl; firsts = λ _ _. refl; written = written }
+  pub still_same : {wtail flushed ckpt ctail failed device gwtail gflushed tail advancer holder : ℕ} {wheld cheld : Bool} {lists wlinks clinks : List ℕ} {page_words : List PageWords} {q : D.Part} → m.ckpt ≤ ckpt → (0 < m.failed → 0 < failed) → D.written q ≡ D.written p
+      → Still D c m (record m { wtail = wtail; wheld = wheld; flushed = flushed; ckpt = ckpt; ctail = ctail; cheld = cheld; failed = failed; device = device; lists = lists; wlinks = wlinks; clinks = clinks; page_words = page_words }) g (record g { wtail = gwtail; flushed = gflushed; tail = tail; advancer = advancer; holder = holder }) p q
+  still_same up fails written = record { writer = refl; gwrite = refl; target = refl; read = refl; entered = refl; write = refl; ckpt = up; failed = fails; bytes = λ _ _ _. refl; firsts = λ _ _. refl; written = written }
 
   -- of the writer's own state what it has gathered stays
-  pub writer_same : {seat : ℕ} {s : WriterState} {wtail failed gwtail link first ckpt code : ℕ} {checks : Bool} {st : WriterStep} {q : D.Part} → WriterFits D c m g p seat s → ckpt ≤ m.ckpt → (checks ≡ true → writer_holds st ≡ false)
-      → WriterAt D c (record m { wtail = wtail; failed = failed }) (record g { wtail = gwtail }) q seat (record s { link = link; first = first; ckpt = ckpt; code = code; checks = checks; step = st }) st
-      → WriterFits D c (record m { wtail = wtail; failed = failed }) (record g { wtail = gwtail }) q seat (record s { link = link; first = first; ckpt = ckpt; code = code; checks = checks; step = st })
-  writer_same h le no_device_while_checking step = record {
+  pub writer_same : {seat : ℕ} {s : WriterState} {wtail failed gwtail gtail advancer target tail first ckpt code : ℕ} {wheld checks : Bool} {wlinks : List ℕ} {advance : Advance} {st : WriterStep} {q : D.Part}
+      → WriterFits D c m g p seat s → tail ≡ lsn target → ckpt ≤ m.ckpt → (checks ≡ true → writer_holds st ≡ false)
+      → WriterAt D c (record m { wtail = wtail; wheld = wheld; wlinks = wlinks; failed = failed }) (record g { wtail = gwtail; tail = gtail; advancer = advancer; target = target }) q seat (record s { tail = tail; advance = advance; first = first; ckpt = ckpt; code = code; checks = checks; step = st }) st
+      → WriterFits D c (record m { wtail = wtail; wheld = wheld; wlinks = wlinks; failed = failed }) (record g { wtail = gwtail; tail = gtail; advancer = advancer; target = target }) q seat (record s { tail = tail; advance = advance; first = first; ckpt = ckpt; code = code; checks = checks; step = st })
+  writer_same h is le no_device_while_checking step = record {
     alone = h.alone;
     blocks = h.blocks;
-    tail = h.tail;
+    tail = is;
     write = h.write;
     from = h.from;
     long = h.long;
     kept = h.kept;
     wide = h.wide;
     firsts = h.firsts;
-    small = h.small;
     ckpt = le;
     no_device_while_checking = no_device_while_checking;
     step = step;

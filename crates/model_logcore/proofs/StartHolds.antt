@@ -5,17 +5,18 @@ use native.Mathlib.Decide.{ℕ_discrete}
 use Rattle.model_base.specs.declared.limits.TheConstants.{LSN_LIMIT}
 use Rattle.model_core.proofs.Groups.{first_base}
 use Rattle.model_core.proofs.Lanes.{base_word, lane_of_zero}
-use Rattle.model_core.proofs.Lsns.{floor_lsn, lsn_block}
+use Rattle.model_core.proofs.Lsns.{floor_lsn, lsn_block, lsn_offset}
 unfoldable use Rattle.model_core.specs.{lane}
-use Rattle.model_core.specs.{Actor, cell_of, CheckpointerState, CleanerState, CloserState, entries, entries_from, first_of, floor, FlusherState, holds, lane_of, LoadedMarks, lsn, SharedWords, sum_of, WriterState}
+use Rattle.model_core.specs.{Actor, cell_of, ChecksWithoutTail, CheckpointerState, CleanerState, CloserState, entries, entries_from, first_of, floor, FlusherState, holds, lane_of, LoadedMarks, lsn, SharedWords, sum_of, WriterState}
 use Rattle.model_core.specs.LogSide.{LogSide}
 use Rattle.model_core.specs.Setup.{Setup}
-use Rattle.model_logcore.proofs.NewUsers.{new_user_is}
+use Rattle.model_logcore.proofs.NewUsers.{new_free, new_user_is}
 use Rattle.model_logcore.specs.LogFacts.{LogFacts, LogGhost, sum_over_actors}
 use Rattle.model_logcore.specs.LogFits.{AreBelow, CheckpointerFits, Fits, FlusherFits, UserAt, WriterFits}
 use Rattle.model_logcore.specs.LogHalf.{LogHalf, left_to_reserve}
 use Rattle.model_logcore.specs.Start.{StartActor, StartPart}
 use Rattle.model_core.specs.StartWords.{StartWords}
+use Rattle.model_core.specs.declared.steps.AdvanceStep.TheVariants as advance_step
 use Rattle.model_core.specs.declared.steps.CloserStep.TheVariants as closer_step
 use Rattle.model_core.specs.declared.steps.CleanerStep.TheVariants as cleaner_step
 use Rattle.model_core.specs.Actors as actor
@@ -37,6 +38,8 @@ module _ (D : LogSide) (c : Setup) (m : SharedWords) (p : D.Part) (seat_of : ℕ
     wtail = c.base;
     flushed = c.base;
     tail = c.base;
+    advancer = 0;
+    target = c.base;
     read = c.base;
     entered = c.base / 496;
     writer = writer;
@@ -64,14 +67,18 @@ module _ (D : LogSide) (c : Setup) (m : SharedWords) (p : D.Part) (seat_of : ℕ
           flushed_is = f;
           base_write = omega arith;
           write_read = omega arith;
-          read_wtail = omega arith;
+          read_target = omega arith;
+          target_wtail = omega arith;
           wtail_tail = omega arith;
+          free = λ _. refl;
           tail_sn = omega arith;
+          near = (let k = floor_lsn c.base in let y : floor m.write ≡ floor (lsn c.base) = ap floor w in let b = lsn_offset c.base in let q = lsn_block c.base in omega arith);
           read_entered = omega arith;
-          entered_tail = omega arith;
+          entered_target = omega arith;
           write_bound = refl;
           wtail_bound = refl;
           tail_bound = refl;
+          target_bound = refl;
           flushed_bound = refl;
         };
         ring_cells = record {
@@ -131,13 +138,12 @@ module _ (D : LogSide) (c : Setup) (m : SharedWords) (p : D.Part) (seat_of : ℕ
     kept = λ j l. absurd (omega arith);
     wide = (let b = lsn_block c.base in omega arith);
     firsts = λ j l. absurd (omega arith);
-    small = omega arith;
     ckpt = omega arith;
     no_device_while_checking = λ z. refl;
-    step = ((refl, P.written ∙ sym W.write), omega arith);
+    step = ((refl, P.written ∙ sym W.write), tt);
   })
   start_fits seat (actor.Flusher f) h = subst (λ (z : FlusherState). FlusherFits D c m start p seat z) (sym h.1) (record { alone = h.0; last = sym W.flushed; write = omega arith; no_device_while_checking = λ z. refl; step = tt })
-  start_fits seat (actor.Closer t) h = λ e. let z : closer_step.LoadClosedLink ≡ closer_step.Failed = sym (ap (λ (y : CloserState). y.step) h.1) ∙ e in absurd (cc)
+  start_fits seat (actor.Closer t) h = λ e. let z : closer_step.Advance advance_step.LoadTail ≡ closer_step.Failed = sym (ap (λ (y : CloserState). y.step) h.1) ∙ e in absurd (cc)
   start_fits seat (actor.Cleaner v) h = let s : v.step ≡ cleaner_step.LoadFlushed = ap (λ (y : CleanerState). y.step) h.1 in
       ((λ e. let z : cleaner_step.LoadFlushed ≡ cleaner_step.Failed = sym s ∙ e in absurd (cc)), (λ e. let z : cleaner_step.LoadFlushed ≡ cleaner_step.StoreFailed = sym s ∙ e in absurd (cc)))
   start_fits seat (actor.Checkpointer t) h = subst (λ (z : CheckpointerState). CheckpointerFits D c m start p seat z) (sym h.1) (record { alone = h.0; own = sym W.ckpt; no_device_while_checking = λ z. refl; step = P.ckpt })
@@ -161,6 +167,15 @@ module _ (D : LogSide) (c : Setup) (m : SharedWords) (p : D.Part) (seat_of : ℕ
   start_entries seat (actor.Checkpointer t) h = refl
   start_entries seat (actor.Joined es) h = h
 
+  start_free : (seat : ℕ) (a : Actor) → StartActor c seat_of writer seat a → ChecksWithoutTail a
+  start_free seat (actor.User u) h = new_free c u h.1
+  start_free seat (actor.Writer s) h = λ e. let z : false ≡ true = sym (ap (λ (y : WriterState). y.checks) h.1) ∙ e in absurd (cc)
+  start_free seat (actor.Flusher f) h = λ _ b. refl
+  start_free seat (actor.Closer t) h = λ e. let z : false ≡ true = sym (ap (λ (y : CloserState). y.checks) h.1) ∙ e in absurd (cc)
+  start_free seat (actor.Cleaner v) h = λ _ b. refl
+  start_free seat (actor.Checkpointer t) h = λ _ b. refl
+  start_free seat (actor.Joined es) h = λ _ b. refl
+
   no_sum : (f : Actor → ℕ) (actors : List Actor) → ((i : ℕ) (a : Actor) → get_elem? actors i ≡ maybe.some a → f a ≡ 0) → sum_over_actors f actors ≡ 0
   no_sum f [] h = refl
   no_sum f (x ∷ xs) h = let a = h 0 x refl in let r = no_sum f xs (λ i b e. h (suc i) b e) in omega arith
@@ -173,6 +188,8 @@ module _ (D : LogSide) (c : Setup) (m : SharedWords) (p : D.Part) (seat_of : ℕ
     each = λ j a z. start_fits j a (h j a z);
     turns = λ j a z held. let k : false ≡ true = sym (start_holds j a (h j a z)) ∙ held in absurd (cc);
     taken = λ d. (let z = W.device in absurd (omega arith));
+    advanced = λ d. let z : false ≡ true = sym W.wheld ∙ d in absurd (cc);
+    without_tail = λ j a z. start_free j a (h j a z);
     counted = λ w. no_sum (λ a. sum_of w (entries a)) actors (λ i a z. ap (sum_of w) (start_entries i a (h i a z)));
     room = subst (λ (n : ℕ). lsn (n + sum_over_actors left_to_reserve actors + spare) < LSN_LIMIT) (sym W.sn) room;
   }

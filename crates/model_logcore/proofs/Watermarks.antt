@@ -1,21 +1,30 @@
 -- The log half of the invariant gives the watermarks.
-use Rattle.std.proofs.Common.{Bool, List, ap, arith, cond, eqb, eqb-true, false, inl, inr, length, refl, subst, true, ℕ, ⊎_elim, ◌%◌, ◌+◌, ◌/◌, ◌<◌, ◌∙◌, ◌≡◌, ◌≢◌, ◌≤◌}
+use Rattle.std.proofs.Common.{Bool, List, ap, arith, cond, eqb, eqb-true, false, inl, inr, length, refl, subst, sym, true, ℕ, ⊎_elim, ◌%◌, ◌+◌, ◌/◌, ◌<◌, ◌∙◌, ◌≡◌, ◌≢◌, ◌≤◌}
 use Rattle.std.proofs.lemmas.Bool.{eqb-false}
 use lib.ListN.{get_elem?}
 use native.Mathlib.Decide.{dec_le}
 use Rattle.model_core.proofs.Groups.{is_crosses, tiles_at}
 use Rattle.model_core.proofs.Lanes.{word_grows}
 use Rattle.model_core.proofs.Lsns.{lsn_le}
-use Rattle.model_core.specs.{Actor, end_of, Entry, entry, first_of, floor, group_bytes, group_end, line, lsn, SharedWords, UserState}
+use Rattle.model_core.specs.{Actor, Advance, advance_of, end_of, Entry, entry, first_of, floor, group_bytes, group_end, holds_tail, line, lsn, SharedWords, UserState, WriterState}
 use Rattle.model_core.specs.LogSide.{LogSide}
 use Rattle.model_core.specs.Setup.{Setup}
+use Rattle.model_core.specs.Advancing.{advance_holds}
+use Rattle.model_core.specs.Holding.{closer_holds_tail, user_holds_tail, writer_holds_tail}
+use Rattle.model_core.specs.declared.steps.AdvanceStep.{AdvanceStep}
+use Rattle.model_core.specs.declared.steps.CloserStep.{CloserStep}
 use Rattle.model_core.specs.declared.steps.UserStep.{UserStep}
+use Rattle.model_core.specs.declared.steps.WriterStep.{WriterStep}
 use Rattle.model_logcore.proofs.GroupEnds.{end_near, hand_end_near}
 use Rattle.model_logcore.proofs.UserGroups.{first_is}
 use Rattle.model_logcore.specs.LogFacts.{LogGhost}
-use Rattle.model_logcore.specs.LogFits.{CheckpointerAt, CheckpointerFits, EndIsNear, FlusherAt, FlusherFits, Hand, HasFirst, HasLinked, LacksFirst, UserAt, UserFits, WriterAt, WriterFits}
+use Rattle.model_logcore.specs.LogFits.{AdvanceAt, CheckpointerAt, CheckpointerFits, EndIsNear, FlusherAt, FlusherFits, Hand, HasFirst, HasLinked, HoldsWtail, LacksFirst, UserAt, UserFits, WriterAt, WriterFits}
 use Rattle.model_logcore.specs.LogHalf.{LogHalf}
+use Rattle.model_logcore.specs.TailWord.{TailWordIs}
 use Rattle.model_logcore.specs.Watermarks.{first_in_hand, HandAgrees, HasCopied, HasLoadedBelow, HasMetFailure, IsGroupLinked, LogWatermarks, OwnMarkIs, UsersAgree}
+use Rattle.model_core.specs.declared.steps.AdvanceStep.TheVariants as advance_step
+use Rattle.model_core.specs.declared.steps.CloserStep.TheVariants as closer_step
+use Rattle.model_core.specs.declared.words.LinkBuffer.TheVariants as link_buffer
 use Rattle.model_core.specs.declared.steps.UserStep.TheVariants as user_step
 use Rattle.model_core.specs.declared.steps.WriterStep.TheVariants as writer_step
 use Rattle.model_core.specs.declared.steps.FlusherStep.TheVariants as flusher_step
@@ -82,6 +91,8 @@ module _ (D : LogSide) (c : Setup) (spare : ℕ) (m : SharedWords) (g : LogGhost
   hand_agrees seat u user_step.AddCell h = hand_copied seat u h.2
   hand_agrees seat u user_step.StoreFirst h = hand_copied seat u h.2
   hand_agrees seat u user_step.LoadWtail h = hand_copied seat u h.2
+  hand_agrees seat u (user_step.AdvanceWritten s) h = hand_copied seat u h.0.2
+  hand_agrees seat u user_step.ReloadWtail h = hand_copied seat u h.2
   hand_agrees seat u user_step.StoreLink h = hand_copied seat u h.2
   hand_agrees seat u user_step.Done h = h.0
   hand_agrees seat u user_step.Failed h = λ held. ⊎_elim (λ z. inl (hand_copied seat u z.0)) (λ z. inr z.2) (h.3 held)
@@ -122,6 +133,8 @@ module _ (D : LogSide) (c : Setup) (spare : ℕ) (m : SharedWords) (g : LogGhost
   hand_near seat u user_step.AddCell h held copied some = h.4
   hand_near seat u user_step.StoreFirst h held copied some = h.4
   hand_near seat u user_step.LoadWtail h held copied some = hand_end_near D c m g p seat u half.global h.2 h.3 h.4 some
+  hand_near seat u (user_step.AdvanceWritten s) h held copied some = hand_end_near D c m g p seat u half.global h.0.2 h.0.3 h.0.4 some
+  hand_near seat u user_step.ReloadWtail h held copied some = hand_end_near D c m g p seat u half.global h.2 h.3 h.4 some
   hand_near seat u user_step.StoreLink h held copied some = hand_end_near D c m g p seat u half.global h.2 h.3 h.4 some
   hand_near seat u user_step.Done h held copied some = let z = h.0 in absurd (omega arith)
   hand_near seat u user_step.Failed h held copied some = ⊎_elim (λ z. z.2 some) (λ z. absurd (not_linked u z copied)) (h.3 held)
@@ -149,6 +162,8 @@ module _ (D : LogSide) (c : Setup) (spare : ℕ) (m : SharedWords) (g : LogGhost
   first_hand seat u user_step.AddCell h held copied cross = h.5 cross
   first_hand seat u user_step.StoreFirst h held copied cross = h.6 cross
   first_hand seat u user_step.LoadWtail h held copied cross = stored_first seat u h.2 cross (h.4 cross)
+  first_hand seat u (user_step.AdvanceWritten s) h held copied cross = stored_first seat u h.0.2 cross (h.0.4 cross)
+  first_hand seat u user_step.ReloadWtail h held copied cross = stored_first seat u h.2 cross (h.4 cross)
   first_hand seat u user_step.StoreLink h held copied cross = stored_first seat u h.2 cross (h.4 cross)
   first_hand seat u user_step.Done h held copied cross = let z = h.0 in absurd (omega arith)
   first_hand seat u user_step.Failed h held copied cross = ⊎_elim (λ z. stopped_first seat u (eqb u.copied (length (group_bytes u))) refl z.0 z.1 z.3 z.4 cross) (λ z. absurd (not_linked u z copied)) (h.3 held)
@@ -161,6 +176,46 @@ module _ (D : LogSide) (c : Setup) (spare : ℕ) (m : SharedWords) (g : LogGhost
     | no d ↦ omega arith
   ]
 
+  -- who holds the tail says so, and is the one that has held it last
+  advance_held : (seat : ℕ) (v : Advance) (s : AdvanceStep) → AdvanceAt D c m g p seat v s → advance_holds s ≡ true → HoldsWtail D c m g p seat v
+  advance_held seat v advance_step.LoadTail h holds = absurd (cc)
+  advance_held seat v advance_step.TakeTail h holds = absurd (cc)
+  advance_held seat v advance_step.LoadLink h holds = h
+  advance_held seat v advance_step.ClearLink h holds = h.0
+  advance_held seat v advance_step.FreeTail h holds = h
+
+  user_held : (seat : ℕ) (u : UserState) (f : UserStep) → UserAt D c m g p seat u f → user_holds_tail link_buffer.Written f ≡ true → HoldsWtail D c m g p seat u.advance
+  user_held seat u (user_step.AdvanceWritten s) h holds = advance_held seat u.advance s h.1 holds
+  user_held seat u _ h holds = absurd (cc)
+
+  writer_held : (seat : ℕ) (s : WriterState) (f : WriterStep) → WriterAt D c m g p seat s f → writer_holds_tail link_buffer.Written f ≡ true → HoldsWtail D c m g p seat s.advance
+  writer_held seat s (writer_step.Advance v) h holds = advance_held seat s.advance v h.1 holds
+  writer_held seat s _ h holds = absurd (cc)
+
+  holder_is : (seat : ℕ) (a : Actor) → get_elem? actors seat ≡ maybe.some a → holds_tail link_buffer.Written a ≡ true → HoldsWtail D c m g p seat (advance_of a)
+  holder_is seat (actor.User u) at holds = user_held seat u u.step (user_fits seat u at).step holds
+  holder_is seat (actor.Writer s) at holds = let f : WriterFits D c m g p seat s = half.each seat (actor.Writer s) at in writer_held seat s s.step f.step holds
+  holder_is seat (actor.Flusher t) at holds = absurd (cc)
+  holder_is seat (actor.Closer t) at holds = absurd (let z : false ≡ true = sym (closer_off t.step) ∙ holds in cc)
+    where
+      closer_off : (f : CloserStep) → closer_holds_tail link_buffer.Written f ≡ false
+      closer_off (closer_step.Advance v) = refl
+      closer_off closer_step.Failed = refl
+  holder_is seat (actor.Cleaner v) at holds = absurd (cc)
+  holder_is seat (actor.Checkpointer t) at holds = absurd (cc)
+  holder_is seat (actor.Joined es) at holds = absurd (cc)
+
+  tail_word_is : TailWordIs link_buffer.Written m.wtail m.wheld (lsn g.tail) actors
+  tail_word_is = record {
+    free = λ none. let O = half.global.order in (ap lsn (O.free none) ∙ sym O.wtail_is, λ seat a at. by seat a at none (holds_tail link_buffer.Written a) refl);
+    taken = λ held. let t = half.advanced held in let h = holder_is t.0 t.1 t.2 t.3 in
+        (t.0, record { who = t.1; who_is = t.2; holds = t.3; loaded = h.tail; place = h.place; alone = λ other a at holds. sym (holder_is other a at holds).mine ∙ h.mine });
+  }
+    where
+      by : (seat : ℕ) (a : Actor) → get_elem? actors seat ≡ maybe.some a → m.wheld ≡ false → (b : Bool) → holds_tail link_buffer.Written a ≡ b → holds_tail link_buffer.Written a ≡ false
+      by seat a at none true holds = absurd (let z : false ≡ true = sym none ∙ (holder_is seat a at holds).held in cc)
+      by seat a at none false holds = holds
+
   pub log_watermarks : LogWatermarks D c m p actors
   log_watermarks = let G = half.global in let O = G.order in let P = G.part in record {
     log = g.log;
@@ -170,6 +225,7 @@ module _ (D : LogSide) (c : Setup) (spare : ℕ) (m : SharedWords) (g : LogGhost
     wtail = g.wtail;
     flushed = g.flushed;
     tail = g.tail;
+    target = g.target;
     read = g.read;
     entered = g.entered;
     groups_tile = record { tile = G.tiled.tiles; are_of_actors = half.counted; in_order = G.tiled.ranks; of_lines = G.tiled.lines };
@@ -179,7 +235,7 @@ module _ (D : LogSide) (c : Setup) (spare : ℕ) (m : SharedWords) (g : LogGhost
       lane_bare = G.ring_cells.bare;
       cleared_below = λ x lo low. (let w = lsn_le g.write g.read O.write_read in let k = O.write_is in omega arith);
       below = λ x lo hi copied. (G.ring_cells.stands x (word_grows g.read x lo) hi copied).1;
-      tail_below = λ seat s at. let f : WriterFits D c m g p seat s = half.each seat (actor.Writer s) at in let w = f.write in let n = f.small in omega arith;
+      tail_below = O.near;
       end_below = end_below;
       hand_below = λ seat u at. let f = user_fits seat u at in hand_near seat u u.step f.step;
       first_stands = G.first_offsets.slots_are;
@@ -195,17 +251,20 @@ module _ (D : LogSide) (c : Setup) (spare : ℕ) (m : SharedWords) (g : LogGhost
       wtail_is = O.wtail_is;
       flushed_is = O.flushed_is;
       write_read = O.write_read;
-      read_wtail = O.read_wtail;
+      read_target = O.read_target;
+      target_wtail = O.target_wtail;
       wtail_tail = O.wtail_tail;
+      word = tail_word_is;
       tail_sn = O.tail_sn;
       read_entered = O.read_entered;
-      entered_tail = O.entered_tail;
+      entered_target = O.entered_target;
       linked_below = G.written_links.linked;
       write_boundary = O.write_bound;
       wtail_boundary = O.wtail_bound;
       flushed_boundary = O.flushed_bound;
       tail_boundary = O.tail_bound;
-      writer = λ seat s at. let f : WriterFits D c m g p seat s = half.each seat (actor.Writer s) at in (f.tail, f.long, f.wide);
+      target_boundary = O.target_bound;
+      writer = λ seat s at. let f : WriterFits D c m g p seat s = half.each seat (actor.Writer s) at in (f.tail, f.from, f.long, f.wide);
       loaded = loaded_below;
       own = own_mark;
     };
@@ -227,6 +286,7 @@ module _ (D : LogSide) (c : Setup) (spare : ℕ) (m : SharedWords) (g : LogGhost
       asked_stable = P.asked_stable;
     };
     failures_show = failures_show;
+    no_tail_is_kept = half.without_tail;
   }
 
   -- the groups that they speak of are those of the invariant

@@ -14,6 +14,7 @@ use Rattle.model_core.specs.Setup.{Setup}
 use Rattle.model_core.specs.declared.steps.WriterStep.{WriterStep}
 use Rattle.model_logcore.proofs.Same.{cells_sized, firsts_sized, later_marks, order_on, stored_here, stored_else}
 use Rattle.model_logcore.proofs.WriterSteps.{WNow, own, ranks, wquiet, wsteps}
+use Rattle.model_logcore.proofs.Frame.{unchanged, Kept}
 use Rattle.model_logcore.specs.LogFacts.{LogGhost, RingCells}
 use Rattle.model_logcore.specs.LogFits.{WriterAt, WriterFits}
 use Rattle.model_logcore.specs.LogHalf.{LogHalf}
@@ -26,24 +27,24 @@ module _ (D : LogSide) (c : Setup) (spare : ℕ) (m : SharedWords) (g : LogGhost
   fit : WriterFits D c m g p seat s
   fit = own D c spare m g p actors seat s before at
 
-  order : (g.write ≤ g.read) × (g.read ≤ g.wtail) × (g.wtail ≤ g.tail) × (g.tail ≤ m.sn) × (c.base ≤ g.write)
+  order : (g.write ≤ g.read) × (g.read ≤ g.target) × (g.target ≤ g.tail) × (g.target ≤ m.sn) × (c.base ≤ g.write)
   order = ranks D c spare m g p actors seat s before at
 
-  quiet : (link first ckpt code : ℕ) (checks : Bool) (st : WriterStep) → ckpt ≤ m.ckpt → (checks ≡ true → writer_holds st ≡ false) → writer_holds st ≡ writer_holds s.step → WriterAt D c m g p seat (record s { link = link; first = first; ckpt = ckpt; code = code; checks = checks; step = st }) st
-      → LogHalf D c spare m g p (set actors seat (actor.Writer (record s { link = link; first = first; ckpt = ckpt; code = code; checks = checks; step = st })))
+  quiet : (first ckpt code : ℕ) (checks : Bool) (st : WriterStep) → ckpt ≤ m.ckpt → (checks ≡ true → writer_holds st ≡ false) → writer_holds st ≡ writer_holds s.step → WriterAt D c m g p seat (record s { first = first; ckpt = ckpt; code = code; checks = checks; step = st }) st
+      → Kept D c spare m g p (set actors seat (actor.Writer (record s { first = first; ckpt = ckpt; code = code; checks = checks; step = st })))
   quiet = wquiet D c spare m g p actors seat s before at
 
   limit_by : (b d : Bool) → nat_le (ceiling s.tail) (m.ckpt + 512 * s.blocks) ≡ b → stands_outside s ≡ d → writer_holds s.step ≡ false → WriterAt D c m g p seat s writer_step.LoadCheckpoint
       → WNow D c spare m g p actors seat s before at (cond b (record s { ckpt = m.ckpt; step = cond d writer_step.LoadFirst writer_step.LoadCell }) (record s { ckpt = m.ckpt; checks = true; step = writer_step.LoadCheckpoint }))
-  limit_by true true e f free h = quiet s.link s.first m.ckpt s.code s.checks writer_step.LoadFirst (omega arith) (λ z. refl) (sym free)
-      (h.0, (let a = h.0.1 in let k = h.0.0 in let z = h.1 in omega arith), leb-true (ceiling s.tail) (m.ckpt + 512 * s.blocks) e, eqb-true (length s.kept) (496 * length s.firsts) f)
-  limit_by true false e f free h = quiet s.link s.first m.ckpt s.code s.checks writer_step.LoadCell (omega arith) (λ z. refl) (sym free) (
+  limit_by true true e f free h = quiet s.first m.ckpt s.code s.checks writer_step.LoadFirst (omega arith) (λ z. refl) (sym free)
+      (h.0, (let a = h.0.0 in let z = h.1 in omega arith), leb-true (ceiling s.tail) (m.ckpt + 512 * s.blocks) e, eqb-true (length s.kept) (496 * length s.firsts) f)
+  limit_by true false e f free h = quiet s.first m.ckpt s.code s.checks writer_step.LoadCell (omega arith) (λ z. refl) (sym free) (
     h.0,
-    (let a = h.0.1 in let k = h.0.0 in let z = h.1 in omega arith),
+    (let a = h.0.0 in let z = h.1 in omega arith),
     leb-true (ceiling s.tail) (m.ckpt + 512 * s.blocks) e,
     (let n = eqb-false (length s.kept) (496 * length s.firsts) f in let a = fit.long in let w = fit.wide in let r = before.global.order.read_entered in omega arith),
   )
-  limit_by false d e f free h = quiet s.link s.first m.ckpt s.code true writer_step.LoadCheckpoint (omega arith) (λ z. refl) (sym free) h
+  limit_by false d e f free h = quiet s.first m.ckpt s.code true writer_step.LoadCheckpoint (omega arith) (λ z. refl) (sym free) h
 
   -- it loads CKPT
   pub keeps_load_checkpoint : s.step ≡ writer_step.LoadCheckpoint → WriterAt D c m g p seat s writer_step.LoadCheckpoint → WNow D c spare m g p actors seat s before at (writer_took s (answer.Old m.ckpt) writer_step.LoadCheckpoint)
@@ -57,7 +58,7 @@ module _ (D : LogSide) (c : Setup) (spare : ℕ) (m : SharedWords) (g : LogGhost
   block_is e = let b = at_block e in let a = b.0 in let z = b.1 in let k = lsn_block (read_place s) in omega arith
 
   -- FIRST of the block that the writer enters is the block's first offset: all groups that start below it are linked
-  pub first_true : length s.kept ≡ 496 * length s.firsts → g.read < g.tail → g.first g.entered ≡ first_of c.base g.log g.entered
+  pub first_true : length s.kept ≡ 496 * length s.firsts → g.read < g.target → g.first g.entered ≡ first_of c.base g.log g.entered
   first_true e l =
       let q : ℕ = g.entered in
       let G = before.global in
@@ -69,7 +70,7 @@ module _ (D : LogSide) (c : Setup) (spare : ℕ) (m : SharedWords) (g : LogGhost
           | no n ↦ ⊎_elim (λ z. omega arith)
               (λ z. let k = crosses_is q z.1 z.3 in let k0 = k.0 in let k1 = k.1 in
               let w = tiles_at g.log c.base m.sn z.0 z.1 G.tiled.tiles z.2 in let w0 = w.0 in
-              let two = G.written_links.linked z.1.start w0 (omega arith) in
+              let two = G.written_links.linked z.1.start w0 (let up = order.2 in omega arith) in
               let some_first = G.first_offsets.stored z.0 z.1 z.2 two (omega arith) in
               let same : g.first (end_of z.1 / 496) ≡ g.first q = ap g.first k0 in
               absurd (omega arith))
@@ -82,14 +83,14 @@ module _ (D : LogSide) (c : Setup) (spare : ℕ) (m : SharedWords) (g : LogGhost
   keeps_load_first is h =
       let value : slice_index m.firsts (lsn (read_place s) / 512 % 128) ≡ first_of c.base g.log g.entered =
       ap (λ (k : ℕ). slice_index m.firsts (k % 128)) (block_is h.3) ∙ before.global.first_offsets.slots_are g.entered (omega arith) (omega arith) ∙ first_true h.3 h.1 in
-      quiet s.link (slice_index m.firsts (lsn (read_place s) / 512 % 128)) s.ckpt s.code s.checks writer_step.ClearFirst fit.ckpt (λ z. refl) (sym (ap writer_holds is)) (h.0, h.1, h.2, h.3, value)
+      quiet (slice_index m.firsts (lsn (read_place s) / 512 % 128)) s.ckpt s.code s.checks writer_step.ClearFirst fit.ckpt (λ z. refl) (sym (ap writer_holds is)) (h.0, h.1, h.2, h.3, value)
 
   -- it clears that first offset, and has entered the block
   pub keeps_clear_first : s.step ≡ writer_step.ClearFirst → WriterAt D c m g p seat s writer_step.ClearFirst
-      → (h : LogGhost) × LogHalf D c spare (record m { firsts = slice_set m.firsts (lsn (read_place s) / 512 % 128) 0 }) h p (set actors seat (actor.Writer (writer_took s (answer.Old 0) writer_step.ClearFirst))) × (◌≡◌ {A = List Entry} (h.log) (g.log))
+      → (h : LogGhost) × Kept D c spare (record m { firsts = slice_set m.firsts (lsn (read_place s) / 512 % 128) 0 }) h p (set actors seat (actor.Writer (writer_took s (answer.Old 0) writer_step.ClearFirst))) × (◌≡◌ {A = List Entry} (h.log) (g.log))
   keeps_clear_first is h = wiped (lsn (read_place s) / 512 % 128) (ap (λ (k : ℕ). k % 128) (block_is h.3))
     where
-      wiped : (i : ℕ) → i ≡ g.entered % 128 → (h : LogGhost) × LogHalf D c spare (record m { firsts = slice_set m.firsts i 0 }) h p (set actors seat (actor.Writer (writer_took s (answer.Old 0) writer_step.ClearFirst))) × (◌≡◌ {A = List Entry} (h.log) (g.log))
+      wiped : (i : ℕ) → i ≡ g.entered % 128 → (h : LogGhost) × Kept D c spare (record m { firsts = slice_set m.firsts i 0 }) h p (set actors seat (actor.Writer (writer_took s (answer.Old 0) writer_step.ClearFirst))) × (◌≡◌ {A = List Entry} (h.log) (g.log))
       wiped i i_is =
           let m' : SharedWords = record m { firsts = slice_set m.firsts i 0 } in
           let g' : LogGhost = record g { entered = g.entered + 1 } in
@@ -109,7 +110,7 @@ module _ (D : LogSide) (c : Setup) (spare : ℕ) (m : SharedWords) (g : LogGhost
                 (firsts_sized i 0 before.sized)
                 (record {
                   tiled = G.tiled;
-                  order = order_on D c m g p O O.write_read O.read_wtail O.wtail_tail O.tail_sn (omega arith) (omega arith) O.tail_bound;
+                  order = order_on D c m g p O O.write_read O.read_target O.target_wtail (omega arith) (omega arith) O.target_bound;
                   ring_cells = G.ring_cells;
                   first_offsets = record {
                     slots_are = λ q l k. elim (ℕ_discrete q (g.entered + 128)) [
@@ -141,12 +142,11 @@ module _ (D : LogSide) (c : Setup) (spare : ℕ) (m : SharedWords) (g : LogGhost
                         (back s.firsts (s.first ∷ []) (length s.firsts) 0 refl ∙ h.4 ∙ ap (first_of c.base g.log) (let k : g.entered ≡ g.write / 496 + (length s.firsts + 0) = omega arith in k)))
                     | no d ↦ front s.firsts (s.first ∷ []) j (omega arith) ∙ fit.firsts j (omega arith)
                   ];
-                  small = fit.small;
                   ckpt = fit.ckpt;
                   no_device_while_checking = λ z. refl;
                   step = (h.0, h.1, h.2, (let z = h.3 in omega (arith, length-append s.firsts (s.first ∷ []))));
                 })
-                (later_marks D c m g p (omega arith) (omega arith) (omega arith) (omega arith) (λ z. z))
+                (later_marks D c m g p (omega arith) (omega arith) (omega arith) (omega arith) (λ z. z) (λ _ _. unchanged))
                 refl refl refl refl refl refl (sym (ap writer_holds is)) (λ z. refl),
             refl,
           )
@@ -161,16 +161,16 @@ module _ (D : LogSide) (c : Setup) (spare : ℕ) (m : SharedWords) (g : LogGhost
   end_before : (k n entered kept firsts from : ℕ) → k ≡ from + kept → from + 496 * firsts ≡ 496 * entered → kept < 496 * firsts → from % 496 ≡ 0 → k + n ≤ (k / 496 + 1) * 496 → k + n ≤ 496 * entered
   end_before k n entered kept firsts from k_is wide room even le = omega arith
 
-  end_within : (k n left entered kept firsts from : ℕ) → k ≡ from + kept → from + 496 * firsts ≡ 496 * entered → kept < 496 * firsts → from % 496 ≡ 0 → n < left → k + left ≤ (k / 496 + 1) * 496 → k + n ≡ g.tail → g.tail ≤ 496 * entered
+  end_within : (k n left entered kept firsts from : ℕ) → k ≡ from + kept → from + 496 * firsts ≡ 496 * entered → kept < 496 * firsts → from % 496 ≡ 0 → n < left → k + left ≤ (k / 496 + 1) * 496 → k + n ≡ g.target → g.target ≤ 496 * entered
   end_within k n left entered kept firsts from k_is wide room even few le is = let z = end_before k left entered kept firsts from k_is wide room even le in omega arith
 
   -- the lanes of the word at the read place hold the stream's bytes, up to the tail
-  pub word_true : (j : ℕ) → j < left_in_word (read_place s) → read_place s + j < g.tail → lane (lane_of (read_place s) + j) (slice_index m.cells (cell_of (read_place s))) ≡ byte_at c.base g.log (read_place s + j)
+  pub word_true : (j : ℕ) → j < left_in_word (read_place s) → read_place s + j < g.target → lane (lane_of (read_place s) + j) (slice_index m.cells (cell_of (read_place s))) ≡ byte_at c.base g.log (read_place s + j)
   word_true j l below = true_of (read_place s) fit.long l below
     where
-      true_of : (k : ℕ) → k ≡ g.read → j < left_in_word k → k + j < g.tail → lane (lane_of k + j) (slice_index m.cells (cell_of k)) ≡ byte_at c.base g.log (k + j)
+      true_of : (k : ℕ) → k ≡ g.read → j < left_in_word k → k + j < g.target → lane (lane_of k + j) (slice_index m.cells (cell_of k)) ≡ byte_at c.base g.log (k + j)
       true_of k k_is l below = let r = order in let r0 = r.0 in let r3 = r.3 in let r4 = r.4 in
-          let two = before.global.written_links.linked (k + j) (omega arith) below in
+          let two = before.global.written_links.linked (k + j) (omega arith) (let up = r.2 in omega arith) in
           let z = before.global.ring_cells.stands (k + j) (word_grows g.read (k + j) (omega arith)) (omega arith) (omega arith) in
           ap (λ (y : ℕ). lane y (slice_index m.cells (cell_of k))) (sym (next_lanes k j l))
           ∙ ap (λ (y : ℕ). lane (lane_of (k + j)) (slice_index m.cells (y % 8192))) (sym (same_word k j l)) ∙ z.0
@@ -200,29 +200,29 @@ module _ (D : LogSide) (c : Setup) (spare : ℕ) (m : SharedWords) (g : LogGhost
 
   -- it loads the word of its read place. Where that ends beyond the tail, it keeps what is below, and the word stays
   pub keeps_load_cell : s.step ≡ writer_step.LoadCell → WriterAt D c m g p seat s writer_step.LoadCell
-      → (h : LogGhost) × LogHalf D c spare m h p (set actors seat (actor.Writer (writer_took s (answer.Old (slice_index m.cells (cell_of (read_place s)))) writer_step.LoadCell))) × (◌≡◌ {A = List Entry} (h.log) (g.log))
+      → (h : LogGhost) × Kept D c spare m h p (set actors seat (actor.Writer (writer_took s (answer.Old (slice_index m.cells (cell_of (read_place s)))) writer_step.LoadCell))) × (◌≡◌ {A = List Entry} (h.log) (g.log))
   keeps_load_cell is h = by (has_whole_word s) refl
     where
       w : ℕ
       w = slice_index m.cells (cell_of (read_place s))
 
-      le_tail : read_place s ≤ g.tail
+      le_tail : read_place s ≤ g.target
       le_tail = let a = fit.long in let b = h.1 in omega arith
 
-      below : (j n : ℕ) → j < n → read_place s + n ≤ g.tail → read_place s + j < g.tail
+      below : (j n : ℕ) → j < n → read_place s + n ≤ g.target → read_place s + j < g.target
       below j n l le = omega arith
 
-      whole : has_whole_word s ≡ true → word_end s ≤ g.tail
-      whole e = whole_word (read_place s) g.tail le_tail (subst (λ (t : ℕ). left_in_word (read_place s) ≤ t - lsn (read_place s)) fit.tail (leb-true (left_in_word (read_place s)) (s.tail - lsn (read_place s)) e))
+      whole : has_whole_word s ≡ true → word_end s ≤ g.target
+      whole e = whole_word (read_place s) g.target le_tail (subst (λ (t : ℕ). left_in_word (read_place s) ≤ t - lsn (read_place s)) fit.tail (leb-true (left_in_word (read_place s)) (s.tail - lsn (read_place s)) e))
 
-      part : (n : ℕ) → n ≡ s.tail - lsn (read_place s) → nat_le (left_in_word (read_place s)) n ≡ false → (n < left_in_word (read_place s)) × (read_place s + n ≡ g.tail)
+      part : (n : ℕ) → n ≡ s.tail - lsn (read_place s) → nat_le (left_in_word (read_place s)) n ≡ false → (n < left_in_word (read_place s)) × (read_place s + n ≡ g.target)
       part n n_is e =
           let few = leb-false (left_in_word (read_place s)) n e in
-          let is_lsn : n ≡ lsn g.tail - lsn (read_place s) = n_is ∙ ap (λ (t : ℕ). t - lsn (read_place s)) fit.tail in
-          (few, ap (λ (y : ℕ). read_place s + y) is_lsn ∙ part_word (read_place s) g.tail le_tail (subst (λ (y : ℕ). y < left_in_word (read_place s)) is_lsn few))
+          let is_lsn : n ≡ lsn g.target - lsn (read_place s) = n_is ∙ ap (λ (t : ℕ). t - lsn (read_place s)) fit.tail in
+          (few, ap (λ (y : ℕ). read_place s + y) is_lsn ∙ part_word (read_place s) g.target le_tail (subst (λ (y : ℕ). y < left_in_word (read_place s)) is_lsn few))
 
       by : (b : Bool) → has_whole_word s ≡ b
-          → (h : LogGhost) × LogHalf D c spare m h p (set actors seat (actor.Writer (cond b (record s { word = slice_index m.cells (cell_of (read_place s)); step = writer_step.ClearCell }) (record s { kept = s.kept ++ lanes (lane_of (read_place s)) (s.tail - lsn (read_place s)) (slice_index m.cells (cell_of (read_place s))); step = writer_step.TakeDevice })))) × (◌≡◌ {A = List Entry} (h.log) (g.log))
+          → (h : LogGhost) × Kept D c spare m h p (set actors seat (actor.Writer (cond b (record s { word = slice_index m.cells (cell_of (read_place s)); step = writer_step.ClearCell }) (record s { kept = s.kept ++ lanes (lane_of (read_place s)) (s.tail - lsn (read_place s)) (slice_index m.cells (cell_of (read_place s))); step = writer_step.TakeDevice })))) × (◌≡◌ {A = List Entry} (h.log) (g.log))
       by true e = (
         g,
         wsteps D c spare m g p actors seat s before at m g p refl (record s { word = slice_index m.cells (cell_of (read_place s)); step = writer_step.ClearCell }) before.sized before.global
@@ -236,34 +236,33 @@ module _ (D : LogSide) (c : Setup) (spare : ℕ) (m : SharedWords) (g : LogGhost
               kept = fit.kept;
               wide = fit.wide;
               firsts = fit.firsts;
-              small = fit.small;
               ckpt = fit.ckpt;
               no_device_while_checking = λ z. refl;
               step = (h.0, h.1, h.2, h.3, whole e, λ j l. word_true j l (below j (left_in_word (read_place s)) l (whole e)));
             })
-            (later_marks D c m g p (omega arith) (omega arith) (omega arith) (omega arith) (λ z. z))
+            (later_marks D c m g p (omega arith) (omega arith) (omega arith) (omega arith) (λ z. z) (λ _ _. unchanged))
             refl refl refl refl refl refl (sym (ap writer_holds is)) (λ z. refl),
         refl,
       )
       by false e = kept_part (s.tail - lsn (read_place s)) (part (s.tail - lsn (read_place s)) refl e)
         where
-          kept_part : (n : ℕ) → (n < left_in_word (read_place s)) × (read_place s + n ≡ g.tail)
-              → (h : LogGhost) × LogHalf D c spare m h p (set actors seat (actor.Writer (record s { kept = s.kept ++ lanes (lane_of (read_place s)) n (slice_index m.cells (cell_of (read_place s))); step = writer_step.TakeDevice }))) × (◌≡◌ {A = List Entry} (h.log) (g.log))
+          kept_part : (n : ℕ) → (n < left_in_word (read_place s)) × (read_place s + n ≡ g.target)
+              → (h : LogGhost) × Kept D c spare m h p (set actors seat (actor.Writer (record s { kept = s.kept ++ lanes (lane_of (read_place s)) n (slice_index m.cells (cell_of (read_place s))); step = writer_step.TakeDevice }))) × (◌≡◌ {A = List Entry} (h.log) (g.log))
           kept_part n q =
-              let g' : LogGhost = record g { read = g.tail } in
+              let g' : LogGhost = record g { read = g.target } in
               let G = before.global in let O = G.order in
               let r = order in let r0 = r.0 in let r1 = r.1 in let r2 = r.2 in
               let k0 = h.0.0 in
-              let same : lsn g.tail / 8 ≡ lsn g.read / 8 = ap (λ (x : ℕ). lsn x / 8) (sym q.1) ∙ same_word (read_place s) n q.0 ∙ ap (λ (x : ℕ). lsn x / 8) fit.long in
+              let same : lsn g.target / 8 ≡ lsn g.read / 8 = ap (λ (x : ℕ). lsn x / 8) (sym q.1) ∙ same_word (read_place s) n q.0 ∙ ap (λ (x : ℕ). lsn x / 8) fit.long in
               let in_block = left_block (read_place s) in
               let wi = fit.wide in let k3 = h.3 in let q0 = q.0 in let q1 = q.1 in
-              let to : g.tail ≤ 496 * g.entered = end_within (read_place s) n (left_in_word (read_place s)) g.entered (length s.kept) (length s.firsts) s.from refl wi k3 (from_even) q0 in_block q1 in (
+              let to : g.target ≤ 496 * g.entered = end_within (read_place s) n (left_in_word (read_place s)) g.entered (length s.kept) (length s.firsts) s.from refl wi k3 (from_even) q0 in_block q1 in (
                 g',
                 wsteps D c spare m g p actors seat s before at m g' p refl (record s { kept = s.kept ++ lanes (lane_of (read_place s)) n (slice_index m.cells (cell_of (read_place s))); step = writer_step.TakeDevice }) before.sized
                     (record {
                       tiled = G.tiled;
-                      order = order_on D c m g p O (omega arith) (omega arith) O.wtail_tail O.tail_sn to O.entered_tail O.tail_bound;
-                      ring_cells = read_within g.tail same;
+                      order = order_on D c m g p O (omega arith) (omega arith) O.target_wtail to O.entered_target O.target_bound;
+                      ring_cells = read_within g.target same;
                       first_offsets = G.first_offsets;
                       written_links = G.written_links;
                       commits = G.commits;
@@ -279,12 +278,11 @@ module _ (D : LogSide) (c : Setup) (spare : ℕ) (m : SharedWords) (g : LogGhost
                       kept = kept_on n (slice_index m.cells (cell_of (read_place s))) (λ j l. word_true j (omega arith) (below j n l (omega arith)));
                       wide = wi;
                       firsts = fit.firsts;
-                      small = fit.small;
                       ckpt = fit.ckpt;
                       no_device_while_checking = λ z. refl;
                       step = (h.0, refl, h.2);
                     })
-                    (later_marks D c m g p (omega arith) (omega arith) (omega arith) (omega arith) (λ z. z))
+                    (later_marks D c m g p (omega arith) (omega arith) (omega arith) (omega arith) (λ z. z) (λ _ _. unchanged))
                     refl refl refl refl refl refl (sym (ap writer_holds is)) (λ z. refl),
                 refl,
               )
@@ -300,7 +298,7 @@ module _ (D : LogSide) (c : Setup) (spare : ℕ) (m : SharedWords) (g : LogGhost
 
   -- it clears the word that it has loaded, and keeps its bytes
   pub keeps_clear_cell : s.step ≡ writer_step.ClearCell → WriterAt D c m g p seat s writer_step.ClearCell
-      → (h : LogGhost) × LogHalf D c spare (record m { cells = slice_set m.cells (cell_of (read_place s)) 0 }) h p (set actors seat (actor.Writer (writer_took s (answer.Old 0) writer_step.ClearCell))) × (◌≡◌ {A = List Entry} (h.log) (g.log))
+      → (h : LogGhost) × Kept D c spare (record m { cells = slice_set m.cells (cell_of (read_place s)) 0 }) h p (set actors seat (actor.Writer (writer_took s (answer.Old 0) writer_step.ClearCell))) × (◌≡◌ {A = List Entry} (h.log) (g.log))
   keeps_clear_cell is h = cleared (left_in_word (read_place s)) refl (eqb (lsn (word_end s)) s.tail) (eqb (length s.kept + left_in_word (read_place s)) (496 * length s.firsts)) refl refl
     where
       slot : cell_of (read_place s) < length m.cells
@@ -317,7 +315,7 @@ module _ (D : LogSide) (c : Setup) (spare : ℕ) (m : SharedWords) (g : LogGhost
 
       here_near : lsn (read_place s) < floor m.write + 65536
       here_near = let r = order in let r0 = r.0 in let r3 = r.3 in let r4 = r.4 in let l = h.1 in
-          let two = before.global.written_links.linked g.read (omega arith) (omega arith) in
+          let two = before.global.written_links.linked g.read (omega arith) (let up = r.2 in omega arith) in
           let e : lsn (read_place s) ≡ lsn g.read = ap lsn fit.long in
           let z = (before.global.ring_cells.stands g.read (omega arith) (omega arith) (omega arith)).1 in omega arith
 
@@ -350,7 +348,7 @@ module _ (D : LogSide) (c : Setup) (spare : ℕ) (m : SharedWords) (g : LogGhost
       }
 
       cleared : (n : ℕ) → n ≡ left_in_word (read_place s) → (b d : Bool) → eqb (lsn (word_end s)) s.tail ≡ b → eqb (length s.kept + left_in_word (read_place s)) (496 * length s.firsts) ≡ d
-          → (h : LogGhost) × LogHalf D c spare (record m { cells = slice_set m.cells (cell_of (read_place s)) 0 }) h p (set actors seat (actor.Writer (record s { kept = s.kept ++ lanes (lane_of (read_place s)) (left_in_word (read_place s)) s.word; word = 0; step = after_word b d }))) × (◌≡◌ {A = List Entry} (h.log) (g.log))
+          → (h : LogGhost) × Kept D c spare (record m { cells = slice_set m.cells (cell_of (read_place s)) 0 }) h p (set actors seat (actor.Writer (record s { kept = s.kept ++ lanes (lane_of (read_place s)) (left_in_word (read_place s)) s.word; word = 0; step = after_word b d }))) × (◌≡◌ {A = List Entry} (h.log) (g.log))
       cleared n n_is b d e f =
           let g' : LogGhost = record g { read = word_end s } in
           let m' : SharedWords = record m { cells = slice_set m.cells (cell_of (read_place s)) 0 } in
@@ -359,13 +357,13 @@ module _ (D : LogSide) (c : Setup) (spare : ℕ) (m : SharedWords) (g : LogGhost
           let k0 = h.0.0 in let k3 = h.3 in let k4 = h.4 in
           let lg = fit.long in let wi = fit.wide in
           let end_is : read_place s + n ≡ word_end s = ap (λ (y : ℕ). read_place s + y) n_is in
-          let up : read_place s + n ≤ g.tail = subst (λ (y : ℕ). y ≤ g.tail) (sym end_is) h.4 in (
+          let up : read_place s + n ≤ g.target = subst (λ (y : ℕ). y ≤ g.target) (sym end_is) h.4 in (
             g',
             wsteps D c spare m g p actors seat s before at m' g' p refl (record s { kept = s.kept ++ lanes (lane_of (read_place s)) (left_in_word (read_place s)) s.word; word = 0; step = after_word b d })
                 (cells_sized (cell_of (read_place s)) 0 before.sized)
                 (record {
                   tiled = G.tiled;
-                  order = order_on D c m g p O (subst (λ (y : ℕ). g.write ≤ y) end_is (omega arith)) (subst (λ (y : ℕ). y ≤ g.wtail) end_is (omega arith)) O.wtail_tail O.tail_sn entered_end O.entered_tail O.tail_bound;
+                  order = order_on D c m g p O (subst (λ (y : ℕ). g.write ≤ y) end_is (omega arith)) h.4 O.target_wtail entered_end O.entered_target O.target_bound;
                   ring_cells = cleared_cells;
                   first_offsets = G.first_offsets;
                   written_links = G.written_links;
@@ -382,20 +380,19 @@ module _ (D : LogSide) (c : Setup) (spare : ℕ) (m : SharedWords) (g : LogGhost
                   kept = kept_on (left_in_word (read_place s)) s.word h.5;
                   wide = wi;
                   firsts = fit.firsts;
-                  small = fit.small;
                   ckpt = fit.ckpt;
                   no_device_while_checking = λ z. free_word b d;
                   step = goes b d e f;
                 })
-                (later_marks D c m g p (omega arith) (omega arith) (omega arith) (omega arith) (λ z. z))
+                (later_marks D c m g p (omega arith) (omega arith) (omega arith) (omega arith) (λ z. z) (λ _ _. unchanged))
                 refl refl refl refl refl refl (free_word b d ∙ sym (ap writer_holds is)) (λ z. refl),
             refl,
           )
         where
-          further : eqb (lsn (word_end s)) s.tail ≡ false → word_end s < g.tail
-          further e = let ne = eqb-false (lsn (word_end s)) s.tail e in elim (ℕ_discrete (word_end s) g.tail) [
+          further : eqb (lsn (word_end s)) s.tail ≡ false → word_end s < g.target
+          further e = let ne = eqb-false (lsn (word_end s)) s.tail e in elim (ℕ_discrete (word_end s) g.target) [
             | yes z ↦ absurd (ne (ap lsn z ∙ sym fit.tail))
-            | no z ↦ below_of (word_end s) g.tail h.4 z
+            | no z ↦ below_of (word_end s) g.target h.4 z
           ]
             where
               below_of : (a b : ℕ) → a ≤ b → a ≢ b → a < b
@@ -409,13 +406,13 @@ module _ (D : LogSide) (c : Setup) (spare : ℕ) (m : SharedWords) (g : LogGhost
 
           goes : (b d : Bool) → eqb (lsn (word_end s)) s.tail ≡ b → eqb (length s.kept + left_in_word (read_place s)) (496 * length s.firsts) ≡ d
               → WriterAt D c (record m { cells = slice_set m.cells (cell_of (read_place s)) 0 }) (record g { read = word_end s }) p seat (record s { kept = s.kept ++ lanes (lane_of (read_place s)) (left_in_word (read_place s)) s.word; word = 0; step = after_word b d }) (after_word b d)
-          goes true d e f = (h.0, lsn_same (word_end s) g.tail (eqb-true (lsn (word_end s)) s.tail e ∙ fit.tail), h.2)
+          goes true d e f = (h.0, lsn_same (word_end s) g.target (eqb-true (lsn (word_end s)) s.tail e ∙ fit.tail), h.2)
           goes false true e f = (h.0, further e, h.2, kept_count ∙ eqb-true (length s.kept + left_in_word (read_place s)) (496 * length s.firsts) f)
           goes false false e f = (h.0, further e, h.2, (let z = eqb-false (length s.kept + left_in_word (read_place s)) (496 * length s.firsts) f in room (left_in_word (read_place s)) (length (s.kept ++ lanes (lane_of (read_place s)) (left_in_word (read_place s)) s.word)) kept_count z entered_end))
 
   -- what it hands to write_to
-  pub lends : g.read ≡ g.tail → IsLent c.base g.log g.write g.tail s.kept s.firsts
-  lends e = let fr = fit.from in let lg = fit.long in let wi = fit.wide in let r = before.global.order.read_entered in let t = before.global.order.entered_tail in record {
+  pub lends : g.read ≡ g.target → IsLent c.base g.log g.write g.target s.kept s.firsts
+  lends e = let fr = fit.from in let lg = fit.long in let wi = fit.wide in let r = before.global.order.read_entered in let t = before.global.order.entered_target in record {
     long = omega arith;
     bytes_are = λ j l. fit.kept j l ∙ ap (λ (k : ℕ). byte_at c.base g.log (k + j)) fr;
     enough = omega arith;
@@ -428,5 +425,5 @@ module _ (D : LogSide) (c : Setup) (spare : ℕ) (m : SharedWords) (g : LogGhost
   writer_checked checks = by (eqb m.failed 0) refl
     where
       by : (b : Bool) → eqb m.failed 0 ≡ b → WNow D c spare m g p actors seat s before at (cond b (record s { checks = false }) (record s { checks = false; code = m.failed; step = writer_step.Failed }))
-      by true e = quiet s.link s.first s.ckpt s.code false s.step fit.ckpt (λ z. absurd (cc)) refl fit.step
-      by false e = quiet s.link s.first s.ckpt m.failed false writer_step.Failed fit.ckpt (λ z. refl) (sym (fit.no_device_while_checking checks)) (let n = eqb-false m.failed 0 e in omega arith)
+      by true e = quiet s.first s.ckpt s.code false s.step fit.ckpt (λ z. absurd (cc)) refl fit.step
+      by false e = quiet s.first s.ckpt m.failed false writer_step.Failed fit.ckpt (λ z. refl) (sym (fit.no_device_while_checking checks)) (let n = eqb-false m.failed 0 e in omega arith)

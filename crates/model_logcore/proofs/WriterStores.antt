@@ -1,4 +1,4 @@
--- The writer stores WTAIL, WRITE, or FAILED.
+-- The writer stores WRITE, or FAILED.
 use Rattle.std.proofs.Common.{List, ap, arith, false, inl, length-drop, refl, set, sym, true, ℕ, ◌%◌, ◌*◌, ◌+◌, ◌-◌, ◌/◌, ◌∙◌, ◌≡◌, ◌≤◌}
 use Rattle.std.proofs.lemmas.List.{get_or-drop}
 use lib.ListN.{get_elem?}
@@ -11,7 +11,8 @@ use Rattle.model_core.specs.{Actor, byte_at, byte_in, Entry, first_of, floor, fu
 use Rattle.model_core.specs.LogSide.{LogSide}
 use Rattle.model_core.specs.Setup.{Setup}
 use Rattle.model_logcore.proofs.Same.{facts_same, later_marks, numbers_sized, part_same, writer_same}
-use Rattle.model_logcore.proofs.WriterSteps.{own, ranks, tails, wsteps}
+use Rattle.model_logcore.proofs.WriterSteps.{own, ranks, tail_near, wsteps}
+use Rattle.model_logcore.proofs.Frame.{unchanged, Kept}
 use Rattle.model_logcore.specs.LogFacts.{LogGhost}
 use Rattle.model_logcore.specs.LogFits.{WriterAt, WriterFits}
 use Rattle.model_logcore.specs.LogHalf.{LogHalf}
@@ -24,59 +25,8 @@ module _ (D : LogSide) (c : Setup) (spare : ℕ) (m : SharedWords) (g : LogGhost
   fit : WriterFits D c m g p seat s
   fit = own D c spare m g p actors seat s before at
 
-  order : (g.write ≤ g.read) × (g.read ≤ g.wtail) × (g.wtail ≤ g.tail) × (g.tail ≤ m.sn) × (c.base ≤ g.write)
+  order : (g.write ≤ g.read) × (g.read ≤ g.target) × (g.target ≤ g.tail) × (g.target ≤ m.sn) × (c.base ≤ g.write)
   order = ranks D c spare m g p actors seat s before at
-
-  -- it stores WTAIL
-  pub keeps_store_wtail : s.step ≡ writer_step.StoreWtail → WriterAt D c m g p seat s writer_step.StoreWtail → (h : LogGhost) × LogHalf D c spare (record m { wtail = s.tail }) h p (set actors seat (actor.Writer (writer_took s (answer.Old 0) writer_step.StoreWtail))) × (◌≡◌ {A = List Entry} (h.log) (g.log))
-  keeps_store_wtail is h =
-      let m' : SharedWords = record m { wtail = s.tail } in
-      let g' : LogGhost = record g { wtail = g.tail } in
-      let w : WriterState = record s { step = writer_step.LoadCheckpoint } in
-      let G = before.global in let O = G.order in let P = G.part in
-      let r = order in let r0 = r.0 in let r1 = r.1 in let r2 = r.2 in let r3 = r.3 in
-      let t = fit.tail in
-      let up : m.wtail ≤ s.tail = (let a = tails D c spare m g p actors seat s before at in omega arith) in (
-        g',
-        wsteps D c spare m g p actors seat s before at m' g' p refl w
-            (numbers_sized before.sized)
-            (record {
-              tiled = G.tiled;
-              order = record {
-                base_even = O.base_even;
-                write_is = O.write_is;
-                wtail_is = t;
-                flushed_is = O.flushed_is;
-                base_write = O.base_write;
-                write_read = O.write_read;
-                read_wtail = omega arith;
-                wtail_tail = omega arith;
-                tail_sn = O.tail_sn;
-                read_entered = O.read_entered;
-                entered_tail = O.entered_tail;
-                write_bound = O.write_bound;
-                wtail_bound = O.tail_bound;
-                tail_bound = O.tail_bound;
-                flushed_bound = O.flushed_bound;
-              };
-              ring_cells = G.ring_cells;
-              first_offsets = G.first_offsets;
-              written_links = record {
-                linked = G.written_links.linked;
-                links_are = λ j l v. let q = G.written_links.links_are j l v in let near = q.near in record { at = q.at; group = q.group; is = q.is; slot = q.slot; size = q.size; since = q.since; near = omega arith; whole = q.whole };
-                standing = λ j x x_is two f. let q = G.written_links.standing j x x_is two f in let near = q.1 in (q.0, omega arith);
-              };
-              commits = G.commits;
-              part = part_same D c m g p P P.write_written (let z = P.given_wtail in omega arith) P.flushed_stable P.ckpt_part P.turn_word;
-            })
-            (writer_same D c m g p fit fit.ckpt (λ z. refl) ((refl, h.1, h.0.1), h.0.0))
-            (later_marks D c m g p (omega arith) up (omega arith) (omega arith) (λ z. z))
-            refl refl refl refl refl refl (sym (ap writer_holds is)) (λ z. refl),
-        refl,
-      )
-
-  floor_near : (w t : ℕ) → t ≤ w + 41240 → floor t ≤ floor w + 65536
-  floor_near w t h = omega arith
 
   lane_turned : (cells : List ℕ) (a b : ℕ) → a + 65536 ≡ b → lane (a % 8) (slice_index cells (a / 8 % 8192)) ≡ lane (b % 8) (slice_index cells (b / 8 % 8192))
   lane_turned cells a b e = (λ i. lane (lanes_same i) (slice_index cells (words_same i)))
@@ -88,16 +38,16 @@ module _ (D : LogSide) (c : Setup) (spare : ℕ) (m : SharedWords) (g : LogGhost
       words_same = omega arith
 
   -- it stores WRITE, and keeps the last block, where that isn't full
-  pub keeps_store_write : s.step ≡ writer_step.StoreWrite → WriterAt D c m g p seat s writer_step.StoreWrite → (h : LogGhost) × LogHalf D c spare (record m { write = s.tail }) h p (set actors seat (actor.Writer (writer_took s (answer.Old 0) writer_step.StoreWrite))) × (◌≡◌ {A = List Entry} (h.log) (g.log))
+  pub keeps_store_write : s.step ≡ writer_step.StoreWrite → WriterAt D c m g p seat s writer_step.StoreWrite → (h : LogGhost) × Kept D c spare (record m { write = s.tail }) h p (set actors seat (actor.Writer (writer_took s (answer.Old 0) writer_step.StoreWrite))) × (◌≡◌ {A = List Entry} (h.log) (g.log))
   keeps_store_write is h =
       let m' : SharedWords = record m { write = s.tail } in
-      let g' : LogGhost = record g { write = g.tail } in
+      let g' : LogGhost = record g { write = g.target } in
       let w : WriterState = writer_took s (answer.Old 0) writer_step.StoreWrite in
       let G = before.global in let O = G.order in let P = G.part in
       let r = order in let r0 = r.0 in let r1 = r.1 in let r2 = r.2 in let r4 = r.4 in
       let lg = fit.long in let wi = fit.wide in let fr = fit.from in let re = O.read_entered in
-      let k2 = h.2 in let k3 = h.3 in
-      let up : m.write ≤ s.tail = (let a = O.write_is in let b = lsn_le g.write g.tail (omega arith) in let t = fit.tail in omega arith) in
+      let k2 = h.1 in let k3 = h.2 in
+      let up : m.write ≤ s.tail = (let a = O.write_is in let b = lsn_le g.write g.target (omega arith) in let t = fit.tail in omega arith) in
       let floors : floor m.write ≤ floor s.tail = floor_grows m.write s.tail up in (
         g',
         wsteps D c spare m g p actors seat s before at m' g' p refl w
@@ -111,14 +61,18 @@ module _ (D : LogSide) (c : Setup) (spare : ℕ) (m : SharedWords) (g : LogGhost
                 flushed_is = O.flushed_is;
                 base_write = omega arith;
                 write_read = omega arith;
-                read_wtail = O.read_wtail;
+                read_target = O.read_target;
+                target_wtail = O.target_wtail;
                 wtail_tail = O.wtail_tail;
+                free = O.free;
                 tail_sn = O.tail_sn;
+                near = (let z = O.near in omega arith);
                 read_entered = O.read_entered;
-                entered_tail = O.entered_tail;
-                write_bound = O.tail_bound;
+                entered_target = O.entered_target;
+                write_bound = O.target_bound;
                 wtail_bound = O.wtail_bound;
                 tail_bound = O.tail_bound;
+                target_bound = O.target_bound;
                 flushed_bound = O.flushed_bound;
               };
               ring_cells = record {
@@ -129,10 +83,10 @@ module _ (D : LogSide) (c : Setup) (spare : ℕ) (m : SharedWords) (g : LogGhost
                   | yes d ↦ (let far = turned_far x m.write d in
                       let y : ℕ = x - 63488 in
                       let back = turn_before x far in
-                      let sm = fit.small in let wr = fit.write in let tl = fit.tail in
-                      let same_mark : floor s.tail ≡ floor (lsn g.tail) = ap floor tl in
-                      let step : floor s.tail ≤ floor m.write + 65536 = floor_near m.write s.tail (omega arith) in
-                      let read_is : lsn g.read ≡ lsn g.tail = ap lsn k3 in
+                      let sm = tail_near D c spare m g p actors seat s before at in let wr = fit.write in let tl = fit.tail in
+                      let same_mark : floor s.tail ≡ floor (lsn g.target) = ap floor tl in
+                      let step : floor s.tail ≤ floor m.write + 65536 = (let z : floor s.tail ≤ s.tail = omega arith in omega arith) in
+                      let read_is : lsn g.read ≡ lsn g.target = ap lsn k3 in
                       let one : byte_in m.cells y ≡ byte_in m.cells x = lane_turned m.cells (lsn y) (lsn x) back in
                       sym one ∙ G.ring_cells.bare y (omega arith) (omega arith) (inl (omega arith)))
                 ];
@@ -151,25 +105,24 @@ module _ (D : LogSide) (c : Setup) (spare : ℕ) (m : SharedWords) (g : LogGhost
               long = omega (arith, length-drop (496 * full_blocks s) s.kept);
               kept = λ j l. get_or-drop (496 * full_blocks s) s.kept j 0 ∙ fit.kept (496 * full_blocks s + j) (omega (arith, length-drop (496 * full_blocks s) s.kept)) ∙ ap (byte_at c.base g.log) (let z : s.from + (496 * full_blocks s + j) ≡ s.from + 496 * full_blocks s + j = omega arith in z);
               wide = omega (arith, length-drop (full_blocks s) s.firsts);
-              firsts = λ i l. get_or-drop (full_blocks s) s.firsts i 0 ∙ fit.firsts (full_blocks s + i) (omega (arith, length-drop (full_blocks s) s.firsts)) ∙ ap (first_of c.base g.log) (let z : g.write / 496 + (full_blocks s + i) ≡ g.tail / 496 + i = omega arith in z);
-              small = omega arith;
+              firsts = λ i l. get_or-drop (full_blocks s) s.firsts i 0 ∙ fit.firsts (full_blocks s + i) (omega (arith, length-drop (full_blocks s) s.firsts)) ∙ ap (first_of c.base g.log) (let z : g.write / 496 + (full_blocks s + i) ≡ g.target / 496 + i = omega arith in z);
               ckpt = fit.ckpt;
               no_device_while_checking = λ z. let y = fit.no_device_while_checking z in let x : true ≡ false = sym (ap writer_holds is) ∙ y in absurd (cc);
               step = ((k3, k2), refl);
             })
-            (later_marks D c m g p up (omega arith) (omega arith) (omega arith) (λ z. z))
+            (later_marks D c m g p up (omega arith) (omega arith) (omega arith) (λ z. z) (λ _ _. unchanged))
             refl refl refl refl refl refl (sym (ap writer_holds is)) (λ z. refl),
         refl,
       )
 
   -- it stores FAILED
-  pub keeps_store_failed : s.step ≡ writer_step.StoreFailed → WriterAt D c m g p seat s writer_step.StoreFailed → LogHalf D c spare (record m { failed = s.code }) g p (set actors seat (actor.Writer (writer_took s (answer.Old 0) writer_step.StoreFailed)))
+  pub keeps_store_failed : s.step ≡ writer_step.StoreFailed → WriterAt D c m g p seat s writer_step.StoreFailed → Kept D c spare (record m { failed = s.code }) g p (set actors seat (actor.Writer (writer_took s (answer.Old 0) writer_step.StoreFailed)))
   keeps_store_failed is h =
       let m' : SharedWords = record m { failed = s.code } in
       let G = before.global in let h0 = h.0 in
       wsteps D c spare m g p actors seat s before at m' g p refl (record s { step = writer_step.GiveFailed })
       (numbers_sized before.sized)
       (facts_same D c m g p G.part G)
-      (writer_same D c m g p fit fit.ckpt (λ z. let y = fit.no_device_while_checking z in let x : true ≡ false = sym (ap writer_holds is) ∙ y in absurd (cc)) h0)
-      (later_marks D c m g p (omega arith) (omega arith) (omega arith) (omega arith) (λ z. h0))
+      (writer_same D c m g p fit fit.tail fit.ckpt (λ z. let y = fit.no_device_while_checking z in let x : true ≡ false = sym (ap writer_holds is) ∙ y in absurd (cc)) h0)
+      (later_marks D c m g p (omega arith) (omega arith) (omega arith) (omega arith) (λ z. h0) (λ _ _. unchanged))
       refl refl refl refl refl refl (sym (ap writer_holds is)) (λ z. refl)

@@ -1,5 +1,5 @@
 -- The log half of the invariant: what holds of the words of the log and of the log part.
-use Rattle.std.specs.Prelude.{List, [], cond, length, slice_index, take, ℕ, ◌%◌, ◌*◌, ◌+◌, ◌/◌, ◌<◌, ◌==◌, ◌^◌, ◌∷◌, ◌≡◌, ◌≤◌, ◌⊎◌}
+use Rattle.std.specs.Prelude.{Bool, List, [], cond, false, length, slice_index, take, ℕ, ◌%◌, ◌*◌, ◌+◌, ◌/◌, ◌<◌, ◌==◌, ◌^◌, ◌∷◌, ◌≡◌, ◌≤◌, ◌⊎◌}
 use lib.ListN.{get_elem?}
 use mathlib.Core.Option.{some}
 use Rattle.model_core.specs.{byte_at, byte_in, end_of, Entry, entry, first_of, floor, IsBound, Line, line_at, lsn, PageChange, SharedWords, sum_of, Tiles}
@@ -29,8 +29,11 @@ pub record LogGhost : Type 0 where
   pub write : ℕ
   pub wtail : ℕ
   pub flushed : ℕ
-  -- the writer's tail, its read place, the first block that it hasn't entered, and its seat
+  -- the place to which links are cleared: that of the actor that holds WTAIL, else the tail; and who has held it last
   pub tail : ℕ
+  pub advancer : ℕ
+  -- the tail with which the writer goes on, its read place, the first block that it hasn't entered, and its seat
+  pub target : ℕ
   pub read : ℕ
   pub entered : ℕ
   pub writer : ℕ
@@ -54,21 +57,25 @@ pub record Tiled (c : Setup) (sn : ℕ) (log : List Entry) (place : ℕ → Plac
   pub bytes : (x : ℕ) → c.base ≤ x → x < sn → byte_at c.base log x < 256
 
 -- the marks stand in their order, and all are boundaries
-pub record MarkOrder (base : ℕ) (log : List Entry) (sn write wtail flushed gwrite gwtail gflushed tail read entered : ℕ) : Type 0 where
+pub record MarkOrder (base : ℕ) (log : List Entry) (sn write wtail : ℕ) (wheld : Bool) (flushed gwrite gwtail gflushed tail target read entered : ℕ) : Type 0 where
   pub base_even : base % BLOCK_DATA ≡ 0
   pub write_is : write ≡ lsn gwrite
   pub wtail_is : wtail ≡ lsn gwtail
   pub flushed_is : flushed ≡ lsn gflushed
   pub base_write : base ≤ gwrite
   pub write_read : gwrite ≤ read
-  pub read_wtail : read ≤ gwtail
+  pub read_target : read ≤ target
+  pub target_wtail : target ≤ gwtail
   pub wtail_tail : gwtail ≤ tail
+  pub free : wheld ≡ false → tail ≡ gwtail
   pub tail_sn : tail ≤ sn
+  pub near : lsn tail < floor write + LOG_BUFFER
   pub read_entered : read ≤ BLOCK_DATA * entered
-  pub entered_tail : BLOCK_DATA * entered < tail + BLOCK_DATA
+  pub entered_target : BLOCK_DATA * entered < target + BLOCK_DATA
   pub write_bound : IsBound base log gwrite
   pub wtail_bound : IsBound base log gwtail
   pub tail_bound : IsBound base log tail
+  pub target_bound : IsBound base log target
   pub flushed_bound : IsBound base log gflushed
 
 -- The place's lane is 0: its word was cleared, as each one is all of whose places are read; or its byte isn't copied.
@@ -147,7 +154,7 @@ module _ (D : LogSide) (c : Setup) (m : SharedWords) (g : LogGhost) (p : D.Part)
   -- add a field
   pub record LogFacts : Type 0 where
     pub tiled : Tiled c m.sn g.log g.place
-    pub order : MarkOrder c.base g.log m.sn m.write m.wtail m.flushed g.write g.wtail g.flushed g.tail g.read g.entered
+    pub order : MarkOrder c.base g.log m.sn m.write m.wtail m.wheld m.flushed g.write g.wtail g.flushed g.tail g.target g.read g.entered
     pub ring_cells : RingCells c.base m.sn m.cells m.write g.log g.state g.read
     pub first_offsets : FirstOffsets c.base m.firsts m.write g.log g.first g.state g.entered
     pub written_links : WrittenLinks c.base m.wlinks m.wtail g.log g.state g.tail

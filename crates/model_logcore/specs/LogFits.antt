@@ -1,16 +1,18 @@
 -- The log half of the invariant: what holds of each actor.
-use Rattle.std.specs.Prelude.{false, length, slice_index, true, ℕ, ◌%◌, ◌*◌, ◌+◌, ◌/◌, ◌<◌, ◌≡◌, ◌≢◌, ◌≤◌, ◌⊎◌}
+use Rattle.std.specs.Prelude.{Bool, false, length, slice_index, true, ℕ, ◌%◌, ◌*◌, ◌+◌, ◌/◌, ◌<◌, ◌≡◌, ◌≢◌, ◌≤◌, ◌⊎◌}
 use lib.ListN.{get_elem?}
 use mathlib.Core.Option.{some}
-use Rattle.model_core.specs.{Actor, byte_at, ceiling, checkpointer_holds, CheckpointerState, CleanerState, entry, first_of, floor, flusher_holds, FlusherState, group_bytes, group_end, lane_of, left_in_word, line, line_at, LoadedMarks, lsn, mode, read_place, SharedWords, UserState, word_end, writer_holds, WriterState}
+use Rattle.model_core.specs.{Actor, Advance, byte_at, ceiling, checkpointer_holds, CheckpointerState, CleanerState, entry, first_of, floor, flusher_holds, FlusherState, group_bytes, group_end, lane_of, left_in_word, line, line_at, LoadedMarks, lsn, mode, read_place, SharedWords, UserState, word_end, writer_holds, WriterState}
 unfoldable use Rattle.model_core.specs.{lane}
 use Rattle.model_core.specs.LogSide.{LogSide}
 use Rattle.model_core.specs.Setup.{Setup}
+use Rattle.model_core.specs.declared.steps.AdvanceStep.{AdvanceStep}
 use Rattle.model_core.specs.declared.steps.UserStep.{UserStep}
 use Rattle.model_core.specs.declared.steps.CheckpointerStep.{CheckpointerStep}
 use Rattle.model_core.specs.declared.steps.WriterStep.{WriterStep}
 use Rattle.model_core.specs.declared.steps.FlusherStep.{FlusherStep}
 use Rattle.model_logcore.specs.LogFacts.{LogGhost, InHand, count_of}
+use Rattle.model_core.specs.declared.steps.AdvanceStep.TheVariants as advance_step
 use Rattle.model_core.specs.declared.steps.UserStep.TheVariants as user_step
 use Rattle.model_core.specs.declared.steps.WriterStep.TheVariants as writer_step
 use Rattle.model_core.specs.declared.steps.FlusherStep.TheVariants as flusher_step
@@ -28,6 +30,13 @@ pub record AreBelow (l : LoadedMarks) (ckpt write wtail flushed : ℕ) : Type 0 
   pub write_below : l.write ≤ write
   pub wtail_below : l.wtail ≤ wtail
   pub flushed_below : l.flushed ≤ flushed
+
+-- the actor at a seat holds WTAIL: it has loaded the tail, and links are cleared up to its place
+pub record IsHolder (wheld : Bool) (advancer wtail cleared seat loaded at : ℕ) : Type 0 where
+  pub held : wheld ≡ true
+  pub mine : advancer ≡ seat
+  pub tail : loaded ≡ wtail
+  pub place : at ≡ lsn cleared
 
 module _ (D : LogSide) (c : Setup) (m : SharedWords) (g : LogGhost) (p : D.Part) where
   abbrev pub Hand : ℕ → UserState → Type 0
@@ -61,6 +70,20 @@ module _ (D : LogSide) (c : Setup) (m : SharedWords) (g : LogGhost) (p : D.Part)
   abbrev pub HasStoppedAt : ℕ → UserState → Type 0
   HasStoppedAt seat u = (Hand seat u × (u.copied ≤ length (group_bytes u)) × (0 < u.copied → EndIsNear u) × (u.copied < length (group_bytes u) → LacksFirst u) × (u.copied ≡ length (group_bytes u) → HasFirst u)) ⊎ HasLinked u
 
+  abbrev pub HoldsWtail : ℕ → Advance → Type 0
+  HoldsWtail seat v = IsHolder m.wheld g.advancer m.wtail g.tail seat v.tail v.place
+
+  abbrev pub AdvanceAt : ℕ → Advance → AdvanceStep → Type 0
+  AdvanceAt seat v advance_step.LoadTail = Unit {0}
+  AdvanceAt seat v advance_step.TakeTail = Unit {0}
+  AdvanceAt seat v advance_step.LoadLink = HoldsWtail seat v
+  AdvanceAt seat v advance_step.ClearLink = HoldsWtail seat v × (0 < v.link) × (slice_index m.wlinks (v.place % WRITTEN_LINKS) ≡ v.link)
+  AdvanceAt seat v advance_step.FreeTail = HoldsWtail seat v
+
+  -- its group in hand is copied, and not linked
+  abbrev pub HasAllCopied : ℕ → UserState → Type 0
+  HasAllCopied seat u = (length u.starts ≡ u.k + 1) × (u.k < length u.lines) × Hand seat u × (u.copied ≡ length (group_bytes u)) × HasFirst u
+
   abbrev pub UserAt : ℕ → UserState → UserStep → Type 0
   UserAt seat u user_step.LoadCheckpoint = IsBefore u
   UserAt seat u user_step.LoadSn = IsBefore u
@@ -68,10 +91,14 @@ module _ (D : LogSide) (c : Setup) (m : SharedWords) (g : LogGhost) (p : D.Part)
   UserAt seat u user_step.LoadWrite = (length u.starts ≡ u.k + 1) × (u.k < length u.lines) × Hand seat u × (u.copied ≡ 0) × LacksFirst u
   UserAt seat u user_step.AddCell = (length u.starts ≡ u.k + 1) × (u.k < length u.lines) × Hand seat u × (u.copied < length (group_bytes u)) × EndIsNear u × LacksFirst u × (u.checks ≡ false)
   UserAt seat u user_step.StoreFirst = (length u.starts ≡ u.k + 1) × (u.k < length u.lines) × Hand seat u × (u.copied ≡ length (group_bytes u)) × EndIsNear u × (u.start / BLOCK_DATA < group_end u / BLOCK_DATA) × LacksFirst u × (u.checks ≡ false)
-  UserAt seat u user_step.LoadWtail = (length u.starts ≡ u.k + 1) × (u.k < length u.lines) × Hand seat u × (u.copied ≡ length (group_bytes u)) × HasFirst u
+  UserAt seat u user_step.LoadWtail = HasAllCopied seat u
+  UserAt seat u (user_step.AdvanceWritten s) = HasAllCopied seat u × AdvanceAt seat u.advance s
+  UserAt seat u user_step.ReloadWtail = HasAllCopied seat u
   UserAt seat u user_step.StoreLink = (length u.starts ≡ u.k + 1) × (u.k < length u.lines) × Hand seat u × (u.copied ≡ length (group_bytes u)) × HasFirst u × (lsn u.start < m.wtail + WRITTEN_LINKS)
   UserAt seat u user_step.TakeLatch = IsBefore u
   UserAt seat u user_step.LoadCtail = IsLinked u
+  UserAt seat u (user_step.AdvanceClosed s) = IsLinked u
+  UserAt seat u user_step.ReloadCtail = IsLinked u
   UserAt seat u user_step.LoadFrame = IsLinked u
   UserAt seat u user_step.StoreFrame = IsLinked u
   UserAt seat u user_step.StoreNewest = IsLinked u
@@ -100,9 +127,9 @@ module _ (D : LogSide) (c : Setup) (m : SharedWords) (g : LogGhost) (p : D.Part)
   abbrev pub IsIdle : WriterState → Type 0
   IsIdle s = (g.read ≡ g.write) × (D.written p ≡ m.write)
 
-  -- it has stored WTAIL, and loads cells or has loaded them
+  -- it goes on with a tail above WRITE, and loads cells or has loaded them
   abbrev pub IsBusy : WriterState → Type 0
-  IsBusy s = (g.wtail ≡ g.tail) × (g.write < g.tail) × (D.written p ≡ m.write)
+  IsBusy s = (g.write < g.target) × (D.written p ≡ m.write)
 
   abbrev pub IsWithin : WriterState → Type 0
   IsWithin s = ceiling s.tail ≤ s.ckpt + BLOCK_SIZE * s.blocks
@@ -112,18 +139,16 @@ module _ (D : LogSide) (c : Setup) (m : SharedWords) (g : LogGhost) (p : D.Part)
   HasWord s = (j : ℕ) → j < left_in_word (read_place s) → lane (lane_of (read_place s) + j) s.word ≡ byte_at c.base g.log (read_place s + j)
 
   abbrev pub WriterAt : ℕ → WriterState → WriterStep → Type 0
-  WriterAt seat s writer_step.LoadLink = IsIdle s × (s.tail < s.write + WRITTEN_LINKS)
-  WriterAt seat s writer_step.ClearLink = IsIdle s × (s.tail < s.write + WRITTEN_LINKS) × (0 < s.link) × (slice_index m.wlinks (s.tail % WRITTEN_LINKS) ≡ s.link)
-  WriterAt seat s writer_step.StoreWtail = IsIdle s × (g.write < g.tail)
+  WriterAt seat s (writer_step.Advance v) = IsIdle s × AdvanceAt seat s.advance v
   WriterAt seat s writer_step.LoadCheckpoint = IsBusy s × (g.read ≡ g.write)
-  WriterAt seat s writer_step.LoadFirst = IsBusy s × (g.read < g.tail) × IsWithin s × (length s.kept ≡ BLOCK_DATA * length s.firsts)
-  WriterAt seat s writer_step.ClearFirst = IsBusy s × (g.read < g.tail) × IsWithin s × (length s.kept ≡ BLOCK_DATA * length s.firsts) × (s.first ≡ first_of c.base g.log g.entered)
-  WriterAt seat s writer_step.LoadCell = IsBusy s × (g.read < g.tail) × IsWithin s × (length s.kept < BLOCK_DATA * length s.firsts)
-  WriterAt seat s writer_step.ClearCell = IsBusy s × (g.read < g.tail) × IsWithin s × (length s.kept < BLOCK_DATA * length s.firsts) × (word_end s ≤ g.tail) × HasWord s
-  WriterAt seat s writer_step.TakeDevice = IsBusy s × (g.read ≡ g.tail) × IsWithin s
-  WriterAt seat s writer_step.GiveBroken = IsBusy s × (g.read ≡ g.tail) × IsWithin s
-  WriterAt seat s writer_step.WriteTo = IsBusy s × (g.read ≡ g.tail) × IsWithin s × (D.failed p ≡ false)
-  WriterAt seat s writer_step.StoreWrite = (g.wtail ≡ g.tail) × (g.write < g.tail) × (D.written p ≡ s.tail) × (g.read ≡ g.tail)
+  WriterAt seat s writer_step.LoadFirst = IsBusy s × (g.read < g.target) × IsWithin s × (length s.kept ≡ BLOCK_DATA * length s.firsts)
+  WriterAt seat s writer_step.ClearFirst = IsBusy s × (g.read < g.target) × IsWithin s × (length s.kept ≡ BLOCK_DATA * length s.firsts) × (s.first ≡ first_of c.base g.log g.entered)
+  WriterAt seat s writer_step.LoadCell = IsBusy s × (g.read < g.target) × IsWithin s × (length s.kept < BLOCK_DATA * length s.firsts)
+  WriterAt seat s writer_step.ClearCell = IsBusy s × (g.read < g.target) × IsWithin s × (length s.kept < BLOCK_DATA * length s.firsts) × (word_end s ≤ g.target) × HasWord s
+  WriterAt seat s writer_step.TakeDevice = IsBusy s × (g.read ≡ g.target) × IsWithin s
+  WriterAt seat s writer_step.GiveBroken = IsBusy s × (g.read ≡ g.target) × IsWithin s
+  WriterAt seat s writer_step.WriteTo = IsBusy s × (g.read ≡ g.target) × IsWithin s × (D.failed p ≡ false)
+  WriterAt seat s writer_step.StoreWrite = (g.write < g.target) × (D.written p ≡ s.tail) × (g.read ≡ g.target)
   WriterAt seat s writer_step.GiveDevice = IsIdle s × (s.tail ≡ s.write)
   WriterAt seat s writer_step.StoreFailed = (0 < s.code) × D.Cause p s.code
   WriterAt seat s writer_step.GiveFailed = 0 < m.failed
@@ -132,14 +157,13 @@ module _ (D : LogSide) (c : Setup) (m : SharedWords) (g : LogGhost) (p : D.Part)
   pub record WriterFits (seat : ℕ) (s : WriterState) : Type 0 where
     pub alone : seat ≡ g.writer
     pub blocks : s.blocks ≡ c.blocks
-    pub tail : s.tail ≡ lsn g.tail
+    pub tail : s.tail ≡ lsn g.target
     pub write : s.write ≡ m.write
     pub from : s.from ≡ g.write / BLOCK_DATA * BLOCK_DATA
     pub long : s.from + length s.kept ≡ g.read
     pub kept : (j : ℕ) → j < length s.kept → slice_index s.kept j ≡ byte_at c.base g.log (s.from + j)
     pub wide : s.from + BLOCK_DATA * length s.firsts ≡ BLOCK_DATA * g.entered
     pub firsts : (i : ℕ) → i < length s.firsts → slice_index s.firsts i ≡ first_of c.base g.log (g.write / BLOCK_DATA + i)
-    pub small : s.tail ≤ s.write + 41240
     pub ckpt : s.ckpt ≤ m.ckpt
     pub no_device_while_checking : s.checks ≡ true → writer_holds s.step ≡ false
     pub step : WriterAt seat s s.step
@@ -152,7 +176,7 @@ module _ (D : LogSide) (c : Setup) (m : SharedWords) (g : LogGhost) (p : D.Part)
   FlusherAt f flusher_step.Failed = 0 < m.failed
   FlusherAt f _ = Unit {0}
 
-  -- it sits behind the writer
+  -- it sits after the writer
   pub record FlusherFits (seat : ℕ) (f : FlusherState) : Type 0 where
     pub alone : seat ≡ g.writer + 1
     pub last : f.last ≡ m.flushed

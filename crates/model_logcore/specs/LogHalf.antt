@@ -3,12 +3,13 @@ use Rattle.std.specs.Prelude.{List, [], drop, length, true, ℕ, ◌+◌, ◌<�
 use lib.ListN.{get_elem?}
 use mathlib.Core.Option.{some}
 use Rattle.model_base.specs.declared.limits.TheConstants.{LSN_LIMIT}
-use Rattle.model_core.specs.{Actor, entries, Entry, flat, holds, IsSized, Line, lsn, SharedWords, sum_of}
+use Rattle.model_core.specs.{Actor, ChecksWithoutTail, entries, Entry, flat, HasHolder, holds, IsSized, Line, lsn, SharedWords, sum_of}
 use Rattle.model_core.specs.LogSide.{LogSide}
 use Rattle.model_core.specs.Setup.{Setup}
 use Rattle.model_logcore.specs.LogFacts.{LogGhost, LogFacts, sum_over_actors}
 use Rattle.model_logcore.specs.LogFits.{Fits}
 use Rattle.model_core.specs.Actors as actor
+use Rattle.model_core.specs.declared.words.LinkBuffer.TheVariants as link_buffer
 
 -- the bytes that an actor may still reserve
 abbrev pub lengths : List Line → ℕ
@@ -33,6 +34,8 @@ pub record LogHalf (D : LogSide) (c : Setup) (spare : ℕ) (m : SharedWords) (g 
   pub each : (seat : ℕ) (a : Actor) → get_elem? actors seat ≡ some a → Fits D c m g p seat a
   pub turns : (seat : ℕ) (a : Actor) → get_elem? actors seat ≡ some a → holds a ≡ true → (m.device ≡ 1) × (seat ≡ g.holder)
   pub taken : m.device ≡ 1 → HasTaker actors g.holder
+  pub advanced : m.wheld ≡ true → HasHolder link_buffer.Written actors
+  pub without_tail : (seat : ℕ) (a : Actor) → get_elem? actors seat ≡ some a → ChecksWithoutTail a
   pub counted : Counted actors g.log
   -- where all groups will end at most
   pub room : lsn (m.sn + sum_over_actors left_to_reserve actors + spare) < LSN_LIMIT

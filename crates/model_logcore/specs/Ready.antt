@@ -11,7 +11,7 @@ use Rattle.model_core.specs.declared.ops.Op.TheVariants as op
 -- what holds where an actor asks for an Op: who gives the part or calls it holds it, and a call's conditions hold
 module _ (D : LogSide) (c : Setup) (g : LogGhost) (p : D.Part) (a : Actor) where
   abbrev pub CanLend : Lent → ℕ → Type 0
-  CanLend (Blocks bytes firsts) t = (t ≡ lsn g.tail) × CanWrite D c.blocks c.base g.log g.write g.tail bytes firsts p
+  CanLend (Blocks bytes firsts) t = (t ≡ lsn g.target) × CanWrite D c.blocks c.base g.log g.write g.target bytes firsts p
   CanLend _ t = ⊥
 
   abbrev pub Ready : Op → Type 0

@@ -1,5 +1,5 @@
 -- What stands at the start of a run, from which the invariant holds.
-use Rattle.std.specs.Prelude.{[], length, slice_index, ℕ, ◌+◌, ◌-◌, ◌<◌, ◌≡◌, ◌≤◌}
+use Rattle.std.specs.Prelude.{[], length, slice_index, ℕ, ◌+◌, ◌<◌, ◌≡◌, ◌≤◌}
 use Rattle.model_base.specs.declared.limits.TheConstants.{MAX_GROUP}
 use Rattle.model_core.specs.{Actor, CheckpointerState, CleanerState, CloserState, FlusherState, line_at, lsn, new_checkpointer, new_cleaner, new_closer, new_flusher, new_user, new_writer, UserState, WriterState}
 use Rattle.model_core.specs.LogSide.{LogSide}
@@ -14,7 +14,7 @@ abbrev pub flusher_start : Setup → FlusherState
 flusher_start c = new_flusher (lsn c.base)
 
 abbrev pub closer_start : Setup → CloserState
-closer_start c = new_closer (lsn c.base)
+closer_start c = new_closer
 
 abbrev pub cleaner_start : Setup → CleanerState
 cleaner_start c = new_cleaner c.pages
@@ -29,7 +29,7 @@ pub record StartUser (c : Setup) (u : UserState) : Type 0 where
   pub sound : (j : ℕ) → j < length (c.script u.user) → (0 < length (line_at (c.script u.user) j).bytes) × (length (line_at (c.script u.user) j).bytes ≤ MAX_GROUP) × ((line_at (c.script u.user) j).mode < 3)
   pub are_bytes : (j i : ℕ) → i < length (line_at (c.script u.user) j).bytes → slice_index (line_at (c.script u.user) j).bytes i < 256
 
--- each user has one seat, and there is one of each other actor; the flusher sits behind the writer
+-- each user has one seat, and there is one of each other actor; the flusher sits after the writer
 abbrev pub StartActor : Setup → (ℕ → ℕ) → ℕ → ℕ → Actor → Type 0
 StartActor c seat_of writer seat (actor.User u) = (seat_of u.user ≡ seat) × StartUser c u
 StartActor c seat_of writer seat (actor.Writer s) = (seat ≡ writer) × (s ≡ writer_start c)

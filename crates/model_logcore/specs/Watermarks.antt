@@ -4,7 +4,7 @@ use Rattle.std.specs.Prelude.{List, cond, length, slice_index, take, ℕ, ◌%�
 use lib.ListN.{get_elem?}
 use mathlib.Core.Option.{some}
 use Rattle.model_base.specs.declared.limits.TheConstants.{BLOCK_SIZE}
-use Rattle.model_core.specs.{Actor, byte_at, byte_in, end_of, Entry, first_of, floor, group_bytes, group_end, IsBound, line_at, lsn, PageChange, read_place, SharedWords, Tiles, UserState, WriterState}
+use Rattle.model_core.specs.{Actor, ChecksWithoutTail, byte_at, byte_in, end_of, Entry, first_of, floor, group_bytes, group_end, IsBound, line_at, lsn, PageChange, read_place, SharedWords, Tiles, UserState, WriterState}
 use Rattle.model_core.specs.LogSide.{LogSide}
 use Rattle.model_core.specs.Setup.{Setup}
 use Rattle.model_core.specs.declared.limits.TheConstants.{BUFFER_BLOCKS, LOG_BUFFER, WORD_LANES, WRITTEN_LINKS}
@@ -12,8 +12,10 @@ use Rattle.model_log.specs.declared.layout.TheConstants.{BLOCK_DATA, BLOCK_HEADE
 use Rattle.model_logcore.specs.LogFacts.{IsBare, WrittenLink, count_of}
 use Rattle.model_logcore.specs.LogFits.{AreBelow}
 use Rattle.model_logcore.specs.LogHalf.{Counted}
+use Rattle.model_logcore.specs.TailWord.{TailWordIs}
 use Rattle.model_core.specs.declared.steps.UserStep.{UserStep}
 use Rattle.model_core.specs.declared.steps.UserStep.TheVariants as user_step
+use Rattle.model_core.specs.declared.words.LinkBuffer.TheVariants as link_buffer
 use Rattle.model_core.specs.declared.steps.WriterStep.TheVariants as writer_step
 use Rattle.model_core.specs.declared.steps.FlusherStep.TheVariants as flusher_step
 use Rattle.model_core.specs.declared.steps.CloserStep.TheVariants as closer_step
@@ -46,6 +48,8 @@ HandAgrees progress u user_step.LoadWrite = HasCopied progress u
 HandAgrees progress u user_step.AddCell = HasCopied progress u
 HandAgrees progress u user_step.StoreFirst = HasCopied progress u
 HandAgrees progress u user_step.LoadWtail = HasCopied progress u
+HandAgrees progress u (user_step.AdvanceWritten s) = HasCopied progress u
+HandAgrees progress u user_step.ReloadWtail = HasCopied progress u
 HandAgrees progress u user_step.StoreLink = HasCopied progress u
 HandAgrees progress u user_step.Done = length u.starts ≡ u.k
 HandAgrees progress u user_step.Failed = length u.starts ≡ u.k + 1 → HasCopied progress u ⊎ HasLinkedGroup progress u
@@ -79,16 +83,16 @@ pub record GroupsTile (c : Setup) (sn : ℕ) (actors : List Actor) (log : List E
 
 -- COPIED BYTES STAND IN THEIR LANES: from the block floor of WRITE to that plus the log buffer each lane holds the copied byte
 -- of the one place that it stands for, or 0 where that byte isn't copied or its word was cleared. A word is cleared where all
--- its places are read; so each one below the block floor of WRITE was. So low are the writer's tail, the end of each linked
--- group that isn't wholly read, and that of a user's group in hand once a byte of it is copied. A first offset that was stored
--- stands until the writer enters its block, and is the true one. The others are 0: that of a block into which a group crosses
--- that is reserved and hasn't come to its store, and that of each block into which no group crosses.
-pub record CopiedBytesStand (base : ℕ) (m : SharedWords) (actors : List Actor) (log : List Entry) (progress first : ℕ → ℕ) (read entered : ℕ) : Type 0 where
+-- its places are read; so each one below the block floor of WRITE was. So low are the place to which links are cleared, the end
+-- of each linked group that isn't wholly read, and that of a user's group in hand once a byte of it is copied. A first offset
+-- that was stored stands until the writer enters its block, and is the true one. The others are 0: that of a block into which a
+-- group crosses that is reserved and hasn't come to its store, and that of each block into which no group crosses.
+pub record CopiedBytesStand (base : ℕ) (m : SharedWords) (actors : List Actor) (log : List Entry) (progress first : ℕ → ℕ) (tail read entered : ℕ) : Type 0 where
   pub lane_stands : (x : ℕ) → lsn read / WORD_LANES ≤ lsn x / WORD_LANES → x < m.sn → IsCopied progress x → byte_in m.cells x ≡ byte_at base log x
   pub lane_bare : (x : ℕ) → floor m.write ≤ lsn x → lsn x < floor m.write + LOG_BUFFER → IsBare m.sn progress read x → byte_in m.cells x ≡ 0
   pub cleared_below : (x : ℕ) → base ≤ x → lsn x < floor m.write → lsn x / WORD_LANES < lsn read / WORD_LANES
   pub below : (x : ℕ) → read ≤ x → x < m.sn → IsCopied progress x → lsn x < floor m.write + LOG_BUFFER
-  pub tail_below : (seat : ℕ) (s : WriterState) → get_elem? actors seat ≡ some (actor.Writer s) → s.tail < floor m.write + LOG_BUFFER
+  pub tail_below : lsn tail < floor m.write + LOG_BUFFER
   pub end_below : (i : ℕ) (e : Entry) → get_elem? log i ≡ some e → read < end_of e → IsGroupLinked progress e → lsn (end_of e) < floor m.write + LOG_BUFFER
   pub hand_below : (seat : ℕ) (u : UserState) → get_elem? actors seat ≡ some (actor.User u) → length u.starts ≡ u.k + 1 → HasCopied progress u → 0 < u.copied → lsn (group_end u) < floor m.write + LOG_BUFFER
   pub first_stands : (q : ℕ) → entered ≤ q → q < entered + BUFFER_BLOCKS → slice_index m.firsts (q % BUFFER_BLOCKS) ≡ first q
@@ -98,9 +102,9 @@ pub record CopiedBytesStand (base : ℕ) (m : SharedWords) (actors : List Actor)
   pub first_of_hand : (seat : ℕ) (u : UserState) → get_elem? actors seat ≡ some (actor.User u) → length u.starts ≡ u.k + 1 → HasCopied progress u → u.start / BLOCK_DATA < group_end u / BLOCK_DATA → first (group_end u / BLOCK_DATA) ≡ first_in_hand u u.step
   pub first_bare : (q : ℕ) → first_of base log q ≡ 0 → first q ≡ 0
 
--- A WRITTEN LINK IS A WHOLE GROUP: it is the distance from the start to the end of one group behind the writer's tail, all
--- bytes of which are copied, and the first offset of the block that it ends in, if it starts in an earlier one. And each
--- group that is linked, behind the tail, has its link standing.
+-- A WRITTEN LINK IS A WHOLE GROUP: it is the distance from the start to the end of one group past the place to which links are
+-- cleared, all bytes of which are copied, and the first offset of the block that it ends in, if it starts in an earlier one.
+-- And each group that is linked, from that place on, has its link standing.
 pub record LinksAreGroups (m : SharedWords) (log : List Entry) (progress first : ℕ → ℕ) (tail : ℕ) : Type 0 where
   pub link : (i : ℕ) → i < WRITTEN_LINKS → 0 < slice_index m.wlinks i → WrittenLink log progress m.wtail tail i (slice_index m.wlinks i)
   pub first_stored : (i : ℕ) (e : Entry) → get_elem? log i ≡ some e → progress e.start ≡ 2 → e.start / BLOCK_DATA < end_of e / BLOCK_DATA → 0 < first (end_of e / BLOCK_DATA)
@@ -124,24 +128,28 @@ OwnMarkIs m (actor.Flusher f) = f.last ≡ m.flushed
 OwnMarkIs m (actor.Checkpointer t) = t.own ≡ m.ckpt
 OwnMarkIs m _ = Unit {0}
 
--- THE ORDER OF THE LOG'S MARKS. All but the read place stand between groups, and below the tail all is linked. The writer
--- has entered each block of which it has read a byte, and none that begins at its tail or behind.
-pub record MarksAreOrdered (base : ℕ) (m : SharedWords) (actors : List Actor) (log : List Entry) (progress : ℕ → ℕ) (write wtail flushed tail read entered : ℕ) : Type 0 where
+-- THE ORDER OF THE LOG'S MARKS. All but the read place stand between groups. `tail` is the place of the actor that holds
+-- WTAIL, else the tail itself; below it all is linked. `target` is the tail with which the writer goes on: it has entered each
+-- block of which it has read a byte, and none that begins there or later.
+pub record MarksAreOrdered (base : ℕ) (m : SharedWords) (actors : List Actor) (log : List Entry) (progress : ℕ → ℕ) (write wtail flushed tail target read entered : ℕ) : Type 0 where
   pub write_is : m.write ≡ lsn write
   pub wtail_is : m.wtail ≡ lsn wtail
   pub flushed_is : m.flushed ≡ lsn flushed
   pub write_read : write ≤ read
-  pub read_wtail : read ≤ wtail
+  pub read_target : read ≤ target
+  pub target_wtail : target ≤ wtail
   pub wtail_tail : wtail ≤ tail
+  pub word : TailWordIs link_buffer.Written m.wtail m.wheld (lsn tail) actors
   pub tail_sn : tail ≤ m.sn
   pub read_entered : read ≤ BLOCK_DATA * entered
-  pub entered_tail : BLOCK_DATA * entered < tail + BLOCK_DATA
+  pub entered_target : BLOCK_DATA * entered < target + BLOCK_DATA
   pub linked_below : (x : ℕ) → base ≤ x → x < tail → progress x ≡ 2
   pub write_boundary : IsBound base log write
   pub wtail_boundary : IsBound base log wtail
   pub flushed_boundary : IsBound base log flushed
   pub tail_boundary : IsBound base log tail
-  pub writer : (seat : ℕ) (s : WriterState) → get_elem? actors seat ≡ some (actor.Writer s) → (s.tail ≡ lsn tail) × (read_place s ≡ read) × (entered_place s ≡ BLOCK_DATA * entered)
+  pub target_boundary : IsBound base log target
+  pub writer : (seat : ℕ) (s : WriterState) → get_elem? actors seat ≡ some (actor.Writer s) → (s.tail ≡ lsn target) × (s.from ≡ write / BLOCK_DATA * BLOCK_DATA) × (read_place s ≡ read) × (entered_place s ≡ BLOCK_DATA * entered)
   pub loaded : (seat : ℕ) (a : Actor) → get_elem? actors seat ≡ some a → HasLoadedBelow m a
   pub own : (seat : ℕ) (a : Actor) → get_elem? actors seat ≡ some a → OwnMarkIs m a
 
@@ -183,18 +191,22 @@ pub record LogWatermarks (D : LogSide) (c : Setup) (m : SharedWords) (p : D.Part
   pub log : List Entry
   pub progress : ℕ → ℕ
   pub first : ℕ → ℕ
-  -- the marks as places of the stream; the writer's tail and read place, and the first block that it hasn't entered
+  -- the marks as places of the stream; the place to which links are cleared; the tail with which the writer goes on, its read
+  -- place, and the first block that it hasn't entered
   pub write : ℕ
   pub wtail : ℕ
   pub flushed : ℕ
   pub tail : ℕ
+  pub target : ℕ
   pub read : ℕ
   pub entered : ℕ
   pub groups_tile : GroupsTile c m.sn actors log
   pub users_agree : UsersAgree log progress actors
-  pub copied_bytes_stand : CopiedBytesStand c.base m actors log progress first read entered
+  pub copied_bytes_stand : CopiedBytesStand c.base m actors log progress first tail read entered
   pub links_are_groups : LinksAreGroups m log progress first tail
-  pub marks_are_ordered : MarksAreOrdered c.base m actors log progress write wtail flushed tail read entered
+  pub marks_are_ordered : MarksAreOrdered c.base m actors log progress write wtail flushed tail target read entered
   pub device_holds_stream : DeviceHoldsStream D c p actors log
   pub part_marks_are_ordered : PartMarksAreOrdered D m p
   pub failures_show : FailuresShow m.failed actors
+  -- NO ACTOR THAT IS IDLE OR CHECKS FOR A FAILURE HOLDS A TAIL, and so none that has ended
+  pub no_tail_is_kept : (seat : ℕ) (a : Actor) → get_elem? actors seat ≡ some a → ChecksWithoutTail a

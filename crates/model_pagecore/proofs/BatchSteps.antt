@@ -152,8 +152,7 @@ module _ (E : DataSide) (c : Setup) (seat_of : ℕ → ℕ) (m : SharedWords) (l
                 );
               })
               (λ j a n z. page_others E c seat_of m m log log h h' ls ls d e seat j n
-              (pages_same refl refl (omega arith) (omega arith))
-              (λ _. record { tail = refl; closes = λ _ y. y })
+              (pages_same refl refl refl refl (omega arith))
               (λ other. absurd (other own.alone))
               (λ _. record { given = refl; passed = λ p x _ _ y i w is tc lt. let k = y i w is tc lt in let mo = more p in omega arith })
               a (mate E c seat_of m log stable h ls d actors seat before mates j a z) (before.each j a z)),
@@ -194,8 +193,7 @@ module _ (E : DataSide) (c : Setup) (seat_of : ℕ → ℕ) (m : SharedWords) (l
               (record { closed_links = P.closed_links; lists = P.lists; each_page = P.each_page; within = P.within; flushed = P.flushed; stable_top = P.stable_top; stored = holds; unfinished = left; alone = P.alone })
               (record { alone = own.alone; pages = own.pages; page = own.page; flushed = own.flushed; sound = λ z. absurd (cc); apart = own.apart; few = own.few; cause = λ _. cause; step = held })
               (λ j a n z. page_others E c seat_of m m log log h h' ls ls d e seat j n
-              (pages_same refl refl (omega arith) (omega arith))
-              (λ _. record { tail = refl; closes = λ _ y. y })
+              (pages_same refl refl refl refl (omega arith))
               (λ other. absurd (other own.alone))
               (λ _. record { given = refl; passed = λ p x _ _ y. y })
               a (mate E c seat_of m log stable h ls d actors seat before mates j a z) (before.each j a z)),

@@ -5,7 +5,8 @@ use Rattle.std.specs.Prelude.{None, min, slice_set}
 use lib.ListN.{get_elem?}
 use mathlib.Core.Option.{some, some-ne-none}
 use Rattle.model_core.proofs.Groups.{some_same}
-use Rattle.model_core.specs.{Actor, BatchPage, checkpointer_took, CheckpointerState, cleaner_took, CleanerState, Entry, first_of_batch, floor, frame_bytes, Listed, lsn, no_page, page_words_at, PageWords, SharedWords, UserState, with_page_words}
+use Rattle.model_core.proofs.Tails.{tail_in}
+use Rattle.model_core.specs.{Actor, BatchPage, checkpointer_took, CheckpointerState, cleaner_took, CleanerState, Entry, first_of_batch, floor, frame_bytes, Listed, lsn, no_page, page_words_at, PageWords, SharedWords, tail_word, UserState, with_page_words}
 use Rattle.model_core.specs.DataSide.{DataSide}
 use Rattle.model_core.specs.Setup.{Setup}
 use Rattle.model_core.specs.declared.steps.CleanerStep.{CleanerStep}
@@ -157,8 +158,9 @@ module _ (E : DataSide) (c : Setup) (seat_of : ℕ → ℕ) (m : SharedWords) (l
     mild x f = page_quiet E c seat_of m log stable h ls d actors seat before mates (actor.Checkpointer x) f
 
     -- it loads CTAIL
-    pub keeps_begin : t.step ≡ checkpointer_step.LoadCtail → Then m h (record t { ctail = m.ctail; to = m.ctail; list = 0; step = checkpointer_step.ReadList })
-    keeps_begin ph = mild (record t { ctail = m.ctail; to = m.ctail; list = 0; step = checkpointer_step.ReadList }) (record { alone = his.alone; with_pages = his.with_pages; loaded = ((omega arith), his.loaded.1); given = λ _. his.given (ap rests ph); step = ((omega arith), (λ q _ l. absurd (omega arith)), (omega arith)) })
+    pub keeps_begin : t.step ≡ checkpointer_step.LoadCtail → Then m h (checkpointer_took t (answer.Old (tail_word m.ctail m.cheld)) checkpointer_step.LoadCtail)
+    keeps_begin ph = let low = tail_in m.ctail m.cheld in
+        mild (checkpointer_took t (answer.Old (tail_word m.ctail m.cheld)) checkpointer_step.LoadCtail) (record { alone = his.alone; with_pages = his.with_pages; loaded = ((omega arith), his.loaded.1); given = λ _. his.given (ap rests ph); step = ((omega arith), (λ q _ l. absurd (omega arith)), (omega arith)) })
 
     -- it gives a list back
     pub keeps_next_list : length m.lists ≡ 4 → t.step ≡ checkpointer_step.GiveList → Then (record m { lists = slice_set m.lists t.list 0 }) h (checkpointer_took t (answer.Taken None) checkpointer_step.GiveList)
@@ -215,8 +217,7 @@ module _ (E : DataSide) (c : Setup) (seat_of : ℕ → ℕ) (m : SharedWords) (l
               })
               (record { alone = his.alone; with_pages = his.with_pages; loaded = his.loaded; given = λ z. absurd (cc); step = (o, refl) })
               (λ j a n z. page_others E c seat_of m m' log log h h' ls ls d d seat j n
-              (pages_same refl refl (omega arith) (omega arith))
-              (λ _. record { tail = refl; closes = λ _ y. y })
+              (pages_same refl refl refl refl (omega arith))
               (λ _. record { kept_page = λ _. refl; oldest = λ q y. y; store = refl; unfinished = refl })
               (λ other. absurd (other his.alone))
               a (mate E c seat_of m log stable h ls d actors seat before mates j a z) (before.each j a z)),

@@ -1,6 +1,8 @@
+pub mod AdvanceSteps
 pub mod BatchSteps
 pub mod CheckpointSteps
 pub mod CleanerSteps
+pub mod CloserSteps
 pub mod ClosingSteps
 pub mod Holders
 pub mod ListSteps
@@ -12,3 +14,4 @@ pub mod PageStep
 pub mod ReserveSteps
 pub mod Unfinished
 pub mod UserPageSteps
+pub mod UserRoomSteps

@@ -102,6 +102,7 @@ module _ (E : DataSide) (c : Setup) (seat_of : ℕ → ℕ) (m : SharedWords) (l
               ascending = F.ascending;
               are_bytes = F.are_bytes;
               loaded = F.loaded;
+              closing = tt;
               step = (
                 work_here E c seat_of m log stable h ls d actors seat before mates (list_mem E c seat_of m log stable h ls d actors seat before mates i 1 turns ls' long (omega arith) (inl free) same_turn) h' ls' d (entry u.user u.k u.start (line u)) u.page (F.apart u.k) pl All All Last Last Unlisted InListOnly work work.not_closed
                     (λ q k f n t ne a. else q k f n t (listed_else q ne) a)

@@ -7,9 +7,10 @@ use mathlib.Core.Option.{some}
 use native.Mathlib.Decide.{dec_le, ℕ_discrete}
 use Rattle.model_core.proofs.Lists.{at_longer, at_set}
 use Rattle.model_core.proofs.Groups.{at_end, at_less}
-use Rattle.model_core.specs.{Actor, BatchPage, cells_of, change_at, changes, CheckpointerState, CleanerState, CloserState, Entry, entry, first_of_batch, frame_bytes, frame_word, KeptPage, line, Listed, page_of, page_words_at, PageWords, SharedWords, UserState}
+use Rattle.model_core.specs.{Actor, Advance, BatchPage, cells_of, change_at, changes, CheckpointerState, CleanerState, CloserState, Entry, entry, first_of_batch, frame_bytes, frame_word, KeptPage, line, Listed, page_of, page_words_at, PageWords, SharedWords, UserState}
 use Rattle.model_core.specs.DataSide.{DataSide}
 use Rattle.model_core.specs.Setup.{Setup}
+use Rattle.model_core.specs.declared.steps.AdvanceStep.{AdvanceStep}
 use Rattle.model_core.specs.declared.steps.CleanerStep.{CleanerStep}
 use Rattle.model_core.specs.declared.steps.CloserStep.{CloserStep}
 use Rattle.model_core.specs.declared.steps.UserStep.{UserStep}
@@ -17,8 +18,9 @@ use Rattle.model_core.specs.declared.steps.CheckpointerStep.{CheckpointerStep}
 use Rattle.model_pagecore.proofs.PageHistory.{last_snoc, puts_none, whole_snoc}
 use Rattle.model_pagecore.specs.Latches.{CleanerHasLatch, UserHasLatch}
 use Rattle.model_pagecore.specs.PageFacts.{PageGhost, PageFacts, listed}
-use Rattle.model_pagecore.specs.PageHalf.{AreBatch, AreHeld, AreKept, At, CanGive, CleanerAt, CleanerFits, CleanerHolds, CloserAt, CloserFits, HasList, HasPage, HoldsOnly, InBatch, HasPagesInHand, IsFresh, IsNear, Looking, PageFits, PageHalf, CheckpointerPagesAt, CheckpointerPageFits, ReadBelow, Unlisting, UserHolds, UserPagesAt, UserPageFits, PagesInHand, group_in_hand}
+use Rattle.model_pagecore.specs.PageHalf.{AreBatch, AreHeld, AreKept, At, CanGive, CleanerAt, CleanerFits, CleanerHolds, CloserAt, CloserFits, ClosingAt, HasList, HasPage, HoldsCtail, HoldsOnly, InBatch, HasPagesInHand, IsFresh, IsNear, Looking, PageFits, PageHalf, CheckpointerPagesAt, CheckpointerPageFits, ReadBelow, Unlisting, UserClosingAt, UserHolds, UserPagesAt, UserPageFits, PagesInHand, group_in_hand}
 use Rattle.model_pagecore.specs.Pages.{InListOnly, All, Before, AgreeBelow, Cells, InWordOnly, FrameIs, FrameStage, GroupInHand, Last, NewestIs, NewestStage, Unlisted, PageIs, Passed, OnePage, ListingStage, ListingIs, IsListed, Agree, cells_on, end_lsn, none_in_hand, last_end, write_cells, touches, applied_upto, applied_all}
+use Rattle.model_core.specs.declared.steps.AdvanceStep.TheVariants as advance_step
 use Rattle.model_core.specs.declared.steps.UserStep.TheVariants as user_step
 use Rattle.model_core.specs.declared.steps.CloserStep.TheVariants as closer_step
 use Rattle.model_core.specs.declared.steps.CleanerStep.TheVariants as cleaner_step
@@ -106,6 +108,9 @@ module _ (E : DataSide) (c : Setup) (seat_of : ℕ → ℕ) (m m' : SharedWords)
     pub taken : (p : ℕ) → (page_words_at m'.page_words p).latch ≡ 1 → h'.holder p ≢ seat → ((page_words_at m.page_words p).latch ≡ 1) × (h'.holder p ≡ h.holder p)
     pub opens : (i : ℕ) (e : Entry) → get_elem? log i ≡ some e → seat_of e.user ≢ seat → h'.closed e.start ≡ h.closed e.start
     pub lists : (i : ℕ) → slice_index m.lists i ≡ 1 → h.list_holder i ≢ seat → (slice_index m'.lists i ≡ 1) × (h'.list_holder i ≡ h.list_holder i)
+    pub closes : (x : ℕ) → h.closed x ≡ true → h'.closed x ≡ true
+    -- a tail that another seat holds stays so, with its place
+    pub held : m.cheld ≡ true → h.advancer ≢ seat → (m'.cheld ≡ true) × (h'.advancer ≡ h.advancer) × (m'.ctail ≡ m.ctail) × (h'.tail ≡ h.tail)
     pub ctail : m.ctail ≤ m'.ctail
     pub flushed : m.flushed ≤ m'.flushed
 
@@ -114,10 +119,6 @@ module _ (E : DataSide) (c : Setup) (seat_of : ℕ → ℕ) (m m' : SharedWords)
     pub oldest : (p : ℕ) → 0 < (page_words_at m.page_words p).oldest → 0 < (page_words_at m'.page_words p).oldest
     pub store : ◌≡◌ {A = E.Part} d' d
     pub unfinished : ◌≡◌ {A = List BatchPage} h'.unfinished h.unfinished
-
-  pub record StillCloser : Type 0 where
-    pub tail : h'.tail ≡ h.tail
-    pub closes : (x : ℕ) → h.closed x ≡ true → h'.closed x ≡ true
 
   pub record StillCheckpointer : Type 0 where
     pub given : h'.given ≡ h.given
@@ -192,8 +193,12 @@ module _ (E : DataSide) (c : Setup) (seat_of : ℕ → ℕ) (m m' : SharedWords)
     user_holds_later u own_seat user_step.AddCell o = fresh_later u own_seat o
     user_holds_later u own_seat user_step.StoreFirst o = fresh_later u own_seat o
     user_holds_later u own_seat user_step.LoadWtail o = fresh_later u own_seat o
+    user_holds_later u own_seat (user_step.AdvanceWritten s) o = fresh_later u own_seat o
+    user_holds_later u own_seat user_step.ReloadWtail o = fresh_later u own_seat o
     user_holds_later u own_seat user_step.StoreLink o = fresh_later u own_seat o
     user_holds_later u own_seat user_step.LoadCtail o = (fresh_later u own_seat o.0, o.1)
+    user_holds_later u own_seat (user_step.AdvanceClosed s) o = (fresh_later u own_seat o.0, o.1)
+    user_holds_later u own_seat user_step.ReloadCtail o = (fresh_later u own_seat o.0, o.1)
     user_holds_later u own_seat user_step.LoadFrame o = (in_work_later u (Cells u.cell) Before AgreeBelow own_seat o.0, near_later u o.1, o.2)
     user_holds_later u own_seat user_step.StoreFrame o = (in_work_later u (Cells u.cell) Before AgreeBelow own_seat o.0, near_later u o.1, o.2, ⊎_elim (λ z. inl (z ∙ sym (ap (λ (y : PageWords). slice_index y.frame (frame_word u)) (leaf_later _ _ (Cells u.cell) Before AgreeBelow (o.0.here o.1.1))))) (λ z. inr z) o.3)
     user_holds_later u own_seat user_step.StoreNewest o = (in_work_later u (Cells (length (cells_of u))) Before AgreeBelow own_seat o.0, near_later u o.1)
@@ -211,17 +216,38 @@ module _ (E : DataSide) (c : Setup) (seat_of : ℕ → ℕ) (m m' : SharedWords)
     user_pages_later u own_seat user_step.Failed o = (o.0, user_holds_later u own_seat o.0 o.1, only_later (UserHasLatch u o.0) o.2)
     user_pages_later u own_seat f o = user_holds_later u own_seat f o
 
+    ctail_later : (v : Advance) → HoldsCtail E c m log h ls d j v → HoldsCtail E c m' log' h' ls' d' j v
+    ctail_later v o = let r = later.held o.held (λ z. ne (sym o.mine ∙ z)) in record { held = r.0; mine = r.1 ∙ o.mine; tail = o.tail ∙ sym r.2; place = o.place ∙ sym r.3 }
+
+    closing_later : (v : Advance) (s : AdvanceStep) → ClosingAt E c m log h ls d j v s → ClosingAt E c m' log' h' ls' d' j v s
+    closing_later v advance_step.LoadTail o = tt
+    closing_later v advance_step.TakeTail o = tt
+    closing_later v advance_step.LoadLink o = ctail_later v o
+    closing_later v advance_step.ClearLink o = let f = o.1 in (ctail_later v o.0, (f.0, f.1, later.longer.old f.0 f.1 f.2, later.closes f.1.start f.3, f.4, f.5))
+    closing_later v advance_step.FreeTail o = ctail_later v o
+
+    user_closing_later : (v : Advance) (f : UserStep) → UserClosingAt E c m log h ls d j v f → UserClosingAt E c m' log' h' ls' d' j v f
+    user_closing_later v (user_step.AdvanceClosed s) o = closing_later v s o
+    user_closing_later v f o = tt
+
     pub user_page_fits_later : (u : UserState) → seat_of u.user ≡ j → UserPageFits E c m log h ls d j u → UserPageFits E c m' log' h' ls' d' j u
-    user_page_fits_later u own_seat o = record { there = o.there; apart = o.apart; within = o.within; ascending = o.ascending; are_bytes = o.are_bytes; loaded = (let l = o.loaded in let a = later.ctail in omega arith); step = user_pages_later u own_seat u.step o.step }
+    user_page_fits_later u own_seat o = record {
+      there = o.there;
+      apart = o.apart;
+      within = o.within;
+      ascending = o.ascending;
+      are_bytes = o.are_bytes;
+      loaded = (let l = o.loaded in let a = later.ctail in omega arith);
+      closing = user_closing_later u.advance u.step o.closing;
+      step = user_pages_later u own_seat u.step o.step;
+    }
 
-    closer_at_later : (t : CloserState) → StillCloser → (f : CloserStep) → CloserAt E c m log h ls d t f → CloserAt E c m' log' h' ls' d' t f
-    closer_at_later t still closer_step.LoadClosedLink o = tt
-    closer_at_later t still closer_step.ClearClosedLink o = (o.0, o.1, later.longer.old o.0 o.1 o.2, still.closes o.1.start o.3, o.4, o.5)
-    closer_at_later t still closer_step.StoreCtail o = tt
-    closer_at_later t still closer_step.Failed o = tt
+    closer_at_later : (v : Advance) (f : CloserStep) → CloserAt E c m log h ls d j v f → CloserAt E c m' log' h' ls' d' j v f
+    closer_at_later v (closer_step.Advance s) o = closing_later v s o
+    closer_at_later v closer_step.Failed o = tt
 
-    closer_later : (t : CloserState) → StillCloser → CloserFits E c m log h ls d j t → CloserFits E c m' log' h' ls' d' j t
-    closer_later t still o = record { alone = o.alone; tail = o.tail ∙ sym still.tail; step = closer_at_later t still t.step o.step }
+    closer_later : (t : CloserState) → CloserFits E c m log h ls d j t → CloserFits E c m' log' h' ls' d' j t
+    closer_later t o = record { alone = o.alone; loaded = (let l = o.loaded in let a = later.ctail in omega arith); step = closer_at_later t.advance t.step o.step }
 
     batch_one : (f : ℕ) (x : BatchPage) (t : ListingStage) → InBatch E c m log h ls d j f x t → InBatch E c m' log' h' ls' d' j f x t
     batch_one f x t o = let we = leaf_later x.page none_in_hand All Last t o.held in record {
@@ -303,20 +329,20 @@ module _ (E : DataSide) (c : Setup) (seat_of : ℕ → ℕ) (m m' : SharedWords)
     checkpointer_later t still o = record { alone = o.alone; with_pages = o.with_pages; loaded = (let l = o.loaded in let l0 = l.0 in let l1 = l.1 in let a = later.ctail in let b = later.flushed in ((omega arith), (omega arith))); given = λ z. o.given z ∙ sym still.given; step = checkpointer_at_later t still t.step o.step }
 
     -- every other actor is as before; each user's seat is its own
-    pub page_others : (seat ≢ c.closer → StillCloser) → (seat ≢ c.cleaner → StillCleaner) → (seat ≢ c.checkpointer → StillCheckpointer) → (a : Actor) → ((u : UserState) → a ≡ actor.User u → seat_of u.user ≡ j)
+    pub page_others : (seat ≢ c.cleaner → StillCleaner) → (seat ≢ c.checkpointer → StillCheckpointer) → (a : Actor) → ((u : UserState) → a ≡ actor.User u → seat_of u.user ≡ j)
         → PageFits E c m log h ls d j a → PageFits E c m' log' h' ls' d' j a
-    page_others cl ca po (actor.User u) own_seat o = user_page_fits_later u (own_seat u refl) o
-    page_others cl ca po (actor.Writer s) own_seat o = tt
-    page_others cl ca po (actor.Flusher f) own_seat o = tt
-    page_others cl ca po (actor.Closer t) own_seat o = closer_later t (cl (λ z. ne (o.alone ∙ sym z))) o
-    page_others cl ca po (actor.Cleaner v) own_seat o = cleaner_later v (ca (λ z. ne (o.alone ∙ sym z))) o
-    page_others cl ca po (actor.Checkpointer t) own_seat o = checkpointer_later t (po (λ z. ne (o.alone ∙ sym z))) o
-    page_others cl ca po (actor.Joined es) own_seat o = tt
+    page_others ca po (actor.User u) own_seat o = user_page_fits_later u (own_seat u refl) o
+    page_others ca po (actor.Writer s) own_seat o = tt
+    page_others ca po (actor.Flusher f) own_seat o = tt
+    page_others ca po (actor.Closer t) own_seat o = closer_later t o
+    page_others ca po (actor.Cleaner v) own_seat o = cleaner_later v (ca (λ z. ne (o.alone ∙ sym z))) o
+    page_others ca po (actor.Checkpointer t) own_seat o = checkpointer_later t (po (λ z. ne (o.alone ∙ sym z))) o
+    page_others ca po (actor.Joined es) own_seat o = tt
 
 -- no page's words and no list change, and the history doesn't
 pub pages_same : {E : DataSide} {c : Setup} {seat_of : ℕ → ℕ} {m m' : SharedWords} {log : List Entry} {h : PageGhost} {given : ℕ} {kept_page : ℕ → KeptPage} {unfinished : List BatchPage} {ls : ℕ → List Listed} {d d' : E.Part} {seat : ℕ}
-    → m'.page_words ≡ m.page_words → m'.lists ≡ m.lists → m.ctail ≤ m'.ctail → m.flushed ≤ m'.flushed → PageLater E c seat_of m m' log log h (record h { given = given; kept_page = kept_page; unfinished = unfinished }) ls ls d d' seat
-pages_same {log = log} words lists ctail flushed = record {
+    → m'.page_words ≡ m.page_words → m'.lists ≡ m.lists → m'.ctail ≡ m.ctail → m'.cheld ≡ m.cheld → m.flushed ≤ m'.flushed → PageLater E c seat_of m m' log log h (record h { given = given; kept_page = kept_page; unfinished = unfinished }) ls ls d d' seat
+pages_same {log = log} words lists ctail cheld flushed = record {
   longer = longer_same log;
   logs = λ p _ _. log_same p log;
   page_words = λ p _ _. ap (λ (x : List PageWords). page_words_at x p) words;
@@ -325,7 +351,9 @@ pages_same {log = log} words lists ctail flushed = record {
   taken = λ q la _. (sym (ap (λ (x : List PageWords). (page_words_at x q).latch) words) ∙ la, refl);
   opens = λ _ _ _ _. refl;
   lists = λ i o _. (ap (λ (x : List ℕ). slice_index x i) lists ∙ o, refl);
-  ctail = ctail;
+  closes = λ _ z. z;
+  held = λ o _. (cheld ∙ o, refl, ctail, refl);
+  ctail = (omega arith);
   flushed = flushed;
 }
 

@@ -34,11 +34,13 @@ pages_start E c m stable h d actors S fits = let s1 = S.sn in let s2 = S.stable_
       paged = record {
         closed_links = record {
           order = omega arith;
+          free = λ _. omega arith;
           bound = omega arith;
           known = λ x z. let y = S.closed x in absurd (cc);
           below = λ i e is. absurd (some-ne-none e (sym is));
           window = λ i e is. absurd (some-ne-none e (sym is));
           links_are = λ i l pos. let y = S.clinks i in absurd (omega arith);
+          standing = λ i e is. absurd (some-ne-none e (sym is));
         };
         lists = record { relaxed = λ _. tt; near = λ _. tt; real = λ _. tt };
         each_page = λ p t. subst (λ (w : PageWords). OnePage p (lsn c.base) (c.opened p) [] h.closed h.given stable w 0 (h.kept_page p)) (sym (S.page_words p t)) (subst (λ (k : KeptPage). OnePage p (lsn c.base) (c.opened p) [] h.closed h.given stable (record { latch = 0; newest = 0; oldest = 0; frame = (page_words_at m.page_words p).frame }) 0 k) (sym (S.kept_page p)) (record {

@@ -41,14 +41,15 @@ module _ (E : DataSide) (c : Setup) (seat_of : ℕ → ℕ) (m : SharedWords) (l
   mate j a e u same = mates j u (subst (λ (x : Actor). get_elem? actors j ≡ some x) same e)
 
   -- only numbers grow, and only the words that the page half doesn't read change
-  pub grown : (m' : SharedWords) (stable' : ℕ) (b : Actor) → m'.page_words ≡ m.page_words → m'.lists ≡ m.lists → m'.clinks ≡ m.clinks → m'.ctail ≡ m.ctail → m.sn ≡ m'.sn → m.flushed ≤ m'.flushed → stable ≤ stable' → m'.flushed ≤ stable' → stable' ≤ lsn m'.sn
+  pub grown : (m' : SharedWords) (stable' : ℕ) (b : Actor) → m'.page_words ≡ m.page_words → m'.lists ≡ m.lists → m'.clinks ≡ m.clinks → m'.ctail ≡ m.ctail → m'.cheld ≡ m.cheld → m.sn ≡ m'.sn → m.flushed ≤ m'.flushed → stable ≤ stable' → m'.flushed ≤ stable' → stable' ≤ lsn m'.sn
       → PageFits E c m' log h ls d seat b → PageHalf E c m' log stable' h ls d (set actors seat b)
-  grown m' stable' b e1 e2 e3 e4 e5 le ge fl tp mine =
+  grown m' stable' b e1 e2 e3 e4 e6 e5 le ge fl tp mine =
       let P = before.paged in
       let K = P.closed_links in
       page_moved E c m m' log log stable stable' h h ls ls d d actors seat b
       (record {
-        closed_links = subst (λ (x : ℕ). ClosedLinks log h.closed m'.ctail h.tail (lsn x) m'.clinks) e5 (subst (λ (x : ℕ). ClosedLinks log h.closed x h.tail (lsn m.sn) m'.clinks) (sym e4) (subst (λ (x : List ℕ). ClosedLinks log h.closed m.ctail h.tail (lsn m.sn) x) (sym e3) K));
+        closed_links = subst (λ (x : ℕ). ClosedLinks log h.closed m'.ctail m'.cheld h.tail (lsn x) m'.clinks) e5 (subst (λ (x : Bool). ClosedLinks log h.closed m'.ctail x h.tail (lsn m.sn) m'.clinks) (sym e6)
+            (subst (λ (x : ℕ). ClosedLinks log h.closed x m.cheld h.tail (lsn m.sn) m'.clinks) (sym e4) (subst (λ (x : List ℕ). ClosedLinks log h.closed m.ctail m.cheld h.tail (lsn m.sn) x) (sym e3) K)));
         lists = subst (λ (x : ℕ). ListFacts ls x) (sym e4) P.lists;
         each_page = λ p t. one_page_later p (lsn c.base) (c.opened p) log log h.closed h.closed h.given stable stable' (page_words_at m.page_words p) (page_words_at m'.page_words p) (listed ls p) (listed ls p) (h.kept_page p) (h.kept_page p)
             (longer_same log) (log_same p log) refl (λ _ _ _ _ z. z) (ap (λ (x : List PageWords). page_words_at x p) e1) refl refl ge (P.each_page p t);
@@ -61,15 +62,14 @@ module _ (E : DataSide) (c : Setup) (seat_of : ℕ → ℕ) (m : SharedWords) (l
       })
       mine
       (λ j a n e. page_others E c seat_of m m' log log h h ls ls d d seat j n
-      (pages_same e1 e2 (omega arith) le)
-      (λ _. record { tail = refl; closes = λ _ z. z })
+      (pages_same e1 e2 e4 e6 le)
       (λ _. record { kept_page = λ _. refl; oldest = λ p z. subst (λ (x : List PageWords). 0 < (page_words_at x p).oldest) (sym e1) z; store = refl; unfinished = refl })
       (λ _. record { given = refl; passed = λ _ _ _ _ z. z })
       a (mate j a e) (before.each j a e))
 
   -- nothing but the actor's own state changes
   pub page_quiet : (b : Actor) → PageFits E c m log h ls d seat b → PageHalf E c m log stable h ls d (set actors seat b)
-  page_quiet b mine = grown m stable b refl refl refl refl refl (omega arith) (omega arith) before.paged.flushed before.paged.stable_top mine
+  page_quiet b mine = grown m stable b refl refl refl refl refl refl (omega arith) (omega arith) before.paged.flushed before.paged.stable_top mine
 
   pub leaf_here : (p : ℕ) (w : PageWords) → p < length m.page_words → ◌≡◌ {A = PageWords} (page_words_at (with_page_words m p w).page_words p) w
   leaf_here p w l = get_or-set_same m.page_words p w blank_words l
@@ -130,10 +130,11 @@ module _ (E : DataSide) (c : Setup) (seat_of : ℕ → ℕ) (m : SharedWords) (l
           ];
           opens = λ _ _ _ _. refl;
           lists = λ i o _. (o, refl);
+          closes = λ _ z. z;
+          held = λ o _. (o, refl, refl, refl);
           ctail = omega arith;
           flushed = omega arith;
         })
-        (λ _. record { tail = refl; closes = λ _ z. z })
         (λ alone. record {
           kept_page = λ _. refl;
           oldest = λ q z. elim (ℕ_discrete q p) [
@@ -234,27 +235,29 @@ module _ (E : DataSide) (c : Setup) (seat_of : ℕ → ℕ) (m : SharedWords) (l
           opens = λ _ _ _ _. refl;
           lists = λ j o t. let ne : j ≢ i = (λ z. ⊎_elim (λ y. let k : slice_index m.lists i ≡ 1 = subst (λ (r : ℕ). slice_index m.lists r ≡ 1) z o in absurd (omega arith)) (λ y. absurd (t (ap h.list_holder z ∙ y))) mine) in
               (get_or-set_other m.lists i j x 0 ne ∙ o, same j ne);
+          closes = λ _ z. z;
+          held = λ o _. (o, refl, refl, refl);
           ctail = omega arith;
           flushed = omega arith;
         })
-        (λ _. record { tail = refl; closes = λ _ z. z })
         (λ _. record { kept_page = λ _. refl; oldest = λ q z. z; store = refl; unfinished = refl })
         (λ _. record { given = refl; passed = λ _ _ _ _ z. z })
         a (mate j a e) (before.each j a e))
 
-  -- the links of closed groups, the closer's mark, or which groups are closed change
-  module _ (links : List ℕ) (ctail tail : ℕ) (closed : ℕ → Bool) where
+  -- the links of closed groups, CTAIL and who holds it, the place to which links are cleared, or which groups are closed change
+  module _ (links : List ℕ) (ctail : ℕ) (cheld : Bool) (tail advancer : ℕ) (closed : ℕ → Bool) where
     abbrev pub ring_mem : SharedWords
-    ring_mem = record m { clinks = links; ctail = ctail }
+    ring_mem = record m { clinks = links; ctail = ctail; cheld = cheld }
 
     abbrev pub ring_folio : PageGhost
-    ring_folio = record h { closed = closed; tail = tail }
+    ring_folio = record h { closed = closed; tail = tail; advancer = advancer }
 
-    pub ring_step : (b : Actor) → ClosedLinks log closed ctail tail (lsn m.sn) links → m.ctail ≤ ctail
+    pub ring_step : (b : Actor) → ClosedLinks log closed ctail cheld tail (lsn m.sn) links → m.ctail ≤ ctail
         → ((q : ℕ) → q < c.pages → OnePage q (lsn c.base) (c.opened q) log closed h.given stable (page_words_at m.page_words q) (listed ls q) (h.kept_page q))
-        → ((i : ℕ) (e : Entry) → get_elem? log i ≡ some e → seat_of e.user ≢ seat → closed e.start ≡ h.closed e.start) → ((x : ℕ) → h.closed x ≡ true → closed x ≡ true) → (seat ≢ c.closer → tail ≡ h.tail)
+        → ((i : ℕ) (e : Entry) → get_elem? log i ≡ some e → seat_of e.user ≢ seat → closed e.start ≡ h.closed e.start) → ((x : ℕ) → h.closed x ≡ true → closed x ≡ true)
+        → (m.cheld ≡ true → h.advancer ≢ seat → (cheld ≡ true) × (advancer ≡ h.advancer) × (ctail ≡ m.ctail) × (tail ≡ h.tail))
         → PageFits E c ring_mem log ring_folio ls d seat b → PageHalf E c ring_mem log stable ring_folio ls d (set actors seat b)
-    ring_step b K le each_page opens closes alone fits = let P = before.paged in
+    ring_step b K le each_page opens closes held fits = let P = before.paged in
         page_moved E c m ring_mem log log stable stable h ring_folio ls ls d d actors seat b
         (record {
           closed_links = K;
@@ -278,10 +281,11 @@ module _ (E : DataSide) (c : Setup) (seat_of : ℕ → ℕ) (m : SharedWords) (l
           taken = λ q la _. (la, refl);
           opens = opens;
           lists = λ i o _. (o, refl);
+          closes = closes;
+          held = held;
           ctail = le;
           flushed = omega arith;
         })
-        (λ z. record { tail = alone z; closes = closes })
         (λ _. record { kept_page = λ _. refl; oldest = λ q z. z; store = refl; unfinished = refl })
         (λ _. record { given = refl; passed = λ _ _ _ _ z. z })
         a (mate j a e) (before.each j a e))

@@ -65,11 +65,13 @@ module _ (E : DataSide) (c : Setup) (seat_of : ℕ → ℕ) (m : SharedWords) (l
       (record {
         closed_links = record {
           order = C.order;
+          free = C.free;
           bound = omega arith;
           known = λ x z. let y = C.known x z in omega arith;
           below = λ i e is lt. ⊎_elim (λ z. C.below i e z lt) (λ z. let y : start_lsn e ≡ lsn m.sn = ap start_lsn (sym z.1) in absurd (omega arith)) (at_end log g e i is);
           window = λ i e is cl. ⊎_elim (λ z. C.window i e z cl) (λ z. absurd (open_here (ap (λ (y : Entry). h.closed y.start) z.1 ∙ cl))) (at_end log g e i is);
           links_are = λ i l n. let s = C.links_are i l n in record { at = s.at; group = s.group; is = longer.old s.at s.group s.is; slot = s.slot; size = s.size; since = s.since; done = s.done };
+          standing = λ i e is cl low. ⊎_elim (λ z. C.standing i e z cl low) (λ z. absurd (open_here (ap (λ (y : Entry). h.closed y.start) z.1 ∙ cl))) (at_end log g e i is);
         };
         lists = P.lists;
         each_page = λ q t. let S = P.each_page q t in let be = S.behind in
@@ -102,6 +104,7 @@ module _ (E : DataSide) (c : Setup) (seat_of : ℕ → ℕ) (m : SharedWords) (l
         ascending = F.ascending;
         are_bytes = F.are_bytes;
         loaded = F.loaded;
+        closing = tt;
         step = (
           record {
             at = length log;
@@ -126,10 +129,11 @@ module _ (E : DataSide) (c : Setup) (seat_of : ℕ → ℕ) (m : SharedWords) (l
         taken = λ q la _. (la, refl);
         opens = λ _ _ _ _. refl;
         lists = λ i y _. (y, refl);
+        closes = λ _ y. y;
+        held = λ y _. (y, refl, refl, refl);
         ctail = omega arith;
         flushed = omega arith;
       })
-      (λ _. record { tail = refl; closes = λ _ y. y })
       (λ _. record { kept_page = λ _. refl; oldest = λ q y. y; store = refl; unfinished = refl })
       (λ _. record { given = refl; passed = λ p x _ le y i w is tc lt. ⊎_elim (λ r. y i w r tc lt) (λ r. let k : start_lsn w ≡ lsn m.sn = ap start_lsn (sym r.1) in absurd (omega arith)) (at_end log g w i is) })
       a (mate E c seat_of m log stable h ls d actors seat before mates j a z) (before.each j a z))

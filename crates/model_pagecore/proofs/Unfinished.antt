@@ -12,7 +12,7 @@ none_unfinished pages opened kept_page log stable = record {
   apart = λ i j x y at. absurd (some-ne-none x (sym at));
 }
 
--- the history goes on behind the stable mark, and that grows
+-- the history goes on past the stable mark, and the mark grows
 pub unfinished_later : (pages : ℕ) (opened kept_page : ℕ → KeptPage) (log log' : List Entry) (stable stable' : ℕ) (batch : List BatchPage) → Longer log log'
     → ((p q : ℕ) (b : List ℕ) → q ≤ stable → applied_upto p q log' b ≡ applied_upto p q log b) → stable ≤ stable'
     → AreUnfinished pages opened kept_page log stable batch → AreUnfinished pages opened kept_page log' stable' batch

@@ -1,5 +1,5 @@
 -- A user's other steps on its pages.
-use Rattle.std.proofs.Common.{Bool, List, [], ap, arith, cond, drop, eq-eqb, eqb, eqb-true, false, inl, inr, leb-true, length, length-drop, length-take-le, ltb, ltb-true, refl, set, subst, suc, sym, take, true, ℕ, ⊎_elim, ◌%◌, ◌+◌, ◌-◌, ◌/◌, ◌<◌, ◌∙◌, ◌∷◌, ◌≡◌, ◌≢◌, ◌≤◌, ◌⊎◌}
+use Rattle.std.proofs.Common.{Bool, List, [], ap, arith, cond, drop, eq-eqb, eqb, eqb-true, false, inl, inr, leb-true, length, length-drop, length-take-le, refl, set, subst, suc, sym, take, true, ℕ, ⊎_elim, ◌%◌, ◌+◌, ◌-◌, ◌/◌, ◌<◌, ◌∙◌, ◌∷◌, ◌≡◌, ◌≢◌, ◌≤◌, ◌⊎◌}
 use Rattle.std.proofs.lemmas.Bool.{eqb-false}
 use Rattle.std.proofs.lemmas.List.{get_or-drop, get_or-take}
 use Rattle.std.specs.Prelude.{get_or, slice_index, slice_set}
@@ -9,9 +9,10 @@ use native.Mathlib.Decide.{ℕ_discrete}
 use Rattle.model_core.proofs.Groups.{changed, changed_else, changed_here}
 use Rattle.model_core.proofs.Lsns.{lsn_some}
 unfoldable use Rattle.model_core.specs.{lanes, packed}
-use Rattle.model_core.specs.{Actor, after_link, answered, cells_of, CellWrite, change_at, changes, Entry, entry, frame_bytes, frame_count, frame_word, group_end, is_whole, line, Listed, lsn, mode, page_of, next_puts, page_words_at, PageWords, put_lanes, put_of, same_word, SharedWords, stored_word, to_next_page, user_took, UserState, with_page_words, word_step}
+use Rattle.model_core.specs.{Actor, Advance, after_link, answered, cells_of, CellWrite, change_at, changes, Entry, entry, frame_bytes, frame_count, frame_word, group_end, is_whole, line, Listed, lsn, mode, page_of, next_puts, page_words_at, PageWords, put_lanes, put_of, same_word, SharedWords, stored_word, to_next_page, user_took, UserState, with_page_words, word_step}
 use Rattle.model_core.specs.DataSide.{DataSide}
 use Rattle.model_core.specs.Setup.{Setup}
+use Rattle.model_core.specs.declared.steps.UserStep.{UserStep}
 use Rattle.model_pagecore.proofs.FrameStores.{word_stored, writes_next}
 use Rattle.model_core.proofs.FrameWords.{Ascend, cell_at, counted_in_word, InWord, whole_word_put}
 use Rattle.model_core.proofs.Lanes.{lanes_long}
@@ -19,11 +20,27 @@ use Rattle.model_pagecore.proofs.PageHistory.{last_after, take_all, whole_after}
 use Rattle.model_pagecore.proofs.PageStep.{at_else, at_here, cells_mine, freed_sheet, latched_sheet, leaf_step, list_at, list_step, page_quiet, work_here}
 use Rattle.model_pagecore.specs.Growing.{Grows}
 use Rattle.model_pagecore.specs.PageFacts.{PageGhost, listed}
-use Rattle.model_pagecore.specs.PageHalf.{At, HasPagesInHand, IsNear, PageHalf, UserPagesAt, UserPageFits, PagesInHand, group_in_hand}
+use Rattle.model_pagecore.specs.PageHalf.{At, HasPagesInHand, IsNear, PageHalf, UserClosingAt, UserPagesAt, UserPageFits, PagesInHand, group_in_hand}
 use Rattle.model_pagecore.specs.Pages.{InListOnly, All, Before, AgreeBelow, Cells, FrameStage, Laid, Last, NewestStage, PageIs, ListingStage, IsListed, StartsAt, Agree, cells_on, none_in_hand, write_cells, touches, applied_all}
 use Rattle.model_core.specs.declared.steps.UserStep.TheVariants as user_step
 use Rattle.model_core.specs.Actors as actor
-use Rattle.model_core.specs.declared.limits.TheConstants.{CLOSED_LINKS, FRAME_WORDS}
+use Rattle.model_core.specs.declared.limits.TheConstants.{FRAME_WORDS}
+
+-- a user that goes on with one of two steps, and advances no tail at either
+module _ (E : DataSide) (c : Setup) (m : SharedWords) (log : List Entry) (h : PageGhost) (ls : ℕ → List Listed) (d : E.Part) (seat : ℕ) (v : Advance) where
+  abbrev Closing : UserStep → Type 0
+  Closing f = UserClosingAt E c m log h ls d seat v f
+
+  pub closing_by : (b : Bool) (f s : UserStep) → Closing f → Closing s → Closing (cond b f s)
+  closing_by true f s o k = o
+  closing_by false f s o k = k
+
+  pub word_closing : (b : Bool) (cells : List CellWrite) (i : ℕ) → Closing (cond b user_step.StoreNewest (word_step cells i))
+  word_closing b cells i = closing_by b user_step.StoreNewest (word_step cells i) tt (closing_by (is_whole cells i) user_step.StoreFrame user_step.LoadFrame tt tt)
+
+  turned_closing : (u : UserState) → Closing (to_next_page u).step
+  turned_closing u = let cells : List CellWrite = (change_at (changes u) (u.page + 1)).cells in
+      closing_by (eqb (u.page + 1) (length (changes u))) user_step.StoreClosedLink (cond (eqb 0 (length cells)) user_step.StoreNewest (word_step cells 0)) tt (word_closing (eqb 0 (length cells)) cells 0)
 
 module _ (E : DataSide) (c : Setup) (seat_of : ℕ → ℕ) (m : SharedWords) (log : List Entry) (stable : ℕ) (h : PageGhost) (ls : ℕ → List Listed) (d : E.Part) (actors : List Actor) (seat : ℕ) (before : PageHalf E c m log stable h ls d actors)
     (mates : (j : ℕ) (u : UserState) → get_elem? actors j ≡ some (actor.User u) → seat_of u.user ≡ j) (W : Laid (lsn c.base) (lsn m.sn) log) where
@@ -108,32 +125,13 @@ module _ (E : DataSide) (c : Setup) (seat_of : ℕ → ℕ) (m : SharedWords) (l
           leaf_step E c seat_of m log stable h ls d actors seat before mates p w' h.holder a.there long (inr a.mine) (λ _ _. refl) (actor.User x)
           (latched_sheet E c seat_of m log stable h ls d actors seat before mates p w' a.there la old) (λ _ z. kept z) (λ _. a.mine) fits
 
-    -- it loads CTAIL, and waits while its group is too far ahead
-    pub keeps_load_ctail : u.step ≡ user_step.LoadCtail → Now m h (user_took u m.ctail user_step.LoadCtail)
-    keeps_load_ctail ph = by (ltb (lsn u.start) (m.ctail + CLOSED_LINKS)) refl (subst (UserPagesAt E c m log h ls d seat u) ph own.step)
-      where
-        by : (b : Bool) → ltb (lsn u.start) (m.ctail + CLOSED_LINKS) ≡ b → UserPagesAt E c m log h ls d seat u user_step.LoadCtail
-            → Now m h (cond b (record u { loaded = record u.loaded { ctail = m.ctail }; step = cond (eqb u.cell (length (cells_of u))) user_step.StoreNewest (word_step (cells_of u) u.cell) }) (record u { loaded = record u.loaded { ctail = m.ctail }; checks = true; step = user_step.LoadCtail }))
-        by true e o = let x : UserState = record u { loaded = record u.loaded { ctail = m.ctail }; step = cond (eqb u.cell (length (cells_of u))) user_step.StoreNewest (word_step (cells_of u) u.cell) } in let z = o.0.2 in let y = o.0.1 in let l = o.1 in
-            page_quiet E c seat_of m log stable h ls d actors seat before mates (actor.User x)
-            (record {
-              there = own.there;
-              apart = own.apart;
-              within = own.within;
-              ascending = own.ascending;
-              are_bytes = own.are_bytes;
-              loaded = omega arith;
-              step = framed m h ls x (subst (λ (k : ℕ). HasPagesInHand E c m log h ls d seat x (Cells k) Before AgreeBelow) (sym z) o.0.0) (ltb-true (lsn u.start) (m.ctail + CLOSED_LINKS) e, (omega arith)) (omega arith) (eqb u.cell (length (cells_of u))) refl;
-            })
-        by false e o = page_quiet E c seat_of m log stable h ls d actors seat before mates (actor.User (record u { loaded = record u.loaded { ctail = m.ctail }; checks = true; step = user_step.LoadCtail })) (record { there = own.there; apart = own.apart; within = own.within; ascending = own.ascending; are_bytes = own.are_bytes; loaded = omega arith; step = o })
-
     -- it loads the word of the next cell that it changes
     pub keeps_load_frame : u.step ≡ user_step.LoadFrame → Now m h (user_took u (slice_index w.frame (frame_word u)) user_step.LoadFrame)
     keeps_load_frame ph =
         let o : UserPagesAt E c m log h ls d seat u user_step.LoadFrame = subst (UserPagesAt E c m log h ls d seat u) ph own.step in
         let x : UserState = record u { word = slice_index w.frame (frame_word u); step = user_step.StoreFrame } in
         page_quiet E c seat_of m log stable h ls d actors seat before mates (actor.User x)
-        (record { there = own.there; apart = own.apart; within = own.within; ascending = own.ascending; are_bytes = own.are_bytes; loaded = own.loaded; step = (o.0, o.1, o.2, inl refl) })
+        (record { there = own.there; apart = own.apart; within = own.within; ascending = own.ascending; are_bytes = own.are_bytes; loaded = own.loaded; closing = tt; step = (o.0, o.1, o.2, inl refl) })
 
     counted : (q : ℕ) (xs : List CellWrite) → same_word q xs ≤ length xs
     counted q [] = omega arith
@@ -183,6 +181,7 @@ module _ (E : DataSide) (c : Setup) (seat_of : ℕ → ℕ) (m : SharedWords) (l
           ascending = own.ascending;
           are_bytes = own.are_bytes;
           loaded = own.loaded;
+          closing = word_closing E c (with_page_words m p w') log h ls d seat u.advance (eqb (u.cell + n) (length (cells_of u))) (cells_of u) (u.cell + n);
           step = framed (with_page_words m p w') h ls x
               (own_leaf long near.1 (Cells u.cell) Before AgreeBelow work w' a.latched old_ok (λ z. z) (Cells (u.cell + n)) Before AgreeBelow (record { frame = new; newest = a.page.newest; listing = a.page.listing }))
               near some_cells.1 (eqb (u.cell + n) (length (cells_of u))) refl;
@@ -237,6 +236,7 @@ module _ (E : DataSide) (c : Setup) (seat_of : ℕ → ℕ) (m : SharedWords) (l
           ascending = own.ascending;
           are_bytes = own.are_bytes;
           loaded = own.loaded;
+          closing = tt;
           step = (own_leaf long near.1 (Cells (length (cells_of u))) Before AgreeBelow work w' a.latched old_ok (λ z. z) All Last AgreeBelow (record { frame = all; newest = sym (last_after p log work.at g 0 work.is k.1 later); listing = a.page.listing }), near);
         })
 
@@ -254,6 +254,7 @@ module _ (E : DataSide) (c : Setup) (seat_of : ℕ → ℕ) (m : SharedWords) (l
               ascending = own.ascending;
               are_bytes = own.are_bytes;
               loaded = own.loaded;
+              closing = tt;
               step = (
                 record { at = o.0.at; is = o.0.is; not_closed = o.0.not_closed; last = o.0.last; before = o.0.before; here = λ l. record { there = a.there; latched = a.latched; mine = a.mine; page = record { frame = a.page.frame; newest = a.page.newest; listing = (z, (omega arith)) } }; after = o.0.after },
                 o.1,
@@ -268,6 +269,7 @@ module _ (E : DataSide) (c : Setup) (seat_of : ℕ → ℕ) (m : SharedWords) (l
               ascending = own.ascending;
               are_bytes = own.are_bytes;
               loaded = own.loaded;
+              closing = turned_closing E c m log h ls d seat u.advance u;
               step = turned_fits m h ls
                   (record { at = o.0.at; is = o.0.is; not_closed = o.0.not_closed; last = o.0.last; before = o.0.before; here = λ l. record { there = a.there; latched = a.latched; mine = a.mine; page = record { frame = a.page.frame; newest = a.page.newest; listing = (s0, (omega arith), (omega arith)) } }; after = o.0.after })
                   o.1 (eqb (u.page + 1) (length (changes u))) refl;
@@ -291,6 +293,7 @@ module _ (E : DataSide) (c : Setup) (seat_of : ℕ → ℕ) (m : SharedWords) (l
           ascending = own.ascending;
           are_bytes = own.are_bytes;
           loaded = own.loaded;
+          closing = tt;
           step = (own_leaf long near.1 All Last InListOnly work w' a.latched old_ok (λ _. pos) All Last IsListed (record { frame = a.page.frame; newest = a.page.newest; listing = (sym st, (omega arith), (omega arith)) }), near, o.2);
         })
 
@@ -309,6 +312,7 @@ module _ (E : DataSide) (c : Setup) (seat_of : ℕ → ℕ) (m : SharedWords) (l
           ascending = own.ascending;
           are_bytes = own.are_bytes;
           loaded = own.loaded;
+          closing = turned_closing E c m' log h ls d seat u.advance u;
           step = turned_fits m' h ls
               (record { at = work.at; is = work.is; not_closed = work.not_closed; last = work.last; before = λ k a b. same _ _ All Last IsListed refl (work.before k a b); here = λ l. same _ _ All Last IsListed refl (work.here l); after = λ k a b. same _ _ (Cells 0) Before AgreeBelow refl (work.after k a b) })
               o.1 (eqb (u.page + 1) (length (changes u))) refl;
@@ -339,14 +343,14 @@ module _ (E : DataSide) (c : Setup) (seat_of : ℕ → ℕ) (m : SharedWords) (l
           h',
           leaf_step E c seat_of m log stable h ls d actors seat before mates p w' holders there long (inl free) same (actor.User (user_took u 0 user_step.TakeLatch))
               (latched_sheet E c seat_of m log stable h ls d actors seat before mates p w' there refl S.oldest) (λ _ z. z) (λ _. changed_here h.holder p seat p refl)
-              (record { there = own.there; apart = own.apart; within = own.within; ascending = own.ascending; are_bytes = own.are_bytes; loaded = own.loaded; step = next (eqb (u.page + 1) (length (changes u))) refl }),
+              (record { there = own.there; apart = own.apart; within = own.within; ascending = own.ascending; are_bytes = own.are_bytes; loaded = own.loaded; closing = closing_by E c m' log h' ls d seat u.advance (eqb (u.page + 1) (length (changes u))) user_step.Reserve user_step.TakeLatch tt tt; step = next (eqb (u.page + 1) (length (changes u))) refl }),
           record { given = omega arith; closed = λ x z. z; holder = λ q la. same q (λ e. let one : (page_words_at m.page_words p).latch ≡ 1 = subst (λ (x : ℕ). (page_words_at m.page_words x).latch ≡ 1) e la in absurd (omega arith)) },
         )
 
     -- nothing is said of the pages of a user whose commit is answered or awaited
     pub tied_fits : (m' : SharedWords) (h' : PageGhost) (ls' : ℕ → List Listed) → u.loaded.ctail ≤ m'.ctail → (b : Bool) → eqb (mode u) 0 ≡ b → UserPageFits E c m' log h' ls' d seat (cond b (answered u) (record u { step = user_step.AwaitMark }))
-    tied_fits m' h' ls' lo false e = record { there = own.there; apart = own.apart; within = own.within; ascending = own.ascending; are_bytes = own.are_bytes; loaded = lo; step = tt }
-    tied_fits m' h' ls' lo true e = record { there = own.there; apart = own.apart; within = own.within; ascending = own.ascending; are_bytes = own.are_bytes; loaded = lo; step = by (eqb (u.k + 1) (length u.lines)) }
+    tied_fits m' h' ls' lo false e = record { there = own.there; apart = own.apart; within = own.within; ascending = own.ascending; are_bytes = own.are_bytes; loaded = lo; closing = tt; step = tt }
+    tied_fits m' h' ls' lo true e = record { there = own.there; apart = own.apart; within = own.within; ascending = own.ascending; are_bytes = own.are_bytes; loaded = lo; closing = closing_by E c m' log h' ls' d seat u.advance (eqb (u.k + 1) (length u.lines)) user_step.Done user_step.LoadCheckpoint tt tt; step = by (eqb (u.k + 1) (length u.lines)) }
       where
         by : (b : Bool) → UserPagesAt E c m' log h' ls' d seat (record u { k = u.k + 1; checks = cond b false true; step = cond b user_step.Done user_step.LoadCheckpoint }) (cond b user_step.Done user_step.LoadCheckpoint)
         by true = tt
@@ -372,6 +376,7 @@ module _ (E : DataSide) (c : Setup) (seat_of : ℕ → ℕ) (m : SharedWords) (l
               ascending = own.ascending;
               are_bytes = own.are_bytes;
               loaded = own.loaded;
+              closing = tt;
               step = (
                 (λ k lo hi. at_else E c seat_of m log stable h ls d actors seat before mates p (record w { latch = 0 }) h.holder a.there long (inr a.mine) (λ _ _. refl) ((change_at (changes u) k).page) none_in_hand All Last Agree (λ y. own.apart u.k u.page k (omega arith) hi (sym y)) (o.0 k (omega arith) hi)),
                 (omega arith),

@@ -8,5 +8,5 @@ pub use Rattle.model_pagecore.specs.DataLaws.{AfterBatch, AreApart, CanBatch, ke
 pub use Rattle.model_pagecore.specs.Growing.{Grows}
 pub use Rattle.model_pagecore.specs.Latches.{CleanerHasLatch, HasLatch, IsAmong, IsInBatch, UserHasLatch}
 pub use Rattle.model_pagecore.specs.PageFacts.{AreUnfinished, ClosedLink, ClosedLinks, PageGhost, UnfinishedPage, listed}
-pub use Rattle.model_pagecore.specs.PageHalf.{At, CheckpointerPageFits, CheckpointerPagesAt, CleanerAt, CleanerFits, CleanerHolds, CloserFits, HoldsOnly, IsFresh, PageFits, Unlisting, UserHolds, UserPageFits, UserPagesAt, rests, runs}
+pub use Rattle.model_pagecore.specs.PageHalf.{At, CheckpointerPageFits, CheckpointerPagesAt, CleanerAt, CleanerFits, CleanerHolds, CloserAt, CloserFits, ClosingAt, HoldsCtail, HoldsOnly, IsFresh, PageFits, Unlisting, UserClosingAt, UserHolds, UserPageFits, UserPagesAt, rests, runs}
 pub use Rattle.model_pagecore.specs.Pages.{Agree, All, EndsAt, InWordOnly, Laid, Last, ListingStage, PageIs, Passed, StartsAt, Unlisted, applied_all, applied_upto, cells_on, end_lsn, none_in_hand, start_lsn, touches, write_cells}

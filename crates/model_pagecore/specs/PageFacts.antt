@@ -1,5 +1,5 @@
 -- The page half of the invariant: what holds of the words of the pages, of the flush lists and of the data part.
-use Rattle.std.specs.Prelude.{Bool, List, slice_index, true, ℕ, ◌%◌, ◌+◌, ◌<◌, ◌≡◌, ◌≤◌}
+use Rattle.std.specs.Prelude.{Bool, List, false, slice_index, true, ℕ, ◌%◌, ◌+◌, ◌<◌, ◌≡◌, ◌≤◌}
 use lib.ListN.{get_elem?}
 use mathlib.Core.Option.{some}
 use Rattle.model_core.specs.DataSide.{DataSide}
@@ -18,8 +18,9 @@ pub record PageGhost : Type 0 where
   pub list_holder : ℕ → ℕ
   -- an upper bound of the newest checkpoints
   pub given : ℕ
-  -- the closer's tail
+  -- the place to which closed links are cleared: that of the actor that holds CTAIL, else the tail; and who has held it last
   pub tail : ℕ
+  pub advancer : ℕ
   -- each page as it was last written
   pub kept_page : ℕ → KeptPage
   -- the batch whose writing failed
@@ -35,13 +36,15 @@ pub record ClosedLink (log : List Entry) (closed : ℕ → Bool) (tail i n : ℕ
   pub since : tail ≤ start_lsn group
   pub done : closed group.start ≡ true
 
-pub record ClosedLinks (log : List Entry) (closed : ℕ → Bool) (ctail tail top : ℕ) (links : List ℕ) : Type 0 where
+pub record ClosedLinks (log : List Entry) (closed : ℕ → Bool) (ctail : ℕ) (cheld : Bool) (tail top : ℕ) (links : List ℕ) : Type 0 where
   pub order : ctail ≤ tail
+  pub free : cheld ≡ false → tail ≡ ctail
   pub bound : tail ≤ top
   pub known : (x : ℕ) → closed x ≡ true → lsn x < top
   pub below : (i : ℕ) (e : Entry) → get_elem? log i ≡ some e → start_lsn e < tail → closed e.start ≡ true
   pub window : (i : ℕ) (e : Entry) → get_elem? log i ≡ some e → closed e.start ≡ true → start_lsn e < ctail + CLOSED_LINKS
   pub links_are : (i : ℕ) → i < CLOSED_LINKS → 0 < slice_index links i → ClosedLink log closed tail i (slice_index links i)
+  pub standing : (i : ℕ) (e : Entry) → get_elem? log i ≡ some e → closed e.start ≡ true → tail ≤ start_lsn e → 0 < slice_index links (start_lsn e % CLOSED_LINKS)
 
 pub record ListFacts (ls : ℕ → List Listed) (ctail : ℕ) : Type 0 where
   pub relaxed : (i : ℕ) → Relaxed (ls i)
@@ -66,7 +69,7 @@ pub record AreUnfinished (pages : ℕ) (opened kept_page : ℕ → KeptPage) (lo
 
 -- `stable` is the log part's stable mark
 pub record PageFacts (E : DataSide) (c : Setup) (m : SharedWords) (log : List Entry) (stable : ℕ) (h : PageGhost) (ls : ℕ → List Listed) (d : E.Part) : Type 0 where
-  pub closed_links : ClosedLinks log h.closed m.ctail h.tail (lsn m.sn) m.clinks
+  pub closed_links : ClosedLinks log h.closed m.ctail m.cheld h.tail (lsn m.sn) m.clinks
   pub lists : ListFacts ls m.ctail
   pub each_page : (p : ℕ) → p < c.pages → OnePage p (lsn c.base) (c.opened p) log h.closed h.given stable (page_words_at m.page_words p) (listed ls p) (h.kept_page p)
   pub within : h.given ≤ stable

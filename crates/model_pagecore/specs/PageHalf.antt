@@ -2,9 +2,10 @@
 use Rattle.std.specs.Prelude.{Bool, List, [], false, get_or, length, slice_index, take, true, ℕ, ◌%◌, ◌+◌, ◌<◌, ◌≡◌, ◌≢◌, ◌≤◌, ◌⊎◌}
 use lib.ListN.{get_elem?}
 use mathlib.Core.Option.{some}
-use Rattle.model_core.specs.{Actor, BatchPage, cells_of, change_at, changes, CheckpointerState, CleanerState, CloserState, Entry, entry, first_of_batch, frame_bytes, frame_word, is_whole, line, line_at, Listed, lsn, page_of, page_words_at, PageWords, SharedWords, UserState}
+use Rattle.model_core.specs.{Actor, Advance, BatchPage, cells_of, change_at, changes, CheckpointerState, CleanerState, CloserState, Entry, entry, first_of_batch, frame_bytes, frame_word, is_whole, line, line_at, Listed, lsn, page_of, page_words_at, PageWords, SharedWords, UserState}
 use Rattle.model_core.specs.DataSide.{DataSide}
 use Rattle.model_core.specs.Setup.{Setup}
+use Rattle.model_core.specs.declared.steps.AdvanceStep.{AdvanceStep}
 use Rattle.model_core.specs.declared.steps.CleanerStep.{CleanerStep}
 use Rattle.model_core.specs.declared.steps.CloserStep.{CloserStep}
 use Rattle.model_core.specs.declared.steps.UserStep.{UserStep}
@@ -13,6 +14,7 @@ use Rattle.model_pagecore.specs.DataLaws.{AreApart}
 use Rattle.model_pagecore.specs.Latches.{CleanerHasLatch, UserHasLatch}
 use Rattle.model_pagecore.specs.PageFacts.{PageGhost, PageFacts, listed}
 use Rattle.model_pagecore.specs.Pages.{InListOnly, All, Before, AgreeBelow, Cells, InWordOnly, FrameStage, GroupInHand, Last, NewestStage, Unlisted, PageIs, Passed, ListingStage, IsListed, Agree, end_lsn, none_in_hand, start_lsn, touches}
+use Rattle.model_core.specs.declared.steps.AdvanceStep.TheVariants as advance_step
 use Rattle.model_core.specs.declared.steps.UserStep.TheVariants as user_step
 use Rattle.model_core.specs.declared.steps.CloserStep.TheVariants as closer_step
 use Rattle.model_core.specs.declared.steps.CleanerStep.TheVariants as cleaner_step
@@ -90,8 +92,12 @@ module _ (E : DataSide) (c : Setup) (m : SharedWords) (log : List Entry) (h : Pa
   UserHolds seat u user_step.AddCell = IsFresh seat u
   UserHolds seat u user_step.StoreFirst = IsFresh seat u
   UserHolds seat u user_step.LoadWtail = IsFresh seat u
+  UserHolds seat u (user_step.AdvanceWritten s) = IsFresh seat u
+  UserHolds seat u user_step.ReloadWtail = IsFresh seat u
   UserHolds seat u user_step.StoreLink = IsFresh seat u
   UserHolds seat u user_step.LoadCtail = IsFresh seat u × (0 < length (changes u))
+  UserHolds seat u (user_step.AdvanceClosed s) = IsFresh seat u × (0 < length (changes u))
+  UserHolds seat u user_step.ReloadCtail = IsFresh seat u × (0 < length (changes u))
   UserHolds seat u user_step.LoadFrame = HasPagesInHand seat u (Cells u.cell) Before AgreeBelow × IsNear u × (u.cell < length (cells_of u))
   UserHolds seat u user_step.StoreFrame = HasPagesInHand seat u (Cells u.cell) Before AgreeBelow × IsNear u × (u.cell < length (cells_of u)) × ((u.word ≡ slice_index (page_words_at m.page_words (page_of u)).frame (frame_word u)) ⊎ (is_whole (cells_of u) u.cell ≡ true))
   UserHolds seat u user_step.StoreNewest = HasPagesInHand seat u (Cells (length (cells_of u))) Before AgreeBelow × IsNear u
@@ -114,6 +120,32 @@ module _ (E : DataSide) (c : Setup) (m : SharedWords) (log : List Entry) (h : Pa
   UserPagesAt seat u user_step.Failed = (f : UserStep) × UserHolds seat u f × HoldsOnly seat (UserHasLatch u f)
   UserPagesAt seat u f = UserHolds seat u f
 
+  -- an actor that holds CTAIL: it has loaded the tail, and links are cleared up to its place
+  pub record HoldsCtail (seat : ℕ) (v : Advance) : Type 0 where
+    pub held : m.cheld ≡ true
+    pub mine : h.advancer ≡ seat
+    pub tail : v.tail ≡ m.ctail
+    pub place : v.place ≡ h.tail
+
+  -- it has found the link of the closed group that starts at its place
+  abbrev pub HasFound : Advance → Type 0
+  HasFound v = (at : ℕ) × (e : Entry) × (get_elem? log at ≡ some e) × (h.closed e.start ≡ true) × (start_lsn e ≡ v.place) × (end_lsn e ≡ v.place + v.link)
+
+  abbrev pub ClosingAt : ℕ → Advance → AdvanceStep → Type 0
+  ClosingAt seat v advance_step.LoadTail = Unit {0}
+  ClosingAt seat v advance_step.TakeTail = Unit {0}
+  ClosingAt seat v advance_step.LoadLink = HoldsCtail seat v
+  ClosingAt seat v advance_step.ClearLink = HoldsCtail seat v × HasFound v
+  ClosingAt seat v advance_step.FreeTail = HoldsCtail seat v
+
+  abbrev pub UserClosingAt : ℕ → Advance → UserStep → Type 0
+  UserClosingAt seat v (user_step.AdvanceClosed s) = ClosingAt seat v s
+  UserClosingAt seat v _ = Unit {0}
+
+  abbrev pub CloserAt : ℕ → Advance → CloserStep → Type 0
+  CloserAt seat v (closer_step.Advance s) = ClosingAt seat v s
+  CloserAt seat v _ = Unit {0}
+
   -- the lines name pages that there are, each once, and cells of a frame
   pub record UserPageFits (seat : ℕ) (u : UserState) : Type 0 where
     pub there : (j k : ℕ) → k < length (line_at u.lines j).changes → (change_at (line_at u.lines j).changes k).page < c.pages
@@ -122,16 +154,13 @@ module _ (E : DataSide) (c : Setup) (m : SharedWords) (log : List Entry) (h : Pa
     pub ascending : (j k a b : ℕ) → a < b → b < length (change_at (line_at u.lines j).changes k).cells → (get_or (change_at (line_at u.lines j).changes k).cells a (record { at = 0; value = 0 })).at < (get_or (change_at (line_at u.lines j).changes k).cells b (record { at = 0; value = 0 })).at
     pub are_bytes : (j k i : ℕ) → (get_or (change_at (line_at u.lines j).changes k).cells i (record { at = 0; value = 0 })).value < 256
     pub loaded : u.loaded.ctail ≤ m.ctail
+    pub closing : UserClosingAt seat u.advance u.step
     pub step : UserPagesAt seat u u.step
-
-  abbrev pub CloserAt : CloserState → CloserStep → Type 0
-  CloserAt t closer_step.ClearClosedLink = (at : ℕ) × (e : Entry) × (get_elem? log at ≡ some e) × (h.closed e.start ≡ true) × (start_lsn e ≡ t.tail) × (end_lsn e ≡ t.tail + t.link)
-  CloserAt t _ = Unit {0}
 
   pub record CloserFits (seat : ℕ) (t : CloserState) : Type 0 where
     pub alone : seat ≡ c.closer
-    pub tail : t.tail ≡ h.tail
-    pub step : CloserAt t t.step
+    pub loaded : t.advance.tail ≤ m.ctail
+    pub step : CloserAt seat t.advance t.step
 
   -- a page of the batch, held, and as it was read with this flushed mark; `t` is how OLDEST and its list stand
   pub record InBatch (seat flushed : ℕ) (x : BatchPage) (t : ListingStage) : Type 0 where

@@ -43,11 +43,11 @@ quantity_word quantity.Group = codes "group"
 quantity_word quantity.Lsn = codes "lsn"
 quantity_word quantity.Total = codes "total"
 
--- the words for a quantity that doesn't fit, behind `fault`
+-- the words for a quantity that doesn't fit, after `fault`
 abbrev pub misfit_words : Quantity → ℕ → List (List ℕ)
 misfit_words what n = codes "fit" ∷ quantity_word what ∷ decimal n ∷ []
 
--- the words of a refusal's line behind `fault`
+-- the words of a refusal's line after `fault`
 abbrev pub refusal_words : Refusal → List (List ℕ)
 refusal_words (SmallLog n) = misfit_words quantity.Log n
 refusal_words NotFormatted = codes "store" ∷ codes "unformatted" ∷ []
@@ -58,7 +58,7 @@ refusal_words (BadRecord lsn) = codes "store" ∷ codes "record" ∷ decimal lsn
 refusal_words (PageLost p) = codes "store" ∷ codes "lost" ∷ decimal p ∷ []
 refusal_words (PageAhead p lsn) = codes "store" ∷ codes "ahead" ∷ decimal p ∷ decimal lsn ∷ []
 
--- the words of a fault's line behind `fault`
+-- the words of a fault's line after `fault`
 abbrev pub fault_words : Fault → List (List ℕ)
 fault_words fault.Memory = codes "memory" ∷ []
 fault_words fault.Words = codes "words" ∷ []

@@ -28,7 +28,7 @@ entry_span entry = record { start = entry.start; end = entry.end }
 abbrev pub entry_spans : List Entry → List Span
 entry_spans entries = map entry_span entries
 
--- the entry stands for its user's k-th line: it ends so many bytes of groups behind its start as the line's group has
+-- the entry stands for its user's k-th line: it ends as many bytes of groups after its start as the line's group has
 pub record IsOfLine (script : List ScriptLine) (space : ℕ) (entry : Entry) (line : ScriptLine) : Type 0 where
   pub line_is : slice_get (lines_of_user entry.user script) entry.k ≡ Some line
   pub end_is : entry.end ≡ lsn_of (sn_of entry.start + group_length (group_of space line))

@@ -37,7 +37,7 @@ abbrev pub block_line : ℕ → BlockView → List ℕ
 block_line lsn view =
     line_text (codes "block" ∷ decimal lsn ∷ decimal (block_number lsn) ∷ decimal view.length ∷ decimal view.first ∷ decimal view.ckpt ∷ [])
 
--- blocks that stand one behind another, the first at this lsn
+-- blocks that stand one after another, the first at this lsn
 abbrev pub block_lines : ℕ → List BlockView → List ℕ
 block_lines lsn [] = []
 block_lines lsn (view ∷ views) = block_line lsn view ++ block_lines (lsn + BLOCK_SIZE) views
@@ -76,7 +76,7 @@ item_of_record (rec.Init space page) = Init page
 abbrev pub record_line : Rec → List ℕ
 record_line logged = line_text (codes "rec" ∷ item_text (item_of_record logged) ∷ [])
 
--- the line names the operation: behind the word `rec` stands a text that a script reads as it
+-- the line names the operation: after the word `rec` stands a text that a script reads as it
 pub record NamesOperation (line : List ℕ) (item : Item) : Type 0 where
   pub text : List ℕ
   pub line_is : line ≡ line_text (codes "rec" ∷ text ∷ [])

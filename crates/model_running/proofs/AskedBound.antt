@@ -20,6 +20,7 @@ use Rattle.model_pagecore.specs.DataLaws.{DataLaws}
 use Rattle.model_pagecore.specs.{CheckpointerPageFits, CheckpointerPagesAt, PageGhost}
 use Rattle.model_running.proofs.CallConditions.{can_checkpoint}
 use Rattle.model_running.specs.RunningStore.{BothHalves}
+use Rattle.model_core.specs.declared.steps.AdvanceStep.TheVariants as advance_step
 use Rattle.model_core.specs.Actors as actor
 use Rattle.model_core.specs.declared.ops.Op.TheVariants as op
 use Rattle.model_core.specs.declared.steps.CheckpointerStep.TheVariants as checkpointer_step
@@ -43,14 +44,15 @@ module _ (D : LogSide) (L : LogLaws D) (E : DataSide) (EL : DataLaws E) (c : Set
   quiet same = still (ap D.asked same)
 
   user_within : (u : UserState) (f : UserStep) → LogServed D p Nothing (user_op u f) code q → IsWithin
-  user_within u user_step.LoadCheckpoint s = quiet s
+  user_within u (user_step.AdvanceWritten advance_step.LoadTail) s = quiet s
+  user_within u (user_step.AdvanceClosed advance_step.LoadTail) s = quiet s
   user_within u _ s = quiet s
 
   writer_within : (s : WriterState) → get_elem? actors seat ≡ some (actor.Writer s) → (f : WriterStep) → marks.WriterAt D c m g p seat s f → LogServed D p (Blocks s.kept s.firsts) (writer_op s f) code q → IsWithin
   writer_within s at writer_step.WriteTo k w =
       let S : marks.WriterFits D c m g p seat s = both.logged.each seat (actor.Writer s) at in
-      still (L.writes c.blocks c.base g.log g.write g.tail code s.kept s.firsts p q both.logged.global.part.holds (can_write D L c spare m g p actors seat s both.logged at k) (subst (λ (t : ℕ). D.Wrote t s.kept s.firsts code p q) S.tail w)).asked
-  writer_within s at writer_step.LoadLink k w = quiet w
+      still (L.writes c.blocks c.base g.log g.write g.target code s.kept s.firsts p q both.logged.global.part.holds (can_write D L c spare m g p actors seat s both.logged at k) (subst (λ (t : ℕ). D.Wrote t s.kept s.firsts code p q) S.tail w)).asked
+  writer_within s at (writer_step.Advance advance_step.LoadTail) k w = quiet w
   writer_within s at _ k w = quiet w
 
   flusher_within : (t : FlusherState) (f : FlusherStep) → marks.FlusherAt D c m g p t f → LogServed D p Nothing (flusher_op t f) code q → IsWithin
@@ -59,7 +61,7 @@ module _ (D : LogSide) (L : LogLaws D) (E : DataSide) (EL : DataLaws E) (c : Set
   flusher_within t _ k w = quiet w
 
   closer_within : (t : CloserState) (f : CloserStep) → LogServed D p Nothing (closer_op t f) code q → IsWithin
-  closer_within t closer_step.LoadClosedLink s = quiet s
+  closer_within t (closer_step.Advance advance_step.LoadTail) s = quiet s
   closer_within t _ s = quiet s
 
   cleaner_within : (v : CleanerState) (f : CleanerStep) → LogServed D p (Batch v.batch) (cleaner_op v f) code q → IsWithin

@@ -7,6 +7,7 @@ use Rattle.model_core.specs.{Actor, Blocks, checked, DataServed, Entry, flusher_
 use Rattle.model_core.specs.DataSide.{DataSide}
 use Rattle.model_core.specs.LogSide.{LogSide}
 use Rattle.model_core.specs.Setup.{Setup}
+use Rattle.model_core.proofs.TailHolders.{holder_stays}
 use Rattle.model_logcore.proofs.LogKeeps.{keeps}
 use Rattle.model_logcore.specs.{LogGhost}
 use Rattle.model_logcore.specs.LogHalf.{LogHalf}
@@ -16,6 +17,7 @@ use Rattle.model_pagecore.specs.DataLaws.{DataLaws}
 use Rattle.model_pagecore.specs.PageHalf.{PageHalf}
 use Rattle.model_running.specs.RunningStore.{BothHalves}
 use Rattle.model_running.specs.UsersClosed.{UsersClosed}
+use Rattle.model_core.specs.declared.words.LinkBuffer.TheVariants as link_buffer
 use Rattle.model_core.specs.Actors as actor
 use Rattle.model_core.specs.declared.words.Word.TheVariants as word
 use Rattle.model_core.specs.declared.ops.Op.TheVariants as op
@@ -62,4 +64,4 @@ module _ (D : LogSide) (L : LogLaws D) (E : DataSide) (EL : DataLaws E) (c : Set
   keeps_both a at w v =
       let r = keeps D L c spare m g p actors seat both.logged code q ls (can_checkpoint D L E EL c spare m g h ls p d actors seat both) a at w in
       let b = page_turn a at w v r.0 r.1 in
-      (r.0, b.0, record { script = both.script; closed = subst (λ (l : List Entry). UsersClosed l b.0.closed (set actors seat (took a (shared_answer ls (D.failed p) code (D.stable q) m (next a))))) (sym r.2) (users_closed D E c spare m g h ls p d actors seat both b.0 b.2 a at (shared_answer ls (D.failed p) code (D.stable q) m (next a)) b.1.paged.closed_links); asked = (let up = b.2.given in let z = asked_bound D L E EL c spare m g h ls p d actors seat both code q a at w in omega arith); latches = latches_kept D E c spare m g h ls p d actors seat both (D.failed p) code (D.stable q) (log_left g.log m.sn a) (D.stable q) b.0 (lists_left ls (λ i. slice_index m.lists i) (next a)) e b.2 a at b.1; stays = λ alone. checkpoint_stays D E c spare m g h ls p d actors seat both alone a at; cause = caused D L E EL c spare m g h ls p d actors seat both code q e a at w v; logged = r.1; paged = subst (λ (l : List Entry). PageHalf E c (shared_left m (next a)) l (D.stable q) b.0 (lists_left ls (λ i. slice_index m.lists i) (next a)) e (set actors seat (took a (shared_answer ls (D.failed p) code (D.stable q) m (next a))))) (sym r.2) b.1 })
+      (r.0, b.0, record { script = both.script; closed = subst (λ (l : List Entry). UsersClosed l b.0.closed (set actors seat (took a (shared_answer ls (D.failed p) code (D.stable q) m (next a))))) (sym r.2) (users_closed D E c spare m g h ls p d actors seat both b.0 b.2 a at (shared_answer ls (D.failed p) code (D.stable q) m (next a)) b.1.paged.closed_links); asked = (let up = b.2.given in let z = asked_bound D L E EL c spare m g h ls p d actors seat both code q a at w in omega arith); advanced = holder_stays m ls (D.failed p) code (D.stable q) link_buffer.Closed actors seat a at (both.logged.without_tail seat a at) both.advanced; latches = latches_kept D E c spare m g h ls p d actors seat both (D.failed p) code (D.stable q) (log_left g.log m.sn a) (D.stable q) b.0 (lists_left ls (λ i. slice_index m.lists i) (next a)) e b.2 a at b.1; stays = λ alone. checkpoint_stays D E c spare m g h ls p d actors seat both alone a at; cause = caused D L E EL c spare m g h ls p d actors seat both code q e a at w v; logged = r.1; paged = subst (λ (l : List Entry). PageHalf E c (shared_left m (next a)) l (D.stable q) b.0 (lists_left ls (λ i. slice_index m.lists i) (next a)) e (set actors seat (took a (shared_answer ls (D.failed p) code (D.stable q) m (next a))))) (sym r.2) b.1 })

@@ -30,6 +30,7 @@ use Rattle.model_core.specs.declared.steps.FlusherStep.TheVariants as flusher_st
 use Rattle.model_core.specs.declared.steps.CloserStep.TheVariants as closer_step
 use Rattle.model_core.specs.declared.steps.CleanerStep.TheVariants as cleaner_step
 use Rattle.model_core.specs.declared.steps.CheckpointerStep.TheVariants as checkpointer_step
+use Rattle.model_core.specs.declared.steps.AdvanceStep.TheVariants as advance_step
 use Rattle.model_core.specs.Actors as actor
 
 module _ (D : LogSide) (L : LogLaws D) (E : DataSide) (EL : DataLaws E) (c : Setup) (spare : ℕ) (m : SharedWords) (g : LogGhost) (h : PageGhost) (ls : ℕ → List Listed) (p : D.Part) (d : E.Part) (actors : List Actor) (seat : ℕ) (both : BothHalves D E c spare m g h ls p d actors) where
@@ -48,11 +49,12 @@ module _ (D : LogSide) (L : LogLaws D) (E : DataSide) (EL : DataLaws E) (c : Set
   checking l false o ready = ready
 
   user_data : (l : Lent) (u : UserState) (f : UserStep) → DataReady E c.pages h.kept_page l d (user_op u f)
-  user_data l u user_step.LoadCheckpoint = tt
+  user_data l u (user_step.AdvanceWritten advance_step.LoadTail) = tt
+  user_data l u (user_step.AdvanceClosed advance_step.LoadTail) = tt
   user_data l u _ = tt
 
   writer_data : (l : Lent) (s : WriterState) (f : WriterStep) → DataReady E c.pages h.kept_page l d (writer_op s f)
-  writer_data l s writer_step.LoadLink = tt
+  writer_data l s (writer_step.Advance advance_step.LoadTail) = tt
   writer_data l s _ = tt
 
   flusher_data : (l : Lent) (t : FlusherState) (f : FlusherStep) → DataReady E c.pages h.kept_page l d (flusher_op t f)
@@ -60,7 +62,7 @@ module _ (D : LogSide) (L : LogLaws D) (E : DataSide) (EL : DataLaws E) (c : Set
   flusher_data l t _ = tt
 
   closer_data : (l : Lent) (t : CloserState) (f : CloserStep) → DataReady E c.pages h.kept_page l d (closer_op t f)
-  closer_data l t closer_step.LoadClosedLink = tt
+  closer_data l t (closer_step.Advance advance_step.LoadTail) = tt
   closer_data l t _ = tt
 
   checkpointer_data : (l : Lent) (t : CheckpointerState) (f : CheckpointerStep) → DataReady E c.pages h.kept_page l d (checkpointer_op t f)

@@ -23,6 +23,7 @@ use Rattle.model_core.specs.declared.steps.UserStep.TheVariants as user_step
 use Rattle.model_core.specs.declared.steps.CloserStep.TheVariants as closer_step
 use Rattle.model_core.specs.declared.steps.CleanerStep.TheVariants as cleaner_step
 use Rattle.model_core.specs.declared.steps.CheckpointerStep.TheVariants as checkpointer_step
+use Rattle.model_core.specs.declared.steps.AdvanceStep.TheVariants as advance_step
 use Rattle.model_core.specs.Actors as actor
 use Rattle.model_core.specs.declared.words.Word.TheVariants as word
 use Rattle.model_core.specs.declared.ops.Op.TheVariants as op
@@ -94,13 +95,15 @@ module _ (D : LogSide) (L : LogLaws D) (E : DataSide) (EL : DataLaws E) (c : Set
   data_called o other s causes = stays o (left_failed o other) (λ x z. subst (λ (y : D.Part). D.Cause y x) (sym s) z) causes
 
   user_caused : (u : UserState) (f : UserStep) → LogServed D p Nothing (user_op u f) code q → DataServed E d Nothing (user_op u f) code e → CausedBy (user_op u f)
-  user_caused u user_step.LoadCheckpoint s v = quiet (user_op u user_step.LoadCheckpoint) tt s v
+  user_caused u (user_step.AdvanceWritten advance_step.LoadTail) s v = quiet (user_op u (user_step.AdvanceWritten advance_step.LoadTail)) tt s v
+  user_caused u (user_step.AdvanceClosed advance_step.LoadTail) s v = quiet (user_op u (user_step.AdvanceClosed advance_step.LoadTail)) tt s v
   user_caused u f s v = quiet (user_op u f) tt s v
 
   writer_caused : (s : WriterState) → get_elem? actors seat ≡ some (actor.Writer s) → (f : WriterStep) → marks.WriterAt D c m g p seat s f → LogServed D p (Blocks s.kept s.firsts) (writer_op s f) code q → DataServed E d (Blocks s.kept s.firsts) (writer_op s f) code e → CausedBy (writer_op s f)
+  writer_caused s at (writer_step.Advance advance_step.LoadTail) k w v = quiet (writer_op s (writer_step.Advance advance_step.LoadTail)) tt w v
   writer_caused s at writer_step.WriteTo k w v =
       let S : marks.WriterFits D c m g p seat s = both.logged.each seat (actor.Writer s) at in
-      let A = L.writes c.blocks c.base g.log g.write g.tail code s.kept s.firsts p q both.logged.global.part.holds (can_write D L c spare m g p actors seat s both.logged at k) (subst (λ (t : ℕ). D.Wrote t s.kept s.firsts code p q) S.tail w) in
+      let A = L.writes c.blocks c.base g.log g.write g.target code s.kept s.firsts p q both.logged.global.part.holds (can_write D L c spare m g p actors seat s both.logged at k) (subst (λ (t : ℕ). D.Wrote t s.kept s.firsts code p q) S.tail w) in
       log_called (writer_op s writer_step.WriteTo) tt A.causes v
   writer_caused s at writer_step.StoreFailed k w v = λ _. inl (subst (λ (y : D.Part). D.Cause y s.code) (sym w) k.1)
   writer_caused s at f k w v = quiet (writer_op s f) tt w v
@@ -111,7 +114,7 @@ module _ (D : LogSide) (L : LogLaws D) (E : DataSide) (EL : DataLaws E) (c : Set
   flusher_caused t f k w v = quiet (flusher_op t f) tt w v
 
   closer_caused : (t : CloserState) (f : CloserStep) → LogServed D p Nothing (closer_op t f) code q → DataServed E d Nothing (closer_op t f) code e → CausedBy (closer_op t f)
-  closer_caused t closer_step.LoadClosedLink w v = quiet (closer_op t closer_step.LoadClosedLink) tt w v
+  closer_caused t (closer_step.Advance advance_step.LoadTail) w v = quiet (closer_op t (closer_step.Advance advance_step.LoadTail)) tt w v
   closer_caused t f w v = quiet (closer_op t f) tt w v
 
   cleaner_caused : (x : CleanerState) → get_elem? actors seat ≡ some (actor.Cleaner x) → (f : CleanerStep) → x.step ≡ f → LogServed D p (Batch x.batch) (cleaner_op x f) code q → DataServed E d (Batch x.batch) (cleaner_op x f) code e → CausedBy (cleaner_op x f)
@@ -126,7 +129,7 @@ module _ (D : LogSide) (L : LogLaws D) (E : DataSide) (EL : DataLaws E) (c : Set
   checkpointer_caused t at checkpointer_step.StoreFailed is k w v = λ _. inl (subst (λ (y : D.Part). D.Cause y t.code) (sym w) k.1)
   checkpointer_caused t at f is k w v = quiet (checkpointer_op t f) tt w v
 
-  -- whatever the actor's next Op is, FAILED has a cause behind it
+  -- after the actor's next Op, whatever it is, FAILED has a cause
   pub caused : (a : Actor) → get_elem? actors seat ≡ some a → LogServed D p (lent a) (next a) code q → DataServed E d (lent a) (next a) code e → CausedBy (next a)
   caused (actor.User u) at w v = by u.checks w v
     where

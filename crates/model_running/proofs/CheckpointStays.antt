@@ -3,7 +3,7 @@ use Rattle.std.proofs.Common.{Bool, List, cond, eqb, false, refl, true, ℕ, ◌
 use Rattle.std.specs.Prelude.{slice_index, slice_set}
 use lib.ListN.{get_elem?}
 use mathlib.Core.Option.{some}
-use Rattle.model_core.specs.{Actor, cleaner_op, CleanerState, closer_op, CloserState, first_of_batch, flusher_op, FlusherState, Listed, next, page_of, page_words_at, shared_left, SharedWords, user_op, UserState, with_page_words, writer_op, WriterState}
+use Rattle.model_core.specs.{Actor, cleaner_op, CleanerState, closer_op, CloserState, first_of_batch, flusher_op, FlusherState, Listed, next, page_of, page_words_at, shared_left, SharedWords, user_op, UserState, with_page_words, writer_op, WriterState, Advance, advance_op, read, tail_word, wrote}
 use Rattle.model_core.specs.DataSide.{DataSide}
 use Rattle.model_core.specs.LogSide.{LogSide}
 use Rattle.model_core.specs.Setup.{Setup}
@@ -17,6 +17,9 @@ use Rattle.model_logcore.specs.{LogGhost}
 use Rattle.model_core.specs.StartWords.{start_checkpoint}
 use Rattle.model_pagecore.specs.{CheckpointerPageFits, PageGhost}
 use Rattle.model_running.specs.RunningStore.{BothHalves}
+use Rattle.model_core.specs.declared.steps.AdvanceStep.TheVariants as advance_step
+use Rattle.model_core.specs.declared.words.LinkBuffer.TheVariants as link_buffer
+use Rattle.model_core.specs.declared.words.LinkBuffer.{LinkBuffer}
 use Rattle.model_core.specs.Actors as actor
 use Rattle.model_core.specs.declared.ops.Op.TheVariants as op
 use Rattle.model_core.specs.declared.steps.CleanerStep.TheVariants as cleaner_step
@@ -34,12 +37,19 @@ module _ (m : SharedWords) where
   either true x same = same
   either false x same = refl
 
+  taken : (b : LinkBuffer) (v : Advance) → Stays (shared_left m (advance_op b v advance_step.TakeTail))
+  taken link_buffer.Written v = either (eqb (read m word.Wtail) (tail_word v.tail false)) (wrote m word.Wtail (tail_word v.tail true)) refl
+  taken link_buffer.Closed v = either (eqb (read m word.Ctail) (tail_word v.tail false)) (wrote m word.Ctail (tail_word v.tail true)) refl
+
   user_stays : (u : UserState) (f : UserStep) → Stays (shared_left m (user_op u f))
+  user_stays u (user_step.AdvanceWritten advance_step.TakeTail) = taken link_buffer.Written u.advance
+  user_stays u (user_step.AdvanceClosed advance_step.TakeTail) = taken link_buffer.Closed u.advance
   user_stays u user_step.TakeLatch = let w = page_words_at m.page_words (page_of u) in either (eqb w.latch 0) (with_page_words m (page_of u) (record w { latch = 1 })) refl
   user_stays u user_step.AddToList = let i : ℕ = page_of u % 4 in either (eqb (slice_index m.lists i) 0) (record m { lists = slice_set m.lists i 1 }) refl
   user_stays u _ = refl
 
   writer_stays : (s : WriterState) (f : WriterStep) → Stays (shared_left m (writer_op s f))
+  writer_stays s (writer_step.Advance advance_step.TakeTail) = taken link_buffer.Written s.advance
   writer_stays s writer_step.TakeDevice = either (eqb m.device 0) (record m { device = 1 }) refl
   writer_stays s _ = refl
 
@@ -48,7 +58,7 @@ module _ (m : SharedWords) where
   flusher_stays t _ = refl
 
   closer_stays : (t : CloserState) (f : CloserStep) → Stays (shared_left m (closer_op t f))
-  closer_stays t closer_step.LoadClosedLink = refl
+  closer_stays t (closer_step.Advance advance_step.TakeTail) = taken link_buffer.Closed t.advance
   closer_stays t _ = refl
 
   cleaner_stays : (v : CleanerState) (f : CleanerStep) → Stays (shared_left m (cleaner_op v f))

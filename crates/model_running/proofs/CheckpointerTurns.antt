@@ -38,24 +38,24 @@ module _ (D : LogSide) (L : LogLaws D) (E : DataSide) (EL : DataLaws E) (c : Set
     abbrev at_pages : CheckpointerStep → Type 0
     at_pages f = CheckpointerPagesAt E c m g.log h ls d seat t f
 
-    moves : (m' : SharedWords) (y : CheckpointerState) → CheckpointerPageFits E c m' g.log h ls d seat y → m'.page_words ≡ m.page_words → m'.lists ≡ m.lists → m'.clinks ≡ m.clinks → m'.ctail ≡ m.ctail → m.sn ≡ m'.sn → m.flushed ≡ m'.flushed → Kept m' g.log ls (actor.Checkpointer y)
-    moves m' y f e1 e2 e3 e4 e5 e6 = (h, away both seat m' (actor.Checkpointer y) f e1 e2 e3 e4 e5 e6, unmoved)
+    moves : (m' : SharedWords) (y : CheckpointerState) → CheckpointerPageFits E c m' g.log h ls d seat y → m'.page_words ≡ m.page_words → m'.lists ≡ m.lists → m'.clinks ≡ m.clinks → m'.ctail ≡ m.ctail → m'.cheld ≡ m.cheld → m.sn ≡ m'.sn → m.flushed ≡ m'.flushed → Kept m' g.log ls (actor.Checkpointer y)
+    moves m' y f e1 e2 e3 e4 e5 e6 e7 = (h, away both seat m' (actor.Checkpointer y) f e1 e2 e3 e4 e5 e6 e7, unmoved)
 
     list_read : (b : Bool) → eqb (slice_index m.lists t.list) 0 ≡ b → t.step ≡ checkpointer_step.ReadList → at_pages checkpointer_step.ReadList
         → Kept (cond b (record m { lists = slice_set m.lists t.list 1 }) m) g.log ls (actor.Checkpointer (checkpointer_took t (cond b (answer.Taken (oldest_end (ls t.list))) answer.Held) checkpointer_step.ReadList))
     list_read true k is o = keeps_oldest_end E c g.seat_of m g.log (D.stable p) h ls d actors seat both.paged (mates both) (laid_of both) t at ls (λ i. refl) both.logged.sized.lists (eqb-true (slice_index m.lists t.list) 0 k) is
-    list_read false k is o = moves m (record t { checks = true; step = checkpointer_step.ReadList }) (record { alone = PF.alone; with_pages = PF.with_pages; loaded = PF.loaded; given = λ _. PF.given (ap rests is); step = o }) refl refl refl refl refl refl
+    list_read false k is o = moves m (record t { checks = true; step = checkpointer_step.ReadList }) (record { alone = PF.alone; with_pages = PF.with_pages; loaded = PF.loaded; given = λ _. PF.given (ap rests is); step = o }) refl refl refl refl refl refl refl
 
     seize_by : (b k : Bool) → t.step ≡ checkpointer_step.TakeDevice → at_pages checkpointer_step.TakeDevice
         → Kept (cond b (record m { device = 1 }) m) g.log ls (actor.Checkpointer (checkpointer_took t (cond b (cond k answer.Broken (answer.Taken None)) answer.Held) checkpointer_step.TakeDevice))
-    seize_by true true is o = moves (record m { device = 1 }) (record t { checks = false; step = checkpointer_step.GiveBroken }) (record { alone = PF.alone; with_pages = PF.with_pages; loaded = PF.loaded; given = λ _. PF.given (ap rests is); step = o }) refl refl refl refl refl refl
+    seize_by true true is o = moves (record m { device = 1 }) (record t { checks = false; step = checkpointer_step.GiveBroken }) (record { alone = PF.alone; with_pages = PF.with_pages; loaded = PF.loaded; given = λ _. PF.given (ap rests is); step = o }) refl refl refl refl refl refl refl
     seize_by true false is o = keeps_promise E c g.seat_of m g.log (D.stable p) h ls d actors seat both.paged (mates both) (laid_of both) t at is
-    seize_by false k is o = moves m (record t { checks = true; step = checkpointer_step.TakeDevice }) (record { alone = PF.alone; with_pages = PF.with_pages; loaded = PF.loaded; given = λ _. PF.given (ap rests is); step = o }) refl refl refl refl refl refl
+    seize_by false k is o = moves m (record t { checks = true; step = checkpointer_step.TakeDevice }) (record { alone = PF.alone; with_pages = PF.with_pages; loaded = PF.loaded; given = λ _. PF.given (ap rests is); step = o }) refl refl refl refl refl refl refl
 
     called_it : (b : Bool) → at_pages checkpointer_step.Checkpoint → (k : LogGhost) → LogHalf D c spare m k q (set actors seat (actor.Checkpointer (checkpointer_took t (cond b (answer.Called 0) (answer.Failed code)) checkpointer_step.Checkpoint))) → D.stable p ≤ D.stable q → ◌≡◌ {A = E.Part} e d
         → Done m g.log ls (actor.Checkpointer (checkpointer_took t (cond b (answer.Called 0) (answer.Failed code)) checkpointer_step.Checkpoint))
-    called_it true o k after ge v = pass both seat m (actor.Checkpointer (record t { code = 0; step = checkpointer_step.StoreCheckpoint })) k after ge refl refl refl refl refl (omega arith) (record { alone = PF.alone; with_pages = PF.with_pages; loaded = PF.loaded; given = λ z. absurd (cc); step = o.1 }) v
-    called_it false o k after ge v = pass both seat m (actor.Checkpointer (record t { code = code; step = checkpointer_step.StoreFailed })) k after ge refl refl refl refl refl (omega arith) (record { alone = PF.alone; with_pages = PF.with_pages; loaded = PF.loaded; given = λ z. absurd (cc); step = tt }) v
+    called_it true o k after ge v = pass both seat m (actor.Checkpointer (record t { code = 0; step = checkpointer_step.StoreCheckpoint })) k after ge refl refl refl refl refl refl (omega arith) (record { alone = PF.alone; with_pages = PF.with_pages; loaded = PF.loaded; given = λ z. absurd (cc); step = o.1 }) v
+    called_it false o k after ge v = pass both seat m (actor.Checkpointer (record t { code = code; step = checkpointer_step.StoreFailed })) k after ge refl refl refl refl refl refl (omega arith) (record { alone = PF.alone; with_pages = PF.with_pages; loaded = PF.loaded; given = λ z. absurd (cc); step = tt }) v
 
     -- every step but the call
     checkpointer_page : (f : CheckpointerStep) → (f ≡ checkpointer_step.Checkpoint → ⊥) → t.step ≡ f → at_pages f
@@ -65,17 +65,17 @@ module _ (D : LogSide) (L : LogLaws D) (E : DataSide) (EL : DataLaws E) (c : Set
     checkpointer_page checkpointer_step.GiveList n is o = (h, keeps_next_list E c g.seat_of m g.log (D.stable p) h ls d actors seat both.paged (mates both) (laid_of both) t at both.logged.sized.lists is, unmoved)
     checkpointer_page checkpointer_step.LoadFlushed n is o = (h, keeps_candidate E c g.seat_of m g.log (D.stable p) h ls d actors seat both.paged (mates both) (laid_of both) t at is, unmoved)
     checkpointer_page checkpointer_step.TakeDevice n is o = seize_by (eqb m.device 0) (D.failed p) is o
-    checkpointer_page checkpointer_step.GiveBroken n is o = moves (record m { device = 0 }) (record t { checks = true; step = checkpointer_step.TakeDevice }) (record { alone = PF.alone; with_pages = PF.with_pages; loaded = PF.loaded; given = λ _. PF.given (ap rests is); step = o }) refl refl refl refl refl refl
+    checkpointer_page checkpointer_step.GiveBroken n is o = moves (record m { device = 0 }) (record t { checks = true; step = checkpointer_step.TakeDevice }) (record { alone = PF.alone; with_pages = PF.with_pages; loaded = PF.loaded; given = λ _. PF.given (ap rests is); step = o }) refl refl refl refl refl refl refl
     checkpointer_page checkpointer_step.Checkpoint n is o = absurd (n refl)
-    checkpointer_page checkpointer_step.StoreCheckpoint n is o = moves (record m { ckpt = t.to }) (record t { own = t.to; step = checkpointer_step.GiveDevice }) (record { alone = PF.alone; with_pages = PF.with_pages; loaded = PF.loaded; given = λ _. sym o; step = tt }) refl refl refl refl refl refl
-    checkpointer_page checkpointer_step.GiveDevice n is o = moves (record m { device = 0 }) (record t { step = checkpointer_step.LoadCtail }) (record { alone = PF.alone; with_pages = PF.with_pages; loaded = PF.loaded; given = λ _. PF.given (ap rests is); step = tt }) refl refl refl refl refl refl
-    checkpointer_page checkpointer_step.StoreFailed n is o = moves (record m { failed = t.code }) (record t { step = checkpointer_step.GiveFailed }) (record { alone = PF.alone; with_pages = PF.with_pages; loaded = PF.loaded; given = λ z. absurd (cc); step = tt }) refl refl refl refl refl refl
-    checkpointer_page checkpointer_step.GiveFailed n is o = moves (record m { device = 0 }) (record t { step = checkpointer_step.Failed }) (record { alone = PF.alone; with_pages = PF.with_pages; loaded = PF.loaded; given = λ z. absurd (cc); step = tt }) refl refl refl refl refl refl
+    checkpointer_page checkpointer_step.StoreCheckpoint n is o = moves (record m { ckpt = t.to }) (record t { own = t.to; step = checkpointer_step.GiveDevice }) (record { alone = PF.alone; with_pages = PF.with_pages; loaded = PF.loaded; given = λ _. sym o; step = tt }) refl refl refl refl refl refl refl
+    checkpointer_page checkpointer_step.GiveDevice n is o = moves (record m { device = 0 }) (record t { step = checkpointer_step.LoadCtail }) (record { alone = PF.alone; with_pages = PF.with_pages; loaded = PF.loaded; given = λ _. PF.given (ap rests is); step = tt }) refl refl refl refl refl refl refl
+    checkpointer_page checkpointer_step.StoreFailed n is o = moves (record m { failed = t.code }) (record t { step = checkpointer_step.GiveFailed }) (record { alone = PF.alone; with_pages = PF.with_pages; loaded = PF.loaded; given = λ z. absurd (cc); step = tt }) refl refl refl refl refl refl refl
+    checkpointer_page checkpointer_step.GiveFailed n is o = moves (record m { device = 0 }) (record t { step = checkpointer_step.Failed }) (record { alone = PF.alone; with_pages = PF.with_pages; loaded = PF.loaded; given = λ z. absurd (cc); step = tt }) refl refl refl refl refl refl refl
     checkpointer_page checkpointer_step.Failed n is o = rested both seat (actor.Checkpointer t) at
 
     checkpointer_hears : (b : Bool) → Kept m g.log ls (actor.Checkpointer (cond b (record t { checks = false }) (record t { checks = false; code = m.failed; step = checkpointer_step.Failed })))
-    checkpointer_hears true = moves m (record t { checks = false }) (record { alone = PF.alone; with_pages = PF.with_pages; loaded = PF.loaded; given = PF.given; step = PF.step }) refl refl refl refl refl refl
-    checkpointer_hears false = moves m (record t { checks = false; code = m.failed; step = checkpointer_step.Failed }) (record { alone = PF.alone; with_pages = PF.with_pages; loaded = PF.loaded; given = λ z. absurd (cc); step = tt }) refl refl refl refl refl refl
+    checkpointer_hears true = moves m (record t { checks = false }) (record { alone = PF.alone; with_pages = PF.with_pages; loaded = PF.loaded; given = PF.given; step = PF.step }) refl refl refl refl refl refl refl
+    checkpointer_hears false = moves m (record t { checks = false; code = m.failed; step = checkpointer_step.Failed }) (record { alone = PF.alone; with_pages = PF.with_pages; loaded = PF.loaded; given = λ z. absurd (cc); step = tt }) refl refl refl refl refl refl refl
 
   pub checkpointer_turn : (t : CheckpointerState) → get_elem? actors seat ≡ some (actor.Checkpointer t) → (b : Bool) → LogServed D p Nothing (cond b (op.Load word.Failed) (checkpointer_op t t.step)) code q → DataServed E d Nothing (cond b (op.Load word.Failed) (checkpointer_op t t.step)) code e
       → (k : LogGhost) → LogHalf D c spare (shared_left m (cond b (op.Load word.Failed) (checkpointer_op t t.step))) k q (set actors seat (cond b (checked (actor.Checkpointer t) (old_of (shared_answer ls (D.failed p) code (D.stable q) m (cond b (op.Load word.Failed) (checkpointer_op t t.step))))) (own_took (actor.Checkpointer t) (shared_answer ls (D.failed p) code (D.stable q) m (cond b (op.Load word.Failed) (checkpointer_op t t.step))))))

@@ -75,7 +75,7 @@ module _ (D : LogSide) (L : LogLaws D) (E : DataSide) (EL : DataLaws E) (c : Set
     -- so too once it has stored its code
     stored_fits : (n : ℕ) (checks : Bool) → CleanerFits E c (record m { failed = n }) g.log h ls d seat (record x { checks = checks; code = n; step = cleaner_step.Failed })
     stored_fits n checks = cleaner_later E c g.seat_of m (record m { failed = n }) g.log g.log h h ls ls d d (suc seat) seat (λ z. omega arith)
-        (pages_same refl refl (omega arith) (omega arith)) (record x { checks = checks; code = n; step = cleaner_step.Failed }) (record { kept_page = λ _. refl; oldest = λ q z. z; store = refl; unfinished = refl }) (dead_fits n checks)
+        (pages_same refl refl refl refl (omega arith)) (record x { checks = checks; code = n; step = cleaner_step.Failed }) (record { kept_page = λ _. refl; oldest = λ q z. z; store = refl; unfinished = refl }) (dead_fits n checks)
 
     cleaner_page : (f : CleanerStep) → x.step ≡ f → ◌≡◌ {A = D.Part} q p → DataServed E d (Batch x.batch) (cleaner_op x f) code e
         → Done (shared_left m (cleaner_op x f)) g.log (lists_left ls (λ i. slice_index m.lists i) (cleaner_op x f)) (actor.Cleaner (cleaner_took x (shared_answer ls (D.failed p) code (D.stable q) m (cleaner_op x f)) f))
@@ -90,7 +90,7 @@ module _ (D : LogSide) (L : LogLaws D) (E : DataSide) (EL : DataLaws E) (c : Set
     cleaner_page cleaner_step.ClearOldest is s v = as_is D E c m h actors seat p q d e _ s v (h, keeps_cleared E c g.seat_of m g.log (D.stable p) h ls d actors seat both.paged (mates both) (laid_of both) x at both.logged.sized.page_words is, unmoved)
     cleaner_page cleaner_step.GiveList is s v = as_is D E c m h actors seat p q d e _ s v (h, keeps_given E c g.seat_of m g.log (D.stable p) h ls d actors seat both.paged (mates both) (laid_of both) x at both.logged.sized.lists is, unmoved)
     cleaner_page cleaner_step.ReleaseLatch is s v = as_is D E c m h actors seat p q d e _ s v (h, keeps_freed E c g.seat_of m g.log (D.stable p) h ls d actors seat both.paged (mates both) (laid_of both) x at both.logged.sized.page_words is, unmoved)
-    cleaner_page cleaner_step.StoreFailed is s v = as_is D E c m h actors seat p q d e _ s v (h, away both seat (record m { failed = x.code }) (actor.Cleaner (record x { step = cleaner_step.Failed })) (stored_fits x.code x.checks) refl refl refl refl refl refl, unmoved)
+    cleaner_page cleaner_step.StoreFailed is s v = as_is D E c m h actors seat p q d e _ s v (h, away both seat (record m { failed = x.code }) (actor.Cleaner (record x { step = cleaner_step.Failed })) (stored_fits x.code x.checks) refl refl refl refl refl refl refl, unmoved)
     cleaner_page cleaner_step.Failed is s v = as_is D E c m h actors seat p q d e _ s v (rested both seat (actor.Cleaner x) at)
 
     cleaner_hears : (b : Bool) → ◌≡◌ {A = D.Part} q p → ◌≡◌ {A = E.Part} e d → Done m g.log ls (actor.Cleaner (cond b (record x { checks = false }) (record x { checks = false; code = m.failed; step = cleaner_step.Failed })))

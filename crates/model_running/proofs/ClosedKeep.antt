@@ -32,7 +32,7 @@ user_in other _ = other
 module _ (D : LogSide) (E : DataSide) (c : Setup) (spare : ℕ) (m : SharedWords) (g : LogGhost) (h : PageGhost) (ls : ℕ → List Listed) (p : D.Part) (d : E.Part) (actors : List Actor) (seat : ℕ) (both : BothHalves D E c spare m g h ls p d actors) (k : PageGhost) (grows : Grows m h k) where
   -- the links of the recent-closed buffer after an Op
   abbrev LinksAfter : List Entry → SharedWords → Type 0
-  LinksAfter log m' = ClosedLinks log k.closed m'.ctail k.tail (lsn m'.sn) m'.clinks
+  LinksAfter log m' = ClosedLinks log k.closed m'.ctail m'.cheld k.tail (lsn m'.sn) m'.clinks
 
   still : (v : UserState) (f : UserStep) → HandIsClosed h.closed v f → HandIsClosed k.closed v f
   still v user_step.ReleaseLatch hand = grows.closed v.start hand

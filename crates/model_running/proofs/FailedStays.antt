@@ -30,6 +30,7 @@ use Rattle.model_core.specs.declared.steps.FlusherStep.TheVariants as flusher_st
 use Rattle.model_core.specs.declared.steps.CloserStep.TheVariants as closer_step
 use Rattle.model_core.specs.declared.steps.CleanerStep.TheVariants as cleaner_step
 use Rattle.model_core.specs.declared.steps.CheckpointerStep.TheVariants as checkpointer_step
+use Rattle.model_core.specs.declared.steps.AdvanceStep.TheVariants as advance_step
 use Rattle.model_core.specs.Actors as actor
 
 -- the Op doesn't add to FAILED, nor swaps it
@@ -89,11 +90,12 @@ failed_left ws long op.Rest leaves = inl refl
 
 -- no program adds to FAILED, nor swaps it
 user_leaves : (u : UserState) (f : UserStep) → LeavesFailed (user_op u f)
-user_leaves u user_step.LoadCheckpoint = tt
+user_leaves u (user_step.AdvanceWritten advance_step.LoadTail) = tt
+user_leaves u (user_step.AdvanceClosed advance_step.LoadTail) = tt
 user_leaves u _ = tt
 
 writer_leaves : (s : WriterState) (f : WriterStep) → LeavesFailed (writer_op s f)
-writer_leaves s writer_step.LoadLink = tt
+writer_leaves s (writer_step.Advance advance_step.LoadTail) = tt
 writer_leaves s _ = tt
 
 flusher_leaves : (t : FlusherState) (f : FlusherStep) → LeavesFailed (flusher_op t f)
@@ -101,7 +103,7 @@ flusher_leaves t flusher_step.LoadWrite = tt
 flusher_leaves t _ = tt
 
 closer_leaves : (t : CloserState) (f : CloserStep) → LeavesFailed (closer_op t f)
-closer_leaves t closer_step.LoadClosedLink = tt
+closer_leaves t (closer_step.Advance advance_step.LoadTail) = tt
 closer_leaves t _ = tt
 
 cleaner_leaves : (v : CleanerState) (f : CleanerStep) → LeavesFailed (cleaner_op v f)
@@ -128,10 +130,12 @@ checking_leaves false o leaves = leaves
 -- what an actor stores in FAILED isn't 0
 module _ (D : LogSide) (c : Setup) (spare : ℕ) (m : SharedWords) (g : LogGhost) (p : D.Part) (actors : List Actor) (seat : ℕ) (half : LogHalf D c spare m g p actors) (x : ℕ) where
   user_stores : (u : UserState) (f : UserStep) → user_op u f ≡ op.Store word.Failed x → 0 < x
-  user_stores u user_step.LoadCheckpoint is = absurd (cc)
+  user_stores u (user_step.AdvanceWritten advance_step.LoadTail) is = absurd (cc)
+  user_stores u (user_step.AdvanceClosed advance_step.LoadTail) is = absurd (cc)
   user_stores u _ is = absurd (cc)
 
   writer_stores : (s : WriterState) (f : WriterStep) → WriterAt D c m g p seat s f → writer_op s f ≡ op.Store word.Failed x → 0 < x
+  writer_stores s (writer_step.Advance advance_step.LoadTail) at is = absurd (cc)
   writer_stores s writer_step.StoreFailed at is = let code : s.code ≡ x = cc in subst (λ (k : ℕ). 0 < k) code at.0
   writer_stores s _ at is = absurd (cc)
 
@@ -140,7 +144,7 @@ module _ (D : LogSide) (c : Setup) (spare : ℕ) (m : SharedWords) (g : LogGhost
   flusher_stores t _ at is = absurd (cc)
 
   closer_stores : (t : CloserState) (f : CloserStep) → closer_op t f ≡ op.Store word.Failed x → 0 < x
-  closer_stores t closer_step.LoadClosedLink is = absurd (cc)
+  closer_stores t (closer_step.Advance advance_step.LoadTail) is = absurd (cc)
   closer_stores t _ is = absurd (cc)
 
   cleaner_stores : (v : CleanerState) (f : CleanerStep) → v.step ≡ f → CleanerTold D c m g p v → cleaner_op v f ≡ op.Store word.Failed x → 0 < x

@@ -1,8 +1,10 @@
 -- What the log half of the invariant says of a run that has ended.
-use Rattle.std.proofs.Common.{List, Some, ap, arith, subst, sym, ℕ, ◌<◌, ◌≡◌, ◌≤◌}
+use Rattle.std.proofs.Common.{List, Some, ap, arith, subst, sym, ℕ, ◌<◌, ◌≡◌, ◌≤◌, ◌∙◌}
 use Rattle.model_base.specs.declared.limits.TheConstants.{LSN_LIMIT}
 use Rattle.model_core.proofs.Lsns.{lsn_le}
 use Rattle.model_core.specs.{Actor, flat, IsBound, lsn, SharedWords}
+use Rattle.model_core.proofs.Tails.{tail_in}
+use Rattle.model_report.specs.declared.entry.Marks.{Marks}
 use Rattle.model_core.specs.LogSide.{LogSide}
 use Rattle.model_core.specs.Setup.{Setup}
 use Rattle.model_running.proofs.Groups.{history_wholes}
@@ -23,7 +25,7 @@ use Rattle.model_theorem.specs.{IsRun, LosesOnlyByFailure, Opened}
 
 -- the marks by name are those in the list of words
 pub marks_same : (ws : List ℕ) (m : SharedWords) → ws ≡ flat m → marks_in ws ≡ word_marks m
-marks_same ws m is = ap marks_in is
+marks_same ws m is = ap marks_in is ∙ ap (λ (n : ℕ). let marks : Marks = record { wtail = n; write = m.write; flushed = m.flushed; ckpt = m.ckpt } in marks) (tail_in m.wtail m.wheld)
 
 module _ (D : LogSide) (c : Setup) (spare : ℕ) (m : SharedWords) (g : LogGhost) (p : D.Part) (actors : List Actor) (half : LogHalf D c spare m g p actors) where
   boundary : (x mark : ℕ) → mark ≡ lsn x → IsBound c.base g.log x → IsBoundary (lsn c.base) (entry_spans (history_of g.answered (word_marks m) g.log)) mark
@@ -39,7 +41,7 @@ module _ (D : LogSide) (c : Setup) (spare : ℕ) (m : SharedWords) (g : LogGhost
     wtail = boundary g.wtail m.wtail O.wtail_is O.wtail_bound;
     write = boundary g.write m.write O.write_is O.write_bound;
     flushed = boundary g.flushed m.flushed O.flushed_is O.flushed_bound;
-    write_within = (let a = O.write_is in let b = O.wtail_is in let l = lsn_le g.write g.wtail (let x = O.write_read in let y = O.read_wtail in omega arith) in omega arith);
+    write_within = (let a = O.write_is in let b = O.wtail_is in let l = lsn_le g.write g.wtail (let x = O.write_read in let y = O.read_target in let z = O.target_wtail in omega arith) in omega arith);
   }
 
   -- its groups are those of the log

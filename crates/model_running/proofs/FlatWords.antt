@@ -2,7 +2,8 @@
 use Rattle.std.proofs.Common.{Bool, List, [], ap, arith, cond, eqb, false, length, refl, set, suc, sym, true, zero, ℕ, ◌%◌, ◌*◌, ◌++◌, ◌+◌, ◌<◌, ◌∙◌, ◌∷◌, ◌≡◌}
 use Rattle.std.specs.Prelude.{None, slice_index, slice_set}
 use Rattle.model_core.proofs.Groups.{back, front}
-use Rattle.model_core.specs.{answer_of, cells_at, closed_links_at, firsts_at, flat, flat_page_words, index, IsSized, IsWord, list_answer, Listed, oldest_end, OpWords, page_stride, page_words_at, pages_at, PageWords, read, rows, shared_answer, shared_left, SharedWords, with_page_words, words_left, wrote}
+use Rattle.model_core.proofs.Tails.{word_of}
+use Rattle.model_core.specs.{answer_of, cells_at, closed_links_at, firsts_at, flat, flat_page_words, index, IsSized, IsWord, list_answer, Listed, oldest_end, OpWords, page_stride, page_words_at, pages_at, PageWords, read, rows, shared_answer, shared_left, SharedWords, tail_word, with_page_words, words_left, wrote}
 use Rattle.model_core.specs.declared.ops.Answer.{Answer}
 use Rattle.model_core.specs.declared.ops.Op.{Op}
 use Rattle.model_core.specs.declared.words.Word.{Word}
@@ -40,7 +41,7 @@ module _ (pages : ℕ) (m : SharedWords) (s : IsSized pages m) where
   past : (k j : ℕ) → k ≡ 8 + j → slice_index (flat m) k ≡ slice_index (rows m) j
   past k j h = ap (slice_index (flat m)) (let e : k ≡ suc (suc (suc (suc (suc (suc (suc (suc j))))))) = omega arith in e)
 
-  past_set : (k j x : ℕ) → k ≡ 8 + j → slice_set (flat m) k x ≡ m.sn ∷ m.write ∷ m.wtail ∷ m.flushed ∷ m.ckpt ∷ m.ctail ∷ m.failed ∷ m.device ∷ slice_set (rows m) j x
+  past_set : (k j x : ℕ) → k ≡ 8 + j → slice_set (flat m) k x ≡ m.sn ∷ m.write ∷ tail_word m.wtail m.wheld ∷ m.flushed ∷ m.ckpt ∷ tail_word m.ctail m.cheld ∷ m.failed ∷ m.device ∷ slice_set (rows m) j x
   past_set k j x h = ap (λ (z : ℕ). slice_set (flat m) z x) (let e : k ≡ suc (suc (suc (suc (suc (suc (suc (suc j))))))) = omega arith in e)
 
   abbrev r1 : List ℕ
@@ -99,7 +100,7 @@ module _ (pages : ℕ) (m : SharedWords) (s : IsSized pages m) where
   flat_read (word.Frame p i) h = paged_read (pages_at + (p * page_stride + (3 + i))) (p * page_stride + (3 + i)) refl ∙ leaf_read m.page_words p (3 + i) sizes (long p h.0) (let z = h.1 in omega arith) ∙ ap (slice_index (leaf_words (page_words_at m.page_words p))) (let e : 3 + i ≡ suc (suc (suc i)) = omega arith in e)
 
   abbrev first_offsets : List ℕ → List ℕ
-  first_offsets z = m.sn ∷ m.write ∷ m.wtail ∷ m.flushed ∷ m.ckpt ∷ m.ctail ∷ m.failed ∷ m.device ∷ z
+  first_offsets z = m.sn ∷ m.write ∷ tail_word m.wtail m.wheld ∷ m.flushed ∷ m.ckpt ∷ tail_word m.ctail m.cheld ∷ m.failed ∷ m.device ∷ z
 
   set1 : (i x : ℕ) → slice_set (rows m) (4 + i) x ≡ m.lists ++ slice_set r1 i x
   set1 i x = set_back m.lists r1 4 i x (sym s.lists)
@@ -122,10 +123,10 @@ module _ (pages : ℕ) (m : SharedWords) (s : IsSized pages m) where
   pub flat_wrote : (w : Word) → IsWord pages w → (x : ℕ) → slice_set (flat m) (index w) x ≡ flat (wrote m w x)
   flat_wrote word.Sn h x = refl
   flat_wrote word.Write h x = refl
-  flat_wrote word.Wtail h x = refl
+  flat_wrote word.Wtail h x = ap (λ (n : ℕ). m.sn ∷ m.write ∷ n ∷ m.flushed ∷ m.ckpt ∷ tail_word m.ctail m.cheld ∷ m.failed ∷ m.device ∷ rows m) (sym (word_of x))
   flat_wrote word.Flushed h x = refl
   flat_wrote word.Ckpt h x = refl
-  flat_wrote word.Ctail h x = refl
+  flat_wrote word.Ctail h x = ap (λ (n : ℕ). m.sn ∷ m.write ∷ tail_word m.wtail m.wheld ∷ m.flushed ∷ m.ckpt ∷ n ∷ m.failed ∷ m.device ∷ rows m) (sym (word_of x))
   flat_wrote word.Failed h x = refl
   flat_wrote word.Device h x = refl
   flat_wrote (word.List i) h x = past_set (8 + i) i x refl ∙ ap first_offsets (set_front m.lists r1 i x (omega (arith, s.lists)))

@@ -64,7 +64,7 @@ pub spans_end : (log : List core.Entry) (s n : ℕ) → Tiles s log n → run.en
 spans_end [] s n t = ap lsn t
 spans_end (e ∷ es) s n t = ap (λ (k : ℕ). run.end_of (lsn (k + length e.bytes)) (log_spans es)) t.0 ∙ spans_end es (s + length e.bytes) n t.3
 
--- a group ends so many bytes behind its start as its text has
+-- a group ends as many bytes after its start as its text has
 pub has_length : (e : core.Entry) (whole : Whole) → IsWholeOf e whole → HasItsLength whole
 has_length e whole of =
     let a : whole.start ≡ lsn e.start = ap (λ (z : Span). z.start) of.place in

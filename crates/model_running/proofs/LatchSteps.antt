@@ -5,13 +5,14 @@ use mathlib.Core.Option.{some, some-injective, some-ne-none}
 use native.Mathlib.Decide.{ℕ_discrete}
 use Rattle.model_core.proofs.Lists.{at_last, at_longer}
 unfoldable use Rattle.model_core.specs.{lanes}
-use Rattle.model_core.specs.{after_link, BatchPage, can_close, can_link, cells_of, change_at, changes, cleaner_checked, cleaner_took, CleanerState, end_round, first_of_batch, frame_count, group_bytes, is_whole, word_step, group_end, has_room, has_taken, next_count, next_in_round, old_of, page_loaded, page_of, to_next_page, user_checked, user_took, UserState}
+use Rattle.model_core.specs.{after_link, BatchPage, can_close, can_link, cells_of, change_at, changes, cleaner_checked, cleaner_took, CleanerState, end_round, first_of_batch, frame_count, group_bytes, is_whole, word_step, group_end, has_room, has_taken, next_count, next_in_round, old_of, page_loaded, page_of, to_next_page, user_checked, user_took, UserState, advance_next, frees, stays_put, tail_of, with_close_room, with_link_room, without_close_room, without_link_room}
 use Rattle.model_core.specs.declared.limits.TheConstants.{BATCH_PAGES, FRAME_CELLS}
 use Rattle.model_core.specs.declared.ops.Answer.{Answer}
 use Rattle.model_core.specs.declared.steps.CleanerStep.{CleanerStep}
 use Rattle.model_core.specs.declared.steps.UserStep.{UserStep}
 use Rattle.model_log.specs.declared.layout.TheConstants.{BLOCK_DATA}
 use Rattle.model_pagecore.specs.{CleanerHasLatch, HasLatch, IsAmong, IsInBatch, UserHasLatch}
+use Rattle.model_core.specs.declared.steps.AdvanceStep.TheVariants as advance_step
 use Rattle.model_core.specs.Actors as actor
 use Rattle.model_core.specs.declared.ops.Answer.TheVariants as answer
 use Rattle.model_core.specs.declared.steps.CleanerStep.TheVariants as cleaner_step
@@ -62,6 +63,15 @@ module _ (u : UserState) (p : ℕ) where
       by true last held more = let z = eqb-true (u.page + 1) (length (changes u)) last in let a = held.1 in let l = held.2 in absurd (more (omega arith))
       by false last held more = inr (held.0, (let a = held.1 in omega arith), held.2, held.3)
 
+  -- its next step after one of an advance
+  advanced : (x : UserState) (w f : Bool) (first again on : UserStep) → At x first → At x again → At x on → At x (cond w first (cond f again on))
+  advanced x w f first again on a b c = pick x w first (cond f again on) a (pick x f again on b c)
+
+  -- it has found room in the recent-closed buffer, and begins with the cells of its page
+  begins : (n : ℕ) → IsOwn → UserHas (with_close_room u n)
+  begins n own = let x : UserState = with_close_room u n in
+      pick x (eqb u.cell (length (cells_of u))) user_step.StoreNewest (word_step (cells_of u) u.cell) (inr own) (pick x (is_whole (cells_of u) u.cell) user_step.StoreFrame user_step.LoadFrame (inr own) (inr own))
+
   pub user_goes : (n : ℕ) (f : UserStep) → (f ≡ user_step.ReleaseLatch → page_of u ≢ p) → UserHasLatch u f p → UserHas (user_took u n f)
   user_goes n user_step.LoadCheckpoint other held = absurd held
   user_goes n user_step.LoadSn other held = absurd held
@@ -73,11 +83,13 @@ module _ (u : UserState) (p : ℕ) where
       let x : UserState = user_took u n user_step.AddCell in
       pick x (eqb (u.copied + next_count u) (length (group_bytes u))) (cond (ltb (u.start / BLOCK_DATA) (group_end u / BLOCK_DATA)) user_step.StoreFirst user_step.LoadWtail) user_step.AddCell (pick x (ltb (u.start / BLOCK_DATA) (group_end u / BLOCK_DATA)) user_step.StoreFirst user_step.LoadWtail (inr held) (inr held)) (inr held)
   user_goes n user_step.StoreFirst other held = inr held
-  user_goes n user_step.LoadWtail other held = user_either (can_link u n) (record u { loaded = record u.loaded { wtail = n }; step = user_step.StoreLink }) (record u { loaded = record u.loaded { wtail = n }; checks = true; step = user_step.LoadWtail }) (inr held) (inr held)
+  user_goes n user_step.LoadWtail other held = user_either (can_link u (tail_of n)) (with_link_room u n) (without_link_room u n false (user_step.AdvanceWritten advance_step.LoadTail)) (inr held) (inr held)
+  user_goes n (user_step.AdvanceWritten s) other held = advanced (user_took u n (user_step.AdvanceWritten s)) (stays_put u.advance n s) (frees s) user_step.LoadWtail user_step.ReloadWtail (user_step.AdvanceWritten (advance_next u.advance n s)) (inr held) (inr held) (inr held)
+  user_goes n user_step.ReloadWtail other held = user_either (can_link u (tail_of n)) (with_link_room u n) (without_link_room u n true user_step.LoadWtail) (inr held) (inr held)
   user_goes n user_step.StoreLink other held = linked (eqb (length (changes u)) 0) refl held
-  user_goes n user_step.LoadCtail other held =
-      let x : UserState = record u { loaded = record u.loaded { ctail = n }; step = cond (eqb u.cell (length (cells_of u))) user_step.StoreNewest (word_step (cells_of u) u.cell) } in
-      user_either (can_close u n) x (record u { loaded = record u.loaded { ctail = n }; checks = true; step = user_step.LoadCtail }) (pick x (eqb u.cell (length (cells_of u))) user_step.StoreNewest (word_step (cells_of u) u.cell) (inr held) (pick x (is_whole (cells_of u) u.cell) user_step.StoreFrame user_step.LoadFrame (inr held) (inr held))) (inr held)
+  user_goes n user_step.LoadCtail other held = user_either (can_close u (tail_of n)) (with_close_room u n) (without_close_room u n false (user_step.AdvanceClosed advance_step.LoadTail)) (begins n held) (inr held)
+  user_goes n (user_step.AdvanceClosed s) other held = advanced (user_took u n (user_step.AdvanceClosed s)) (stays_put u.advance n s) (frees s) user_step.LoadCtail user_step.ReloadCtail (user_step.AdvanceClosed (advance_next u.advance n s)) (inr held) (inr held) (inr held)
+  user_goes n user_step.ReloadCtail other held = user_either (can_close u (tail_of n)) (with_close_room u n) (without_close_room u n true user_step.LoadCtail) (begins n held) (inr held)
   user_goes n user_step.LoadFrame other held = inr held
   user_goes n user_step.StoreFrame other held = pick (user_took u n user_step.StoreFrame) (eqb (u.cell + frame_count u) (length (cells_of u))) user_step.StoreNewest (word_step (cells_of u) (u.cell + frame_count u)) (inr held) (pick (user_took u n user_step.StoreFrame) (is_whole (cells_of u) (u.cell + frame_count u)) user_step.StoreFrame user_step.LoadFrame (inr held) (inr held))
   user_goes n user_step.StoreNewest other held = inr held

@@ -4,8 +4,8 @@ use Rattle.std.specs.Prelude.{slice_index, slice_set}
 use lib.ListN.{get_elem?}
 use mathlib.Core.Option.{some, some-injective}
 use native.Mathlib.Decide.{ℕ_discrete}
-use Rattle.model_core.proofs.Lists.{set_else}
-use Rattle.model_core.specs.{Actor, blank_words, changes, checkpointer_op, CheckpointerState, cleaner_checked, cleaner_op, cleaner_took, CleanerState, closer_op, CloserState, Entry, first_of_batch, frame_word, flusher_op, FlusherState, group_end, heard, Listed, lsn, next, next_in_round, old_of, page_of, page_words_at, PageWords, stored_word, shared_answer, shared_left, SharedWords, took, user_checked, user_op, user_took, UserState, with_page_words, writer_op, WriterState}
+use Rattle.model_core.proofs.Lists.{set_at, set_else}
+use Rattle.model_core.specs.{Actor, blank_words, changes, checkpointer_op, CheckpointerState, cleaner_checked, cleaner_op, cleaner_took, CleanerState, closer_op, CloserState, Entry, first_of_batch, frame_word, flusher_op, FlusherState, group_end, heard, Listed, lsn, next, next_in_round, old_of, page_of, page_words_at, PageWords, stored_word, shared_answer, shared_left, SharedWords, took, user_checked, user_op, user_took, UserState, with_page_words, writer_op, WriterState, Advance, advance_op, read, tail_word, wrote}
 use Rattle.model_core.specs.DataSide.{DataSide}
 use Rattle.model_core.specs.LogSide.{LogSide}
 use Rattle.model_core.specs.Setup.{Setup}
@@ -17,13 +17,15 @@ use Rattle.model_core.specs.declared.steps.CloserStep.{CloserStep}
 use Rattle.model_core.specs.declared.steps.FlusherStep.{FlusherStep}
 use Rattle.model_core.specs.declared.steps.UserStep.{UserStep}
 use Rattle.model_core.specs.declared.steps.WriterStep.{WriterStep}
-use Rattle.model_logcore.proofs.Frame.{set_at}
 use Rattle.model_logcore.specs.{LogGhost}
 use Rattle.model_pagecore.specs.{CleanerFits, CleanerHasLatch, Grows, HasLatch, HoldsOnly, PageFits, PageGhost, UserHasLatch, UserPageFits, UserPagesAt}
 use Rattle.model_pagecore.specs.PageHalf.{PageHalf}
 use Rattle.model_running.proofs.LatchSteps.{cleaner_goes, cleaner_hears, latch_taken, user_goes, user_hears}
 use Rattle.model_running.specs.LatchesHeld.{LatchesAreHeld}
 use Rattle.model_running.specs.RunningStore.{BothHalves}
+use Rattle.model_core.specs.declared.steps.AdvanceStep.TheVariants as advance_step
+use Rattle.model_core.specs.declared.words.LinkBuffer.TheVariants as link_buffer
+use Rattle.model_core.specs.declared.words.LinkBuffer.{LinkBuffer}
 use Rattle.model_core.specs.Actors as actor
 use Rattle.model_core.specs.declared.ops.Answer.TheVariants as answer
 use Rattle.model_core.specs.declared.ops.Op.TheVariants as op
@@ -60,7 +62,12 @@ module _ (m : SharedWords) where
   either true x same = same
   either false x same = refl
 
+  taken : (b : LinkBuffer) (v : Advance) → SamePages (shared_left m (advance_op b v advance_step.TakeTail))
+  taken link_buffer.Written v = either (eqb (read m word.Wtail) (tail_word v.tail false)) (wrote m word.Wtail (tail_word v.tail true)) refl
+  taken link_buffer.Closed v = either (eqb (read m word.Ctail) (tail_word v.tail false)) (wrote m word.Ctail (tail_word v.tail true)) refl
+
   writer_pages : (s : WriterState) (f : WriterStep) → SamePages (shared_left m (writer_op s f))
+  writer_pages s (writer_step.Advance advance_step.TakeTail) = taken link_buffer.Written s.advance
   writer_pages s writer_step.TakeDevice = either (eqb m.device 0) (record m { device = 1 }) refl
   writer_pages s _ = refl
 
@@ -69,7 +76,7 @@ module _ (m : SharedWords) where
   flusher_pages t _ = refl
 
   closer_pages : (t : CloserState) (f : CloserStep) → SamePages (shared_left m (closer_op t f))
-  closer_pages t closer_step.LoadClosedLink = refl
+  closer_pages t (closer_step.Advance advance_step.TakeTail) = taken link_buffer.Closed t.advance
   closer_pages t _ = refl
 
   checkpointer_pages : (t : CheckpointerState) (f : CheckpointerStep) → SamePages (shared_left m (checkpointer_op t f))
@@ -169,6 +176,10 @@ module _ (D : LogSide) (E : DataSide) (c : Setup) (spare : ℕ) (m : SharedWords
       here = page_words_at m.page_words (page_of u)
 
       user_keeps : (f : UserStep) → u.step ≡ f → UserPageFits E c (shared_left m (user_op u f)) l k ls' e seat (user_after f) → UserKept (shared_left m (user_op u f)) (user_after f)
+      user_keeps (user_step.AdvanceWritten advance_step.TakeTail) is fits =
+          user_quiet (shared_left m (user_op u (user_step.AdvanceWritten advance_step.TakeTail))) (heard (shared_answer ls broken code mark m (user_op u (user_step.AdvanceWritten advance_step.TakeTail)))) (user_step.AdvanceWritten advance_step.TakeTail) is (λ z. absurd (cc)) (taken m link_buffer.Written u.advance)
+      user_keeps (user_step.AdvanceClosed advance_step.TakeTail) is fits =
+          user_quiet (shared_left m (user_op u (user_step.AdvanceClosed advance_step.TakeTail))) (heard (shared_answer ls broken code mark m (user_op u (user_step.AdvanceClosed advance_step.TakeTail)))) (user_step.AdvanceClosed advance_step.TakeTail) is (λ z. absurd (cc)) (taken m link_buffer.Closed u.advance)
       user_keeps user_step.TakeLatch is fits = take_by l ls' e is (eqb here.latch 0) fits
       user_keeps user_step.StoreFrame is fits = user_stores (page_of u) (record here { frame = slice_set here.frame (frame_word u) (stored_word u) }) 0 user_step.StoreFrame is (λ z. absurd (cc)) refl
       user_keeps user_step.StoreNewest is fits = user_stores (page_of u) (record here { newest = lsn (group_end u) }) 0 user_step.StoreNewest is (λ z. absurd (cc)) refl

@@ -28,10 +28,13 @@ use Rattle.model_core.specs.declared.steps.FlusherStep.TheVariants as flusher_st
 use Rattle.model_core.specs.declared.steps.CloserStep.TheVariants as closer_step
 use Rattle.model_core.specs.declared.steps.CleanerStep.TheVariants as cleaner_step
 use Rattle.model_core.specs.declared.steps.CheckpointerStep.TheVariants as checkpointer_step
+use Rattle.model_core.specs.declared.steps.AdvanceStep.TheVariants as advance_step
 use Rattle.model_core.specs.Actors as actor
 
 module _ (D : LogSide) (E : DataSide) (c : Setup) (spare : ℕ) (m : SharedWords) (g : LogGhost) (h : PageGhost) (ls : ℕ → List Listed) (p : D.Part) (d : E.Part) (actors : List Actor) (seat : ℕ) (both : BothHalves D E c spare m g h ls p d actors) where
   user_lists : (u : UserState) → get_elem? actors seat ≡ some (actor.User u) → (f : UserStep) → UserPagesAt E c m g.log h ls d seat u f → ListReady c.pages ls (user_op u f)
+  user_lists u at (user_step.AdvanceWritten advance_step.LoadTail) o = tt
+  user_lists u at (user_step.AdvanceClosed advance_step.LoadTail) o = tt
   user_lists u at user_step.AddToList o =
       let work = o.0 in let near = o.1 in
       let here = work.here near.1 in
@@ -44,7 +47,7 @@ module _ (D : LogSide) (E : DataSide) (c : Setup) (spare : ℕ) (m : SharedWords
   user_lists u at _ o = tt
 
   writer_lists : (s : WriterState) (f : WriterStep) → ListReady c.pages ls (writer_op s f)
-  writer_lists s writer_step.LoadLink = tt
+  writer_lists s (writer_step.Advance advance_step.LoadTail) = tt
   writer_lists s _ = tt
 
   flusher_lists : (t : FlusherState) (f : FlusherStep) → ListReady c.pages ls (flusher_op t f)
@@ -52,7 +55,7 @@ module _ (D : LogSide) (E : DataSide) (c : Setup) (spare : ℕ) (m : SharedWords
   flusher_lists t _ = tt
 
   closer_lists : (t : CloserState) (f : CloserStep) → ListReady c.pages ls (closer_op t f)
-  closer_lists t closer_step.LoadClosedLink = tt
+  closer_lists t (closer_step.Advance advance_step.LoadTail) = tt
   closer_lists t _ = tt
 
   checkpointer_lists : (t : CheckpointerState) (f : CheckpointerStep) → ListReady c.pages ls (checkpointer_op t f)

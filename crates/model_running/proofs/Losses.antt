@@ -129,4 +129,5 @@ module _ (D : LogSide) (c : Setup) (spare : ℕ) (m : SharedWords) (g : LogGhost
       by user_step.LoadCheckpoint is h = h.1
       by user_step.Done is h = absurd (open_user (inl is))
       by user_step.Failed is h = absurd (open_user (inr is))
+      by (user_step.AdvanceWritten s) is h = h.0.1
       by _ is h = h.1

@@ -1,7 +1,7 @@
 -- Each turn leaves each actor in its seat.
 use Rattle.std.proofs.Common.{Bool, List, [], ap, arith, cond, false, inl, inr, length, map, refl, set, subst, suc, sym, true, zero, ℕ, ⊎_elim, ◌++◌, ◌+◌, ◌<◌, ◌==◌, ◌∙◌, ◌∷◌, ◌≡◌, ◌⊎◌}
 use lib.ListN.{get_elem?}
-use Rattle.model_core.specs.{Actor, after_link, answered, can_close, can_link, cells_of, changes, checkpointer_checked, checkpointer_took, cleaner_checked, cleaner_took, closer_checked, closer_took, Core, flusher_checked, flusher_took, FlusherState, has_passed, has_room, has_space, heard, mode, old_of, to_next_page, took, user_checked, user_took, UserState, with_mark, word_step, writer_checked, writer_took, WriterState}
+use Rattle.model_core.specs.{Actor, after_link, answered, can_close, can_link, changes, checkpointer_checked, checkpointer_took, cleaner_checked, cleaner_took, closer_checked, closer_took, Core, flusher_checked, flusher_took, FlusherState, has_passed, has_room, has_space, heard, mode, old_of, to_next_page, took, user_checked, user_took, UserState, with_mark, writer_checked, writer_took, WriterState, tail_of, with_close_room, with_link_room, without_close_room, without_link_room}
 use Rattle.model_core.specs.DataSide.{DataSide}
 use Rattle.model_core.specs.LogSide.{LogSide}
 use Rattle.model_core.specs.Setup.{Setup}
@@ -12,6 +12,7 @@ use Rattle.model_core.specs.declared.steps.UserStep.{UserStep}
 use Rattle.model_running.specs.Schedule.{TakesTurns}
 use Rattle.model_running.specs.Seating.{ArePageActors, AreSeated, PageActors}
 use Rattle.model_core.specs.declared.steps.UserStep.TheVariants as user_step
+use Rattle.model_core.specs.declared.steps.AdvanceStep.TheVariants as advance_step
 use Rattle.model_core.specs.Actors as actor
 use mathlib.Core.Option as maybe
 
@@ -37,9 +38,11 @@ took_same : (u : UserState) (n : ℕ) (f : UserStep) → (user_took u n f).user 
 took_same u n user_step.LoadSn = user_by (has_space u n) (record u { page = 0; cell = 0; step = cond (length (changes u) == 0) user_step.Reserve user_step.TakeLatch }) (record u { checks = true; step = user_step.LoadCheckpoint }) u.user refl refl
 took_same u n user_step.TakeLatch = user_by (n == 0) (record u { page = u.page + 1; step = cond (u.page + 1 == length (changes u)) user_step.Reserve user_step.TakeLatch }) (record u { checks = true; step = user_step.TakeLatch }) u.user refl refl
 took_same u n user_step.LoadWrite = user_by (has_room u n) (record u { loaded = record u.loaded { write = n }; step = user_step.AddCell }) (record u { loaded = record u.loaded { write = n }; checks = true; step = user_step.LoadWrite }) u.user refl refl
-took_same u n user_step.LoadWtail = user_by (can_link u n) (record u { loaded = record u.loaded { wtail = n }; step = user_step.StoreLink }) (record u { loaded = record u.loaded { wtail = n }; checks = true; step = user_step.LoadWtail }) u.user refl refl
+took_same u n user_step.LoadWtail = user_by (can_link u (tail_of n)) (with_link_room u n) (without_link_room u n false (user_step.AdvanceWritten advance_step.LoadTail)) u.user refl refl
+took_same u n user_step.ReloadWtail = user_by (can_link u (tail_of n)) (with_link_room u n) (without_link_room u n true user_step.LoadWtail) u.user refl refl
 took_same u n user_step.StoreLink = user_by (length (changes u) == 0) (after_link u) (record u { step = user_step.LoadCtail }) u.user (link_same u) refl
-took_same u n user_step.LoadCtail = user_by (can_close u n) (record u { loaded = record u.loaded { ctail = n }; step = cond (u.cell == length (cells_of u)) user_step.StoreNewest (word_step (cells_of u) u.cell) }) (record u { loaded = record u.loaded { ctail = n }; checks = true; step = user_step.LoadCtail }) u.user refl refl
+took_same u n user_step.LoadCtail = user_by (can_close u (tail_of n)) (with_close_room u n) (without_close_room u n false (user_step.AdvanceClosed advance_step.LoadTail)) u.user refl refl
+took_same u n user_step.ReloadCtail = user_by (can_close u (tail_of n)) (with_close_room u n) (without_close_room u n true user_step.LoadCtail) u.user refl refl
 took_same u n user_step.LoadOldest = user_by (n == 0) (record u { step = user_step.AddToList }) (to_next_page u) u.user refl refl
 took_same u n user_step.ReleaseLatch = user_by (u.page + 1 == length (changes u)) (after_link u) (record u { page = u.page + 1; step = user_step.ReleaseLatch }) u.user (link_same u) refl
 took_same u n user_step.AwaitMark = user_by (has_passed u n) (answered (record u { loaded = with_mark u n })) (record u { loaded = with_mark u n; checks = true; step = user_step.AwaitMark }) u.user refl refl
@@ -91,7 +94,7 @@ users_forth (x ∷ xs) [] i u same at = absurd same
 users_forth (x ∷ xs) (y ∷ ys) zero u same at = (y, refl, same.0 ∙ ap (λ (z : UserState). z.user) (maybe.some-injective x u at))
 users_forth (x ∷ xs) (y ∷ ys) (suc i) u same at = users_forth xs ys i u same.1 at
 
--- a seat among the users, or behind them
+-- a seat among the users, or after them
 pub record AtUser (users : List UserState) (rest : List Actor) (seat : ℕ) (b : Actor) : Type 0 where
   pub after : List UserState
   pub are : ◌≡◌ {A = List Actor} (set (map actor.User users ++ rest) seat b) (map actor.User after ++ rest)

@@ -13,7 +13,7 @@ use Rattle.model_logcore.proofs.StartHolds.{half_starts, start}
 use Rattle.model_logcore.specs.{checkpointer_start, cleaner_start, closer_start, left_to_reserve, StartActor, sum_over_actors}
 use Rattle.model_core.specs.StartWords.{start_checkpoint}
 use Rattle.model_pagecore.proofs.PageStart.{pages_start}
-use Rattle.model_pagecore.specs.{CheckpointerPageFits, CleanerFits, CloserFits, PageFits, PageGhost, UserPagesAt}
+use Rattle.model_pagecore.specs.{CheckpointerPageFits, CleanerFits, CloserFits, PageFits, PageGhost, UserPagesAt, UserClosingAt}
 use Rattle.model_running.specs.RunningStore.{BothHalves, RunningStore}
 use Rattle.model_running.specs.StartStore.{StartStore}
 use Rattle.model_running.specs.UsersClosed.{HandIsClosed}
@@ -26,13 +26,14 @@ start_pages c = record {
   list_holder = λ _. 0;
   given = start_checkpoint c;
   tail = lsn c.base;
+  advancer = 0;
   kept_page = c.opened;
   unfinished = [];
 }
 
 module _ (D : LogSide) (E : DataSide) (c : Setup) (m : SharedWords) (p : D.Part) (d : E.Part) (seat_of : ℕ → ℕ) (writer : ℕ) (actors : List Actor) (S : StartStore D E c m p d seat_of writer actors) where
   closer_fits : (seat : ℕ) (t : CloserState) → seat ≡ c.closer → ◌≡◌ {A = CloserState} t (closer_start c) → CloserFits E c m [] (start_pages c) (λ _. []) d seat t
-  closer_fits seat t alone is = subst (λ (z : CloserState). CloserFits E c m [] (start_pages c) (λ _. []) d seat z) (sym is) (record { alone = alone; tail = refl; step = tt })
+  closer_fits seat t alone is = subst (λ (z : CloserState). CloserFits E c m [] (start_pages c) (λ _. []) d seat z) (sym is) (record { alone = alone; loaded = omega arith; step = tt })
 
   cleaner_fits : (seat : ℕ) (v : CleanerState) → seat ≡ c.cleaner → ◌≡◌ {A = CleanerState} v (cleaner_start c) → CleanerFits E c m [] (start_pages c) (λ _. []) d seat v
   cleaner_fits seat v alone is = subst (λ (z : CleanerState). CleanerFits E c m [] (start_pages c) (λ _. []) d seat z) (sym is) (record {
@@ -64,6 +65,7 @@ module _ (D : LogSide) (E : DataSide) (c : Setup) (m : SharedWords) (p : D.Part)
     ascending = λ j n a b lt l. subst (λ (ls : List Line). b < length (change_at (line_at ls j).changes n).cells → (get_or (change_at (line_at ls j).changes n).cells a (record { at = 0; value = 0 })).at < (get_or (change_at (line_at ls j).changes n).cells b (record { at = 0; value = 0 })).at) (sym k.lines) (S.script.ascending u.user j n a b lt) l;
     are_bytes = λ j n i. subst (λ (ls : List Line). (get_or (change_at (line_at ls j).changes n).cells i (record { at = 0; value = 0 })).value < 256) (sym k.lines) (S.script.are_bytes u.user j n i);
     loaded = (let z : u.loaded.ctail ≡ 0 = ap (λ (z : LoadedMarks). z.ctail) k.loaded in omega arith);
+    closing = subst (λ f. UserClosingAt E c m [] (start_pages c) (λ _. []) d seat u.advance f) (sym k.step) tt;
     step = subst (λ f. UserPagesAt E c m [] (start_pages c) (λ _. []) d seat u f) (sym k.step) tt;
   }
   page_fits seat (actor.Writer s) at h = tt
@@ -81,6 +83,7 @@ module _ (D : LogSide) (E : DataSide) (c : Setup) (m : SharedWords) (p : D.Part)
     asked = (let z = S.log_part.asked in omega arith);
     latches = λ q there latched. let free = ap (λ (x : PageWords). x.latch) (S.page_words.page_words q there) in absurd (omega arith);
     stays = λ _. w.ckpt;
+    advanced = λ held. let free = S.page_words.cheld in absurd (cc);
     closed = λ seat u at. let k = new_user_is c u (S.each seat (actor.User u) at).1 in record {
       answered = λ i e is. absurd (some-ne-none e (sym is));
       in_hand = subst (λ f. HandIsClosed (λ _. false) u f) (sym k.step) tt;

@@ -3,7 +3,7 @@ use Rattle.std.proofs.Common.{Bool, List, [], ap, arith, cond, eqb, false, get_o
 use Rattle.std.specs.Prelude.{slice_index}
 use lib.ListN.{get_elem?}
 use mathlib.Core.Option.{some}
-use Rattle.model_core.specs.{Actor, answer_of, BatchPage, checkpointer_op, CheckpointerState, cleaner_op, CleanerState, closer_op, CloserState, DataServed, first_of_batch, flat, flusher_op, FlusherState, IsWord, lent, Listed, lists_left, LogServed, mode, next, no_page, OpWords, shared_answer, shared_left, SharedWords, took, user_op, UserState, words_left, writer_op, WriterState}
+use Rattle.model_core.specs.{Actor, answer_of, BatchPage, checkpointer_op, CheckpointerState, cleaner_op, CleanerState, closer_op, CloserState, DataServed, first_of_batch, flat, flusher_op, FlusherState, IsWord, lent, Listed, lists_left, LogServed, mode, next, no_page, OpWords, shared_answer, shared_left, SharedWords, took, user_op, UserState, words_left, writer_op, WriterState, Advance, advance_op}
 use Rattle.model_core.specs.DataSide.{DataSide}
 use Rattle.model_core.specs.LogSide.{LogSide}
 use Rattle.model_core.specs.Setup.{Setup}
@@ -26,6 +26,10 @@ use Rattle.model_core.specs.declared.steps.UserStep.TheVariants as user_step
 use Rattle.model_core.specs.declared.steps.CloserStep.TheVariants as closer_step
 use Rattle.model_core.specs.declared.steps.CleanerStep.TheVariants as cleaner_step
 use Rattle.model_core.specs.declared.steps.CheckpointerStep.TheVariants as checkpointer_step
+use Rattle.model_core.specs.declared.steps.AdvanceStep.TheVariants as advance_step
+use Rattle.model_core.specs.declared.words.LinkBuffer.TheVariants as link_buffer
+use Rattle.model_core.specs.declared.words.LinkBuffer.{LinkBuffer}
+use Rattle.model_core.specs.declared.steps.AdvanceStep.{AdvanceStep}
 use Rattle.model_core.specs.Actors as actor
 use Rattle.model_core.specs.declared.words.Word.TheVariants as word
 use Rattle.model_core.specs.declared.ops.Op.TheVariants as op
@@ -33,6 +37,13 @@ use Rattle.model_core.specs.declared.steps.WriterStep.TheVariants as writer_step
 use Rattle.model_core.specs.declared.steps.FlusherStep.TheVariants as flusher_step
 
 module _ (D : LogSide) (E : DataSide) (c : Setup) (spare : ℕ) (m : SharedWords) (g : LogGhost) (h : PageGhost) (ls : ℕ → List Listed) (p : D.Part) (d : E.Part) (actors : List Actor) (seat : ℕ) (both : BothHalves D E c spare m g h ls p d actors) where
+  advance_words : (b : LinkBuffer) (v : Advance) (s : AdvanceStep) → OpWords c.pages (advance_op b v s)
+  advance_words link_buffer.Written v advance_step.LoadLink = omega arith
+  advance_words link_buffer.Written v advance_step.ClearLink = omega arith
+  advance_words link_buffer.Closed v advance_step.LoadLink = omega arith
+  advance_words link_buffer.Closed v advance_step.ClearLink = omega arith
+  advance_words _ v _ = tt
+
   user_words : (u : UserState) → UserPageFits E c m g.log h ls d seat u → (f : UserStep) → UserPagesAt E c m g.log h ls d seat u f → OpWords c.pages (user_op u f)
   user_words u F user_step.AddCell o = omega arith
   user_words u F user_step.StoreFirst o = omega arith
@@ -57,13 +68,16 @@ module _ (D : LogSide) (E : DataSide) (c : Setup) (spare : ℕ) (m : SharedWords
   user_words u F user_step.Reserve o = tt
   user_words u F user_step.LoadWrite o = tt
   user_words u F user_step.LoadWtail o = tt
+  user_words u F (user_step.AdvanceWritten s) o = advance_words link_buffer.Written u.advance s
+  user_words u F user_step.ReloadWtail o = tt
   user_words u F user_step.LoadCtail o = tt
+  user_words u F (user_step.AdvanceClosed s) o = advance_words link_buffer.Closed u.advance s
+  user_words u F user_step.ReloadCtail o = tt
   user_words u F user_step.Done o = tt
   user_words u F user_step.Failed o = tt
 
   writer_words : (s : WriterState) (f : WriterStep) → OpWords c.pages (writer_op s f)
-  writer_words s writer_step.LoadLink = omega arith
-  writer_words s writer_step.ClearLink = omega arith
+  writer_words s (writer_step.Advance v) = advance_words link_buffer.Written s.advance v
   writer_words s writer_step.LoadFirst = omega arith
   writer_words s writer_step.ClearFirst = omega arith
   writer_words s writer_step.LoadCell = omega arith
@@ -75,9 +89,8 @@ module _ (D : LogSide) (E : DataSide) (c : Setup) (spare : ℕ) (m : SharedWords
   flusher_words f _ = tt
 
   closer_words : (t : CloserState) (f : CloserStep) → OpWords c.pages (closer_op t f)
-  closer_words t closer_step.LoadClosedLink = omega arith
-  closer_words t closer_step.ClearClosedLink = omega arith
-  closer_words t _ = tt
+  closer_words t (closer_step.Advance v) = advance_words link_buffer.Closed t.advance v
+  closer_words t closer_step.Failed = tt
 
   fore : (x : CleanerState) (t : ListingStage) → Unlisting E c m g.log h ls d seat x t → first_of_batch x < c.pages
   fore x t o = let r = front x.batch o.3 in let z = (o.2 r.0 r.1).held.there in subst (λ (k : ℕ). k < c.pages) (sym r.2) z

@@ -3,13 +3,14 @@ use Rattle.std.proofs.Common.{Bool, List, arith, cond, eqb, eqb-true, false, len
 use lib.ListN.{get_elem?}
 use mathlib.Core.Option.{some}
 use native.Mathlib.Decide.{ℕ_discrete}
-use Rattle.model_core.specs.{after_link, answered, can_close, can_link, cells_of, change_at, changes, Entry, entry, frame_count, group_bytes, is_whole, word_step, group_end, has_passed, has_room, has_space, line, LoadedMarks, mode, next_count, to_next_page, user_checked, user_took, UserState, with_mark}
+use Rattle.model_core.specs.{after_link, answered, can_close, can_link, cells_of, change_at, changes, Entry, entry, frame_count, group_bytes, is_whole, word_step, group_end, has_passed, has_room, has_space, line, LoadedMarks, mode, next_count, to_next_page, user_checked, user_took, UserState, with_mark, advance_next, frees, stays_put, tail_of, with_close_room, with_link_room, without_close_room, without_link_room}
 use Rattle.model_core.specs.Setup.{Setup}
 use Rattle.model_core.specs.declared.steps.UserStep.{UserStep}
 use Rattle.model_log.specs.declared.layout.TheConstants.{BLOCK_DATA}
 use Rattle.model_logcore.proofs.UserGroups.{rank_same}
 use Rattle.model_logcore.specs.{Place, Tiled}
 use Rattle.model_running.specs.UsersClosed.{HandIsClosed, UserClosed}
+use Rattle.model_core.specs.declared.steps.AdvanceStep.TheVariants as advance_step
 use Rattle.model_core.specs.declared.steps.UserStep.TheVariants as user_step
 
 pick : (P : UserStep → Type 0) (b : Bool) (f g : UserStep) → P f → P g → P (cond b f g)
@@ -66,6 +67,15 @@ module _ (c : Setup) (sn : ℕ) (log : List Entry) (place : ℕ → Place) (tile
   no_pages true none there = linked there (λ some_page. let z = eqb-true (length (changes u)) 0 none in absurd (omega arith))
   no_pages false none there = keep (record u { step = user_step.LoadCtail }) refl refl tt
 
+  -- a step of an advance
+  advanced : (x : UserState) → x.user ≡ u.user → x.k ≡ u.k → (w f : Bool) (first again on : UserStep) → x.step ≡ cond w first (cond f again on) → HandIsClosed later x first → HandIsClosed later x again → HandIsClosed later x on → UserClosed log later x
+  advanced x own same w f first again on is a b c = keep x own same (subst (HandIsClosed later x) (sym is) (pick (HandIsClosed later x) w first (cond f again on) a (pick (HandIsClosed later x) f again on b c)))
+
+  -- it has found room in the recent-closed buffer, and begins with the cells of its page
+  begins : (n : ℕ) → UserClosed log later (with_close_room u n)
+  begins n = let w : UserState = with_close_room u n in
+      keep w refl refl (pick (HandIsClosed later w) (eqb u.cell (length (cells_of u))) user_step.StoreNewest (word_step (cells_of u) u.cell) tt (pick (HandIsClosed later w) (is_whole (cells_of u) u.cell) user_step.StoreFrame user_step.LoadFrame tt tt))
+
   -- each step but the reservation, which adds a group
   pub closes : (n : ℕ) (f : UserStep) → u.step ≡ f → (f ≡ user_step.Reserve → ⊥) → HandIsClosed closed u f → Needs f → UserClosed log later (user_took u n f)
   closes n user_step.LoadCheckpoint is not hand needs = keep (user_took u n user_step.LoadCheckpoint) refl refl tt
@@ -84,13 +94,13 @@ module _ (c : Setup) (sn : ℕ) (log : List Entry) (place : ℕ → Place) (tile
       let w : UserState = user_took u n user_step.AddCell in
       keep w refl refl (pick (HandIsClosed later w) (eqb (u.copied + next_count u) (length (group_bytes u))) (cond (ltb (u.start / BLOCK_DATA) (group_end u / BLOCK_DATA)) user_step.StoreFirst user_step.LoadWtail) user_step.AddCell (pick (HandIsClosed later w) (ltb (u.start / BLOCK_DATA) (group_end u / BLOCK_DATA)) user_step.StoreFirst user_step.LoadWtail tt tt) tt)
   closes n user_step.StoreFirst is not hand needs = keep (user_took u n user_step.StoreFirst) refl refl tt
-  closes n user_step.LoadWtail is not hand needs = either (can_link u n) (record u { loaded = record u.loaded { wtail = n }; step = user_step.StoreLink }) (record u { loaded = record u.loaded { wtail = n }; checks = true; step = user_step.LoadWtail })
-      (keep (record u { loaded = record u.loaded { wtail = n }; step = user_step.StoreLink }) refl refl tt) (keep (record u { loaded = record u.loaded { wtail = n }; checks = true; step = user_step.LoadWtail }) refl refl tt)
+  closes n user_step.LoadWtail is not hand needs = either (can_link u (tail_of n)) (with_link_room u n) (without_link_room u n false (user_step.AdvanceWritten advance_step.LoadTail)) (keep (with_link_room u n) refl refl tt) (keep (without_link_room u n false (user_step.AdvanceWritten advance_step.LoadTail)) refl refl tt)
+  closes n (user_step.AdvanceWritten s) is not hand needs = advanced (user_took u n (user_step.AdvanceWritten s)) refl refl (stays_put u.advance n s) (frees s) user_step.LoadWtail user_step.ReloadWtail (user_step.AdvanceWritten (advance_next u.advance n s)) refl tt tt tt
+  closes n user_step.ReloadWtail is not hand needs = either (can_link u (tail_of n)) (with_link_room u n) (without_link_room u n true user_step.LoadWtail) (keep (with_link_room u n) refl refl tt) (keep (without_link_room u n true user_step.LoadWtail) refl refl tt)
   closes n user_step.StoreLink is not hand needs = no_pages (eqb (length (changes u)) 0) refl needs
-  closes n user_step.LoadCtail is not hand needs =
-      let w : UserState = record u { loaded = record u.loaded { ctail = n }; step = cond (eqb u.cell (length (cells_of u))) user_step.StoreNewest (word_step (cells_of u) u.cell) } in
-      either (can_close u n) w (record u { loaded = record u.loaded { ctail = n }; checks = true; step = user_step.LoadCtail })
-      (keep w refl refl (pick (HandIsClosed later w) (eqb u.cell (length (cells_of u))) user_step.StoreNewest (word_step (cells_of u) u.cell) tt (pick (HandIsClosed later w) (is_whole (cells_of u) u.cell) user_step.StoreFrame user_step.LoadFrame tt tt))) (keep (record u { loaded = record u.loaded { ctail = n }; checks = true; step = user_step.LoadCtail }) refl refl tt)
+  closes n user_step.LoadCtail is not hand needs = either (can_close u (tail_of n)) (with_close_room u n) (without_close_room u n false (user_step.AdvanceClosed advance_step.LoadTail)) (begins n) (keep (without_close_room u n false (user_step.AdvanceClosed advance_step.LoadTail)) refl refl tt)
+  closes n (user_step.AdvanceClosed s) is not hand needs = advanced (user_took u n (user_step.AdvanceClosed s)) refl refl (stays_put u.advance n s) (frees s) user_step.LoadCtail user_step.ReloadCtail (user_step.AdvanceClosed (advance_next u.advance n s)) refl tt tt tt
+  closes n user_step.ReloadCtail is not hand needs = either (can_close u (tail_of n)) (with_close_room u n) (without_close_room u n true user_step.LoadCtail) (begins n) (keep (without_close_room u n true user_step.LoadCtail) refl refl tt)
   closes n user_step.LoadFrame is not hand needs = keep (user_took u n user_step.LoadFrame) refl refl tt
   closes n user_step.StoreFrame is not hand needs =
       let w : UserState = user_took u n user_step.StoreFrame in

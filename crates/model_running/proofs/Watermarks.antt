@@ -1,21 +1,27 @@
 -- The invariant gives each of the watermarks.
-use Rattle.std.proofs.Common.{List, arith, refl, subst, sym, ℕ, ⊎_elim, ◌<◌, ◌≡◌, ◌⊎◌}
+use Rattle.std.proofs.Common.{List, arith, refl, subst, sym, ℕ, ⊎_elim, ◌<◌, ◌≡◌, ◌⊎◌, Bool, false, true, ◌∙◌}
 use lib.ListN.{get_elem?}
 use mathlib.Core.Option.{some}
-use Rattle.model_core.specs.{Actor, CheckpointerState, CleanerState, CloserState, Core, Entry, Listed, SharedWords, UserState}
+use Rattle.model_core.specs.{Actor, CheckpointerState, CleanerState, CloserState, Core, Entry, Listed, SharedWords, UserState, Advance, advance_holds, advance_of, holds_tail}
 use Rattle.model_core.specs.DataSide.{DataSide}
 use Rattle.model_core.specs.LogSide.{LogSide}
 use Rattle.model_core.specs.Setup.{Setup}
 use Rattle.model_core.specs.declared.steps.CleanerStep.{CleanerStep}
 use Rattle.model_core.specs.declared.steps.UserStep.{UserStep}
 use Rattle.model_logcore.proofs.Watermarks.{log_watermarks, watermarks_log}
-use Rattle.model_logcore.specs.{LogGhost}
+use Rattle.model_logcore.specs.{LogGhost, TailWordIs}
 use Rattle.model_logcore.specs.LogLaws.{LogLaws}
 use Rattle.model_pagecore.specs.DataLaws.{DataLaws}
-use Rattle.model_pagecore.specs.{CheckpointerPageFits, CleanerAt, CleanerFits, CleanerHasLatch, CloserFits, HoldsOnly, PageGhost, Passed, UserHasLatch, UserPageFits, UserPagesAt}
+use Rattle.model_pagecore.specs.{CheckpointerPageFits, CleanerAt, CleanerFits, CleanerHasLatch, CloserFits, HoldsOnly, PageGhost, Passed, UserHasLatch, UserPageFits, UserPagesAt, CloserAt, ClosingAt, HoldsCtail, UserClosingAt}
 use Rattle.model_running.proofs.LatchesKeep.{held_by}
 use Rattle.model_running.specs.RunningStore.{BothHalves, IsRunning}
 use Rattle.model_running.specs.Watermarks.{CleanerTells, ClosedChangesAreListedOrKept, FailureHasCause, FramesAreApplied, HasWatermarks, KeptPagesArePrefixes, ListsAreRelaxed, UserTells, Watermarks}
+use Rattle.model_core.specs.declared.steps.AdvanceStep.TheVariants as advance_step
+use Rattle.model_core.specs.declared.words.LinkBuffer.TheVariants as link_buffer
+use Rattle.model_core.specs.declared.steps.CloserStep.TheVariants as closer_step
+use Rattle.model_core.specs.declared.steps.CloserStep.{CloserStep}
+use Rattle.model_core.specs.declared.steps.AdvanceStep.{AdvanceStep}
+use Rattle.model_core.specs.Holding.{closer_holds_tail, user_holds_tail}
 use Rattle.model_core.specs.Actors as actor
 use Rattle.model_core.specs.declared.steps.CleanerStep.TheVariants as cleaner_step
 use Rattle.model_core.specs.declared.steps.UserStep.TheVariants as user_step
@@ -50,16 +56,51 @@ module _ (D : LogSide) (L : LogLaws D) (E : DataSide) (EL : DataLaws E) (c : Set
     cleaner_held = λ seat v at. cleaner_tells seat v v.step (held_by D E c spare m g h ls p d actors seat both (actor.Cleaner v) at) (cleaner_pages seat v at).step;
   }
 
+  -- an actor that advances CTAIL, from the step on at which it has taken it
+  at_advance : (seat : ℕ) (v : Advance) (s : AdvanceStep) → ClosingAt E c m g.log h ls d seat v s → advance_holds s ≡ true → HoldsCtail E c m g.log h ls d seat v
+  at_advance seat v advance_step.LoadTail o holds = absurd (cc)
+  at_advance seat v advance_step.TakeTail o holds = absurd (cc)
+  at_advance seat v advance_step.LoadLink o holds = o
+  at_advance seat v advance_step.ClearLink o holds = o.0
+  at_advance seat v advance_step.FreeTail o holds = o
+
+  user_advances : (seat : ℕ) (v : Advance) (f : UserStep) → UserClosingAt E c m g.log h ls d seat v f → user_holds_tail link_buffer.Closed f ≡ true → HoldsCtail E c m g.log h ls d seat v
+  user_advances seat v (user_step.AdvanceClosed s) o holds = at_advance seat v s o holds
+  user_advances seat v _ o holds = absurd (cc)
+
+  closer_advances : (seat : ℕ) (v : Advance) (f : CloserStep) → CloserAt E c m g.log h ls d seat v f → closer_holds_tail link_buffer.Closed f ≡ true → HoldsCtail E c m g.log h ls d seat v
+  closer_advances seat v (closer_step.Advance s) o holds = at_advance seat v s o holds
+  closer_advances seat v closer_step.Failed o holds = absurd (cc)
+
+  holds_ctail : (seat : ℕ) (a : Actor) → get_elem? actors seat ≡ some a → holds_tail link_buffer.Closed a ≡ true → HoldsCtail E c m g.log h ls d seat (advance_of a)
+  holds_ctail seat (actor.User u) at holds = user_advances seat u.advance u.step (user_pages seat u at).closing holds
+  holds_ctail seat (actor.Closer t) at holds = closer_advances seat t.advance t.step (closer_pages seat t at).step holds
+  holds_ctail seat _ at holds = absurd (cc)
+
+  ctail_word : TailWordIs link_buffer.Closed m.ctail m.cheld h.tail actors
+  ctail_word = record {
+    free = λ free. (both.paged.paged.closed_links.free free, λ seat a at. none free seat a at (holds_tail link_buffer.Closed a) refl);
+    taken = λ held. let k = both.advanced held in let o = holds_ctail k.0 k.1 k.2 k.3 in
+        (k.0, record { who = k.1; who_is = k.2; holds = k.3; loaded = o.tail; place = o.place; alone = λ other a at holds. sym (holds_ctail other a at holds).mine ∙ o.mine });
+  }
+    where
+      none : m.cheld ≡ false → (seat : ℕ) (a : Actor) → get_elem? actors seat ≡ some a → (b : Bool) → holds_tail link_buffer.Closed a ≡ b → b ≡ false
+      none free seat a at true holds = let held = (holds_ctail seat a at holds).held in absurd (cc)
+      none free seat a at false holds = refl
+
   closed_changes : ClosedChangesAreListedOrKept c m g.log h ls actors
   closed_changes = let C = both.paged.paged.closed_links in record {
     change = λ q there. (both.paged.paged.each_page q there).change;
     oldest = λ q there. (both.paged.paged.each_page q there).oldest;
     link = C.links_are;
     below_tail = C.below;
+    standing = λ i e is closed since. (C.standing i e is closed since, C.window i e is closed);
     ctail_tail = C.order;
+    tail_sn = C.bound;
+    word = ctail_word;
     users = both.closed;
-    closer = λ seat t at. (closer_pages seat t at).tail;
     loaded = λ seat u at. (user_pages seat u at).loaded;
+    closer_loaded = λ seat t at. (closer_pages seat t at).loaded;
   }
 
   lists_are_relaxed : ListsAreRelaxed ls m.ctail

@@ -34,7 +34,7 @@ pub record DataTells (E : DataSide) (opened : Opened) (part : E.Part) (disk : Di
   pub holds : (kept_page : ℕ → KeptPage) (unfinished : List BatchPage) (wholes : List Whole) (stable ckpt : ℕ) → E.Holds kept_page unfinished part → AreApart unfinished
       → ArePrefixes opened.pages wholes stable ckpt (contents_of kept_page) (content_in unfinished) → DataHolds opened.shape opened.pages wholes stable ckpt disk
 
--- Both devices as they are hold the run that the store stands for, behind the checkpoint of this number.
+-- Both devices as they are hold the run that the store stands for, after the checkpoint of this number.
 pub record HeldStore (D : LogSide) (E : DataSide) (script : List ScriptLine) (opened : Opened) (number : ℕ) (log_disk data_disk : Disk) (s : Core D E) : Type 0 where
   pub run : Ran
   pub marks : ◌≡◌ {A = Marks} run.marks (marks_in s.words)

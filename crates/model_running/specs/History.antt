@@ -1,6 +1,6 @@
 -- The history of a run: each reserved group, and how its commit stands by the marks.
 use Rattle.std.specs.Prelude.{List, [], cond, map, nat_lt, slice_index, ℕ, ◌∷◌, ◌≡◌}
-use Rattle.model_core.specs.{answered, end_of, index, lsn, SharedWords}
+use Rattle.model_core.specs.{answered, end_of, index, lsn, SharedWords, tail_of}
 use Rattle.model_report.specs.{state_by}
 use Rattle.model_report.specs.declared.entry.Entry.{Entry}
 use Rattle.model_report.specs.declared.entry.Marks.{Marks}
@@ -28,7 +28,7 @@ word_marks m = record { wtail = m.wtail; write = m.write; flushed = m.flushed; c
 -- the same in the list of words
 abbrev pub marks_in : List ℕ → Marks
 marks_in ws = record {
-  wtail = slice_index ws (index word.Wtail);
+  wtail = tail_of (slice_index ws (index word.Wtail));
   write = slice_index ws (index word.Write);
   flushed = slice_index ws (index word.Flushed);
   ckpt = slice_index ws (index word.Ckpt);

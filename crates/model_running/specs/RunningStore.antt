@@ -1,6 +1,6 @@
 -- Both halves of the invariant, over one list of actors.
 use Rattle.std.specs.Prelude.{List, true, ℕ, ◌<◌, ◌≡◌, ◌≤◌, ◌⊎◌}
-use Rattle.model_core.specs.{Actor, Core, flat, IsScripted, Listed, SharedWords}
+use Rattle.model_core.specs.{Actor, Core, flat, HasHolder, IsScripted, Listed, SharedWords}
 use Rattle.model_core.specs.DataSide.{DataSide}
 use Rattle.model_core.specs.LogSide.{LogSide}
 use Rattle.model_core.specs.Setup.{Setup}
@@ -11,6 +11,7 @@ use Rattle.model_pagecore.specs.{PageGhost}
 use Rattle.model_pagecore.specs.PageHalf.{PageHalf}
 use Rattle.model_running.specs.LatchesHeld.{LatchesAreHeld}
 use Rattle.model_running.specs.UsersClosed.{UsersClosed}
+use Rattle.model_core.specs.declared.words.LinkBuffer.TheVariants as link_buffer
 
 pub record BothHalves (D : LogSide) (E : DataSide) (c : Setup) (spare : ℕ) (m : SharedWords) (g : LogGhost) (h : PageGhost) (ls : ℕ → List Listed) (p : D.Part) (d : E.Part) (actors : List Actor) : Type 0 where
   pub script : IsScripted c
@@ -24,6 +25,8 @@ pub record BothHalves (D : LogSide) (E : DataSide) (c : Setup) (spare : ℕ) (m 
   pub latches : LatchesAreHeld c.pages m h.holder actors
   -- the users' states say which groups are closed
   pub closed : UsersClosed g.log h.closed actors
+  -- who holds CTAIL
+  pub advanced : m.cheld ≡ true → HasHolder link_buffer.Closed actors
   pub paged : PageHalf E c m g.log (D.stable p) h ls d actors
 
 -- the same over the list of words

@@ -1,16 +1,16 @@
 -- The watermarks of a running store: what holds of its words, of both parts, of the flush lists and of the actors between
 -- any two turns, by name. Those of the log stand in `LogWatermarks`. Places of pages and lists are lsns.
-use Rattle.std.specs.Prelude.{List, slice_index, true, ℕ, ◌+◌, ◌<◌, ◌≡◌, ◌≤◌, ◌⊎◌}
+use Rattle.std.specs.Prelude.{List, slice_index, true, ℕ, ◌%◌, ◌+◌, ◌<◌, ◌≡◌, ◌≤◌, ◌⊎◌}
 use lib.ListN.{get_elem?}
 use mathlib.Core.Option.{some}
-use Rattle.model_core.specs.{Actor, CheckpointerState, CleanerState, CloserState, Core, Each, Entry, flat, IsDataCode, IsLogCode, Listed, page_words_at, Relaxed, SharedWords, UserState}
+use Rattle.model_core.specs.{Actor, CheckpointerState, CleanerState, CloserState, Core, Each, Entry, flat, IsDataCode, IsLogCode, Listed, lsn, page_words_at, Relaxed, SharedWords, UserState}
 use Rattle.model_core.specs.DataSide.{DataSide}
 use Rattle.model_core.specs.LogSide.{LogSide}
 use Rattle.model_core.specs.Setup.{Setup}
 use Rattle.model_core.specs.declared.limits.TheConstants.{CLOSED_LINKS}
 use Rattle.model_core.specs.declared.steps.CleanerStep.{CleanerStep}
 use Rattle.model_core.specs.declared.steps.UserStep.{UserStep}
-use Rattle.model_logcore.specs.{LogWatermarks}
+use Rattle.model_logcore.specs.{LogWatermarks, TailWordIs}
 use Rattle.model_core.specs.StartWords.{start_checkpoint}
 use Rattle.model_pagecore.specs.{Agree, All, applied_upto, AreUnfinished, CheckpointerPagesAt, CleanerHasLatch, CleanerHolds, ClosedLink, end_lsn, EndsAt, HoldsOnly, Last, listed, none_in_hand, PageGhost, PageIs, Passed, start_lsn, StartsAt, touches, UserHasLatch, UserHolds}
 use Rattle.model_running.specs.LatchesHeld.{LatchesAreHeld}
@@ -18,6 +18,7 @@ use Rattle.model_running.specs.UsersClosed.{UsersClosed}
 use Rattle.model_core.specs.Actors as actor
 use Rattle.model_core.specs.declared.steps.CleanerStep.TheVariants as cleaner_step
 use Rattle.model_core.specs.declared.steps.UserStep.TheVariants as user_step
+use Rattle.model_core.specs.declared.words.LinkBuffer.TheVariants as link_buffer
 
 -- What a user holds is told by its step, or, where it has failed, by a step at which it met the failure: that step names each
 -- page whose latch the user took last and that is held, and says how far its frame, NEWEST and OLDEST are.
@@ -46,17 +47,20 @@ pub record FramesAreApplied (E : DataSide) (c : Setup) (m : SharedWords) (log : 
   pub cleaner_held : (seat : ℕ) (v : CleanerState) → get_elem? actors seat ≡ some (actor.Cleaner v) → CleanerTells E c m log h ls d seat v v.step
 
 -- A CLOSED CHANGE IS LISTED OR KEPT: a group that is closed finds each page that it touches in the page's list since its
--- start or before, or kept up to its end. A closed link is a closed group behind the closer's tail, and below the tail all
--- is closed; and so is what the users' states say.
+-- start or before, or kept up to its end. A closed link is a closed group past the place to which links are cleared, each such
+-- group has its link standing, and below that place all is closed; and so is what the users' states say.
 pub record ClosedChangesAreListedOrKept (c : Setup) (m : SharedWords) (log : List Entry) (h : PageGhost) (ls : ℕ → List Listed) (actors : List Actor) : Type 0 where
   pub change : (p : ℕ) → p < c.pages → (i : ℕ) (e : Entry) → get_elem? log i ≡ some e → touches p e.changes ≡ true → h.closed e.start ≡ true → ((0 < listed ls p) × (listed ls p ≤ start_lsn e)) ⊎ (end_lsn e ≤ (h.kept_page p).lsn)
   pub oldest : (p : ℕ) → p < c.pages → 0 < (page_words_at m.page_words p).oldest → StartsAt p log (page_words_at m.page_words p).oldest
   pub link : (i : ℕ) → i < CLOSED_LINKS → 0 < slice_index m.clinks i → ClosedLink log h.closed h.tail i (slice_index m.clinks i)
   pub below_tail : (i : ℕ) (e : Entry) → get_elem? log i ≡ some e → start_lsn e < h.tail → h.closed e.start ≡ true
+  pub standing : (i : ℕ) (e : Entry) → get_elem? log i ≡ some e → h.closed e.start ≡ true → h.tail ≤ start_lsn e → (0 < slice_index m.clinks (start_lsn e % CLOSED_LINKS)) × (start_lsn e < m.ctail + CLOSED_LINKS)
   pub ctail_tail : m.ctail ≤ h.tail
+  pub tail_sn : h.tail ≤ lsn m.sn
+  pub word : TailWordIs link_buffer.Closed m.ctail m.cheld h.tail actors
   pub users : UsersClosed log h.closed actors
-  pub closer : (seat : ℕ) (t : CloserState) → get_elem? actors seat ≡ some (actor.Closer t) → t.tail ≡ h.tail
   pub loaded : (seat : ℕ) (u : UserState) → get_elem? actors seat ≡ some (actor.User u) → u.loaded.ctail ≤ m.ctail
+  pub closer_loaded : (seat : ℕ) (t : CloserState) → get_elem? actors seat ≡ some (actor.Closer t) → t.advance.tail ≤ m.ctail
 
 -- THE RELAXED ORDER OF THE FLUSH LISTS: an earlier number is below each later one plus 16,384, and each is below CTAIL plus
 -- 16,384.
@@ -89,7 +93,8 @@ pub record FailureHasCause (D : LogSide) (E : DataSide) (failed : ℕ) (p : D.Pa
 -- all of them, over the words by name
 pub record Watermarks (D : LogSide) (E : DataSide) (c : Setup) (m : SharedWords) (ls : ℕ → List Listed) (p : D.Part) (d : E.Part) (actors : List Actor) : Type 0 where
   pub of_log : LogWatermarks D c m p actors
-  -- of a group whether it is closed, who holds a page or a list, the closer's tail, and each page as it was last written
+  -- of a group whether it is closed, who holds a page or a list, the place to which closed links are cleared, and each page as
+  -- it was last written
   pub pages : PageGhost
   pub frames_are_applied : FramesAreApplied E c m of_log.log pages ls d actors
   pub closed_changes_are_listed_or_kept : ClosedChangesAreListedOrKept c m of_log.log pages ls actors

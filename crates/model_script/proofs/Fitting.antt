@@ -89,7 +89,7 @@ record_is shape (Init page) limits range none = record {
   fits = record { own_space = refl; below = page_is shape page none };
 }
 
--- the records of operations, and what is judged behind them
+-- the records of operations, and what is judged after them
 record RecordsAre (shape : Shape) (items : List Item) (behind : List (Option Misfit)) : Type 0 where
   texts : AllByRecursion HasText (map (record_of shape.space) items)
   fit : AllByRecursion (RecordFits shape) (map (record_of shape.space) items)
@@ -123,7 +123,7 @@ line_fits shape line limits range none =
       fits = records.fit;
     }
 
--- lines, and what is judged behind them
+-- lines, and what is judged after them
 record LinesAre (shape : Shape) (script : List ScriptLine) (behind : List (Option Misfit)) : Type 0 where
   fit : AllByRecursion (LineFits shape) script
   none : first_misfit_of behind ≡ None

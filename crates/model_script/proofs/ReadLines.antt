@@ -16,7 +16,7 @@ use Rattle.model_script.specs.Ranges.{IsInRange, IsScriptLine}
 use Rattle.model_script.specs.declared.item.Item.TheVariants.{Init}
 use Rattle.model_script.specs.declared.script.ScriptLine.{ScriptLine}
 
--- what holds of the value behind each of two steps
+-- what holds of the value after each of two steps
 and_then-if : {A B : Type 0} (P : A → Type 0) (Q : B → Type 0) (next : A → Option B) (first : Option A) → IfSome first P
     → ((value : A) → P value → IfSome (next value) Q) → IfSome (option_and_then next first) Q
 and_then-if P Q next None holds keeps = tt

@@ -1,4 +1,4 @@
--- What is judged of a script behind its lines; and that a script which fits a store has no misfit.
+-- What is judged of a script after its lines; and that a script which fits a store has no misfit.
 use Rattle.std.proofs.Common.{ℕ, ◌≡◌, ◌≤◌, ◌<◌, ◌+◌, ◌||◌, Bool, true, false, nat_lt, nat_le, List, [], ◌∷◌, ◌++◌, length, map, Option, Some, None, IfSome, Ok, refl, subst}
 use Rattle.std.specs.Prelude.{if◌then◌else◌}
 use Rattle.std.specs.List.{AllByRecursion}
@@ -23,7 +23,7 @@ none-behind : (before behind : List (Option Misfit)) → first_misfit_of (before
 none-behind [] behind none = none
 none-behind (first ∷ before) behind none = none-behind before behind (none-head first (before ++ behind) none).1
 
--- what is judged behind the lines
+-- what is judged after the lines
 record EndFits (shape : Shape) (start : ℕ) (room_end : Option ℕ) (script : List ScriptLine) : Type 0 where
   end : script_end shape start script < LSN_LIMIT
   room : IfSome room_end (λ room_end. script_end shape start script + MARGIN ≤ room_end)

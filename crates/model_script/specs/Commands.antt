@@ -1,4 +1,4 @@
--- The six commands. Behind a command's name stand its options, in any order and each at most once, and for `gen` three
+-- The six commands. After a command's name stand its options, in any order and each at most once, and for `gen` three
 -- numbers. Words that aren't one of these commands ask for nothing.
 use Rattle.std.specs.Prelude.{ℕ, ◌^◌, ◌-◌, ◌&&◌, ◌||◌, nat_le, if◌then◌else◌, Bool, true, not, List, [], ◌∷◌, codes, find, Option, Some, None, option_map, option_and_then, unwrap_or}
 use Rattle.std.specs.List.{list_all, list_any}

@@ -1,5 +1,5 @@
 -- What of a script doesn't fit a store: the first quantity in the order of its lines, and within a line its user, then
--- of each operation the page and the offset, then the length of the group; behind the lines the lsn at which the log
+-- of each operation the page and the offset, then the length of the group; after the lines the lsn at which the log
 -- would end.
 use Rattle.std.specs.Prelude.{ℕ, ◌≡◌, ◌≤◌, ◌<◌, ◌+◌, ◌*◌, ◌||◌, nat_lt, nat_le, if◌then◌else◌, Bool, List, [], ◌∷◌, ◌++◌, length, map, Option, Some, None, IfSome}
 use Rattle.std.specs.List.{AllByRecursion}

@@ -59,7 +59,7 @@ abbrev pub items_at : ℕ → ℕ → List Item
 items_at zero state = []
 items_at (suc n) state = item_at state ∷ items_at n (state_after (item_draws state) state)
 
--- the state behind so many operations
+-- the state after so many operations
 abbrev pub state_after_items : ℕ → ℕ → ℕ
 state_after_items zero state = state
 state_after_items (suc n) state = state_after_items n (state_after (item_draws state) state)

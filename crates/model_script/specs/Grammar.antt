@@ -104,7 +104,7 @@ abbrev pub with_line : ScriptLine → Result (List ScriptLine) ℕ → Result (L
 with_line line (Ok lines) = Ok (line ∷ lines)
 with_line line (Err n) = Err n
 
--- the lines of these texts, each of which stands behind its number; or the number of the first that is no line
+-- the lines of these texts, each of which stands after its number; or the number of the first that is no line
 abbrev pub script_from : List (ℕ × List ℕ) → Result (List ScriptLine) ℕ
 script_from [] = Ok []
 script_from (text ∷ texts) =

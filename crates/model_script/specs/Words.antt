@@ -1,5 +1,5 @@
--- The words behind a command's name: options, each with its number where it takes one, and numbers by themselves, in
--- any order. The number of an option is the next word, or stands behind `=` in the same one. Behind the word `--` stand
+-- The words after a command's name: options, each with its number where it takes one, and numbers by themselves, in
+-- any order. The number of an option is the next word, or stands after `=` in the same one. After the word `--` stand
 -- numbers alone.
 use Rattle.std.specs.Prelude.{ℕ, ◌==◌, ◌+◌, ◌^◌, if◌then◌else◌, Bool, true, false, List, [], ◌∷◌, take, drop, codes, find, position, Option, Some, None, option_map, option_and_then}
 use Rattle.std.specs.Str.{bytes_eq}
@@ -82,7 +82,7 @@ word_of text =
       | None ↦ word_with text (position (λ byte. byte == 61) text)
     ]
 
--- what stands behind a command's name: the options that are given and the numbers by themselves, each in order
+-- what stands after a command's name: the options that are given and the numbers by themselves, each in order
 pub record Said : Type 0 where
   pub options : List Given
   pub values : List ℕ

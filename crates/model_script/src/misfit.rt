@@ -2,7 +2,7 @@
 
 /// The greatest number of a user; users are numbered from 1.
 pub const MAX_USERS: u32 = 16;
-/// What a log that no checkpoint frees keeps free behind its last group, in bytes of the log.
+/// What a log that no checkpoint frees keeps free after its last group, in bytes of the log.
 pub const MARGIN: u64 = 278_528;
 
 /// A counted quantity that may not fit.

@@ -46,7 +46,7 @@ pub enum Word {
     Joined(Name, u64),
     /// A number that belongs to no option.
     Value(u64),
-    /// `--`: the words behind it are no options.
+    /// `--`: the words after it are no options.
     End,
 }
 
@@ -57,6 +57,6 @@ pub enum Expected {
     Any,
     /// The number of this option.
     Number(Name),
-    /// A number by itself: the words stand behind `--`.
+    /// A number by itself: the words stand after `--`.
     Numbers,
 }

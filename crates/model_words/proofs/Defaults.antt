@@ -56,7 +56,7 @@ at_missing i change missing (r ∷ rs) e = go (bytes_eq r.id i) refl e (at_missi
 abbrev text_of_row : Option Row → Option Text
 text_of_row = option_and_then (λ r. slice_get r.values 0)
 
--- an argument that was not used gets a row behind the others
+-- an argument that was not used gets a row after the others
 abbrev DefaultIs : List Row → Rule → List Text → Type 0
 DefaultIs rows a [] = with_default rows a ≡ rows
 DefaultIs rows a (d ∷ ds) = (with_default rows a ≡ rows) ⊎ ((r : Row) × (r.id ≡ a.id) × (r.values ≡ d ∷ ds) × (has_row a.id rows ≡ false) × (with_default rows a ≡ rows ++ r ∷ []))

@@ -38,7 +38,7 @@ abbrev pub outcome : Shape → Walk → List Text → Option (List Row)
 outcome s w ws =
     result_of (or_else (walk_fault s [] w ws) (end_fault s (fold (walked s.rules []) w ws).held)) (settled s.rules (fold (walked s.rules []) w ws).held).rows
 
--- the same, behind a fault of the word before
+-- the same, after a fault of the word before
 abbrev past : Shape → Walk → List Text → Kinds → Option (List Row)
 past s w ws k =
     result_of (or_else (or_else k (walk_fault s [] w ws)) (end_fault s (fold (walked s.rules []) w ws).held)) (settled s.rules (fold (walked s.rules []) w ws).held).rows

@@ -99,7 +99,7 @@ first_fails t ts k ks e =
     ∙ ap (λ x. asked_at (whole_fault w (or_else x (walk_fault top names (walked [] names start t) ts))) (entered built_app w.stopped)) e
     ∙ asked_none k _ (entered built_app w.stopped)
 
--- behind `--`
+-- the walk after `--`
 abbrev trailing_start : Walk
 trailing_start = record start { is_trailing = true }
 

@@ -79,7 +79,7 @@ page_after-other p rec end page other = go (page_of rec == p) (other-tests (page
     go true test = absurd cc
     go false test = refl
 
--- pages behind the one that a record is on stay
+-- pages after the one that a record is on stay
 from-past : (p : ℕ) (rec : Rec) (end : ℕ) (pages : List Content) → page_of rec < p → pages_after_from p (rec ∷ []) end pages ≡ pages
 from-past p rec end [] past = refl
 from-past p rec end (page ∷ pages) past =

@@ -11,7 +11,7 @@ use Rattle.model_log.specs.{with_checksum}
 length-mid_of : (a k : ℕ) (xs : List ℕ) → a + k ≤ length xs → length (mid_of a k xs) ≡ k
 length-mid_of a k xs within = omega (arith, length-take k (drop a xs), length-drop a xs)
 
--- the zeros stand behind the bytes
+-- the zeros stand after the bytes
 filled : (old zeros : List ℕ) (at : ℕ) → at ≤ 508 → length old ≡ 512 → zeros ≡ replicate (length (mid_of at (508 - at) old)) 0
     → take 508 (put_mid at (508 - at) old zeros) ≡ padded_to 508 (take at old)
 filled old zeros at short long cleared =

@@ -144,7 +144,7 @@ register_after-xor (byte ∷ bytes) done register =
     ∙ register_after-xor bytes (after_eight_bits done) (after_byte register byte)
     ∙ ap (λ (r : ℕ). bit_xor r (register_after (after_byte register byte) bytes)) (after_zeros-first (length bytes) done)
 
--- the first byte's part, and that of the bytes behind it
+-- the first byte's part, and that of the bytes after it
 register_after-first : (register byte : ℕ) (bytes : List ℕ) → byte < 256
     → register_after register (byte ∷ bytes) ≡ bit_xor (after_zeros (length bytes) (after_eight_bits (bit_xor (register % 256) byte))) (register_after (register / 256) bytes)
 unfolding register_after

@@ -11,7 +11,7 @@ use model_log::BLOCK_DATA_END;
 /// The offset at which the checksum stands.
 const CHECKSUM: usize = BLOCK_DATA_END as usize;
 
-/// Puts bytes at an offset and gives the offset behind them. What stands before and behind them stays.
+/// Puts bytes at an offset and gives the offset after them. What stands before and after them stays.
 pub fn put(sector: &mut [u8; 512], at: usize, bytes: &[u8]) -> usize
     requires { at + length bytes.now ≤ BLOCK_SIZE }
     ensures next { result ≡ at + length bytes.now }

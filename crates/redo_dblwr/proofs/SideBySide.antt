@@ -39,7 +39,7 @@ texts-more shape pairs users user out page i k pair at user_is page_is count wit
     ∙ sym (batch_text-push shape (batch_of pairs users) i new (batch-at pairs users i pair at))
     ∙ ap (λ n. batch_text shape (take n (batch_of pairs users))) (sym (add-one i))
 
--- what stands behind the pages so far stays
+-- what stands after the pages so far stays
 pub behind-more : (i k : ℕ) (out old page : List ℕ) → k ≡ 4096 → length page ≡ 4096 → i * 4096 ≤ length out
     → drop (4096 * i) out ≡ drop (4096 * i) old
     → drop (4096 * (i + 1)) (put_mid (i * 4096) k out page) ≡ drop (4096 * (i + 1)) old

@@ -23,7 +23,7 @@ fn fill_page(out: &mut [u8], number: u32, space: u32, lsn: u64, user: &[u8])
     seal(out, number, space, lsn);
 }
 
-/// Puts the pages of a batch side by side, whose user bytes are joined. What stands behind them stays.
+/// Puts the pages of a batch side by side, whose user bytes are joined. What stands after them stays.
 pub fn fill_texts(out: &mut [u8], shape: &Shape, batch: &[(u32, u64)], users: &[u8])
     requires room { PAGE_SIZE * length batch.now ≤ length out.old }
     requires count { length users.now ≡ USER_BYTES * length batch.now }

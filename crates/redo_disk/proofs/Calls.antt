@@ -64,7 +64,7 @@ MayEndWith-append error xs ys front back =
 pub MayEndWith-ends : (error : Option DevError) (calls : List Call) → EndWith error calls → MayEndWith error calls
 MayEndWith-ends error calls ends = record { stop = ends.stop; first = inl ends.first }
 
--- memory ran out behind calls that all answered Ok
+-- memory ran out after calls that all answered Ok
 pub MayEndWith-no_memory : (calls : List Call) → MayEndWith None calls → MayEndWith (Some NoMemory) calls
 MayEndWith-no_memory calls ends = record { stop = ends.stop; first = inr ((MayEndWith-good calls ends).first, refl) }
 
@@ -99,7 +99,7 @@ Serve-append first then error xs ys front back =
       all = back.all;
     }
 
--- behind an error nothing more is asked for
+-- after an error nothing more is asked for
 pub Serve-cut : (first then : List Request) (error : DevError) (calls : List Call) → Serve first (Some error) calls → Serve (first ++ then) (Some error) calls
 Serve-cut first then error calls front = record {
   ends = front.ends;

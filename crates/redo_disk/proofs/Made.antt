@@ -16,7 +16,7 @@ pub weaker_calls : {D : Type 0} {gives : D → Call → D → Type 0} {old new :
     → MakesCalls gives old new Are → MakesCalls gives old new Like
 weaker_calls weaker made = record { calls = made.calls; made = made.made; are = weaker made.calls made.are }
 
--- calls, and others behind them
+-- calls, and others after them
 pub joined_calls : {D : Type 0} {gives : D → Call → D → Type 0} {old middle new : D} {Front Back Are : List Call → Type 0}
     → ((xs ys : List Call) → Front xs → Back ys → Are (xs ++ ys)) → MakesCalls gives old middle Front → MakesCalls gives middle new Back → MakesCalls gives old new Are
 joined_calls {D} {gives} {old} {middle} {new} joins front back = record {
@@ -46,7 +46,7 @@ pub serves_end : {D : Type 0} {gives : D → Call → D → Type 0} {old new : D
     → MakesCalls gives old new (Serve requests error) → MakesCalls gives old new (EndWith error)
 serves_end = weaker_calls (λ calls serve. serve.ends)
 
--- memory ran out behind the calls
+-- memory ran out after the calls
 pub out_of_memory : {D : Type 0} {gives : D → Call → D → Type 0} {old new : D} → MakesCalls gives old new (MayEndWith None) → MakesCalls gives old new (MayEndWith (Some NoMemory))
 out_of_memory = weaker_calls MayEndWith-no_memory
 
@@ -82,12 +82,12 @@ none_ends gives device = no_calls gives device (EndWith None) (record { stop = t
 pub none_may_end : {D : Type 0} (gives : D → Call → D → Type 0) (device : D) → MakesCalls gives device device (MayEndWith None)
 none_may_end gives device = may_end (none_ends gives device)
 
--- a write that failed, behind which there is no sync
+-- a write that failed, after which there is no sync
 pub put_cut : {D : Type 0} {gives : D → Call → D → Type 0} {old new : D} {write : Write} {error : DevError}
     → MakesCall gives old (Writes write (Err error)) new → MakesCalls gives old new (Serve (put_requests write) (Some error))
 put_cut given = serves_cut (ToSync ∷ []) (call_serves given)
 
--- a write, and a sync behind it
+-- a write, and a sync after it
 pub put_synced : {D : Type 0} {gives : D → Call → D → Type 0} {old middle new : D} {write : Write} {done : Unit {0}} {answer : Answer}
     → MakesCall gives old (Writes write (Ok done)) middle → MakesCall gives middle (Syncs answer) new → MakesCalls gives old new (Serve (put_requests write) (error_of answer))
 put_synced first then = serves_then (call_serves first) (call_serves then)

@@ -83,7 +83,7 @@ first_error [] = None
 first_error (call ∷ calls) = first_of (error_of (answer_of call)) (first_error calls)
 
 -- Every call but the last answered Ok, and the last, if it answered an error, answered this one. So code whose answer is
--- this error neither forgot an error nor made one up, and did nothing behind it.
+-- this error neither forgot an error nor made one up, and did nothing after it.
 pub record EndWith (error : Option DevError) (calls : List Call) : Type 0 where
   pub stop : StopAtError calls
   pub first : first_error calls ≡ error
@@ -106,11 +106,11 @@ pub record ReadsMayEndWith (error : Option DevError) (calls : List Call) : Type 
 -- The calls ask for these things in this order, for all of them or up to the one that answered this error.
 pub record Serve (requests : List Request) (error : Option DevError) (calls : List Call) : Type 0 where
   pub ends : EndWith error calls
-  -- what isn't asked for any more, behind an error
+  -- what isn't asked for any more, after an error
   pub rest : List Request
   pub asked : requests ≡ map request_of calls ++ rest
   pub all : error ≡ None → rest ≡ []
 
--- what makes a write survive every crash: the write, and a sync behind it
+-- what makes a write survive every crash: the write, and a sync after it
 abbrev pub put_requests : Write → List Request
 put_requests write = ToWrite write ∷ ToSync ∷ []

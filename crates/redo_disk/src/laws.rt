@@ -6,7 +6,7 @@ ghost use Rattle.redo_disk.specs.declared.error.DevError.{DevError};
 
 use crate::Sectors;
 
-/// Calls, and others behind them: what is told of both together.
+/// Calls, and others after them: what is told of both together.
 pub fn calls_join<D: Sectors>()
     ensures makes { (old middle new : D) (first then : List Call) → Makes D.gives old first middle
         → Makes D.gives middle then new → Makes D.gives old (first ++ then) new }

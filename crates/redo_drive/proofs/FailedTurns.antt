@@ -24,7 +24,7 @@ use Rattle.model_core.specs.declared.steps.UserStep.{UserStep}
 use Rattle.model_core.specs.declared.steps.UserStep.TheVariants as user_step
 use Rattle.model_core.specs.declared.steps.WriterStep.{WriterStep}
 use Rattle.model_core.specs.declared.steps.WriterStep.TheVariants as writer_step
-use Rattle.model_logcore.proofs.Frame.{set_at}
+use Rattle.model_core.proofs.Lists.{set_at}
 use Rattle.model_logcore.specs.LogLaws.{LogLaws}
 use Rattle.model_logcore.specs.{HasMetFailure}
 use Rattle.model_pagecore.specs.DataLaws.{DataLaws}
@@ -77,7 +77,7 @@ met (actor.Flusher f) r code e =
     after actor.Flusher f.checks (old_of r == 0) (flusher_waits f r f.step) (old_of r) code (flusher_ending own.code own.step) (record f { checks = false }) (record f { checks = false; code = old_of r; step = flusher_step.Failed }) own (inr refl) (λ x. inr (flusher_ends own.code code own.step x)) e
 met (actor.Closer t) r code e =
     let own = closer_took t r t.step in
-    after actor.Closer t.checks (old_of r == 0) (closer_waits r t.step) (old_of r) code (closer_ending own.code own.step) (record t { checks = false }) (record t { checks = false; code = old_of r; step = closer_step.Failed }) own refl (closer_ends own.code code own.step) e
+    after actor.Closer t.checks (old_of r == 0) (closer_waits t r t.step) (old_of r) code (closer_ending own.code own.step) (record t { checks = false }) (record t { checks = false; code = old_of r; step = closer_step.Failed }) own refl (closer_ends own.code code own.step) e
 met (actor.Cleaner v) r code e =
     let own = cleaner_took v r v.step in
     after actor.Cleaner v.checks (old_of r == 0) (cleaner_waits v r v.step) (old_of r) code (cleaner_ending own.code own.step) (record v { checks = false }) (record v { checks = false; code = old_of r; step = cleaner_step.Failed }) own refl (cleaner_ends own.code code own.step) e

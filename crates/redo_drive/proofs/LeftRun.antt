@@ -36,16 +36,15 @@ use Rattle.redo_drive.specs.LogPartSide as log_part
 use Rattle.redo_drive.proofs.SyncedParts.{data_is_synced, log_tells_synced}
 use Rattle.redo_drive.specs.Beginning.{HaveBegun, IsOpenedAs, MayBegin}
 use Rattle.redo_drive.specs.Calls.{CallsOn}
-use Rattle.redo_drive.specs.Drive.{ComesToRun, HasMemory, HasMetError, HoldsRun, IsOwed, IsOwedSynced, Owes, failed_in, ran_of}
+use Rattle.redo_drive.specs.Drive.{ComesToRun, HasMemory, HasMetError, HoldsRun, IsOwedSynced, Owes, failed_in, ran_of}
 use Rattle.redo_drive.specs.Leaving.{LeavesRun}
 use Rattle.redo_drive.specs.Playing.{RunOf, data_of, log_of}
 use Rattle.redo_drive.specs.Turning.{core_of}
 use Rattle.redo_drive.specs.Views.{views_of}
 use Rattle.redo_drive.specs.declared.actor.Actor.{Actor}
 use Rattle.redo_drive.specs.declared.drive.Driven.{Driven}
-use Rattle.redo_drive.specs.declared.parts.Parts.{Parts}
 use Rattle.redo_drive.specs.declared.drive.RunEnd.TheVariants as ended
-use Rattle.redo_pageactors.specs.declared.opened.Opened.{Opened}
+use Rattle.redo_store.specs.declared.opened.Opened.{Opened}
 use Rattle.redo_store.specs.Part as store
 
 -- where a device tells
@@ -208,14 +207,6 @@ module _ {L D : Type 0} (log_seen : L → Seen) (log_gives : L → Call → L �
       where_told reading as_read _ (λ log_disk data_disk log_now data_now start begun log_told data_told.
       held may reading as_read log_disk data_disk log_now data_now start (log_device may reading as_read begun log_now log_told) (data_device may reading as_read begun data_now data_told))
 
-  pub is_owed : MayBegin opened script log_only → (driven.ended ≡ ended.Done → HaveEnded (views_of actors)) → IsOwed log_seen data_seen opened script driven
-  is_owed may ended reading left done memory as_read left_is =
-      where_told reading as_read _ (λ log_disk data_disk log_now data_now start begun log_told data_told. record {
-        holds = held may reading as_read log_disk data_disk log_now data_now start (log_device may reading as_read begun log_now log_told) (data_device may reading as_read begun data_now data_told);
-        left_is = left_is;
-        loses = loses left (ended done) memory left_is;
-      })
-
   pub is_owed_synced : MayBegin opened script log_only → (driven.ended ≡ ended.Done → HaveEnded (views_of actors)) → IsOwedSynced log_seen data_seen opened script driven
   is_owed_synced may ended log_live data_live reading left done memory as_read left_is =
       where_told reading as_read _ (λ log_disk data_disk log_now data_now start begun log_told data_told. record {
@@ -231,6 +222,5 @@ module _ {L D : Type 0} (log_seen : L → Seen) (log_gives : L → Call → L �
   owes may ended spent = record {
     comes_to = comes_to_run may ended spent;
     holds = holds_run may;
-    owed = is_owed may ended;
     owed_synced = is_owed_synced may ended;
   }

@@ -14,7 +14,7 @@ use Rattle.redo_drive.specs.Lists.{AreLists, Listings, added, empty_lists, liste
 abbrev Listed_in : List Dirty → List Listed
 Listed_in es = map listed_of es
 
--- a page enters behind those that it may follow
+-- a page enters after those that it may follow
 pub may_follow : (es : List Dirty) (x : ℕ) → Each (λ (y : Listed). y.oldest < x + 16384) (Listed_in es) → (k : ℕ) (d : Dirty) → k < length es → (get_or es k d).oldest < x + 16384
 may_follow [] x near k d l = absurd (omega arith)
 may_follow (e ∷ es) x near zero d l = near.0

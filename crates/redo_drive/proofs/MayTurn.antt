@@ -53,6 +53,7 @@ use Rattle.redo_words.specs.{HoldsSum, Lends}
 use Rattle.redo_words.specs.declared.lent.Lent.{Lent}
 use Rattle.redo_words.specs.declared.lent.Lent.TheVariants as lending
 use Rattle.model_core.specs.declared.steps.UserStep.{UserStep}
+use Rattle.model_core.specs.declared.steps.AdvanceStep.TheVariants as advance_step
 use Rattle.model_core.specs.declared.steps.UserStep.TheVariants as user_step
 use Rattle.model_core.specs.declared.steps.WriterStep.TheVariants as writer_step
 use Rattle.model_core.specs.declared.steps.FlusherStep.TheVariants as flusher_step
@@ -69,12 +70,14 @@ use Rattle.model_core.specs.declared.steps.CheckpointerStep.{CheckpointerStep}
 -- a word holds the sum: a reservation adds to SN, which stays below its limit, and a user adds bytes onto lanes that are 0
 module _ (ls : ℕ → List Listed) (broken : Bool) (code mark : ℕ) (ws : List ℕ) where
   user_sum : (u : UserState) (f : UserStep) → user_fits u (old_of (answer_of ls broken code mark ws (user_op u f))) f → HoldsSum (user_op u f) ws
+  user_sum u (user_step.AdvanceWritten advance_step.LoadTail) fit = tt
+  user_sum u (user_step.AdvanceClosed advance_step.LoadTail) fit = tt
   user_sum u user_step.Reserve fit = omega arith
   user_sum u user_step.AddCell fit = fit
   user_sum u _ fit = tt
 
   writer_sum : (s : states.WriterState) (f : WriterStep) → HoldsSum (writer_op s f) ws
-  writer_sum s writer_step.LoadLink = tt
+  writer_sum s (writer_step.Advance advance_step.LoadTail) = tt
   writer_sum s _ = tt
 
   flusher_sum : (s : states.FlusherState) (f : FlusherStep) → HoldsSum (flusher_op s f) ws
@@ -82,7 +85,7 @@ module _ (ls : ℕ → List Listed) (broken : Bool) (code mark : ℕ) (ws : List
   flusher_sum s _ = tt
 
   closer_sum : (s : states.CloserState) (f : CloserStep) → HoldsSum (closer_op s f) ws
-  closer_sum s closer_step.LoadClosedLink = tt
+  closer_sum s (closer_step.Advance advance_step.LoadTail) = tt
   closer_sum s _ = tt
 
   cleaner_sum : (s : states.CleanerState) (f : CleanerStep) → HoldsSum (cleaner_op s f) ws
@@ -123,9 +126,9 @@ module _ {L : Type 0} (seen : L → Seen) (faults number : ℕ) (Begun : Type 0)
   write_ready (model.Blocks kept offsets) (lending.Batch pages frames) t lends can = absurd lends
   write_ready (model.Blocks kept offsets) (lending.Blocks bytes firsts) t lends can =
       subst (λ (n : ℕ). MayWrite p n bytes.now firsts.now) (sym can.0)
-      (subst (λ (b : List ℕ). MayWrite p (lsn g.tail) b firsts.now) (sym lends.0)
-      (subst (λ (f : List ℕ). MayWrite p (lsn g.tail) kept f) (sym lends.1)
-      (may_write seen faults number Begun c.blocks c.base g.log g.write g.tail kept offsets p H can.1)))
+      (subst (λ (b : List ℕ). MayWrite p (lsn g.target) b firsts.now) (sym lends.0)
+      (subst (λ (f : List ℕ). MayWrite p (lsn g.target) kept f) (sym lends.1)
+      (may_write seen faults number Begun c.blocks c.base g.log g.write g.target kept offsets p H can.1)))
 
   pub log_call : (o : Op) (l : Lent) → Lends l (lent a) → Ready side c g p a o → LogReady p l o
   log_call (op.WriteTo t) l lends can = write_ready (lent a) l t lends can.1

@@ -54,7 +54,7 @@ use Rattle.redo_drive.specs.StartWords.{AreStartWords, StartsOn}
 use Rattle.redo_drive.specs.Views.{views_of}
 use Rattle.redo_drive.specs.declared.making.Beginning.{Beginning}
 use Rattle.redo_drive.specs.declared.making.Own.{Own}
-use Rattle.redo_pageactors.specs.declared.opened.Opened.{Opened}
+use Rattle.redo_store.specs.declared.opened.Opened.{Opened}
 
 -- no page is in an empty list
 none_listed : (pages i : ℕ) → ◌≡◌ {A = List Listed} (lists_of (empty_lists pages) i) []

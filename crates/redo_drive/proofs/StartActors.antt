@@ -34,7 +34,7 @@ RunsWithPages log_only _ = Unit {0}
 abbrev pub seat_of_user : Shape → Bool → List ScriptLine → ℕ → ℕ
 seat_of_user shape log_only script user = length (users_below shape.log_blocks (programs_of shape log_only script) user)
 
--- the writer sits behind the users
+-- the writer's seat is the first after the users'
 abbrev pub writer_seat : Shape → Bool → List ScriptLine → ℕ
 writer_seat shape log_only script = length (users_of shape log_only script)
 
@@ -95,11 +95,11 @@ module _ (shape : Shape) (pages : List Content) (start : ℕ) (script : List Scr
         let own : HasSeat shape.log_blocks programs (MAX_USERS + 1) seat u.0 = seated shape.log_blocks programs (MAX_USERS + 1) seat u.0 u.2 in
         subst (IsHere seat) u.1 (record { start = (own.before, start_user u.0 own.is own.some_lines); with_pages = tt })
 
-    -- behind the users, the writer and the flusher
+    -- after the users, the writer and the flusher
     pages_start : (b : Bool) → b ≡ log_only → (i : ℕ) (a : Actor) → get_elem? (page_actors shape start b) i ≡ some a → IsHere (length users + (2 + i)) a
     pages_start true is i a at = absurd (some-ne-none a (sym at))
-    pages_start false is zero a at = subst (IsHere (length users + 2)) (some-injective (actor.Closer (new_closer start)) a at)
-        (record { start = (refl, ap new_closer (sym place)); with_pages = tt })
+    pages_start false is zero a at = subst (IsHere (length users + 2)) (some-injective (actor.Closer new_closer) a at)
+        (record { start = (refl, refl); with_pages = tt })
     pages_start false is (suc zero) a at = subst (IsHere (length users + 3)) (some-injective (actor.Cleaner (new_cleaner shape.pages)) a at)
         (record { start = (refl, refl); with_pages = tt })
     pages_start false is (suc (suc zero)) a at = subst (IsHere (length users + 4)) (some-injective (actor.Checkpointer (new_checkpointer start)) a at)
@@ -122,9 +122,9 @@ module _ (shape : Shape) (pages : List Content) (start : ℕ) (script : List Scr
 
   are_page_actors : (b : Bool) → ArePageActors b (page_actors shape start b)
   are_page_actors true = refl
-  are_page_actors false = (record { closer = new_closer start; cleaner = new_cleaner shape.pages; checkpointer = new_checkpointer start }, refl)
+  are_page_actors false = (record { closer = new_closer; cleaner = new_cleaner shape.pages; checkpointer = new_checkpointer start }, refl)
 
-  -- the users that have lines are seated, and the other actors behind them
+  -- the users that have lines are seated, and the other actors after them
   pub are_seated : AreSeated setup (start_actors shape script start log_only)
   are_seated = record {
     users = users;

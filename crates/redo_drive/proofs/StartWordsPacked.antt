@@ -94,7 +94,7 @@ module _ (user : List ℕ) (full : length user ≡ USER_BYTES) where
     unfolding page_frame
     frame_at = words_of-at FRAME_WORDS (page_cells user) q there
 
-    -- a word that holds user bytes: some lanes before them are 0, and those behind
+    -- a word that holds user bytes: some lanes before them are 0, and those after
     pub some_there : (from to : ℕ) (ys : List ℕ) → 8 * q ≤ from → 38 ≤ from → (8 * q < from → from ≡ 38) → from < to → to ≤ 8 * q + 8 → to ≤ 4088 → (to < 8 * q + 8 → to ≡ 4088)
         → length ys ≡ to - from → ((i : ℕ) → i < to - from → slice_index ys i ≡ slice_index user (from - 38 + i)) → packed (from - 8 * q) ys ≡ slice_index (page_frame user) q
     unfolding packed

@@ -18,7 +18,7 @@ use Rattle.model_theorem.specs.{Opened}
 use Rattle.redo_apply.specs.{ArePagesOf}
 use Rattle.redo_drive.specs.StartWords.{AreFullPages, HoldBytes, kept_page_of, opened_page, page_cells, unwritten_page}
 
--- in so many zeros, and behind them, each number is 0
+-- in so many zeros, and past them, each number is 0
 pub replicate_zero : (n i : ℕ) → slice_index (replicate n 0) i ≡ 0
 replicate_zero zero i = refl
 replicate_zero (suc n) zero = refl
@@ -30,7 +30,7 @@ small_append limit [] ys a b i = b i
 small_append limit (x ∷ xs) ys a b zero = a zero
 small_append limit (x ∷ xs) ys a b (suc i) = small_append limit xs ys (λ j. a (suc j)) b i
 
--- bytes with so many zeros before and behind them
+-- bytes with so many zeros before and after them
 module _ (before behind : ℕ) (user : List ℕ) where
   abbrev framed : List ℕ
   framed = replicate before 0 ++ user ++ replicate behind 0

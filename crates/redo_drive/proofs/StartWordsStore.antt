@@ -109,6 +109,7 @@ module _ (start : ℕ) (pages : List Content) where
         sn = sn;
         write = sym on.begins;
         wtail = sym on.begins;
+        wheld = refl;
         flushed = sym on.begins;
         ckpt = ap (λ (n : ℕ). n - BLOCK_HEADER) (sym on.begins);
         failed = refl;
@@ -129,6 +130,7 @@ module _ (start : ℕ) (pages : List Content) where
             let e : (c.opened p).lsn ≡ (get_or pages p unwritten_page).lsn = ap (λ (kept : KeptPage). kept.lsn) (on.opened p there) in
             let old = on.early p (get_or pages p unwritten_page) (slice_get-get_or pages p unwritten_page there) in omega (arith, on.begins);
         ctail = sym on.begins;
+        cheld = refl;
         clinks = zeros-zero _;
       };
     }

@@ -1,5 +1,5 @@
 -- Words that are all 0, by name.
-use Rattle.std.proofs.Common.{List, [], ap, arith, length, refl, replicate, suc, sym, zero, ℕ, ◌*◌, ◌++◌, ◌+◌, ◌<◌, ◌∙◌, ◌∷◌, ◌≡◌}
+use Rattle.std.proofs.Common.{List, [], ap, arith, length, refl, replicate, suc, sym, zero, ℕ, ◌*◌, ◌++◌, ◌+◌, ◌<◌, ◌∙◌, ◌∷◌, ◌≡◌, false}
 use Rattle.std.specs.Prelude.{slice_index}
 use Rattle.std.proofs.lemmas.List.{get_or-replicate, length-replicate}
 use Rattle.model_core.specs.{blank_words, flat, flat_page_words, page_stride, page_words_at, PageWords, SharedWords, word_count}
@@ -60,9 +60,11 @@ zero_words pages = record {
   sn = 0;
   write = 0;
   wtail = 0;
+  wheld = false;
   flushed = 0;
   ckpt = 0;
   ctail = 0;
+  cheld = false;
   failed = 0;
   device = 0;
   lists = zeros FLUSH_LISTS;

@@ -21,7 +21,7 @@ use Rattle.redo_logdev.specs.Part as log
 use Rattle.redo_drive.specs.LogPartSide.{log_side}
 use Rattle.redo_store.specs.Part as store
 
--- by the marks of then, the log device holds the run also behind a sync
+-- by the marks of then, the log device holds the run also after a sync
 synced_by_marks : (shape : Shape) (s : ℕ) (wholes : List Whole) (marks : LogMarks) (disk : Disk) → LogHolds shape s wholes marks disk
     → IsWritten shape s wholes marks disk → LogHolds shape s wholes marks (synced disk)
 synced_by_marks shape s wholes marks disk holds is =

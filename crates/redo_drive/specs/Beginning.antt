@@ -19,8 +19,8 @@ use Rattle.redo_drive.specs.StartWords.{AreStartWords}
 use Rattle.redo_drive.specs.Views.{views_of}
 use Rattle.redo_drive.specs.declared.actor.Actor.{Actor}
 use Rattle.redo_drive.specs.declared.parts.Parts.{Parts}
-use Rattle.redo_pageactors.specs.{IsRunnable}
-use Rattle.redo_pageactors.specs.declared.opened.Opened.{Opened}
+use Rattle.redo_store.specs.{IsRunnable}
+use Rattle.redo_store.specs.declared.opened.Opened.{Opened}
 
 -- where the log runs alone, no checkpoint frees it, and the run has room for one round from its checkpoint on
 abbrev pub room_from : Bool → Shape → ℕ → Option ℕ

@@ -1,5 +1,5 @@
 -- A run at its beginning, with all that the invariant starts from.
-use Rattle.std.specs.Prelude.{Bool, IfSome, List, [], length, vec_capacity, ℕ, ◌-◌, ◌≡◌, ◌≤◌}
+use Rattle.std.specs.Prelude.{Bool, IfSome, List, [], length, vec_capacity, ℕ, ◌≡◌, ◌≤◌}
 use Rattle.model_core.specs.{flat, Listed, SharedWords}
 use Rattle.model_theorem.specs.{IsStart}
 use Rattle.model_running.specs.StartStore.{StartStore}
@@ -12,7 +12,7 @@ use Rattle.redo_drive.specs.Playing.{RunOf, data_of, log_of}
 use Rattle.redo_drive.specs.Running.{RunsOn}
 use Rattle.redo_drive.specs.Views.{views_of}
 use Rattle.redo_drive.specs.declared.making.Beginning.{Beginning}
-use Rattle.redo_pageactors.specs.declared.opened.Opened.{Opened}
+use Rattle.redo_store.specs.declared.opened.Opened.{Opened}
 
 -- The store stands as the invariant wants it at the start: words, parts and actors, and no page is listed.
 pub record IsAtStart {L D : Type 0} (log_seen : L → Seen) (data_seen : D → Seen) (run : RunOf L D) (start : Beginning L D) : Type 0 where

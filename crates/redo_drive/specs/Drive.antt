@@ -15,8 +15,8 @@ use Rattle.redo_drive.specs.Beginning.{IsOpenedAs}
 use Rattle.redo_drive.specs.Calls.{CallsOn}
 use Rattle.redo_drive.specs.declared.drive.Driven.{Driven}
 use Rattle.redo_drive.specs.declared.drive.RunEnd.TheVariants as ended
-use Rattle.redo_pageactors.specs.declared.closed.Closed.{Closed}
-use Rattle.redo_pageactors.specs.declared.opened.Opened.{Opened}
+use Rattle.redo_drive.specs.declared.closed.Closed.{Closed}
+use Rattle.redo_store.specs.declared.opened.Opened.{Opened}
 
 -- the history and the marks of the run
 abbrev pub ran_of : {L D : Type 0} → ℕ → Closed L D → Ran
@@ -34,7 +34,7 @@ HasMemory closed = ((closed.log.failed ≡ Some NoMemory) ⊎ (closed.store.fail
 abbrev pub HasMetError : {L D : Type 0} → Closed L D → Type 0
 HasMetError closed = (closed.log.failed ≢ None) ⊎ (closed.store.failed ≢ None)
 
--- WHAT IT COMES TO, whatever the devices tell: a run, for any end behind which it starts; where all users have ended and no
+-- WHAT IT COMES TO, whatever the devices tell: a run, for any end after which it starts; where all users have ended and no
 -- device was without memory, it loses something only where a call failed; where the turns are spent, this is the least user
 -- of which a line isn't answered.
 pub record ComesToRun {L D : Type 0} (log_gives : L → Call → L → Type 0) (data_gives : D → Call → D → Type 0) (opened : Opened L D) (script : List ScriptLine) (driven : Driven L D) : Type 0 where
@@ -62,10 +62,11 @@ HoldsRun log_seen data_seen opened script driven =
       data_disk = data_now;
     })))))
 
--- WHAT A DRIVE OWES that came to its end, where the devices tell and the store was ready: a closed run, with what becomes so of both devices.
-abbrev pub IsOwedWith : {L D : Type 0} → (Disk → Disk) → (L → Seen) → (D → Seen) → Opened L D → List ScriptLine → Driven L D → Type 0
-IsOwedWith becomes log_seen data_seen opened script driven =
-    (reading : Reading) (left : List (ℕ × ℕ)) → driven.ended ≡ ended.Done → HasMemory driven.closed
+-- WHAT A DRIVE OWES that came to its end and no call of which answered an error, where the devices tell and the store was ready: a
+-- sync of both devices would leave a closed run, whose images are what reads give.
+abbrev pub IsOwedSynced : {L D : Type 0} → (L → Seen) → (D → Seen) → Opened L D → List ScriptLine → Driven L D → Type 0
+IsOwedSynced log_seen data_seen opened script driven =
+    driven.closed.log.failed ≡ None → driven.closed.store.failed ≡ None → (reading : Reading) (left : List (ℕ × ℕ)) → driven.ended ≡ ended.Done → HasMemory driven.closed
     → IsOpenedAs reading opened → IsLeft script driven.closed.history left
     → IfSome (log_seen opened.log.dev).tells (λ log_disk. IfSome (data_seen opened.store.dev).tells (λ data_disk.
     IsStart reading script log_disk data_disk
@@ -76,22 +77,13 @@ IsOwedWith becomes log_seen data_seen opened script driven =
       number = reading.number + 1;
       run = ran_of opened.start driven.closed;
       left = left;
-      log_disk = becomes log_now;
-      data_disk = becomes data_now;
+      log_disk = synced log_now;
+      data_disk = synced data_now;
     })))))
-
-abbrev pub IsOwed : {L D : Type 0} → (L → Seen) → (D → Seen) → Opened L D → List ScriptLine → Driven L D → Type 0
-IsOwed log_seen data_seen opened script driven = IsOwedWith (λ disk. disk) log_seen data_seen opened script driven
-
--- Where no call answered an error, a sync of both devices would leave a closed run too, whose images are what reads give.
-abbrev pub IsOwedSynced : {L D : Type 0} → (L → Seen) → (D → Seen) → Opened L D → List ScriptLine → Driven L D → Type 0
-IsOwedSynced log_seen data_seen opened script driven =
-    driven.closed.log.failed ≡ None → driven.closed.store.failed ≡ None → IsOwedWith synced log_seen data_seen opened script driven
 
 -- ALL THAT A DRIVE OWES of its run.
 pub record Owes {L D : Type 0} (log_seen : L → Seen) (log_gives : L → Call → L → Type 0) (data_seen : D → Seen) (data_gives : D → Call → D → Type 0)
     (opened : Opened L D) (script : List ScriptLine) (driven : Driven L D) : Type 0 where
   pub comes_to : ComesToRun log_gives data_gives opened script driven
   pub holds : HoldsRun log_seen data_seen opened script driven
-  pub owed : IsOwed log_seen data_seen opened script driven
   pub owed_synced : IsOwedSynced log_seen data_seen opened script driven

@@ -1,5 +1,5 @@
 -- What a run leaves, however its Ops were interleaved: from this the closed run follows, by turns and in threads alike.
-use Rattle.std.specs.Prelude.{Bool, IfSome, List, slice_index, ℕ, ◌≡◌}
+use Rattle.std.specs.Prelude.{Bool, IfSome, List, slice_index, ◌≡◌}
 use Rattle.model_core.specs.{index}
 use Rattle.model_core.specs.declared.words.Word.TheVariants as word
 use Rattle.model_running.specs.{history_of, marks_in, word_marks}
@@ -14,8 +14,8 @@ use Rattle.redo_drive.specs.Playing.{RunOf}
 use Rattle.redo_drive.specs.Running.{RunsOn}
 use Rattle.redo_drive.specs.declared.actor.Actor.{Actor}
 use Rattle.redo_drive.specs.declared.parts.Parts.{Parts}
-use Rattle.redo_pageactors.specs.declared.closed.Closed.{Closed}
-use Rattle.redo_pageactors.specs.declared.opened.Opened.{Opened}
+use Rattle.redo_drive.specs.declared.closed.Closed.{Closed}
+use Rattle.redo_store.specs.declared.opened.Opened.{Opened}
 
 -- The run of the script on the opened store came to these actors, and the closed store is what they and its parts tell.
 pub record LeavesRun {L D : Type 0} (log_seen : L → Seen) (log_gives : L → Call → L → Type 0) (data_seen : D → Seen) (data_gives : D → Call → D → Type 0)

@@ -18,6 +18,6 @@ pub mod Turning
 pub mod Views
 pub use Rattle.redo_drive.specs.Asking.{AskOfBoth}
 pub use Rattle.redo_drive.specs.Beginning.{IsOpenedAs, room_from}
-pub use Rattle.redo_drive.specs.Drive.{ComesToRun, HasMemory, HoldsRun, IsOwed, IsOwedSynced, IsOwedWith, Owes, ran_of}
+pub use Rattle.redo_drive.specs.Drive.{ComesToRun, HasMemory, HoldsRun, IsOwedSynced, Owes, ran_of}
 pub use Rattle.redo_drive.specs.LogPartSide.{has_failed}
 pub use Rattle.redo_drive.specs.Requests.{checkpoint_requests, sync_requests, write_requests}

@@ -28,7 +28,7 @@ abbrev pub has_failed : Option DevError → Bool
 has_failed None = false
 has_failed (Some fault) = true
 
--- Its number goes round only behind so many checkpoints as a log below the limit has no room for.
+-- Its number goes round only after more checkpoints than a log below the limit has room for.
 abbrev pub HasFewCheckpoints : LogMarks → Type 0
 HasFewCheckpoints marks = marks.number ≤ 2 ^ 63 + marks.ckpt / BLOCK_SIZE
 

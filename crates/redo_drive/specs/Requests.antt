@@ -15,6 +15,6 @@ write_requests part bytes firsts =
 abbrev pub sync_requests : List Request
 sync_requests = ToSync ∷ []
 
--- the next checkpoint, by one write with a sync behind it
+-- the next checkpoint, by one write with a sync after it
 abbrev pub checkpoint_requests : {L : Type 0} → Part L → ℕ → List Request
 checkpoint_requests part lsn = put_requests (checkpoint_write part.shape (next_number part.marks.number) lsn)

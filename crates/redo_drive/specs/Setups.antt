@@ -35,7 +35,7 @@ abbrev pub users_of : Shape → (log_only : Bool) → List ScriptLine → List U
 users_of shape log_only script = users_below shape.log_blocks (programs_of shape log_only script) (MAX_USERS + 1)
 
 -- The run of a script on these pages of a store, with the log alone or with the pages, which starts at this lsn. The closer,
--- the cleaner and the checkpointer have their seats behind the users, the writer and the flusher.
+-- the cleaner and the checkpointer have their seats after the users, the writer and the flusher.
 abbrev pub setup_of : Shape → List Content → (start : ℕ) → List ScriptLine → (log_only : Bool) → Setup
 setup_of shape pages start script log_only = record {
   base = sn_of start;
@@ -53,7 +53,7 @@ setup_of shape pages start script log_only = record {
 abbrev pub page_actors : Shape → (start : ℕ) → (log_only : Bool) → List Actor
 page_actors shape start true = []
 page_actors shape start false =
-    actor.Closer (new_closer start) ∷ actor.Cleaner (new_cleaner shape.pages) ∷ actor.Checkpointer (new_checkpointer start) ∷ []
+    actor.Closer new_closer ∷ actor.Cleaner (new_cleaner shape.pages) ∷ actor.Checkpointer (new_checkpointer start) ∷ []
 
 -- the actors of the run in their seats, with nothing done
 abbrev pub start_actors : Shape → List ScriptLine → (start : ℕ) → (log_only : Bool) → List Actor

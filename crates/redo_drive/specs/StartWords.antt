@@ -1,5 +1,5 @@
 -- The words of a store as a run begins on its pages.
-use Rattle.std.specs.Prelude.{List, Some, [], drop, get_or, length, replicate, slice_get, slice_index, slice_set, suc, take, zero, ℕ, ◌%◌, ◌++◌, ◌-◌, ◌/◌, ◌<◌, ◌∷◌, ◌≡◌, ◌≤◌}
+use Rattle.std.specs.Prelude.{List, Some, [], drop, get_or, length, replicate, slice_get, slice_index, slice_set, suc, take, zero, ℕ, ◌%◌, ◌++◌, ◌-◌, ◌/◌, ◌<◌, ◌∷◌, ◌≡◌, ◌≤◌, false}
 use Rattle.model_base.specs.declared.limits.TheConstants.{BLOCK_SIZE, MAX_PAGES, USER_BYTES, USER_START}
 use Rattle.model_core.specs.{flat, IsSized, KeptPage, lsn, packed, page_words_at, SharedWords, with_page_words}
 use Rattle.model_core.specs.Setup.{Setup}
@@ -12,7 +12,7 @@ use Rattle.model_page.specs.declared.page.TheConstants.{TRAILER_LENGTH}
 use Rattle.model_core.specs.StartWords.{StartPageWords}
 use Rattle.redo_words.specs.Plain.{Plain}
 
--- the cells of a page's frame: its user bytes, and 0 before and behind them, where the running store keeps nothing
+-- the cells of a page's frame: its user bytes, and 0 before and after them, where the running store keeps nothing
 unfoldable pub page_cells : List ℕ → List ℕ
 page_cells user = replicate USER_START 0 ++ user ++ replicate TRAILER_LENGTH 0
 
@@ -46,7 +46,7 @@ pub record AreFullPages (pages : List Content) : Type 0 where
 abbrev pub HoldBytes : List Content → Type 0
 HoldBytes pages = (p i : ℕ) → slice_index (opened_page pages p).bytes i < 256
 
--- the run starts at this lsn on a store with these pages, none of which has a group behind the start
+-- the run starts at this lsn on a store with these pages, none of which has a group past the start
 pub record StartsOn (start : ℕ) (pages : List Content) (c : Setup) : Type 0 where
   pub begins : lsn c.base ≡ start
   pub count : c.pages ≡ length pages
@@ -71,9 +71,11 @@ with_log start m = record m {
   sn = sn_of start;
   write = start;
   wtail = start;
+  wheld = false;
   flushed = start;
   ckpt = start - BLOCK_HEADER;
   ctail = start;
+  cheld = false;
   firsts = slice_set m.firsts (start / BLOCK_SIZE % BUFFER_BLOCKS) BLOCK_HEADER;
 }
 

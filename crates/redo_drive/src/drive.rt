@@ -1,6 +1,6 @@
 // How a run ends, and what it leaves.
+use crate::closed::Closed;
 use redo_disk::Sectors;
-use redo_pageactors::Closed;
 
 /// How a run ends.
 #[derive(Clone, Copy, Debug, PartialEq, Eq)]

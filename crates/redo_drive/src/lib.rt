@@ -1,11 +1,12 @@
 //! What every drive of a run stands on, however it interleaves the Ops: both device parts as the running store sees them,
-//! the actors, the flush lists, the run as it begins, its history, and what a drive owes. A call of a part answers by the
-//! code that FAILED gets.
+//! the actors, the flush lists, the run as it begins, its history, what it leaves, and what a drive owes. A call of a part
+//! answers by the code that FAILED gets.
 #![tactic(auto)]
 
 mod actor;
 mod asking;
 mod calling;
+mod closed;
 mod data_calls;
 mod data_laws;
 mod drive;
@@ -20,6 +21,7 @@ mod start_words;
 
 pub use actor::Actor;
 pub use calling::{call_batch, call_write, called};
+pub use closed::Closed;
 pub use data_calls::write_batch;
 pub use data_laws::{data_part_meets_laws, data_part_tells, held_pages_are_stored};
 pub use drive::{Driven, RunEnd};

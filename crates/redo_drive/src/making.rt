@@ -22,7 +22,7 @@ use model_script::Script;
 use redo_apply::Pages;
 use redo_disk::Sectors;
 use redo_lsn::NoMemory;
-use redo_pageactors::Opened;
+use redo_store::Opened;
 use redo_words::PlainWords;
 use std::alloc::Global;
 

@@ -84,7 +84,7 @@ pub fn seat_actors(
     actors.push(Actor::Writer(Writer::new(alloc, shape, start)?))?;
     actors.push(Actor::Flusher(Flusher::new(start)))?;
     if !log_only {
-        actors.push(Actor::Closer(Closer::new(start)))?;
+        actors.push(Actor::Closer(Closer::new()))?;
         actors.push(Actor::Cleaner(Cleaner::new(alloc, shape)?))?;
         actors.push(Actor::Checkpointer(Checkpointer::new(start)))?;
     }

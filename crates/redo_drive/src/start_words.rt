@@ -1,5 +1,5 @@
 // The words of a store as a run begins.
-ghost use Rattle.std.specs.Prelude.{◌<◌, ◌≡◌, ◌≤◌, ℕ, IfOk, length, slice_index};
+ghost use Rattle.std.specs.Prelude.{◌<◌, ◌^◌, ◌≡◌, ◌≤◌, ℕ, IfOk, length, slice_index};
 ghost use Rattle.model_core.specs.{IsWord, SharedWords, wrote};
 ghost use Rattle.model_core.specs.Setup.{Setup};
 ghost use Rattle.model_log.specs.{IsAtDataStart};
@@ -9,6 +9,7 @@ use model_base::{BLOCK_SIZE, USER_BYTES, USER_START};
 use model_core::{BUFFER_BLOCKS, FRAME_WORDS};
 use model_log::BLOCK_HEADER;
 use redo_apply::Pages;
+use redo_link::tail_word;
 use redo_lsn::{NoMemory, sn_of};
 use redo_words::{Op, PlainWords, Word, packed};
 use std::alloc::Global;
@@ -24,16 +25,17 @@ fn set(words: &mut PlainWords, word: Word, number: u64)
 
 /// Gives the words of the log their numbers, for a run that starts at this lsn.
 fn set_log(words: &mut PlainWords, start: u64)
-    requires { BLOCK_HEADER ≤ start }
+    requires header { BLOCK_HEADER ≤ start }
+    requires small { start < 2 ^ 61 }
     ensures pages { words.new.pages ≡ words.old.pages }
     ensures named { (m : SharedWords) → AreNamed words.old m → AreNamed words.new (with_log start m) }
 {
     set(words, Word::Sn, sn_of(start));
     set(words, Word::Write, start);
-    set(words, Word::Wtail, start);
+    set(words, Word::Wtail, tail_word(start, false));
     set(words, Word::Flushed, start);
     set(words, Word::Ckpt, start - BLOCK_HEADER);
-    set(words, Word::Ctail, start);
+    set(words, Word::Ctail, tail_word(start, false));
     let block = (start / BLOCK_SIZE % BUFFER_BLOCKS) as u32;
     set(words, Word::First(block), BLOCK_HEADER);
 }
@@ -71,6 +73,7 @@ fn set_frame(words: &mut PlainWords, page: u32, user: &[u8])
 /// The words of a store with these pages, on which a run starts at this lsn. Only `PlainWords::new` takes memory.
 pub fn start_words(alloc: Global, pages: &Pages, start: u64) -> Result<PlainWords, NoMemory>
     requires place { IsAtDataStart start }
+    requires small { start < 2 ^ 61 }
     requires full { AreFullPages pages.now }
     ensures pages { IfOk result (λ words. words.pages ≡ length pages.now) }
     ensures bytes { IfOk result (λ _. HoldBytes pages.now) }

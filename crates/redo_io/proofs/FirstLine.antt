@@ -47,7 +47,7 @@ pub nothing_dropped : (line front : List ℕ) (last : ℕ) → line ≡ front ++
 nothing_dropped line front last is other =
     is ∙ sym (ap without_return is ∙ without_return_last front last ∙ ap (λ b. cond b front (front ++ last ∷ [])) (ne_eqb last 13 other))
 
--- what stands before the first line feed, and the text behind it
+-- what stands before the first line feed, and the text after it
 pub first_line_at : (text : List ℕ) (end : ℕ) → position (λ byte. eqb byte 10) text ≡ Some end → fed_lines text ≡ take end text ∷ fed_lines (drop (end + 1) text)
 first_line_at [] end found = absurd (none-some end found)
 first_line_at (byte ∷ bytes) end found =
@@ -75,7 +75,7 @@ pub numbered_none : (number : ℕ) (text : List ℕ) → length text ≡ 0 → n
 unfolding lines_of
 numbered_none number text none = ap (numbered_from number) (nil_from_length text none)
 
--- the first line has the first number, and the lines of what stands behind it go on from the next
+-- the first line has the first number, and the lines of what stands after it go on from the next
 pub numbered_first : (number : ℕ) (text line rest shown : List ℕ) → fed_lines text ≡ line ∷ fed_lines rest → shown ≡ without_return line
     → numbered_from number text ≡ (number, shown) ∷ numbered_from (number + 1) rest
 unfolding lines_of

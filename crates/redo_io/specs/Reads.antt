@@ -23,7 +23,7 @@ LastRead gives room old (Err Fault) new = (out : List ℕ) × gives old room (Er
 LastRead gives room old (Err TooLong) new = new ≡ old
 LastRead gives room old (Err NoMemory) new = new ≡ old
 
--- A text is read whole: reads that gave pieces of it, and then the one that ended them, behind which there is no other.
+-- A text is read whole: reads that gave pieces of it, and then the one that ended them, after which there is no other.
 pub record IsReadThrough {S : Type 0} (gives : Reading S) (room : ℕ) (old : S) (result : Result (List ℕ) ReadFault) (new : S) : Type 0 where
   pub pieces : List (List ℕ)
   pub before_last : S

@@ -35,7 +35,7 @@ pub record ReadsReader {R : Type 0} (remaining : R → Option (List ℕ)) (old :
   pub taken : ReadConsumes (remaining old.reader) (remaining new.reader) result out
   pub faults : CountsFault old.faults result new.faults
 
--- A write through the sink: the writer holds the bytes that it took behind the others, and nothing more where it failed.
+-- A write through the sink: the writer holds the bytes that it took after the others, and nothing more where it failed.
 pub record WritesWriter {W : Type 0} (contents : W → Option (List ℕ)) (old : WriterSink W) (bytes : List ℕ)
     (result : Result ℕ IoFault) (new : WriterSink W) : Type 0 where
   pub held : WriteAppends (contents old.writer) (contents new.writer) result bytes

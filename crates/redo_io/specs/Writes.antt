@@ -16,7 +16,7 @@ abbrev pub LastWrite : {S : Type 0} → Writing S → S → List ℕ → Result 
 LastWrite gives old rest (Ok done) new = (rest ≡ []) × (new ≡ old)
 LastWrite gives old rest (Err fault) new = gives old rest (Err fault) new
 
--- Bytes are written whole: each write is of what the ones before it left, and there is none behind the end or a failure.
+-- Bytes are written whole: each write is of what the ones before it left, and there is none after the end or a failure.
 pub record IsPutThrough {S : Type 0} (gives : Writing S) (old : S) (bytes : List ℕ) (result : Result (Unit {0}) IoFault) (new : S) : Type 0 where
   pub counts : List ℕ
   pub before_last : S

@@ -66,7 +66,7 @@ fn line_end(text: &[u8]) -> Option<usize>
     text.iter().position(|byte| *byte == b'\n')
 }
 
-/// The first line without its line feed, and the text behind both.
+/// The first line without its line feed, and the text after both.
 fn first_line(text: &[u8]) -> (&[u8], &[u8])
     requires { 0 < length text.now }
     ensures first { fed_lines text.now ≡ result.0.now ∷ fed_lines result.1.now }

@@ -81,7 +81,7 @@ sound-added old new from to sound free longer is = record {
   apart = apart-added (link_at old) (link_at new) from to is.link is.others longer free sound.forward sound.apart;
 }
 
--- behind the old window no link starts
+-- past the old window no link starts
 behind-cleared : (old : Links) (n end start : ℕ) → length old.slots ≡ n → IsSound old → link_at old old.tail ≡ end → end ≢ 0 → end ≤ start → old.tail + n ≤ start
     → link_at (record { tail = end; slots = set old.slots (old.tail % n) 0 }) start ≡ 0
 behind-cleared old n end start whole sound first stands from far =

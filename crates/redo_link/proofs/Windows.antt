@@ -18,7 +18,7 @@ slots-apart n t p q p_low p_high q_low q_high other =
     λ same. ⊎_elim (λ less. other (slots-same n p q same (omega (arith, less)) (omega (arith, p_low, q_high))))
     (λ most. other (sym (slots-same n q p (sym same) most (omega (arith, q_low, p_high))))) (cases_lt p q)
 
--- the place of the window from t on that shares its slot with a place behind the window
+-- the place of the window from t on that shares its slot with a place past the window
 pub record Shares (n t p : ℕ) : Type 0 where
   pub place : ℕ
   pub low : t ≤ place
@@ -56,7 +56,7 @@ pub at-below : (links : Links) (place : ℕ) → place < links.tail → link_at 
 at-below links place low =
     ap (λ b. cond (b && ltb place (links.tail + length links.slots)) (get_or links.slots (place % length links.slots) 0) 0) (lt-leb links.tail place low)
 
--- nor behind the window
+-- nor does one start past the window
 pub at-behind : (links : Links) (n place : ℕ) → length links.slots ≡ n → links.tail + n ≤ place → link_at links place ≡ 0
 at-behind links n place long far =
     let slot : ℕ = get_or links.slots (place % length links.slots) 0 in

@@ -15,13 +15,13 @@ abbrev pub link_at : Links → ℕ → ℕ
 link_at links place =
     if (nat_le links.tail place && nat_lt place (links.tail + capacity_of links)) then slice_index links.slots (place % capacity_of links) else 0
 
--- Links lead forwards, and none overlaps another: one that starts later starts at or behind the other's end.
+-- Links lead forwards, and none overlaps another: one that starts later starts at or past the other's end.
 pub record IsSound (links : Links) : Type 0 where
   pub some : 0 < capacity_of links
   pub forward : (place : ℕ) → link_at links place ≢ 0 → place < link_at links place
   pub apart : (place later : ℕ) → place < later → link_at links place ≢ 0 → link_at links later ≢ 0 → link_at links place ≤ later
 
--- no link overlaps the stretch between these places: each starts at or behind its end, or ends at or before its start
+-- no link overlaps the stretch between these places: each starts at or past its end, or ends at or before its start
 abbrev pub IsFree : Links → ℕ → ℕ → Type 0
 IsFree links from to = (place : ℕ) → link_at links place ≢ 0 → (to ≤ place) ⊎ (link_at links place ≤ from)
 

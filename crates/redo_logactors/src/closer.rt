@@ -1,12 +1,12 @@
 // The closer's state.
 use model_core::CloserStep;
+use redo_link::Advance;
 use std::marker::Model;
 
-/// The closer: it follows the links of the recent-closed buffer and moves CTAIL. Contracts see its state.
+/// The closer: it advances the tail of the recent-closed buffer. Contracts see its state.
 #[derive(Debug, Drop)]
 pub struct Closer {
-    pub(crate) tail: u64,
-    pub(crate) link: u64,
+    pub(crate) advance: Advance,
     pub(crate) code: u32,
     pub(crate) checks: bool,
     pub(crate) step: CloserStep,

@@ -2,11 +2,12 @@
 ghost use Rattle.std.specs.Prelude.{◌≡◌, ◌<◌, ◌^◌, ◌==◌, if◌then◌else◌, true};
 ghost use Rattle.model_core.specs.Actors as actor;
 ghost use Rattle.model_core.specs.AnswerFits.{AnswerFits};
-ghost use Rattle.model_core.specs.{closer_after, closer_checked, closer_next, lent, step_of};
+ghost use Rattle.model_core.specs.{closer_after, closer_checked, closer_next, closer_took, lent, old_of, stays_put, step_of};
+ghost use Rattle.redo_link.specs.{FindsLsn};
 ghost use Rattle.redo_words.specs.{Lends};
 
 use crate::closer::Closer;
-use model_core::{CLOSED_LINKS, CloserStep};
+use model_core::{AdvanceStep, CloserStep, LinkBuffer};
 use redo_words::{Answer, Lent, Op, Step, Word, old_of};
 
 impl Closer {
@@ -17,11 +18,8 @@ impl Closer {
         if self.checks {
             return Op::Load(Word::Failed);
         }
-        let link = Word::Clink((self.tail % CLOSED_LINKS) as u32);
         match self.step {
-            CloserStep::LoadClosedLink => Op::Load(link),
-            CloserStep::ClearClosedLink => Op::Store(link, 0),
-            CloserStep::StoreCtail => Op::Store(Word::Ctail, self.tail),
+            CloserStep::Advance(step) => self.advance.op(LinkBuffer::Closed, step),
             CloserStep::Failed => Op::Rest,
         }
     }
@@ -48,32 +46,35 @@ impl Closer {
         Step::Failed(self.code)
     }
 
+    /// A step of its advance was answered.
+    fn advances(&mut self, answer: Answer, step: AdvanceStep) -> Step
+        requires step { self.old.step ≡ CloserStep.Advance step }
+        requires finds { FindsLsn self.old.advance (old_of answer) step }
+        ensures state { self.new ≡ closer_took self.old answer (CloserStep.Advance step) }
+        ensures step { result ≡ (if stays_put self.old.advance (old_of answer) step then Step.Idle else Step.Moved) }
+    {
+        let found = old_of(answer);
+        let stays = self.advance.stays_put(found, step);
+        let ends = self.advance.ends(found, step);
+        let next = self.advance.next(found, step);
+        self.advance.take(found, step);
+        self.checks = stays;
+        self.step = CloserStep::Advance(if ends { AdvanceStep::LoadTail } else { next });
+        if stays { Step::Idle } else { Step::Moved }
+    }
+
     /// Takes the answer to the Op that it asked for.
     pub fn took(&mut self, answer: Answer) -> Step
         requires { AnswerFits (actor.Closer self.old) answer }
         ensures state { self.new ≡ closer_after self.old answer }
         ensures step { result ≡ step_of (actor.Closer self.old) answer }
     {
-        let n = old_of(answer);
         if self.checks {
-            return self.checked(n);
+            return self.checked(old_of(answer));
         }
         match self.step {
-            CloserStep::LoadClosedLink => {
-                if n == 0 {
-                    self.checks = true;
-                    return Step::Idle;
-                }
-                self.link = n;
-                self.step = CloserStep::ClearClosedLink;
-            }
-            CloserStep::ClearClosedLink => {
-                self.tail += self.link;
-                self.step = CloserStep::StoreCtail;
-            }
-            CloserStep::StoreCtail => self.step = CloserStep::LoadClosedLink,
-            CloserStep::Failed => return Step::Failed(self.code),
+            CloserStep::Advance(step) => self.advances(answer, step),
+            CloserStep::Failed => Step::Failed(self.code),
         }
-        Step::Moved
     }
 }

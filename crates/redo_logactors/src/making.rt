@@ -7,8 +7,9 @@ use crate::closer::Closer;
 use crate::flusher::Flusher;
 use crate::writer::{KEPT_BLOCKS, KEPT_BYTES, Writer};
 use model_base::{BLOCK_SIZE, FIRST_DATA_LSN, Shape};
-use model_core::{CloserStep, FlusherStep, WriterStep};
+use model_core::{AdvanceStep, CloserStep, FlusherStep, WriterStep};
 use model_log::{BLOCK_DATA, BLOCK_HEADER};
+use redo_link::Advance;
 use redo_lsn::NoMemory;
 use std::alloc::Global;
 
@@ -31,13 +32,13 @@ impl Writer {
             from: start / BLOCK_SIZE * BLOCK_DATA,
             kept,
             firsts,
-            link: 0,
+            advance: Advance::new(),
             first: 0,
             word: 0,
             ckpt: 0,
             code: 0,
             checks: false,
-            step: WriterStep::LoadLink,
+            step: WriterStep::Advance(AdvanceStep::LoadTail),
         })
     }
 }
@@ -59,17 +60,15 @@ impl Flusher {
 }
 
 impl Closer {
-    /// The closer of a run that starts at this lsn.
-    pub fn new(start: u64) -> Closer
-        requires { start < 2 ^ 61 }
-        ensures { result ≡ new_closer start }
+    /// The closer of a run.
+    pub fn new() -> Closer
+        ensures { result ≡ new_closer }
     {
         Closer {
-            tail: start,
-            link: 0,
+            advance: Advance::new(),
             code: 0,
             checks: false,
-            step: CloserStep::LoadClosedLink,
+            step: CloserStep::Advance(AdvanceStep::LoadTail),
         }
     }
 }

@@ -1,15 +1,17 @@
 // What the writer makes of the answers to its own Ops.
-ghost use Rattle.std.specs.Prelude.{◌≡◌, ◌<◌, ◌≤◌, ◌+◌, ◌-◌, ◌++◌, ◌==◌, if◌then◌else◌, false, length};
+ghost use Rattle.std.specs.Prelude.{◌≡◌, ◌<◌, ◌≤◌, ◌+◌, ◌-◌, ◌^◌, ◌++◌, if◌then◌else◌, false, length};
 ghost use Rattle.model_core.specs.Actors as actor;
 ghost use Rattle.model_core.specs.AnswerFits.{AnswerFits};
+ghost use Rattle.redo_link.specs.{FindsLsn};
 ghost use Rattle.redo_logactors.specs.WriterView.{after_word};
-ghost use Rattle.model_core.specs.{answer_limit, full_blocks, has_log_space, has_whole_word, lanes, left_in_word, lsn, old_of, read_place, stands_outside, step_of, writer_after, writer_took, writer_waits};
+ghost use Rattle.model_core.specs.{answer_limit, finds_no_more, full_blocks, has_log_space, has_whole_word, lanes, left_in_word, lsn, old_of, read_place, stands_outside, step_of, tail_after, writer_after, writer_took};
 
 use crate::writer::{KEPT_BLOCKS, KEPT_BYTES, Writer};
 use crate::writing::{drop_bytes, drop_firsts};
 use model_base::BLOCK_SIZE;
-use model_core::{WORD_LANES, WRITTEN_LINKS, WriterStep};
+use model_core::{AdvanceStep, WORD_LANES, WriterStep};
 use model_log::BLOCK_DATA;
+use redo_link::tail_of;
 use redo_words::{Answer, Step, code_of, old_of, push_lanes};
 
 impl Writer {
@@ -29,36 +31,42 @@ impl Writer {
         self.kept.len() as u64 == BLOCK_DATA * self.firsts.len() as u64
     }
 
-    /// The link at its tail was loaded.
-    fn found_link(&mut self, answer: Answer) -> Step
-        requires step { self.old.step ≡ WriterStep.LoadLink }
-        requires small { self.old.tail + old_of answer < answer_limit }
-        ensures state { self.new ≡ writer_took self.old answer WriterStep.LoadLink }
-        ensures step { result ≡ (if writer_waits self.old answer WriterStep.LoadLink then Step.Idle else Step.Moved) }
+    /// The tail with which it goes on once a step of its advance found this.
+    fn tail_after(&self, found: u64, step: AdvanceStep) -> u64
+        requires { FindsLsn self.now.advance found step }
+        ensures value { result ≡ tail_after self.now found step }
+        ensures small { result < 2 ^ 61 }
     {
-        let n = old_of(answer);
-        if n != 0 {
-            self.link = n;
-            self.goes_on(WriterStep::ClearLink)
-        } else if self.tail == self.write {
-            self.waits()
-        } else {
-            self.goes_on(WriterStep::StoreWtail)
+        match step {
+            AdvanceStep::LoadTail => tail_of(found),
+            AdvanceStep::FreeTail => self.advance.place(),
+            _ => self.tail,
         }
     }
 
-    /// That link was cleared.
-    fn follows_link(&mut self, answer: Answer) -> Step
-        ensures state { self.new ≡ writer_took self.old answer WriterStep.ClearLink }
-        ensures step { result ≡ Step.Moved }
+    /// A step of its advance was answered.
+    fn advances(&mut self, answer: Answer, step: AdvanceStep) -> Step
+        requires step { self.old.step ≡ WriterStep.Advance step }
+        requires finds { FindsLsn self.old.advance (old_of answer) step }
+        ensures state { self.new ≡ writer_took self.old answer (WriterStep.Advance step) }
+        ensures step { result ≡ (if finds_no_more self.old (old_of answer) step then Step.Idle else Step.Moved) }
     {
-        self.tail += self.link;
-        self.link = 0;
-        self.goes_on(if self.tail < self.write + WRITTEN_LINKS {
-            WriterStep::LoadLink
+        let found = old_of(answer);
+        let tail = self.tail_after(found, step);
+        let ends = self.advance.ends(found, step);
+        let next = self.advance.next(found, step);
+        let waits = ends && tail <= self.write;
+        self.advance.take(found, step);
+        self.tail = tail;
+        self.checks = waits;
+        self.step = if waits {
+            WriterStep::Advance(AdvanceStep::LoadTail)
+        } else if ends {
+            WriterStep::LoadCheckpoint
         } else {
-            WriterStep::StoreWtail
-        })
+            WriterStep::Advance(next)
+        };
+        if waits { Step::Idle } else { Step::Moved }
     }
 
     /// The newest checkpoint was loaded.
@@ -167,9 +175,7 @@ impl Writer {
             return self.checked(old_of(answer));
         }
         match self.step {
-            WriterStep::LoadLink => self.found_link(answer),
-            WriterStep::ClearLink => self.follows_link(answer),
-            WriterStep::StoreWtail => self.goes_on(WriterStep::LoadCheckpoint),
+            WriterStep::Advance(step) => self.advances(answer, step),
             WriterStep::LoadCheckpoint => self.checks_space(answer),
             WriterStep::LoadFirst => {
                 self.first = old_of(answer) as u32;
@@ -195,7 +201,7 @@ impl Writer {
                 }
             }
             WriterStep::StoreWrite => self.written(answer),
-            WriterStep::GiveDevice => self.goes_on(WriterStep::LoadLink),
+            WriterStep::GiveDevice => self.goes_on(WriterStep::Advance(AdvanceStep::LoadTail)),
             WriterStep::StoreFailed => self.goes_on(WriterStep::GiveFailed),
             WriterStep::GiveFailed | WriterStep::Failed => self.goes_on(WriterStep::Failed),
         }

@@ -1,14 +1,16 @@
 // The writer's state.
-use model_core::WriterStep;
+use model_core::{BUFFER_BLOCKS, WriterStep};
+use model_log::BLOCK_DATA;
+use redo_link::Advance;
 use std::marker::Model;
 
-/// Bytes that the writer may hold: those of the last block that isn't full, and of what its tail may run ahead of WRITE.
-pub(crate) const KEPT_BYTES: usize = 41_736;
-/// Blocks in which these bytes stand.
-pub(crate) const KEPT_BLOCKS: usize = 86;
+/// Blocks of which the writer may hold bytes: as many as the log buffer spans.
+pub(crate) const KEPT_BLOCKS: usize = BUFFER_BLOCKS as usize;
+/// Bytes that it may hold.
+pub(crate) const KEPT_BYTES: usize = (BLOCK_DATA * BUFFER_BLOCKS) as usize;
 
-/// The writer: it follows the links of the recent-written buffer, reads the groups out of the log buffer, writes them, and
-/// moves WTAIL and WRITE. Contracts see its state.
+/// The writer: it advances the tail of the recent-written buffer, reads the groups below the tail out of the log buffer,
+/// writes them, and moves WRITE. Contracts see its state.
 #[derive(Debug, Drop)]
 pub struct Writer {
     pub(crate) blocks: u64,
@@ -17,7 +19,7 @@ pub struct Writer {
     pub(crate) from: u64,
     pub(crate) kept: Vec<u8>,
     pub(crate) firsts: Vec<u32>,
-    pub(crate) link: u64,
+    pub(crate) advance: Advance,
     pub(crate) first: u32,
     pub(crate) word: u64,
     pub(crate) ckpt: u64,

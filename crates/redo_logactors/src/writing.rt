@@ -2,11 +2,12 @@
 ghost use Rattle.std.specs.Prelude.{◌≡◌, ◌<◌, ◌≤◌, ◌+◌, ◌/◌, ◌%◌, ◌^◌, ◌==◌, if◌then◌else◌, true, length, drop, vec_capacity};
 ghost use Rattle.model_core.specs.Actors as actor;
 ghost use Rattle.model_core.specs.{cell_of, lane_of, left_in_word, lent, lsn, read_place, writer_checked, writer_ending, writer_next};
+ghost use Rattle.redo_logactors.specs.WriterView.{MayStand};
 ghost use Rattle.redo_words.specs.{Lends};
 
 use crate::writer::Writer;
 use model_base::BLOCK_SIZE;
-use model_core::{BUFFER_BLOCKS, WORD_LANES, WRITTEN_LINKS, WriterStep};
+use model_core::{BUFFER_BLOCKS, LinkBuffer, WORD_LANES, WriterStep};
 use redo_lsn::lsn_of;
 use redo_words::{Lent, Op, Spot, Step, Word, spot_of};
 
@@ -61,9 +62,7 @@ impl Writer {
             return Op::Load(Word::Failed);
         }
         match self.step {
-            WriterStep::LoadLink => Op::Load(self.link_word()),
-            WriterStep::ClearLink => Op::Store(self.link_word(), 0),
-            WriterStep::StoreWtail => Op::Store(Word::Wtail, self.tail),
+            WriterStep::Advance(step) => self.advance.op(LinkBuffer::Written, step),
             WriterStep::LoadCheckpoint => Op::Load(Word::Ckpt),
             WriterStep::LoadFirst => Op::Load(self.first_word()),
             WriterStep::ClearFirst => Op::Store(self.first_word(), 0),
@@ -78,13 +77,6 @@ impl Writer {
             WriterStep::StoreFailed => Op::Store(Word::Failed, u64::from(self.code)),
             WriterStep::Failed => Op::Rest,
         }
-    }
-
-    /// The link at its tail.
-    fn link_word(&self) -> Word
-        ensures { result ≡ Word.Wlink (self.now.tail % WRITTEN_LINKS) }
-    {
-        Word::Wlink((self.tail % WRITTEN_LINKS) as u32)
     }
 
     /// The first offset of the block at its read place.
@@ -121,6 +113,7 @@ impl Writer {
 
     /// It goes on with this step.
     pub(crate) fn goes_on(&mut self, step: WriterStep) -> Step
+        requires { MayStand self.old.advance step }
         ensures state { self.new ≡ record self.old { step = step } }
         ensures step { result ≡ writer_ending self.old.code step }
     {

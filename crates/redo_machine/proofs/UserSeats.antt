@@ -35,7 +35,7 @@ higher_seat (x ∷ xs) ascend zero (suc j) u v l at also =
     omega arith
 higher_seat (x ∷ xs) ascend (suc i) (suc j) u v l at also = higher_seat xs (λ k a b here next. ascend (suc k) a b here next) i j u v (omega arith) at also
 
--- behind the users' seats there is no user
+-- after the users' seats there is no user
 abbrev NoUsers : List Actor → Type 0
 NoUsers actors = (seat : ℕ) (u : UserState) → get_elem? actors seat ≡ maybe.some (actor.User u) → ⊥
 

@@ -14,7 +14,7 @@ use Rattle.redo_drive.specs.declared.drive.Driven.{Driven}
 use Rattle.redo_drive.specs.declared.parts.Parts.{Parts}
 use Rattle.redo_machine.specs.Turns.{AskToEnd, EndsAs}
 use Rattle.redo_machine.specs.declared.drive.Turns.{Turns}
-use Rattle.redo_pageactors.specs.declared.opened.Opened.{Opened}
+use Rattle.redo_store.specs.declared.opened.Opened.{Opened}
 
 -- THE TURNS. The run is that of the script on the store, and begins with both parts that were opened. The turns of the seed
 -- led from there to its end, at which both parts are those of the closed run. In each turn both devices were asked for what the

@@ -22,8 +22,8 @@ abbrev pub EndsAs : {L D : Type 0} (log_seen : L → Seen) (data_seen : D → Se
 EndsAs log_seen data_seen run seed max first actors ran.Done last after = IsDone (log_of log_seen data_seen run) (data_of log_seen data_seen run) seed max (core_of log_seen data_seen run first actors) (core_of log_seen data_seen run last after)
 EndsAs log_seen data_seen run seed max first actors (ran.Spent turns user) last after = (turns ≡ max) × IsSpent (log_of log_seen data_seen run) (data_of log_seen data_seen run) seed max user (core_of log_seen data_seen run first actors) (core_of log_seen data_seen run last after)
 
--- In each of these turns, from the parts before it to those behind it, both devices were asked for what the Op of the actor
--- whose turn it was asks of them, for all of it or up to the call that answered an error, and for nothing else. Behind an error
+-- In each of these turns, from the parts before it to those after it, both devices were asked for what the Op of the actor
+-- whose turn it was asks of them, for all of it or up to the call that answered an error, and for nothing else. After an error
 -- the device was asked for nothing.
 abbrev pub AskInTurns : {L D : Type 0} (log_seen : L → Seen) (log_gives : L → Call → L → Type 0) (data_seen : D → Seen) (data_gives : D → Call → D → Type 0) (run : RunOf L D) (seed max n : ℕ)
     (first last : Core (log_of log_seen data_seen run) (data_of log_seen data_seen run)) → TakesTurns (log_of log_seen data_seen run) (data_of log_seen data_seen run) seed max n first last → Type 0

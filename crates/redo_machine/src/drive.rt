@@ -9,7 +9,7 @@ use model_script::Script;
 use redo_disk::Sectors;
 use redo_drive::Driven;
 use redo_lsn::NoMemory;
-use redo_pageactors::Opened;
+use redo_store::Opened;
 use std::alloc::Global;
 
 /// The drive by turns: those of this seed, at most so many, until each user has ended, with the log alone or with the pages.

@@ -1,4 +1,4 @@
-// A store behind its run.
+// A store after its run.
 ghost use Rattle.std.specs.Prelude.{◌≡◌, ◌≤◌, [], length, slice_index, vec_capacity};
 ghost use Rattle.model_core.specs.{index, IsWord};
 ghost use Rattle.model_core.specs.declared.words.Word.TheVariants as word_is;
@@ -10,8 +10,8 @@ ghost use Rattle.redo_drive.specs.Running.{IsOnRun, RunsOn};
 use crate::machine::Machine;
 use model_report::Marks;
 use redo_disk::Sectors;
-use redo_drive::{Parts, history_of};
-use redo_pageactors::Closed;
+use redo_drive::{Closed, Parts, history_of};
+use redo_link::tail_of;
 use redo_words::{Op, PlainWords, Word, old_of};
 
 /// What stands in a word.
@@ -31,7 +31,7 @@ fn marks_in(words: &mut PlainWords) -> Marks
     ensures marks { result ≡ marks_in words.old.words }
 {
     Marks {
-        wtail: word(words, Word::Wtail),
+        wtail: tail_of(word(words, Word::Wtail)),
         write: word(words, Word::Write),
         flushed: word(words, Word::Flushed),
         ckpt: word(words, Word::Ckpt),

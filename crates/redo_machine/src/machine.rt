@@ -8,7 +8,7 @@ use model_script::Script;
 use redo_disk::Sectors;
 use redo_drive::{Actor, Beginning, Parts, begin_run};
 use redo_lsn::NoMemory;
-use redo_pageactors::Opened;
+use redo_store::Opened;
 use std::alloc::Global;
 
 /// A running store whose actors take turns: users that have lines, by their numbers, then the writer and the flusher, and

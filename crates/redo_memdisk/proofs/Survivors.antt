@@ -102,7 +102,7 @@ flat_map-sector_writes_push : (writes : List Write) (write : Write) → flat_map
 flat_map-sector_writes_push writes write =
     flat_map-append sector_writes writes (write ∷ []) ∙ ap (λ l. flat_map sector_writes writes ++ l) (append-nil (sector_writes write))
 
--- the number of the sector behind one more write, modulo 64
+-- the number of the sector after one more write, modulo 64
 pub length-flat_map_push : (bit : ℕ) (writes : List Write) (write : Write) → bit ≡ length (flat_map sector_writes writes) % 64 → (bit + length (sector_writes write)) % 64 ≡ length (flat_map sector_writes (writes ++ write ∷ [])) % 64
 length-flat_map_push bit writes write bit_is =
     let all : length (flat_map sector_writes (writes ++ write ∷ [])) ≡ length (flat_map sector_writes writes) + length (sector_writes write) =

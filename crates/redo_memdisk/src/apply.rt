@@ -65,7 +65,7 @@ pub(crate) fn read_through(row: &[u8], writes: &[Write], at: usize, out: &mut [u
 }
 
 /// Puts those sectors of a write into the row that survive. `bit` is the bit of the pick that says it of the first
-/// sector, and the result is the bit for the sector behind the last.
+/// sector, and the result is the bit for the sector after the last.
 fn apply_sectors(row: &mut [u8], write: &Write, pick: u64, bit: u32) -> u32
     requires within { IsWithin (length row.old) write.now }
     requires bit { bit < 64 }

@@ -11,7 +11,7 @@ use std::io::{ErrorKind, Read, Seek, SeekFrom, Write};
 use std::rt::Files;
 
 /// A device in a file of its own, which its first call opens or makes, and locks: while another process holds the file, that
-/// call fails. What stands behind the file's end reads as zeros. It doesn't tell what it means, and its crash does nothing: a
+/// call fails. What stands past the file's end reads as zeros. It doesn't tell what it means, and its crash does nothing: a
 /// real one is the machine's.
 #[derive(Drop)]
 pub struct FileDisk<R: Files> {
@@ -106,7 +106,7 @@ impl<R: LockFiles> FileDisk<R> {
     }
 }
 
-/// Fills `out` with the bytes that are left, and with zeros behind the last of them.
+/// Fills `out` with the bytes that are left, and with zeros after the last of them.
 fn fill_from<F: Read>(file: &mut F, out: &mut [u8]) -> io::Result<()>
     ensures { OnOk result (IfSome (F.remaining file.old) (λ left. out.new ≡ filled (length out.old) left)) }
 {

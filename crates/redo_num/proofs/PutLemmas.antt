@@ -1,4 +1,4 @@
--- A write of bytes, and of more behind them.
+-- A write of bytes, and of more after them.
 use Rattle.std.proofs.Common.{◌≡◌, ℕ, ◌+◌, ◌≤◌, List, ◌++◌, length, take, drop, refl, sym, ap, ◌∙◌, arith, length-append}
 use Rattle.std.proofs.lemmas.List.{append_assoc, take_at, drop_at, drop-drop, length-take-le}
 use borrow.Rule.Slice.PartMut.{put_mid}
@@ -9,7 +9,7 @@ pub put_mid-overwritten : (at count : ℕ) (bytes old : List ℕ) → count ≡ 
 put_mid-overwritten at count bytes old same =
     rw (drop-drop count at old, same) (sym (append_assoc (take at old) bytes (drop (at + length bytes) old)))
 
--- a write behind a write is one write
+-- a write after a write is one write
 pub overwritten-behind : (at : ℕ) (front behind old : List ℕ) → at ≤ length old
     → overwritten (at + length front) behind (overwritten at front old) ≡ overwritten at (front ++ behind) old
 overwritten-behind at front behind old within =

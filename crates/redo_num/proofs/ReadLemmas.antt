@@ -112,7 +112,7 @@ row_bad row is_row bytes apart = (not_begun row is_row bytes apart, not_unfinish
 pub not_nil : (xs : List ℕ) → 0 < length xs → xs ≢ []
 not_nil xs some is = let none = ap length is in omega arith
 
--- so many bytes with these behind them are a spelling
+-- so many bytes with these after them are a spelling
 spells_on : (row : Row) → IsRow row → (bytes : List ℕ) → AreBytes bytes → (missing text rest : ℕ) → length bytes + missing ≡ row.length
     → rest < 256 ^ missing → text ≡ number_onto 0 bytes * 256 ^ missing + rest → row.text ≤ text → text ≤ row.text + (row.last - row.first)
     → SpellsIn row (bytes ++ bytes_high_first missing rest) (row.first + (text - row.text))

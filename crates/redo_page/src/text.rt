@@ -14,7 +14,7 @@ pub fn user_part(page: &[u8]) -> &[u8]
     &page[USER_START as usize..page.len() - TRAILER_LENGTH as usize]
 }
 
-/// Puts bytes at an offset and gives the offset behind them. What stands before and behind them stays.
+/// Puts bytes at an offset and gives the offset after them. What stands before and after them stays.
 fn put(page: &mut [u8], at: usize, bytes: &[u8]) -> usize
     requires { at + length bytes.now ≤ length page.old }
     ensures next { result ≡ at + length bytes.now }

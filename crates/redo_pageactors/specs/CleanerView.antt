@@ -8,7 +8,7 @@ use Rattle.model_core.specs.declared.steps.CleanerStep.TheVariants as cleaner_st
 use Rattle.model_page.specs.{frame_length}
 use Rattle.redo_pageactors.specs.declared.cleaner.Cleaner.TheInside.{Inside}
 
--- a page's bytes of its user bytes and the others: those stand before and behind
+-- a page's bytes of its user bytes and the others: those stand before and after
 abbrev pub page_bytes : List ℕ → List ℕ → List ℕ
 page_bytes user rim = take USER_START rim ++ user ++ drop USER_START rim
 

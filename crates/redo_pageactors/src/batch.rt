@@ -47,7 +47,7 @@ pub(crate) fn drop_page(batch: &mut Vec<(u32, u64)>)
     batch.truncate(rest);
 }
 
-/// Appends the user bytes of a page to those of others, and the bytes before and behind them to those.
+/// Appends the user bytes of a page to those of others, and the bytes before and after them to those.
 pub(crate) fn split_page(page: &[u8], users: &mut Vec<u8>, rims: &mut Vec<u8>)
     requires page { length page.now ≡ PAGE }
     requires users_room { length users.old.items + USERS ≤ vec_capacity users.old }

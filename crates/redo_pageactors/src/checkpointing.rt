@@ -9,6 +9,7 @@ ghost use Rattle.redo_words.specs.{Lends};
 use crate::checkpointer::Checkpointer;
 use model_base::BLOCK_SIZE;
 use model_core::{CLOSED_LINKS, CheckpointerStep, FLUSH_LISTS};
+use redo_link::tail_of;
 use redo_words::{Answer, Lent, Op, Step, Word, code_of, old_of};
 
 /// The candidate under a flush list's oldest end.
@@ -160,7 +161,7 @@ impl Checkpointer {
         }
         match self.step {
             CheckpointerStep::LoadCtail => {
-                self.ctail = old_of(answer);
+                self.ctail = tail_of(old_of(answer));
                 self.to = self.ctail;
                 self.list = 0;
                 self.goes_on(CheckpointerStep::ReadList)

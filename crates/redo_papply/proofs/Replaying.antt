@@ -15,7 +15,7 @@ page_after-append p (x ∷ xs) ys end page =
     page_after-cons p x (xs ++ ys) end page ∙ page_after-append p xs ys end (page_after p (x ∷ []) end page)
     ∙ ap (page_after p ys end) (sym (page_after-cons p x xs end page))
 
--- a group behind others
+-- a group after others
 pub replayed-more : (p q : ℕ) (wholes : List Whole) (whole : Whole) (page : Content)
     → replayed p q (wholes ++ whole ∷ []) page
     ≡ cond (nat_le q whole.start) (page_after p whole.group whole.end (replayed p q wholes page)) (replayed p q wholes page)

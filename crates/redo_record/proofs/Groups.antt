@@ -156,7 +156,7 @@ ended_none one bytes rest recs below so_far each few = λ text left more group i
     absurd (omega (arith, many, few, ap length (ap (λ (o : List Rec). recs ++ o) ended.0), ap length (append-nil recs))))
     group text left more is e
 
--- the bytes behind the end mark, as the code cuts them
+-- the bytes after the end mark, as the code cuts them
 pub behind_end : (bytes rest : List ℕ) (recs : List Rec) → bytes ≡ texts recs ++ rest → AllByRecursion HasText recs → get_or rest 0 0 ≡ 31 → 2 ≤ length recs → Begins IsGroupText bytes recs (take (length rest - 1) (drop 1 rest))
 behind_end bytes [] recs so_far each mark many = absurd (omega arith)
 behind_end bytes (byte ∷ rest) recs so_far each mark many =

@@ -8,7 +8,7 @@ pub length-decimal_step : (n : ℕ) → 10 ≤ n → n < 2 ^ 64 → length (deci
 length-decimal_step n large small =
     ap length (decimal_step n large small) ∙ length-append (decimal (n / 10)) ((48 + n % 10) ∷ [])
 
--- the last digit behind the others
+-- the last digit after the others
 pub decimal_after : (text : List ℕ) (n : ℕ) → 10 ≤ n → n < 2 ^ 64 → (text ++ decimal (n / 10)) ++ (48 + n % 10) ∷ [] ≡ text ++ decimal n
 decimal_after text n large small =
     append_assoc text (decimal (n / 10)) ((48 + n % 10) ∷ []) ∙ ap (λ digits. text ++ digits) (sym (decimal_step n large small))

@@ -25,7 +25,7 @@ page_lines_blank text pages p page below is blank =
     let here = ap (λ (page : Content). page_lines_from p (page ∷ drop (p + 1) pages)) (sym is) in
     ap (λ lines. text ++ lines) (next ∙ here ∙ no_lines_of_page p page (drop (p + 1) pages) blank)
 
--- behind the last page
+-- after the last page there are no lines
 pub page_lines_end : (text : List ℕ) (pages : List Content) (p : ℕ) → length pages ≤ p → text ++ page_lines_from p (drop p pages) ≡ text
 page_lines_end text pages p over =
     ap (λ lines. text ++ lines) (at_drop_all (λ pages. page_lines_from p pages) pages p over) ∙ append-nil text

@@ -10,7 +10,7 @@ use model_store::Refusal;
 /// Room for each fault line, in bytes.
 pub const FAULT_ROOM: usize = 64;
 
-// Writes the bytes behind the first `at` bytes, and says where they end.
+// Writes the bytes after the first `at` bytes, and says where they end.
 fn put(out: &mut [u8; FAULT_ROOM], at: usize, bytes: &[u8]) -> usize
     requires { at + length bytes.now ≤ FAULT_ROOM }
     ensures end { result ≡ at + length bytes.now }
@@ -21,7 +21,7 @@ fn put(out: &mut [u8; FAULT_ROOM], at: usize, bytes: &[u8]) -> usize
     end
 }
 
-// Writes the number behind the first `at` bytes, and says where its digits end.
+// Writes the number after the first `at` bytes, and says where its digits end.
 #[tactic(auto, using(crate::proofs::Decimal::lasts))]
 fn put_decimal(out: &mut [u8; FAULT_ROOM], at: usize, number: u64) -> usize
     requires { at + length (decimal number) ≤ FAULT_ROOM }

@@ -311,7 +311,7 @@ module _ {L D : Type 0} (log_seen : L → Seen) (log_gives : L → Call → L �
         answered = refl;
       }))
 
-  -- TakeAdd, TakeRemove, TakeOldest: whoever finds the list free makes its call behind the step
+  -- TakeAdd, TakeRemove, TakeOldest: whoever finds the list free makes its call after the step
   pub takes_list : (o : Op) (i : ℕ) → next a ≡ o → TakesList o (suc i) → i < 4 → (hand a ≡ None) × ((n : Option ℕ) → hand (took a (answer.Taken n)) ≡ Some (suc i)) × (hand (took a answer.Held) ≡ None)
       → ((s : State (Slot L D) (View L D)) (R : Law s) (new : Parts L D) → slice_index s.words (7 + suc i) ≢ 0 → new.words.words ≡ R.parts.words.words → new.log ≡ R.parts.log → new.store ≡ R.parts.store → new.lists ≡ R.parts.lists → IsPlayed log_seen data_seen R.run o (lent a) R.parts answer.Held new)
       → ((s : State (Slot L D) (View L D)) (R : Law s) (ws : List ℕ) → ws ≡ cond (slice_index R.parts.words.words (8 + i) == 0) (slice_set R.parts.words.words (8 + i) 1) R.parts.words.words → slice_index R.parts.words.words (8 + i) ≡ 0 → get_elem? (views_of R.actors) x.number ≡ maybe.some a

@@ -185,7 +185,7 @@ module _ {L D : Type 0} (log_seen : L → Seen) (log_gives : L → Call → L �
         λ f g. ap (λ (z : store.Part D). let m : Me (Slot L D) (View L D) = (record { pages = me.0.pages; seats = me.0.seats; held = me.0.held; data_part = Some (record { part = z; out = true }) }, (5, slot.Data z) ∷ me.1) in m) (ap (λ (o : Option (Keeping D)). part_or d o) (sym has ∙ g)),
       )
 
-  -- and behind its call it is back
+  -- and after its call it is back
   pub allows_batched : (i : ℕ) (d e : store.Part D) → next a ≡ op.WriteBatch → IsFreeToCheck a → me.0.data_part ≡ Some (record { part = d; out = true }) → me.1 ≡ (5, slot.Data e) ∷ []
       → ((run : RunOf L D) → DataServed (data_of log_seen data_seen run) d (lent a) op.WriteBatch (data_code e.failed) e) → MakesCalls data_gives d.dev e.dev (EndWith e.failed) → d.failed ≡ None
       → Allows Law slots id me i (λ n. n) (batched log_seen data_seen me)

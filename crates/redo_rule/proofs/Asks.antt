@@ -1,10 +1,14 @@
 -- What tells of an actor by the Op that it asks for: that it holds nothing, that it is the cleaner.
-use Rattle.std.proofs.Common.{Bool, None, Option, cond, false, refl, true, ℕ, ◌-◌, ◌≡◌}
-use Rattle.model_core.specs.{Actor, checkpointer_op, CheckpointerState, cleaner_op, CleanerState, closer_op, CloserState, flusher_op, FlusherState, next, user_op, UserState, writer_op, WriterState}
+use Rattle.std.proofs.Common.{Bool, None, cond, false, refl, true, ◌≡◌}
+use Rattle.model_core.specs.{Actor, Advance, checkpointer_op, CheckpointerState, cleaner_op, CleanerState, closer_op, CloserState, flusher_op, FlusherState, next, user_op, UserState, writer_op, WriterState}
 use Rattle.model_core.specs.Actors as actor
+use Rattle.model_core.specs.Advancing.{advance_holds, advance_op}
+use Rattle.model_core.specs.Holding.{closer_holds_tail, user_holds_tail, writer_holds_tail}
 use Rattle.model_core.specs.declared.ops.Op.{Op}
 use Rattle.model_core.specs.declared.ops.Op.TheVariants as op
 use Rattle.model_core.specs.declared.words.Word.TheVariants as word
+use Rattle.model_core.specs.declared.steps.AdvanceStep.{AdvanceStep}
+use Rattle.model_core.specs.declared.steps.AdvanceStep.TheVariants as advance_step
 use Rattle.model_core.specs.declared.steps.CheckpointerStep.{CheckpointerStep}
 use Rattle.model_core.specs.declared.steps.CheckpointerStep.TheVariants as checkpointer_step
 use Rattle.model_core.specs.declared.steps.CleanerStep.{CleanerStep}
@@ -17,10 +21,13 @@ use Rattle.model_core.specs.declared.steps.UserStep.{UserStep}
 use Rattle.model_core.specs.declared.steps.UserStep.TheVariants as user_step
 use Rattle.model_core.specs.declared.steps.WriterStep.{WriterStep}
 use Rattle.model_core.specs.declared.steps.WriterStep.TheVariants as writer_step
+use Rattle.model_core.specs.declared.words.LinkBuffer.{LinkBuffer}
+use Rattle.model_core.specs.declared.words.LinkBuffer.TheVariants as link_buffer
+use Rattle.redo_rule.proofs.Words.{advance_asks}
 use Rattle.redo_rule.specs.Seating.{IsCleaner}
-use Rattle.redo_rule.specs.Hands.{IsFreeOp, IsFreeToCheck, checkpointer_hand, cleaner_hand, flusher_hand, hand, user_hand, writer_hand}
+use Rattle.redo_rule.specs.Hands.{HoldsNothing, IsFreeOp, IsFreeToCheck, checkpointer_hand, cleaner_hand, flusher_hand, user_hand, writer_hand}
 
--- whoever asks for such an Op holds nothing
+-- whoever asks for such an Op holds no slot
 user_frees : (u : UserState) (f : UserStep) → IsFreeOp (user_op u f) → user_hand u f ≡ None
 user_frees u user_step.StoreOldest is = absurd is
 user_frees u user_step.GiveList is = absurd is
@@ -59,18 +66,43 @@ checkpointer_frees t checkpointer_step.StoreFailed is = absurd is
 checkpointer_frees t checkpointer_step.GiveFailed is = absurd is
 checkpointer_frees t _ is = refl
 
-free_by : (b : Bool) (o : Op) (h : Option ℕ) → (b ≡ true → h ≡ None) → (IsFreeOp o → h ≡ None) → IsFreeOp (cond b (op.Load word.Failed) o) → h ≡ None
-free_by true o h checking own is = checking refl
-free_by false o h checking own is = own is
+-- nor a tail
+advance_loose : (b : LinkBuffer) (v : Advance) (s : AdvanceStep) → IsFreeOp (advance_op b v s) → advance_holds s ≡ false
+advance_loose b v advance_step.LoadTail is = refl
+advance_loose b v advance_step.TakeTail is = refl
+advance_loose link_buffer.Written v advance_step.LoadLink is = absurd is
+advance_loose link_buffer.Closed v advance_step.LoadLink is = absurd is
+advance_loose b v advance_step.ClearLink is = absurd is
+advance_loose b v advance_step.FreeTail is = absurd is
 
-pub frees : (a : Actor) → IsFreeToCheck a → IsFreeOp (next a) → hand a ≡ None
-frees (actor.User u) free is = free_by u.checks (user_op u u.step) (user_hand u u.step) free (user_frees u u.step) is
-frees (actor.Writer s) free is = free_by s.checks (writer_op s s.step) (writer_hand s.step) free (writer_frees s s.step) is
-frees (actor.Flusher t) free is = free_by t.checks (flusher_op t t.step) (flusher_hand t.step) free (flusher_frees t t.step) is
-frees (actor.Closer t) free is = refl
-frees (actor.Cleaner v) free is = free_by v.checks (cleaner_op v v.step) (cleaner_hand v v.step) free (cleaner_frees v v.step) is
-frees (actor.Checkpointer t) free is = free_by t.checks (checkpointer_op t t.step) (checkpointer_hand t t.step) free (checkpointer_frees t t.step) is
-frees (actor.Joined es) free is = refl
+user_loose : (u : UserState) (f : UserStep) → IsFreeOp (user_op u f) → (b : LinkBuffer) → user_holds_tail b f ≡ false
+user_loose u (user_step.AdvanceWritten s) is link_buffer.Written = advance_loose link_buffer.Written u.advance s is
+user_loose u (user_step.AdvanceClosed s) is link_buffer.Closed = advance_loose link_buffer.Closed u.advance s is
+user_loose u _ is link_buffer.Written = refl
+user_loose u _ is link_buffer.Closed = refl
+
+writer_loose : (s : WriterState) (f : WriterStep) → IsFreeOp (writer_op s f) → (b : LinkBuffer) → writer_holds_tail b f ≡ false
+writer_loose s (writer_step.Advance v) is link_buffer.Written = advance_loose link_buffer.Written s.advance v is
+writer_loose s _ is link_buffer.Written = refl
+writer_loose s _ is link_buffer.Closed = refl
+
+closer_loose : (t : CloserState) (f : CloserStep) → IsFreeOp (closer_op t f) → (b : LinkBuffer) → closer_holds_tail b f ≡ false
+closer_loose t (closer_step.Advance v) is link_buffer.Closed = advance_loose link_buffer.Closed t.advance v is
+closer_loose t _ is link_buffer.Closed = refl
+closer_loose t _ is link_buffer.Written = refl
+
+free_by : (b : Bool) (o : Op) (a : Actor) → (b ≡ true → HoldsNothing a) → (IsFreeOp o → HoldsNothing a) → IsFreeOp (cond b (op.Load word.Failed) o) → HoldsNothing a
+free_by true o a checking own is = checking refl
+free_by false o a checking own is = own is
+
+pub frees : (a : Actor) → IsFreeToCheck a → IsFreeOp (next a) → HoldsNothing a
+frees (actor.User u) free is = free_by u.checks (user_op u u.step) (actor.User u) free (λ o. record { no_slot = user_frees u u.step o; no_tail = user_loose u u.step o }) is
+frees (actor.Writer s) free is = free_by s.checks (writer_op s s.step) (actor.Writer s) free (λ o. record { no_slot = writer_frees s s.step o; no_tail = writer_loose s s.step o }) is
+frees (actor.Flusher t) free is = free_by t.checks (flusher_op t t.step) (actor.Flusher t) free (λ o. record { no_slot = flusher_frees t t.step o; no_tail = λ b. refl }) is
+frees (actor.Closer t) free is = free_by t.checks (closer_op t t.step) (actor.Closer t) free (λ o. record { no_slot = refl; no_tail = closer_loose t t.step o }) is
+frees (actor.Cleaner v) free is = free_by v.checks (cleaner_op v v.step) (actor.Cleaner v) free (λ o. record { no_slot = cleaner_frees v v.step o; no_tail = λ b. refl }) is
+frees (actor.Checkpointer t) free is = free_by t.checks (checkpointer_op t t.step) (actor.Checkpointer t) free (λ o. record { no_slot = checkpointer_frees t t.step o; no_tail = λ b. refl }) is
+frees (actor.Joined es) free is = record { no_slot = refl; no_tail = λ b. refl }
 
 -- the cleaner alone writes batches
 user_batch : (u : UserState) (f : UserStep) → user_op u f ≡ op.WriteBatch → ⊥
@@ -82,8 +114,12 @@ user_batch u user_step.LoadWrite e = absurd (cc)
 user_batch u user_step.AddCell e = absurd (cc)
 user_batch u user_step.StoreFirst e = absurd (cc)
 user_batch u user_step.LoadWtail e = absurd (cc)
+user_batch u (user_step.AdvanceWritten s) e = advance_asks link_buffer.Written u.advance s op.WriteBatch e
+user_batch u user_step.ReloadWtail e = absurd (cc)
 user_batch u user_step.StoreLink e = absurd (cc)
 user_batch u user_step.LoadCtail e = absurd (cc)
+user_batch u (user_step.AdvanceClosed s) e = advance_asks link_buffer.Closed u.advance s op.WriteBatch e
+user_batch u user_step.ReloadCtail e = absurd (cc)
 user_batch u user_step.LoadFrame e = absurd (cc)
 user_batch u user_step.StoreFrame e = absurd (cc)
 user_batch u user_step.StoreNewest e = absurd (cc)
@@ -98,9 +134,7 @@ user_batch u user_step.Done e = absurd (cc)
 user_batch u user_step.Failed e = absurd (cc)
 
 writer_batch : (s : WriterState) (f : WriterStep) → writer_op s f ≡ op.WriteBatch → ⊥
-writer_batch s writer_step.LoadLink e = absurd (cc)
-writer_batch s writer_step.ClearLink e = absurd (cc)
-writer_batch s writer_step.StoreWtail e = absurd (cc)
+writer_batch s (writer_step.Advance v) e = advance_asks link_buffer.Written s.advance v op.WriteBatch e
 writer_batch s writer_step.LoadCheckpoint e = absurd (cc)
 writer_batch s writer_step.LoadFirst e = absurd (cc)
 writer_batch s writer_step.ClearFirst e = absurd (cc)
@@ -127,9 +161,7 @@ flusher_batch t flusher_step.GiveFailed e = absurd (cc)
 flusher_batch t flusher_step.Failed e = absurd (cc)
 
 closer_batch : (t : CloserState) (f : CloserStep) → closer_op t f ≡ op.WriteBatch → ⊥
-closer_batch t closer_step.LoadClosedLink e = absurd (cc)
-closer_batch t closer_step.ClearClosedLink e = absurd (cc)
-closer_batch t closer_step.StoreCtail e = absurd (cc)
+closer_batch t (closer_step.Advance v) e = advance_asks link_buffer.Closed t.advance v op.WriteBatch e
 closer_batch t closer_step.Failed e = absurd (cc)
 
 checkpointer_batch : (t : CheckpointerState) (f : CheckpointerStep) → checkpointer_op t f ≡ op.WriteBatch → ⊥

@@ -1,5 +1,5 @@
--- Which actors hold nothing, and the seats behind a turn of one of them.
-use Rattle.std.proofs.Common.{List, None, [], ap, arith, get_or, length, refl, set, subst, suc, sym, zero, ℕ, ⊎_elim, ◌+◌, ◌<◌, ◌≤◌, ◌∙◌, ◌∷◌, ◌≡◌}
+-- Which actors hold nothing, and the seats after a turn of one of them.
+use Rattle.std.proofs.Common.{List, [], ap, arith, get_or, length, refl, set, subst, suc, sym, zero, ℕ, ⊎_elim, ◌+◌, ◌<◌, ◌≤◌, ◌∙◌, ◌∷◌, ◌≡◌}
 use Rattle.std.proofs.lemmas.List.{length-set}
 use lib.ListN.{get_elem?}
 use mathlib.Core.Option as maybe
@@ -11,7 +11,7 @@ use Rattle.redo_drive.specs.Views.{view_of}
 use Rattle.redo_drive.specs.declared.actor.Actor.{Actor}
 use Rattle.redo_rule.proofs.Gathered.{there}
 use Rattle.redo_rule.specs.Cutting.{AreFreeToCheck, HoldNothing}
-use Rattle.redo_rule.specs.Hands.{hand}
+use Rattle.redo_rule.specs.Hands.{HoldsNothing}
 use Rattle.redo_rule.specs.Mine.{number_of}
 use Rattle.redo_rule.specs.Seating.{IsSeatOf}
 use Rattle.redo_rule.specs.Sharing.{AreSeatsOf}
@@ -26,11 +26,11 @@ at_or (x ∷ xs) (suc n) d less = at_or xs n d (omega arith)
 
 -- below this number no actor holds anything
 abbrev pub HoldNothingBelow : ℕ → List Actor → Type 0
-HoldNothingBelow n actors = (i : ℕ) (a : Actor) → i < n → get_elem? actors i ≡ maybe.some a → hand (view_of a) ≡ None
+HoldNothingBelow n actors = (i : ℕ) (a : Actor) → i < n → get_elem? actors i ≡ maybe.some a → HoldsNothing (view_of a)
 
-pub nothing_more : (actors : List Actor) (n : ℕ) (d : Actor) → n < length actors → HoldNothingBelow n actors → hand (view_of (get_or actors n d)) ≡ None → HoldNothingBelow (n + 1) actors
+pub nothing_more : (actors : List Actor) (n : ℕ) (d : Actor) → n < length actors → HoldNothingBelow n actors → HoldsNothing (view_of (get_or actors n d)) → HoldNothingBelow (n + 1) actors
 nothing_more actors n d less below nothing i a l at = elim (ℕ_discrete i n) [
-  | yes e ↦ subst (λ (z : Actor). hand (view_of z) ≡ None) (maybe.some-injective (get_or actors n d) a (sym (at_or actors n d less) ∙ ap (get_elem? actors) (sym e) ∙ at)) nothing
+  | yes e ↦ subst (λ (z : Actor). HoldsNothing (view_of z)) (maybe.some-injective (get_or actors n d) a (sym (at_or actors n d less) ∙ ap (get_elem? actors) (sym e) ∙ at)) nothing
   | no far ↦ below i a (omega arith) at
 ]
 

@@ -1,4 +1,4 @@
--- The seat behind an Op is still its actor's.
+-- The seat after an Op is still its actor's.
 use Rattle.std.proofs.Common.{Bool, None, Option, Some, ap, subst, sym, true, ◌∙◌, ◌≡◌}
 use Rattle.atomic_table.specs.Seated.{TableId}
 use Rattle.atomic_table.specs.declared.shared.Seat.{Seat}

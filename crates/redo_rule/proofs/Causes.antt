@@ -1,10 +1,11 @@
 -- Why an answer of `play` came: a wait met its condition, an end was one, and a failure had a cause.
-use Rattle.std.proofs.Common.{Bool, List, ap, cond, false, inl, inr, length, refl, subst, sym, true, ℕ, ⊎_elim, ◌+◌, ◌==◌, ◌∙◌, ◌≡◌, ◌⊎◌}
+use Rattle.std.proofs.Common.{Bool, List, ap, cond, false, inl, inr, length, refl, subst, sym, true, ℕ, ⊎_elim, ◌==◌, ◌∙◌, ◌≡◌, ◌⊎◌}
 use lib.ListN.{get_elem?}
 use mathlib.Core.Option.{some, some-injective}
-use Rattle.model_core.specs.{answer_of, answered, can_close, can_link, cells_of, changes, checked, checkpointer_op, CheckpointerState, cleaner_op, CleanerState, closer_op, CloserState, flusher_op, FlusherState, has_passed, has_room, has_space, heard, is_checking, next, old_of, own_op, own_took, step_of, took, user_checked, user_op, user_took, UserState, with_mark, word_step, writer_op, WriterState}
+use Rattle.model_core.proofs.Waiting.{user_wait, wait_checks}
+use Rattle.model_core.specs.{answer_of, checked, heard, is_checking, next, old_of, own_op, own_took, step_of, took, user_checked, user_took, UserState}
 use Rattle.model_core.specs.Actors as model
-use Rattle.model_core.specs.Waiting.{checkpointer_ending, checkpointer_waits, cleaner_ending, cleaner_waits, closer_ending, closer_waits, ending, flusher_ending, flusher_waits, opposite, user_ending, user_waits, waits, writer_ending, writer_waits}
+use Rattle.model_core.specs.Waiting.{checkpointer_ending, cleaner_ending, closer_ending, ending, flusher_ending, user_again, user_ending, user_waits, waits, writer_ending}
 use Rattle.model_core.specs.declared.ops.Answer.{Answer}
 use Rattle.model_core.specs.declared.ops.Answer.TheVariants as answer
 use Rattle.model_core.specs.declared.ops.Op.{Op}
@@ -24,7 +25,7 @@ use Rattle.model_core.specs.declared.steps.UserStep.TheVariants as user_step
 use Rattle.model_core.specs.declared.steps.WriterStep.{WriterStep}
 use Rattle.model_core.specs.declared.steps.WriterStep.TheVariants as writer_step
 use Rattle.model_core.specs.declared.words.Word.TheVariants as word
-use Rattle.model_logcore.proofs.Frame.{set_at}
+use Rattle.model_core.proofs.Lists.{set_at}
 use Rattle.model_running.proofs.SeatsKeep.{SameActor, took_keeps}
 use Rattle.redo_disk.specs.Seen.{Seen}
 use Rattle.redo_drive.specs.{has_failed}
@@ -41,7 +42,7 @@ use Rattle.redo_rule.proofs.Kept.{all_answered, done_is_free}
 use Rattle.redo_rule.proofs.Reached.{has_cause}
 use Rattle.redo_rule.specs.Causes.{HasEndedBy, HasMetFailure, HasWaited, IsAnswered}
 use Rattle.redo_rule.specs.Failing.{GivesFailed, StoresFailed}
-use Rattle.redo_rule.specs.Mine.{HasGone, HasPlayed}
+use Rattle.redo_rule.specs.Mine.{HasGone}
 use Rattle.redo_rule.specs.Plays.{Shown}
 
 -- no end is a wait
@@ -157,25 +158,20 @@ user_or d (model.User u) = u
 user_or d _ = d
 
 -- whoever waits hasn't ended
-not_after : (b : Bool) (x y : UserState) → (y.step ≡ user_step.Done → ⊥) → opposite b ≡ true → (cond b x y).step ≡ user_step.Done → ⊥
-not_after true x y never w e = absurd (cc)
-not_after false x y never w e = never e
-
-list_not : (b : Bool) → opposite b ≡ true → cond b user_step.StoreOldest user_step.AddToList ≡ user_step.Done → ⊥
-list_not true w e = absurd (cc)
-list_not false w e = absurd (cc)
+again_done : (f : UserStep) → user_again f ≡ user_step.Done → f ≡ user_step.Done
+again_done user_step.LoadSn e = absurd (cc)
+again_done (user_step.AdvanceWritten s) e = absurd (cc)
+again_done user_step.ReloadWtail e = absurd (cc)
+again_done (user_step.AdvanceClosed s) e = absurd (cc)
+again_done user_step.ReloadCtail e = absurd (cc)
+again_done _ e = e
 
 waiting_not : (u : UserState) (n : ℕ) (f : UserStep) → user_waits u n f ≡ true → (user_took u n f).step ≡ user_step.Done → ⊥
-waiting_not u n user_step.LoadSn w e = not_after (has_space u n) (record u { page = 0; cell = 0; step = cond (length (changes u) == 0) user_step.Reserve user_step.TakeLatch }) (record u { checks = true; step = user_step.LoadCheckpoint }) (λ x. absurd (cc)) w e
-waiting_not u n user_step.TakeLatch w e = not_after (n == 0) (record u { page = u.page + 1; step = cond (u.page + 1 == length (changes u)) user_step.Reserve user_step.TakeLatch }) (record u { checks = true; step = user_step.TakeLatch }) (λ x. absurd (cc)) w e
-waiting_not u n user_step.LoadWrite w e = not_after (has_room u n) (record u { loaded = record u.loaded { write = n }; step = user_step.AddCell }) (record u { loaded = record u.loaded { write = n }; checks = true; step = user_step.LoadWrite }) (λ x. absurd (cc)) w e
-waiting_not u n user_step.LoadWtail w e = not_after (can_link u n) (record u { loaded = record u.loaded { wtail = n }; step = user_step.StoreLink }) (record u { loaded = record u.loaded { wtail = n }; checks = true; step = user_step.LoadWtail }) (λ x. absurd (cc)) w e
-waiting_not u n user_step.LoadCtail w e = not_after (can_close u n) (record u { loaded = record u.loaded { ctail = n }; step = cond (u.cell == length (cells_of u)) user_step.StoreNewest (word_step (cells_of u) u.cell) }) (record u { loaded = record u.loaded { ctail = n }; checks = true; step = user_step.LoadCtail }) (λ x. absurd (cc)) w e
-waiting_not u n user_step.AddToList w e = list_not (n == 0) w e
-waiting_not u n user_step.AwaitMark w e = not_after (has_passed u n) (answered (record u { loaded = with_mark u n })) (record u { loaded = with_mark u n; checks = true; step = user_step.AwaitMark }) (λ x. absurd (cc)) w e
-waiting_not u n _ w e = absurd (cc)
+waiting_not u n f w e =
+    let done : f ≡ user_step.Done = again_done f (sym (user_wait u n f w).1 ∙ e) in
+    let never : user_waits u n user_step.Done ≡ true = subst (λ (g : UserStep). user_waits u n g ≡ true) done w in absurd (cc)
 
--- behind a check it has ended only if it had
+-- after a check it has ended only if it had
 still_done : (zero : Bool) (u : UserState) (n : ℕ) → (cond zero (record u { checks = false }) (record u { checks = false; code = n; step = user_step.Failed })).step ≡ user_step.Done → u.step ≡ user_step.Done
 still_done true u n e = e
 still_done false u n e = absurd (cc)
@@ -184,7 +180,7 @@ by_wait : (waiting : Bool) (ends : Step) → (waiting ≡ true → ⊥) → ends
 by_wait true ends never e = absurd (never refl)
 by_wait false ends never e = e
 
--- a turn behind which a user has ended, that hadn't where it checks, ends so
+-- a turn after which a user has ended, that hadn't where it checks, ends so
 user_ends : (b : Bool) (u v : UserState) (r : Answer) → b ≡ u.checks → (u.step ≡ user_step.Done → u.checks ≡ false) → model.User v ≡ cond b (model.User (user_checked u (old_of r))) (model.User (user_took u (heard r) u.step)) → v.step ≡ user_step.Done
     → cond b (cond (old_of r == 0) step.Moved (step.Failed (old_of r))) (cond (user_waits u (heard r) u.step) step.Idle (user_ending (user_took u (heard r) u.step).code (user_took u (heard r) u.step).step)) ≡ step.Ended
 user_ends true u v r flag free e at =
@@ -199,62 +195,17 @@ turn_ends a u r e at free =
     let w = was_user a u (subst (λ (z : model.Actor). SameActor a z) (sym e) (took_keeps a r)) in
     subst (λ (z : model.Actor). step_of z r ≡ step.Ended) (sym w.1) (user_ends w.0.checks w.0 u r refl (free w.0 w.1) (e ∙ ap (λ (z : model.Actor). took z r) w.1) at)
 
--- whoever rests doesn't wait
-own_rests : (b : Bool) (o : Op) → cond b (op.Load word.Failed) o ≡ op.Rest → o ≡ op.Rest
-own_rests true o e = absurd (cc)
-own_rests false o e = e
-
-user_quiet : (u : UserState) (n : ℕ) (f : UserStep) → user_op u f ≡ op.Rest → user_waits u n f ≡ true → ⊥
-user_quiet u n user_step.LoadSn rest w = absurd (cc)
-user_quiet u n user_step.TakeLatch rest w = absurd (cc)
-user_quiet u n user_step.LoadWrite rest w = absurd (cc)
-user_quiet u n user_step.LoadWtail rest w = absurd (cc)
-user_quiet u n user_step.LoadCtail rest w = absurd (cc)
-user_quiet u n user_step.AddToList rest w = absurd (cc)
-user_quiet u n user_step.AwaitMark rest w = absurd (cc)
-user_quiet u n _ rest w = absurd (cc)
-
-writer_quiet : (s : WriterState) (r : Answer) (f : WriterStep) → writer_op s f ≡ op.Rest → writer_waits s r f ≡ true → ⊥
-writer_quiet s r writer_step.LoadLink rest w = absurd (cc)
-writer_quiet s r writer_step.LoadCheckpoint rest w = absurd (cc)
-writer_quiet s r writer_step.TakeDevice rest w = absurd (cc)
-writer_quiet s r _ rest w = absurd (cc)
-
-flusher_quiet : (t : FlusherState) (r : Answer) (f : FlusherStep) → flusher_op t f ≡ op.Rest → flusher_waits t r f ≡ true → ⊥
-flusher_quiet t r flusher_step.LoadWrite rest w = absurd (cc)
-flusher_quiet t r flusher_step.TakeDevice rest w = absurd (cc)
-flusher_quiet t r _ rest w = absurd (cc)
-
-closer_quiet : (t : CloserState) (r : Answer) (f : CloserStep) → closer_op t f ≡ op.Rest → closer_waits r f ≡ true → ⊥
-closer_quiet t r closer_step.LoadClosedLink rest w = absurd (cc)
-closer_quiet t r _ rest w = absurd (cc)
-
-cleaner_quiet : (v : CleanerState) (r : Answer) (f : CleanerStep) → cleaner_op v f ≡ op.Rest → cleaner_waits v r f ≡ true → ⊥
-cleaner_quiet v r cleaner_step.LoadOldest rest w = absurd (cc)
-cleaner_quiet v r cleaner_step.TakeLatch rest w = absurd (cc)
-cleaner_quiet v r cleaner_step.ReleaseSkipped rest w = absurd (cc)
-cleaner_quiet v r cleaner_step.RemoveFromList rest w = absurd (cc)
-cleaner_quiet v r _ rest w = absurd (cc)
-
-checkpointer_quiet : (t : CheckpointerState) (r : Answer) (f : CheckpointerStep) → checkpointer_op t f ≡ op.Rest → checkpointer_waits t r f ≡ true → ⊥
-checkpointer_quiet t r checkpointer_step.ReadList rest w = absurd (cc)
-checkpointer_quiet t r checkpointer_step.LoadFlushed rest w = absurd (cc)
-checkpointer_quiet t r checkpointer_step.TakeDevice rest w = absurd (cc)
-checkpointer_quiet t r _ rest w = absurd (cc)
-
-quiet : (a : model.Actor) (r : Answer) → next a ≡ op.Rest → waits a r ≡ true → ⊥
-quiet (model.User u) r rest w = user_quiet u (heard r) u.step (own_rests u.checks (user_op u u.step) rest) w
-quiet (model.Writer s) r rest w = writer_quiet s r s.step (own_rests s.checks (writer_op s s.step) rest) w
-quiet (model.Flusher t) r rest w = flusher_quiet t r t.step (own_rests t.checks (flusher_op t t.step) rest) w
-quiet (model.Closer t) r rest w = closer_quiet t r t.step (own_rests t.checks (closer_op t t.step) rest) w
-quiet (model.Cleaner v) r rest w = cleaner_quiet v r v.step (own_rests v.checks (cleaner_op v v.step) rest) w
-quiet (model.Checkpointer t) r rest w = checkpointer_quiet t r t.step (own_rests t.checks (checkpointer_op t t.step) rest) w
-quiet (model.Joined es) r rest w = absurd (cc)
-
 -- whoever rests doesn't check
 resting_free : (b : Bool) (o : Op) → cond b (op.Load word.Failed) o ≡ op.Rest → b ≡ false
 resting_free true o e = absurd (cc)
 resting_free false o e = refl
+
+-- nor waits, since it stays as it is
+quiet : (a : model.Actor) (r : Answer) → next a ≡ op.Rest → waits a r ≡ true → ⊥
+quiet a r rest w =
+    let free : is_checking a ≡ false = resting_free (is_checking a) (own_op a) rest in
+    let stays : own_took a r ≡ a = ap (λ (b : Bool). cond b (checked a (old_of r)) (own_took a r)) (sym free) ∙ rests a rest r in
+    let checks : is_checking a ≡ true = ap is_checking (sym stays) ∙ wait_checks a r w in absurd (cc)
 
 -- whoever rests and ends by a failure had ended so
 resting_by : (checks zero waiting : Bool) (n code : ℕ) (ends : Step) → checks ≡ false → cond checks (cond zero step.Moved (step.Failed n)) (cond waiting step.Idle ends) ≡ step.Failed code → ends ≡ step.Failed code
@@ -272,7 +223,7 @@ module _ {L D : Type 0} (log_seen : L → Seen) (data_seen : D → Seen) (number
   same : s.turn.who ≡ a
   same = some-injective s.turn.who a (sym s.turn.who_is ∙ s.at)
 
-  -- its state behind the turn
+  -- its state after the turn
   there : get_elem? (views_of s.after) number ≡ some (took a r)
   there = subst (λ (z : model.Actor). get_elem? (views_of s.after) number ≡ some (took z r)) same
       (subst (λ (l : List model.Actor). get_elem? l number ≡ some (took s.turn.who r)) (sym s.turn.actors) (set_at (views_of s.actors) number s.turn.who (took s.turn.who r) s.turn.who_is))

@@ -60,7 +60,7 @@ module _ {L D : Type 0} (log_seen : L → Seen) (log_gives : L → Call → L �
       cut_mine after same n told x seats =
           let back : after.me ≡ token.me = told.0 in
           let seats_t : token.me.0.seats ≡ x ∷ [] = ap (λ (m : Me (Slot L D) (View L D)). m.0.seats) (sym back) ∙ seats in
-          let rest : hand (view_of x.actor) ≡ None = F.rest 0 x (ap (λ (l : List Numbered). get_elem? l 0) M.are ∙ ap (λ (z : Numbered). maybe.some z) (one_head token.me.0.seats M.head x one seats_t)) in
+          let rest : hand (view_of x.actor) ≡ None = (F.rest 0 x (ap (λ (l : List Numbered). get_elem? l 0) M.are ∙ ap (λ (z : Numbered). maybe.some z) (one_head token.me.0.seats M.head x one seats_t))).no_slot in
           subst (λ (m : Me (Slot L D) (View L D)). Mine table (record { marker = after.marker; table_id = after.table_id; id = after.id; me = m }) (view_of x.actor)) (sym back)
           (record {
             of = same ∙ of ∙ F.of;

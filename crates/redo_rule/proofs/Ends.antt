@@ -16,7 +16,7 @@ use Rattle.redo_drive.specs.Views.{view_of, views_of}
 use Rattle.redo_drive.specs.declared.actor.Actor.{Actor}
 use Rattle.redo_drive.specs.Running.{RunsOn}
 use Rattle.redo_rule.specs.Ending.{EndsWith}
-use Rattle.redo_rule.specs.Hands.{hand}
+use Rattle.redo_rule.specs.Hands.{hand, HoldsNothing}
 use Rattle.redo_rule.specs.Ruled.{Knows, numbered, Ruled}
 use Rattle.redo_rule.specs.Seating.{HasPart, IsCleaner}
 use Rattle.redo_rule.specs.declared.law.About.{About}
@@ -42,7 +42,7 @@ view_back [] i a e = absurd (maybe.some-ne-none a (sym e))
 view_back (x ∷ xs) zero a e = (x, refl, maybe.some-injective (view_of x) a e)
 view_back (x ∷ xs) (suc i) a e = view_back xs i a e
 
--- the actors behind the users
+-- the actors after the users
 behind_users : (users : List UserState) (l : List model.Actor) (i : ℕ) → get_elem? (map model.User users ++ l) (length users + i) ≡ get_elem? l i
 behind_users [] l i = ap (get_elem? l) (let z : 0 + i ≡ i = omega arith in z)
 behind_users (u ∷ users) l i = ap (get_elem? (model.User u ∷ (map model.User users ++ l))) (let z : suc (length users) + i ≡ suc (length users + i) = omega arith in z) ∙ behind_users users l i
@@ -62,7 +62,7 @@ either_way false P one other = other refl
 
 module _ {L D : Type 0} (log_seen : L → Seen) (log_gives : L → Call → L → Type 0) (data_seen : D → Seen) (data_gives : D → Call → D → Type 0) (about : About L D) where
   pub ends_ok : (id : ℕ) (v : View L D) (ws : List ℕ) (xs : List (Slot L D)) (actors : List Actor) → Final (SeenBy (Ruled log_seen log_gives data_seen data_gives about) id v) ws xs → v.seats ≡ numbered 0 actors → length actors ≡ length about.actors.value.items
-      → ((i : ℕ) (a : Actor) → get_elem? actors i ≡ maybe.some a → hand (view_of a) ≡ None)
+      → ((i : ℕ) (a : Actor) → get_elem? actors i ≡ maybe.some a → HoldsNothing (view_of a))
       → ((i : ℕ) (a : Actor) → get_elem? actors i ≡ maybe.some a → IsCleaner (view_of a) → HasPart v) → (about.log_only ≡ true → HasPart v)
       → EndsWith log_seen log_gives data_seen data_gives about actors ws xs
   ends_ok id v ws xs actors final seats long rest cleaner alone =
@@ -75,7 +75,7 @@ module _ {L D : Type 0} (log_seen : L → Seen) (log_gives : L → Call → L �
       let runs : RunsOn log_seen data_seen R.run R.parts actors = subst (λ (l : List Actor). RunsOn log_seen data_seen R.run R.parts l) all R.runs in
       let free : (k : ℕ) → k < 5 → slice_index s.words (7 + k) ≡ 0 = λ k l. elim (ℕ_discrete (slice_index s.words (7 + k)) 0) [
         | yes z ↦ z
-        | no busy ↦ (let t = R.taken k l busy in let none : hand (view_of t.1) ≡ None = rest t.0 t.1 (ap (λ (z : List Actor). get_elem? z t.0) (sym all) ∙ t.2) in let some_hand = t.3 in absurd (cc))
+        | no busy ↦ (let t = R.taken k l busy in let none : hand (view_of t.1) ≡ None = (rest t.0 t.1 (ap (λ (z : List Actor). get_elem? z t.0) (sym all) ∙ t.2)).no_slot in let some_hand = t.3 in absurd (cc))
       ] in
       let part : HasPart v = either_way about.log_only (HasPart v) alone
       (λ pages. let c = some_cleaner R.run.setup actors runs.seated (R.is_about.is_run.log_only_is ∙ pages) in cleaner c.0 c.1 c.2 c.3) in

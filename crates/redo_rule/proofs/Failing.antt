@@ -1,5 +1,5 @@
 -- How an actor comes to tell a failure, and what its code says.
-use Rattle.std.proofs.Common.{Bool, None, Option, Some, ap, arith, cond, false, inl, inr, refl, sym, true, ℕ, ⊎_elim, ◌<◌, ◌==◌, ◌∙◌, ◌≡◌, ◌≤◌, ◌⊎◌}
+use Rattle.std.proofs.Common.{Some, ap, arith, inl, inr, refl, sym, ℕ, ⊎_elim, ◌<◌, ◌∙◌, ◌≡◌, ◌≤◌, ◌⊎◌}
 use native.Mathlib.Decide.{dec_le}
 use Rattle.model_core.specs.{data_device_code, log_device_code, no_memory_code}
 use Rattle.redo_drive.specs.DataPartSide as data_part

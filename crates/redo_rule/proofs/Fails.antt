@@ -6,6 +6,10 @@ use Rattle.model_core.specs.Groups.{CellWrite}
 use Rattle.model_core.specs.{after_link, answered, can_close, can_link, candidate, cells_of, change_at, changes, checkpointer_op, checkpointer_took, CheckpointerState, cleaner_op, cleaner_took, CleanerState, closer_op, closer_took, CloserState, end_round, flusher_op, flusher_took, FlusherState, frame_count, group_bytes, group_end, has_log_space, has_passed, has_room, has_space, has_taken, has_whole_word, heard, is_above, is_checking, is_whole, lane_of, lanes, left_in_word, lowered, lsn, mode, next_count, next_in_round, old_of, oldest_in, page_loaded, read_place, stands_outside, step_of, to_next_page, user_op, user_took, UserState, with_mark, word_end, word_step, writer_op, writer_took, WriterState}
 use Rattle.model_core.specs.{own_op, own_took}
 use Rattle.model_core.specs.Actors as actor
+use Rattle.model_core.specs.Advancing.{advance_next, ends, frees, stays_put}
+use Rattle.model_core.specs.Tails.{tail_of}
+use Rattle.model_core.specs.UserProgram.{with_close_room, with_link_room, without_close_room, without_link_room}
+use Rattle.model_core.specs.WriterProgram.{finds_no_more}
 use Rattle.model_core.specs.Actors.{Actor}
 use Rattle.model_core.specs.Waiting.{checkpointer_ending, cleaner_ending, closer_ending, ending, flusher_ending, user_ending, waits, writer_ending}
 use Rattle.model_core.specs.declared.limits.TheConstants.{FRAME_CELLS, WORD_LANES}
@@ -14,6 +18,7 @@ use Rattle.model_core.specs.declared.ops.Answer.TheVariants as answer
 use Rattle.model_core.specs.declared.ops.Op.TheVariants as op
 use Rattle.model_core.specs.declared.ops.Step.{Step}
 use Rattle.model_core.specs.declared.ops.Step.TheVariants as step
+use Rattle.model_core.specs.declared.steps.AdvanceStep.TheVariants as advance_step
 use Rattle.model_core.specs.declared.steps.CheckpointerStep.{CheckpointerStep}
 use Rattle.model_core.specs.declared.steps.CheckpointerStep.TheVariants as checkpointer_step
 use Rattle.model_core.specs.declared.steps.CleanerStep.{CleanerStep}
@@ -133,6 +138,12 @@ turned_on : (u : UserState) → quiet_user (to_next_page u)
 turned_on u = either_one user_quiet (u.page + 1 == length (changes u)) user_step.StoreClosedLink (cond (0 == length (change_at (changes u) (u.page + 1)).cells) user_step.StoreNewest (word_step (change_at (changes u) (u.page + 1)).cells 0)) tt
     (either_one user_quiet (0 == length (change_at (changes u) (u.page + 1)).cells) user_step.StoreNewest (word_step (change_at (changes u) (u.page + 1)).cells 0) tt (word_on (change_at (changes u) (u.page + 1)).cells 0))
 
+advanced_on : (stays freed : Bool) (on moved first : UserStep) → user_quiet on → user_quiet moved → user_quiet first → user_quiet (cond stays first (cond freed moved on))
+advanced_on stays freed on moved first p q t = either_one user_quiet stays first (cond freed moved on) t (either_one user_quiet freed moved on q p)
+
+with_room_on : (u : UserState) (n : ℕ) → quiet_user (with_close_room u n)
+with_room_on u n = either_one user_quiet (u.cell == length (cells_of u)) user_step.StoreNewest (word_step (cells_of u) u.cell) tt (word_on (cells_of u) u.cell)
+
 user_on : (u : UserState) (n : ℕ) (f : UserStep) → user_near f → quiet_user (user_took u n f)
 user_on u n user_step.LoadCheckpoint near = tt
 user_on u n user_step.LoadSn near = either_one quiet_user (has_space u n) (record u { page = 0; cell = 0; step = cond (length (changes u) == 0) user_step.Reserve user_step.TakeLatch }) (record u { checks = true; step = user_step.LoadCheckpoint })
@@ -144,10 +155,13 @@ user_on u n user_step.LoadWrite near = either_one quiet_user (has_room u n) (rec
 user_on u n user_step.AddCell near = either_one user_quiet (u.copied + next_count u == length (group_bytes u)) (cond (nat_lt (u.start / BLOCK_DATA) (group_end u / BLOCK_DATA)) user_step.StoreFirst user_step.LoadWtail) user_step.AddCell
     (either_one user_quiet (nat_lt (u.start / BLOCK_DATA) (group_end u / BLOCK_DATA)) user_step.StoreFirst user_step.LoadWtail tt tt) tt
 user_on u n user_step.StoreFirst near = tt
-user_on u n user_step.LoadWtail near = either_one quiet_user (can_link u n) (record u { loaded = record u.loaded { wtail = n }; step = user_step.StoreLink }) (record u { loaded = record u.loaded { wtail = n }; checks = true; step = user_step.LoadWtail }) tt tt
+user_on u n user_step.LoadWtail near = either_one quiet_user (can_link u (tail_of n)) (with_link_room u n) (without_link_room u n false (user_step.AdvanceWritten advance_step.LoadTail)) tt tt
+user_on u n (user_step.AdvanceWritten s) near = advanced_on (stays_put u.advance n s) (frees s) (user_step.AdvanceWritten (advance_next u.advance n s)) user_step.ReloadWtail user_step.LoadWtail tt tt tt
+user_on u n user_step.ReloadWtail near = either_one quiet_user (can_link u (tail_of n)) (with_link_room u n) (without_link_room u n true user_step.LoadWtail) tt tt
 user_on u n user_step.StoreLink near = either_one quiet_user (length (changes u) == 0) (after_link u) (record u { step = user_step.LoadCtail }) (linked_on u) tt
-user_on u n user_step.LoadCtail near = either_one quiet_user (can_close u n) (record u { loaded = record u.loaded { ctail = n }; step = cond (u.cell == length (cells_of u)) user_step.StoreNewest (word_step (cells_of u) u.cell) }) (record u { loaded = record u.loaded { ctail = n }; checks = true; step = user_step.LoadCtail })
-    (either_one user_quiet (u.cell == length (cells_of u)) user_step.StoreNewest (word_step (cells_of u) u.cell) tt (word_on (cells_of u) u.cell)) tt
+user_on u n user_step.LoadCtail near = either_one quiet_user (can_close u (tail_of n)) (with_close_room u n) (without_close_room u n false (user_step.AdvanceClosed advance_step.LoadTail)) (with_room_on u n) tt
+user_on u n (user_step.AdvanceClosed s) near = advanced_on (stays_put u.advance n s) (frees s) (user_step.AdvanceClosed (advance_next u.advance n s)) user_step.ReloadCtail user_step.LoadCtail tt tt tt
+user_on u n user_step.ReloadCtail near = either_one quiet_user (can_close u (tail_of n)) (with_close_room u n) (without_close_room u n true user_step.LoadCtail) (with_room_on u n) tt
 user_on u n user_step.LoadFrame near = tt
 user_on u n user_step.StoreFrame near = either_one user_quiet (u.cell + frame_count u == length (cells_of u)) user_step.StoreNewest (word_step (cells_of u) (u.cell + frame_count u)) tt (word_on (cells_of u) (u.cell + frame_count u))
 user_on u n user_step.StoreNewest near = tt
@@ -162,10 +176,8 @@ user_on u n user_step.Done near = absurd near
 user_on u n user_step.Failed near = absurd near
 
 pub writer_on : (s : WriterState) (r : Answer) (f : WriterStep) → writer_near f → quiet_writer (writer_took s r f)
-writer_on s r writer_step.LoadLink near = either_one quiet_writer (old_of r == 0) (cond (s.tail == s.write) (record s { checks = true; step = writer_step.LoadLink }) (record s { step = writer_step.StoreWtail })) (record s { link = old_of r; step = writer_step.ClearLink })
-    (either_one quiet_writer (s.tail == s.write) (record s { checks = true; step = writer_step.LoadLink }) (record s { step = writer_step.StoreWtail }) tt tt) tt
-writer_on s r writer_step.ClearLink near = either_one writer_quiet (nat_lt (s.tail + s.link) (s.write + 32768)) writer_step.LoadLink writer_step.StoreWtail tt tt
-writer_on s r writer_step.StoreWtail near = tt
+writer_on s r (writer_step.Advance v) near = either_one writer_quiet (finds_no_more s (old_of r) v) (writer_step.Advance advance_step.LoadTail) (cond (ends s.advance (old_of r) v) writer_step.LoadCheckpoint (writer_step.Advance (advance_next s.advance (old_of r) v))) tt
+    (either_one writer_quiet (ends s.advance (old_of r) v) writer_step.LoadCheckpoint (writer_step.Advance (advance_next s.advance (old_of r) v)) tt tt)
 writer_on s r writer_step.LoadCheckpoint near = either_one quiet_writer (has_log_space s (old_of r)) (record s { ckpt = old_of r; step = cond (stands_outside s) writer_step.LoadFirst writer_step.LoadCell }) (record s { ckpt = old_of r; checks = true; step = writer_step.LoadCheckpoint })
     (either_one writer_quiet (stands_outside s) writer_step.LoadFirst writer_step.LoadCell tt tt) tt
 writer_on s r writer_step.LoadFirst near = tt
@@ -282,9 +294,7 @@ flusher_near_or _ = inl tt
 
 closer_near_or : (t : CloserState) (r : Answer) (code : ℕ) (f : CloserStep) → closer_ending (closer_took t r f).code (closer_took t r f).step ≡ step.Failed code → f ≡ closer_step.Failed
 closer_near_or t r code closer_step.Failed e = refl
-closer_near_or t r code closer_step.LoadClosedLink e = absurd (either_one (λ (z : CloserState). closer_ending z.code z.step ≡ step.Failed code → ⊥) (old_of r == 0) (record t { checks = true; step = closer_step.LoadClosedLink }) (record t { link = old_of r; step = closer_step.ClearClosedLink }) (λ x. moved_not code x) (λ x. moved_not code x) e)
-closer_near_or t r code closer_step.ClearClosedLink e = absurd (moved_not code e)
-closer_near_or t r code closer_step.StoreCtail e = absurd (moved_not code e)
+closer_near_or t r code (closer_step.Advance v) e = absurd (moved_not code e)
 
 cleaner_near_or : (f : CleanerStep) → cleaner_near f ⊎ ((f ≡ cleaner_step.StoreFailed) ⊎ (f ≡ cleaner_step.Failed))
 cleaner_near_or cleaner_step.StoreFailed = inr (inl refl)
@@ -297,7 +307,7 @@ checkpointer_near_or checkpointer_step.GiveFailed = inr (inr (inl refl))
 checkpointer_near_or checkpointer_step.Failed = inr (inr (inr refl))
 checkpointer_near_or _ = inl tt
 
--- A step of an actor's own that ends by this code: the actor gives the log part back behind its failed call, or stores the code
+-- A step of an actor's own that ends by this code: the actor gives the log part back after its failed call, or stores the code
 -- of a batch's, or had ended before.
 abbrev pub HadEnded : Actor → ℕ → Type 0
 HadEnded a code = (own_op a ≡ op.Rest) × (ending a ≡ step.Failed code)

@@ -6,7 +6,7 @@ use mathlib.Core.Option as maybe
 use Rattle.atomic_table.specs.Seated.{TableId}
 use Rattle.atomic_table.specs.Table.{Final, Seen as SeenBy}
 use Rattle.atomic_table.specs.declared.shared.Seat.{Seat}
-use Rattle.model_core.specs.{index}
+use Rattle.model_core.specs.{index, tail_of}
 use Rattle.model_core.specs.declared.words.Word.TheVariants as word
 use Rattle.model_running.proofs.Finished.{marks_same}
 use Rattle.model_running.specs.{history_of, marks_in, word_marks}
@@ -24,7 +24,7 @@ use Rattle.redo_drive.specs.Lists.{listing_at}
 use Rattle.redo_drive.specs.Leaving.{LeavesRun}
 use Rattle.redo_drive.specs.Views.{view_of}
 use Rattle.redo_drive.specs.declared.actor.Actor.{Actor}
-use Rattle.redo_pageactors.specs.declared.closed.Closed.{Closed}
+use Rattle.redo_drive.specs.declared.closed.Closed.{Closed}
 use Rattle.redo_rule.proofs.Ends.{ends_ok}
 use Rattle.redo_rule.proofs.Kept as kept
 use Rattle.redo_rule.specs.Closing.{done_with, IsOwedRun, LeavesParts, MayClose}
@@ -108,12 +108,12 @@ module _ {L D : Type 0} (log_seen : L → Seen) (log_gives : L → Call → L �
     pub small : slice_index ws (index word.Failed) < 2 ^ 32
     small = subst (λ (z : List ℕ). slice_index z (index word.Failed) < 2 ^ 32) E.words_are (small_code log_seen data_seen E.run E.parts actors E.runs)
 
-    marks_are : (a b c d : ℕ) → a ≡ slice_index ws (index word.Wtail) → b ≡ slice_index ws (index word.Write) → c ≡ slice_index ws (index word.Flushed) → d ≡ slice_index ws (index word.Ckpt)
+    marks_are : (a b c d : ℕ) → a ≡ tail_of (slice_index ws (index word.Wtail)) → b ≡ slice_index ws (index word.Write) → c ≡ slice_index ws (index word.Flushed) → d ≡ slice_index ws (index word.Ckpt)
         → ◌≡◌ {A = Marks} (record { wtail = a; write = b; flushed = c; ckpt = d }) (marks_in E.parts.words.words)
     marks_are a b c d p q r t =
-        ap (λ (z : ℕ). record { wtail = z; write = b; flushed = c; ckpt = d }) p ∙ ap (λ (z : ℕ). record { wtail = slice_index ws (index word.Wtail); write = z; flushed = c; ckpt = d }) q
-        ∙ ap (λ (z : ℕ). record { wtail = slice_index ws (index word.Wtail); write = slice_index ws (index word.Write); flushed = z; ckpt = d }) r
-        ∙ ap (λ (z : ℕ). record { wtail = slice_index ws (index word.Wtail); write = slice_index ws (index word.Write); flushed = slice_index ws (index word.Flushed); ckpt = z }) t
+        ap (λ (z : ℕ). record { wtail = z; write = b; flushed = c; ckpt = d }) p ∙ ap (λ (z : ℕ). record { wtail = tail_of (slice_index ws (index word.Wtail)); write = z; flushed = c; ckpt = d }) q
+        ∙ ap (λ (z : ℕ). record { wtail = tail_of (slice_index ws (index word.Wtail)); write = slice_index ws (index word.Write); flushed = z; ckpt = d }) r
+        ∙ ap (λ (z : ℕ). record { wtail = tail_of (slice_index ws (index word.Wtail)); write = slice_index ws (index word.Write); flushed = slice_index ws (index word.Flushed); ckpt = z }) t
         ∙ ap marks_in (sym E.words_are)
 
     in_slot : (k : ℕ) (x y : Slot L D) → get_elem? xs k ≡ maybe.some x → get_elem? xs k ≡ maybe.some y → ◌≡◌ {A = Slot L D} x y
@@ -130,7 +130,7 @@ module _ {L D : Type 0} (log_seen : L → Seen) (log_gives : L → Call → L �
     data_there x e = (E.parts.store, in_slot 5 x (slot.Data E.parts.store) e E.data_part, tt)
 
     pub parts_left : (left : Left L D) (x y : Slot L D) → get_elem? xs 0 ≡ maybe.some x → x ≡ slot.Log left.log → get_elem? xs 5 ≡ maybe.some y → y ≡ slot.Data left.store
-        → left.marks.wtail ≡ slice_index ws (index word.Wtail) → left.marks.write ≡ slice_index ws (index word.Write) → left.marks.flushed ≡ slice_index ws (index word.Flushed) → left.marks.ckpt ≡ slice_index ws (index word.Ckpt)
+        → left.marks.wtail ≡ tail_of (slice_index ws (index word.Wtail)) → left.marks.write ≡ slice_index ws (index word.Write) → left.marks.flushed ≡ slice_index ws (index word.Flushed) → left.marks.ckpt ≡ slice_index ws (index word.Ckpt)
         → left.code ≡ slice_index ws (index word.Failed) → LeavesParts log_seen log_gives data_seen data_gives about actors left
     parts_left left x y at_log log_is at_data store_is wtail write flushed ckpt code = record {
       run = E.run;
@@ -188,6 +188,5 @@ module _ {L D : Type 0} (log_seen : L → Seen) (log_gives : L → Call → L �
     is_owed may closed by = record {
       holds = left_run.holds_run log_seen log_gives data_seen data_gives about.opened.value about.script.value about.log_only actors (done_with closed) by may;
       comes_to = λ ended. left_run.comes_to_run log_seen log_gives data_seen data_gives about.opened.value about.script.value about.log_only actors (done_with closed) by may (λ e. ended) (λ turns user e. absurd (cc));
-      owed = λ ended. left_run.is_owed log_seen log_gives data_seen data_gives about.opened.value about.script.value about.log_only actors (done_with closed) by may (λ e. ended);
       owed_synced = λ ended. left_run.is_owed_synced log_seen log_gives data_seen data_gives about.opened.value about.script.value about.log_only actors (done_with closed) by may (λ e. ended);
     }

@@ -15,7 +15,7 @@ use Rattle.redo_rule.proofs.Opens.{numbered_at}
 use Rattle.redo_rule.proofs.Seated.{at_end}
 use Rattle.redo_rule.specs.Cutting.{HoldNothing, IsFirst, MayCut, MayTakeIn}
 use Rattle.redo_rule.specs.Gathering.{AreApart, HasOneCleaner, PartIsKept}
-use Rattle.redo_rule.specs.Hands.{hand}
+use Rattle.redo_rule.specs.Hands.{HoldsNothing}
 use Rattle.redo_rule.specs.Mine.{Mine, number_in, number_of}
 use Rattle.redo_rule.specs.Plays.{Carries}
 use Rattle.redo_rule.specs.Ruled.{numbered}
@@ -172,7 +172,7 @@ module _ {L D : Type 0} (table : TableId) (actors : List Actor) (first : Seat (S
     its_number : number_of seat.me.0 ≡ length before
     its_number = (A.each (length before) seat last_actor seat_at last_at).1
 
-    free : hand (view_of last_actor) ≡ None
+    free : HoldsNothing (view_of last_actor)
     free = rest (length before) last_actor last_at
 
     abbrev who : Numbered
@@ -188,8 +188,8 @@ module _ {L D : Type 0} (table : TableId) (actors : List Actor) (first : Seat (S
     may_take_in = record {
       of = own_seat.mine.of;
       pages = same_count first.me.0.pages seat.me.0.pages (sym A.is_first.words ∙ own_seat.mine.words);
-      none = subst (λ (h : Option ℕ). Carries h seat.me) free own_seat.mine.carries;
-      rest = λ i y e. ap (λ (z : Numbered). hand (view_of z.actor)) (sym (in_one who i y (sym (ap (λ (l : List Numbered). get_elem? l i) own_seat.mine.one) ∙ e))) ∙ ap hand own_seat.mine.state ∙ free;
+      none = subst (λ (h : Option ℕ). Carries h seat.me) free.no_slot own_seat.mine.carries;
+      rest = λ i y e. subst (λ (z : Numbered). HoldsNothing (view_of z.actor)) (in_one who i y (sym (ap (λ (l : List Numbered). get_elem? l i) own_seat.mine.one) ∙ e)) (subst HoldsNothing (sym own_seat.mine.state) free);
       home = own_seat.home;
     }
       where

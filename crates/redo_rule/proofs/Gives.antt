@@ -1,5 +1,5 @@
--- Who gives the log part back behind a failed call.
-use Rattle.std.proofs.Common.{Bool, None, Option, Some, ap, cond, false, refl, sym, true, ℕ, ⊎_elim, ◌-◌, ◌==◌, ◌∙◌, ◌≡◌, ◌⊎◌}
+-- Who gives the log part back after a failed call.
+use Rattle.std.proofs.Common.{Bool, None, Option, Some, ap, cond, false, refl, sym, true, ℕ, ⊎_elim, ◌==◌, ◌∙◌, ◌≡◌}
 use Rattle.model_core.specs.{checkpointer_checked, checkpointer_op, checkpointer_took, CheckpointerState, cleaner_checked, cleaner_took, closer_checked, closer_took, flusher_checked, flusher_op, flusher_took, FlusherState, heard, is_checking, next, old_of, took, user_checked, user_took, writer_checked, writer_op, writer_took, WriterState}
 use Rattle.model_core.specs.Actors as actor
 use Rattle.model_core.specs.Actors.{Actor}
@@ -16,14 +16,14 @@ use Rattle.redo_rule.specs.Failing.{GivesFailed}
 use Rattle.redo_rule.proofs.Fails.{checkpointer_near_or, checkpointer_on, checkpointer_quiet, flusher_near_or, flusher_on, flusher_quiet, writer_near_or, writer_on, writer_quiet}
 use Rattle.redo_rule.specs.Hands.{checkpointer_hand, flusher_hand, hand, IsFreeToCheck, writer_hand}
 
--- who gives the log part back behind a failed call has just stored its code: it was about to
+-- who gives the log part back after a failed call has just stored its code: it was about to
 abbrev pub HasStored : Actor → ℕ → Type 0
 HasStored (actor.Writer s) code = (s.step ≡ writer_step.StoreFailed) × (s.code ≡ code)
 HasStored (actor.Flusher f) code = (f.step ≡ flusher_step.StoreFailed) × (f.code ≡ code)
 HasStored (actor.Checkpointer t) code = (t.step ≡ checkpointer_step.StoreFailed) × (t.code ≡ code)
 HasStored _ code = ⊥
 
--- what an actor that gives the log part back behind a failed call holds
+-- what an actor that gives the log part back after a failed call holds
 pub gives_hand : (a : Actor) (code : ℕ) → GivesFailed a code → hand a ≡ Some 0
 gives_hand (actor.Writer s) code g = ap writer_hand g.0
 gives_hand (actor.Flusher f) code g = ap flusher_hand g.0
@@ -87,7 +87,7 @@ checkpointer_stored s r code g =
     t)
     (checkpointer_near_or s.step)
 
--- who checks holds nothing, and so gives nothing back behind the check
+-- who checks holds nothing, and so gives nothing back after the check
 not_held : {A : Type 0} (h : A → Option ℕ) (x y : A) → h y ≡ Some 0 → h x ≡ None → x ≡ y → ⊥
 not_held h x y some none e = let z = sym some ∙ (ap h (sym e) ∙ none) in absurd (cc)
 
@@ -112,9 +112,9 @@ none_gives true x y code one other g = one g
 none_gives false x y code one other g = other g
 
 pub has_stored : (a : Actor) (r : Answer) (code : ℕ) → IsFreeToCheck a → GivesFailed (took a r) code → (is_checking a ≡ false) × HasStored a code
-has_stored (actor.Writer s) r code free g = by_check s.checks (actor.Writer (writer_checked s (old_of r))) (actor.Writer (writer_took s r s.step)) code (HasStored (actor.Writer s) code) (λ e. writer_not (old_of r == 0) s (old_of r) code (free e)) (writer_stored s r code) g
-has_stored (actor.Flusher s) r code free g = by_check s.checks (actor.Flusher (flusher_checked s (old_of r))) (actor.Flusher (flusher_took s r s.step)) code (HasStored (actor.Flusher s) code) (λ e. flusher_not (old_of r == 0) s (old_of r) code (free e)) (flusher_stored s r code) g
-has_stored (actor.Checkpointer s) r code free g = by_check s.checks (actor.Checkpointer (checkpointer_checked s (old_of r))) (actor.Checkpointer (checkpointer_took s r s.step)) code (HasStored (actor.Checkpointer s) code) (λ e. checkpointer_not (old_of r == 0) s (old_of r) code (free e)) (checkpointer_stored s r code) g
+has_stored (actor.Writer s) r code free g = by_check s.checks (actor.Writer (writer_checked s (old_of r))) (actor.Writer (writer_took s r s.step)) code (HasStored (actor.Writer s) code) (λ e. writer_not (old_of r == 0) s (old_of r) code (free e).no_slot) (writer_stored s r code) g
+has_stored (actor.Flusher s) r code free g = by_check s.checks (actor.Flusher (flusher_checked s (old_of r))) (actor.Flusher (flusher_took s r s.step)) code (HasStored (actor.Flusher s) code) (λ e. flusher_not (old_of r == 0) s (old_of r) code (free e).no_slot) (flusher_stored s r code) g
+has_stored (actor.Checkpointer s) r code free g = by_check s.checks (actor.Checkpointer (checkpointer_checked s (old_of r))) (actor.Checkpointer (checkpointer_took s r s.step)) code (HasStored (actor.Checkpointer s) code) (λ e. checkpointer_not (old_of r == 0) s (old_of r) code (free e).no_slot) (checkpointer_stored s r code) g
 has_stored (actor.User u) r code free g = absurd (none_gives u.checks (actor.User (user_checked u (old_of r))) (actor.User (user_took u (heard r) u.step)) code (λ x. x) (λ x. x) g)
 has_stored (actor.Closer t) r code free g = absurd (none_gives t.checks (actor.Closer (closer_checked t (old_of r))) (actor.Closer (closer_took t r t.step)) code (λ x. x) (λ x. x) g)
 has_stored (actor.Cleaner v) r code free g = absurd (none_gives v.checks (actor.Cleaner (cleaner_checked v (old_of r))) (actor.Cleaner (cleaner_took v r v.step)) code (λ x. x) (λ x. x) g)

@@ -4,13 +4,20 @@ use Rattle.std.specs.Prelude.{nat_le, nat_lt}
 use Rattle.model_core.specs.Answers.{on_take}
 use Rattle.model_core.specs.declared.limits.TheConstants.{FRAME_CELLS, WORD_LANES}
 use Rattle.model_core.specs.Groups.{CellWrite}
-use Rattle.model_core.specs.{Actor, after_link, answered, can_close, can_link, cells_of, change_at, changes, checkpointer_op, checkpointer_took, CheckpointerState, cleaner_op, cleaner_took, CleanerState, closer_op, closer_took, CloserState, candidate, end_round, flusher_op, flusher_took, FlusherState, group_bytes, group_end, frame_count, has_log_space, has_passed, has_room, has_space, has_taken, has_whole_word, is_whole, lane_of, lanes, left_in_word, next_count, word_end, word_step, heard, is_above, is_checking, lowered, lsn, mode, next, next_in_round, old_of, oldest_in, page_loaded, read_place, stands_outside, to_next_page, took, user_op, user_took, UserState, with_mark, writer_op, writer_took, WriterState}
+use Rattle.model_core.specs.{Actor, Advance, after_link, answered, can_close, can_link, cells_of, change_at, changes, checkpointer_op, checkpointer_took, CheckpointerState, cleaner_op, cleaner_took, CleanerState, closer_op, closer_took, CloserState, candidate, end_round, flusher_op, flusher_took, FlusherState, group_bytes, group_end, frame_count, has_log_space, has_passed, has_room, has_space, has_taken, has_whole_word, is_whole, lane_of, lanes, left_in_word, next_count, word_end, word_step, heard, is_above, is_checking, lowered, lsn, mode, next, next_in_round, old_of, oldest_in, page_loaded, read_place, stands_outside, to_next_page, took, user_op, user_took, UserState, with_mark, writer_op, writer_took, WriterState}
 use Rattle.model_core.specs.Actors as actor
+use Rattle.model_core.proofs.TailsFree.{took_free}
+use Rattle.model_core.specs.Advancing.{advance_next, advance_op, ends, frees, stays_put}
+use Rattle.model_core.specs.Tails.{tail_of}
+use Rattle.model_core.specs.UserProgram.{with_close_room, with_link_room, without_close_room, without_link_room}
+use Rattle.model_core.specs.WriterProgram.{finds_no_more}
 use Rattle.model_core.specs.declared.ops.Answer.{Answer}
 use Rattle.model_core.specs.declared.ops.Answer.TheVariants as answer
 use Rattle.model_core.specs.declared.ops.Op.{Op}
 use Rattle.model_core.specs.declared.ops.Op.TheVariants as op
 use Rattle.model_core.specs.declared.words.Word.TheVariants as word
+use Rattle.model_core.specs.declared.steps.AdvanceStep.{AdvanceStep}
+use Rattle.model_core.specs.declared.steps.AdvanceStep.TheVariants as advance_step
 use Rattle.model_core.specs.declared.steps.CheckpointerStep.{CheckpointerStep}
 use Rattle.model_core.specs.declared.steps.CheckpointerStep.TheVariants as checkpointer_step
 use Rattle.model_core.specs.declared.steps.CleanerStep.{CleanerStep}
@@ -23,6 +30,8 @@ use Rattle.model_core.specs.declared.steps.UserStep.{UserStep}
 use Rattle.model_core.specs.declared.steps.UserStep.TheVariants as user_step
 use Rattle.model_core.specs.declared.steps.WriterStep.{WriterStep}
 use Rattle.model_core.specs.declared.steps.WriterStep.TheVariants as writer_step
+use Rattle.model_core.specs.declared.words.LinkBuffer.{LinkBuffer}
+use Rattle.model_core.specs.declared.words.LinkBuffer.TheVariants as link_buffer
 use Rattle.model_log.specs.declared.layout.TheConstants.{BLOCK_DATA}
 use Rattle.redo_rule.specs.Hands.{Handles, IsFreeToCheck, checkpointer_hand, cleaner_hand, flusher_hand, hand, user_hand, writer_hand}
 
@@ -58,6 +67,23 @@ turned_none : (u : UserState) → of_user (to_next_page u) ≡ None
 turned_none u = user_pick (to_next_page u) (u.page + 1 == length (changes u)) user_step.StoreClosedLink (cond (0 == length (change_at (changes u) (u.page + 1)).cells) user_step.StoreNewest (word_step (change_at (changes u) (u.page + 1)).cells 0)) refl
     (user_pick (to_next_page u) (0 == length (change_at (changes u) (u.page + 1)).cells) user_step.StoreNewest (word_step (change_at (changes u) (u.page + 1)).cells 0) refl (word_none (to_next_page u) (change_at (changes u) (u.page + 1)).cells 0))
 
+with_room_none : (u : UserState) (n : ℕ) → of_user (with_close_room u n) ≡ None
+with_room_none u n = user_pick (with_close_room u n) (u.cell == length (cells_of u)) user_step.StoreNewest (word_step (cells_of u) u.cell) refl (word_none (with_close_room u n) (cells_of u) u.cell)
+
+-- an advance asks for words, and leaves what its actor holds
+plain_advance : (b : LinkBuffer) (v : Advance) (s : AdvanceStep) (before : Option ℕ) (behind : Answer → Option ℕ) → ((n : ℕ) → behind (answer.Old n) ≡ before) → Handles (advance_op b v s) before behind
+plain_advance b v advance_step.LoadTail before behind same = same
+plain_advance b v _ before behind same = same
+
+advanced_none : (u : UserState) (stays freed : Bool) (on moved first : UserStep) → user_hand u on ≡ None → user_hand u moved ≡ None → user_hand u first ≡ None → user_hand u (cond stays first (cond freed moved on)) ≡ None
+advanced_none u stays freed on moved first e h k = user_pick u stays first (cond freed moved on) k (user_pick u freed moved on h e)
+
+written_none : (u : UserState) (n : ℕ) (s : AdvanceStep) → of_user (user_took u n (user_step.AdvanceWritten s)) ≡ None
+written_none u n s = advanced_none (user_took u n (user_step.AdvanceWritten s)) (stays_put u.advance n s) (frees s) (user_step.AdvanceWritten (advance_next u.advance n s)) user_step.ReloadWtail user_step.LoadWtail refl refl refl
+
+closed_none : (u : UserState) (n : ℕ) (s : AdvanceStep) → of_user (user_took u n (user_step.AdvanceClosed s)) ≡ None
+closed_none u n s = advanced_none (user_took u n (user_step.AdvanceClosed s)) (stays_put u.advance n s) (frees s) (user_step.AdvanceClosed (advance_next u.advance n s)) user_step.ReloadCtail user_step.LoadCtail refl refl refl
+
 user_own : (u : UserState) (f : UserStep) → Handles (user_op u f) (user_hand u f) (λ r. of_user (user_took u (heard r) f))
 user_own u user_step.LoadCheckpoint = λ n. refl
 user_own u user_step.LoadSn = λ n. pick of_user None (has_space u n) (record u { page = 0; cell = 0; step = cond (length (changes u) == 0) user_step.Reserve user_step.TakeLatch }) (record u { checks = true; step = user_step.LoadCheckpoint })
@@ -69,10 +95,13 @@ user_own u user_step.LoadWrite = λ n. pick of_user None (has_room u n) (record 
 user_own u user_step.AddCell = λ n. user_pick (record u { copied = u.copied + next_count u }) (u.copied + next_count u == length (group_bytes u)) (cond (nat_lt (u.start / BLOCK_DATA) (group_end u / BLOCK_DATA)) user_step.StoreFirst user_step.LoadWtail) user_step.AddCell
     (user_pick (record u { copied = u.copied + next_count u }) (nat_lt (u.start / BLOCK_DATA) (group_end u / BLOCK_DATA)) user_step.StoreFirst user_step.LoadWtail refl refl) refl
 user_own u user_step.StoreFirst = λ n. refl
-user_own u user_step.LoadWtail = λ n. pick of_user None (can_link u n) (record u { loaded = record u.loaded { wtail = n }; step = user_step.StoreLink }) (record u { loaded = record u.loaded { wtail = n }; checks = true; step = user_step.LoadWtail }) refl refl
+user_own u user_step.LoadWtail = λ n. pick of_user None (can_link u (tail_of n)) (with_link_room u n) (without_link_room u n false (user_step.AdvanceWritten advance_step.LoadTail)) refl refl
+user_own u (user_step.AdvanceWritten s) = plain_advance link_buffer.Written u.advance s None (λ r. of_user (user_took u (heard r) (user_step.AdvanceWritten s))) (λ n. written_none u n s)
+user_own u user_step.ReloadWtail = λ n. pick of_user None (can_link u (tail_of n)) (with_link_room u n) (without_link_room u n true user_step.LoadWtail) refl refl
 user_own u user_step.StoreLink = λ n. pick of_user None (length (changes u) == 0) (after_link u) (record u { step = user_step.LoadCtail }) (linked_none u) refl
-user_own u user_step.LoadCtail = λ n. pick of_user None (can_close u n) (record u { loaded = record u.loaded { ctail = n }; step = cond (u.cell == length (cells_of u)) user_step.StoreNewest (word_step (cells_of u) u.cell) }) (record u { loaded = record u.loaded { ctail = n }; checks = true; step = user_step.LoadCtail })
-    (user_pick (record u { loaded = record u.loaded { ctail = n } }) (u.cell == length (cells_of u)) user_step.StoreNewest (word_step (cells_of u) u.cell) refl (word_none (record u { loaded = record u.loaded { ctail = n } }) (cells_of u) u.cell)) refl
+user_own u user_step.LoadCtail = λ n. pick of_user None (can_close u (tail_of n)) (with_close_room u n) (without_close_room u n false (user_step.AdvanceClosed advance_step.LoadTail)) (with_room_none u n) refl
+user_own u (user_step.AdvanceClosed s) = plain_advance link_buffer.Closed u.advance s None (λ r. of_user (user_took u (heard r) (user_step.AdvanceClosed s))) (λ n. closed_none u n s)
+user_own u user_step.ReloadCtail = λ n. pick of_user None (can_close u (tail_of n)) (with_close_room u n) (without_close_room u n true user_step.LoadCtail) (with_room_none u n) refl
 user_own u user_step.LoadFrame = λ n. refl
 user_own u user_step.StoreFrame = λ n. user_pick (record u { cell = u.cell + frame_count u; word = 0 }) (u.cell + frame_count u == length (cells_of u)) user_step.StoreNewest (word_step (cells_of u) (u.cell + frame_count u)) refl
     (word_none (record u { cell = u.cell + frame_count u; word = 0 }) (cells_of u) (u.cell + frame_count u))
@@ -87,11 +116,12 @@ user_own u user_step.AwaitMark = λ n. pick of_user None (has_passed u n) (answe
 user_own u user_step.Done = tt
 user_own u user_step.Failed = tt
 
+followed_none : (s : WriterState) (n : ℕ) (v : AdvanceStep) → writer_hand (cond (finds_no_more s n v) (writer_step.Advance advance_step.LoadTail) (cond (ends s.advance n v) writer_step.LoadCheckpoint (writer_step.Advance (advance_next s.advance n v)))) ≡ None
+followed_none s n v = pick writer_hand None (finds_no_more s n v) (writer_step.Advance advance_step.LoadTail) (cond (ends s.advance n v) writer_step.LoadCheckpoint (writer_step.Advance (advance_next s.advance n v))) refl
+    (pick writer_hand None (ends s.advance n v) writer_step.LoadCheckpoint (writer_step.Advance (advance_next s.advance n v)) refl refl)
+
 writer_own : (s : WriterState) (f : WriterStep) → Handles (writer_op s f) (writer_hand f) (λ r. writer_hand (writer_took s r f).step)
-writer_own s writer_step.LoadLink = λ n. pick (λ (z : WriterState). writer_hand z.step) None (n == 0) (cond (s.tail == s.write) (record s { checks = true; step = writer_step.LoadLink }) (record s { step = writer_step.StoreWtail })) (record s { link = n; step = writer_step.ClearLink })
-    (pick (λ (z : WriterState). writer_hand z.step) None (s.tail == s.write) (record s { checks = true; step = writer_step.LoadLink }) (record s { step = writer_step.StoreWtail }) refl refl) refl
-writer_own s writer_step.ClearLink = λ n. pick writer_hand None (nat_lt (s.tail + s.link) (s.write + 32768)) writer_step.LoadLink writer_step.StoreWtail refl refl
-writer_own s writer_step.StoreWtail = λ n. refl
+writer_own s (writer_step.Advance v) = plain_advance link_buffer.Written s.advance v None (λ r. writer_hand (writer_took s r (writer_step.Advance v)).step) (λ n. followed_none s n v)
 writer_own s writer_step.LoadCheckpoint = λ n. pick (λ (z : WriterState). writer_hand z.step) None (has_log_space s n) (record s { ckpt = n; step = cond (stands_outside s) writer_step.LoadFirst writer_step.LoadCell }) (record s { ckpt = n; checks = true; step = writer_step.LoadCheckpoint })
     (pick writer_hand None (stands_outside s) writer_step.LoadFirst writer_step.LoadCell refl refl) refl
 writer_own s writer_step.LoadFirst = λ n. refl
@@ -121,9 +151,7 @@ flusher_own t flusher_step.GiveFailed = (refl, refl)
 flusher_own t flusher_step.Failed = tt
 
 closer_own : (t : CloserState) (f : CloserStep) → Handles (closer_op t f) None (λ r. None)
-closer_own t closer_step.LoadClosedLink = λ n. refl
-closer_own t closer_step.ClearClosedLink = λ n. refl
-closer_own t closer_step.StoreCtail = λ n. refl
+closer_own t (closer_step.Advance v) = plain_advance link_buffer.Closed t.advance v None (λ r. None) (λ n. refl)
 closer_own t closer_step.Failed = tt
 
 round_none : (v : CleanerState) → of_cleaner (next_in_round v) ≡ None
@@ -193,15 +221,15 @@ checkpointer_same t checkpointer_step.GiveList = refl
 checkpointer_same t _ = refl
 
 pub handles : (a : Actor) → IsFreeToCheck a → Handles (next a) (hand a) (λ r. hand (took a r))
-handles (actor.User u) free = by_check actor.User (user_op u u.step) (record u { checks = false }) (λ n. record u { checks = false; code = n; step = user_step.Failed }) (λ r. user_took u (heard r) u.step) u.checks (user_hand u u.step) free (user_same u u.step) (λ n. refl) (user_own u u.step)
-handles (actor.Writer s) free = by_check actor.Writer (writer_op s s.step) (record s { checks = false }) (λ n. record s { checks = false; code = n; step = writer_step.Failed }) (λ r. writer_took s r s.step) s.checks (writer_hand s.step) free refl (λ n. refl) (writer_own s s.step)
-handles (actor.Flusher t) free = by_check actor.Flusher (flusher_op t t.step) (record t { checks = false }) (λ n. record t { checks = false; code = n; step = flusher_step.Failed }) (λ r. flusher_took t r t.step) t.checks (flusher_hand t.step) free refl (λ n. refl) (flusher_own t t.step)
-handles (actor.Closer t) free = by_check actor.Closer (closer_op t t.step) (record t { checks = false }) (λ n. record t { checks = false; code = n; step = closer_step.Failed }) (λ r. closer_took t r t.step) t.checks None free refl (λ n. refl) (closer_own t t.step)
-handles (actor.Cleaner v) free = by_check actor.Cleaner (cleaner_op v v.step) (record v { checks = false }) (λ n. record v { checks = false; code = n; step = cleaner_step.Failed }) (λ r. cleaner_took v r v.step) v.checks (cleaner_hand v v.step) free (cleaner_same v v.step) (λ n. refl) (cleaner_own v v.step)
-handles (actor.Checkpointer t) free = by_check actor.Checkpointer (checkpointer_op t t.step) (record t { checks = false }) (λ n. record t { checks = false; code = n; step = checkpointer_step.Failed }) (λ r. checkpointer_took t r t.step) t.checks (checkpointer_hand t t.step) free (checkpointer_same t t.step) (λ n. refl) (checkpointer_own t t.step)
+handles (actor.User u) free = by_check actor.User (user_op u u.step) (record u { checks = false }) (λ n. record u { checks = false; code = n; step = user_step.Failed }) (λ r. user_took u (heard r) u.step) u.checks (user_hand u u.step) (λ c. (free c).no_slot) (user_same u u.step) (λ n. refl) (user_own u u.step)
+handles (actor.Writer s) free = by_check actor.Writer (writer_op s s.step) (record s { checks = false }) (λ n. record s { checks = false; code = n; step = writer_step.Failed }) (λ r. writer_took s r s.step) s.checks (writer_hand s.step) (λ c. (free c).no_slot) refl (λ n. refl) (writer_own s s.step)
+handles (actor.Flusher t) free = by_check actor.Flusher (flusher_op t t.step) (record t { checks = false }) (λ n. record t { checks = false; code = n; step = flusher_step.Failed }) (λ r. flusher_took t r t.step) t.checks (flusher_hand t.step) (λ c. (free c).no_slot) refl (λ n. refl) (flusher_own t t.step)
+handles (actor.Closer t) free = by_check actor.Closer (closer_op t t.step) (record t { checks = false }) (λ n. record t { checks = false; code = n; step = closer_step.Failed }) (λ r. closer_took t r t.step) t.checks None (λ c. (free c).no_slot) refl (λ n. refl) (closer_own t t.step)
+handles (actor.Cleaner v) free = by_check actor.Cleaner (cleaner_op v v.step) (record v { checks = false }) (λ n. record v { checks = false; code = n; step = cleaner_step.Failed }) (λ r. cleaner_took v r v.step) v.checks (cleaner_hand v v.step) (λ c. (free c).no_slot) (cleaner_same v v.step) (λ n. refl) (cleaner_own v v.step)
+handles (actor.Checkpointer t) free = by_check actor.Checkpointer (checkpointer_op t t.step) (record t { checks = false }) (λ n. record t { checks = false; code = n; step = checkpointer_step.Failed }) (λ r. checkpointer_took t r t.step) t.checks (checkpointer_hand t t.step) (λ c. (free c).no_slot) (checkpointer_same t t.step) (λ n. refl) (checkpointer_own t t.step)
 handles (actor.Joined es) free = tt
 
--- and who checks behind it holds nothing
+-- and who checks after it holds nothing
 abbrev IsFree : Bool → Option ℕ → Type 0
 IsFree checks held = (checks ≡ false) ⊎ (held ≡ None)
 
@@ -216,9 +244,13 @@ user_free : (u : UserState) → u.checks ≡ false → (n : ℕ) (f : UserStep) 
 user_free u quiet n user_step.LoadSn = choose (λ (z : UserState). z.checks) of_user (has_space u n) (record u { page = 0; cell = 0; step = cond (length (changes u) == 0) user_step.Reserve user_step.TakeLatch }) (record u { checks = true; step = user_step.LoadCheckpoint }) (inl quiet) (inr refl)
 user_free u quiet n user_step.TakeLatch = choose (λ (z : UserState). z.checks) of_user (n == 0) (record u { page = u.page + 1; step = cond (u.page + 1 == length (changes u)) user_step.Reserve user_step.TakeLatch }) (record u { checks = true; step = user_step.TakeLatch }) (inl quiet) (inr refl)
 user_free u quiet n user_step.LoadWrite = choose (λ (z : UserState). z.checks) of_user (has_room u n) (record u { loaded = record u.loaded { write = n }; step = user_step.AddCell }) (record u { loaded = record u.loaded { write = n }; checks = true; step = user_step.LoadWrite }) (inl quiet) (inr refl)
-user_free u quiet n user_step.LoadWtail = choose (λ (z : UserState). z.checks) of_user (can_link u n) (record u { loaded = record u.loaded { wtail = n }; step = user_step.StoreLink }) (record u { loaded = record u.loaded { wtail = n }; checks = true; step = user_step.LoadWtail }) (inl quiet) (inr refl)
+user_free u quiet n user_step.LoadWtail = choose (λ (z : UserState). z.checks) of_user (can_link u (tail_of n)) (with_link_room u n) (without_link_room u n false (user_step.AdvanceWritten advance_step.LoadTail)) (inl quiet) (inl refl)
+user_free u quiet n (user_step.AdvanceWritten s) = inr (written_none u n s)
+user_free u quiet n user_step.ReloadWtail = choose (λ (z : UserState). z.checks) of_user (can_link u (tail_of n)) (with_link_room u n) (without_link_room u n true user_step.LoadWtail) (inl quiet) (inr refl)
 user_free u quiet n user_step.StoreLink = choose (λ (z : UserState). z.checks) of_user (length (changes u) == 0) (after_link u) (record u { step = user_step.LoadCtail }) (inr (linked_none u)) (inl quiet)
-user_free u quiet n user_step.LoadCtail = choose (λ (z : UserState). z.checks) of_user (can_close u n) (record u { loaded = record u.loaded { ctail = n }; step = cond (u.cell == length (cells_of u)) user_step.StoreNewest (word_step (cells_of u) u.cell) }) (record u { loaded = record u.loaded { ctail = n }; checks = true; step = user_step.LoadCtail }) (inl quiet) (inr refl)
+user_free u quiet n user_step.LoadCtail = choose (λ (z : UserState). z.checks) of_user (can_close u (tail_of n)) (with_close_room u n) (without_close_room u n false (user_step.AdvanceClosed advance_step.LoadTail)) (inl quiet) (inl refl)
+user_free u quiet n (user_step.AdvanceClosed s) = inr (closed_none u n s)
+user_free u quiet n user_step.ReloadCtail = choose (λ (z : UserState). z.checks) of_user (can_close u (tail_of n)) (with_close_room u n) (without_close_room u n true user_step.LoadCtail) (inl quiet) (inr refl)
 user_free u quiet n user_step.LoadOldest = choose (λ (z : UserState). z.checks) of_user (n == 0) (record u { step = user_step.AddToList }) (to_next_page u) (inl quiet) (inl quiet)
 user_free u quiet n user_step.AddToList = by (n == 0)
   where
@@ -239,8 +271,7 @@ on_take_free (answer.Failed n) held a b c d e = inr (d n)
 on_take_free answer.Rested held a b c d e = inr e
 
 writer_free : (s : WriterState) → s.checks ≡ false → (r : Answer) (f : WriterStep) → IsFree (writer_took s r f).checks (writer_hand (writer_took s r f).step)
-writer_free s quiet r writer_step.LoadLink = choose (λ (z : WriterState). z.checks) (λ (z : WriterState). writer_hand z.step) (old_of r == 0) (cond (s.tail == s.write) (record s { checks = true; step = writer_step.LoadLink }) (record s { step = writer_step.StoreWtail })) (record s { link = old_of r; step = writer_step.ClearLink })
-    (choose (λ (z : WriterState). z.checks) (λ (z : WriterState). writer_hand z.step) (s.tail == s.write) (record s { checks = true; step = writer_step.LoadLink }) (record s { step = writer_step.StoreWtail }) (inr refl) (inr refl)) (inr refl)
+writer_free s quiet r (writer_step.Advance v) = inr (followed_none s (old_of r) v)
 writer_free s quiet r writer_step.LoadCheckpoint = choose (λ (z : WriterState). z.checks) (λ (z : WriterState). writer_hand z.step) (has_log_space s (old_of r)) (record s { ckpt = old_of r; step = cond (stands_outside s) writer_step.LoadFirst writer_step.LoadCell }) (record s { ckpt = old_of r; checks = true; step = writer_step.LoadCheckpoint }) (inl quiet) (inr refl)
 writer_free s quiet r writer_step.LoadCell = choose (λ (z : WriterState). z.checks) (λ (z : WriterState). writer_hand z.step) (has_whole_word s) (record s { word = old_of r; step = writer_step.ClearCell })
     (record s { kept = s.kept ++ lanes (lane_of (read_place s)) (s.tail - lsn (read_place s)) (old_of r); step = writer_step.TakeDevice }) (inl quiet) (inl quiet)
@@ -270,18 +301,24 @@ checkpointer_free t quiet r checkpointer_step.TakeDevice = on_take_free r (λ z.
 checkpointer_free t quiet r checkpointer_step.GiveBroken = inr refl
 checkpointer_free t quiet r _ = inl quiet
 
--- behind a check nobody checks
+-- after a check nobody checks
+abbrev ChecksWithoutSlot : Actor → Type 0
+ChecksWithoutSlot a = is_checking a ≡ true → hand a ≡ None
+
 module _ {S : Type 0} (wrap : S → Actor) (checks : S → Bool) (goes fails own : S) (same : (x : S) → is_checking (wrap x) ≡ checks x) where
-  by_free : (b zero : Bool) → checks goes ≡ false → checks fails ≡ false → (b ≡ false → IsFree (checks own) (hand (wrap own))) → IsFreeToCheck (cond b (wrap (cond zero goes fails)) (wrap own))
+  by_free : (b zero : Bool) → checks goes ≡ false → checks fails ≡ false → (b ≡ false → IsFree (checks own) (hand (wrap own))) → ChecksWithoutSlot (cond b (wrap (cond zero goes fails)) (wrap own))
   by_free true true a f own_free is = let z = same goes in absurd (cc)
   by_free true false a f own_free is = let z = same fails in absurd (cc)
   by_free false zero a f own_free is = let z = same own in ⊎_elim (λ e. absurd (cc)) (λ e. e) (own_free refl)
 
+stays_empty : (a : Actor) (r : Answer) → ChecksWithoutSlot (took a r)
+stays_empty (actor.User u) r = by_free actor.User (λ (z : UserState). z.checks) (record u { checks = false }) (record u { checks = false; code = old_of r; step = user_step.Failed }) (user_took u (heard r) u.step) (λ z. refl) u.checks (old_of r == 0) refl refl (λ quiet. user_free u quiet (heard r) u.step)
+stays_empty (actor.Writer s) r = by_free actor.Writer (λ (z : WriterState). z.checks) (record s { checks = false }) (record s { checks = false; code = old_of r; step = writer_step.Failed }) (writer_took s r s.step) (λ z. refl) s.checks (old_of r == 0) refl refl (λ quiet. writer_free s quiet r s.step)
+stays_empty (actor.Flusher t) r = by_free actor.Flusher (λ (z : FlusherState). z.checks) (record t { checks = false }) (record t { checks = false; code = old_of r; step = flusher_step.Failed }) (flusher_took t r t.step) (λ z. refl) t.checks (old_of r == 0) refl refl (λ quiet. flusher_free t quiet r t.step)
+stays_empty (actor.Closer t) r = by_free actor.Closer (λ (z : CloserState). z.checks) (record t { checks = false }) (record t { checks = false; code = old_of r; step = closer_step.Failed }) (closer_took t r t.step) (λ z. refl) t.checks (old_of r == 0) refl refl (λ quiet. inr refl)
+stays_empty (actor.Cleaner v) r = by_free actor.Cleaner (λ (z : CleanerState). z.checks) (record v { checks = false }) (record v { checks = false; code = old_of r; step = cleaner_step.Failed }) (cleaner_took v r v.step) (λ z. refl) v.checks (old_of r == 0) refl refl (λ quiet. cleaner_free v quiet r v.step)
+stays_empty (actor.Checkpointer t) r = by_free actor.Checkpointer (λ (z : CheckpointerState). z.checks) (record t { checks = false }) (record t { checks = false; code = old_of r; step = checkpointer_step.Failed }) (checkpointer_took t r t.step) (λ z. refl) t.checks (old_of r == 0) refl refl (λ quiet. checkpointer_free t quiet r t.step)
+stays_empty (actor.Joined es) r = λ is. refl
+
 pub stays_free : (a : Actor) (r : Answer) → IsFreeToCheck (took a r)
-stays_free (actor.User u) r = by_free actor.User (λ (z : UserState). z.checks) (record u { checks = false }) (record u { checks = false; code = old_of r; step = user_step.Failed }) (user_took u (heard r) u.step) (λ z. refl) u.checks (old_of r == 0) refl refl (λ quiet. user_free u quiet (heard r) u.step)
-stays_free (actor.Writer s) r = by_free actor.Writer (λ (z : WriterState). z.checks) (record s { checks = false }) (record s { checks = false; code = old_of r; step = writer_step.Failed }) (writer_took s r s.step) (λ z. refl) s.checks (old_of r == 0) refl refl (λ quiet. writer_free s quiet r s.step)
-stays_free (actor.Flusher t) r = by_free actor.Flusher (λ (z : FlusherState). z.checks) (record t { checks = false }) (record t { checks = false; code = old_of r; step = flusher_step.Failed }) (flusher_took t r t.step) (λ z. refl) t.checks (old_of r == 0) refl refl (λ quiet. flusher_free t quiet r t.step)
-stays_free (actor.Closer t) r = by_free actor.Closer (λ (z : CloserState). z.checks) (record t { checks = false }) (record t { checks = false; code = old_of r; step = closer_step.Failed }) (closer_took t r t.step) (λ z. refl) t.checks (old_of r == 0) refl refl (λ quiet. inr refl)
-stays_free (actor.Cleaner v) r = by_free actor.Cleaner (λ (z : CleanerState). z.checks) (record v { checks = false }) (record v { checks = false; code = old_of r; step = cleaner_step.Failed }) (cleaner_took v r v.step) (λ z. refl) v.checks (old_of r == 0) refl refl (λ quiet. cleaner_free v quiet r v.step)
-stays_free (actor.Checkpointer t) r = by_free actor.Checkpointer (λ (z : CheckpointerState). z.checks) (record t { checks = false }) (record t { checks = false; code = old_of r; step = checkpointer_step.Failed }) (checkpointer_took t r t.step) (λ z. refl) t.checks (old_of r == 0) refl refl (λ quiet. checkpointer_free t quiet r t.step)
-stays_free (actor.Joined es) r = λ is. refl
+stays_free a r checks = record { no_slot = stays_empty a r checks; no_tail = took_free a r checks }

@@ -6,7 +6,7 @@ use lib.ListN.{get_elem?}
 use mathlib.Core.Option as maybe
 use native.Mathlib.Decide.{ℕ_discrete}
 use Rattle.atomic_table.specs.Table.{State}
-use Rattle.model_core.proofs.Lists.{at_set, set_else}
+use Rattle.model_core.proofs.Lists.{at_set, set_at, set_else}
 use Rattle.model_core.specs.{answer_of, lent, lsn, next, OpWords, SharedWords, step_of, took, UserState}
 use Rattle.model_core.specs.Actors as model
 use Rattle.model_core.specs.AnswerFits.{AnswerFits}
@@ -15,7 +15,6 @@ use Rattle.model_core.specs.Setup.{Setup}
 use Rattle.model_core.specs.Turn.{LogServed, Turn}
 use Rattle.model_core.specs.declared.ops.Answer.{Answer}
 use Rattle.model_core.specs.declared.ops.Op.{Op}
-use Rattle.model_logcore.proofs.Frame.{set_at}
 use Rattle.model_core.specs.declared.steps.UserStep.TheVariants as user_step
 use Rattle.model_logcore.specs.{CheckpointerAt, FlusherAt, LogGhost, UserAt, UserFits, WriterAt}
 use Rattle.model_logcore.specs.LogFits.{Fits}
@@ -231,7 +230,7 @@ module _ {L D : Type 0} (log_seen : L → Seen) (log_gives : L → Call → L �
     pub there_behind : get_elem? (views_of after) x.number ≡ maybe.some b
     there_behind = at_map view_of after x.number (retook x.actor r) (set_at R.actors x.number x.actor (retook x.actor r) here) ∙ ap (λ (z : model.Actor). maybe.some z) (view_retook x.actor r)
 
-    -- who holds a slot behind the turn
+    -- who holds a slot after the turn
     holds_behind : (k : ℕ) → hand b ≡ Some k → HasHolder after k
     holds_behind k e = (x.number, retook x.actor r, set_at R.actors x.number x.actor (retook x.actor r) here, ap hand (view_retook x.actor r) ∙ e)
 

@@ -5,10 +5,16 @@ use lib.ListN.{get_elem?}
 use mathlib.Core.Option as maybe
 use Rattle.atomic_table.specs.Table.{opening}
 use Rattle.model_base.specs.declared.shape.Shape.{Shape}
-use Rattle.model_core.specs.{CheckpointerState, CleanerState, flat, FlusherState, new_user, UserState, WriterState}
+use Rattle.model_core.specs.{CheckpointerState, CleanerState, CloserState, flat, FlusherState, holds_tail, new_user, UserState, WriterState}
 use Rattle.model_core.specs.Actors as model
+use Rattle.model_core.specs.Holding.{closer_holds_tail, user_holds_tail, writer_holds_tail}
 use Rattle.model_core.specs.Setup.{Setup}
+use Rattle.model_core.specs.declared.steps.AdvanceStep.TheVariants as advance_step
+use Rattle.model_core.specs.declared.steps.CloserStep.TheVariants as closer_step
 use Rattle.model_core.specs.declared.steps.UserStep.TheVariants as user_step
+use Rattle.model_core.specs.declared.steps.WriterStep.TheVariants as writer_step
+use Rattle.model_core.specs.declared.words.LinkBuffer.{LinkBuffer}
+use Rattle.model_core.specs.declared.words.LinkBuffer.TheVariants as link_buffer
 use Rattle.model_core.specs.declared.words.Word.TheVariants as word
 use Rattle.model_logcore.specs.{StartActor}
 use Rattle.model_running.proofs.FlatWords.{flat_read}
@@ -26,7 +32,7 @@ use Rattle.redo_drive.specs.declared.parts.Parts.{Parts}
 use Rattle.redo_rule.proofs.Gives.{gives_hand}
 use Rattle.redo_rule.proofs.Holders.{holding}
 use Rattle.redo_rule.proofs.Retook.{at_map}
-use Rattle.redo_rule.specs.Hands.{checkpointer_hand, cleaner_hand, flusher_hand, hand, user_hand, writer_hand}
+use Rattle.redo_rule.specs.Hands.{checkpointer_hand, cleaner_hand, flusher_hand, hand, HoldsNothing, user_hand, writer_hand}
 use Rattle.redo_rule.specs.Ruled.{content_at, first_view, Knows, numbered, Ruled}
 use Rattle.redo_rule.specs.declared.law.About.{About}
 use Rattle.redo_rule.specs.declared.law.Keeping.{Keeping}
@@ -49,6 +55,29 @@ fresh_hand c seat_of writer n (model.Closer t) is = refl
 fresh_hand c seat_of writer n (model.Cleaner v) is = ap (λ (z : CleanerState). cleaner_hand z z.step) is.1
 fresh_hand c seat_of writer n (model.Checkpointer t) is = ap (λ (z : CheckpointerState). checkpointer_hand z z.step) is.1
 fresh_hand c seat_of writer n (model.Joined es) is = refl
+
+user_free : (b : Bool) (l : LinkBuffer) → user_holds_tail l (cond b user_step.Done user_step.LoadCheckpoint) ≡ false
+user_free true link_buffer.Written = refl
+user_free true link_buffer.Closed = refl
+user_free false link_buffer.Written = refl
+user_free false link_buffer.Closed = refl
+
+writer_free : (l : LinkBuffer) → writer_holds_tail l (writer_step.Advance advance_step.LoadTail) ≡ false
+writer_free link_buffer.Written = refl
+writer_free link_buffer.Closed = refl
+
+closer_free : (l : LinkBuffer) → closer_holds_tail l (closer_step.Advance advance_step.LoadTail) ≡ false
+closer_free link_buffer.Written = refl
+closer_free link_buffer.Closed = refl
+
+fresh_tail : (c : Setup) (seat_of : ℕ → ℕ) (writer n : ℕ) (a : model.Actor) → StartActor c seat_of writer n a → (l : LinkBuffer) → holds_tail l a ≡ false
+fresh_tail c seat_of writer n (model.User u) is l = ap (λ (z : UserState). user_holds_tail l z.step) is.1.is ∙ user_free (length (c.script u.user) == 0) l
+fresh_tail c seat_of writer n (model.Writer s) is l = ap (λ (z : WriterState). writer_holds_tail l z.step) is.1 ∙ writer_free l
+fresh_tail c seat_of writer n (model.Closer t) is l = ap (λ (z : CloserState). closer_holds_tail l z.step) is.1 ∙ closer_free l
+fresh_tail c seat_of writer n (model.Flusher t) is l = refl
+fresh_tail c seat_of writer n (model.Cleaner v) is l = refl
+fresh_tail c seat_of writer n (model.Checkpointer t) is l = refl
+fresh_tail c seat_of writer n (model.Joined es) is l = refl
 
 -- what is known of the data part
 abbrev pub part_or : {D : Type 0} → store.Part D → Option (Keeping D) → store.Part D
@@ -79,15 +108,19 @@ module _ {L D : Type 0} where
 
 module _ {L D : Type 0} (log_seen : L → Seen) (data_seen : D → Seen) (about : About L D) (start : Beginning L D)
     (B : BeginsRun log_seen data_seen about.opened.value about.script.value about.log_only start) (actors : ◌≡◌ {A = List Actor} about.actors.value.items start.actors.items) where
-  pub fresh : (n : ℕ) (a : Actor) → get_elem? start.actors.items n ≡ maybe.some a → hand (view_of a) ≡ None
-  fresh n a at = fresh_hand B.run.setup B.at_start.seat_of B.at_start.writer n (view_of a) (B.at_start.starts.each n (view_of a) (at_map view_of start.actors.items n a at))
+  pub fresh : (n : ℕ) (a : Actor) → get_elem? start.actors.items n ≡ maybe.some a → HoldsNothing (view_of a)
+  fresh n a at =
+      let is = B.at_start.starts.each n (view_of a) (at_map view_of start.actors.items n a at) in record {
+        no_slot = fresh_hand B.run.setup B.at_start.seat_of B.at_start.writer n (view_of a) is;
+        no_tail = fresh_tail B.run.setup B.at_start.seat_of B.at_start.writer n (view_of a) is;
+      }
 
   pub there : (i : ℕ) (x : Numbered) → get_elem? (first_view about).seats i ≡ maybe.some x → get_elem? start.actors.items x.number ≡ maybe.some x.actor
   there i x e = let n = numbered_at 0 about.actors.value.items i x e in ap (get_elem? start.actors.items) (let k = n.0 in let z : x.number ≡ i = omega arith in z) ∙ ap (λ (l : List Actor). get_elem? l i) (sym actors) ∙ n.1
 
 module _ {L D : Type 0} (log_seen : L → Seen) (log_gives : L → Call → L → Type 0) (data_seen : D → Seen) (data_gives : D → Call → D → Type 0) (about : About L D) (start : Beginning L D)
     (B : BeginsRun log_seen data_seen about.opened.value about.script.value about.log_only start) (are : AreLists start.parts.lists) (actors : ◌≡◌ {A = List Actor} about.actors.value.items start.actors.items) where
-  abbrev fresh_one : (n : ℕ) (a : Actor) → get_elem? start.actors.items n ≡ maybe.some a → hand (view_of a) ≡ None
+  abbrev fresh_one : (n : ℕ) (a : Actor) → get_elem? start.actors.items n ≡ maybe.some a → HoldsNothing (view_of a)
   fresh_one n a at = fresh log_seen data_seen about start B actors n a at
 
   abbrev there_one : (i : ℕ) (x : Numbered) → get_elem? (first_view about).seats i ≡ maybe.some x → get_elem? start.actors.items x.number ≡ maybe.some x.actor
@@ -98,7 +131,7 @@ module _ {L D : Type 0} (log_seen : L → Seen) (log_gives : L → Call → L �
     pages = λ i x e. ap (λ (z : Shape). z.pages) (sym B.is_run.shape) ∙ B.runs.its_pages ∙ sym B.runs.word_pages;
     mine = λ i x e. (refl, there_one i x e);
     free = λ i x e _. fresh_one x.number x.actor (there_one i x e);
-    held = λ i x k e h. let z = fresh_one x.number x.actor (there_one i x e) in absurd (cc);
+    held = λ i x k e h. let z = (fresh_one x.number x.actor (there_one i x e)).no_slot in absurd (cc);
     data_part = λ d e. (refl, sym (ap (λ (o : Option (Keeping D)). part_or about.opened.value.store o) e) ∙ sym B.data_part, ap (λ (o : Option (Keeping D)). is_out o) e);
   }
 

@@ -1,8 +1,9 @@
 -- The marks and the code that a run leaves, by the watermarks that hold at its end.
-use Rattle.std.proofs.Common.{List, ap, arith, inl, inr, subst, sym, ℕ, ⊎_elim, ◌<◌, ◌∙◌, ◌≡◌, ◌⊎◌}
+use Rattle.std.proofs.Common.{List, ap, arith, inl, inr, subst, sym, ℕ, ⊎_elim, ◌<◌, ◌∙◌, ◌≡◌, ◌≤◌, ◌⊎◌}
 use Rattle.std.specs.Prelude.{slice_index}
 use lib.ListN.{get_elem?}
 use mathlib.Core.Option as maybe
+use Rattle.model_core.proofs.Lsns.{lsn_le}
 use Rattle.model_core.specs.{index, SharedWords}
 use Rattle.model_core.specs.Actors as model
 use Rattle.model_core.specs.declared.words.Word.TheVariants as word
@@ -24,8 +25,8 @@ use Rattle.redo_drive.specs.Turning.{core_of}
 use Rattle.redo_drive.specs.Views.{view_of, views_of}
 use Rattle.redo_drive.specs.declared.actor.Actor.{Actor}
 use Rattle.redo_drive.specs.declared.parts.Parts.{Parts}
-use Rattle.redo_pageactors.specs.declared.closed.Closed.{Closed}
-use Rattle.redo_pageactors.specs.declared.opened.Opened.{Opened}
+use Rattle.redo_drive.specs.declared.closed.Closed.{Closed}
+use Rattle.redo_store.specs.declared.opened.Opened.{Opened}
 use Rattle.redo_rule.proofs.Kept.{laws_of_data, laws_of_log}
 use Rattle.redo_rule.proofs.Retook.{at_map}
 use Rattle.redo_rule.proofs.Failing.{caused}
@@ -44,7 +45,11 @@ module _ {L D : Type 0} (log_seen : L → Seen) (data_seen : D → Seen) (run : 
 
   within_words : (i : ℕ) (a : model.Actor) → get_elem? (views_of actors) i ≡ maybe.some a → IsWithin (word_marks m) a
   within_words i (model.User u) at = let l = has_marks.2.of_log.marks_are_ordered.loaded i (model.User u) at in (l.wtail_below, l.write_below, l.flushed_below, l.ckpt_below)
-  within_words i (model.Writer s) at = has_marks.2.of_log.marks_are_ordered.loaded i (model.Writer s) at
+  within_words i (model.Writer s) at =
+      let O = has_marks.2.of_log.marks_are_ordered in
+      let l = O.loaded i (model.Writer s) at in
+      let goes_on : s.tail ≤ m.wtail = let below = lsn_le has_marks.2.of_log.target has_marks.2.of_log.wtail O.target_wtail in let is = (O.writer i s at).0 in let word_is = O.wtail_is in omega arith in
+      (goes_on, l.0, l.1)
   within_words i (model.Flusher f) at = has_marks.2.of_log.marks_are_ordered.loaded i (model.Flusher f) at
   within_words i (model.Closer t) at = tt
   within_words i (model.Cleaner v) at = has_marks.2.kept_pages_are_prefixes.cleaner_loaded i v at

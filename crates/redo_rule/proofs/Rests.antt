@@ -1,5 +1,5 @@
 -- An actor that asks for nothing stays as it is.
-use Rattle.std.proofs.Common.{Bool, ap, cond, false, refl, true, ℕ, ◌-◌, ◌≡◌}
+use Rattle.std.proofs.Common.{Bool, ap, cond, false, refl, true, ℕ, ◌≡◌}
 use Rattle.model_core.specs.{Actor, checkpointer_checked, checkpointer_op, checkpointer_took, CheckpointerState, cleaner_checked, cleaner_op, cleaner_took, CleanerState, closer_checked, closer_op, closer_took, CloserState, flusher_checked, flusher_op, flusher_took, FlusherState, heard, next, old_of, took, user_checked, user_op, user_took, UserState, writer_checked, writer_op, writer_took, WriterState}
 use Rattle.model_core.specs.Actors as actor
 use Rattle.model_core.specs.declared.ops.Answer.{Answer}
@@ -18,6 +18,8 @@ use Rattle.model_core.specs.declared.steps.UserStep.{UserStep}
 use Rattle.model_core.specs.declared.steps.UserStep.TheVariants as user_step
 use Rattle.model_core.specs.declared.steps.WriterStep.{WriterStep}
 use Rattle.model_core.specs.declared.steps.WriterStep.TheVariants as writer_step
+use Rattle.model_core.specs.declared.words.LinkBuffer.TheVariants as link_buffer
+use Rattle.redo_rule.proofs.Words.{advance_asks}
 
 -- an actor whose Op is Rest stays as it is
 user_rests : (u : UserState) (n : ℕ) (f : UserStep) → user_op u f ≡ op.Rest → ◌≡◌ {A = UserState} (user_took u n f) u
@@ -29,8 +31,12 @@ user_rests u n user_step.LoadWrite rest = absurd (cc)
 user_rests u n user_step.AddCell rest = absurd (cc)
 user_rests u n user_step.StoreFirst rest = absurd (cc)
 user_rests u n user_step.LoadWtail rest = absurd (cc)
+user_rests u n (user_step.AdvanceWritten s) rest = absurd (advance_asks link_buffer.Written u.advance s op.Rest rest)
+user_rests u n user_step.ReloadWtail rest = absurd (cc)
 user_rests u n user_step.StoreLink rest = absurd (cc)
 user_rests u n user_step.LoadCtail rest = absurd (cc)
+user_rests u n (user_step.AdvanceClosed s) rest = absurd (advance_asks link_buffer.Closed u.advance s op.Rest rest)
+user_rests u n user_step.ReloadCtail rest = absurd (cc)
 user_rests u n user_step.LoadFrame rest = absurd (cc)
 user_rests u n user_step.StoreFrame rest = absurd (cc)
 user_rests u n user_step.StoreNewest rest = absurd (cc)
@@ -45,9 +51,7 @@ user_rests u n user_step.Done rest = refl
 user_rests u n user_step.Failed rest = refl
 
 writer_rests : (s : WriterState) (r : Answer) (f : WriterStep) → writer_op s f ≡ op.Rest → ◌≡◌ {A = WriterState} (writer_took s r f) s
-writer_rests s r writer_step.LoadLink rest = absurd (cc)
-writer_rests s r writer_step.ClearLink rest = absurd (cc)
-writer_rests s r writer_step.StoreWtail rest = absurd (cc)
+writer_rests s r (writer_step.Advance v) rest = absurd (advance_asks link_buffer.Written s.advance v op.Rest rest)
 writer_rests s r writer_step.LoadCheckpoint rest = absurd (cc)
 writer_rests s r writer_step.LoadFirst rest = absurd (cc)
 writer_rests s r writer_step.ClearFirst rest = absurd (cc)
@@ -74,9 +78,7 @@ flusher_rests t r flusher_step.GiveFailed rest = absurd (cc)
 flusher_rests t r flusher_step.Failed rest = refl
 
 closer_rests : (t : CloserState) (r : Answer) (f : CloserStep) → closer_op t f ≡ op.Rest → ◌≡◌ {A = CloserState} (closer_took t r f) t
-closer_rests t r closer_step.LoadClosedLink rest = absurd (cc)
-closer_rests t r closer_step.ClearClosedLink rest = absurd (cc)
-closer_rests t r closer_step.StoreCtail rest = absurd (cc)
+closer_rests t r (closer_step.Advance v) rest = absurd (advance_asks link_buffer.Closed t.advance v op.Rest rest)
 closer_rests t r closer_step.Failed rest = refl
 
 cleaner_rests : (v : CleanerState) (r : Answer) (f : CleanerStep) → cleaner_op v f ≡ op.Rest → ◌≡◌ {A = CleanerState} (cleaner_took v r f) v

@@ -134,7 +134,7 @@ module _ {L D : Type 0} (log_seen : L → Seen) (log_gives : L → Call → L �
             (λ t. let m = N.mine t.0 y t.1 in (moved (R.seat_of y.number) m.0, m.1))
             (λ t. let m = K.mine t.0 y t.1 in (stays (R.seat_of y.number) (λ z. ne (sym z ∙ m.0)) ∙ m.0, m.1)) (in_both w.seats v.seats i y e);
         free = λ i y e. ⊎_elim (λ t. N.free t.0 y t.1) (λ t. K.free t.0 y t.1) (in_both w.seats v.seats i y e);
-        held = λ i y k e h. ⊎_elim (λ t. let z = free_w t.0 y t.1 in absurd (cc)) (λ t. let z = free_v t.0 y t.1 in absurd (cc)) (in_both w.seats v.seats i y e);
+        held = λ i y k e h. ⊎_elim (λ t. let z = (free_w t.0 y t.1).no_slot in absurd (cc)) (λ t. let z = (free_v t.0 y t.1).no_slot in absurd (cc)) (in_both w.seats v.seats i y e);
         data_part = λ d e. ⊎_elim
             (λ t. let m = K.data_part d t in (stays R.keeper (λ z. ne (sym z ∙ m.0)) ∙ m.0, m.1, m.2))
             (λ t. let m = N.data_part d t in (moved R.keeper m.0, m.1, m.2)) (first_is v.data_part w.data_part d e);

@@ -86,7 +86,7 @@ module _ {L D : Type 0} (table : TableId) (seat : Seat (Slot L D) (View L D)) (a
   pub log_is : (h : hand a ≡ Some 0) (y : Slot L D) → seat.me.1 ≡ (0, y) ∷ rest seat.me.1 → ◌≡◌ {A = Slot L D} y (slot.Log (carried_log (next a) refl h).0)
   log_is h y e = let c = carried_log (next a) refl h in sym (ap (λ (z : List (ℕ × Slot L D)). (get_or z 0 (0, y)).1) e) ∙ ap (λ (z : List (ℕ × Slot L D)). (get_or z 0 (0, y)).1) c.1
 
-  -- nothing is carried behind a giving
+  -- nothing is carried after a giving
   pub gave_carries : (o : Op) (k : ℕ) (y : Slot L D) → hand (took a (answer.Taken None)) ≡ None → seat.me.1 ≡ (k, y) ∷ [] → Carries (hand (took a (answer.Taken None))) (record { pages = seat.me.0.pages; seats = behind mine.who (answer.Taken None) ∷ []; held = None; data_part = seat.me.0.data_part }, rest seat.me.1)
   gave_carries o k y none carried = subst (λ (z : Option ℕ). Carries z (record { pages = seat.me.0.pages; seats = behind mine.who (answer.Taken None) ∷ []; held = None; data_part = seat.me.0.data_part }, rest seat.me.1)) (sym none) (ap rest carried)
 

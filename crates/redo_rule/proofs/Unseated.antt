@@ -17,7 +17,7 @@ use Rattle.redo_drive.specs.Begins.{BeginsRun}
 use Rattle.redo_drive.specs.Views.{view_of, views_of}
 use Rattle.redo_drive.specs.declared.actor.Actor.{Actor}
 use Rattle.redo_drive.specs.declared.making.Beginning.{Beginning}
-use Rattle.redo_pageactors.specs.declared.opened.Opened.{Opened}
+use Rattle.redo_store.specs.declared.opened.Opened.{Opened}
 use Rattle.redo_rule.proofs.Opens as opens
 use Rattle.redo_rule.proofs.Retook.{at_map}
 use Rattle.redo_rule.specs.Cutting.{IsFirst}

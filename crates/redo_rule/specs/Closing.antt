@@ -11,7 +11,7 @@ use Rattle.model_script.specs.declared.script.ScriptLine.{ScriptLine}
 use Rattle.redo_disk.specs.{Call}
 use Rattle.redo_disk.specs.Seen.{Seen}
 use Rattle.redo_drive.specs.Calls.{CallsOn}
-use Rattle.redo_drive.specs.Drive.{ComesToRun, HoldsRun, IsOwed, IsOwedSynced}
+use Rattle.redo_drive.specs.Drive.{ComesToRun, HoldsRun, IsOwedSynced}
 use Rattle.redo_drive.specs.Playing.{RunOf}
 use Rattle.redo_drive.specs.Running.{RunsOn}
 use Rattle.redo_drive.specs.Views.{view_of, views_of}
@@ -19,8 +19,8 @@ use Rattle.redo_drive.specs.declared.actor.Actor.{Actor}
 use Rattle.redo_drive.specs.declared.drive.Driven.{Driven}
 use Rattle.redo_drive.specs.declared.parts.Parts.{Parts}
 use Rattle.redo_drive.specs.declared.drive.RunEnd.TheVariants as ended
-use Rattle.redo_pageactors.specs.declared.closed.Closed.{Closed}
-use Rattle.redo_pageactors.specs.declared.opened.Opened.{Opened}
+use Rattle.redo_drive.specs.declared.closed.Closed.{Closed}
+use Rattle.redo_store.specs.declared.opened.Opened.{Opened}
 use Rattle.redo_rule.specs.Cutting.{HoldNothing, IsFirst}
 use Rattle.redo_rule.specs.Ruled.{IsRunAbout, numbered}
 use Rattle.redo_rule.specs.Seating.{HasPart, IsCleaner}
@@ -62,5 +62,4 @@ module _ {L D : Type 0} (log_seen : L → Seen) (log_gives : L → Call → L �
   pub record IsOwedRun (opened : Opened L D) (script : List ScriptLine) (actors : List Actor) (closed : Closed L D) : Type 0 where
     pub holds : HoldsRun log_seen data_seen opened script (done_with closed)
     pub comes_to : HaveEnded (views_of actors) → ComesToRun log_gives data_gives opened script (done_with closed)
-    pub owed : HaveEnded (views_of actors) → IsOwed log_seen data_seen opened script (done_with closed)
     pub owed_synced : HaveEnded (views_of actors) → IsOwedSynced log_seen data_seen opened script (done_with closed)

@@ -7,7 +7,7 @@ use Rattle.atomic_table.specs.declared.shared.Seat.{Seat}
 use Rattle.model_core.specs.{word_count}
 use Rattle.redo_drive.specs.Views.{view_of}
 use Rattle.redo_drive.specs.declared.actor.Actor.{Actor}
-use Rattle.redo_rule.specs.Hands.{hand, IsFreeToCheck}
+use Rattle.redo_rule.specs.Hands.{HoldsNothing, IsFreeToCheck}
 use Rattle.redo_rule.specs.declared.law.Keeping.{Keeping}
 use Rattle.redo_rule.specs.declared.law.Numbered.{Numbered}
 use Rattle.redo_rule.specs.declared.law.Slot.{Slot}
@@ -19,10 +19,10 @@ IsApart n l = (i : ℕ) (y : Numbered) → get_elem? l i ≡ some y → y.number
 
 -- nothing is held by any of these
 abbrev pub AreAtRest : List Numbered → Type 0
-AreAtRest l = (i : ℕ) (y : Numbered) → get_elem? l i ≡ some y → hand (view_of y.actor) ≡ None
+AreAtRest l = (i : ℕ) (y : Numbered) → get_elem? l i ≡ some y → HoldsNothing (view_of y.actor)
 
 abbrev pub HoldNothing : List Actor → Type 0
-HoldNothing actors = (i : ℕ) (a : Actor) → get_elem? actors i ≡ some a → hand (view_of a) ≡ None
+HoldNothing actors = (i : ℕ) (a : Actor) → get_elem? actors i ≡ some a → HoldsNothing (view_of a)
 
 -- each of these is free wherever it checks for a failure
 abbrev pub AreFreeToCheck : List Actor → Type 0

@@ -1,6 +1,6 @@
 -- Which slot an actor holds: slot 0 has the log part, and slot suc i the flush list i.
-use Rattle.std.specs.Prelude.{None, Option, Some, suc, true, ℕ, ◌%◌, ◌≡◌}
-use Rattle.model_core.specs.{Actor, CheckpointerState, CleanerState, first_of_batch, is_checking, page_of, UserState}
+use Rattle.std.specs.Prelude.{None, Option, Some, false, suc, true, ℕ, ◌%◌, ◌≡◌}
+use Rattle.model_core.specs.{Actor, CheckpointerState, CleanerState, first_of_batch, holds_tail, is_checking, page_of, UserState}
 use Rattle.model_core.specs.Actors as actor
 use Rattle.model_core.specs.declared.limits.TheConstants.{FLUSH_LISTS}
 use Rattle.model_core.specs.declared.ops.Answer.{Answer}
@@ -17,6 +17,8 @@ use Rattle.model_core.specs.declared.steps.UserStep.{UserStep}
 use Rattle.model_core.specs.declared.steps.UserStep.TheVariants as user_step
 use Rattle.model_core.specs.declared.steps.WriterStep.{WriterStep}
 use Rattle.model_core.specs.declared.steps.WriterStep.TheVariants as writer_step
+use Rattle.model_core.specs.declared.words.LinkBuffer.{LinkBuffer}
+use Rattle.model_core.specs.declared.words.Word.TheVariants as word
 
 abbrev pub user_hand : UserState → UserStep → Option ℕ
 user_hand u user_step.StoreOldest = Some (suc (page_of u % FLUSH_LISTS))
@@ -66,11 +68,16 @@ hand (actor.Cleaner v) = cleaner_hand v v.step
 hand (actor.Checkpointer t) = checkpointer_hand t t.step
 hand (actor.Joined es) = None
 
+-- an actor holds no slot, and the tail of no link buffer
+pub record HoldsNothing (a : Actor) : Type 0 where
+  pub no_slot : hand a ≡ None
+  pub no_tail : (b : LinkBuffer) → holds_tail b a ≡ false
+
 -- who checks for a failure holds nothing
 abbrev pub IsFreeToCheck : Actor → Type 0
-IsFreeToCheck a = is_checking a ≡ true → hand a ≡ None
+IsFreeToCheck a = is_checking a ≡ true → HoldsNothing a
 
--- what an Op does with what its actor holds, which is `before`, and behind an answer `behind` of it
+-- what an Op does with what its actor holds, which is `before`, and after an answer `behind` of it
 abbrev pub Handles : Op → Option ℕ → (Answer → Option ℕ) → Type 0
 Handles op.TakeDevice before behind = (before ≡ None) × ((n : Option ℕ) → behind (answer.Taken n) ≡ Some 0) × (behind answer.Broken ≡ Some 0) × (behind answer.Held ≡ None)
 Handles op.GiveDevice before behind = (before ≡ Some 0) × (behind (answer.Taken None) ≡ None)
@@ -85,8 +92,10 @@ Handles op.WriteBatch before behind = (before ≡ None) × ((r : Answer) → beh
 Handles op.Rest before behind = Unit {0}
 Handles _ before behind = (n : ℕ) → behind (answer.Old n) ≡ before
 
--- an Op for which its actor holds nothing
+-- an Op for which its actor holds nothing: links are loaded by whoever holds their tail
 abbrev pub IsFreeOp : Op → Type 0
+IsFreeOp (op.Load (word.Wlink i)) = ⊥
+IsFreeOp (op.Load (word.Clink i)) = ⊥
 IsFreeOp (op.Store w x) = ⊥
 IsFreeOp (op.Add w x) = ⊥
 IsFreeOp (op.Swap w x y) = ⊥

@@ -134,7 +134,7 @@ module _ {L D : Type 0} (log_seen : L → Seen) (data_seen : D → Seen) where
     pub after : List Actor
     pub runs_on : RunsOn log_seen data_seen run new after
     pub at : get_elem? (views_of actors) number ≡ some a
-    -- where it gives the log part back behind a failed call, its code is one that the part has
+    -- where it gives the log part back after a failed call, its code is one that the part has
     pub told : (code : ℕ) → GivesFailed a code → (log_of log_seen data_seen run).Cause old.log code
     pub turn : Turn (log_of log_seen data_seen run) (data_of log_seen data_seen run) (core_of log_seen data_seen run old actors) number r (step_of a r) (core_of log_seen data_seen run new after)
 

@@ -7,12 +7,12 @@ use Rattle.model_report.specs.declared.entry.Marks.{Marks}
 use Rattle.model_logcore.specs.{HasMetFailure}
 use Rattle.redo_drive.specs.Views.{view_of}
 use Rattle.redo_drive.specs.declared.actor.Actor.{Actor}
-use Rattle.redo_pageactors.specs.declared.closed.Closed.{Closed}
+use Rattle.redo_drive.specs.declared.closed.Closed.{Closed}
 
 -- each mark that an actor has loaded last, and its own that it has stored last, is at most the one that is left
 abbrev pub IsWithin : Marks → model.Actor → Type 0
 IsWithin m (model.User u) = (u.loaded.wtail ≤ m.wtail) × (u.loaded.write ≤ m.write) × (u.loaded.flushed ≤ m.flushed) × (u.loaded.ckpt ≤ m.ckpt)
-IsWithin m (model.Writer s) = (s.write ≤ m.write) × (s.ckpt ≤ m.ckpt)
+IsWithin m (model.Writer s) = (s.tail ≤ m.wtail) × (s.write ≤ m.write) × (s.ckpt ≤ m.ckpt)
 IsWithin m (model.Flusher f) = (f.write ≤ m.write) × (f.last ≤ m.flushed)
 IsWithin m (model.Cleaner v) = v.flushed ≤ m.flushed
 IsWithin m (model.Checkpointer t) = (t.flushed ≤ m.flushed) × (t.own ≤ m.ckpt)

@@ -83,7 +83,7 @@ pub record Ruled {L D : Type 0} (log_seen : L → Seen) (log_gives : L → Call 
   -- what isn't held is at home
   pub slots : length s.homes ≡ 6
   pub home : (k : ℕ) → k < 5 → slice_index s.words (7 + k) ≡ 0 → get_elem? s.homes k ≡ some (some (content_at parts k))
-  -- who gives the log part back behind a failed call has a code that the part has
+  -- who gives the log part back after a failed call has a code that the part has
   pub told : (n : ℕ) (a : Actor) (code : ℕ) → get_elem? actors n ≡ some a → GivesFailed (view_of a) code → (log_of log_seen data_seen run).Cause parts.log code
   -- a turn word that isn't 0 has an actor that holds it
   pub taken : (k : ℕ) → k < 5 → slice_index s.words (7 + k) ≢ 0 → HasHolder actors k

@@ -10,7 +10,7 @@ use Rattle.redo_drive.specs.Beginning.{MayBegin}
 use Rattle.redo_drive.specs.Lists.{listing_at, Listings}
 use Rattle.redo_drive.specs.Views.{view_of}
 use Rattle.redo_drive.specs.declared.actor.Actor.{Actor}
-use Rattle.redo_pageactors.specs.declared.opened.Opened.{Opened}
+use Rattle.redo_store.specs.declared.opened.Opened.{Opened}
 use Rattle.redo_rule.specs.Cutting.{IsFirst}
 use Rattle.redo_rule.specs.Gathering.{HasOneCleaner}
 use Rattle.redo_rule.specs.Mine.{number_of}

@@ -1,4 +1,4 @@
-// A store behind its run.
+// A store after its run.
 ghost use Rattle.std.specs.Prelude.{◌<◌, ◌≡◌, length, slice_index};
 ghost use Rattle.std.specs.Slots.{IsFull, slots_items, slots_len};
 ghost use Rattle.model_core.specs.{index};
@@ -17,9 +17,9 @@ use crate::slots::{data_in, drop_list, log_in};
 use atomic_table::Closed as ClosedTable;
 use model_report::Marks;
 use redo_disk::Sectors;
-use redo_drive::{Actor, history_of};
+use redo_drive::{Actor, Closed, history_of};
+use redo_link::tail_of;
 use redo_logdev::LogPart;
-use redo_pageactors::Closed;
 use redo_store::DataPart;
 use redo_words::{Word, number_of};
 use std::alloc::Global;
@@ -53,7 +53,7 @@ fn close_table<L: Sectors, D: Sectors>(
     let _ = actors;
     let mut closed = board.close_with(first);
     let marks = Marks {
-        wtail: word_in(&closed, Word::Wtail),
+        wtail: tail_of(word_in(&closed, Word::Wtail)),
         write: word_in(&closed, Word::Write),
         flushed: word_in(&closed, Word::Flushed),
         ckpt: word_in(&closed, Word::Ckpt),
@@ -79,8 +79,8 @@ fn close_table<L: Sectors, D: Sectors>(
 }
 
 impl<L: Sectors, D: Sectors> Shared<L, D> {
-    /// What the run leaves, given the seats of all actors, none of which holds a turn: its history, its marks, both parts, and
-    /// the code in FAILED.
+    /// What the run leaves, given the seats of all actors, none of which holds a turn or a tail: its history, its marks, both
+    /// parts, and the code in FAILED.
     pub fn finish(self, seats: Vec<Seat<L, D>>, actors: &[Actor]) -> Closed<L, D>
         requires seated { IsSeated self }
         requires seats { AreSeatsOf (table_of self) seats.items actors.now }

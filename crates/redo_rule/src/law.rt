@@ -5,8 +5,7 @@ use redo_disk::Sectors;
 use redo_drive::Actor;
 use redo_flushlist::FlushList;
 use redo_logdev::LogPart;
-use redo_pageactors::Opened;
-use redo_store::DataPart;
+use redo_store::{DataPart, Opened};
 use std::collections::LinkedList;
 use std::snapshot::Snapshot;
 

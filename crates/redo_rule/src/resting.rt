@@ -1,19 +1,21 @@
 // Whether actors hold anything. One that has a seat is free wherever it checks for a failure.
-ghost use Rattle.std.specs.Prelude.{None, false, true, ◌≡◌};
+ghost use Rattle.std.specs.Prelude.{false, true, ◌≡◌};
 ghost use Rattle.model_core.specs.{next};
 ghost use Rattle.redo_drive.specs.Views.{view_of};
 ghost use Rattle.redo_rule.specs.Cutting.{AreFreeToCheck, HoldNothing};
-ghost use Rattle.redo_rule.specs.Hands.{hand, IsFreeOp, IsFreeToCheck};
+ghost use Rattle.redo_rule.specs.Hands.{HoldsNothing, IsFreeOp, IsFreeToCheck};
 
 use redo_drive::Actor;
-use redo_words::Op;
+use redo_words::{Op, Word};
 
-/// Whether an actor that asks for this Op surely holds nothing: where it stores it may hold a turn.
+/// Whether an actor that asks for this Op surely holds nothing. Where it stores it may hold a turn, and where it loads a link it
+/// holds the tail.
 fn is_free(op: Op) -> bool
     ensures free { result ≡ true → IsFreeOp op }
     ensures held { IsFreeOp op → result ≡ true }
 {
     match op {
+        Op::Load(Word::Wlink(_) | Word::Clink(_)) => false,
         Op::Load(_)
         | Op::TakeDevice
         | Op::TakeAdd(_, _)
@@ -35,7 +37,7 @@ fn is_free(op: Op) -> bool
 /// Whether an actor surely holds nothing.
 pub fn holds_nothing(actor: &Actor) -> bool
     requires { IsFreeToCheck (view_of actor.now) }
-    ensures nothing { result ≡ true → hand (view_of actor.now) ≡ None }
+    ensures nothing { result ≡ true → HoldsNothing (view_of actor.now) }
     ensures asks { IsFreeOp (next (view_of actor.now)) → result ≡ true }
 {
     is_free(actor.next())

@@ -11,7 +11,7 @@ use model_script::Script;
 use redo_disk::Sectors;
 use redo_drive::{Actor, Beginning, Parts, begin_run};
 use redo_lsn::NoMemory;
-use redo_pageactors::Opened;
+use redo_store::Opened;
 use std::alloc::Global;
 use std::snapshot::Snapshot;
 

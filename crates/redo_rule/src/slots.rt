@@ -52,7 +52,7 @@ pub(crate) fn write_slot<L: Sectors, D: Sectors>(
     }
 }
 
-/// The code of a sync, and the stable mark behind it.
+/// The code of a sync, and the stable mark after it.
 pub(crate) fn sync_slot<L: Sectors, D: Sectors>(slot: &mut Slot<L, D>) -> (u32, u64)
     requires { IsLog slot.old (λ p. p.failed ≡ None) }
     ensures called { IsCalled L.gives slot.old slot.new (λ p q. (faults start : ℕ) (first : log_dev.Part L) (l : model.Lent)

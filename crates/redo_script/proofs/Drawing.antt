@@ -28,7 +28,7 @@ bytes_at_end done n i state over = rw (none_left n i over) (append-nil done)
 
 pub ruleset bytes = (state_after_step, state_after_end, bytes_at_step, bytes_at_end)
 
--- behind the bytes of a string
+-- the state after the bytes of a string
 pub state_after-length : (n state : ℕ) → state_after n (state_after 4 state) ≡ state_after (4 + n) state
 state_after-length n state = let e : 4 + n ≡ suc (suc (suc (suc n))) = omega arith in rw e refl
 

@@ -26,7 +26,7 @@ after_none done text texts is =
 pub after_all : (done : List Item) → after_items done (items_of []) ≡ Some done
 after_all done = ap (λ items. Some items) (append-nil done)
 
--- what stands behind a cut is shorter
+-- what stands after a cut is shorter
 pub left_after-cut : (byte : ℕ) (text front : List ℕ) (behind : Option (Bor (List ℕ))) → IsCut byte text front behind → left_after behind < length text + 1
 left_after-cut byte text front None is = omega arith
 left_after-cut byte text front (Some rest) is =

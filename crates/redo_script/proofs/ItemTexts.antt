@@ -8,7 +8,7 @@ items_text_apart : (first : Item) (others : List Item) → items_text (first ∷
 items_text_apart first [] = sym (append-nil (item_text first))
 items_text_apart first (second ∷ others) = ap (λ rest. item_text first ++ 59 ∷ rest) (items_text_apart second others)
 
--- the first operation, and each other behind a semicolon
+-- the first operation, and each other after a semicolon
 pub items_text_joined : (done : List ℕ) (first : Item) (others : List Item) → done ++ items_text (first ∷ others) ≡ (done ++ item_text first) ++ flat_map (λ item. 59 ∷ item_text item) others
 items_text_joined done first others =
     ap (λ text. done ++ text) (items_text_apart first others) ∙ sym (append_assoc done (item_text first) (flat_map (λ item. 59 ∷ item_text item) others))

@@ -43,7 +43,7 @@ none-more f xs i x none below is fits =
     let next : suc i ≡ i + 1 = omega arith in
     subst (λ n. first_misfit_of (map f (take n xs)) ≡ None) next (none-next f xs i x none below is fits)
 
--- what is judged behind others
+-- what is judged after others
 pub some-append : (firsts others : List (Option Misfit)) (misfit : Misfit) → first_misfit_of firsts ≡ Some misfit → first_misfit_of (firsts ++ others) ≡ Some misfit
 some-append [] others misfit some = absurd (cc)
 some-append (None ∷ firsts) others misfit some = some-append firsts others misfit some

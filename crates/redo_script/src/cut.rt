@@ -9,7 +9,7 @@ fn place_of(text: &[u8], separator: u8) -> Option<usize>
     text.iter().position(|byte| *byte == separator)
 }
 
-// The text up to the first such byte, and what stands behind that, if there is one.
+// The text up to the first such byte, and what stands after that, if there is one.
 #[tactic(auto, using(crate::proofs::Cutting::cuts))]
 pub fn cut(text: &[u8], separator: u8) -> (&[u8], Option<&[u8]>)
     ensures cut { IsCut separator text.now result.0.now result.1 }

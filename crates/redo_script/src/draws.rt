@@ -7,7 +7,7 @@ use std::marker::Model;
 /// The modulus of the generator's states.
 const MODULUS: u64 = 1 << 31;
 
-/// The draws of a seed, in order. Contracts see the state behind the last draw.
+/// The draws of a seed, in order. Contracts see the state after the last draw.
 #[derive(Debug, Drop)]
 pub struct Draws {
     state: u32,

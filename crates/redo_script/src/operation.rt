@@ -124,7 +124,7 @@ fn write_item(
     Ok(number_item(width, page, offset, value))
 }
 
-// The operation that writes, whose words behind the page these are.
+// The operation that writes, whose words after the page these are.
 #[tactic(auto, using(crate::proofs::WordLemmas::other_words))]
 fn read_write(
     alloc: Global,

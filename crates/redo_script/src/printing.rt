@@ -66,7 +66,7 @@ fn push_item(alloc: Global, text: &mut String, item: &Item) -> Result<(), AllocE
     }
 }
 
-// Each operation behind a semicolon.
+// Each operation after a semicolon.
 fn push_others(alloc: Global, text: &mut String, items: &[Item]) -> Result<(), AllocError>
     ensures { OnOk result
         (string_bytes text.new ≡ string_bytes text.old ++ flat_map (λ item. 59 ∷ item_text item) items.now) }

@@ -7,11 +7,11 @@ use Rattle.model_page.specs.{HasNoCopy, IsBestCopy, slot_bytes}
 use Rattle.redo_disk.specs.{Answer, Call, EndWith, put_requests, Reads, Request, Serve, ToSync, ToWrite}
 use Rattle.redo_disk.specs.declared.error.DevError.{DevError}
 
--- writes in their order, and a sync behind them
+-- writes in their order, and a sync after them
 abbrev pub all_put : List Write → List Request
 all_put writes = map ToWrite writes ++ ToSync ∷ []
 
--- A batch is written: its slots by one write, with a sync, and each page into its place, with a sync behind the last.
+-- A batch is written: its slots by one write, with a sync, and each page into its place, with a sync after the last.
 abbrev pub batch_requests : Shape → List Fresh → List Request
 batch_requests shape batch = put_requests (slots_write shape batch) ++ all_put (place_writes shape batch)
 

@@ -8,8 +8,8 @@ use Rattle.redo_drive.specs.Drive.{Owes}
 use Rattle.redo_drive.specs.Leaving.{LeavesRun}
 use Rattle.redo_drive.specs.Views.{views_of}
 use Rattle.redo_drive.specs.declared.actor.Actor.{Actor}
-use Rattle.redo_pageactors.specs.declared.closed.Closed.{Closed}
-use Rattle.redo_pageactors.specs.declared.opened.Opened.{Opened}
+use Rattle.redo_drive.specs.declared.closed.Closed.{Closed}
+use Rattle.redo_store.specs.declared.opened.Opened.{Opened}
 use Rattle.redo_rule.specs.Closing.{done_with, IsOwedRun}
 use Rattle.redo_rule.specs.Failing.{CodeHasCause}
 use Rattle.redo_threads.proofs.Scripted.{are_of_script}
@@ -21,7 +21,7 @@ module _ {L D : Type 0} (log_seen : L → Seen) (log_gives : L → Call → L �
   pub owes : HaveEnded (views_of actors) → IsOwedRun log_seen log_gives data_seen data_gives known lines actors closed → Owes log_seen log_gives data_seen data_gives opened script (done_with closed)
   owes ended owed = subst (λ (o : Opened L D). Owes log_seen log_gives data_seen data_gives o script (done_with closed)) opened_is
       (subst (λ (s : List ScriptLine). Owes log_seen log_gives data_seen data_gives known s (done_with closed)) script_is
-      (record { comes_to = owed.comes_to ended; holds = owed.holds; owed = owed.owed ended; owed_synced = owed.owed_synced ended }))
+      (record { comes_to = owed.comes_to ended; holds = owed.holds; owed_synced = owed.owed_synced ended }))
 
   pub has_cause : CodeHasCause log_seen data_seen closed.code known.log closed.log known.store closed.store
       → CodeHasCause log_seen data_seen closed.code opened.log closed.log opened.store closed.store

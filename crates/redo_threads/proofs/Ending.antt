@@ -16,8 +16,8 @@ use Rattle.redo_drive.specs.Leaving.{LeavesRun}
 use Rattle.redo_drive.specs.Playing.{log_of}
 use Rattle.redo_drive.specs.Views.{view_of, views_of}
 use Rattle.redo_drive.specs.declared.actor.Actor.{Actor}
-use Rattle.redo_pageactors.specs.declared.closed.Closed.{Closed}
-use Rattle.redo_pageactors.specs.declared.opened.Opened.{Opened}
+use Rattle.redo_drive.specs.declared.closed.Closed.{Closed}
+use Rattle.redo_store.specs.declared.opened.Opened.{Opened}
 use Rattle.model_script.specs.declared.script.ScriptLine.{ScriptLine}
 use Rattle.redo_rule.specs.Cutting.{HoldNothing}
 use Rattle.redo_threads.specs.Ended.{HaveAnswered}

@@ -1,11 +1,13 @@
 -- The same actor, later: what every Op keeps.
 use Rattle.std.proofs.Common.{Bool, List, [], cond, false, length, refl, subst, suc, sym, true, zero, ℕ, ⊎_elim, ◌+◌, ◌<◌, ◌==◌, ◌∙◌, ◌∷◌, ◌≡◌, arith, get_or, set}
 use Rattle.std.specs.List.{AllZip}
-use Rattle.model_core.specs.{after_link, answered, can_close, can_link, cells_of, changes, checkpointer_checked, checkpointer_took, cleaner_checked, cleaner_took, closer_checked, closer_took, flusher_checked, flusher_took, has_passed, has_room, has_space, heard, mode, old_of, to_next_page, took, user_checked, user_took, UserState, with_mark, word_step, writer_checked, writer_took}
+use Rattle.model_core.specs.{after_link, answered, can_close, can_link, changes, checkpointer_checked, checkpointer_took, cleaner_checked, cleaner_took, closer_checked, closer_took, flusher_checked, flusher_took, has_passed, has_room, has_space, heard, mode, old_of, tail_of, to_next_page, took, user_checked, user_took, UserState, with_mark, writer_checked, writer_took}
 use Rattle.model_core.specs.Actors as model
 use Rattle.model_core.specs.Actors.{Actor}
+use Rattle.model_core.specs.UserProgram.{with_close_room, with_link_room, without_close_room, without_link_room}
 use Rattle.model_core.specs.declared.ops.Answer.{Answer}
 use Rattle.model_core.specs.declared.ops.Step.{Step}
+use Rattle.model_core.specs.declared.steps.AdvanceStep.TheVariants as advance_step
 use Rattle.model_core.specs.declared.steps.UserStep.{UserStep}
 use Rattle.model_core.specs.declared.steps.UserStep.TheVariants as user_step
 use Rattle.redo_disk.specs.Seen.{Seen}
@@ -47,9 +49,11 @@ took_keeps : (u : UserState) (n : ℕ) (f : UserStep) → Keeps u (user_took u n
 took_keeps u n user_step.LoadSn = keeps_by u (has_space u n) (record u { page = 0; cell = 0; step = cond (length (changes u) == 0) user_step.Reserve user_step.TakeLatch }) (record u { checks = true; step = user_step.LoadCheckpoint }) (refl, refl) (refl, refl)
 took_keeps u n user_step.TakeLatch = keeps_by u (n == 0) (record u { page = u.page + 1; step = cond (u.page + 1 == length (changes u)) user_step.Reserve user_step.TakeLatch }) (record u { checks = true; step = user_step.TakeLatch }) (refl, refl) (refl, refl)
 took_keeps u n user_step.LoadWrite = keeps_by u (has_room u n) (record u { loaded = record u.loaded { write = n }; step = user_step.AddCell }) (record u { loaded = record u.loaded { write = n }; checks = true; step = user_step.LoadWrite }) (refl, refl) (refl, refl)
-took_keeps u n user_step.LoadWtail = keeps_by u (can_link u n) (record u { loaded = record u.loaded { wtail = n }; step = user_step.StoreLink }) (record u { loaded = record u.loaded { wtail = n }; checks = true; step = user_step.LoadWtail }) (refl, refl) (refl, refl)
+took_keeps u n user_step.LoadWtail = keeps_by u (can_link u (tail_of n)) (with_link_room u n) (without_link_room u n false (user_step.AdvanceWritten advance_step.LoadTail)) (refl, refl) (refl, refl)
+took_keeps u n user_step.ReloadWtail = keeps_by u (can_link u (tail_of n)) (with_link_room u n) (without_link_room u n true user_step.LoadWtail) (refl, refl) (refl, refl)
 took_keeps u n user_step.StoreLink = keeps_by u (length (changes u) == 0) (after_link u) (record u { step = user_step.LoadCtail }) (link_keeps u) (refl, refl)
-took_keeps u n user_step.LoadCtail = keeps_by u (can_close u n) (record u { loaded = record u.loaded { ctail = n }; step = cond (u.cell == length (cells_of u)) user_step.StoreNewest (word_step (cells_of u) u.cell) }) (record u { loaded = record u.loaded { ctail = n }; checks = true; step = user_step.LoadCtail }) (refl, refl) (refl, refl)
+took_keeps u n user_step.LoadCtail = keeps_by u (can_close u (tail_of n)) (with_close_room u n) (without_close_room u n false (user_step.AdvanceClosed advance_step.LoadTail)) (refl, refl) (refl, refl)
+took_keeps u n user_step.ReloadCtail = keeps_by u (can_close u (tail_of n)) (with_close_room u n) (without_close_room u n true user_step.LoadCtail) (refl, refl) (refl, refl)
 took_keeps u n user_step.LoadOldest = keeps_by u (n == 0) (record u { step = user_step.AddToList }) (to_next_page u) (refl, refl) (refl, refl)
 took_keeps u n user_step.ReleaseLatch = keeps_by u (u.page + 1 == length (changes u)) (after_link u) (record u { page = u.page + 1; step = user_step.ReleaseLatch }) (link_keeps u) (refl, refl)
 took_keeps u n user_step.AwaitMark = keeps_by u (has_passed u n) (answered (record u { loaded = with_mark u n })) (record u { loaded = with_mark u n; checks = true; step = user_step.AwaitMark }) (refl, refl) (refl, refl)

@@ -9,7 +9,7 @@ use Rattle.model_running.specs.Schedule.{HaveEnded}
 use Rattle.redo_drive.specs.History.{ListsInOrder}
 use Rattle.redo_drive.specs.Views.{view_of, views_of}
 use Rattle.redo_drive.specs.declared.actor.Actor.{Actor}
-use Rattle.redo_pageactors.specs.declared.closed.Closed.{Closed}
+use Rattle.redo_drive.specs.declared.closed.Closed.{Closed}
 use Rattle.redo_threads.specs.Later.{IsLater}
 
 -- each user has answered all of its lines

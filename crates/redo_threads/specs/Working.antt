@@ -1,5 +1,5 @@
 -- Actors in their seats, and how they go on to their ends.
-use Rattle.std.specs.Prelude.{List, None, vec_capacity, ℕ, ◌≡◌, ◌≤◌}
+use Rattle.std.specs.Prelude.{List, vec_capacity, ℕ, ◌≡◌, ◌≤◌}
 use Rattle.std.specs.List.{AllZip}
 use lib.ListN.{get_elem?}
 use mathlib.Core.Option.{some}
@@ -9,7 +9,7 @@ use Rattle.model_core.specs.Actors as model
 use Rattle.model_running.specs.Schedule.{HasEnded}
 use Rattle.redo_drive.specs.Views.{view_of}
 use Rattle.redo_drive.specs.declared.actor.Actor.{Actor}
-use Rattle.redo_rule.specs.Hands.{hand}
+use Rattle.redo_rule.specs.Hands.{HoldsNothing}
 use Rattle.redo_rule.specs.Mine.{number_of}
 use Rattle.redo_rule.specs.Seating.{IsSeatOf}
 use Rattle.redo_rule.specs.Sharing.{AreSeatsOf}
@@ -25,7 +25,7 @@ IsOver _ = Unit {0}
 
 -- an actor holds nothing, and a user has ended
 pub record AtEnd (a : model.Actor) : Type 0 where
-  pub rests : hand a ≡ None
+  pub rests : HoldsNothing a
   pub over : IsOver a
 
 abbrev pub AreAtEnd : List Actor → Type 0

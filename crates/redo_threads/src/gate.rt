@@ -30,6 +30,8 @@ pub(crate) fn point_after(done: Op, now: Op) -> Option<Point> {
         (Op::Add(Word::Cell(_), _) | Op::Store(Word::First(_), _), Op::Load(Word::Wtail)) => {
             Some(Point::Copied)
         }
+        // an advance stores 0 where it clears a link
+        (Op::Store(Word::Wlink(_) | Word::Clink(_), 0), _) => None,
         (Op::Store(Word::Wlink(_), _), _) => Some(Point::Linked),
         (Op::Store(Word::Clink(_), _), _) => Some(Point::Closed),
         _ => None,

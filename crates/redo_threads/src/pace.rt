@@ -24,8 +24,8 @@ pub(crate) struct Pace {
     waits: u32,
     // nobody wakes the thread: it sleeps until its time is over
     parker: Parker,
-    // the actor waited last, and checks for a failure before it tries again
-    waited: bool,
+    // how many steps the actor has taken since it waited last
+    steps: u64,
 }
 
 impl Pace {
@@ -34,7 +34,7 @@ impl Pace {
             backoff: Backoff::new(),
             waits: 0,
             parker: Parker::new(),
-            waited: false,
+            steps: 0,
         }
     }
 
@@ -57,19 +57,18 @@ impl Pace {
         self.backoff.reset();
     }
 
-    /// Waits after a step, if it ended so that there is something to wait for.
-    pub(crate) fn follow<R: Wait>(&mut self, rt: &R, step: Step) {
+    /// Waits after a step, if it ended so that there is something to wait for: for as short as at first, if the actor has taken more
+    /// steps since it waited last than it takes in vain.
+    pub(crate) fn follow<R: Wait>(&mut self, rt: &R, step: Step, in_vain: u64) {
         match step {
             Step::Idle => {
-                self.waited = true;
-                self.wait(rt);
-            }
-            _ => {
-                if !self.waited {
+                if self.steps > in_vain {
                     self.reset();
                 }
-                self.waited = false;
+                self.steps = 0;
+                self.wait(rt);
             }
+            _ => self.steps = self.steps.saturating_add(1),
         }
     }
 }

@@ -11,8 +11,7 @@ use crate::crew::Crew;
 use crate::gate::Gate;
 use crate::starting::play_all;
 use redo_disk::Sectors;
-use redo_drive::Actor;
-use redo_pageactors::Closed;
+use redo_drive::{Actor, Closed};
 use redo_rule::Shared;
 use std::sync::Wait;
 use std::sync::atomic::AtomicU64;
@@ -32,7 +31,7 @@ fn open_users(actors: &[Actor]) -> u64 {
 }
 
 /// Plays the actors of a store that they share, each in a thread of its own where one can be started, until each user has ended
-/// and no other actor holds a turn. It takes no memory. With what the run leaves it gives the actors back.
+/// and no other actor holds a turn or a tail. It takes no memory. With what the run leaves it gives the actors back.
 pub fn run_threads<R: Threads + Wait + Sync, L: Sectors + Send, D: Sectors + Send, G: Gate>(
     rt: &R,
     mut shared: Shared<L, D>,

@@ -8,6 +8,7 @@ ghost use Rattle.redo_threads.specs.Working.{AtEnd, GoesOn};
 
 use crate::gate::{Gate, point_after};
 use crate::pace::Pace;
+use model_core::{FLUSH_LISTS, FRAME_WORDS};
 use redo_disk::Sectors;
 use redo_drive::Actor;
 use redo_rule::{Ring, Seat, holds_nothing, play};
@@ -91,6 +92,18 @@ pub(crate) fn turn_if_open<L: Sectors, D: Sectors, G: Gate>(
     Some(turn(table, running, gate, seat, actor))
 }
 
+/// How many steps an actor takes at most from one wait to the next where it comes to nothing.
+fn steps_in_vain(actor: &Actor) -> u64 {
+    match actor {
+        // FAILED, a tail loaded twice and taken, and no link
+        Actor::User(_) | Actor::Writer(_) | Actor::Flusher(_) | Actor::Closer(_) => 5,
+        // fewer than it takes to load a page
+        Actor::Cleaner(_) => FRAME_WORDS - 1,
+        // FAILED, CTAIL, and each list taken and given
+        Actor::Checkpointer(_) => 2 + 2 * FLUSH_LISTS,
+    }
+}
+
 /// Plays an actor up to its end.
 pub(crate) fn work<R: Wait, L: Sectors, D: Sectors, G: Gate>(
     rt: &R,
@@ -104,6 +117,7 @@ pub(crate) fn work<R: Wait, L: Sectors, D: Sectors, G: Gate>(
     ensures goes_on { GoesOn table.now.table_id seat.old actor.old seat.new actor.new }
     ensures at_end { AtEnd (view_of actor.new) }
 {
+    let in_vain = steps_in_vain(actor);
     let mut pace = Pace::new();
     let mut moved = false;
     for _ in rt.forever() {
@@ -112,7 +126,7 @@ pub(crate) fn work<R: Wait, L: Sectors, D: Sectors, G: Gate>(
         }
         let step = turn(table, running, gate, seat, actor);
         moved = step == Step::Moved;
-        pace.follow(rt, step);
+        pace.follow(rt, step, in_vain);
     }
     unreachable!()
 }

@@ -222,7 +222,7 @@ cells_in_is p recs word count number w lt is =
     ∙ subst (λ (cells : List CellWrite). cells_in word (cells_before word cells) cells ≡ word_cells p recs word) (sym (cells_are p recs w))
     (ap (λ (n : ℕ). take n (drop (cells_before word (collected (cell_list p recs) 4088)) (collected (cell_list p recs) 4088))) (same_is p recs word lt) ∙ next_cells p recs word lt)
 
--- behind the cells of a word
+-- no cell stands before the first word
 pub none_before : (cells : List CellWrite) → cells_before 0 cells ≡ 0
 none_before [] = refl
 none_before (x ∷ xs) = ap (λ (b : Bool). cond b (suc (cells_before 0 xs)) 0) (le-ltb (x.at / 8) 0 (omega arith))

@@ -1,4 +1,4 @@
--- What the records of a group write, byte by byte, is where a page of zeros and one of ones are alike behind them.
+-- What the records of a group write, byte by byte, is where a page of zeros and one of ones are alike after them.
 use Rattle.std.proofs.Common.{Bool, List, None, Option, Some, [], ap, arith, cond, drop, eq-eqb, eqb, false, get_or, leb, length, length-append, length-drop, ltb, ne_eqb, refl, replicate, subst, suc, sym, take, true, zero, ℕ, ◌&&◌, ◌%◌, ◌++◌, ◌+◌, ◌-◌, ◌/◌, ◌<◌, ◌^◌, ◌∙◌, ◌∷◌, ◌≡◌, ◌≤◌}
 use Rattle.std.proofs.Math.ListN.{get_or-append}
 use Rattle.std.proofs.Math.Nat.{div-one}
@@ -101,7 +101,7 @@ written_byte p (rec ∷ recs) u j d acc w long h is =
     by true own other = own
     by false own other = other
 
--- a page of zeros and one of ones are alike behind them where they write
+-- a page of zeros and one of ones are alike after them where they write
 cell_or_none : (j x y : ℕ) (o : Option ℕ) → x ≡ unwrap_or o 0 → y ≡ unwrap_or o 255 → cond (eqb x y) (let cells : List CellWrite = record { at = 38 + j; value = x } ∷ [] in cells) [] ≡ as_cell (38 + j) o
 cell_or_none j x y None low high =
     ap (λ (b : Bool). cond b (let cells : List CellWrite = record { at = 38 + j; value = x } ∷ [] in cells) []) (ne_eqb x y (λ e. let z : ◌≡◌ {A = ℕ} 0 255 = sym low ∙ e ∙ high in absurd (omega arith)))

@@ -1,19 +1,21 @@
--- On the way from a reservation to its link each Op that doesn't wait brings a user one Op nearer.
+-- On the way from a reservation to its link each Op that doesn't wait brings a user one Op nearer, but where the link lacks
+-- room.
 use Rattle.std.proofs.Common.{Bool, ap, arith, cond, eq-eqb, false, length, min, nat_lt, ne_eqb, refl, subst, sym, true, ℕ, ⊎_elim, ◌+◌, ◌-◌, ◌/◌, ◌<◌, ◌==◌, ◌∙◌, ◌≡◌, ◌≢◌, ◌≤◌}
 use Rattle.std.proofs.lemmas.Bool.{cases_eq}
-use Rattle.model_core.specs.{can_link, changes, checked, copy_place, group_bytes, group_end, has_room, heard, left_in_word, mode, next_count, old_of, own_took, step_of, took, user_took, user_waits, UserState}
+use Rattle.model_core.specs.{advance_next, advance_took, can_link, changes, checked, copy_place, frees, group_bytes, group_end, has_room, heard, left_in_word, loaded_tail, mode, next_count, old_of, own_took, stays_put, step_of, tail_of, took, user_took, user_waits, UserState, with_link_room, without_link_room}
 use Rattle.model_core.specs.Actors as actor
-use Rattle.model_core.specs.Waiting.{ending}
+use Rattle.model_core.specs.Waiting.{ending, opposite}
 use Rattle.model_core.specs.Actors.{Actor}
 use Rattle.model_core.specs.declared.ops.Answer.{Answer}
 use Rattle.model_core.specs.declared.ops.Step.TheVariants as step
 use Rattle.model_core.specs.declared.steps.UserStep.{UserStep}
+use Rattle.model_core.specs.declared.steps.AdvanceStep.TheVariants as advance_step
 use Rattle.model_core.specs.declared.steps.UserStep.TheVariants as user_step
 use Rattle.model_log.specs.declared.layout.TheConstants.{BLOCK_DATA}
 use Rattle.redo_useractor.proofs.WordsSpanned.{last_word, one_word_less}
 use Rattle.redo_useractor.specs.UserView.{IsAt, user_view}
 use Rattle.redo_useractor.specs.declared.actor.UserActor.TheInside.{Inside}
-use Rattle.redo_useractor.specs.ToLink.{first_stores, linking_steps, to_link, to_link_at, words_left, words_spanned}
+use Rattle.redo_useractor.specs.ToLink.{first_stores, lacks_room, lacks_room_at, linking_steps, to_link, to_link_at, words_left, words_spanned}
 
 -- the state once the next bytes are copied
 abbrev copied_to : UserState → UserStep → UserState
@@ -76,22 +78,59 @@ pub has_left : (u : Inside) (s : UserStep) → IsAt u s → HasLeft (user_view u
 has_left u user_step.AddCell at = at.2
 has_left u _ at = tt
 
-nearer_at : (u : UserState) (n : ℕ) (s : UserStep) → HasLeft u s → 0 < to_link_at u s → user_waits u n s ≡ false → to_link_at u s ≡ to_link (user_took u n s) + 1
+-- by how many Ops it is nearer in this state
+abbrev gained : UserState → ℕ
+gained w = cond (lacks_room w) 0 1
+
+copies_gain : (u : UserState) → u.copied < length (group_bytes u) → words_left u + first_stores u + 2 ≡ to_link (user_took u 0 user_step.AddCell) + gained (user_took u 0 user_step.AddCell)
+copies_gain u some = copies u some ∙ ap (λ (b : Bool). to_link (user_took u 0 user_step.AddCell) + cond b 0 1)
+    (sym (by (u.copied + next_count u == length (group_bytes u)) (nat_lt (u.start / BLOCK_DATA) (group_end u / BLOCK_DATA))))
+  where
+    by : (a b : Bool) → lacks_room_at (cond a (cond b user_step.StoreFirst user_step.LoadWtail) user_step.AddCell) ≡ false
+    by true true = refl
+    by true false = refl
+    by false b = refl
+
+nearer_at : (u : UserState) (n : ℕ) (s : UserStep) → HasLeft u s → 0 < to_link_at u s → user_waits u n s ≡ false → to_link_at u s ≡ to_link (user_took u n s) + gained (user_took u n s)
 nearer_at u n user_step.LoadWrite left some goes = by (has_room u n) goes
   where
-    by : (b : Bool) → cond b false true ≡ false → words_left u + first_stores u + 3 ≡ to_link (cond b (record u { loaded = record u.loaded { write = n }; step = user_step.AddCell }) (record u { loaded = record u.loaded { write = n }; checks = true; step = user_step.LoadWrite })) + 1
+    by : (b : Bool) → cond b false true ≡ false → words_left u + first_stores u + 3 ≡ to_link (cond b (record u { loaded = record u.loaded { write = n }; step = user_step.AddCell }) (record u { loaded = record u.loaded { write = n }; checks = true; step = user_step.LoadWrite }))
+        + gained (cond b (record u { loaded = record u.loaded { write = n }; step = user_step.AddCell }) (record u { loaded = record u.loaded { write = n }; checks = true; step = user_step.LoadWrite }))
     by true h = omega arith
     by false h = cc
-nearer_at u n user_step.AddCell left some goes = copies u left
+nearer_at u n user_step.AddCell left some goes = copies_gain u left
 nearer_at u n user_step.StoreFirst left some goes = refl
-nearer_at u n user_step.LoadWtail left some goes = by (can_link u n) goes
+nearer_at u n user_step.LoadWtail left some goes = by (can_link u (tail_of n))
   where
-    by : (b : Bool) → cond b false true ≡ false → 2 ≡ to_link (cond b (record u { loaded = record u.loaded { wtail = n }; step = user_step.StoreLink }) (record u { loaded = record u.loaded { wtail = n }; checks = true; step = user_step.LoadWtail })) + 1
+    lacks : UserState
+    lacks = without_link_room u n false (user_step.AdvanceWritten advance_step.LoadTail)
+
+    by : (b : Bool) → 2 ≡ to_link (cond b (with_link_room u n) lacks) + gained (cond b (with_link_room u n) lacks)
+    by true = refl
+    by false = refl
+nearer_at u n (user_step.AdvanceWritten s) left some goes = by (stays_put u.advance n s) (frees s) goes
+  where
+    on : Bool → Bool → UserState
+    on b f = record u { loaded = record u.loaded { wtail = loaded_tail u.loaded.wtail n s }; advance = advance_took u.advance n s; checks = b; step = cond b user_step.LoadWtail (cond f user_step.ReloadWtail (user_step.AdvanceWritten (advance_next u.advance n s))) }
+
+    by : (b f : Bool) → b ≡ false → 2 ≡ to_link (on b f) + gained (on b f)
+    by true f h = cc
+    by false true h = refl
+    by false false h = refl
+nearer_at u n user_step.ReloadWtail left some goes = by (can_link u (tail_of n)) goes
+  where
+    lacks : UserState
+    lacks = without_link_room u n true user_step.LoadWtail
+
+    by : (b : Bool) → opposite b ≡ false → 2 ≡ to_link (cond b (with_link_room u n) lacks) + gained (cond b (with_link_room u n) lacks)
     by true h = refl
     by false h = cc
 nearer_at u n user_step.StoreLink left some goes = by (length (changes u) == 0) (mode u == 0) (u.k + 1 == length u.lines)
   where
-    by : (a b c : Bool) → 1 ≡ to_link (cond a (cond b (record u { k = u.k + 1; checks = cond c false true; step = cond c user_step.Done user_step.LoadCheckpoint }) (record u { step = user_step.AwaitMark })) (record u { step = user_step.LoadCtail })) + 1
+    after : Bool → Bool → Bool → UserState
+    after a b c = cond a (cond b (record u { k = u.k + 1; checks = cond c false true; step = cond c user_step.Done user_step.LoadCheckpoint }) (record u { step = user_step.AwaitMark })) (record u { step = user_step.LoadCtail })
+
+    by : (a b c : Bool) → 1 ≡ to_link (after a b c) + gained (after a b c)
     by true true true = refl
     by true true false = refl
     by true false c = refl
@@ -111,8 +150,8 @@ module _ (u v : UserState) (a : Answer) (is : ◌≡◌ {A = Actor} (actor.User 
       by true h = absurd (h refl)
       by false h = refl
 
-  pub comes_nearer : HasLeft u u.step → 0 < to_link u → step_of (actor.User u) a ≢ step.Idle → to_link u ≡ to_link v + 1
-  comes_nearer left some moves = nearer_at u (heard a) u.step left some (goes_on moves) ∙ ap (λ (w : UserState). to_link w + 1) (sym state)
+  pub comes_nearer : HasLeft u u.step → 0 < to_link u → step_of (actor.User u) a ≢ step.Idle → to_link u ≡ to_link v + gained v
+  comes_nearer left some moves = nearer_at u (heard a) u.step left some (goes_on moves) ∙ ap (λ (w : UserState). to_link w + gained w) (sym state)
 
   -- right after the reservation it is one Op nearer than all that the group takes
   pub has_reserved : u.step ≡ user_step.Reserve → linking_steps v ≡ to_link v + 1

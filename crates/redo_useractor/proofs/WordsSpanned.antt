@@ -25,7 +25,7 @@ spanned x (suc n) = added (words_spanned x n) (cond (lsn (x + n) / 8 == lsn (x +
 fewer : (first last next : ℕ) → next ≡ first + 1 → next ≤ last → last + 1 - first ≡ last + 1 - next + 1
 fewer first last next is grows = omega arith
 
--- behind the bytes of one word there is one word less
+-- past the bytes of one word there is one word less
 pub one_word_less : (x n m : ℕ) → n ≡ left_in_word x → n < m → words_spanned x (m - 1) ≡ words_spanned (x + n) (m - n - 1) + 1
 one_word_less x n m all few =
     spanned x (m - 1)

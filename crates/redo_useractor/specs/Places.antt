@@ -19,7 +19,7 @@ word_at cells number = (get_or cells number (record { at = 0; value = 0 })).at /
 abbrev pub cells_in : ℕ → ℕ → List CellWrite → List CellWrite
 cells_in q number cells = take (same_word q (drop number cells)) (drop number cells)
 
--- The next changed cell is the one with this number: it lies in this word, with as many others as are counted. Behind the last
+-- The next changed cell is the one with this number: it lies in this word, with as many others as are counted. After the last
 -- one the word is the end.
 pub record IsPlace (cells : List CellWrite) (word count number : ℕ) : Type 0 where
   pub before : number ≡ cells_before word cells

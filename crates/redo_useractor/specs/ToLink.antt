@@ -1,5 +1,5 @@
--- How many Ops a user has to go up to the store of its group's link, where none of them waits.
-use Rattle.std.specs.Prelude.{cond, length, nat_lt, suc, zero, ℕ, ◌%◌, ◌*◌, ◌+◌, ◌-◌, ◌/◌, ◌==◌}
+-- How many Ops a user has to go up to the store of its group's link, where none of them waits and the link has room at once.
+use Rattle.std.specs.Prelude.{Bool, cond, false, length, nat_lt, suc, true, zero, ℕ, ◌%◌, ◌*◌, ◌+◌, ◌-◌, ◌/◌, ◌==◌}
 use Rattle.model_core.specs.{copy_place, group_bytes, group_end, lsn, UserState}
 use Rattle.model_core.specs.declared.limits.TheConstants.{WORD_LANES}
 use Rattle.model_core.specs.declared.steps.UserStep.{UserStep}
@@ -15,7 +15,7 @@ first_stores u = cond (nat_lt (u.start / BLOCK_DATA) (group_end u / BLOCK_DATA))
 abbrev pub data_word : ℕ → ℕ
 data_word x = x / BLOCK_DATA * 63 + (x % BLOCK_DATA + BLOCK_HEADER % WORD_LANES) / WORD_LANES
 
--- in how many words of the log buffer a byte of the stream and so many behind it stand: so many different lsns / 8 they have
+-- in how many words of the log buffer a byte of the stream and so many after it stand: so many different lsns / 8 they have
 unfoldable pub words_spanned : ℕ → ℕ → ℕ
 words_spanned x zero = 1
 words_spanned x (suc n) = words_spanned x n + cond (lsn (x + n) / WORD_LANES == lsn (x + n + 1) / WORD_LANES) 0 1
@@ -29,11 +29,22 @@ to_link_at u user_step.LoadWrite = words_left u + first_stores u + 3
 to_link_at u user_step.AddCell = words_left u + first_stores u + 2
 to_link_at u user_step.StoreFirst = 3
 to_link_at u user_step.LoadWtail = 2
+to_link_at u (user_step.AdvanceWritten s) = 2
+to_link_at u user_step.ReloadWtail = 2
 to_link_at u user_step.StoreLink = 1
 to_link_at u _ = 0
 
 abbrev pub to_link : UserState → ℕ
 to_link u = to_link_at u u.step
+
+-- it has found no room in the recent-written buffer, and advances the tail
+abbrev pub lacks_room_at : UserStep → Bool
+lacks_room_at (user_step.AdvanceWritten s) = true
+lacks_room_at user_step.ReloadWtail = true
+lacks_room_at _ = false
+
+abbrev pub lacks_room : UserState → Bool
+lacks_room u = lacks_room_at u.step
 
 -- how many Ops a group takes from its reservation to its link: four, one for each word that its bytes fill, and one where
 -- its first offset is stored

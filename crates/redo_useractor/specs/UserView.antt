@@ -3,6 +3,7 @@ use Rattle.std.specs.Prelude.{length, vec_capacity, vec_len, ℕ, ◌+◌, ◌<�
 use Rattle.model_core.specs.{answer_limit, cells_of, changes, group_bytes, group_end, line_at, UserState}
 use Rattle.model_core.specs.declared.steps.UserStep.{UserStep}
 use Rattle.model_core.specs.declared.steps.UserStep.TheVariants as user_step
+use Rattle.redo_link.specs.{LeadsToLsn}
 use Rattle.redo_useractor.specs.Places.{IsPlace}
 use Rattle.redo_useractor.specs.Written.{words_end}
 use Rattle.redo_useractor.specs.declared.actor.UserActor.TheInside.{Inside}
@@ -20,6 +21,7 @@ user_view u = record {
   cell = u.cell;
   word = u.word;
   loaded = u.loaded;
+  advance = u.advance;
   code = u.code;
   checks = u.checks;
   step = u.step;
@@ -61,8 +63,12 @@ IsAt u user_step.LoadWrite = HasGroup u × IsAtFirst u × (u.copied < length (gr
 IsAt u user_step.AddCell = HasGroup u × IsAtFirst u × (u.copied < length (group_bytes (user_view u)))
 IsAt u user_step.StoreFirst = HasGroup u × IsAtFirst u
 IsAt u user_step.LoadWtail = HasGroup u × IsAtFirst u
+IsAt u (user_step.AdvanceWritten s) = HasGroup u × IsAtFirst u × LeadsToLsn u.advance s
+IsAt u user_step.ReloadWtail = HasGroup u × IsAtFirst u
 IsAt u user_step.StoreLink = HasGroup u × IsAtFirst u
 IsAt u user_step.LoadCtail = HasGroup u × IsAtPage u × (u.cell ≡ 0)
+IsAt u (user_step.AdvanceClosed s) = HasGroup u × IsAtPage u × (u.cell ≡ 0) × LeadsToLsn u.advance s
+IsAt u user_step.ReloadCtail = HasGroup u × IsAtPage u × (u.cell ≡ 0)
 IsAt u user_step.LoadFrame = HasGroup u × IsAtPage u × IsAtWord u
 IsAt u user_step.StoreFrame = HasGroup u × IsAtPage u × IsAtWord u
 IsAt u user_step.StoreClosedLink = HasGroup u × (0 < length (changes (user_view u)))

@@ -28,7 +28,7 @@ written p (rec ∷ recs) j old = written p recs j (cond (page_of rec == p) (late
 abbrev pub cell_byte : ℕ → List Rec → ℕ → Option ℕ
 cell_byte p recs c = cond (nat_lt c USER_START) None (written p recs (c - USER_START) None)
 
--- the first cell that a record writes, and the one behind its last
+-- the first cell that a record writes, and the one after its last
 abbrev pub first_cell : Rec → ℕ
 first_cell (Num width space page offset value) = offset
 first_cell (Text space page offset bytes) = offset

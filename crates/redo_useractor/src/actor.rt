@@ -1,9 +1,10 @@
 // The state of a user.
 use crate::line::{Place, UserLine};
 use model_core::UserStep;
+use redo_link::Advance;
 use std::marker::Model;
 
-/// The marks that a user has loaded last.
+/// The marks that a user has loaded last; of the two tails without whether they are held.
 #[derive(Debug, Drop)]
 pub struct Marks {
     pub(crate) ckpt: u64,
@@ -38,6 +39,7 @@ pub struct UserActor {
     pub(crate) at: Place,
     pub(crate) word: u64,
     pub(crate) loaded: Marks,
+    pub(crate) advance: Advance,
     pub(crate) code: u32,
     pub(crate) checks: bool,
     pub(crate) step: UserStep,

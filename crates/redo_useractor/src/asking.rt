@@ -9,7 +9,9 @@ ghost use Rattle.redo_useractor.specs.UserView.{end_limit};
 use crate::actor::UserActor;
 use crate::line::UserLine;
 use model_base::BLOCK_SIZE;
-use model_core::{BUFFER_BLOCKS, CLOSED_LINKS, FLUSH_LISTS, UserStep, WORD_LANES, WRITTEN_LINKS};
+use model_core::{
+    BUFFER_BLOCKS, CLOSED_LINKS, FLUSH_LISTS, LinkBuffer, UserStep, WORD_LANES, WRITTEN_LINKS,
+};
 use model_log::{BLOCK_DATA, BLOCK_HEADER};
 use redo_lsn::lsn_of;
 use redo_words::{Lent, Op, Spot, Word, packed, spot_of};
@@ -164,9 +166,11 @@ impl UserActor {
             UserStep::LoadWrite => Op::Load(Word::Write),
             UserStep::AddCell => self.add_cell(),
             UserStep::StoreFirst => self.store_first(),
-            UserStep::LoadWtail => Op::Load(Word::Wtail),
+            UserStep::LoadWtail | UserStep::ReloadWtail => Op::Load(Word::Wtail),
+            UserStep::AdvanceWritten(step) => self.advance.op(LinkBuffer::Written, step),
             UserStep::StoreLink => Op::Store(self.written_link(), self.link()),
-            UserStep::LoadCtail => Op::Load(Word::Ctail),
+            UserStep::LoadCtail | UserStep::ReloadCtail => Op::Load(Word::Ctail),
+            UserStep::AdvanceClosed(step) => self.advance.op(LinkBuffer::Closed, step),
             UserStep::LoadFrame => Op::Load(self.line().frame(self.page, self.at)),
             UserStep::StoreFrame => {
                 let line = self.line();
@@ -208,8 +212,8 @@ impl UserActor {
         data_word(end - 1) + 1 - data_word(self.start + self.copied as u64)
     }
 
-    /// How many Ops it has to go from its reservation up to the store of its link, where none of them waits; 0 before the
-    /// reservation and behind the link.
+    /// How many Ops it has to go from its reservation up to the store of its link, where none of them waits and the link has
+    /// room at once; 0 before the reservation and past the link.
     pub fn to_link(&self) -> u64
         ensures { result ≡ to_link self.now }
     {
@@ -217,7 +221,7 @@ impl UserActor {
             UserStep::LoadWrite => self.words_left() + self.first_stores() + 3,
             UserStep::AddCell => self.words_left() + self.first_stores() + 2,
             UserStep::StoreFirst => 3,
-            UserStep::LoadWtail => 2,
+            UserStep::LoadWtail | UserStep::AdvanceWritten(_) | UserStep::ReloadWtail => 2,
             UserStep::StoreLink => 1,
             _ => 0,
         }

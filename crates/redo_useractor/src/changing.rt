@@ -8,11 +8,11 @@ ghost use Rattle.redo_useractor.specs.UserView.{end_limit};
 
 use crate::actor::UserActor;
 use crate::line::Place;
-use model_core::{CLOSED_LINKS, UserStep};
+use model_core::UserStep;
 use redo_words::Step;
 
 impl UserActor {
-    /// It goes on at this place of a page, behind so many of the changed cells there.
+    /// It goes on at this place of a page, after so many of the changed cells there.
     fn comes_to(&mut self, page: usize, cell: usize, at: Place)
         requires line { self.old.k < length self.old.lines }
         requires one { length self.old.starts ≡ self.old.k + 1 }
@@ -28,7 +28,7 @@ impl UserActor {
     }
 
     /// It goes on at the first changed cell of a page.
-    fn to_cells(&mut self, page: usize, cell: usize)
+    pub(crate) fn to_cells(&mut self, page: usize, cell: usize)
         requires line { self.old.k < length self.old.lines }
         requires one { length self.old.starts ≡ self.old.k + 1 }
         requires small { group_end self.old < end_limit }
@@ -38,22 +38,6 @@ impl UserActor {
     {
         let at = self.line().first_place(page);
         self.comes_to(page, cell, at);
-    }
-
-    /// CTAIL was loaded: whether the recent-closed buffer has the place of its link.
-    pub(crate) fn checks_close(&mut self, n: u64) -> Step
-        requires step { self.old.step ≡ UserStep.LoadCtail }
-        ensures state { self.new ≡ user_took self.old n UserStep.LoadCtail }
-        ensures step { result ≡ step_end self.old n UserStep.LoadCtail self.new }
-    {
-        let start = self.start_lsn();
-        let (page, cell) = (self.page, self.cell);
-        self.loaded.ctail = n;
-        if n.saturating_add(CLOSED_LINKS) <= start {
-            return self.waits();
-        }
-        self.to_cells(page, cell);
-        Step::Moved
     }
 
     /// The word of the changed cells that it is at is loaded.

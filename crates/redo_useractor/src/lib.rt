@@ -7,6 +7,7 @@ mod asking;
 mod changes;
 mod changing;
 mod line;
+mod linking;
 mod making;
 mod taking;
 mod telling;

@@ -13,7 +13,7 @@ use model_log::Group;
 use redo_words::Word;
 use std::marker::Model;
 
-/// A word of a frame, and how many of its cells a group changes; behind the last word that it changes the end.
+/// A word of a frame, and how many of its cells a group changes; after the last word that it changes the end.
 #[derive(Clone, Copy, Debug)]
 pub struct Place {
     pub(crate) word: usize,
@@ -21,7 +21,7 @@ pub struct Place {
 }
 
 impl Place {
-    /// What a user that has come here does: it stores the word at once where all its lanes change, else it loads it first; behind
+    /// What a user that has come here does: it stores the word at once where all its lanes change, else it loads it first; past
     /// the last word it goes on with NEWEST.
     pub(crate) fn step(self) -> UserStep
         ensures { (cells : List CellWrite) (number : ℕ) → IsPlace cells self.word self.count number → result ≡ cells_step cells number }
@@ -101,7 +101,7 @@ impl UserLine {
         self.place_from(page, 0)
     }
 
-    /// The next one behind this.
+    /// The next one after this.
     pub(crate) fn place_behind(&self, page: usize, at: Place) -> Place
         requires page { page < length self.now.changes }
         requires word { at.word < words_end }

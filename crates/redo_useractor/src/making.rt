@@ -10,6 +10,7 @@ use crate::line::{Place, UserLine};
 use model_base::Shape;
 use model_core::UserStep;
 use model_log::Group;
+use redo_link::Advance;
 use redo_lsn::NoMemory;
 use redo_record::encode;
 use std::alloc::Global;
@@ -100,6 +101,7 @@ impl UserActor {
             at: Place { word: 0, count: 0 },
             word: 0,
             loaded,
+            advance: Advance::new(),
             code: 0,
             checks: has_lines,
             step,

@@ -4,12 +4,12 @@ ghost use Rattle.model_core.specs.Actors as actor;
 ghost use Rattle.model_core.specs.AnswerFits.{AnswerFits};
 ghost use Rattle.model_core.specs.{after_link, answer_limit, answered, group_bytes, group_end, has_space, step_of, took, user_checked, user_ending, user_took};
 ghost use Rattle.redo_useractor.specs.Ending.{step_end};
-ghost use Rattle.redo_useractor.specs.ToLink.{linking_steps, to_link};
+ghost use Rattle.redo_useractor.specs.ToLink.{lacks_room, linking_steps, to_link};
 ghost use Rattle.redo_useractor.specs.UserView.{end_limit};
 
 use crate::actor::UserActor;
 use model_base::BLOCK_SIZE;
-use model_core::{FREE_MARGIN, LOG_BUFFER, UserStep, WRITTEN_LINKS};
+use model_core::{FREE_MARGIN, LOG_BUFFER, UserStep};
 use redo_lsn::lsn_of;
 use redo_words::{Answer, Step, heard, old_of};
 
@@ -174,22 +174,6 @@ impl UserActor {
         Step::Moved
     }
 
-    /// WTAIL was loaded: whether the recent-written buffer has the place of its link.
-    fn checks_link(&mut self, n: u64) -> Step
-        requires step { self.old.step ≡ UserStep.LoadWtail }
-        requires small { n < answer_limit }
-        ensures state { self.new ≡ user_took self.old n UserStep.LoadWtail }
-        ensures step { result ≡ step_end self.old n UserStep.LoadWtail self.new }
-    {
-        let start = self.start_lsn();
-        self.loaded.wtail = n;
-        if start < n + WRITTEN_LINKS {
-            self.step = UserStep::StoreLink;
-            return Step::Moved;
-        }
-        self.waits()
-    }
-
     /// Its link is stored.
     fn stored_link(&mut self, n: u64) -> Step
         requires step { self.old.step ≡ UserStep.StoreLink }
@@ -243,8 +227,12 @@ impl UserActor {
             UserStep::LoadWrite => return self.checks_room(n),
             UserStep::AddCell => return self.copies(n),
             UserStep::LoadWtail => return self.checks_link(n),
+            UserStep::AdvanceWritten(step) => return self.advances_written(n, step),
+            UserStep::ReloadWtail => return self.checks_link_again(n),
             UserStep::StoreLink => return self.stored_link(n),
             UserStep::LoadCtail => return self.checks_close(n),
+            UserStep::AdvanceClosed(step) => return self.advances_closed(n, step),
+            UserStep::ReloadCtail => return self.checks_close_again(n),
             UserStep::LoadFrame => return self.loaded_frame(n),
             UserStep::StoreFrame => return self.stored_frame(n),
             UserStep::LoadOldest if n == 0 => self.step = UserStep::AddToList,
@@ -265,14 +253,14 @@ impl UserActor {
         Step::Moved
     }
 
-    /// Takes the answer to the Op that it asked for. On the way from a reservation to the link each one that doesn't wait brings
-    /// it one Op nearer.
+    /// Takes the answer to the Op that it asked for. On the way from a reservation to the link each one that doesn't wait
+    /// brings it one Op nearer, but those from a load of WTAIL that finds no room up to the one that finds some.
     pub fn took(&mut self, answer: Answer) -> Step
         requires { AnswerFits (actor.User self.old) answer }
         ensures state { actor.User self.new ≡ took (actor.User self.old) answer }
         ensures step { result ≡ step_of (actor.User self.old) answer }
         ensures reserves { self.old.checks ≡ false → self.old.step ≡ UserStep.Reserve → linking_steps self.new ≡ to_link self.new + 1 }
-        ensures nearer { self.old.checks ≡ false → 0 < to_link self.old → result ≢ Step.Idle → to_link self.old ≡ to_link self.new + 1 }
+        ensures nearer { self.old.checks ≡ false → 0 < to_link self.old → result ≢ Step.Idle → to_link self.old ≡ to_link self.new + (if lacks_room self.new then 0 else 1) }
     {
         if self.checks {
             return self.checked(old_of(answer));

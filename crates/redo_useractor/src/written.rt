@@ -98,7 +98,7 @@ fn first_cell(rec: &Rec) -> usize
     }
 }
 
-/// The cell behind the last that a record writes.
+/// The cell after the last that a record writes.
 fn cells_end(rec: &Rec) -> usize
     ensures { result ≡ cells_end rec.now }
 {

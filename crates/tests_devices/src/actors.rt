@@ -14,17 +14,17 @@ fn a_writer_begins(rt: HostRuntime) -> Result<(), Fail> {
         Lent::Blocks { bytes, firsts } => bytes.is_empty() && firsts.is_empty(),
         _ => false,
     };
-    assert!(rt; lends_nothing_yet && writer.next() == Op::Load(Word::Wlink(8_204)));
+    assert!(rt; lends_nothing_yet && writer.next() == Op::Load(Word::Wtail));
     Ok(())
 }
 
 /// The checkpointer once it has asked the first list, of which the page that entered first did so at 40,000: its candidate is
-/// 16,384 below that. CTAIL is 60,000.
+/// 16,384 below that. CTAIL is 60,000, and free.
 fn after_the_first_list() -> Checkpointer
     ensures { result.to ≡ 23616 }
 {
     let mut checkpointer = Checkpointer::new(8_204);
-    checkpointer.took(Answer::Old(60_000));
+    checkpointer.took(Answer::Old(120_000));
     checkpointer.took(Answer::Taken(Some(40_000)));
     checkpointer
 }

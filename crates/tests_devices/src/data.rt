@@ -102,7 +102,7 @@ fn torn_five(alloc: Global) -> Result<MemDisk, Fail>
     Ok(dev)
 }
 
-/// The copy of page 4 that counts, and the one behind a batch that has the page.
+/// The copy of page 4 that counts, and the one after a batch that has the page.
 fn copies_of_four<D: Sectors>(part: &mut DataPart<D>) -> Result<[Option<(u32, u64)>; 2], DevError>
     requires live { part.old.failed ≡ None }
     requires shape { part.old.shape ≡ default_shape }

@@ -49,7 +49,7 @@ fn a_file_keeps_what_was_written(rt: HostRuntime) -> Result<(), Fail> {
     Ok(())
 }
 
-/// How many syncs had reached the files behind a write, behind a sync, and behind a crash and one more sync.
+/// How many syncs had reached the files after a write, after a sync, and after a crash and one more sync.
 fn syncs_of_three<D: Sectors>(device: &mut D, calls: &Calls) -> Result<[u64; 3], DevError>
     requires { 512 ≤ (D.seen device.old).size }
 {

@@ -70,7 +70,7 @@ same | recover --workers 8 |                           | 0 | read 1 8217 / p 3 8
     )
 }
 
-/// The log has four blocks with one group each, and no checkpoint behind the first.
+/// The log has four blocks with one group each, and no checkpoint after the first.
 #[test]
 fn reads_each_block_by_a_worker_of_its_own(rt: HostRuntime) -> Result<(), Fail> {
     play(
@@ -112,7 +112,7 @@ fn refuses_a_script_for_which_the_log_alone_has_no_room(rt: HostRuntime) -> Resu
     Ok(())
 }
 
-/// The first group starts at sn 7936, and the last behind 129 of 8192 bytes.
+/// The first group starts at sn 7936, and the last after 129 of 8192 bytes.
 #[test]
 fn frees_the_log_by_checkpoints(rt: HostRuntime) -> Result<(), Fail> {
     let script = spelled(rt.alloc(), MANY_LINES)?;

@@ -13,7 +13,7 @@ use redo_page::seal;
 use std::alloc::{AllocError, Global};
 use std::test::Fail;
 
-/// Where the block at lsn 8192 stands, and the one behind it.
+/// Where the block at lsn 8192 stands, and the one after it.
 pub(crate) const FIRST_BLOCK: u64 = 2048;
 
 pub(crate) const SECOND_BLOCK: u64 = 2560;
@@ -24,7 +24,7 @@ const LAST_BLOCK: u64 = 1_041_920;
 /// Bytes of a page, and of a slot.
 const PAGE: u64 = 4096;
 
-/// Where the place of page 5 stands: behind eight slots and five places.
+/// Where the place of page 5 stands: after eight slots and five places.
 const PLACE: u64 = 13 * PAGE;
 
 /// A log device and a data device.

@@ -8,7 +8,7 @@ use std::sync::Wait;
 use std::test::Fail;
 use std::thread::Threads;
 
-/// Behind the opening comes the write of the first line's block, and then its sync.
+/// After the opening comes the write of the first line's block, and then its sync.
 #[test]
 fn loses_a_line_whose_sync_is_stopped(rt: HostRuntime) -> Result<(), Fail> {
     let (_, opening) = calls_of_opening(&rt)?;

@@ -18,9 +18,9 @@ use std::test::Fail;
 use std::thread::Threads;
 
 /// All premises hold: on new devices, on a store in use, and there also where the log device stops. The first run ends at 8210
-/// and the second at 8722, so the next ones start in the blocks behind, at 8704 + 12 and 9216 + 12. The third opening makes 22
+/// and the second at 8722, so the next ones start in the blocks after those, at 8704 + 12 and 9216 + 12. The third opening makes 22
 /// calls of the log device: two reads, 16 writes of zeros up to the log's end and one at its front, a sync, and the checkpoint with
-/// its sync. Behind those the block is written, and its sync is stopped.
+/// its sync. After those the block is written, and its sync is stopped.
 #[test]
 fn a_store_in_order_is_crashed(rt: HostRuntime) -> Result<(), Fail> {
     play(
@@ -34,7 +34,7 @@ same | crash --stop-log 23 | 3 f b1 3 102 9 | 0 | open 9228 / g 9228 9234 3 0 lo
 }
 
 /// Five bytes that a CRC-32C doesn't see: its polynomial, bit by bit. A page with them has the checksum of the page with zeros
-/// in their place. Behind them stand lines of another page, behind which the cleaner writes both pages.
+/// in their place. After them stand lines of another page, after which the cleaner writes both pages.
 const UNSEEN: &str = "1 f s 3 2000 f176ec0501 / [1 f b1 4 100 7 / *500]";
 
 /// Opening makes 10 calls of the data device, and a batch the write of its slots, a sync, and then the write of page 3 to its
@@ -136,7 +136,7 @@ fn silent_devices(
     ))
 }
 
-/// Makes a call on these devices, which is to come to this; the devices behind it.
+/// Makes a call on these devices, which is to come to this; the devices after it.
 fn expect_on<L: Sectors + Send + Drop, D: Sectors + Send + Drop>(
     rt: &(impl Abort + AllocGlobal + Threads + Wait + Sync),
     (log, store): (L, D),
@@ -162,7 +162,7 @@ fn expect_on<L: Sectors + Send + Drop, D: Sectors + Send + Drop>(
     Ok((ended.log.into_inner(), ended.store.into_inner()))
 }
 
-/// Two lines whose groups stand in one log block. Opening makes 21 calls of the log device; behind them the block is written and
+/// Two lines whose groups stand in one log block. Opening makes 21 calls of the log device; after them the block is written and
 /// synced for the first line, and written for the second, whose sync fails. Torn, the block has the second line and the checksum
 /// that it had without it: it isn't read, and the first group is lost though it was flushed.
 #[test]
@@ -184,8 +184,8 @@ fn a_torn_log_block_loses_what_was_flushed(rt: HostRuntime) -> Result<(), Fail> 
     Ok(())
 }
 
-/// Opening writes page 3 of a store whose log alone has it: behind 10 calls of the data device come the write of slot 0, its
-/// sync, and the write of the place, which stands behind eight slots and three places. Where the write of the slot is the last,
+/// Opening writes page 3 of a store whose log alone has it: after 10 calls of the data device come the write of slot 0, its
+/// sync, and the write of the place, which stands after eight slots and three places. Where the write of the slot is the last,
 /// the place has nothing yet, and the log has it all; where that of the place is, the copy in the slot counts. So a page isn't
 /// lost by a sector that is torn, unless it passes its check then.
 #[test]
@@ -203,7 +203,7 @@ fn a_torn_data_sector_is_noticed(rt: HostRuntime) -> Result<(), Fail> {
     Ok(())
 }
 
-/// Behind a run and before the crash somebody else writes zeros on the log device: over the header, over the newest checkpoint,
+/// After a run and before the crash somebody else writes zeros on the log device: over the header, over the newest checkpoint,
 /// or over the last block. Opening the store a second time writes the checkpoint of number 2 to the second header block, and the
 /// run starts in the second log block. Without the checkpoint the log is read from the first block on, up to the end of the first
 /// run; without the last block it ends where the second run started.
@@ -228,9 +228,9 @@ fn another_writer_is_not_seen(rt: HostRuntime) -> Result<(), Fail> {
     Ok(())
 }
 
-/// The same on the data device, over the first sector of page 3's place, which stands behind eight slots and three places. It
+/// The same on the data device, over the first sector of page 3's place, which stands after eight slots and three places. It
 /// doesn't pass its check then, since its last sector isn't zero, and the page is read from its copy and the log. But once slot 0
-/// has had page 4, and the checkpoint stands behind the group of page 3, that page is lost.
+/// has had page 4, and the checkpoint stands past the group of page 3, that page is lost.
 #[test]
 fn another_writer_of_the_data_device_is_not_seen(rt: HostRuntime) -> Result<(), Fail> {
     let run = "0 | open 8204 / g 8204 8210 1 0 flushed / marks 8210 8210 8210 8192";
@@ -254,7 +254,7 @@ fn another_writer_of_the_data_device_is_not_seen(rt: HostRuntime) -> Result<(), 
     Ok(())
 }
 
-/// New devices that tell what they hold, which end behind a sector, or which tell of a write of fewer bytes than a sector. They have
+/// New devices that tell what they hold, which end within a sector, or which tell of a write of fewer bytes than a sector. They have
 /// one image all the same, and `crash` does what it does on valid ones.
 #[test]
 fn parts_of_sectors_change_nothing(rt: HostRuntime) -> Result<(), Fail> {
@@ -269,8 +269,8 @@ fn parts_of_sectors_change_nothing(rt: HostRuntime) -> Result<(), Fail> {
 
 /// The block of the log's only group, which no page has, reads as it was written, but at the last sync it was zeros, and no write
 /// since is told: what reads give is no image. Opening reads the group. It makes two reads of the log device and 16 writes of zeros
-/// behind the first block, then a sync, and the checkpoint's write. Where that sync is stopped the crash leaves the zeros, and what
-/// was flushed is lost. Behind the sync the group is there.
+/// after the first block, then a sync, and the checkpoint's write. Where that sync is stopped the crash leaves the zeros, and what
+/// was flushed is lost. After the sync the group is there.
 #[test]
 fn reads_that_are_no_image_are_lost(rt: HostRuntime) -> Result<(), Fail> {
     for (words, outcome) in [
@@ -309,7 +309,7 @@ fn devices_that_tell_nothing_serve_as_well(rt: HostRuntime) -> Result<(), Fail> 
     Ok(())
 }
 
-/// The first sync behind opening fails, on a log device whose count of faults can't rise. The line is lost, as on one whose
+/// The first sync after opening fails, on a log device whose count of faults can't rise. The line is lost, as on one whose
 /// count does. On such a data device the first call of formatting fails.
 #[test]
 fn a_count_at_its_end(rt: HostRuntime) -> Result<(), Fail> {

@@ -20,7 +20,7 @@ enum Line {
     Text,
     /// The second of user 1, which clears page 3.
     Clear,
-    /// The second of user 2, which puts 1 on page 5 and 9 on page 3, behind the 7.
+    /// The second of user 2, which puts 1 on page 5 and 9 on page 3, after the 7.
     Nine,
 }
 
@@ -163,7 +163,7 @@ fn flushed(groups: &[Group]) -> usize {
     groups.iter().filter(|group| group.is_flushed).count()
 }
 
-/// Whether a report of the four lines is in order: what is read is what the first groups make of the pages, no group behind those
+/// Whether a report of the four lines is in order: what is read is what the first groups make of the pages, no group after those
 /// is flushed, and of each line it is told whether it is a group or left.
 fn is_in_order(alloc: Global, report: &str) -> Result<bool, AllocError> {
     let groups = groups_of(alloc, report)?;

@@ -74,7 +74,7 @@ same | run                                          | 1 f i 4        | 10 | faul
 }
 
 /// Stores that are read, and are not in order. A copy of page 5 in a slot doesn't count while the place passes. Then opening
-/// writes the page, to slot 0 behind 10 calls of the data device and to its place behind two more, and of that write a crash
+/// writes the page, to slot 0 after 10 calls of the data device and to its place after two more, and of that write a crash
 /// keeps half. Now the newest copy counts: of two with one lsn that in slot 0, and one that is ahead of the log leaves no store.
 /// Where the newest checkpoint has the number 2^63, or stands at 2^60 - 2^30, which is 1152921503533105152, the call does what it
 /// does elsewhere.
@@ -98,7 +98,7 @@ high lsn    | crash                          | 1 f b1 3 100 7 | 0 | open 1152921
     )
 }
 
-/// Behind the last number, 2^64 - 1, comes 0, which isn't the newest: the log is read from the old checkpoint on, up to the end
+/// After the last number, 2^64 - 1, comes 0, which isn't the newest: the log is read from the old checkpoint on, up to the end
 /// of the run before, and what was flushed since is lost.
 #[test]
 fn loses_what_was_flushed_behind_the_last_checkpoint(rt: HostRuntime) -> Result<(), Fail> {

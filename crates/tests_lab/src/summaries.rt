@@ -31,7 +31,7 @@ fn long_run(rt: &(impl AllocGlobal + Threads + Wait + Sync)) -> Result<String, F
 #[test]
 fn sums_up_the_same_run_again(rt: HostRuntime) -> Result<(), Fail> {
     let first = long_run(&rt)?;
-    assert!(rt; first.starts_with("0\nsummary 1000 29880 13312 f0ac24be"));
+    assert!(rt; first.starts_with("0\nsummary 1000 29900 12800 0953ff5f"));
     let second = long_run(&rt)?;
     assert_eq!(rt; first, second);
     Ok(())
@@ -48,7 +48,7 @@ same | gen 11 1 1 --run | | 10 | fault fit page 4
     )
 }
 
-/// The line writes at offset 3710, which is 3672 behind the first user byte.
+/// The line writes at offset 3710, which is 3672 past the first user byte.
 #[test]
 fn leaves_what_recovery_reads(rt: HostRuntime) -> Result<(), Fail> {
     play(
@@ -69,8 +69,8 @@ fn log_calls(
     Ok(fuse.early_calls.saturating_add(fuse.passed))
 }
 
-/// A failure is told by its line alone: of the first call, of the first one behind the opening, and of the last one, which reads
-/// behind the run.
+/// A failure is told by its line alone: of the first call, of the first one after the opening, and of the last one, which reads
+/// after the run.
 #[test]
 fn tells_of_a_failure_by_its_line_alone(rt: HostRuntime) -> Result<(), Fail> {
     let opening = log_calls(&rt, "run")?;

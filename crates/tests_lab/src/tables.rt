@@ -2,7 +2,7 @@
 //
 // DEVICES: `new`, `log fails CALL` and `data fails CALL` are new ones, `same` are those that the row above left. `log of SECTORS` and
 // `data of SECTORS` cut one of those, and any other name is a change of them (`change`).
-// SCRIPT and PRINTED: ` /` ends a line; behind the last printed line it is left out. `(07*62)` stands for 62 times `07`, and
+// SCRIPT and PRINTED: ` /` ends a line; after the last printed line it is left out. `(07*62)` stands for 62 times `07`, and
 // `[LINE*130]` for 130 times LINE.
 use crate::calls::{Called, call_on};
 use crate::devices::{Devices, change, new_devices, shorten};
@@ -47,7 +47,7 @@ fn cell(row: &str) -> (&str, &str) {
     (cell.trim(), rest)
 }
 
-/// The devices of a row, behind a row that left these.
+/// The devices of a row, after a row that left these.
 fn devices_of(alloc: Global, name: &str, left: Devices) -> Result<Devices, Fail> {
     if name == "new" || name.contains("fails") {
         return new_devices(alloc, name);
@@ -74,7 +74,7 @@ fn call_of<'a>(
     Ok((call_on(rt, words, &script, devices)?, outcome))
 }
 
-/// The text of `STATUS | PRINTED`, or of a status behind which nothing is printed: the status in a line of its own, and the lines.
+/// The text of `STATUS | PRINTED`, or of a status after which nothing is printed: the status in a line of its own, and the lines.
 fn wanted(alloc: Global, outcome: &str) -> Result<String, Fail> {
     let Some((status, printed)) = outcome.split_once('|') else {
         return Ok(format!(in alloc; "{}\n", outcome.trim())?);
@@ -102,7 +102,7 @@ pub(crate) fn expect(
     Ok(())
 }
 
-/// Makes the call of a row, which is to come to what the row says; the devices behind it.
+/// Makes the call of a row, which is to come to what the row says; the devices after it.
 fn play_row(
     rt: &(impl Abort + AllocGlobal + Threads + Wait + Sync),
     row: &str,
@@ -113,7 +113,7 @@ fn play_row(
     Ok(called.devices)
 }
 
-/// Plays a table, row by row; the devices behind it.
+/// Plays a table, row by row; the devices after it.
 pub(crate) fn left_by(
     rt: &(impl Abort + AllocGlobal + Threads + Wait + Sync),
     table: &str,

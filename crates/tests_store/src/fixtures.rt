@@ -4,8 +4,8 @@ use model_base::Shape;
 use redo_disk::Sectors;
 use redo_memdisk::MemDisk;
 use redo_open::{format, open_store};
-use redo_pageactors::Opened;
 use redo_recover::{RecFault, Recovered, recover};
+use redo_store::Opened;
 use std::alloc::{AllocError, Global};
 use std::test::Fail;
 
@@ -73,8 +73,8 @@ fn full(front: &[u8], rest: u8) -> [u8; 496] {
     bytes
 }
 
-/// A log that goes round behind its checkpoint: a group in the checkpoint's block; one of 6 bytes in the next, and behind
-/// it the front of a long one, which goes on over two more blocks and isn't whole; and an old block behind those.
+/// A log that goes round after its checkpoint: a group in the checkpoint's block; one of 6 bytes in the next, and after
+/// it the front of a long one, which goes on over two more blocks and isn't whole; and an old block after those.
 fn put_log(store: &mut Store) {
     store.put_head(&SHAPE);
     store.put_ckpt(&SHAPE, 0, 8192);

@@ -1,6 +1,6 @@
 // Stores that were just formatted, how others begin, and how damaged ones are refused.
 ghost use Rattle.std.specs.Prelude.{IfOk};
-ghost use Rattle.redo_pageactors.specs.{IsRunnable};
+ghost use Rattle.redo_store.specs.{IsRunnable};
 
 use crate::fixtures::{SHAPE, formatted, open_to_end, pages_of, read_back};
 use crate::store::Store;
@@ -10,8 +10,8 @@ use redo_disk::{DevError, Sectors};
 use redo_lsn::{block_of, is_data_lsn, sn_of};
 use redo_memdisk::{Fused, MemDisk};
 use redo_open::open_store;
-use redo_pageactors::Opened;
 use redo_recover::RecFault;
+use redo_store::Opened;
 use std::alloc::Global;
 use std::process::Abort;
 use std::test::Fail;

@@ -15,7 +15,7 @@ use std::alloc::{AllocError, Global};
 /// The number of no call of a device.
 pub const NEVER: u64 = u64::MAX;
 
-/// What stands at the front of the two devices of a store, behind which are zeros, and how long they are.
+/// What stands at the front of the two devices of a store, after which are zeros, and how long they are.
 #[derive(Drop)]
 pub struct Store {
     pub log: Vec<u8>,
@@ -142,7 +142,7 @@ impl Store {
         }
     }
 
-    /// Writes a page of this number, whose user bytes are all the same, into a slot, or behind the slots into a place.
+    /// Writes a page of this number, whose user bytes are all the same, into a slot, or after the slots into a place.
     pub fn put_page(&mut self, slot: u16, number: u32, lsn: u64, user: u8) {
         let mut page = [user; 4096];
         seal(&mut page, number, 1, lsn);

@@ -5,3 +5,4 @@ mod pages;
 mod ring;
 mod runs;
 mod store;
+mod tails;

@@ -37,6 +37,16 @@ impl Counts {
     fn count(&self, point: Point) -> u64 {
         self.of(point).load(Ordering::SeqCst)
     }
+
+    /// How often a group was reserved, copied, linked and closed.
+    fn all(&self) -> (u64, u64, u64, u64) {
+        (
+            self.count(Point::Reserved),
+            self.count(Point::Copied),
+            self.count(Point::Linked),
+            self.count(Point::Closed),
+        )
+    }
 }
 
 impl Gate for Counts {
@@ -61,13 +71,25 @@ fn each_group_passes_each_point(rt: HostRuntime) -> Result<(), Fail> {
     for (log_only, closed) in [(true, 0), (false, 3)] {
         let counts = Counts::new();
         left_by(&rt, rt.alloc(), text.as_bytes(), log_only, None, &counts)?;
-        let found = (
-            counts.count(Point::Reserved),
-            counts.count(Point::Copied),
-            counts.count(Point::Linked),
-            counts.count(Point::Closed),
-        );
-        assert_eq!(rt; found, (3, 3, 3, closed));
+        assert_eq!(rt; counts.all(), (3, 3, 3, closed));
+    }
+    Ok(())
+}
+
+/// Four groups of 4,057 bytes fill the recent-closed buffer, so users move the tails too. A link that a user clears there is none
+/// of its own: each group passes each point once.
+#[test]
+fn clearing_links_passes_no_point(rt: HostRuntime) -> Result<(), Fail> {
+    let bytes = "5a".repeat(rt.alloc(), 4050)?;
+    let mut text = String::new(rt.alloc());
+    for line in 0..48u32 {
+        let (user, page) = (line % 16 + 1, line % 8);
+        text.push_str(format!(in rt.alloc(); "{user} n s {page} 38 {bytes}\n")?.as_str())?;
+    }
+    for (log_only, closed) in [(true, 0), (false, 48)] {
+        let counts = Counts::new();
+        left_by(&rt, rt.alloc(), text.as_bytes(), log_only, None, &counts)?;
+        assert_eq!(rt; counts.all(), (48, 48, 48, closed));
     }
     Ok(())
 }

@@ -2,7 +2,7 @@
 use super::store::{Device, left_by};
 use model_report::Entry;
 use model_report::State::{Flushed, Lost};
-use redo_pageactors::Closed;
+use redo_drive::Closed;
 use redo_threads::NoGate;
 use std::process::Abort;
 use std::test::Fail;

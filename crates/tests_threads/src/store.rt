@@ -3,16 +3,16 @@ ghost use Rattle.std.specs.Prelude.{IfOk, ◌<◌, ◌^◌, ◌≡◌, ◌≤◌
 ghost use Rattle.model_base.specs.{IsWithinLimits};
 ghost use Rattle.model_log.specs.declared.layout.TheConstants.{BLOCK_HEADER};
 ghost use Rattle.redo_drive.specs.Beginning.{room_from};
-ghost use Rattle.redo_pageactors.specs.{IsRunnable};
+ghost use Rattle.redo_store.specs.{IsRunnable};
 
 use model_base::{BLOCK_SIZE, Shape};
 use model_log::BLOCK_HEADER;
 use model_script::{Script, fitting_script, read_lines_are_ranged};
-use redo_drive::{Driven, RunEnd};
+use redo_drive::{Closed, Driven, RunEnd};
 use redo_memdisk::{Fused, MemDisk};
 use redo_open::{format, open_store};
-use redo_pageactors::{Closed, Opened};
 use redo_script::{judge, parse};
+use redo_store::Opened;
 use redo_threads::{Gate, drive_in_threads};
 use std::alloc::Global;
 use std::process::Abort;
@@ -50,7 +50,7 @@ pub fn opened(
 }
 
 /// How far the log has room where it runs alone: one round from the checkpoint on, which stands where a run begins.
-fn room_end(log_only: bool, shape: &Shape, start: u64) -> Option<u64>
+pub fn room_end(log_only: bool, shape: &Shape, start: u64) -> Option<u64>
     requires limits { IsWithinLimits shape.now }
     requires header { BLOCK_HEADER ≤ start }
     requires small { start < 2 ^ 61 }

@@ -2,7 +2,7 @@
 use super::{Spot, packed, push_lanes, spot_of};
 use std::test::Fail;
 
-/// A new store's first group starts at lsn 8,204, in the middle of a word. The data of its block ends behind lane 3 of the word
+/// A new store's first group starts at lsn 8,204, in the middle of a word. The data of its block ends after lane 3 of the word
 /// of 8,696, and goes on in lane 4 of that of 8,712.
 #[test]
 fn a_word_has_the_bytes_of_eight_lsns(rt: HostRuntime) {

@@ -6,14 +6,14 @@ use redo_words::{Op, Word};
 use std::test::Fail;
 
 /// A page that entered a flush list at 40,000 bounds the candidate by 23,616, also where one that entered it later has an
-/// earlier change. The checkpoint is that of its block.
+/// earlier change. The checkpoint is that of its block. CTAIL and FLUSHED are 60,000.
 #[test]
 fn the_first_page_of_a_list_bounds_the_checkpoint(rt: HostRuntime) -> Result<(), Fail> {
     let mut list = FlushList::new(rt.alloc(), 64)?;
     list.add(3, 40_000);
     list.add(7, 24_000);
     let mut checkpointer = Checkpointer::new(8204);
-    checkpointer.took(Old(60_000));
+    checkpointer.took(Old(120_000));
     checkpointer.took(Taken(list.oldest_end()));
     checkpointer.took(Taken(None));
     checkpointer.took(Taken(None));

@@ -14,7 +14,7 @@ const TWO_USERS: &[u8] = b"1 w b1 3 100 7\n2 w b1 4 100 8\n";
 #[test]
 fn written_is_not_flushed(rt: HostRuntime) -> Result<(), Fail> {
     let (user, writer) = (0, 1);
-    let turns = [(user, 20, Moved), (writer, 13, Moved), (user, 1, Ended)];
+    let turns = [(user, 20, Moved), (writer, 15, Moved), (user, 1, Ended)];
     let outcome = outcome_of(&rt, rt.alloc(), &Run::by_hand(ONE_LINE, &turns))?;
     assert!(rt; outcome.is_done());
     let history = [(1, 0, 8204, 8210, Written)];
@@ -25,7 +25,7 @@ fn written_is_not_flushed(rt: HostRuntime) -> Result<(), Fail> {
 
 /// From the reservation to the link a group takes four steps, one for each word that its bytes fill, and one where it stores a
 /// first offset. Six bytes at 8,204 fill two words. 1,200 fill 153: 63 in each of two blocks, and 27 in a third. A user reserves
-/// by its fifth turn; the writer waits until the link stands.
+/// by its fifth turn. The writer frees WTAIL and waits as long as it finds no link; once one stands, it clears it.
 #[test]
 fn a_link_comes_behind_its_words(rt: HostRuntime) -> Result<(), Fail> {
     let mut long = b"1 n s 3 38 ".to_vec(rt.alloc())?;
@@ -37,9 +37,9 @@ fn a_link_comes_behind_its_words(rt: HostRuntime) -> Result<(), Fail> {
     for (text, steps) in [(ONE_LINE, 6), (long.as_slice(), 158)] {
         let turns = [
             (user, 3 + steps, Moved),
-            (writer, 1, Idle),
+            (writer, 4, Idle),
             (user, 1, Moved),
-            (writer, 2, Moved),
+            (writer, 5, Moved),
         ];
         let outcome = outcome_of(&rt, rt.alloc(), &Run::by_hand(text, &turns))?;
         assert!(rt; outcome.history.0.len() == 1);
@@ -55,9 +55,9 @@ fn second_links_first(rt: HostRuntime) -> Result<(), Fail> {
     let turns = [
         (first, 5, Moved),
         (second, 9, Moved),
-        (writer, 1, Idle),
+        (writer, 4, Idle),
         (first, 5, Moved),
-        (writer, 18, Moved),
+        (writer, 20, Moved),
         (first, 11, Ended),
         (second, 11, Ended),
     ];

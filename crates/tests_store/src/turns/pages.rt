@@ -25,7 +25,7 @@ fn two_users_on_one_page(rt: HostRuntime) -> Result<(), Fail> {
         (second, 2, Idle),
         (first, 1, Moved),
         (second, 14, Moved),
-        (writer, 17, Moved),
+        (writer, 19, Moved),
         (first, 1, Ended),
         (second, 1, Ended),
         (flusher, 5, Moved),
@@ -48,7 +48,7 @@ fn a_held_latch_is_left(rt: HostRuntime) -> Result<(), Fail> {
     let turns = [
         (first, 20, Moved),
         (second, 19, Ended),
-        (writer, 17, Moved),
+        (writer, 19, Moved),
         (flusher, 5, Moved),
         (first, 4, Moved),
         (cleaner, 529, Moved),
@@ -73,14 +73,14 @@ fn a_checkpoint_waits_for_old_pages(rt: HostRuntime) -> Result<(), Fail> {
     let (closer, cleaner, checkpointer) = (4, 5, 6);
     let turns = [
         (first, 1566, Ended),
-        (writer, 2124, Moved),
+        (writer, 2126, Moved),
         (flusher, 5, Moved),
         (second, 1567, Ended),
-        (closer, 6, Moved),
+        (closer, 8, Moved),
         (checkpointer, 10, Idle),
         // page 4 is ahead of what the cleaner knows to be flushed
         (cleaner, 2, Moved),
-        (writer, 2126, Moved),
+        (writer, 2128, Moved),
         (flusher, 5, Moved),
         (checkpointer, 11, Idle),
         (cleaner, 529, Moved),

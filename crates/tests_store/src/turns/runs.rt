@@ -1,4 +1,4 @@
-// Runs whose turns are given by hand, and what is read behind a crash.
+// Runs whose turns are given by hand, and what is read after a crash.
 ghost use Rattle.redo_drive.specs.Running.{IsOnRun};
 
 use super::store::{machine_on, opened};
@@ -6,10 +6,9 @@ use model_base::{PAGE_SIZE, SLOTS};
 use model_report::{History, Marks, State};
 use redo_apply::Pages;
 use redo_disk::Sectors;
-use redo_drive::RunEnd;
+use redo_drive::{Closed, RunEnd};
 use redo_machine::{Machine, Turned};
 use redo_memdisk::MemDisk;
-use redo_pageactors::Closed;
 use redo_recover::recover;
 use std::alloc::Global;
 use std::process::Abort;
@@ -21,7 +20,7 @@ pub type Turns = (usize, u64, Turned);
 /// A group of a history: its user, its number among the user's, its start, its end, and its state.
 pub type Told = (u32, u64, u64, u64, State);
 
-/// A run of a script on a new store, and the crash behind it.
+/// A run of a script on a new store, and the crash after it.
 #[derive(Clone, Copy)]
 pub struct Run<'a> {
     pub text: &'a [u8],
@@ -45,7 +44,7 @@ impl<'a> Run<'a> {
     }
 }
 
-/// What a run left, and what was read behind its crash.
+/// What a run left, and what was read after its crash.
 #[derive(Drop)]
 pub struct Outcome {
     pub ended: RunEnd,
@@ -157,20 +156,20 @@ pub fn see_left(rt: &impl Abort, outcome: &Outcome, history: &[Told], marks: Mar
     }
 }
 
-/// The lsn and the user bytes of a page that was read behind the crash.
+/// The lsn and the user bytes of a page that was read after the crash.
 pub fn page_read<'a>(rt: &impl Abort, outcome: &'a Outcome, page: u32) -> (u64, &'a [u8]) {
     assert!(rt; (page as usize) < outcome.pages.len());
     (outcome.pages.lsn(page), outcome.pages.user_bytes(page))
 }
 
-/// Sees that a page was read behind the crash with this lsn, and full of this byte.
+/// Sees that a page was read after the crash with this lsn, and full of this byte.
 pub fn see_full(rt: &impl Abort, outcome: &Outcome, page: u32, lsn: u64, byte: u8) {
     let (found, user) = page_read(rt, outcome, page);
     let is_full = user.iter().all(|found| *found == byte);
     assert!(rt; found == lsn && is_full, "page {page}");
 }
 
-/// A byte of a page's place on the data device behind the crash.
+/// A byte of a page's place on the data device after the crash.
 pub fn byte_in_place(
     rt: &impl Abort,
     outcome: &mut Outcome,

@@ -1,7 +1,7 @@
 // Machines on stores that were just formatted, over devices in memory that may stop.
 ghost use Rattle.std.specs.Prelude.{IfOk};
 ghost use Rattle.redo_drive.specs.Running.{IsOnRun};
-ghost use Rattle.redo_pageactors.specs.{IsRunnable};
+ghost use Rattle.redo_store.specs.{IsRunnable};
 
 use model_base::Shape;
 use model_script::{fitting_script, read_lines_are_ranged};
@@ -9,8 +9,8 @@ use redo_disk::Sectors;
 use redo_machine::Machine;
 use redo_memdisk::MemDisk;
 use redo_open::{format, open_store};
-use redo_pageactors::Opened;
 use redo_script::{judge, parse};
+use redo_store::Opened;
 use std::alloc::Global;
 use std::process::Abort;
 use std::test::Fail;

@@ -1,13 +1,15 @@
 // Runs of seats that one thread plays in turn.
-use super::store::{DATA_CALLS, LOG_CALLS};
+ghost use Rattle.std.specs.Prelude.{◌≤◌};
+
+use super::store::{DATA_CALLS, LOG_CALLS, SOUND, Way};
 use super::turns::left_by;
 use crate::store::Device;
 use model_base::{PAGE_SIZE, SLOTS};
 use model_report::Marks;
 use model_report::State::{Flushed, Lost, Written};
 use redo_disk::Sectors;
-use redo_pageactors::Closed;
-use redo_words::Step::{Ended, Idle, Moved};
+use redo_drive::Closed;
+use redo_words::Step::{Ended, Failed, Idle, Moved};
 use std::alloc::Global;
 use std::process::Abort;
 use std::test::Fail;
@@ -33,21 +35,22 @@ fn byte_in_place(rt: &impl Abort, store: &mut Device, page: u32, at: usize) -> R
     Ok(bytes[at])
 }
 
-/// The user reserves by its fifth call, behind those on FAILED, CKPT, SN and the latch. Its group of six bytes at 8204 fills parts of
-/// two words: so it is linked by the sixth call from the reservation on, 2 + 4. The writer waits until then. By its 16th call from
-/// there on it waits again: FAILED, the link, its clearing, the next link, WTAIL, CKPT, FIRST, its clearing, the first word, its
-/// clearing, the second word, four with the device, and a link. A word whose bytes aren't all written yet isn't cleared.
+/// The user reserves by its fifth call, after those on FAILED, CKPT, SN and the latch. Its group of six bytes at 8204 fills parts of
+/// two words: so it is linked by the sixth call from the reservation on, 2 + 4. The writer waits until then: it takes WTAIL, finds
+/// no link, and frees it. By its 21st call from there on it waits again: FAILED, WTAIL loaded and taken, the link, its clearing, the
+/// next link, WTAIL freed, CKPT, FIRST, its clearing, the first word, its clearing, the second word, four with the device, and four
+/// with WTAIL. A word whose bytes aren't all written yet isn't cleared.
 #[test]
 fn a_link_comes_six_calls_from_the_reservation(rt: HostRuntime) -> Result<(), Fail> {
     let (user, writer) = (0, 1);
     let turns = [
         (user, 4 + 5, Moved),
-        (writer, 1, Idle),
+        (writer, 4, Idle),
         (user, 1, Moved),
-        (writer, 16, Idle),
+        (writer, 21, Idle),
         (user, 11, Ended),
     ];
-    let closed = left_by(&rt, rt.alloc(), ONE_LINE, (None, None), &turns, 0)?;
+    let closed = left_by(&rt, rt.alloc(), ONE_LINE, SOUND, &turns, 0)?;
     assert_eq!(rt; (closed.marks.wtail, closed.code), (8210, 0));
     Ok(())
 }
@@ -70,13 +73,13 @@ fn a_long_link_comes_68_calls_from_the_reservation(rt: HostRuntime) -> Result<()
     let (user, writer) = (0, 1);
     let turns = [
         (user, 4 + 67, Moved),
-        (writer, 1, Idle),
-        (writer, 2, Idle),
+        (writer, 4, Idle),
+        (writer, 5, Idle),
         (user, 1, Moved),
-        (writer, 3, Moved),
+        (writer, 7, Moved),
     ];
     let line = long_line(rt.alloc())?;
-    let closed = left_by(&rt, rt.alloc(), line.as_slice(), (None, None), &turns, 0)?;
+    let closed = left_by(&rt, rt.alloc(), line.as_slice(), SOUND, &turns, 0)?;
     assert_eq!(rt; closed.history.0.len(), 1);
     for entry in closed.history.0.iter() {
         assert_eq!(rt; (entry.start, entry.end), (8204, 8716));
@@ -92,13 +95,13 @@ fn second_links_first(rt: HostRuntime) -> Result<(), Fail> {
     let turns = [
         (first, 5, Moved),
         (second, 9, Moved),
-        (writer, 1, Idle),
+        (writer, 4, Idle),
         (first, 5, Moved),
-        (writer, 18, Moved),
+        (writer, 20, Moved),
         (first, 11, Ended),
         (second, 11, Ended),
     ];
-    let closed = left_by(&rt, rt.alloc(), TWO_USERS, (None, None), &turns, 0)?;
+    let closed = left_by(&rt, rt.alloc(), TWO_USERS, SOUND, &turns, 0)?;
     let marks = Marks {
         wtail: 8216,
         write: 8216,
@@ -127,13 +130,13 @@ fn two_seats_write_one_page(rt: HostRuntime) -> Result<(), Fail> {
         (second, 2, Idle),
         (first, 1, Moved),
         (second, 14, Moved),
-        (writer, 17, Moved),
+        (writer, 19, Moved),
         (first, 1, Ended),
         (second, 1, Ended),
         (flusher, 5, Moved),
         (cleaner, 528, Moved),
     ];
-    let closed = left_by(&rt, rt.alloc(), ONE_PAGE, (None, None), &turns, 0)?;
+    let closed = left_by(&rt, rt.alloc(), ONE_PAGE, SOUND, &turns, 0)?;
     assert_eq!(rt; closed.code, 0);
     let mut store = closed.store.into_dev();
     assert_eq!(rt; byte_in_place(&rt, &mut store, 3, 100)?, 7);
@@ -146,6 +149,26 @@ fn two_seats_write_one_page(rt: HostRuntime) -> Result<(), Fail> {
     Ok(())
 }
 
+/// The log device passes so many calls after those of opening.
+fn log_passes(calls: u64) -> Way
+    requires { calls ≤ 10 }
+{
+    Way {
+        log_calls: Some(LOG_CALLS + calls),
+        ..SOUND
+    }
+}
+
+/// The data device does.
+fn data_passes(calls: u64) -> Way
+    requires { calls ≤ 10 }
+{
+    Way {
+        data_calls: Some(DATA_CALLS + calls),
+        ..SOUND
+    }
+}
+
 /// A device fails at each of its calls: the log device where the group is written and where it is synced, and the data device at
 /// each of the five of a batch of two pages. In the first round the user comes to wait for FLUSHED; in the second all others go
 /// before it, so the call fails, and FAILED has its code, 1 or 2. The user's next step is the load of FAILED: so it ends by the
@@ -154,17 +177,79 @@ fn two_seats_write_one_page(rt: HostRuntime) -> Result<(), Fail> {
 #[test]
 fn a_device_fails_at_each_call(rt: HostRuntime) -> Result<(), Fail> {
     for calls in 0..3 {
-        let limit = Some(LOG_CALLS + calls);
-        let closed = left_by(&rt, rt.alloc(), TWO_PAGES, (limit, None), &[], 5)?;
+        let closed = left_by(&rt, rt.alloc(), TWO_PAGES, log_passes(calls), &[], 5)?;
         let wanted = if calls < 2 { (1, Lost) } else { (0, Flushed) };
         see_one(&rt, &closed, wanted, calls);
     }
     for calls in 0..6 {
-        let limit = Some(DATA_CALLS + calls);
-        let closed = left_by(&rt, rt.alloc(), TWO_PAGES, (None, limit), &[], 5)?;
+        let closed = left_by(&rt, rt.alloc(), TWO_PAGES, data_passes(calls), &[], 5)?;
         let wanted = if calls < 5 { (2, Lost) } else { (0, Flushed) };
         see_one(&rt, &closed, wanted, calls);
     }
+    Ok(())
+}
+
+/// The log device fails at its first call of the run, while the closer holds CTAIL, at which it has found no link. The writer stores
+/// the code into FAILED, gives the device and ends. The closer frees CTAIL before it loads FAILED and ends. So does the user: it
+/// goes on until it waits for FLUSHED.
+#[test]
+fn a_closer_frees_its_tail_before_it_ends(rt: HostRuntime) -> Result<(), Fail> {
+    let (user, writer, closer) = (0, 1, 3);
+    let turns = [
+        (closer, 3, Moved),
+        (user, 10, Moved),
+        (writer, 16, Failed(1)),
+        (closer, 1, Idle),
+        (closer, 1, Failed(1)),
+        (user, 11, Idle),
+        (user, 1, Failed(1)),
+    ];
+    let text = b"1 f b1 3 100 7\n";
+    let closed = left_by(&rt, rt.alloc(), text, log_passes(0), &turns, 0)?;
+    see_one(&rt, &closed, (1, Lost), 0);
+    assert_eq!(rt; (closed.marks.wtail, closed.marks.write), (8210, 8204));
+    Ok(())
+}
+
+/// The lines of a user, each of a group of ten bytes.
+fn add_short_lines(alloc: Global, text: &mut String, user: u32, count: u32) -> Result<(), Fail> {
+    let line = format!(in alloc; "{user} n s 3 38 010203\n")?;
+    for _ in 0..count {
+        text.push_str(line.as_str())?;
+    }
+    Ok(())
+}
+
+/// Sixteen users with groups of ten bytes go on without the writer until each waits for it: the group that it has reserved would
+/// end at 73,728 or above, 65,536 lsns past the block of WRITE. The first one has moved WTAIL once, to 40,978, where its 3,176th
+/// group starts.
+///
+/// The writer then follows 3,173 links, up to 73,716. It keeps 63,480 bytes and 128 first offsets until they are written: two of its
+/// turns are for each block, and two for each of 8,063 words, but one for the last.
+#[test]
+fn a_writer_keeps_what_the_ring_holds(rt: HostRuntime) -> Result<(), Fail> {
+    let mut text = String::new(rt.alloc());
+    add_short_lines(rt.alloc(), &mut text, 1, 6349)?;
+    let writer = 16;
+    let mut turns = vec![in rt.alloc(); (0, 63_720, Idle)]?;
+    for user in 1..writer {
+        add_short_lines(rt.alloc(), &mut text, 1 + user as u32, 1)?;
+        turns.push((user, 5, Idle))?;
+    }
+    turns.push((writer, 22_736, Moved))?;
+    let way = Way {
+        log_only: true,
+        ..SOUND
+    };
+    let closed = left_by(&rt, rt.alloc(), text.as_bytes(), way, turns.as_slice(), 0)?;
+    let marks = Marks {
+        wtail: 73_716,
+        write: 73_716,
+        flushed: 8204,
+        ckpt: 8192,
+    };
+    assert_eq!(rt; closed.marks, marks);
+    assert_eq!(rt; closed.history.0.len(), 6348 + 16);
     Ok(())
 }
 

@@ -1,12 +1,11 @@
-// Turns that are given by hand, and what a store leaves behind them.
+// Turns that are given by hand, and what they leave of a store.
 ghost use Rattle.std.specs.Prelude.{length, ◌<◌, ◌≡◌};
 ghost use Rattle.redo_rule.specs.Sharing.{AreSeatsOf, IsSeated, starts_of, table_of};
 
-use super::store::{Playing, begin};
+use super::store::{Playing, Way, begin};
 use crate::store::Device;
 use redo_disk::Sectors;
-use redo_drive::Actor;
-use redo_pageactors::Closed;
+use redo_drive::{Actor, Closed};
 use redo_rule::{Ring, Seat, all_hold_nothing, play};
 use redo_words::Step;
 use std::alloc::Global;
@@ -95,12 +94,12 @@ fn play_all<L: Sectors, D: Sectors>(
     }
 }
 
-/// What the store of a script leaves behind these turns, on devices that pass so many calls.
+/// What the store of a script leaves after these turns.
 pub fn left_by(
     rt: &impl Abort,
     alloc: Global,
     text: &[u8],
-    calls: (Option<u64>, Option<u64>),
+    way: Way,
     turns: &[Turns],
     rounds: u64,
 ) -> Result<Closed<Device, Device>, Fail> {
@@ -108,8 +107,9 @@ pub fn left_by(
         shared,
         mut seats,
         mut actors,
-    } = begin(rt, alloc, text, calls.0, calls.1)?;
+    } = begin(rt, alloc, text, way)?;
     play_all(rt, shared.ring(), &mut seats, &mut actors, turns, rounds);
-    assert!(rt; all_hold_nothing(actors.as_slice()));
-    Ok(shared.finish(seats, actors.as_slice()))
+    let actors = actors.as_slice();
+    assert!(rt; all_hold_nothing(actors));
+    Ok(shared.finish(seats, actors))
 }

@@ -3,7 +3,7 @@ use Rattle.std.proofs.lemmas.List.{drop_at, drop-drop, length-take-le}
 use borrow.Rule.Slice.PartMut.{put_mid}
 use Rattle.redo_crc.proofs.sector.put.Goals as goal
 
--- what stands behind bytes that were put
+-- what stands after bytes that were put
 drop-put_mid : (at count : ℕ) (bytes old : List ℕ) → count ≡ length bytes → at ≤ length old
     → drop (at + length bytes) (put_mid at count old bytes) ≡ drop (at + length bytes) old
 drop-put_mid at count bytes old same within =

@@ -1,4 +1,4 @@
--- Eight bytes, and those behind them.
+-- Eight bytes, and those after them.
 use Rattle.std.proofs.Common.{◌≡◌, ◌∙◌, take, drop}
 use Rattle.redo_crc.proofs.TableLemmas.{register_after-cut}
 use Rattle.redo_crc.proofs.step.register_after.Goals as goal

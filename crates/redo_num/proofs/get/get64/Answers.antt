@@ -1,4 +1,4 @@
--- The high half, and the four bytes behind it.
+-- The high half, and the four bytes after it.
 use Rattle.std.proofs.Common.{◌≡◌, ◌+◌, ◌-◌, arith}
 use Rattle.model_base.proofs.ByteLemmas.{AreBytes-from_fits}
 use Rattle.redo_num.proofs.HalfLemmas.{low_half_fits, read_both, read_half, read_front, read_bad}

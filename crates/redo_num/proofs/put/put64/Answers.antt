@@ -1,4 +1,4 @@
--- The high half's spelling, and four bytes behind it.
+-- The high half's spelling, and four bytes after it.
 use Rattle.std.proofs.Common.{◌≡◌, ◌+◌, ◌-◌, ◌^◌, ◌/◌, ◌%◌, length, ◌∙◌, arith, length-append}
 use Rattle.std.specs.Int.{bytes_high_first}
 use Rattle.model_base.specs.{spelling32}

@@ -3,7 +3,7 @@ use Rattle.std.proofs.lemmas.List.{drop_at, drop-drop, length-take-le}
 use borrow.Rule.Slice.PartMut.{put_mid}
 use Rattle.redo_page.proofs.text.put.Goals as goal
 
--- what stands behind bytes that were put
+-- what stands after bytes that were put
 drop-put_mid : (at count k : ℕ) (bytes old : List ℕ) → count ≡ length bytes → at ≤ length old → at + length bytes ≤ k
     → drop k (put_mid at count old bytes) ≡ drop k old
 drop-put_mid at count k bytes old same within behind =

@@ -1,6 +1,7 @@
 use Rattle.std.proofs.Common.{ap, arith, sym, List, ◌∙◌}
 use Rattle.std.specs.Slots.{slots_filled, slots_items}
 use lib.ListN.{get_elem?}
+use Rattle.model_core.specs.{tail_of}
 use Rattle.redo_rule.proofs.Finishing.{all_empty, data_there, ends_with, list_there, log_there, parts_left, small, still_there}
 use Rattle.redo_rule.specs.declared.law.Slot.{Slot}
 use Rattle.redo_rule.proofs.closing.close_table.Goals as goal
@@ -58,4 +59,4 @@ data_in-requires g c = data_there g.L.Sectors.seen g.L.Sectors.gives g.D.Sectors
 
 pub returns : goal.returns
 returns g c = parts_left g.L.Sectors.seen g.L.Sectors.gives g.D.Sectors.seen g.D.Sectors.gives c.args.board.shared.key c.args.actors.now (slots_items c.close_with-closed.result.words) (slots_items c.close_with-closed.result.slots) (ends_with g.L.Sectors.seen g.L.Sectors.gives g.D.Sectors.seen g.D.Sectors.gives c.args.board.shared.key c.args.board.shared.table_id c.args.actors.now c.args.first c.requires (slots_items c.close_with-closed.result.words) (slots_items c.close_with-closed.result.slots) c.close_with-closed.ensures.values.2) _ c.take-log.result c.take-data.result c.take-log.ensures.value c.log_in.ensures (ap (λ (l : List (Slot _ _)). get_elem? l 5) (sym (c.take-d.ensures.others.0 ∙ c.take-c.ensures.others.0 ∙ c.take-b.ensures.others.0 ∙ c.take-a.ensures.others.0 ∙ c.take-log.ensures.others.0)) ∙ c.take-data.ensures.value) c.data_in.ensures
-    c.word_in.ensures c.word_in-2.ensures c.word_in-3.ensures c.word_in-4.ensures c.word_in-code.ensures
+    (c.tail_of.ensures ∙ ap tail_of c.word_in.ensures) c.word_in-2.ensures c.word_in-3.ensures c.word_in-4.ensures c.word_in-code.ensures

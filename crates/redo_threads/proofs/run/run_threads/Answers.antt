@@ -3,10 +3,14 @@ use Rattle.model_running.specs.Schedule.{HaveEnded}
 use Rattle.redo_drive.specs.History.{ListsInOrder}
 use Rattle.redo_drive.specs.Views.{views_of}
 use Rattle.redo_drive.specs.declared.actor.Actor.{Actor}
+use Rattle.redo_rule.specs.Cutting.{HoldNothing}
 use Rattle.redo_rule.specs.Sharing.{opened_of, script_of}
-use Rattle.redo_threads.proofs.Ending.{have_answered, have_ended}
+use Rattle.redo_threads.proofs.Ending.{have_answered, have_ended, hold_nothing}
 use Rattle.redo_threads.specs.Ended.{HaveAnswered}
 use Rattle.redo_threads.proofs.run.run_threads.Goals as goal
+
+pub finish-closed-requires-clause-rest : goal.finish-closed-requires-clause-rest
+finish-closed-requires-clause-rest g c = subst HoldNothing (sym c.as_slice-3.ensures.value) (hold_nothing c.play_all-seats.result.actors.items c.play_all-seats.ensures.at_end)
 
 pub returns-clause-run : goal.returns-clause-run
 returns-clause-run g c =

@@ -1,5 +1,5 @@
 -- What is lent is the batch's: its pages and lsns, and the user bytes of each page.
-use Rattle.std.proofs.Common.{List, subst, ℕ, ◌∙◌, ◌≡◌}
+use Rattle.std.proofs.Common.{subst, ◌∙◌, ◌≡◌}
 use Rattle.std.specs.Prelude.{map}
 use Rattle.std.specs.List.{flat_map}
 use Rattle.model_core.specs.{BatchPage, CleanerState}

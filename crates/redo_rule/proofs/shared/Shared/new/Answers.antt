@@ -1,9 +1,6 @@
-use Rattle.std.proofs.Common.{List, Some, ap, arith, refl, subst, sym, ◌∙◌, length}
-use Rattle.std.specs.Prelude.{vec_capacity}
-use Rattle.redo_drive.specs.declared.actor.Actor.{Actor}
+use Rattle.std.proofs.Common.{Some, ap, arith, refl, ◌∙◌, length}
 use Rattle.redo_rule.proofs.Opens.{opens_ok}
 use Rattle.redo_rule.proofs.Unseated.{about_begins, about_may, unseated}
-use Rattle.redo_rule.specs.Sharing.{IsUnseated}
 use Rattle.redo_rule.specs.declared.law.About.{About}
 use Rattle.redo_rule.proofs.shared.Shared.new.Goals as goal
 

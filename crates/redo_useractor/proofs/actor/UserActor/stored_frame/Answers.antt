@@ -1,4 +1,4 @@
--- It is at a word of the frame, and goes on behind the cells that it has stored there.
+-- It is at a word of the frame, and goes on after the cells that it has stored there.
 use Rattle.std.proofs.Common.{ap, arith, subst, sym, ◌+◌, ◌∙◌, ◌≡◌}
 use Rattle.model_core.specs.{change_at, line, Line, UserState}
 use Rattle.redo_useractor.specs.Places.{IsPlace}

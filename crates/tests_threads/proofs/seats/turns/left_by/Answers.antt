@@ -5,5 +5,5 @@ use Rattle.redo_rule.specs.Cutting.{AreFreeToCheck}
 use Rattle.tests_threads.proofs.seats.turns.left_by.Goals as goal
 
 pub all_hold_nothing-requires : goal.all_hold_nothing-requires
-all_hold_nothing-requires g c = subst (λ (l : List Actor). AreFreeToCheck l) (sym c.as_slice.ensures.value)
+all_hold_nothing-requires g c = subst (λ (l : List Actor). AreFreeToCheck l) (sym c.as_slice-actors.ensures.value)
     (seated_free c.ring.result.now.table_id c.play_all.new.seats.items c.play_all.new.actors.items c.play_all.ensures.seats)

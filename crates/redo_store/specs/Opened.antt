@@ -7,7 +7,7 @@ use Rattle.model_log.specs.declared.layout.TheConstants.{BLOCK_HEADER}
 use Rattle.model_page.specs.declared.content.Content.{Content}
 use Rattle.model_parts.specs.{first_marks}
 use Rattle.redo_apply.specs.{ArePagesOf}
-use Rattle.redo_pageactors.specs.declared.opened.Opened.{Opened}
+use Rattle.redo_store.specs.declared.opened.Opened.{Opened}
 
 -- It starts at the first data byte of a block, the pages and both parts are of the store's shape, no page is ahead of the
 -- start, no call has failed, and the marks of the log part are the start, with the newest checkpoint at its block.

@@ -1,9 +1,9 @@
 // A store that was opened.
+use crate::part::DataPart;
 use model_base::Shape;
 use redo_apply::Pages;
 use redo_disk::Sectors;
 use redo_logdev::LogPart;
-use redo_store::DataPart;
 
 /// A store on which a run can start.
 #[derive(Drop)]

@@ -1,4 +1,4 @@
-// A store behind a run.
+// A store after a run.
 use model_report::{History, Marks};
 use redo_disk::Sectors;
 use redo_logdev::LogPart;
