@@ -35,7 +35,7 @@ Yet it is recovered, with its byte 07. Bit 0 of the pick keeps its block; --pick
 stop two_users_one_page 1 20 'which commits a crash may take, by their modes.' \
     "The first group waited for the flush, and is the only one recovered. The second waited for the write,
 the fourth for nothing: both were answered and are gone. The third was never answered." \
-    crash --turns 2 --stop-log 24
+    crash --turns 30 --stop-log 24
 
 stop three_lines 1 20 'opening itself is stopped.' \
     "There was no run (open none), so all lines are left, and no page comes back. A store that is in use
@@ -44,11 +44,11 @@ comes back as it was." \
 
 stop torn_page 1 4 'a page is torn, and read from its copy.' \
     "The write of page 3 to its place fails, and half of its sectors survive: the place fails its check.
-The page is read from its doublewrite slot and the log: 0a is the last of the ten flushed values." \
+The page is read from its doublewrite slot and the log: 02 is the last of the two flushed values." \
     crash --stop-data 12 --pick 15
 
 stop log_wraps 32 9 'the log goes round, and a group across its end is lost whole.' \
     "The script is repeated 32 times. Its 125th group begins at 1056004 and lies across the log's end,
 at 1056768. Both of its writes came through, and their sync failed. The pick keeps the last blocks of the
 log and not its first ones. There an older round stands, so the group is not recovered." \
-    crash --stop-log 277 --pick 3
+    crash --stop-log 281 --pick 3

@@ -74,7 +74,7 @@ fn ensure(holds: bool, message: impl FnOnce() -> String) -> Result<(), String> {
     if holds { Ok(()) } else { Err(message()) }
 }
 
-/// Checks the report of a run on the store, and says what is known of the store behind it. Without a reading in the report
+/// Checks the report of a run on the store, and says what is known of the store after it. Without a reading in the report
 /// that is the opened store.
 pub fn check(store: &Store, asked: Asked, report: &Report) -> Result<Store, String> {
     ensure(asked.stops || !report.tells_failure(), || {
@@ -248,7 +248,7 @@ fn check_marks(asked: Asked, report: &Report, start: u64, marks: &Marks) -> Resu
     })
 }
 
-/// What is known of the store behind a run: the first groups of it, as many as came back.
+/// What is known of the store after a run: the first groups of it, as many as came back.
 fn read_behind(
     store: &Store,
     asked: Asked,

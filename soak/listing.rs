@@ -98,7 +98,7 @@ pub fn check_dump(store: &mut Store, text: &str) -> Result<usize, String> {
     }
 }
 
-/// The numbers behind the name of a line.
+/// The numbers after the name of a line.
 fn numbers<const N: usize>(line: Option<&str>, name: &str) -> Result<[u64; N], String> {
     let line = line.ok_or("`dump` ends too soon")?;
     let words = line.strip_suffix('\n').unwrap_or(line).split(' ');
@@ -126,7 +126,7 @@ fn groups_text(listed: &[&Logged], end: u64) -> String {
     text
 }
 
-/// Where the first group of a block starts, by block: the place behind a group that came from the block before, or a run's
+/// Where the first group of a block starts, by block: the place after a group that came from the block before, or a run's
 /// start.
 fn firsts(store: &Store) -> HashMap<u64, u64> {
     let mut firsts = HashMap::new();

@@ -14,7 +14,7 @@ pub fn sn_of(lsn: u64) -> u64 {
     lsn / BLOCK * BLOCK_DATA + (lsn % BLOCK).saturating_sub(BLOCK_HEADER).min(BLOCK_DATA)
 }
 
-/// The lsn so many bytes of groups behind another.
+/// The lsn so many bytes of groups after another.
 pub fn behind(lsn: u64, bytes: u64) -> u64 {
     lsn_of(sn_of(lsn) + bytes)
 }
@@ -23,7 +23,7 @@ pub fn block_of(lsn: u64) -> u64 {
     lsn - lsn % BLOCK
 }
 
-/// Where a run starts behind a log that ends there.
+/// Where a run starts after a log that ends there.
 pub fn start_after(end: u64) -> u64 {
     if end % BLOCK == BLOCK_HEADER {
         end

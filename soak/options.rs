@@ -97,7 +97,7 @@ fn draw_turns(draws: &mut Draws) -> Option<u64> {
     }
 }
 
-/// A number of calls: in opening, just behind it, in the run, or behind all.
+/// A number of calls: in opening, just after it, in the run, or after all.
 fn draw_stop(draws: &mut Draws, opening: u64, run: u64) -> u64 {
     match draws.below(10) {
         0 => draws.below(4),

@@ -35,7 +35,7 @@ pub struct Marks {
     pub checkpoint: u64,
 }
 
-/// What was read behind the crash: how many groups came back, where the log ends, and the lines of the pages.
+/// What was read after the crash: how many groups came back, where the log ends, and the lines of the pages.
 #[derive(Clone, Debug)]
 pub struct Recovered {
     pub count: usize,

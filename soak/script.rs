@@ -113,7 +113,7 @@ fn record_length(op: &Op, space: u32) -> u64 {
     }
 }
 
-/// How many bytes the group of a line has: a record's first byte says that it is alone, or a byte stands behind them all.
+/// How many bytes the group of a line has: a record's first byte says that it is alone, or a byte stands after them all.
 pub fn group_length(line: &Line, space: u32) -> u64 {
     let records: u64 = line.ops.iter().map(|op| record_length(op, space)).sum();
     records + u64::from(line.ops.len() > 1)

@@ -1,6 +1,6 @@
 //! The log device as the proved program writes it, over a device in memory: log blocks cut from the data of the groups,
 //! each with its number, length, first offset, checkpoint number and checksum, in one write from mark to mark, and a
-//! sync behind each.
+//! sync after each.
 
 use crate::checksum::crc32c;
 

@@ -1,6 +1,7 @@
 //! A running store as the proved program has it: the same words in one list, the same six actors, one Op a turn as a seed
 //! draws them, over devices in memory.
 
+mod advance;
 mod checkpointer;
 mod cleaner;
 mod closer;
@@ -93,7 +94,7 @@ fn seat_actors(script: &[ScriptLine], sizes: Sizes) -> Vec<Actor> {
     actors.push(Actor::Writer(Writer::new(START, sizes.log_blocks)));
     actors.push(Actor::Flusher(Flusher::new(START)));
     if !sizes.log_only {
-        actors.push(Actor::Closer(Closer::new(START)));
+        actors.push(Actor::Closer(Closer::new()));
         actors.push(Actor::Cleaner(Cleaner::new(sizes.pages)));
         actors.push(Actor::Checkpointer(Checkpointer::new(START)));
     }
@@ -132,8 +133,11 @@ fn called(answer: Result<(), Failure>, told: u64, code: u32) -> Answer {
 fn start_words(pages: u32) -> Vec<u64> {
     let mut words = vec![0; count(pages as usize)];
     words[SN] = sn_of(START);
-    for mark in [WRITE, WTAIL, FLUSHED, CTAIL] {
+    for mark in [WRITE, FLUSHED] {
         words[mark] = START;
+    }
+    for tail in [WTAIL, CTAIL] {
+        words[tail] = free(START);
     }
     words[CKPT] = floor(START);
     words[first(START)] = BLOCK_HEADER as u64;
@@ -308,13 +312,18 @@ impl Machine {
 
     /// WTAIL, WRITE, FLUSHED and CKPT.
     pub fn marks(&self) -> [u64; 4] {
-        [WTAIL, WRITE, FLUSHED, CKPT].map(|mark| self.parts.words[mark])
+        marks_in(|word| self.parts.words[word])
     }
 
-    /// The sums of the checksums of the log device's sectors behind the header, and of the data device's.
+    /// The sums of the checksums of the log device's sectors after the header, and of the data device's.
     pub fn sums(&self) -> [u64; 2] {
         [self.parts.log.sum(), self.parts.data.sum()]
     }
+}
+
+/// WTAIL, WRITE, FLUSHED and CKPT, of words that are read so.
+fn marks_in(read: impl Fn(usize) -> u64) -> [u64; 4] {
+    [tail_of(read(WTAIL)), read(WRITE), read(FLUSHED), read(CKPT)]
 }
 
 /// The groups of all users in lsn order.

@@ -59,7 +59,7 @@ fn checksums(blocks: &[u8]) -> u64 {
         .sum()
 }
 
-/// The data of the blocks; the unused bytes of the last one stand behind the groups.
+/// The data of the blocks; the unused bytes of the last one stand after the groups.
 fn joined(blocks: &[u8]) -> Vec<u8> {
     let blocks = blocks.chunks_exact(BLOCK_SIZE);
     blocks

@@ -162,7 +162,7 @@ fn lsn_of(sn: u64) -> u64 {
     blocks * BLOCK_SIZE as u64 + rest + BLOCK_HEADER as u64
 }
 
-/// The groups from the first one's start on, and the lsn behind the last; none where a group doesn't fit the store.
+/// The groups from the first one's start on, and the lsn after the last; none where a group doesn't fit the store.
 fn read_groups(
     views: &[View],
     joined: &[u8],

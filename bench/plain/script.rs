@@ -54,7 +54,7 @@ fn read_line(text: &[u8]) -> Option<ScriptLine> {
     Some(ScriptLine { user, mode, items })
 }
 
-/// What stands before the first space, and what behind it.
+/// What stands before the first space, and what after it.
 fn cut(text: &[u8]) -> Option<(&[u8], &[u8])> {
     let at = text.iter().position(|byte| *byte == b' ')?;
     Some((&text[..at], &text[at + 1..]))

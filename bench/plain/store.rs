@@ -110,7 +110,7 @@ pub fn checkpoint(block: &mut [u8], number: u64, lsn: u64, place: u64) {
 /// What the checkpoint says of the ring, which has no other value.
 const RING: u64 = 65_536;
 
-/// The data device: empty slots, and behind them the pages.
+/// The data device: empty slots, and after them the pages.
 pub fn data_bytes() -> Vec<u8> {
     let mut data = vec![0; PAGE_SIZE * (SLOTS + PAGES)];
     let places = data.chunks_exact_mut(PAGE_SIZE).skip(SLOTS);

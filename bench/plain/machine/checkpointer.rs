@@ -109,7 +109,7 @@ impl Checkpointer {
         }
         match self.step {
             Step::LoadCtail => {
-                self.to = n;
+                self.to = tail_of(n);
                 self.list = 0;
                 self.goes_on(Step::ReadList)
             }

@@ -1,31 +1,28 @@
-//! The closer: it follows the links of the recent-closed buffer and moves CTAIL.
+//! The closer: it advances CTAIL over the links of the recent-closed buffer.
 
+use super::advance::{Advance, Buffer, Came};
 use super::words::*;
 
 #[derive(Clone, Copy)]
 enum Step {
-    LoadClosedLink,
-    ClearClosedLink,
-    StoreCtail,
+    Advance,
     Failed,
 }
 
 pub struct Closer {
-    tail: u64,
-    link: u64,
+    advance: Advance,
     code: u32,
     checks: bool,
     step: Step,
 }
 
 impl Closer {
-    pub fn new(start: u64) -> Closer {
+    pub fn new() -> Closer {
         Closer {
-            tail: start,
-            link: 0,
+            advance: Advance::new(Buffer::Closed),
             code: 0,
             checks: false,
-            step: Step::LoadClosedLink,
+            step: Step::Advance,
         }
     }
 
@@ -34,16 +31,9 @@ impl Closer {
             return Op::Load(FAILED);
         }
         match self.step {
-            Step::LoadClosedLink => Op::Load(closed_link(self.tail)),
-            Step::ClearClosedLink => Op::Store(closed_link(self.tail), 0),
-            Step::StoreCtail => Op::Store(CTAIL, self.tail),
+            Step::Advance => self.advance.next(),
             Step::Failed => Op::Rest,
         }
-    }
-
-    fn goes_on(&mut self, step: Step) -> Turn {
-        self.step = step;
-        Turn::Moved
     }
 
     fn checked(&mut self, n: u64) -> Turn {
@@ -62,19 +52,13 @@ impl Closer {
             return self.checked(n);
         }
         match self.step {
-            Step::LoadClosedLink if n == 0 => {
-                self.checks = true;
-                Turn::Idle
-            }
-            Step::LoadClosedLink => {
-                self.link = n;
-                self.goes_on(Step::ClearClosedLink)
-            }
-            Step::ClearClosedLink => {
-                self.tail += self.link;
-                self.goes_on(Step::StoreCtail)
-            }
-            Step::StoreCtail => self.goes_on(Step::LoadClosedLink),
+            Step::Advance => match self.advance.took(n) {
+                Came::On | Came::Moved => Turn::Moved,
+                Came::Stayed => {
+                    self.checks = true;
+                    Turn::Idle
+                }
+            },
             Step::Failed => Turn::Failed(self.code),
         }
     }

@@ -84,7 +84,7 @@ impl<D: Sectors> LogPart<D> {
 }
 
 impl LogPart<Device> {
-    /// The sum of the checksums of the sectors behind the header's.
+    /// The sum of the checksums of the sectors after the header's.
     pub fn sum(&self) -> u64 {
         self.device.sum_from(1)
     }

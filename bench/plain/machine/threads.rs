@@ -2,7 +2,9 @@
 
 use super::parts::{DataPart, LogPart, data_length};
 use super::words::*;
-use super::{Actor, Entry, START, Sizes, called, history_of, log_length, seat_actors, start_words};
+use super::{
+    Actor, Entry, START, Sizes, called, history_of, log_length, marks_in, seat_actors, start_words,
+};
 use crate::device::{Failure, Sectors};
 use crate::script::ScriptLine;
 use crate::threads::backoff::Backoff;
@@ -107,23 +109,34 @@ impl<D: Sectors> Shared<D> {
     }
 }
 
+/// How many Ops an actor takes at most between two waits where it comes to nothing.
+fn ops_in_vain(actor: &Actor) -> u64 {
+    match actor {
+        // FAILED, a tail loaded twice, taken, and no link
+        Actor::User(_) | Actor::Writer(_) | Actor::Flusher(_) | Actor::Closer(_) => 5,
+        // fewer than it takes to load a page
+        Actor::Cleaner(_) => PAGE_SIZE as u64 / 8 - 1,
+        // FAILED, CTAIL, and each list taken and given
+        Actor::Checkpointer(_) => 2 + 2 * LISTS as u64,
+    }
+}
+
 fn play_to_end<D: Sectors>(shared: &Shared<D>, running: &AtomicU64, actor: &mut Actor) {
     let is_user = matches!(actor, Actor::User(_));
     let mut backoff = Backoff::new();
-    // what comes first after a wait is the load of FAILED, which moves nothing
-    let mut has_moved = true;
+    let in_vain = ops_in_vain(actor);
+    // how many Ops it has gone on since its last wait
+    let mut moved = 0u64;
     loop {
         let answer = shared.play(actor.next(), actor);
         match actor.took(answer) {
-            Turn::Moved => {
-                if has_moved {
-                    backoff.reset();
-                }
-                has_moved = true;
-            }
+            Turn::Moved => moved += 1,
             Turn::Idle if !is_user && running.load(SeqCst) == 0 => return,
             Turn::Idle => {
-                has_moved = false;
+                if moved > in_vain {
+                    backoff.reset();
+                }
+                moved = 0;
                 backoff.snooze();
             }
             Turn::Ended | Turn::Failed(_) => {
@@ -177,10 +190,8 @@ impl<D: Sectors + Send> Crew<D> {
                 scope.spawn(move || play_to_end(shared, running, actor));
             }
         });
-        history_of(
-            actors,
-            [WTAIL, WRITE, FLUSHED, CKPT].map(|mark| shared.word(mark).load(SeqCst)),
-        )
+        let marks = marks_in(|word| shared.word(word).load(SeqCst));
+        history_of(actors, marks)
     }
 }
 

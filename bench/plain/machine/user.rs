@@ -1,6 +1,7 @@
 //! A user: it reserves a place for the group of each of its lines, copies the group there, changes its pages, and awaits
 //! the mark that its line names.
 
+use super::advance::{Advance, Buffer, Came};
 use super::lsn::{floor, lsn_of};
 use super::words::*;
 use crate::group::ChangedPage;
@@ -24,8 +25,12 @@ enum Step {
     StoreCell,
     StoreFirst,
     LoadWtail,
+    AdvanceWritten,
+    ReloadWtail,
     StoreLink,
     LoadCtail,
+    AdvanceClosed,
+    ReloadCtail,
     LoadFrame,
     StoreFrame,
     StoreNewest,
@@ -51,6 +56,8 @@ pub struct User {
     page: usize,
     cell: usize,
     word: u64,
+    written: Advance,
+    closed: Advance,
     ckpt: u64,
     code: u32,
     checks: bool,
@@ -70,6 +77,8 @@ impl User {
             page: 0,
             cell: 0,
             word: 0,
+            written: Advance::new(Buffer::Written),
+            closed: Advance::new(Buffer::Closed),
             ckpt: 0,
             code: 0,
             checks: true,
@@ -138,9 +147,11 @@ impl User {
                 Op::Add(cell(lsn), u64::from_le_bytes(lanes))
             }
             Step::StoreFirst => Op::Store(first(self.end()), self.end() % BLOCK_SIZE as u64),
-            Step::LoadWtail => Op::Load(WTAIL),
+            Step::LoadWtail | Step::ReloadWtail => Op::Load(WTAIL),
+            Step::AdvanceWritten => self.written.next(),
             Step::StoreLink => Op::Store(written_link(start), self.end() - start),
-            Step::LoadCtail => Op::Load(CTAIL),
+            Step::LoadCtail | Step::ReloadCtail => Op::Load(CTAIL),
+            Step::AdvanceClosed => self.closed.next(),
             Step::LoadFrame => Op::Load(frame(self.page_number(), self.frame_word())),
             Step::StoreFrame => {
                 let mut lanes = self.word.to_le_bytes();
@@ -173,6 +184,20 @@ impl User {
     fn waits(&mut self) -> Turn {
         self.checks = true;
         Turn::Idle
+    }
+
+    fn waits_at(&mut self, step: Step) -> Turn {
+        self.step = step;
+        self.waits()
+    }
+
+    /// A step of an advance: where that moves the tail, the user loads the tail again, and else it waits.
+    fn advanced(&mut self, came: Came, load: Step, reload: Step) -> Turn {
+        match came {
+            Came::On => Turn::Moved,
+            Came::Moved => self.goes_on(reload),
+            Came::Stayed => self.waits_at(load),
+        }
     }
 
     fn checked(&mut self, n: u64) -> Turn {
@@ -226,8 +251,7 @@ impl User {
 
     fn checks_space(&mut self, n: u64) -> Turn {
         if lsn_of(n) + FREE_MARGIN > self.ckpt + BLOCK_SIZE as u64 * self.blocks {
-            self.step = Step::LoadCheckpoint;
-            return self.waits();
+            return self.waits_at(Step::LoadCheckpoint);
         }
         self.page = 0;
         if self.line().pages.is_empty() {
@@ -280,6 +304,7 @@ impl User {
         if self.checks {
             return self.checked(n);
         }
+        let start = lsn_of(self.start);
         match self.step {
             Step::LoadCheckpoint => {
                 self.ckpt = n;
@@ -291,12 +316,26 @@ impl User {
             Step::LoadWrite if self.end() < floor(n) + LOG_BUFFER => self.goes_on(Step::StoreCell),
             Step::StoreCell => self.copied(),
             Step::StoreFirst => self.goes_on(Step::LoadWtail),
-            Step::LoadWtail if lsn_of(self.start) < n + WRITTEN_LINKS => {
+            Step::LoadWtail | Step::ReloadWtail if start < tail_of(n) + WRITTEN_LINKS => {
                 self.goes_on(Step::StoreLink)
             }
+            Step::LoadWtail => self.goes_on(Step::AdvanceWritten),
+            Step::AdvanceWritten => {
+                let came = self.written.took(n);
+                self.advanced(came, Step::LoadWtail, Step::ReloadWtail)
+            }
+            Step::ReloadWtail => self.waits_at(Step::LoadWtail),
             Step::StoreLink if self.line().pages.is_empty() => self.linked(),
             Step::StoreLink => self.goes_on(Step::LoadCtail),
-            Step::LoadCtail if lsn_of(self.start) < n + CLOSED_LINKS => self.to_cells(),
+            Step::LoadCtail | Step::ReloadCtail if start < tail_of(n) + CLOSED_LINKS => {
+                self.to_cells()
+            }
+            Step::LoadCtail => self.goes_on(Step::AdvanceClosed),
+            Step::AdvanceClosed => {
+                let came = self.closed.took(n);
+                self.advanced(came, Step::LoadCtail, Step::ReloadCtail)
+            }
+            Step::ReloadCtail => self.waits_at(Step::LoadCtail),
             Step::LoadFrame => {
                 self.word = n;
                 self.goes_on(Step::StoreFrame)
@@ -318,12 +357,7 @@ impl User {
             }
             Step::ReleaseLatch => self.released(),
             Step::AwaitMark if self.end() <= n => self.answers(),
-            Step::TakeLatch
-            | Step::LoadWrite
-            | Step::LoadWtail
-            | Step::LoadCtail
-            | Step::AddToList
-            | Step::AwaitMark => self.waits(),
+            Step::TakeLatch | Step::LoadWrite | Step::AddToList | Step::AwaitMark => self.waits(),
             Step::Done => Turn::Ended,
             Step::Failed => Turn::Failed(self.code),
         }

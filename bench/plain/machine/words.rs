@@ -54,6 +54,15 @@ pub fn left_in_word(lsn: u64) -> u64 {
     (8 - lsn % 8).min(508 - lsn % 512)
 }
 
+/// The word of a tail that no actor holds. It is 1 more while one does.
+pub fn free(tail: u64) -> u64 {
+    2 * tail
+}
+
+pub fn tail_of(word: u64) -> u64 {
+    word / 2
+}
+
 /// The first offset of the block of an lsn.
 pub fn first(lsn: u64) -> usize {
     FIRST + (lsn / 512 % BUFFER_BLOCKS) as usize

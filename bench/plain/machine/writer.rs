@@ -1,14 +1,14 @@
-//! The writer: it follows the links of the recent-written buffer, reads the groups out of the log buffer and writes them.
+//! The writer: it advances WTAIL over the links of the recent-written buffer, reads the groups out of the log buffer and writes
+//! them.
 
+use super::advance::{Advance, Buffer, Came};
 use super::lsn::{lsn_of, sn_of};
 use super::words::*;
 use crate::log::{BLOCK_DATA, BLOCK_SIZE};
 
 #[derive(Clone, Copy)]
 enum Step {
-    LoadLink,
-    ClearLink,
-    StoreWtail,
+    Advance,
     LoadCheckpoint,
     LoadFirst,
     ClearFirst,
@@ -26,12 +26,13 @@ enum Step {
 
 pub struct Writer {
     blocks: u64,
+    advance: Advance,
+    // it writes up to this place
     tail: u64,
     write: u64,
     from: u64,
     pub kept: Vec<u8>,
     pub firsts: Vec<u16>,
-    link: u64,
     first: u16,
     word: u64,
     code: u32,
@@ -43,17 +44,17 @@ impl Writer {
     pub fn new(start: u64, blocks: u64) -> Writer {
         Writer {
             blocks,
+            advance: Advance::new(Buffer::Written),
             tail: start,
             write: start,
             from: sn_of(start),
             kept: Vec::with_capacity(LOG_BUFFER as usize),
             firsts: Vec::with_capacity(BUFFER_BLOCKS as usize),
-            link: 0,
             first: 0,
             word: 0,
             code: 0,
             checks: false,
-            step: Step::LoadLink,
+            step: Step::Advance,
         }
     }
 
@@ -66,9 +67,7 @@ impl Writer {
             return Op::Load(FAILED);
         }
         match self.step {
-            Step::LoadLink => Op::Load(written_link(self.tail)),
-            Step::ClearLink => Op::Store(written_link(self.tail), 0),
-            Step::StoreWtail => Op::Store(WTAIL, self.tail),
+            Step::Advance => self.advance.next(),
             Step::LoadCheckpoint => Op::Load(CKPT),
             Step::LoadFirst => Op::Load(first(self.place())),
             Step::ClearFirst => Op::Store(first(self.place()), 0),
@@ -115,12 +114,13 @@ impl Writer {
         }
     }
 
-    fn followed_link(&mut self) -> Turn {
-        self.tail += self.link;
-        if self.tail < self.write + WRITTEN_LINKS {
-            self.goes_on(Step::LoadLink)
+    /// The advance has ended, at the place that it has stored, or at the tail that it has loaded.
+    fn advanced(&mut self) -> Turn {
+        self.tail = self.advance.place;
+        if self.tail > self.write {
+            self.goes_on(Step::LoadCheckpoint)
         } else {
-            self.goes_on(Step::StoreWtail)
+            self.waits()
         }
     }
 
@@ -148,14 +148,10 @@ impl Writer {
             return self.checked(n);
         }
         match self.step {
-            Step::LoadLink if n != 0 => {
-                self.link = n;
-                self.goes_on(Step::ClearLink)
-            }
-            Step::LoadLink if self.tail == self.write => self.waits(),
-            Step::LoadLink => self.goes_on(Step::StoreWtail),
-            Step::ClearLink => self.followed_link(),
-            Step::StoreWtail => self.goes_on(Step::LoadCheckpoint),
+            Step::Advance => match self.advance.took(n) {
+                Came::On => Turn::Moved,
+                Came::Stayed | Came::Moved => self.advanced(),
+            },
             Step::LoadCheckpoint => self.checks_space(n),
             Step::LoadFirst => {
                 self.first = n as u16;
@@ -209,7 +205,7 @@ impl Writer {
                 _ => self.goes_on(Step::StoreWrite),
             },
             Step::StoreWrite => self.written(),
-            Step::GiveDevice => self.goes_on(Step::LoadLink),
+            Step::GiveDevice => self.goes_on(Step::Advance),
             Step::StoreFailed => self.goes_on(Step::GiveFailed),
             Step::GiveFailed | Step::Failed => self.fails(),
         }
