@@ -4,7 +4,7 @@ use Rattle.std.proofs.lemmas.Bool.{cases_lt}
 use Rattle.std.proofs.lemmas.List.{same_lists, get_or-take, get_or-drop}
 use Rattle.model_base.specs.declared.limits.TheConstants.{BLOCK_SIZE}
 use Rattle.model_device.specs.declared.write.Write.{Write}
-use Rattle.model_device.specs.Disk.{Disk, sector, Covers, written_sector, IsWrittenBy, IsImage, after_write, settled, HasOneImage}
+use Rattle.model_device.specs.Disk.{Disk, sector, Covers, written_sector, IsCovered, IsImage, IsWrittenBy, after_write, settled, HasOneImage}
 use Rattle.model_device.specs.Calls.{written}
 use Rattle.model_device.specs.Within.{IsSectorWrite}
 use Rattle.model_device.proofs.Overwritten.{length-overwritten, part-overwritten_before, part-overwritten_behind, part-overwritten_inside}
@@ -22,17 +22,32 @@ sector-after_write image write k sectors =
       ]
     ]
 
--- a write that puts only what the device's writes put makes an image of an image
-pub IsImage-after_write : (disk : Disk) (image : List ℕ) (write : Write) → IsSectorWrite (length disk.base) write → ((k : ℕ) → Covers write k → IsWrittenBy disk.writes k (written_sector write k)) → IsImage disk image → IsImage disk (after_write image write)
-IsImage-after_write disk image write sectors puts is_image =
+-- a write that covers only sectors that the device's writes cover makes an image of an image
+pub IsImage-after_write : (disk : Disk) (image : List ℕ) (write : Write) → IsSectorWrite (length disk.base) write → ((k : ℕ) → Covers write k → IsCovered disk.writes k) → IsImage disk image → IsImage disk (after_write image write)
+IsImage-after_write disk image write sectors covered is_image =
     let fits : IsSectorWrite (length image) write = subst (λ n. IsSectorWrite n write) (sym is_image.same_length) sectors in
     record {
       same_length = length-overwritten write.at write.bytes image fits.within ∙ is_image.same_length;
       each = λ k inside. elim (sector-after_write image write k fits) [
-        | inl new ↦ inr (subst (λ bytes. IsWrittenBy disk.writes k bytes) (sym new.1) (puts k new.0))
-        | inr old ↦ subst (λ bytes. (bytes ≡ sector k disk.base) ⊎ IsWrittenBy disk.writes k bytes) (sym old) (is_image.each k inside)
+        | inl new ↦ inr (covered k new.0)
+        | inr old ↦ subst (λ bytes. (bytes ≡ sector k disk.base) ⊎ IsCovered disk.writes k) (sym old) (is_image.each k inside)
       ];
     }
+
+-- a sector that a write puts something into is covered
+pub IsCovered-written_by : (writes : List Write) (k : ℕ) (bytes : List ℕ) → IsWrittenBy writes k bytes → IsCovered writes k
+IsCovered-written_by [] k bytes h = absurd h
+IsCovered-written_by (write ∷ writes) k bytes h =
+    elim h [ inl here ↦ inl here.0 | inr there ↦ inr (IsCovered-written_by writes k bytes there) ]
+
+pub IsCovered-append_left : (writes more : List Write) (k : ℕ) → IsCovered writes k → IsCovered (writes ++ more) k
+IsCovered-append_left [] more k h = absurd h
+IsCovered-append_left (write ∷ writes) more k h =
+    elim h [ inl here ↦ inl here | inr there ↦ inr (IsCovered-append_left writes more k there) ]
+
+pub IsCovered-push : (writes : List Write) (write : Write) (k : ℕ) → Covers write k → IsCovered (writes ++ write ∷ []) k
+IsCovered-push [] write k covers = inl covers
+IsCovered-push (first ∷ writes) write k covers = inr (IsCovered-push writes write k covers)
 
 pub IsWrittenBy-append_left : (writes more : List Write) (k : ℕ) (bytes : List ℕ) → IsWrittenBy writes k bytes → IsWrittenBy (writes ++ more) k bytes
 IsWrittenBy-append_left [] more k bytes h = absurd h
@@ -49,14 +64,14 @@ IsImage-written disk write image is_image = record {
   same_length = is_image.same_length;
   each = λ k inside. elim (is_image.each k inside) [
     | inl base ↦ inl base
-    | inr new ↦ inr (IsWrittenBy-append_left disk.writes (write ∷ []) k _ new)
+    | inr new ↦ inr (IsCovered-append_left disk.writes (write ∷ []) k new)
   ];
 }
 
 -- what reads give after a write is an image, if it was one before
 pub written_reads : (disk : Disk) (write : Write) → IsImage disk disk.reads → IsSectorWrite (length disk.base) write → IsImage (written disk write) (written disk write).reads
 written_reads disk write is_image sectors =
-    IsImage-after_write (written disk write) disk.reads write sectors (IsWrittenBy-push disk.writes write) (IsImage-written disk write disk.reads is_image)
+    IsImage-after_write (written disk write) disk.reads write sectors (IsCovered-push disk.writes write) (IsImage-written disk write disk.reads is_image)
 
 get_or-sector : (k i : ℕ) (xs : List ℕ) (d : ℕ) → i < BLOCK_SIZE → get_or (sector k xs) i d ≡ get_or xs (BLOCK_SIZE * k + i) d
 get_or-sector k i xs d inside =

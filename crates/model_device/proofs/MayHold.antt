@@ -1,23 +1,14 @@
--- What the calls of a device do to what a crash may leave in a sector.
-use Rattle.std.proofs.Common.{◌≡◌, ◌≤◌, ◌<◌, ◌+◌, ◌-◌, ◌*◌, ◌⊎◌, ℕ, inl, inr, List, [], ◌∷◌, ◌++◌, length, take, drop, refl, sym, ap, subst, ◌∙◌, ⊎_elim, length-take, length-drop, arith}
+-- What the calls of a device do to the whole contents that a sector may hold, and what stands there in an image.
+use Rattle.std.proofs.Common.{◌≡◌, ◌≤◌, ◌+◌, ◌-◌, ◌*◌, ◌⊎◌, ℕ, inl, inr, List, [], ◌∷◌, ◌++◌, length, take, drop, refl, sym, ap, subst, ◌∙◌, ⊎_elim, length-take, length-drop, arith}
 use Rattle.std.proofs.lemmas.List.{take_all}
 use Rattle.model_base.specs.declared.limits.TheConstants.{BLOCK_SIZE}
 use Rattle.model_device.specs.Calls.{written, synced, FailsWrite}
-use Rattle.model_device.specs.Disk.{Disk, sector, IsImage, HasOneImage, IsWrittenBy, Covers, written_sector, after_write}
+use Rattle.model_device.specs.Disk.{Disk, sector, IsCovered, IsImage, HasOneImage, IsWrittenBy, Covers, written_sector, after_write}
 use Rattle.model_device.specs.MayHold.{Adds, MayHold}
 use Rattle.model_device.specs.Within.{IsSectorWrite}
 use Rattle.model_device.specs.declared.write.Write.{Write}
-use Rattle.model_device.proofs.Images.{IsImage-after_write, IsWrittenBy-append_left, IsWrittenBy-push}
+use Rattle.model_device.proofs.Images.{IsCovered-written_by, IsImage-after_write, IsWrittenBy-append_left, IsWrittenBy-push}
 use Rattle.model_device.proofs.Overwritten.{part-overwritten_inside}
-
--- an image holds in each sector what it may hold
-pub holds-sector : (disk : Disk) (image : List ℕ) (k : ℕ) → IsImage disk image → BLOCK_SIZE * k < length disk.base → MayHold disk k (sector k image)
-holds-sector disk image k is within = is.each k within
-
--- and whatever holds in each sector what that may hold is an image
-pub image-of_sectors : (disk : Disk) (image : List ℕ) → length image ≡ length disk.base
-    → ((k : ℕ) → BLOCK_SIZE * k < length disk.base → MayHold disk k (sector k image)) → IsImage disk image
-image-of_sectors disk image same each = record { same_length = same; each = each }
 
 pushed-by : (writes : List Write) (write : Write) (k : ℕ) (bytes : List ℕ) → IsWrittenBy (writes ++ write ∷ []) k bytes
     → IsWrittenBy writes k bytes ⊎ (Covers write k × (bytes ≡ written_sector write k))
@@ -75,33 +66,39 @@ length-written (write ∷ writes) k bytes is =
 base-image : (disk : Disk) → IsImage disk disk.base
 base-image disk = record { same_length = refl; each = λ k inside. inl refl }
 
--- what a write put into a sector stands there in an image: the one that reads give, with these bytes in the sector
-sector-image : (disk : Disk) (k : ℕ) (bytes : List ℕ) → IsImage disk disk.reads → BLOCK_SIZE * k + BLOCK_SIZE ≤ length disk.base → IsWrittenBy disk.writes k bytes
-    → IsImage disk (after_write disk.reads (record { at = BLOCK_SIZE * k; bytes = bytes }))
+-- any bytes stand in a covered sector of an image: the one that reads give, with these bytes in the sector
+sector-image : (disk : Disk) (k : ℕ) (bytes : List ℕ) → IsImage disk disk.reads → BLOCK_SIZE * k + BLOCK_SIZE ≤ length disk.base → IsCovered disk.writes k
+    → length bytes ≡ BLOCK_SIZE → IsImage disk (after_write disk.reads (record { at = BLOCK_SIZE * k; bytes = bytes }))
     × (sector k (after_write disk.reads (record { at = BLOCK_SIZE * k; bytes = bytes })) ≡ bytes)
-sector-image disk k bytes reads within new =
+sector-image disk k bytes reads within covered long =
     let write : Write = record { at = BLOCK_SIZE * k; bytes = bytes } in
-    let long : length bytes ≡ BLOCK_SIZE = length-written disk.writes k bytes new in
     let sectors : IsSectorWrite (length disk.base) write = record { aligned = omega arith; whole = omega arith; within = omega arith } in
     let none : BLOCK_SIZE * k - BLOCK_SIZE * k ≡ 0 = omega arith in
     let text : written_sector write k ≡ bytes = ap (λ n. take BLOCK_SIZE (drop n bytes)) none ∙ take_all BLOCK_SIZE bytes (omega arith) in
-    let puts : (j : ℕ) → Covers write j → IsWrittenBy disk.writes j (written_sector write j) = λ j covers.
+    let each : (j : ℕ) → Covers write j → IsCovered disk.writes j = λ j covers.
     let same : k ≡ j = omega (arith, covers.from, covers.up_to) in
-    subst (λ (n : ℕ). IsWrittenBy disk.writes n (written_sector write n)) same (subst (λ (x : List ℕ). IsWrittenBy disk.writes k x) (sym text) new) in
+    subst (λ (n : ℕ). IsCovered disk.writes n) same covered in
     let there : sector k (after_write disk.reads write) ≡ written_sector write k =
     part-overwritten_inside BLOCK_SIZE (BLOCK_SIZE * k) (BLOCK_SIZE * k) bytes disk.reads (omega arith) (omega arith) (omega (arith, reads.same_length)) in
-    (IsImage-after_write disk disk.reads write sectors puts reads, there ∙ text)
+    (IsImage-after_write disk disk.reads write sectors each reads, there ∙ text)
 
--- what a sector may hold stands there in some image
+-- any bytes stand in a covered sector of some image
+pub covered-stands : (disk : Disk) (k : ℕ) (bytes : List ℕ) → IsImage disk disk.reads → BLOCK_SIZE * k + BLOCK_SIZE ≤ length disk.base → IsCovered disk.writes k
+    → length bytes ≡ BLOCK_SIZE → (image : List ℕ) × IsImage disk image × (sector k image ≡ bytes)
+covered-stands disk k bytes reads within covered long =
+    let found = sector-image disk k bytes reads within covered long in
+    (after_write disk.reads (record { at = BLOCK_SIZE * k; bytes = bytes }), found.0, found.1)
+
+-- what a sector may hold whole stands there in some image
 pub sector-stands : (disk : Disk) (k : ℕ) (bytes : List ℕ) → IsImage disk disk.reads → BLOCK_SIZE * k + BLOCK_SIZE ≤ length disk.base → MayHold disk k bytes
     → (image : List ℕ) × IsImage disk image × (sector k image ≡ bytes)
 sector-stands disk k bytes reads within may =
     ⊎_elim (λ base. (disk.base, base-image disk, sym base))
-    (λ new. let found = sector-image disk k bytes reads within new in (after_write disk.reads (record { at = BLOCK_SIZE * k; bytes = bytes }), found.0, found.1)) may
+    (λ new. covered-stands disk k bytes reads within (IsCovered-written_by disk.writes k bytes new) (length-written disk.writes k bytes new)) may
 
 -- where there is one image, a sector may hold what stands there, and nothing else
 pub one-sector : (disk : Disk) (k : ℕ) (bytes : List ℕ) → HasOneImage disk disk.reads → IsImage disk disk.reads → BLOCK_SIZE * k + BLOCK_SIZE ≤ length disk.base
     → MayHold disk k bytes → bytes ≡ sector k disk.reads
 one-sector disk k bytes one reads within may =
-    ⊎_elim (λ base. base ∙ ap (sector k) (one disk.base (base-image disk)))
-    (λ new. let found = sector-image disk k bytes reads within new in sym found.1 ∙ ap (sector k) (one _ found.0)) may
+    let found = sector-stands disk k bytes reads within may in
+    sym found.2 ∙ ap (sector k) (one found.0 found.1)

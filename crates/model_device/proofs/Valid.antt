@@ -2,12 +2,12 @@
 use Rattle.std.proofs.Common.{◌≡◌, ◌%◌, ◌⊎◌, ℕ, inl, inr, List, [], ◌∷◌, ◌++◌, length, refl, sym, ap, subst, ◌∙◌, ⊎_elim}
 use Rattle.std.proofs.lemmas.List.Elements.{All-nil, All-cons, All-append}
 use Rattle.model_base.specs.declared.limits.TheConstants.{BLOCK_SIZE}
-use Rattle.model_device.specs.Calls.{Crashes, FailsWrite, IsMixed, synced, written}
-use Rattle.model_device.specs.Disk.{Disk, IsImage, IsWrittenBy, sector, settled}
+use Rattle.model_device.specs.Calls.{Crashes, FailsWrite, IsSameBeside, synced, written}
+use Rattle.model_device.specs.Disk.{Disk, IsCovered, IsImage, sector, settled}
 use Rattle.model_device.specs.Valid.{IsValid}
 use Rattle.model_device.specs.Within.{AreSectorWrites, IsSectorWrite}
 use Rattle.model_device.specs.declared.write.Write.{Write}
-use Rattle.model_device.proofs.Images.{IsWrittenBy-append_left, IsWrittenBy-push, settled_images, written_reads}
+use Rattle.model_device.proofs.Images.{IsCovered-append_left, IsCovered-push, settled_images, written_reads}
 
 AreSectorWrites-push : (size : ℕ) (writes : List Write) (write : Write) → AreSectorWrites size writes → IsSectorWrite size write → AreSectorWrites size (writes ++ write ∷ [])
 AreSectorWrites-push size writes write each one =
@@ -21,15 +21,15 @@ IsValid-written disk write valid sectors = record {
 }
 
 -- what reads give of a write that failed, once it is pending, is an image
-mixed-image : (old : Disk) (write : Write) (reads : List ℕ) → IsImage old old.reads → IsMixed write old.reads reads
+beside-image : (old : Disk) (write : Write) (reads : List ℕ) → IsImage old old.reads → IsSameBeside write old.reads reads
     → IsImage (record { base = old.base; writes = old.writes ++ write ∷ []; reads = reads }) reads
-mixed-image old write reads image mixed = record {
-  same_length = mixed.same_length ∙ image.same_length;
+beside-image old write reads image beside = record {
+  same_length = beside.same_length ∙ image.same_length;
   each = λ k inside.
-      let Holds : List ℕ → Type 0 = λ bytes. (bytes ≡ sector k old.base) ⊎ IsWrittenBy (old.writes ++ write ∷ []) k bytes in
-      ⊎_elim (λ same. subst Holds (sym same) (⊎_elim (λ base. inl base) (λ put. inr (IsWrittenBy-append_left old.writes (write ∷ []) k _ put)) (image.each k inside)))
-      (λ new. subst Holds (sym new.1) (inr (IsWrittenBy-push old.writes write k new.0)))
-      (mixed.each k);
+      let Holds : List ℕ → Type 0 = λ bytes. (bytes ≡ sector k old.base) ⊎ IsCovered (old.writes ++ write ∷ []) k in
+      ⊎_elim (λ same. subst Holds (sym same) (⊎_elim (λ base. inl base) (λ covered. inr (IsCovered-append_left old.writes (write ∷ []) k covered)) (image.each k inside)))
+      (λ covers. inr (IsCovered-push old.writes write k covers))
+      (beside.each k);
 }
 
 -- a device of these three parts
@@ -45,7 +45,7 @@ IsValid-failed old new write valid sectors fails =
     (λ pending. subst Valid (sym (from-parts old.base new.reads (old.writes ++ write ∷ []) new fails.base pending.0 refl)) (record {
       whole_sectors = valid.whole_sectors;
       writes = AreSectorWrites-push (length old.base) old.writes write valid.writes sectors;
-      reads = mixed-image old write new.reads valid.reads pending.1;
+      reads = beside-image old write new.reads valid.reads pending.1;
     }))
     fails.pending
 

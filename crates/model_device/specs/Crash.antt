@@ -19,16 +19,22 @@ sector_writes write = sectors_from (length write.bytes / BLOCK_SIZE) write.at wr
 abbrev pub survives : ℕ → ℕ → Bool
 survives pick i = pick / 2 ^ (i % 64) % 2 == 1
 
--- those that survive of these, the first of which has the number i
-abbrev pub survivors : ℕ → ℕ → List Write → List Write
-survivors pick i [] = []
-survivors pick i (write ∷ writes) =
-    if survives pick i then write ∷ survivors pick (i + 1) writes else survivors pick (i + 1) writes
+-- the write of its first so many bytes alone
+abbrev pub cut_to : ℕ → Write → Write
+cut_to cut write = record write { bytes = take cut write.bytes }
 
--- what a crash with this pick leaves: of the sector writes since the last good sync, those that survive
-abbrev pub crash_image : ℕ → Disk → List ℕ
-crash_image pick disk = after_writes disk.base (survivors pick 0 (flat_map sector_writes disk.writes))
+-- what is left of these sector writes, the first of which has the number i: all of one that survives, and of each other
+-- one its first bytes
+abbrev pub left_of : ℕ → ℕ → ℕ → List Write → List Write
+left_of cut pick i [] = []
+left_of cut pick i (write ∷ writes) =
+    (if survives pick i then write else cut_to cut write) ∷ left_of cut pick (i + 1) writes
+
+-- What a crash with this pick leaves: the sector writes since the last good sync, of which those that don't survive are
+-- torn after so many bytes. Where that is 0, nothing is left of them.
+abbrev pub crash_image : ℕ → ℕ → Disk → List ℕ
+crash_image cut pick disk = after_writes disk.base (left_of cut pick 0 (flat_map sector_writes disk.writes))
 
 -- the device after a crash with this pick
-abbrev pub crashed : ℕ → Disk → Disk
-crashed pick disk = settled (crash_image pick disk)
+abbrev pub crashed : ℕ → ℕ → Disk → Disk
+crashed cut pick disk = settled (crash_image cut pick disk)

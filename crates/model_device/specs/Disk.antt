@@ -1,6 +1,6 @@
 -- A device is a row of sectors of 512 bytes. What it means is plain data: what stood there at the last good sync, the
--- writes since, and what reads give. An image is what a crash may leave: each sector on its own is as it stood at the
--- sync, or as one of the writes since made it. So a sector is never torn, and writes may be kept in any choice.
+-- writes since, and what reads give. An image is what a crash may leave: a sector that one of the writes since covers may
+-- hold any bytes, and each other one holds what stood there at the sync.
 use Rattle.std.specs.Prelude.{ℕ, ◌≡◌, ◌≤◌, ◌<◌, ◌+◌, ◌-◌, ◌*◌, ◌⊎◌, List, [], ◌∷◌, length, take, drop, fold}
 use Rattle.model_base.specs.{overwritten}
 use Rattle.model_base.specs.declared.limits.TheConstants.{BLOCK_SIZE}
@@ -33,11 +33,16 @@ abbrev pub IsWrittenBy : List Write → ℕ → List ℕ → Type 0
 IsWrittenBy [] k bytes = ⊥
 IsWrittenBy (write ∷ writes) k bytes = (Covers write k × (bytes ≡ written_sector write k)) ⊎ IsWrittenBy writes k bytes
 
--- An image: each sector holds what it held at the last good sync, or what one of the writes since put there.
+-- one of the writes covers the sector
+abbrev pub IsCovered : List Write → ℕ → Type 0
+IsCovered [] k = ⊥
+IsCovered (write ∷ writes) k = Covers write k ⊎ IsCovered writes k
+
+-- An image: each sector holds what it held at the last good sync, or one of the writes since covers it.
 pub record IsImage (disk : Disk) (image : List ℕ) : Type 0 where
   pub same_length : length image ≡ length disk.base
   pub each : (k : ℕ) → BLOCK_SIZE * k < length disk.base →
-      (sector k image ≡ sector k disk.base) ⊎ IsWrittenBy disk.writes k (sector k image)
+      (sector k image ≡ sector k disk.base) ⊎ IsCovered disk.writes k
 
 -- the bytes after a write is applied whole
 abbrev pub after_write : List ℕ → Write → List ℕ

@@ -3,16 +3,16 @@ ghost use Rattle.std.specs.Prelude.{ℕ, List, ◌≡◌, ◌+◌, ◌*◌, ◌%
 ghost use Rattle.model_base.specs.declared.limits.TheConstants.{BLOCK_SIZE};
 ghost use Rattle.model_device.specs.Calls.{Crashes, FailsWrite, synced, written};
 ghost use Rattle.model_device.specs.Crash.{crash_image};
-ghost use Rattle.model_device.specs.Disk.{Covers, Disk, HasOneImage, IsImage, sector, settled, written_sector};
+ghost use Rattle.model_device.specs.Disk.{Covers, Disk, HasOneImage, IsCovered, IsImage, sector, settled, written_sector};
 ghost use Rattle.model_device.specs.MayHold.{Adds, MayHold};
 ghost use Rattle.model_device.specs.Valid.{IsValid};
 ghost use Rattle.model_device.specs.Within.{IsSectorWrite, AreSectorWrites};
 ghost use Rattle.model_device.specs.declared.write.Write.{Write};
 
-/// Whichever sector writes a crash lets survive, it leaves an image of the device.
+/// Whichever sector writes a crash lets survive, and wherever it tears the others, it leaves an image of the device.
 pub fn crash_leaves_an_image()
-    ensures { (disk : Disk) (pick : ℕ) → AreSectorWrites (length disk.base) disk.writes
-        → IsImage disk (crash_image pick disk) }
+    ensures { (disk : Disk) (cut pick : ℕ) → AreSectorWrites (length disk.base) disk.writes
+        → IsImage disk (crash_image cut pick disk) }
 {}
 
 /// A device with no write since the last good sync has one image: what it holds.
@@ -32,18 +32,17 @@ pub fn calls_keep_a_device_valid()
     ensures crash { (old new : Disk) → IsValid old → Crashes old new → IsValid new }
 {}
 
-/// The images of a device, sector by sector: each sector of an image holds what the sector may hold, and whatever holds
-/// in each sector something that the sector may hold is an image. Of a valid device each such choice stands in an image.
-pub fn images_are_made_of_sectors()
-    ensures holds { (disk : Disk) (image : List ℕ) (k : ℕ) → IsImage disk image → BLOCK_SIZE * k < length disk.base
-        → MayHold disk k (sector k image) }
-    ensures made { (disk : Disk) (image : List ℕ) → length image ≡ length disk.base
-        → ((k : ℕ) → BLOCK_SIZE * k < length disk.base → MayHold disk k (sector k image)) → IsImage disk image }
-    ensures stands { (disk : Disk) (k : ℕ) (bytes : List ℕ) → IsValid disk → BLOCK_SIZE * k + BLOCK_SIZE ≤ length disk.base
+/// A sector that a write since the last good sync covers may hold any bytes after a crash: of a valid device they stand
+/// there in an image. So does each whole content that a sector may hold.
+pub fn sectors_stand_in_images()
+    ensures torn { (disk : Disk) (k : ℕ) (bytes : List ℕ) → IsValid disk → BLOCK_SIZE * k + BLOCK_SIZE ≤ length disk.base
+        → IsCovered disk.writes k → length bytes ≡ BLOCK_SIZE
+        → (image : List ℕ) × IsImage disk image × (sector k image ≡ bytes) }
+    ensures whole { (disk : Disk) (k : ℕ) (bytes : List ℕ) → IsValid disk → BLOCK_SIZE * k + BLOCK_SIZE ≤ length disk.base
         → MayHold disk k bytes → (image : List ℕ) × IsImage disk image × (sector k image ≡ bytes) }
 {}
 
-/// What the calls do to what a sector may hold. A good write adds what it puts there, a failed one adds that at the most,
+/// What the calls do to the whole contents that a sector may hold. A good write adds what it puts there, a failed one adds that at the most,
 /// and after a good sync only what reads give is left.
 pub fn calls_add_to_sectors()
     ensures adds { (disk : Disk) (write : Write) → Adds write disk (written disk write) }

@@ -7,6 +7,6 @@ mod write;
 
 pub use laws::{
     calls_add_to_sectors, calls_keep_a_device_valid, crash_leaves_an_image,
-    images_are_made_of_sectors, settled_has_one_image,
+    sectors_stand_in_images, settled_has_one_image,
 };
 pub use write::Write;

@@ -57,7 +57,7 @@ pub record ReadStep (at count : ℕ) (old : Seen) (result : Result (Unit {0}) De
   pub size : new.size ≡ old.size
   pub cause : HasCause old.faults new.faults result
 
--- A write. Where it fails it may be done all the same, whole or in part.
+-- A write. Where it fails the sectors that it covers may hold any bytes.
 pub record WriteStep (write : Write) (old : Seen) (result : Result (Unit {0}) DevError) (new : Seen) : Type 0 where
   pub ok : OnOk result (OnTold old.tells new.tells (λ before after. after ≡ written before write))
   pub err : OnErr result (OnTold old.tells new.tells (FailsWrite write))

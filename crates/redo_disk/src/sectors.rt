@@ -34,7 +34,7 @@ pub trait Sectors {
         ensures step { ReadStep at (length out.old) (seen self.old) result out.new (seen self.new) }
         ensures gives { MakesCall gives self.old (Reads at out.old result out.new) self.new };
 
-    /// Writes bytes from an offset on. Where it fails, the write may be done all the same, whole or in part.
+    /// Writes bytes from an offset on. Where it fails, the sectors of that range may hold any bytes.
     fn write(&mut self, at: u64, bytes: &[u8]) -> Result<(), DevError>
         requires { IsRange (seen self.old).size at (length bytes.now) }
         ensures step { WriteStep (write_at at bytes.now) (seen self.old) result (seen self.new) }

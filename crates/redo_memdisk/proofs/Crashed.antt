@@ -10,21 +10,21 @@ use Rattle.redo_memdisk.specs.Memory.{pending_disk}
 use Rattle.redo_memdisk.proofs.Applied.{HasSize-sectors}
 use Rattle.redo_memdisk.proofs.Writes.{FailsWrite-written}
 
-Crashes-pending : (pick : ℕ) (base : List ℕ) (writes : List Write) (new : Disk) → AreSectorWrites (length base) writes
-    → new ≡ crashed pick (pending_disk base writes) → Crashes (pending_disk base writes) new
-Crashes-pending pick base writes new sectors new_is = record {
-  image = crash_image pick (pending_disk base writes);
-  possible = IsImage-crash_image (pending_disk base writes) pick sectors;
+Crashes-pending : (cut pick : ℕ) (base : List ℕ) (writes : List Write) (new : Disk) → AreSectorWrites (length base) writes
+    → new ≡ crashed cut pick (pending_disk base writes) → Crashes (pending_disk base writes) new
+Crashes-pending cut pick base writes new sectors new_is = record {
+  image = crash_image cut pick (pending_disk base writes);
+  possible = IsImage-crash_image (pending_disk base writes) cut pick sectors;
   left = new_is;
 }
 
 -- the crash as a reader sees it
-pub CrashStep-pending : (pick : ℕ) (base : List ℕ) (writes : List Write) (new : Disk) (before after : Option Disk) (faults : ℕ) → AreSectorWrites (length base) writes
-    → new ≡ crashed pick (pending_disk base writes) → after ≡ Some (pending_disk base writes)
+pub CrashStep-pending : (cut pick : ℕ) (base : List ℕ) (writes : List Write) (new : Disk) (before after : Option Disk) (faults : ℕ) → AreSectorWrites (length base) writes
+    → new ≡ crashed cut pick (pending_disk base writes) → after ≡ Some (pending_disk base writes)
     → CrashStep (record { size = length base; tells = Some (pending_disk base writes); crashed_from = before; faults = faults })
     (record { size = length new.base; tells = Some new; crashed_from = after; faults = faults })
-CrashStep-pending pick base writes new before after faults sectors new_is after_is =
-    let crashes = Crashes-pending pick base writes new sectors new_is in
+CrashStep-pending cut pick base writes new before after faults sectors new_is after_is =
+    let crashes = Crashes-pending cut pick base writes new sectors new_is in
     record {
       left = (new, refl, crashes);
       from = after_is;

@@ -4,8 +4,8 @@ pub mod Behind
 pub mod Counted
 pub mod Counts
 pub mod Crashed
+pub mod Left
 pub mod Overlay
 pub mod ReadOn
-pub mod Survivors
 pub mod Writers
 pub mod Writes

@@ -1,9 +1,9 @@
 -- A device in memory: what it means, and what its calls do to it.
-use Rattle.std.specs.Prelude.{ℕ, ◌≡◌, if◌then◌else◌, List, length, Option, Some, Result, Ok, Err, OnOk, OnErr}
-use Rattle.model_device.specs.{after_writes, crashed, synced, written}
+use Rattle.std.specs.Prelude.{ℕ, ◌≡◌, if◌then◌else◌, List, length, replicate, Option, Some, None, Result, Ok, Err, OnOk, OnErr}
+use Rattle.model_device.specs.{after_writes, crashed, settled, synced, written}
 use Rattle.model_device.specs.Disk.{Disk}
 use Rattle.model_device.specs.declared.write.Write.{Write}
-use Rattle.redo_io.specs.{after_call, fails_now, Planned}
+use Rattle.redo_io.specs.{after_call, fails_now, Planned, unused}
 use Rattle.redo_disk.specs.{Call, part, Reads, Syncs, Writes}
 use Rattle.redo_disk.specs.Seen.{Seen}
 use Rattle.redo_disk.specs.declared.error.DevError.{DevError}
@@ -16,6 +16,12 @@ pub record MemState : Type 0 where
   pub crashed_from : Option Disk
   -- which calls fail; reads, writes and syncs are numbered together
   pub plan : Planned
+  -- how many of the first bytes of a sector's write a crash leaves where the write doesn't survive
+  pub cut : ℕ
+
+-- a device of so many zeros, which tears sectors after so many bytes, and fails the calls of these numbers
+abbrev pub new_memory : ℕ → ℕ → List ℕ → MemState
+new_memory len cut calls = record { disk = settled (replicate len 0); crashed_from = None; plan = unused calls; cut = cut }
 
 -- the device, as its readers see it
 abbrev pub mem_seen : MemState → Seen
@@ -60,4 +66,4 @@ MemGives old (Syncs answer) new = SyncsMemory old answer new
 
 -- a crash with this pick
 abbrev pub CrashesMemory : MemState → ℕ → MemState → Type 0
-CrashesMemory old pick new = new ≡ record old { disk = crashed pick old.disk; crashed_from = Some old.disk }
+CrashesMemory old pick new = new ≡ record old { disk = crashed old.cut pick old.disk; crashed_from = Some old.disk }

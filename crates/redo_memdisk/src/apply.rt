@@ -1,8 +1,8 @@
-// Writes that are put into a row of bytes, and a crash that keeps some of their sectors.
-ghost use Rattle.std.specs.Prelude.{ℕ, List, ◌≡◌, ◌+◌, ◌≤◌, ◌<◌, ◌^◌, ◌%◌, length, IfOk};
+// Writes that are put into a row of bytes, and a crash that keeps some of their sectors and tears the others.
+ghost use Rattle.std.specs.Prelude.{ℕ, List, ◌≡◌, ◌+◌, ◌≤◌, ◌<◌, ◌^◌, ◌%◌, length, IfOk, if◌then◌else◌};
 ghost use Rattle.std.specs.List.{flat_map};
 ghost use Rattle.model_base.specs.{overwritten};
-ghost use Rattle.model_device.specs.{after_write, after_writes, AreWithin, IsWithin, sector_writes, survivors};
+ghost use Rattle.model_device.specs.{after_write, after_writes, AreWithin, IsWithin, left_of, sector_writes, survives};
 ghost use Rattle.redo_disk.specs.{part};
 
 use crate::SECTOR;
@@ -64,12 +64,21 @@ pub(crate) fn read_through(row: &[u8], writes: &[Write], at: usize, out: &mut [u
     }
 }
 
-/// Puts those sectors of a write into the row that survive. `bit` is the bit of the pick that says it of the first
-/// sector, and the result is the bit for the sector after the last.
-fn apply_sectors(row: &mut [u8], write: &Write, pick: u64, bit: u32) -> u32
+/// How many bytes of a sector's write a crash with this pick leaves, if this bit of the pick tells whether it survives.
+fn left(cut: usize, pick: u64, bit: u32) -> usize
+    requires { bit < 64 }
+    ensures { result ≡ (if survives pick bit then SECTOR else cut) }
+{
+    if (pick >> bit) % 2 == 1 { SECTOR } else { cut }
+}
+
+/// Puts those sectors of a write into the row that survive, and of each other one its first bytes. `bit` is the bit of
+/// the pick that says it of the first sector, and the result is the bit for the sector after the last.
+fn apply_sectors(row: &mut [u8], write: &Write, cut: usize, pick: u64, bit: u32) -> u32
     requires within { IsWithin (length row.old) write.now }
+    requires cut { cut < SECTOR }
     requires bit { bit < 64 }
-    ensures kept { row.new ≡ after_writes row.old (survivors pick bit (sector_writes write.now)) }
+    ensures left { row.new ≡ after_writes row.old (left_of cut pick bit (sector_writes write.now)) }
     ensures next { result ≡ (bit + length (sector_writes write.now)) % 64 }
 {
     let bytes = write.bytes.as_slice();
@@ -77,22 +86,22 @@ fn apply_sectors(row: &mut [u8], write: &Write, pick: u64, bit: u32) -> u32
     let mut next = bit;
     for k in 0..bytes.len() / SECTOR {
         let from = k * SECTOR;
-        if (pick >> next) % 2 == 1 {
-            put(row, at + from, &bytes[from..from + SECTOR]);
-        }
+        let count = left(cut, pick, next);
+        put(row, at + from, &bytes[from..from + count]);
         next = (next + 1) % 64;
     }
     next
 }
 
-/// Puts those sectors of the writes into the row whose bits of the pick are 1, counted from the lowest bit and again
-/// from there after 64.
-pub(crate) fn apply_survivors(row: &mut [u8], writes: &[Write], pick: u64)
-    requires { AreWithin (length row.old) writes.now }
-    ensures { row.new ≡ after_writes row.old (survivors pick 0 (flat_map sector_writes writes.now)) }
+/// Puts into the row what a crash leaves of the writes: those sectors whole whose bits of the pick are 1, counted from
+/// the lowest bit and again from there after 64, and of each other one its first bytes, as many as `cut`.
+pub(crate) fn apply_crash(row: &mut [u8], writes: &[Write], cut: usize, pick: u64)
+    requires within { AreWithin (length row.old) writes.now }
+    requires cut { cut < SECTOR }
+    ensures { row.new ≡ after_writes row.old (left_of cut pick 0 (flat_map sector_writes writes.now)) }
 {
     let mut bit = 0;
     for write in writes {
-        bit = apply_sectors(row, write, pick, bit);
+        bit = apply_sectors(row, write, cut, pick, bit);
     }
 }

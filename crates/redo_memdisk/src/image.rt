@@ -1,6 +1,6 @@
 // Whether a crash may leave these bytes: the definition of an image, tried out.
 ghost use Rattle.std.specs.Prelude.{◌≡◌, ◌+◌, ◌*◌, ◌^◌, ◌≤◌, ◌<◌, ◌⊎◌, ◌↔◌, length, take, drop, IsTrue};
-ghost use Rattle.model_device.specs.{Covers, IsImage, IsWrittenBy, sector, written_sector};
+ghost use Rattle.model_device.specs.{Covers, IsCovered, IsImage, sector};
 
 use crate::SECTOR;
 use model_device::Write;
@@ -13,34 +13,32 @@ fn sector_at(bytes: &[u8], at: usize) -> &[u8]
     &rest[..rest.len().min(SECTOR)]
 }
 
-/// Whether the write covers the sector of this number and puts these bytes there.
-fn puts_sector(write: &Write, k: usize, bytes: &[u8]) -> bool
+/// Whether the write covers the sector of this number.
+fn covers(write: &Write, k: usize) -> bool
     requires { SECTOR * k + SECTOR < 2 ^ 64 }
-    ensures { IsTrue result ↔ (Covers write.now k × (bytes.now ≡ written_sector write.now k)) }
+    ensures { IsTrue result ↔ Covers write.now k }
 {
     let start = (SECTOR * k) as u64;
     if start < write.at {
         return false;
     }
-    let from = (start - write.at) as usize;
-    from + SECTOR <= write.bytes.len() && bytes == sector_at(write.bytes.as_slice(), from)
+    (start - write.at) as usize + SECTOR <= write.bytes.len()
 }
 
-/// Whether one of the writes puts these bytes into the sector of this number.
-fn is_written_by(writes: &[Write], k: usize, bytes: &[u8]) -> bool
+/// Whether one of the writes covers the sector of this number.
+fn is_covered(writes: &[Write], k: usize) -> bool
     requires { SECTOR * k + SECTOR < 2 ^ 64 }
-    ensures { IsTrue result ↔ IsWrittenBy writes.now k bytes.now }
+    ensures { IsTrue result ↔ IsCovered writes.now k }
 {
-    writes.iter().any(|write| puts_sector(write, k, bytes))
+    writes.iter().any(|write| covers(write, k))
 }
 
 /// Whether a crash may leave these bytes in the sector of this number.
-fn may_hold(base: &[u8], writes: &[Write], k: usize, bytes: &[u8]) -> bool
+fn may_stand(base: &[u8], writes: &[Write], k: usize, bytes: &[u8]) -> bool
     requires { SECTOR * k + SECTOR < 2 ^ 64 }
-    ensures { IsTrue result
-        ↔ ((bytes.now ≡ sector k base.now) ⊎ IsWrittenBy writes.now k bytes.now) }
+    ensures { IsTrue result ↔ ((bytes.now ≡ sector k base.now) ⊎ IsCovered writes.now k) }
 {
-    bytes == sector_at(base, SECTOR * k) || is_written_by(writes, k, bytes)
+    bytes == sector_at(base, SECTOR * k) || is_covered(writes, k)
 }
 
 /// Whether a crash may leave this image of a device that held `base` at its last good sync and took these writes since.
@@ -52,7 +50,7 @@ pub fn is_image(base: &[u8], writes: &[Write], image: &[u8]) -> bool
         return false;
     }
     for k in 0..base.len().div_ceil(SECTOR) {
-        if !may_hold(base, writes, k, sector_at(image, SECTOR * k)) {
+        if !may_stand(base, writes, k, sector_at(image, SECTOR * k)) {
             return false;
         }
     }

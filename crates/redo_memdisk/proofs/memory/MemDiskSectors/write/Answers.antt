@@ -16,7 +16,7 @@ returns-clause-step c =
     let writes : c.push.new.self.items ≡ before ++ write ∷ [] = grind (arith, common_steps) in
     let after = pending_disk base c.push.new.self.items in
     let pending : after ≡ pending_disk base (before ++ write ∷ []) = ap (pending_disk base) writes in
-    let fails = subst (λ disk. FailsWrite write (pending_disk base before) disk) (sym pending) (FailsWrite-pending c.args.at c.args.bytes.now base before c.self.invariant range) in
+    let fails = subst (λ disk. FailsWrite write (pending_disk base before) disk) (sym pending) (FailsWrite-pending c.args.at c.args.bytes.now base before c.self.invariant.0 range) in
     rw (← c.self.view_is) (record {
       ok = OnOk-always c.count_call.result _ (after, refl, pending ∙ written_is base before write);
       err = OnErr-always c.count_call.result _ (after, refl, fails);
