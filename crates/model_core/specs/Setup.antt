@@ -5,7 +5,7 @@ use Rattle.model_core.specs.States.{Line}
 use Rattle.model_core.specs.UserProgram.{change_at, line_at}
 use Rattle.model_core.specs.declared.limits.TheConstants.{FRAME_CELLS}
 
--- the sn of the run's start, the log's blocks, the pages, whether the log runs alone, and the lines of each user
+-- the sn of the run's start, the blocks of the log's ring, the pages, whether the log runs alone, and the lines of each user
 pub record Setup : Type 0 where
   pub base : ℕ
   pub blocks : ℕ

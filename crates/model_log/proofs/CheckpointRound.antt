@@ -6,10 +6,10 @@ use Rattle.std.proofs.Math.Nat.{mod-le}
 use Rattle.std.proofs.lemmas.Bool.{eq-eqb}
 use Rattle.std.proofs.lemmas.List.Elements.{All-append}
 use Rattle.byteorder.specs.Numbers.{big_number-reads_back}
-use Rattle.model_base.specs.declared.shape.Shape.{Shape}
 use Rattle.model_base.specs.declared.limits.TheConstants.{START_LSN}
 use Rattle.model_base.specs.{field, padded_to}
-use Rattle.model_log.specs.Device.{Layout, layout_of, place_in, round_of}
+use Rattle.model_log.specs.Device.{IsLayout, place_in, round_of}
+use Rattle.model_log.specs.declared.layout.Layout.{Layout}
 use Rattle.model_log.specs.Lsn.{block_of}
 use Rattle.model_log.specs.Block.{with_checksum, fits_checksum}
 use Rattle.model_log.specs.Checkpoint.{place_of, checkpoint_text, is_checkpoint, read_checkpoint}
@@ -62,11 +62,10 @@ same_pair : (a b c d : ℕ) → a ≡ c → b ≡ d → let pair : ℕ × ℕ = 
 same_pair a b c d first second = rw (first, second) refl
 
 -- the checkpoint that was written is read in its place
-pub checkpoint-reads_back : (number lsn : ℕ) (shape : Shape) → number < 2 ^ 64 → 8192 ≤ lsn → lsn < 2 ^ 60 → lsn % 512 ≡ 0
-    → read_checkpoint (place_of number) shape (checkpoint_text number lsn shape) ≡ Some (number, lsn)
+pub checkpoint-reads_back : (number lsn : ℕ) (layout : Layout) → IsLayout layout → number < 2 ^ 64 → 8192 ≤ lsn → lsn < 2 ^ 60 → lsn % 512 ≡ 0
+    → read_checkpoint (place_of number) layout (checkpoint_text number lsn layout) ≡ Some (number, lsn)
 unfolding read_checkpoint
-checkpoint-reads_back number lsn shape number_small low high aligned =
-    let layout : Layout = layout_of shape in
+checkpoint-reads_back number lsn layout is_layout number_small low high aligned =
     let offset : ℕ = place_in layout lsn in
     let fields : List ℕ = checkpoint_fields number lsn offset in
     let long : length fields ≡ 32 = length-fields number lsn offset in
@@ -76,9 +75,9 @@ checkpoint-reads_back number lsn shape number_small low high aligned =
     let number_is : field 8 0 bytes ≡ number = field-padded 8 0 fields (omega arith) (omega arith) ∙ number-fields number lsn offset number_small in
     let lsn_is : field 8 8 bytes ≡ lsn = field-padded 8 8 fields (omega arith) (omega arith) ∙ lsn-fields number lsn offset (omega arith) in
     let offset_is : field 8 16 bytes ≡ offset
-    = field-padded 8 16 fields (omega arith) (omega arith) ∙ offset-fields number lsn offset (place_in-small layout lsn (omega arith) high) in
-    ap (read_checkpoint (place_of number) shape) (sym (checkpoint_text-from number lsn shape fields refl))
-    ∙ found_when (is_checkpoint (place_of number) shape bytes) (field 8 0 bytes, field 8 8 bytes) (number, lsn)
+    = field-padded 8 16 fields (omega arith) (omega arith) ∙ offset-fields number lsn offset (place_in-small layout lsn (omega (arith, is_layout.few_before)) high) in
+    ap (read_checkpoint (place_of number) layout) (sym (checkpoint_text-from number lsn layout fields refl))
+    ∙ found_when (is_checkpoint (place_of number) layout bytes) (field 8 0 bytes, field 8 8 bytes) (number, lsn)
     (passes layout (fits_checksum bytes) (field 8 0 bytes) (field 8 8 bytes) (field 8 16 bytes) (place_of number)
     sound (ap place_of (sym number_is)) (ap (λ n. n % 512) lsn_is ∙ aligned) (subst (λ (n : ℕ). 8192 ≤ n) (sym lsn_is) low) (subst (λ (n : ℕ). n < 2 ^ 60) (sym lsn_is) high)
     (offset_is ∙ ap (place_in layout) (sym lsn_is)))

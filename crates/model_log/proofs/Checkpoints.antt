@@ -1,11 +1,11 @@
 -- The text of a checkpoint block, written field by field.
 use Rattle.std.proofs.Common.{◌≡◌, ℕ, List, ◌++◌, ap}
 use Rattle.std.specs.Int.{bytes_high_first}
-use Rattle.model_base.specs.declared.shape.Shape.{Shape}
 use Rattle.model_base.specs.{padded_to}
-use Rattle.model_log.specs.Device.{layout_of, place_in}
+use Rattle.model_log.specs.Device.{place_in}
 use Rattle.model_log.specs.Block.{with_checksum}
 use Rattle.model_log.specs.Checkpoint.{checkpoint_text}
+use Rattle.model_log.specs.declared.layout.Layout.{Layout}
 
 -- the fields of a checkpoint block
 unfoldable pub checkpoint_fields : ℕ → ℕ → ℕ → List ℕ
@@ -13,6 +13,6 @@ checkpoint_fields number lsn offset =
     bytes_high_first 8 number ++ bytes_high_first 8 lsn ++ bytes_high_first 8 offset ++ bytes_high_first 8 65536
 
 -- they make its text
-pub checkpoint_text-from : (number lsn : ℕ) (shape : Shape) (bytes : List ℕ) → bytes ≡ checkpoint_fields number lsn (place_in (layout_of shape) lsn) → with_checksum (padded_to 508 bytes) ≡ checkpoint_text number lsn shape
+pub checkpoint_text-from : (number lsn : ℕ) (layout : Layout) (bytes : List ℕ) → bytes ≡ checkpoint_fields number lsn (place_in layout lsn) → with_checksum (padded_to 508 bytes) ≡ checkpoint_text number lsn layout
 unfolding checkpoint_text checkpoint_fields
-checkpoint_text-from number lsn shape bytes e = ap (λ text. with_checksum (padded_to 508 text)) e
+checkpoint_text-from number lsn layout bytes e = ap (λ text. with_checksum (padded_to 508 text)) e

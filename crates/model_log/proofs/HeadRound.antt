@@ -1,5 +1,5 @@
 -- A file header that was written is read back.
-use Rattle.std.proofs.Common.{◌≡◌, ◌==◌, ◌&&◌, ◌<◌, ◌^◌, ℕ, List, [], ◌++◌, length, refl, sym, ap, ◌∙◌, nat_lt, Bool, true, cond, arith}
+use Rattle.std.proofs.Common.{◌≡◌, ◌==◌, ◌&&◌, ◌<◌, ◌^◌, ℕ, List, [], ◌++◌, length, refl, sym, ap, ◌∙◌, nat_lt, Bool, true, cond, Option, Some, None, arith}
 use Rattle.std.specs.List.{All}
 use Rattle.std.specs.Int.{bytes_high_first}
 use Rattle.std.proofs.lemmas.Bool.{eq-eqb, ltb-true}
@@ -9,7 +9,9 @@ use Rattle.byteorder.specs.Numbers.{big_number-reads_back}
 use Rattle.model_base.specs.declared.shape.Shape.{Shape}
 use Rattle.model_base.specs.{field, is_within_limits, IsWithinLimits, padded_to}
 use Rattle.model_log.specs.Block.{with_checksum, fits_checksum}
-use Rattle.model_log.specs.Head.{creator, head_text, shape_of, read_head}
+use Rattle.model_log.specs.Head.{creator, format_number, format_of, head_text, shape_of, read_head}
+use Rattle.model_log.specs.declared.head.Format.{Format}
+use Rattle.model_log.specs.declared.head.Format.TheVariants.{One, Two}
 use Rattle.model_log.specs.declared.head.Head.{Head}
 use Rattle.model_log.specs.declared.head.Head.TheVariants.{Good, OtherFormat, Unformatted}
 use Rattle.model_log.proofs.Checksums.{IsByte, bytes-bytes_high_first}
@@ -17,37 +19,38 @@ use Rattle.model_log.proofs.Heads.{head_fields, head_text-from}
 use Rattle.model_base.proofs.ShapeLimits.{is_within_limits_true}
 use Rattle.model_log.proofs.Sealed.{field-padded, length-padded, bytes-padded, fits_checksum-sealed}
 
-length-head_fields : (shape : Shape) → length (head_fields shape) ≡ 68
+length-head_fields : (format : Format) (shape : Shape) → length (head_fields format shape) ≡ 68
 unfolding head_fields
-length-head_fields shape = refl
+length-head_fields format shape = refl
 
-format-head_fields : (shape : Shape) → field 4 0 (head_fields shape) ≡ 1
+format-head_fields : (format : Format) (shape : Shape) → field 4 0 (head_fields format shape) ≡ format_number format
 unfolding head_fields
-format-head_fields shape = refl
+format-head_fields One shape = refl
+format-head_fields Two shape = refl
 
-start-head_fields : (shape : Shape) → field 8 8 (head_fields shape) ≡ 8192
+start-head_fields : (format : Format) (shape : Shape) → field 8 8 (head_fields format shape) ≡ 8192
 unfolding head_fields
-start-head_fields shape = refl
+start-head_fields format shape = refl
 
-page_size-head_fields : (shape : Shape) → shape.page_size < 2 ^ 32 → field 4 48 (head_fields shape) ≡ shape.page_size
+page_size-head_fields : (format : Format) (shape : Shape) → shape.page_size < 2 ^ 32 → field 4 48 (head_fields format shape) ≡ shape.page_size
 unfolding head_fields
-page_size-head_fields shape small = big_number-reads_back 4 shape.page_size [] small
+page_size-head_fields format shape small = big_number-reads_back 4 shape.page_size [] small
 
-pages-head_fields : (shape : Shape) → shape.pages < 2 ^ 32 → field 4 52 (head_fields shape) ≡ shape.pages
+pages-head_fields : (format : Format) (shape : Shape) → shape.pages < 2 ^ 32 → field 4 52 (head_fields format shape) ≡ shape.pages
 unfolding head_fields
-pages-head_fields shape small = big_number-reads_back 4 shape.pages [] small
+pages-head_fields format shape small = big_number-reads_back 4 shape.pages [] small
 
-space-head_fields : (shape : Shape) → shape.space < 2 ^ 32 → field 4 56 (head_fields shape) ≡ shape.space
+space-head_fields : (format : Format) (shape : Shape) → shape.space < 2 ^ 32 → field 4 56 (head_fields format shape) ≡ shape.space
 unfolding head_fields
-space-head_fields shape small = big_number-reads_back 4 shape.space [] small
+space-head_fields format shape small = big_number-reads_back 4 shape.space [] small
 
-log_blocks-head_fields : (shape : Shape) → shape.log_blocks < 2 ^ 32 → field 4 60 (head_fields shape) ≡ shape.log_blocks
+log_blocks-head_fields : (format : Format) (shape : Shape) → shape.log_blocks < 2 ^ 32 → field 4 60 (head_fields format shape) ≡ shape.log_blocks
 unfolding head_fields
-log_blocks-head_fields shape small = big_number-reads_back 4 shape.log_blocks [] small
+log_blocks-head_fields format shape small = big_number-reads_back 4 shape.log_blocks [] small
 
-slots-head_fields : (shape : Shape) → shape.slots < 2 ^ 32 → field 4 64 (head_fields shape) ≡ shape.slots
+slots-head_fields : (format : Format) (shape : Shape) → shape.slots < 2 ^ 32 → field 4 64 (head_fields format shape) ≡ shape.slots
 unfolding head_fields
-slots-head_fields shape small = big_number-reads_back 4 shape.slots [] small
+slots-head_fields format shape small = big_number-reads_back 4 shape.slots [] small
 
 bytes-creator : All IsByte creator
 bytes-creator = All-weaker (λ byte. nat_lt byte 256 ≡ true) IsByte (λ byte small. ltb-true byte 256 small) creator (AllPass-from_list_all (λ byte. nat_lt byte 256) creator refl)
@@ -55,13 +58,14 @@ bytes-creator = All-weaker (λ byte. nat_lt byte 256 ≡ true) IsByte (λ byte s
 both : (front back : List ℕ) → All IsByte front → All IsByte back → All IsByte (front ++ back)
 both front back = All-append IsByte front back
 
-bytes-head_fields : (shape : Shape) → All IsByte (head_fields shape)
+bytes-head_fields : (format : Format) (shape : Shape) → All IsByte (head_fields format shape)
 unfolding head_fields
-bytes-head_fields shape =
+bytes-head_fields format shape =
     let be4 : (n : ℕ) → All IsByte (bytes_high_first 4 n) = bytes-bytes_high_first 4 in
     let be8 : (n : ℕ) → All IsByte (bytes_high_first 8 n) = bytes-bytes_high_first 8 in
-    let format : List ℕ = bytes_high_first 4 1 ++ bytes_high_first 4 0 in
-    let start : List ℕ = format ++ bytes_high_first 8 8192 in
+    let number : ℕ = format_number format in
+    let front : List ℕ = bytes_high_first 4 number ++ bytes_high_first 4 0 in
+    let start : List ℕ = front ++ bytes_high_first 8 8192 in
     let made : List ℕ = start ++ creator in
     let size : List ℕ = made ++ bytes_high_first 4 shape.page_size in
     let pages : List ℕ = size ++ bytes_high_first 4 shape.pages in
@@ -73,37 +77,41 @@ bytes-head_fields shape =
     (both size (bytes_high_first 4 shape.pages)
     (both made (bytes_high_first 4 shape.page_size)
     (both start creator
-    (both format (bytes_high_first 8 8192)
-    (both (bytes_high_first 4 1) (bytes_high_first 4 0) (be4 1) (be4 0)) (be8 8192)) bytes-creator)
+    (both front (bytes_high_first 8 8192)
+    (both (bytes_high_first 4 number) (bytes_high_first 4 0) (be4 number) (be4 0)) (be8 8192)) bytes-creator)
     (be4 shape.page_size)) (be4 shape.pages)) (be4 shape.space)) (be4 shape.log_blocks)) (be4 shape.slots)
 
 same_shape : (page_size pages space log_blocks slots : ℕ) (shape : Shape) → page_size ≡ shape.page_size → pages ≡ shape.pages → space ≡ shape.space → log_blocks ≡ shape.log_blocks → slots ≡ shape.slots
     → let read : Shape = record { page_size = page_size; pages = pages; space = space; log_blocks = log_blocks; slots = slots } in read ≡ shape
 same_shape page_size pages space log_blocks slots shape a b c d e = rw (a, b, c, d, e) refl
 
-good_when : (sound format_fits start_fits limits_fit : Bool) (read shape : Shape) (other : Head) → sound ≡ true → format_fits ≡ true → start_fits ≡ true → limits_fit ≡ true → read ≡ shape
-    → cond sound (cond format_fits (cond (start_fits && limits_fit) (Good read) Unformatted) other) Unformatted ≡ Good shape
-good_when sound format_fits start_fits limits_fit read shape other is_sound is_format is_start is_limits same =
-    rw (is_sound, is_format, is_start, is_limits, same) refl
+good_when : (sound start_fits limits_fit : Bool) (found : Option Format) (format : Format) (read shape : Shape) (other : Head) → sound ≡ true → found ≡ Some format → start_fits ≡ true → limits_fit ≡ true → read ≡ shape
+    → cond sound (elim found [ None ↦ other | Some named ↦ cond (start_fits && limits_fit) (Good named read) Unformatted ]) Unformatted ≡ Good format shape
+good_when sound start_fits limits_fit found format read shape other is_sound is_found is_start is_limits same =
+    rw (is_sound, is_found, is_start, is_limits, same) refl
+
+format-found : (format : Format) → format_of (format_number format) ≡ Some format
+format-found One = refl
+format-found Two = refl
 
 -- the header of a store is read as that
-pub head-reads_back : (shape : Shape) → IsWithinLimits shape → read_head (head_text shape) ≡ Good shape
+pub head-reads_back : (format : Format) (shape : Shape) → IsWithinLimits shape → read_head (head_text format shape) ≡ Good format shape
 unfolding read_head
-head-reads_back shape within =
-    let fields : List ℕ = head_fields shape in
-    let long : length fields ≡ 68 = length-head_fields shape in
+head-reads_back format shape within =
+    let fields : List ℕ = head_fields format shape in
+    let long : length fields ≡ 68 = length-head_fields format shape in
     let bytes : List ℕ = with_checksum (padded_to 508 fields) in
     let sound : fits_checksum bytes ≡ true
-    = fits_checksum-sealed (padded_to 508 fields) (length-padded fields (omega arith)) (bytes-padded fields (bytes-head_fields shape)) in
-    let format : field 4 0 bytes ≡ 1 = field-padded 4 0 fields (omega arith) (omega arith) ∙ format-head_fields shape in
-    let start : field 8 8 bytes ≡ 8192 = field-padded 8 8 fields (omega arith) (omega arith) ∙ start-head_fields shape in
+    = fits_checksum-sealed (padded_to 508 fields) (length-padded fields (omega arith)) (bytes-padded fields (bytes-head_fields format shape)) in
+    let named : field 4 0 bytes ≡ format_number format = field-padded 4 0 fields (omega arith) (omega arith) ∙ format-head_fields format shape in
+    let start : field 8 8 bytes ≡ 8192 = field-padded 8 8 fields (omega arith) (omega arith) ∙ start-head_fields format shape in
     let same : shape_of bytes ≡ shape
     = same_shape (field 4 48 bytes) (field 4 52 bytes) (field 4 56 bytes) (field 4 60 bytes) (field 4 64 bytes) shape
-    (field-padded 4 48 fields (omega arith) (omega arith) ∙ page_size-head_fields shape (omega (arith, within.page_size)))
-    (field-padded 4 52 fields (omega arith) (omega arith) ∙ pages-head_fields shape (omega (arith, within.few_pages)))
-    (field-padded 4 56 fields (omega arith) (omega arith) ∙ space-head_fields shape within.space)
-    (field-padded 4 60 fields (omega arith) (omega arith) ∙ log_blocks-head_fields shape (omega (arith, within.few_blocks)))
-    (field-padded 4 64 fields (omega arith) (omega arith) ∙ slots-head_fields shape (omega (arith, within.slots))) in
-    ap read_head (sym (head_text-from shape fields refl))
-    ∙ good_when (fits_checksum bytes) (field 4 0 bytes == 1) (field 8 8 bytes == 8192) (is_within_limits (shape_of bytes)) (shape_of bytes) shape (OtherFormat (field 4 0 bytes))
-    sound (eq-eqb _ _ format) (eq-eqb _ _ start) (ap is_within_limits same ∙ is_within_limits_true shape within) same
+    (field-padded 4 48 fields (omega arith) (omega arith) ∙ page_size-head_fields format shape (omega (arith, within.page_size)))
+    (field-padded 4 52 fields (omega arith) (omega arith) ∙ pages-head_fields format shape (omega (arith, within.few_pages)))
+    (field-padded 4 56 fields (omega arith) (omega arith) ∙ space-head_fields format shape within.space)
+    (field-padded 4 60 fields (omega arith) (omega arith) ∙ log_blocks-head_fields format shape (omega (arith, within.few_blocks)))
+    (field-padded 4 64 fields (omega arith) (omega arith) ∙ slots-head_fields format shape (omega (arith, within.slots))) in
+    ap read_head (sym (head_text-from format shape fields refl))
+    ∙ good_when (fits_checksum bytes) (field 8 8 bytes == 8192) (is_within_limits (shape_of bytes)) (format_of (field 4 0 bytes)) format (shape_of bytes) shape (OtherFormat (field 4 0 bytes))
+    sound (ap format_of named ∙ format-found format) (eq-eqb _ _ start) (ap is_within_limits same ∙ is_within_limits_true shape within) same

@@ -9,6 +9,7 @@ pub mod Crossings
 pub mod CutStream
 pub mod HeadRound
 pub mod Heads
+pub mod Layouts
 pub mod Places
 pub mod ReadBack
 pub mod Records

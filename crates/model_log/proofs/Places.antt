@@ -2,7 +2,8 @@
 use Rattle.std.proofs.Common.{◌≡◌, ◌≤◌, ◌<◌, ◌+◌, ◌-◌, ◌*◌, ◌/◌, ◌%◌, ℕ, sym, ap, ◌∙◌, ⊎_elim, arith}
 use Rattle.std.proofs.lemmas.Bool.{cases_lt}
 use Rattle.std.proofs.lemmas.Nat.{div-add-mod', mod-mul-add, mod_below, mul-le}
-use Rattle.model_log.specs.Device.{Layout, IsInRound, place_in, ring_start, round_of, sector_of}
+use Rattle.model_log.specs.Device.{IsInRound, place_in, ring_start, round_of, sector_of}
+use Rattle.model_log.specs.declared.layout.Layout.{Layout}
 use Rattle.model_log.specs.Lsn.{block_of}
 
 -- a log has blocks

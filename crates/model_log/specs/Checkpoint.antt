@@ -2,11 +2,11 @@
 -- and the checksum. InnoDB's LOG_CHECKPOINT_1 and LOG_CHECKPOINT_2 take turns by the number's parity.
 use Rattle.std.specs.Prelude.{ℕ, ◌%◌, ◌==◌, ◌&&◌, nat_le, nat_lt, if◌then◌else◌, Bool, List, ◌++◌, Option, Some, None}
 use Rattle.std.specs.Int.{bytes_high_first}
-use Rattle.model_base.specs.declared.shape.Shape.{Shape}
 use Rattle.model_base.specs.declared.limits.TheConstants.{BLOCK_SIZE, START_LSN, LSN_LIMIT}
-use Rattle.model_log.specs.Device.{header_block, layout_of, place_in}
+use Rattle.model_log.specs.Device.{header_block, place_in}
 use Rattle.model_base.specs.{field, padded_to}
 use Rattle.model_log.specs.Block.{with_checksum, fits_checksum}
+use Rattle.model_log.specs.declared.layout.Layout.{Layout}
 use Rattle.model_log.specs.declared.layout.TheConstants.{BLOCK_DATA_END, RING_SIZE}
 
 -- which header block a checkpoint stands in: 1 where its number is even, 3 where it is odd
@@ -14,22 +14,22 @@ abbrev pub place_of : ℕ → ℕ
 place_of number = if number % 2 == 0 then 1 else 3
 
 -- the block of the checkpoint of this number at this lsn
-unfoldable pub checkpoint_text : ℕ → ℕ → Shape → List ℕ
-checkpoint_text number lsn shape =
+unfoldable pub checkpoint_text : ℕ → ℕ → Layout → List ℕ
+checkpoint_text number lsn layout =
     with_checksum (padded_to BLOCK_DATA_END (bytes_high_first 8 number ++ bytes_high_first 8 lsn
-    ++ bytes_high_first 8 (place_in (layout_of shape) lsn) ++ bytes_high_first 8 RING_SIZE))
+    ++ bytes_high_first 8 (place_in layout lsn) ++ bytes_high_first 8 RING_SIZE))
 
 -- the fields of 512 bytes fit those of a checkpoint in header block `which`; the buffer's size isn't read
-abbrev pub is_checkpoint : ℕ → Shape → List ℕ → Bool
-is_checkpoint which shape bytes =
+abbrev pub is_checkpoint : ℕ → Layout → List ℕ → Bool
+is_checkpoint which layout bytes =
     fits_checksum bytes && place_of (field 8 0 bytes) == which
     && field 8 8 bytes % BLOCK_SIZE == 0 && nat_le START_LSN (field 8 8 bytes) && nat_lt (field 8 8 bytes) LSN_LIMIT
-    && field 8 16 bytes == place_in (layout_of shape) (field 8 8 bytes)
+    && field 8 16 bytes == place_in layout (field 8 8 bytes)
 
 -- the number and the lsn of the checkpoint in header block `which`; nothing where it doesn't pass
-unfoldable pub read_checkpoint : ℕ → Shape → List ℕ → Option (ℕ × ℕ)
-read_checkpoint which shape bytes =
-    if is_checkpoint which shape bytes then Some (field 8 0 bytes, field 8 8 bytes) else None
+unfoldable pub read_checkpoint : ℕ → Layout → List ℕ → Option (ℕ × ℕ)
+read_checkpoint which layout bytes =
+    if is_checkpoint which layout bytes then Some (field 8 0 bytes, field 8 8 bytes) else None
 
 -- of two checkpoints the one with the greater number
 abbrev pub newer : Option (ℕ × ℕ) → Option (ℕ × ℕ) → Option (ℕ × ℕ)
@@ -38,6 +38,6 @@ newer (Some first) None = Some first
 newer (Some first) (Some second) = if nat_lt first.0 second.0 then Some second else Some first
 
 -- the number and the lsn of the newest checkpoint that passes
-abbrev pub newest_checkpoint : Shape → List ℕ → Option (ℕ × ℕ)
-newest_checkpoint shape image =
-    newer (read_checkpoint 1 shape (header_block 1 image)) (read_checkpoint 3 shape (header_block 3 image))
+abbrev pub newest_checkpoint : Layout → List ℕ → Option (ℕ × ℕ)
+newest_checkpoint layout image =
+    newer (read_checkpoint 1 layout (header_block 1 image)) (read_checkpoint 3 layout (header_block 3 image))

@@ -1,19 +1,30 @@
 -- Where things stand on a log device: the file header in block 0, a checkpoint of even number in block 1, one of odd
--- number in block 3, zeros in block 2, and then the log blocks, side by side in a ring that the log goes round.
-use Rattle.std.specs.Prelude.{ℕ, ◌≡◌, ◌≤◌, ◌<◌, ◌+◌, ◌-◌, ◌*◌, ◌/◌, ◌%◌, List, take, drop}
+-- number in block 3, and then the log blocks, side by side in a ring that the log goes round. In format 2 the header
+-- stands in block 2 as well, and two tail blocks stand before the ring, which is so much shorter.
+use Rattle.std.specs.Prelude.{ℕ, ◌≡◌, ◌≤◌, ◌<◌, ◌+◌, ◌-◌, ◌*◌, ◌/◌, ◌%◌, ◌⊎◌, List, take, drop}
 use Rattle.model_base.specs.declared.shape.Shape.{Shape}
-use Rattle.model_base.specs.declared.limits.TheConstants.{BLOCK_SIZE, START_LSN}
+use Rattle.model_base.specs.declared.limits.TheConstants.{BLOCK_SIZE, MAX_LOG_BLOCKS, MIN_LOG_BLOCKS, START_LSN}
 use Rattle.model_log.specs.Lsn.{block_of}
-use Rattle.model_log.specs.declared.layout.TheConstants.{HEADER_BLOCKS}
+use Rattle.model_log.specs.declared.head.Format.{Format}
+use Rattle.model_log.specs.declared.head.Format.TheVariants.{One, Two}
+use Rattle.model_log.specs.declared.layout.Layout.{Layout}
+use Rattle.model_log.specs.declared.layout.TheConstants.{HEADER_BLOCKS, TAIL_BLOCKS}
 
--- the number of the ring's first block on the device, and how many blocks the ring has
-pub record Layout : Type 0 where
-  pub first : ℕ
-  pub blocks : ℕ
+-- the layout of a store of this format and shape
+abbrev pub layout_of : Format → Shape → Layout
+layout_of One shape = record { format = One; first = HEADER_BLOCKS; blocks = shape.log_blocks }
+layout_of Two shape = record { format = Two; first = HEADER_BLOCKS + TAIL_BLOCKS; blocks = shape.log_blocks - TAIL_BLOCKS }
 
--- the layout of a store of this shape
-abbrev pub layout_of : Shape → Layout
-layout_of shape = record { first = HEADER_BLOCKS; blocks = shape.log_blocks }
+-- that of each run
+abbrev pub run_layout : Shape → Layout
+run_layout shape = layout_of Two shape
+
+-- what a layout is for sizes within the limits
+pub record IsLayout (layout : Layout) : Type 0 where
+  pub after_header : HEADER_BLOCKS ≤ layout.first
+  pub few_before : layout.first ≤ HEADER_BLOCKS + TAIL_BLOCKS
+  pub many_blocks : MIN_LOG_BLOCKS ≤ layout.blocks + TAIL_BLOCKS
+  pub few_blocks : layout.blocks ≤ MAX_LOG_BLOCKS
 
 -- where the ring starts, in bytes of the device, and how many bytes it has
 abbrev pub ring_start : Layout → ℕ
@@ -44,9 +55,17 @@ abbrev pub header_block : ℕ → List ℕ → List ℕ
 header_block which image = sector_at (BLOCK_SIZE * which) image
 
 -- the 512 bytes in which the block of the lsn stands
-unfoldable pub log_block : Shape → ℕ → List ℕ → List ℕ
-log_block shape lsn image = sector_at (place_in (layout_of shape) lsn) image
+unfoldable pub log_block : Layout → ℕ → List ℕ → List ℕ
+log_block layout lsn image = sector_at (place_in layout lsn) image
 
--- how long a log device has to be
+-- a tail block has one of these numbers
+abbrev pub IsTailPlace : ℕ → Type 0
+IsTailPlace k = (k ≡ HEADER_BLOCKS) ⊎ (k ≡ HEADER_BLOCKS + 1)
+
+-- the other of the two
+abbrev pub other_tail : ℕ → ℕ
+other_tail k = 2 * HEADER_BLOCKS + 1 - k
+
+-- how long a log device has to be, in each format
 abbrev pub log_device_length : Shape → ℕ
-log_device_length shape = ring_start (layout_of shape) + round_of (layout_of shape)
+log_device_length shape = BLOCK_SIZE * HEADER_BLOCKS + BLOCK_SIZE * shape.log_blocks

@@ -8,7 +8,6 @@ pub mod Fitting
 pub mod Group
 pub mod Head
 pub mod Lsn
-pub mod Offset
 pub mod Record
 pub mod Run
 pub mod Stop
@@ -19,17 +18,16 @@ pub use Rattle.model_log.specs.Boundary.{IsBoundaryBlock, IsGivenTo, blocks_betw
 unfoldable pub use Rattle.model_log.specs.Boundary.{content_at, first_at, stream_between}
 pub use Rattle.model_log.specs.Checkpoint.{is_checkpoint, newer, newest_checkpoint, place_of}
 unfoldable pub use Rattle.model_log.specs.Checkpoint.{checkpoint_text, read_checkpoint}
-pub use Rattle.model_log.specs.Device.{IsInRound, Layout, header_block, layout_of, log_device_length, place_in, ring_start, round_of, sector_at, sector_of}
+pub use Rattle.model_log.specs.Device.{IsInRound, IsLayout, IsTailPlace, header_block, layout_of, log_device_length, other_tail, place_in, ring_start, round_of, run_layout, sector_at, sector_of}
 unfoldable pub use Rattle.model_log.specs.Device.{log_block}
 pub use Rattle.model_log.specs.Fits.{GroupFits, IsPage, IsUserWrite, RecordFits, user_end}
 pub use Rattle.model_log.specs.Fitting.{fit_of}
 pub use Rattle.model_log.specs.Group.{BeginsWithGroup, GivesGroup, IsFront, IsGroup, IsGroupText, IsUnfinished, end_mark, group_length, groups_of}
 unfoldable pub use Rattle.model_log.specs.Group.{group_text, stream_of}
-pub use Rattle.model_log.specs.Head.{shape_of}
+pub use Rattle.model_log.specs.Head.{format_of, good_head, head_among, head_of, shape_of}
 unfoldable pub use Rattle.model_log.specs.Head.{head_text, read_head}
-pub use Rattle.model_log.specs.Lsn.{IsAtDataStart, IsDataLsn, block_number, block_of, data_before, lsn_at, lsn_of, sn_of, start_after}
-pub use Rattle.model_log.specs.Offset.{offset_of}
+pub use Rattle.model_log.specs.Lsn.{IsAtDataStart, IsDataLsn, block_number, block_of, data_before, lsn_at, lsn_of, sn_of, start_after, turn_of}
 pub use Rattle.model_log.specs.Record.{HasSpelling, HasText, IsByte, IsWidth, after_type, page_of, type_of, value_text}
 unfoldable pub use Rattle.model_log.specs.Record.{record_text, single_text}
 pub use Rattle.model_log.specs.Run.{HasItsLength, IsBoundary, IsRunOf, IsTiled, Span, end_of, span_of, spans_of}
-pub use Rattle.model_log.specs.Stop.{AreFull, IsStop, cause_at}
+pub use Rattle.model_log.specs.Stop.{AreFull, IsStop, cause_at, misfit_of}

@@ -34,6 +34,10 @@ lsn_at ckpt i = ckpt + BLOCK_SIZE * i
 abbrev pub block_number : ℕ → ℕ
 block_number lsn = lsn / BLOCK_SIZE % 2 ^ 30 + 1
 
+-- how often the numbers of blocks went round before the lsn: 2^30 blocks of 512 bytes
+abbrev pub turn_of : ℕ → ℕ
+turn_of lsn = lsn / 2 ^ 39
+
 -- the lsn stands at the first data byte of a block
 abbrev pub IsAtDataStart : ℕ → Type 0
 IsAtDataStart lsn = lsn % BLOCK_SIZE ≡ BLOCK_HEADER

@@ -3,6 +3,9 @@ ghost use Rattle.std.specs.Prelude.{◌≡◌, ◌≤◌, ◌<◌, ◌%◌, ◌^
 ghost use Rattle.model_base.specs.declared.shape.Shape.{Shape};
 ghost use Rattle.model_base.specs.declared.limits.TheConstants.{BLOCK_SIZE, START_LSN, LSN_LIMIT};
 ghost use Rattle.model_base.specs.{IsWithinLimits};
+ghost use Rattle.model_log.specs.Device.{IsLayout};
+ghost use Rattle.model_log.specs.declared.head.Format.{Format};
+ghost use Rattle.model_log.specs.declared.layout.Layout.{Layout};
 ghost use Rattle.model_log.specs.Lsn.{lsn_of, sn_of, IsDataLsn};
 ghost use Rattle.model_log.specs.Block.{length_of, block_text, is_first, read_block, data_of};
 ghost use Rattle.model_log.specs.Checkpoint.{place_of, checkpoint_text, read_checkpoint};
@@ -31,11 +34,13 @@ pub fn block_reads_back()
 
 /// A checkpoint that was written is read in its place.
 pub fn checkpoint_reads_back()
-    ensures { (number lsn : ℕ) (shape : Shape) → number < 2 ^ 64 → START_LSN ≤ lsn → lsn < LSN_LIMIT → lsn % BLOCK_SIZE ≡ 0
-        → read_checkpoint (place_of number) shape (checkpoint_text number lsn shape) ≡ Some (number, lsn) }
+    ensures { (number lsn : ℕ) (layout : Layout) → IsLayout layout → number < 2 ^ 64 → START_LSN ≤ lsn → lsn < LSN_LIMIT
+        → lsn % BLOCK_SIZE ≡ 0
+        → read_checkpoint (place_of number) layout (checkpoint_text number lsn layout) ≡ Some (number, lsn) }
 {}
 
 /// The header of a store is read as that.
 pub fn head_reads_back()
-    ensures { (shape : Shape) → IsWithinLimits shape → read_head (head_text shape) ≡ Good shape }
+    ensures { (format : Format) (shape : Shape) → IsWithinLimits shape
+        → read_head (head_text format shape) ≡ Good format shape }
 {}

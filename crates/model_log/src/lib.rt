@@ -21,8 +21,11 @@ pub use cause::Cause;
 pub use fit::Fit;
 pub use group::{Group, Whole};
 pub use group_laws::{group_reads_back, one_group};
-pub use head::Head;
+pub use head::{Format, Head};
 pub use laws::{block_reads_back, checkpoint_reads_back, head_reads_back, lsn_and_sn};
-pub use layout::{BLOCK_DATA, BLOCK_DATA_END, BLOCK_HEADER, HEADER_BYTES, RING_SIZE};
+pub use layout::{
+    BLOCK_DATA, BLOCK_DATA_END, BLOCK_HEADER, HEADER_BLOCKS, HEADER_BYTES, Layout, RING_SIZE,
+    TAIL_BLOCKS,
+};
 pub use place::{Place, Spot};
 pub use rec::Rec;

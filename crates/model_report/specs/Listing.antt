@@ -50,7 +50,7 @@ fit_word fit.First = codes "first"
 fit_word fit.Checksum = codes "checksum"
 fit_word fit.Whole = codes "whole"
 
--- why no further block was read: the last one isn't full, they are as many as the log has, the next one's lsn is the limit or
+-- why no further block was read: the last one isn't full, they are as many as the ring has, the next one's lsn is the limit or
 -- above, or what stands in its place doesn't fit
 abbrev pub cause_word : Cause → List ℕ
 cause_word Partial = codes "partial"

@@ -1,11 +1,11 @@
 -- What of a script doesn't fit a store: the first quantity in the order of its lines, and within a line its user, then
 -- of each operation the page and the offset, then the length of the group; after the lines the lsn at which the log
 -- would end.
-use Rattle.std.specs.Prelude.{ℕ, ◌≡◌, ◌≤◌, ◌<◌, ◌+◌, ◌*◌, ◌||◌, nat_lt, nat_le, if◌then◌else◌, Bool, List, [], ◌∷◌, ◌++◌, length, map, Option, Some, None, IfSome}
+use Rattle.std.specs.Prelude.{ℕ, ◌≡◌, ◌≤◌, ◌<◌, ◌+◌, ◌||◌, nat_lt, nat_le, if◌then◌else◌, Bool, List, [], ◌∷◌, ◌++◌, length, map, Option, Some, None, IfSome}
 use Rattle.std.specs.List.{AllByRecursion}
 use Rattle.model_base.specs.declared.shape.Shape.{Shape}
-use Rattle.model_base.specs.declared.limits.TheConstants.{BLOCK_SIZE, LSN_LIMIT, MAX_GROUP, USER_START}
-use Rattle.model_log.specs.{group_length, GroupFits, IsGroup, lsn_of, sn_of, stream_of, user_end}
+use Rattle.model_base.specs.declared.limits.TheConstants.{LSN_LIMIT, MAX_GROUP, USER_START}
+use Rattle.model_log.specs.{group_length, GroupFits, IsGroup, lsn_of, round_of, run_layout, sn_of, stream_of, user_end}
 use Rattle.model_script.specs.LineGroup.{group_of}
 use Rattle.model_script.specs.declared.item.Item.{Item}
 use Rattle.model_script.specs.declared.item.Item.TheVariants.{Num, Text, Init}
@@ -64,9 +64,9 @@ script_end shape start script = lsn_of (sn_of start + length (stream_of (map (gr
 abbrev pub lsn_misfit : ℕ → Option Misfit
 lsn_misfit end = misfit_if (nat_le LSN_LIMIT end) Lsn end
 
--- one round of the log from the checkpoint on
+-- one round of the ring from the checkpoint on
 abbrev pub round_end : Shape → ℕ → ℕ
-round_end shape ckpt = ckpt + BLOCK_SIZE * shape.log_blocks
+round_end shape ckpt = ckpt + round_of (run_layout shape)
 
 -- A log that no checkpoint frees has room up to here. Where checkpoints free it there is no such place, and this isn't
 -- judged.

@@ -6,5 +6,5 @@ mod checkpoint;
 mod head;
 
 pub use checkpoint::{fill_ckpt, newer, place_of, read_ckpt};
-pub use head::{fill_head, read_head};
-pub use model_log::{Head, checkpoint_reads_back, head_reads_back};
+pub use head::{fill_head, read_head, read_one_head};
+pub use model_log::{Format, Head, Layout, checkpoint_reads_back, head_reads_back};

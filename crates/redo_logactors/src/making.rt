@@ -2,6 +2,7 @@
 ghost use Rattle.std.specs.Prelude.{◌≡◌, ◌≤◌, ◌<◌, ◌%◌, ◌^◌, IfOk};
 ghost use Rattle.model_base.specs.{IsWithinLimits};
 ghost use Rattle.model_core.specs.{new_closer, new_flusher, new_writer};
+ghost use Rattle.model_log.specs.{run_layout};
 
 use crate::closer::Closer;
 use crate::flusher::Flusher;
@@ -10,7 +11,7 @@ use model_base::{BLOCK_SIZE, FIRST_DATA_LSN, Shape};
 use model_core::{AdvanceStep, CloserStep, FlusherStep, WriterStep};
 use model_log::{BLOCK_DATA, BLOCK_HEADER};
 use redo_link::Advance;
-use redo_lsn::NoMemory;
+use redo_lsn::{NoMemory, run_layout};
 use std::alloc::Global;
 
 impl Writer {
@@ -20,9 +21,9 @@ impl Writer {
         requires data { start % BLOCK_SIZE ≡ BLOCK_HEADER }
         requires first { FIRST_DATA_LSN ≤ start }
         requires small { start < 2 ^ 61 }
-        ensures { IfOk result (λ writer. writer ≡ new_writer shape.now.log_blocks start) }
+        ensures { IfOk result (λ writer. writer ≡ new_writer (run_layout shape.now).blocks start) }
     {
-        let blocks = u64::from(shape.log_blocks);
+        let blocks = run_layout(shape).blocks;
         let kept = Vec::with_capacity(alloc, KEPT_BYTES)?;
         let firsts = Vec::with_capacity(alloc, KEPT_BLOCKS)?;
         Ok(Writer {

@@ -7,9 +7,9 @@ mod limits;
 mod lsn;
 mod memory;
 
-pub use layout::{log_device_length, round_of};
+pub use layout::{layout_of, log_device_length, round_of, run_layout};
 pub use limits::Limits;
 pub use lsn::{block_of, is_data_lsn, lsn_of, number_of, offset_of, sn_of, start_after};
 pub use memory::NoMemory;
 pub use model_base::{Bytes, Shape};
-pub use model_log::lsn_and_sn;
+pub use model_log::{Format, Layout, lsn_and_sn};

@@ -1,9 +1,10 @@
 // The two ways to count the bytes of the log, and where the block of an lsn stands.
 ghost use Rattle.std.specs.Prelude.{◌≡◌, ◌≤◌, ◌<◌, ◌^◌, ◌↔◌, IsTrue};
-ghost use Rattle.model_log.specs.{block_number, block_of, IsDataLsn, lsn_of, offset_of, sn_of, start_after};
+ghost use Rattle.model_log.specs.{block_number, block_of, IsDataLsn, IsLayout, lsn_of, place_in, sn_of, start_after};
 
-use model_base::{BLOCK_SIZE, MAX_LOG_BLOCKS, MIN_LOG_BLOCKS, START_LSN};
-use model_log::{BLOCK_DATA, BLOCK_DATA_END, BLOCK_HEADER, HEADER_BYTES};
+use crate::round_of;
+use model_base::{BLOCK_SIZE, START_LSN};
+use model_log::{BLOCK_DATA, BLOCK_DATA_END, BLOCK_HEADER, Layout};
 
 /// The lsn of the byte that so many bytes of groups precede.
 pub fn lsn_of(sn: u64) -> u64
@@ -55,15 +56,14 @@ pub fn number_of(lsn: u64) -> u32
     (lsn / BLOCK_SIZE % (1 << 30) + 1) as u32
 }
 
-/// Where on a device of so many log blocks the block of an lsn stands, in bytes.
-pub fn offset_of(lsn: u64, log_blocks: u32) -> u64
+/// Where on a device of this layout the block of an lsn stands, in bytes.
+pub fn offset_of(lsn: u64, layout: &Layout) -> u64
     requires started { START_LSN ≤ lsn }
     requires small { lsn < 2 ^ 61 }
-    requires many_blocks { MIN_LOG_BLOCKS ≤ log_blocks }
-    requires few_blocks { log_blocks ≤ MAX_LOG_BLOCKS }
-    ensures { result ≡ offset_of lsn log_blocks }
+    requires is_layout { IsLayout layout.now }
+    ensures { result ≡ place_in layout.now lsn }
 {
-    HEADER_BYTES + (block_of(lsn) - START_LSN) % (BLOCK_SIZE * u64::from(log_blocks))
+    BLOCK_SIZE * layout.first + (block_of(lsn) - START_LSN) % round_of(layout)
 }
 
 /// Whether the lsn is the place of a byte of a group.

@@ -2,6 +2,7 @@
 ghost use Rattle.std.specs.Prelude.{◌≡◌, IfOk};
 ghost use Rattle.model_base.specs.{IsWithinLimits};
 ghost use Rattle.model_core.specs.{line_of, new_user};
+ghost use Rattle.model_log.specs.{run_layout};
 ghost use Rattle.redo_useractor.specs.Lines.{AreUserLines, IsUserLine, lines_of};
 
 use crate::actor::{Marks, UserActor};
@@ -11,7 +12,7 @@ use model_base::Shape;
 use model_core::UserStep;
 use model_log::Group;
 use redo_link::Advance;
-use redo_lsn::NoMemory;
+use redo_lsn::{NoMemory, run_layout};
 use redo_record::encode;
 use std::alloc::Global;
 
@@ -71,7 +72,7 @@ impl UserActor {
     ) -> Result<UserActor, NoMemory>
         requires limits { IsWithinLimits shape.now }
         requires lines { AreUserLines shape.now lines.items }
-        ensures { IfOk result (λ actor. actor ≡ new_user user shape.now.log_blocks (lines_of log_only shape.now.pages lines.items)) }
+        ensures { IfOk result (λ actor. actor ≡ new_user user (run_layout shape.now).blocks (lines_of log_only shape.now.pages lines.items)) }
     {
         let made = lines_of(alloc, shape, log_only, lines)?;
         let starts = Vec::with_capacity(alloc, made.len())?;
@@ -90,7 +91,7 @@ impl UserActor {
         };
         Ok(UserActor {
             user,
-            blocks: shape.log_blocks,
+            blocks: run_layout(shape).blocks as u32,
             lines: made,
             starts,
             k: 0,

@@ -5,6 +5,6 @@ use Rattle.redo_header.proofs.head.fill_head.Goals as goal
 pub returns : goal.returns
 unfolding head_fields
 returns c =
-    let joined : take c.put-at-9.result c.put-at-9.new.sector ≡ head_fields c.args.shape.now
-    = rw (c.put-at-9.ensures.front, c.put-at-8.ensures.front, c.put-at-7.ensures.front, c.put-at-6.ensures.front, c.put-at-5.ensures.front, c.put-at-4.ensures.front, c.put-at-3.ensures.front, c.put-at-2.ensures.front, c.put-at.ensures.front, c.to_be_bytes.ensures, c.to_be_bytes-2.ensures, c.to_be_bytes-3.ensures, c.to_be_bytes-4.ensures, c.to_be_bytes-5.ensures, c.to_be_bytes-6.ensures, c.to_be_bytes-7.ensures, c.to_be_bytes-8.ensures) refl in
-    c.seal.ensures ∙ head_text-from c.args.shape.now _ joined
+    let joined : take c.put-at-9.result c.put-at-9.new.sector ≡ head_fields c.args.format c.args.shape.now
+    = rw (c.put-at-9.ensures.front, c.put-at-8.ensures.front, c.put-at-7.ensures.front, c.put-at-6.ensures.front, c.put-at-5.ensures.front, c.put-at-4.ensures.front, c.put-at-3.ensures.front, c.put-at-2.ensures.front, c.put-at.ensures.front, c.to_be_bytes.ensures, c.to_be_bytes-2.ensures, c.to_be_bytes-3.ensures, c.to_be_bytes-4.ensures, c.to_be_bytes-5.ensures, c.to_be_bytes-6.ensures, c.to_be_bytes-7.ensures, c.to_be_bytes-8.ensures, c.number_of.ensures) refl in
+    c.seal.ensures ∙ head_text-from c.args.format c.args.shape.now _ joined
