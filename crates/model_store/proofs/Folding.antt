@@ -6,13 +6,14 @@ use Rattle.std.proofs.lemmas.Bool.Decides.{nat_tests}
 use Rattle.model_base.specs.declared.shape.Shape.{Shape}
 use Rattle.model_log.specs.declared.rec.Rec.{Rec}
 use Rattle.model_log.specs.declared.group.Whole.{Whole}
-use Rattle.model_log.specs.{end_of, group_length, IsRunOf, lsn_of, sn_of, spans_of}
+use Rattle.model_log.specs.{end_of, group_length, IsRunOf, layout_of, lsn_of, sn_of, spans_of}
 use Rattle.model_log.proofs.Runs.{run-first}
 use Rattle.model_log.specs.declared.block.BlockView.{BlockView}
 use Rattle.model_page.specs.declared.content.Content.{Content}
 use Rattle.model_store.specs.Apply.{page_after, pages_after_from, applied, folded, page_folded, touches, user_after}
 use Rattle.model_store.specs.Reading.{Reading, IsReading, IsReadPage, replayed}
-use Rattle.model_store.specs.Scan.{AreGroupsOf, groups_start, Source, taken}
+use Rattle.model_store.specs.Scan.{AreGroupsOf, groups_start, Source}
+use Rattle.model_store.specs.Taking.{taken}
 
 pub length-pages_after_from : (p : ℕ) (recs : List Rec) (end : ℕ) (xs : List Content) → length (pages_after_from p recs end xs) ≡ length xs
 length-pages_after_from p recs end [] = refl
@@ -101,6 +102,6 @@ pub read-not_ahead : (log data_bytes : List ℕ) (reading : Reading) → IsReadi
     → (p : ℕ) (page : Content) → slice_get reading.pages p ≡ Some page → page.lsn ≤ reading.end
 read-not_ahead log data_bytes reading reads p page at =
     let read : IsReadPage reading.shape data_bytes reading.wholes reading.end p page = reads.each p page at in
-    let below = groups-below reading.shape (taken reading.shape log) reading.ckpt reading.views (groups_start reading.ckpt reading.views) reading.wholes reading.end reads.scan.scan.groups in
+    let below = groups-below reading.shape (taken (layout_of reading.format reading.shape) log) reading.ckpt reading.views (groups_start reading.ckpt reading.views) reading.wholes reading.end reads.scan.scan.groups in
     let kept = replayed-below p read.kept.lsn reading.end reading.wholes read.kept below read.not_ahead in
     omega (arith, ap (λ (c : Content). c.lsn) read.replay)

@@ -2,7 +2,8 @@
 use Rattle.std.proofs.Common.{◌≡◌, ℕ, ◌<◌, ◌≤◌, ◌⊎◌, inl, inr, List, length, Option, Some, None, arith, refl, sym, ap, ap₂, subst, ◌∙◌}
 use Rattle.model_base.specs.declared.shape.Shape.{Shape}
 use Rattle.model_log.specs.declared.group.Whole.{Whole}
-use Rattle.model_log.specs.{end_of, header_block, IsFront, layout_of, log_device_length, newest_checkpoint, read_head, spans_of}
+use Rattle.model_log.specs.{end_of, head_of, IsFront, layout_of, log_device_length, newest_checkpoint, spans_of}
+use Rattle.model_log.specs.declared.head.Format.{Format}
 use Rattle.model_log.specs.declared.block.BlockView.{BlockView}
 use Rattle.model_log.specs.declared.head.Head.{Head}
 use Rattle.model_log.specs.declared.head.Head.TheVariants.{Good, OtherFormat, Unformatted}
@@ -11,7 +12,8 @@ use Rattle.model_page.specs.declared.content.Content.{Content}
 use Rattle.model_page.specs.{data_device_length, IsLost}
 use Rattle.model_store.specs.declared.refusal.Refusal.{Refusal}
 use Rattle.model_store.specs.declared.refusal.Refusal.TheVariants.{SmallLog, NotFormatted, BadFormat, SmallData, NoCheckpoint, BadRecord, PageLost, PageAhead}
-use Rattle.model_store.specs.Scan.{IsScan, IsBadRecord, AreGroups, AreGroupsOf, groups_start, data_from, Source, taken}
+use Rattle.model_store.specs.Scan.{IsScan, IsBadRecord, AreGroups, AreGroupsOf, groups_start, data_from, Source}
+use Rattle.model_store.specs.Taking.{taken}
 use Rattle.model_store.specs.Reading.{Reading, IsReading, Refuses, HasScan, HasHead, HasDevices, IsScanned, IsKeptAt, AreKeptBelow, AreNotAheadBelow}
 use Rattle.model_store.proofs.Places.{has_place, same_some}
 use Rattle.model_store.proofs.OneScan.{OneGroup, same_scan, same_blocks, same_groups, front-no_storable}
@@ -30,35 +32,35 @@ LostAnswer data_bytes shape end o =
     ⊎ (AreKeptBelow shape data_bytes shape.pages × AheadAnswer data_bytes shape end o)
 
 -- before that the log
-abbrev ScanAnswer : List ℕ → List ℕ → Shape → ℕ → Option Refusal → Type 0
-ScanAnswer log data_bytes shape ckpt o =
-    ((lsn : ℕ) × IsBadRecord shape (layout_of shape).blocks (taken shape log) ckpt lsn × (o ≡ Some (BadRecord lsn)))
+abbrev ScanAnswer : List ℕ → List ℕ → Format → Shape → ℕ → Option Refusal → Type 0
+ScanAnswer log data_bytes format shape ckpt o =
+    ((lsn : ℕ) × IsBadRecord shape (layout_of format shape).blocks (taken (layout_of format shape) log) ckpt lsn × (o ≡ Some (BadRecord lsn)))
     ⊎ ((views : List BlockView) × (wholes : List Whole) × (end : ℕ)
-    × IsScan shape (layout_of shape).blocks (taken shape log) ckpt views wholes end × LostAnswer data_bytes shape end o)
+    × IsScan shape (layout_of format shape).blocks (taken (layout_of format shape) log) ckpt views wholes end × LostAnswer data_bytes shape end o)
 
-abbrev CheckpointAnswer : List ℕ → List ℕ → Shape → Option (ℕ × ℕ) → Option Refusal → Type 0
-CheckpointAnswer log data_bytes shape None o = o ≡ Some NoCheckpoint
-CheckpointAnswer log data_bytes shape (Some newest) o = ScanAnswer log data_bytes shape newest.1 o
+abbrev CheckpointAnswer : List ℕ → List ℕ → Format → Shape → Option (ℕ × ℕ) → Option Refusal → Type 0
+CheckpointAnswer log data_bytes format shape None o = o ≡ Some NoCheckpoint
+CheckpointAnswer log data_bytes format shape (Some newest) o = ScanAnswer log data_bytes format shape newest.1 o
 
-abbrev DataAnswer : List ℕ → List ℕ → Shape → Option Refusal → Type 0
-DataAnswer log data_bytes shape o =
+abbrev DataAnswer : List ℕ → List ℕ → Format → Shape → Option Refusal → Type 0
+DataAnswer log data_bytes format shape o =
     ((length data_bytes < data_device_length shape) × (o ≡ Some (SmallData (data_device_length shape))))
-    ⊎ ((data_device_length shape ≤ length data_bytes) × CheckpointAnswer log data_bytes shape (newest_checkpoint shape log) o)
+    ⊎ ((data_device_length shape ≤ length data_bytes) × CheckpointAnswer log data_bytes format shape (newest_checkpoint (layout_of format shape) log) o)
 
-abbrev LogAnswer : List ℕ → List ℕ → Shape → Option Refusal → Type 0
-LogAnswer log data_bytes shape o =
+abbrev LogAnswer : List ℕ → List ℕ → Format → Shape → Option Refusal → Type 0
+LogAnswer log data_bytes format shape o =
     ((length log < log_device_length shape) × (o ≡ Some (SmallLog (log_device_length shape))))
-    ⊎ ((log_device_length shape ≤ length log) × DataAnswer log data_bytes shape o)
+    ⊎ ((log_device_length shape ≤ length log) × DataAnswer log data_bytes format shape o)
 
 abbrev HeadAnswer : List ℕ → List ℕ → Head → Option Refusal → Type 0
-HeadAnswer log data_bytes (Good shape) o = LogAnswer log data_bytes shape o
+HeadAnswer log data_bytes (Good format shape) o = LogAnswer log data_bytes format shape o
 HeadAnswer log data_bytes (OtherFormat n) o = o ≡ Some (BadFormat n)
 HeadAnswer log data_bytes Unformatted o = o ≡ Some NotFormatted
 
 abbrev Answer : List ℕ → List ℕ → Option Refusal → Type 0
 Answer log data_bytes o =
     ((length log < HEADER_BYTES) × (o ≡ Some (SmallLog HEADER_BYTES)))
-    ⊎ ((HEADER_BYTES ≤ length log) × HeadAnswer log data_bytes (read_head (header_block 0 log)) o)
+    ⊎ ((HEADER_BYTES ≤ length log) × HeadAnswer log data_bytes (head_of log) o)
 
 same_lsn : (shape : Shape) (data_bytes : List ℕ) (p m n : ℕ) → IsKeptAt shape data_bytes p m → IsKeptAt shape data_bytes p n → m ≡ n
 same_lsn shape data_bytes p m n a b =
@@ -110,37 +112,37 @@ same_bad one shape most source ckpt m n a b =
     let same = same_groups one shape (data_from source ckpt a.views a.start) a.start a.wholes b.wholes a.rest b.rest a.groups groups a.no_storable b.no_storable in
     a.at ∙ ap₂ end_of start (ap spans_of same.0) ∙ sym b.at
 
-same_scanned : OneGroup → (log data_bytes : List ℕ) (shape : Shape) (ckpt : ℕ) (o q : Option Refusal) → ScanAnswer log data_bytes shape ckpt o → ScanAnswer log data_bytes shape ckpt q → o ≡ q
-same_scanned one log data_bytes shape ckpt o q (inl (m, bad, is)) (inl (n, wrong, at)) =
-    is ∙ ap (λ l. Some (BadRecord l)) (same_bad one shape (layout_of shape).blocks (taken shape log) ckpt m n bad wrong) ∙ sym at
-same_scanned one log data_bytes shape ckpt o q (inl (m, bad, is)) (inr (views, wholes, end, scan, rest)) =
-    absurd (scan-not_bad one shape (layout_of shape).blocks (taken shape log) ckpt views wholes end m scan bad)
-same_scanned one log data_bytes shape ckpt o q (inr (views, wholes, end, scan, rest)) (inl (m, bad, is)) =
-    absurd (scan-not_bad one shape (layout_of shape).blocks (taken shape log) ckpt views wholes end m scan bad)
-same_scanned one log data_bytes shape ckpt o q (inr (views, wholes, end, scan, rest)) (inr (blocks, others, stop, other, more)) =
-    let same = same_scan one shape (layout_of shape).blocks (taken shape log) ckpt views blocks wholes others end stop scan other in
+same_scanned : OneGroup → (log data_bytes : List ℕ) (format : Format) (shape : Shape) (ckpt : ℕ) (o q : Option Refusal) → ScanAnswer log data_bytes format shape ckpt o → ScanAnswer log data_bytes format shape ckpt q → o ≡ q
+same_scanned one log data_bytes format shape ckpt o q (inl (m, bad, is)) (inl (n, wrong, at)) =
+    is ∙ ap (λ l. Some (BadRecord l)) (same_bad one shape (layout_of format shape).blocks (taken (layout_of format shape) log) ckpt m n bad wrong) ∙ sym at
+same_scanned one log data_bytes format shape ckpt o q (inl (m, bad, is)) (inr (views, wholes, end, scan, rest)) =
+    absurd (scan-not_bad one shape (layout_of format shape).blocks (taken (layout_of format shape) log) ckpt views wholes end m scan bad)
+same_scanned one log data_bytes format shape ckpt o q (inr (views, wholes, end, scan, rest)) (inl (m, bad, is)) =
+    absurd (scan-not_bad one shape (layout_of format shape).blocks (taken (layout_of format shape) log) ckpt views wholes end m scan bad)
+same_scanned one log data_bytes format shape ckpt o q (inr (views, wholes, end, scan, rest)) (inr (blocks, others, stop, other, more)) =
+    let same = same_scan one shape (layout_of format shape).blocks (taken (layout_of format shape) log) ckpt views blocks wholes others end stop scan other in
     same_lost data_bytes shape end o q rest (subst (λ e. LostAnswer data_bytes shape e q) (sym same.2) more)
 
-same_from : OneGroup → (log data_bytes : List ℕ) (shape : Shape) (newest : Option (ℕ × ℕ)) (o q : Option Refusal)
-    → CheckpointAnswer log data_bytes shape newest o → CheckpointAnswer log data_bytes shape newest q → o ≡ q
-same_from one log data_bytes shape None o q a b = a ∙ sym b
-same_from one log data_bytes shape (Some newest) o q a b = same_scanned one log data_bytes shape newest.1 o q a b
+same_from : OneGroup → (log data_bytes : List ℕ) (format : Format) (shape : Shape) (newest : Option (ℕ × ℕ)) (o q : Option Refusal)
+    → CheckpointAnswer log data_bytes format shape newest o → CheckpointAnswer log data_bytes format shape newest q → o ≡ q
+same_from one log data_bytes format shape None o q a b = a ∙ sym b
+same_from one log data_bytes format shape (Some newest) o q a b = same_scanned one log data_bytes format shape newest.1 o q a b
 
-same_data : OneGroup → (log data_bytes : List ℕ) (shape : Shape) (o q : Option Refusal) → DataAnswer log data_bytes shape o → DataAnswer log data_bytes shape q → o ≡ q
-same_data one log data_bytes shape o q (inl (short, is)) (inl (less, at)) = is ∙ sym at
-same_data one log data_bytes shape o q (inl (short, is)) (inr (long, rest)) = absurd (omega arith)
-same_data one log data_bytes shape o q (inr (long, rest)) (inl (short, is)) = absurd (omega arith)
-same_data one log data_bytes shape o q (inr (long, rest)) (inr (enough, more)) =
-    same_from one log data_bytes shape (newest_checkpoint shape log) o q rest more
+same_data : OneGroup → (log data_bytes : List ℕ) (format : Format) (shape : Shape) (o q : Option Refusal) → DataAnswer log data_bytes format shape o → DataAnswer log data_bytes format shape q → o ≡ q
+same_data one log data_bytes format shape o q (inl (short, is)) (inl (less, at)) = is ∙ sym at
+same_data one log data_bytes format shape o q (inl (short, is)) (inr (long, rest)) = absurd (omega arith)
+same_data one log data_bytes format shape o q (inr (long, rest)) (inl (short, is)) = absurd (omega arith)
+same_data one log data_bytes format shape o q (inr (long, rest)) (inr (enough, more)) =
+    same_from one log data_bytes format shape (newest_checkpoint (layout_of format shape) log) o q rest more
 
-same_log : OneGroup → (log data_bytes : List ℕ) (shape : Shape) (o q : Option Refusal) → LogAnswer log data_bytes shape o → LogAnswer log data_bytes shape q → o ≡ q
-same_log one log data_bytes shape o q (inl (short, is)) (inl (less, at)) = is ∙ sym at
-same_log one log data_bytes shape o q (inl (short, is)) (inr (long, rest)) = absurd (omega arith)
-same_log one log data_bytes shape o q (inr (long, rest)) (inl (short, is)) = absurd (omega arith)
-same_log one log data_bytes shape o q (inr (long, rest)) (inr (enough, more)) = same_data one log data_bytes shape o q rest more
+same_log : OneGroup → (log data_bytes : List ℕ) (format : Format) (shape : Shape) (o q : Option Refusal) → LogAnswer log data_bytes format shape o → LogAnswer log data_bytes format shape q → o ≡ q
+same_log one log data_bytes format shape o q (inl (short, is)) (inl (less, at)) = is ∙ sym at
+same_log one log data_bytes format shape o q (inl (short, is)) (inr (long, rest)) = absurd (omega arith)
+same_log one log data_bytes format shape o q (inr (long, rest)) (inl (short, is)) = absurd (omega arith)
+same_log one log data_bytes format shape o q (inr (long, rest)) (inr (enough, more)) = same_data one log data_bytes format shape o q rest more
 
 same_by_head : OneGroup → (log data_bytes : List ℕ) (head : Head) (o q : Option Refusal) → HeadAnswer log data_bytes head o → HeadAnswer log data_bytes head q → o ≡ q
-same_by_head one log data_bytes (Good shape) o q a b = same_log one log data_bytes shape o q a b
+same_by_head one log data_bytes (Good format shape) o q a b = same_log one log data_bytes format shape o q a b
 same_by_head one log data_bytes (OtherFormat n) o q a b = a ∙ sym b
 same_by_head one log data_bytes Unformatted o q a b = a ∙ sym b
 
@@ -149,49 +151,49 @@ same_answer one log data_bytes o q (inl (short, is)) (inl (less, at)) = is ∙ s
 same_answer one log data_bytes o q (inl (short, is)) (inr (long, rest)) = absurd (omega arith)
 same_answer one log data_bytes o q (inr (long, rest)) (inl (short, is)) = absurd (omega arith)
 same_answer one log data_bytes o q (inr (long, rest)) (inr (enough, more)) =
-    same_by_head one log data_bytes (read_head (header_block 0 log)) o q rest more
+    same_by_head one log data_bytes (head_of log) o q rest more
 
 -- a store with a header is judged further by its shape
-by_shape : (log data_bytes : List ℕ) (shape : Shape) (o : Option Refusal) → HasHead log shape → LogAnswer log data_bytes shape o → Answer log data_bytes o
-by_shape log data_bytes shape o head rest = inr (head.long, subst (λ h. HeadAnswer log data_bytes h o) (sym head.head) rest)
+by_shape : (log data_bytes : List ℕ) (format : Format) (shape : Shape) (o : Option Refusal) → HasHead log format shape → LogAnswer log data_bytes format shape o → Answer log data_bytes o
+by_shape log data_bytes format shape o head rest = inr (head.long, subst (λ h. HeadAnswer log data_bytes h o) (sym head.head) rest)
 
 -- one whose devices are as long as that asks, by its checkpoint
-by_devices : (log data_bytes : List ℕ) (shape : Shape) (o : Option Refusal) → HasDevices log data_bytes shape
-    → CheckpointAnswer log data_bytes shape (newest_checkpoint shape log) o → Answer log data_bytes o
-by_devices log data_bytes shape o devices rest =
-    by_shape log data_bytes shape o devices.head (inr (devices.log_long, inr (devices.data_long, rest)))
+by_devices : (log data_bytes : List ℕ) (format : Format) (shape : Shape) (o : Option Refusal) → HasDevices log data_bytes format shape
+    → CheckpointAnswer log data_bytes format shape (newest_checkpoint (layout_of format shape) log) o → Answer log data_bytes o
+by_devices log data_bytes format shape o devices rest =
+    by_shape log data_bytes format shape o devices.head (inr (devices.log_long, inr (devices.data_long, rest)))
 
 -- one with a scan, by its pages
-by_scan : (log data_bytes : List ℕ) (shape : Shape) (number ckpt : ℕ) (views : List BlockView) (wholes : List Whole) (end : ℕ) (o : Option Refusal)
-    → HasScan log data_bytes shape number ckpt views wholes end → LostAnswer data_bytes shape end o → Answer log data_bytes o
-by_scan log data_bytes shape number ckpt views wholes end o scan rest =
-    let found : ScanAnswer log data_bytes shape ckpt o = inr (views, wholes, end, scan.scan, rest) in
-    by_devices log data_bytes shape o scan.devices
-    (subst (λ newest. CheckpointAnswer log data_bytes shape newest o) (sym scan.checkpoint) found)
+by_scan : (log data_bytes : List ℕ) (format : Format) (shape : Shape) (number ckpt : ℕ) (views : List BlockView) (wholes : List Whole) (end : ℕ) (o : Option Refusal)
+    → HasScan log data_bytes format shape number ckpt views wholes end → LostAnswer data_bytes shape end o → Answer log data_bytes o
+by_scan log data_bytes format shape number ckpt views wholes end o scan rest =
+    let found : ScanAnswer log data_bytes format shape ckpt o = inr (views, wholes, end, scan.scan, rest) in
+    by_devices log data_bytes format shape o scan.devices
+    (subst (λ newest. CheckpointAnswer log data_bytes format shape newest o) (sym scan.checkpoint) found)
 
 by_scanned : (log data_bytes : List ℕ) (shape : Shape) (end : ℕ) (o : Option Refusal)
     → IsScanned log data_bytes shape end → LostAnswer data_bytes shape end o → Answer log data_bytes o
 by_scanned log data_bytes shape end o scan rest =
-    by_scan log data_bytes shape scan.number scan.ckpt scan.views scan.wholes end o scan.scan rest
+    by_scan log data_bytes scan.format shape scan.number scan.ckpt scan.views scan.wholes end o scan.scan rest
 
 -- a refusal is the answer
 refusal_answers : (log data_bytes : List ℕ) (refusal : Refusal) → Refuses log data_bytes refusal → Answer log data_bytes (Some refusal)
 refusal_answers log data_bytes (SmallLog n) (inl (short, is)) = inl (short, ap (λ k. Some (SmallLog k)) is)
-refusal_answers log data_bytes (SmallLog n) (inr (shape, head, short, is)) =
-    by_shape log data_bytes shape (Some (SmallLog n)) head (inl (short, ap (λ k. Some (SmallLog k)) is))
+refusal_answers log data_bytes (SmallLog n) (inr (format, shape, head, short, is)) =
+    by_shape log data_bytes format shape (Some (SmallLog n)) head (inl (short, ap (λ k. Some (SmallLog k)) is))
 refusal_answers log data_bytes NotFormatted (long, head) =
     inr (long, subst (λ h. HeadAnswer log data_bytes h (Some NotFormatted)) (sym head) refl)
 refusal_answers log data_bytes (BadFormat n) (long, head) =
     inr (long, subst (λ h. HeadAnswer log data_bytes h (Some (BadFormat n))) (sym head) refl)
-refusal_answers log data_bytes (SmallData n) (shape, head, long, short, is) =
-    by_shape log data_bytes shape (Some (SmallData n)) head (inr (long, inl (short, ap (λ k. Some (SmallData k)) is)))
-refusal_answers log data_bytes NoCheckpoint (shape, devices, none) =
-    by_devices log data_bytes shape (Some NoCheckpoint) devices
-    (subst (λ newest. CheckpointAnswer log data_bytes shape newest (Some NoCheckpoint)) (sym none) refl)
-refusal_answers log data_bytes (BadRecord lsn) (shape, number, ckpt, devices, newest, bad) =
-    let found : ScanAnswer log data_bytes shape ckpt (Some (BadRecord lsn)) = inl (lsn, bad, refl) in
-    by_devices log data_bytes shape (Some (BadRecord lsn)) devices
-    (subst (λ o. CheckpointAnswer log data_bytes shape o (Some (BadRecord lsn))) (sym newest) found)
+refusal_answers log data_bytes (SmallData n) (format, shape, head, long, short, is) =
+    by_shape log data_bytes format shape (Some (SmallData n)) head (inr (long, inl (short, ap (λ k. Some (SmallData k)) is)))
+refusal_answers log data_bytes NoCheckpoint (format, shape, devices, none) =
+    by_devices log data_bytes format shape (Some NoCheckpoint) devices
+    (subst (λ newest. CheckpointAnswer log data_bytes format shape newest (Some NoCheckpoint)) (sym none) refl)
+refusal_answers log data_bytes (BadRecord lsn) (format, shape, number, ckpt, devices, newest, bad) =
+    let found : ScanAnswer log data_bytes format shape ckpt (Some (BadRecord lsn)) = inl (lsn, bad, refl) in
+    by_devices log data_bytes format shape (Some (BadRecord lsn)) devices
+    (subst (λ o. CheckpointAnswer log data_bytes format shape o (Some (BadRecord lsn))) (sym newest) found)
 refusal_answers log data_bytes (PageLost p) (shape, end, scan, within, lost, below) =
     by_scanned log data_bytes shape end (Some (PageLost p)) scan (inl (p, within, lost, below, refl))
 refusal_answers log data_bytes (PageAhead p lsn) (shape, end, scan, all, within, kept, ahead, below) =
@@ -217,7 +219,7 @@ read-not_ahead log data_bytes reading reads p lsn within kept =
 -- a reading is the answer too
 reading_answers : (log data_bytes : List ℕ) (reading : Reading) → IsReading log data_bytes reading → Answer log data_bytes None
 reading_answers log data_bytes reading reads =
-    by_scan log data_bytes reading.shape reading.number reading.ckpt reading.views reading.wholes reading.end None reads.scan
+    by_scan log data_bytes reading.format reading.shape reading.number reading.ckpt reading.views reading.wholes reading.end None reads.scan
     (inr (read-kept log data_bytes reading reads, inr (read-not_ahead log data_bytes reading reads, refl)))
 
 -- at most one refusal holds

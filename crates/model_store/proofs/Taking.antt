@@ -1,72 +1,136 @@
--- What the scan of a log device takes at an lsn, in the words of the log block that stands there.
-use Rattle.std.proofs.Common.{◌≡◌, ◌≤◌, ◌<◌, ◌+◌, ◌-◌, ℕ, min, List, length, take, drop, Bool, true, false, cond, ltb, lt-ltb, Option, Some, None, refl, sym, ap, subst, ◌∙◌, length-take, length-drop, arith}
+-- What the scan of a log device takes at an lsn, in the words of the blocks that stand there.
+use Rattle.std.proofs.Common.{◌≡◌, ◌≤◌, ◌<◌, ◌+◌, ◌-◌, ◌==◌, ℕ, min, List, length, take, drop, Bool, true, false, cond, ltb, lt-ltb, Option, Some, None, refl, sym, ap, subst, ◌∙◌, ⊎_elim, length-take, length-drop, arith}
+use Rattle.std.proofs.lemmas.Bool.{cases_Bool}
 use Rattle.std.proofs.lemmas.Bool.Decides.{nat_tests}
-use Rattle.std.specs.Option.{option_map}
 use Rattle.model_base.specs.declared.shape.Shape.{Shape}
 use Rattle.model_base.specs.declared.limits.TheConstants.{LSN_LIMIT}
-use Rattle.model_log.specs.{data_of, is_full, layout_of, log_block, log_device_length, place_in, read_block}
+use Rattle.model_base.specs.{IsWithinLimits}
+use Rattle.model_log.specs.{data_of, header_block, is_full, IsLayout, layout_of, log_block, log_device_length, place_in, read_block, ring_start, round_of, turn_of}
 use Rattle.model_log.specs.declared.block.BlockView.{BlockView}
-use Rattle.model_store.specs.Scan.{Taken, taken_from, view_at, bytes_of, Source, taken}
-use Rattle.model_log.proofs.Places.{HasBlocks, place-within}
+use Rattle.model_log.specs.declared.head.Format.{Format}
+use Rattle.model_log.specs.declared.head.Format.TheVariants.{One, Two}
+use Rattle.model_log.specs.declared.layout.Layout.{Layout}
+use Rattle.model_log.proofs.Layouts.{has-blocks, is_layout_of}
+use Rattle.model_log.proofs.Places.{place-within}
+use Rattle.model_store.specs.Scan.{Taken, taken_from, Source}
+use Rattle.model_store.specs.Taking.{if_full, if_tail, in_place_or, longer, read_full, read_tail, taken, taken_among}
 use Rattle.model_store.proofs.Ending.{first-place}
-use Rattle.model_store.proofs.Sources.{data_at, IsSoundSource}
+use Rattle.model_store.proofs.Sources.{IsSoundSource}
 
-view_of-taken_from : (bytes : List ℕ) (o : Option BlockView) → option_map (λ (block : Taken). block.view) (taken_from bytes o) ≡ o
-view_of-taken_from bytes None = refl
-view_of-taken_from bytes (Some view) = refl
+-- WHAT IS READ AS A FULL BLOCK OR AS A TAIL is a block that fits.
 
-view_of-when : (test : Bool) (bytes : List ℕ) (o : Option BlockView)
-    → option_map (λ (block : Taken). block.view) (cond test (taken_from bytes o) None) ≡ cond test o None
-view_of-when true bytes o = view_of-taken_from bytes o
-view_of-when false bytes o = refl
+some-is : {X : Type 0} (x y : X) → Some x ≡ Some y → x ≡ y
+some-is x y is = cc
 
--- the view is that of the block that stands there, if the lsn is below the limit
-pub view_at-is : (shape : Shape) (image : List ℕ) (lsn : ℕ)
-    → view_at (taken shape image) lsn ≡ cond (ltb lsn LSN_LIMIT) (read_block lsn (log_block shape lsn image)) None
-view_at-is shape image lsn = view_of-when (ltb lsn LSN_LIMIT) (log_block shape lsn image) (read_block lsn (log_block shape lsn image))
+full-inner : (t : Bool) (found view : BlockView) → cond t (Some found) None ≡ Some view → (t ≡ true) × (Some found ≡ Some view)
+full-inner true found view is = (refl, is)
+full-inner false found view is = absurd cc
 
-view_split : (test : Bool) (bytes : List ℕ) (o : Option BlockView) (view : BlockView)
-    → option_map (λ (block : Taken). block.view) (cond test (taken_from bytes o) None) ≡ Some view → (test ≡ true) × (o ≡ Some view)
-view_split true bytes o view e = (refl, sym (view_of-taken_from bytes o) ∙ e)
-view_split false bytes o view e = cc
+tail-inner : (f t : Bool) (found view : BlockView) → cond f None (cond t (Some found) None) ≡ Some view → (f ≡ false) × (t ≡ true) × (Some found ≡ Some view)
+tail-inner true t found view is = absurd cc
+tail-inner false true found view is = (refl, refl, is)
+tail-inner false false found view is = absurd cc
 
--- a view that is taken is that of the block that stands there, below the limit
-pub view_at-some : (shape : Shape) (image : List ℕ) (lsn : ℕ) (view : BlockView) → view_at (taken shape image) lsn ≡ Some view
-    → (ltb lsn LSN_LIMIT ≡ true) × (read_block lsn (log_block shape lsn image) ≡ Some view)
-view_at-some shape image lsn view e =
-    view_split (ltb lsn LSN_LIMIT) (log_block shape lsn image) (read_block lsn (log_block shape lsn image)) view e
+-- a block that is read in its place fits and is full
+pub from-full : (read : Option BlockView) (view : BlockView) → if_full read ≡ Some view → (read ≡ Some view) × (is_full view ≡ true)
+from-full None view is = absurd cc
+from-full (Some found) view is =
+    let parts = full-inner (is_full found) found view is in
+    let same : found ≡ view = some-is found view parts.1 in
+    (parts.1, sym (ap is_full same) ∙ parts.0)
 
--- and the data is that block's
-pub data_at-some : (shape : Shape) (image : List ℕ) (lsn : ℕ) (view : BlockView) → view_at (taken shape image) lsn ≡ Some view
-    → data_at (taken shape image) lsn ≡ data_of view (log_block shape lsn image)
-data_at-some shape image lsn view e =
-    let bytes = log_block shape lsn image in
-    let parts = view_at-some shape image lsn view e in
-    ap (λ test. bytes_of (cond test (taken_from bytes (read_block lsn bytes)) None)) parts.0
-    ∙ ap (λ o. bytes_of (taken_from bytes o)) parts.1
+-- one that is read as a tail fits, isn't full, and is of the lsn's turn
+pub from-tail : (lsn : ℕ) (read : Option BlockView) (view : BlockView) → if_tail lsn read ≡ Some view
+    → (read ≡ Some view) × (is_full view ≡ false) × ((view.ckpt == turn_of lsn) ≡ true)
+from-tail lsn None view is = absurd cc
+from-tail lsn (Some found) view is =
+    let parts = tail-inner (is_full found) (found.ckpt == turn_of lsn) found view is in
+    let same : found ≡ view = some-is found view parts.2 in
+    (parts.2, sym (ap is_full same) ∙ parts.0, sym (ap (λ (v : BlockView). v.ckpt == turn_of lsn) same) ∙ parts.1)
 
--- where the block is the same, the same is taken
-pub taken-same : (shape : Shape) (old new : List ℕ) (lsn : ℕ) → log_block shape lsn new ≡ log_block shape lsn old → taken shape new lsn ≡ taken shape old lsn
-taken-same shape old new lsn same = ap (λ (bytes : List ℕ). cond (ltb lsn LSN_LIMIT) (taken_from bytes (read_block lsn bytes)) None) same
+-- bytes that aren't a block of the lsn are neither
+pub unread-full : (lsn : ℕ) (bytes : List ℕ) → read_block lsn bytes ≡ None → read_full lsn bytes ≡ None
+unread-full lsn bytes none = ap if_full none
 
--- below the limit it is what is read there
-pub taken-below : (shape : Shape) (image : List ℕ) (lsn : ℕ) → lsn < LSN_LIMIT
-    → taken shape image lsn ≡ taken_from (log_block shape lsn image) (read_block lsn (log_block shape lsn image))
-taken-below shape image lsn small =
-    let bytes : List ℕ = log_block shape lsn image in
-    ap (λ test. cond test (taken_from bytes (read_block lsn bytes)) None) (lt-ltb lsn LSN_LIMIT small)
+pub unread-tail : (lsn : ℕ) (bytes : List ℕ) → read_block lsn bytes ≡ None → read_tail lsn bytes ≡ None
+unread-tail lsn bytes none = ap (if_tail lsn) none
 
--- and none where none is read
+-- WHERE THE BLOCKS ARE THE SAME, the same is taken.
+
+abbrev pub taken_of : Format → ℕ → List ℕ → List ℕ → List ℕ → Option Taken
+taken_of format lsn place four five = cond (ltb lsn LSN_LIMIT) (taken_among format lsn place four five) None
+
+pub taken-same : (layout : Layout) (old new : List ℕ) (lsn : ℕ) → log_block layout lsn new ≡ log_block layout lsn old
+    → header_block 4 new ≡ header_block 4 old → header_block 5 new ≡ header_block 5 old → taken layout new lsn ≡ taken layout old lsn
+taken-same layout old new lsn place four five =
+    ap (λ (bytes : List ℕ). taken_of layout.format lsn bytes (header_block 4 new) (header_block 5 new)) place
+    ∙ ap (λ (bytes : List ℕ). taken_of layout.format lsn (log_block layout lsn old) bytes (header_block 5 new)) four
+    ∙ ap (λ (bytes : List ℕ). taken_of layout.format lsn (log_block layout lsn old) (header_block 4 old) bytes) five
+
+-- in format 1 it is the block in its place alone
+pub taken-same_one : (layout : Layout) (old new : List ℕ) (lsn : ℕ) → layout.format ≡ One → log_block layout lsn new ≡ log_block layout lsn old
+    → taken layout new lsn ≡ taken layout old lsn
+taken-same_one layout old new lsn format same =
+    ap (λ (f : Format). taken_of f lsn (log_block layout lsn new) (header_block 4 new) (header_block 5 new)) format
+    ∙ ap (λ (bytes : List ℕ). taken_of One lsn bytes (header_block 4 old) (header_block 5 old)) same
+    ∙ sym (ap (λ (f : Format). taken_of f lsn (log_block layout lsn old) (header_block 4 old) (header_block 5 old)) format)
+
+-- below the limit it is what is taken among the blocks there
+pub taken-below : (layout : Layout) (image : List ℕ) (lsn : ℕ) → lsn < LSN_LIMIT
+    → taken layout image lsn ≡ taken_among layout.format lsn (log_block layout lsn image) (header_block 4 image) (header_block 5 image)
+taken-below layout image lsn small =
+    let among : Option Taken = taken_among layout.format lsn (log_block layout lsn image) (header_block 4 image) (header_block 5 image) in
+    ap (λ test. cond test among None) (lt-ltb lsn LSN_LIMIT small)
+
+-- WHERE NONE OF THE BLOCKS IS READ, none is taken.
+
 either-none : (test : Bool) (found : Option Taken) → found ≡ None → cond test found None ≡ None
 either-none true found none = none
 either-none false found none = refl
 
-pub taken-none : (shape : Shape) (image : List ℕ) (lsn : ℕ) → read_block lsn (log_block shape lsn image) ≡ None → taken shape image lsn ≡ None
-taken-none shape image lsn none =
-    let bytes : List ℕ = log_block shape lsn image in
-    either-none (ltb lsn LSN_LIMIT) (taken_from bytes (read_block lsn bytes)) (ap (taken_from bytes) none)
+-- in format 2 where no full block stands in the place, and no tail of the lsn
+pub among-none : (lsn : ℕ) (place four five : List ℕ) → read_full lsn place ≡ None → read_tail lsn four ≡ None → read_tail lsn five ≡ None
+    → taken_among Two lsn place four five ≡ None
+among-none lsn place four five no_place no_four no_five =
+    ap (λ o. in_place_or place o (longer four five (read_tail lsn four) (read_tail lsn five))) no_place
+    ∙ ap (λ o. longer four five o (read_tail lsn five)) no_four
+    ∙ ap (λ o. longer four five None o) no_five
 
--- A SOURCE THAT READS WHOLE BLOCKS IS SOUND.
+pub taken-none_two : (layout : Layout) (image : List ℕ) (lsn : ℕ) → layout.format ≡ Two → read_full lsn (log_block layout lsn image) ≡ None
+    → read_tail lsn (header_block 4 image) ≡ None → read_tail lsn (header_block 5 image) ≡ None → taken layout image lsn ≡ None
+taken-none_two layout image lsn format no_place no_four no_five =
+    let place : List ℕ = log_block layout lsn image in
+    let four : List ℕ = header_block 4 image in
+    let five : List ℕ = header_block 5 image in
+    either-none (ltb lsn LSN_LIMIT) (taken_among layout.format lsn place four five)
+    (ap (λ (f : Format). taken_among f lsn place four five) format ∙ among-none lsn place four five no_place no_four no_five)
+
+-- in format 1 where none fits in the place
+pub taken-none_one : (layout : Layout) (image : List ℕ) (lsn : ℕ) → layout.format ≡ One → read_block lsn (log_block layout lsn image) ≡ None
+    → taken layout image lsn ≡ None
+taken-none_one layout image lsn format none =
+    let place : List ℕ = log_block layout lsn image in
+    let four : List ℕ = header_block 4 image in
+    let five : List ℕ = header_block 5 image in
+    either-none (ltb lsn LSN_LIMIT) (taken_among layout.format lsn place four five)
+    (ap (λ (f : Format). taken_among f lsn place four five) format ∙ ap (taken_from place) none)
+
+unread-among : (format : Format) (lsn : ℕ) (place four five : List ℕ) → read_block lsn place ≡ None → read_block lsn four ≡ None → read_block lsn five ≡ None
+    → taken_among format lsn place four five ≡ None
+unread-among One lsn place four five no_place no_four no_five = ap (taken_from place) no_place
+unread-among Two lsn place four five no_place no_four no_five =
+    among-none lsn place four five (unread-full lsn place no_place) (unread-tail lsn four no_four) (unread-tail lsn five no_five)
+
+-- in either where none of the three blocks fits
+pub taken-none : (layout : Layout) (image : List ℕ) (lsn : ℕ) → read_block lsn (log_block layout lsn image) ≡ None
+    → read_block lsn (header_block 4 image) ≡ None → read_block lsn (header_block 5 image) ≡ None → taken layout image lsn ≡ None
+taken-none layout image lsn no_place no_four no_five =
+    let place : List ℕ = log_block layout lsn image in
+    let four : List ℕ = header_block 4 image in
+    let five : List ℕ = header_block 5 image in
+    either-none (ltb lsn LSN_LIMIT) (taken_among layout.format lsn place four five) (unread-among layout.format lsn place four five no_place no_four no_five)
+
+-- WHAT IS TAKEN WAS READ off one of the blocks.
 
 -- a block that was read off 512 bytes
 pub record IsReadOff (lsn : ℕ) (block : Taken) : Type 0 where
@@ -74,6 +138,43 @@ pub record IsReadOff (lsn : ℕ) (block : Taken) : Type 0 where
   pub long : length bytes ≡ 512
   pub read : read_block lsn bytes ≡ Some block.view
   pub data_is : block.bytes ≡ data_of block.view bytes
+
+read-off : (lsn : ℕ) (bytes : List ℕ) (found : Option BlockView) (block : Taken) → length bytes ≡ 512
+    → ((view : BlockView) → found ≡ Some view → read_block lsn bytes ≡ Some view) → taken_from bytes found ≡ Some block → IsReadOff lsn block
+read-off lsn bytes None block long from is = absurd cc
+read-off lsn bytes (Some view) block long from is =
+    let same : record { view = view; bytes = data_of view bytes } ≡ block = some-is (record { view = view; bytes = data_of view bytes }) block is in
+    subst (λ (x : Taken). IsReadOff lsn x) same (record { bytes = bytes; long = long; read = from view refl; data_is = refl })
+
+longer-off : (lsn : ℕ) (one two : List ℕ) (first second : Option BlockView) (block : Taken) → length one ≡ 512 → length two ≡ 512
+    → ((view : BlockView) → first ≡ Some view → read_block lsn one ≡ Some view) → ((view : BlockView) → second ≡ Some view → read_block lsn two ≡ Some view)
+    → longer one two first second ≡ Some block → IsReadOff lsn block
+longer-off lsn one two None second block long_one long_two from_one from_two is = read-off lsn two second block long_two from_two is
+longer-off lsn one two (Some first) None block long_one long_two from_one from_two is = read-off lsn one (Some first) block long_one from_one is
+longer-off lsn one two (Some first) (Some second) block long_one long_two from_one from_two is =
+    ⊎_elim (λ yes. read-off lsn two (Some second) block long_two from_two (sym (ap (λ t. cond t (taken_from two (Some second)) (taken_from one (Some first))) yes) ∙ is))
+    (λ no. read-off lsn one (Some first) block long_one from_one (sym (ap (λ t. cond t (taken_from two (Some second)) (taken_from one (Some first))) no) ∙ is))
+    (cases_Bool (ltb first.length second.length))
+
+place-off : (lsn : ℕ) (place one two : List ℕ) (found : Option BlockView) (block : Taken) → length place ≡ 512 → length one ≡ 512 → length two ≡ 512
+    → ((view : BlockView) → found ≡ Some view → read_block lsn place ≡ Some view)
+    → in_place_or place found (longer one two (read_tail lsn one) (read_tail lsn two)) ≡ Some block → IsReadOff lsn block
+place-off lsn place one two None block long long_one long_two from is =
+    longer-off lsn one two (read_tail lsn one) (read_tail lsn two) block long_one long_two
+    (λ view at. (from-tail lsn (read_block lsn one) view at).0) (λ view at. (from-tail lsn (read_block lsn two) view at).0) is
+place-off lsn place one two (Some view) block long long_one long_two from is = read-off lsn place (Some view) block long from is
+
+among-off : (format : Format) (lsn : ℕ) (place four five : List ℕ) (block : Taken) → length place ≡ 512 → length four ≡ 512 → length five ≡ 512
+    → taken_among format lsn place four five ≡ Some block → IsReadOff lsn block
+among-off One lsn place four five block long long_four long_five is = read-off lsn place (read_block lsn place) block long (λ view at. at) is
+among-off Two lsn place four five block long long_four long_five is =
+    place-off lsn place four five (read_full lsn place) block long long_four long_five (λ view at. (from-full (read_block lsn place) view at).0) is
+
+limit-off : (t : Bool) (x : Option Taken) (block : Taken) → cond t x None ≡ Some block → x ≡ Some block
+limit-off true x block is = is
+limit-off false x block is = absurd cc
+
+-- A SOURCE THAT READS WHOLE BLOCKS IS SOUND.
 
 short-data : (n : ℕ) (bytes : List ℕ) → length (take (min n 508 - 12) (drop 12 bytes)) ≤ 496
 short-data n bytes = omega (arith, length-take (min n 508 - 12) (drop 12 bytes))
@@ -93,22 +194,29 @@ reading-sound source reads = record {
 
 -- THAT OF A LOG DEVICE DOES.
 
-length-block : (shape : Shape) (image : List ℕ) (lsn : ℕ) → HasBlocks (layout_of shape) → log_device_length shape ≤ length image → length (log_block shape lsn image) ≡ 512
+length-sector : (at : ℕ) (image : List ℕ) → at + 512 ≤ length image → length (take 512 (drop at image)) ≡ 512
+length-sector at image within = omega (arith, length-take 512 (drop at image), length-drop at image)
+
+length-block : (layout : Layout) (image : List ℕ) (lsn : ℕ) → IsLayout layout → ring_start layout + round_of layout ≤ length image → length (log_block layout lsn image) ≡ 512
 unfolding log_block
-length-block shape image lsn blocks long =
-    let at : ℕ = place_in (layout_of shape) lsn in
-    let within : at + 512 ≤ log_device_length shape = place-within (layout_of shape) lsn blocks in
-    omega (arith, length-take 512 (drop at image), length-drop at image)
+length-block layout image lsn is_layout long =
+    let within : place_in layout lsn + 512 ≤ ring_start layout + round_of layout = place-within layout lsn (has-blocks layout is_layout) in
+    length-sector (place_in layout lsn) image (omega arith)
 
-read-off : (lsn : ℕ) (bytes : List ℕ) (found : Option BlockView) (block : Taken) (test : Bool) → length bytes ≡ 512 → read_block lsn bytes ≡ found
-    → cond test (taken_from bytes found) None ≡ Some block → IsReadOff lsn block
-read-off lsn bytes found block false long read is = absurd cc
-read-off lsn bytes None block true long read is = absurd cc
-read-off lsn bytes (Some view) block true long read is =
-    let same : record { view = view; bytes = data_of view bytes } ≡ block = cc in
-    subst (λ (x : Taken). IsReadOff lsn x) same (record { bytes = bytes; long = long; read = read; data_is = refl })
+pub log-sound : (layout : Layout) (image : List ℕ) → IsLayout layout → ring_start layout + round_of layout ≤ length image → IsSoundSource (taken layout image)
+log-sound layout image is_layout long =
+    let room : 3072 ≤ length image = omega (arith, is_layout.after_header, is_layout.many_blocks) in
+    reading-sound (taken layout image) (λ lsn block is. among-off layout.format lsn (log_block layout lsn image) (header_block 4 image) (header_block 5 image) block
+    (length-block layout image lsn is_layout long) (length-sector 2048 image (omega arith)) (length-sector 2560 image (omega arith))
+    (limit-off (ltb lsn LSN_LIMIT) (taken_among layout.format lsn (log_block layout lsn image) (header_block 4 image) (header_block 5 image)) block is))
 
-pub log-sound : (shape : Shape) (image : List ℕ) → HasBlocks (layout_of shape) → log_device_length shape ≤ length image → IsSoundSource (taken shape image)
-log-sound shape image blocks long =
-    reading-sound (taken shape image) (λ lsn block is. read-off lsn (log_block shape lsn image) (read_block lsn (log_block shape lsn image)) block (ltb lsn LSN_LIMIT)
-    (length-block shape image lsn blocks long) refl is)
+-- the ring of a store ends where its log device does
+ring-ends : (format : Format) (shape : Shape) → 1024 ≤ shape.log_blocks → ring_start (layout_of format shape) + round_of (layout_of format shape) ≡ log_device_length shape
+ring-ends One shape many = omega arith
+ring-ends Two shape many = omega arith
+
+pub store-sound : (format : Format) (shape : Shape) (image : List ℕ) → IsWithinLimits shape → log_device_length shape ≤ length image
+    → IsSoundSource (taken (layout_of format shape) image)
+store-sound format shape image within long =
+    let ends = ring-ends format shape within.many_blocks in
+    log-sound (layout_of format shape) image (is_layout_of format shape within.many_blocks within.few_blocks) (omega arith)

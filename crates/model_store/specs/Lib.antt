@@ -1,11 +1,15 @@
 pub mod Apply
 pub mod Fair
+pub mod Found
 pub mod Opening
 pub mod Reading
 pub mod Scan
+pub mod Taking
 pub use Rattle.model_store.specs.Apply.{folded, page_after, page_folded, pages_after_from, touches, upto, user_after, user_after_own}
 unfoldable pub use Rattle.model_store.specs.Apply.{applied}
-pub use Rattle.model_store.specs.Fair.{IsFair, IsWholeContent}
+pub use Rattle.model_store.specs.Fair.{IsFair, IsFairLog, IsWholeContent, IsWholeSector}
+pub use Rattle.model_store.specs.Found.{AreFoundIn, AreInPlace, IsInTail, IsTakenTail}
 pub use Rattle.model_store.specs.Opening.{IsUnused, Opens, OpensOrderly, OpensUnused}
 pub use Rattle.model_store.specs.Reading.{AreKeptBelow, AreNotAheadBelow, AreReadPages, HasDevices, HasHead, HasOldCopies, HasScan, IsKeptAt, IsNoNewerCopy, IsOrderly, IsReadPage, IsReading, Refuses, replayed}
-pub use Rattle.model_store.specs.Scan.{AreBlocks, AreGroups, AreGroupsOf, HasNoStorable, IsBadRecord, IsLastOf, IsScan, IsStorable, Source, Taken, bytes_of, data_from, groups_start, joined, taken, taken_from, view_at}
+pub use Rattle.model_store.specs.Scan.{AreBlocks, AreGroups, AreGroupsOf, HasNoStorable, IsBadRecord, IsLastOf, IsScan, IsStorable, Source, Taken, bytes_of, data_from, groups_start, joined, taken_from, view_at}
+pub use Rattle.model_store.specs.Taking.{if_full, if_tail, in_place_or, longer, read_full, read_tail, taken, taken_among}

@@ -1,15 +1,17 @@
 -- What a store is opened as: formatted by the command, where its log device is unused, or read.
-use Rattle.std.specs.Prelude.{ℕ, ◌≡◌, ◌⊎◌, List, take, replicate}
+use Rattle.std.specs.Prelude.{ℕ, ◌≡◌, ◌⊎◌, List, replicate}
 use Rattle.model_base.specs.declared.limits.TheConstants.{BLOCK_SIZE, FIRST_DATA_LSN}
 use Rattle.model_base.specs.declared.shape.Shape.{Shape}
 use Rattle.model_base.specs.{default_shape}
+use Rattle.model_log.specs.{header_block}
 use Rattle.model_page.specs.declared.content.Content.{Content}
 use Rattle.model_page.specs.{blank_pages}
 use Rattle.model_store.specs.Reading.{Reading, IsOrderly}
 
--- the first block of the log device is all zero
-abbrev pub IsUnused : List ℕ → Type 0
-IsUnused log_bytes = take BLOCK_SIZE log_bytes ≡ replicate BLOCK_SIZE 0
+-- both header blocks of the log device are all zero
+pub record IsUnused (log_bytes : List ℕ) : Type 0 where
+  pub first : header_block 0 log_bytes ≡ replicate BLOCK_SIZE 0
+  pub second : header_block 2 log_bytes ≡ replicate BLOCK_SIZE 0
 
 -- The log device is unused, so the command formats both: the sizes are the default ones, the pages blank, and the log
 -- ends where its first group will start.

@@ -4,14 +4,16 @@ use Rattle.std.specs.Prelude.{ℕ, ◌≡◌, ◌≤◌, ◌<◌, ◌^◌, ◌-�
 use Rattle.model_base.specs.declared.shape.Shape.{Shape}
 use Rattle.model_base.specs.declared.limits.TheConstants.{LSN_LIMIT}
 use Rattle.model_log.specs.declared.group.Whole.{Whole}
-use Rattle.model_log.specs.{header_block, layout_of, log_device_length, newest_checkpoint, read_head}
+use Rattle.model_log.specs.{head_of, layout_of, log_device_length, newest_checkpoint}
+use Rattle.model_log.specs.declared.head.Format.{Format}
 use Rattle.model_log.specs.declared.head.Head.TheVariants.{Good, OtherFormat, Unformatted}
 use Rattle.model_log.specs.declared.layout.TheConstants.{HEADER_BYTES}
 use Rattle.model_log.specs.declared.block.BlockView.{BlockView}
 use Rattle.model_page.specs.{copy_lsn, data_device_length, IsKept, IsLost, slot_bytes, user_part}
 use Rattle.model_page.specs.declared.content.Content.{Content}
 use Rattle.model_store.specs.Apply.{page_after}
-use Rattle.model_store.specs.Scan.{IsScan, IsBadRecord, taken}
+use Rattle.model_store.specs.Scan.{IsScan, IsBadRecord}
+use Rattle.model_store.specs.Taking.{taken}
 use Rattle.model_store.specs.declared.refusal.Refusal.{Refusal}
 use Rattle.model_store.specs.declared.refusal.Refusal.TheVariants.{SmallLog, NotFormatted, BadFormat, SmallData, NoCheckpoint, BadRecord, PageLost, PageAhead}
 
@@ -23,6 +25,7 @@ replayed p q (whole ∷ wholes) page =
 
 -- what is read off two devices
 pub record Reading : Type 0 where
+  pub format : Format
   pub shape : Shape
   -- the newest checkpoint: its number and its lsn
   pub number : ℕ
@@ -33,22 +36,22 @@ pub record Reading : Type 0 where
   pub end : ℕ
   pub pages : List Content
 
--- the log device has room for a header, and its header is that of a store of this shape
-pub record HasHead (log : List ℕ) (shape : Shape) : Type 0 where
+-- the log device has room for a header, and its header is that of a store of this format and shape
+pub record HasHead (log : List ℕ) (format : Format) (shape : Shape) : Type 0 where
   pub long : HEADER_BYTES ≤ length log
-  pub head : read_head (header_block 0 log) ≡ Good shape
+  pub head : head_of log ≡ Good format shape
 
 -- both devices are as long as the shape asks
-pub record HasDevices (log data_bytes : List ℕ) (shape : Shape) : Type 0 where
-  pub head : HasHead log shape
+pub record HasDevices (log data_bytes : List ℕ) (format : Format) (shape : Shape) : Type 0 where
+  pub head : HasHead log format shape
   pub log_long : log_device_length shape ≤ length log
   pub data_long : data_device_length shape ≤ length data_bytes
 
 -- there is a newest checkpoint, and the scan from it on
-pub record HasScan (log data_bytes : List ℕ) (shape : Shape) (number ckpt : ℕ) (views : List BlockView) (wholes : List Whole) (end : ℕ) : Type 0 where
-  pub devices : HasDevices log data_bytes shape
-  pub checkpoint : newest_checkpoint shape log ≡ Some (number, ckpt)
-  pub scan : IsScan shape (layout_of shape).blocks (taken shape log) ckpt views wholes end
+pub record HasScan (log data_bytes : List ℕ) (format : Format) (shape : Shape) (number ckpt : ℕ) (views : List BlockView) (wholes : List Whole) (end : ℕ) : Type 0 where
+  pub devices : HasDevices log data_bytes format shape
+  pub checkpoint : newest_checkpoint (layout_of format shape) log ≡ Some (number, ckpt)
+  pub scan : IsScan shape (layout_of format shape).blocks (taken (layout_of format shape) log) ckpt views wholes end
 
 -- Page p as it is read: the kept page, which isn't ahead of the log's end, with each scanned group applied that
 -- starts at or above its lsn.
@@ -65,18 +68,19 @@ pub record AreReadPages (shape : Shape) (data_bytes : List ℕ) (wholes : List W
 
 -- A store whose two devices hold these bytes is read as this.
 pub record IsReading (log data_bytes : List ℕ) (reading : Reading) : Type 0 where
-  pub scan : HasScan log data_bytes reading.shape reading.number reading.ckpt reading.views reading.wholes reading.end
+  pub scan : HasScan log data_bytes reading.format reading.shape reading.number reading.ckpt reading.views reading.wholes reading.end
   pub count : length reading.pages ≡ reading.shape.pages
   pub each : (p : ℕ) (page : Content) → slice_get reading.pages p ≡ Some page
       → IsReadPage reading.shape data_bytes reading.wholes reading.end p page
 
 -- the scan went well, and this is the shape and the end
 pub record IsScanned (log data_bytes : List ℕ) (shape : Shape) (end : ℕ) : Type 0 where
+  pub format : Format
   pub number : ℕ
   pub ckpt : ℕ
   pub views : List BlockView
   pub wholes : List Whole
-  pub scan : HasScan log data_bytes shape number ckpt views wholes end
+  pub scan : HasScan log data_bytes format shape number ckpt views wholes end
 
 -- page p is kept, with this lsn
 pub record IsKeptAt (shape : Shape) (data_bytes : List ℕ) (p lsn : ℕ) : Type 0 where
@@ -98,17 +102,19 @@ AreNotAheadBelow shape data_bytes end n = (p lsn : ℕ) → p < n → IsKeptAt s
 abbrev pub Refuses : List ℕ → List ℕ → Refusal → Type 0
 Refuses log data_bytes (SmallLog n) =
     ((length log < HEADER_BYTES) × (n ≡ HEADER_BYTES))
-    ⊎ ((shape : Shape) × HasHead log shape × (length log < log_device_length shape) × (n ≡ log_device_length shape))
-Refuses log data_bytes NotFormatted = (HEADER_BYTES ≤ length log) × (read_head (header_block 0 log) ≡ Unformatted)
-Refuses log data_bytes (BadFormat n) = (HEADER_BYTES ≤ length log) × (read_head (header_block 0 log) ≡ OtherFormat n)
+    ⊎ ((format : Format) × (shape : Shape) × HasHead log format shape × (length log < log_device_length shape) × (n ≡ log_device_length shape))
+Refuses log data_bytes NotFormatted = (HEADER_BYTES ≤ length log) × (head_of log ≡ Unformatted)
+Refuses log data_bytes (BadFormat n) = (HEADER_BYTES ≤ length log) × (head_of log ≡ OtherFormat n)
 Refuses log data_bytes (SmallData n) =
-    (shape : Shape) × HasHead log shape × (log_device_length shape ≤ length log)
+    (format : Format) × (shape : Shape) × HasHead log format shape × (log_device_length shape ≤ length log)
     × (length data_bytes < data_device_length shape) × (n ≡ data_device_length shape)
 Refuses log data_bytes NoCheckpoint =
-    (shape : Shape) × HasDevices log data_bytes shape × (newest_checkpoint shape log ≡ None)
+    (format : Format) × (shape : Shape) × HasDevices log data_bytes format shape
+    × (newest_checkpoint (layout_of format shape) log ≡ None)
 Refuses log data_bytes (BadRecord lsn) =
-    (shape : Shape) × (number : ℕ) × (ckpt : ℕ) × HasDevices log data_bytes shape
-    × (newest_checkpoint shape log ≡ Some (number, ckpt)) × IsBadRecord shape (layout_of shape).blocks (taken shape log) ckpt lsn
+    (format : Format) × (shape : Shape) × (number : ℕ) × (ckpt : ℕ) × HasDevices log data_bytes format shape
+    × (newest_checkpoint (layout_of format shape) log ≡ Some (number, ckpt))
+    × IsBadRecord shape (layout_of format shape).blocks (taken (layout_of format shape) log) ckpt lsn
 Refuses log data_bytes (PageLost p) =
     (shape : Shape) × (end : ℕ) × IsScanned log data_bytes shape end
     × (p < shape.pages) × IsLost shape data_bytes p × AreKeptBelow shape data_bytes p

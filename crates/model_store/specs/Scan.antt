@@ -1,10 +1,10 @@
 -- What is read off the log from a checkpoint on, wherever its blocks are taken: the blocks, the groups, and the end.
-use Rattle.std.specs.Prelude.{ℕ, suc, ◌≡◌, ◌≢◌, ◌≤◌, ◌<◌, ◌+◌, ◌-◌, ◌==◌, ◌⊎◌, nat_lt, if◌then◌else◌, true, false, List, [], ◌∷◌, ◌++◌, length, drop, slice_get, Option, Some, None}
+use Rattle.std.specs.Prelude.{ℕ, suc, ◌≡◌, ◌≢◌, ◌≤◌, ◌<◌, ◌+◌, ◌-◌, ◌==◌, ◌⊎◌, if◌then◌else◌, true, false, List, [], ◌∷◌, ◌++◌, length, drop, slice_get, Option, Some, None}
 use Rattle.std.specs.List.{AllByRecursion}
 use Rattle.std.specs.Option.{option_map}
 use Rattle.model_base.specs.declared.shape.Shape.{Shape}
-use Rattle.model_base.specs.declared.limits.TheConstants.{BLOCK_SIZE, LSN_LIMIT, MAX_GROUP}
-use Rattle.model_log.specs.{data_of, end_of, group_length, group_text, GroupFits, groups_of, is_full, IsFront, IsGroup, IsRunOf, log_block, lsn_at, read_block, sn_of, spans_of, stream_of}
+use Rattle.model_base.specs.declared.limits.TheConstants.{BLOCK_SIZE, MAX_GROUP}
+use Rattle.model_log.specs.{data_of, end_of, group_length, group_text, GroupFits, groups_of, is_full, IsFront, IsGroup, IsRunOf, lsn_at, sn_of, spans_of, stream_of}
 use Rattle.model_log.specs.declared.rec.Rec.{Rec}
 use Rattle.model_log.specs.declared.group.Whole.{Whole}
 use Rattle.model_log.specs.declared.layout.TheConstants.{BLOCK_HEADER}
@@ -23,11 +23,6 @@ taken_from bytes (Some view) = Some (record { view = view; bytes = data_of view 
 -- what the scan takes at each lsn: a block, or none
 abbrev pub Source : Type 0
 Source = ℕ → Option Taken
-
--- The scan of a log device takes the block in its place there, if it fits, and none at the lsn limit or above.
-abbrev pub taken : Shape → List ℕ → Source
-taken shape image lsn =
-    if nat_lt lsn LSN_LIMIT then taken_from (log_block shape lsn image) (read_block lsn (log_block shape lsn image)) else None
 
 -- what the block says of itself that is taken at the lsn
 abbrev pub view_at : Source → ℕ → Option BlockView

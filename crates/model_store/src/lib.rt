@@ -4,6 +4,8 @@
 
 mod laws;
 mod refusal;
+mod tail;
 
 pub use laws::{base_is_fair, get_folded, one_answer, one_reading, read_not_ahead};
 pub use refusal::Refusal;
+pub use tail::Tail;

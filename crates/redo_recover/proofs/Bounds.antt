@@ -1,16 +1,16 @@
 -- Where the log ends, whatever its device tells, and that no page is ahead of that.
 use Rattle.std.proofs.Common.{◌≡◌, ◌≤◌, ◌+◌, ◌%◌, ℕ, List, [], ◌∷◌, ◌++◌, length, Option, Some, None, inl, inr, sym, ap, subst, arith}
 use Rattle.std.specs.List.{AllByRecursion}
-use Rattle.std.specs.Prelude.{IfSome}
 use Rattle.model_base.specs.declared.limits.TheConstants.{BLOCK_SIZE}
 use Rattle.model_base.specs.declared.shape.Shape.{Shape}
-use Rattle.model_log.specs.{lsn_at, read_block}
+use Rattle.model_log.specs.{lsn_at}
 use Rattle.model_log.specs.declared.block.BlockView.{BlockView}
+use Rattle.model_log.specs.declared.layout.Layout.{Layout}
 use Rattle.model_log.specs.declared.layout.TheConstants.{BLOCK_HEADER}
 use Rattle.model_page.specs.declared.content.Content.{Content}
 use Rattle.model_log.specs.declared.group.Whole.{Whole}
 use Rattle.model_store.specs.{groups_start}
-use Rattle.model_store.proofs.Ending.{EndsWithin, AreFirstsIn, first-place, starts-among, ends-behind, ends-among}
+use Rattle.model_store.proofs.Ending.{EndsWithin, AreFirstsIn, starts-among, ends-behind, ends-among}
 use Rattle.model_store.proofs.Folding.{ends-below, replayed-below}
 use Rattle.model_store.proofs.Places.{push_place}
 use Rattle.redo_recover.specs.Blocks.{AreFew, HasFirst, HaveFirsts}
@@ -20,9 +20,8 @@ use Rattle.redo_recover.specs.Pages.{AreNotAhead}
 
 -- THE FIRST OFFSETS.
 
-pub first-of_read : (lsn : ℕ) (block : List ℕ) (found : Option BlockView) → found ≡ read_block lsn block → IfSome found HasFirst
-first-of_read lsn block None is = tt
-first-of_read lsn block (Some view) is = λ some. (let own = first-place lsn block view (sym is) some in (own.0, omega (arith, own.1)))
+pub firsts-none : (views : List BlockView) → views ≡ [] → HaveFirsts views
+firsts-none views none = subst (λ (vs : List BlockView). HaveFirsts vs) (sym none) (λ i view at. absurd cc)
 
 pub firsts-push : (views all : List BlockView) (view : BlockView) → HaveFirsts views → HasFirst view → all ≡ views ++ view ∷ [] → HaveFirsts all
 firsts-push views all view firsts first all_is =
@@ -37,27 +36,27 @@ firsts-push views all view firsts first all_is =
 firsts-in : (views : List BlockView) → HaveFirsts views → AreFirstsIn views
 firsts-in views firsts i view at some = let own = firsts i view at some in (own.0, omega (arith, own.1))
 
-ends-in : (shape : Shape) (ckpt : ℕ) (views : List BlockView) (bytes : List ℕ) (start : Option ℕ) (wholes : List Whole) (end : ℕ) → ckpt % BLOCK_SIZE ≡ 0
-    → AreFew shape views bytes → HaveFirsts views → groups_start ckpt views ≡ start → AreParsed ckpt (length views) shape bytes start wholes end
+ends-in : (shape : Shape) (most ckpt : ℕ) (views : List BlockView) (bytes : List ℕ) (start : Option ℕ) (wholes : List Whole) (end : ℕ) → ckpt % BLOCK_SIZE ≡ 0
+    → AreFew most views bytes → HaveFirsts views → groups_start ckpt views ≡ start → AreParsed ckpt (length views) shape bytes start wholes end
     → EndsWithin ckpt end views × AllByRecursion (λ (whole : Whole). whole.end ≤ end) wholes
-ends-in shape ckpt views bytes None wholes end aligned few firsts is (none, at) = (
+ends-in shape most ckpt views bytes None wholes end aligned few firsts is (none, at) = (
   ends-behind ckpt end views aligned at,
   subst (AllByRecursion (λ (whole : Whole). whole.end ≤ end)) (sym none) tt,
 )
-ends-in shape ckpt views bytes (Some start) wholes end aligned few firsts is parsed = (
+ends-in shape most ckpt views bytes (Some start) wholes end aligned few firsts is parsed = (
   ends-among ckpt start end views bytes wholes parsed.rest aligned (starts-among ckpt start views aligned (firsts-in views firsts) is) few.short
       parsed.groups.bytes_are parsed.groups.run parsed.at,
   subst (λ n. AllByRecursion (λ (whole : Whole). whole.end ≤ n) wholes) (sym parsed.at) (ends-below start wholes parsed.groups.run),
 )
 
-pub parsed-end : (shape : Shape) (ckpt : ℕ) (views : List BlockView) (bytes : List ℕ) (start : Option ℕ) (wholes : List Whole) (end : ℕ) → ckpt % BLOCK_SIZE ≡ 0
-    → AreFew shape views bytes → HaveFirsts views → groups_start ckpt views ≡ start → AreParsed ckpt (length views) shape bytes start wholes end
-    → IsEndOf shape ckpt wholes end
-parsed-end shape ckpt views bytes start wholes end aligned few firsts is parsed =
-    let both = ends-in shape ckpt views bytes start wholes end aligned few firsts is parsed in
+pub parsed-end : (shape : Shape) (layout : Layout) (most ckpt : ℕ) (views : List BlockView) (bytes : List ℕ) (start : Option ℕ) (wholes : List Whole) (end : ℕ) → ckpt % BLOCK_SIZE ≡ 0
+    → AreFew most views bytes → HaveFirsts views → groups_start ckpt views ≡ start → AreParsed ckpt (length views) shape bytes start wholes end
+    → length views ≤ layout.blocks → IsEndOf layout ckpt wholes end
+parsed-end shape layout most ckpt views bytes start wholes end aligned few firsts is parsed within =
+    let both = ends-in shape most ckpt views bytes start wholes end aligned few firsts is parsed in
     let ends : EndsWithin ckpt end views = both.0 in
     let up_to : end ≤ lsn_at ckpt (length views) + BLOCK_HEADER = ends.up_to in
-    record { place = ends.place; from = ends.from; up_to = omega (arith, few.few); groups = both.1 }
+    record { place = ends.place; from = ends.from; up_to = omega arith; groups = both.1 }
 
 -- THE PAGES.
 

@@ -27,35 +27,35 @@ cause-in log data_told None known = tt
 cause-in log data_told (Some refusal) known = known
 
 scan-refused : (log_bytes data_bytes : List ℕ) (start : Start) (fault : RecFault) → IsStart log_bytes data_bytes start
-    → IsScanFault start.shape (layout_of start.shape).blocks start.ckpt fault (taken start.shape log_bytes) → IfSome (refusal_of fault) (λ refusal. Refuses log_bytes data_bytes refusal)
-scan-refused log_bytes data_bytes start (BadRecord lsn) starts bad = (start.shape, start.number, start.ckpt, starts.devices, starts.newest, bad)
+    → IsScanFault start.shape (layout_of start.format start.shape).blocks start.ckpt fault (taken (layout_of start.format start.shape) log_bytes) → IfSome (refusal_of fault) (λ refusal. Refuses log_bytes data_bytes refusal)
+scan-refused log_bytes data_bytes start (BadRecord lsn) starts bad = (start.format, start.shape, start.number, start.ckpt, starts.devices, starts.newest, bad)
 scan-refused log_bytes data_bytes start LogDev starts is = tt
 scan-refused log_bytes data_bytes start NoMemory starts is = tt
 scan-refused log_bytes data_bytes start _ starts none = absurd none
 
 pub scan-cause : (old middle : Seen) (data_told : Option Disk) (start : Start) (fault : RecFault) → IsUnchanged old middle
     → OnContents old.tells data_told (λ log_bytes data_bytes. IsStart log_bytes data_bytes start)
-    → OnSource start.shape middle.tells (IsScanFault start.shape (layout_of start.shape).blocks start.ckpt fault) → HasCauseIn old.tells data_told fault
+    → OnSource (layout_of start.format start.shape) middle.tells (IsScanFault start.shape (layout_of start.format start.shape).blocks start.ckpt fault) → HasCauseIn old.tells data_told fault
 scan-cause old middle data_told start fault same starts bad =
     cause-in old.tells data_told (refusal_of fault)
-    (contents-more old.tells data_told (λ log_bytes data_bytes. IsStart log_bytes data_bytes start) (λ content. IsScanFault start.shape (layout_of start.shape).blocks start.ckpt fault (taken start.shape content))
+    (contents-more old.tells data_told (λ log_bytes data_bytes. IsStart log_bytes data_bytes start) (λ content. IsScanFault start.shape (layout_of start.format start.shape).blocks start.ckpt fault (taken (layout_of start.format start.shape) content))
     (λ log_bytes data_bytes. IfSome (refusal_of fault) (λ refusal. Refuses log_bytes data_bytes refusal))
     (λ log_bytes data_bytes. scan-refused log_bytes data_bytes start fault) starts
-    (content-before old middle (λ content. IsScanFault start.shape (layout_of start.shape).blocks start.ckpt fault (taken start.shape content)) same bad))
+    (content-before old middle (λ content. IsScanFault start.shape (layout_of start.format start.shape).blocks start.ckpt fault (taken (layout_of start.format start.shape) content)) same bad))
 
 -- the log was scanned from there on
 record IsStartScanned (start : Start) (views : List BlockView) (wholes : List Whole) (end : ℕ) (log_bytes data_bytes : List ℕ) : Type 0 where
   pub starts : IsStart log_bytes data_bytes start
-  pub scan : IsScan start.shape (layout_of start.shape).blocks (taken start.shape log_bytes) start.ckpt views wholes end
+  pub scan : IsScan start.shape (layout_of start.format start.shape).blocks (taken (layout_of start.format start.shape) log_bytes) start.ckpt views wholes end
 
 started-scanned : (old middle : Seen) (data_told : Option Disk) (start : Start) (views : List BlockView) (wholes : List Whole) (end : ℕ) → IsUnchanged old middle
     → OnContents old.tells data_told (λ log_bytes data_bytes. IsStart log_bytes data_bytes start)
-    → OnSource start.shape middle.tells (λ source. IsScan start.shape (layout_of start.shape).blocks source start.ckpt views wholes end) → OnContents old.tells data_told (IsStartScanned start views wholes end)
+    → OnSource (layout_of start.format start.shape) middle.tells (λ source. IsScan start.shape (layout_of start.format start.shape).blocks source start.ckpt views wholes end) → OnContents old.tells data_told (IsStartScanned start views wholes end)
 started-scanned old middle data_told start views wholes end same starts scan =
     contents-more old.tells data_told (λ log_bytes data_bytes. IsStart log_bytes data_bytes start)
-    (λ content. IsScan start.shape (layout_of start.shape).blocks (taken start.shape content) start.ckpt views wholes end) (IsStartScanned start views wholes end)
+    (λ content. IsScan start.shape (layout_of start.format start.shape).blocks (taken (layout_of start.format start.shape) content) start.ckpt views wholes end) (IsStartScanned start views wholes end)
     (λ log_bytes data_bytes first scanned. record { starts = first; scan = scanned }) starts
-    (content-before old middle (λ content. IsScan start.shape (layout_of start.shape).blocks (taken start.shape content) start.ckpt views wholes end) same scan)
+    (content-before old middle (λ content. IsScan start.shape (layout_of start.format start.shape).blocks (taken (layout_of start.format start.shape) content) start.ckpt views wholes end) same scan)
 
 page-refused : (log_bytes data_bytes : List ℕ) (start : Start) (views : List BlockView) (wholes : List Whole) (end : ℕ) (fault : RecFault)
     → IsStartScanned start views wholes end log_bytes data_bytes → HasPageCause start.shape end fault data_bytes
@@ -64,6 +64,7 @@ page-refused log_bytes data_bytes start views wholes end (PageLost p) known lost
   start.shape,
   end,
   record {
+    format = start.format;
     number = start.number;
     ckpt = start.ckpt;
     views = views;
@@ -78,6 +79,7 @@ page-refused log_bytes data_bytes start views wholes end (PageAhead p lsn) known
   start.shape,
   end,
   record {
+    format = start.format;
     number = start.number;
     ckpt = start.ckpt;
     views = views;
@@ -97,7 +99,7 @@ page-refused log_bytes data_bytes start views wholes end _ known none = absurd n
 
 pub page-cause : (old middle : Seen) (data_told : Option Disk) (start : Start) (views : List BlockView) (wholes : List Whole) (end : ℕ) (fault : RecFault)
     → IsUnchanged old middle → OnContents old.tells data_told (λ log_bytes data_bytes. IsStart log_bytes data_bytes start)
-    → OnSource start.shape middle.tells (λ source. IsScan start.shape (layout_of start.shape).blocks source start.ckpt views wholes end)
+    → OnSource (layout_of start.format start.shape) middle.tells (λ source. IsScan start.shape (layout_of start.format start.shape).blocks source start.ckpt views wholes end)
     → OnContent data_told (HasPageCause start.shape end fault) → HasCauseIn old.tells data_told fault
 page-cause old middle data_told start views wholes end fault same starts scan cause =
     cause-in old.tells data_told (refusal_of fault)
@@ -109,14 +111,14 @@ page-cause old middle data_told start views wholes end fault same starts scan ca
 -- THE READING of a store that was started, scanned and whose pages were read.
 pub reading-of : (old middle : Seen) (data_told : Option Disk) (start : Start) (views : List BlockView) (wholes : List Whole) (end : ℕ) (pages : List Content)
     → IsUnchanged old middle → OnContents old.tells data_told (λ log_bytes data_bytes. IsStart log_bytes data_bytes start)
-    → OnSource start.shape middle.tells (λ source. IsScan start.shape (layout_of start.shape).blocks source start.ckpt views wholes end)
+    → OnSource (layout_of start.format start.shape) middle.tells (λ source. IsScan start.shape (layout_of start.format start.shape).blocks source start.ckpt views wholes end)
     → OnContent data_told (λ content. AreReadPages start.shape content wholes end pages)
     → OnContents old.tells data_told (λ log_bytes data_bytes. IsReading log_bytes data_bytes
-    (record { shape = start.shape; number = start.number; ckpt = start.ckpt; views = views; wholes = wholes; end = end; pages = pages }))
+    (record { format = start.format; shape = start.shape; number = start.number; ckpt = start.ckpt; views = views; wholes = wholes; end = end; pages = pages }))
 reading-of old middle data_told start views wholes end pages same starts scan read =
     contents-other old.tells data_told (IsStartScanned start views wholes end) (λ content. AreReadPages start.shape content wholes end pages)
     (λ log_bytes data_bytes. IsReading log_bytes data_bytes
-    (record { shape = start.shape; number = start.number; ckpt = start.ckpt; views = views; wholes = wholes; end = end; pages = pages }))
+    (record { format = start.format; shape = start.shape; number = start.number; ckpt = start.ckpt; views = views; wholes = wholes; end = end; pages = pages }))
     (λ log_bytes data_bytes known all. record {
       scan = record { devices = known.starts.devices; checkpoint = known.starts.newest; scan = known.scan };
       count = all.count;

@@ -13,6 +13,8 @@ mod Placing
 mod Rising
 mod Scanning
 mod Stopping
+mod Standing
+mod Tailing
 mod Setting
-mod Only
+pub mod Only
 mod Owning

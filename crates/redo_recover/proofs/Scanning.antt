@@ -1,19 +1,29 @@
 -- Blocks that are taken of a source one after another.
-use Rattle.std.proofs.Common.{◌≡◌, ℕ, ◌+◌, ◌-◌, ◌<◌, ◌≤◌, inl, inr, Bool, true, false, cond, ltb, List, [], ◌∷◌, ◌++◌, length, drop, min, Option, Some, None, arith, sym, ap, ap₂, subst, ◌∙◌}
+use Rattle.std.proofs.Common.{◌≡◌, ℕ, ◌+◌, ◌-◌, ◌<◌, ◌≤◌, inl, inr, true, false, cond, ltb, List, [], ◌∷◌, ◌++◌, length, drop, min, Option, Some, None, arith, refl, sym, ap, ap₂, subst, ◌∙◌}
 use Rattle.std.specs.List.{slice_get}
 use Rattle.std.proofs.lemmas.List.{length_push, append-nil, length-take}
-use Rattle.model_base.specs.declared.limits.TheConstants.{LSN_LIMIT}
-use Rattle.model_base.specs.declared.shape.Shape.{Shape}
-use Rattle.model_log.specs.{data_of, is_full, layout_of, log_block, lsn_at, place_in, read_block, sector_at}
+use Rattle.model_base.specs.declared.limits.TheConstants.{BLOCK_SIZE, LSN_LIMIT}
+use Rattle.model_log.specs.{data_of, header_block, is_full, log_block, lsn_at, place_in, read_block, sector_at}
 use Rattle.model_log.specs.declared.block.BlockView.{BlockView}
-use Rattle.model_log.specs.declared.layout.TheConstants.{BLOCK_DATA}
-use Rattle.model_store.specs.{bytes_of, joined, Source, Taken, taken, taken_from, view_at}
+use Rattle.model_log.specs.declared.head.Format.{Format}
+use Rattle.model_log.specs.declared.head.Format.TheVariants.{One, Two}
+use Rattle.model_log.specs.declared.layout.Layout.{Layout}
+use Rattle.model_log.specs.declared.layout.TheConstants.{BLOCK_DATA, HEADER_BYTES}
+use Rattle.model_store.specs.{bytes_of, joined, Source, Taken, taken, taken_among, taken_from, view_at}
 use Rattle.std.specs.Option.{option_map}
 use Rattle.model_store.proofs.Places.{push_place, place_push}
 use Rattle.model_store.proofs.Sources.{data_at, joined-append, view-none}
+use Rattle.model_device.specs.Disk.{Disk}
 use Rattle.redo_recover.specs.Blocks.{AreBlocksOf}
+use Rattle.redo_recover.specs.Devices.{OnContent}
 use Rattle.redo_recover.specs.Piece.{IsPieceOf, HasSector}
+use Rattle.redo_recover.specs.Taking.{AreTailsOf, block_at, five_of, found_at, four_of}
 use Rattle.redo_recover.specs.declared.piece.Piece.{Piece}
+use Rattle.redo_recover.specs.declared.taking.Stand.{Stand}
+use Rattle.redo_recover.specs.declared.taking.TheConstants.{TAILS}
+use Rattle.redo_recover.proofs.Contents.{content-both}
+use Rattle.redo_recover.proofs.Standing.{at-takes}
+use Rattle.redo_disk.specs.{part}
 use Rattle.redo_recover.proofs.Starting.{sector-part}
 
 -- so many blocks are read, all of them full, and this is their data
@@ -22,6 +32,16 @@ pub record AreBlocksSoFar (ckpt : ℕ) (views : List BlockView) (bytes : List �
   pub each : (i : ℕ) (view : BlockView) → slice_get views i ≡ Some view → view_at source (lsn_at ckpt i) ≡ Some view
   pub full : (i : ℕ) (view : BlockView) → slice_get views i ≡ Some view → is_full view ≡ true
   pub bytes_are : bytes ≡ joined source ckpt views
+
+pub so_far-none : (ckpt : ℕ) (views : List BlockView) (bytes : List ℕ) (source : Source) → views ≡ [] → bytes ≡ [] → AreBlocksSoFar ckpt views bytes 0 source
+so_far-none ckpt views bytes source views_are bytes_are =
+    let none : AreBlocksSoFar ckpt [] [] 0 source = record {
+      many = refl;
+      each = λ i view at. absurd cc;
+      full = λ i view at. absurd cc;
+      bytes_are = refl;
+    } in
+    subst (λ (vs : List BlockView). AreBlocksSoFar ckpt vs bytes 0 source) (sym views_are) (subst (λ bs. AreBlocksSoFar ckpt [] bs 0 source) (sym bytes_are) none)
 
 -- ONE MORE BLOCK.
 
@@ -74,10 +94,10 @@ length-data_of view block =
 -- WHERE THE READING ENDS.
 
 -- after full blocks none is taken
-pub read-stopped : (most ckpt : ℕ) (views : List BlockView) (bytes : List ℕ) (count : ℕ) (source : Source) (block : List ℕ)
-    → AreBlocksSoFar ckpt views bytes count source → count ≤ most → source (lsn_at ckpt count) ≡ taken_from block None
+pub read-stopped : (most ckpt : ℕ) (views : List BlockView) (bytes : List ℕ) (count : ℕ) (source : Source)
+    → AreBlocksSoFar ckpt views bytes count source → count ≤ most → source (lsn_at ckpt count) ≡ None
     → AreBlocksOf most ckpt views bytes source
-read-stopped most ckpt views bytes count source block a few none =
+read-stopped most ckpt views bytes count source a few none =
     record {
       views_are = record {
         few = omega (arith, a.many);
@@ -132,33 +152,67 @@ read-last most ckpt views bytes count source view block all joint data_bytes a f
 -- WHAT IS TAKEN OF A LOG DEVICE.
 
 -- the sector of a piece in which the block of an lsn stands
-block-piece : (shape : Shape) (image : List ℕ) (piece : Piece) (lsn at : ℕ) (block : List ℕ) → IsPieceOf piece image → HasSector piece at
-    → at ≡ place_in (layout_of shape) lsn → block ≡ sector_at (at - piece.from) piece.bytes.items → block ≡ log_block shape lsn image
+block-piece : (layout : Layout) (image : List ℕ) (piece : Piece) (lsn at : ℕ) (block : List ℕ) → IsPieceOf piece image → HasSector piece at
+    → at ≡ place_in layout lsn → block ≡ sector_at (at - piece.from) piece.bytes.items → block ≡ log_block layout lsn image
 unfolding log_block
-block-piece shape image piece lsn at block of has at_is block_is =
+block-piece layout image piece lsn at block of has at_is block_is =
     block_is ∙ ap (sector_at (at - piece.from)) of
     ∙ sector-part image piece.from (length piece.bytes.items) (at - piece.from) (omega (arith, has.from, has.whole))
     ∙ ap (λ n. sector_at n image) (omega (arith, has.from) ∙ at_is)
 
-taken-when : (test : Bool) (block : List ℕ) (read found : Option BlockView) → found ≡ cond test read None → cond test (taken_from block read) None ≡ taken_from block found
-taken-when true block read found is = ap (taken_from block) (sym is)
-taken-when false block read found is = ap (taken_from block) (sym is)
+-- the two tail blocks are those of the image
+pub record AreTails (tails image : List ℕ) : Type 0 where
+  pub four : four_of tails ≡ header_block 4 image
+  pub five : five_of tails ≡ header_block 5 image
 
--- the bytes in the place of a block, and what the scan takes of them
-pub record IsTakenAt (shape : Shape) (ckpt count : ℕ) (found : Option BlockView) (block image : List ℕ) : Type 0 where
-  pub bytes : block ≡ log_block shape (lsn_at ckpt count) image
-  pub takes : taken shape image (lsn_at ckpt count) ≡ taken_from block found
+tails-part : (tails image : List ℕ) → tails ≡ part image HEADER_BYTES TAILS → AreTails tails image
+tails-part tails image is = record {
+  four = ap four_of is ∙ sector-part image HEADER_BYTES TAILS 0 (omega arith);
+  five = ap five_of is ∙ sector-part image HEADER_BYTES TAILS BLOCK_SIZE (omega arith);
+}
 
-pub taken-at : (shape : Shape) (ckpt count i : ℕ) (piece : Piece) (at : ℕ) (block : List ℕ) (found : Option BlockView) (image : List ℕ) → i ≡ count
-    → HasSector piece at → at ≡ place_in (layout_of shape) (lsn_at ckpt i) → block ≡ sector_at (at - piece.from) piece.bytes.items
-    → found ≡ cond (ltb (lsn_at ckpt i) LSN_LIMIT) (read_block (lsn_at ckpt i) block) None → IsPieceOf piece image
-    → IsTakenAt shape ckpt count found block image
-taken-at shape ckpt count i piece at block found image same has at_is block_is found_is of =
-    subst (λ n. IsTakenAt shape ckpt n found block image) same
-    (let lsn : ℕ = lsn_at ckpt i in
-    let bytes = block-piece shape image piece lsn at block of has at_is block_is in
+among-image : (format : Format) (lsn : ℕ) (place place_in_image tails image : List ℕ) → place ≡ place_in_image → (format ≡ Two → AreTails tails image)
+    → taken_among format lsn place_in_image (header_block 4 image) (header_block 5 image) ≡ taken_among format lsn place (four_of tails) (five_of tails)
+among-image One lsn place place_in_image tails image is are = ap (λ b. taken_from b (read_block lsn b)) (sym is)
+among-image Two lsn place place_in_image tails image is are =
+    let tails_are : AreTails tails image = are refl in
+    ap (λ b. taken_among Two lsn b (header_block 4 image) (header_block 5 image)) (sym is)
+    ∙ ap (λ b. taken_among Two lsn place b (header_block 5 image)) (sym tails_are.four)
+    ∙ ap (λ b. taken_among Two lsn place (four_of tails) b) (sym tails_are.five)
+
+-- what the scan takes at an lsn, of the bytes in the place of its block and of the tail blocks
+pub record IsTakenAt (layout : Layout) (ckpt count : ℕ) (found : Option (Stand × BlockView)) (place tails image : List ℕ) : Type 0 where
+  pub place_is : place ≡ log_block layout (lsn_at ckpt count) image
+  pub tails_are : layout.format ≡ Two → AreTails tails image
+  pub found_is : found ≡ found_at layout.format (lsn_at ckpt count) place (four_of tails) (five_of tails)
+  pub takes : taken layout image (lsn_at ckpt count) ≡ block_at place tails found
+
+-- the stretch that was read of the device has the place, and the tail blocks were read
+pub record IsReadOf (format : Format) (piece : Piece) (tails image : List ℕ) : Type 0 where
+  pub piece_of : IsPieceOf piece image
+  pub tails_of : AreTailsOf format tails image
+
+pub taken-at : (layout : Layout) (ckpt count : ℕ) (piece : Piece) (at : ℕ) (place tails : List ℕ) (found : Option (Stand × BlockView)) (image : List ℕ)
+    → HasSector piece at → at ≡ place_in layout (lsn_at ckpt count) → place ≡ sector_at (at - piece.from) piece.bytes.items
+    → found ≡ found_at layout.format (lsn_at ckpt count) place (four_of tails) (five_of tails) → IsReadOf layout.format piece tails image
+    → IsTakenAt layout ckpt count found place tails image
+taken-at layout ckpt count piece at place tails found image has at_is place_is found_is of =
+    let lsn : ℕ = lsn_at ckpt count in
+    let same : place ≡ log_block layout lsn image = block-piece layout image piece lsn at place of.piece_of has at_is place_is in
+    let tails_are : layout.format ≡ Two → AreTails tails image = λ two. tails-part tails image (of.tails_of two) in
     record {
-      bytes = bytes;
-      takes = ap (λ b. cond (ltb lsn LSN_LIMIT) (taken_from b (read_block lsn b)) None) (sym bytes)
-          ∙ taken-when (ltb lsn LSN_LIMIT) block (read_block lsn block) found found_is;
-    })
+      place_is = same;
+      tails_are = tails_are;
+      found_is = found_is;
+      takes = ap (λ (o : Option Taken). cond (ltb lsn LSN_LIMIT) o None) (among-image layout.format lsn place (log_block layout lsn image) tails image same tails_are)
+          ∙ sym (at-takes layout.format lsn place tails) ∙ ap (block_at place tails) (sym found_is);
+    }
+
+pub taken-here : (told : Option Disk) (layout : Layout) (ckpt count : ℕ) (piece : Piece) (at : ℕ) (place tails : List ℕ) (found : Option (Stand × BlockView))
+    → HasSector piece at → at ≡ place_in layout (lsn_at ckpt count) → place ≡ sector_at (at - piece.from) piece.bytes.items
+    → found ≡ found_at layout.format (lsn_at ckpt count) place (four_of tails) (five_of tails)
+    → OnContent told (IsPieceOf piece) → OnContent told (AreTailsOf layout.format tails) → OnContent told (IsTakenAt layout ckpt count found place tails)
+taken-here told layout ckpt count piece at place tails found has at_is place_is found_is piece_of tails_of =
+    content-both told (IsPieceOf piece) (AreTailsOf layout.format tails) (IsTakenAt layout ckpt count found place tails)
+    (λ image is are. taken-at layout ckpt count piece at place tails found image has at_is place_is found_is (record { piece_of = is; tails_of = are }))
+    piece_of tails_of

@@ -1,7 +1,5 @@
 -- The blocks of a log that were read from a checkpoint on.
 use Rattle.std.specs.Prelude.{ℕ, ◌≡◌, ◌≢◌, ◌≤◌, ◌<◌, ◌*◌, List, length, slice_get, Some}
-use Rattle.model_base.specs.declared.shape.Shape.{Shape}
-use Rattle.model_log.specs.{layout_of}
 use Rattle.model_log.specs.declared.layout.TheConstants.{BLOCK_HEADER, BLOCK_DATA, BLOCK_DATA_END}
 use Rattle.model_log.specs.declared.block.BlockView.{BlockView}
 use Rattle.model_store.specs.{AreBlocks, joined, Source}
@@ -11,9 +9,9 @@ pub record AreBlocksOf (most ckpt : ℕ) (views : List BlockView) (bytes : List 
   pub views_are : AreBlocks most source ckpt views
   pub bytes_are : bytes ≡ joined source ckpt views
 
--- there are no more blocks than the log has, and no more data than they have room for
-pub record AreFew (shape : Shape) (views : List BlockView) (bytes : List ℕ) : Type 0 where
-  pub few : length views ≤ (layout_of shape).blocks
+-- there are at most so many blocks, and no more data than they have room for
+pub record AreFew (most : ℕ) (views : List BlockView) (bytes : List ℕ) : Type 0 where
+  pub few : length views ≤ most
   pub short : length bytes ≤ BLOCK_DATA * length views
 
 -- the first offset, where there is one, is that of a data byte

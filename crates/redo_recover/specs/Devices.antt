@@ -1,7 +1,7 @@
 -- What recovery says of the devices that it reads, and of the ways in which it may end.
 use Rattle.std.specs.Prelude.{ℕ, ◌≡◌, ◌≤◌, ◌<◌, List, Option, Some, None, IfSome}
 use Rattle.model_device.specs.Disk.{Disk}
-use Rattle.model_base.specs.declared.shape.Shape.{Shape}
+use Rattle.model_log.specs.declared.layout.Layout.{Layout}
 use Rattle.model_store.specs.{Refuses, Source, taken}
 use Rattle.model_store.specs.declared.refusal.Refusal.{Refusal}
 use Rattle.model_store.specs.declared.refusal.Refusal.TheVariants as refusal
@@ -23,8 +23,8 @@ abbrev pub OnContent : Option Disk → (List ℕ → Type 0) → Type 0
 OnContent told P = IfSome told (λ disk. P disk.reads)
 
 -- what the scan takes of it has this property
-abbrev pub OnSource : Shape → Option Disk → (Source → Type 0) → Type 0
-OnSource shape told P = OnContent told (λ content. P (taken shape content))
+abbrev pub OnSource : Layout → Option Disk → (Source → Type 0) → Type 0
+OnSource layout told P = OnContent told (λ content. P (taken layout content))
 
 -- what reads of the two devices give has this property, where both tell
 abbrev pub OnContents : Option Disk → Option Disk → (List ℕ → List ℕ → Type 0) → Type 0

@@ -4,9 +4,10 @@ use Rattle.std.specs.List.{AllByRecursion}
 use Rattle.model_base.specs.declared.shape.Shape.{Shape}
 use Rattle.model_base.specs.declared.got.Got.{Got}
 use Rattle.model_base.specs.declared.got.Got.TheVariants.{Value, Short, Bad}
-use Rattle.model_log.specs.{end_of, group_text, IsDataLsn, IsFront, layout_of, lsn_at, round_of, sn_of, spans_of}
+use Rattle.model_log.specs.{end_of, group_text, IsDataLsn, IsFront, lsn_at, round_of, sn_of, spans_of}
 use Rattle.model_log.specs.declared.rec.Rec.{Rec}
 use Rattle.model_log.specs.declared.group.Whole.{Whole}
+use Rattle.model_log.specs.declared.layout.Layout.{Layout}
 use Rattle.model_log.specs.declared.layout.TheConstants.{BLOCK_HEADER}
 use Rattle.model_store.specs.{AreGroups, HasNoStorable, IsBadRecord, IsStorable, Source}
 use Rattle.redo_recover.specs.declared.fault.RecFault.{RecFault}
@@ -41,10 +42,10 @@ pub record BreakAt (shape : Shape) (bytes : List ℕ) (start lsn : ℕ) : Type 0
 
 -- The log ends at a data byte past the checkpoint, at most at the first one of the block where the log has gone round,
 -- and none of the groups ends past that.
-pub record IsEndOf (shape : Shape) (ckpt : ℕ) (wholes : List Whole) (end : ℕ) : Type 0 where
+pub record IsEndOf (layout : Layout) (ckpt : ℕ) (wholes : List Whole) (end : ℕ) : Type 0 where
   pub place : IsDataLsn end
   pub from : ckpt + BLOCK_HEADER ≤ end
-  pub up_to : end ≤ ckpt + round_of (layout_of shape) + BLOCK_HEADER
+  pub up_to : end ≤ ckpt + round_of layout + BLOCK_HEADER
   pub groups : AllByRecursion (λ (whole : Whole). whole.end ≤ end) wholes
 
 -- why no groups are read off the bytes from the lsn `start` on

@@ -1,7 +1,7 @@
 -- What recovery answers of two devices, and what it does to them.
 use Rattle.std.specs.Prelude.{Result, IfOk, IfErr, IfSome}
-use Rattle.model_log.specs.{IsStop}
-use Rattle.model_store.specs.{IsReading}
+use Rattle.model_log.specs.{IsStop, layout_of}
+use Rattle.model_store.specs.{AreFoundIn, IsReading}
 use Rattle.redo_disk.specs.{Call, HasSize}
 use Rattle.redo_disk.specs.Seen.{Seen}
 use Rattle.redo_recover.specs.Devices.{HasCauseIn, HasLengthCause, OnContent, OnContents}
@@ -11,12 +11,13 @@ use Rattle.redo_recover.specs.Reads.{IsLogRead, IsOnlyRead, data_error_of, log_e
 use Rattle.redo_recover.specs.declared.fault.RecFault.{RecFault}
 use Rattle.redo_recover.specs.declared.recovered.Recovered.{Recovered}
 
--- This was recovered: where the devices tell, it is the reading of what reads give, the pages stood there, and the blocks end
--- there and for that cause; and what is known whatever they tell.
+-- This was recovered: where the devices tell, it is the reading of what reads give, the pages stood there, the blocks end there
+-- and for that cause, and the last of them stands in that tail block or in its place; and what is known whatever they tell.
 pub record IsRecovered (log data_device : Seen) (recovered : Recovered) : Type 0 where
   pub read : OnContents log.tells data_device.tells (λ log_bytes data_bytes. IsReading log_bytes data_bytes (reading_of recovered))
   pub found : OnContent data_device.tells (AreFoundOn recovered.shape recovered.places recovered.pages)
-  pub stop : OnContent log.tells (IsStop recovered.shape recovered.ckpt recovered.views.items recovered.stop)
+  pub stop : OnContent log.tells (IsStop (layout_of recovered.format recovered.shape) recovered.ckpt recovered.views.items recovered.stop)
+  pub tail : OnContent log.tells (λ log_bytes. AreFoundIn (layout_of recovered.format recovered.shape) log_bytes recovered.ckpt recovered.views.items recovered.tail)
   pub sized : IfSome data_device.tells (HasSize data_device.size)
   pub of_devices : IsOfDevices log.size data_device.size recovered
 

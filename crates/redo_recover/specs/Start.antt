@@ -3,7 +3,7 @@ use Rattle.std.specs.Prelude.{ℕ, ◌≡◌, ◌≤◌, ◌<◌, ◌%◌, List,
 use Rattle.model_base.specs.{IsWithinLimits}
 use Rattle.model_base.specs.declared.limits.TheConstants.{BLOCK_SIZE, START_LSN, LSN_LIMIT}
 use Rattle.model_base.specs.declared.shape.Shape.{Shape}
-use Rattle.model_log.specs.{header_block, log_device_length, newest_checkpoint, read_head}
+use Rattle.model_log.specs.{head_of, layout_of, log_device_length, newest_checkpoint}
 use Rattle.model_log.specs.declared.head.Head.TheVariants.{OtherFormat, Unformatted}
 use Rattle.model_page.specs.{data_device_length}
 use Rattle.model_store.specs.{HasDevices}
@@ -13,8 +13,8 @@ use Rattle.redo_recover.specs.declared.start.Start.{Start}
 
 -- both devices are as long as their header asks, and this is the newest checkpoint
 pub record IsStart (log_bytes data_bytes : List ℕ) (start : Start) : Type 0 where
-  pub devices : HasDevices log_bytes data_bytes start.shape
-  pub newest : newest_checkpoint start.shape log_bytes ≡ Some (start.number, start.ckpt)
+  pub devices : HasDevices log_bytes data_bytes start.format start.shape
+  pub newest : newest_checkpoint (layout_of start.format start.shape) log_bytes ≡ Some (start.number, start.ckpt)
 
 -- the sizes are within the limits and the devices are long enough for them, and the checkpoint is at the lsn of a block
 pub record IsUsable (log_size data_size : ℕ) (start : Start) : Type 0 where
@@ -27,8 +27,8 @@ pub record IsUsable (log_size data_size : ℕ) (start : Start) : Type 0 where
 
 -- why a header names no shape
 abbrev pub IsHeadFault : List ℕ → RecFault → Type 0
-IsHeadFault header NotFormatted = read_head (header_block 0 header) ≡ Unformatted
-IsHeadFault header (BadFormat n) = read_head (header_block 0 header) ≡ OtherFormat n
+IsHeadFault header NotFormatted = head_of header ≡ Unformatted
+IsHeadFault header (BadFormat n) = head_of header ≡ OtherFormat n
 IsHeadFault header _ = ⊥
 
 -- which device is too short for a shape; the log device is judged first

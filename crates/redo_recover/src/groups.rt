@@ -1,8 +1,9 @@
 // The groups in the data of a log.
 ghost use Rattle.std.specs.Prelude.{◌≡◌, ◌+◌, ◌-◌, ◌≤◌, ◌<◌, ◌*◌, ◌%◌, length, drop, IfOk, IfErr};
 ghost use Rattle.model_base.specs.{IsWithinLimits};
-ghost use Rattle.model_base.specs.declared.limits.TheConstants.{LSN_LIMIT};
+ghost use Rattle.model_base.specs.declared.limits.TheConstants.{LSN_LIMIT, MAX_LOG_BLOCKS};
 ghost use Rattle.model_log.specs.{sn_of};
+ghost use Rattle.model_log.specs.declared.layout.Layout.{Layout};
 ghost use Rattle.model_store.specs.{groups_start};
 ghost use Rattle.redo_recover.specs.Blocks.{AreFew, HaveFirsts};
 ghost use Rattle.redo_recover.specs.Groups.{GivesStorable, EndAt, IsBreakFault, AreParsed, IsEndOf, IsParseFault};
@@ -95,13 +96,13 @@ pub(crate) fn parse<P: Replay>(
 ) -> Result<(Vec<Whole>, u64), RecFault>
     requires ready { P.is_ready replay.now }
     requires limits { IsWithinLimits shape.now }
-    requires few { AreFew shape.now blocks.now.views.items blocks.now.joined.items }
+    requires few { AreFew MAX_LOG_BLOCKS blocks.now.views.items blocks.now.joined.items }
     requires firsts { HaveFirsts blocks.now.views.items }
     requires aligned { ckpt % BLOCK_SIZE ≡ 0 }
     requires small { ckpt < LSN_LIMIT }
     ensures parsed { IfOk result (λ found. AreParsed ckpt (length blocks.now.views.items) shape.now blocks.now.joined.items
         (groups_start ckpt blocks.now.views.items) found.0.items found.1) }
-    ensures end { IfOk result (λ found. IsEndOf shape.now ckpt found.0.items found.1) }
+    ensures end { (layout : Layout) → length blocks.now.views.items ≤ layout.blocks → IfOk result (λ found. IsEndOf layout ckpt found.0.items found.1) }
     ensures fault { IfErr result (IsParseFault ckpt shape.now blocks.now.joined.items (groups_start ckpt blocks.now.views.items)) }
 {
     let Some(start) = groups_start(ckpt, blocks.views.as_slice()) else {

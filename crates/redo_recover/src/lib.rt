@@ -17,6 +17,7 @@ mod run;
 mod scan;
 mod start;
 mod stretch;
+mod taking;
 
 pub use errors::{data_fault, log_fault};
 pub use fault::RecFault;

@@ -9,6 +9,7 @@ use crate::scan::{Scanned, scan_log};
 use crate::start::{Start, read_start};
 use crate::{RecFault, Recovered};
 use redo_disk::Sectors;
+use redo_lsn::layout_of;
 use std::alloc::Global;
 use std::thread::Threads;
 
@@ -23,16 +24,19 @@ fn recover_by<L: Sectors, D: Sectors, P: Replay>(
     ensures { Recovers L.seen L.gives D.seen D.gives log.old log.new data_device.old data_device.new result }
 {
     let Start {
+        format,
         shape,
         number,
         ckpt,
     } = read_start(log, data_device)?;
+    let layout = layout_of(format, &shape);
     let Scanned {
         views,
         groups,
         end,
         stop,
-    } = scan_log(alloc, log, &shape, ckpt, replay)?;
+        tail,
+    } = scan_log(alloc, log, &shape, &layout, ckpt, replay)?;
     let Placed { pages, places } = read_pages(
         alloc,
         data_device,
@@ -42,6 +46,7 @@ fn recover_by<L: Sectors, D: Sectors, P: Replay>(
         replay,
     )?;
     Ok(Recovered {
+        format,
         shape,
         number,
         ckpt,
@@ -49,6 +54,7 @@ fn recover_by<L: Sectors, D: Sectors, P: Replay>(
         groups,
         end,
         stop,
+        tail,
         pages,
         places,
     })
@@ -57,8 +63,8 @@ fn recover_by<L: Sectors, D: Sectors, P: Replay>(
 /// Reads a store off its two devices: the file header, the newest checkpoint, the log's blocks and groups from there on,
 /// and the pages as they are kept, to which each group is applied that starts at or above a page's lsn.
 ///
-/// It writes nothing. It reads the log's header, its blocks in pieces of at most 65,536 bytes, and then the slots and places of
-/// the data device. A device's failure ends it at once.
+/// It writes nothing. It reads the log's header, in format 2 its tail blocks, its other blocks in pieces of at most 65,536
+/// bytes, and then the slots and places of the data device. A device's failure ends it at once.
 pub fn recover<L: Sectors, D: Sectors>(
     alloc: Global,
     log: &mut L,

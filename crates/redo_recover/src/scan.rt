@@ -1,11 +1,12 @@
 // The scan of a log from a checkpoint on.
-ghost use Rattle.std.specs.Prelude.{ℕ, ◌≡◌, ◌≤◌, ◌<◌, ◌%◌, length, All, IfOk, IfErr};
+ghost use Rattle.std.specs.Prelude.{ℕ, ◌≡◌, ◌≤◌, ◌<◌, ◌+◌, ◌%◌, length, All, IfOk, IfErr, IfSome};
 ghost use Rattle.model_base.specs.{IsWithinLimits};
 ghost use Rattle.model_base.specs.declared.limits.TheConstants.{BLOCK_SIZE, LSN_LIMIT, START_LSN};
-ghost use Rattle.model_log.specs.{GroupFits, IsStop, layout_of, log_device_length};
-ghost use Rattle.model_store.specs.{IsScan};
+ghost use Rattle.model_log.specs.{GroupFits, IsLayout, IsStop, ring_start, round_of};
+ghost use Rattle.model_store.specs.{AreFoundIn, IsScan};
 ghost use Rattle.redo_recover.specs.Devices.{HasLengthCause, OnContent, OnSource};
 ghost use Rattle.redo_recover.specs.Groups.{EndBehindStarts, IsEndOf, IsScanFault};
+ghost use Rattle.redo_recover.specs.Reading.{IsTailFound};
 ghost use Rattle.redo_recover.specs.Reads.{IsOnlyRead, MayBeOwn, data_error, log_error_of};
 
 use crate::RecFault;
@@ -14,18 +15,20 @@ use crate::errors::log_fault;
 use crate::groups::parse;
 use crate::replay::Replay;
 use model_base::Shape;
-use model_log::{BlockView, Cause, Whole};
+use model_log::{BlockView, Cause, Layout, Whole};
+use model_store::Tail;
 use redo_disk::Sectors;
 use std::alloc::Global;
 
-/// What is scanned of a log: the blocks, the groups in them, the lsn at which the log ends, and where and why no further block
-/// is read.
+/// What is scanned of a log: the blocks, the groups in them, the lsn at which the log ends, where and why no further block is
+/// read, and the tail block in which the last one stands, if it stands in one.
 #[derive(Debug, Drop)]
 pub(crate) struct Scanned {
     pub(crate) views: Vec<BlockView>,
     pub(crate) groups: Vec<Whole>,
     pub(crate) end: u64,
     pub(crate) stop: (u64, Cause),
+    pub(crate) tail: Option<Tail>,
 }
 
 /// Scans a log from the checkpoint at this lsn on, up to its end.
@@ -33,37 +36,47 @@ pub(crate) fn scan_log<L: Sectors, P: Replay>(
     alloc: Global,
     log: &mut L,
     shape: &Shape,
+    layout: &Layout,
     ckpt: u64,
     replay: &P,
 ) -> Result<Scanned, RecFault>
     requires ready { P.is_ready replay.now }
     requires limits { IsWithinLimits shape.now }
-    requires long { log_device_length shape.now ≤ (L.seen log.old).size }
+    requires is_layout { IsLayout layout.now }
+    requires long { ring_start layout.now + round_of layout.now ≤ (L.seen log.old).size }
     requires aligned { ckpt % BLOCK_SIZE ≡ 0 }
     requires started { START_LSN ≤ ckpt }
     requires small { ckpt < LSN_LIMIT }
-    ensures scan { IfOk result (λ scanned. OnSource shape.now (L.seen log.old).tells
-        (λ source. IsScan shape.now (layout_of shape.now).blocks source ckpt scanned.views.items scanned.groups.items scanned.end)) }
-    ensures stop { IfOk result (λ scanned. OnContent (L.seen log.old).tells (IsStop shape.now ckpt scanned.views.items scanned.stop)) }
-    ensures few { IfOk result (λ scanned. length scanned.views.items ≤ (layout_of shape.now).blocks) }
-    ensures end { IfOk result (λ scanned. IsEndOf shape.now ckpt scanned.groups.items scanned.end) }
+    ensures scan { IfOk result (λ scanned. OnSource layout.now (L.seen log.old).tells
+        (λ source. IsScan shape.now layout.now.blocks source ckpt scanned.views.items scanned.groups.items scanned.end)) }
+    ensures stop { IfOk result (λ scanned. OnContent (L.seen log.old).tells (IsStop layout.now ckpt scanned.views.items scanned.stop)) }
+    ensures tail { IfOk result (λ scanned. OnContent (L.seen log.old).tells (λ content. AreFoundIn layout.now content ckpt scanned.views.items scanned.tail)) }
+    ensures found { IfOk result (λ scanned. IfSome scanned.tail (IsTailFound layout.now ckpt)) }
+    ensures few { IfOk result (λ scanned. length scanned.views.items ≤ layout.now.blocks) }
+    ensures end { IfOk result (λ scanned. IsEndOf layout.now ckpt scanned.groups.items scanned.end) }
     ensures fit { IfOk result (λ scanned. All (λ whole. GroupFits shape.now whole.group) scanned.groups.items) }
     ensures rise { IfOk result (λ scanned. EndBehindStarts scanned.groups.items) }
-    ensures fault { IfErr result (λ fault. OnSource shape.now (L.seen log.old).tells (IsScanFault shape.now (layout_of shape.now).blocks ckpt fault)) }
+    ensures fault { IfErr result (λ fault. OnSource layout.now (L.seen log.old).tells (IsScanFault shape.now layout.now.blocks ckpt fault)) }
     ensures lengths { (log_size data_size : ℕ) → IfErr result (HasLengthCause log_size data_size) }
     ensures reads { IsOnlyRead L.seen L.gives log.old (log_error_of result) log.new }
     ensures apart { IfErr result (λ fault. MayBeOwn (data_error fault)) }
 {
-    let blocks = match read_blocks(alloc, log, shape, ckpt) {
+    let blocks = match read_blocks(alloc, log, layout, ckpt) {
         Ok(blocks) => blocks,
         Err(error) => return Err(log_fault(error)),
     };
     let (groups, end) = parse(alloc, &blocks, shape, ckpt, replay)?;
-    let Blocks { views, stop, .. } = blocks;
+    let Blocks {
+        views,
+        stop,
+        tail,
+        ..
+    } = blocks;
     Ok(Scanned {
         views,
         groups,
         end,
         stop,
+        tail,
     })
 }

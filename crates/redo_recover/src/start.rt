@@ -1,7 +1,7 @@
-// Where recovery starts: the sizes of the store and its newest checkpoint, off the header of the log device.
+// Where recovery starts: the format and the sizes of the store and its newest checkpoint, off the header of the log device.
 ghost use Rattle.std.specs.Prelude.{◌≡◌, ◌≤◌, ◌<◌, ◌*◌, length, None, Some, IfOk, IfErr, IfSome, MatchOption};
 ghost use Rattle.model_base.specs.{IsWithinLimits};
-ghost use Rattle.model_log.specs.{header_block, log_device_length, newest_checkpoint, read_head};
+ghost use Rattle.model_log.specs.{head_of, IsLayout, log_device_length, newest_checkpoint};
 ghost use Rattle.model_page.specs.{data_device_length};
 ghost use Rattle.redo_disk.specs.{HasSize};
 ghost use Rattle.redo_recover.specs.Devices.{HasCauseIn, HasLengthCause, OnContents};
@@ -12,17 +12,18 @@ use crate::RecFault;
 use crate::errors::log_fault;
 use crate::piece::sector_at;
 use model_base::{BLOCK_SIZE, Shape};
-use model_log::HEADER_BYTES;
+use model_log::{Format, HEADER_BYTES, Layout};
 use redo_disk::Sectors;
 use redo_header::{Head, newer, read_ckpt, read_head};
-use redo_lsn::log_device_length;
+use redo_lsn::{layout_of, log_device_length};
 
 /// Bytes of the header blocks.
 const HEADER: usize = HEADER_BYTES as usize;
 
-/// The sizes of a store, and its newest checkpoint.
+/// The format and the sizes of a store, and its newest checkpoint.
 #[derive(Clone, Copy, Debug, PartialEq, Eq)]
 pub(crate) struct Start {
+    pub(crate) format: Format,
     pub(crate) shape: Shape,
     /// The checkpoint's number.
     pub(crate) number: u64,
@@ -30,15 +31,16 @@ pub(crate) struct Start {
     pub(crate) ckpt: u64,
 }
 
-/// The shape that the header names.
-fn shape_in(header: &[u8]) -> Result<Shape, RecFault>
+/// The format and the shape that the header names.
+fn head_in(header: &[u8]) -> Result<(Format, Shape), RecFault>
     requires { length header.now ≡ HEADER_BYTES }
-    ensures head { IfOk result (λ shape. read_head (header_block 0 header.now) ≡ Head.Good shape) }
-    ensures limits { IfOk result IsWithinLimits }
+    ensures head { IfOk result (λ head. head_of header.now ≡ Head.Good head.0 head.1) }
+    ensures limits { IfOk result (λ head. IsWithinLimits head.1) }
     ensures fault { IfErr result (IsHeadFault header.now) }
 {
-    match read_head(sector_at(header, 0)) {
-        Head::Good(shape) => Ok(shape),
+    let size = BLOCK_SIZE as usize;
+    match read_head(sector_at(header, 0), sector_at(header, 2 * size)) {
+        Head::Good(format, shape) => Ok((format, shape)),
         Head::OtherFormat(format) => Err(RecFault::BadFormat(format)),
         Head::Unformatted => Err(RecFault::NotFormatted),
     }
@@ -62,15 +64,15 @@ pub fn check_lengths(shape: &Shape, log_len: u64, data_len: u64) -> Result<(), R
 }
 
 /// The number and the lsn of the newest checkpoint that passes.
-fn newest_in(header: &[u8], shape: &Shape) -> Option<(u64, u64)>
-    requires limits { IsWithinLimits shape.now }
+fn newest_in(header: &[u8], layout: &Layout) -> Option<(u64, u64)>
+    requires is_layout { IsLayout layout.now }
     requires whole { length header.now ≡ HEADER_BYTES }
-    ensures { result ≡ newest_checkpoint shape.now header.now }
+    ensures { result ≡ newest_checkpoint layout.now header.now }
 {
     let size = BLOCK_SIZE as usize;
     newer(
-        read_ckpt(sector_at(header, size), 1, shape),
-        read_ckpt(sector_at(header, 3 * size), 3, shape),
+        read_ckpt(sector_at(header, size), 1, layout),
+        read_ckpt(sector_at(header, 3 * size), 3, layout),
     )
 }
 
@@ -94,10 +96,11 @@ pub(crate) fn read_start<L: Sectors, D: Sectors>(log: &mut L, device: &D) -> Res
         Ok(()) => {}
         Err(error) => return Err(log_fault(error)),
     }
-    let shape = shape_in(&header)?;
+    let (format, shape) = head_in(&header)?;
     check_lengths(&shape, log_len, device.len())?;
-    match newest_in(&header, &shape) {
+    match newest_in(&header, &layout_of(format, &shape)) {
         Some((number, ckpt)) => Ok(Start {
+            format,
             shape,
             number,
             ckpt,

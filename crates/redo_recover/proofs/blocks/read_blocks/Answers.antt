@@ -1,157 +1,271 @@
-use Rattle.std.proofs.Common.{◌≡◌, ◌≤◌, ◌+◌, ◌*◌, ◌∙◌, ℕ, List, Some, None, length, length-append, sym, ap, arith}
+use Rattle.std.proofs.Common.{◌≡◌, ◌≤◌, ◌+◌, ◌∙◌, ℕ, List, Option, Some, None, length, length-append, take, drop, sym, ap, refl, subst, arith}
 use Rattle.std.proofs.lemmas.List.{length_push}
 use Rattle.std.proofs.lemmas.Result.{err_from_is_err_and}
-use Rattle.model_base.specs.declared.limits.TheConstants.{BLOCK_SIZE}
+use Rattle.model_log.specs.declared.block.BlockView.{BlockView}
 use Rattle.model_log.specs.declared.layout.TheConstants.{BLOCK_DATA}
 use Rattle.model_log.specs.declared.cause.Cause.TheVariants.{Partial, Round}
-use Rattle.model_log.specs.{IsStop, layout_of}
-use Rattle.model_store.specs.{taken, taken_from}
+use Rattle.model_log.specs.{data_of, IsStop, lsn_at}
+use Rattle.model_store.specs.{AreFoundIn, taken}
 use Rattle.redo_disk.specs.declared.error.DevError.TheVariants.{NoMemory}
+use Rattle.model_store.specs.declared.tail.Tail.{Tail}
 use Rattle.redo_recover.specs.Blocks.{AreBlocksOf}
+use Rattle.redo_recover.specs.Devices.{OnContent}
 use Rattle.redo_recover.specs.Piece.{IsPieceOf}
-use Rattle.redo_recover.proofs.Bounds.{firsts-push}
-use Rattle.redo_recover.proofs.Contents.{content-both, content-weaker}
-use Rattle.redo_recover.proofs.Scanning.{AreBlocksSoFar, IsTakenAt, taken-at, so_far-next, read-stopped, read-last, read-all, length-data_of}
+use Rattle.redo_recover.specs.Taking.{bytes_at, tail_at}
+use Rattle.redo_recover.specs.declared.taking.Stand.{Stand}
+use Rattle.redo_recover.proofs.Bounds.{firsts-none, firsts-push}
+use Rattle.redo_recover.proofs.Contents.{content-any, content-both, content-weaker}
+use Rattle.redo_recover.proofs.Scanning.{AreBlocksSoFar, IsTakenAt, taken-here, so_far-none, so_far-next, read-stopped, read-last, read-all, length-data_of}
 use Rattle.redo_recover.proofs.Stopping.{stopped-part, stopped-round, stopped-unread}
+use Rattle.redo_recover.proofs.Tailing.{AreStanding, found-all, found-last, standing-next, standing-none}
 use Rattle.redo_recover.proofs.Only.{only-own, only-then}
 use Rattle.redo_recover.proofs.Unchanged.{content-before, content-after}
 use Rattle.redo_recover.proofs.blocks.read_blocks.Goals as goal
 
-pub returns-in_default-clause-blocks : goal.returns-in_default-clause-blocks
-returns-in_default-clause-blocks g c =
-    let old = g.L.Sectors.seen c.args.log.now in
-    let middle = g.L.Sectors.seen c.loop-i.log in
-    let shape = c.args.shape.now in
-    let most : ℕ = (layout_of shape).blocks in
-    let block : List ℕ = c.sector-block.result.now in
-    let piece = c.in_ok-piece.piece in
-    let of = content-before old middle (IsPieceOf piece) c.loop-i.invariant.reads.unchanged
-    (c.in_ok-piece.ensures.content (content-after old middle (IsPieceOf c.loop-i.piece) c.loop-i.invariant.reads.unchanged c.loop-i.invariant.piece)) in
-    let here = content-weaker old.tells (IsPieceOf piece) (IsTakenAt shape c.args.ckpt c.loop-i.i c.taken.result c.sector-block.result.now)
-    (λ image is. taken-at shape c.args.ckpt c.loop-i.i c.from.result piece c.offset_of-at.result c.sector-block.result.now c.taken.result image c.from.ensures
-    c.in_ok-piece.ensures.has c.offset_of-at.ensures c.sector-block.ensures c.taken.ensures.view is) of in
-    let so_far : List ℕ → Type 0 = λ image. AreBlocksSoFar c.args.ckpt c.loop-i.views.items c.loop-i.joined.items c.loop-i.i (taken shape image) in
-    content-both old.tells so_far (IsTakenAt shape c.args.ckpt c.loop-i.i c.taken.result c.sector-block.result.now)
-    (λ image. AreBlocksOf most c.args.ckpt c.loop-i.views.items c.loop-i.joined.items (taken shape image))
-    (λ image a t. read-stopped most c.args.ckpt c.loop-i.views.items c.loop-i.joined.items c.loop-i.i (taken shape image) block a (omega arith)
-    (t.takes ∙ ap (taken_from block) c.in_default.is))
-    c.loop-i.invariant.so_far here
+pub with_sector-requires-clause-within : goal.with_sector-requires-clause-within
+with_sector-requires-clause-within g c =
+    omega (arith, c.readable_end-end.ensures.within, c.requires.long, c.loop-i.invariant.reads.unchanged.size)
 
-pub returns-then-not-is_full-clause-blocks : goal.returns-then-not-is_full-clause-blocks
-returns-then-not-is_full-clause-blocks g c =
+pub loop-i-init : goal.loop-i-init
+loop-i-init g c =
     let old = g.L.Sectors.seen c.args.log.now in
-    let middle = g.L.Sectors.seen c.loop-i.log in
-    let shape = c.args.shape.now in
-    let most : ℕ = (layout_of shape).blocks in
-    let block : List ℕ = c.sector-block.result.now in
-    let piece = c.in_ok-piece.piece in
-    let of = content-before old middle (IsPieceOf piece) c.loop-i.invariant.reads.unchanged
-    (c.in_ok-piece.ensures.content (content-after old middle (IsPieceOf c.loop-i.piece) c.loop-i.invariant.reads.unchanged c.loop-i.invariant.piece)) in
-    let here = content-weaker old.tells (IsPieceOf piece) (IsTakenAt shape c.args.ckpt c.loop-i.i c.taken.result c.sector-block.result.now)
-    (λ image is. taken-at shape c.args.ckpt c.loop-i.i c.from.result piece c.offset_of-at.result c.sector-block.result.now c.taken.result image c.from.ensures
-    c.in_ok-piece.ensures.has c.offset_of-at.ensures c.sector-block.ensures c.taken.ensures.view is) of in
-    let so_far : List ℕ → Type 0 = λ image. AreBlocksSoFar c.args.ckpt c.loop-i.views.items c.loop-i.joined.items c.loop-i.i (taken shape image) in
-    content-both old.tells so_far (IsTakenAt shape c.args.ckpt c.loop-i.i c.taken.result c.sector-block.result.now)
-    (λ image. AreBlocksOf most c.args.ckpt c.push.new.self.items c.extend_from_slice.new.self.items (taken shape image))
-    (λ image a t. read-last most c.args.ckpt c.loop-i.views.items c.loop-i.joined.items c.loop-i.i (taken shape image) c.in-Some.view block
-    c.push.new.self.items c.extend_from_slice.new.self.items c.block_data.result.now a (omega arith) (t.takes ∙ ap (taken_from block) c.in-Some.is)
-    (sym c.if-not-is_full.ensures) c.in_ok-push.ensures.items c.in_ok-extend_from_slice.ensures.items c.block_data.ensures)
-    c.loop-i.invariant.so_far here
+    let layout = c.args.layout.now in
+    record {
+      reads = c.in_ok-tails.ensures.reads;
+      tails = c.in_ok-tails.ensures.tails;
+      piece = content-any old.tells (IsPieceOf (record { from = 0; bytes = c.new.result })) (λ image. c.new.ensures.items ∙ sym (ap (λ n. take n (drop 0 image)) (ap length c.new.ensures.items)));
+      many = ap length c.new-views.ensures.items;
+      firsts = firsts-none c.new-views.result.items c.new-views.ensures.items;
+      short = omega (arith, ap length c.new-joined.ensures.items);
+      so_far = content-any old.tells (λ image. AreBlocksSoFar c.args.ckpt c.new-views.result.items c.new-joined.result.items 0 (taken layout image))
+          (λ image. so_far-none c.args.ckpt c.new-views.result.items c.new-joined.result.items (taken layout image) c.new-views.ensures.items c.new-joined.ensures.items);
+      standing = content-any old.tells (AreStanding layout c.args.ckpt 0) (λ image. standing-none layout c.args.ckpt image);
+    }
 
 pub loop-i-preserved : goal.loop-i-preserved
 loop-i-preserved g c =
     let old = g.L.Sectors.seen c.args.log.now in
     let middle = g.L.Sectors.seen c.loop-i.log in
-    let shape = c.args.shape.now in
-    let block : List ℕ = c.sector-block.result.now in
+    let layout = c.args.layout.now in
+    let i = c.loop-i.i in
+    let place : List ℕ = c.sector-place.result.now in
+    let tails : List ℕ = c.in_ok-tails.tails in
     let piece = c.in_ok-piece.piece in
-    let of = content-before old middle (IsPieceOf piece) c.loop-i.invariant.reads.unchanged
-    (c.in_ok-piece.ensures.content (content-after old middle (IsPieceOf c.loop-i.piece) c.loop-i.invariant.reads.unchanged c.loop-i.invariant.piece)) in
-    let here = content-weaker old.tells (IsPieceOf piece) (IsTakenAt shape c.args.ckpt c.loop-i.i c.taken.result c.sector-block.result.now)
-    (λ image is. taken-at shape c.args.ckpt c.loop-i.i c.from.result piece c.offset_of-at.result c.sector-block.result.now c.taken.result image c.from.ensures
-    c.in_ok-piece.ensures.has c.offset_of-at.ensures c.sector-block.ensures c.taken.ensures.view is) of in
-    let so_far : List ℕ → Type 0 = λ image. AreBlocksSoFar c.args.ckpt c.loop-i.views.items c.loop-i.joined.items c.loop-i.i (taken shape image) in
+    let before = c.loop-i.invariant in
+    let of = content-before old middle (IsPieceOf piece) before.reads.unchanged
+    (c.in_ok-piece.ensures.content (content-after old middle (IsPieceOf c.loop-i.piece) before.reads.unchanged before.piece)) in
+    let found : Option (Stand × BlockView) = Some (c.in-Some.stand, c.in-Some.view) in
+    let here = taken-here old.tells layout c.args.ckpt i piece c.offset_of-at.result place tails found c.in_ok-piece.ensures.has c.offset_of-at.ensures
+    c.sector-place.ensures (sym c.in-Some.is ∙ c.take.ensures.found) of before.tails in
+    let so_far : List ℕ → Type 0 = λ image. AreBlocksSoFar c.args.ckpt c.loop-i.views.items c.loop-i.joined.items i (taken layout image) in
+    let block : List ℕ = bytes_at place tails c.in-Some.stand in
+    let data_is : c.block_data.result.now ≡ data_of c.in-Some.view block = c.block_data.ensures ∙ ap (data_of c.in-Some.view) c.bytes_at.ensures in
     let views : length c.push.new.self.items ≡ length c.loop-i.views.items + 1 = ap length c.in_ok-push.ensures.items ∙ length_push c.loop-i.views.items c.in-Some.view in
     let bytes : length c.extend_from_slice.new.self.items ≡ length c.loop-i.joined.items + length c.block_data.result.now =
     ap length c.in_ok-extend_from_slice.ensures.items ∙ length-append c.loop-i.joined.items c.block_data.result.now in
-    let room : length c.block_data.result.now ≤ BLOCK_DATA = omega (arith, ap length c.block_data.ensures, length-data_of c.in-Some.view c.sector-block.result.now) in
+    let room : length c.block_data.result.now ≤ BLOCK_DATA = omega (arith, ap length data_is, length-data_of c.in-Some.view block) in
     record {
-      reads = only-then c.args.log.now c.loop-i.log c.with_sector.new.device None c.loop-i.invariant.reads c.in_ok-piece.ensures.reads;
+      reads = only-then c.args.log.now c.loop-i.log c.with_sector.new.device None before.reads c.in_ok-piece.ensures.reads;
+      tails = before.tails;
       piece = of;
-      many = omega (arith, views, c.loop-i.invariant.many);
-      firsts = firsts-push c.loop-i.views.items c.push.new.self.items c.in-Some.view c.loop-i.invariant.firsts c.in-Some.ensures.first c.in_ok-push.ensures.items;
-      short = omega (arith, bytes, room, c.loop-i.invariant.short);
-      so_far = content-both old.tells so_far (IsTakenAt shape c.args.ckpt c.loop-i.i c.taken.result c.sector-block.result.now)
-          (λ image. AreBlocksSoFar c.args.ckpt c.push.new.self.items c.extend_from_slice.new.self.items (c.loop-i.i + 1) (taken shape image))
-          (λ image a t. so_far-next c.args.ckpt c.loop-i.views.items c.loop-i.joined.items c.loop-i.i (taken shape image) c.in-Some.view block
-          c.push.new.self.items c.extend_from_slice.new.self.items c.block_data.result.now a (t.takes ∙ ap (taken_from block) c.in-Some.is)
-          (sym c.if-not-is_full.ensures) c.in_ok-push.ensures.items c.in_ok-extend_from_slice.ensures.items c.block_data.ensures)
-          c.loop-i.invariant.so_far here;
+      many = omega (arith, views, before.many);
+      firsts = firsts-push c.loop-i.views.items c.push.new.self.items c.in-Some.view before.firsts c.in-Some.ensures.first c.in_ok-push.ensures.items;
+      short = omega (arith, bytes, room, before.short);
+      so_far = content-both old.tells so_far (IsTakenAt layout c.args.ckpt i found place tails)
+          (λ image. AreBlocksSoFar c.args.ckpt c.push.new.self.items c.extend_from_slice.new.self.items (i + 1) (taken layout image))
+          (λ image a t. so_far-next c.args.ckpt c.loop-i.views.items c.loop-i.joined.items i (taken layout image) c.in-Some.view block
+          c.push.new.self.items c.extend_from_slice.new.self.items c.block_data.result.now a t.takes (sym c.if-not-is_full.ensures)
+          c.in_ok-push.ensures.items c.in_ok-extend_from_slice.ensures.items data_is)
+          before.so_far here;
+      standing = content-both old.tells (IsTakenAt layout c.args.ckpt i found place tails) (AreStanding layout c.args.ckpt i) (AreStanding layout c.args.ckpt (i + 1))
+          (λ image t standing. standing-next layout c.args.ckpt i c.in-Some.stand c.in-Some.view place tails image t (sym c.if-not-is_full.ensures) standing)
+          here before.standing;
     }
+
+-- WHERE NO BLOCK IS TAKEN.
+
+pub returns-in_default-clause-blocks : goal.returns-in_default-clause-blocks
+returns-in_default-clause-blocks g c =
+    let old = g.L.Sectors.seen c.args.log.now in
+    let middle = g.L.Sectors.seen c.loop-i.log in
+    let layout = c.args.layout.now in
+    let i = c.loop-i.i in
+    let place : List ℕ = c.sector-place.result.now in
+    let tails : List ℕ = c.in_ok-tails.tails in
+    let piece = c.in_ok-piece.piece in
+    let before = c.loop-i.invariant in
+    let of = content-before old middle (IsPieceOf piece) before.reads.unchanged
+    (c.in_ok-piece.ensures.content (content-after old middle (IsPieceOf c.loop-i.piece) before.reads.unchanged before.piece)) in
+    let found : Option (Stand × BlockView) = None in
+    let here = taken-here old.tells layout c.args.ckpt i piece c.offset_of-at.result place tails found c.in_ok-piece.ensures.has c.offset_of-at.ensures
+    c.sector-place.ensures (sym c.in_default.is ∙ c.take.ensures.found) of before.tails in
+    let so_far : List ℕ → Type 0 = λ image. AreBlocksSoFar c.args.ckpt c.loop-i.views.items c.loop-i.joined.items i (taken layout image) in
+    content-both old.tells so_far (IsTakenAt layout c.args.ckpt i found place tails)
+    (λ image. AreBlocksOf layout.blocks c.args.ckpt c.loop-i.views.items c.loop-i.joined.items (taken layout image))
+    (λ image a t. read-stopped layout.blocks c.args.ckpt c.loop-i.views.items c.loop-i.joined.items i (taken layout image) a (omega arith) t.takes)
+    before.so_far here
 
 pub returns-in_default-clause-stop : goal.returns-in_default-clause-stop
 returns-in_default-clause-stop g c =
     let old = g.L.Sectors.seen c.args.log.now in
     let middle = g.L.Sectors.seen c.loop-i.log in
-    let shape = c.args.shape.now in
+    let layout = c.args.layout.now in
+    let i = c.loop-i.i in
+    let place : List ℕ = c.sector-place.result.now in
+    let tails : List ℕ = c.in_ok-tails.tails in
     let piece = c.in_ok-piece.piece in
-    let of = content-before old middle (IsPieceOf piece) c.loop-i.invariant.reads.unchanged
-    (c.in_ok-piece.ensures.content (content-after old middle (IsPieceOf c.loop-i.piece) c.loop-i.invariant.reads.unchanged c.loop-i.invariant.piece)) in
-    let here = content-weaker old.tells (IsPieceOf piece) (IsTakenAt shape c.args.ckpt c.loop-i.i c.taken.result c.sector-block.result.now)
-    (λ image is. taken-at shape c.args.ckpt c.loop-i.i c.from.result piece c.offset_of-at.result c.sector-block.result.now c.taken.result image c.from.ensures
-    c.in_ok-piece.ensures.has c.offset_of-at.ensures c.sector-block.ensures c.taken.ensures.view is) of in
-    let so_far : List ℕ → Type 0 = λ image. AreBlocksSoFar c.args.ckpt c.loop-i.views.items c.loop-i.joined.items c.loop-i.i (taken shape image) in
-    let lsn = c.args.ckpt + BLOCK_SIZE * c.from.result in
-    content-both old.tells so_far (IsTakenAt shape c.args.ckpt c.loop-i.i c.taken.result c.sector-block.result.now)
-    (IsStop shape c.args.ckpt c.loop-i.views.items (lsn, c.untaken.result))
-    (λ image a t. stopped-unread shape c.args.ckpt c.loop-i.views.items c.loop-i.joined.items c.loop-i.i lsn c.untaken.result c.taken.result
-    c.sector-block.result.now image a (omega arith) t (ap (λ n. c.args.ckpt + BLOCK_SIZE * n) c.from.ensures) c.untaken.ensures)
-    c.loop-i.invariant.so_far here
+    let before = c.loop-i.invariant in
+    let of = content-before old middle (IsPieceOf piece) before.reads.unchanged
+    (c.in_ok-piece.ensures.content (content-after old middle (IsPieceOf c.loop-i.piece) before.reads.unchanged before.piece)) in
+    let found : Option (Stand × BlockView) = None in
+    let here = taken-here old.tells layout c.args.ckpt i piece c.offset_of-at.result place tails found c.in_ok-piece.ensures.has c.offset_of-at.ensures
+    c.sector-place.ensures (sym c.in_default.is ∙ c.take.ensures.found) of before.tails in
+    let so_far : List ℕ → Type 0 = λ image. AreBlocksSoFar c.args.ckpt c.loop-i.views.items c.loop-i.joined.items i (taken layout image) in
+    let lsn = lsn_at c.args.ckpt i in
+    content-both old.tells so_far (IsTakenAt layout c.args.ckpt i found place tails)
+    (IsStop layout c.args.ckpt c.loop-i.views.items (lsn, c.untaken.result))
+    (λ image a t. stopped-unread layout c.args.ckpt c.loop-i.views.items c.loop-i.joined.items i lsn c.untaken.result found
+    place tails image a (omega arith) t refl c.untaken.ensures)
+    before.so_far here
+
+pub returns-in_default-clause-tail : goal.returns-in_default-clause-tail
+returns-in_default-clause-tail g c =
+    let old = g.L.Sectors.seen c.args.log.now in
+    let layout = c.args.layout.now in
+    content-weaker old.tells (AreStanding layout c.args.ckpt c.loop-i.i) (λ image. AreFoundIn layout image c.args.ckpt c.loop-i.views.items None)
+    (λ image standing. found-all layout c.args.ckpt c.loop-i.views.items c.loop-i.i image c.loop-i.invariant.many standing) c.loop-i.invariant.standing
+
+pub returns-in_default-clause-few : goal.returns-in_default-clause-few
+returns-in_default-clause-few g c =
+    record { few = omega (arith, c.loop-i.invariant.many); short = omega (arith, c.loop-i.invariant.many, c.loop-i.invariant.short) }
+
+pub returns-in_default-clause-firsts : goal.returns-in_default-clause-firsts
+returns-in_default-clause-firsts g c = c.loop-i.invariant.firsts
+
+pub returns-in_default-clause-reads : goal.returns-in_default-clause-reads
+returns-in_default-clause-reads g c = only-then c.args.log.now c.loop-i.log c.with_sector.new.device None c.loop-i.invariant.reads c.in_ok-piece.ensures.reads
+
+-- WHERE THE LAST ONE ISN'T FULL.
+
+pub returns-then-not-is_full-clause-blocks : goal.returns-then-not-is_full-clause-blocks
+returns-then-not-is_full-clause-blocks g c =
+    let old = g.L.Sectors.seen c.args.log.now in
+    let middle = g.L.Sectors.seen c.loop-i.log in
+    let layout = c.args.layout.now in
+    let i = c.loop-i.i in
+    let place : List ℕ = c.sector-place.result.now in
+    let tails : List ℕ = c.in_ok-tails.tails in
+    let piece = c.in_ok-piece.piece in
+    let before = c.loop-i.invariant in
+    let of = content-before old middle (IsPieceOf piece) before.reads.unchanged
+    (c.in_ok-piece.ensures.content (content-after old middle (IsPieceOf c.loop-i.piece) before.reads.unchanged before.piece)) in
+    let found : Option (Stand × BlockView) = Some (c.in-Some.stand, c.in-Some.view) in
+    let here = taken-here old.tells layout c.args.ckpt i piece c.offset_of-at.result place tails found c.in_ok-piece.ensures.has c.offset_of-at.ensures
+    c.sector-place.ensures (sym c.in-Some.is ∙ c.take.ensures.found) of before.tails in
+    let so_far : List ℕ → Type 0 = λ image. AreBlocksSoFar c.args.ckpt c.loop-i.views.items c.loop-i.joined.items i (taken layout image) in
+    let block : List ℕ = bytes_at place tails c.in-Some.stand in
+    let data_is : c.block_data.result.now ≡ data_of c.in-Some.view block = c.block_data.ensures ∙ ap (data_of c.in-Some.view) c.bytes_at.ensures in
+    content-both old.tells so_far (IsTakenAt layout c.args.ckpt i found place tails)
+    (λ image. AreBlocksOf layout.blocks c.args.ckpt c.push.new.self.items c.extend_from_slice.new.self.items (taken layout image))
+    (λ image a t. read-last layout.blocks c.args.ckpt c.loop-i.views.items c.loop-i.joined.items i (taken layout image) c.in-Some.view block
+    c.push.new.self.items c.extend_from_slice.new.self.items c.block_data.result.now a (omega arith) t.takes
+    (sym c.if-not-is_full.ensures) c.in_ok-push.ensures.items c.in_ok-extend_from_slice.ensures.items data_is)
+    before.so_far here
 
 pub returns-then-not-is_full-clause-stop : goal.returns-then-not-is_full-clause-stop
 returns-then-not-is_full-clause-stop g c =
     let old = g.L.Sectors.seen c.args.log.now in
-    let shape = c.args.shape.now in
-    let lsn = c.args.ckpt + BLOCK_SIZE * c.from.result in
-    content-weaker old.tells (λ image. AreBlocksSoFar c.args.ckpt c.loop-i.views.items c.loop-i.joined.items c.loop-i.i (taken shape image))
-    (IsStop shape c.args.ckpt c.push.new.self.items (lsn, Partial))
-    (λ image a. stopped-part shape c.args.ckpt c.loop-i.views.items c.loop-i.joined.items c.loop-i.i lsn c.in-Some.view c.push.new.self.items image a
-    (ap (λ n. c.args.ckpt + BLOCK_SIZE * n) c.from.ensures) (sym c.if-not-is_full.ensures) c.in_ok-push.ensures.items)
+    let layout = c.args.layout.now in
+    let lsn = lsn_at c.args.ckpt c.loop-i.i in
+    content-weaker old.tells (λ image. AreBlocksSoFar c.args.ckpt c.loop-i.views.items c.loop-i.joined.items c.loop-i.i (taken layout image))
+    (IsStop layout c.args.ckpt c.push.new.self.items (lsn, Partial))
+    (λ image a. stopped-part layout c.args.ckpt c.loop-i.views.items c.loop-i.joined.items c.loop-i.i lsn c.in-Some.view c.push.new.self.items image a
+    refl (sym c.if-not-is_full.ensures) c.in_ok-push.ensures.items)
     c.loop-i.invariant.so_far
 
-pub returns-clause-stop : goal.returns-clause-stop
-returns-clause-stop g c =
+pub returns-then-not-is_full-clause-tail : goal.returns-then-not-is_full-clause-tail
+returns-then-not-is_full-clause-tail g c =
     let old = g.L.Sectors.seen c.args.log.now in
-    let shape = c.args.shape.now in
-    let lsn = c.args.ckpt + c.round_of.result in
-    content-weaker old.tells (λ image. AreBlocksSoFar c.args.ckpt c.loop-i.views.items c.loop-i.joined.items c.loop-i.i (taken shape image))
-    (IsStop shape c.args.ckpt c.loop-i.views.items (lsn, Round))
-    (λ image a. stopped-round shape c.args.ckpt c.loop-i.views.items c.loop-i.joined.items c.loop-i.i lsn image a (omega arith)
-    (ap (λ n. c.args.ckpt + n) c.round_of.ensures))
-    c.loop-i.invariant.so_far
+    let middle = g.L.Sectors.seen c.loop-i.log in
+    let layout = c.args.layout.now in
+    let i = c.loop-i.i in
+    let place : List ℕ = c.sector-place.result.now in
+    let tails : List ℕ = c.in_ok-tails.tails in
+    let piece = c.in_ok-piece.piece in
+    let before = c.loop-i.invariant in
+    let of = content-before old middle (IsPieceOf piece) before.reads.unchanged
+    (c.in_ok-piece.ensures.content (content-after old middle (IsPieceOf c.loop-i.piece) before.reads.unchanged before.piece)) in
+    let found : Option (Stand × BlockView) = Some (c.in-Some.stand, c.in-Some.view) in
+    let here = taken-here old.tells layout c.args.ckpt i piece c.offset_of-at.result place tails found c.in_ok-piece.ensures.has c.offset_of-at.ensures
+    c.sector-place.ensures (sym c.in-Some.is ∙ c.take.ensures.found) of before.tails in
+    let lsn = lsn_at c.args.ckpt i in
+    let known = content-both old.tells (IsTakenAt layout c.args.ckpt i found place tails) (AreStanding layout c.args.ckpt i)
+    (λ image. AreFoundIn layout image c.args.ckpt c.push.new.self.items (tail_at lsn c.in-Some.stand))
+    (λ image t standing. found-last layout c.args.ckpt c.loop-i.views.items c.push.new.self.items i c.in-Some.stand c.in-Some.view place tails image t
+    (sym c.if-not-is_full.ensures) standing before.many c.in_ok-push.ensures.items)
+    here before.standing in
+    subst (λ (tail : Option Tail). OnContent old.tells (λ image. AreFoundIn layout image c.args.ckpt c.push.new.self.items tail)) (sym c.tail_at-tail.ensures) known
 
-pub returns-in_default-clause-firsts : goal.returns-in_default-clause-firsts
-returns-in_default-clause-firsts g c = c.loop-i.invariant.firsts
+pub returns-then-not-is_full-clause-few : goal.returns-then-not-is_full-clause-few
+returns-then-not-is_full-clause-few g c =
+    let block : List ℕ = bytes_at c.sector-place.result.now c.in_ok-tails.tails c.in-Some.stand in
+    let data_is : c.block_data.result.now ≡ data_of c.in-Some.view block = c.block_data.ensures ∙ ap (data_of c.in-Some.view) c.bytes_at.ensures in
+    let views : length c.push.new.self.items ≡ length c.loop-i.views.items + 1 = ap length c.in_ok-push.ensures.items ∙ length_push c.loop-i.views.items c.in-Some.view in
+    let bytes : length c.extend_from_slice.new.self.items ≡ length c.loop-i.joined.items + length c.block_data.result.now =
+    ap length c.in_ok-extend_from_slice.ensures.items ∙ length-append c.loop-i.joined.items c.block_data.result.now in
+    let room : length c.block_data.result.now ≤ BLOCK_DATA = omega (arith, ap length data_is, length-data_of c.in-Some.view block) in
+    record { few = omega (arith, views, c.loop-i.invariant.many); short = omega (arith, views, bytes, room, c.loop-i.invariant.many, c.loop-i.invariant.short) }
 
 pub returns-then-not-is_full-clause-firsts : goal.returns-then-not-is_full-clause-firsts
 returns-then-not-is_full-clause-firsts g c =
     firsts-push c.loop-i.views.items c.push.new.self.items c.in-Some.view c.loop-i.invariant.firsts c.in-Some.ensures.first c.in_ok-push.ensures.items
 
-pub returns-clause-firsts : goal.returns-clause-firsts
-returns-clause-firsts g c = c.loop-i.invariant.firsts
+pub returns-then-not-is_full-clause-reads : goal.returns-then-not-is_full-clause-reads
+returns-then-not-is_full-clause-reads g c = only-then c.args.log.now c.loop-i.log c.with_sector.new.device None c.loop-i.invariant.reads c.in_ok-piece.ensures.reads
+
+-- WHERE THE BLOCKS FILL THE LOG.
 
 pub returns-clause-blocks : goal.returns-clause-blocks
 returns-clause-blocks g c =
     let old = g.L.Sectors.seen c.args.log.now in
-    let shape = c.args.shape.now in
-    let most : ℕ = (layout_of shape).blocks in
-    content-weaker old.tells (λ image. AreBlocksSoFar c.args.ckpt c.loop-i.views.items c.loop-i.joined.items c.loop-i.i (taken shape image))
-    (λ image. AreBlocksOf most c.args.ckpt c.loop-i.views.items c.loop-i.joined.items (taken shape image))
-    (λ image a. read-all most c.args.ckpt c.loop-i.views.items c.loop-i.joined.items c.loop-i.i (taken shape image) a (omega arith)) c.loop-i.invariant.so_far
+    let layout = c.args.layout.now in
+    content-weaker old.tells (λ image. AreBlocksSoFar c.args.ckpt c.loop-i.views.items c.loop-i.joined.items c.loop-i.i (taken layout image))
+    (λ image. AreBlocksOf layout.blocks c.args.ckpt c.loop-i.views.items c.loop-i.joined.items (taken layout image))
+    (λ image a. read-all layout.blocks c.args.ckpt c.loop-i.views.items c.loop-i.joined.items c.loop-i.i (taken layout image) a (omega arith)) c.loop-i.invariant.so_far
+
+pub returns-clause-stop : goal.returns-clause-stop
+returns-clause-stop g c =
+    let old = g.L.Sectors.seen c.args.log.now in
+    let layout = c.args.layout.now in
+    let lsn = c.args.ckpt + c.round_of.result in
+    content-weaker old.tells (λ image. AreBlocksSoFar c.args.ckpt c.loop-i.views.items c.loop-i.joined.items c.loop-i.i (taken layout image))
+    (IsStop layout c.args.ckpt c.loop-i.views.items (lsn, Round))
+    (λ image a. stopped-round layout c.args.ckpt c.loop-i.views.items c.loop-i.joined.items c.loop-i.i lsn image a (omega arith)
+    (ap (λ n. c.args.ckpt + n) c.round_of.ensures))
+    c.loop-i.invariant.so_far
+
+pub returns-clause-tail : goal.returns-clause-tail
+returns-clause-tail g c =
+    let old = g.L.Sectors.seen c.args.log.now in
+    let layout = c.args.layout.now in
+    content-weaker old.tells (AreStanding layout c.args.ckpt c.loop-i.i) (λ image. AreFoundIn layout image c.args.ckpt c.loop-i.views.items None)
+    (λ image standing. found-all layout c.args.ckpt c.loop-i.views.items c.loop-i.i image c.loop-i.invariant.many standing) c.loop-i.invariant.standing
+
+pub returns-clause-few : goal.returns-clause-few
+returns-clause-few g c =
+    record { few = omega (arith, c.loop-i.invariant.many); short = omega (arith, c.loop-i.invariant.many, c.loop-i.invariant.short) }
+
+pub returns-clause-firsts : goal.returns-clause-firsts
+returns-clause-firsts g c = c.loop-i.invariant.firsts
+
+pub returns-clause-reads : goal.returns-clause-reads
+returns-clause-reads g c = c.loop-i.invariant.reads
+
+-- WHERE A READ FAILS or memory runs out.
 
 pub returns-in_err-piece-clause-reads : goal.returns-in_err-piece-clause-reads
 returns-in_err-piece-clause-reads g c =
-    let p = err_from_is_err_and c.from_residual.result c.from_residual.ensures.1 in
+    let p = err_from_is_err_and c.from_residual-in_err-piece.result c.from_residual-in_err-piece.ensures.1 in
     rw (p.1, p.2) (only-then c.args.log.now c.loop-i.log c.with_sector.new.device _ c.loop-i.invariant.reads c.in_err-piece.ensures.reads)
 
 pub returns-in_err-push-clause-reads : goal.returns-in_err-push-clause-reads
@@ -165,12 +279,3 @@ returns-in_err-extend_from_slice-clause-reads g c =
     let p = err_from_is_err_and c.from_residual-in_err-extend_from_slice.result c.from_residual-in_err-extend_from_slice.ensures.1 in
     rw (p.1, p.2) (only-own c.args.log.now c.with_sector.new.device (Some NoMemory) tt
     (only-then c.args.log.now c.loop-i.log c.with_sector.new.device None c.loop-i.invariant.reads c.in_ok-piece.ensures.reads))
-
-pub returns-in_default-clause-reads : goal.returns-in_default-clause-reads
-returns-in_default-clause-reads g c = only-then c.args.log.now c.loop-i.log c.with_sector.new.device None c.loop-i.invariant.reads c.in_ok-piece.ensures.reads
-
-pub returns-then-not-is_full-clause-reads : goal.returns-then-not-is_full-clause-reads
-returns-then-not-is_full-clause-reads g c = only-then c.args.log.now c.loop-i.log c.with_sector.new.device None c.loop-i.invariant.reads c.in_ok-piece.ensures.reads
-
-pub returns-clause-reads : goal.returns-clause-reads
-returns-clause-reads g c = c.loop-i.invariant.reads

@@ -5,16 +5,20 @@ use Rattle.std.specs.Prelude.{None}
 use Rattle.redo_recover.specs.Devices.{OnContent, OnSource}
 use Rattle.redo_recover.specs.Piece.{IsPieceOf}
 use Rattle.redo_recover.specs.Reads.{IsOnlyRead}
+use Rattle.redo_recover.specs.Taking.{AreTailsOf}
 use Rattle.redo_recover.proofs.Scanning.{AreBlocksSoFar}
+use Rattle.redo_recover.proofs.Tailing.{AreStanding}
 use Rattle.redo_recover.proofs.blocks.read_blocks.Given as goal
 
 -- the first blocks are read, all of them full
 abbrev pub invariant-loop-i : goal.invariant-loop-i
 invariant-loop-i g l = record {
   reads : IsOnlyRead g.L.Sectors.seen g.L.Sectors.gives l.fn.log None l.log;
+  tails : OnContent (g.L.Sectors.seen l.fn.log).tells (AreTailsOf l.layout.format l.tails);
   piece : OnContent (g.L.Sectors.seen l.fn.log).tells (IsPieceOf l.piece);
   many : length l.views.items ≡ l.i;
   firsts : HaveFirsts l.views.items;
   short : length l.joined.items ≤ BLOCK_DATA * l.i;
-  so_far : OnSource l.shape (g.L.Sectors.seen l.fn.log).tells (AreBlocksSoFar l.ckpt l.views.items l.joined.items l.i);
+  so_far : OnSource l.layout (g.L.Sectors.seen l.fn.log).tells (AreBlocksSoFar l.ckpt l.views.items l.joined.items l.i);
+  standing : OnContent (g.L.Sectors.seen l.fn.log).tells (AreStanding l.layout l.ckpt l.i);
 }

@@ -1,8 +1,13 @@
-use Rattle.std.proofs.Common.{◌≤◌, List, None, subst, sym}
+use Rattle.std.proofs.Common.{◌≡◌, ◌≤◌, IfSome, length, List, None, subst, sym}
 use Rattle.std.proofs.lemmas.Result.{err_from_is_err_and}
 use Rattle.std.specs.List.{AllByRecursion}
 use Rattle.model_log.specs.declared.group.Whole.{Whole}
-use Rattle.model_log.specs.{IsStop}
+use Rattle.model_log.specs.declared.layout.Layout.{Layout}
+use Rattle.model_log.specs.{IsStop, layout_of}
+use Rattle.model_store.specs.{AreFoundIn, IsScan}
+use Rattle.redo_recover.specs.Devices.{OnContent, OnSource}
+use Rattle.redo_recover.specs.Groups.{IsEndOf, IsScanFault}
+use Rattle.redo_recover.specs.Reading.{IsTailFound}
 use Rattle.redo_recover.specs.Reads.{data_error, log_error}
 use Rattle.redo_recover.proofs.Causing.{page-cause, reading-of, scan-cause}
 use Rattle.redo_recover.proofs.Only.{log-own, log-then, only-none, only-own}
@@ -14,19 +19,21 @@ read_pages-requires-clause-ends g c =
     subst (λ (wholes : List Whole). AllByRecursion (λ (whole : Whole). whole.end ≤ c.in_ok-views.field-0.end) wholes) (sym c.as_slice.ensures.value)
     c.in_ok-views.ensures.end.groups
 
-pub returns-in_err-shape : goal.returns-in_err-shape
-returns-in_err-shape g c =
+pub returns-in_err-format : goal.returns-in_err-format
+returns-in_err-format g c =
     let p = err_from_is_err_and c.from_residual.result c.from_residual.ensures.1 in
     rw (p.1, p.2) (record {
       recovered = tt;
-      caused = record { lengths = c.in_err-shape.ensures.lengths; cause = c.in_err-shape.ensures.cause };
-      log = c.in_err-shape.ensures.reads;
-      data_device = only-own _ _ (data_error c.in_err-shape.field-0.0) c.in_err-shape.ensures.apart (only-none c.args.data_device.now);
+      caused = record { lengths = c.in_err-format.ensures.lengths; cause = c.in_err-format.ensures.cause };
+      log = c.in_err-format.ensures.reads;
+      data_device = only-own _ _ (data_error c.in_err-format.field-0.0) c.in_err-format.ensures.apart (only-none c.args.data_device.now);
     })
 
 pub returns-in_err-views : goal.returns-in_err-views
 returns-in_err-views g c =
     let log = g.L.Sectors.seen c.args.log.now in
+    let middle = g.L.Sectors.seen c.read_start.new.log in
+    let start = c.in_ok-format.field-0 in
     let data_device = g.D.Sectors.seen c.args.data_device.now in
     let fault = c.in_err-views.field-0.0 in
     let p = err_from_is_err_and c.from_residual-in_err-views.result c.from_residual-in_err-views.ensures.1 in
@@ -34,16 +41,21 @@ returns-in_err-views g c =
       recovered = tt;
       caused = record {
         lengths = c.in_err-views.ensures.lengths log.size data_device.size;
-        cause = scan-cause log (g.L.Sectors.seen c.read_start.new.log) data_device.tells c.in_ok-shape.field-0 fault c.in_ok-shape.ensures.reads.unchanged
-            c.in_ok-shape.ensures.start c.in_err-views.ensures.fault;
+        cause = scan-cause log middle data_device.tells start fault c.in_ok-format.ensures.reads.unchanged
+            c.in_ok-format.ensures.start
+            (subst (λ (layout : Layout). OnSource layout middle.tells (IsScanFault start.shape layout.blocks start.ckpt fault)) c.layout_of-layout.ensures.is
+            c.in_err-views.ensures.fault);
       };
-      log = log-then _ _ _ _ c.in_ok-shape.ensures.reads c.in_err-views.ensures.reads;
+      log = log-then _ _ _ _ c.in_ok-format.ensures.reads c.in_err-views.ensures.reads;
       data_device = only-own _ _ (data_error fault) c.in_err-views.ensures.apart (only-none c.args.data_device.now);
     })
 
 pub returns-in_err-pages : goal.returns-in_err-pages
 returns-in_err-pages g c =
     let log = g.L.Sectors.seen c.args.log.now in
+    let middle = g.L.Sectors.seen c.read_start.new.log in
+    let start = c.in_ok-format.field-0 in
+    let scanned = c.in_ok-views.field-0 in
     let data_device = g.D.Sectors.seen c.args.data_device.now in
     let fault = c.in_err-pages.field-0.0 in
     let p = err_from_is_err_and c.from_residual-in_err-pages.result c.from_residual-in_err-pages.ensures.1 in
@@ -51,11 +63,12 @@ returns-in_err-pages g c =
       recovered = tt;
       caused = record {
         lengths = c.in_err-pages.ensures.lengths log.size data_device.size;
-        cause = page-cause log (g.L.Sectors.seen c.read_start.new.log) data_device.tells c.in_ok-shape.field-0 c.in_ok-views.field-0.views.items
-            c.in_ok-views.field-0.groups.items c.in_ok-views.field-0.end fault c.in_ok-shape.ensures.reads.unchanged c.in_ok-shape.ensures.start
-            c.in_ok-views.ensures.scan c.in_err-pages.ensures.cause;
+        cause = page-cause log middle data_device.tells start c.in_ok-views.field-0.views.items
+            c.in_ok-views.field-0.groups.items c.in_ok-views.field-0.end fault c.in_ok-format.ensures.reads.unchanged c.in_ok-format.ensures.start
+            (subst (λ (layout : Layout). OnSource layout middle.tells (λ source. IsScan start.shape layout.blocks source start.ckpt scanned.views.items scanned.groups.items scanned.end))
+            c.layout_of-layout.ensures.is c.in_ok-views.ensures.scan) c.in_err-pages.ensures.cause;
       };
-      log = log-own _ _ (log_error fault) c.in_err-pages.ensures.apart (log-then _ _ _ None c.in_ok-shape.ensures.reads c.in_ok-views.ensures.reads);
+      log = log-own _ _ (log_error fault) c.in_err-pages.ensures.apart (log-then _ _ _ None c.in_ok-format.ensures.reads c.in_ok-views.ensures.reads);
       data_device = c.in_err-pages.ensures.reads;
     })
 
@@ -64,32 +77,41 @@ returns g c =
     let log = g.L.Sectors.seen c.args.log.now in
     let middle = g.L.Sectors.seen c.read_start.new.log in
     let data_device = g.D.Sectors.seen c.args.data_device.now in
-    let start = c.in_ok-shape.field-0 in
+    let start = c.in_ok-format.field-0 in
     let scanned = c.in_ok-views.field-0 in
     let placed = c.in_ok-pages.field-0 in
+    let same : c.layout_of-layout.result ≡ layout_of start.format start.shape = c.layout_of-layout.ensures.is in
     record {
       recovered = record {
         read = reading-of log middle data_device.tells start scanned.views.items scanned.groups.items scanned.end placed.pages
-            c.in_ok-shape.ensures.reads.unchanged c.in_ok-shape.ensures.start c.in_ok-views.ensures.scan
+            c.in_ok-format.ensures.reads.unchanged c.in_ok-format.ensures.start
+            (subst (λ (layout : Layout). OnSource layout middle.tells (λ source. IsScan start.shape layout.blocks source start.ckpt scanned.views.items scanned.groups.items scanned.end))
+            same c.in_ok-views.ensures.scan)
             (rw c.as_slice.ensures.value at c.in_ok-pages.ensures.pages);
         found = c.in_ok-pages.ensures.found;
-        stop = content-before log middle (IsStop start.shape start.ckpt scanned.views.items scanned.stop) c.in_ok-shape.ensures.reads.unchanged c.in_ok-views.ensures.stop;
-        sized = c.in_ok-shape.ensures.sized;
+        stop = content-before log middle (IsStop (layout_of start.format start.shape) start.ckpt scanned.views.items scanned.stop) c.in_ok-format.ensures.reads.unchanged
+            (subst (λ (layout : Layout). OnContent middle.tells (IsStop layout start.ckpt scanned.views.items scanned.stop)) same c.in_ok-views.ensures.stop);
+        tail = content-before log middle (λ content. AreFoundIn (layout_of start.format start.shape) content start.ckpt scanned.views.items scanned.tail)
+            c.in_ok-format.ensures.reads.unchanged
+            (subst (λ (layout : Layout). OnContent middle.tells (λ content. AreFoundIn layout content start.ckpt scanned.views.items scanned.tail)) same
+            c.in_ok-views.ensures.tail);
+        sized = c.in_ok-format.ensures.sized;
         of_devices = record {
-          limits = c.in_ok-shape.ensures.usable.limits;
-          log_long = c.in_ok-shape.ensures.usable.log_long;
-          data_long = c.in_ok-shape.ensures.usable.data_long;
-          aligned = c.in_ok-shape.ensures.usable.aligned;
-          started = c.in_ok-shape.ensures.usable.started;
-          small = c.in_ok-shape.ensures.usable.small;
-          few_views = c.in_ok-views.ensures.few;
+          limits = c.in_ok-format.ensures.usable.limits;
+          log_long = c.in_ok-format.ensures.usable.log_long;
+          data_long = c.in_ok-format.ensures.usable.data_long;
+          aligned = c.in_ok-format.ensures.usable.aligned;
+          started = c.in_ok-format.ensures.usable.started;
+          small = c.in_ok-format.ensures.usable.small;
+          few_views = subst (λ (layout : Layout). length scanned.views.items ≤ layout.blocks) same c.in_ok-views.ensures.few;
+          tail = subst (λ (layout : Layout). IfSome scanned.tail (IsTailFound layout start.ckpt)) same c.in_ok-views.ensures.found;
           its_pages = c.in_ok-pages.ensures.its_pages;
           its_places = c.in_ok-pages.ensures.its_places;
-          end = c.in_ok-views.ensures.end;
+          end = subst (λ (layout : Layout). IsEndOf layout start.ckpt scanned.groups.items scanned.end) same c.in_ok-views.ensures.end;
           not_ahead = c.in_ok-pages.ensures.not_ahead;
         };
       };
       caused = tt;
-      log = log-then _ _ _ None c.in_ok-shape.ensures.reads c.in_ok-views.ensures.reads;
+      log = log-then _ _ _ None c.in_ok-format.ensures.reads c.in_ok-views.ensures.reads;
       data_device = c.in_ok-pages.ensures.reads;
     }

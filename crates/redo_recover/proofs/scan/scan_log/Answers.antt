@@ -1,4 +1,4 @@
-use Rattle.std.proofs.Common.{length, rules, subst, sym}
+use Rattle.std.proofs.Common.{length, arith, rules, subst, sym}
 use Rattle.model_store.specs.{groups_start}
 use Rattle.std.proofs.lemmas.Result.{err_from_is_err_and}
 use Rattle.redo_recover.specs.Reads.{MayBeOwn, data_error, log_error}
@@ -36,3 +36,10 @@ returns-in_err-groups-clause-apart g c =
     let own : MayBeOwn (data_error fault) =
     (parse-own c.args.ckpt c.args.shape.now c.in-Ok.blocks.joined.items (groups_start c.args.ckpt c.in-Ok.blocks.views.items) fault c.in_err-groups.ensures.fault).1 in
     search rules
+
+pub parse-requires-clause-few : goal.parse-requires-clause-few
+parse-requires-clause-few g c =
+    record { few = omega (arith, c.in-Ok.ensures.few.few, c.requires.is_layout.few_blocks); short = c.in-Ok.ensures.few.short }
+
+pub returns-clause-end : goal.returns-clause-end
+returns-clause-end g c = c.in_ok-groups.ensures.end c.args.layout.now c.in-Ok.ensures.few.few

@@ -1,5 +1,7 @@
-use Rattle.std.proofs.Common.{◌∙◌, sym, subst, arith, rules}
+use Rattle.std.proofs.Common.{◌∙◌, ap, sym, subst, arith, rules}
 use Rattle.std.proofs.lemmas.Result.{err_from_is_err_and}
+use Rattle.model_log.specs.{newest_checkpoint}
+use Rattle.model_log.specs.declared.layout.Layout.{Layout}
 use Rattle.model_store.proofs.Heads.{checkpoint-bounds}
 use Rattle.redo_recover.specs.Devices.{HasCauseIn}
 use Rattle.redo_recover.specs.Reads.{MayBeOwn, data_error, log_error}
@@ -16,15 +18,15 @@ returns-in-Err-clause-cause g c =
     subst (HasCauseIn (g.L.Sectors.seen c.args.log.now).tells (g.D.Sectors.seen c.args.device.now).tells) (sym c.log_fault.ensures)
     (log_fault-cause _ _ c.in-Err.error)
 
-pub returns-in_err-shape-clause-cause : goal.returns-in_err-shape-clause-cause
-returns-in_err-shape-clause-cause g c =
+pub returns-in_err-format-clause-cause : goal.returns-in_err-format-clause-cause
+returns-in_err-format-clause-cause g c =
     let log = g.L.Sectors.seen c.args.log.now in
     let device = g.D.Sectors.seen c.args.device.now in
     let header = c.read.new.out in
     let of = header-of log.tells log.size header c.len-log_len.ensures.told c.in-Ok.ensures.step.bytes in
-    let fault = c.in_err-shape.ensures.fault in
-    let cause : HasCauseIn log.tells device.tells c.in_err-shape.field-0.0 =
-    head-cause log.tells device.tells log.size header c.in_err-shape.field-0.0 of (omega arith) fault in
+    let fault = c.in_err-format.ensures.fault in
+    let cause : HasCauseIn log.tells device.tells c.in_err-format.field-0.0 =
+    head-cause log.tells device.tells log.size header c.in_err-format.field-0.0 of (omega arith) fault in
     search rules
 
 pub returns-in_err-check_lengths-clause-cause : goal.returns-in_err-check_lengths-clause-cause
@@ -32,14 +34,15 @@ returns-in_err-check_lengths-clause-cause g c =
     let log = g.L.Sectors.seen c.args.log.now in
     let device = g.D.Sectors.seen c.args.device.now in
     let header = c.read.new.out in
-    let shape = c.in_ok-shape.shape in
+    let format = c.in_ok-format.format in
+    let shape = c.in_ok-format.shape in
     let of = header-of log.tells log.size header c.len-log_len.ensures.told c.in-Ok.ensures.step.bytes in
     let other = sized device.tells device.size c.len.ensures.told in
-    let head = c.in_ok-shape.ensures.head in
+    let head = c.in_ok-format.ensures.head in
     let first = subst (λ n. IsLengthFault shape n c.len.result c.in_err-check_lengths.field-0.0) c.len-log_len.ensures.size c.in_err-check_lengths.ensures.fault in
     let fault = subst (λ n. IsLengthFault shape log.size n c.in_err-check_lengths.field-0.0) c.len.ensures.size first in
     let cause : HasCauseIn log.tells device.tells c.in_err-check_lengths.field-0.0 =
-    length-cause log.tells device.tells log.size device.size header shape c.in_err-check_lengths.field-0.0 of other (omega arith) head fault in
+    length-cause log.tells device.tells log.size device.size header format shape c.in_err-check_lengths.field-0.0 of other (omega arith) head fault in
     search rules
 
 pub returns-in-Some-clause-start : goal.returns-in-Some-clause-start
@@ -47,19 +50,20 @@ returns-in-Some-clause-start g c =
     let log = g.L.Sectors.seen c.args.log.now in
     let device = g.D.Sectors.seen c.args.device.now in
     let header = c.read.new.out in
-    let shape = c.in_ok-shape.shape in
+    let format = c.in_ok-format.format in
+    let shape = c.in_ok-format.shape in
     let of = header-of log.tells log.size header c.len-log_len.ensures.told c.in-Ok.ensures.step.bytes in
     let other = sized device.tells device.size c.len.ensures.told in
-    let head = c.in_ok-shape.ensures.head in
-    let newest = sym c.newest_in.ensures ∙ c.in-Some.is in
-    starts log.tells device.tells log.size device.size header (record { shape = shape; number = c.in-Some.number; ckpt = c.in-Some.ckpt }) of other
+    let head = c.in_ok-format.ensures.head in
+    let newest = ap (λ (layout : Layout). newest_checkpoint layout header) (sym c.layout_of.ensures.is) ∙ sym c.newest_in.ensures ∙ c.in-Some.is in
+    starts log.tells device.tells log.size device.size header (record { format = format; shape = shape; number = c.in-Some.number; ckpt = c.in-Some.ckpt }) of other
     (record { long = omega arith; head = head; log_long = omega (arith, c.in_ok-check_lengths.ensures.fit.0); data_long = omega (arith, c.in_ok-check_lengths.ensures.fit.1) }) newest
 
 pub returns-in-Some-clause-usable : goal.returns-in-Some-clause-usable
 returns-in-Some-clause-usable g c =
-    let bounds = checkpoint-bounds c.in_ok-shape.shape c.read.new.out c.in-Some.number c.in-Some.ckpt (sym c.newest_in.ensures ∙ c.in-Some.is) in
+    let bounds = checkpoint-bounds c.layout_of.result c.read.new.out c.in-Some.number c.in-Some.ckpt (sym c.newest_in.ensures ∙ c.in-Some.is) in
     record {
-      limits = c.in_ok-shape.ensures.limits;
+      limits = c.in_ok-format.ensures.limits;
       log_long = omega (arith, c.in_ok-check_lengths.ensures.fit.0);
       data_long = omega (arith, c.in_ok-check_lengths.ensures.fit.1);
       aligned = bounds.0;
@@ -72,12 +76,13 @@ returns-in-None-clause-cause g c =
     let log = g.L.Sectors.seen c.args.log.now in
     let device = g.D.Sectors.seen c.args.device.now in
     let header = c.read.new.out in
-    let shape = c.in_ok-shape.shape in
+    let format = c.in_ok-format.format in
+    let shape = c.in_ok-format.shape in
     let of = header-of log.tells log.size header c.len-log_len.ensures.told c.in-Ok.ensures.step.bytes in
     let other = sized device.tells device.size c.len.ensures.told in
-    let head = c.in_ok-shape.ensures.head in
-    let newest = sym c.newest_in.ensures ∙ c.in-None.is in
-    checkpoint-cause log.tells device.tells log.size device.size header shape of other
+    let head = c.in_ok-format.ensures.head in
+    let newest = ap (λ (layout : Layout). newest_checkpoint layout header) (sym c.layout_of.ensures.is) ∙ sym c.newest_in.ensures ∙ c.in-None.is in
+    checkpoint-cause log.tells device.tells log.size device.size header format shape of other
     (record { long = omega arith; head = head; log_long = omega (arith, c.in_ok-check_lengths.ensures.fit.0); data_long = omega (arith, c.in_ok-check_lengths.ensures.fit.1) }) newest
 
 pub returns-then-log_len-lt-HEADER_BYTES-clause-reads : goal.returns-then-log_len-lt-HEADER_BYTES-clause-reads
@@ -86,18 +91,18 @@ returns-then-log_len-lt-HEADER_BYTES-clause-reads g c = log-short c.args.log.now
 pub returns-in-Err-clause-reads : goal.returns-in-Err-clause-reads
 returns-in-Err-clause-reads g c = log-fault _ _ c.in-Err.error _ c.log_fault.ensures (log-one _ _ _ _ _ _ _ c.in-Err.ensures.step c.in-Err.ensures.gives)
 
-pub returns-in_err-shape-clause-reads : goal.returns-in_err-shape-clause-reads
-returns-in_err-shape-clause-reads g c =
-    let fault = c.in_err-shape.field-0.0 in
+pub returns-in_err-format-clause-reads : goal.returns-in_err-format-clause-reads
+returns-in_err-format-clause-reads g c =
+    let fault = c.in_err-format.field-0.0 in
     let p = err_from_is_err_and c.from_residual.result c.from_residual.ensures.1 in
-    rw (p.1, p.2) (log-own _ _ (log_error fault) (head-own c.read.new.out fault c.in_err-shape.ensures.fault).0
+    rw (p.1, p.2) (log-own _ _ (log_error fault) (head-own c.read.new.out fault c.in_err-format.ensures.fault).0
     (log-one _ _ _ _ _ _ _ c.in-Ok.ensures.step c.in-Ok.ensures.gives))
 
 pub returns-in_err-check_lengths-clause-reads : goal.returns-in_err-check_lengths-clause-reads
 returns-in_err-check_lengths-clause-reads g c =
     let fault = c.in_err-check_lengths.field-0.0 in
     let p = err_from_is_err_and c.from_residual-in_err-check_lengths.result c.from_residual-in_err-check_lengths.ensures.1 in
-    rw (p.1, p.2) (log-own _ _ (log_error fault) (length-own c.in_ok-shape.shape _ _ fault c.in_err-check_lengths.ensures.fault).0
+    rw (p.1, p.2) (log-own _ _ (log_error fault) (length-own c.in_ok-format.shape _ _ fault c.in_err-check_lengths.ensures.fault).0
     (log-one _ _ _ _ _ _ _ c.in-Ok.ensures.step c.in-Ok.ensures.gives))
 
 pub returns-in-Some-clause-reads : goal.returns-in-Some-clause-reads
@@ -109,12 +114,12 @@ returns-in-None-clause-reads g c = log-one _ _ _ _ _ _ _ c.in-Ok.ensures.step c.
 pub returns-in-Err-clause-apart : goal.returns-in-Err-clause-apart
 returns-in-Err-clause-apart g c = subst (λ (f : RecFault). MayBeOwn (data_error f)) (sym c.log_fault.ensures) (log-apart c.in-Err.error)
 
-pub returns-in_err-shape-clause-apart : goal.returns-in_err-shape-clause-apart
-returns-in_err-shape-clause-apart g c =
-    let fault = c.in_err-shape.field-0.0 in
-    let own : MayBeOwn (data_error fault) = (head-own c.read.new.out fault c.in_err-shape.ensures.fault).1 in search rules
+pub returns-in_err-format-clause-apart : goal.returns-in_err-format-clause-apart
+returns-in_err-format-clause-apart g c =
+    let fault = c.in_err-format.field-0.0 in
+    let own : MayBeOwn (data_error fault) = (head-own c.read.new.out fault c.in_err-format.ensures.fault).1 in search rules
 
 pub returns-in_err-check_lengths-clause-apart : goal.returns-in_err-check_lengths-clause-apart
 returns-in_err-check_lengths-clause-apart g c =
     let fault = c.in_err-check_lengths.field-0.0 in
-    let own : MayBeOwn (data_error fault) = (length-own c.in_ok-shape.shape _ _ fault c.in_err-check_lengths.ensures.fault).1 in search rules
+    let own : MayBeOwn (data_error fault) = (length-own c.in_ok-format.shape _ _ fault c.in_err-check_lengths.ensures.fault).1 in search rules
