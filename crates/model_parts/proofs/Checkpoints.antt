@@ -1,26 +1,69 @@
--- A sync and a checkpoint keep what the device holds.
-use Rattle.std.proofs.Common.{◌≡◌, ◌≤◌, ◌+◌, ◌-◌, ◌*◌, ℕ, inl, inr, List, length, take, drop, Option, Some, refl, sym, ap, subst, ◌∙◌, ⊎_elim, arith}
+-- A sync and a checkpoint keep what a log device holds.
+use Rattle.std.proofs.Common.{◌≡◌, ◌&&◌, ◌==◌, ◌≤◌, ◌+◌, ◌-◌, ◌*◌, ◌%◌, ◌⊎◌, ℕ, inl, inr, false, cond, List, length, take, drop, Option, Some, None, refl, sym, ap, subst, ◌∙◌, ⊎_elim, arith}
+use Rattle.std.specs.Prelude.{nat_le, nat_lt}
 use Rattle.std.proofs.lemmas.List.{take_all}
 use Rattle.std.proofs.lemmas.Bool.Decides.{nat_tests}
+use Rattle.model_base.specs.{field}
+use Rattle.model_base.specs.declared.limits.TheConstants.{BLOCK_SIZE, LSN_LIMIT, START_LSN}
 use Rattle.model_base.specs.declared.shape.Shape.{Shape}
-use Rattle.model_log.specs.declared.group.Whole.{Whole}
-use Rattle.model_device.specs.{Adds, after_write, Covers, IsSectorWrite, sector, settled, synced, written, written_sector}
+use Rattle.model_device.specs.{after_write, Covers, IsSectorWrite, sector, synced, written, written_sector}
 use Rattle.model_device.specs.Disk.{Disk}
 use Rattle.model_device.specs.declared.write.Write.{Write}
-use Rattle.model_device.proofs.Images.{sector-after_write}
 use Rattle.model_device.proofs.Overwritten.{length-overwritten, part-overwritten_inside}
-use Rattle.model_log.specs.{checkpoint_text, Layout, layout_of, log_block, log_device_length, place_in, place_of, read_checkpoint, read_head, sector_of}
-use Rattle.model_log.specs.declared.head.Head.TheVariants.{Good}
+use Rattle.model_log.specs.declared.group.Whole.{Whole}
+use Rattle.model_log.specs.declared.layout.Layout.{Layout}
+use Rattle.model_log.specs.{checkpoint_text, fits_checksum, IsInRound, IsLayout, IsTailPlace, log_device_length, place_in, place_of, read_checkpoint, read_head, run_layout, sector_of}
 use Rattle.model_log.proofs.CheckpointRound.{checkpoint-reads_back}
+use Rattle.model_log.proofs.Layouts.{has-blocks}
+use Rattle.model_log.proofs.Places.{HasBlocks}
 use Rattle.model_parts.specs.declared.marks.LogMarks.{LogMarks}
-use Rattle.model_parts.specs.Marks.{MayBeNext, HasNextNumber, after_synced, after_checkpoint, after_asked}
-use Rattle.model_parts.specs.Held.{IsLogBlock, AreInOrder, other_place, IsBeside, LogHolds, IsWritten, IsLive}
-use Rattle.model_log.proofs.Places.{HasBlocks, sector-place, place-from}
-use Rattle.model_parts.proofs.Windows.{wider, round-on}
-use Rattle.model_parts.proofs.LogImages.{beside-kept, blocks-on, header-below, HoldsBlocks, place-cases, sector-log_block}
-use Rattle.model_log.specs.declared.layout.TheConstants.{HEADER_BYTES}
+use Rattle.model_parts.specs.declared.marks.TailMarks.{TailMarks}
+use Rattle.model_parts.specs.Held.{AreInOrder, HoldsTail, IsBeside, IsLive, IsPlace, IsTail, IsWritten, LogHoldsWith, MayStand, other_place}
+use Rattle.model_parts.specs.Marks.{after_asked, after_checkpoint, after_synced, HasNextNumber, MayBeNext, tails_synced}
+use Rattle.model_parts.proofs.LogImages.{beside-kept, header-below, place-cases, places-on}
+use Rattle.model_parts.proofs.Puts.{adds-holds, HasToStay, place-past, place-wider, PutsWell, tail-wider}
+use Rattle.model_parts.proofs.Torn.{AddsTorn, synced-stands}
+use Rattle.model_parts.proofs.Writing.{stays}
+use Rattle.std.proofs.lemmas.List.Elements.{All-nil}
 
 -- A SYNC.
+
+-- a device with no write since a good sync holds what reads give, and the written mark is kept
+settled-holds : (shape : Shape) (s : ℕ) (wholes : List Whole) (marks : LogMarks) (tails : TailMarks) (disk : Disk) → AreInOrder (run_layout shape) s wholes marks
+    → IsWritten shape s wholes marks tails disk → LogHoldsWith shape s wholes marks (tails_synced marks.written tails) (synced disk)
+settled-holds shape s wholes marks tails disk order is =
+    let only : (k : ℕ) (bytes : List ℕ) → MayStand (synced disk) k bytes → bytes ≡ sector k disk.reads = λ k bytes may. synced-stands disk k bytes may in
+    record {
+      long = is.long;
+      sectors = All-nil (IsSectorWrite (length disk.reads));
+      heads = λ k at bytes may. ap read_head (only k bytes may) ∙ is.heads k at;
+      order = order;
+      kept = record { boundary = order.written; from = order.stable_written; up_to = omega arith; place = is.place };
+      blocks = λ b in_round bytes may. subst (λ (x : List ℕ). IsPlace s wholes marks.written marks.given b x) (sym (only (sector_of (run_layout shape) b) bytes may))
+          (place-wider s wholes marks.written marks.written marks.written marks.given b (sector (sector_of (run_layout shape) b) disk.reads) (omega arith) order.written_given (is.blocks b in_round));
+      tail_blocks = λ k at bytes may. subst (λ (x : List ℕ). IsTail s wholes marks.given marks.ckpt x) (sym (only k bytes may))
+          (tail-wider s wholes marks.written marks.given marks.ckpt marks.ckpt (sector k disk.reads) order.written_given (omega arith) (is.tail_blocks k at));
+      kept_tail = λ bytes may. subst (λ (x : List ℕ). HoldsTail s wholes marks.written x) (sym (only tails.newest bytes may)) is.newest_tail;
+      checkpoint = λ bytes may. ap (read_checkpoint (place_of marks.number) (run_layout shape)) (only (place_of marks.number) bytes may) ∙ is.checkpoint;
+      beside = λ bytes may. subst (λ (x : List ℕ). IsBeside marks (read_checkpoint (other_place marks.number) (run_layout shape) x)) (sym (only (other_place marks.number) bytes may)) is.beside;
+    }
+
+settled-live : (shape : Shape) (s : ℕ) (wholes : List Whole) (marks : LogMarks) (tails : TailMarks) (disk : Disk) → AreInOrder (run_layout shape) s wholes marks
+    → IsWritten shape s wholes marks tails disk → IsLive shape s wholes marks (tails_synced marks.written tails) (synced disk)
+settled-live shape s wholes marks tails disk order is = record {
+  holds = settled-holds shape s wholes marks tails disk order is;
+  is_written = record {
+    long = is.long;
+    heads = is.heads;
+    all_given = is.all_given;
+    place = is.place;
+    blocks = is.blocks;
+    tail_blocks = is.tail_blocks;
+    newest_tail = is.newest_tail;
+    checkpoint = is.checkpoint;
+    beside = is.beside;
+  };
+}
 
 in_order-synced : (layout : Layout) (s : ℕ) (wholes : List Whole) (marks : LogMarks) → AreInOrder layout s wholes marks → AreInOrder layout s wholes (after_synced marks)
 in_order-synced layout s wholes marks order = record {
@@ -39,34 +82,22 @@ in_order-synced layout s wholes marks order = record {
   room = order.room;
 }
 
--- a device with no write since a good sync holds what reads give
-settled-holds : (shape : Shape) (s : ℕ) (wholes : List Whole) (marks : LogMarks) (reads : List ℕ) → log_device_length shape ≤ length reads → read_head (sector 0 reads) ≡ Good shape → AreInOrder (layout_of shape) s wholes marks
-    → HoldsBlocks shape s wholes marks.stable marks.given marks.ckpt reads
-    → read_checkpoint (place_of marks.number) shape (sector (place_of marks.number) reads) ≡ Some (marks.number, marks.ckpt)
-    → IsBeside marks (read_checkpoint (other_place marks.number) shape (sector (other_place marks.number) reads))
-    → LogHolds shape s wholes marks (settled reads)
-settled-holds shape s wholes marks reads long head order blocks checkpoint beside = record {
-  long = long;
-  head = λ bytes is. ⊎_elim (λ same. ap read_head same ∙ head) (λ none. absurd none) is;
-  order = order;
-  blocks = λ b in_round bytes is. ⊎_elim
-      (λ same. subst (λ (x : List ℕ). IsLogBlock s wholes marks.stable marks.given b x) (sym (same ∙ sector-log_block shape b reads in_round.aligned)) (blocks b in_round))
-      (λ none. absurd none) is;
-  checkpoint = λ bytes is. ⊎_elim (λ same. ap (read_checkpoint (place_of marks.number) shape) same ∙ checkpoint) (λ none. absurd none) is;
-  beside = λ bytes is. ⊎_elim (λ same. subst (λ (x : List ℕ). IsBeside marks (read_checkpoint (other_place marks.number) shape x)) (sym same) beside) (λ none. absurd none) is;
-}
-
-pub synced-holds : (shape : Shape) (s : ℕ) (wholes : List Whole) (marks : LogMarks) (disk : Disk) → AreInOrder (layout_of shape) s wholes marks
-    → IsWritten shape s wholes marks disk → IsLive shape s wholes (after_synced marks) (synced disk)
-synced-holds shape s wholes marks disk order is =
-    let beside : IsBeside (after_synced marks) (read_checkpoint (other_place marks.number) shape (sector (other_place marks.number) disk.reads)) =
-    beside-kept marks (after_synced marks) refl refl (omega arith) (read_checkpoint (other_place marks.number) shape (sector (other_place marks.number) disk.reads)) is.beside in
-    record {
-      holds = settled-holds shape s wholes (after_synced marks) disk.reads is.long is.head (in_order-synced (layout_of shape) s wholes marks order)
-          (λ b in_round. wider s wholes marks.written marks.written marks.written marks.given b (log_block shape b disk.reads) (omega arith) order.written_given (is.blocks b in_round))
-          is.checkpoint beside;
-      is_written = record { long = is.long; head = is.head; all_given = is.all_given; blocks = is.blocks; checkpoint = is.checkpoint; beside = beside };
-    }
+-- a good sync
+pub synced-live : (shape : Shape) (s : ℕ) (wholes : List Whole) (marks : LogMarks) (tails : TailMarks) (disk : Disk) → IsLive shape s wholes marks tails disk
+    → IsLive shape s wholes (after_synced marks) (tails_synced marks.written tails) (synced disk)
+synced-live shape s wholes marks tails disk live =
+    let is : IsWritten shape s wholes marks tails disk = live.is_written in
+    settled-live shape s wholes (after_synced marks) tails disk (in_order-synced (run_layout shape) s wholes marks live.holds.order) (record {
+      long = is.long;
+      heads = is.heads;
+      all_given = is.all_given;
+      place = is.place;
+      blocks = is.blocks;
+      tail_blocks = is.tail_blocks;
+      newest_tail = is.newest_tail;
+      checkpoint = is.checkpoint;
+      beside = beside-kept marks (after_synced marks) refl refl (omega arith) (read_checkpoint (other_place marks.number) (run_layout shape) (sector (other_place marks.number) disk.reads)) is.beside;
+    })
 
 -- A CHECKPOINT.
 
@@ -84,6 +115,13 @@ sector-text k text write writes =
     let skip : 512 * k - write.at ≡ 0 = omega (arith, writes.at_place) in
     ap (λ n. take 512 (drop n write.bytes)) skip ∙ ap (take 512) writes.bytes ∙ take_all 512 text (omega (arith, writes.long))
 
+sector-sectors : (k n : ℕ) (text : List ℕ) (write : Write) → WritesSector k text write → 512 * k + 512 ≤ n → IsSectorWrite n write
+sector-sectors k n text write writes within = record {
+  aligned = omega (arith, writes.at_place);
+  whole = omega (arith, ap length writes.bytes, writes.long);
+  within = omega (arith, ap length writes.bytes, writes.long, writes.at_place);
+}
+
 pub next-place : (number : ℕ) → place_of (number + 1) ≡ other_place number
 next-place number = grind (arith, nat_tests)
 
@@ -93,11 +131,23 @@ next-other number = grind (arith, nat_tests)
 places-differ : (number : ℕ) → place_of number ≡ other_place number → ⊥
 places-differ number same = ⊎_elim (λ e. omega (arith, e.0, e.1)) (λ o. omega (arith, o.0, o.1)) (place-cases number)
 
-next-read : (shape : Shape) (marks : LogMarks) (lsn : ℕ) → 8192 ≤ lsn → MayBeNext marks lsn → HasNextNumber marks
-    → read_checkpoint (other_place marks.number) shape (checkpoint_text (marks.number + 1) lsn shape) ≡ Some (marks.number + 1, lsn)
-next-read shape marks lsn started next small =
-    ap (λ k. read_checkpoint k shape (checkpoint_text (marks.number + 1) lsn shape)) (sym (next-place marks.number))
-    ∙ checkpoint-reads_back (marks.number + 1) lsn shape small started next.small next.aligned
+other-odd : (number : ℕ) → (other_place number ≡ 1) ⊎ (other_place number ≡ 3)
+other-odd number = ⊎_elim (λ e. inr e.1) (λ o. inl o.1) (place-cases number)
+
+next-read : (layout : Layout) (marks : LogMarks) (lsn : ℕ) → IsLayout layout → 8192 ≤ lsn → MayBeNext marks lsn → HasNextNumber marks
+    → read_checkpoint (other_place marks.number) layout (checkpoint_text (marks.number + 1) lsn layout) ≡ Some (marks.number + 1, lsn)
+next-read layout marks lsn is_layout started next small =
+    ap (λ k. read_checkpoint k layout (checkpoint_text (marks.number + 1) lsn layout)) (sym (next-place marks.number))
+    ∙ checkpoint-reads_back (marks.number + 1) lsn layout is_layout small started next.small next.aligned
+
+-- no checkpoint passes whose checksum doesn't fit
+broken-checkpoint : (which : ℕ) (layout : Layout) (bytes : List ℕ) → fits_checksum bytes ≡ false → read_checkpoint which layout bytes ≡ None
+unfolding read_checkpoint
+broken-checkpoint which layout bytes broken =
+    ap (λ t. cond t (Some (field 8 0 bytes, field 8 8 bytes)) None)
+    (ap (λ t. t && place_of (field 8 0 bytes) == which
+    && field 8 8 bytes % BLOCK_SIZE == 0 && nat_le START_LSN (field 8 8 bytes) && nat_lt (field 8 8 bytes) LSN_LIMIT
+    && field 8 16 bytes == place_in layout (field 8 8 bytes)) broken)
 
 in_order-asked : (layout : Layout) (s : ℕ) (wholes : List Whole) (marks : LogMarks) (lsn : ℕ) → AreInOrder layout s wholes marks → MayBeNext marks lsn
     → AreInOrder layout s wholes (after_asked lsn marks)
@@ -117,37 +167,56 @@ in_order-asked layout s wholes marks lsn order next = record {
   room = order.room;
 }
 
+-- the write of a checkpoint covers no sector but its own
+no-other : (number j : ℕ) → (j ≡ 0) ⊎ (j ≡ 2) ⊎ (4 ≤ j) → j ≡ other_place number → ⊥
+no-other number j is same =
+    ⊎_elim (λ o. ⊎_elim (λ a. omega arith) (λ r. ⊎_elim (λ b. omega arith) (λ c. omega arith) r) is)
+    (λ t. ⊎_elim (λ a. omega arith) (λ r. ⊎_elim (λ b. omega arith) (λ c. omega arith) r) is) (other-odd number)
+
+spared : (marks : LogMarks) (tails : TailMarks) (j : ℕ) → IsTailPlace tails.tail → HasToStay marks tails j → j ≡ other_place marks.number → ⊥
+spared marks tails j place is same =
+    ⊎_elim (λ head. no-other marks.number j (⊎_elim (λ a. inl a) (λ b. inr (inl b)) head) same)
+    (λ q. ⊎_elim (λ own. places-differ marks.number (sym own ∙ same))
+    (λ tail. no-other marks.number j (inr (inr (⊎_elim (λ e. omega arith) (λ o. omega arith) place))) same) q) is
+
+-- what it leaves beside the newest good one, whole or torn
+asked-beside : (layout : Layout) (marks : LogMarks) (lsn : ℕ) (text bytes : List ℕ) → marks.ckpt ≤ lsn → MayBeNext marks lsn
+    → read_checkpoint (other_place marks.number) layout text ≡ Some (marks.number + 1, lsn) → (bytes ≡ text) ⊎ (fits_checksum bytes ≡ false)
+    → IsBeside (after_asked lsn marks) (read_checkpoint (other_place marks.number) layout bytes)
+asked-beside layout marks lsn text bytes later next reads is =
+    ⊎_elim
+    (λ whole.
+    let found : read_checkpoint (other_place marks.number) layout bytes ≡ Some (marks.number + 1, lsn) = ap (read_checkpoint (other_place marks.number) layout) whole ∙ reads in
+    subst (λ (found : Option (ℕ × ℕ)). IsBeside (after_asked lsn marks) found) (sym found) (inr (record { next = refl; from = later; up_to = omega arith; aligned = next.aligned })))
+    (λ broken. subst (λ (found : Option (ℕ × ℕ)). IsBeside (after_asked lsn marks) found) (sym (broken-checkpoint (other_place marks.number) layout bytes broken)) tt) is
+
 -- its write, Ok or not, and a sync of it that fails, keep what holds
-pub checkpoint-holds : (shape : Shape) (s : ℕ) (wholes : List Whole) (marks : LogMarks) (old new : Disk) (lsn : ℕ) (write : Write)
-    → LogHolds shape s wholes marks old → MayBeNext marks lsn → HasNextNumber marks → WritesSector (other_place marks.number) (checkpoint_text (marks.number + 1) lsn shape) write
-    → Adds write old new → LogHolds shape s wholes (after_asked lsn marks) new
-checkpoint-holds shape s wholes marks old new lsn write holds next small writes adds =
-    let order : AreInOrder (layout_of shape) s wholes marks = holds.order in
-    let behind : marks.ckpt ≤ lsn = omega (arith, order.ckpt_asked, next.from) in
+pub checkpoint-adds : (shape : Shape) (s : ℕ) (wholes : List Whole) (marks : LogMarks) (tails : TailMarks) (old new : Disk) (lsn : ℕ) (write : Write) → IsLayout (run_layout shape)
+    → LogHoldsWith shape s wholes marks tails old → MayBeNext marks lsn → HasNextNumber marks
+    → WritesSector (other_place marks.number) (checkpoint_text (marks.number + 1) lsn (run_layout shape)) write
+    → AddsTorn write old new → LogHoldsWith shape s wholes (after_asked lsn marks) tails new
+checkpoint-adds shape s wholes marks tails old new lsn write is_layout holds next small writes adds =
+    let order : AreInOrder (run_layout shape) s wholes marks = holds.order in
+    let later : marks.ckpt ≤ lsn = omega (arith, order.ckpt_asked, next.from) in
     let k : ℕ = other_place marks.number in
-    let text : List ℕ = checkpoint_text (marks.number + 1) lsn shape in
+    let text : List ℕ = checkpoint_text (marks.number + 1) lsn (run_layout shape) in
+    let only : (j : ℕ) → Covers write j → j ≡ k = λ j covers. only-sector k j text write writes covers in
+    let blocks : HasBlocks (run_layout shape) = has-blocks (run_layout shape) is_layout in
     let limits = header-below marks.number in
-    record {
-      long = omega (arith, holds.long, adds.same_length);
-      head = λ bytes is. ⊎_elim (λ before. holds.head bytes before)
-          (λ here. let same : 0 ≡ k = only-sector k 0 text write writes here.0 in absurd (omega (arith, limits.3))) (adds.each 0 bytes is);
-      order = in_order-asked (layout_of shape) s wholes marks lsn order next;
-      blocks = λ b in_round bytes is. ⊎_elim (λ before. holds.blocks b in_round bytes before)
-          (λ here.
-          let same : sector_of (layout_of shape) b ≡ k = only-sector k (sector_of (layout_of shape) b) text write writes here.0 in
-          let place : 512 * sector_of (layout_of shape) b ≡ place_in (layout_of shape) b = sector-place (layout_of shape) b in
-          let low : HEADER_BYTES ≤ place_in (layout_of shape) b = place-from (layout_of shape) b in
-          absurd (omega (arith, limits.1))) (adds.each (sector_of (layout_of shape) b) bytes is);
-      checkpoint = λ bytes is. ⊎_elim (λ before. holds.checkpoint bytes before)
-          (λ here. absurd (places-differ marks.number (only-sector k (place_of marks.number) text write writes here.0)))
-          (adds.each (place_of marks.number) bytes is);
-      beside = λ bytes is. ⊎_elim (λ before. beside-kept marks (after_asked lsn marks) refl refl next.from (read_checkpoint k shape bytes) (holds.beside bytes before))
-          (λ here.
-          let reads : read_checkpoint k shape bytes ≡ Some (marks.number + 1, lsn) =
-          ap (read_checkpoint k shape) (here.1 ∙ sector-text k text write writes) ∙ next-read shape marks lsn (omega (arith, order.ckpt_started)) next small in
-          subst (λ (found : Option (ℕ × ℕ)). IsBeside (after_asked lsn marks) found) (sym reads) (inr (record { next = refl; from = behind; up_to = omega arith; aligned = next.aligned })))
-          (adds.each k bytes is);
-    }
+    let puts : PutsWell shape s wholes (after_asked lsn marks) tails write = record {
+      sectors = sector-sectors k (log_device_length shape) text write writes (omega (arith, limits.1, blocks.some));
+      spares = λ j is covers. spared marks tails j holds.kept.place is (only j covers);
+      blocks = λ b in_round covers bytes is. (
+          let past : 6 ≤ sector_of (run_layout shape) b = place-past shape b in
+          absurd (no-other marks.number (sector_of (run_layout shape) b) (inr (inr (omega arith))) (only (sector_of (run_layout shape) b) covers)));
+      tail_blocks = λ j at covers bytes is. absurd (no-other marks.number j (inr (inr (⊎_elim (λ e. omega arith) (λ o. omega arith) at))) (only j covers));
+      beside = λ covers bytes is. asked-beside (run_layout shape) marks lsn text bytes later next
+          (next-read (run_layout shape) marks lsn is_layout (omega (arith, order.ckpt_started)) next small)
+          (⊎_elim (λ whole. inl (whole ∙ sector-text k text write writes)) (λ broken. inr broken) is);
+    } in
+    adds-holds shape s wholes marks (after_asked lsn marks) tails old new write holds
+    (record { same_stable = refl; same_written = refl; same_number = refl; same_ckpt = refl; given = omega arith; asked = next.from })
+    (in_order-asked (run_layout shape) s wholes marks lsn order next) puts adds
 
 in_order-checkpoint : (layout : Layout) (s : ℕ) (wholes : List Whole) (marks : LogMarks) (lsn : ℕ) → AreInOrder layout s wholes marks → MayBeNext marks lsn
     → AreInOrder layout s wholes (after_checkpoint (marks.number + 1) lsn marks)
@@ -167,52 +236,47 @@ in_order-checkpoint layout s wholes marks lsn order next = record {
   room = omega (arith, order.room, order.ckpt_asked, next.from);
 }
 
--- after its write and its sync, both good
-pub checkpointed-holds : (shape : Shape) (s : ℕ) (wholes : List Whole) (marks : LogMarks) (disk : Disk) (lsn : ℕ) (write : Write) → HasBlocks (layout_of shape)
-    → AreInOrder (layout_of shape) s wholes marks → IsWritten shape s wholes marks disk → MayBeNext marks lsn → HasNextNumber marks
-    → WritesSector (other_place marks.number) (checkpoint_text (marks.number + 1) lsn shape) write
-    → IsLive shape s wholes (after_checkpoint (marks.number + 1) lsn marks) (synced (written disk write))
-checkpointed-holds shape s wholes marks disk lsn write blocks order is next small writes =
-    let behind : marks.ckpt ≤ lsn = omega (arith, order.ckpt_asked, next.from) in
+-- its write and its sync, both good
+pub checkpointed-live : (shape : Shape) (s : ℕ) (wholes : List Whole) (marks : LogMarks) (tails : TailMarks) (disk : Disk) (lsn : ℕ) (write : Write) → IsLayout (run_layout shape)
+    → IsLive shape s wholes marks tails disk → MayBeNext marks lsn → HasNextNumber marks
+    → WritesSector (other_place marks.number) (checkpoint_text (marks.number + 1) lsn (run_layout shape)) write
+    → IsLive shape s wholes (after_checkpoint (marks.number + 1) lsn marks) (tails_synced marks.written tails) (synced (written disk write))
+checkpointed-live shape s wholes marks tails disk lsn write is_layout live next small writes =
+    let is : IsWritten shape s wholes marks tails disk = live.is_written in
+    let order : AreInOrder (run_layout shape) s wholes marks = live.holds.order in
+    let later : marks.ckpt ≤ lsn = omega (arith, order.ckpt_asked, next.from) in
+    let blocks : HasBlocks (run_layout shape) = has-blocks (run_layout shape) is_layout in
     let long : log_device_length shape ≤ length disk.reads = is.long in
     let k : ℕ = other_place marks.number in
-    let text : List ℕ = checkpoint_text (marks.number + 1) lsn shape in
+    let text : List ℕ = checkpoint_text (marks.number + 1) lsn (run_layout shape) in
     let limits = header-below marks.number in
     let reads : List ℕ = after_write disk.reads write in
-    let sectors : IsSectorWrite (length disk.reads) write = record {
-      aligned = omega (arith, writes.at_place);
-      whole = omega (arith, ap length writes.bytes, writes.long);
-      within = omega (arith, ap length writes.bytes, writes.long, writes.at_place, limits.1);
-    } in
-    let same_long : log_device_length shape ≤ length reads = omega (arith, length-overwritten write.at write.bytes disk.reads sectors.within) in
+    let sectors : IsSectorWrite (length disk.reads) write = sector-sectors k (length disk.reads) text write writes (omega (arith, limits.1, blocks.some)) in
     let kept : (j : ℕ) → (j ≡ k → ⊥) → sector j reads ≡ sector j disk.reads = λ j other.
-    ⊎_elim (λ new. absurd (other (only-sector k j text write writes new.0))) (λ same. same) (sector-after_write disk.reads write j sectors) in
-    let head : read_head (sector 0 reads) ≡ Good shape = ap read_head (kept 0 (λ same. omega (arith, limits.3))) ∙ is.head in
+    stays disk.reads write j sectors (λ covers. other (only-sector k j text write writes covers)) in
+    let past : (j : ℕ) → 4 ≤ j → sector j reads ≡ sector j disk.reads = λ j far. kept j (λ same. no-other marks.number j (inr (inr far)) same) in
     let put : sector k reads ≡ text =
     part-overwritten_inside 512 (512 * k) write.at write.bytes disk.reads (omega (arith, writes.at_place)) (omega (arith, ap length writes.bytes, writes.long, writes.at_place)) sectors.within
     ∙ sector-text k text write writes in
-    let own : read_checkpoint k shape (sector k reads) ≡ Some (marks.number + 1, lsn) =
-    ap (read_checkpoint k shape) put ∙ next-read shape marks lsn (omega (arith, order.ckpt_started)) next small in
-    let checkpoint : read_checkpoint (place_of (marks.number + 1)) shape (sector (place_of (marks.number + 1)) reads) ≡ Some (marks.number + 1, lsn) =
-    ap (λ j. read_checkpoint j shape (sector j reads)) (next-place marks.number) ∙ own in
-    let older : read_checkpoint (other_place (marks.number + 1)) shape (sector (other_place (marks.number + 1)) reads) ≡ Some (marks.number, marks.ckpt) =
-    ap (λ j. read_checkpoint j shape (sector j reads)) (next-other marks.number)
-    ∙ ap (read_checkpoint (place_of marks.number) shape) (kept (place_of marks.number) (λ same. places-differ marks.number same)) ∙ is.checkpoint in
-    let beside : IsBeside (after_checkpoint (marks.number + 1) lsn marks) (read_checkpoint (other_place (marks.number + 1)) shape (sector (other_place (marks.number + 1)) reads)) =
-    subst (λ (found : Option (ℕ × ℕ)). IsBeside (after_checkpoint (marks.number + 1) lsn marks) found) (sym older) (inl (omega arith)) in
-    let same_blocks : HoldsBlocks shape s wholes marks.written marks.written marks.ckpt reads = λ b in_round.
-    let place : 512 * sector_of (layout_of shape) b ≡ place_in (layout_of shape) b = sector-place (layout_of shape) b in
-    let low : HEADER_BYTES ≤ place_in (layout_of shape) b = place-from (layout_of shape) b in
-    let same : log_block shape b reads ≡ log_block shape b disk.reads =
-    sym (sector-log_block shape b reads in_round.aligned) ∙ kept (sector_of (layout_of shape) b) (λ same. omega (arith, limits.1)) ∙ sector-log_block shape b disk.reads in_round.aligned in
-    subst (λ (x : List ℕ). IsLogBlock s wholes marks.written marks.written b x) (sym same) (is.blocks b in_round) in
-    let moved : HoldsBlocks shape s wholes marks.written marks.written lsn reads =
-    blocks-on shape s wholes marks.written marks.written marks.ckpt lsn reads blocks order.ckpt_started
-    (λ b aligned below within in_round. inr (round-on (layout_of shape) s wholes marks.written marks.written b (log_block shape b reads) blocks below within (same_blocks b in_round)))
-    behind order.ckpt_aligned next.aligned (omega (arith, next.up_to, order.stable_written)) (omega (arith, order.written_given, order.room)) same_blocks in
-    record {
-      holds = settled-holds shape s wholes (after_checkpoint (marks.number + 1) lsn marks) reads same_long head (in_order-checkpoint (layout_of shape) s wholes marks lsn order next)
-          (λ b in_round. wider s wholes marks.written marks.written marks.stable marks.given b (log_block shape b reads) order.stable_written order.written_given (moved b in_round))
-          checkpoint beside;
-      is_written = record { long = same_long; head = head; all_given = is.all_given; blocks = moved; checkpoint = checkpoint; beside = beside };
-    }
+    let own : read_checkpoint k (run_layout shape) (sector k reads) ≡ Some (marks.number + 1, lsn) =
+    ap (read_checkpoint k (run_layout shape)) put ∙ next-read (run_layout shape) marks lsn is_layout (omega (arith, order.ckpt_started)) next small in
+    let older : read_checkpoint (other_place (marks.number + 1)) (run_layout shape) (sector (other_place (marks.number + 1)) reads) ≡ Some (marks.number, marks.ckpt) =
+    ap (λ j. read_checkpoint j (run_layout shape) (sector j reads)) (next-other marks.number)
+    ∙ ap (read_checkpoint (place_of marks.number) (run_layout shape)) (kept (place_of marks.number) (λ same. places-differ marks.number same)) ∙ is.checkpoint in
+    let places : (b : ℕ) → IsInRound (run_layout shape) lsn b → IsPlace s wholes marks.written marks.written b (sector (sector_of (run_layout shape) b) disk.reads) =
+    places-on (run_layout shape) s wholes marks marks.written marks.written lsn (λ j. sector j disk.reads) blocks order order.stable_written
+    (omega (arith, order.written_given, order.room)) next.aligned later next.up_to is.blocks in
+    settled-live shape s wholes (after_checkpoint (marks.number + 1) lsn marks) tails (written disk write) (in_order-checkpoint (run_layout shape) s wholes marks lsn order next) (record {
+      long = omega (arith, length-overwritten write.at write.bytes disk.reads sectors.within);
+      heads = λ j at. ap read_head (kept j (λ same. no-other marks.number j (⊎_elim (λ a. inl a) (λ b. inr (inl b)) at) same)) ∙ is.heads j at;
+      all_given = is.all_given;
+      place = is.place;
+      blocks = λ b in_round. (
+          let low : 6 ≤ sector_of (run_layout shape) b = place-past shape b in
+          subst (λ (x : List ℕ). IsPlace s wholes marks.written marks.written b x) (sym (past (sector_of (run_layout shape) b) (omega arith))) (places b in_round));
+      tail_blocks = λ j at. subst (λ (x : List ℕ). IsTail s wholes marks.written lsn x) (sym (past j (⊎_elim (λ e. omega arith) (λ o. omega arith) at)))
+          (tail-wider s wholes marks.written marks.written marks.ckpt lsn (sector j disk.reads) (omega arith) later (is.tail_blocks j at));
+      newest_tail = subst (λ (x : List ℕ). HoldsTail s wholes marks.written x) (sym (past tails.newest (⊎_elim (λ e. omega arith) (λ o. omega arith) is.place))) is.newest_tail;
+      checkpoint = ap (λ j. read_checkpoint j (run_layout shape) (sector j reads)) (next-place marks.number) ∙ own;
+      beside = subst (λ (found : Option (ℕ × ℕ)). IsBeside (after_checkpoint (marks.number + 1) lsn marks) found) (sym older) (inl (omega arith));
+    })

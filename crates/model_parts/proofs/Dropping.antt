@@ -201,21 +201,18 @@ stays-or-not n most ckpt start i old new up_to below place drops =
 -- THE LAW.
 
 -- all blocks that were read stay
-whole-scan : (shape : Shape) (most ckpt : ℕ) (views : List BlockView) (wholes : List Whole) (end : ℕ) (old new : Source) → IsScan shape most old ckpt views wholes end
+pub whole-scan : (shape : Shape) (most ckpt : ℕ) (views : List BlockView) (wholes : List Whole) (end : ℕ) (old new : Source) → IsScan shape most old ckpt views wholes end
     → ((i : ℕ) → i < length views → new (lsn_at ckpt i) ≡ old (lsn_at ckpt i))
     → (length views < most → (new (lsn_at ckpt (length views)) ≡ old (lsn_at ckpt (length views))) ⊎ (view_at new (lsn_at ckpt (length views)) ≡ None))
-    → Rescans shape most ckpt wholes end new
+    → IsScan shape most new ckpt views wholes end
 whole-scan shape most ckpt views wholes end old new scan same next = record {
-  views = views;
-  scan = record {
-    blocks = record {
-      few = scan.blocks.few;
-      each = λ i view at. same-view old new (lsn_at ckpt i) (same i (within-list views i view at)) ∙ scan.blocks.each i view at;
-      full = scan.blocks.full;
-      last = stay-last most old new ckpt views next scan.blocks.few scan.blocks.last;
-    };
-    groups = same-groups shape old new ckpt views (groups_start ckpt views) wholes end (same-joined old new ckpt views same) scan.groups;
+  blocks = record {
+    few = scan.blocks.few;
+    each = λ i view at. same-view old new (lsn_at ckpt i) (same i (within-list views i view at)) ∙ scan.blocks.each i view at;
+    full = scan.blocks.full;
+    last = stay-last most old new ckpt views next scan.blocks.few scan.blocks.last;
   };
+  groups = same-groups shape old new ckpt views (groups_start ckpt views) wholes end (same-joined old new ckpt views same) scan.groups;
 }
 
 -- so many full blocks in front stay, among which the log ends, and the next one is gone
@@ -265,7 +262,7 @@ stays-scan : (shape : Shape) (most ckpt k : ℕ) (views : List BlockView) (whole
     → Rescans shape most ckpt wholes end new
 stays-scan shape most ckpt k views wholes end old new sound aligned scan ends stays reaches next =
     ⊎_elim
-    (λ all. whole-scan shape most ckpt views wholes end old new scan (λ i below. stays.same i (omega arith)) next)
+    (λ all. record { views = views; scan = whole-scan shape most ckpt views wholes end old new scan (λ i below. stays.same i (omega arith)) next })
     (λ cut. front-scan shape most ckpt stays.m views wholes end old new sound aligned scan ends cut.0 (omega (arith, stays.low)) stays.same cut.1)
     stays.ends
 

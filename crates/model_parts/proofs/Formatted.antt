@@ -1,72 +1,105 @@
 -- What is read of a store that was just formatted.
-use Rattle.std.proofs.Common.{◌≡◌, ◌≤◌, ◌<◌, ◌+◌, ◌-◌, ◌*◌, ◌%◌, ◌&&◌, ◌==◌, ◌++◌, ℕ, zero, suc, inl, inr, Bool, true, false, cond, List, [], length, take, drop, replicate, Some, None, refl, sym, ap, ◌∙◌, ⊎_elim, arith, lit≤, lit<}
+use Rattle.std.proofs.Common.{◌≡◌, ◌≤◌, ◌<◌, ◌+◌, ◌-◌, ◌*◌, ◌++◌, ℕ, zero, suc, inl, inr, cond, List, [], length, take, drop, replicate, Some, None, refl, sym, ap, ◌∙◌, ⊎_elim, arith, lit≤, lit<}
 use Rattle.std.proofs.Math.Seq.{take-add}
 use Rattle.std.specs.List.{slice_get}
-use Rattle.std.specs.Prelude.{nat_le, nat_lt}
+use Rattle.std.proofs.lemmas.Bool.{cases_Bool}
 use Rattle.std.proofs.lemmas.List.{drop-take, take-take, length-replicate, replicate-append-replicate}
-use Rattle.model_base.specs.{after_bit, after_byte, after_eight_bits, crc_of, field, IsWithinLimits, register_after}
+use Rattle.model_base.specs.{IsWithinLimits}
 use Rattle.model_base.specs.declared.shape.Shape.{Shape}
-use Rattle.model_base.specs.declared.limits.TheConstants.{BLOCK_SIZE, START_LSN}
-use Rattle.model_parts.specs.Stored.{copied, IsOpened, IsUpTo}
-use Rattle.model_parts.proofs.Zeros.{zeros-opened}
-use Rattle.model_parts.proofs.Stretches.{stretch-piece}
+use Rattle.model_base.specs.declared.limits.TheConstants.{START_LSN}
 use Rattle.model_device.specs.{sector, settled}
 use Rattle.model_device.specs.Disk.{Disk}
-use Rattle.model_log.specs.{fits_checksum, header_block, layout_of, newer, newest_checkpoint, place_in, place_of, read_block, read_checkpoint, read_head}
-use Rattle.model_log.specs.declared.head.Head.TheVariants.{Unformatted}
-use Rattle.model_log.proofs.HeadRound.{head-reads_back}
+use Rattle.model_log.specs.{checkpoint_text, fits_checksum, head_of, head_text, IsLayout, log_block, log_device_length, newer, newest_checkpoint, place_in, read_block, read_checkpoint, read_head, ring_start, round_of, run_layout, sector_of}
+use Rattle.model_log.specs.declared.head.Format.TheVariants.{Two}
+use Rattle.model_log.specs.declared.head.Head.{Head}
+use Rattle.model_log.specs.declared.head.Head.TheVariants.{Good, Unformatted}
+use Rattle.model_log.specs.declared.layout.Layout.{Layout}
+use Rattle.model_log.specs.declared.layout.TheConstants.{HEADER_BYTES}
 use Rattle.model_log.proofs.CheckpointRound.{checkpoint-reads_back}
+use Rattle.model_log.proofs.HeadRound.{head-reads_back}
+use Rattle.model_log.proofs.Layouts.{has-blocks, is_layout_of}
+use Rattle.model_log.proofs.Places.{HasBlocks, place-from, place-within, sector-place}
 use Rattle.model_page.specs.{blank_page, copy_lsn, copy_lsn_by, data_device_length, IsInPlace, page_check, place_lsn_by, stretch_at, user_part}
 use Rattle.model_page.specs.declared.content.Content.{Content}
-use Rattle.model_store.specs.{HasDevices, IsOrderly, IsReading, IsReadPage, Refuses, taken}
+use Rattle.model_store.specs.{HasDevices, IsOrderly, IsReading, IsReadPage, IsUnused, Refuses, taken}
+use Rattle.model_store.specs.declared.refusal.Refusal.TheVariants.{NotFormatted}
 use Rattle.model_store.proofs.Sources.{empty-scan}
 use Rattle.model_store.proofs.Taking.{taken-none}
-use Rattle.model_store.specs.declared.refusal.Refusal.TheVariants.{NotFormatted}
-use Rattle.model_parts.specs.Cleared.{zero_block}
+use Rattle.model_parts.specs.Changes.{IsUnsealed}
+use Rattle.model_parts.specs.Formatted.{zero_block}
 use Rattle.model_parts.specs.Formatted.{IsFormattedLog, IsFormattedData, IsFormatted, formatted_store}
 use Rattle.model_parts.specs.Opened.{IsOpenable}
-use Rattle.model_parts.proofs.Unread.{zeros-unread}
-use Rattle.model_log.specs.declared.layout.TheConstants.{HEADER_BYTES}
+use Rattle.model_parts.specs.Stored.{copied, IsOpened, IsUpTo}
+use Rattle.model_parts.proofs.Stretches.{stretch-piece}
+use Rattle.model_parts.proofs.Unread.{unsealed-checkpoint, unsealed-head, unsealed-unread, zeros-unsealed}
+use Rattle.model_parts.proofs.Zeros.{zeros-opened}
 
--- A HEADER OF ZEROS is none.
+-- HEADER BLOCKS OF WHICH NOTHING IS READ are no header.
 
-zero-head : read_head zero_block ≡ Unformatted
-unfolding read_head crc_of register_after after_byte after_eight_bits after_bit
-zero-head = refl
+pub unsealed-refused : (log_bytes data_bytes : List ℕ) → HEADER_BYTES ≤ length log_bytes → IsUnsealed (sector 0 log_bytes) → IsUnsealed (sector 2 log_bytes)
+    → Refuses log_bytes data_bytes NotFormatted
+unsealed-refused log_bytes data_bytes long first second =
+    (long, ap (λ t. cond t (read_head (sector 0 log_bytes)) (read_head (sector 2 log_bytes))) first ∙ unsealed-head (sector 2 log_bytes) second)
 
-pub zeros-refused : (log_bytes data_bytes : List ℕ) → HEADER_BYTES ≤ length log_bytes → sector 0 log_bytes ≡ zero_block → Refuses log_bytes data_bytes NotFormatted
-zeros-refused log_bytes data_bytes long zeros = (long, ap read_head zeros ∙ zero-head)
+-- nor are those of an unused log device
+pub zeros-refused : (log_bytes data_bytes : List ℕ) → HEADER_BYTES ≤ length log_bytes → IsUnused log_bytes → Refuses log_bytes data_bytes NotFormatted
+zeros-refused log_bytes data_bytes long unused =
+    unsealed-refused log_bytes data_bytes long (ap fits_checksum unused.first ∙ zeros-unsealed) (ap fits_checksum unused.second ∙ zeros-unsealed)
 
--- THE LOG: its newest checkpoint is the first, and no block is read from it on.
+-- THE LOG: its header, its newest checkpoint, which is the first, and no block from it on.
 
-both-false : (a : Bool) → (a && false) ≡ false
-both-false true = refl
-both-false false = refl
+-- A log that is formatted but for its second header block. Whatever stands in that one, the first one is read.
+pub record IsBegunLog (shape : Shape) (bytes : List ℕ) : Type 0 where
+  pub long : log_device_length shape ≤ length bytes
+  pub first : sector 0 bytes ≡ head_text Two shape
+  pub checkpoint : sector 1 bytes ≡ checkpoint_text 0 START_LSN (run_layout shape)
+  pub blocks : (k : ℕ) → 3 ≤ k → 512 * k < log_device_length shape → sector k bytes ≡ zero_block
 
-none-and : (a b c d e f : Bool) → b ≡ false → (a && b && c && d && e && f) ≡ false
-none-and a b c d e f is = ap (λ t. t && c && d && e && f) (ap (λ t. a && t) is ∙ both-false a)
+pub formatted-begun : (shape : Shape) (bytes : List ℕ) → IsFormattedLog shape bytes → IsBegunLog shape bytes
+formatted-begun shape bytes is = record { long = is.long; first = is.heads 0 (inl refl); checkpoint = is.checkpoint; blocks = is.blocks }
 
-zero-place : (place_of (field 8 0 zero_block) == 3) ≡ false
-zero-place = refl
+unformatted-good : (shape : Shape) (head : Head) → head ≡ Unformatted → head ≡ Good Two shape → ⊥
+unformatted-good shape head none good = let both : Unformatted ≡ Good Two shape = sym none ∙ good in absurd cc
 
-zero-checkpoint : (shape : Shape) → read_checkpoint 3 shape zero_block ≡ None
-unfolding read_checkpoint
-zero-checkpoint shape =
-    ap (λ t. cond t (Some (field 8 0 zero_block, field 8 8 zero_block)) None)
-    (none-and (fits_checksum zero_block) (place_of (field 8 0 zero_block) == 3) (field 8 8 zero_block % BLOCK_SIZE == 0)
-    (nat_le START_LSN (field 8 8 zero_block)) (nat_lt (field 8 8 zero_block) 1152921504606846976)
-    (field 8 16 zero_block == place_in (layout_of shape) (field 8 8 zero_block)) zero-place)
+formatted-head : (shape : Shape) (log : List ℕ) → IsWithinLimits shape → IsBegunLog shape log → head_of log ≡ Good Two shape
+formatted-head shape log limits is =
+    let first : read_head (sector 0 log) ≡ Good Two shape = ap read_head is.first ∙ head-reads_back Two shape limits in
+    ⊎_elim (λ fits. ap (λ t. cond t (read_head (sector 0 log)) (read_head (sector 2 log))) fits ∙ first)
+    (λ broken. absurd (unformatted-good shape (read_head (sector 0 log)) (unsealed-head (sector 0 log) broken) first)) (cases_Bool (fits_checksum (sector 0 log)))
 
-first-checkpoint : (shape : Shape) (log : List ℕ) → IsWithinLimits shape → IsFormattedLog shape log → newest_checkpoint shape log ≡ Some (0, START_LSN)
+zero-block : (shape : Shape) (log : List ℕ) (k : ℕ) → IsBegunLog shape log → 3 ≤ k → 512 * k < log_device_length shape → IsUnsealed (sector k log)
+zero-block shape log k is low high = ap fits_checksum (is.blocks k low high) ∙ zeros-unsealed
+
+first-checkpoint : (shape : Shape) (log : List ℕ) → IsWithinLimits shape → IsBegunLog shape log → newest_checkpoint (run_layout shape) log ≡ Some (0, START_LSN)
 first-checkpoint shape log limits is =
-    let even : read_checkpoint 1 shape (header_block 1 log) ≡ Some (0, START_LSN) =
-    ap (read_checkpoint 1 shape) is.checkpoint ∙ checkpoint-reads_back 0 START_LSN shape (lit< tt) (lit≤ tt) (lit< tt) refl in
-    let odd : read_checkpoint 3 shape (header_block 3 log) ≡ None =
-    ap (read_checkpoint 3 shape) (is.headers 3 (lit≤ tt) (lit< tt)) ∙ zero-checkpoint shape in
-    ap (λ first. newer first (read_checkpoint 3 shape (header_block 3 log))) even ∙ ap (newer (Some (0, START_LSN))) odd
+    let layout : Layout = run_layout shape in
+    let is_layout : IsLayout layout = is_layout_of Two shape limits.many_blocks limits.few_blocks in
+    let even : read_checkpoint 1 layout (sector 1 log) ≡ Some (0, START_LSN) =
+    ap (read_checkpoint 1 layout) is.checkpoint ∙ checkpoint-reads_back 0 START_LSN layout is_layout (lit< tt) (lit≤ tt) (lit< tt) refl in
+    let odd : read_checkpoint 3 layout (sector 3 log) ≡ None =
+    unsealed-checkpoint 3 layout (sector 3 log) (zero-block shape log 3 is (lit≤ tt) (omega (arith, limits.many_blocks))) in
+    ap (λ first. newer first (read_checkpoint 3 layout (sector 3 log))) even ∙ ap (newer (Some (0, START_LSN))) odd
 
-none-taken : (shape : Shape) (log : List ℕ) → IsFormattedLog shape log → taken shape log START_LSN ≡ None
-none-taken shape log is = taken-none shape log START_LSN (ap (read_block START_LSN) (is.blocks START_LSN refl) ∙ zeros-unread START_LSN)
+log_block-sector : (layout : Layout) (b : ℕ) (log : List ℕ) → log_block layout b log ≡ sector (sector_of layout b) log
+unfolding log_block
+log_block-sector layout b log = ap (λ at. take 512 (drop at log)) (sym (sector-place layout b))
+
+none-unread : (bytes : List ℕ) → IsUnsealed bytes → read_block START_LSN bytes ≡ None
+none-unread bytes broken = unsealed-unread START_LSN bytes broken
+
+none-taken : (shape : Shape) (log : List ℕ) → IsWithinLimits shape → IsBegunLog shape log → taken (run_layout shape) log START_LSN ≡ None
+none-taken shape log limits is =
+    let layout : Layout = run_layout shape in
+    let many : 1024 ≤ shape.log_blocks = limits.many_blocks in
+    let blocks : HasBlocks layout = has-blocks layout (is_layout_of Two shape many limits.few_blocks) in
+    let k : ℕ = sector_of layout START_LSN in
+    let at : 512 * k ≡ place_in layout START_LSN = sector-place layout START_LSN in
+    let low : ring_start layout ≤ place_in layout START_LSN = place-from layout START_LSN in
+    let high : place_in layout START_LSN + 512 ≤ ring_start layout + round_of layout = place-within layout START_LSN blocks in
+    taken-none layout log START_LSN
+    (ap (read_block START_LSN) (log_block-sector layout START_LSN log) ∙ none-unread (sector k log) (zero-block shape log k is (omega arith) (omega arith)))
+    (none-unread (sector 4 log) (zero-block shape log 4 is (lit≤ tt) (omega arith)))
+    (none-unread (sector 5 log) (zero-block shape log 5 is (lit≤ tt) (omega arith)))
 
 -- THE PAGES are blank.
 
@@ -133,10 +166,10 @@ slice_get-replicate (suc n) (suc p) x y e =
 
 -- SO BOTH ARE READ.
 
-formatted-devices : (shape : Shape) (log_bytes data_bytes : List ℕ) → IsWithinLimits shape → IsFormattedLog shape log_bytes → IsFormattedData shape data_bytes
-    → HasDevices log_bytes data_bytes shape
+formatted-devices : (shape : Shape) (log_bytes data_bytes : List ℕ) → IsWithinLimits shape → IsBegunLog shape log_bytes → IsFormattedData shape data_bytes
+    → HasDevices log_bytes data_bytes Two shape
 formatted-devices shape log_bytes data_bytes limits log pages = record {
-  head = record { long = omega (arith, log.long); head = ap read_head log.head ∙ head-reads_back shape limits };
+  head = record { long = omega (arith, log.long); head = formatted-head shape log_bytes limits log };
   log_long = log.long;
   data_long = pages.long;
 }
@@ -147,19 +180,19 @@ formatted-page shape data_bytes p page limits is at =
     let found = slice_get-replicate shape.pages p (blank_page shape) page at in
     record { kept = blank_page shape; is_kept = inl (blank-place shape data_bytes p limits is found.0); not_ahead = lit≤ tt; replay = found.1 }
 
-formatted-read : (shape : Shape) (log_bytes data_bytes : List ℕ) → IsWithinLimits shape → IsFormattedLog shape log_bytes → IsFormattedData shape data_bytes
+formatted-read : (shape : Shape) (log_bytes data_bytes : List ℕ) → IsWithinLimits shape → IsBegunLog shape log_bytes → IsFormattedData shape data_bytes
     → IsReading log_bytes data_bytes (formatted_store shape)
 formatted-read shape log_bytes data_bytes limits log pages = record {
   scan = record {
     devices = formatted-devices shape log_bytes data_bytes limits log pages;
     checkpoint = first-checkpoint shape log_bytes limits log;
-    scan = empty-scan shape (layout_of shape).blocks (taken shape log_bytes) START_LSN (none-taken shape log_bytes log);
+    scan = empty-scan shape (run_layout shape).blocks (taken (run_layout shape) log_bytes) START_LSN (none-taken shape log_bytes limits log);
   };
   count = length-replicate shape.pages (blank_page shape);
   each = λ p page at. formatted-page shape data_bytes p page limits pages at;
 }
 
-pub formatted-orderly : (shape : Shape) (log_bytes data_bytes : List ℕ) → IsWithinLimits shape → IsFormattedLog shape log_bytes → IsFormattedData shape data_bytes
+pub formatted-orderly : (shape : Shape) (log_bytes data_bytes : List ℕ) → IsWithinLimits shape → IsBegunLog shape log_bytes → IsFormattedData shape data_bytes
     → IsOrderly log_bytes data_bytes (formatted_store shape)
 formatted-orderly shape log_bytes data_bytes limits log pages = record {
   reads = formatted-read shape log_bytes data_bytes limits log pages;
@@ -178,5 +211,5 @@ pub formatted-openable : (shape : Shape) (log_disk data_disk : Disk) → IsWithi
 formatted-openable shape log_disk data_disk limits is = record {
   log_rests = is.log_rests;
   data_rests = is.data_rests;
-  orderly = formatted-orderly shape log_disk.reads data_disk.reads limits is.log is.pages;
+  orderly = formatted-orderly shape log_disk.reads data_disk.reads limits (formatted-begun shape log_disk.reads is.log) is.pages;
 }

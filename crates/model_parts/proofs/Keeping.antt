@@ -1,51 +1,105 @@
--- What opening leaves on the two devices, step by step, is read with the opened pages; and in the end a run can start.
-use Rattle.std.proofs.Common.{◌≡◌, ◌+◌, ℕ, inl, false, List, [], refl, sym, subst}
-use Rattle.model_parts.specs.Stored.{IsUpTo, read_as, Stored}
-use Rattle.model_device.specs.{IsImage, settled}
+-- What opening leaves on the two devices, step by step, is read with the opened pages.
+use Rattle.std.proofs.Common.{◌≡◌, ◌%◌, ℕ, ◌+◌, inl, inr, false, List, [], refl, sym, ap, subst, ◌∙◌, Option, arith}
+use Rattle.model_device.specs.{IsImage, sector, settled}
 use Rattle.model_device.specs.Disk.{Disk}
-use Rattle.model_store.specs.{IsFair, IsOrderly, IsReading}
+use Rattle.model_device.proofs.Images.{settled_images}
+use Rattle.model_log.specs.{checkpoint_text, header_block, IsInRound, log_block, place_of, run_layout, sector_of}
+use Rattle.model_log.specs.declared.head.Format.{Format}
+use Rattle.model_log.specs.declared.head.Format.TheVariants.{One, Two}
+use Rattle.model_store.specs.{AreFoundIn, IsFair, IsFairLog, IsOrderly, IsReading, read_full, read_tail}
 use Rattle.model_store.specs.Reading.{Reading}
-use Rattle.model_parts.specs.Cleared.{IsCleared, IsClearing, HasSameHeaders}
-use Rattle.model_parts.specs.Next.{IsMarking, IsMarked}
-use Rattle.model_parts.specs.Opened.{IsOpenable, ReadsOpened, KeepsOpened, start_of, start_block}
+use Rattle.model_store.specs.declared.tail.Tail.{Tail}
+use Rattle.model_store.proofs.Taking.{taken-none_two}
+use Rattle.model_parts.specs.Changes.{IsPut, IsPutting}
+use Rattle.model_parts.specs.Found.{KeepsHead}
+use Rattle.model_parts.specs.Cleared.{IsCleared, IsClearing}
+use Rattle.model_parts.specs.LogFresh.{IsFresh}
+use Rattle.model_parts.specs.Migrating.{IsMigrating}
+use Rattle.model_parts.specs.Opened.{found_layout, IsOpenable, KeepsOpened, numbers_taken, ReadsOpened, start_block, start_of}
 use Rattle.model_parts.specs.Ready.{IsReady}
 use Rattle.model_parts.specs.Rewritten.{IsRewriting}
-use Rattle.model_parts.proofs.Fresh.{marking-reads, marked-fresh}
+use Rattle.model_parts.specs.Stored.{IsUpTo, read_as, Stored}
+use Rattle.model_parts.proofs.Alike.{kept-head_reads}
+use Rattle.model_parts.proofs.Clearing.{block-sector}
+use Rattle.model_parts.proofs.Fresh.{marking-reads, some-taken}
+use Rattle.model_parts.proofs.Migration.{head-first, migrating-reads}
 use Rattle.model_parts.proofs.Pages.{stored-image}
-use Rattle.model_parts.proofs.Reread.{rewriting-reads}
+use Rattle.model_parts.proofs.Reread.{clearing-reads, IsLogRead, IsNextFound, log-read, next-reads}
 
-pub rewriting-keeps : (opened : Reading) (log_bytes data_bytes : List ℕ) (log_disk data_disk : Disk) → IsReading log_bytes data_bytes opened
-    → ((image : List ℕ) → IsImage log_disk image → HasSameHeaders log_bytes image)
-    → ((image : List ℕ) → IsImage log_disk image → IsClearing opened.shape opened.ckpt (start_of opened) log_bytes image)
+pub kept-head_keeps : (opened : Reading) (log_bytes data_bytes : List ℕ) (log_disk data_disk : Disk) → IsReading log_bytes data_bytes opened
+    → ((image : List ℕ) → IsFairLog log_disk image → KeepsHead log_bytes image)
     → ((image : List ℕ) → IsFair opened.shape data_disk image → IsRewriting opened data_bytes image)
     → KeepsOpened opened log_disk data_disk
-rewriting-keeps opened log_bytes data_bytes log_disk data_disk reads headers clears rewrites log data_image is fair =
-    rewriting-reads opened log_bytes data_bytes log data_image reads (headers log is) (clears log is) (rewrites data_image fair)
+kept-head_keeps opened log_bytes data_bytes log_disk data_disk reads keeps rewrites log data_image is fair =
+    kept-head_reads opened log_bytes data_bytes log data_image reads (keeps log is) (rewrites data_image fair)
 
-pub marking-keeps : (opened : Reading) (log_bytes data_bytes old_log : List ℕ) (log_disk data_disk : Disk) → IsOrderly log_bytes data_bytes opened
-    → HasSameHeaders log_bytes old_log → IsCleared opened.shape opened.ckpt (start_of opened) log_bytes old_log
-    → ((image : List ℕ) → IsImage log_disk image → IsMarking opened.shape (opened.number + 1) (start_block opened) old_log image)
+pub clearing-keeps : (opened : Reading) (log_bytes data_bytes : List ℕ) (tail : Option Tail) (log_disk data_disk : Disk) → IsReading log_bytes data_bytes opened
+    → AreFoundIn (found_layout opened) log_bytes opened.ckpt opened.views tail
+    → ((image : List ℕ) → IsFairLog log_disk image → IsClearing (found_layout opened) opened.ckpt (start_of opened) tail log_bytes image)
+    → ((image : List ℕ) → IsFair opened.shape data_disk image → IsRewriting opened data_bytes image)
+    → KeepsOpened opened log_disk data_disk
+clearing-keeps opened log_bytes data_bytes tail log_disk data_disk reads found clears rewrites log data_image is fair =
+    clearing-reads opened log_bytes data_bytes log data_image tail reads found (clears log is) (rewrites data_image fair)
+
+pub marking-keeps : (opened : Reading) (log_bytes data_bytes old_log : List ℕ) (tail : Option Tail) (log_disk data_disk : Disk) → IsOrderly log_bytes data_bytes opened
+    → AreFoundIn (found_layout opened) log_bytes opened.ckpt opened.views tail
+    → IsCleared (found_layout opened) opened.ckpt (start_of opened) tail log_bytes old_log
+    → ((image : List ℕ) → IsFairLog log_disk image
+    → IsPutting (place_of (opened.number + 1)) (checkpoint_text (opened.number + 1) (start_block opened) (found_layout opened)) old_log image)
     → Stored opened.shape (IsUpTo (read_as opened)) (read_as opened) [] false data_disk
     → KeepsOpened opened log_disk data_disk
-marking-keeps opened log_bytes data_bytes old_log log_disk data_disk orderly headers cleared marks stored log data_image is fair =
-    marking-reads opened log_bytes data_bytes old_log log data_image orderly headers cleared (marks log is)
+marking-keeps opened log_bytes data_bytes old_log tail log_disk data_disk orderly found cleared marks stored log data_image is fair =
+    marking-reads opened log_bytes data_bytes old_log log data_image tail orderly found cleared (marks log is)
     (stored-image opened data_disk data_image orderly.reads.count stored fair)
 
-pub opened-ready : (opened : Reading) (log_bytes data_bytes old_log new_log : List ℕ) (data_disk : Disk) → IsOrderly log_bytes data_bytes opened
-    → HasSameHeaders log_bytes old_log → IsCleared opened.shape opened.ckpt (start_of opened) log_bytes old_log
-    → IsMarked opened.shape (opened.number + 1) (start_block opened) old_log new_log
+pub migrating-keeps : (opened : Reading) (log_bytes data_bytes old_log marked : List ℕ) (tail : Option Tail) (log_disk data_disk : Disk) → IsOrderly log_bytes data_bytes opened
+    → AreFoundIn (found_layout opened) log_bytes opened.ckpt opened.views tail → sector 2 log_bytes ≡ sector 0 log_bytes → opened.format ≡ One
+    → IsCleared (found_layout opened) opened.ckpt (start_of opened) tail log_bytes old_log
+    → IsPut (place_of (opened.number + 1)) (checkpoint_text (opened.number + 1) (start_block opened) (found_layout opened)) old_log marked
+    → ((image : List ℕ) → IsFairLog log_disk image → IsMigrating opened.shape (opened.number + 2) (start_block opened) marked image)
     → Stored opened.shape (IsUpTo (read_as opened)) (read_as opened) [] false data_disk
-    → IsReady opened (settled new_log) data_disk
-opened-ready opened log_bytes data_bytes old_log new_log data_disk orderly headers cleared marked stored = record {
-  log = marked-fresh opened log_bytes data_bytes old_log new_log orderly headers cleared marked;
-  pages = stored;
-}
+    → KeepsOpened opened log_disk data_disk
+migrating-keeps opened log_bytes data_bytes old_log marked tail log_disk data_disk orderly found alike format cleared put migrates stored log data_image is fair =
+    migrating-reads opened log_bytes data_bytes old_log marked log data_image tail orderly found alike format cleared put (migrates log is)
+    (stored-image opened data_disk data_image orderly.reads.count stored fair)
+
+-- ONCE A RUN CAN START.
+
+-- the log is read from the last checkpoint of opening on
+fresh-next : (opened : Reading) (log_bytes data_bytes : List ℕ) (disk : Disk) → IsReading log_bytes data_bytes opened
+    → IsFresh opened.shape (start_of opened) (opened.number + numbers_taken opened.format) disk
+    → IsNextFound opened Two (opened.number + numbers_taken opened.format) disk.reads
+fresh-next opened log_bytes data_bytes disk reads fresh =
+    let log : IsLogRead log_bytes opened = log-read log_bytes data_bytes opened reads in
+    let lsn : ℕ = start_block opened in
+    let aligned : lsn % 512 ≡ 0 = omega (arith, log.log.place) in
+    let here : IsInRound (run_layout opened.shape) lsn lsn = record { aligned = aligned; from = omega arith; below = omega (arith, log.limits.many_blocks) } in
+    record {
+      long = fresh.long;
+      head = head-first disk.reads Two opened.shape (fresh.heads 0 (inl refl));
+      later = (let some = some-taken opened.format in omega arith);
+      up_to = omega arith;
+      newest = fresh.newest;
+      none = taken-none_two (run_layout opened.shape) disk.reads lsn refl (ap (read_full lsn) (block-sector (run_layout opened.shape) lsn disk.reads) ∙ fresh.unread lsn here)
+          (fresh.no_tail 4 (inl refl) lsn aligned (omega arith)) (fresh.no_tail 5 (inr refl) lsn aligned (omega arith));
+    }
+
+fresh-image : (disk : Disk) (image : List ℕ) → disk ≡ settled disk.reads → IsFairLog disk image → image ≡ disk.reads
+fresh-image disk image nothing is = (settled_images disk.reads).1 image (subst (λ (d : Disk). IsImage d image) nothing is.possible)
+
+pub ready-keeps : (opened : Reading) (log_bytes data_bytes : List ℕ) (log_disk data_disk : Disk) → IsOrderly log_bytes data_bytes opened → IsReady opened log_disk data_disk
+    → KeepsOpened opened log_disk data_disk
+ready-keeps opened log_bytes data_bytes log_disk data_disk orderly ready log data_image is fair =
+    let log_is : log ≡ log_disk.reads = fresh-image log_disk log ready.log.nothing_pending is in
+    subst (λ (bytes : List ℕ). ReadsOpened opened bytes data_image) (sym log_is)
+    (next-reads opened Two (opened.number + numbers_taken opened.format) log_bytes data_bytes log_disk.reads data_image orderly.reads
+    (fresh-next opened log_bytes data_bytes log_disk orderly.reads ready.log) (stored-image opened data_disk data_image orderly.reads.count ready.pages fair))
 
 -- BEFORE THE FIRST STEP.
 
 pub openable-keeps : (opened : Reading) (log_disk data_disk : Disk) → IsOpenable opened log_disk data_disk → KeepsOpened opened log_disk data_disk
 openable-keeps opened log_disk data_disk is log data_image image fair =
-    let log_is : log ≡ log_disk.reads = is.log_rests.one_image log image in
+    let log_is : log ≡ log_disk.reads = is.log_rests.one_image log image.possible in
     let data_is : data_image ≡ data_disk.reads = is.data_rests.one_image data_image fair.possible in
     subst (λ (bytes : List ℕ). ReadsOpened opened bytes data_image) (sym log_is)
     (subst (ReadsOpened opened log_disk.reads) (sym data_is) (record {
@@ -54,5 +108,5 @@ openable-keeps opened log_disk data_disk is log data_image image fair =
       old_copies = is.orderly.copies;
       shape = refl;
       pages = refl;
-      log = inl (record { number = refl; ckpt = refl; wholes = refl; end = refl });
+      log = inl (record { format = refl; number = refl; ckpt = refl; wholes = refl; end = refl });
     }))

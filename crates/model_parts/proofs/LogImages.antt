@@ -1,30 +1,35 @@
--- What an image of a log device holds.
-use Rattle.std.proofs.Common.{◌≡◌, ◌≤◌, ◌<◌, ◌+◌, ◌-◌, ◌*◌, ◌%◌, ◌==◌, ◌⊎◌, ℕ, inl, inr, true, false, cond, List, length, take, drop, Option, Some, None, refl, sym, ap, subst, ◌∙◌, ⊎_elim, arith}
+-- What a fair image of a log device holds.
+use Rattle.std.proofs.Common.{◌≡◌, ◌≤◌, ◌<◌, ◌+◌, ◌-◌, ◌*◌, ◌/◌, ◌%◌, ◌==◌, ◌⊎◌, ℕ, inl, inr, Bool, true, false, cond, List, length, take, drop, Option, Some, None, refl, sym, ap, subst, ◌∙◌, ⊎_elim, arith}
 use Rattle.std.specs.Prelude.{nat_lt}
 use Rattle.std.proofs.lemmas.Bool.{cases_lt, cases_Bool}
 use Rattle.std.proofs.lemmas.Bool.Decides.{nat_tests}
+use Rattle.model_base.specs.declared.limits.TheConstants.{LSN_LIMIT}
 use Rattle.model_base.specs.declared.shape.Shape.{Shape}
-use Rattle.model_log.specs.declared.group.Whole.{Whole}
-use Rattle.model_device.specs.{IsImage, sector}
+use Rattle.model_device.specs.{sector}
 use Rattle.model_device.specs.Disk.{Disk}
-use Rattle.model_log.specs.{IsInRound, layout_of, log_block, log_device_length, newer, newest_checkpoint, place_in, place_of, read_checkpoint, round_of, sector_of}
-use Rattle.model_device.specs.MayHold.{MayHold}
-use Rattle.model_device.proofs.MayHold.{holds-sector}
-use Rattle.model_parts.specs.declared.marks.LogMarks.{LogMarks}
-use Rattle.model_parts.specs.Held.{IsLogBlock, AreInOrder, other_place, IsBeside, LogHolds}
-use Rattle.model_store.specs.{HasHead}
-use Rattle.model_log.proofs.Places.{HasBlocks, sector-place, place-within, place-round}
-use Rattle.model_parts.proofs.Windows.{round-on}
+use Rattle.model_log.specs.declared.group.Whole.{Whole}
+use Rattle.model_log.specs.declared.head.Format.TheVariants.{Two}
+use Rattle.model_log.specs.declared.head.Head.{Head}
+use Rattle.model_log.specs.declared.head.Head.TheVariants.{Good}
+use Rattle.model_log.specs.declared.layout.Layout.{Layout}
 use Rattle.model_log.specs.declared.layout.TheConstants.{HEADER_BLOCKS}
+use Rattle.model_log.specs.{fits_checksum, IsAtDataStart, IsBoundary, IsInRound, IsRunOf, log_block, log_device_length, newer, newest_checkpoint, place_of, read_checkpoint, read_head, round_of, run_layout, sector_of, spans_of}
+use Rattle.model_log.proofs.Places.{HasBlocks, place-round, place-within, sector-place}
+use Rattle.model_log.proofs.Runs.{boundary-reached, data-start}
+use Rattle.model_store.specs.{HasHead, if_full, IsFairLog, read_tail, taken, taken_among}
+use Rattle.model_parts.specs.declared.marks.LogMarks.{LogMarks}
+use Rattle.model_parts.specs.declared.marks.TailMarks.{TailMarks}
+use Rattle.model_parts.specs.Held.{AreInOrder, HoldsTail, IsBeside, IsNotFull, IsPartBlock, IsPlace, IsTail, LogHoldsWith, MayStand, other_place}
+use Rattle.model_parts.proofs.LogRows.{IsTaken}
+use Rattle.model_parts.proofs.Tails.{IsRunWithBytes, KeepsTail, round-unread, takes}
+use Rattle.model_parts.proofs.Torn.{stands-sector}
 
--- each place of the image has what it may have
-abbrev pub HoldsBlocks : Shape → ℕ → List Whole → ℕ → ℕ → ℕ → List ℕ → Type 0
-HoldsBlocks shape s wholes low high ckpt image =
-    (b : ℕ) → IsInRound (layout_of shape) ckpt b → IsLogBlock s wholes low high b (log_block shape b image)
-
-pub sector-log_block : (shape : Shape) (b : ℕ) (image : List ℕ) → b % 512 ≡ 0 → sector (sector_of (layout_of shape) b) image ≡ log_block shape b image
+-- the sector of a block
+pub sector-log_block : (layout : Layout) (b : ℕ) (image : List ℕ) → sector (sector_of layout b) image ≡ log_block layout b image
 unfolding log_block
-sector-log_block shape b image aligned = ap (λ n. take 512 (drop n image)) (sector-place (layout_of shape) b)
+sector-log_block layout b image = ap (λ n. take 512 (drop n image)) (sector-place layout b)
+
+-- THE NEWEST CHECKPOINT.
 
 -- the newer of the two checkpoints, where one is the last good one
 record IsNewest (marks : LogMarks) (found : Option (ℕ × ℕ)) : Type 0 where
@@ -80,12 +85,12 @@ place-cases number =
 pub header-below : (number : ℕ) → (place_of number < HEADER_BLOCKS) × (other_place number < HEADER_BLOCKS) × (1 ≤ place_of number) × (1 ≤ other_place number)
 header-below number = ⊎_elim (λ e. (omega (arith, e.0), omega (arith, e.1), omega (arith, e.0), omega (arith, e.1))) (λ o. (omega (arith, o.0), omega (arith, o.1), omega (arith, o.0), omega (arith, o.1))) (place-cases number)
 
-newest-of : (shape : Shape) (marks : LogMarks) (image : List ℕ) → marks.ckpt % 512 ≡ 0 → marks.ckpt ≤ marks.asked
-    → read_checkpoint (place_of marks.number) shape (sector (place_of marks.number) image) ≡ Some (marks.number, marks.ckpt)
-    → IsBeside marks (read_checkpoint (other_place marks.number) shape (sector (other_place marks.number) image))
-    → IsNewest marks (newest_checkpoint shape image)
-newest-of shape marks image aligned stable own beside =
-    let At : ℕ → Option (ℕ × ℕ) = λ k. read_checkpoint k shape (sector k image) in
+newest-of : (layout : Layout) (marks : LogMarks) (image : List ℕ) → marks.ckpt % 512 ≡ 0 → marks.ckpt ≤ marks.asked
+    → read_checkpoint (place_of marks.number) layout (sector (place_of marks.number) image) ≡ Some (marks.number, marks.ckpt)
+    → IsBeside marks (read_checkpoint (other_place marks.number) layout (sector (other_place marks.number) image))
+    → IsNewest marks (newest_checkpoint layout image)
+newest-of layout marks image aligned stable own beside =
+    let At : ℕ → Option (ℕ × ℕ) = λ k. read_checkpoint k layout (sector k image) in
     ⊎_elim (λ even.
     let first : At 1 ≡ Some (marks.number, marks.ckpt) = sym (ap At even.0) ∙ own in
     let second : IsBeside marks (At 3) = subst (λ (k : ℕ). IsBeside marks (At k)) even.1 beside in
@@ -94,26 +99,6 @@ newest-of shape marks image aligned stable own beside =
     let second : At 3 ≡ Some (marks.number, marks.ckpt) = sym (ap At odd.0) ∙ own in
     let first : IsBeside marks (At 1) = subst (λ (k : ℕ). IsBeside marks (At k)) odd.1 beside in
     subst (λ (found : Option (ℕ × ℕ)). IsNewest marks (newer (At 1) found)) (sym second) (newest-back marks (At 1) aligned stable first)) (place-cases marks.number)
-
--- the blocks of a later checkpoint's round, which the lower mark has reached
-pub blocks-on : (shape : Shape) (s : ℕ) (wholes : List Whole) (low high ckpt next : ℕ) (image : List ℕ) → HasBlocks (layout_of shape) → 8192 ≤ ckpt
-    → ((b : ℕ) → b % 512 ≡ 0 → b + 12 < low → low ≤ b + round_of (layout_of shape) + 12 → IsInRound (layout_of shape) ckpt b → IsLogBlock s wholes low high (b + round_of (layout_of shape)) (log_block shape b image))
-    → ckpt ≤ next → ckpt % 512 ≡ 0 → next % 512 ≡ 0 → next ≤ low → low ≤ ckpt + round_of (layout_of shape)
-    → HoldsBlocks shape s wholes low high ckpt image → HoldsBlocks shape s wholes low high next image
-unfolding log_block
-blocks-on shape s wholes low high ckpt next image blocks started turned later aligned next_aligned below room holds b in_round =
-    let n : ℕ = round_of (layout_of shape) in
-    ⊎_elim (λ same. holds b (record { aligned = in_round.aligned; from = omega (arith, in_round.from); below = same }))
-    (λ behind.
-    let old : ℕ = b - n in
-    let is : old + n ≡ b = omega arith in
-    let old_in : IsInRound (layout_of shape) ckpt old = record { aligned = omega (arith, in_round.aligned); from = omega arith; below = omega (arith, in_round.below) } in
-    let place : place_in (layout_of shape) (old + n) ≡ place_in (layout_of shape) old = place-round (layout_of shape) old blocks old_in.aligned (omega arith) in
-    let there : IsLogBlock s wholes low high (old + n) (log_block shape old image) =
-    turned old old_in.aligned (omega (arith, in_round.below, in_round.aligned, old_in.aligned)) (omega arith) old_in in
-    subst (λ (c : ℕ). IsLogBlock s wholes low high c (log_block shape c image)) is
-    (subst (λ (n : ℕ). IsLogBlock s wholes low high (old + round_of (layout_of shape)) (take 512 (drop n image))) (sym place) there))
-    (cases_lt b (ckpt + n))
 
 -- what stands beside the newest good checkpoint is told by that one and the last one asked for
 pub beside-kept : (old new : LogMarks) → new.number ≡ old.number → new.ckpt ≡ old.ckpt → old.asked ≤ new.asked
@@ -128,45 +113,127 @@ beside-kept old new same_number same_ckpt later (Some other) is =
       aligned = next.aligned;
     })) is
 
--- what an image of such a device holds
-pub record ImageHolds (shape : Shape) (s : ℕ) (wholes : List Whole) (marks : LogMarks) (image : List ℕ) : Type 0 where
+-- WHERE THE BLOCKS STAND.
+
+pub ring-within : (shape : Shape) (b : ℕ) → HasBlocks (run_layout shape) → 512 * sector_of (run_layout shape) b + 512 ≤ log_device_length shape
+ring-within shape b blocks =
+    let within = place-within (run_layout shape) b blocks in
+    let place = sector-place (run_layout shape) b in
+    omega (arith, blocks.some)
+
+ring-round : (layout : Layout) (b : ℕ) → HasBlocks layout → b % 512 ≡ 0 → 8192 ≤ b → sector_of layout (b + round_of layout) ≡ sector_of layout b
+ring-round layout b blocks aligned started = ap (λ n. n / 512) (place-round layout b blocks aligned started)
+
+-- a block below a checkpoint, which is at most a boundary, is full below that
+below-ckpt : (s : ℕ) (wholes : List Whole) (mark ckpt b : ℕ) → IsAtDataStart s → IsRunOf s wholes → IsBoundary s (spans_of wholes) mark → ckpt % 512 ≡ 0 → b % 512 ≡ 0 → b < ckpt → ckpt ≤ mark
+    → b + 524 ≤ mark
+below-ckpt s wholes mark ckpt b start run boundary ckpt_aligned aligned below reaches =
+    let after = boundary-reached s wholes mark (data-start s start) run boundary in
+    omega (arith, after.place)
+
+-- the place of a full block, for the block one round of the log on
+round-place : (layout : Layout) (s : ℕ) (wholes : List Whole) (low high b : ℕ) (bytes : List ℕ) → HasBlocks layout → b + 524 ≤ low → low ≤ b + round_of layout + 12
+    → IsPlace s wholes low high b bytes → IsNotFull low (b + round_of layout) bytes
+round-place layout s wholes low high b bytes blocks below within is =
+    ⊎_elim (λ full. record { none_below = omega arith; unread = ap if_full (round-unread layout s wholes high b bytes blocks full.block) })
+    (λ none. absurd (omega (arith, none.none_below))) is
+
+-- the places of a later checkpoint's round, which the lower mark has reached
+pub places-on : (layout : Layout) (s : ℕ) (wholes : List Whole) (marks : LogMarks) (low high ckpt : ℕ) (at : ℕ → List ℕ) → HasBlocks layout → AreInOrder layout s wholes marks
+    → marks.stable ≤ low → low ≤ marks.ckpt + round_of layout → ckpt % 512 ≡ 0 → marks.ckpt ≤ ckpt → ckpt ≤ marks.stable
+    → ((b : ℕ) → IsInRound layout marks.ckpt b → IsPlace s wholes low high b (at (sector_of layout b)))
+    → (b : ℕ) → IsInRound layout ckpt b → IsPlace s wholes low high b (at (sector_of layout b))
+places-on layout s wholes marks low high ckpt at blocks order reached room ckpt_aligned later below here b in_round =
+    let n : ℕ = round_of layout in
+    ⊎_elim (λ near. here b (record { aligned = in_round.aligned; from = omega (arith, in_round.from); below = near }))
+    (λ far.
+    let old : ℕ = b - n in
+    let is : old + n ≡ b = omega arith in
+    let aligned : old % 512 ≡ 0 = omega (arith, in_round.aligned) in
+    let old_in : IsInRound layout marks.ckpt old = record { aligned = aligned; from = omega arith; below = omega (arith, in_round.below) } in
+    let same : sector_of layout (old + n) ≡ sector_of layout old = ring-round layout old blocks aligned (omega (arith, order.ckpt_started)) in
+    let full : old + 524 ≤ marks.stable = below-ckpt s wholes marks.stable ckpt old order.starts order.run order.stable ckpt_aligned aligned (omega (arith, in_round.below)) below in
+    let none : IsNotFull low (old + n) (at (sector_of layout old)) =
+    round-place layout s wholes low high old (at (sector_of layout old)) blocks (omega arith) (omega arith) (here old old_in) in
+    let turned : IsNotFull low (old + n) (at (sector_of layout (old + n))) = subst (λ (k : ℕ). IsNotFull low (old + n) (at k)) (sym same) none in
+    subst (λ (c : ℕ). IsPlace s wholes low high c (at (sector_of layout c))) is (inr turned)) (cases_lt b (marks.ckpt + n))
+
+-- WHAT AN IMAGE HOLDS.
+
+either-head : (t : Bool) (first second head : Head) → first ≡ head → second ≡ head → cond t first second ≡ head
+either-head true first second head one two = one
+either-head false first second head one two = two
+
+below-yes : (b limit : ℕ) → b < limit → nat_lt b limit ≡ true
+below-yes b limit less = grind (arith, nat_tests)
+
+below-no : (b limit : ℕ) → limit ≤ b → nat_lt b limit ≡ false
+below-no b limit less = grind (arith, nat_tests)
+
+-- a newest checkpoint from the last good one on, and what the scan takes from there on
+pub record ImageHolds (shape : Shape) (s : ℕ) (wholes : List Whole) (marks : LogMarks) (kept : ℕ) (image : List ℕ) : Type 0 where
   pub number : ℕ
   pub ckpt : ℕ
-  pub head : HasHead image shape
-  pub newest : newest_checkpoint shape image ≡ Some (number, ckpt)
+  pub head : HasHead image Two shape
+  pub newest : newest_checkpoint (run_layout shape) image ≡ Some (number, ckpt)
   pub aligned : ckpt % 512 ≡ 0
   pub from : marks.ckpt ≤ ckpt
   pub up_to : ckpt ≤ marks.asked
-  pub blocks : HoldsBlocks shape s wholes marks.stable marks.given ckpt image
+  pub takes : (b : ℕ) → b % 512 ≡ 0 → ckpt ≤ b → b < ckpt + round_of (run_layout shape) → IsTaken s wholes kept marks.given b (taken (run_layout shape) image b)
 
--- WHAT THE DEVICE KEEPS: each image has a newest checkpoint between the last good one and the stable mark, and holds
--- the blocks from there on.
-pub image-holds : (shape : Shape) (s : ℕ) (wholes : List Whole) (marks : LogMarks) (disk : Disk) (image : List ℕ) → HasBlocks (layout_of shape)
-    → LogHolds shape s wholes marks disk → IsImage disk image → ImageHolds shape s wholes marks image
-image-holds shape s wholes marks disk image blocks holds is =
+tail-at : (s : ℕ) (wholes : List Whole) (high from b : ℕ) (bytes : List ℕ) → IsTail s wholes high from bytes → b % 512 ≡ 0 → from ≤ b
+    → (read_tail b bytes ≡ None) ⊎ IsPartBlock s wholes high b bytes
+tail-at s wholes high from b bytes is aligned later = is b aligned later
+
+pub image-holds : (shape : Shape) (s : ℕ) (wholes : List Whole) (marks : LogMarks) (tails : TailMarks) (disk : Disk) (image : List ℕ) → HasBlocks (run_layout shape)
+    → IsRunWithBytes s wholes → marks.given ≤ LSN_LIMIT → LogHoldsWith shape s wholes marks tails disk → IsFairLog disk image → ImageHolds shape s wholes marks tails.kept image
+image-holds shape s wholes marks tails disk image blocks run small holds fair =
     let long : log_device_length shape ≤ length disk.base = holds.long in
-    let order : AreInOrder (layout_of shape) s wholes marks = holds.order in
-    let header : (k : ℕ) → k < HEADER_BLOCKS → MayHold disk k (sector k image) = λ k below. holds-sector disk image k is (omega arith) in
-    let own_below : place_of marks.number < HEADER_BLOCKS = (header-below marks.number).0 in
-    let other_below : other_place marks.number < HEADER_BLOCKS = (header-below marks.number).1 in
-    let newest : IsNewest marks (newest_checkpoint shape image) =
-    newest-of shape marks image order.ckpt_aligned order.ckpt_asked
-    (holds.checkpoint (sector (place_of marks.number) image) (header (place_of marks.number) own_below))
-    (holds.beside (sector (other_place marks.number) image) (header (other_place marks.number) other_below)) in
-    let here : HoldsBlocks shape s wholes marks.stable marks.given marks.ckpt image = λ b in_round.
-    let within : place_in (layout_of shape) b + 512 ≤ log_device_length shape = place-within (layout_of shape) b blocks in
-    let place : 512 * sector_of (layout_of shape) b ≡ place_in (layout_of shape) b = sector-place (layout_of shape) b in
-    subst (λ (bytes : List ℕ). IsLogBlock s wholes marks.stable marks.given b bytes) (sector-log_block shape b image in_round.aligned)
-    (holds.blocks b in_round (sector (sector_of (layout_of shape) b) image) (holds-sector disk image (sector_of (layout_of shape) b) is (omega arith))) in
+    let order : AreInOrder (run_layout shape) s wholes marks = holds.order in
+    let kept_given : tails.kept ≤ marks.given = omega (arith, holds.kept.up_to, order.written_given) in
+    let stand : (k : ℕ) → 512 * k + 512 ≤ log_device_length shape → MayStand disk k (sector k image) = λ k within. stands-sector disk image k holds.sectors fair (omega arith) in
+    let limits = header-below marks.number in
+    let newest : IsNewest marks (newest_checkpoint (run_layout shape) image) =
+    newest-of (run_layout shape) marks image order.ckpt_aligned order.ckpt_asked
+    (holds.checkpoint (sector (place_of marks.number) image) (stand (place_of marks.number) (omega (arith, limits.0, blocks.some))))
+    (holds.beside (sector (other_place marks.number) image) (stand (other_place marks.number) (omega (arith, limits.1, blocks.some)))) in
+    let four : IsTail s wholes marks.given marks.ckpt (sector 4 image) = holds.tail_blocks 4 (inl refl) (sector 4 image) (stand 4 (omega (arith, blocks.some))) in
+    let five : IsTail s wholes marks.given marks.ckpt (sector 5 image) = holds.tail_blocks 5 (inr refl) (sector 5 image) (stand 5 (omega (arith, blocks.some))) in
+    let tail_below : 512 * tails.tail + 512 ≤ log_device_length shape = ⊎_elim (λ e. omega (arith, blocks.some)) (λ o. omega (arith, blocks.some)) holds.kept.place in
+    let own : HoldsTail s wholes tails.kept (sector tails.tail image) = holds.kept_tail (sector tails.tail image) (stand tails.tail tail_below) in
+    let keeps : KeepsTail s wholes tails.kept (sector 4 image) (sector 5 image) = record {
+      there = ⊎_elim (λ e. inl (subst (λ (k : ℕ). HoldsTail s wholes tails.kept (sector k image)) e own))
+          (λ o. inr (subst (λ (k : ℕ). HoldsTail s wholes tails.kept (sector k image)) o own)) holds.kept.place;
+    } in
+    let places : (b : ℕ) → IsInRound (run_layout shape) newest.ckpt b → IsPlace s wholes tails.kept marks.given b (sector (sector_of (run_layout shape) b) image) =
+    places-on (run_layout shape) s wholes marks tails.kept marks.given newest.ckpt (λ k. sector k image) blocks order holds.kept.from (omega (arith, holds.kept.up_to, order.written_given, order.room))
+    newest.aligned newest.from (omega (arith, newest.up_to, order.asked_stable))
+    (λ b in_round. holds.blocks b in_round (sector (sector_of (run_layout shape) b) image) (stand (sector_of (run_layout shape) b) (ring-within shape b blocks))) in
     record {
-      head = record { long = omega (arith, is.same_length); head = holds.head (sector 0 image) (header 0 (omega arith)) };
       number = newest.number;
       ckpt = newest.ckpt;
+      head = record {
+        long = omega (arith, fair.possible.same_length);
+        head = either-head (fits_checksum (sector 0 image)) (read_head (sector 0 image)) (read_head (sector 2 image)) (Good Two shape)
+            (holds.heads 0 (inl refl) (sector 0 image) (stand 0 (omega (arith, blocks.some)))) (holds.heads 2 (inr refl) (sector 2 image) (stand 2 (omega (arith, blocks.some))));
+      };
       newest = newest.is;
       aligned = newest.aligned;
       from = newest.from;
       up_to = newest.up_to;
-      blocks = blocks-on shape s wholes marks.stable marks.given marks.ckpt newest.ckpt image blocks order.ckpt_started
-          (λ b aligned below within in_round. inr (round-on (layout_of shape) s wholes marks.stable marks.given b (log_block shape b image) blocks below within (here b in_round)))
-          newest.from order.ckpt_aligned newest.aligned (omega (arith, newest.up_to, order.asked_stable)) (omega (arith, order.stable_written, order.written_given, order.room)) here;
+      takes = λ b aligned from below. ⊎_elim
+          (λ near.
+          let test : nat_lt b LSN_LIMIT ≡ true = below-yes b LSN_LIMIT near in
+          let place : IsPlace s wholes tails.kept marks.given b (log_block (run_layout shape) b image) =
+          subst (λ (bytes : List ℕ). IsPlace s wholes tails.kept marks.given b bytes) (sector-log_block (run_layout shape) b image) (places b (record { aligned = aligned; from = from; below = below })) in
+          subst (λ t. IsTaken s wholes tails.kept marks.given b (cond t (taken_among Two b (log_block (run_layout shape) b image) (sector 4 image) (sector 5 image)) None)) (sym test)
+          (takes s wholes tails.kept marks.given b (log_block (run_layout shape) b image) (sector 4 image) (sector 5 image) run holds.kept.boundary order.given kept_given aligned place
+          (tail-at s wholes marks.given marks.ckpt b (sector 4 image) four aligned (omega (arith, newest.from)))
+          (tail-at s wholes marks.given marks.ckpt b (sector 5 image) five aligned (omega (arith, newest.from))) keeps))
+          (λ far.
+          let test : nat_lt b LSN_LIMIT ≡ false = below-no b LSN_LIMIT far in
+          inr (record {
+            none_below = omega arith;
+            none = ap (λ t. cond t (taken_among Two b (log_block (run_layout shape) b image) (sector 4 image) (sector 5 image)) None) test;
+          })) (cases_lt b LSN_LIMIT);
     }

@@ -5,7 +5,7 @@ use Rattle.model_base.specs.declared.shape.Shape.{Shape}
 use Rattle.model_page.specs.{page_check, stretch_at}
 use Rattle.model_page.specs.declared.page.PageState.{PageState}
 use Rattle.model_page.specs.declared.page.PageState.TheVariants.{Blank, Sound, Broken}
-use Rattle.model_device.specs.{after_write, after_writes, IsImage, IsWrittenBy, sector}
+use Rattle.model_device.specs.{after_write, after_writes, IsCovered, IsImage, sector}
 use Rattle.model_device.specs.Disk.{Disk}
 use Rattle.model_device.specs.declared.write.Write.{Write}
 use Rattle.model_device.proofs.Overwritten.{length-overwritten, part-overwritten_before, part-overwritten_behind, part-overwritten_inside}
@@ -118,16 +118,16 @@ piece-sectors o xs ys same aligned each =
     ∙ sym (get_or-drop (512 * k) zs r d) ∙ sym (get_or-take 512 (drop (512 * k) zs) r d small) in
     here xs ∙ ap (λ s. get_or s r d) (each k (omega arith) (omega arith) (omega arith)) ∙ sym (here ys))
 
-not-written : (o long k : ℕ) (bytes : List ℕ) (writes : List Write) → AreApart o long writes → o ≤ 512 * k → 512 * k < o + 4096 → IsWrittenBy writes k bytes → ⊥
-not-written o long k bytes [] are from below is = is
-not-written o long k bytes (write ∷ writes) are from below is =
-    ⊎_elim (λ here. ⊎_elim (λ before. absurd (omega (arith, here.0.from))) (λ behind. absurd (omega (arith, here.0.from, here.0.up_to))) are.0.beside)
-    (λ there. not-written o long k bytes writes are.1 from below there) is
+not-covered : (o long k : ℕ) (writes : List Write) → AreApart o long writes → o ≤ 512 * k → 512 * k < o + 4096 → IsCovered writes k → ⊥
+not-covered o long k [] are from below is = is
+not-covered o long k (write ∷ writes) are from below is =
+    ⊎_elim (λ here. ⊎_elim (λ before. absurd (omega (arith, here.from))) (λ behind. absurd (omega (arith, here.from, here.up_to))) are.0.beside)
+    (λ there. not-covered o long k writes are.1 from below there) is
 
 pub image-apart : (o : ℕ) (disk : Disk) (image : List ℕ) → o % 512 ≡ 0 → AreApart o (length disk.base) disk.writes → IsImage disk image → piece o image ≡ piece o disk.base
 image-apart o disk image aligned are is =
     piece-sectors o image disk.base is.same_length aligned (λ k from below inside.
-    ⊎_elim (λ base. base) (λ new. absurd (not-written o (length disk.base) k (sector k image) disk.writes are from below new)) (is.each k inside))
+    ⊎_elim (λ base. base) (λ covered. absurd (not-covered o (length disk.base) k disk.writes are from below covered)) (is.each k inside))
 
 pub stretch-piece : (shape : Shape) (n : ℕ) (bytes : List ℕ) → shape.page_size ≡ 4096 → stretch_at shape n bytes ≡ piece (n * 4096) bytes
 unfolding stretch_at

@@ -3,11 +3,11 @@ use Rattle.std.specs.Prelude.{◌≡◌, ◌<◌, ◌+◌, ◌-◌, ◌^◌}
 use Rattle.model_base.specs.declared.limits.TheConstants.{LSN_LIMIT}
 use Rattle.model_device.specs.Disk.{Disk}
 use Rattle.model_store.specs.Reading.{Reading}
-use Rattle.model_parts.specs.Opened.{IsOpenable, start_block}
+use Rattle.model_parts.specs.Opened.{IsOpenable, numbers_taken, start_block}
 
--- the checkpoints have room to go on by one more
+-- the checkpoints have room for those of opening
 pub record HasRoom (opened : Reading) : Type 0 where
-  pub numbers_left : opened.number + 1 < 2 ^ 63
+  pub numbers_left : opened.number + numbers_taken opened.format < 2 ^ 63
   pub lsns_left : opened.ckpt < LSN_LIMIT - 2 ^ 30
   pub start_left : start_block opened < LSN_LIMIT - 2 ^ 30
 

@@ -1,39 +1,48 @@
 -- The log device while a store is opened: every log block outside a kept range is cleared away, so that none of them can
 -- fit later by its number, and those go that hold only an unfinished group.
-use Rattle.std.specs.Prelude.{ℕ, ◌≡◌, ◌≤◌, ◌<◌, ◌⊎◌, List, length, replicate}
-use Rattle.model_base.specs.declared.shape.Shape.{Shape}
-use Rattle.model_base.specs.declared.limits.TheConstants.{BLOCK_SIZE}
-use Rattle.model_log.specs.{block_of, header_block, IsInRound, layout_of, log_block}
-use Rattle.model_log.specs.declared.layout.TheConstants.{HEADER_BLOCKS}
+use Rattle.std.specs.Prelude.{ℕ, ◌≡◌, ◌≤◌, ◌<◌, ◌⊎◌, List, Option, Some, None}
+use Rattle.model_log.specs.{block_of, IsInRound, IsTailPlace, sector_of}
+use Rattle.model_log.specs.declared.head.Format.TheVariants.{Two}
+use Rattle.model_log.specs.declared.layout.Layout.{Layout}
+use Rattle.model_store.specs.{IsTakenTail}
+use Rattle.model_store.specs.declared.tail.Tail.{Tail}
+use Rattle.model_parts.specs.Changes.{IsErased, IsErasing}
 
 -- the kept range: from the checkpoint's block to the block before that of the lsn at which the run will start
-pub record IsKept (shape : Shape) (ckpt start b : ℕ) : Type 0 where
-  pub in_round : IsInRound (layout_of shape) ckpt b
+pub record IsKept (layout : Layout) (ckpt start b : ℕ) : Type 0 where
+  pub in_round : IsInRound layout ckpt b
   pub before : b < block_of start
 
 -- the other log blocks
-pub record IsOutside (shape : Shape) (ckpt start b : ℕ) : Type 0 where
-  pub in_round : IsInRound (layout_of shape) ckpt b
+pub record IsOutside (layout : Layout) (ckpt start b : ℕ) : Type 0 where
+  pub in_round : IsInRound layout ckpt b
   pub from : block_of start ≤ b
 
--- a block of zeros
-abbrev pub zero_block : List ℕ
-zero_block = replicate BLOCK_SIZE 0
+-- what is cleared first: each tail block but the one that was taken
+pub record IsStaleTail (layout : Layout) (tail : Option Tail) (k : ℕ) : Type 0 where
+  pub format : layout.format ≡ Two
+  pub place : IsTailPlace k
+  pub not_taken : IsTakenTail tail k → ⊥
 
--- The log blocks of an image and what became of them: those of the kept range are as they were, and each other one is as
--- it was or all zero.
-pub record IsClearing (shape : Shape) (ckpt start : ℕ) (old new : List ℕ) : Type 0 where
-  pub same_length : length new ≡ length old
-  pub kept : (b : ℕ) → IsKept shape ckpt start b → log_block shape b new ≡ log_block shape b old
-  pub outside : (b : ℕ) → IsOutside shape ckpt start b
-      → (log_block shape b new ≡ log_block shape b old) ⊎ (log_block shape b new ≡ zero_block)
+-- the place in the ring of the block that was taken from a tail block, and that tail block, where its block isn't kept
+abbrev pub IsOfTail : Layout → ℕ → Option Tail → ℕ → Type 0
+IsOfTail layout start None k = ⊥
+IsOfTail layout start (Some tail) k =
+    (k ≡ sector_of layout tail.lsn) ⊎ ((k ≡ tail.which) × (block_of start ≤ tail.lsn))
 
--- and all others are zero
-pub record IsCleared (shape : Shape) (ckpt start : ℕ) (old new : List ℕ) : Type 0 where
-  pub same_length : length new ≡ length old
-  pub kept : (b : ℕ) → IsKept shape ckpt start b → log_block shape b new ≡ log_block shape b old
-  pub outside : (b : ℕ) → IsOutside shape ckpt start b → log_block shape b new ≡ zero_block
+-- what is cleared then: these, and the places of the blocks outside the kept range
+abbrev pub IsPastKept : Layout → ℕ → ℕ → Option Tail → ℕ → Type 0
+IsPastKept layout ckpt start tail k =
+    ((b : ℕ) × IsOutside layout ckpt start b × (k ≡ sector_of layout b)) ⊎ IsOfTail layout start tail k
 
--- the header blocks are as they were
-abbrev pub HasSameHeaders : List ℕ → List ℕ → Type 0
-HasSameHeaders old new = (which : ℕ) → which < HEADER_BLOCKS → header_block which new ≡ header_block which old
+-- an image while the log is cleared, in either stage
+abbrev pub IsClearing : Layout → ℕ → ℕ → Option Tail → List ℕ → List ℕ → Type 0
+IsClearing layout ckpt start tail old new =
+    IsErasing (IsStaleTail layout tail) old new
+    ⊎ ((middle : List ℕ) × IsErased (IsStaleTail layout tail) old middle × IsErasing (IsPastKept layout ckpt start tail) middle new)
+
+-- and once it is
+pub record IsCleared (layout : Layout) (ckpt start : ℕ) (tail : Option Tail) (old new : List ℕ) : Type 0 where
+  pub middle : List ℕ
+  pub first : IsErased (IsStaleTail layout tail) old middle
+  pub then : IsErased (IsPastKept layout ckpt start tail) middle new

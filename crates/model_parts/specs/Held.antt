@@ -1,34 +1,66 @@
--- What a log device holds of a run of groups, in whatever a crash may leave of it.
-use Rattle.std.specs.Prelude.{ℕ, ◌≡◌, ◌≤◌, ◌<◌, ◌+◌, ◌-◌, ◌%◌, ◌⊎◌, List, length, Option, Some, None}
+-- What a log device holds of a run of groups, in whatever a crash may leave of it that is fair.
+use Rattle.std.specs.Prelude.{ℕ, ◌≡◌, ◌≤◌, ◌<◌, ◌+◌, ◌-◌, ◌%◌, ◌⊎◌, false, List, length, Option, Some, None}
+use Rattle.model_base.specs.{field}
 use Rattle.model_base.specs.declared.shape.Shape.{Shape}
 use Rattle.model_base.specs.declared.limits.TheConstants.{BLOCK_SIZE, START_LSN}
-use Rattle.model_log.specs.declared.group.Whole.{Whole}
-use Rattle.model_device.specs.{sector}
+use Rattle.model_device.specs.{AreSectorWrites, IsCovered, sector}
 use Rattle.model_device.specs.Disk.{Disk}
-use Rattle.model_log.specs.{block_of, IsAtDataStart, IsBoundary, IsBoundaryBlock, IsInRound, IsRunOf, Layout, layout_of, log_block, log_device_length, place_of, read_block, read_checkpoint, read_head, round_of, sector_of, spans_of}
-use Rattle.model_log.specs.declared.head.Head.TheVariants.{Good}
-use Rattle.model_log.specs.declared.layout.TheConstants.{BLOCK_HEADER}
 use Rattle.model_device.specs.MayHold.{MayHold}
+use Rattle.model_log.specs.declared.group.Whole.{Whole}
+use Rattle.model_log.specs.{block_of, fits_checksum, IsAtDataStart, IsBoundary, IsBoundaryBlock, IsInRound, IsRunOf, IsTailPlace, log_device_length, place_of, read_checkpoint, read_head, round_of, run_layout, sector_of, spans_of, turn_of}
+use Rattle.model_log.specs.declared.head.Format.TheVariants.{Two}
+use Rattle.model_log.specs.declared.head.Head.TheVariants.{Good}
+use Rattle.model_log.specs.declared.layout.Layout.{Layout}
+use Rattle.model_log.specs.declared.layout.TheConstants.{BLOCK_HEADER}
 use Rattle.model_parts.specs.declared.marks.LogMarks.{LogMarks}
+use Rattle.model_parts.specs.declared.marks.TailMarks.{TailMarks}
+use Rattle.model_store.specs.{read_full, read_tail}
 
--- The block at b for a boundary from the one mark to the other. It holds a byte below that boundary.
-pub record IsBlockBetween (s : ℕ) (wholes : List Whole) (low high b : ℕ) (bytes : List ℕ) : Type 0 where
-  pub mark : ℕ
-  pub boundary : IsBoundary s (spans_of wholes) mark
-  pub from : low ≤ mark
-  pub up_to : mark ≤ high
-  pub some : b + BLOCK_HEADER < mark
+-- from the start of a block to the first data byte of the next one
+abbrev pub NEXT_DATA : ℕ
+NEXT_DATA = BLOCK_SIZE + BLOCK_HEADER
+
+-- What may stand in a sector of a fair image: a whole content, or, where a write covers it, bytes whose checksum doesn't
+-- fit.
+abbrev pub MayStand : Disk → ℕ → List ℕ → Type 0
+MayStand disk k bytes = MayHold disk k bytes ⊎ (IsCovered disk.writes k × (fits_checksum bytes ≡ false))
+
+-- the full block at b, where the mark is at or past the first data byte of the next one
+pub record IsFullBlock (s : ℕ) (wholes : List Whole) (mark b : ℕ) (bytes : List ℕ) : Type 0 where
+  pub full : b + NEXT_DATA ≤ mark
   pub block : IsBoundaryBlock s wholes mark b bytes
 
--- no block of this lsn is read there, and none is missed: it would hold no byte below the mark
-pub record IsNoBlock (low b : ℕ) (bytes : List ℕ) : Type 0 where
-  pub none_below : low ≤ b + BLOCK_HEADER
-  pub unread : read_block b bytes ≡ None
+-- no full block of the lsn is read there, and none is missed
+pub record IsNotFull (low b : ℕ) (bytes : List ℕ) : Type 0 where
+  pub none_below : low < b + NEXT_DATA
+  pub unread : read_full b bytes ≡ None
 
--- What may stand in the place of the block at b: the block for a boundary between the marks, or, where it would hold
--- no byte below the lower mark, nothing that is read.
-abbrev pub IsLogBlock : ℕ → List Whole → ℕ → ℕ → ℕ → List ℕ → Type 0
-IsLogBlock s wholes low high b bytes = IsBlockBetween s wholes low high b bytes ⊎ IsNoBlock low b bytes
+-- what may stand in the place of the block at b: a full block of the run, or none, where none is below the lower mark
+abbrev pub IsPlace : ℕ → List Whole → ℕ → ℕ → ℕ → List ℕ → Type 0
+IsPlace s wholes low high b bytes = IsFullBlock s wholes high b bytes ⊎ IsNotFull low b bytes
+
+-- the incomplete block at b for a boundary up to the mark
+pub record IsPartBlock (s : ℕ) (wholes : List Whole) (high b : ℕ) (bytes : List ℕ) : Type 0 where
+  pub mark : ℕ
+  pub boundary : IsBoundary s (spans_of wholes) mark
+  pub up_to : mark ≤ high
+  pub some : b + BLOCK_HEADER < mark
+  pub part : mark < b + NEXT_DATA
+  pub block : IsBoundaryBlock s wholes mark b bytes
+
+-- whatever block from the lsn on is read in a tail block is the run's, for a boundary up to the mark
+abbrev pub IsTail : ℕ → List Whole → ℕ → ℕ → List ℕ → Type 0
+IsTail s wholes high from bytes =
+    (b : ℕ) → b % BLOCK_SIZE ≡ 0 → from ≤ b → (read_tail b bytes ≡ None) ⊎ IsPartBlock s wholes high b bytes
+
+-- the incomplete block of the mark, as it stands in a tail block
+pub record IsTailBlock (s : ℕ) (wholes : List Whole) (mark : ℕ) (bytes : List ℕ) : Type 0 where
+  pub block : IsBoundaryBlock s wholes mark (block_of mark) bytes
+  pub turn : field 4 8 bytes ≡ turn_of (block_of mark)
+
+-- the tail block holds it, where the mark has one
+abbrev pub HoldsTail : ℕ → List Whole → ℕ → List ℕ → Type 0
+HoldsTail s wholes mark bytes = (mark ≤ block_of mark + BLOCK_HEADER) ⊎ IsTailBlock s wholes mark bytes
 
 -- A run starts at s with these groups, the marks are boundaries of it and in order, and the last one is at most a round
 -- of the log past the checkpoint.
@@ -47,6 +79,17 @@ pub record AreInOrder (layout : Layout) (s : ℕ) (wholes : List Whole) (marks :
   pub asked_stable : marks.asked ≤ marks.stable
   pub room : marks.given ≤ marks.ckpt + round_of layout
 
+-- The kept mark is a boundary between the stable and the written mark. A sync moves it, a checkpoint's too.
+pub record IsKeptMark (s : ℕ) (wholes : List Whole) (marks : LogMarks) (tails : TailMarks) : Type 0 where
+  pub boundary : IsBoundary s (spans_of wholes) tails.kept
+  pub from : marks.stable ≤ tails.kept
+  pub up_to : tails.kept ≤ marks.written
+  pub place : IsTailPlace tails.tail
+
+-- the file header stands in a block of this number
+abbrev pub IsHeadPlace : ℕ → Type 0
+IsHeadPlace k = (k ≡ 0) ⊎ (k ≡ 2)
+
 -- the other of the two header blocks for checkpoints
 abbrev pub other_place : ℕ → ℕ
 other_place number = 4 - place_of number
@@ -64,33 +107,45 @@ abbrev pub IsBeside : LogMarks → Option (ℕ × ℕ) → Type 0
 IsBeside marks None = Unit {0}
 IsBeside marks (Some other) = (other.0 < marks.number) ⊎ IsAskedFor marks other.0 other.1
 
--- The log device of a run. Whatever a crash leaves of it has the file header, the newest checkpoint at or past the
--- last good one and at most at the last one asked for, and from there on the blocks of the run below a boundary between
--- the stable mark and the last one given.
-pub record LogHolds (shape : Shape) (s : ℕ) (wholes : List Whole) (marks : LogMarks) (disk : Disk) : Type 0 where
+-- The log device of a run. What holds is said of each sector, for whatever may stand there in a fair image: the file
+-- header in both its blocks, the newest checkpoint at or past the last good one and at most at the last one asked for,
+-- and from there on the full blocks of the run in their places and its incomplete block in a tail block, for a boundary
+-- from the kept mark up to the last one given.
+pub record LogHoldsWith (shape : Shape) (s : ℕ) (wholes : List Whole) (marks : LogMarks) (tails : TailMarks) (disk : Disk) : Type 0 where
   pub long : log_device_length shape ≤ length disk.base
-  pub head : (bytes : List ℕ) → MayHold disk 0 bytes → read_head bytes ≡ Good shape
-  pub order : AreInOrder (layout_of shape) s wholes marks
-  pub blocks : (b : ℕ) → IsInRound (layout_of shape) marks.ckpt b → (bytes : List ℕ) → MayHold disk (sector_of (layout_of shape) b) bytes
-      → IsLogBlock s wholes marks.stable marks.given b bytes
-  pub checkpoint : (bytes : List ℕ) → MayHold disk (place_of marks.number) bytes
-      → read_checkpoint (place_of marks.number) shape bytes ≡ Some (marks.number, marks.ckpt)
-  pub beside : (bytes : List ℕ) → MayHold disk (other_place marks.number) bytes
-      → IsBeside marks (read_checkpoint (other_place marks.number) shape bytes)
+  pub sectors : AreSectorWrites (length disk.base) disk.writes
+  pub heads : (k : ℕ) → IsHeadPlace k → (bytes : List ℕ) → MayStand disk k bytes → read_head bytes ≡ Good Two shape
+  pub order : AreInOrder (run_layout shape) s wholes marks
+  pub kept : IsKeptMark s wholes marks tails
+  pub blocks : (b : ℕ) → IsInRound (run_layout shape) marks.ckpt b → (bytes : List ℕ) → MayStand disk (sector_of (run_layout shape) b) bytes
+      → IsPlace s wholes tails.kept marks.given b bytes
+  pub tail_blocks : (k : ℕ) → IsTailPlace k → (bytes : List ℕ) → MayStand disk k bytes → IsTail s wholes marks.given marks.ckpt bytes
+  pub kept_tail : (bytes : List ℕ) → MayStand disk tails.tail bytes → HoldsTail s wholes tails.kept bytes
+  pub checkpoint : (bytes : List ℕ) → MayStand disk (place_of marks.number) bytes
+      → read_checkpoint (place_of marks.number) (run_layout shape) bytes ≡ Some (marks.number, marks.ckpt)
+  pub beside : (bytes : List ℕ) → MayStand disk (other_place marks.number) bytes
+      → IsBeside marks (read_checkpoint (other_place marks.number) (run_layout shape) bytes)
 
--- What reads give while no call has failed is more: the blocks of the run below the written mark. So a sync makes it
--- the stable one.
-pub record IsWritten (shape : Shape) (s : ℕ) (wholes : List Whole) (marks : LogMarks) (disk : Disk) : Type 0 where
+-- the same for some tail marks: what layers above are told
+pub record LogHolds (shape : Shape) (s : ℕ) (wholes : List Whole) (marks : LogMarks) (disk : Disk) : Type 0 where
+  pub tails : TailMarks
+  pub holds : LogHoldsWith shape s wholes marks tails disk
+
+-- What reads give while no call has failed is more: the run below the written mark. So a sync makes it the stable one.
+pub record IsWritten (shape : Shape) (s : ℕ) (wholes : List Whole) (marks : LogMarks) (tails : TailMarks) (disk : Disk) : Type 0 where
   pub long : log_device_length shape ≤ length disk.reads
-  pub head : read_head (sector 0 disk.reads) ≡ Good shape
+  pub heads : (k : ℕ) → IsHeadPlace k → read_head (sector k disk.reads) ≡ Good Two shape
   pub all_given : marks.given ≡ marks.written
-  pub blocks : (b : ℕ) → IsInRound (layout_of shape) marks.ckpt b
-      → IsLogBlock s wholes marks.written marks.written b (log_block shape b disk.reads)
-  pub checkpoint : read_checkpoint (place_of marks.number) shape (sector (place_of marks.number) disk.reads)
+  pub place : IsTailPlace tails.newest
+  pub blocks : (b : ℕ) → IsInRound (run_layout shape) marks.ckpt b
+      → IsPlace s wholes marks.written marks.written b (sector (sector_of (run_layout shape) b) disk.reads)
+  pub tail_blocks : (k : ℕ) → IsTailPlace k → IsTail s wholes marks.written marks.ckpt (sector k disk.reads)
+  pub newest_tail : HoldsTail s wholes marks.written (sector tails.newest disk.reads)
+  pub checkpoint : read_checkpoint (place_of marks.number) (run_layout shape) (sector (place_of marks.number) disk.reads)
       ≡ Some (marks.number, marks.ckpt)
-  pub beside : IsBeside marks (read_checkpoint (other_place marks.number) shape (sector (other_place marks.number) disk.reads))
+  pub beside : IsBeside marks (read_checkpoint (other_place marks.number) (run_layout shape) (sector (other_place marks.number) disk.reads))
 
 -- a log device on which every call so far answered Ok
-pub record IsLive (shape : Shape) (s : ℕ) (wholes : List Whole) (marks : LogMarks) (disk : Disk) : Type 0 where
-  pub holds : LogHolds shape s wholes marks disk
-  pub is_written : IsWritten shape s wholes marks disk
+pub record IsLive (shape : Shape) (s : ℕ) (wholes : List Whole) (marks : LogMarks) (tails : TailMarks) (disk : Disk) : Type 0 where
+  pub holds : LogHoldsWith shape s wholes marks tails disk
+  pub is_written : IsWritten shape s wholes marks tails disk

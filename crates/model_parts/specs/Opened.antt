@@ -1,16 +1,14 @@
 -- What opening a store needs, and what it leaves to be read wherever it ends.
-use Rattle.std.specs.Prelude.{ℕ, ◌≡◌, ◌+◌, ◌-◌, ◌⊎◌, List, []}
-use Rattle.model_device.specs.{HasOneImage, IsImage}
+use Rattle.std.specs.Prelude.{ℕ, ◌≡◌, ◌≤◌, ◌<◌, ◌+◌, ◌-◌, ◌⊎◌, List, []}
 use Rattle.model_device.specs.Disk.{Disk}
-use Rattle.model_log.specs.{start_after}
+use Rattle.model_log.specs.{layout_of, start_after}
+use Rattle.model_log.specs.declared.head.Format.{Format}
+use Rattle.model_log.specs.declared.head.Format.TheVariants.{One, Two}
+use Rattle.model_log.specs.declared.layout.Layout.{Layout}
 use Rattle.model_log.specs.declared.layout.TheConstants.{BLOCK_HEADER}
-use Rattle.model_store.specs.{HasOldCopies, IsFair, IsOrderly, IsReading}
+use Rattle.model_parts.specs.Found.{IsAtRest}
+use Rattle.model_store.specs.{HasOldCopies, IsFair, IsFairLog, IsOrderly, IsReading}
 use Rattle.model_store.specs.Reading.{Reading}
-
--- the device has one image, and reads give it
-pub record IsAtRest (disk : Disk) : Type 0 where
-  pub one_image : HasOneImage disk disk.reads
-  pub reads : IsImage disk disk.reads
 
 -- Both devices are at rest, and the store on them is in order and is read as this.
 pub record IsOpenable (opened : Reading) (log_disk data_disk : Disk) : Type 0 where
@@ -25,16 +23,27 @@ start_of opened = start_after opened.end
 abbrev pub start_block : Reading → ℕ
 start_block opened = start_of opened - BLOCK_HEADER
 
+-- how many checkpoints opening makes: by format 1 it makes one, and then one of format 2
+abbrev pub numbers_taken : Format → ℕ
+numbers_taken One = 2
+numbers_taken Two = 1
+
+-- the layout by which the store was found
+abbrev pub found_layout : Reading → Layout
+found_layout opened = layout_of opened.format opened.shape
+
 -- The log is read as it was, from the checkpoint that was the newest.
 pub record IsSameLog (opened reading : Reading) : Type 0 where
+  pub format : reading.format ≡ opened.format
   pub number : reading.number ≡ opened.number
   pub ckpt : reading.ckpt ≡ opened.ckpt
   pub wholes : reading.wholes ≡ opened.wholes
   pub end : reading.end ≡ opened.end
 
--- The log is read from the next checkpoint, which stands where the run starts, and there is no group from there on.
+-- The log is read from a checkpoint of opening, which stands where the run starts, and there is no group from there on.
 pub record IsNextLog (opened reading : Reading) : Type 0 where
-  pub number : reading.number ≡ opened.number + 1
+  pub later : opened.number < reading.number
+  pub up_to : reading.number ≤ opened.number + numbers_taken opened.format
   pub ckpt : reading.ckpt ≡ start_block opened
   pub wholes : reading.wholes ≡ []
   pub end : reading.end ≡ start_of opened
@@ -49,9 +58,8 @@ pub record ReadsOpened (opened : Reading) (log_bytes data_bytes : List ℕ) : Ty
   pub pages : reading.pages ≡ opened.pages
   pub log : IsSameLog opened reading ⊎ IsNextLog opened reading
 
--- OPENING KEEPS THE PAGES: whatever a crash leaves of the two devices, fair as far as pages go, is read with the opened
--- pages.
+-- OPENING KEEPS THE PAGES: whatever a crash leaves of the two devices that is fair is read with the opened pages.
 abbrev pub KeepsOpened : Reading → Disk → Disk → Type 0
 KeepsOpened opened log_disk data_disk =
-    (log_bytes data_bytes : List ℕ) → IsImage log_disk log_bytes → IsFair opened.shape data_disk data_bytes
+    (log_bytes data_bytes : List ℕ) → IsFairLog log_disk log_bytes → IsFair opened.shape data_disk data_bytes
     → ReadsOpened opened log_bytes data_bytes

@@ -3,7 +3,8 @@ use Rattle.std.specs.Prelude.{ℕ, ◌≡◌, ◌≤◌, ◌<◌, ◌^◌, List,
 use Rattle.std.specs.List.{AllByRecursion}
 use Rattle.model_base.specs.declared.shape.Shape.{Shape}
 use Rattle.model_base.specs.declared.limits.TheConstants.{LSN_LIMIT}
-use Rattle.model_log.specs.{end_of, groups_of, IsBoundary, layout_of, newest_checkpoint, spans_of}
+use Rattle.model_log.specs.{end_of, groups_of, IsBoundary, newest_checkpoint, run_layout, spans_of}
+use Rattle.model_log.specs.declared.head.Format.TheVariants.{Two}
 use Rattle.model_log.specs.declared.group.Whole.{Whole}
 use Rattle.model_log.specs.declared.block.BlockView.{BlockView}
 use Rattle.model_store.specs.{HasHead, IsBadRecord, IsScan, IsStorable, Source, taken}
@@ -29,21 +30,21 @@ pub record ScansTo (shape : Shape) (most s : ℕ) (wholes : List Whole) (low hig
   pub read_end : AllByRecursion (λ (whole : Whole). whole.end ≤ mark) (before ++ middle)
   pub other_ends : AllByRecursion (λ (whole : Whole). mark < whole.end) after
 
--- What is read off an image of a log device that holds the run: a newest checkpoint, and from there on the groups up
+-- What is read off a fair image of a log device that holds the run: a newest checkpoint, and from there on the groups up
 -- to a boundary from the stable mark up to the last one given. The scan isn't refused.
 pub record CrashReads (shape : Shape) (s : ℕ) (wholes : List Whole) (marks : LogMarks) (image : List ℕ) : Type 0 where
   pub number : ℕ
   pub ckpt : ℕ
-  pub head : HasHead image shape
-  pub newest : newest_checkpoint shape image ≡ Some (number, ckpt)
+  pub head : HasHead image Two shape
+  pub newest : newest_checkpoint (run_layout shape) image ≡ Some (number, ckpt)
   pub from : marks.ckpt ≤ ckpt
   pub up_to : ckpt ≤ marks.asked
-  pub scan : ScansTo shape (layout_of shape).blocks s wholes marks.stable marks.given ckpt (taken shape image)
-  pub not_refused : (lsn : ℕ) → IsBadRecord shape (layout_of shape).blocks (taken shape image) ckpt lsn → ⊥
+  pub scan : ScansTo shape (run_layout shape).blocks s wholes marks.stable marks.given ckpt (taken (run_layout shape) image)
+  pub not_refused : (lsn : ℕ) → IsBadRecord shape (run_layout shape).blocks (taken (run_layout shape) image) ckpt lsn → ⊥
 
 -- the groups fit the store, and their lsns are below the limit
 pub record FitsStore (shape : Shape) (wholes : List Whole) (marks : LogMarks) : Type 0 where
   pub good : AllByRecursion (IsStorable shape) (groups_of wholes)
   pub small : marks.given ≤ LSN_LIMIT
-  pub some_blocks : 1 ≤ (layout_of shape).blocks
-  pub few_blocks : (layout_of shape).blocks < 2 ^ 30
+  pub some_blocks : 1 ≤ (run_layout shape).blocks
+  pub few_blocks : (run_layout shape).blocks < 2 ^ 30

@@ -4,10 +4,10 @@ use Rattle.model_device.specs.Disk.{Disk}
 use Rattle.model_store.specs.Reading.{Reading}
 use Rattle.model_parts.specs.LogFresh.{IsFresh}
 use Rattle.model_parts.specs.Stored.{IsUpTo, read_as, Stored}
-use Rattle.model_parts.specs.Opened.{start_of}
+use Rattle.model_parts.specs.Opened.{numbers_taken, start_of}
 
--- The log device has the next checkpoint where the run starts, and nothing is read from there on; each place of the data device
+-- The log device has the last checkpoint of opening where the run starts, and nothing is read from there on; each place of the data device
 -- holds its page as it was read, nothing is pending, and no copy is ahead of its page.
 pub record IsReady (opened : Reading) (log_disk data_disk : Disk) : Type 0 where
-  pub log : IsFresh opened.shape (start_of opened) (opened.number + 1) log_disk
+  pub log : IsFresh opened.shape (start_of opened) (opened.number + numbers_taken opened.format) log_disk
   pub pages : Stored opened.shape (IsUpTo (read_as opened)) (read_as opened) [] false data_disk

@@ -11,9 +11,10 @@ mod opening_laws;
 
 pub use data_laws::{crash_keeps, opened_is_stored, orderly_is_opened, zeros_are_opened};
 pub use log_laws::{crash_reads, longer_run};
-pub use marks::LogMarks;
+pub use marks::{LogMarks, TailMarks};
 pub use opening_laws::{
-    cleared_is_unread, formatted_is_openable, marked_is_fresh, marking_keeps, marking_reads,
-    next_reads, openable_reads, opened_again, opened_is_ready, repairing_rewrites, rewriting_keeps,
-    rewriting_reads, stored_is_rewritten, writing_rewrites,
+    clearing_keeps, clearing_reads, formatted_is_openable, kept_head_is_read, kept_head_keeps,
+    marked_is_fresh, marking_keeps, marking_reads, migrated_is_fresh, migrating_keeps,
+    migrating_reads, openable_reads, opened_again, opened_is_ready, repairing_rewrites,
+    stored_is_rewritten, writing_rewrites,
 };

@@ -1,4 +1,4 @@
-// The marks of a log device.
+// The marks of a log device, and those of its tail blocks.
 
 /// How far the log on a device is written and stable, and its newest checkpoint. Marks are lsns.
 #[derive(Clone, Copy, Debug, PartialEq, Eq)]
@@ -15,4 +15,16 @@ pub struct LogMarks {
     pub ckpt: u64,
     /// The last lsn given to `checkpoint`, whatever it answered.
     pub asked: u64,
+}
+
+/// How far the last good sync, be it a checkpoint's, made the run of a log device stay, and which tail blocks hold its end.
+/// Tail blocks are numbered as blocks of the device.
+#[derive(Clone, Copy, Debug, PartialEq, Eq)]
+pub struct TailMarks {
+    /// Up to here the run stays by the last good sync.
+    pub kept: u64,
+    /// The tail block that holds the incomplete block of that mark. The next version goes to the other one.
+    pub tail: u64,
+    /// The tail block that holds the incomplete block of the written mark.
+    pub newest: u64,
 }

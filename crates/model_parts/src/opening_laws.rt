@@ -1,61 +1,94 @@
 // What holds of every store while it is opened.
-ghost use Rattle.std.specs.Prelude.{◌≡◌, ◌+◌, ℕ, List, [], length, false};
+ghost use Rattle.std.specs.Prelude.{◌≡◌, ◌+◌, ℕ, List, [], length, false, Option};
 ghost use Rattle.model_base.specs.{IsWithinLimits};
 ghost use Rattle.model_base.specs.declared.shape.Shape.{Shape};
-ghost use Rattle.model_device.specs.{Crashes, IsImage, settled};
+ghost use Rattle.model_device.specs.{Crashes, sector, settled};
 ghost use Rattle.model_device.specs.Disk.{Disk};
-ghost use Rattle.model_parts.specs.Batch.{Fresh};
-ghost use Rattle.model_parts.specs.Repair.{KeepsAll};
-ghost use Rattle.model_parts.specs.Stored.{IsUpTo, Keeps, read_as, Stored};
-ghost use Rattle.model_parts.specs.LogFresh.{IsFresh};
+ghost use Rattle.model_log.specs.{checkpoint_text, place_of};
+ghost use Rattle.model_log.specs.declared.head.Format.TheVariants.{One, Two};
 ghost use Rattle.model_page.specs.declared.content.Content.{Content};
-ghost use Rattle.model_store.specs.{IsFair, IsOrderly, IsReading};
-ghost use Rattle.model_store.specs.Reading.{Reading};
 ghost use Rattle.model_parts.specs.Again.{HasRoom, OpensAgain};
-ghost use Rattle.model_parts.specs.Cleared.{IsClearing, IsCleared, HasSameHeaders};
+ghost use Rattle.model_parts.specs.Batch.{Fresh};
+ghost use Rattle.model_parts.specs.Changes.{IsPut, IsPutting};
+ghost use Rattle.model_parts.specs.Found.{KeepsHead};
+ghost use Rattle.model_parts.specs.Cleared.{IsCleared, IsClearing};
 ghost use Rattle.model_parts.specs.Formatted.{IsFormatted, formatted_store};
-ghost use Rattle.model_parts.specs.Next.{IsUnread, IsMarked, IsMarking};
-ghost use Rattle.model_parts.specs.Opened.{IsOpenable, ReadsOpened, KeepsOpened, start_of, start_block};
+ghost use Rattle.model_parts.specs.LogFresh.{IsFresh};
+ghost use Rattle.model_parts.specs.Migrating.{IsMigrated, IsMigrating};
+ghost use Rattle.model_parts.specs.Opened.{IsOpenable, ReadsOpened, KeepsOpened, found_layout, numbers_taken, start_of, start_block};
 ghost use Rattle.model_parts.specs.Ready.{IsReady};
+ghost use Rattle.model_parts.specs.Repair.{KeepsAll};
 ghost use Rattle.model_parts.specs.Rewritten.{IsRewriting, IsRewritten};
+ghost use Rattle.model_parts.specs.Stored.{IsUpTo, Keeps, read_as, Stored};
 ghost use Rattle.model_parts.specs.Written.{IsWrittenOver};
+ghost use Rattle.model_store.specs.{AreFoundIn, IsFair, IsFairLog, IsOrderly, IsReading};
+ghost use Rattle.model_store.specs.declared.tail.Tail.{Tail};
+ghost use Rattle.model_store.specs.Reading.{Reading};
 
-/// While log blocks outside the kept range are cleared away, and pages are repaired and written as they are read, the
-/// store is read with the same pages, and its log from the same checkpoint with the same groups and the same end.
-pub fn rewriting_reads()
-    ensures { (opened : Reading) (log_bytes data_bytes new_log new_data : List ℕ) → IsReading log_bytes data_bytes opened
-        → HasSameHeaders log_bytes new_log → IsClearing opened.shape opened.ckpt (start_of opened) log_bytes new_log
+/// While the two header blocks are made alike, the log is read as it was.
+pub fn kept_head_is_read()
+    ensures reads { (opened : Reading) (log_bytes data_bytes new_log : List ℕ) → IsReading log_bytes data_bytes opened
+        → KeepsHead log_bytes new_log → IsReading new_log data_bytes opened }
+    ensures orderly { (opened : Reading) (log_bytes data_bytes new_log : List ℕ) → IsOrderly log_bytes data_bytes opened
+        → KeepsHead log_bytes new_log → IsOrderly new_log data_bytes opened }
+    ensures found { (opened : Reading) (log_bytes new_log : List ℕ) (tail : Option Tail)
+        → AreFoundIn (found_layout opened) log_bytes opened.ckpt opened.views tail → KeepsHead log_bytes new_log
+        → AreFoundIn (found_layout opened) new_log opened.ckpt opened.views tail }
+{}
+
+/// While log blocks outside the kept range are cleared away, in two stages, and pages are repaired and written as they are
+/// read, the store is read with the same pages, and its log from the same checkpoint with the same groups and the same
+/// end.
+pub fn clearing_reads()
+    ensures { (opened : Reading) (log_bytes data_bytes new_log new_data : List ℕ) (tail : Option Tail)
+        → IsReading log_bytes data_bytes opened → AreFoundIn (found_layout opened) log_bytes opened.ckpt opened.views tail
+        → IsClearing (found_layout opened) opened.ckpt (start_of opened) tail log_bytes new_log
         → IsRewriting opened data_bytes new_data → ReadsOpened opened new_log new_data }
 {}
 
-/// Once all of those blocks are cleared away, no block is read from the run's start up to one round of the log on.
-pub fn cleared_is_unread()
-    ensures { (opened : Reading) (log_bytes data_bytes new_log : List ℕ) → IsReading log_bytes data_bytes opened
-        → IsCleared opened.shape opened.ckpt (start_of opened) log_bytes new_log → IsUnread opened.shape (start_block opened) new_log }
-{}
-
-/// Then, with each page kept as it is read, the next checkpoint changes no page.
-pub fn next_reads()
-    ensures { (opened : Reading) (log_bytes data_bytes old_log new_log new_data : List ℕ) → IsOrderly log_bytes data_bytes opened
-        → HasSameHeaders log_bytes old_log → IsUnread opened.shape (start_block opened) old_log
-        → IsMarked opened.shape (opened.number + 1) (start_block opened) old_log new_log
-        → length old_log ≡ length log_bytes → IsRewritten opened new_data → ReadsOpened opened new_log new_data }
-{}
-
-/// The same at each moment while that checkpoint is written, be it there or not.
+/// Once they are, and each page is kept as it is read, the next checkpoint changes no page, at each moment while it is
+/// written.
 pub fn marking_reads()
-    ensures { (opened : Reading) (log_bytes data_bytes old_log new_log new_data : List ℕ) → IsOrderly log_bytes data_bytes opened
-        → HasSameHeaders log_bytes old_log → IsCleared opened.shape opened.ckpt (start_of opened) log_bytes old_log
-        → IsMarking opened.shape (opened.number + 1) (start_block opened) old_log new_log
+    ensures { (opened : Reading) (log_bytes data_bytes old_log new_log new_data : List ℕ) (tail : Option Tail)
+        → IsOrderly log_bytes data_bytes opened → AreFoundIn (found_layout opened) log_bytes opened.ckpt opened.views tail
+        → IsCleared (found_layout opened) opened.ckpt (start_of opened) tail log_bytes old_log
+        → IsPutting (place_of (opened.number + 1)) (checkpoint_text (opened.number + 1) (start_block opened) (found_layout opened))
+        old_log new_log
         → IsRewritten opened new_data → ReadsOpened opened new_log new_data }
 {}
 
-/// And once it stays, a run can start on the log device.
+/// And once it stays, a run can start on the log device, by format 2.
 pub fn marked_is_fresh()
-    ensures { (opened : Reading) (log_bytes data_bytes old_log new_log : List ℕ) → IsOrderly log_bytes data_bytes opened
-        → HasSameHeaders log_bytes old_log → IsCleared opened.shape opened.ckpt (start_of opened) log_bytes old_log
-        → IsMarked opened.shape (opened.number + 1) (start_block opened) old_log new_log
+    ensures { (opened : Reading) (log_bytes data_bytes old_log new_log : List ℕ) (tail : Option Tail)
+        → IsOrderly log_bytes data_bytes opened → AreFoundIn (found_layout opened) log_bytes opened.ckpt opened.views tail
+        → sector 2 log_bytes ≡ sector 0 log_bytes → opened.format ≡ Two
+        → IsCleared (found_layout opened) opened.ckpt (start_of opened) tail log_bytes old_log
+        → IsPut (place_of (opened.number + 1)) (checkpoint_text (opened.number + 1) (start_block opened) (found_layout opened))
+        old_log new_log
         → IsFresh opened.shape (start_of opened) (opened.number + 1) (settled new_log) }
+{}
+
+/// A store of format 1 is read with the opened pages at each moment while it is taken to format 2 after that.
+pub fn migrating_reads()
+    ensures { (opened : Reading) (log_bytes data_bytes old_log marked_log new_log new_data : List ℕ) (tail : Option Tail)
+        → IsOrderly log_bytes data_bytes opened → AreFoundIn (found_layout opened) log_bytes opened.ckpt opened.views tail
+        → sector 2 log_bytes ≡ sector 0 log_bytes → opened.format ≡ One
+        → IsCleared (found_layout opened) opened.ckpt (start_of opened) tail log_bytes old_log
+        → IsPut (place_of (opened.number + 1)) (checkpoint_text (opened.number + 1) (start_block opened) (found_layout opened))
+        old_log marked_log
+        → IsMigrating opened.shape (opened.number + 2) (start_block opened) marked_log new_log
+        → IsRewritten opened new_data → ReadsOpened opened new_log new_data }
+{}
+
+/// And then a run can start on it.
+pub fn migrated_is_fresh()
+    ensures { (opened : Reading) (log_bytes data_bytes old_log marked_log new_log : List ℕ) (tail : Option Tail)
+        → IsOrderly log_bytes data_bytes opened → AreFoundIn (found_layout opened) log_bytes opened.ckpt opened.views tail
+        → IsCleared (found_layout opened) opened.ckpt (start_of opened) tail log_bytes old_log
+        → IsPut (place_of (opened.number + 1)) (checkpoint_text (opened.number + 1) (start_block opened) (found_layout opened))
+        old_log marked_log
+        → IsMigrated opened.shape (opened.number + 2) (start_block opened) marked_log new_log
+        → IsFresh opened.shape (start_of opened) (opened.number + 2) (settled new_log) }
 {}
 
 /// While the places that don't pass are repaired, each fair image of the data device is one that is being rewritten.
@@ -79,32 +112,59 @@ pub fn stored_is_rewritten()
         → IsFair opened.shape disk image → IsRewritten opened image }
 {}
 
-/// So as long as the log is cleared and pages are repaired and written, opening keeps the pages, in every image of the log
-/// device with every fair image of the data device.
-pub fn rewriting_keeps()
+/// So while the header blocks are made alike, opening keeps the pages, in every fair image of the two devices.
+pub fn kept_head_keeps()
     ensures { (opened : Reading) (log_bytes data_bytes : List ℕ) (log_disk data_disk : Disk) → IsReading log_bytes data_bytes opened
-        → ((image : List ℕ) → IsImage log_disk image → HasSameHeaders log_bytes image)
-        → ((image : List ℕ) → IsImage log_disk image → IsClearing opened.shape opened.ckpt (start_of opened) log_bytes image)
+        → ((image : List ℕ) → IsFairLog log_disk image → KeepsHead log_bytes image)
+        → ((image : List ℕ) → IsFair opened.shape data_disk image → IsRewriting opened data_bytes image)
+        → KeepsOpened opened log_disk data_disk }
+{}
+
+/// So it does as long as the log is cleared and pages are repaired and written.
+pub fn clearing_keeps()
+    ensures { (opened : Reading) (log_bytes data_bytes : List ℕ) (tail : Option Tail) (log_disk data_disk : Disk)
+        → IsReading log_bytes data_bytes opened → AreFoundIn (found_layout opened) log_bytes opened.ckpt opened.views tail
+        → ((image : List ℕ) → IsFairLog log_disk image
+        → IsClearing (found_layout opened) opened.ckpt (start_of opened) tail log_bytes image)
         → ((image : List ℕ) → IsFair opened.shape data_disk image → IsRewriting opened data_bytes image)
         → KeepsOpened opened log_disk data_disk }
 {}
 
 /// And so it does while the next checkpoint is written, once each place holds its page.
 pub fn marking_keeps()
-    ensures { (opened : Reading) (log_bytes data_bytes old_log : List ℕ) (log_disk data_disk : Disk) → IsOrderly log_bytes data_bytes opened
-        → HasSameHeaders log_bytes old_log → IsCleared opened.shape opened.ckpt (start_of opened) log_bytes old_log
-        → ((image : List ℕ) → IsImage log_disk image → IsMarking opened.shape (opened.number + 1) (start_block opened) old_log image)
+    ensures { (opened : Reading) (log_bytes data_bytes old_log : List ℕ) (tail : Option Tail) (log_disk data_disk : Disk)
+        → IsOrderly log_bytes data_bytes opened → AreFoundIn (found_layout opened) log_bytes opened.ckpt opened.views tail
+        → IsCleared (found_layout opened) opened.ckpt (start_of opened) tail log_bytes old_log
+        → ((image : List ℕ) → IsFairLog log_disk image
+        → IsPutting (place_of (opened.number + 1)) (checkpoint_text (opened.number + 1) (start_block opened) (found_layout opened))
+        old_log image)
         → Stored opened.shape (IsUpTo (read_as opened)) (read_as opened) [] false data_disk
         → KeepsOpened opened log_disk data_disk }
 {}
 
-/// Once the checkpoint stays, the store is ready for a run.
-pub fn opened_is_ready()
-    ensures { (opened : Reading) (log_bytes data_bytes old_log new_log : List ℕ) (data_disk : Disk) → IsOrderly log_bytes data_bytes opened
-        → HasSameHeaders log_bytes old_log → IsCleared opened.shape opened.ckpt (start_of opened) log_bytes old_log
-        → IsMarked opened.shape (opened.number + 1) (start_block opened) old_log new_log
+/// And while a store of format 1 is taken to format 2.
+pub fn migrating_keeps()
+    ensures { (opened : Reading) (log_bytes data_bytes old_log marked_log : List ℕ) (tail : Option Tail) (log_disk data_disk : Disk)
+        → IsOrderly log_bytes data_bytes opened → AreFoundIn (found_layout opened) log_bytes opened.ckpt opened.views tail
+        → sector 2 log_bytes ≡ sector 0 log_bytes → opened.format ≡ One
+        → IsCleared (found_layout opened) opened.ckpt (start_of opened) tail log_bytes old_log
+        → IsPut (place_of (opened.number + 1)) (checkpoint_text (opened.number + 1) (start_block opened) (found_layout opened))
+        old_log marked_log
+        → ((image : List ℕ) → IsFairLog log_disk image
+        → IsMigrating opened.shape (opened.number + 2) (start_block opened) marked_log image)
         → Stored opened.shape (IsUpTo (read_as opened)) (read_as opened) [] false data_disk
-        → IsReady opened (settled new_log) data_disk }
+        → KeepsOpened opened log_disk data_disk }
+{}
+
+/// Once a run can start on the log device, and each place holds its page, the store is ready, and it is read with the
+/// opened pages.
+pub fn opened_is_ready()
+    ensures ready { (opened : Reading) (log_disk data_disk : Disk)
+        → IsFresh opened.shape (start_of opened) (opened.number + numbers_taken opened.format) log_disk
+        → Stored opened.shape (IsUpTo (read_as opened)) (read_as opened) [] false data_disk
+        → IsReady opened log_disk data_disk }
+    ensures reads { (opened : Reading) (log_bytes data_bytes : List ℕ) (log_disk data_disk : Disk)
+        → IsOrderly log_bytes data_bytes opened → IsReady opened log_disk data_disk → KeepsOpened opened log_disk data_disk }
 {}
 
 /// A store that may be opened is read so before the first step of opening.
@@ -122,6 +182,6 @@ pub fn formatted_is_openable()
 /// So a store whose opening was stopped by a crash may be opened again, with the same pages.
 pub fn opened_again()
     ensures { (opened : Reading) (log_disk data_disk log_left data_left : Disk) → KeepsOpened opened log_disk data_disk → HasRoom opened
-        → Crashes log_disk log_left → Crashes data_disk data_left → IsFair opened.shape data_disk data_left.reads
-        → OpensAgain opened log_left data_left }
+        → Crashes log_disk log_left → Crashes data_disk data_left → IsFairLog log_disk log_left.reads
+        → IsFair opened.shape data_disk data_left.reads → OpensAgain opened log_left data_left }
 {}

@@ -1,3 +1,4 @@
+mod Cuts
 mod Parts
 mod SomeWrites
 mod WriteTo

@@ -1,239 +1,140 @@
--- The blocks that are cut from what `write_to` is given, as one or two device writes.
-use Rattle.std.proofs.Common.{◌≡◌, ◌≢◌, ◌≤◌, ◌<◌, ◌+◌, ◌-◌, ◌*◌, ◌/◌, ◌%◌, ◌^◌, ℕ, min, List, [], ◌∷◌, length, take, drop, refl, sym, ap, subst, ◌∙◌, ⊎_elim, length-take, length-drop, arith}
-use Rattle.std.proofs.lemmas.List.{take_all, take-take, drop-take, drop-drop}
+-- What `write_to` writes, as up to three device writes.
+use Rattle.std.proofs.Common.{◌≡◌, ◌≤◌, ◌<◌, ◌+◌, ◌*◌, ◌%◌, ◌⊎◌, ℕ, inl, inr, List, [], ◌∷◌, length, take, drop, refl, sym, subst, ⊎_elim, length-drop, arith}
 use Rattle.std.proofs.lemmas.Bool.{cases_lt}
-use Rattle.std.proofs.lemmas.Nat.{div-add-mod', mod-mul-add}
 use Rattle.model_base.specs.declared.shape.Shape.{Shape}
-use Rattle.model_log.specs.declared.group.Whole.{Whole}
-use Rattle.model_device.specs.{Adds, Covers, FailsWrite}
+use Rattle.model_device.specs.{Covers, FailsWrite}
 use Rattle.model_device.specs.Disk.{Disk}
 use Rattle.model_device.specs.declared.write.Write.{Write}
-use Rattle.model_log.specs.{block_of, framed, IsAtDataStart, IsBoundaryBlock, IsDataLsn, IsGivenTo, layout_of, log_device_length, place_in, place_of, ring_start, round_of, sector_of, sn_of}
-use Rattle.model_log.proofs.Runs.{lsn-before}
-use Rattle.model_log.proofs.BoundaryLengths.{sn_of-block, sn_of-header}
-use Rattle.model_log.proofs.CutStream.{length-framed, given-framed, some-below}
-use Rattle.model_parts.specs.{after_given, after_written, AreInOrder, IsLive, IsWritten, LogHolds, other_place}
-use Rattle.model_parts.specs.declared.marks.LogMarks.{LogMarks}
-use Rattle.model_device.proofs.MayHold.{adds-failed}
+use Rattle.model_log.specs.declared.group.Whole.{Whole}
+use Rattle.model_log.specs.{block_of, framed, IsDataLsn, IsGivenTo, IsTailPlace, log_device_length, other_tail, place_in, ring_start, round_of, run_layout, sector_of, turn_of}
+use Rattle.model_log.proofs.CutStream.{length-framed}
 use Rattle.model_log.proofs.Places.{place-within, sector-place}
-use Rattle.model_parts.proofs.Writing.{WritesBlocks, IsWriting, writing-begin, writing-adds, writing-more, writing-end}
-use Rattle.redo_block.specs.{AreFirsts}
+use Rattle.model_parts.specs.declared.marks.LogMarks.{LogMarks}
+use Rattle.model_parts.specs.declared.marks.TailMarks.{TailMarks}
+use Rattle.model_parts.specs.{after_given, after_written, AreInOrder, IsLive, LogHoldsWith, tails_written}
+use Rattle.model_parts.proofs.Puts.{adds-holds, WritesFull, WritesTail}
+use Rattle.model_parts.proofs.Torn.{AddsTorn, fails-torn}
+use Rattle.model_parts.proofs.Writing.{full-adds, IsWriting, tail-adds, writing-begin, writing-end, writing-more, writing-tail}
 use Rattle.redo_disk.specs.{write_at}
-use Rattle.redo_logdev.specs.Calls.{written_if, front_of, back_of, written_round, FailsRound}
-
-some-of : (stream : List ℕ) → stream ≢ [] → 1 ≤ length stream
-some-of [] some = absurd (some refl)
-some-of (x ∷ stream) some = omega arith
-
--- there are as many first offsets as the bytes fill blocks
-pub count-firsts : (stream firsts : List ℕ) → AreFirsts stream firsts → (496 * length firsts < length stream + 496) × (length stream ≤ 496 * length firsts)
-count-firsts stream [] is = (omega (arith, ap length is), omega (arith, ap length is))
-count-firsts stream (first ∷ firsts) is =
-    let rest = count-firsts (drop 496 stream) firsts is.2 in
-    let some : 1 ≤ length stream = some-of stream is.0 in
-    (omega (arith, rest.0, length-drop 496 stream), omega (arith, rest.1, length-drop 496 stream))
-
--- the blocks reach the mark
-pub all-below : (from mark count : ℕ) → from % 512 ≡ 0 → IsDataLsn mark → sn_of mark ≤ sn_of from + 496 * count → mark ≤ from + 512 * count + 12
-all-below from mark count aligned place most =
-    let here : sn_of (from + 512 * count) ≡ sn_of from + 496 * count = sn_of-block from count aligned in
-    let header : sn_of (from + 512 * count + 12) ≡ sn_of (from + 512 * count) = sn_of-header (from + 512 * count) (omega arith) in
-    lsn-before mark (from + 512 * count + 12) place (omega arith, omega arith) (omega arith)
-
--- where the blocks end for a mark
-pub ends-below : (from mark count : ℕ) → from % 512 ≡ 0 → 496 * count < sn_of mark - sn_of from + 496 → 1 ≤ count → from + 512 * count < mark + 500
-ends-below from mark count aligned few some =
-    let last : ℕ = count - 1 in
-    let is : count ≡ last + 1 = omega arith in
-    let low : from + 512 * last + 12 < mark = some-below from mark last aligned (omega arith) in
-    omega arith
-
--- THE CUT: c of the blocks from the k-th on, as one write at their place
-cut-writes : (shape : Shape) (s : ℕ) (wholes : List Whole) (mark least from ckpt k c : ℕ) (bytes firsts : List ℕ) (write : Write)
-    → IsAtDataStart s → block_of s ≤ from → from % 512 ≡ 0 → least ≤ from → ckpt < 2 ^ 32
-    → AreFirsts bytes firsts → length bytes ≡ sn_of mark - sn_of from → IsGivenTo s wholes from mark bytes firsts
-    → k + c ≤ length firsts → from + 512 * (k + c) ≤ least + round_of (layout_of shape) → write.at ≡ place_in (layout_of shape) (from + 512 * k)
-    → write.at + 512 * c ≤ log_device_length shape → write.bytes ≡ take (512 * c) (drop (512 * k) (framed bytes from firsts ckpt))
-    → WritesBlocks shape s wholes mark least (from + 512 * k) c write
-cut-writes shape s wholes mark least from ckpt k c bytes firsts write start low aligned behind ckpt_small fit count given few within_round place within_log text =
-    let all : List ℕ = framed bytes from firsts ckpt in
-    let counts = count-firsts bytes firsts fit in
-    let long : length all ≡ 512 * length firsts = length-framed bytes firsts from ckpt in
-    let some : (i : ℕ) → i < c → 496 * (k + i) < sn_of mark - sn_of from = λ i below. omega (arith, counts.0) in
-    record {
-      aligned = omega arith;
-      behind = omega arith;
-      within_round = omega arith;
-      at_place = place;
-      within_log = within_log;
-      long = ap length text ∙ length-take (512 * c) (drop (512 * k) all) ∙ omega (arith, length-drop (512 * k) all);
-      some = λ i below. (
-          let here : from + 512 * (k + i) + 12 < mark = some-below from mark (k + i) aligned (some i below) in omega arith);
-      each = λ i below. (
-          let b : ℕ = from + 512 * (k + i) in
-          let at : b ≡ from + 512 * k + 512 * i = omega arith in
-          let skip : 512 * k + 512 * i ≡ 512 * (k + i) = omega arith in
-          let within : 512 * c ≡ 512 * i + (512 * c - 512 * i) = omega arith in
-          let part : take 512 (drop (512 * i) write.bytes) ≡ take 512 (drop (512 * (k + i)) all) =
-          ap (λ (x : List ℕ). take 512 (drop (512 * i) x)) text
-          ∙ ap (λ n. take 512 (drop (512 * i) (take n (drop (512 * k) all)))) within
-          ∙ ap (take 512) (drop-take (512 * i) (512 * c - 512 * i) (drop (512 * k) all))
-          ∙ take-take 512 (512 * c - 512 * i) (drop (512 * i) (drop (512 * k) all)) (omega arith)
-          ∙ ap (take 512) (drop-drop (512 * i) (512 * k) all ∙ ap (λ n. drop n all) skip) in
-          let block : IsBoundaryBlock s wholes mark b (take 512 (drop (512 * (k + i)) all)) =
-          given-framed s wholes from mark ckpt (k + i) bytes firsts start low aligned ckpt_small given (omega arith) in
-          subst (λ (x : ℕ). IsBoundaryBlock s wholes mark x (take 512 (drop (512 * i) write.bytes))) at
-          (subst (λ (x : List ℕ). IsBoundaryBlock s wholes mark b x) (sym part) block));
-    }
-
--- the log's end is followed by its start
-place-wrap : (shape : Shape) (b c : ℕ) → b % 512 ≡ 0 → 8192 ≤ b → 1 ≤ (layout_of shape).blocks → place_in (layout_of shape) b + 512 * c ≡ log_device_length shape
-    → place_in (layout_of shape) (b + 512 * c) ≡ ring_start (layout_of shape)
-place-wrap shape b c aligned started some at_end =
-    let n : ℕ = round_of (layout_of shape) in
-    let x : ℕ = block_of b - 8192 in
-    let parts : x / n * n + x % n ≡ x = div-add-mod' x n in
-    let next : block_of (b + 512 * c) - 8192 ≡ (x / n + 1) * n + 0 = omega arith in
-    let rest : ((x / n + 1) * n + 0) % n ≡ 0 = mod-mul-add (x / n + 1) n 0 (omega arith) in
-    ap (λ m. ring_start (layout_of shape) + m % n) next ∙ ap (λ m. ring_start (layout_of shape) + m) rest
+use Rattle.redo_logdev.specs.Calls.{back_of, FailsBlocks, front_of, written_blocks, written_if, written_round}
+use Rattle.redo_logdev.proofs.Cuts.{Cuts, cuts-of, Ends, ends-of, IsCut, tail-writes}
 
 -- a write of no bytes changes nothing
-empty-adds : (shape : Shape) (s : ℕ) (wholes : List Whole) (marks : LogMarks) (write : Write) (old new : Disk) → length write.bytes ≡ 0 → Adds write old new
-    → LogHolds shape s wholes marks old → LogHolds shape s wholes marks new
-empty-adds shape s wholes marks write old new none adds holds =
+empty-adds : (shape : Shape) (s : ℕ) (wholes : List Whole) (marks : LogMarks) (tails : TailMarks) (write : Write) (old new : Disk) → length write.bytes ≡ 0 → write.at % 512 ≡ 0 → write.at ≤ log_device_length shape
+    → AddsTorn write old new → LogHoldsWith shape s wholes marks tails old → LogHoldsWith shape s wholes marks tails new
+empty-adds shape s wholes marks tails write old new none aligned within adds holds =
     let never : (k : ℕ) → Covers write k → ⊥ = λ k covers. omega (arith, covers.from, covers.up_to) in
-    record {
-      long = omega (arith, adds.same_length, holds.long);
-      head = λ bytes is. ⊎_elim (λ before. holds.head bytes before) (λ here. absurd (never _ here.0)) (adds.each 0 bytes is);
-      order = holds.order;
-      blocks = λ b in_round bytes is. ⊎_elim (λ before. holds.blocks b in_round bytes before) (λ here. absurd (never _ here.0)) (adds.each _ bytes is);
-      checkpoint = λ bytes is. ⊎_elim (λ before. holds.checkpoint bytes before) (λ here. absurd (never _ here.0)) (adds.each (place_of marks.number) bytes is);
-      beside = λ bytes is. ⊎_elim (λ before. holds.beside bytes before) (λ here. absurd (never _ here.0)) (adds.each (other_place marks.number) bytes is);
-    }
+    adds-holds shape s wholes marks marks tails old new write holds
+    (record { same_stable = refl; same_written = refl; same_number = refl; same_ckpt = refl; given = omega arith; asked = omega arith }) holds.order
+    (record {
+      sectors = record { aligned = aligned; whole = omega arith; within = omega arith };
+      spares = λ k is covers. never k covers;
+      blocks = λ b in_round covers bytes is. absurd (never _ covers);
+      tail_blocks = λ k at covers bytes is. absurd (never k covers);
+      beside = λ covers bytes is. absurd (never _ covers);
+    }) adds
 
--- a write of blocks, if there are any
-writing-if : (shape : Shape) (s : ℕ) (wholes : List Whole) (marks : LogMarks) (mark p count at : ℕ) (bytes : List ℕ) (disk : Disk) → length bytes ≡ 512 * count
-    → (1 ≤ count → WritesBlocks shape s wholes mark marks.ckpt p count (write_at at bytes)) → IsWriting shape s wholes marks mark p disk
-    → IsWriting shape s wholes marks mark (p + 512 * count) (written_if at bytes disk)
-writing-if shape s wholes marks mark p count at [] disk long writes is =
-    let same : p ≡ p + 512 * count = omega arith in subst (λ (q : ℕ). IsWriting shape s wholes marks mark q disk) same is
-writing-if shape s wholes marks mark p count at (byte ∷ bytes) disk long writes is =
-    writing-more shape s wholes marks mark p count (write_at at (byte ∷ bytes)) disk is (writes (omega arith))
+-- a write of full blocks, if there are any
+writing-if : (shape : Shape) (s : ℕ) (wholes : List Whole) (marks : LogMarks) (tails : TailMarks) (mark p count at : ℕ) (bytes : List ℕ) (disk : Disk) → 1 ≤ (run_layout shape).blocks → length bytes ≡ 512 * count
+    → (1 ≤ count → WritesFull shape s wholes tails.kept mark marks.ckpt p count (write_at at bytes)) → IsWriting shape s wholes marks tails mark p disk
+    → IsWriting shape s wholes marks tails mark (p + 512 * count) (written_if at bytes disk)
+writing-if shape s wholes marks tails mark p count at [] disk some long writes is =
+    let same : p ≡ p + 512 * count = omega arith in subst (λ (q : ℕ). IsWriting shape s wholes marks tails mark q disk) same is
+writing-if shape s wholes marks tails mark p count at (byte ∷ bytes) disk some long writes is =
+    writing-more shape s wholes marks tails mark p count (write_at at (byte ∷ bytes)) disk some is (writes (omega arith))
 
-writing-fails : (shape : Shape) (s : ℕ) (wholes : List Whole) (marks : LogMarks) (mark p count at : ℕ) (bytes : List ℕ) (old new : Disk) → length bytes ≡ 512 * count
-    → (1 ≤ count → WritesBlocks shape s wholes mark marks.ckpt p count (write_at at bytes)) → IsWriting shape s wholes marks mark p old
-    → FailsWrite (write_at at bytes) old new → LogHolds shape s wholes (after_given mark marks) new
-writing-fails shape s wholes marks mark p count at bytes old new long writes is fails =
-    ⊎_elim (λ none. empty-adds shape s wholes (after_given mark marks) (write_at at bytes) old new (omega arith) (adds-failed (write_at at bytes) old new fails) is.holds)
-    (λ some. writing-adds shape s wholes marks mark p count (write_at at bytes) old new is (writes some) (adds-failed (write_at at bytes) old new fails)) (cases_lt count 1)
+writing-fails : (shape : Shape) (s : ℕ) (wholes : List Whole) (marks : LogMarks) (tails : TailMarks) (mark p count at : ℕ) (bytes : List ℕ) (old new : Disk) → 1 ≤ (run_layout shape).blocks → length bytes ≡ 512 * count
+    → at % 512 ≡ 0 → at ≤ log_device_length shape → (1 ≤ count → WritesFull shape s wholes tails.kept mark marks.ckpt p count (write_at at bytes)) → IsWriting shape s wholes marks tails mark p old
+    → FailsWrite (write_at at bytes) old new → LogHoldsWith shape s wholes (after_given mark marks) tails new
+writing-fails shape s wholes marks tails mark p count at bytes old new some_blocks long aligned within writes is fails =
+    ⊎_elim (λ none. empty-adds shape s wholes (after_given mark marks) tails (write_at at bytes) old new (omega arith) aligned within (fails-torn (write_at at bytes) old new fails) is.holds)
+    (λ some. full-adds shape s wholes marks tails mark p count (write_at at bytes) old new some_blocks is (writes some) (fails-torn (write_at at bytes) old new fails)) (cases_lt count 1)
 
--- what is known of what `write_to` writes
-pub record IsCut (shape : Shape) (marks : LogMarks) (mark ckpt : ℕ) (bytes firsts : List ℕ) : Type 0 where
-  pub some_blocks : 1 ≤ (layout_of shape).blocks
-  pub few_blocks : (layout_of shape).blocks < 1073741824
-  pub place : IsDataLsn mark
-  pub later : marks.written ≤ mark
-  pub room : mark ≤ marks.ckpt + round_of (layout_of shape)
-  pub ckpt_small : ckpt < 2 ^ 32
-  pub count : length bytes ≡ sn_of mark - sn_of (block_of marks.written)
-  pub fit : AreFirsts bytes firsts
+-- after the writes in place
+half-written : (shape : Shape) (s : ℕ) (wholes : List Whole) (marks : LogMarks) (tails : TailMarks) (mark from full : ℕ) (all : List ℕ) (old : Disk) → 1 ≤ (run_layout shape).blocks
+    → (cuts : Cuts shape s wholes marks tails.kept mark from full all) → IsWriting shape s wholes marks tails mark from old
+    → IsWriting shape s wholes marks tails mark (from + 512 * full) (written_round (run_layout shape) from all old)
+half-written shape s wholes marks tails mark from full all old some cuts begun =
+    let at : ℕ = place_in (run_layout shape) from in
+    let front : List ℕ = front_of (run_layout shape) from all in
+    let back : List ℕ = back_of (run_layout shape) from all in
+    let half : IsWriting shape s wholes marks tails mark (from + 512 * cuts.first) (written_if at front old) =
+    writing-if shape s wholes marks tails mark from cuts.first at front old some cuts.front_long cuts.front_writes begun in
+    let whole : IsWriting shape s wholes marks tails mark (from + 512 * cuts.first + 512 * cuts.second) (written_if (ring_start (run_layout shape)) back (written_if at front old)) =
+    writing-if shape s wholes marks tails mark (from + 512 * cuts.first) cuts.second (ring_start (run_layout shape)) back (written_if at front old) some cuts.back_long cuts.back_writes half in
+    let same : from + 512 * cuts.first + 512 * cuts.second ≡ from + 512 * full = omega (arith, cuts.both) in
+    subst (λ (p : ℕ). IsWriting shape s wholes marks tails mark p (written_round (run_layout shape) from all old)) same whole
 
--- the two writes
-record Cuts (shape : Shape) (s : ℕ) (wholes : List Whole) (marks : LogMarks) (mark from : ℕ) (all : List ℕ) : Type 0 where
-  first : ℕ
-  second : ℕ
-  front_long : length (front_of shape from all) ≡ 512 * first
-  back_long : length (back_of shape from all) ≡ 512 * second
-  front_writes : 1 ≤ first → WritesBlocks shape s wholes mark marks.ckpt from first (write_at (place_in (layout_of shape) from) (front_of shape from all))
-  back_writes : 1 ≤ second → WritesBlocks shape s wholes mark marks.ckpt (from + 512 * first) second (write_at (ring_start (layout_of shape)) (back_of shape from all))
-  reached : mark ≤ from + 512 * first + 512 * second + 12
+-- the end of `write_to`: with the tail block's write, if there is one
+ended : (shape : Shape) (s : ℕ) (wholes : List Whole) (marks : LogMarks) (tails : TailMarks) (mark p at : ℕ) (part : List ℕ) (disk : Disk) → 1 ≤ (run_layout shape).blocks → mark < p + 524
+    → ((length part ≡ 0) × (mark ≤ block_of mark + 12)) ⊎ ((1 ≤ length part) × WritesTail s wholes mark (other_tail tails.tail) (write_at at part))
+    → IsWriting shape s wholes marks tails mark p disk → IsLive shape s wholes (after_written mark marks) (tails_written mark tails) (written_if at part disk)
+ended shape s wholes marks tails mark p at [] disk some reached (inl none) is = writing-end shape s wholes marks tails mark p disk reached none.1 is
+ended shape s wholes marks tails mark p at [] disk some reached (inr more) is = absurd (omega (arith, more.0))
+ended shape s wholes marks tails mark p at (byte ∷ part) disk some reached (inl none) is = absurd (omega (arith, none.0))
+ended shape s wholes marks tails mark p at (byte ∷ part) disk some reached (inr more) is =
+    writing-tail shape s wholes marks tails mark p (write_at at (byte ∷ part)) disk some reached is more.1
 
-cuts-of : (shape : Shape) (s : ℕ) (wholes : List Whole) (marks : LogMarks) (mark ckpt : ℕ) (bytes firsts : List ℕ) → AreInOrder (layout_of shape) s wholes marks
-    → IsCut shape marks mark ckpt bytes firsts → IsGivenTo s wholes (block_of marks.written) mark bytes firsts
-    → Cuts shape s wholes marks mark (block_of marks.written) (framed bytes (block_of marks.written) firsts ckpt)
-cuts-of shape s wholes marks mark ckpt bytes firsts order cut given =
+-- whether there is one
+tail-cases : (shape : Shape) (s : ℕ) (wholes : List Whole) (marks : LogMarks) (mark ckpt full k : ℕ) (bytes firsts : List ℕ) → AreInOrder (run_layout shape) s wholes marks → IsDataLsn marks.written
+    → IsCut shape marks mark ckpt full bytes firsts → IsGivenTo s wholes (block_of marks.written) mark bytes firsts
+    → let part : List ℕ = framed (drop (496 * full) bytes) (block_of marks.written + 512 * full) (drop full firsts) (turn_of (block_of marks.written + 512 * full)) in
+    ((length part ≡ 0) × (mark ≤ block_of mark + 12)) ⊎ ((1 ≤ length part) × WritesTail s wholes mark k (write_at (512 * k) part))
+tail-cases shape s wholes marks mark ckpt full k bytes firsts order written_place cut given =
+    let b : ℕ = block_of marks.written + 512 * full in
+    let ends : Ends shape marks mark full bytes firsts = ends-of shape marks mark ckpt full bytes firsts written_place cut in
+    let long : length (framed (drop (496 * full) bytes) b (drop full firsts) (turn_of b)) ≡ 512 * length (drop full firsts) = length-framed (drop (496 * full) bytes) (drop full firsts) b (turn_of b) in
+    ⊎_elim (λ more. let at = ends.some more in
+    inr (omega (arith, at.2, length-drop full firsts), tail-writes shape s wholes marks mark ckpt full k bytes firsts order written_place cut given more))
+    (λ not_more. let same : length bytes ≡ 496 * full = omega (arith, cut.low) in let at = ends.none same in
+    inl (omega (arith, at.1, length-drop full firsts), at.0)) (cases_lt (496 * full) (length bytes))
+
+pub write_to-ok : (shape : Shape) (s : ℕ) (wholes : List Whole) (marks : LogMarks) (tails : TailMarks) (mark ckpt full : ℕ) (bytes firsts : List ℕ) (old new : Disk)
+    → IsDataLsn marks.written → IsCut shape marks mark ckpt full bytes firsts → IsGivenTo s wholes (block_of marks.written) mark bytes firsts → IsLive shape s wholes marks tails old
+    → let from : ℕ = block_of marks.written in
+    new ≡ written_blocks (run_layout shape) from (framed (take (496 * full) bytes) from (take full firsts) ckpt) (512 * other_tail tails.tail) (framed (drop (496 * full) bytes) (from + 512 * full) (drop full firsts) (turn_of (from + 512 * full))) old
+    → IsLive shape s wholes (after_written mark marks) (tails_written mark tails) new
+write_to-ok shape s wholes marks tails mark ckpt full bytes firsts old new written_place cut given live same =
     let from : ℕ = block_of marks.written in
-    let at : ℕ = place_in (layout_of shape) from in
-    let m : ℕ = length firsts in
-    let all : List ℕ = framed bytes from firsts ckpt in
-    let end : ℕ = log_device_length shape in
-    let aligned : from % 512 ≡ 0 = omega arith in
-    let started : 8192 ≤ from = omega (arith, order.ckpt_started, order.ckpt_asked, order.asked_stable, order.stable_written) in
-    let behind : marks.ckpt ≤ from = omega (arith, order.ckpt_aligned, order.ckpt_asked, order.asked_stable, order.stable_written) in
-    let low : block_of s ≤ from = omega (arith, order.ckpt_from) in
-    let counts = count-firsts bytes firsts cut.fit in
-    let long : length all ≡ 512 * m = length-framed bytes firsts from ckpt in
-    let here : 512 * sector_of (layout_of shape) from ≡ at = sector-place (layout_of shape) from in
-    let at_low : at + 512 ≤ end = place-within (layout_of shape) from (record { some = cut.some_blocks; few = cut.few_blocks }) in
-    let rest : ℕ = (end - at) / 512 in
-    let rest_is : end - at ≡ 512 * rest = omega arith in
-    let first : ℕ = min m rest in
-    let second : ℕ = m - first in
-    let split : min (length all) (end - at) ≡ 512 * first = omega arith in
-    let within : from + 512 * m ≤ marks.ckpt + round_of (layout_of shape) =
-    ⊎_elim (λ none. omega (arith, cut.later, cut.room))
-    (λ some. let ends : from + 512 * m < mark + 500 = ends-below from mark m aligned (omega (arith, counts.0, cut.count)) some in
-    omega (arith, cut.place, cut.room, order.ckpt_aligned)) (cases_lt m 1) in
-    let zero_before : 0 ≡ 512 * 0 = omega arith in
-    let front_text : front_of shape from all ≡ take (512 * first) (drop (512 * 0) all) =
-    ap (λ n. take n all) split ∙ ap (λ n. take (512 * first) (drop n all)) zero_before in
-    record {
-      first = first;
-      second = second;
-      front_long = ap (λ n. length (take n all)) split ∙ length-take (512 * first) all ∙ omega arith;
-      back_long = ap (λ n. length (drop n all)) split ∙ length-drop (512 * first) all ∙ omega arith;
-      front_writes = λ some. (
-          let zero_on : from + 512 * 0 ≡ from = omega arith in
-          subst (λ (p : ℕ). WritesBlocks shape s wholes mark marks.ckpt p first (write_at at (front_of shape from all))) zero_on
-          (cut-writes shape s wholes mark marks.ckpt from ckpt 0 first bytes firsts (write_at at (front_of shape from all)) order.starts low aligned behind cut.ckpt_small cut.fit cut.count given
-          (omega arith) (omega arith) (ap (λ b. place_in (layout_of shape) b) (sym zero_on)) (omega arith) front_text));
-      back_writes = λ some. (
-          let wraps : at + 512 * first ≡ end = omega arith in
-          let place : place_in (layout_of shape) (from + 512 * first) ≡ ring_start (layout_of shape) = place-wrap shape from first aligned started cut.some_blocks wraps in
-          let rest_all : length (drop (512 * first) all) ≤ 512 * second = omega (arith, length-drop (512 * first) all) in
-          cut-writes shape s wholes mark marks.ckpt from ckpt first second bytes firsts (write_at (ring_start (layout_of shape)) (back_of shape from all)) order.starts low aligned behind cut.ckpt_small cut.fit cut.count given
-          (omega arith) (omega arith) (sym place) (omega arith)
-          (ap (λ n. drop n all) split ∙ sym (take_all (512 * second) (drop (512 * first) all) rest_all)));
-      reached = (
-          let most : sn_of mark ≤ sn_of from + 496 * m = omega (arith, counts.1, cut.count) in
-          let end_of_all : mark ≤ from + 512 * m + 12 = all-below from mark m aligned cut.place most in
-          omega arith);
-    }
+    let all : List ℕ = framed (take (496 * full) bytes) from (take full firsts) ckpt in
+    let k : ℕ = other_tail tails.tail in
+    let part : List ℕ = framed (drop (496 * full) bytes) (from + 512 * full) (drop full firsts) (turn_of (from + 512 * full)) in
+    let ends : Ends shape marks mark full bytes firsts = ends-of shape marks mark ckpt full bytes firsts written_place cut in
+    let begun : IsWriting shape s wholes marks tails mark from old = writing-begin shape s wholes marks tails old mark live given.boundary cut.later cut.room in
+    let cuts : Cuts shape s wholes marks tails.kept mark from full all = cuts-of shape s wholes marks tails.kept mark ckpt full bytes firsts live.holds.order live.holds.kept.up_to written_place cut given in
+    let whole : IsWriting shape s wholes marks tails mark (from + 512 * full) (written_round (run_layout shape) from all old) = half-written shape s wholes marks tails mark from full all old cut.some_blocks cuts begun in
+    subst (λ (disk : Disk). IsLive shape s wholes (after_written mark marks) (tails_written mark tails) disk) (sym same)
+    (ended shape s wholes marks tails mark (from + 512 * full) (512 * k) part (written_round (run_layout shape) from all old) cut.some_blocks ends.reached
+    (tail-cases shape s wholes marks mark ckpt full k bytes firsts live.holds.order written_place cut given) whole)
 
-pub write_to-ok : (shape : Shape) (s : ℕ) (wholes : List Whole) (marks : LogMarks) (mark ckpt : ℕ) (bytes firsts : List ℕ) (old new : Disk)
-    → IsCut shape marks mark ckpt bytes firsts → IsGivenTo s wholes (block_of marks.written) mark bytes firsts
-    → LogHolds shape s wholes marks old → IsWritten shape s wholes marks old
-    → new ≡ written_round shape (block_of marks.written) (framed bytes (block_of marks.written) firsts ckpt) old
-    → IsLive shape s wholes (after_written mark marks) new
-write_to-ok shape s wholes marks mark ckpt bytes firsts old new cut given holds is same =
+pub write_to-err : (shape : Shape) (s : ℕ) (wholes : List Whole) (marks : LogMarks) (tails : TailMarks) (mark ckpt full : ℕ) (bytes firsts : List ℕ) (old new : Disk)
+    → IsDataLsn marks.written → IsCut shape marks mark ckpt full bytes firsts → IsGivenTo s wholes (block_of marks.written) mark bytes firsts → IsLive shape s wholes marks tails old
+    → let from : ℕ = block_of marks.written in
+    FailsBlocks (run_layout shape) from (framed (take (496 * full) bytes) from (take full firsts) ckpt) (512 * other_tail tails.tail) (framed (drop (496 * full) bytes) (from + 512 * full) (drop full firsts) (turn_of (from + 512 * full))) old new
+    → LogHoldsWith shape s wholes (after_given mark marks) tails new
+write_to-err shape s wholes marks tails mark ckpt full bytes firsts old new written_place cut given live fails =
     let from : ℕ = block_of marks.written in
-    let all : List ℕ = framed bytes from firsts ckpt in
-    let at : ℕ = place_in (layout_of shape) from in
-    let front : List ℕ = front_of shape from all in
-    let back : List ℕ = back_of shape from all in
-    let cuts : Cuts shape s wholes marks mark from all = cuts-of shape s wholes marks mark ckpt bytes firsts holds.order cut given in
-    let begun : IsWriting shape s wholes marks mark from old = writing-begin shape s wholes marks old mark holds is given.boundary cut.later cut.room in
-    let half : IsWriting shape s wholes marks mark (from + 512 * cuts.first) (written_if at front old) =
-    writing-if shape s wholes marks mark from cuts.first at front old cuts.front_long cuts.front_writes begun in
-    let whole : IsWriting shape s wholes marks mark (from + 512 * cuts.first + 512 * cuts.second) (written_if (ring_start (layout_of shape)) back (written_if at front old)) =
-    writing-if shape s wholes marks mark (from + 512 * cuts.first) cuts.second (ring_start (layout_of shape)) back (written_if at front old) cuts.back_long cuts.back_writes half in
-    subst (λ (disk : Disk). IsLive shape s wholes (after_written mark marks) disk) (sym same)
-    (writing-end shape s wholes marks mark (from + 512 * cuts.first + 512 * cuts.second) (written_if (ring_start (layout_of shape)) back (written_if at front old)) cuts.reached whole)
-
-pub write_to-err : (shape : Shape) (s : ℕ) (wholes : List Whole) (marks : LogMarks) (mark ckpt : ℕ) (bytes firsts : List ℕ) (old new : Disk)
-    → IsCut shape marks mark ckpt bytes firsts → IsGivenTo s wholes (block_of marks.written) mark bytes firsts
-    → LogHolds shape s wholes marks old → IsWritten shape s wholes marks old
-    → FailsRound shape (block_of marks.written) (framed bytes (block_of marks.written) firsts ckpt) old new
-    → LogHolds shape s wholes (after_given mark marks) new
-write_to-err shape s wholes marks mark ckpt bytes firsts old new cut given holds is fails =
-    let from : ℕ = block_of marks.written in
-    let all : List ℕ = framed bytes from firsts ckpt in
-    let at : ℕ = place_in (layout_of shape) from in
-    let front : List ℕ = front_of shape from all in
-    let back : List ℕ = back_of shape from all in
-    let cuts : Cuts shape s wholes marks mark from all = cuts-of shape s wholes marks mark ckpt bytes firsts holds.order cut given in
-    let begun : IsWriting shape s wholes marks mark from old = writing-begin shape s wholes marks old mark holds is given.boundary cut.later cut.room in
-    let half : IsWriting shape s wholes marks mark (from + 512 * cuts.first) (written_if at front old) =
-    writing-if shape s wholes marks mark from cuts.first at front old cuts.front_long cuts.front_writes begun in
-    ⊎_elim (λ here. writing-fails shape s wholes marks mark from cuts.first at front old new cuts.front_long cuts.front_writes begun here)
-    (λ there. writing-fails shape s wholes marks mark (from + 512 * cuts.first) cuts.second (ring_start (layout_of shape)) back (written_if at front old) new cuts.back_long cuts.back_writes half there) fails
+    let all : List ℕ = framed (take (496 * full) bytes) from (take full firsts) ckpt in
+    let at : ℕ = place_in (run_layout shape) from in
+    let front : List ℕ = front_of (run_layout shape) from all in
+    let back : List ℕ = back_of (run_layout shape) from all in
+    let k : ℕ = other_tail tails.tail in
+    let part : List ℕ = framed (drop (496 * full) bytes) (from + 512 * full) (drop full firsts) (turn_of (from + 512 * full)) in
+    let begun : IsWriting shape s wholes marks tails mark from old = writing-begin shape s wholes marks tails old mark live given.boundary cut.later cut.room in
+    let cuts : Cuts shape s wholes marks tails.kept mark from full all = cuts-of shape s wholes marks tails.kept mark ckpt full bytes firsts live.holds.order live.holds.kept.up_to written_place cut given in
+    let half : IsWriting shape s wholes marks tails mark (from + 512 * cuts.first) (written_if at front old) =
+    writing-if shape s wholes marks tails mark from cuts.first at front old cut.some_blocks cuts.front_long cuts.front_writes begun in
+    let whole : IsWriting shape s wholes marks tails mark (from + 512 * full) (written_round (run_layout shape) from all old) = half-written shape s wholes marks tails mark from full all old cut.some_blocks cuts begun in
+    let place : 512 * sector_of (run_layout shape) from ≡ at = sector-place (run_layout shape) from in
+    let within : at + 512 ≤ ring_start (run_layout shape) + round_of (run_layout shape) = place-within (run_layout shape) from (record { some = cut.some_blocks; few = cut.few_blocks }) in
+    let free : IsTailPlace k = ⊎_elim (λ e. inr (omega arith)) (λ o. inl (omega arith)) live.holds.kept.place in
+    ⊎_elim
+    (λ in_place. ⊎_elim
+    (λ here. writing-fails shape s wholes marks tails mark from cuts.first at front old new cut.some_blocks cuts.front_long (omega arith) (omega (arith, cut.some_blocks)) cuts.front_writes begun here)
+    (λ there. writing-fails shape s wholes marks tails mark (from + 512 * cuts.first) cuts.second (ring_start (run_layout shape)) back (written_if at front old) new cut.some_blocks cuts.back_long
+    (omega arith) (omega (arith, cut.some_blocks)) cuts.back_writes half there) in_place)
+    (λ in_tail. ⊎_elim
+    (λ none. empty-adds shape s wholes (after_given mark marks) tails (write_at (512 * k) part) (written_round (run_layout shape) from all old) new none.0
+    (omega arith) (⊎_elim (λ e. omega (arith, cut.some_blocks)) (λ o. omega (arith, cut.some_blocks)) free) (fails-torn (write_at (512 * k) part) (written_round (run_layout shape) from all old) new in_tail) whole.holds)
+    (λ more. tail-adds shape s wholes marks tails mark (from + 512 * full) (write_at (512 * k) part) (written_round (run_layout shape) from all old) new cut.some_blocks whole more.1 (fails-torn (write_at (512 * k) part) (written_round (run_layout shape) from all old) new in_tail))
+    (tail-cases shape s wholes marks mark ckpt full k bytes firsts live.holds.order written_place cut given)) fails

@@ -1,11 +1,12 @@
--- What two device calls in a row do to a device.
-use Rattle.std.specs.Prelude.{ℕ, ◌-◌, ◌*◌, ◌⊎◌, min, List, [], ◌∷◌, ◌++◌, length, take, drop}
-use Rattle.model_base.specs.declared.shape.Shape.{Shape}
+-- What a few device calls in a row do to a device.
+use Rattle.std.specs.Prelude.{ℕ, ◌+◌, ◌-◌, ◌*◌, ◌/◌, ◌⊎◌, min, List, [], ◌∷◌, ◌++◌, length, take, drop}
+use Rattle.model_base.specs.declared.limits.TheConstants.{BLOCK_SIZE}
 use Rattle.model_device.specs.Disk.{Disk}
 use Rattle.model_device.specs.{FailsWrite, written}
 use Rattle.model_device.specs.declared.write.Write.{Write}
-use Rattle.model_log.specs.{checkpoint_text, layout_of, log_device_length, place_in, place_of, ring_start}
-use Rattle.model_base.specs.declared.limits.TheConstants.{BLOCK_SIZE}
+use Rattle.model_log.specs.{checkpoint_text, framed, place_in, place_of, ring_start, round_of, turn_of}
+use Rattle.model_log.specs.declared.layout.Layout.{Layout}
+use Rattle.model_log.specs.declared.layout.TheConstants.{BLOCK_DATA}
 use Rattle.redo_disk.specs.{Request, ToWrite, write_at}
 
 -- a write of no bytes isn't made
@@ -13,41 +14,65 @@ abbrev pub written_if : ℕ → List ℕ → Disk → Disk
 written_if at [] disk = disk
 written_if at (byte ∷ bytes) disk = written disk (write_at at (byte ∷ bytes))
 
--- how many bytes of the log there are from the block's place on, up to the log's end
-abbrev pub rest_of_round : Shape → ℕ → ℕ
-rest_of_round shape b = log_device_length shape - place_in (layout_of shape) b
+-- how many bytes of the ring there are from the block's place on, up to the ring's end
+abbrev pub rest_of_round : Layout → ℕ → ℕ
+rest_of_round layout b = ring_start layout + round_of layout - place_in layout b
 
--- of bytes for the log from the block's place on, those up to the log's end, and the others
-abbrev pub front_of : Shape → ℕ → List ℕ → List ℕ
-front_of shape b bytes = take (min (length bytes) (rest_of_round shape b)) bytes
+-- of bytes for the ring from the block's place on, those up to the ring's end, and the others
+abbrev pub front_of : Layout → ℕ → List ℕ → List ℕ
+front_of layout b bytes = take (min (length bytes) (rest_of_round layout b)) bytes
 
-abbrev pub back_of : Shape → ℕ → List ℕ → List ℕ
-back_of shape b bytes = drop (min (length bytes) (rest_of_round shape b)) bytes
+abbrev pub back_of : Layout → ℕ → List ℕ → List ℕ
+back_of layout b bytes = drop (min (length bytes) (rest_of_round layout b)) bytes
 
--- The bytes are written from the block's place on: up to the log's end, and what is left at the log's start.
-abbrev pub written_round : Shape → ℕ → List ℕ → Disk → Disk
-written_round shape b bytes old =
-    written_if (ring_start (layout_of shape)) (back_of shape b bytes)
-    (written_if (place_in (layout_of shape) b) (front_of shape b bytes) old)
+-- The bytes are written from the block's place on: up to the ring's end, and what is left at the ring's start.
+abbrev pub written_round : Layout → ℕ → List ℕ → Disk → Disk
+written_round layout b bytes old =
+    written_if (ring_start layout) (back_of layout b bytes) (written_if (place_in layout b) (front_of layout b bytes) old)
 
 -- one of these two writes failed
-abbrev pub FailsRound : Shape → ℕ → List ℕ → Disk → Disk → Type 0
-FailsRound shape b bytes old new =
-    FailsWrite (write_at (place_in (layout_of shape) b) (front_of shape b bytes)) old new
-    ⊎ FailsWrite (write_at (ring_start (layout_of shape)) (back_of shape b bytes))
-    (written_if (place_in (layout_of shape) b) (front_of shape b bytes) old) new
+abbrev pub FailsRound : Layout → ℕ → List ℕ → Disk → Disk → Type 0
+FailsRound layout b bytes old new =
+    FailsWrite (write_at (place_in layout b) (front_of layout b bytes)) old new
+    ⊎ FailsWrite (write_at (ring_start layout) (back_of layout b bytes)) (written_if (place_in layout b) (front_of layout b bytes) old) new
+
+-- full blocks are written to their places, and then the bytes of an incomplete one at this offset
+abbrev pub written_blocks : Layout → ℕ → List ℕ → ℕ → List ℕ → Disk → Disk
+written_blocks layout b full at last old = written_if at last (written_round layout b full old)
+
+-- one of these writes failed
+abbrev pub FailsBlocks : Layout → ℕ → List ℕ → ℕ → List ℕ → Disk → Disk → Type 0
+FailsBlocks layout b full at last old new = FailsRound layout b full old new ⊎ FailsWrite (write_at at last) (written_round layout b full old) new
 
 -- the write of the checkpoint of this number at this lsn
-abbrev pub checkpoint_write : Shape → ℕ → ℕ → Write
-checkpoint_write shape number lsn = write_at (BLOCK_SIZE * place_of number) (checkpoint_text number lsn shape)
+abbrev pub checkpoint_write : Layout → ℕ → ℕ → Write
+checkpoint_write layout number lsn = write_at (BLOCK_SIZE * place_of number) (checkpoint_text number lsn layout)
 
 -- the write of bytes, if there are any
 abbrev pub some_write : ℕ → List ℕ → List Request
 some_write at [] = []
 some_write at (byte ∷ bytes) = ToWrite (write_at at (byte ∷ bytes)) ∷ []
 
--- the writes of bytes from the block's place on: one up to the log's end, and one at the log's start if bytes are left
-abbrev pub round_writes : Shape → ℕ → List ℕ → List Request
-round_writes shape b bytes =
-    some_write (place_in (layout_of shape) b) (front_of shape b bytes)
-    ++ some_write (ring_start (layout_of shape)) (back_of shape b bytes)
+-- the writes of bytes from the block's place on: one up to the ring's end, and one at the ring's start if bytes are left
+abbrev pub round_writes : Layout → ℕ → List ℕ → List Request
+round_writes layout b bytes =
+    some_write (place_in layout b) (front_of layout b bytes) ++ some_write (ring_start layout) (back_of layout b bytes)
+
+-- the writes of full blocks, and of the bytes of an incomplete one at this offset
+abbrev pub block_writes : Layout → ℕ → List ℕ → ℕ → List ℕ → List Request
+block_writes layout b full at last = round_writes layout b full ++ some_write at last
+
+-- how many blocks a stream fills
+abbrev pub full_count : List ℕ → ℕ
+full_count stream = length stream / BLOCK_DATA
+
+-- those blocks, the first of them at the lsn `from`, written under this checkpoint
+abbrev pub full_blocks : ℕ → List ℕ → List ℕ → ℕ → List ℕ
+full_blocks from stream firsts ckpt = framed (take (BLOCK_DATA * full_count stream) stream) from (take (full_count stream) firsts) ckpt
+
+-- the incomplete block after them, which names the turn of its lsn in place of a checkpoint; nothing where the stream
+-- ends with a full one
+abbrev pub last_block : ℕ → List ℕ → List ℕ → List ℕ
+last_block from stream firsts =
+    framed (drop (BLOCK_DATA * full_count stream) stream) (from + BLOCK_SIZE * full_count stream) (drop (full_count stream) firsts)
+    (turn_of (from + BLOCK_SIZE * full_count stream))

@@ -1,13 +1,13 @@
-// The log part: a device with the marks up to which a run is written and stable on it.
+// The log part: a device with the marks up to which a run is written and stable on it, and those of its tail blocks.
 ghost use Rattle.std.specs.Prelude.{◌≡◌, ◌≤◌, ◌<◌, ◌-◌, ◌^◌, [], None, IfOk, IfSome, MatchResult};
 ghost use Rattle.model_base.specs.declared.limits.TheConstants.{FIRST_DATA_LSN, MAX_LOG_BLOCKS, MIN_LOG_BLOCKS};
 ghost use Rattle.model_log.specs.{IsAtDataStart, log_device_length};
-ghost use Rattle.model_parts.specs.{first_marks, IsFresh};
+ghost use Rattle.model_parts.specs.{first_marks, first_tails, IsFresh};
 ghost use Rattle.redo_logdev.specs.Part.{PartHolds};
 
 use model_base::Shape;
-use model_log::BLOCK_HEADER;
-use model_parts::LogMarks;
+use model_log::{BLOCK_HEADER, HEADER_BLOCKS};
+use model_parts::{LogMarks, TailMarks};
 use redo_disk::{DevError, Sectors};
 use redo_lsn::NoMemory;
 use std::alloc::Global;
@@ -27,6 +27,7 @@ pub struct LogPart<L: Sectors> {
     dev: L,
     shape: Shape,
     marks: LogMarks,
+    tails: TailMarks,
     failed: Option<DevError>,
     // room for the blocks of one call
     buffer: Vec<u8>,
@@ -38,9 +39,15 @@ impl<L: Sectors> Model for LogPart<L> {
 
     ghost Value = { Part L };
 
-    ghost view = { λ part. record { dev = part.dev; shape = part.shape; marks = part.marks; failed = part.failed } };
+    ghost view = { λ part. record {
+      dev = part.dev;
+      shape = part.shape;
+      marks = part.marks;
+      tails = part.tails;
+      failed = part.failed;
+    } };
 
-    ghost invariant = { λ part. IsSound (L.seen part.dev).size part.shape part.marks (vec_len part.buffer) };
+    ghost invariant = { λ part. IsSound (L.seen part.dev).size part.shape part.marks part.tails (vec_len part.buffer) };
 }
 
 impl<L: Sectors> LogPart<L> {
@@ -60,7 +67,13 @@ impl<L: Sectors> LogPart<L> {
         requires first { FIRST_DATA_LSN ≤ start }
         requires small { start < 2 ^ 61 }
         ensures part { IfOk result (λ part. part
-            ≡ record { dev = dev; shape = shape.now; marks = first_marks start number; failed = None }) }
+            ≡ record {
+              dev = dev;
+              shape = shape.now;
+              marks = first_marks start number;
+              tails = first_tails start;
+              failed = None;
+            }) }
         ensures holds { IfOk result (λ part. IfSome (L.seen dev).tells (IsFresh shape.now start number)
             → PartHolds L.seen start [] part) }
         ensures dev { MatchResult result (λ part. part.dev ≡ dev) (λ error. error.1 ≡ dev) }
@@ -76,6 +89,11 @@ impl<L: Sectors> LogPart<L> {
                     number,
                     ckpt: start - BLOCK_HEADER,
                     asked: start - BLOCK_HEADER,
+                },
+                tails: TailMarks {
+                    kept: start,
+                    tail: HEADER_BLOCKS + 1,
+                    newest: HEADER_BLOCKS + 1,
                 },
                 failed: None,
                 buffer,

@@ -5,12 +5,13 @@ use Rattle.model_base.specs.declared.limits.TheConstants.{START_LSN}
 use Rattle.model_log.specs.{IsAtDataStart}
 use Rattle.model_log.specs.declared.layout.TheConstants.{BLOCK_HEADER}
 use Rattle.model_page.specs.declared.content.Content.{Content}
-use Rattle.model_parts.specs.{first_marks}
+use Rattle.model_parts.specs.{first_marks, first_tails}
 use Rattle.redo_apply.specs.{ArePagesOf}
 use Rattle.redo_store.specs.declared.opened.Opened.{Opened}
 
 -- It starts at the first data byte of a block, the pages and both parts are of the store's shape, no page is ahead of the
--- start, no call has failed, and the marks of the log part are the start, with the newest checkpoint at its block.
+-- start, no call has failed, and the marks of the log part are the start, with the newest checkpoint at its block, and so
+-- are those of its tail blocks.
 pub record IsRunnable {L D : Type 0} (opened : Opened L D) : Type 0 where
   pub limits : IsWithinLimits opened.shape
   pub place : IsAtDataStart opened.start
@@ -20,6 +21,7 @@ pub record IsRunnable {L D : Type 0} (opened : Opened L D) : Type 0 where
   pub not_ahead : (p : ℕ) (page : Content) → slice_get opened.pages p ≡ Some page → page.lsn ≤ opened.start
   pub log_shape : opened.log.shape ≡ opened.shape
   pub log_marks : opened.log.marks ≡ first_marks opened.start opened.log.marks.number
+  pub log_tails : opened.log.tails ≡ first_tails opened.start
   pub log_live : opened.log.failed ≡ None
   pub data_shape : opened.store.shape ≡ opened.shape
   pub data_live : opened.store.failed ≡ None

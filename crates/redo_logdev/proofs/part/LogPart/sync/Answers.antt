@@ -1,7 +1,8 @@
 use Rattle.std.proofs.Common.{◌≡◌, [], ◌∷◌, Some, None, ap, subst, sym, ◌∙◌}
-use Rattle.model_device.specs.Disk.{Disk}
 use Rattle.model_device.specs.{synced}
+use Rattle.model_device.specs.Disk.{Disk}
 use Rattle.model_parts.specs.{after_synced}
+use Rattle.model_parts.specs.declared.marks.TailMarks.{TailMarks}
 use Rattle.redo_logdev.specs.Part.{Part, PartHolds, DiskHolds}
 use Rattle.redo_disk.proofs.Told.{told-step}
 use Rattle.redo_logdev.proofs.Parts.{sync-ok}
@@ -13,9 +14,10 @@ pub returns-in-Ok-clause-holds : goal.returns-in-Ok-clause-holds
 returns-in-Ok-clause-holds g c s wholes known =
     let part = c.self.inside in
     let before = subst (λ (p : Part _). PartHolds g.L.Sectors.seen s wholes p) (sym c.self.view_is) known in
-    told-step _ _ (DiskHolds part.shape s wholes part.marks part.failed) (DiskHolds part.shape s wholes (after_synced part.marks) part.failed)
+    told-step _ _ (DiskHolds part.shape s wholes part.marks part.tails part.failed) (DiskHolds part.shape s wholes (after_synced part.marks) c.tails_synced-self-inside.result part.failed)
     (λ (old new : Disk). new ≡ synced old)
-    (λ a b before is. sync-ok part.shape s wholes part.marks part.failed a b (ap (λ (p : Part _). p.failed) c.self.view_is ∙ c.requires) before is) before c.in-Ok.ensures.step.ok
+    (λ a b before is. subst (λ (tails : TailMarks). DiskHolds part.shape s wholes (after_synced part.marks) tails part.failed b) (sym c.tails_synced-self-inside.ensures)
+    (sync-ok part.shape s wholes part.marks part.tails part.failed a b (ap (λ (p : Part _). p.failed) c.self.view_is ∙ c.requires) before is)) before c.in-Ok.ensures.step.ok
 
 pub returns-in-Ok-clause-calls : goal.returns-in-Ok-clause-calls
 returns-in-Ok-clause-calls g c =
