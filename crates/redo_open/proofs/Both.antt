@@ -1,21 +1,37 @@
 -- Both devices at the exits of opening.
-use Rattle.std.proofs.Common.{◌≡◌, ◌≤◌, ◌+◌, ◌∙◌, ℕ, inl, List, length, Option, Some, None, refl, sym, ap, ap₂, subst, arith, lit<}
-use Rattle.std.specs.Prelude.{IfSome}
+use Rattle.std.proofs.Common.{◌≡◌, ◌≤◌, ◌<◌, ◌+◌, ◌-◌, ◌⊎◌, ◌∙◌, ℕ, List, length, Option, Some, None, Ok, Err, refl, sym, ap, subst, ⊎_elim, arith}
+use Rattle.std.specs.Prelude.{IfSome, Result}
+use Rattle.model_base.specs.{IsWithinLimits}
+use Rattle.model_base.specs.declared.shape.Shape.{Shape}
+use Rattle.model_device.specs.{sector, settled}
 use Rattle.model_device.specs.Disk.{Disk}
-use Rattle.model_log.specs.{log_device_length, newer, newest_checkpoint, read_checkpoint}
-use Rattle.model_store.specs.{IsOrderly}
+use Rattle.model_log.specs.{checkpoint_text, layout_of, log_device_length, newest_checkpoint, place_of, read_head}
+use Rattle.model_log.specs.declared.head.Format.{Format}
+use Rattle.model_log.specs.declared.head.Format.TheVariants.{One, Two}
+use Rattle.model_log.specs.declared.head.Head.TheVariants.{Good}
+use Rattle.model_log.specs.declared.layout.Layout.{Layout}
+use Rattle.model_store.specs.{IsFairLog, IsOrderly}
 use Rattle.model_store.specs.Reading.{Reading}
-use Rattle.model_parts.specs.{HasSameHeaders, IsCleared, IsOpenable, IsReady, KeepsOpened, start_block, start_of}
-use Rattle.model_parts.proofs.Keeping.{openable-keeps, rewriting-keeps, marking-keeps, opened-ready}
-use Rattle.redo_disk.specs.{OnTold}
-use Rattle.redo_open.specs.Clear.{IsClearable, ClearsBlocks, HasCleared}
-use Rattle.redo_open.specs.Devices.{HasSameCheckpoint, IsFrom, WhereBothTell}
-use Rattle.redo_open.specs.Mark.{IsSettledLog, MarksLog, HasMarked}
-use Rattle.redo_open.specs.Places.{KeepsPlaces, HoldsPlaces}
-use Rattle.redo_open.proofs.Clears.{cleared-clears}
+use Rattle.model_store.specs.declared.tail.Tail.{Tail}
+use Rattle.model_parts.specs.{found_layout, IsCleared, IsClearing, IsFresh, IsMigrated, IsMigrating, IsOpenable, IsPut, IsPutting, IsReady, IsRewritten, IsUnopened, KeepsOpened, next_number, numbers_taken, start_block, start_of}
+use Rattle.model_parts.specs.Opened.{ReadsOpened}
+use Rattle.model_parts.proofs.Clearing.{clearing-header, cleared-clearing, IsTailIn}
+use Rattle.model_parts.proofs.Fresh.{alike-head, marked-fresh, marking-reads}
+use Rattle.model_parts.proofs.Keeping.{clearing-keeps, openable-keeps}
+use Rattle.model_parts.proofs.Migration.{head-first, migrated-fresh, migrating-reads}
+use Rattle.model_parts.proofs.Pages.{stored-image}
+use Rattle.model_parts.proofs.Reread.{IsLogRead, log-read, same-head_of, same-newest, tail-read}
+use Rattle.redo_disk.specs.Seen.{Seen}
+use Rattle.redo_disk.specs.declared.error.DevError.{DevError}
 use Rattle.redo_disk.proofs.Told.{known-as, told-step}
+use Rattle.redo_open.specs.Clear.{ClearsLog, ClearStep, HasClearedLog, ring_end}
+use Rattle.redo_open.specs.Devices.{IsFrom, IsNotOpened, OpensFrom, WhereBothTell}
+use Rattle.redo_open.specs.Mark.{HasMarked, IsMarked, IsMigratingNext, IsUnmoved, Marks, MarkStep, next_text}
+use Rattle.redo_open.specs.Places.{KeepsPlaces, HoldsPlaces}
+use Rattle.redo_open.specs.Put.{IsAtRestTo}
+use Rattle.redo_open.proofs.Rests.{base-image}
 
-both : (log data_told : Option Disk) (P Q : Disk → Type 0) (R : Disk → Disk → Type 0) → ((l d : Disk) → P l → Q d → R l d)
+pub both : (log data_told : Option Disk) (P Q : Disk → Type 0) (R : Disk → Disk → Type 0) → ((l d : Disk) → P l → Q d → R l d)
     → IfSome log P → IfSome data_told Q → WhereBothTell log data_told R
 both None data_told P Q R step first second = tt
 both (Some l) None P Q R step first second = tt
@@ -28,118 +44,233 @@ openable-both opened None data_told = tt
 openable-both opened (Some l) None = tt
 openable-both opened (Some l) (Some d) = λ is. openable-keeps opened l d is
 
-clearable : (opened : Reading) (log_bytes data_bytes : List ℕ) (disk : Disk) → IsOrderly log_bytes data_bytes opened → IsFrom log_bytes disk → IsClearable opened.shape disk
-clearable opened log_bytes data_bytes disk orderly is =
-    record { rests = is.rests; long = subst (λ (bytes : List ℕ). log_device_length opened.shape ≤ length bytes) (sym is.reads) orderly.reads.scan.devices.log_long }
-
 -- THE LOG, cleared or not.
 
-pub log-clears : (opened : Reading) (log_bytes data_bytes : List ℕ) (start : ℕ) (old new : Option Disk) → start ≡ start_of opened → IsOrderly log_bytes data_bytes opened
-    → IfSome old (IsFrom log_bytes) → OnTold old new (λ a b. IsClearable opened.shape a → ClearsBlocks opened.shape opened.ckpt start a.reads b)
-    → IfSome new (ClearsBlocks opened.shape opened.ckpt (start_of opened) log_bytes)
-log-clears opened log_bytes data_bytes start old new at orderly known told =
-    told-step old new (IsFrom log_bytes) (ClearsBlocks opened.shape opened.ckpt (start_of opened) log_bytes)
-    (λ a b. IsClearable opened.shape a → ClearsBlocks opened.shape opened.ckpt start a.reads b)
-    (λ a b is clears. subst (λ (n : ℕ). ClearsBlocks opened.shape opened.ckpt n log_bytes b) at
-    (subst (λ (bytes : List ℕ). ClearsBlocks opened.shape opened.ckpt start bytes b) is.reads (clears (clearable opened log_bytes data_bytes a orderly is)))) known told
+abbrev pub Clears : Reading → Option Tail → List ℕ → Disk → Type 0
+Clears opened tail log_bytes disk = ClearsLog (found_layout opened) opened.ckpt (start_of opened) tail log_bytes disk
 
-pub log-cleared : (opened : Reading) (log_bytes data_bytes : List ℕ) (start : ℕ) (old new : Option Disk) → start ≡ start_of opened → IsOrderly log_bytes data_bytes opened
-    → IfSome old (IsFrom log_bytes) → OnTold old new (λ a b. IsClearable opened.shape a → HasCleared opened.shape opened.ckpt start a.reads b)
-    → IfSome new (HasCleared opened.shape opened.ckpt (start_of opened) log_bytes)
-log-cleared opened log_bytes data_bytes start old new at orderly known told =
-    told-step old new (IsFrom log_bytes) (HasCleared opened.shape opened.ckpt (start_of opened) log_bytes)
-    (λ a b. IsClearable opened.shape a → HasCleared opened.shape opened.ckpt start a.reads b)
-    (λ a b is cleared. subst (λ (n : ℕ). HasCleared opened.shape opened.ckpt n log_bytes b) at
-    (subst (λ (bytes : List ℕ). HasCleared opened.shape opened.ckpt start bytes b) is.reads (cleared (clearable opened log_bytes data_bytes a orderly is)))) known told
+abbrev pub Cleared : Reading → Option Tail → List ℕ → Disk → Type 0
+Cleared opened tail log_bytes disk = HasClearedLog (found_layout opened) opened.ckpt (start_of opened) tail log_bytes disk
 
-pub cleared-known : (opened : Reading) (log_bytes : List ℕ) (told : Option Disk) → IfSome told (HasCleared opened.shape opened.ckpt (start_of opened) log_bytes)
-    → IfSome told (ClearsBlocks opened.shape opened.ckpt (start_of opened) log_bytes)
-cleared-known opened log_bytes None known = tt
-cleared-known opened log_bytes (Some disk) known = cleared-clears opened.shape opened.ckpt (start_of opened) log_bytes disk known
+-- by the layout and from the lsn on that the code has
+pub clear-there : (opened : Reading) (tail : Option Tail) (layout : Layout) (start : ℕ) (old : Seen) (result : Result (Unit {0}) DevError) (new : Seen)
+    → layout ≡ found_layout opened → start ≡ start_of opened → ClearStep layout opened.ckpt start tail old result new
+    → ClearStep (found_layout opened) opened.ckpt (start_of opened) tail old result new
+clear-there opened tail layout start old result new is at step =
+    subst (λ (n : ℕ). ClearStep (found_layout opened) opened.ckpt n tail old result new) at
+    (subst (λ (l : Layout). ClearStep l opened.ckpt start tail old result new) is step)
+
+-- the blocks of both formats lie on the device
+ring-long : (format : Format) (shape : Shape) → IsWithinLimits shape → ring_end (layout_of format shape) ≤ log_device_length shape
+ring-long One shape limits = omega (arith, limits.many_blocks)
+ring-long Two shape limits = omega (arith, limits.many_blocks)
+
+pub ring-within : (format : Format) (shape : Shape) (layout : Layout) → IsWithinLimits shape → layout ≡ layout_of format shape → ring_end layout ≤ log_device_length shape
+ring-within format shape layout limits is = subst (λ (l : Layout). ring_end l ≤ log_device_length shape) (sym is) (ring-long format shape limits)
+
+from-rests : (opened : Reading) (tail : Option Tail) (log_old data_old : Seen) (log_bytes data_bytes : List ℕ) (disk : Disk) → OpensFrom opened tail log_old data_old log_bytes data_bytes
+    → IsFrom log_bytes disk → IsAtRestTo (ring_end (found_layout opened)) disk
+from-rests opened tail log_old data_old log_bytes data_bytes disk from is =
+    let log : IsLogRead log_bytes opened = log-read log_bytes data_bytes opened from.orderly.reads in
+    let within : ring_end (found_layout opened) ≤ log_device_length opened.shape = ring-long opened.format opened.shape log.limits in
+    record { rests = is.rests; long = omega (arith, within, log.long, ap length is.reads) }
+
+pub log-clears : (opened : Reading) (tail : Option Tail) (log_old data_old : Seen) (log_bytes data_bytes : List ℕ) (result : Result (Unit {0}) DevError) (new : Seen)
+    → OpensFrom opened tail log_old data_old log_bytes data_bytes → ClearStep (found_layout opened) opened.ckpt (start_of opened) tail log_old result new
+    → IfSome new.tells (Clears opened tail log_bytes)
+log-clears opened tail log_old data_old log_bytes data_bytes result new from step =
+    told-step log_old.tells new.tells (IsFrom log_bytes) (Clears opened tail log_bytes) (λ a b. IsAtRestTo (ring_end (found_layout opened)) a → Clears opened tail a.reads b)
+    (λ a b is clears. subst (λ (bytes : List ℕ). Clears opened tail bytes b) is.reads (clears (from-rests opened tail log_old data_old log_bytes data_bytes a from is)))
+    from.log_from step.keeps
+
+pub log-cleared : (opened : Reading) (tail : Option Tail) (log_old data_old : Seen) (log_bytes data_bytes : List ℕ) (done : Unit {0}) (new : Seen)
+    → OpensFrom opened tail log_old data_old log_bytes data_bytes → ClearStep (found_layout opened) opened.ckpt (start_of opened) tail log_old (Ok done) new
+    → IfSome new.tells (Cleared opened tail log_bytes)
+log-cleared opened tail log_old data_old log_bytes data_bytes done new from step =
+    told-step log_old.tells new.tells (IsFrom log_bytes) (Cleared opened tail log_bytes) (λ a b. IsAtRestTo (ring_end (found_layout opened)) a → Cleared opened tail a.reads b)
+    (λ a b is cleared. subst (λ (bytes : List ℕ). Cleared opened tail bytes b) is.reads (cleared (from-rests opened tail log_old data_old log_bytes data_bytes a from is)))
+    from.log_from step.ok
+
+cleared-clears : (opened : Reading) (tail : Option Tail) (log_bytes : List ℕ) (disk : Disk) → IsLogRead log_bytes opened → Cleared opened tail log_bytes disk → Clears opened tail log_bytes disk
+cleared-clears opened tail log_bytes disk log is image fair =
+    subst (IsClearing (found_layout opened) opened.ckpt (start_of opened) tail log_bytes) (sym (is.rests.one_image image fair.possible))
+    (cleared-clearing (found_layout opened) opened.ckpt (start_of opened) tail log_bytes disk.reads log.log is.cleared)
+
+pub cleared-known : (opened : Reading) (tail : Option Tail) (log_old data_old : Seen) (log_bytes data_bytes : List ℕ) (told : Option Disk) → OpensFrom opened tail log_old data_old log_bytes data_bytes
+    → IfSome told (Cleared opened tail log_bytes) → IfSome told (Clears opened tail log_bytes)
+cleared-known opened tail log_old data_old log_bytes data_bytes told from known =
+    let log : IsLogRead log_bytes opened = log-read log_bytes data_bytes opened from.orderly.reads in
+    known-as told (Cleared opened tail log_bytes) (Clears opened tail log_bytes) (λ disk is. cleared-clears opened tail log_bytes disk log is) known
 
 -- WHILE IT IS CLEARED, AND PAGES ARE REPAIRED AND WRITTEN.
 
-pub rewriting-both : (opened : Reading) (log_bytes data_bytes : List ℕ) (log data_told : Option Disk) → IsOrderly log_bytes data_bytes opened
-    → IfSome log (ClearsBlocks opened.shape opened.ckpt (start_of opened) log_bytes) → IfSome data_told (KeepsPlaces opened.shape data_bytes opened)
+pub rewriting-both : (opened : Reading) (tail : Option Tail) (log_old data_old : Seen) (log_bytes data_bytes : List ℕ) (log data_told : Option Disk)
+    → OpensFrom opened tail log_old data_old log_bytes data_bytes → IfSome log (Clears opened tail log_bytes) → IfSome data_told (KeepsPlaces opened.shape data_bytes opened)
     → WhereBothTell log data_told (KeepsOpened opened)
-rewriting-both opened log_bytes data_bytes log data_told orderly first second =
-    both log data_told (ClearsBlocks opened.shape opened.ckpt (start_of opened) log_bytes) (KeepsPlaces opened.shape data_bytes opened) (KeepsOpened opened)
-    (λ l d clears keeps. rewriting-keeps opened log_bytes data_bytes l d orderly.reads clears.headers clears.blocks keeps) first second
+rewriting-both opened tail log_old data_old log_bytes data_bytes log data_told from first second =
+    both log data_told (Clears opened tail log_bytes) (KeepsPlaces opened.shape data_bytes opened) (KeepsOpened opened)
+    (λ l d clears keeps. clearing-keeps opened log_bytes data_bytes tail l d from.orderly.reads from.found clears keeps) first second
 
--- WHILE THE CHECKPOINT IS WRITTEN.
+-- IT ISN'T OPENED YET, as the header blocks tell.
 
-record HasMarks (opened : Reading) (log_bytes : List ℕ) (disk : Disk) : Type 0 where
+-- what stood there at the last good sync is a fair image
+pub base-fair : (disk : Disk) → IsFairLog disk disk.base
+base-fair disk = record { possible = base-image disk; each = λ k inside sealed. record { count = 0; some = omega arith; same = refl } }
+
+pub not-opened : (opened : Reading) (tail : Option Tail) (log_old data_old : Seen) (log_bytes data_bytes image : List ℕ) → OpensFrom opened tail log_old data_old log_bytes data_bytes
+    → IsClearing (found_layout opened) opened.ckpt (start_of opened) tail log_bytes image → IsUnopened opened.format opened.shape opened.number opened.ckpt image
+not-opened opened tail log_old data_old log_bytes data_bytes image from clearing =
+    let log : IsLogRead log_bytes opened = log-read log_bytes data_bytes opened from.orderly.reads in
+    let is : IsTailIn (found_layout opened) opened.ckpt tail = tail-read log_bytes data_bytes opened tail from.orderly.reads from.found in
+    let same : (k : ℕ) → k < 4 → sector k image ≡ sector k log_bytes = λ k below.
+    clearing-header (found_layout opened) opened.ckpt (start_of opened) tail log_bytes image k log.log is below clearing in
+    let newest : newest_checkpoint (found_layout opened) image ≡ Some (opened.number, opened.ckpt) =
+    same-newest (found_layout opened) log_bytes image (same 1 (omega arith)) (same 3 (omega arith)) ∙ from.orderly.reads.scan.checkpoint in
+    record {
+      head = same-head_of log_bytes image (same 0 (omega arith)) (same 2 (omega arith)) ∙ from.orderly.reads.scan.devices.head.head;
+      newest = λ two. subst (λ (format : Format). newest_checkpoint (layout_of format opened.shape) image ≡ Some (opened.number, opened.ckpt)) two newest;
+    }
+
+pub unmoved-clears : (opened : Reading) (tail : Option Tail) (log_old data_old : Seen) (log_bytes data_bytes : List ℕ) (told : Option Disk) → OpensFrom opened tail log_old data_old log_bytes data_bytes
+    → IfSome told (Clears opened tail log_bytes) → IfSome told (IsNotOpened opened)
+unmoved-clears opened tail log_old data_old log_bytes data_bytes told from known =
+    known-as told (Clears opened tail log_bytes) (IsNotOpened opened)
+    (λ disk clears. not-opened opened tail log_old data_old log_bytes data_bytes disk.base from (clears disk.base (base-fair disk))) known
+
+-- WHILE THE CHECKPOINTS ARE PUT.
+
+-- the numbers of both don't go round
+next-is : (opened : Reading) (log_bytes data_bytes : List ℕ) → IsOrderly log_bytes data_bytes opened → next_number opened.number ≡ opened.number + 1
+next-is opened log_bytes data_bytes orderly = omega (arith, orderly.numbers_left)
+
+after-is : (opened : Reading) (log_bytes data_bytes : List ℕ) → IsOrderly log_bytes data_bytes opened → next_number (next_number opened.number) ≡ opened.number + 2
+after-is opened log_bytes data_bytes orderly = omega (arith, orderly.numbers_left)
+
+-- the checkpoint that comes next
+abbrev NextText : Reading → ℕ → List ℕ
+NextText opened number = checkpoint_text number (start_block opened) (found_layout opened)
+
+cleared-rests : (opened : Reading) (tail : Option Tail) (log_old data_old : Seen) (log_bytes data_bytes : List ℕ) (disk : Disk) → OpensFrom opened tail log_old data_old log_bytes data_bytes
+    → Cleared opened tail log_bytes disk → IsAtRestTo (log_device_length opened.shape) disk
+cleared-rests opened tail log_old data_old log_bytes data_bytes disk from is =
+    let log : IsLogRead log_bytes opened = log-read log_bytes data_bytes opened from.orderly.reads in
+    record { rests = is.rests; long = omega (arith, log.long, is.cleared.then.same_length, is.cleared.first.same_length) }
+
+-- at the lsn that the code has
+pub mark-there : (opened : Reading) (lsn start : ℕ) (old : Seen) (result : Result (Unit {0}) DevError) (new : Seen) → lsn ≡ start - 12 → start ≡ start_of opened
+    → MarkStep opened.format opened.shape opened.number lsn old result new → MarkStep opened.format opened.shape opened.number (start_block opened) old result new
+mark-there opened lsn start old result new is at = subst (λ (n : ℕ). MarkStep opened.format opened.shape opened.number n old result new) (is ∙ ap (λ n. n - 12) at)
+
+-- the log that was cleared, and what becomes of it
+record HasMarks (opened : Reading) (tail : Option Tail) (log_bytes : List ℕ) (disk : Disk) : Type 0 where
   old_log : List ℕ
-  headers : HasSameHeaders log_bytes old_log
-  cleared : IsCleared opened.shape opened.ckpt (start_of opened) log_bytes old_log
-  marks : MarksLog opened.shape (opened.number + 1) (start_block opened) old_log disk
+  cleared : IsCleared (found_layout opened) opened.ckpt (start_of opened) tail log_bytes old_log
+  marks : Marks opened.format opened.shape opened.number (start_block opened) old_log disk
 
-settled-log : (opened : Reading) (log_bytes data_bytes : List ℕ) (disk : Disk) → IsOrderly log_bytes data_bytes opened
-    → HasCleared opened.shape opened.ckpt (start_of opened) log_bytes disk → IsSettledLog opened.shape disk
-settled-log opened log_bytes data_bytes disk orderly cleared =
-    record { nothing_pending = cleared.nothing_pending; long = omega (arith, cleared.blocks.same_length, orderly.reads.scan.devices.log_long) }
+marks-read : (opened : Reading) (tail : Option Tail) (log_old data_old : Seen) (log_bytes data_bytes old_log image data_image : List ℕ) → OpensFrom opened tail log_old data_old log_bytes data_bytes
+    → IsCleared (found_layout opened) opened.ckpt (start_of opened) tail log_bytes old_log
+    → IsPutting (place_of (next_number opened.number)) (next_text opened.format opened.shape opened.number (start_block opened)) old_log image
+    ⊎ IsMigratingNext opened.format opened.shape opened.number (start_block opened) old_log image
+    → IsRewritten opened data_image → ReadsOpened opened image data_image
+marks-read opened tail log_old data_old log_bytes data_bytes old_log image data_image from cleared is rewritten =
+    let next : next_number opened.number ≡ opened.number + 1 = next-is opened log_bytes data_bytes from.orderly in
+    let after : next_number (next_number opened.number) ≡ opened.number + 2 = after-is opened log_bytes data_bytes from.orderly in
+    ⊎_elim
+    (λ putting. marking-reads opened log_bytes data_bytes old_log image data_image tail from.orderly from.found cleared
+    (subst (λ (n : ℕ). IsPutting (place_of n) (NextText opened n) old_log image) next putting) rewritten)
+    (λ later. migrating-reads opened log_bytes data_bytes old_log later.marked image data_image tail from.orderly from.found from.alike later.format_is cleared
+    (subst (λ (n : ℕ). IsPut (place_of n) (NextText opened n) old_log later.marked) next later.put)
+    (subst (λ (n : ℕ). IsMigrating opened.shape n (start_block opened) later.marked image) after later.migrating) rewritten) is
 
-pub marking-both : (opened : Reading) (log_bytes data_bytes : List ℕ) (number lsn : ℕ) (mid log data_told : Option Disk) → number ≡ opened.number + 1 → lsn ≡ start_block opened
-    → IsOrderly log_bytes data_bytes opened → IfSome mid (HasCleared opened.shape opened.ckpt (start_of opened) log_bytes)
-    → OnTold mid log (λ a b. IsSettledLog opened.shape a → MarksLog opened.shape number lsn a.base b) → IfSome data_told (HoldsPlaces opened.shape opened)
-    → WhereBothTell log data_told (KeepsOpened opened)
-marking-both opened log_bytes data_bytes number lsn mid log data_told number_is lsn_is orderly known told second =
-    both log data_told (HasMarks opened log_bytes) (HoldsPlaces opened.shape opened) (KeepsOpened opened)
-    (λ l d marks holds. marking-keeps opened log_bytes data_bytes marks.old_log l d orderly marks.headers marks.cleared marks.marks holds)
-    (told-step mid log (HasCleared opened.shape opened.ckpt (start_of opened) log_bytes) (HasMarks opened log_bytes)
-    (λ a b. IsSettledLog opened.shape a → MarksLog opened.shape number lsn a.base b)
+pub marking-both : (opened : Reading) (tail : Option Tail) (log_old data_old : Seen) (log_bytes data_bytes : List ℕ) (mid : Seen) (result : Result (Unit {0}) DevError) (new : Seen) (data_told : Option Disk)
+    → OpensFrom opened tail log_old data_old log_bytes data_bytes → IfSome mid.tells (Cleared opened tail log_bytes)
+    → MarkStep opened.format opened.shape opened.number (start_block opened) mid result new → IfSome data_told (HoldsPlaces opened.shape opened)
+    → WhereBothTell new.tells data_told (KeepsOpened opened)
+marking-both opened tail log_old data_old log_bytes data_bytes mid result new data_told from known step second =
+    let Marked : Disk → Disk → Type 0 = λ a b. IsAtRestTo (log_device_length opened.shape) a → Marks opened.format opened.shape opened.number (start_block opened) a.reads b in
+    both new.tells data_told (HasMarks opened tail log_bytes) (HoldsPlaces opened.shape opened) (KeepsOpened opened)
+    (λ l d has holds image data_image fair data_fair. marks-read opened tail log_old data_old log_bytes data_bytes has.old_log image data_image from has.cleared (has.marks image fair)
+    (stored-image opened d data_image from.orderly.reads.count holds data_fair))
+    (told-step mid.tells new.tells (Cleared opened tail log_bytes) (HasMarks opened tail log_bytes) Marked
     (λ a b cleared marks. record {
-      old_log = a.base;
-      headers = cleared.headers;
-      cleared = cleared.blocks;
-      marks = subst (λ (n : ℕ). MarksLog opened.shape n (start_block opened) a.base b) number_is
-          (subst (λ (n : ℕ). MarksLog opened.shape number n a.base b) lsn_is (marks (settled-log opened log_bytes data_bytes a orderly cleared)));
-    }) known told)
+      old_log = a.reads;
+      cleared = cleared.cleared;
+      marks = marks (cleared-rests opened tail log_old data_old log_bytes data_bytes a from cleared);
+    }) known step.keeps)
     second
 
-record IsMarkedLog (opened : Reading) (log_bytes : List ℕ) (disk : Disk) : Type 0 where
-  old_log : List ℕ
-  headers : HasSameHeaders log_bytes old_log
-  cleared : IsCleared opened.shape opened.ckpt (start_of opened) log_bytes old_log
-  marked : HasMarked opened.shape (opened.number + 1) (start_block opened) old_log disk
+-- ONCE THEY STAY.
 
-pub ready-both : (opened : Reading) (log_bytes data_bytes : List ℕ) (number lsn : ℕ) (mid log data_told : Option Disk) → number ≡ opened.number + 1 → lsn ≡ start_block opened
-    → IsOrderly log_bytes data_bytes opened → IfSome mid (HasCleared opened.shape opened.ckpt (start_of opened) log_bytes)
-    → OnTold mid log (λ a b. IsSettledLog opened.shape a → HasMarked opened.shape number lsn a.base b) → IfSome data_told (HoldsPlaces opened.shape opened)
-    → WhereBothTell log data_told (IsReady opened)
-ready-both opened log_bytes data_bytes number lsn mid log data_told number_is lsn_is orderly known told second =
-    both log data_told (IsMarkedLog opened log_bytes) (HoldsPlaces opened.shape opened) (IsReady opened)
-    (λ l d has holds. subst (λ (disk : Disk). IsReady opened disk d) (sym has.marked.nothing_pending)
-    (opened-ready opened log_bytes data_bytes has.old_log l.base d orderly has.headers has.cleared has.marked.marked holds))
-    (told-step mid log (HasCleared opened.shape opened.ckpt (start_of opened) log_bytes) (IsMarkedLog opened log_bytes)
-    (λ a b. IsSettledLog opened.shape a → HasMarked opened.shape number lsn a.base b)
+record IsMarkedLog (opened : Reading) (tail : Option Tail) (log_bytes : List ℕ) (disk : Disk) : Type 0 where
+  old_log : List ℕ
+  cleared : IsCleared (found_layout opened) opened.ckpt (start_of opened) tail log_bytes old_log
+  marked : HasMarked opened.format opened.shape opened.number (start_block opened) old_log disk
+
+taken-by : (opened : Reading) (format : Format) (n : ℕ) (disk : Disk) → opened.format ≡ format → n ≡ opened.number + numbers_taken format → IsFresh opened.shape (start_of opened) n disk
+    → IsFresh opened.shape (start_of opened) (opened.number + numbers_taken opened.format) disk
+taken-by opened format n disk is same fresh =
+    subst (λ (m : ℕ). IsFresh opened.shape (start_of opened) m disk) (same ∙ ap (λ (f : Format). opened.number + numbers_taken f) (sym is)) fresh
+
+marked-is_fresh : (opened : Reading) (tail : Option Tail) (log_old data_old : Seen) (log_bytes data_bytes old_log image : List ℕ) → OpensFrom opened tail log_old data_old log_bytes data_bytes
+    → IsCleared (found_layout opened) opened.ckpt (start_of opened) tail log_bytes old_log → IsMarked opened.format opened.shape opened.number (start_block opened) old_log image
+    → IsFresh opened.shape (start_of opened) (opened.number + numbers_taken opened.format) (settled image)
+marked-is_fresh opened tail log_old data_old log_bytes data_bytes old_log image from cleared marked =
+    let next : next_number opened.number ≡ opened.number + 1 = next-is opened log_bytes data_bytes from.orderly in
+    let after : next_number (next_number opened.number) ≡ opened.number + 2 = after-is opened log_bytes data_bytes from.orderly in
+    ⊎_elim
+    (λ two. taken-by opened Two (opened.number + 1) (settled image) two.0 refl
+    (marked-fresh opened log_bytes data_bytes old_log image tail from.orderly from.found from.alike two.0 cleared
+    (subst (λ (n : ℕ). IsPut (place_of n) (NextText opened n) old_log image) next two.1)))
+    (λ one. taken-by opened One (opened.number + 2) (settled image) one.format_is refl
+    (migrated-fresh opened log_bytes data_bytes old_log one.marked image tail from.orderly from.found cleared
+    (subst (λ (n : ℕ). IsPut (place_of n) (NextText opened n) old_log one.marked) next one.put)
+    (subst (λ (n : ℕ). IsMigrated opened.shape n (start_block opened) one.marked image) after one.migrated))) marked
+
+pub ready-both : (opened : Reading) (tail : Option Tail) (log_old data_old : Seen) (log_bytes data_bytes : List ℕ) (mid : Seen) (done : Unit {0}) (new : Seen) (data_told : Option Disk)
+    → OpensFrom opened tail log_old data_old log_bytes data_bytes → IfSome mid.tells (Cleared opened tail log_bytes)
+    → MarkStep opened.format opened.shape opened.number (start_block opened) mid (Ok done) new → IfSome data_told (HoldsPlaces opened.shape opened)
+    → WhereBothTell new.tells data_told (IsReady opened)
+ready-both opened tail log_old data_old log_bytes data_bytes mid done new data_told from known step second =
+    let Marked : Disk → Disk → Type 0 = λ a b. IsAtRestTo (log_device_length opened.shape) a → HasMarked opened.format opened.shape opened.number (start_block opened) a.reads b in
+    both new.tells data_told (IsMarkedLog opened tail log_bytes) (HoldsPlaces opened.shape opened) (IsReady opened)
+    (λ l d has holds. record {
+      log = subst (IsFresh opened.shape (start_of opened) (opened.number + numbers_taken opened.format)) (sym has.marked.nothing_pending)
+          (marked-is_fresh opened tail log_old data_old log_bytes data_bytes has.old_log l.base from has.cleared has.marked.marked);
+      pages = holds;
+    })
+    (told-step mid.tells new.tells (Cleared opened tail log_bytes) (IsMarkedLog opened tail log_bytes) Marked
     (λ a b cleared marks. record {
-      old_log = a.base;
-      headers = cleared.headers;
-      cleared = cleared.blocks;
-      marked = subst (λ (n : ℕ). HasMarked opened.shape n (start_block opened) a.base b) number_is
-          (subst (λ (n : ℕ). HasMarked opened.shape number n a.base b) lsn_is (marks (settled-log opened log_bytes data_bytes a orderly cleared)));
-    }) known told)
+      old_log = a.reads;
+      cleared = cleared.cleared;
+      marked = marks (cleared-rests opened tail log_old data_old log_bytes data_bytes a from cleared);
+    }) known step.ok)
     second
 
--- THE OLD CHECKPOINT.
+-- until then it isn't opened
+unmoved-image : (opened : Reading) (tail : Option Tail) (log_old data_old : Seen) (log_bytes data_bytes old_log : List ℕ) (disk : Disk) → OpensFrom opened tail log_old data_old log_bytes data_bytes
+    → IsCleared (found_layout opened) opened.ckpt (start_of opened) tail log_bytes old_log → IsUnmoved opened.format old_log disk → IsNotOpened opened disk
+unmoved-image opened tail log_old data_old log_bytes data_bytes old_log disk from cleared unmoved =
+    let log : IsLogRead log_bytes opened = log-read log_bytes data_bytes opened from.orderly.reads in
+    let is : IsTailIn (found_layout opened) opened.ckpt tail = tail-read log_bytes data_bytes opened tail from.orderly.reads from.found in
+    let clearing : IsClearing (found_layout opened) opened.ckpt (start_of opened) tail log_bytes old_log =
+    cleared-clearing (found_layout opened) opened.ckpt (start_of opened) tail log_bytes old_log log.log cleared in
+    let zero : sector 0 old_log ≡ sector 0 log_bytes = clearing-header (found_layout opened) opened.ckpt (start_of opened) tail log_bytes old_log 0 log.log is (omega arith) clearing in
+    let good : read_head (sector 0 log_bytes) ≡ Good opened.format opened.shape = sym (alike-head log_bytes from.alike) ∙ from.orderly.reads.scan.devices.head.head in
+    ⊎_elim
+    (λ same. subst (IsUnopened opened.format opened.shape opened.number opened.ckpt) (sym same) (not-opened opened tail log_old data_old log_bytes data_bytes old_log from clearing))
+    (λ one. record {
+      head = head-first disk.base opened.format opened.shape (ap read_head (one.1 ∙ zero) ∙ good);
+      newest = λ two. absurd (one-not_two (sym one.0 ∙ two));
+    }) unmoved
+  where
+    one-not_two : One ≡ Two → ⊥
+    one-not_two is = cc
 
-same-newest : (opened : Reading) (log_bytes data_bytes base : List ℕ) → IsOrderly log_bytes data_bytes opened → HasSameHeaders log_bytes base
-    → newest_checkpoint opened.shape base ≡ Some (opened.number, opened.ckpt)
-same-newest opened log_bytes data_bytes base orderly same =
-    ap₂ (λ first second. newer (read_checkpoint 1 opened.shape first) (read_checkpoint 3 opened.shape second)) (same 1 (lit< tt)) (same 3 (lit< tt))
-    ∙ orderly.reads.scan.checkpoint
-
-pub unmoved-clears : (opened : Reading) (log_bytes data_bytes : List ℕ) (log : Option Disk) → IsOrderly log_bytes data_bytes opened
-    → IfSome log (ClearsBlocks opened.shape opened.ckpt (start_of opened) log_bytes) → IfSome log (HasSameCheckpoint opened)
-unmoved-clears opened log_bytes data_bytes log orderly known =
-    known-as log (ClearsBlocks opened.shape opened.ckpt (start_of opened) log_bytes) (HasSameCheckpoint opened)
-    (λ disk clears. same-newest opened log_bytes data_bytes disk.base orderly
-    (clears.headers disk.base (record { same_length = refl; each = λ k inside. inl refl }))) known
-
-pub unmoved-marks : (opened : Reading) (log_bytes data_bytes : List ℕ) (mid log : Option Disk) → IsOrderly log_bytes data_bytes opened
-    → IfSome mid (HasCleared opened.shape opened.ckpt (start_of opened) log_bytes) → OnTold mid log (λ old new. new.base ≡ old.base)
-    → IfSome log (HasSameCheckpoint opened)
-unmoved-marks opened log_bytes data_bytes mid log orderly known told =
-    told-step mid log (HasCleared opened.shape opened.ckpt (start_of opened) log_bytes) (HasSameCheckpoint opened) (λ (a b : Disk). b.base ≡ a.base)
-    (λ a b cleared same. ap (newest_checkpoint opened.shape) same ∙ same-newest opened log_bytes data_bytes a.base orderly cleared.headers) known told
+pub unmoved-marks : (opened : Reading) (tail : Option Tail) (log_old data_old : Seen) (log_bytes data_bytes : List ℕ) (mid : Seen) (error : DevError) (new : Seen)
+    → OpensFrom opened tail log_old data_old log_bytes data_bytes → IfSome mid.tells (Cleared opened tail log_bytes)
+    → MarkStep opened.format opened.shape opened.number (start_block opened) mid (Err error) new → IfSome new.tells (IsNotOpened opened)
+unmoved-marks opened tail log_old data_old log_bytes data_bytes mid error new from known step =
+    told-step mid.tells new.tells (Cleared opened tail log_bytes) (IsNotOpened opened)
+    (λ a b. IsAtRestTo (log_device_length opened.shape) a → IsUnmoved opened.format a.reads b)
+    (λ a b cleared unmoved. unmoved-image opened tail log_old data_old log_bytes data_bytes a.reads b from cleared.cleared
+    (unmoved (cleared-rests opened tail log_old data_old log_bytes data_bytes a from cleared))) known step.unmoved

@@ -1,15 +1,10 @@
 -- Writes that lie within the lengths of a store.
-use Rattle.std.proofs.Common.{◌≡◌, ◌≤◌, ◌+◌, ℕ, List, ◌++◌, length, replicate, Option, Some, None, Ok, Err, sym, ap, subst, ◌∙◌, arith}
+use Rattle.std.proofs.Common.{◌≡◌, ◌≤◌, ◌+◌, ℕ, length, replicate, Option, Some, None, Ok, Err, sym, ap, subst, arith}
 use Rattle.std.specs.Prelude.{IfOk}
-use Rattle.std.specs.Int.{bytes_high_first}
 use Rattle.model_base.specs.declared.shape.Shape.{Shape}
 use Rattle.model_device.specs.{IsWithin}
 use Rattle.model_device.specs.Disk.{Disk}
 use Rattle.model_device.specs.declared.write.Write.{Write}
-use Rattle.model_log.specs.{checkpoint_text, layout_of, log_device_length, place_in}
-use Rattle.model_log.specs.declared.layout.TheConstants.{RING_SIZE}
-use Rattle.model_log.proofs.Sealed.{length-padded, length-sealed}
-use Rattle.model_base.specs.{padded_to}
 use Rattle.model_log.proofs.Several.{one_group}
 use Rattle.model_store.proofs.OneReading.{same_reading}
 use Rattle.model_store.specs.{IsReading}
@@ -17,9 +12,7 @@ use Rattle.model_store.specs.Reading.{Reading}
 use Rattle.redo_disk.proofs.Made.{joined_calls, weaker_calls}
 use Rattle.redo_disk.specs.{AreReads, Call, EndWith, MakesCalls, ReadsMayEndWith}
 use Rattle.redo_disk.specs.declared.error.DevError.{DevError}
-use Rattle.redo_logdev.specs.Calls.{checkpoint_write}
 use Rattle.redo_open.proofs.Erases.{zeros_write}
-use Rattle.redo_open.proofs.Marks.{header-place}
 use Rattle.redo_open.proofs.Puts.{puts-append}
 use Rattle.redo_open.proofs.Rows.{length-zeros}
 use Rattle.redo_logdev.specs.Part.{Part as Log}
@@ -39,18 +32,6 @@ within-longer few many more write inside = omega (arith, more, inside)
 pub zeros-within : (end at count : ℕ) → at + count ≤ end → IsWithin end (zeros_write at count)
 zeros-within end at count inside =
     let long : length (replicate {A = ℕ} count 0) ≡ count = length-zeros count in omega (arith, long, inside)
-
-length-checkpoint : (number lsn : ℕ) (shape : Shape) → length (checkpoint_text number lsn shape) ≡ 512
-unfolding checkpoint_text
-length-checkpoint number lsn shape =
-    let fields : List ℕ = bytes_high_first 8 number ++ bytes_high_first 8 lsn ++ bytes_high_first 8 (place_in (layout_of shape) lsn) ++ bytes_high_first 8 RING_SIZE in
-    length-sealed (padded_to 508 fields) ∙ ap (λ n. n + 4) (length-padded fields (omega arith))
-
--- a checkpoint is written into the header
-pub mark-within : (shape : Shape) (number lsn : ℕ) → IsWithin (log_device_length shape) (checkpoint_write shape number lsn)
-mark-within shape number lsn =
-    let long : length (checkpoint_text number lsn shape) ≡ 512 = length-checkpoint number lsn shape in
-    omega (arith, long, (header-place number).1)
 
 -- what is told of such calls apart: which they are, and how they end
 pub puts_of : {D : Type 0} {gives : D → Call → D → Type 0} {old new : D} {IsSuch : Write → Type 0} {error : Option DevError}

@@ -1,103 +1,109 @@
--- Writing a checkpoint on a settled log device.
-use Rattle.std.proofs.Common.{◌≡◌, ◌≢◌, ◌≤◌, ◌<◌, ◌+◌, ◌-◌, ◌*◌, ◌⊎◌, ℕ, inl, inr, List, length, take, drop, refl, sym, ap, subst, ◌∙◌, ⊎_elim, arith}
-use Rattle.std.proofs.lemmas.List.{take_all}
+-- The checkpoints of opening.
+use Rattle.std.proofs.Common.{◌≡◌, ◌+◌, ◌*◌, ℕ, inl, inr, List, length, sym, ap, subst, ◌∙◌, arith}
+use Rattle.std.specs.Prelude.{Result, Ok, Err}
+use Rattle.std.proofs.lemmas.Result.{on_err_weaker, on_ok_weaker}
 use Rattle.model_base.specs.declared.shape.Shape.{Shape}
-use Rattle.model_device.specs.{Adds, after_write, Covers, FailsWrite, IsImage, IsSectorWrite, sector, synced, written, written_sector}
+use Rattle.model_device.specs.{sector}
 use Rattle.model_device.specs.Disk.{Disk}
-use Rattle.model_device.specs.MayHold.{MayHold}
-use Rattle.model_device.specs.declared.write.Write.{Write}
-use Rattle.model_device.proofs.Images.{sector-after_write, settled_images}
-use Rattle.model_device.proofs.MayHold.{adds-written, adds-failed, holds-sector}
-use Rattle.model_device.proofs.Overwritten.{length-overwritten, part-overwritten_inside}
-use Rattle.model_log.specs.{checkpoint_text, layout_of, log_device_length, place_in, place_of, sector_of}
-use Rattle.model_parts.specs.{IsMarked, IsMarking}
-use Rattle.model_parts.proofs.LogImages.{sector-log_block, place-cases}
-use Rattle.model_log.proofs.Places.{HasBlocks, sector-place, place-within, place-from}
-use Rattle.redo_open.specs.Mark.{IsSettledLog, MarksLog, HasMarked}
-use Rattle.model_log.specs.declared.layout.TheConstants.{HEADER_BYTES, HEADER_BLOCKS}
+use Rattle.model_log.specs.{log_device_length, place_of}
+use Rattle.model_log.specs.declared.head.Format.{Format}
+use Rattle.model_log.specs.declared.head.Format.TheVariants.{One, Two}
+use Rattle.model_parts.specs.{IsPut, next_number}
+use Rattle.model_parts.proofs.Newest.{checkpoint-place}
+use Rattle.redo_disk.specs.Seen.{Seen}
+use Rattle.redo_disk.specs.declared.error.DevError.{DevError}
+use Rattle.redo_disk.proofs.Told.{OnTold-then, told-as}
+use Rattle.redo_open.specs.Mark.{HasMarked, IsUnmoved, Marks, MarkStep, next_text}
+use Rattle.redo_open.specs.Migrate.{HasMigrated, Migrates, MigrateStep}
+use Rattle.redo_open.specs.Put.{HasPut, IsAtRestTo, PutsBlock, PutStep}
+use Rattle.redo_open.proofs.Rests.{base-image, reads-settled, rests-settled}
+use Rattle.redo_open.proofs.Told.{cause-since}
 
-pub header-place : (number : ℕ) → (1 ≤ place_of number) × (place_of number < HEADER_BLOCKS)
-header-place number = ⊎_elim (λ e. (omega (arith, e.0), omega (arith, e.0))) (λ o. (omega (arith, o.0), omega (arith, o.0))) (place-cases number)
+-- the place of a checkpoint lies on the device
+place-rests : (shape : Shape) (number : ℕ) (disk : Disk) → IsAtRestTo (log_device_length shape) disk → IsAtRestTo (512 * place_of number + 512) disk
+place-rests shape number disk rests = let at = checkpoint-place number in record { rests = rests.rests; long = omega (arith, rests.long, at.1) }
 
--- a write of one sector covers that sector and no other
-pub record IsOneSector (k : ℕ) (text : List ℕ) (write : Write) : Type 0 where
-  pub at : write.at ≡ 512 * k
-  pub bytes : write.bytes ≡ text
-  pub long : length text ≡ 512
+-- what stood there at the last good sync is what reads give of a device at rest
+base-reads : (end : ℕ) (disk : Disk) → IsAtRestTo end disk → disk.base ≡ disk.reads
+base-reads end disk rests = rests.rests.one_image disk.base (base-image disk)
 
-pub covers-one : (k j : ℕ) (text : List ℕ) (write : Write) → IsOneSector k text write → Covers write j → k ≡ j
-covers-one k j text write one covers = omega (arith, one.at, ap length one.bytes, one.long, covers.from, covers.up_to)
+put-marks : (format : Format) (shape : Shape) (number lsn : ℕ) (a b : Disk) → (IsAtRestTo (512 * place_of (next_number number) + 512) a → PutsBlock (place_of (next_number number)) (next_text format shape number lsn) a.reads b)
+    → IsAtRestTo (log_device_length shape) a → Marks format shape number lsn a.reads b
+put-marks format shape number lsn a b puts rests image fair = inl (puts (place-rests shape (next_number number) a rests) image fair)
 
-pub writes-text : (k : ℕ) (text : List ℕ) (write : Write) → IsOneSector k text write → written_sector write k ≡ text
-writes-text k text write one =
-    let none : 512 * k - write.at ≡ 0 = omega (arith, one.at) in
-    ap (λ n. take 512 (drop n write.bytes)) none ∙ take_all 512 write.bytes (omega (arith, ap length one.bytes, one.long)) ∙ one.bytes
-
--- WHAT A CRASH MAY LEAVE, after the write, Ok or not.
-
-adds-marks : (shape : Shape) (number lsn : ℕ) (write : Write) (old new : Disk) → HasBlocks (layout_of shape) → IsSettledLog shape old
-    → IsOneSector (place_of number) (checkpoint_text number lsn shape) write → Adds write old new → MarksLog shape number lsn old.base new
-adds-marks shape number lsn write old new blocks settled_log one adds image is =
-    let place = header-place number in
-    let long : log_device_length shape ≤ length old.base = settled_log.long in
-    let same_length : length new.base ≡ length old.base = adds.same_length in
-    let stood : (k : ℕ) (bytes : List ℕ) → MayHold old k bytes → bytes ≡ sector k old.base = λ k bytes holds.
-    ⊎_elim (λ here. here) (λ none. absurd none) (subst (λ (disk : Disk). MayHold disk k bytes) settled_log.nothing_pending holds) in
-    let either : (k : ℕ) → 512 * k + 512 ≤ length old.base → (sector k image ≡ sector k old.base) ⊎ ((place_of number ≡ k) × (sector k image ≡ checkpoint_text number lsn shape)) = λ k within.
-    ⊎_elim (λ before. inl (stood k (sector k image) before))
-    (λ here. (let same : place_of number ≡ k = covers-one (place_of number) k (checkpoint_text number lsn shape) write one here.0 in
-    inr (same, here.1 ∙ ap (written_sector write) (sym same) ∙ writes-text (place_of number) (checkpoint_text number lsn shape) write one)))
-    (adds.each k (sector k image) (holds-sector new image k is (omega arith))) in
+pub mark-fails : (format : Format) (shape : Shape) (number lsn : ℕ) (old : Seen) (error : DevError) (new : Seen)
+    → PutStep (place_of (next_number number)) (next_text format shape number lsn) old (Err error) new → MarkStep format shape number lsn old (Err error) new
+mark-fails format shape number lsn old error new step =
+    let k : ℕ = place_of (next_number number) in
+    let text : List ℕ = next_text format shape number lsn in
     record {
-      same_length = is.same_length ∙ same_length;
-      headers = λ which below other. ⊎_elim (λ same. same) (λ here. absurd (other (sym here.0))) (either which (omega arith));
-      blocks = λ b aligned. (
-          let within : place_in (layout_of shape) b + 512 ≤ log_device_length shape = place-within (layout_of shape) b blocks in
-          let low : HEADER_BYTES ≤ place_in (layout_of shape) b = place-from (layout_of shape) b in
-          let at : 512 * sector_of (layout_of shape) b ≡ place_in (layout_of shape) b = sector-place (layout_of shape) b in
-          ⊎_elim (λ same. sym (sector-log_block shape b image aligned) ∙ same ∙ sector-log_block shape b old.base aligned)
-          (λ here. absurd (omega (arith, here.0))) (either (sector_of (layout_of shape) b) (omega arith)));
-      marks = ⊎_elim (λ same. inl same) (λ here. inr here.1) (either (place_of number) (omega arith));
+      keeps = told-as old.tells new.tells (λ a b. IsAtRestTo (512 * k + 512) a → PutsBlock k text a.reads b)
+          (λ a b. IsAtRestTo (log_device_length shape) a → Marks format shape number lsn a.reads b) (put-marks format shape number lsn) step.keeps;
+      ok = tt;
+      unmoved = told-as old.tells new.tells (λ (a b : Disk). b.base ≡ a.base) (λ a b. IsAtRestTo (log_device_length shape) a → IsUnmoved format a.reads b)
+          (λ a b same rests. inl (same ∙ base-reads (log_device_length shape) a rests)) step.unmoved;
+      size = step.size;
+      cause = step.cause;
     }
 
-pub failed-marks : (shape : Shape) (number lsn : ℕ) (write : Write) (old new : Disk) → HasBlocks (layout_of shape) → IsSettledLog shape old
-    → IsOneSector (place_of number) (checkpoint_text number lsn shape) write → FailsWrite write old new → MarksLog shape number lsn old.base new
-failed-marks shape number lsn write old new blocks settled_log one fails =
-    adds-marks shape number lsn write old new blocks settled_log one (adds-failed write old new fails)
+pub mark-two : (format : Format) (shape : Shape) (number lsn : ℕ) (old : Seen) (done : Unit {0}) (new : Seen) → format ≡ Two
+    → PutStep (place_of (next_number number)) (next_text format shape number lsn) old (Ok done) new → MarkStep format shape number lsn old (Ok done) new
+mark-two format shape number lsn old done new two step =
+    let k : ℕ = place_of (next_number number) in
+    let text : List ℕ = next_text format shape number lsn in
+    record {
+      keeps = told-as old.tells new.tells (λ a b. IsAtRestTo (512 * k + 512) a → PutsBlock k text a.reads b)
+          (λ a b. IsAtRestTo (log_device_length shape) a → Marks format shape number lsn a.reads b) (put-marks format shape number lsn) step.keeps;
+      ok = told-as old.tells new.tells (λ a b. IsAtRestTo (512 * k + 512) a → HasPut k text a.reads b)
+          (λ a b. IsAtRestTo (log_device_length shape) a → HasMarked format shape number lsn a.reads b)
+          (λ a b puts rests. (
+          let put = puts (place-rests shape (next_number number) a rests) in
+          record { nothing_pending = put.nothing_pending; marked = inl (two, put.put) })) step.ok;
+      unmoved = tt;
+      size = step.size;
+      cause = step.cause;
+    }
 
-pub written-marks : (shape : Shape) (number lsn : ℕ) (write : Write) (old : Disk) → HasBlocks (layout_of shape) → IsSettledLog shape old
-    → IsOneSector (place_of number) (checkpoint_text number lsn shape) write → MarksLog shape number lsn old.base (written old write)
-written-marks shape number lsn write old blocks settled_log one =
-    adds-marks shape number lsn write old (written old write) blocks settled_log one (adds-written write old)
+-- the device once the checkpoint stays
+put-rests : (shape : Shape) (k : ℕ) (text : List ℕ) (a b : Disk) → IsAtRestTo (log_device_length shape) a → HasPut k text a.reads b → IsAtRestTo (log_device_length shape) b
+put-rests shape k text a b rests put = record {
+  rests = rests-settled b put.nothing_pending;
+  long = omega (arith, rests.long, put.put.same_length, ap length (reads-settled b put.nothing_pending));
+}
 
--- WHAT A SYNC AFTER IT LEAVES.
+put-reads : (k : ℕ) (text : List ℕ) (a b : Disk) → HasPut k text a.reads b → IsPut k text a.reads b.reads
+put-reads k text a b put = subst (IsPut k text a.reads) (sym (reads-settled b put.nothing_pending)) put.put
 
-pub synced-marked : (shape : Shape) (number lsn : ℕ) (write : Write) (old : Disk) → HasBlocks (layout_of shape) → IsSettledLog shape old
-    → IsOneSector (place_of number) (checkpoint_text number lsn shape) write → HasMarked shape number lsn old.base (synced (written old write))
-synced-marked shape number lsn write old blocks settled_log one =
-    let place = header-place number in
-    let long : log_device_length shape ≤ length old.base = settled_log.long in
-    let reads : old.reads ≡ old.base = ap (λ (disk : Disk). disk.reads) settled_log.nothing_pending in
-    let after : List ℕ = after_write old.base write in
-    let now : after_write old.reads write ≡ after = ap (λ (bytes : List ℕ). after_write bytes write) reads in
-    let size : length write.bytes ≡ 512 = ap length one.bytes ∙ one.long in
-    let sectors : IsSectorWrite (length old.base) write = record { aligned = omega (arith, one.at); whole = omega arith; within = omega (arith, one.at) } in
-    let other : (k : ℕ) → k ≢ place_of number → sector k after ≡ sector k old.base = λ k apart.
-    ⊎_elim (λ here. absurd (apart (sym (covers-one (place_of number) k (checkpoint_text number lsn shape) write one here.0)))) (λ same. same) (sector-after_write old.base write k sectors) in
-    let marked : IsMarked shape number lsn old.base after = record {
-      same_length = length-overwritten write.at write.bytes old.base sectors.within;
-      headers = λ which below apart. other which apart;
-      blocks = λ b aligned. (
-          let low : HEADER_BYTES ≤ place_in (layout_of shape) b = place-from (layout_of shape) b in
-          let at : 512 * sector_of (layout_of shape) b ≡ place_in (layout_of shape) b = sector-place (layout_of shape) b in
-          sym (sector-log_block shape b after aligned) ∙ other (sector_of (layout_of shape) b) (λ same. absurd (omega arith)) ∙ sector-log_block shape b old.base aligned);
-      marks = part-overwritten_inside 512 (512 * place_of number) write.at write.bytes old.base (omega (arith, one.at)) (omega (arith, one.at)) sectors.within
-          ∙ writes-text (place_of number) (checkpoint_text number lsn shape) write one;
-    } in
-    record { nothing_pending = refl; marked = subst (IsMarked shape number lsn old.base) (sym now) marked }
-
-pub marked-marks : (shape : Shape) (number lsn : ℕ) (content : List ℕ) (disk : Disk) → HasMarked shape number lsn content disk → MarksLog shape number lsn content disk
-marked-marks shape number lsn content disk has image is =
-    let same : image ≡ disk.base = (settled_images disk.base).1 image (subst (λ (d : Disk). IsImage d image) has.nothing_pending is) in
-    subst (IsMarking shape number lsn content) (sym same)
-    (record { same_length = has.marked.same_length; headers = has.marked.headers; blocks = has.marked.blocks; marks = inr has.marked.marks })
+pub mark-one : (format : Format) (shape : Shape) (number lsn : ℕ) (old mid : Seen) (done : Unit {0}) (result : Result (Unit {0}) DevError) (new : Seen) → format ≡ One
+    → PutStep (place_of (next_number number)) (next_text format shape number lsn) old (Ok done) mid → MigrateStep shape (next_number (next_number number)) lsn mid result new
+    → MarkStep format shape number lsn old result new
+mark-one format shape number lsn old mid done result new one step migrate =
+    let k : ℕ = place_of (next_number number) in
+    let text : List ℕ = next_text format shape number lsn in
+    let after : ℕ = next_number (next_number number) in
+    let at = checkpoint-place (next_number number) in
+    let Put : Disk → Disk → Type 0 = λ a b. IsAtRestTo (512 * k + 512) a → HasPut k text a.reads b in
+    let put : (a b : Disk) → Put a b → IsAtRestTo (log_device_length shape) a → HasPut k text a.reads b = λ a b puts rests. puts (place-rests shape (next_number number) a rests) in
+    record {
+      keeps = OnTold-then old.tells mid.tells new.tells Put (λ b c. IsAtRestTo (log_device_length shape) b → Migrates shape after lsn b.reads c)
+          (λ a c. IsAtRestTo (log_device_length shape) a → Marks format shape number lsn a.reads c)
+          (λ a b c puts migrates rests image fair. (
+          let has : HasPut k text a.reads b = put a b puts rests in
+          inr (record { format_is = one; marked = b.reads; put = put-reads k text a b has; migrating = migrates (put-rests shape k text a b rests has) image fair }))) step.ok migrate.keeps;
+      ok = on_ok_weaker result (OnTold-then old.tells mid.tells new.tells Put (λ b c. IsAtRestTo (log_device_length shape) b → HasMigrated shape after lsn b.reads c)
+          (λ a c. IsAtRestTo (log_device_length shape) a → HasMarked format shape number lsn a.reads c)
+          (λ a b c puts migrates rests. (
+          let has : HasPut k text a.reads b = put a b puts rests in
+          let migrated : HasMigrated shape after lsn b.reads c = migrates (put-rests shape k text a b rests has) in
+          record {
+            nothing_pending = migrated.nothing_pending;
+            marked = inr (record { format_is = one; marked = b.reads; put = put-reads k text a b has; migrated = migrated.migrated });
+          })) step.ok) migrate.ok;
+      unmoved = on_err_weaker result (OnTold-then old.tells mid.tells new.tells Put (λ b c. IsAtRestTo (log_device_length shape) b → sector 0 c.base ≡ sector 0 b.reads)
+          (λ a c. IsAtRestTo (log_device_length shape) a → IsUnmoved format a.reads c)
+          (λ a b c puts same rests. (
+          let has : HasPut k text a.reads b = put a b puts rests in
+          inr (one, same (put-rests shape k text a b rests has) ∙ (put-reads k text a b has).others 0 (λ zero. omega (arith, at.0))))) step.ok) migrate.unmoved;
+      size = migrate.size ∙ step.size;
+      cause = cause-since old.faults mid.faults new.faults result step.cause.later migrate.cause;
+    }

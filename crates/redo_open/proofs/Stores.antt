@@ -1,26 +1,25 @@
 -- A store that is opened, from what its devices told at first.
 use Rattle.std.proofs.Common.{◌≡◌, ◌≤◌, ℕ, List, Option, Some, None, Ok, Err, refl, sym, ap, subst}
-use Rattle.std.specs.Prelude.{IfErr, IfSome}
+use Rattle.std.specs.Prelude.{IfErr, IfOk, IfSome}
 use Rattle.model_base.specs.{HasRisen}
 use Rattle.model_device.specs.{settled, synced}
 use Rattle.model_device.specs.Disk.{Disk}
 use Rattle.model_parts.specs.{IsOpenable, KeepsOpened}
 use Rattle.model_log.proofs.Several.{one_group}
-use Rattle.model_store.specs.{IsOrderly, IsReading}
+use Rattle.model_store.specs.{IsReading}
 use Rattle.model_store.specs.Reading.{Reading}
 use Rattle.model_store.specs.declared.refusal.Refusal.{Refusal}
 use Rattle.model_store.proofs.OneAnswer.{read-not_refused}
-use Rattle.model_store.proofs.OneReading.{same_reading}
 use Rattle.redo_disk.specs.{HasCause, OnTold}
 use Rattle.redo_disk.specs.Seen.{Seen}
 use Rattle.redo_disk.specs.declared.error.DevError.{DevError}
 use Rattle.redo_disk.specs.declared.error.DevError.TheVariants as device
-use Rattle.redo_open.specs.Devices.{IsFrom, IsOpenFault, IsSameDevice, WhereBothTell}
-use Rattle.redo_open.specs.Opening.{Answer, HasFaultCause, WhereRefused, log_left, data_left}
+use Rattle.redo_open.specs.Devices.{IsOpenFault, IsSameDevice, WhereBothTell}
+use Rattle.redo_open.specs.Opening.{Answer, HasFaultCause, IsOpenedAs, IsOpeningOf, WhereRefused, log_left, data_left}
 use Rattle.redo_disk.proofs.Told.{told-step}
 use Rattle.redo_open.proofs.Both.{openable-both}
 use Rattle.redo_open.proofs.Told.{risen-since}
-use Rattle.redo_recover.specs.{data_fault_of, HasLengthCause, OnContents, refusal_of}
+use Rattle.redo_recover.specs.{data_fault_of, HasLengthCause, log_fault_of, OnContents, refusal_of}
 use Rattle.redo_recover.specs.Devices.{OnContent}
 use Rattle.redo_recover.specs.declared.fault.RecFault.{RecFault}
 use Rattle.redo_recover.specs.declared.fault.RecFault.TheVariants.{SmallLog, NotFormatted, BadFormat, SmallData, NoCheckpoint, BadRecord, PageLost, PageAhead, LogDev, DataDev, NoMemory}
@@ -34,27 +33,12 @@ openable-same opened log data_told log_new data_new log_same data_same =
     (subst (λ (o : Option Disk). WhereBothTell log data_told (λ l d. IsOpenable opened l d → WhereBothTell log o (KeepsOpened opened))) (sym data_same)
     (openable-both opened log data_told))
 
--- ONCE THE STORE IS READ, and its data device synced: what is promised of the reading is promised of the opened store.
+-- ONCE THE STORE IS READ, and its data device synced.
 
-synced-from : (told mid : Option Disk) (d : Disk) → told ≡ Some d → OnTold told mid (λ old new. new ≡ synced old) → IfSome mid (λ disk. disk ≡ settled d.reads)
+pub synced-from : (told mid : Option Disk) (d : Disk) → told ≡ Some d → OnTold told mid (λ old new. new ≡ synced old) → IfSome mid (λ disk. disk ≡ settled d.reads)
 synced-from told mid d is synced_as =
     let there : OnTold (Some d) mid (λ old new. new ≡ synced old) = subst (λ (o : Option Disk). OnTold o mid (λ old new. new ≡ synced old)) is synced_as in
     subst (λ (o : Option Disk). IfSome o (λ disk. disk ≡ settled d.reads)) (sym there.1) there.2
-
-pub opened-read : (opened read : Reading) (log data_told log_mid data_read data_mid : Option Disk) (Q : Reading → Type 0)
-    → OnContents log data_told (λ log_bytes data_bytes. IsReading log_bytes data_bytes read) → log_mid ≡ log → data_read ≡ data_told
-    → OnTold data_read data_mid (λ old new. new ≡ synced old)
-    → ((log_bytes data_bytes : List ℕ) → IsOrderly log_bytes data_bytes read → IfSome log_mid (IsFrom log_bytes) → IfSome data_mid (λ disk. disk ≡ settled data_bytes) → Q read)
-    → WhereBothTell log data_told (λ l d. IsOpenable opened l d → Q opened)
-opened-read opened read None data_told log_mid data_read data_mid Q reads log_same data_same told step = tt
-opened-read opened read (Some l) None log_mid data_read data_mid Q reads log_same data_same told step = tt
-opened-read opened read (Some l) (Some d) log_mid data_read data_mid Q reads log_same data_same told step =
-    λ is. (
-    let same : opened ≡ read = same_reading one_group l.reads d.reads opened read is.orderly.reads reads in
-    let from : IsFrom l.reads l = record { rests = is.log_rests; reads = refl } in
-    subst Q (sym same)
-    (step l.reads d.reads (subst (IsOrderly l.reads d.reads) same is.orderly) (subst (λ (o : Option Disk). IfSome o (IsFrom l.reads)) (sym log_same) from)
-    (synced-from data_read data_mid d data_same told)))
 
 -- what reads gave stands on the device then
 pub synced-holds : (P : List ℕ → Type 0) (told read mid : Option Disk) → OnContent told P → read ≡ told → OnTold read mid (λ old new. new ≡ synced old)
@@ -147,3 +131,22 @@ sync-cause log data_device log_after data_after device.Failed fault reading is r
 sync-cause log data_device log_after data_after device.NoMemory fault reading is reads cause =
     subst (HasFaultCause log data_device log_after data_after) (sym is)
     (record { refused = tt; lengths = tt; kept = read-unrefused log data_device _ reading reads; log_failed = λ other. absurd cc; data_failed = λ other. absurd cc })
+
+-- the two header blocks weren't read, or not made alike
+pub heads-cause : (log data_device log_after data_after : Seen) (error : DevError) (fault : RecFault) (reading : Reading) → fault ≡ log_fault_of error
+    → OnContents log.tells data_device.tells (λ log_bytes data_bytes. IsReading log_bytes data_bytes reading)
+    → HasCause {T = Unit {0}} log.faults log_after.faults (Err error) → HasFaultCause log data_device log_after data_after fault
+heads-cause log data_device log_after data_after device.Failed fault reading is reads cause =
+    subst (HasFaultCause log data_device log_after data_after) (sym is)
+    (record { refused = tt; lengths = tt; kept = read-unrefused log data_device _ reading reads; log_failed = λ same. cause.failed refl; data_failed = λ other. absurd cc })
+heads-cause log data_device log_after data_after device.NoMemory fault reading is reads cause =
+    subst (HasFaultCause log data_device log_after data_after) (sym is)
+    (record { refused = tt; lengths = tt; kept = read-unrefused log data_device _ reading reads; log_failed = λ other. absurd cc; data_failed = λ other. absurd cc })
+
+-- WHAT IS OPENED is what was read.
+
+pub opening-of : {L D : Type 0} (log data_told : Option Disk) (result : Answer L D) (reading : Reading) → OnContents log data_told (λ log_bytes data_bytes. IsReading log_bytes data_bytes reading)
+    → IfOk result (IsOpenedAs reading) → IfOk result (λ store. OnContents log data_told (λ log_bytes data_bytes. IsOpeningOf log_bytes data_bytes store))
+opening-of log data_told (Ok store) reading reads opened =
+    on-contents log data_told (λ log_bytes data_bytes is. record { reading = reading; is_read = is; opened = opened }) reads
+opening-of log data_told (Err error) reading reads opened = tt

@@ -1,12 +1,12 @@
 -- Both devices while a store that was recovered is opened.
-use Rattle.std.specs.Prelude.{ℕ, ◌≡◌, ◌≤◌, List, Option, Some, Result, OnOk, OnErr, IfErr, IfSome, IsErrOf}
+use Rattle.std.specs.Prelude.{ℕ, ◌≡◌, ◌≤◌, List, Option, Result, OnOk, OnErr, IfErr, IfSome, IsErrOf}
 use Rattle.model_base.specs.{HasRisen}
-use Rattle.model_device.specs.{settled}
+use Rattle.model_device.specs.{sector, settled}
 use Rattle.model_device.specs.Disk.{Disk}
-use Rattle.model_log.specs.{newest_checkpoint}
-use Rattle.model_parts.specs.{IsAtRest, IsReady, KeepsOpened}
-use Rattle.model_store.specs.{IsOrderly}
+use Rattle.model_parts.specs.{found_layout, IsAtRest, IsReady, IsUnopened, KeepsOpened}
+use Rattle.model_store.specs.{AreFoundIn, IsOrderly}
 use Rattle.model_store.specs.Reading.{Reading}
+use Rattle.model_store.specs.declared.tail.Tail.{Tail}
 use Rattle.redo_disk.specs.Seen.{Seen}
 use Rattle.redo_open.specs.Places.{IsPageFault}
 use Rattle.redo_recover.specs.declared.fault.RecFault.{RecFault}
@@ -21,9 +21,9 @@ pub record IsFrom (content : List ℕ) (disk : Disk) : Type 0 where
 abbrev pub WhereBothTell : Option Disk → Option Disk → (Disk → Disk → Type 0) → Type 0
 WhereBothTell log data_told R = IfSome log (λ log_disk. IfSome data_told (λ data_disk. R log_disk data_disk))
 
--- what stood on the log device at its last good sync has the checkpoint that was read as the newest
-abbrev pub HasSameCheckpoint : Reading → Disk → Type 0
-HasSameCheckpoint opened disk = newest_checkpoint opened.shape disk.base ≡ Some (opened.number, opened.ckpt)
+-- what stood on the log device at its last good sync tells that opening hasn't come to its end
+abbrev pub IsNotOpened : Reading → Disk → Type 0
+IsNotOpened opened disk = IsUnopened opened.format opened.shape opened.number opened.ckpt disk.base
 
 -- the device has its size, and its count of faults hasn't fallen
 pub record IsSameDevice (old new : Seen) : Type 0 where
@@ -35,15 +35,24 @@ abbrev pub IsOpenFault : RecFault → Type 0
 IsOpenFault LogDev = Unit {0}
 IsOpenFault fault = IsPageFault fault
 
+-- The two devices hold a store that is in order and read as this, the last block of its log stands in that tail block or in
+-- its place, its two header blocks are alike, and nothing is pending on the data device.
+pub record OpensFrom (opened : Reading) (tail : Option Tail) (log data_device : Seen) (log_bytes data_bytes : List ℕ) : Type 0 where
+  pub orderly : IsOrderly log_bytes data_bytes opened
+  pub found : AreFoundIn (found_layout opened) log_bytes opened.ckpt opened.views tail
+  pub alike : sector 2 log_bytes ≡ sector 0 log_bytes
+  pub log_from : IfSome log.tells (IsFrom log_bytes)
+  pub data_from : IfSome data_device.tells (λ disk. disk ≡ settled data_bytes)
+
 -- At each exit whatever a crash leaves is read with the opened pages, and after Ok a run can start; where both devices
--- told at first a store that is in order. Until then the log's newest checkpoint is the old one.
-pub record DevicesStep (opened : Reading) (log_old data_old : Seen) (result : Result (Unit {0}) RecFault) (log_new data_new : Seen) : Type 0 where
-  pub keeps : (log_bytes data_bytes : List ℕ) → IsOrderly log_bytes data_bytes opened → IfSome log_old.tells (IsFrom log_bytes)
-      → IfSome data_old.tells (λ disk. disk ≡ settled data_bytes) → WhereBothTell log_new.tells data_new.tells (KeepsOpened opened)
-  pub ok : (log_bytes data_bytes : List ℕ) → IsOrderly log_bytes data_bytes opened → IfSome log_old.tells (IsFrom log_bytes)
-      → IfSome data_old.tells (λ disk. disk ≡ settled data_bytes) → OnOk result (WhereBothTell log_new.tells data_new.tells (IsReady opened))
-  pub unmoved : (log_bytes data_bytes : List ℕ) → IsOrderly log_bytes data_bytes opened → IfSome log_old.tells (IsFrom log_bytes)
-      → OnErr result (IfSome log_new.tells (HasSameCheckpoint opened))
+-- told at first a store that is in order. Until then what stands on the log device tells that it isn't opened.
+pub record DevicesStep (opened : Reading) (tail : Option Tail) (log_old data_old : Seen) (result : Result (Unit {0}) RecFault) (log_new data_new : Seen) : Type 0 where
+  pub keeps : (log_bytes data_bytes : List ℕ) → OpensFrom opened tail log_old data_old log_bytes data_bytes
+      → WhereBothTell log_new.tells data_new.tells (KeepsOpened opened)
+  pub ok : (log_bytes data_bytes : List ℕ) → OpensFrom opened tail log_old data_old log_bytes data_bytes
+      → OnOk result (WhereBothTell log_new.tells data_new.tells (IsReady opened))
+  pub unmoved : (log_bytes data_bytes : List ℕ) → OpensFrom opened tail log_old data_old log_bytes data_bytes
+      → OnErr result (IfSome log_new.tells (IsNotOpened opened))
   pub log : IsSameDevice log_old log_new
   pub data_device : IsSameDevice data_old data_new
   pub fault : IfErr result IsOpenFault

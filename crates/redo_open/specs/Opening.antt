@@ -1,20 +1,20 @@
 -- Opening a store off two devices that are handed in: what is opened, and what is left of the devices.
-use Rattle.std.specs.Prelude.{ℕ, ◌≡◌, ◌≢◌, ◌≤◌, ◌<◌, ◌+◌, List, length, Option, None, Result, Ok, Err, IfOk, IfErr, IfSome}
+use Rattle.std.specs.Prelude.{ℕ, ◌≡◌, ◌≢◌, ◌≤◌, ◌<◌, ◌+◌, ◌%◌, ◌^◌, List, length, Option, None, Result, Ok, Err, IfOk, IfErr, IfSome}
 use Rattle.model_base.specs.{HasRisen}
 use Rattle.model_base.specs.declared.limits.TheConstants.{LSN_LIMIT}
 use Rattle.model_base.specs.declared.shape.Shape.{Shape}
-use Rattle.model_parts.specs.{first_marks, IsReady, KeepsOpened, next_number, start_of}
-use Rattle.model_device.specs.{settled}
+use Rattle.model_parts.specs.{first_marks, first_tails, IsReady, KeepsOpened, numbers_taken, start_of}
 use Rattle.model_device.specs.Disk.{Disk}
-use Rattle.model_store.specs.{IsOrderly, IsReading, Refuses}
+use Rattle.model_store.specs.{IsReading, Refuses}
 use Rattle.model_store.specs.Reading.{Reading}
 use Rattle.model_store.specs.declared.refusal.Refusal.{Refusal}
+use Rattle.model_store.specs.declared.tail.Tail.{Tail}
 use Rattle.model_log.specs.declared.layout.TheConstants.{HEADER_BYTES}
 use Rattle.redo_disk.specs.{AreReads, Call, MakesCalls, MayEndWith}
 use Rattle.redo_disk.specs.Seen.{Seen}
 use Rattle.redo_disk.specs.declared.error.DevError.{DevError}
 use Rattle.redo_store.specs.Part.{Part}
-use Rattle.redo_open.specs.Devices.{HasSameCheckpoint, IsFrom, IsOpenFault, IsSameDevice, WhereBothTell}
+use Rattle.redo_open.specs.Devices.{IsNotOpened, IsOpenFault, IsSameDevice, OpensFrom, WhereBothTell}
 use Rattle.redo_open.specs.Formatting.{WritesInside}
 use Rattle.redo_store.specs.{IsRunnable}
 use Rattle.redo_store.specs.declared.opened.Opened.{Opened}
@@ -37,12 +37,13 @@ abbrev pub data_left : {L D : Type 0} → Answer L D → D
 data_left (Ok store) = store.store.dev
 data_left (Err error) = error.2
 
--- The store is opened as it was read: with its shape and its pages, past its log's end, and under the next number.
+-- The store is opened as it was read: with its shape and its pages, past its log's end, and under the number of the last
+-- checkpoint of opening.
 pub record IsOpenedAs {L D : Type 0} (reading : Reading) (store : Opened L D) : Type 0 where
   pub shape : store.shape ≡ reading.shape
   pub start : store.start ≡ start_of reading
   pub pages : store.pages ≡ reading.pages
-  pub number : store.log.marks.number ≡ next_number reading.number
+  pub number : store.log.marks.number ≡ (reading.number + numbers_taken reading.format) % 2 ^ 64
 
 -- what these bytes are read as
 pub record IsOpeningOf {L D : Type 0} (log_bytes data_bytes : List ℕ) (store : Opened L D) : Type 0 where
@@ -53,7 +54,7 @@ pub record IsOpeningOf {L D : Type 0} (log_bytes data_bytes : List ℕ) (store :
 -- A store that was in order: its number hasn't gone round, its run starts below the lsn limit, and where both devices tell, both are ready for it.
 pub record IsOpenedReady {L D : Type 0} (log_seen : L → Seen) (data_seen : D → Seen) (reading : Reading) (store : Opened L D) : Type 0 where
   pub opened : IsOpenedAs reading store
-  pub number : store.log.marks.number ≡ reading.number + 1
+  pub number : store.log.marks.number ≡ reading.number + numbers_taken reading.format
   pub small : store.start < LSN_LIMIT
   pub ready : WhereBothTell (log_seen store.log.dev).tells (data_seen store.store.dev).tells (IsReady reading)
 
@@ -76,7 +77,7 @@ pub record IsRunOn {L D : Type 0} (log : L) (store : Part D) (recovered : Recove
   pub shape : opened.shape ≡ recovered.shape
   pub start_is : opened.start ≡ start
   pub pages : opened.pages ≡ recovered.pages
-  pub log_part : opened.log ≡ record { dev = log; shape = recovered.shape; marks = first_marks start (next_number recovered.number); failed = None }
+  pub log_part : opened.log ≡ record { dev = log; shape = recovered.shape; marks = first_marks start ((recovered.number + numbers_taken recovered.format) % 2 ^ 64); tails = first_tails start; failed = None }
   pub data_part : opened.store ≡ store
 
 abbrev pub IsStarted : {L D : Type 0} → L → Part D → Recovered → ℕ → Answer L D → Type 0
@@ -84,15 +85,14 @@ IsStarted log store recovered start (Ok opened) = IsRunOn log store recovered st
 IsStarted log store recovered start (Err error) = (error.0 ≡ NoMemory) × (error.1 ≡ log) × (error.2 ≡ store.dev)
 
 -- A store that was recovered as this is opened. Whatever a crash leaves is read with the opened pages; after Ok a run can
--- start, and until the next checkpoint stays the log's newest one is the old one.
-pub record OpensRecovered {L D : Type 0} (log_seen : L → Seen) (data_seen : D → Seen) (opened : Reading) (log_old data_old : Seen) (result : Answer L D) : Type 0 where
-  pub keeps : (log_bytes data_bytes : List ℕ) → IsOrderly log_bytes data_bytes opened → IfSome log_old.tells (IsFrom log_bytes)
-      → IfSome data_old.tells (λ disk. disk ≡ settled data_bytes)
+-- start, and until then what stands on the log device tells that it isn't opened.
+pub record OpensRecovered {L D : Type 0} (log_seen : L → Seen) (data_seen : D → Seen) (opened : Reading) (tail : Option Tail) (log_old data_old : Seen) (result : Answer L D) : Type 0 where
+  pub keeps : (log_bytes data_bytes : List ℕ) → OpensFrom opened tail log_old data_old log_bytes data_bytes
       → WhereBothTell (log_seen (log_left result)).tells (data_seen (data_left result)).tells (KeepsOpened opened)
-  pub unmoved : (log_bytes data_bytes : List ℕ) → IsOrderly log_bytes data_bytes opened → IfSome log_old.tells (IsFrom log_bytes)
-      → IfErr result (λ error. error.0 ≢ NoMemory → IfSome (log_seen error.1).tells (HasSameCheckpoint opened))
-  pub ready : (log_bytes data_bytes : List ℕ) → IsOrderly log_bytes data_bytes opened → IfSome log_old.tells (IsFrom log_bytes)
-      → IfSome data_old.tells (λ disk. disk ≡ settled data_bytes) → IfOk result (IsOpenedReady log_seen data_seen opened)
+  pub unmoved : (log_bytes data_bytes : List ℕ) → OpensFrom opened tail log_old data_old log_bytes data_bytes
+      → IfErr result (λ error. error.0 ≢ NoMemory → IfSome (log_seen error.1).tells (IsNotOpened opened))
+  pub ready : (log_bytes data_bytes : List ℕ) → OpensFrom opened tail log_old data_old log_bytes data_bytes
+      → IfOk result (IsOpenedReady log_seen data_seen opened)
   pub opened_as : IfOk result (IsOpenedAs opened)
   pub runnable : IfOk result IsRunnable
   pub log : IsSameDevice log_old (log_seen (log_left result))

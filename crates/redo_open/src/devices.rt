@@ -1,6 +1,7 @@
 // Opening both devices.
 ghost use Rattle.std.specs.Prelude.{◌≡◌, ◌≤◌, ◌<◌, ◌^◌, ℕ, None, Some, IfSome, OnOk, slice_get};
-ghost use Rattle.model_log.specs.{log_device_length, start_after};
+ghost use Rattle.model_base.specs.{IsWithinLimits};
+ghost use Rattle.model_log.specs.{layout_of, log_device_length, start_after};
 ghost use Rattle.model_page.specs.declared.content.Content.{Content};
 ghost use Rattle.redo_apply.specs.{ArePagesOf};
 ghost use Rattle.redo_disk.specs.{MakesCalls, MayEndWith};
@@ -8,19 +9,20 @@ ghost use Rattle.redo_open.specs.Clear.{MayStart};
 ghost use Rattle.redo_open.specs.Devices.{DevicesStep};
 ghost use Rattle.redo_open.specs.Formatting.{WritesInside};
 ghost use Rattle.redo_open.specs.Mend.{IsSettledData};
-ghost use Rattle.redo_recover.specs.{AreFoundOn, ArePlacesOf, data_error_of, log_error_of, reading_of};
+ghost use Rattle.redo_recover.specs.{AreFoundOn, ArePlacesOf, data_error_of, IsTailFound, log_error_of, reading_of};
 
 use crate::clear::clear;
 use crate::mark::mark;
 use crate::places::open_places;
 use model_log::BLOCK_HEADER;
 use redo_disk::Sectors;
+use redo_lsn::layout_of;
 use redo_recover::{RecFault, Recovered, log_fault};
 use redo_store::DataPart;
 use std::alloc::Global;
 
-/// Clears the log outside the kept range, repairs and writes the pages, and then writes the next checkpoint where the run
-/// starts.
+/// Clears the log outside the kept range, repairs and writes the pages, and then puts the next checkpoint where the run
+/// starts. A store of format 1 is taken to format 2 after that.
 pub(crate) fn open_devices<L: Sectors, D: Sectors>(
     alloc: Global,
     log: &mut L,
@@ -28,7 +30,9 @@ pub(crate) fn open_devices<L: Sectors, D: Sectors>(
     recovered: &Recovered,
     start: u64,
 ) -> Result<(), RecFault>
-    requires start { MayStart recovered.now.shape recovered.now.ckpt start }
+    requires start { MayStart (layout_of recovered.now.format recovered.now.shape) recovered.now.ckpt start }
+    requires limits { IsWithinLimits recovered.now.shape }
+    requires tail { IfSome recovered.now.tail (IsTailFound (layout_of recovered.now.format recovered.now.shape) recovered.now.ckpt) }
     requires behind { start ≡ start_after recovered.now.end }
     requires long { log_device_length recovered.now.shape ≤ (L.seen log.old).size }
     requires live { part.old.failed ≡ None }
@@ -39,7 +43,7 @@ pub(crate) fn open_devices<L: Sectors, D: Sectors>(
     requires found { IfSome (D.seen part.old.dev).tells
         (λ disk. AreFoundOn recovered.now.shape recovered.now.places recovered.now.pages disk.base) }
     requires small { (p : ℕ) (content : Content) → slice_get recovered.now.pages p ≡ Some content → content.lsn < 2 ^ 61 }
-    ensures step { DevicesStep (reading_of recovered.now) (L.seen log.old) (D.seen part.old.dev)
+    ensures step { DevicesStep (reading_of recovered.now) recovered.now.tail (L.seen log.old) (D.seen part.old.dev)
         result (L.seen log.new) (D.seen part.new.dev) }
     ensures shape { part.new.shape ≡ part.old.shape }
     ensures live { OnOk result (part.new.failed ≡ None) }
@@ -47,7 +51,8 @@ pub(crate) fn open_devices<L: Sectors, D: Sectors>(
     ensures data_calls { MakesCalls D.gives part.old.dev part.new.dev (MayEndWith (data_error_of result)) }
     ensures inside { WritesInside L.gives D.gives recovered.now.shape log.old log.new part.old.dev part.new.dev }
 {
-    match clear(log, &recovered.shape, recovered.ckpt, start) {
+    let layout = layout_of(recovered.format, &recovered.shape);
+    match clear(log, &layout, recovered.ckpt, start, recovered.tail) {
         Ok(()) => {}
         Err(error) => return Err(log_fault(error)),
     }
@@ -61,8 +66,13 @@ pub(crate) fn open_devices<L: Sectors, D: Sectors>(
         Ok(()) => {}
         Err(fault) => return Err(fault),
     }
-    let number = recovered.number.wrapping_add(1);
-    match mark(log, &recovered.shape, number, start - BLOCK_HEADER) {
+    match mark(
+        log,
+        recovered.format,
+        &recovered.shape,
+        recovered.number,
+        start - BLOCK_HEADER,
+    ) {
         Ok(()) => Ok(()),
         Err(error) => Err(log_fault(error)),
     }

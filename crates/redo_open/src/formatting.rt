@@ -8,13 +8,12 @@ ghost use Rattle.redo_disk.specs.{HasSize};
 ghost use Rattle.redo_open.specs.Devices.{IsSameDevice, WhereBothTell};
 ghost use Rattle.redo_open.specs.Formatting.{FormatCalls, HasFormatCause, JudgesLengths, WritesInside};
 
-use crate::blank::{clear_blocks, clear_head, clear_pages};
-use crate::mark::{mark, put_head};
-use model_base::{START_LSN, Shape};
+use crate::blank::{clear_blocks, clear_heads, clear_pages, put_new_log};
+use model_base::Shape;
 use redo_disk::Sectors;
 use redo_recover::{RecFault, check_lengths, data_fault, log_fault};
 
-/// Formats both devices, which are long enough. The header goes first and comes back last.
+/// Formats both devices, which are long enough. The header goes first, out of both its blocks, and comes back last.
 fn format_devices<L: Sectors, D: Sectors>(
     log: &mut L,
     data_device: &mut D,
@@ -36,7 +35,7 @@ fn format_devices<L: Sectors, D: Sectors>(
     ensures calls { FormatCalls L.gives D.gives log.old log.new data_device.old data_device.new result }
     ensures inside { WritesInside L.gives D.gives shape.now log.old log.new data_device.old data_device.new }
 {
-    match clear_head(log) {
+    match clear_heads(log) {
         Ok(()) => {}
         Err(error) => return Err(log_fault(error)),
     }
@@ -48,18 +47,15 @@ fn format_devices<L: Sectors, D: Sectors>(
         Ok(()) => {}
         Err(error) => return Err(data_fault(error)),
     }
-    match mark(log, shape, 0, START_LSN) {
-        Ok(()) => {}
-        Err(error) => return Err(log_fault(error)),
-    }
-    match put_head(log, shape) {
+    match put_new_log(log, shape) {
         Ok(()) => Ok(()),
         Err(error) => Err(log_fault(error)),
     }
 }
 
-/// Formats both devices with the sizes of the shape. The header goes first and comes back last, so that a stop between its
-/// first sync and its last write leaves a store that is refused as unformatted.
+/// Formats both devices with the sizes of the shape. The header goes first, out of block 2 and then out of block 0, and
+/// comes back last, into block 0 and then into block 2. So a stop leaves what was there; between the sync of the zeros in
+/// block 0 and the write of the header into it, a store that is refused as unformatted; and after that the new store.
 pub fn format<L: Sectors, D: Sectors>(
     log: &mut L,
     data_device: &mut D,

@@ -9,10 +9,13 @@ mod blank;
 mod clear;
 mod devices;
 mod formatting;
+mod heads;
 mod mark;
 mod mend;
+mod migrate;
 mod opening;
 mod places;
+mod put;
 mod rewrite;
 mod zeros;
 

@@ -2,10 +2,10 @@
 ghost use Rattle.std.specs.Prelude.{◌≡◌, ◌≢◌, ◌≤◌, ◌<◌, ◌^◌, IfOk, IfErr, IfSome, None};
 ghost use Rattle.model_base.specs.declared.limits.TheConstants.{FIRST_DATA_LSN, MAX_LOG_BLOCKS, MIN_LOG_BLOCKS};
 ghost use Rattle.model_log.specs.{IsAtDataStart, log_device_length};
-ghost use Rattle.model_parts.specs.{IsOpenable, KeepsOpened};
+ghost use Rattle.model_parts.specs.{IsOpenable, KeepsOpened, numbers_taken};
 ghost use Rattle.model_store.specs.Reading.{Reading};
 ghost use Rattle.redo_disk.specs.{MakesCalls, MayEndWith};
-ghost use Rattle.redo_open.specs.Devices.{HasSameCheckpoint, IsSameDevice, WhereBothTell};
+ghost use Rattle.redo_open.specs.Devices.{IsNotOpened, IsSameDevice, WhereBothTell};
 ghost use Rattle.redo_open.specs.Formatting.{WritesInside};
 ghost use Rattle.redo_open.specs.Mend.{IsSettledData};
 ghost use Rattle.redo_open.specs.Opening.{log_left, data_left, log_error_in, data_error_in, HasFaultCause, IsOpeningOf, IsOpenedReady, IsStarted, OpensInside, OpensLog, OpensRecovered};
@@ -13,12 +13,24 @@ ghost use Rattle.redo_store.specs.{IsRunnable};
 ghost use Rattle.redo_recover.specs.{AreFoundOn, IsOfDevices, OnContents, reading_of};
 
 use crate::devices::open_devices;
+use crate::heads::{make_alike, read_heads};
+use model_log::Format;
 use redo_disk::Sectors;
 use redo_logdev::LogPart;
 use redo_lsn::start_after;
-use redo_recover::{RecFault, Recovered, data_fault, recover};
+use redo_recover::{RecFault, Recovered, data_fault, log_fault, recover};
 use redo_store::{DataPart, Opened};
 use std::alloc::Global;
+
+/// How many checkpoints opening makes of a store of this format.
+fn numbers_taken(format: Format) -> u64
+    ensures { result ≡ numbers_taken format }
+{
+    match format {
+        Format::One => 2,
+        Format::Two => 1,
+    }
+}
 
 /// What a run takes, once both devices are ready for it. The log part is made last.
 fn start_run<L: Sectors, D: Sectors>(
@@ -37,12 +49,14 @@ fn start_run<L: Sectors, D: Sectors>(
     ensures { IsStarted log store recovered start result }
 {
     let Recovered {
+        format,
         shape,
         number,
         pages,
         ..
     } = recovered;
-    match LogPart::new(alloc, log, &shape, start, number.wrapping_add(1)) {
+    let number = number.wrapping_add(numbers_taken(format));
+    match LogPart::new(alloc, log, &shape, start, number) {
         Ok(log) => Ok(Opened {
             shape,
             start,
@@ -65,7 +79,7 @@ fn open_recovered<L: Sectors, D: Sectors>(
     requires settled { IfSome (D.seen data_device).tells (IsSettledData recovered.shape) }
     requires found { IfSome (D.seen data_device).tells
         (λ disk. AreFoundOn recovered.shape recovered.places recovered.pages disk.base) }
-    ensures step { OpensRecovered L.seen D.seen (reading_of recovered) (L.seen log) (D.seen data_device) result }
+    ensures step { OpensRecovered L.seen D.seen (reading_of recovered) recovered.tail (L.seen log) (D.seen data_device) result }
     ensures log_calls { MakesCalls L.gives log (log_left result) (MayEndWith (log_error_in result)) }
     ensures data_calls { MakesCalls D.gives data_device (data_left result) (MayEndWith (data_error_in result)) }
     ensures inside { WritesInside L.gives D.gives recovered.shape log (log_left result) data_device (data_left result) }
@@ -82,10 +96,11 @@ fn open_recovered<L: Sectors, D: Sectors>(
     start_run(alloc, log, store, recovered, start)
 }
 
-/// Opens the store on two devices, so that a run can start on it: reads it, clears away what stands on the log past its
-/// end, repairs the places of pages that don't pass, writes each page as it was read where that isn't in its place then,
-/// and moves the checkpoint. A store that is refused is as it was. Where it opens, or the devices tell what they hold,
-/// nothing is written beyond the lengths that the store's shape asks for, and nothing is read once the store is.
+/// Opens the store on two devices, so that a run can start on it: reads it, makes its two header blocks alike, clears away
+/// what stands on the log past its end, repairs the places of pages that don't pass, writes each page as it was read where
+/// that isn't in its place then, moves the checkpoint, and takes a store of format 1 to format 2. A store that is refused
+/// is as it was. Where it opens, or the devices tell what they hold, nothing is written beyond the lengths that the store's
+/// shape asks for, and nothing is read once the store is.
 ///
 /// Wherever it ends, whatever a crash leaves of the two devices is read with the same pages. The devices of a store that
 /// isn't opened are handed back beside the fault.
@@ -99,7 +114,7 @@ pub fn open_store<L: Sectors, D: Sectors>(
         → WhereBothTell (L.seen (log_left result)).tells (D.seen (data_left result)).tells (KeepsOpened opened)) }
     ensures unmoved { (opened : Reading) → WhereBothTell (L.seen log).tells (D.seen data_device).tells (λ log_disk data_disk.
         IsOpenable opened log_disk data_disk
-        → IfErr result (λ error. error.0 ≢ RecFault.NoMemory → IfSome (L.seen error.1).tells (HasSameCheckpoint opened))) }
+        → IfErr result (λ error. error.0 ≢ RecFault.NoMemory → IfSome (L.seen error.1).tells (IsNotOpened opened))) }
     ensures ready { (opened : Reading) → WhereBothTell (L.seen log).tells (D.seen data_device).tells (λ log_disk data_disk.
         IsOpenable opened log_disk data_disk → IfOk result (IsOpenedReady L.seen D.seen opened)) }
     ensures read { IfOk result (λ store. OnContents (L.seen log).tells (D.seen data_device).tells
@@ -117,9 +132,17 @@ pub fn open_store<L: Sectors, D: Sectors>(
         Ok(recovered) => recovered,
         Err(fault) => return Err((fault, log, data_device)),
     };
+    let heads = match read_heads(&mut log) {
+        Ok(heads) => heads,
+        Err(error) => return Err((log_fault(error), log, data_device)),
+    };
     match data_device.sync() {
         Ok(()) => {}
         Err(error) => return Err((data_fault(error), log, data_device)),
+    }
+    match make_alike(&mut log, &heads) {
+        Ok(()) => {}
+        Err(error) => return Err((log_fault(error), log, data_device)),
     }
     open_recovered(alloc, log, data_device, recovered)
 }

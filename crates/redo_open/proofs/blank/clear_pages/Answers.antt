@@ -6,10 +6,10 @@ use Rattle.model_device.specs.Disk.{Disk}
 use Rattle.model_page.specs.{data_device_length}
 use Rattle.redo_disk.specs.{HasSize}
 use Rattle.redo_open.specs.Blank.{HasBlankPages}
-use Rattle.redo_open.specs.Erase.{HasErased}
+use Rattle.redo_open.specs.Erase.{HasErased, Reaches}
 use Rattle.redo_open.proofs.Inside.{within-longer}
 use Rattle.redo_open.proofs.Puts.{put_one, put_weaker, puts_then}
-use Rattle.redo_open.proofs.Blanks.{synced-blank}
+use Rattle.redo_open.proofs.Blanks.{reaches-sized, synced-blank}
 use Rattle.redo_disk.proofs.Told.{OnTold-then}
 use Rattle.redo_open.proofs.Told.{cause-since}
 use Rattle.redo_open.proofs.blank.clear_pages.Goals as goal
@@ -21,9 +21,11 @@ returns-clause-ok g c =
     let end = c.from.result * c.from-2.result in
     let length_is : end ≡ data_device_length shape = cc in
     on_ok_weaker c.sync.result
-    (OnTold-then _ _ _ (λ old new. HasSize size old → HasErased size 0 end old new) (λ (old new : Disk). new ≡ synced old)
+    (OnTold-then _ _ _ (λ old new. Reaches end old → HasErased 0 end old new) (λ (old new : Disk). new ≡ synced old)
     (λ old new. HasSize size old → HasBlankPages shape new)
-    (λ a b d erased is sized. subst (HasBlankPages shape) (sym is) (synced-blank shape size end a b length_is (omega (arith, length_is, c.requires.long)) (erased sized))) c.in_ok-erase.ensures.ok)
+    (λ a b d erased is sized. subst (HasBlankPages shape) (sym is)
+    (synced-blank shape size end a b length_is (omega (arith, length_is, c.requires.long)) sized
+    (erased (reaches-sized size end a (omega (arith, length_is, c.requires.long)) sized)))) c.in_ok-erase.ensures.ok)
     c.sync.ensures.step.ok
 
 pub returns-in_err-erase-clause-cause : goal.returns-in_err-erase-clause-cause

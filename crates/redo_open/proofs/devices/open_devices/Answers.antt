@@ -1,16 +1,21 @@
 -- The steps, one after the other, on both devices.
-use Rattle.std.proofs.Common.{◌≡◌, ◌+◌, ◌-◌, ◌%◌, ◌∙◌, ℕ, List, Err, refl, ap, arith}
-use Rattle.model_parts.specs.{start_block}
+use Rattle.std.proofs.Common.{◌≤◌, ◌-◌, ◌∙◌, ℕ, List, Option, Ok, Err, refl, arith}
+use Rattle.model_device.specs.{IsWithin}
+use Rattle.model_log.specs.{log_device_length}
 use Rattle.model_store.specs.{IsOrderly}
 use Rattle.model_store.specs.Reading.{Reading}
+use Rattle.redo_disk.specs.{Call, MakesCalls}
+use Rattle.redo_disk.specs.declared.error.DevError.{DevError}
+use Rattle.redo_open.specs.Clear.{ring_end}
 use Rattle.redo_open.specs.Places.{IsReadAs}
+use Rattle.redo_open.specs.Puts.{PutsWhere}
 use Rattle.redo_open.proofs.Asked.{log_ends, beside_log, beside_pages}
-use Rattle.redo_open.proofs.Both.{log-clears, log-cleared, cleared-known, rewriting-both, marking-both, ready-both, unmoved-clears, unmoved-marks}
+use Rattle.redo_open.proofs.Both.{cleared-known, clear-there, log-cleared, log-clears, marking-both, mark-there, ready-both, rewriting-both, ring-within, unmoved-clears, unmoved-marks}
 use Rattle.redo_open.proofs.Causes.{log-cause, places-cause, log-risen, log-not_data, places-not_log}
-use Rattle.redo_open.proofs.Inside.{ends_of, mark-within, puts_of}
+use Rattle.redo_open.proofs.Inside.{ends_of, puts_of, within-longer}
 use Rattle.redo_open.proofs.Opens.{unchanged-keeps}
-use Rattle.redo_open.proofs.Puts.{put_nothing, put_served, puts_then}
-use Rattle.redo_disk.proofs.Made.{ends_then, may_end, none_may_end, serves_end}
+use Rattle.redo_open.proofs.Puts.{put_nothing, put_weaker, puts_then}
+use Rattle.redo_disk.proofs.Made.{ends_then, may_end, none_may_end}
 use Rattle.redo_open.proofs.Told.{cause-since}
 use Rattle.redo_recover.specs.{reading_of}
 use Rattle.redo_open.proofs.devices.open_devices.Goals as goal
@@ -18,59 +23,79 @@ use Rattle.redo_open.proofs.devices.open_devices.Goals as goal
 read-as : (log_bytes data_bytes : List ℕ) (opened : Reading) → IsOrderly log_bytes data_bytes opened → IsReadAs opened.shape opened.pages log_bytes data_bytes opened
 read-as log_bytes data_bytes opened orderly = record { shape_is = refl; pages_are = refl; orderly = orderly }
 
+-- what was cleared lies within the store
+cleared-within : {L : Type 0} {gives : L → Call → L → Type 0} {old new : L} {error : Option DevError} (end length : ℕ) → end ≤ length → MakesCalls gives old new (PutsWhere (IsWithin end) error)
+    → MakesCalls gives old new (PutsWhere (IsWithin length) error)
+cleared-within end length less = put_weaker (within-longer end length less)
+
 pub returns-in-Err-clause-step : goal.returns-in-Err-clause-step
 returns-in-Err-clause-step g c =
     let opened : Reading = reading_of c.args.recovered.now in
+    let tail = c.args.recovered.now.tail in
+    let log_old = g.L.Sectors.seen c.args.log.now in
+    let data_old = g.D.Sectors.seen c.args.part.now.dev in
+    let new = g.L.Sectors.seen c.clear.new.log in
+    let step = clear-there opened tail c.layout_of-layout.result c.args.start log_old (Err c.in-Err.error) new c.layout_of-layout.ensures.is c.requires.behind c.in-Err.ensures.step in
     record {
-      keeps = λ log_bytes data_bytes orderly log_known data_known. rewriting-both opened log_bytes data_bytes _ _ orderly
-          (log-clears opened log_bytes data_bytes c.args.start _ _ c.requires.behind orderly log_known c.in-Err.ensures.keeps)
-          (unchanged-keeps opened.shape opened.pages log_bytes data_bytes opened _ (read-as log_bytes data_bytes opened orderly) c.requires.settled data_known);
-      ok = λ log_bytes data_bytes orderly log_known data_known. tt;
-      unmoved = λ log_bytes data_bytes orderly log_known. unmoved-clears opened log_bytes data_bytes _ orderly
-          (log-clears opened log_bytes data_bytes c.args.start _ _ c.requires.behind orderly log_known c.in-Err.ensures.keeps);
-      log = record { size = c.in-Err.ensures.size; later = c.in-Err.ensures.cause.later };
+      keeps = λ log_bytes data_bytes from. rewriting-both opened tail log_old data_old log_bytes data_bytes new.tells data_old.tells from
+          (log-clears opened tail log_old data_old log_bytes data_bytes (Err c.in-Err.error) new from step)
+          (unchanged-keeps opened.shape opened.pages log_bytes data_bytes opened data_old.tells (read-as log_bytes data_bytes opened from.orderly) c.requires.settled from.data_from);
+      ok = λ log_bytes data_bytes from. tt;
+      unmoved = λ log_bytes data_bytes from. unmoved-clears opened tail log_old data_old log_bytes data_bytes new.tells from
+          (log-clears opened tail log_old data_old log_bytes data_bytes (Err c.in-Err.error) new from step);
+      log = record { size = step.size; later = step.cause.later };
       data_device = record { size = refl; later = omega arith };
       fault = log-cause c.in-Err.error c.log_fault.result c.log_fault.ensures;
-      log_failed = log-risen _ _ c.in-Err.error c.log_fault.result c.log_fault.ensures c.in-Err.ensures.cause;
+      log_failed = log-risen log_old.faults new.faults c.in-Err.error c.log_fault.result c.log_fault.ensures step.cause;
       data_failed = log-not_data c.in-Err.error c.log_fault.result c.log_fault.ensures;
     }
 
 pub returns-in-Err-open_places-clause-step : goal.returns-in-Err-open_places-clause-step
 returns-in-Err-open_places-clause-step g c =
     let opened : Reading = reading_of c.args.recovered.now in
+    let tail = c.args.recovered.now.tail in
+    let log_old = g.L.Sectors.seen c.args.log.now in
+    let data_old = g.D.Sectors.seen c.args.part.now.dev in
+    let data_new = g.D.Sectors.seen c.open_places.new.part.dev in
+    let new = g.L.Sectors.seen c.clear.new.log in
+    let step = clear-there opened tail c.layout_of-layout.result c.args.start log_old (Ok tt) new c.layout_of-layout.ensures.is c.requires.behind c.in-Ok.ensures.step in
+    let places = c.in-Err-open_places.ensures.step in
     record {
-      keeps = λ log_bytes data_bytes orderly log_known data_known. rewriting-both opened log_bytes data_bytes _ _ orderly
-          (cleared-known opened log_bytes _ (log-cleared opened log_bytes data_bytes c.args.start _ _ c.requires.behind orderly log_known c.in-Ok.ensures.ok))
-          (c.in-Err-open_places.ensures.step.keeps log_bytes data_bytes opened (read-as log_bytes data_bytes opened orderly) data_known);
-      ok = λ log_bytes data_bytes orderly log_known data_known. tt;
-      unmoved = λ log_bytes data_bytes orderly log_known. unmoved-clears opened log_bytes data_bytes _ orderly
-          (cleared-known opened log_bytes _ (log-cleared opened log_bytes data_bytes c.args.start _ _ c.requires.behind orderly log_known c.in-Ok.ensures.ok));
-      log = record { size = c.in-Ok.ensures.size; later = c.in-Ok.ensures.cause.later };
-      data_device = record { size = c.in-Err-open_places.ensures.step.size; later = c.in-Err-open_places.ensures.step.later };
-      fault = places-cause c.in-Err-open_places.fault c.in-Err-open_places.ensures.step.own;
-      log_failed = places-not_log c.in-Err-open_places.fault c.in-Err-open_places.ensures.step.own;
-      data_failed = c.in-Err-open_places.ensures.step.failed;
+      keeps = λ log_bytes data_bytes from. rewriting-both opened tail log_old data_old log_bytes data_bytes new.tells data_new.tells from
+          (cleared-known opened tail log_old data_old log_bytes data_bytes new.tells from (log-cleared opened tail log_old data_old log_bytes data_bytes tt new from step))
+          (places.keeps log_bytes data_bytes opened (read-as log_bytes data_bytes opened from.orderly) from.data_from);
+      ok = λ log_bytes data_bytes from. tt;
+      unmoved = λ log_bytes data_bytes from. unmoved-clears opened tail log_old data_old log_bytes data_bytes new.tells from
+          (cleared-known opened tail log_old data_old log_bytes data_bytes new.tells from (log-cleared opened tail log_old data_old log_bytes data_bytes tt new from step));
+      log = record { size = step.size; later = step.cause.later };
+      data_device = record { size = places.size; later = places.later };
+      fault = places-cause c.in-Err-open_places.fault places.own;
+      log_failed = places-not_log c.in-Err-open_places.fault places.own;
+      data_failed = places.failed;
     }
 
 pub returns-in-Ok-mark-clause-step : goal.returns-in-Ok-mark-clause-step
 returns-in-Ok-mark-clause-step g c =
     let opened : Reading = reading_of c.args.recovered.now in
-    let number : ℕ = (c.args.recovered.now.number + 1) % 18446744073709551616 in
-    let lsn_is : c.args.start - 12 ≡ start_block opened = ap (λ n. n - 12) c.requires.behind in
+    let tail = c.args.recovered.now.tail in
+    let log_old = g.L.Sectors.seen c.args.log.now in
+    let data_old = g.D.Sectors.seen c.args.part.now.dev in
+    let data_new = g.D.Sectors.seen c.open_places.new.part.dev in
+    let mid = g.L.Sectors.seen c.clear.new.log in
+    let new = g.L.Sectors.seen c.mark.new.log in
+    let step = clear-there opened tail c.layout_of-layout.result c.args.start log_old (Ok tt) mid c.layout_of-layout.ensures.is c.requires.behind c.in-Ok.ensures.step in
+    let marks = mark-there opened (c.args.start - 12) c.args.start mid (Ok tt) new refl c.requires.behind c.in-Ok-mark.ensures.step in
+    let places = c.in-Ok-open_places.ensures.step in
     record {
-      keeps = λ log_bytes data_bytes orderly log_known data_known. marking-both opened log_bytes data_bytes number (c.args.start - 12) _ _ _
-          (omega (arith, orderly.numbers_left)) lsn_is orderly
-          (log-cleared opened log_bytes data_bytes c.args.start _ _ c.requires.behind orderly log_known c.in-Ok.ensures.ok)
-          c.in-Ok-mark.ensures.keeps
-          (c.in-Ok-open_places.ensures.step.ok log_bytes data_bytes opened (read-as log_bytes data_bytes opened orderly) data_known);
-      ok = λ log_bytes data_bytes orderly log_known data_known. ready-both opened log_bytes data_bytes number (c.args.start - 12) _ _ _
-          (omega (arith, orderly.numbers_left)) lsn_is orderly
-          (log-cleared opened log_bytes data_bytes c.args.start _ _ c.requires.behind orderly log_known c.in-Ok.ensures.ok)
-          c.in-Ok-mark.ensures.ok
-          (c.in-Ok-open_places.ensures.step.ok log_bytes data_bytes opened (read-as log_bytes data_bytes opened orderly) data_known);
-      unmoved = λ log_bytes data_bytes orderly log_known. tt;
-      log = record { size = c.in-Ok-mark.ensures.size ∙ c.in-Ok.ensures.size; later = omega (arith, c.in-Ok-mark.ensures.cause.later, c.in-Ok.ensures.cause.later) };
-      data_device = record { size = c.in-Ok-open_places.ensures.step.size; later = c.in-Ok-open_places.ensures.step.later };
+      keeps = λ log_bytes data_bytes from. marking-both opened tail log_old data_old log_bytes data_bytes mid (Ok tt) new data_new.tells from
+          (log-cleared opened tail log_old data_old log_bytes data_bytes tt mid from step) marks
+          (places.ok log_bytes data_bytes opened (read-as log_bytes data_bytes opened from.orderly) from.data_from);
+      ok = λ log_bytes data_bytes from. ready-both opened tail log_old data_old log_bytes data_bytes mid tt new data_new.tells from
+          (log-cleared opened tail log_old data_old log_bytes data_bytes tt mid from step) marks
+          (places.ok log_bytes data_bytes opened (read-as log_bytes data_bytes opened from.orderly) from.data_from);
+      unmoved = λ log_bytes data_bytes from. tt;
+      log = record { size = marks.size ∙ step.size; later = omega (arith, marks.cause.later, step.cause.later) };
+      data_device = record { size = places.size; later = places.later };
       fault = tt;
       log_failed = λ failed. absurd cc;
       data_failed = λ failed. absurd cc;
@@ -79,21 +104,27 @@ returns-in-Ok-mark-clause-step g c =
 pub returns-in-Err-mark-clause-step : goal.returns-in-Err-mark-clause-step
 returns-in-Err-mark-clause-step g c =
     let opened : Reading = reading_of c.args.recovered.now in
-    let number : ℕ = (c.args.recovered.now.number + 1) % 18446744073709551616 in
-    let lsn_is : c.args.start - 12 ≡ start_block opened = ap (λ n. n - 12) c.requires.behind in
+    let tail = c.args.recovered.now.tail in
+    let log_old = g.L.Sectors.seen c.args.log.now in
+    let data_old = g.D.Sectors.seen c.args.part.now.dev in
+    let data_new = g.D.Sectors.seen c.open_places.new.part.dev in
+    let mid = g.L.Sectors.seen c.clear.new.log in
+    let new = g.L.Sectors.seen c.mark.new.log in
+    let step = clear-there opened tail c.layout_of-layout.result c.args.start log_old (Ok tt) mid c.layout_of-layout.ensures.is c.requires.behind c.in-Ok.ensures.step in
+    let marks = mark-there opened (c.args.start - 12) c.args.start mid (Err c.in-Err-mark.error) new refl c.requires.behind c.in-Err-mark.ensures.step in
+    let places = c.in-Ok-open_places.ensures.step in
     record {
-      keeps = λ log_bytes data_bytes orderly log_known data_known. marking-both opened log_bytes data_bytes number (c.args.start - 12) _ _ _
-          (omega (arith, orderly.numbers_left)) lsn_is orderly
-          (log-cleared opened log_bytes data_bytes c.args.start _ _ c.requires.behind orderly log_known c.in-Ok.ensures.ok)
-          c.in-Err-mark.ensures.keeps
-          (c.in-Ok-open_places.ensures.step.ok log_bytes data_bytes opened (read-as log_bytes data_bytes opened orderly) data_known);
-      ok = λ log_bytes data_bytes orderly log_known data_known. tt;
-      unmoved = λ log_bytes data_bytes orderly log_known. unmoved-marks opened log_bytes data_bytes _ _ orderly
-          (log-cleared opened log_bytes data_bytes c.args.start _ _ c.requires.behind orderly log_known c.in-Ok.ensures.ok) c.in-Err-mark.ensures.unmoved;
-      log = record { size = c.in-Err-mark.ensures.size ∙ c.in-Ok.ensures.size; later = omega (arith, c.in-Err-mark.ensures.cause.later, c.in-Ok.ensures.cause.later) };
-      data_device = record { size = c.in-Ok-open_places.ensures.step.size; later = c.in-Ok-open_places.ensures.step.later };
+      keeps = λ log_bytes data_bytes from. marking-both opened tail log_old data_old log_bytes data_bytes mid (Err c.in-Err-mark.error) new data_new.tells from
+          (log-cleared opened tail log_old data_old log_bytes data_bytes tt mid from step) marks
+          (places.ok log_bytes data_bytes opened (read-as log_bytes data_bytes opened from.orderly) from.data_from);
+      ok = λ log_bytes data_bytes from. tt;
+      unmoved = λ log_bytes data_bytes from. unmoved-marks opened tail log_old data_old log_bytes data_bytes mid c.in-Err-mark.error new from
+          (log-cleared opened tail log_old data_old log_bytes data_bytes tt mid from step) marks;
+      log = record { size = marks.size ∙ step.size; later = omega (arith, marks.cause.later, step.cause.later) };
+      data_device = record { size = places.size; later = places.later };
       fault = log-cause c.in-Err-mark.error c.log_fault-in-Err-mark.result c.log_fault-in-Err-mark.ensures;
-      log_failed = log-risen _ _ c.in-Err-mark.error c.log_fault-in-Err-mark.result c.log_fault-in-Err-mark.ensures (cause-since _ _ _ (Err c.in-Err-mark.error) c.in-Ok.ensures.cause.later c.in-Err-mark.ensures.cause);
+      log_failed = log-risen log_old.faults new.faults c.in-Err-mark.error c.log_fault-in-Err-mark.result c.log_fault-in-Err-mark.ensures
+          (cause-since log_old.faults mid.faults new.faults (Err c.in-Err-mark.error) step.cause.later marks.cause);
       data_failed = λ failed. log-not_data c.in-Err-mark.error c.log_fault-in-Err-mark.result c.log_fault-in-Err-mark.ensures failed;
     }
 
@@ -110,14 +141,14 @@ pub returns-in-Err-open_places-clause-data_calls : goal.returns-in-Err-open_plac
 returns-in-Err-open_places-clause-data_calls g c = c.in-Err-open_places.ensures.calls
 
 pub returns-in-Ok-mark-clause-log_calls : goal.returns-in-Ok-mark-clause-log_calls
-returns-in-Ok-mark-clause-log_calls g c = may_end (ends_then (ends_of c.in-Ok.ensures.calls) (serves_end c.in-Ok-mark.ensures.calls))
+returns-in-Ok-mark-clause-log_calls g c = may_end (ends_then (ends_of c.in-Ok.ensures.calls) (ends_of c.in-Ok-mark.ensures.calls))
 
 pub returns-in-Ok-mark-clause-data_calls : goal.returns-in-Ok-mark-clause-data_calls
 returns-in-Ok-mark-clause-data_calls g c = c.in-Ok-open_places.ensures.calls
 
 pub returns-in-Err-mark-clause-log_calls : goal.returns-in-Err-mark-clause-log_calls
 returns-in-Err-mark-clause-log_calls g c =
-    log_ends c.in-Err-mark.error c.log_fault-in-Err-mark.result c.log_fault-in-Err-mark.ensures (ends_then (ends_of c.in-Ok.ensures.calls) (serves_end c.in-Err-mark.ensures.calls))
+    log_ends c.in-Err-mark.error c.log_fault-in-Err-mark.result c.log_fault-in-Err-mark.ensures (ends_then (ends_of c.in-Ok.ensures.calls) (ends_of c.in-Err-mark.ensures.calls))
 
 pub returns-in-Err-mark-clause-data_calls : goal.returns-in-Err-mark-clause-data_calls
 returns-in-Err-mark-clause-data_calls g c = beside_log c.in-Err-mark.error c.log_fault-in-Err-mark.result c.log_fault-in-Err-mark.ensures c.in-Ok-open_places.ensures.calls
@@ -125,26 +156,41 @@ returns-in-Err-mark-clause-data_calls g c = beside_log c.in-Err-mark.error c.log
 -- THE LENGTHS.
 
 pub returns-in-Err-clause-inside : goal.returns-in-Err-clause-inside
-returns-in-Err-clause-inside g c = record {
-  log = puts_of c.in-Err.ensures.calls;
-  data_device = puts_of (put_nothing g.D.Sectors.gives c.args.part.now.dev);
-}
+returns-in-Err-clause-inside g c =
+    let shape = c.args.recovered.now.shape in
+    let layout = c.layout_of-layout.result in
+    let within : ring_end layout ≤ log_device_length shape = ring-within c.args.recovered.now.format shape layout c.requires.limits c.layout_of-layout.ensures.is in
+    record {
+      log = puts_of (cleared-within (ring_end layout) (log_device_length shape) within c.in-Err.ensures.calls);
+      data_device = puts_of (put_nothing g.D.Sectors.gives c.args.part.now.dev);
+    }
 
 pub returns-in-Err-open_places-clause-inside : goal.returns-in-Err-open_places-clause-inside
-returns-in-Err-open_places-clause-inside g c = record { log = puts_of c.in-Ok.ensures.calls; data_device = c.in-Err-open_places.ensures.inside }
+returns-in-Err-open_places-clause-inside g c =
+    let shape = c.args.recovered.now.shape in
+    let layout = c.layout_of-layout.result in
+    let within : ring_end layout ≤ log_device_length shape = ring-within c.args.recovered.now.format shape layout c.requires.limits c.layout_of-layout.ensures.is in
+    record {
+      log = puts_of (cleared-within (ring_end layout) (log_device_length shape) within c.in-Ok.ensures.calls);
+      data_device = c.in-Err-open_places.ensures.inside;
+    }
 
 pub returns-in-Ok-mark-clause-inside : goal.returns-in-Ok-mark-clause-inside
 returns-in-Ok-mark-clause-inside g c =
-    let number : ℕ = (c.args.recovered.now.number + 1) % 18446744073709551616 in
+    let shape = c.args.recovered.now.shape in
+    let layout = c.layout_of-layout.result in
+    let within : ring_end layout ≤ log_device_length shape = ring-within c.args.recovered.now.format shape layout c.requires.limits c.layout_of-layout.ensures.is in
     record {
-      log = puts_of (puts_then c.in-Ok.ensures.calls (put_served (mark-within c.args.recovered.now.shape number (c.args.start - 12)) c.in-Ok-mark.ensures.calls));
+      log = puts_of (puts_then (cleared-within (ring_end layout) (log_device_length shape) within c.in-Ok.ensures.calls) c.in-Ok-mark.ensures.calls);
       data_device = c.in-Ok-open_places.ensures.inside;
     }
 
 pub returns-in-Err-mark-clause-inside : goal.returns-in-Err-mark-clause-inside
 returns-in-Err-mark-clause-inside g c =
-    let number : ℕ = (c.args.recovered.now.number + 1) % 18446744073709551616 in
+    let shape = c.args.recovered.now.shape in
+    let layout = c.layout_of-layout.result in
+    let within : ring_end layout ≤ log_device_length shape = ring-within c.args.recovered.now.format shape layout c.requires.limits c.layout_of-layout.ensures.is in
     record {
-      log = puts_of (puts_then c.in-Ok.ensures.calls (put_served (mark-within c.args.recovered.now.shape number (c.args.start - 12)) c.in-Err-mark.ensures.calls));
+      log = puts_of (puts_then (cleared-within (ring_end layout) (log_device_length shape) within c.in-Ok.ensures.calls) c.in-Err-mark.ensures.calls);
       data_device = c.in-Ok-open_places.ensures.inside;
     }

@@ -1,63 +1,58 @@
--- One sector is written, and made to stay.
-use Rattle.std.proofs.Common.{◌≡◌, ◌*◌, ℕ, List, length, sym, ap, subst, ◌∙◌, ⊎_elim, arith}
-use Rattle.std.proofs.lemmas.Result.{on_ok_weaker, on_err_weaker}
-use Rattle.model_device.specs.{IsPutOrNot, synced, written}
-use Rattle.model_device.specs.Disk.{Disk}
-use Rattle.model_device.specs.declared.write.Write.{Write}
+-- The checkpoint, and then the steps to format 2.
+use Rattle.std.proofs.Common.{◌≡◌, ℕ, Result, subst}
+use Rattle.std.proofs.lemmas.Result.{err_from_is_err_and}
+use Rattle.model_base.specs.declared.shape.Shape.{Shape}
 use Rattle.model_log.specs.{checkpoint_text, layout_of, place_of}
-use Rattle.model_log.proofs.Places.{HasBlocks}
-use Rattle.redo_disk.specs.{write_at}
-use Rattle.redo_open.specs.Mark.{IsSettledLog, MarksLog, HasMarked}
-use Rattle.redo_open.proofs.Marks.{header-place, IsOneSector, failed-marks, written-marks, synced-marked, marked-marks}
-use Rattle.redo_disk.proofs.Told.{told-as}
-use Rattle.redo_open.proofs.Told.{either-way}
+use Rattle.model_log.specs.declared.head.Format.{Format}
+use Rattle.model_log.specs.declared.layout.Layout.{Layout}
+use Rattle.model_parts.specs.{next_number}
+use Rattle.redo_disk.specs.Seen.{Seen}
+use Rattle.redo_disk.specs.declared.error.DevError.{DevError}
+use Rattle.redo_open.specs.Mark.{next_text}
+use Rattle.redo_open.specs.Put.{PutStep}
+use Rattle.redo_open.proofs.Lengths.{checkpoint-within}
+use Rattle.redo_open.proofs.Marks.{mark-fails, mark-one, mark-two}
+use Rattle.redo_open.proofs.Puts.{put_served, puts_then}
 use Rattle.redo_open.proofs.mark.mark.Goals as goal
 
-pub write_and_sync-requires : goal.write_and_sync-requires
-write_and_sync-requires g c = record {
-  from_sector = omega arith;
-  whole_sectors = omega (arith, c.fill_ckpt.array_long);
-  within = omega (arith, c.fill_ckpt.array_long, c.from.ensures, c.place_of.ensures, (header-place c.args.number).1, c.requires.long, c.requires.limits.many_blocks);
-}
+-- the checkpoint by the layout that the code has
+there : (format : Format) (shape : Shape) (layout : Layout) (number lsn : ℕ) (old : Seen) (result : Result (Unit {0}) DevError) (new : Seen) → layout ≡ layout_of format shape
+    → PutStep (place_of (next_number number)) (checkpoint_text (next_number number) lsn layout) old result new
+    → PutStep (place_of (next_number number)) (next_text format shape number lsn) old result new
+there format shape layout number lsn old result new is =
+    subst (λ (l : Layout). PutStep (place_of (next_number number)) (checkpoint_text (next_number number) lsn l) old result new) is
 
-pub returns-clause-keeps : goal.returns-clause-keeps
-returns-clause-keeps g c =
-    let shape = c.args.shape.now in
-    let number = c.args.number in
-    let lsn = c.args.lsn in
-    let write : Write = write_at (512 * c.from.result) c.fill_ckpt.new.out in
-    let text : List ℕ = checkpoint_text number lsn shape in
-    let long : length text ≡ 512 = sym (ap length c.fill_ckpt.ensures) ∙ c.fill_ckpt.array_long in
-    let one : IsOneSector (place_of number) text write = record { at = omega (arith, c.from.ensures, c.place_of.ensures); bytes = c.fill_ckpt.ensures; long = long } in
-    let blocks : HasBlocks (layout_of shape) = record { some = omega (arith, c.requires.limits.many_blocks); few = omega (arith, c.requires.limits.few_blocks) } in
-    let Keeps : Disk → Disk → Type 0 = λ old new. IsSettledLog shape old → MarksLog shape number lsn old.base new in
-    either-way c.write_and_sync.result _ _ _
-    (told-as _ _ (λ (old new : Disk). new ≡ synced (written old write)) Keeps
-    (λ a b is_synced is. subst (MarksLog shape number lsn a.base) (sym is_synced)
-    (marked-marks shape number lsn a.base (synced (written a write)) (synced-marked shape number lsn write a blocks is one))))
-    (told-as _ _ (IsPutOrNot write) Keeps
-    (λ a b put is. ⊎_elim (λ fails. failed-marks shape number lsn write a b blocks is one fails)
-    (λ pending. subst (MarksLog shape number lsn a.base) (sym pending) (written-marks shape number lsn write a blocks is one)) put))
-    c.write_and_sync.ensures.ok c.write_and_sync.ensures.err
+pub returns-in_err-put_checkpoint-clause-step : goal.returns-in_err-put_checkpoint-clause-step
+returns-in_err-put_checkpoint-clause-step g c =
+    let p = err_from_is_err_and c.from_residual.result c.from_residual.ensures.1 in
+    let old = g.L.Sectors.seen c.args.log.now in
+    let new = g.L.Sectors.seen c.put_checkpoint.new.log in
+    rw (p.1, p.2) (mark-fails c.args.format c.args.shape.now c.args.number c.args.lsn old c.in_err-put_checkpoint.field-0.0 new
+    (there c.args.format c.args.shape.now c.layout_of.result c.args.number c.args.lsn old _ new c.layout_of.ensures.is c.in_err-put_checkpoint.ensures.step))
 
-pub returns-clause-ok : goal.returns-clause-ok
-returns-clause-ok g c =
-    let shape = c.args.shape.now in
-    let number = c.args.number in
-    let lsn = c.args.lsn in
-    let write : Write = write_at (512 * c.from.result) c.fill_ckpt.new.out in
-    let text : List ℕ = checkpoint_text number lsn shape in
-    let long : length text ≡ 512 = sym (ap length c.fill_ckpt.ensures) ∙ c.fill_ckpt.array_long in
-    let one : IsOneSector (place_of number) text write = record { at = omega (arith, c.from.ensures, c.place_of.ensures); bytes = c.fill_ckpt.ensures; long = long } in
-    let blocks : HasBlocks (layout_of shape) = record { some = omega (arith, c.requires.limits.many_blocks); few = omega (arith, c.requires.limits.few_blocks) } in
-    on_ok_weaker c.write_and_sync.result
-    (told-as _ _ (λ (old new : Disk). new ≡ synced (written old write)) (λ old new. IsSettledLog shape old → HasMarked shape number lsn old.base new)
-    (λ a b is_synced is. subst (HasMarked shape number lsn a.base) (sym is_synced) (synced-marked shape number lsn write a blocks is one)))
-    c.write_and_sync.ensures.ok
+pub returns-in_err-put_checkpoint-clause-calls : goal.returns-in_err-put_checkpoint-clause-calls
+returns-in_err-put_checkpoint-clause-calls g c =
+    let p = err_from_is_err_and c.from_residual.result c.from_residual.ensures.1 in
+    rw (p.1, p.2) (put_served (checkpoint-within c.args.shape.now (next_number c.args.number) c.args.lsn c.layout_of.result) c.in_err-put_checkpoint.ensures.calls)
 
-pub returns-clause-unmoved : goal.returns-clause-unmoved
-returns-clause-unmoved g c =
-    on_err_weaker c.write_and_sync.result
-    (told-as _ _ (IsPutOrNot (write_at (512 * c.from.result) c.fill_ckpt.new.out)) (λ (old new : Disk). new.base ≡ old.base)
-    (λ a b put. ⊎_elim (λ fails. fails.base) (λ pending. ap (λ (disk : Disk). disk.base) pending) put))
-    c.write_and_sync.ensures.err
+pub returns-in-One-clause-step : goal.returns-in-One-clause-step
+returns-in-One-clause-step g c =
+    let old = g.L.Sectors.seen c.args.log.now in
+    let mid = g.L.Sectors.seen c.put_checkpoint.new.log in
+    mark-one c.args.format c.args.shape.now c.args.number c.args.lsn old mid tt c.migrate.result (g.L.Sectors.seen c.migrate.new.log) c.in-One.is
+    (there c.args.format c.args.shape.now c.layout_of.result c.args.number c.args.lsn old _ mid c.layout_of.ensures.is c.in_ok-put_checkpoint.ensures.step) c.migrate.ensures.step
+
+pub returns-in-One-clause-calls : goal.returns-in-One-clause-calls
+returns-in-One-clause-calls g c =
+    puts_then (put_served (checkpoint-within c.args.shape.now (next_number c.args.number) c.args.lsn c.layout_of.result) c.in_ok-put_checkpoint.ensures.calls) c.migrate.ensures.calls
+
+pub returns-in-Two-clause-step : goal.returns-in-Two-clause-step
+returns-in-Two-clause-step g c =
+    let old = g.L.Sectors.seen c.args.log.now in
+    let new = g.L.Sectors.seen c.put_checkpoint.new.log in
+    mark-two c.args.format c.args.shape.now c.args.number c.args.lsn old tt new c.in-Two.is
+    (there c.args.format c.args.shape.now c.layout_of.result c.args.number c.args.lsn old _ new c.layout_of.ensures.is c.in_ok-put_checkpoint.ensures.step)
+
+pub returns-in-Two-clause-calls : goal.returns-in-Two-clause-calls
+returns-in-Two-clause-calls g c =
+    put_served (checkpoint-within c.args.shape.now (next_number c.args.number) c.args.lsn c.layout_of.result) c.in_ok-put_checkpoint.ensures.calls

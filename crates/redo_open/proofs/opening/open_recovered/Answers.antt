@@ -1,5 +1,6 @@
 -- The steps, and then the run.
 use Rattle.std.proofs.Common.{◌≡◌, ◌∙◌, Some, None, Ok, Err, sym, ap, subst}
+use Rattle.model_log.specs.{layout_of}
 use Rattle.model_store.specs.Reading.{Reading}
 use Rattle.redo_disk.specs.{MakesCalls, MayEndWith}
 use Rattle.redo_disk.specs.Seen.{Seen}
@@ -21,20 +22,20 @@ use Rattle.redo_open.proofs.opening.open_recovered.Goals as goal
 pub returns-in-Err-clause-step : goal.returns-in-Err-clause-step
 returns-in-Err-clause-step g c =
     let same : c.in-Err.data_device ≡ c.args.data_device = c.in-Err.ensures.dev in
-    subst (λ device. OpensRecovered g.L.Sectors.seen g.D.Sectors.seen (reading_of c.args.recovered) (g.L.Sectors.seen c.args.log) (g.D.Sectors.seen device)
+    subst (λ device. OpensRecovered g.L.Sectors.seen g.D.Sectors.seen (reading_of c.args.recovered) c.args.recovered.tail (g.L.Sectors.seen c.args.log) (g.D.Sectors.seen device)
     (Err (NoMemory, c.args.log, c.in-Err.data_device))) same
-    (recovered-none g.L.Sectors.seen g.D.Sectors.seen (reading_of c.args.recovered) c.args.log c.in-Err.data_device)
+    (recovered-none g.L.Sectors.seen g.D.Sectors.seen (reading_of c.args.recovered) c.args.recovered.tail c.args.log c.in-Err.data_device)
 
 pub returns-in-Err-open_devices-clause-step : goal.returns-in-Err-open_devices-clause-step
 returns-in-Err-open_devices-clause-step g c =
     let opened : Reading = reading_of c.args.recovered in
     let seen = g.D.Sectors.seen in
     let before : seen c.in-Ok.store.dev ≡ seen c.args.data_device = ap (λ (part : Part _). seen part.dev) c.in-Ok.ensures.part in
-    let step = subst (λ (old : Seen). DevicesStep opened (g.L.Sectors.seen c.args.log) old (Err c.in-Err-open_devices.fault) (g.L.Sectors.seen c.open_devices.new.log) (seen c.open_devices.new.part.dev))
+    let step = subst (λ (old : Seen). DevicesStep opened c.args.recovered.tail (g.L.Sectors.seen c.args.log) old (Err c.in-Err-open_devices.fault) (g.L.Sectors.seen c.open_devices.new.log) (seen c.open_devices.new.part.dev))
     before c.in-Err-open_devices.ensures.step in
-    let left = subst (λ (new : Seen). DevicesStep opened (g.L.Sectors.seen c.args.log) (seen c.args.data_device) (Err c.in-Err-open_devices.fault) (g.L.Sectors.seen c.open_devices.new.log) new)
+    let left = subst (λ (new : Seen). DevicesStep opened c.args.recovered.tail (g.L.Sectors.seen c.args.log) (seen c.args.data_device) (Err c.in-Err-open_devices.fault) (g.L.Sectors.seen c.open_devices.new.log) new)
     (sym (ap seen c.into_dev.ensures)) step in
-    recovered-failed g.L.Sectors.seen seen opened (g.L.Sectors.seen c.args.log) (seen c.args.data_device) c.in-Err-open_devices.fault c.open_devices.new.log c.into_dev.result left
+    recovered-failed g.L.Sectors.seen seen opened c.args.recovered.tail (g.L.Sectors.seen c.args.log) (seen c.args.data_device) c.in-Err-open_devices.fault c.open_devices.new.log c.into_dev.result left
 
 pub returns-clause-step : goal.returns-clause-step
 returns-clause-step g c =
@@ -43,16 +44,17 @@ returns-clause-step g c =
     let of = c.requires.of_devices in
     let before : seen c.in-Ok.store.dev ≡ seen c.args.data_device = ap (λ (part : Part _). seen part.dev) c.in-Ok.ensures.part in
     let facts : IsStartable c.args.recovered c.open_devices.new.part c.start_after-start.result = record {
-      may = subst (MayStart c.args.recovered.shape c.args.recovered.ckpt) (sym c.start_after-start.ensures)
-          (may-start c.args.recovered.shape c.args.recovered.ckpt c.args.recovered.groups.items c.args.recovered.end of.limits of.aligned of.started of.small of.end);
+      limits = of.limits;
+      may = subst (MayStart (layout_of c.args.recovered.format c.args.recovered.shape) c.args.recovered.ckpt) (sym c.start_after-start.ensures)
+          (may-start c.args.recovered.format c.args.recovered.shape c.args.recovered.ckpt c.args.recovered.groups.items c.args.recovered.end of.limits of.aligned of.started of.small of.end);
       behind = c.start_after-start.ensures;
       its_pages = of.its_pages;
       not_ahead = subst (AreNotAhead c.args.recovered.pages) (sym c.start_after-start.ensures)
-          (not-ahead-of-start c.args.recovered.shape c.args.recovered.ckpt c.args.recovered.groups.items c.args.recovered.end c.args.recovered.pages of.end of.not_ahead);
+          (not-ahead-of-start (layout_of c.args.recovered.format c.args.recovered.shape) c.args.recovered.ckpt c.args.recovered.groups.items c.args.recovered.end c.args.recovered.pages of.end of.not_ahead);
       data_shape = c.in-Ok-open_devices.ensures.shape ∙ ap (λ (part : Part _). part.shape) c.in-Ok.ensures.part;
       data_live = c.in-Ok-open_devices.ensures.live;
     } in
-    let step = subst (λ (old : Seen). DevicesStep opened (g.L.Sectors.seen c.args.log) old (Ok tt) (g.L.Sectors.seen c.open_devices.new.log) (seen c.open_devices.new.part.dev))
+    let step = subst (λ (old : Seen). DevicesStep opened c.args.recovered.tail (g.L.Sectors.seen c.args.log) old (Ok tt) (g.L.Sectors.seen c.open_devices.new.log) (seen c.open_devices.new.part.dev))
     before c.in-Ok-open_devices.ensures.step in
     recovered-started g.L.Sectors.seen seen c.args.recovered c.start_after-start.result (g.L.Sectors.seen c.args.log) (seen c.args.data_device)
     c.open_devices.new.log c.open_devices.new.part c.start_run.result facts step c.start_run.ensures

@@ -1,60 +1,126 @@
 -- The store is read and opened.
-use Rattle.std.proofs.Common.{◌≢◌, ◌∙◌, Err, sym, ap, subst, arith}
-use Rattle.std.specs.Prelude.{IfOk, IfErr, IfSome}
+use Rattle.std.proofs.Common.{◌≡◌, ◌≢◌, ◌∙◌, ℕ, List, Option, Err, sym, ap, subst, arith}
+use Rattle.std.specs.Prelude.{IfOk, IfErr, IfSome, Result}
+use Rattle.model_base.specs.declared.shape.Shape.{Shape}
+use Rattle.model_device.specs.{IsWithin}
+use Rattle.model_device.specs.Disk.{Disk}
+use Rattle.model_log.specs.{log_device_length}
 use Rattle.model_parts.specs.{KeepsOpened}
 use Rattle.model_store.specs.Reading.{Reading}
+use Rattle.redo_disk.specs.{Call, error_of, MakesCalls, part}
+use Rattle.redo_disk.specs.declared.error.DevError.{DevError}
 use Rattle.redo_disk.proofs.Made.{call_ends, may_end}
-use Rattle.redo_open.specs.Devices.{HasSameCheckpoint, WhereBothTell}
+use Rattle.redo_open.specs.Devices.{IsNotOpened, WhereBothTell}
 use Rattle.redo_open.specs.Opening.{log_left, data_left, IsOpenedReady}
 use Rattle.redo_open.specs.Places.{IsPageFault}
-use Rattle.redo_open.proofs.Asked.{data_ends, may_end_then, opens_beside, opens_log, opens_then, reads_end}
+use Rattle.redo_open.specs.Puts.{ArePuts, PutsWhere}
+use Rattle.redo_open.proofs.Asked.{beside_log, data_ends, log_ends, may_end_then, opens_beside, opens_log, opens_then, reads_end}
 use Rattle.redo_open.proofs.Endings.{device-own}
-use Rattle.redo_open.proofs.Inside.{data_reads, log_reads, puts_behind, puts_of, read-inside, unopened-inside}
-use Rattle.redo_open.proofs.Puts.{put_nothing, put_one}
-use Rattle.redo_open.proofs.Stores.{also-refused, openable-same, opened-read, opening-cause, both-err, sync-cause, synced-holds}
+use Rattle.redo_open.proofs.Headed.{failed-keeps, failed-unmoved, opened-alike, unmoved-same}
+use Rattle.redo_open.proofs.Inside.{data_reads, ends_of, log_reads, puts_behind, puts_of, read-inside, unopened-inside, within-longer}
+use Rattle.redo_open.proofs.Puts.{put_nothing, put_one, put_weaker}
+use Rattle.redo_open.proofs.Stores.{also-refused, heads-cause, openable-same, opening-cause, opening-of, both-err, sync-cause, synced-holds}
 use Rattle.redo_open.proofs.Told.{cause-since}
+use Rattle.redo_recover.proofs.Only.{log-fault, log-then}
 use Rattle.redo_recover.specs.{AreFoundOn, data_error, log_error, reading_of}
+use Rattle.redo_recover.specs.Devices.{OnContent}
 use Rattle.redo_recover.specs.declared.fault.RecFault.TheVariants.{NoMemory}
 use Rattle.redo_open.proofs.opening.open_store.Goals as goal
+
+-- what was read of the device as it was
+heads-there : (heads : List ℕ) (told mid : Option Disk) → mid ≡ told → OnContent mid (λ content. heads ≡ part content 0 1536) → OnContent told (λ content. heads ≡ part content 0 1536)
+heads-there heads told mid same = subst (λ (o : Option Disk). OnContent o (λ content. heads ≡ part content 0 1536)) same
+
+-- the header blocks lie within every store
+heads_inside : {L : Type 0} {gives : L → Call → L → Type 0} {old new : L} {error : Option DevError} (shape : Shape) → MakesCalls gives old new (PutsWhere (IsWithin 1536) error)
+    → MakesCalls gives old new (ArePuts (IsWithin (log_device_length shape)))
+heads_inside shape made = puts_of (put_weaker (within-longer 1536 (log_device_length shape) (omega arith)) made)
+
+-- WHERE NOTHING WAS WRITTEN.
 
 pub returns-in-Err-clause-keeps : goal.returns-in-Err-clause-keeps
 returns-in-Err-clause-keeps g c = λ opened. openable-same opened _ _ _ _ c.in-Err.ensures.log.unchanged.tells c.in-Err.ensures.data_device.unchanged.tells
 
+pub returns-in-Err-clause-unmoved : goal.returns-in-Err-clause-unmoved
+returns-in-Err-clause-unmoved g c = λ opened. unmoved-same opened c.in-Err.fault _ _ _ c.in-Err.ensures.log.unchanged.tells
+
+pub returns-in-Err-read_heads-clause-keeps : goal.returns-in-Err-read_heads-clause-keeps
+returns-in-Err-read_heads-clause-keeps g c =
+    λ opened. openable-same opened _ _ _ _ (c.in-Err-read_heads.ensures.reads.unchanged.tells ∙ c.in-Ok.ensures.log.unchanged.tells) c.in-Ok.ensures.data_device.unchanged.tells
+
+pub returns-in-Err-read_heads-clause-unmoved : goal.returns-in-Err-read_heads-clause-unmoved
+returns-in-Err-read_heads-clause-unmoved g c =
+    λ opened. unmoved-same opened c.log_fault.result _ _ _ (c.in-Err-read_heads.ensures.reads.unchanged.tells ∙ c.in-Ok.ensures.log.unchanged.tells)
+
 pub returns-in-Err-sync-clause-keeps : goal.returns-in-Err-sync-clause-keeps
 returns-in-Err-sync-clause-keeps g c =
-    λ opened. openable-same opened _ _ _ _ c.in-Ok.ensures.log.unchanged.tells (c.in-Err-sync.ensures.step.err ∙ c.in-Ok.ensures.data_device.unchanged.tells)
+    λ opened. openable-same opened _ _ _ _ (c.in-Ok-read_heads.ensures.reads.unchanged.tells ∙ c.in-Ok.ensures.log.unchanged.tells)
+    (c.in-Err-sync.ensures.step.err ∙ c.in-Ok.ensures.data_device.unchanged.tells)
+
+pub returns-in-Err-sync-clause-unmoved : goal.returns-in-Err-sync-clause-unmoved
+returns-in-Err-sync-clause-unmoved g c =
+    λ opened. unmoved-same opened c.data_fault.result _ _ _ (c.in-Ok-read_heads.ensures.reads.unchanged.tells ∙ c.in-Ok.ensures.log.unchanged.tells)
+
+-- WHERE THE HEADER BLOCKS COULDN'T BE MADE ALIKE.
+
+pub returns-in-Err-make_alike-clause-keeps : goal.returns-in-Err-make_alike-clause-keeps
+returns-in-Err-make_alike-clause-keeps g c = λ opened.
+    failed-keeps opened c.in-Ok-read_heads.heads (g.L.Sectors.seen c.args.log).tells (g.D.Sectors.seen c.args.data_device).tells (g.D.Sectors.seen c.recover.new.data_device).tells
+    (g.L.Sectors.seen c.read_heads.new.log) (g.L.Sectors.seen c.make_alike.new.log) (g.D.Sectors.seen c.sync.new.self) c.in-Err-make_alike.error
+    (heads-there c.in-Ok-read_heads.heads _ _ c.in-Ok.ensures.log.unchanged.tells c.in-Ok-read_heads.ensures.content)
+    (c.in-Ok-read_heads.ensures.reads.unchanged.tells ∙ c.in-Ok.ensures.log.unchanged.tells) c.in-Ok.ensures.data_device.unchanged.tells c.in-Ok-sync.ensures.step.ok
+    c.in-Err-make_alike.ensures.step
+
+pub returns-in-Err-make_alike-clause-unmoved : goal.returns-in-Err-make_alike-clause-unmoved
+returns-in-Err-make_alike-clause-unmoved g c = λ opened.
+    failed-unmoved opened c.log_fault-in-Err-make_alike.result c.in-Ok-read_heads.heads (g.L.Sectors.seen c.args.log).tells (g.D.Sectors.seen c.args.data_device).tells
+    (g.L.Sectors.seen c.read_heads.new.log) (g.L.Sectors.seen c.make_alike.new.log) c.in-Err-make_alike.error
+    (heads-there c.in-Ok-read_heads.heads _ _ c.in-Ok.ensures.log.unchanged.tells c.in-Ok-read_heads.ensures.content)
+    (c.in-Ok-read_heads.ensures.reads.unchanged.tells ∙ c.in-Ok.ensures.log.unchanged.tells) c.in-Err-make_alike.ensures.step
+
+-- ONCE THEY ARE ALIKE.
 
 pub returns-clause-keeps : goal.returns-clause-keeps
 returns-clause-keeps g c = λ opened.
-    opened-read opened (reading_of c.in-Ok.recovered) _ _ (g.L.Sectors.seen c.recover.new.log).tells (g.D.Sectors.seen c.recover.new.data_device).tells (g.D.Sectors.seen c.sync.new.self).tells
+    opened-alike opened (reading_of c.in-Ok.recovered) c.in-Ok.recovered.tail c.in-Ok-read_heads.heads (g.L.Sectors.seen c.args.log).tells (g.D.Sectors.seen c.args.data_device).tells
+    (g.D.Sectors.seen c.recover.new.data_device).tells (g.L.Sectors.seen c.read_heads.new.log) (g.L.Sectors.seen c.make_alike.new.log) (g.D.Sectors.seen c.sync.new.self) tt
     (λ (read : Reading). WhereBothTell (g.L.Sectors.seen (log_left c.open_recovered.result)).tells (g.D.Sectors.seen (data_left c.open_recovered.result)).tells (KeepsOpened read))
-    c.in-Ok.ensures.recovered.read c.in-Ok.ensures.log.unchanged.tells c.in-Ok.ensures.data_device.unchanged.tells c.in-Ok-sync.ensures.step.ok c.open_recovered.ensures.step.keeps
+    c.in-Ok.ensures.recovered.read c.in-Ok.ensures.recovered.tail
+    (heads-there c.in-Ok-read_heads.heads _ _ c.in-Ok.ensures.log.unchanged.tells c.in-Ok-read_heads.ensures.content)
+    (c.in-Ok-read_heads.ensures.reads.unchanged.tells ∙ c.in-Ok.ensures.log.unchanged.tells) c.in-Ok.ensures.data_device.unchanged.tells c.in-Ok-sync.ensures.step.ok
+    c.in-Ok-make_alike.ensures.step c.open_recovered.ensures.step.keeps
 
 pub returns-clause-unmoved : goal.returns-clause-unmoved
 returns-clause-unmoved g c = λ opened.
-    opened-read opened (reading_of c.in-Ok.recovered) _ _ (g.L.Sectors.seen c.recover.new.log).tells (g.D.Sectors.seen c.recover.new.data_device).tells (g.D.Sectors.seen c.sync.new.self).tells
-    (λ (read : Reading). IfErr c.open_recovered.result (λ error. error.0 ≢ NoMemory → IfSome (g.L.Sectors.seen error.1).tells (HasSameCheckpoint read)))
-    c.in-Ok.ensures.recovered.read c.in-Ok.ensures.log.unchanged.tells c.in-Ok.ensures.data_device.unchanged.tells c.in-Ok-sync.ensures.step.ok
-    (λ log_bytes data_bytes orderly log_known data_known. c.open_recovered.ensures.step.unmoved log_bytes data_bytes orderly log_known)
+    opened-alike opened (reading_of c.in-Ok.recovered) c.in-Ok.recovered.tail c.in-Ok-read_heads.heads (g.L.Sectors.seen c.args.log).tells (g.D.Sectors.seen c.args.data_device).tells
+    (g.D.Sectors.seen c.recover.new.data_device).tells (g.L.Sectors.seen c.read_heads.new.log) (g.L.Sectors.seen c.make_alike.new.log) (g.D.Sectors.seen c.sync.new.self) tt
+    (λ (read : Reading). IfErr c.open_recovered.result (λ error. error.0 ≢ NoMemory → IfSome (g.L.Sectors.seen error.1).tells (IsNotOpened read)))
+    c.in-Ok.ensures.recovered.read c.in-Ok.ensures.recovered.tail
+    (heads-there c.in-Ok-read_heads.heads _ _ c.in-Ok.ensures.log.unchanged.tells c.in-Ok-read_heads.ensures.content)
+    (c.in-Ok-read_heads.ensures.reads.unchanged.tells ∙ c.in-Ok.ensures.log.unchanged.tells) c.in-Ok.ensures.data_device.unchanged.tells c.in-Ok-sync.ensures.step.ok
+    c.in-Ok-make_alike.ensures.step c.open_recovered.ensures.step.unmoved
 
 pub returns-clause-ready : goal.returns-clause-ready
 returns-clause-ready g c = λ opened.
-    opened-read opened (reading_of c.in-Ok.recovered) _ _ (g.L.Sectors.seen c.recover.new.log).tells (g.D.Sectors.seen c.recover.new.data_device).tells (g.D.Sectors.seen c.sync.new.self).tells
+    opened-alike opened (reading_of c.in-Ok.recovered) c.in-Ok.recovered.tail c.in-Ok-read_heads.heads (g.L.Sectors.seen c.args.log).tells (g.D.Sectors.seen c.args.data_device).tells
+    (g.D.Sectors.seen c.recover.new.data_device).tells (g.L.Sectors.seen c.read_heads.new.log) (g.L.Sectors.seen c.make_alike.new.log) (g.D.Sectors.seen c.sync.new.self) tt
     (λ (read : Reading). IfOk c.open_recovered.result (IsOpenedReady g.L.Sectors.seen g.D.Sectors.seen read))
-    c.in-Ok.ensures.recovered.read c.in-Ok.ensures.log.unchanged.tells c.in-Ok.ensures.data_device.unchanged.tells c.in-Ok-sync.ensures.step.ok c.open_recovered.ensures.step.ready
+    c.in-Ok.ensures.recovered.read c.in-Ok.ensures.recovered.tail
+    (heads-there c.in-Ok-read_heads.heads _ _ c.in-Ok.ensures.log.unchanged.tells c.in-Ok-read_heads.ensures.content)
+    (c.in-Ok-read_heads.ensures.reads.unchanged.tells ∙ c.in-Ok.ensures.log.unchanged.tells) c.in-Ok.ensures.data_device.unchanged.tells c.in-Ok-sync.ensures.step.ok
+    c.in-Ok-make_alike.ensures.step c.open_recovered.ensures.step.ready
+
+pub returns-clause-read : goal.returns-clause-read
+returns-clause-read g c =
+    opening-of (g.L.Sectors.seen c.args.log).tells (g.D.Sectors.seen c.args.data_device).tells c.open_recovered.result (reading_of c.in-Ok.recovered)
+    c.in-Ok.ensures.recovered.read c.open_recovered.ensures.step.opened_as
 
 pub open_recovered-requires-clause-found : goal.open_recovered-requires-clause-found
 open_recovered-requires-clause-found g c =
     let recovered = c.in-Ok.recovered in
     synced-holds (AreFoundOn recovered.shape recovered.places recovered.pages) _ _ _ c.in-Ok.ensures.recovered.found c.in-Ok.ensures.data_device.unchanged.tells c.in-Ok-sync.ensures.step.ok
 
-pub returns-clause-cause : goal.returns-clause-cause
-returns-clause-cause g c =
-    opening-cause g.L.Sectors.seen g.D.Sectors.seen (g.L.Sectors.seen c.args.log) (g.D.Sectors.seen c.args.data_device)
-    (g.L.Sectors.seen c.recover.new.log) (g.D.Sectors.seen c.sync.new.self) c.open_recovered.result (reading_of c.in-Ok.recovered) c.in-Ok.ensures.recovered.read c.in-Ok.ensures.log.unchanged.later
-    (omega (arith, c.in-Ok.ensures.data_device.unchanged.later, c.in-Ok-sync.ensures.step.cause.later))
-    c.open_recovered.ensures.step.fault c.open_recovered.ensures.step.log_failed c.open_recovered.ensures.step.data_failed
-    (both-err g.L.Sectors.seen g.D.Sectors.seen (g.L.Sectors.seen c.recover.new.log) (g.D.Sectors.seen c.sync.new.self) c.open_recovered.result c.open_recovered.ensures.step.log c.open_recovered.ensures.step.data_device)
+-- THE CAUSES.
 
 pub returns-in-Err-clause-cause : goal.returns-in-Err-clause-cause
 returns-in-Err-clause-cause g c = record {
@@ -65,11 +131,35 @@ returns-in-Err-clause-cause g c = record {
   data_failed = λ is. c.in-Err.ensures.data_device.failed (ap data_error is);
 }
 
+pub returns-in-Err-read_heads-clause-cause : goal.returns-in-Err-read_heads-clause-cause
+returns-in-Err-read_heads-clause-cause g c =
+    let read = log-then _ _ _ _ c.in-Ok.ensures.log c.in-Err-read_heads.ensures.reads in
+    heads-cause (g.L.Sectors.seen c.args.log) (g.D.Sectors.seen c.args.data_device) (g.L.Sectors.seen c.read_heads.new.log) (g.D.Sectors.seen c.recover.new.data_device)
+    c.in-Err-read_heads.error c.log_fault.result (reading_of c.in-Ok.recovered) c.log_fault.ensures c.in-Ok.ensures.recovered.read
+    (record { later = read.unchanged.later; failed = λ is. read.failed (ap (λ (result : Result (Unit {0}) DevError). error_of result) is) })
+
 pub returns-in-Err-sync-clause-cause : goal.returns-in-Err-sync-clause-cause
 returns-in-Err-sync-clause-cause g c =
-    sync-cause (g.L.Sectors.seen c.args.log) (g.D.Sectors.seen c.args.data_device) (g.L.Sectors.seen c.recover.new.log) (g.D.Sectors.seen c.sync.new.self)
+    sync-cause (g.L.Sectors.seen c.args.log) (g.D.Sectors.seen c.args.data_device) (g.L.Sectors.seen c.read_heads.new.log) (g.D.Sectors.seen c.sync.new.self)
     c.in-Err-sync.error c.data_fault.result (reading_of c.in-Ok.recovered) c.data_fault.ensures c.in-Ok.ensures.recovered.read
     (cause-since _ _ _ (Err c.in-Err-sync.error) c.in-Ok.ensures.data_device.unchanged.later c.in-Err-sync.ensures.step.cause)
+
+pub returns-in-Err-make_alike-clause-cause : goal.returns-in-Err-make_alike-clause-cause
+returns-in-Err-make_alike-clause-cause g c =
+    heads-cause (g.L.Sectors.seen c.args.log) (g.D.Sectors.seen c.args.data_device) (g.L.Sectors.seen c.make_alike.new.log) (g.D.Sectors.seen c.sync.new.self)
+    c.in-Err-make_alike.error c.log_fault-in-Err-make_alike.result (reading_of c.in-Ok.recovered) c.log_fault-in-Err-make_alike.ensures c.in-Ok.ensures.recovered.read
+    (cause-since _ _ _ (Err c.in-Err-make_alike.error) (omega (arith, c.in-Ok.ensures.log.unchanged.later, c.in-Ok-read_heads.ensures.reads.unchanged.later)) c.in-Err-make_alike.ensures.step.cause)
+
+pub returns-clause-cause : goal.returns-clause-cause
+returns-clause-cause g c =
+    opening-cause g.L.Sectors.seen g.D.Sectors.seen (g.L.Sectors.seen c.args.log) (g.D.Sectors.seen c.args.data_device)
+    (g.L.Sectors.seen c.make_alike.new.log) (g.D.Sectors.seen c.sync.new.self) c.open_recovered.result (reading_of c.in-Ok.recovered) c.in-Ok.ensures.recovered.read
+    (omega (arith, c.in-Ok.ensures.log.unchanged.later, c.in-Ok-read_heads.ensures.reads.unchanged.later, c.in-Ok-make_alike.ensures.step.cause.later))
+    (omega (arith, c.in-Ok.ensures.data_device.unchanged.later, c.in-Ok-sync.ensures.step.cause.later))
+    c.open_recovered.ensures.step.fault c.open_recovered.ensures.step.log_failed c.open_recovered.ensures.step.data_failed
+    (both-err g.L.Sectors.seen g.D.Sectors.seen (g.L.Sectors.seen c.make_alike.new.log) (g.D.Sectors.seen c.sync.new.self) c.open_recovered.result c.open_recovered.ensures.step.log c.open_recovered.ensures.step.data_device)
+
+-- THE CALLS.
 
 pub returns-in-Err-clause-log_calls : goal.returns-in-Err-clause-log_calls
 returns-in-Err-clause-log_calls g c = opens_log c.in-Err.ensures.log.calls
@@ -77,16 +167,37 @@ returns-in-Err-clause-log_calls g c = opens_log c.in-Err.ensures.log.calls
 pub returns-in-Err-clause-data_calls : goal.returns-in-Err-clause-data_calls
 returns-in-Err-clause-data_calls g c = reads_end c.in-Err.ensures.data_device.calls
 
+pub returns-in-Err-read_heads-clause-log_calls : goal.returns-in-Err-read_heads-clause-log_calls
+returns-in-Err-read_heads-clause-log_calls g c =
+    let read = log-fault _ _ c.in-Err-read_heads.error c.log_fault.result c.log_fault.ensures (log-then _ _ _ _ c.in-Ok.ensures.log c.in-Err-read_heads.ensures.reads) in
+    opens_log read.calls
+
+pub returns-in-Err-read_heads-clause-data_calls : goal.returns-in-Err-read_heads-clause-data_calls
+returns-in-Err-read_heads-clause-data_calls g c = beside_log c.in-Err-read_heads.error c.log_fault.result c.log_fault.ensures (reads_end c.in-Ok.ensures.data_device.calls)
+
 pub returns-in-Err-sync-clause-log_calls : goal.returns-in-Err-sync-clause-log_calls
 returns-in-Err-sync-clause-log_calls g c =
-    opens_beside c.data_fault.result (subst IsPageFault (sym c.data_fault.ensures) (device-own c.in-Err-sync.error)) c.in-Ok.ensures.log.calls
+    let read = log-then _ _ _ _ c.in-Ok.ensures.log c.in-Ok-read_heads.ensures.reads in
+    opens_beside c.data_fault.result (subst IsPageFault (sym c.data_fault.ensures) (device-own c.in-Err-sync.error)) read.calls
 
 pub returns-in-Err-sync-clause-data_calls : goal.returns-in-Err-sync-clause-data_calls
 returns-in-Err-sync-clause-data_calls g c =
     may_end_then (reads_end c.in-Ok.ensures.data_device.calls) (data_ends c.in-Err-sync.error c.data_fault.result c.data_fault.ensures (call_ends c.in-Err-sync.ensures.gives))
 
+pub returns-in-Err-make_alike-clause-log_calls : goal.returns-in-Err-make_alike-clause-log_calls
+returns-in-Err-make_alike-clause-log_calls g c =
+    let read = log-then _ _ _ _ c.in-Ok.ensures.log c.in-Ok-read_heads.ensures.reads in
+    opens_then read.calls (log_ends c.in-Err-make_alike.error c.log_fault-in-Err-make_alike.result c.log_fault-in-Err-make_alike.ensures (ends_of c.in-Err-make_alike.ensures.calls))
+
+pub returns-in-Err-make_alike-clause-data_calls : goal.returns-in-Err-make_alike-clause-data_calls
+returns-in-Err-make_alike-clause-data_calls g c =
+    beside_log c.in-Err-make_alike.error c.log_fault-in-Err-make_alike.result c.log_fault-in-Err-make_alike.ensures
+    (may_end_then (reads_end c.in-Ok.ensures.data_device.calls) (may_end (call_ends c.in-Ok-sync.ensures.gives)))
+
 pub returns-clause-log_calls : goal.returns-clause-log_calls
-returns-clause-log_calls g c = opens_then c.in-Ok.ensures.log.calls c.open_recovered.ensures.log_calls
+returns-clause-log_calls g c =
+    let read = log-then _ _ _ _ c.in-Ok.ensures.log c.in-Ok-read_heads.ensures.reads in
+    opens_then read.calls (may_end_then (may_end (ends_of c.in-Ok-make_alike.ensures.calls)) c.open_recovered.ensures.log_calls)
 
 pub returns-clause-data_calls : goal.returns-clause-data_calls
 returns-clause-data_calls g c =
@@ -109,32 +220,66 @@ returns-in-Err-clause-inside g c =
       };
     })
 
-pub returns-in-Err-sync-clause-inside : goal.returns-in-Err-sync-clause-inside
-returns-in-Err-sync-clause-inside g c =
+pub returns-in-Err-read_heads-clause-inside : goal.returns-in-Err-read_heads-clause-inside
+returns-in-Err-read_heads-clause-inside g c =
+    let read = log-then _ _ _ _ c.in-Ok.ensures.log c.in-Err-read_heads.ensures.reads in
     unopened-inside g.L.Sectors.gives g.D.Sectors.gives (g.L.Sectors.seen c.args.log).tells (g.D.Sectors.seen c.args.data_device).tells c.args.log c.args.data_device
-    (c.data_fault.result, c.recover.new.log, c.sync.new.self)
+    (c.log_fault.result, c.read_heads.new.log, c.recover.new.data_device)
     (λ shape. record {
-      log_read = c.recover.new.log;
+      log_read = c.read_heads.new.log;
       data_read = c.recover.new.data_device;
-      log = log_reads c.in-Ok.ensures.log.calls;
+      log = log_reads read.calls;
       data_device = data_reads c.in-Ok.ensures.data_device.calls;
       inside = record {
-        log = puts_of (put_nothing g.L.Sectors.gives c.recover.new.log);
+        log = puts_of (put_nothing g.L.Sectors.gives c.read_heads.new.log);
+        data_device = puts_of (put_nothing g.D.Sectors.gives c.recover.new.data_device);
+      };
+    })
+
+pub returns-in-Err-sync-clause-inside : goal.returns-in-Err-sync-clause-inside
+returns-in-Err-sync-clause-inside g c =
+    let read = log-then _ _ _ _ c.in-Ok.ensures.log c.in-Ok-read_heads.ensures.reads in
+    unopened-inside g.L.Sectors.gives g.D.Sectors.gives (g.L.Sectors.seen c.args.log).tells (g.D.Sectors.seen c.args.data_device).tells c.args.log c.args.data_device
+    (c.data_fault.result, c.read_heads.new.log, c.sync.new.self)
+    (λ shape. record {
+      log_read = c.read_heads.new.log;
+      data_read = c.recover.new.data_device;
+      log = log_reads read.calls;
+      data_device = data_reads c.in-Ok.ensures.data_device.calls;
+      inside = record {
+        log = puts_of (put_nothing g.L.Sectors.gives c.read_heads.new.log);
         data_device = puts_of (put_one tt c.in-Err-sync.ensures.gives);
+      };
+    })
+
+pub returns-in-Err-make_alike-clause-inside : goal.returns-in-Err-make_alike-clause-inside
+returns-in-Err-make_alike-clause-inside g c =
+    let read = log-then _ _ _ _ c.in-Ok.ensures.log c.in-Ok-read_heads.ensures.reads in
+    unopened-inside g.L.Sectors.gives g.D.Sectors.gives (g.L.Sectors.seen c.args.log).tells (g.D.Sectors.seen c.args.data_device).tells c.args.log c.args.data_device
+    (c.log_fault-in-Err-make_alike.result, c.make_alike.new.log, c.sync.new.self)
+    (λ shape. record {
+      log_read = c.read_heads.new.log;
+      data_read = c.recover.new.data_device;
+      log = log_reads read.calls;
+      data_device = data_reads c.in-Ok.ensures.data_device.calls;
+      inside = record {
+        log = heads_inside shape c.in-Err-make_alike.ensures.calls;
+        data_device = puts_of (put_one tt c.in-Ok-sync.ensures.gives);
       };
     })
 
 pub returns-clause-inside : goal.returns-clause-inside
 returns-clause-inside g c =
+    let read = log-then _ _ _ _ c.in-Ok.ensures.log c.in-Ok-read_heads.ensures.reads in
     read-inside g.L.Sectors.gives g.D.Sectors.gives (g.L.Sectors.seen c.args.log).tells (g.D.Sectors.seen c.args.data_device).tells c.args.log c.args.data_device
     c.open_recovered.result (reading_of c.in-Ok.recovered) c.in-Ok.ensures.recovered.read c.open_recovered.ensures.step.opened_as
     (record {
-      log_read = c.recover.new.log;
+      log_read = c.read_heads.new.log;
       data_read = c.recover.new.data_device;
-      log = log_reads c.in-Ok.ensures.log.calls;
+      log = log_reads read.calls;
       data_device = data_reads c.in-Ok.ensures.data_device.calls;
       inside = record {
-        log = c.open_recovered.ensures.inside.log;
+        log = puts_behind (heads_inside c.in-Ok.recovered.shape c.in-Ok-make_alike.ensures.calls) c.open_recovered.ensures.inside.log;
         data_device = puts_behind (puts_of (put_one tt c.in-Ok-sync.ensures.gives)) c.open_recovered.ensures.inside.data_device;
       };
     })

@@ -1,8 +1,8 @@
 -- The sectors below the offset are zeros, and no call has failed.
 use Rattle.std.proofs.Common.{◌-◌, ◌≡◌, ◌≤◌, ◌%◌, None}
 use Rattle.model_device.specs.{IsWithin}
-use Rattle.redo_disk.specs.{HasSize, MakesCalls, OnTold}
-use Rattle.redo_open.specs.Erase.{HasErased}
+use Rattle.redo_disk.specs.{MakesCalls, OnTold}
+use Rattle.redo_open.specs.Erase.{HasErased, Reaches}
 use Rattle.redo_open.specs.Puts.{PutsWhere}
 use Rattle.redo_open.proofs.zeros.erase.Given as goal
 
@@ -14,7 +14,7 @@ invariant-loop-at g l = record {
   size : (g.D.Sectors.seen l.device).size ≡ (g.D.Sectors.seen l.fn.device).size;
   later : (g.D.Sectors.seen l.fn.device).faults ≤ (g.D.Sectors.seen l.device).faults;
   told : OnTold (g.D.Sectors.seen l.fn.device).tells (g.D.Sectors.seen l.device).tells
-      (λ old new. HasSize (g.D.Sectors.seen l.fn.device).size old → HasErased (g.D.Sectors.seen l.fn.device).size l.fn.from l.at old new);
+      (λ old new. Reaches l.fn.end old → HasErased l.fn.from l.at old new);
   calls : MakesCalls g.D.Sectors.gives l.fn.device l.device (PutsWhere (IsWithin l.end) None);
 }
 
