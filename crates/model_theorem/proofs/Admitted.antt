@@ -5,13 +5,16 @@ use Rattle.model_base.specs.declared.shape.Shape.{Shape}
 use Rattle.model_store.specs.{folded}
 use Rattle.std.proofs.lemmas.Bool.{eqb-true}
 use Rattle.model_base.specs.Lines as lines
-use Rattle.model_device.specs.{IsImage, IsWrittenBy, sector, settled}
+use Rattle.model_device.specs.{IsCovered, IsImage, sector, settled}
 use Rattle.model_device.specs.Disk.{Disk}
 use Rattle.model_device.specs.declared.write.Write.{Write}
 use Rattle.model_report.specs.{count_up_to, entries_of_user, HasLeft, IsLeft, IsLegal, IsLegalEntry, lines_of_user, wholes_of}
 use Rattle.model_report.specs.declared.entry.Entry.{Entry}
 use Rattle.model_report.specs.declared.entry.State.TheVariants.{Lost, Flushed}
-use Rattle.model_log.specs.{group_length, lsn_of, newer, newest_checkpoint, read_checkpoint, sn_of}
+use Rattle.model_log.specs.{group_length, head_among, head_of, layout_of, lsn_of, newer, newest_checkpoint, read_checkpoint, run_layout, sn_of}
+use Rattle.model_log.specs.declared.head.Format.{Format}
+use Rattle.model_log.specs.declared.head.Format.TheVariants.{Two}
+use Rattle.model_log.specs.declared.layout.Layout.{Layout}
 use Rattle.model_script.specs.declared.script.ScriptLine.{ScriptLine}
 use Rattle.model_base.specs.Spelling as spelling
 use Rattle.model_log.specs.Group as group
@@ -23,43 +26,82 @@ use Rattle.model_store.specs.Reading.{Reading}
 use Rattle.model_theorem.specs.Crash.{CrashSafe}
 use Rattle.model_base.specs.declared.limits.TheConstants.{LSN_LIMIT}
 use Rattle.model_theorem.specs.Values.{Opened}
-use Rattle.model_theorem.specs.Opening.{IsOpeningDone}
+use Rattle.model_parts.specs.{IsUnopened}
+use Rattle.model_theorem.specs.Opening.{HasCheckpoint, IsOpeningDone, IsOpeningStopped}
 use Rattle.model_theorem.proofs.Refused.{base-image}
 use Rattle.model_theorem.specs.Examples.{AreOfBlocks, MovedCheckpoint, new_store, ReadsAsOpened, lost_run, line_of_value, two_lines, text_of_two, text_of_one, empty_account, empty_call, lost_account, lost_call, stopped_account, stopped_call}
 use Rattle.model_log.specs.declared.layout.TheConstants.{HEADER_BLOCKS, HEADER_BYTES}
 
 -- WHAT STANDS IN THE HEADER while only log blocks are written
-unwritten : (writes : List Write) (k : ℕ) (bytes : List ℕ) → k < HEADER_BLOCKS → AreOfBlocks writes → IsWrittenBy writes k bytes → ⊥
-unwritten [] k bytes low are is = is
-unwritten (write ∷ writes) k bytes low are is =
-    ⊎_elim (λ here. absurd (omega (arith, here.0.from, are.0))) (λ there. unwritten writes k bytes low are.1 there) is
+unwritten : (writes : List Write) (k : ℕ) → k < HEADER_BLOCKS → AreOfBlocks writes → IsCovered writes k → ⊥
+unwritten [] k low are is = is
+unwritten (write ∷ writes) k low are is =
+    ⊎_elim (λ here. absurd (omega (arith, here.from, are.0))) (λ there. unwritten writes k low are.1 there) is
 
-same-sector : (disk : Disk) (image : List ℕ) (k : ℕ) → k < 4 → HEADER_BYTES ≤ length disk.base → AreOfBlocks disk.writes → IsImage disk image → sector k image ≡ sector k disk.base
+same-sector : (disk : Disk) (image : List ℕ) (k : ℕ) → k < HEADER_BLOCKS → HEADER_BYTES ≤ length disk.base → AreOfBlocks disk.writes → IsImage disk image → sector k image ≡ sector k disk.base
 same-sector disk image k low long are is =
-    ⊎_elim (λ same. same) (λ written. absurd (unwritten disk.writes k (sector k image) low are written)) (is.each k (omega arith))
+    ⊎_elim (λ same. same) (λ covered. absurd (unwritten disk.writes k low are covered)) (is.each k (omega arith))
 
-same-newest : (shape : Shape) (disk : Disk) (image : List ℕ) → HEADER_BYTES ≤ length disk.base → AreOfBlocks disk.writes → IsImage disk image
-    → newest_checkpoint shape image ≡ newest_checkpoint shape disk.base
-same-newest shape disk image long are is =
+same-head : (disk : Disk) (image : List ℕ) → HEADER_BYTES ≤ length disk.base → AreOfBlocks disk.writes → IsImage disk image → head_of image ≡ head_of disk.base
+same-head disk image long are is =
+    let first = same-sector disk image 0 (omega arith) long are is in
+    let second = same-sector disk image 2 (omega arith) long are is in
+    (λ i. head_among (first i) (second i))
+
+same-newest : (layout : Layout) (disk : Disk) (image : List ℕ) → HEADER_BYTES ≤ length disk.base → AreOfBlocks disk.writes → IsImage disk image
+    → newest_checkpoint layout image ≡ newest_checkpoint layout disk.base
+same-newest layout disk image long are is =
     let even = same-sector disk image 1 (omega arith) long are is in
     let odd = same-sector disk image 3 (omega arith) long are is in
-    (λ i. newer (read_checkpoint 1 shape (even i)) (read_checkpoint 3 shape (odd i)))
+    (λ i. newer (read_checkpoint 1 layout (even i)) (read_checkpoint 3 layout (odd i)))
+
+-- what is read of a log device
+found-checkpoint : (log data_bytes : List ℕ) (opened : Opened) (reading : Reading) → ReadsAsOpened log data_bytes opened reading
+    → HasCheckpoint reading.format opened.shape reading.number reading.ckpt log
+found-checkpoint log data_bytes opened reading as_opened =
+    subst (λ (shape : Shape). HasCheckpoint reading.format shape reading.number reading.ckpt log) as_opened.shape
+    (record { head = as_opened.is_read.scan.devices.head.head; newest = as_opened.is_read.scan.checkpoint })
 
 -- so the checkpoint that is read is newer than the one that was found, in each image
 opening-done : (found log data_bytes : List ℕ) (writes : List Write) (reads : List ℕ) (opened : Opened) (reading : Reading) → ReadsAsOpened log data_bytes opened reading
     → MovedCheckpoint found opened reading → AreOfBlocks writes → IsOpeningDone opened.shape (settled found) (record { base = log; writes = writes; reads = reads })
-opening-done found log data_bytes writes reads opened reading as_opened held are = record {
-  number = held.older.found;
-  ckpt = held.older.ckpt;
-  found = held.older.newest;
-  moved = λ image is. record {
-    number = reading.number;
-    ckpt = reading.ckpt;
-    newest = same-newest opened.shape (record { base = log; writes = writes; reads = reads }) image as_opened.is_read.scan.devices.head.long are is
-        ∙ subst (λ (shape : Shape). newest_checkpoint shape log ≡ Some (reading.number, reading.ckpt)) as_opened.shape as_opened.is_read.scan.checkpoint;
-    from = omega (arith, held.older.older);
-  };
-}
+opening-done found log data_bytes writes reads opened reading as_opened held are =
+    let disk : Disk = record { base = log; writes = writes; reads = reads } in
+    let long : HEADER_BYTES ≤ length log = as_opened.is_read.scan.devices.head.long in
+    let here : HasCheckpoint Two opened.shape reading.number reading.ckpt log =
+    subst (λ (format : Format). HasCheckpoint format opened.shape reading.number reading.ckpt log) held.format
+    (found-checkpoint log data_bytes opened reading as_opened) in
+    record {
+      format = held.older.format;
+      number = held.older.found;
+      ckpt = held.older.ckpt;
+      found = held.older.newest;
+      moved = λ image fair. record {
+        number = reading.number;
+        ckpt = reading.ckpt;
+        newest = record {
+          head = same-head disk image long are fair.possible ∙ here.head;
+          newest = same-newest (run_layout opened.shape) disk image long are fair.possible ∙ here.newest;
+        };
+        from = omega (arith, held.older.older);
+      };
+    }
+
+-- and where opening was stopped it is the one that was found
+opening-stopped : (log data_bytes : List ℕ) (opened : Opened) (reading : Reading) (disk : Disk) → ReadsAsOpened log data_bytes opened reading → disk.base ≡ log
+    → IsOpeningStopped opened.shape (settled log) disk
+opening-stopped log data_bytes opened reading disk as_opened base =
+    let here : HasCheckpoint reading.format opened.shape reading.number reading.ckpt log = found-checkpoint log data_bytes opened reading as_opened in
+    record {
+      format = reading.format;
+      number = reading.number;
+      ckpt = reading.ckpt;
+      found = here;
+      unmoved = subst (IsUnopened reading.format opened.shape reading.number reading.ckpt) (sym base) (record {
+        head = here.head;
+        newest = λ two. subst (λ (format : Format). newest_checkpoint (layout_of format opened.shape) log ≡ Some (reading.number, reading.ckpt)) two here.newest;
+      });
+    }
 
 empty-text : script_of [] ≡ Ok []
 unfolding script_of lines.lines_of
@@ -297,9 +339,7 @@ admits-stopped log data_bytes reading as_opened = record {
   };
   prints = record { taken = refl; report = refl; left_is = left-one (line_of_value 7 ∷ []) [] refl others-of-one };
   in_lsn_order = tt;
-  opened_first =
-      (let newest = subst (λ (shape : Shape). newest_checkpoint shape log ≡ Some (reading.number, reading.ckpt)) as_opened.shape as_opened.is_read.scan.checkpoint in
-      record { number = reading.number; ckpt = reading.ckpt; found = newest; unmoved = newest });
+  opened_first = opening-stopped log data_bytes new_store reading (record { base = log; writes = []; reads = log }) as_opened refl;
   read_from_devices = record {
     log_device = record { pick_is = refl; kept = record { same_length = refl; each = λ k below. inl refl }; one_image = refl; unchanged_since = refl; unfailed_since = refl };
     data_device = record { pick_is = refl; kept = base-image (settled data_bytes); one_image = refl; unchanged_since = refl; unfailed_since = refl };

@@ -6,12 +6,12 @@ use Rattle.std.proofs.lemmas.Bool.Decides.{nat_tests}
 use Rattle.model_base.specs.declared.shape.Shape.{Shape}
 use Rattle.model_base.specs.{IsWithinLimits}
 use Rattle.model_log.specs.declared.group.Whole.{Whole}
-use Rattle.model_log.specs.{groups_of, IsAtDataStart, IsRunOf, layout_of, start_after}
-use Rattle.model_device.specs.{IsImage}
+use Rattle.model_log.specs.{groups_of, IsAtDataStart, IsRunOf, run_layout, start_after}
+use Rattle.model_log.specs.declared.head.Format.TheVariants.{Two}
 use Rattle.model_device.specs.Disk.{Disk}
 use Rattle.model_log.specs.declared.block.BlockView.{BlockView}
 use Rattle.model_page.specs.declared.content.Content.{Content}
-use Rattle.model_store.specs.{folded, HasScan, IsFair, IsNoNewerCopy, IsReadPage, IsStorable, page_folded, taken}
+use Rattle.model_store.specs.{folded, HasScan, IsFair, IsFairLog, IsNoNewerCopy, IsReadPage, IsStorable, page_folded, taken}
 use Rattle.model_store.specs.Reading.{Reading}
 use Rattle.model_page.specs.{copy_lsn}
 use Rattle.model_theorem.proofs.Cuts.{IsCut, kept-page, copies-old}
@@ -23,7 +23,7 @@ use Rattle.model_report.specs.declared.entry.Marks.{Marks}
 use Rattle.model_report.specs.declared.entry.State.TheVariants.{Flushed}
 use Rattle.model_theorem.specs.Run.{ReadsPrefix}
 use Rattle.model_theorem.specs.Values.{Opened, Ran}
-use Rattle.model_parts.specs.{CrashReads, FitsStore, LogHolds, ScansTo}
+use Rattle.model_parts.specs.{CrashReads, FitsStore, LogHolds, LogHoldsWith, ScansTo}
 use Rattle.model_parts.specs.declared.marks.LogMarks.{LogMarks}
 use Rattle.model_theorem.specs.Kept.{DataHolds}
 use Rattle.model_theorem.specs.Given.{AreGiven}
@@ -36,16 +36,16 @@ use Rattle.model_theorem.proofs.Fitting.{good-from}
 abbrev pub LogLaw : Type 0
 LogLaw = (shape : Shape) (s : ℕ) (wholes : List Whole) (marks : LogMarks) (disk : Disk) (image : List ℕ)
     → FitsStore shape wholes marks → LogHolds shape s wholes marks disk
-    → IsImage disk image → CrashReads shape s wholes marks image
+    → IsFairLog disk image → CrashReads shape s wholes marks image
 
 -- a log's end is at or before the start of the next run
 pub end-start : (end : ℕ) → end ≤ start_after end
 end-start end = grind (arith, nat_tests)
 
-pub few-blocks : (shape : Shape) → IsWithinLimits shape → shape.log_blocks < 2 ^ 30
+pub few-blocks : (shape : Shape) → IsWithinLimits shape → (run_layout shape).blocks < 2 ^ 30
 few-blocks shape limits = omega (arith, limits.few_blocks)
 
-pub some-blocks : (shape : Shape) → IsWithinLimits shape → 1 ≤ shape.log_blocks
+pub some-blocks : (shape : Shape) → IsWithinLimits shape → 1 ≤ (run_layout shape).blocks
 some-blocks shape limits = omega (arith, limits.many_blocks)
 
 -- the groups of a run that is held
@@ -67,7 +67,7 @@ record IsRead (held : Held) (log store : List ℕ) : Type 0 where
   after : List Whole
   views : List BlockView
   parts : groups_of_run held ≡ before ++ (middle ++ after)
-  scan : HasScan log store held.opened.shape number ckpt views middle end
+  scan : HasScan log store Two held.opened.shape number ckpt views middle end
   read_end : AllByRecursion (λ (whole : Whole). whole.end ≤ end) (before ++ middle)
   other_ends : AllByRecursion (λ (whole : Whole). end < whole.end) after
   each : (p : ℕ) (page : Content) → slice_get held.opened.pages p ≡ Some page
@@ -76,9 +76,9 @@ record IsRead (held : Held) (log store : List ℕ) : Type 0 where
       → copy_lsn held.opened.shape store p slot ≡ Some lsn → IsNoNewerCopy held.opened.shape store slot lsn (page_folded p (before ++ middle) page)
 
 is-read : LogLaw → (held : Held) (log store : List ℕ)
-    → (is : IsHeld held) → IsImage held.log_disk log → IsFair held.opened.shape held.data_disk store
+    → (is : IsHeld held) → IsFairLog held.log_disk log → IsFair held.opened.shape held.data_disk store
     → (found : IsRead held log store) × (is.log_marks.ckpt ≤ found.ckpt) × (is.log_marks.stable ≤ found.end)
-is-read law held log store is image fair =
+is-read law held log store is log_fair fair =
     let opened : Opened = held.opened in
     let run : Ran = held.run in
     let shape : Shape = opened.shape in
@@ -86,11 +86,12 @@ is-read law held log store is image fair =
     let marks : LogMarks = is.log_marks in
     let given : AreGiven held.script opened = is.given in
     let fit : AreMarksBehind run.marks marks = is.marks in
-    let holds : LogHolds shape run.start wholes marks held.log_disk = is.log_holds in
+    let some_tails : LogHolds shape run.start wholes marks held.log_disk = is.log_holds in
+    let holds : LogHoldsWith shape run.start wholes marks some_tails.tails held.log_disk = some_tails.holds in
     let good : AllByRecursion (IsStorable shape) (groups_of wholes) = groups-good held is in
     let fits : FitsStore shape wholes marks = record { good = good; small = fit.small; some_blocks = some-blocks shape given.shape; few_blocks = few-blocks shape given.shape } in
-    let reads : CrashReads shape run.start wholes marks log = law shape run.start wholes marks held.log_disk log fits holds image in
-    let scan : ScansTo shape (layout_of shape).blocks run.start wholes marks.stable marks.given reads.ckpt (taken shape log) = reads.scan in
+    let reads : CrashReads shape run.start wholes marks log = law shape run.start wholes marks held.log_disk log fits some_tails log_fair in
+    let scan : ScansTo shape (run_layout shape).blocks run.start wholes marks.stable marks.given reads.ckpt (taken (run_layout shape) log) = reads.scan in
     let below : reads.ckpt ≤ marks.asked = reads.up_to in
     let start : IsAtDataStart run.start = holds.order.starts in
     let cut : IsCut shape run.start scan.before scan.middle scan.after reads.ckpt scan.mark = record {
@@ -113,7 +114,7 @@ is-read law held log store is image fair =
         scan = record {
           devices = record {
             head = reads.head;
-            log_long = omega (arith, holds.long, image.same_length);
+            log_long = omega (arith, holds.long, log_fair.possible.same_length);
             data_long = omega (arith, pages_held.long, fair.possible.same_length);
           };
           checkpoint = reads.newest;
@@ -138,6 +139,7 @@ is-read law held log store is image fair =
 
 reading-of : (held : Held) (log store : List ℕ) → IsRead held log store → Reading
 reading-of held log store found = record {
+  format = Two;
   shape = held.opened.shape;
   number = found.number;
   ckpt = found.ckpt;
@@ -165,13 +167,13 @@ flushed-end script space s i marks entries entry legal at is =
 
 -- whatever a crash leaves is read as a prefix
 pub reads-prefix : LogLaw → (held : Held) (log store : List ℕ)
-    → IsHeld held → IsImage held.log_disk log → IsFair held.opened.shape held.data_disk store
+    → IsHeld held → IsFairLog held.log_disk log → IsFair held.opened.shape held.data_disk store
     → ReadsPrefix held.script held.opened (Some held.run) log store
 unfolding reading-of
-reads-prefix law held log store is image fair =
+reads-prefix law held log store is log_fair fair =
     let opened : Opened = held.opened in
     let run : Ran = held.run in
-    let whole = is-read law held log store is image fair in
+    let whole = is-read law held log store is log_fair fair in
     let found : IsRead held log store = whole.0 in
     let front : List Whole = found.before ++ found.middle in
     let parts : groups_of_run held ≡ front ++ found.after = found.parts ∙ sym (append_assoc found.before found.middle found.after) in

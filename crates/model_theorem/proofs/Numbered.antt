@@ -1,13 +1,19 @@
 -- The newest checkpoint in whatever a crash leaves of a log device that holds a run.
-use Rattle.std.proofs.Common.{◌≡◌, ℕ, ◌<◌, ◌≤◌, List, Option, Some, None, refl, sym, ap, ◌∙◌, subst, ⊎_elim, arith}
+use Rattle.std.proofs.Common.{◌≡◌, Bool, true, false, cond, inl, inr, ℕ, ◌<◌, ◌≤◌, List, Option, Some, None, refl, sym, ap, ◌∙◌, subst, ⊎_elim, arith}
 use Rattle.std.proofs.lemmas.Bool.{cases_lt}
 use Rattle.model_base.specs.declared.shape.Shape.{Shape}
 use Rattle.model_log.specs.declared.group.Whole.{Whole}
-use Rattle.model_device.specs.{IsImage, sector}
+use Rattle.model_device.specs.{sector}
 use Rattle.model_device.specs.Disk.{Disk}
-use Rattle.model_device.proofs.MayHold.{holds-sector}
-use Rattle.model_log.specs.{newer, newest_checkpoint, place_of, read_checkpoint}
-use Rattle.model_parts.specs.{LogHolds}
+use Rattle.model_log.specs.{fits_checksum, head_among, head_of, newer, newest_checkpoint, place_of, read_checkpoint, read_head, run_layout}
+use Rattle.model_log.specs.declared.head.Format.TheVariants.{Two}
+use Rattle.model_log.specs.declared.head.Head.{Head}
+use Rattle.model_log.specs.declared.head.Head.TheVariants.{Good}
+use Rattle.model_log.specs.declared.layout.Layout.{Layout}
+use Rattle.model_store.specs.{IsFairLog}
+use Rattle.model_parts.specs.{LogHoldsWith, MayStand}
+use Rattle.model_parts.specs.declared.marks.TailMarks.{TailMarks}
+use Rattle.model_parts.proofs.Torn.{stands-sector}
 use Rattle.model_parts.specs.declared.marks.LogMarks.{LogMarks}
 use Rattle.model_parts.proofs.LogImages.{header-below, place-cases, when_less, when_not_less}
 use Rattle.model_theorem.specs.Opening.{HasCheckpointFrom, HeldOlder, IsOpenedBefore}
@@ -57,41 +63,59 @@ from-second (Some first) number ckpt = ⊎_elim
     (cases_lt first.0 number)
 
 -- so the newest isn't below the one in its own place
-newest-from : (shape : Shape) (number ckpt : ℕ) (image : List ℕ)
-    → read_checkpoint (place_of number) shape (sector (place_of number) image) ≡ Some (number, ckpt) → IsFrom number (newest_checkpoint shape image)
-newest-from shape number ckpt image own =
-    let At : ℕ → Option (ℕ × ℕ) = λ which. read_checkpoint which shape (sector which image) in
+newest-from : (layout : Layout) (number ckpt : ℕ) (image : List ℕ)
+    → read_checkpoint (place_of number) layout (sector (place_of number) image) ≡ Some (number, ckpt) → IsFrom number (newest_checkpoint layout image)
+newest-from layout number ckpt image own =
+    let At : ℕ → Option (ℕ × ℕ) = λ which. read_checkpoint which layout (sector which image) in
     ⊎_elim
     (λ even. subst (λ (found : Option (ℕ × ℕ)). IsFrom number (newer found (At 3))) (sym (sym (ap At even.0) ∙ own)) (from-first number ckpt (At 3)))
     (λ odd. subst (λ (found : Option (ℕ × ℕ)). IsFrom number (newer (At 1) found)) (sym (sym (ap At odd.0) ∙ own)) (from-second (At 1) number ckpt))
     (place-cases number)
 
--- WHAT AN IMAGE of a log device that holds a run has
-holds-checkpoint : (shape : Shape) (s : ℕ) (wholes : List Whole) (marks : LogMarks) (disk : Disk) (image : List ℕ)
-    → LogHolds shape s wholes marks disk → IsImage disk image → HasCheckpointFrom shape marks.number image
-holds-checkpoint shape s wholes marks disk image holds is =
+-- both header blocks say the same, and so they say it together
+either-head : (first_fits : Bool) (first second head : Head) → first ≡ head → second ≡ head → cond first_fits first second ≡ head
+either-head true first second head one two = one
+either-head false first second head one two = two
+
+heads-good : (head : Head) (first second : List ℕ) → read_head first ≡ head → read_head second ≡ head → head_among first second ≡ head
+heads-good head first second one two = either-head (fits_checksum first) (read_head first) (read_head second) head one two
+
+-- WHAT A FAIR IMAGE of a log device that holds a run has
+holds-checkpoint : (shape : Shape) (s : ℕ) (wholes : List Whole) (marks : LogMarks) (tails : TailMarks) (disk : Disk) (image : List ℕ)
+    → LogHoldsWith shape s wholes marks tails disk → IsFairLog disk image → HasCheckpointFrom shape marks.number image
+holds-checkpoint shape s wholes marks tails disk image holds fair =
     let place : ℕ = place_of marks.number in
     let low : place < HEADER_BLOCKS = (header-below marks.number).0 in
-    let found : IsFrom marks.number (newest_checkpoint shape image) =
-    newest-from shape marks.number marks.ckpt image (holds.checkpoint (sector place image) (holds-sector disk image place is (omega (arith, holds.long)))) in
-    record { number = found.number; ckpt = found.ckpt; newest = found.is; from = found.from }
+    let at : (k : ℕ) → k < HEADER_BLOCKS → MayStand disk k (sector k image) =
+    λ k below. stands-sector disk image k holds.sectors fair (omega (arith, holds.long)) in
+    let found : IsFrom marks.number (newest_checkpoint (run_layout shape) image) =
+    newest-from (run_layout shape) marks.number marks.ckpt image (holds.checkpoint (sector place image) (at place low)) in
+    let head : head_of image ≡ Good Two shape = heads-good (Good Two shape) (sector 0 image) (sector 2 image)
+    (holds.heads 0 (inl refl) (sector 0 image) (at 0 (omega arith))) (holds.heads 2 (inr refl) (sector 2 image) (at 2 (omega arith))) in
+    record {
+      number = found.number;
+      ckpt = found.ckpt;
+      newest = record { head = head; newest = found.is };
+      from = found.from;
+    }
 
 -- and where both devices hold it
-pub held-number : (held : Held) (log : List ℕ) → IsHeld held → IsImage held.log_disk log
+pub held-number : (held : Held) (log : List ℕ) → IsHeld held → IsFairLog held.log_disk log
     → HasCheckpointFrom held.opened.shape held.number log
-held-number held log is image =
+held-number held log is fair =
     let found : HasCheckpointFrom held.opened.shape is.log_marks.number log =
-    holds-checkpoint held.opened.shape held.run.start (groups_of_run held) is.log_marks held.log_disk log is.log_holds image in
+    holds-checkpoint held.opened.shape held.run.start (groups_of_run held) is.log_marks is.log_holds.tails held.log_disk log is.log_holds.holds fair in
     record { number = found.number; ckpt = found.ckpt; newest = found.newest; from = omega (arith, is.number_kept, found.from) }
 
 -- so opening came to its end
 pub held-opened : (held : Held) (armed_from : Disk) → IsHeld held → HeldOlder held.opened.shape held.number armed_from
     → IsOpenedBefore held.opened.shape armed_from held.log_disk (Some held.run)
 held-opened held armed_from is older = record {
+  format = older.format;
   number = older.found;
   ckpt = older.ckpt;
   found = older.newest;
-  moved = λ image possible.
-      (let has : HasCheckpointFrom held.opened.shape held.number image = held-number held image is possible in
+  moved = λ image fair.
+      (let has : HasCheckpointFrom held.opened.shape held.number image = held-number held image is fair in
       record { number = has.number; ckpt = has.ckpt; newest = has.newest; from = omega (arith, older.older, has.from) });
 }

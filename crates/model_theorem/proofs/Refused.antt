@@ -4,11 +4,15 @@ use Rattle.std.specs.Prelude.{IfSome, slice_get, take}
 use Rattle.std.proofs.lemmas.Bool.{cases_lt}
 use Rattle.std.proofs.lemmas.Bool.Decides.{nat_tests}
 use Rattle.model_base.specs.{default_shape, HasRisen}
+use Rattle.model_base.specs.declared.shape.Shape.{Shape}
 use Rattle.model_device.specs.{IsImage}
 use Rattle.model_device.specs.Disk.{Disk}
-use Rattle.model_log.specs.{IsTiled, newest_checkpoint}
+use Rattle.model_log.specs.{IsTiled, layout_of, newest_checkpoint, run_layout}
+use Rattle.model_log.specs.declared.head.Format.{Format}
+use Rattle.model_log.specs.declared.head.Format.TheVariants.{Two}
+use Rattle.model_log.specs.declared.head.Head.TheVariants.{Good}
 use Rattle.model_parts.specs.{formatted_store}
-use Rattle.model_store.specs.{folded, IsReading}
+use Rattle.model_store.specs.{folded, IsFairLog, IsReading}
 use Rattle.model_store.specs.Reading.{Reading}
 use Rattle.model_report.specs.{count_up_to, entry_spans, wholes_of}
 use Rattle.model_report.specs.declared.entry.Entry.{Entry}
@@ -59,6 +63,13 @@ refuses-loss crash opened account safe loses =
 pub base-image : (disk : Disk) → IsImage disk disk.base
 base-image disk = record { same_length = refl; each = λ k below. inl refl }
 
+pub base-fair : (disk : Disk) → IsFairLog disk disk.base
+base-fair disk = record { possible = base-image disk; each = λ k within fits. record { count = 0; some = omega arith; same = refl } }
+
+-- a header is of one format
+one-format : (one other : Format) (shape : Shape) → Good one shape ≡ Good other shape → one ≡ other
+one-format one other shape same = cc
+
 -- of one newest checkpoint there is one number
 same-number : (found now : Option (ℕ × ℕ)) (number ckpt later later_ckpt : ℕ) → now ≡ found → found ≡ Some (number, ckpt) → now ≡ Some (later, later_ckpt) → number ≡ later
 same-number found now number ckpt later later_ckpt same is is_now =
@@ -71,9 +82,12 @@ refuses-run crash opened account safe runs =
     let armed : Disk = crash.log_device.armed_from in
     let met : Disk = crash.log_device.crashed_from in
     let done : IsOpeningDone opened.shape armed met = subst (IsOpenedBefore opened.shape armed met) runs.ran safe.opened_first in
-    let here : HasCheckpointFrom opened.shape (done.number + 1) met.base = done.moved met.base (base-image met) in
-    let same = same-number (newest_checkpoint opened.shape armed.base) (newest_checkpoint opened.shape met.base) done.number done.ckpt here.number here.ckpt
-    runs.unmoved done.found here.newest in
+    let here : HasCheckpointFrom opened.shape (done.number + 1) met.base = done.moved met.base (base-fair met) in
+    let format : done.format ≡ Two = one-format done.format Two opened.shape (sym done.found.head ∙ sym runs.head ∙ here.newest.head) in
+    let found : newest_checkpoint (run_layout opened.shape) armed.base ≡ Some (done.number, done.ckpt) =
+    subst (λ (one : Format). newest_checkpoint (layout_of one opened.shape) armed.base ≡ Some (done.number, done.ckpt)) format done.found.newest in
+    let same = same-number (newest_checkpoint (run_layout opened.shape) armed.base) (newest_checkpoint (run_layout opened.shape) met.base) done.number done.ckpt here.number here.ckpt
+    (runs.unmoved Two) found here.newest.newest in
     absurd (omega (arith, here.from))
 
 pub refuses-stopped : (crash : Crash) (opened : Opened) (account : Account) → CrashSafe crash opened account → StopsOpened crash opened account → ⊥
@@ -81,7 +95,12 @@ refuses-stopped crash opened account safe stops =
     let armed : Disk = crash.log_device.armed_from in
     let met : Disk = crash.log_device.crashed_from in
     let stopped : IsOpeningStopped opened.shape armed met = subst (IsOpenedBefore opened.shape armed met) stops.stopped safe.opened_first in
-    stops.moved (stopped.unmoved ∙ sym stopped.found)
+    ⊎_elim (λ head. head (stopped.unmoved.head ∙ sym stopped.found.head))
+    (λ moved.
+    let format : stopped.format ≡ Two = one-format stopped.format Two opened.shape (sym stopped.found.head ∙ moved.0) in
+    let found : newest_checkpoint (run_layout opened.shape) armed.base ≡ Some (stopped.number, stopped.ckpt) =
+    subst (λ (one : Format). newest_checkpoint (layout_of one opened.shape) armed.base ≡ Some (stopped.number, stopped.ckpt)) format stopped.found.newest in
+    moved.1 (stopped.unmoved.newest format ∙ sym found)) stops.moved
 
 pub refuses-stop : (crash : Crash) (opened : Opened) (account : Account) → CrashSafe crash opened account → StopsOtherwise crash → ⊥
 refuses-stop crash opened account safe stops =

@@ -19,7 +19,7 @@ crash-safe one crash opened account is opened_first safe =
     let log : List ℕ = crash.log_device.left.reads in
     let data_bytes : List ℕ = crash.data_device.left.reads in
     let found : ReadsPrefix account.script opened account.run log data_bytes =
-    safe.every_image log data_bytes is.read_from_devices.log_device.kept is.fair in
+    safe.every_image log data_bytes is.log_fair is.data_fair in
     let same : found.reading ≡ account.reading = one log data_bytes found.reading account.reading found.is_read is.read_from_devices.is_read in
     record {
       every_script = is.every_script;

@@ -3,13 +3,16 @@ use Rattle.std.proofs.Common.{◌≡◌, ◌≢◌, ℕ, ◌+◌, ◌<◌, ◌�
 use Rattle.std.proofs.lemmas.Bool.{cases_lt}
 use Rattle.model_base.specs.declared.shape.Shape.{Shape}
 use Rattle.model_device.specs.Disk.{Disk}
-use Rattle.model_parts.specs.{first_marks, IsLive, IsRewritten, start_block, start_of}
+use Rattle.model_log.specs.{IsLayout, run_layout}
+use Rattle.model_log.specs.declared.head.Format.TheVariants.{Two}
+use Rattle.model_log.proofs.Layouts.{has-blocks, is_layout_of}
+use Rattle.model_parts.specs.{first_marks, first_tails, IsLive, IsRewritten, LogHolds, numbers_taken, start_block, start_of}
 use Rattle.model_page.specs.declared.content.Content.{Content}
 use Rattle.model_store.specs.{IsNoNewerCopy}
 use Rattle.model_script.specs.declared.script.ScriptLine.{ScriptLine}
 use Rattle.model_report.specs.{IsLeft}
 use Rattle.model_store.specs.Reading.{Reading}
-use Rattle.model_parts.proofs.LogFresh.{fresh-holds}
+use Rattle.model_parts.proofs.LogFresh.{fresh-live}
 use Rattle.model_parts.proofs.Pages.{stored-image}
 use Rattle.model_parts.proofs.Reread.{IsLogRead, log-read, HasNext, has-next}
 use Rattle.model_store.proofs.Folding.{read-not_ahead}
@@ -33,10 +36,12 @@ start-given reading script log_disk data_disk is =
 
 -- the log device
 pub start-live : (reading : Reading) (script : List ScriptLine) (log_disk data_disk : Disk) → IsStart reading script log_disk data_disk
-    → IsLive reading.shape (start_of reading) [] (first_marks (start_of reading) (reading.number + 1)) log_disk
+    → IsLive reading.shape (start_of reading) [] (first_marks (start_of reading) (reading.number + numbers_taken reading.format))
+    (first_tails (start_of reading)) log_disk
 start-live reading script log_disk data_disk is =
     let log : IsLogRead is.log_bytes reading = log-read is.log_bytes is.data_bytes reading is.orderly.reads in
-    fresh-holds reading.shape (start_of reading) (reading.number + 1) log_disk log.blocks log.start_aligned (omega (arith, log.started, log.start_low)) is.ready.log
+    let layout : IsLayout (run_layout reading.shape) = is_layout_of Two reading.shape log.limits.many_blocks log.limits.few_blocks in
+    fresh-live reading.shape (start_of reading) (reading.number + numbers_taken reading.format) log_disk (has-blocks (run_layout reading.shape) layout) log.log.place (omega (arith, log.log.started, log.log.low)) is.ready.log
 
 -- the data device
 pub start-unwritten : (reading : Reading) (script : List ScriptLine) (log_disk data_disk : Disk) → IsStart reading script log_disk data_disk
@@ -75,7 +80,9 @@ pub opened-closed : (failures : ℕ) (reading : Reading) (script : List ScriptLi
 opened-closed failures reading script left log_disk data_disk is left_is failed =
     let s : ℕ = start_of reading in
     let next : HasNext reading = has-next is.log_bytes is.data_bytes reading is.orderly in
-    let live : IsLive reading.shape s [] (first_marks s (reading.number + 1)) log_disk = start-live reading script log_disk data_disk is in
+    let number : ℕ = reading.number + numbers_taken reading.format in
+    let live : IsLive reading.shape s [] (first_marks s number) (first_tails s) log_disk = start-live reading script log_disk data_disk is in
+    let held : LogHolds reading.shape s [] (first_marks s number) log_disk = record { tails = first_tails s; holds = live.holds } in
     let given : AreGiven script (opened_as reading) = start-given reading script log_disk data_disk is in
     let later : reading.end ≤ s = end-start reading.end in
     record {
@@ -89,10 +96,10 @@ opened-closed failures reading script left log_disk data_disk is left_is failed 
           flushed = refl;
           write_within = omega arith;
         };
-        log_marks = first_marks s (reading.number + 1);
+        log_marks = first_marks s number;
         marks = record { flushed = omega arith; ckpt = omega arith; small = omega (arith, next.small, next.aligned) };
         number_kept = omega arith;
-        log_holds = live.holds;
+        log_holds = held;
         data_holds = unwritten-holds reading.shape reading.pages s (start_block reading) data_disk
             (λ p page at. (let old : page.lsn ≤ reading.end = given.not_ahead p page at in omega arith)) (start-unwritten reading script log_disk data_disk is);
       };

@@ -34,7 +34,7 @@ pub record IsStoppedAsAsked (asked : Option ℕ) (device : Device) : Type 0 wher
       → HasRisen device.faults_at_entry device.faults ⊎ HasPassedAll asked device.stop.passed
 
 -- The fuses were armed before opening. Opening reads the log device, and the fuse has counted that. Before came at most one
--- read of the log device's first block, where that was in use.
+-- read of the log device's header blocks, where they were in use.
 pub record AreArmedFirst (log_device data_device : Device) : Type 0 where
   pub opening_counted : 0 < log_device.stop.passed + log_device.stop.failures
   pub unopened : AreUnopened log_device.at_entry data_device.at_entry log_device.armed_from data_device.armed_from

@@ -1,5 +1,5 @@
 -- What a crash adds to a run.
-use Rattle.model_store.specs.{IsFair}
+use Rattle.model_store.specs.{IsFair, IsFairLog}
 use Rattle.model_theorem.specs.Crash.{AreAnyStops, IsEveryScript, IsPrinted, IsReadFromDevices}
 use Rattle.model_theorem.specs.Values.{Account, Crash, Opened, RunResult}
 
@@ -14,11 +14,12 @@ before_crash crash opened account = record {
   data_disk = crash.data_device.crashed_from;
 }
 
--- The script was read, the stops were those of the words, both devices were crashed and read, the data device with a fair
+-- The script was read, the stops were those of the words, both devices were crashed and read, each with a fair
 -- image, and the report was printed.
 pub record IsCrashOf (crash : Crash) (opened : Opened) (account : Account) : Type 0 where
   pub every_script : IsEveryScript crash opened account
   pub any_stops : AreAnyStops crash
   pub prints : IsPrinted crash account
   pub read_from_devices : IsReadFromDevices crash account
-  pub fair : IsFair opened.shape crash.data_device.crashed_from crash.data_device.left.reads
+  pub log_fair : IsFairLog crash.log_device.crashed_from crash.log_device.left.reads
+  pub data_fair : IsFair opened.shape crash.data_device.crashed_from crash.data_device.left.reads

@@ -6,7 +6,10 @@ use Rattle.model_base.specs.declared.limits.TheConstants.{FIRST_DATA_LSN, LSN_LI
 use Rattle.model_page.specs.{blank_pages}
 use Rattle.model_device.specs.{settled}
 use Rattle.model_device.specs.declared.write.Write.{Write}
-use Rattle.model_log.specs.{newest_checkpoint, start_after}
+use Rattle.model_log.specs.{head_of, layout_of, newest_checkpoint, run_layout, start_after}
+use Rattle.model_log.specs.declared.head.Format.{Format}
+use Rattle.model_log.specs.declared.head.Format.TheVariants.{Two}
+use Rattle.model_log.specs.declared.head.Head.TheVariants.{Good}
 use Rattle.model_log.specs.declared.layout.TheConstants.{HEADER_BYTES}
 use Rattle.model_report.specs.{report_text}
 use Rattle.model_script.specs.{script_end}
@@ -59,18 +62,22 @@ pub record LosesForNothing (crash : Crash) (account : Account) : Type 0 where
   pub log_well : crash.log_device.stop.failures ≡ 0
   pub data_well : crash.data_device.stop.failures ≡ 0
 
--- a run is told, and at the log device's last good sync the newest checkpoint was the one that was found
+-- a run is told, and at the log device's last good sync its header and its newest checkpoint were those that were found
 pub record RunsUnopened (crash : Crash) (opened : Opened) (account : Account) : Type 0 where
   pub run : Ran
   pub ran : account.run ≡ Some run
-  pub unmoved : newest_checkpoint opened.shape crash.log_device.crashed_from.base
-      ≡ newest_checkpoint opened.shape crash.log_device.armed_from.base
+  pub head : head_of crash.log_device.crashed_from.base ≡ head_of crash.log_device.armed_from.base
+  pub unmoved : (format : Format) → newest_checkpoint (layout_of format opened.shape) crash.log_device.crashed_from.base
+      ≡ newest_checkpoint (layout_of format opened.shape) crash.log_device.armed_from.base
 
--- opening is told as stopped, and at the log device's last good sync the newest checkpoint was another than was found
+-- opening is told as stopped, and at the log device's last good sync its header was another than was found, or the newest
+-- checkpoint was, in format 2
 pub record StopsOpened (crash : Crash) (opened : Opened) (account : Account) : Type 0 where
   pub stopped : account.run ≡ None
-  pub moved : newest_checkpoint opened.shape crash.log_device.crashed_from.base
-      ≢ newest_checkpoint opened.shape crash.log_device.armed_from.base
+  pub moved : (head_of crash.log_device.crashed_from.base ≢ head_of crash.log_device.armed_from.base)
+      ⊎ ((head_of crash.log_device.armed_from.base ≡ Good Two opened.shape)
+      × (newest_checkpoint (run_layout opened.shape) crash.log_device.crashed_from.base
+      ≢ newest_checkpoint (run_layout opened.shape) crash.log_device.armed_from.base))
 
 -- a device was stopped otherwise than the words ask
 abbrev pub StopsOtherwise : Crash → Type 0
@@ -107,10 +114,12 @@ pub record ReadsAsOpened (log data_bytes : List ℕ) (opened : Opened) (reading 
   pub pages : reading.pages ≡ opened.pages
   pub end : reading.end ≡ start_after opened.end
 
--- The log device was in use and held these bytes when its fuse was armed, with an older checkpoint than is read.
+-- The log device was in use and held these bytes when its fuse was armed, with an older checkpoint than is read, which is
+-- one of format 2.
 pub record MovedCheckpoint (found : List ℕ) (opened : Opened) (reading : Reading) : Type 0 where
   pub in_use : IsUnused found → ⊥
   pub older : HeldOlder opened.shape reading.number (settled found)
+  pub format : reading.format ≡ Two
 
 -- the writes are of log blocks, past the header and the checkpoints
 abbrev pub AreOfBlocks : List Write → Type 0

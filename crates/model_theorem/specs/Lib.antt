@@ -16,7 +16,7 @@ pub use Rattle.model_theorem.specs.Crash.{AreAnyStops, AreArmedFirst, CrashSafe,
 pub use Rattle.model_theorem.specs.Crashed.{IsCrashOf, before_crash}
 pub use Rattle.model_theorem.specs.Given.{AreGiven}
 pub use Rattle.model_theorem.specs.Kept.{DataHolds, HasPassed, IsKeptPrefix, copy_of}
-pub use Rattle.model_theorem.specs.Opening.{AreUnopened, HasCheckpointFrom, HeldOlder, IsOpenedBefore}
+pub use Rattle.model_theorem.specs.Opening.{AreUnopened, HasCheckpoint, HasCheckpointFrom, HeldOlder, IsOpenedBefore}
 pub use Rattle.model_theorem.specs.Premises.{IsFresh, RunPremises}
 pub use Rattle.model_theorem.specs.Run.{IsPrefixRead, IsRun, LosesOnlyByFailure, ReadsPrefix, RunPromise, RunSafe}
 pub use Rattle.model_theorem.specs.Script.{FitsOpened, IsWholeScript, room_of}

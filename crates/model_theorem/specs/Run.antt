@@ -1,8 +1,7 @@
 -- The two halves of what is promised: what a run is, and what a reading of its devices is of it.
 use Rattle.std.specs.Prelude.{ℕ, ◌≡◌, ◌≢◌, ◌≤◌, ◌<◌, ◌+◌, List, [], take, slice_get, Option, Some, None, IfSome}
-use Rattle.model_device.specs.{IsImage}
 use Rattle.model_log.specs.{IsBoundary, start_after}
-use Rattle.model_store.specs.{folded, HasOldCopies, IsFair, IsReading}
+use Rattle.model_store.specs.{folded, HasOldCopies, IsFair, IsFairLog, IsReading}
 use Rattle.model_store.specs.Reading.{Reading}
 use Rattle.model_script.specs.declared.script.ScriptLine.{ScriptLine}
 use Rattle.model_report.specs.{count_up_to, entry_spans, IsLeft, IsLegal, report_text, wholes_of}
@@ -56,12 +55,11 @@ pub record ReadsPrefix (script : List ScriptLine) (opened : Opened) (run : Optio
   pub old_copies : HasOldCopies data_bytes reading
   pub prefix : IsPrefixRead script opened run reading
 
--- What is promised of a run whose devices aren't crashed: the run, and the reading of every image of the log device with
--- every fair image of the data device.
+-- What is promised of a run whose devices aren't crashed: the run, and the reading of every fair image of the two devices.
 pub record RunSafe (failures : ℕ) (result : RunResult) : Type 0 where
   pub in_lsn_order : IfSome result.run (IsRun result.script result.opened)
   pub left_is : IsLeft result.script (entries_of result.run) result.left
-  pub every_image : (log data_bytes : List ℕ) → IsImage result.log_disk log → IsFair result.opened.shape result.data_disk data_bytes
+  pub every_image : (log data_bytes : List ℕ) → IsFairLog result.log_disk log → IsFair result.opened.shape result.data_disk data_bytes
       → ReadsPrefix result.script result.opened result.run log data_bytes
   pub lost_only_by_failure : LosesOnlyByFailure failures result.run result.left
 

@@ -4,7 +4,7 @@ use Rattle.std.specs.List.{AllByRecursion}
 use Rattle.model_device.specs.Disk.{Disk}
 use Rattle.model_store.specs.{IsOrderly}
 use Rattle.model_store.specs.Reading.{Reading}
-use Rattle.model_parts.specs.{IsReady, start_block, start_of}
+use Rattle.model_parts.specs.{IsReady, numbers_taken, start_block, start_of}
 use Rattle.model_script.specs.{LineFits}
 use Rattle.model_script.specs.declared.script.ScriptLine.{ScriptLine}
 use Rattle.model_theorem.specs.Values.{Opened}
@@ -28,7 +28,7 @@ abbrev pub unplayed : Reading → List ScriptLine → List (ℕ × ℕ) → Disk
 unplayed reading script left log_disk data_disk = record {
   script = script;
   opened = opened_as reading;
-  number = reading.number + 1;
+  number = reading.number + numbers_taken reading.format;
   run = record {
     start = start_of reading;
     entries = [];

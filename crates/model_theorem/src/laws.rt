@@ -4,10 +4,9 @@ ghost use Rattle.std.specs.List.{AllByRecursion};
 ghost use Rattle.model_base.specs.declared.shape.Shape.{Shape};
 ghost use Rattle.model_log.specs.{end_of, groups_of, IsDataLsn, IsRunOf, spans_of};
 ghost use Rattle.model_log.specs.declared.group.Whole.{Whole};
-ghost use Rattle.model_device.specs.{IsImage};
 ghost use Rattle.model_device.specs.Disk.{Disk};
 ghost use Rattle.model_page.specs.declared.content.Content.{Content};
-ghost use Rattle.model_store.specs.{IsFair, IsReading, IsStorable, page_folded, Refuses, upto};
+ghost use Rattle.model_store.specs.{IsFair, IsFairLog, IsReading, IsStorable, page_folded, Refuses, upto};
 ghost use Rattle.model_store.specs.Reading.{Reading};
 ghost use Rattle.model_store.specs.declared.refusal.Refusal.{Refusal};
 ghost use Rattle.model_theorem.specs.Crash.{CrashSafe, failures_of};
@@ -22,23 +21,23 @@ ghost use Rattle.model_theorem.specs.Kept.{DataHolds, IsUnwritten};
 ghost use Rattle.model_theorem.specs.Start.{IsStart, opened_as, unplayed};
 ghost use Rattle.model_theorem.specs.Stored.{IsStored};
 ghost use Rattle.model_theorem.specs.Given.{AreGiven};
-ghost use Rattle.model_parts.specs.{first_marks, IsLive, start_of};
+ghost use Rattle.model_parts.specs.{first_marks, first_tails, IsLive, numbers_taken, start_of};
 
 use model_parts::crash_reads;
 use model_store::{one_answer, one_reading};
 
-/// Whatever a crash leaves of two devices that hold a run, of the data device a fair image, is read, in one way and
-/// without a refusal: as the opened pages with the first groups of the run applied whole, which reach every flushed one.
+/// Whatever a crash leaves of two devices that hold a run, if it is fair, is read, in one way and without a refusal: as the
+/// opened pages with the first groups of the run applied whole, which reach every flushed one.
 pub fn held_run_reads()
     ensures read { (held : Held) (log data_bytes : List ℕ)
-        → IsHeld held → IsImage held.log_disk log → IsFair held.opened.shape held.data_disk data_bytes
+        → IsHeld held → IsFairLog held.log_disk log → IsFair held.opened.shape held.data_disk data_bytes
         → ReadsPrefix held.script held.opened (Some held.run) log data_bytes }
     ensures each { (held : Held) (log data_bytes : List ℕ)
-        → IsHeld held → IsImage held.log_disk log → IsFair held.opened.shape held.data_disk data_bytes
+        → IsHeld held → IsFairLog held.log_disk log → IsFair held.opened.shape held.data_disk data_bytes
         → (reading : Reading) → IsReading log data_bytes reading
         → IsPrefixRead held.script held.opened (Some held.run) reading }
     ensures not_refused { (held : Held) (log data_bytes : List ℕ)
-        → IsHeld held → IsImage held.log_disk log → IsFair held.opened.shape held.data_disk data_bytes
+        → IsHeld held → IsFairLog held.log_disk log → IsFair held.opened.shape held.data_disk data_bytes
         → (refusal : Refusal) → Refuses log data_bytes refusal → ⊥ }
 {
     crash_reads();
@@ -46,10 +45,11 @@ pub fn held_run_reads()
     one_answer();
 }
 
-/// Whatever a crash leaves of a log device that holds a run has a newest checkpoint, which isn't older than the one that
-/// opening made. So, where the device held an older one when its fuse was armed, it tells that opening came to its end.
+/// Whatever a crash leaves that is fair of a log device that holds a run has a newest checkpoint, which isn't older than the
+/// one that opening made. So, where the device held an older one when its fuse was armed, it tells that opening came to its
+/// end.
 pub fn held_run_is_opened()
-    ensures number { (held : Held) (log : List ℕ) → IsHeld held → IsImage held.log_disk log
+    ensures number { (held : Held) (log : List ℕ) → IsHeld held → IsFairLog held.log_disk log
         → HasCheckpointFrom held.opened.shape held.number log }
     ensures opened { (held : Held) (armed_from : Disk) → IsHeld held
         → HeldOlder held.opened.shape held.number armed_from
@@ -73,7 +73,8 @@ pub fn opened_store_is_closed()
         → IsStart reading script log_disk data_disk → AreGiven script (opened_as reading) }
     ensures live { (reading : Reading) (script : List ScriptLine) (log_disk data_disk : Disk)
         → IsStart reading script log_disk data_disk
-        → IsLive reading.shape (start_of reading) [] (first_marks (start_of reading) (reading.number + 1)) log_disk }
+        → IsLive reading.shape (start_of reading) [] (first_marks (start_of reading) (reading.number + numbers_taken reading.format))
+        (first_tails (start_of reading)) log_disk }
     ensures unwritten { (reading : Reading) (script : List ScriptLine) (log_disk data_disk : Disk)
         → IsStart reading script log_disk data_disk → IsUnwritten reading.shape reading.pages data_disk }
     ensures closed { (failures : ℕ) (reading : Reading) (script : List ScriptLine) (left : List (ℕ × ℕ)) (log_disk data_disk : Disk)

@@ -1,13 +1,16 @@
 -- Where a store was ready, both its devices hold just what was opened.
-use Rattle.std.proofs.Common.{List, None, Option, Some, [], ap, arith, false, get_or, replicate, subst, sym, ℕ, ◌+◌, ◌-◌, ◌∙◌, ◌≡◌}
+use Rattle.std.proofs.Common.{List, None, Option, Some, [], ap, arith, false, get_or, replicate, subst, sym, ℕ, ◌+◌, ◌-◌, ◌/◌, ◌<◌, ◌^◌, ◌∙◌, ◌≡◌, ◌≤◌}
 use Rattle.std.specs.Prelude.{IfSome}
 use Rattle.model_base.specs.{IsWithinLimits}
 use Rattle.model_base.specs.declared.shape.Shape.{Shape}
-use Rattle.model_parts.specs.{first_marks, IsLive, IsUpTo, read_as, start_of}
+use Rattle.model_parts.specs.{first_marks, first_tails, IsLive, IsUpTo, numbers_taken, read_as, start_of}
 use Rattle.model_parts.specs.Stored.{Stored}
 use Rattle.model_device.specs.Disk.{Disk}
+use Rattle.model_log.specs.declared.head.Format.{Format}
+use Rattle.model_log.specs.declared.head.Format.TheVariants.{One, Two}
 use Rattle.model_running.specs.{content_of}
 use Rattle.model_parts.specs.declared.marks.LogMarks.{LogMarks}
+use Rattle.model_parts.specs.declared.marks.TailMarks.{TailMarks}
 use Rattle.model_page.specs.{blank_page}
 use Rattle.model_page.specs.declared.content.Content.{Content}
 use Rattle.model_theorem.proofs.Start.{start-live}
@@ -37,20 +40,31 @@ pages_as_read shape pages reading limits same_shape same_pages p =
     ∙ ap (λ (page : Content). get_or pages p page) (unwritten_is shape limits ∙ ap blank_page same_shape)
     ∙ ap (λ (ps : List Content). get_or ps p (blank_page reading.shape)) same_pages
 
+-- the numbers of checkpoints that opening makes are far from going round
+few_numbers : (format : Format) (found number ckpt : ℕ) → number ≡ found + numbers_taken format → found < 2 ^ 63 → 8192 ≤ ckpt → number ≤ 2 ^ 63 + ckpt / 512
+few_numbers One found number ckpt is left started = omega arith
+few_numbers Two found number ckpt is left started = omega arith
+
 module _ (reading : Reading) (script : List ScriptLine) (log_disk data_disk : Disk) (is : IsStart reading script log_disk data_disk) where
   -- the log device
   pub log_begun : {L : Type 0} (seen : L → Seen) (part : log.Part L) → part.shape ≡ reading.shape → part.failed ≡ None
-      → ◌≡◌ {A = LogMarks} part.marks (first_marks (start_of reading) (reading.number + 1)) → (seen part.dev).tells ≡ Some log_disk
+      → ◌≡◌ {A = LogMarks} part.marks (first_marks (start_of reading) (reading.number + numbers_taken reading.format))
+      → ◌≡◌ {A = TailMarks} part.tails (first_tails (start_of reading)) → (seen part.dev).tells ≡ Some log_disk
       → log_part.HasBegun seen (start_of reading) part
-  log_begun seen part shape live marks tells =
-      let held : IsLive reading.shape (start_of reading) [] (first_marks (start_of reading) (reading.number + 1)) log_disk = start-live reading script log_disk data_disk is in
-      let fresh : DiskHolds reading.shape (start_of reading) [] (first_marks (start_of reading) (reading.number + 1)) part.failed log_disk =
+  log_begun seen part shape live marks tails tells =
+      let number : ℕ = reading.number + numbers_taken reading.format in
+      let held : IsLive reading.shape (start_of reading) [] (first_marks (start_of reading) number) (first_tails (start_of reading)) log_disk =
+      start-live reading script log_disk data_disk is in
+      let fresh : DiskHolds reading.shape (start_of reading) [] (first_marks (start_of reading) number) (first_tails (start_of reading)) part.failed log_disk =
       record { holds = held.holds; live = λ _. held.is_written } in
       record {
-        holds = subst (λ (o : Option Disk). IfSome o (DiskHolds part.shape (start_of reading) [] part.marks part.failed)) (sym tells)
-            (subst (λ (s : Shape). DiskHolds s (start_of reading) [] part.marks part.failed log_disk) (sym shape)
-            (subst (λ (m : LogMarks). DiskHolds reading.shape (start_of reading) [] m part.failed log_disk) (sym marks) fresh));
-        few = (let number = ap (λ (m : LogMarks). m.number) marks in let left = is.orderly.numbers_left in omega arith);
+        holds = subst (λ (o : Option Disk). IfSome o (DiskHolds part.shape (start_of reading) [] part.marks part.tails part.failed)) (sym tells)
+            (subst (λ (s : Shape). DiskHolds s (start_of reading) [] part.marks part.tails part.failed log_disk) (sym shape)
+            (subst (λ (t : TailMarks). DiskHolds reading.shape (start_of reading) [] part.marks t part.failed log_disk) (sym tails)
+            (subst (λ (m : LogMarks). DiskHolds reading.shape (start_of reading) [] m (first_tails (start_of reading)) part.failed log_disk) (sym marks) fresh)));
+        few = (let ckpt : part.marks.ckpt ≡ start_of reading - 12 = ap (λ (m : LogMarks). m.ckpt) marks in
+            few_numbers reading.format reading.number part.marks.number part.marks.ckpt (ap (λ (m : LogMarks). m.number) marks) is.orderly.numbers_left
+            (omega (arith, held.holds.order.ckpt_started)));
       }
 
   -- the data device

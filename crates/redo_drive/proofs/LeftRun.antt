@@ -22,6 +22,7 @@ use Rattle.model_page.specs.declared.content.Content.{Content}
 use Rattle.model_theorem.proofs.Start.{start-given}
 use Rattle.model_theorem.specs.{IsHeld, IsRun, IsStart, LosesOnlyByFailure, opened_as}
 use Rattle.model_script.specs.declared.script.ScriptLine.{ScriptLine}
+use Rattle.model_parts.specs.{numbers_taken}
 use Rattle.model_store.specs.Reading.{Reading}
 use Rattle.model_theorem.specs.Values as theorem
 use Rattle.redo_drive.proofs.DataPartEnds.{data_tells}
@@ -34,7 +35,8 @@ use Rattle.redo_logdev.specs.Part as log
 use Rattle.redo_drive.proofs.LogPartEnds.{log_tells}
 use Rattle.redo_drive.specs.LogPartSide as log_part
 use Rattle.redo_drive.proofs.SyncedParts.{data_is_synced, log_tells_synced}
-use Rattle.redo_drive.specs.Beginning.{HaveBegun, IsOpenedAs, MayBegin}
+use Rattle.redo_drive.specs.Beginning.{HaveBegun}
+use Rattle.redo_drive.specs.Startable.{IsOpenedAs, MayBegin}
 use Rattle.redo_drive.specs.Calls.{CallsOn}
 use Rattle.redo_drive.specs.Drive.{ComesToRun, HasMemory, HasMetError, HoldsRun, IsOwedSynced, Owes, failed_in, ran_of}
 use Rattle.redo_drive.specs.Leaving.{LeavesRun}
@@ -141,7 +143,7 @@ module _ {L D : Type 0} (log_seen : L → Seen) (log_gives : L → Call → L �
     log_shape = by.log_shape ∙ may.runnable.log_shape ∙ as_read.shape
 
     -- what the log device holds of the run, and the data device
-    log_device : HaveBegun log_seen data_seen run → (disk : Disk) → (log_seen driven.closed.log.dev).tells ≡ Some disk → LogTells logs run.setup reading.shape (reading.number + 1) by.last.log disk
+    log_device : HaveBegun log_seen data_seen run → (disk : Disk) → (log_seen driven.closed.log.dev).tells ≡ Some disk → LogTells logs run.setup reading.shape (reading.number + numbers_taken reading.format) by.last.log disk
     log_device begun disk told =
         subst (λ (n : ℕ). LogTells logs run.setup reading.shape n by.last.log disk) (ap (λ (z : log.Part L). z.marks.number) by.is_run.first_log ∙ as_read.number)
         (log_tells log_seen (log_seen run.first_log.dev).faults run.first_log.marks.number (log_part.HasBegun log_seen (lsn run.setup.base) run.first_log) run.setup reading.shape by.last.log disk begun.log log_shape
@@ -154,7 +156,7 @@ module _ {L D : Type 0} (log_seen : L → Seen) (log_gives : L → Call → L �
 
     -- and what a sync would leave of them, where no call failed
     log_synced : HaveBegun log_seen data_seen run → driven.closed.log.failed ≡ None → (disk : Disk) → (log_seen driven.closed.log.dev).tells ≡ Some disk
-        → LogTells logs run.setup reading.shape (reading.number + 1) by.last.log (synced disk)
+        → LogTells logs run.setup reading.shape (reading.number + numbers_taken reading.format) by.last.log (synced disk)
     log_synced begun live disk told =
         subst (λ (n : ℕ). LogTells logs run.setup reading.shape n by.last.log (synced disk)) (ap (λ (z : log.Part L). z.marks.number) by.is_run.first_log ∙ as_read.number)
         (log_tells_synced log_seen (log_seen run.first_log.dev).faults run.first_log.marks.number (log_part.HasBegun log_seen (lsn run.setup.base) run.first_log) run.setup reading.shape by.last.log disk begun.log log_shape
@@ -169,8 +171,8 @@ module _ {L D : Type 0} (log_seen : L → Seen) (log_gives : L → Call → L �
 
     -- so both devices hold the run, as the parts tell of them
     held : (log_disk data_disk log_now data_now : Disk) → IsStart reading script log_disk data_disk
-        → LogTells logs run.setup reading.shape (reading.number + 1) by.last.log log_now → DataTells datas (opened_as reading) by.last.store data_now
-        → IsHeld (record { script = script; opened = opened_as reading; number = reading.number + 1; run = ran; log_disk = log_now; data_disk = data_now })
+        → LogTells logs run.setup reading.shape (reading.number + numbers_taken reading.format) by.last.log log_now → DataTells datas (opened_as reading) by.last.store data_now
+        → IsHeld (record { script = script; opened = opened_as reading; number = reading.number + numbers_taken reading.format; run = ran; log_disk = log_now; data_disk = data_now })
     unfolding stands_for_run
     held log_disk data_disk log_now data_now start log_tells_now data_tells_now =
         let core = core_of log_seen data_seen run by.last actors in
@@ -178,8 +180,8 @@ module _ {L D : Type 0} (log_seen : L → Seen) (log_gives : L → Call → L �
         let of_script = subst (λ (z : Shape). IsOfScript run.setup script z.space) as_read.shape by.is_run.of_script in
         let behind : lsn run.setup.base ≡ start_after reading.end = by.is_run.start ∙ as_read.start in
         let given = start-given reading script log_disk data_disk start in
-        subst (λ (z : theorem.Ran). IsHeld (record { script = script; opened = opened_as reading; number = reading.number + 1; run = z; log_disk = log_now; data_disk = data_now })) ran_is
-        (held_run logs datas run.setup script (opened_as reading) (reading.number + 1) log_now data_now core behind given log_tells_now data_tells_now
+        subst (λ (z : theorem.Ran). IsHeld (record { script = script; opened = opened_as reading; number = reading.number + numbers_taken reading.format; run = z; log_disk = log_now; data_disk = data_now })) ran_is
+        (held_run logs datas run.setup script (opened_as reading) (reading.number + numbers_taken reading.format) log_now data_now core behind given log_tells_now data_tells_now
         (stands_for_run logs datas run.setup 0 script (opened_as reading) core running of_script behind)
         (finished_pages logs datas run.setup 0 script (opened_as reading) core running given its_pages of_script))
 

@@ -6,7 +6,7 @@ use Rattle.model_core.specs.{lsn}
 use Rattle.model_core.specs.Setup.{Setup}
 use Rattle.model_device.specs.Disk.{Disk}
 use Rattle.model_running.specs.{LogTells}
-use Rattle.model_parts.specs.{LogHolds}
+use Rattle.model_parts.specs.{LogHoldsWith}
 use Rattle.redo_disk.specs.Seen.{Seen}
 use Rattle.redo_disk.specs.declared.error.DevError.{DevError}
 use Rattle.redo_disk.specs.declared.error.DevError.TheVariants.{Failed, NoMemory}
@@ -26,9 +26,9 @@ log_tells seen faults number Begun c shape p disk begun same tells = record {
   asked = refl;
   number_kept = λ log held. held.number_kept begun;
   holds = λ log wholes held are.
-      let here : DiskHolds p.shape (lsn c.base) wholes p.marks p.failed disk =
-      subst (λ (o : Option Disk). IfSome o (DiskHolds p.shape (lsn c.base) wholes p.marks p.failed)) tells (held.groups begun wholes are) in
-      subst (λ (z : Shape). LogHolds z (lsn c.base) wholes p.marks disk) same here.holds;
+      let here : DiskHolds p.shape (lsn c.base) wholes p.marks p.tails p.failed disk =
+      subst (λ (o : Option Disk). IfSome o (DiskHolds p.shape (lsn c.base) wholes p.marks p.tails p.failed)) tells (held.groups begun wholes are) in
+      record { tails = p.tails; holds = subst (λ (z : Shape). LogHoldsWith z (lsn c.base) wholes p.marks p.tails disk) same here.holds };
 }
 
 -- a cause is a code of 32 bits, and not 0

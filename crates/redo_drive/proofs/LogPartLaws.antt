@@ -9,10 +9,10 @@ use Rattle.model_device.specs.Disk.{Disk}
 use Rattle.model_running.proofs.Given.{given_to}
 use Rattle.model_running.proofs.Groups.{groups_snoc, has_length, places, run_of_log, spans_end}
 use Rattle.model_log.proofs.Runs.{run-push}
-use Rattle.model_log.specs.{block_of, IsGivenTo, IsRunOf, Span, spans_of}
+use Rattle.model_log.specs.{block_of, IsGivenTo, IsRunOf, run_layout, Span, spans_of}
 use Rattle.model_logcore.specs.{AfterCheckpoint, AfterSync, AfterWrite, CanCheckpoint, CanWrite}
 use Rattle.model_logcore.specs.LogLaws.{LogLaws}
-use Rattle.model_parts.proofs.LogCrash.{longer-holds, longer-written}
+use Rattle.model_parts.proofs.Longer.{longer-holds, longer-live}
 use Rattle.model_parts.specs.{after_asked, after_checkpoint, after_given, after_synced, after_written, next_number}
 use Rattle.model_parts.specs.declared.marks.LogMarks.{LogMarks}
 use Rattle.model_log.specs.declared.group.Whole.{Whole}
@@ -80,8 +80,8 @@ module _ {L : Type 0} (seen : L → Seen) (faults first : ℕ) (Begun : Type 0) 
         let longer : IsRunOf (lsn base) (front ++ last ∷ []) = run-push (lsn base) front last old from (has_length e last r.4) in
         let held : PartHolds seen (lsn base) (front ++ last ∷ []) p =
         told_so (seen p.dev).tells (λ disk holds. record {
-          holds = longer-holds p.shape (lsn base) front (last ∷ []) p.marks disk longer holds.holds;
-          live = λ live. longer-written p.shape (lsn base) front (last ∷ []) p.marks disk longer holds.holds.order (holds.live live);
+          holds = longer-holds p.shape (lsn base) front (last ∷ []) p.marks p.tails disk longer holds.holds;
+          live = λ live. (longer-live p.shape (lsn base) front (last ∷ []) p.marks p.tails disk longer (record { holds = holds.holds; is_written = holds.live live })).is_written;
         }) (H.groups begun front r.3) in
         subst (λ (z : List Whole). PartHolds seen (lsn base) z p) (sym r.2) held;
   }
@@ -102,7 +102,7 @@ module _ {L : Type 0} (seen : L → Seen) (faults first : ℕ) (Begun : Type 0) 
       let at : p.marks.written ≡ lsn w = C.at in
       record {
         holds = record {
-          blocks_are = ap (λ (z : Shape). z.log_blocks) W.called.stays.shape ∙ H.blocks_are;
+          blocks_are = ap (λ (z : Shape). (run_layout z).blocks) W.called.stays.shape ∙ H.blocks_are;
           later = o.later;
           all_given = λ alive. given ∙ sym (by_good (λ (z : LogMarks). z.written) code q.marks ok err o.marks (o.live alive));
           all_asked = λ alive. asked ∙ H.all_asked live ∙ sym ckpt;
@@ -139,7 +139,7 @@ module _ {L : Type 0} (seen : L → Seen) (faults first : ℕ) (Begun : Type 0) 
       let number : q.marks.number ≡ p.marks.number = by_code (λ (z : LogMarks). z.number) code q.marks ok err o.marks ∙ same_choice (code == 0) p.marks.number in
       record {
         holds = record {
-          blocks_are = ap (λ (z : Shape). z.log_blocks) S.called.stays.shape ∙ H.blocks_are;
+          blocks_are = ap (λ (z : Shape). (run_layout z).blocks) S.called.stays.shape ∙ H.blocks_are;
           later = o.later;
           all_given = λ alive. given ∙ H.all_given live ∙ sym written;
           all_asked = λ alive. asked ∙ H.all_asked live ∙ sym ckpt;
@@ -176,7 +176,7 @@ module _ {L : Type 0} (seen : L → Seen) (faults first : ℕ) (Begun : Type 0) 
       let even = C.even in let further : p.marks.ckpt < x = C.more in let below : x ≤ p.marks.stable = C.below in
       record {
         holds = record {
-          blocks_are = ap (λ (z : Shape). z.log_blocks) K.called.stays.shape ∙ H.blocks_are;
+          blocks_are = ap (λ (z : Shape). (run_layout z).blocks) K.called.stays.shape ∙ H.blocks_are;
           later = o.later;
           all_given = λ alive. given ∙ H.all_given live ∙ sym written;
           all_asked = λ alive. asked ∙ sym (by_good (λ (z : LogMarks). z.ckpt) code q.marks ok err o.marks (o.live alive));

@@ -12,13 +12,14 @@ use Rattle.redo_disk.specs.Seen.{Seen}
 use Rattle.redo_logdev.specs.{PartHolds}
 use Rattle.redo_logdev.specs.Part.{Part}
 use Rattle.redo_drive.specs.LogPartSide.{HasBegun, log_side}
+use Rattle.model_log.specs.{run_layout}
 
 no_wholes : (wholes : List Whole) → AreWholesOf [] wholes → wholes ≡ []
 no_wholes [] are = refl
 no_wholes (w ∷ ws) are = absurd are
 
 -- a new part at the sn base, over whatever device
-pub part_starts : {L : Type 0} (seen : L → Seen) (c : Setup) (number : ℕ) (p : Part L) → c.base % 496 ≡ 0 → lsn c.base < 2 ^ 61 → p.shape.log_blocks ≡ c.blocks → p.failed ≡ None → ◌≡◌ {A = LogMarks} p.marks (first_marks (lsn c.base) number)
+pub part_starts : {L : Type 0} (seen : L → Seen) (c : Setup) (number : ℕ) (p : Part L) → c.base % 496 ≡ 0 → lsn c.base < 2 ^ 61 → (run_layout p.shape).blocks ≡ c.blocks → p.failed ≡ None → ◌≡◌ {A = LogMarks} p.marks (first_marks (lsn c.base) number)
     → StartPart (log_side seen (seen p.dev).faults p.marks.number (HasBegun seen (lsn c.base) p)) c p
 part_starts seen c number p even small blocks live marks =
     let stable : p.marks.stable ≡ lsn c.base = ap (λ (z : LogMarks). z.stable) marks in
@@ -37,7 +38,7 @@ part_starts seen c number p even small blocks live marks =
         ckpt_stable = omega arith;
         stable_written = omega arith;
         small = omega arith;
-        few = λ begun. (let z = begun.few in omega arith);
+        few = λ begun. begun.few;
         number_kept = λ begun. omega arith;
         groups = λ begun wholes are. subst (λ (z : List Whole). PartHolds seen (lsn c.base) z p) (sym (no_wholes wholes are)) begun.holds;
       };

@@ -19,9 +19,9 @@ use Rattle.model_running.proofs.Groups.{line_below}
 use Rattle.model_running.proofs.Scripted.{scripted}
 use Rattle.model_report.specs.{lines_of_user}
 use Rattle.model_logcore.specs.{left_to_reserve, StartPart, sum_over_actors}
-use Rattle.model_parts.specs.{first_marks, start_of}
+use Rattle.model_parts.specs.{first_marks, first_tails, start_of}
 use Rattle.model_parts.specs.declared.marks.LogMarks.{LogMarks}
-use Rattle.model_log.specs.{IsAtDataStart, lsn_of, sn_of}
+use Rattle.model_log.specs.{IsAtDataStart, lsn_of, run_layout, sn_of}
 use Rattle.model_page.specs.declared.content.Content.{Content}
 use Rattle.model_theorem.specs.{IsStart}
 use Rattle.model_running.proofs.StartRunning.{store_starts}
@@ -42,15 +42,18 @@ use Rattle.redo_drive.proofs.ScriptRoom.{room_for_all}
 use Rattle.redo_drive.proofs.StartActors.{IsNew, are_new, are_seated, seat_of_user, writer_seat}
 use Rattle.redo_drive.proofs.StartWordsPages.{full_pages, has_opened_pages}
 use Rattle.redo_drive.proofs.UserLines.{of_script, of_user}
-use Rattle.redo_drive.specs.Beginning.{HaveBegun, IsOpenedAs, MayBegin}
+use Rattle.redo_drive.specs.Beginning.{HaveBegun}
+use Rattle.redo_drive.specs.Startable.{IsOpenedAs, MayBegin}
 use Rattle.redo_drive.specs.Begins.{BeginsRun}
 use Rattle.redo_drive.specs.Lists.{Listings, empty_lists, lists_of}
 use Rattle.redo_drive.specs.Making.{IsOwnOf}
 use Rattle.redo_drive.specs.Playing.{RunOf, data_of, log_of}
 use Rattle.redo_drive.specs.Running.{RunsOn}
 use Rattle.redo_drive.specs.Turning.{core_of}
-use Rattle.redo_drive.specs.Setups.{programs_of, setup_of}
-use Rattle.redo_drive.specs.StartWords.{AreStartWords, StartsOn}
+use Rattle.redo_drive.specs.Setups.{programs_of}
+use Rattle.redo_drive.specs.StartWords.{setup_of}
+use Rattle.redo_drive.specs.StartWords.{StartsOn}
+use Rattle.redo_drive.specs.FirstWords.{AreStartWords}
 use Rattle.redo_drive.specs.Views.{views_of}
 use Rattle.redo_drive.specs.declared.making.Beginning.{Beginning}
 use Rattle.redo_drive.specs.declared.making.Own.{Own}
@@ -157,7 +160,7 @@ module _ {L D : Type 0} (log_seen : L → Seen) (data_seen : D → Seen) (opened
   log_starts : StartPart log_part setup opened.log
   log_starts = log_starting.part_starts log_seen setup opened.log.marks.number opened.log even
       (let small = may.runnable.small in let z = place in omega arith)
-      (ap (λ (s : Shape). s.log_blocks) may.runnable.log_shape) may.runnable.log_live
+      (ap (λ (s : Shape). (run_layout s).blocks) may.runnable.log_shape) may.runnable.log_live
       (may.runnable.log_marks ∙ ap (λ (n : ℕ). let marks : LogMarks = first_marks n opened.log.marks.number in marks) (sym place))
 
   data_starts : StartsHolding data_part setup opened.store
@@ -208,7 +211,8 @@ module _ {L D : Type 0} (log_seen : L → Seen) (data_seen : D → Seen) (opened
       let start : opened.start ≡ start_of reading = reads.start in record {
         log = subst (λ (n : ℕ). log_side.HasBegun log_seen n opened.log) (sym (place ∙ start))
             (log_begun reading script log_disk data_disk is log_seen opened.log (may.runnable.log_shape ∙ reads.shape) may.runnable.log_live
-            (may.runnable.log_marks ∙ ap (λ (n : ℕ). let marks : LogMarks = first_marks n opened.log.marks.number in marks) start ∙ ap (λ (n : ℕ). let marks : LogMarks = first_marks (start_of reading) n in marks) reads.number) log_tells);
+            (may.runnable.log_marks ∙ ap (λ (n : ℕ). let marks : LogMarks = first_marks n opened.log.marks.number in marks) start ∙ ap (λ (n : ℕ). let marks : LogMarks = first_marks (start_of reading) n in marks) reads.number)
+            (may.runnable.log_tails ∙ ap first_tails start) log_tells);
         data_part = data_begun reading script log_disk data_disk is data_seen opened.shape opened.pages opened.store may.runnable.limits reads.shape reads.pages may.runnable.data_shape may.runnable.data_live data_tells;
       }
 

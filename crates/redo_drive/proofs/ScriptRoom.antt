@@ -10,7 +10,7 @@ use Rattle.model_core.specs.{Actor, collected, Line, lsn, new_flusher, new_user,
 use Rattle.model_core.specs.Actors as actor
 use Rattle.model_running.proofs.Places.{lsn_is}
 use Rattle.model_report.specs.{lines_of_user}
-use Rattle.model_log.specs.{group_length, group_text, sn_of, stream_of}
+use Rattle.model_log.specs.{group_length, group_text, run_layout, sn_of, stream_of}
 use Rattle.model_logcore.specs.{left_to_reserve, lengths, sum_over_actors}
 use Rattle.model_script.specs.{group_of, LineFits, script_end}
 use Rattle.model_script.specs.declared.misfit.TheConstants.{MAX_USERS}
@@ -107,10 +107,10 @@ pub actors_reserve : (shape : Shape) (script : List ScriptLine) (start : ℕ) (l
 actors_reserve shape script start log_only fits =
     let programs : ℕ → List Line = programs_of shape log_only script in
     let users : List Actor = map actor.User (users_of shape log_only script) in
-    let others : List Actor = actor.Writer (new_writer shape.log_blocks start) ∷ actor.Flusher (new_flusher start) ∷ page_actors shape start log_only in
+    let others : List Actor = actor.Writer (new_writer (run_layout shape).blocks start) ∷ actor.Flusher (new_flusher start) ∷ page_actors shape start log_only in
     let parts = sum_append left_to_reserve users others in
     let none = pages_reserve shape start log_only in
-    let all = users_reserve shape.log_blocks programs (MAX_USERS + 1) ∙ all_count shape log_only script fits in omega arith
+    let all = users_reserve (run_layout shape).blocks programs (MAX_USERS + 1) ∙ all_count shape log_only script fits in omega arith
 
 -- and the log has room for that
 pub room_for_all : (shape : Shape) (script : List ScriptLine) (start : ℕ) (log_only : Bool) → AllByRecursion (LineFits shape) script → script_end shape start script < LSN_LIMIT

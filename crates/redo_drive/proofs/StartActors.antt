@@ -23,7 +23,9 @@ use Rattle.model_script.specs.declared.misfit.TheConstants.{MAX_USERS}
 use Rattle.model_script.specs.declared.script.ScriptLine.{ScriptLine}
 use Rattle.redo_drive.proofs.Seats.{HasSeat, ascend, at_either, has_seat, seated, user_at}
 use Rattle.redo_drive.proofs.UserLines.{few_modes, numbered, of_script, of_user}
-use Rattle.redo_drive.specs.Setups.{page_actors, programs_of, setup_of, start_actors, users_below, users_of}
+use Rattle.redo_drive.specs.Setups.{page_actors, programs_of, start_actors, users_below, users_of}
+use Rattle.redo_drive.specs.StartWords.{setup_of}
+use Rattle.model_log.specs.{run_layout}
 
 -- where the log runs alone there is no checkpointer
 abbrev pub RunsWithPages : Bool → Actor → Type 0
@@ -32,7 +34,7 @@ RunsWithPages log_only _ = Unit {0}
 
 -- the seat of the user of a number: as many users have lesser numbers
 abbrev pub seat_of_user : Shape → Bool → List ScriptLine → ℕ → ℕ
-seat_of_user shape log_only script user = length (users_below shape.log_blocks (programs_of shape log_only script) user)
+seat_of_user shape log_only script user = length (users_below (run_layout shape).blocks (programs_of shape log_only script) user)
 
 -- the writer's seat is the first after the users'
 abbrev pub writer_seat : Shape → Bool → List ScriptLine → ℕ
@@ -73,7 +75,7 @@ module _ (shape : Shape) (pages : List Content) (start : ℕ) (script : List Scr
         are_bytes = λ i l. group-bytes (group_of shape.space one.0) fit.has_text.each i 0 l;
       })
 
-  start_user : (u : UserState) → u ≡ new_user u.user shape.log_blocks (programs u.user) → 0 < length (programs u.user) → StartUser setup u
+  start_user : (u : UserState) → u ≡ new_user u.user (run_layout shape).blocks (programs u.user) → 0 < length (programs u.user) → StartUser setup u
   start_user u is some_lines = record {
     is = is;
     some_lines = some_lines;
@@ -92,7 +94,7 @@ module _ (shape : Shape) (pages : List Content) (start : ℕ) (script : List Scr
     user_starts : (seat : ℕ) (a : Actor) → get_elem? (map actor.User users) seat ≡ some a → IsHere seat a
     user_starts seat a at =
         let u = user_at users seat a at in
-        let own : HasSeat shape.log_blocks programs (MAX_USERS + 1) seat u.0 = seated shape.log_blocks programs (MAX_USERS + 1) seat u.0 u.2 in
+        let own : HasSeat (run_layout shape).blocks programs (MAX_USERS + 1) seat u.0 = seated (run_layout shape).blocks programs (MAX_USERS + 1) seat u.0 u.2 in
         subst (IsHere seat) u.1 (record { start = (own.before, start_user u.0 own.is own.some_lines); with_pages = tt })
 
     -- after the users, the writer and the flusher
@@ -106,10 +108,10 @@ module _ (shape : Shape) (pages : List Content) (start : ℕ) (script : List Scr
         (record { start = (refl, ap new_checkpointer (sym place)); with_pages = sym is })
     pages_start false is (suc (suc (suc i))) a at = absurd (some-ne-none a (sym at))
 
-    others_start : (i : ℕ) (a : Actor) → get_elem? (actor.Writer (new_writer shape.log_blocks start) ∷ actor.Flusher (new_flusher start) ∷ page_actors shape start log_only) i ≡ some a
+    others_start : (i : ℕ) (a : Actor) → get_elem? (actor.Writer (new_writer (run_layout shape).blocks start) ∷ actor.Flusher (new_flusher start) ∷ page_actors shape start log_only) i ≡ some a
         → IsHere (length users + i) a
-    others_start zero a at = subst (IsHere (length users + 0)) (some-injective (actor.Writer (new_writer shape.log_blocks start)) a at)
-        (record { start = (omega arith, ap (new_writer shape.log_blocks) (sym place)); with_pages = tt })
+    others_start zero a at = subst (IsHere (length users + 0)) (some-injective (actor.Writer (new_writer (run_layout shape).blocks start)) a at)
+        (record { start = (omega arith, ap (new_writer (run_layout shape).blocks) (sym place)); with_pages = tt })
     others_start (suc zero) a at = subst (IsHere (length users + 1)) (some-injective (actor.Flusher (new_flusher start)) a at)
         (record { start = (refl, ap new_flusher (sym place)); with_pages = tt })
     others_start (suc (suc i)) a at = subst (λ (n : ℕ). IsHere (length users + n) a) (let e : 2 + i ≡ suc (suc i) = omega arith in e) (pages_start log_only refl i a at)
@@ -118,7 +120,7 @@ module _ (shape : Shape) (pages : List Content) (start : ℕ) (script : List Scr
     pub are_new : (seat : ℕ) (a : Actor) → get_elem? (start_actors shape script start log_only) seat ≡ some a → IsHere seat a
     are_new seat a at = ⊎_elim (user_starts seat a)
         (λ z. subst (λ (n : ℕ). IsHere n a) (sym (z.1 ∙ ap (λ (n : ℕ). n + z.0) (length-map users actor.User))) (others_start z.0 a z.2))
-        (at_either (map actor.User users) (actor.Writer (new_writer shape.log_blocks start) ∷ actor.Flusher (new_flusher start) ∷ page_actors shape start log_only) a seat at)
+        (at_either (map actor.User users) (actor.Writer (new_writer (run_layout shape).blocks start) ∷ actor.Flusher (new_flusher start) ∷ page_actors shape start log_only) a seat at)
 
   are_page_actors : (b : Bool) → ArePageActors b (page_actors shape start b)
   are_page_actors true = refl
@@ -128,18 +130,18 @@ module _ (shape : Shape) (pages : List Content) (start : ℕ) (script : List Scr
   pub are_seated : AreSeated setup (start_actors shape script start log_only)
   are_seated = record {
     users = users;
-    writer = new_writer shape.log_blocks start;
+    writer = new_writer (run_layout shape).blocks start;
     flusher = new_flusher start;
     others = page_actors shape start log_only;
     are = refl;
     page_actors = are_page_actors log_only;
-    ascending = ascend shape.log_blocks programs (MAX_USERS + 1);
-    have_lines = λ i u at. (seated shape.log_blocks programs (MAX_USERS + 1) i u at).some_lines;
+    ascending = ascend (run_layout shape).blocks programs (MAX_USERS + 1);
+    have_lines = λ i u at. (seated (run_layout shape).blocks programs (MAX_USERS + 1) i u at).some_lines;
     all = λ user some_lines.
         (let count = (of_script shape pages start script log_only).count user in
         let range = numbered shape script lines fits user (omega arith) in
         let to = range.1 in
-        (seat_of_user shape log_only script user, new_user user shape.log_blocks (programs user), has_seat shape.log_blocks programs (MAX_USERS + 1) user (omega arith) some_lines, refl));
+        (seat_of_user shape log_only script user, new_user user (run_layout shape).blocks (programs user), has_seat (run_layout shape).blocks programs (MAX_USERS + 1) user (omega arith) some_lines, refl));
     closer = refl;
     cleaner = refl;
     checkpointer = refl;

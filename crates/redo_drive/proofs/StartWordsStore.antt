@@ -15,7 +15,8 @@ use Rattle.model_log.specs.declared.layout.TheConstants.{BLOCK_DATA, BLOCK_HEADE
 use Rattle.model_page.specs.declared.content.Content.{Content}
 use Rattle.redo_drive.proofs.StartWordsPacked.{page_frame-bytes}
 use Rattle.redo_drive.proofs.StartWordsZero.{zero_page, zero_page_at, zero_words, zeros, zeros-length, zeros-zero}
-use Rattle.redo_drive.specs.StartWords.{AreFullPages, AreNamed, AreStartWords, IsBlankFrame, StartsOn, page_frame, unwritten_page, with_frame, with_log}
+use Rattle.redo_drive.specs.StartWords.{AreFullPages, AreNamed, IsBlankFrame, StartsOn, page_frame, unwritten_page, with_frame, with_log}
+use Rattle.redo_drive.specs.FirstWords.{AreStartWords}
 use Rattle.redo_words.specs.Plain.{Plain}
 
 -- a page that is free and in no list, with these cells

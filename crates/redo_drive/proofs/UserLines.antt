@@ -16,7 +16,8 @@ use Rattle.model_log.specs.declared.rec.Rec.{Rec}
 use Rattle.model_script.specs.{group_of, IsScriptLine, LineFits}
 use Rattle.model_script.specs.declared.misfit.TheConstants.{MAX_USERS}
 use Rattle.model_script.specs.declared.script.ScriptLine.{ScriptLine}
-use Rattle.redo_drive.specs.Setups.{programs_of, setup_of, user_lines}
+use Rattle.redo_drive.specs.Setups.{programs_of, user_lines}
+use Rattle.redo_drive.specs.StartWords.{setup_of}
 use Rattle.redo_useractor.specs.{AreUserLines, IsUserLine}
 
 -- what holds of each line of a script holds of a user's, which are its own

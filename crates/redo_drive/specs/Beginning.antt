@@ -1,43 +1,19 @@
 -- A run as it begins on an opened store.
-use Rattle.std.specs.Prelude.{Bool, List, None, Option, Some, [], if◌then◌else◌, ℕ, ◌+◌, ◌-◌, ◌≡◌}
-use Rattle.std.specs.List.{AllByRecursion}
-use Rattle.model_base.specs.declared.shape.Shape.{Shape}
+use Rattle.std.specs.Prelude.{Bool, List, [], ℕ, ◌≡◌}
 use Rattle.model_core.specs.{Listed, lsn}
 use Rattle.model_running.specs.{HasItsPages, IsOfScript}
-use Rattle.model_log.specs.declared.layout.TheConstants.{BLOCK_HEADER}
-use Rattle.model_parts.specs.{start_of}
-use Rattle.model_script.specs.{IsScriptLine, round_end, ScriptFits}
 use Rattle.model_script.specs.declared.script.ScriptLine.{ScriptLine}
-use Rattle.model_store.specs.Reading.{Reading}
 use Rattle.redo_drive.specs.DataPartSide as data_part
 use Rattle.redo_disk.specs.Seen.{Seen}
 use Rattle.redo_drive.specs.LogPartSide as log_part
 use Rattle.redo_drive.specs.Lists.{lists_of}
 use Rattle.redo_drive.specs.Playing.{RunOf}
 use Rattle.redo_drive.specs.Setups.{start_actors}
-use Rattle.redo_drive.specs.StartWords.{AreStartWords}
+use Rattle.redo_drive.specs.FirstWords.{AreStartWords}
 use Rattle.redo_drive.specs.Views.{views_of}
 use Rattle.redo_drive.specs.declared.actor.Actor.{Actor}
 use Rattle.redo_drive.specs.declared.parts.Parts.{Parts}
-use Rattle.redo_store.specs.{IsRunnable}
 use Rattle.redo_store.specs.declared.opened.Opened.{Opened}
-
--- where the log runs alone, no checkpoint frees it, and the run has room for one round from its checkpoint on
-abbrev pub room_from : Bool → Shape → ℕ → Option ℕ
-room_from log_only shape start = if log_only then Some (round_end shape (start - BLOCK_HEADER)) else None
-
--- A run can start on the store, and the script is one that fits it.
-pub record MayBegin {L D : Type 0} (opened : Opened L D) (script : List ScriptLine) (log_only : Bool) : Type 0 where
-  pub runnable : IsRunnable opened
-  pub lines : AllByRecursion IsScriptLine script
-  pub fits : ScriptFits opened.shape opened.start (room_from log_only opened.shape opened.start) script
-
--- The opened store was in order and read as this.
-pub record IsOpenedAs {L D : Type 0} (reading : Reading) (opened : Opened L D) : Type 0 where
-  pub shape : opened.shape ≡ reading.shape
-  pub pages : opened.pages ≡ reading.pages
-  pub start : opened.start ≡ start_of reading
-  pub number : opened.log.marks.number ≡ reading.number + 1
 
 -- The run is that of this script on this store: with its sizes, its pages and both its parts, from its start on.
 pub record IsRunOfOpened {L D : Type 0} (opened : Opened L D) (script : List ScriptLine) (log_only : Bool) (run : RunOf L D) : Type 0 where

@@ -6,7 +6,8 @@ use Rattle.model_running.specs.StartStore.{StartStore}
 use Rattle.model_script.specs.declared.script.ScriptLine.{ScriptLine}
 use Rattle.model_store.specs.Reading.{Reading}
 use Rattle.redo_disk.specs.Seen.{Seen}
-use Rattle.redo_drive.specs.Beginning.{HaveBegun, IsOpenedAs, IsRunOfOpened, StandsAtStart}
+use Rattle.redo_drive.specs.Beginning.{HaveBegun, IsRunOfOpened, StandsAtStart}
+use Rattle.redo_drive.specs.Startable.{IsOpenedAs}
 use Rattle.redo_drive.specs.Lists.{lists_of}
 use Rattle.redo_drive.specs.Playing.{RunOf, data_of, log_of}
 use Rattle.redo_drive.specs.Running.{RunsOn}

@@ -1,17 +1,17 @@
 -- What every drive owes of its run, from the opened store to the closed one.
 use Rattle.std.specs.Prelude.{IfSome, List, None, Some, ℕ, ◌+◌, ◌<◌, ◌≡◌, ◌≢◌, ◌⊎◌}
 use Rattle.model_device.specs.{synced}
-use Rattle.model_device.specs.Disk.{Disk}
 use Rattle.model_running.specs.{LeavesOpen}
 use Rattle.model_report.specs.{IsLeft}
 use Rattle.model_log.specs.{start_after}
 use Rattle.model_theorem.specs.{IsClosed, IsHeld, IsRun, IsStart, LosesOnlyByFailure, opened_as, Ran}
 use Rattle.model_script.specs.declared.script.ScriptLine.{ScriptLine}
+use Rattle.model_parts.specs.{numbers_taken}
 use Rattle.model_store.specs.Reading.{Reading}
 use Rattle.redo_disk.specs.{Call, failures}
 use Rattle.redo_disk.specs.Seen.{Seen}
 use Rattle.redo_disk.specs.declared.error.DevError.TheVariants.{NoMemory}
-use Rattle.redo_drive.specs.Beginning.{IsOpenedAs}
+use Rattle.redo_drive.specs.Startable.{IsOpenedAs}
 use Rattle.redo_drive.specs.Calls.{CallsOn}
 use Rattle.redo_drive.specs.declared.drive.Driven.{Driven}
 use Rattle.redo_drive.specs.declared.drive.RunEnd.TheVariants as ended
@@ -56,7 +56,7 @@ HoldsRun log_seen data_seen opened script driven =
     IsHeld (record {
       script = script;
       opened = opened_as reading;
-      number = reading.number + 1;
+      number = reading.number + numbers_taken reading.format;
       run = ran_of opened.start driven.closed;
       log_disk = log_now;
       data_disk = data_now;
@@ -74,7 +74,7 @@ IsOwedSynced log_seen data_seen opened script driven =
     IsClosed (failed_in driven.closed) (record {
       script = script;
       opened = opened_as reading;
-      number = reading.number + 1;
+      number = reading.number + numbers_taken reading.format;
       run = ran_of opened.start driven.closed;
       left = left;
       log_disk = synced log_now;

@@ -8,7 +8,8 @@ use Rattle.model_script.specs.declared.script.ScriptLine.{ScriptLine}
 use Rattle.model_store.specs.Reading.{Reading}
 use Rattle.redo_disk.specs.{Call}
 use Rattle.redo_disk.specs.Seen.{Seen}
-use Rattle.redo_drive.specs.Beginning.{HaveBegun, IsOpenedAs, IsRunOfOpened}
+use Rattle.redo_drive.specs.Beginning.{HaveBegun, IsRunOfOpened}
+use Rattle.redo_drive.specs.Startable.{IsOpenedAs}
 use Rattle.redo_drive.specs.Calls.{CallsOn}
 use Rattle.redo_drive.specs.Playing.{RunOf}
 use Rattle.redo_drive.specs.Running.{RunsOn}

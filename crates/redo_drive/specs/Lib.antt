@@ -4,6 +4,7 @@ pub mod Begins
 pub mod Calls
 pub mod DataPartSide
 pub mod Drive
+pub mod FirstWords
 pub mod History
 pub mod Leaving
 pub mod Lists
@@ -13,11 +14,12 @@ pub mod Playing
 pub mod Requests
 pub mod Running
 pub mod Setups
+pub mod Startable
 pub mod StartWords
 pub mod Turning
 pub mod Views
 pub use Rattle.redo_drive.specs.Asking.{AskOfBoth}
-pub use Rattle.redo_drive.specs.Beginning.{IsOpenedAs, room_from}
+pub use Rattle.redo_drive.specs.Startable.{IsOpenedAs, room_from}
 pub use Rattle.redo_drive.specs.Drive.{ComesToRun, HasMemory, HoldsRun, IsOwedSynced, Owes, ran_of}
 pub use Rattle.redo_drive.specs.LogPartSide.{has_failed}
 pub use Rattle.redo_drive.specs.Requests.{checkpoint_requests, sync_requests, write_requests}

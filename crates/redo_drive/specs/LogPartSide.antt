@@ -13,6 +13,7 @@ use Rattle.redo_disk.specs.declared.error.DevError.{DevError}
 use Rattle.redo_disk.specs.declared.error.DevError.TheVariants.{Failed, NoMemory}
 use Rattle.redo_logdev.specs.{KeepsHolding, KeepsNumbered, KeepsWriting, PartHolds, Stays}
 use Rattle.redo_logdev.specs.Part.{Part}
+use Rattle.model_log.specs.{run_layout}
 
 -- the code that FAILED gets for what a call answered
 abbrev pub fault_code : DevError → ℕ
@@ -43,12 +44,12 @@ module _ {L : Type 0} (seen : L → Seen) where
   -- The device held nothing but the checkpoint when the run began at this lsn, and the store was in order.
   pub record HasBegun (start : ℕ) (first : Part L) : Type 0 where
     pub holds : PartHolds seen start [] first
-    pub few : first.marks.number ≤ 2 ^ 63
+    pub few : HasFewCheckpoints first.marks
 
   -- What holds of the part of a run, of a log of so many blocks, that started at the sn `base` and has these groups. What
   -- the device holds it holds if it did so when the run began, and the checkpoint's number isn't below the one of then.
   pub record HoldsLog (faults number : ℕ) (Begun : Type 0) (blocks base : ℕ) (log : List Entry) (part : Part L) : Type 0 where
-    pub blocks_are : part.shape.log_blocks ≡ blocks
+    pub blocks_are : (run_layout part.shape).blocks ≡ blocks
     pub later : faults ≤ (seen part.dev).faults
     -- as long as no call has failed
     pub all_given : part.failed ≡ None → part.marks.given ≡ part.marks.written

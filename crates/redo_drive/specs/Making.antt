@@ -6,7 +6,8 @@ use Rattle.model_page.specs.declared.content.Content.{Content}
 use Rattle.model_script.specs.declared.script.ScriptLine.{ScriptLine}
 use Rattle.redo_drive.specs.Lists.{empty_lists}
 use Rattle.redo_drive.specs.Setups.{start_actors}
-use Rattle.redo_drive.specs.StartWords.{AreStartWords, HoldBytes, StartsOn}
+use Rattle.redo_drive.specs.StartWords.{HoldBytes, StartsOn}
+use Rattle.redo_drive.specs.FirstWords.{AreStartWords}
 use Rattle.redo_drive.specs.Views.{views_of}
 use Rattle.redo_drive.specs.declared.making.Own.{Own}
 

@@ -1,17 +1,14 @@
--- What never changes in the run of a script on a store, and its actors as it begins.
+-- The actors of the run of a script on a store, as it begins.
 use Rattle.std.specs.Prelude.{Bool, List, [], cond, false, length, map, true, ℕ, ◌++◌, ◌+◌, ◌==◌, ◌∷◌}
 use Rattle.model_base.specs.declared.shape.Shape.{Shape}
 use Rattle.model_core.specs.{Actor, collected, Line, new_checkpointer, new_cleaner, new_closer, new_flusher, new_user, new_writer, UserState}
 use Rattle.model_core.specs.Actors as actor
-use Rattle.model_core.specs.Setup.{Setup}
 use Rattle.model_report.specs.{lines_of_user}
-use Rattle.model_log.specs.{sn_of}
-use Rattle.model_page.specs.declared.content.Content.{Content}
+use Rattle.model_log.specs.{run_layout}
 use Rattle.model_log.specs.declared.rec.Rec.{Rec}
 use Rattle.model_script.specs.{group_of}
 use Rattle.model_script.specs.declared.misfit.TheConstants.{MAX_USERS}
 use Rattle.model_script.specs.declared.script.ScriptLine.{ScriptLine}
-use Rattle.redo_drive.specs.StartWords.{opened_page}
 use Rattle.redo_useractor.specs.{lines_of}
 
 -- the lines of a user, each a mode and a group
@@ -32,22 +29,7 @@ users_below blocks programs n = collected (user_of blocks programs) n
 
 -- all users that have lines
 abbrev pub users_of : Shape → (log_only : Bool) → List ScriptLine → List UserState
-users_of shape log_only script = users_below shape.log_blocks (programs_of shape log_only script) (MAX_USERS + 1)
-
--- The run of a script on these pages of a store, with the log alone or with the pages, which starts at this lsn. The closer,
--- the cleaner and the checkpointer have their seats after the users, the writer and the flusher.
-abbrev pub setup_of : Shape → List Content → (start : ℕ) → List ScriptLine → (log_only : Bool) → Setup
-setup_of shape pages start script log_only = record {
-  base = sn_of start;
-  blocks = shape.log_blocks;
-  pages = shape.pages;
-  log_only = log_only;
-  script = programs_of shape log_only script;
-  opened = opened_page pages;
-  closer = length (users_of shape log_only script) + 2;
-  cleaner = length (users_of shape log_only script) + 3;
-  checkpointer = length (users_of shape log_only script) + 4;
-}
+users_of shape log_only script = users_below (run_layout shape).blocks (programs_of shape log_only script) (MAX_USERS + 1)
 
 -- the actors of the pages; where the log runs alone there are none
 abbrev pub page_actors : Shape → (start : ℕ) → (log_only : Bool) → List Actor
@@ -59,4 +41,4 @@ page_actors shape start false =
 abbrev pub start_actors : Shape → List ScriptLine → (start : ℕ) → (log_only : Bool) → List Actor
 start_actors shape script start log_only =
     map actor.User (users_of shape log_only script)
-    ++ actor.Writer (new_writer shape.log_blocks start) ∷ actor.Flusher (new_flusher start) ∷ page_actors shape start log_only
+    ++ actor.Writer (new_writer (run_layout shape).blocks start) ∷ actor.Flusher (new_flusher start) ∷ page_actors shape start log_only

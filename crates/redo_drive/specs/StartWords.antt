@@ -1,15 +1,16 @@
--- The words of a store as a run begins on its pages.
-use Rattle.std.specs.Prelude.{List, Some, [], drop, get_or, length, replicate, slice_get, slice_index, slice_set, suc, take, zero, ℕ, ◌%◌, ◌++◌, ◌-◌, ◌/◌, ◌<◌, ◌∷◌, ◌≡◌, ◌≤◌, false}
+-- The words of a store as a run begins on its pages, and what never changes in the run.
+use Rattle.std.specs.Prelude.{Bool, List, Some, [], drop, get_or, length, replicate, slice_get, slice_index, slice_set, suc, take, zero, ℕ, ◌%◌, ◌++◌, ◌+◌, ◌-◌, ◌/◌, ◌<◌, ◌∷◌, ◌≡◌, ◌≤◌, false}
 use Rattle.model_base.specs.declared.limits.TheConstants.{BLOCK_SIZE, MAX_PAGES, USER_BYTES, USER_START}
 use Rattle.model_core.specs.{flat, IsSized, KeptPage, lsn, packed, page_words_at, SharedWords, with_page_words}
 use Rattle.model_core.specs.Setup.{Setup}
 use Rattle.model_core.specs.declared.limits.TheConstants.{BUFFER_BLOCKS, FRAME_WORDS, WORD_LANES}
-use Rattle.model_log.specs.{sn_of}
+use Rattle.model_log.specs.{run_layout, sn_of}
 use Rattle.model_log.specs.declared.layout.TheConstants.{BLOCK_HEADER}
-use Rattle.model_core.specs.StartWords.{StartWords}
 use Rattle.model_page.specs.declared.content.Content.{Content}
 use Rattle.model_page.specs.declared.page.TheConstants.{TRAILER_LENGTH}
-use Rattle.model_core.specs.StartWords.{StartPageWords}
+use Rattle.model_base.specs.declared.shape.Shape.{Shape}
+use Rattle.model_script.specs.declared.script.ScriptLine.{ScriptLine}
+use Rattle.redo_drive.specs.Setups.{programs_of, users_of}
 use Rattle.redo_words.specs.Plain.{Plain}
 
 -- the cells of a page's frame: its user bytes, and 0 before and after them, where the running store keeps nothing
@@ -53,13 +54,6 @@ pub record StartsOn (start : ℕ) (pages : List Content) (c : Setup) : Type 0 wh
   pub opened : (p : ℕ) → p < length pages → c.opened p ≡ opened_page pages p
   pub early : (p : ℕ) (page : Content) → slice_get pages p ≡ Some page → page.lsn ≤ start
 
--- the words in their order are those of a store as the run begins
-pub record AreStartWords (words : List ℕ) (c : Setup) : Type 0 where
-  pub by_name : SharedWords
-  pub in_order : words ≡ flat by_name
-  pub of_log : StartWords c by_name
-  pub of_pages : StartPageWords c by_name
-
 -- these are the words by name, all of them and in their order
 pub record AreNamed (words : Plain) (m : SharedWords) : Type 0 where
   pub sized : IsSized words.pages m
@@ -86,3 +80,18 @@ with_frame page frame m = with_page_words m page (record (page_words_at m.page_w
 -- each word of a page's frame is 0
 abbrev pub IsBlankFrame : ℕ → SharedWords → Type 0
 IsBlankFrame page m = (i : ℕ) → slice_index (page_words_at m.page_words page).frame i ≡ 0
+
+-- The run of a script on these pages of a store, with the log alone or with the pages, which starts at this lsn. The closer,
+-- the cleaner and the checkpointer have their seats after the users, the writer and the flusher.
+abbrev pub setup_of : Shape → List Content → (start : ℕ) → List ScriptLine → (log_only : Bool) → Setup
+setup_of shape pages start script log_only = record {
+  base = sn_of start;
+  blocks = (run_layout shape).blocks;
+  pages = shape.pages;
+  log_only = log_only;
+  script = programs_of shape log_only script;
+  opened = opened_page pages;
+  closer = length (users_of shape log_only script) + 2;
+  cleaner = length (users_of shape log_only script) + 3;
+  checkpointer = length (users_of shape log_only script) + 4;
+}

@@ -7,7 +7,7 @@ ghost use Rattle.model_log.specs.{IsAtDataStart};
 ghost use Rattle.model_log.specs.declared.layout.TheConstants.{BLOCK_HEADER};
 ghost use Rattle.model_script.specs.{IsScriptLine, LineFits};
 ghost use Rattle.redo_apply.specs.{ArePagesOf};
-ghost use Rattle.redo_drive.specs.Beginning.{MayBegin};
+ghost use Rattle.redo_drive.specs.Startable.{MayBegin};
 ghost use Rattle.redo_drive.specs.Begins.{BeginsRun};
 ghost use Rattle.redo_drive.specs.Making.{IsOwnOf};
 

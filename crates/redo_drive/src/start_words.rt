@@ -3,7 +3,8 @@ ghost use Rattle.std.specs.Prelude.{◌<◌, ◌^◌, ◌≡◌, ◌≤◌, ℕ,
 ghost use Rattle.model_core.specs.{IsWord, SharedWords, wrote};
 ghost use Rattle.model_core.specs.Setup.{Setup};
 ghost use Rattle.model_log.specs.{IsAtDataStart};
-ghost use Rattle.redo_drive.specs.StartWords.{AreFullPages, AreNamed, AreStartWords, HoldBytes, IsBlankFrame, StartsOn, page_frame, with_frame, with_log};
+ghost use Rattle.redo_drive.specs.StartWords.{AreFullPages, AreNamed, HoldBytes, IsBlankFrame, StartsOn, page_frame, with_frame, with_log};
+ghost use Rattle.redo_drive.specs.FirstWords.{AreStartWords};
 
 use model_base::{BLOCK_SIZE, USER_BYTES, USER_START};
 use model_core::{BUFFER_BLOCKS, FRAME_WORDS};

@@ -13,7 +13,7 @@ use Rattle.redo_logdev.specs.Part as log
 use Rattle.redo_drive.proofs.ShapeStays.{run_shape}
 use Rattle.redo_drive.specs.LogPartSide as log_part
 use Rattle.redo_drive.proofs.LeftRun as left_run
-use Rattle.redo_drive.specs.Beginning.{MayBegin}
+use Rattle.redo_drive.specs.Startable.{MayBegin}
 use Rattle.redo_drive.specs.Calls.{CallOnBoth, CallsOn}
 use Rattle.redo_drive.specs.Drive.{HasMetError, Owes}
 use Rattle.redo_machine.specs.ByTurns.{RunsByTurns}

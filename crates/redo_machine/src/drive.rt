@@ -1,6 +1,6 @@
 // The drive by turns.
 ghost use Rattle.std.specs.Prelude.{◌≡◌, IfErr, IfOk};
-ghost use Rattle.redo_drive.specs.Beginning.{MayBegin};
+ghost use Rattle.redo_drive.specs.Startable.{MayBegin};
 ghost use Rattle.redo_drive.specs.Drive.{Owes};
 ghost use Rattle.redo_machine.specs.ByTurns.{RunsByTurns};
 

@@ -1,6 +1,6 @@
 // A running store.
 ghost use Rattle.std.specs.Prelude.{◌≡◌, IfErr, IfOk};
-ghost use Rattle.redo_drive.specs.Beginning.{MayBegin};
+ghost use Rattle.redo_drive.specs.Startable.{MayBegin};
 ghost use Rattle.redo_drive.specs.Begins.{BeginsRun};
 
 use model_report::Entry;

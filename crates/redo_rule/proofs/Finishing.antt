@@ -18,7 +18,7 @@ use Rattle.redo_drive.proofs.FailureCode.{small_code}
 use Rattle.redo_drive.proofs.LeftRun as left_run
 use Rattle.redo_drive.proofs.LogCount.{log_within_script}
 use Rattle.redo_drive.proofs.Told.{as_many, have_groups, history_is}
-use Rattle.redo_drive.specs.Beginning.{MayBegin}
+use Rattle.redo_drive.specs.Startable.{MayBegin}
 use Rattle.redo_drive.specs.History.{HasGroups, ListsInOrder, all_listed}
 use Rattle.redo_drive.specs.Lists.{listing_at}
 use Rattle.redo_drive.specs.Leaving.{LeavesRun}

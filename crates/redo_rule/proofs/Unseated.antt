@@ -12,7 +12,7 @@ use Rattle.model_logcore.specs.{StartActor}
 use Rattle.model_running.specs.{ArePageActors, AreSeated}
 use Rattle.model_script.specs.declared.script.ScriptLine.{ScriptLine}
 use Rattle.redo_disk.specs.Seen.{Seen}
-use Rattle.redo_drive.specs.Beginning.{MayBegin}
+use Rattle.redo_drive.specs.Startable.{MayBegin}
 use Rattle.redo_drive.specs.Begins.{BeginsRun}
 use Rattle.redo_drive.specs.Views.{view_of, views_of}
 use Rattle.redo_drive.specs.declared.actor.Actor.{Actor}

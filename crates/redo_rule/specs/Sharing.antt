@@ -6,7 +6,7 @@ use Rattle.atomic_table.specs.Seated.{TableId}
 use Rattle.atomic_table.specs.declared.shared.Seat.{Seat}
 use Rattle.model_script.specs.declared.script.ScriptLine.{ScriptLine}
 use Rattle.redo_logdev.specs.Part as log
-use Rattle.redo_drive.specs.Beginning.{MayBegin}
+use Rattle.redo_drive.specs.Startable.{MayBegin}
 use Rattle.redo_drive.specs.Lists.{listing_at, Listings}
 use Rattle.redo_drive.specs.Views.{view_of}
 use Rattle.redo_drive.specs.declared.actor.Actor.{Actor}

@@ -1,6 +1,6 @@
 // A store that its actors share, each in a thread of its own.
 ghost use Rattle.std.specs.Prelude.{◌≡◌, IfErr, IfOk};
-ghost use Rattle.redo_drive.specs.Beginning.{MayBegin};
+ghost use Rattle.redo_drive.specs.Startable.{MayBegin};
 ghost use Rattle.redo_rule.specs.Sharing.{IsNew};
 
 use crate::law::{About, Law, Ring, Seat, Slot, View};

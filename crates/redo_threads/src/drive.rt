@@ -1,6 +1,6 @@
 // The drive in threads.
 ghost use Rattle.std.specs.Prelude.{IfErr, IfOk, ◌≡◌};
-ghost use Rattle.redo_drive.specs.Beginning.{MayBegin};
+ghost use Rattle.redo_drive.specs.Startable.{MayBegin};
 ghost use Rattle.redo_drive.specs.Drive.{Owes};
 ghost use Rattle.redo_rule.specs.Failing.{CodeHasCause};
 ghost use Rattle.redo_threads.specs.InThreads.{RunsInThreads};

@@ -14,6 +14,7 @@ use Rattle.redo_drive.specs.declared.actor.Actor.TheVariants as own
 use Rattle.redo_useractor.specs.{AreUserLines, lines_of}
 use Rattle.redo_drive.proofs.seating.seat_users.Goals.{then-not-is_empty+in_ok-actor+in_ok-push, else-not-is_empty}
 use Rattle.redo_drive.proofs.seating.seat_users.Goals as goal
+use Rattle.model_log.specs.{run_layout}
 
 pub loop-user-init : goal.loop-user-init
 loop-user-init c =
@@ -21,7 +22,7 @@ loop-user-init c =
     let script = c.args.script.now in
     let programs : ℕ → List Line = programs_of shape c.args.log_only script in
     ap views_of c.in_ok-actors.ensures.items
-    ∙ sym (none_first shape.log_blocks programs (no_program shape script c.requires.lines c.requires.fits c.args.log_only 0 (λ in_range. let from = in_range.0 in omega arith)))
+    ∙ sym (none_first (run_layout shape).blocks programs (no_program shape script c.requires.lines c.requires.fits c.args.log_only 0 (λ in_range. let from = in_range.0 in omega arith)))
 
 pub new-requires-clause-lines : goal.new-requires-clause-lines
 new-requires-clause-lines c =
@@ -40,8 +41,8 @@ loop-user-preserved c =
     let long : length (programs user) ≡ length lines = program_length shape c.args.log_only script user ∙ ap length (sym own_lines) in
     elim c.if-not-is_empty.branch [
       | then-not-is_empty+in_ok-actor+in_ok-push w ↦
-          let state : w.in_ok-actor.actor ≡ new_user user shape.log_blocks (programs user) =
-          w.in_ok-actor.ensures ∙ ap (λ (l : List (ℕ × List Rec)). new_user user shape.log_blocks (lines_of c.args.log_only shape.pages l)) own_lines in
+          let state : w.in_ok-actor.actor ≡ new_user user (run_layout shape).blocks (programs user) =
+          w.in_ok-actor.ensures ∙ ap (λ (l : List (ℕ × List Rec)). new_user user (run_layout shape).blocks (lines_of c.args.log_only shape.pages l)) own_lines in
           let full = eqb-false (vec_len c.in_ok-lines.lines) 0 (sym w.if-not-is_empty.ensures) in
           let some_lines : 0 < length (programs user) = elim (dec_le 1 (length (programs user))) [
             | yes some ↦ some
@@ -51,9 +52,9 @@ loop-user-preserved c =
           ∙ ap views_of w.in_ok-push.ensures.items
           ∙ map-append view_of c.loop-user.actors.items (own.User w.in_ok-actor.actor ∷ [])
           ∙ ap (λ (u : UserState). views_of c.loop-user.actors.items ++ actor.User u ∷ []) state
-          ∙ one_seated shape.log_blocks programs user (views_of c.loop-user.actors.items) some_lines c.loop-user.invariant
+          ∙ one_seated (run_layout shape).blocks programs user (views_of c.loop-user.actors.items) some_lines c.loop-user.invariant
       | else-not-is_empty w ↦
           let empty = eqb-true (vec_len c.in_ok-lines.lines) 0 (sym w.if-not-is_empty.ensures) in
           let none : length (programs user) ≡ 0 = omega arith in
-          ap (λ (v : Vec Actor Global). views_of v.items) w.actors-is ∙ none_seated shape.log_blocks programs user (views_of c.loop-user.actors.items) none c.loop-user.invariant
+          ap (λ (v : Vec Actor Global). views_of v.items) w.actors-is ∙ none_seated (run_layout shape).blocks programs user (views_of c.loop-user.actors.items) none c.loop-user.invariant
     ]
