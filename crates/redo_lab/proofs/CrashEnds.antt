@@ -21,7 +21,7 @@ use Rattle.redo_drive.specs.declared.drive.RunEnd.TheVariants.{Done}
 use Rattle.redo_lab.specs.declared.outcome.Outcome.{Outcome}
 use Rattle.redo_lab.specs.declared.outcome.Outcome.TheVariants as outcome
 use Rattle.redo_lab.specs.declared.playing.Stops.{Stops}
-use Rattle.redo_lab.proofs.CrashTold.{HasTold, armed-first, crashes-told, device_of, has-told, is-crashed, is-device, left-image, stopped-as, whole-script}
+use Rattle.redo_lab.proofs.CrashTold.{HasTold, armed-first, crashes-told, device_of, has-told, is-crashed, is-device, stopped-as, whole-script}
 use Rattle.redo_lab.proofs.Ends.{ends-with, legal-on, opens-stored}
 use Rattle.redo_lab.proofs.Found.{one-opened, told-still}
 use Rattle.redo_lab.proofs.Rereading.{IsCrashedSince, ReadsTo, Was, before, prepared-later}
@@ -64,14 +64,14 @@ module _ (call : Call) (drive : Drive) (stops : Stops) (pick workers : ℕ) (scr
     crash-first opened log data_disk log_is data_is log_fresh data_fresh opens armed_from disk armed_is met_is =
         left_by.opened_first opened log data_disk log_is data_is log_fresh data_fresh opens armed_from disk (sym since.0.arming.told ∙ armed_is) (sym since.0.from ∙ met_is)
 
-    -- WHAT IT LEFT is read as a prefix of the run, where the data device's image is fair.
+    -- WHAT IT LEFT is read as a prefix of the run, where both devices' images are fair.
     left-reads : (opened : Opened) → WhereOpened call opened (IsLeftFair call opened → WhereToldNow call (λ log store. ReadsPrefix script opened run log.reads store.reads))
     left-reads opened log data_disk log_is data_is log_fresh data_fresh opens fair log_now data_now log_now_is data_now_is =
         let log_at = log-met log log_is in
         let data_at = data-met data_disk data_is in
-        let crashes = crashes-told log_was.now.tells call.log.now.tells log_at.0 log_now since.0.left log_at.1 log_now_is in
         left_by.reads opened log data_disk log_is data_is log_fresh data_fresh opens log_at.0 data_at.0 log_at.1 data_at.1 log_now.reads data_now.reads
-        (left-image log_at.0 log_now crashes) (fair pick data_at.0 data_now since.1.pick_is (since.1.from ∙ data_at.1) data_now_is)
+        (fair.log pick log_at.0 log_now since.0.pick_is (since.0.from ∙ log_at.1) log_now_is)
+        (fair.store pick data_at.0 data_now since.1.pick_is (since.1.from ∙ data_at.1) data_now_is)
 
     -- EACH IMAGE of it is read so: of each device there is one.
     images-read : (opened : Opened) → WhereOpened call opened (IsLeftFair call opened → WhereToldNow call (AreReadAsPrefix script opened run))
@@ -79,7 +79,7 @@ module _ (call : Call) (drive : Drive) (stops : Stops) (pick workers : ℕ) (scr
         let log_at = log-met log log_is in
         let data_at = data-met data_disk data_is in
         let log_same : log_bytes ≡ log_now.reads =
-        one-image log_at.0 log_now (crashes-told log_was.now.tells call.log.now.tells log_at.0 log_now since.0.left log_at.1 log_now_is) log_bytes image in
+        one-image log_at.0 log_now (crashes-told log_was.now.tells call.log.now.tells log_at.0 log_now since.0.left log_at.1 log_now_is) log_bytes image.possible in
         let data_same : data_bytes ≡ data_now.reads =
         one-image data_at.0 data_now (crashes-told data_was.now.tells call.store.now.tells data_at.0 data_now since.1.left data_at.1 data_now_is) data_bytes is_fair.possible in
         subst (λ (bytes : List ℕ). ReadsPrefix script opened run log_bytes bytes) (sym data_same)
@@ -173,7 +173,7 @@ module _ (call : Call) (drive : Drive) (stops : Stops) (pick workers : ℕ) (scr
         log_told.crashed_from data_told.crashed_from log_told.crashed_is data_told.crashed_is in
         let now = is_read log_told.left data_told.left log_told.left_is data_told.left_is in
         let log_crashed = is-crashed log_was call.log since.0 log_told in
-        let kept = reads log_told.left.reads data_told.left.reads log_crashed.kept premises.fair in
+        let kept = reads log_told.left.reads data_told.left.reads premises.log_fair premises.data_fair in
         let prepared = prepared-later call log_was data_was since.0.arming since.1.arming left_by.armed.prepared in
         laws.crash_is_safe (crash_with log_told data_told) opened account
         (record {
@@ -194,7 +194,8 @@ module _ (call : Call) (drive : Drive) (stops : Stops) (pick workers : ℕ) (scr
             old_copies = subst (HasOldCopies data_told.left.reads)
                 (laws.one_reading log_told.left.reads data_told.left.reads kept.reading reading kept.is_read now) kept.old_copies;
           };
-          fair = premises.fair;
+          log_fair = premises.log_fair;
+          data_fair = premises.data_fair;
         })
         (left_by.opened_first opened log data_disk log_told.entry_is data_told.entry_is premises.log_fresh premises.data_fresh premises.opens
         log_told.armed_from log_told.crashed_from (sym since.0.arming.told ∙ log_told.armed_is) log_told.crashed_is)

@@ -22,7 +22,7 @@ crashes-told (Some disk) new before after told old_is new_is =
     let same_after : told.0 ≡ after = cc in
     subst (λ (d : Disk). Crashes before d) same_after (subst (λ (d : Disk). Crashes d told.0) same_before told.2)
 
-pub left-image : (before after : Disk) → Crashes before after → IsImage before after.reads
+left-image : (before after : Disk) → Crashes before after → IsImage before after.reads
 left-image before after crashes = subst (IsImage before) (sym (ap (λ (d : Disk). d.reads) crashes.left)) crashes.possible
 
 pub whole-script : (call : Call) (script : List ScriptLine) (read : IsScriptRead call.source call.source_now script)

@@ -1,15 +1,15 @@
 -- The run of a script on a store that stands opened, by a drive, and what it leaves.
-use Rattle.std.proofs.Common.{ℕ, ◌≡◌, ◌+◌, List, Option, Some, None, refl, sym, ap, subst, ◌∙◌, ⊎_elim, arith}
+use Rattle.std.proofs.Common.{ℕ, ◌≡◌, ◌+◌, List, Option, Some, None, refl, sym, ap, subst, ◌∙◌, inl, ⊎_elim, arith}
 use Rattle.std.specs.List.{AllByRecursion}
 use Rattle.model_base.specs.declared.shape.Shape.{Shape}
 use Rattle.model_device.specs.{synced}
 use Rattle.model_device.specs.Disk.{Disk}
-use Rattle.model_parts.specs.{IsReady}
+use Rattle.model_parts.specs.{IsReady, numbers_taken}
 use Rattle.model_script.specs.{LineFits}
 use Rattle.model_script.specs.declared.asked.Command.{Command}
 use Rattle.model_script.specs.declared.asked.Drive.{Drive}
 use Rattle.model_script.specs.declared.script.ScriptLine.{ScriptLine}
-use Rattle.model_store.specs.{IsReading}
+use Rattle.model_store.specs.{IsFairLog, IsReading}
 use Rattle.model_store.specs.Reading.{Reading}
 use Rattle.model_theorem.specs.{IsClosed, IsHeld, IsOpenedBefore, IsRun, IsStart, LosesOnlyByFailure, Opened, opened_as, Ran}
 use Rattle.redo_disk.specs.{Call as DeviceCall, failures, MakesCalls, MayEndWith}
@@ -18,7 +18,7 @@ use Rattle.redo_disk.specs.declared.error.DevError.{DevError}
 use Rattle.redo_disk.specs.declared.error.DevError.TheVariants as device
 use Rattle.redo_disk.proofs.Made.{may_end}
 use Rattle.redo_drive.specs.{HasMemory, Owes}
-use Rattle.redo_drive.specs.Beginning.{IsOpenedAs as IsStartedAs}
+use Rattle.redo_drive.specs.Startable.{IsOpenedAs as IsStartedAs}
 use Rattle.redo_drive.specs.Drive.{failed_in}
 use Rattle.redo_drive.specs.declared.drive.Driven.{Driven}
 use Rattle.redo_drive.specs.declared.drive.RunEnd.{RunEnd}
@@ -44,6 +44,13 @@ use Rattle.redo_lab.specs.Laws.{Laws}
 use Rattle.redo_lab.specs.Runs.{ComesTo, IsLeftBy, IsRunning, LosesByFailure, StandsReady, course_done, course_of, ended_by, played_of, ran_of}
 use Rattle.redo_lab.specs.Store.{AreReadAsPrefix}
 use Rattle.redo_lab.specs.Told.{AreLeftRead, IsOpenedFirst}
+
+-- what reads give of a log device that was synced is fair
+synced-fair : (disk : Disk) → IsFairLog (synced disk) disk.reads
+synced-fair disk = record {
+  possible = record { same_length = refl; each = λ k within. inl refl };
+  each = λ k within fits. record { count = 0; some = omega arith; same = refl };
+}
 
 module _ {L D : Type 0} (log_seen : L → Seen) (log_gives : L → DeviceCall → L → Type 0) (data_seen : D → Seen) (data_gives : D → DeviceCall → D → Type 0)
     (words : List (List ℕ)) (source source_now : SourceSeen) (log : L) (data_device : D) (command : Command) (drive : Drive) (stops : Stops) (script : List ScriptLine)
@@ -111,7 +118,7 @@ module _ {L D : Type 0} (log_seen : L → Seen) (log_gives : L → DeviceCall �
   Holds reading log_disk data_disk = IsHeld (record {
     script = script;
     opened = opened_as reading;
-    number = reading.number + 1;
+    number = reading.number + numbers_taken reading.format;
     run = run;
     log_disk = log_disk;
     data_disk = data_disk;
@@ -181,7 +188,7 @@ module _ {L D : Type 0} (log_seen : L → Seen) (log_gives : L → DeviceCall �
       let Closes : Reading → Disk → Disk → Type 0 = λ reading log_disk data_disk. IsClosed (failed_in driven.closed) (record {
         script = script;
         opened = opened_as reading;
-        number = reading.number + 1;
+        number = reading.number + numbers_taken reading.format;
         run = run;
         left = left.0;
         log_disk = synced log_disk;
@@ -190,7 +197,7 @@ module _ {L D : Type 0} (log_seen : L → Seen) (log_gives : L → DeviceCall �
       let closed = run-found Closes (λ reading started. owes.owed_synced log_none data_none reading left.0 done memory started left.1)
       opened log_entry data_entry log_is data_is log_fresh data_fresh opens in
       let read = laws.held_reads _ log_now.reads data_now.reads (closed.1 log_now data_now log_now_is data_now_is).holds
-      (laws.base_fair opened.shape (synced log_now)).possible (laws.base_fair closed.0.reading.shape (synced data_now)) in
+      (synced-fair log_now) (laws.base_fair closed.0.reading.shape (synced data_now)) in
       (read.reading, read.is_read)
 
   -- by what a call of each device answered that failed

@@ -1,19 +1,21 @@
 -- The store that two devices open: as they were handed in, and as the arming of their fuses found them.
-use Rattle.std.proofs.Common.{ℕ, ◌≡◌, ◌≢◌, ◌+◌, List, Option, Some, None, refl, sym, ap, ◌∙◌, inl, ⊎_elim, arith}
+use Rattle.std.proofs.Common.{ℕ, ◌≡◌, ◌≢◌, ◌<◌, ◌+◌, cond, List, Option, Some, None, refl, sym, ap, subst, ◌∙◌, inl, ⊎_elim, arith}
 use Rattle.model_base.specs.{default_shape, IsWithinLimits}
 use Rattle.model_base.specs.declared.shape.Shape.{Shape}
-use Rattle.model_device.specs.{IsImage}
 use Rattle.model_device.specs.Disk.{Disk}
-use Rattle.model_log.specs.{newest_checkpoint}
+use Rattle.model_log.specs.{fits_checksum, head_among, head_of, header_block, layout_of, newest_checkpoint, read_head}
+use Rattle.model_log.specs.declared.head.Format.{Format}
+use Rattle.model_log.specs.declared.head.Format.TheVariants.{One, Two}
+use Rattle.model_log.specs.declared.head.Head.TheVariants.{Unformatted}
 use Rattle.model_page.specs.declared.content.Content.{Content}
-use Rattle.model_parts.proofs.Formatted.{zeros-refused}
-use Rattle.model_parts.specs.{formatted_store, IsAtRest, IsOpenable, KeepsOpened}
+use Rattle.model_parts.proofs.Unread.{unsealed-head, zeros-unsealed}
+use Rattle.model_parts.specs.{formatted_store, IsAtRest, IsOpenable, IsUnsealed, KeepsOpened, numbers_taken, zero_block}
 use Rattle.model_script.specs.declared.script.ScriptLine.{ScriptLine}
-use Rattle.model_store.specs.{IsFair, IsReading, IsUnused, Opens, OpensOrderly}
+use Rattle.model_store.specs.{IsFair, IsFairLog, IsReading, IsUnused, Opens, OpensOrderly}
 use Rattle.model_store.specs.Reading.{Reading}
 use Rattle.model_store.specs.declared.refusal.Refusal.TheVariants.{NotFormatted}
-use Rattle.model_theorem.specs.{AreUnopened, HeldOlder, IsFresh, IsOpenedBefore, Opened, opened_as, ReadsPrefix}
-use Rattle.redo_open.specs.{HasSameCheckpoint}
+use Rattle.model_theorem.specs.{AreUnopened, HasCheckpoint, HeldOlder, IsFresh, IsOpenedBefore, Opened, opened_as, ReadsPrefix}
+use Rattle.redo_open.specs.{IsNotOpened}
 use Rattle.redo_lab.specs.declared.playing.Stops.{Stops}
 use Rattle.redo_lab.specs.Call.{Call, WhereOpened}
 use Rattle.redo_lab.specs.Devices.{AreArmed, ArePrepared}
@@ -40,13 +42,20 @@ told-still old (Some now) disk goes is = (now, refl)
 pub same-told : (old new : Option Disk) (before now : Disk) → new ≡ old → old ≡ Some before → new ≡ Some now → before ≡ now
 same-told old new before now same before_is now_is = cc
 
+-- two blocks of zeros name no store
+zeros-unformatted : (first second : List ℕ) → first ≡ zero_block → second ≡ zero_block → head_among first second ≡ Unformatted
+zeros-unformatted first second first_is second_is =
+    ap (λ b. cond b (read_head first) (read_head second)) (ap fits_checksum first_is ∙ zeros-unsealed)
+    ∙ unsealed-head second (subst IsUnsealed (sym second_is) zeros-unsealed)
+
 -- a log device that is unused isn't read
 pub unused-unread : Laws → (log data_bytes : List ℕ) (reading : Reading) → IsUnused log → IsReading log data_bytes reading → ⊥
 unused-unread laws log data_bytes reading unused is_read =
-    laws.one_answer log data_bytes reading NotFormatted is_read (zeros-refused log data_bytes is_read.scan.devices.head.long unused)
+    laws.one_answer log data_bytes reading NotFormatted is_read
+    (is_read.scan.devices.head.long, zeros-unformatted (header_block 0 log) (header_block 2 log) unused.first unused.second)
 
 at-rest : (disk : Disk) (faults : ℕ) → IsFresh disk faults → IsAtRest disk
-at-rest disk faults fresh = record { one_image = fresh.one_image; reads = fresh.valid.reads }
+at-rest disk faults fresh = record { one_image = fresh.one_image; reads = fresh.valid.reads; sectors = fresh.valid.writes }
 
 pub openable-fresh : (log data_disk : Disk) (log_faults data_faults : ℕ) (opened : Opened) → IsFresh log log_faults → IsFresh data_disk data_faults
     → (opens : OpensOrderly log.reads data_disk.reads opened.shape opened.pages opened.end) → IsOpenable opens.reading log data_disk
@@ -148,24 +157,35 @@ pub found-armed : (call : Call) {stops : Stops} → Laws → AreArmed call stops
 found-armed call laws armed opened = was-found call laws armed.prepared armed.log_device.told armed.data_device.told opened
 
 -- THE CHECKPOINT THAT WAS FOUND: what stood there at the last good sync is an image.
-found-checkpoint : (reading : Reading) (log data_disk : Disk) → IsOpenable reading log data_disk → HasSameCheckpoint reading log
+found-checkpoint : (reading : Reading) (log data_disk : Disk) → IsOpenable reading log data_disk
+    → HasCheckpoint reading.format reading.shape reading.number reading.ckpt log.base
 found-checkpoint reading log data_disk openable =
-    ap (newest_checkpoint reading.shape) (openable.log_rests.one_image log.base (record { same_length = refl; each = λ k below. inl refl }))
-    ∙ openable.orderly.reads.scan.checkpoint
+    let same : log.base ≡ log.reads = openable.log_rests.one_image log.base (record { same_length = refl; each = λ k below. inl refl }) in
+    record {
+      head = ap head_of same ∙ openable.orderly.reads.scan.devices.head.head;
+      newest = ap (newest_checkpoint (layout_of reading.format reading.shape)) same ∙ openable.orderly.reads.scan.checkpoint;
+    }
 
--- is older than the one that opening makes
-pub held-older : (reading : Reading) (log data_disk : Disk) → IsOpenable reading log data_disk → HeldOlder reading.shape (reading.number + 1) log
+some-taken : (format : Format) → 0 < numbers_taken format
+some-taken One = omega arith
+some-taken Two = omega arith
+
+-- is older than those that opening makes
+pub held-older : (reading : Reading) (log data_disk : Disk) → IsOpenable reading log data_disk
+    → HeldOlder reading.shape (reading.number + numbers_taken reading.format) log
 held-older reading log data_disk openable = record {
+  format = reading.format;
   found = reading.number;
   ckpt = reading.ckpt;
   newest = found-checkpoint reading log data_disk openable;
-  older = omega arith;
+  older = omega (arith, some-taken reading.format);
 }
 
--- OPENING WAS STOPPED where it is still the newest.
-pub stopped-before : (reading : Reading) (log data_disk left : Disk) → IsOpenable reading log data_disk → HasSameCheckpoint reading left
+-- OPENING WAS STOPPED where the log device tells that it hasn't come to its end.
+pub stopped-before : (reading : Reading) (log data_disk left : Disk) → IsOpenable reading log data_disk → IsNotOpened reading left
     → IsOpenedBefore reading.shape log left None
 stopped-before reading log data_disk left openable unmoved = record {
+  format = reading.format;
   number = reading.number;
   ckpt = reading.ckpt;
   found = found-checkpoint reading log data_disk openable;
@@ -174,7 +194,7 @@ stopped-before reading log data_disk left openable unmoved = record {
 
 -- the opened pages are those of no group
 pub prefix-opened : (script : List ScriptLine) (reading : Reading) (log_disk data_disk : Disk) → KeepsOpened reading log_disk data_disk
-    → (log_bytes data_bytes : List ℕ) → IsImage log_disk log_bytes → IsFair reading.shape data_disk data_bytes
+    → (log_bytes data_bytes : List ℕ) → IsFairLog log_disk log_bytes → IsFair reading.shape data_disk data_bytes
     → ReadsPrefix script (opened_as reading) None log_bytes data_bytes
 prefix-opened script reading log_disk data_disk keeps log_bytes data_bytes image fair =
     let read = keeps log_bytes data_bytes image fair in

@@ -25,7 +25,7 @@ use Rattle.redo_io.specs.{SourceSeen}
 use Rattle.redo_memdisk.proofs.Behind.{counts-calls}
 use Rattle.redo_memdisk.specs.{CallsThrough, seen_through, while_stopping}
 use Rattle.redo_memdisk.specs.declared.fused.Fused.{Fused}
-use Rattle.redo_open.specs.{HasFaultCause, HasSameCheckpoint, IsOpenedReady, IsOpeningOf, OpensLog, WhereBothTell}
+use Rattle.redo_open.specs.{HasFaultCause, IsNotOpened, IsOpenedReady, IsOpeningOf, OpensLog, WhereBothTell}
 use Rattle.redo_store.specs.{IsRunnable}
 use Rattle.redo_store.specs.declared.opened.Opened as store
 use Rattle.redo_recover.specs.{data_error, log_error, OnContents}
@@ -97,7 +97,7 @@ module _ (call : Call) (command : Command) (drive : Drive) (stops : Stops) (scri
   -- a device failed
   stopped-by : {log_failed data_failed : ℕ} → IsOpening log_failed data_failed log.tells data_device.tells call stops
       → ((reading : Reading) → WhereBothTell log.tells data_device.tells (λ log_disk data_disk. IsOpenable reading log_disk data_disk
-      → IfSome call.log.now.tells (HasSameCheckpoint reading))) → IsLeftBy call command drive stops script None Done
+      → IfSome call.log.now.tells (IsNotOpened reading))) → IsLeftBy call command drive stops script None Done
   stopped-by is unmoved = record {
     armed = is.armed;
     counted = is.counted;
@@ -123,15 +123,15 @@ module _ (call : Call) (command : Command) (drive : Drive) (stops : Stops) (scri
   pub unopened-comes : (f : RecFault) (log_after data_after : Seen) → log_after.tells ≡ call.log.now.tells → data_after.tells ≡ call.store.now.tells
       → IsOpening (failures (log_error f)) (failures (data_error f)) log.tells data_device.tells call stops
       → ((reading : Reading) → WhereBothTell log.tells data_device.tells (λ log_disk data_disk. IsOpenable reading log_disk data_disk
-      → f ≢ NoMemory → IfSome call.log.now.tells (HasSameCheckpoint reading)))
+      → f ≢ NoMemory → IfSome call.log.now.tells (IsNotOpened reading)))
       → HasFaultCause log data_device log_after data_after f → ComesTo call command drive stops script (unopened f)
   unopened-comes LogDev log_after data_after log_is data_is is unmoved has = (
-    stopped-by is (λ reading. weaker-both {Q = λ log_disk data_disk. IsOpenable reading log_disk data_disk → IfSome call.log.now.tells (HasSameCheckpoint reading)} log.tells data_device.tells
+    stopped-by is (λ reading. weaker-both {Q = λ log_disk data_disk. IsOpenable reading log_disk data_disk → IfSome call.log.now.tells (IsNotOpened reading)} log.tells data_device.tells
         (λ log_disk data_disk kept openable. kept openable (λ same. cc)) (unmoved reading)),
     omega (arith, is.log_mid),
   )
   unopened-comes DataDev log_after data_after log_is data_is is unmoved has = (
-    stopped-by is (λ reading. weaker-both {Q = λ log_disk data_disk. IsOpenable reading log_disk data_disk → IfSome call.log.now.tells (HasSameCheckpoint reading)} log.tells data_device.tells
+    stopped-by is (λ reading. weaker-both {Q = λ log_disk data_disk. IsOpenable reading log_disk data_disk → IfSome call.log.now.tells (IsNotOpened reading)} log.tells data_device.tells
         (λ log_disk data_disk kept openable. kept openable (λ same. cc)) (unmoved reading)),
     (omega (arith, is.data_mid), is.log_mid),
   )

@@ -17,7 +17,7 @@ use Rattle.model_store.specs.{IsReading, IsUnused, Refuses}
 use Rattle.model_store.specs.Reading.{Reading}
 use Rattle.model_store.specs.declared.refusal.Refusal.{Refusal}
 use Rattle.model_theorem.specs.{FitsOpened, IsOpenedBefore, Opened, opened_as, room_of}
-use Rattle.redo_open.specs.{HasSameCheckpoint, IsOpeningOf, WhereBothTell}
+use Rattle.redo_open.specs.{IsNotOpened, IsOpeningOf, WhereBothTell}
 use Rattle.redo_store.specs.{IsRunnable}
 use Rattle.redo_store.specs.declared.opened.Opened as store
 use Rattle.redo_recover.specs.{OnContents}
@@ -82,14 +82,14 @@ module _ (call : Call) (stops : Stops) (armed : AreArmed call stops) (laws : Law
       subst (λ (o : Opened). AreReadAsPrefix script o None log_now data_now) (sym found.same)
       (prefix-opened script found.reading log_now data_now (both-told call.log.now.tells call.store.now.tells (KeepsOpened found.reading) kept log_now data_now log_now_is data_now_is))
 
-  -- OPENING WAS STOPPED where the log device has the checkpoint that was found.
+  -- OPENING WAS STOPPED where the log device tells that it hasn't come to its end.
   pub stopped-first : ((reading : Reading) → WhereBothTell log_met data_met (λ log data_disk. IsOpenable reading log data_disk
-      → IfSome call.log.now.tells (HasSameCheckpoint reading))) → IsOpenedFirst call call.log.now.tells None
+      → IfSome call.log.now.tells (IsNotOpened reading))) → IsOpenedFirst call call.log.now.tells None
   stopped-first unmoved opened log data_disk log_is data_is log_fresh data_fresh opens armed_from disk armed_is now_is =
       let found = found-armed call laws armed opened log data_disk log_is data_is log_fresh data_fresh opens in
-      let Keeps : Disk → Disk → Type 0 = λ log data_disk. IsOpenable found.reading log data_disk → IfSome call.log.now.tells (HasSameCheckpoint found.reading) in
+      let Keeps : Disk → Disk → Type 0 = λ log data_disk. IsOpenable found.reading log data_disk → IfSome call.log.now.tells (IsNotOpened found.reading) in
       let kept = both-told log_met data_met Keeps (unmoved found.reading) found.log found.data_disk (sym log_as ∙ found.log_is) (sym data_as ∙ found.data_is) found.openable in
-      let now : HasSameCheckpoint found.reading disk = subst (λ (told : Option Disk). IfSome told (HasSameCheckpoint found.reading)) now_is kept in
+      let now : IsNotOpened found.reading disk = subst (λ (told : Option Disk). IfSome told (IsNotOpened found.reading)) now_is kept in
       let same_log : found.log ≡ armed_from = (let found_is = found.log_is in cc) in
       subst (λ (armed_from : Disk). IsOpenedBefore opened.shape armed_from disk None) same_log
       (subst (λ (one : Opened). IsOpenedBefore one.shape found.log disk None) (sym found.same)

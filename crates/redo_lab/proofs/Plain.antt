@@ -2,7 +2,7 @@
 use Rattle.std.proofs.Common.{ℕ, ◌≡◌, ◌<◌, Bool, true, if◌then◌else◌, List, Some, None, Option, Result, Ok, Err, IfOk, ap, subst, ◌∙◌, arith}
 use Rattle.std.proofs.lemmas.Bool.{false≢true}
 use Rattle.model_base.specs.{HasRisen}
-use Rattle.model_log.specs.{IsStop}
+use Rattle.model_log.specs.{IsStop, layout_of}
 use Rattle.model_log.specs.declared.cause.Cause.{Cause}
 use Rattle.model_report.specs.{dump_text, recover_text}
 use Rattle.model_report.specs.declared.fault.Fault.TheVariants as fault
@@ -90,11 +90,11 @@ dumps-off call why unread = record {
 
 -- the listing that was made of what was recovered
 pub listed : {E : Type 0} (call : Call) (why : Bool) (reading : Reading) (stop : ℕ × Cause) (r : Result (List ℕ) E)
-    → OnContent call.log.entry.tells (IsStop reading.shape reading.ckpt reading.views stop)
+    → OnContent call.log.entry.tells (IsStop (layout_of reading.format reading.shape) reading.ckpt reading.views stop)
     → IfOk r (λ text. text ≡ dump_text (if why then Some stop else None) reading) → IfOk r (IsListing call why reading)
 listed call why reading stop (Ok text) stops is = record {
   stop = stop;
-  is_stop = λ log log_is. subst (λ told. OnContent told (IsStop reading.shape reading.ckpt reading.views stop)) log_is stops;
+  is_stop = λ log log_is. subst (λ told. OnContent told (IsStop (layout_of reading.format reading.shape) reading.ckpt reading.views stop)) log_is stops;
   text_is = is;
 }
 listed call why reading stop (Err error) stops is = tt

@@ -8,7 +8,7 @@ use Rattle.model_script.specs.declared.asked.Drive.{Drive}
 use Rattle.model_device.specs.Disk.{Disk}
 use Rattle.model_report.specs.{dump_text, format_text, recover_text, report_text}
 use Rattle.model_script.specs.{generated_text}
-use Rattle.model_log.specs.{IsStop}
+use Rattle.model_log.specs.{IsStop, layout_of}
 use Rattle.model_log.specs.declared.cause.Cause.{Cause}
 use Rattle.model_store.specs.{IsReading}
 use Rattle.model_store.specs.Reading.{Reading}
@@ -39,7 +39,7 @@ pub record IsReadOff (call : Call) (IsTextOf : Reading → List ℕ → Type 0) 
 -- its listing, and where that is asked why no block is read after these of the log's content
 pub record IsListing (call : Call) (why : Bool) (reading : Reading) (text : List ℕ) : Type 0 where
   pub stop : ℕ × Cause
-  pub is_stop : (log : Disk) → call.log.entry.tells ≡ Some log → IsStop reading.shape reading.ckpt reading.views stop log.reads
+  pub is_stop : (log : Disk) → call.log.entry.tells ≡ Some log → IsStop (layout_of reading.format reading.shape) reading.ckpt reading.views stop log.reads
   pub text_is : text ≡ dump_text (if why then Some stop else None) reading
 
 -- what a fuse tells

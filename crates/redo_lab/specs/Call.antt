@@ -5,7 +5,7 @@ use Rattle.model_script.specs.declared.asked.Command.TheVariants.{Crash}
 use Rattle.model_script.specs.declared.asked.Drive.{Drive}
 use Rattle.model_device.specs.Disk.{Disk}
 use Rattle.model_script.specs.declared.script.ScriptLine.{ScriptLine}
-use Rattle.model_store.specs.{IsFair, Opens}
+use Rattle.model_store.specs.{IsFair, IsFairLog, Opens}
 use Rattle.model_theorem.specs.{IsFresh, Opened, Ran}
 use Rattle.redo_drive.specs.declared.drive.RunEnd.{RunEnd}
 use Rattle.redo_disk.specs.Seen.{Seen}
@@ -51,10 +51,15 @@ WhereOpened call opened P = WhereToldAtEntry call (λ log store.
     IsFresh log call.log.entry.faults → IsFresh store call.store.entry.faults
     → Opens log.reads store.reads opened.shape opened.pages opened.end → P)
 
--- what a crash in the call left of the data device is fair
-abbrev pub IsLeftFair : Call → Opened → Type 0
-IsLeftFair call opened = (pick : ℕ) (from left : Disk) → call.store.fuse.pick ≡ Some pick → call.store.now.crashed_from ≡ Some from
-    → call.store.now.tells ≡ Some left → IsFair opened.shape from left.reads
+-- what a crash in the call left of the device is so
+abbrev pub LeavesFair : Guarded → (Disk → List ℕ → Type 0) → Type 0
+LeavesFair device IsFairOf = (pick : ℕ) (from left : Disk) → device.fuse.pick ≡ Some pick → device.now.crashed_from ≡ Some from
+    → device.now.tells ≡ Some left → IsFairOf from left.reads
+
+-- what a crash in the call left of the two devices is fair
+pub record IsLeftFair (call : Call) (opened : Opened) : Type 0 where
+  pub log : LeavesFair call.log IsFairLog
+  pub store : LeavesFair call.store (IsFair opened.shape)
 
 -- this is so of both devices
 abbrev pub Each : (Guarded → Type 0) → Call → Type 0

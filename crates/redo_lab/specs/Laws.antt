@@ -2,12 +2,11 @@
 use Rattle.std.specs.Prelude.{ℕ, ◌≡◌, List, Option, Some, None}
 use Rattle.model_base.specs.{IsWithinLimits}
 use Rattle.model_base.specs.declared.shape.Shape.{Shape}
-use Rattle.model_device.specs.{IsImage}
 use Rattle.model_device.specs.Disk.{Disk}
 use Rattle.model_parts.specs.{formatted_store, IsFormatted, IsOpenable, KeepsOpened}
 use Rattle.model_script.specs.{first_misfit, ScriptFits}
 use Rattle.model_script.specs.declared.script.ScriptLine.{ScriptLine}
-use Rattle.model_store.specs.{IsFair, IsReading, Refuses}
+use Rattle.model_store.specs.{IsFair, IsFairLog, IsReading, Refuses}
 use Rattle.model_store.specs.Reading.{Reading}
 use Rattle.model_store.specs.declared.refusal.Refusal.{Refusal}
 use Rattle.model_theorem.specs.{Account, before_crash, CrashSafe, failures_of, HeldOlder, IsCrashOf, IsHeld, IsOpenedBefore, Opened, ReadsPrefix, RunSafe}
@@ -22,7 +21,7 @@ pub record Laws : Type 0 where
   pub openable : (reading : Reading) (log store : Disk) → IsOpenable reading log store → KeepsOpened reading log store
   pub formatted : (shape : Shape) (log store : Disk) → IsWithinLimits shape → IsFormatted shape log store → IsOpenable (formatted_store shape) log store
   -- devices that hold a run are read as a prefix of it, and tell that opening came to its end
-  pub held_reads : (held : Held) (log store : List ℕ) → IsHeld held → IsImage held.log_disk log → IsFair held.opened.shape held.data_disk store
+  pub held_reads : (held : Held) (log store : List ℕ) → IsHeld held → IsFairLog held.log_disk log → IsFair held.opened.shape held.data_disk store
       → ReadsPrefix held.script held.opened (Some held.run) log store
   pub held_opened : (held : Held) (armed_from : Disk) → IsHeld held → HeldOlder held.opened.shape held.number armed_from
       → IsOpenedBefore held.opened.shape armed_from held.log_disk (Some held.run)

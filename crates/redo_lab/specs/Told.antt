@@ -40,11 +40,11 @@ pub record IsAccount (call : Call) (command : Command) (drive : Drive) (opened :
   pub loses : LosesOnlyByFailure (mids call) run left
   pub opened_first : IsOpenedFirst call log_met run
 
--- Every image of the two devices that are left is read as a prefix of this run, or of none, where both told and open a store.
+-- Every fair image of the two devices that are left is read as a prefix of this run, or of none, where both told and open a store.
 abbrev pub AreLeftRead : Call → List ScriptLine → Option Ran → Type 0
 AreLeftRead call script run = (store : Opened) → WhereOpened call store (WhereToldNow call (AreReadAsPrefix script store run))
 
--- A run whose devices aren't crashed: they are as it left them, and every image of them is read as a prefix of it.
+-- A run whose devices aren't crashed: they are as it left them, and every fair image of them is read as a prefix of it.
 pub record IsRunText (call : Call) (command : Command) (drive : Drive) (IsTextOf : List ScriptLine → Ran → List (ℕ × ℕ) → List ℕ → Type 0)
     (text : List ℕ) : Type 0 where
   pub opened : Opened
@@ -72,7 +72,7 @@ IsStored call opened log store =
     OpensOrderly log.reads store.reads opened.shape opened.pages opened.end
     ⊎ (OpensUnused log.reads opened.shape opened.pages opened.end × (call.log.fuse.stage ≢ Before))
 
--- Each image of the log device with each fair image of the data device is accepted, and may be opened again.
+-- Each fair image of the two devices is accepted, and may be opened again.
 abbrev pub LeavesStore : Call → Type 0
 LeavesStore call = (opened : Opened) → WhereToldAtEntry call (λ log store.
     IsFresh log call.log.entry.faults → IsFresh store call.store.entry.faults → IsStored call opened log store

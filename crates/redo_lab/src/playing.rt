@@ -7,7 +7,7 @@ ghost use Rattle.model_script.specs.{IsScriptLine};
 ghost use Rattle.model_script.specs.declared.asked.Command.{Command};
 ghost use Rattle.model_script.specs.declared.asked.Drive.{Drive as Asked};
 ghost use Rattle.redo_drive.specs.{room_from};
-ghost use Rattle.redo_drive.specs.Beginning.{MayBegin};
+ghost use Rattle.redo_drive.specs.Startable.{MayBegin};
 ghost use Rattle.redo_io.specs.{SourceSeen};
 ghost use Rattle.redo_memdisk.specs.{entry_of};
 ghost use Rattle.redo_lab.specs.declared.playing.Course.TheVariants as ended;
@@ -20,12 +20,13 @@ ghost use Rattle.redo_lab.specs.Runs.{AreEntered, AreReady, IsRanBy, IsRunning, 
 use crate::faults::fault_of;
 use crate::laws::laws;
 use crate::prepare::prepare;
-use model_base::{BLOCK_SIZE, Shape};
+use model_base::Shape;
 use model_log::BLOCK_HEADER;
 use model_report::{Fault, History, Marks};
 use model_script::{Script, fitting_script};
 use redo_disk::{DevError, Sectors};
 use redo_drive::{Driven, RunEnd};
+use redo_lsn::{round_of, run_layout};
 use redo_machine::{Turns, run_by_turns};
 use redo_memdisk::Fused;
 use redo_open::open_store;
@@ -80,7 +81,7 @@ fn room_from(log_only: bool, shape: &Shape, start: u64) -> Option<u64>
     ensures { result ≡ room_from log_only shape.now start }
 {
     if log_only {
-        Some(start - BLOCK_HEADER + BLOCK_SIZE * u64::from(shape.log_blocks))
+        Some(start - BLOCK_HEADER + round_of(&run_layout(shape)))
     } else {
         None
     }

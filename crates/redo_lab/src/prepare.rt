@@ -19,22 +19,32 @@ use redo_memdisk::Fused;
 use redo_open::format;
 use redo_recover::RecFault;
 
+/// How many bytes the header blocks have, the first and the second, with a checkpoint's between them.
+const HEADS: usize = 1_536;
+
 /// Whether a block is all zero.
-fn is_blank(block: &[u8; 512]) -> bool
+fn is_blank(block: &[u8]) -> bool
     ensures { IsTrue result ↔ block.now ≡ replicate BLOCK_SIZE 0 }
 {
-    *block == [0; 512]
+    block == [0; 512].as_slice()
 }
 
-/// Whether the log device is unused: its first block is all zero.
+/// Whether both header blocks are all zero.
+fn are_blank(blocks: &[u8; HEADS]) -> bool
+    ensures { IsTrue result ↔ IsUnused blocks.now }
+{
+    is_blank(&blocks[..512]) && is_blank(&blocks[1_024..])
+}
+
+/// Whether the log device is unused: its two header blocks are all zero. One read gives both.
 fn is_unused<L: Sectors>(log: &mut L) -> Result<bool, DevError>
     requires { HEADER_BYTES ≤ (L.seen log.old).size }
     ensures unused { IfOk result (λ unused. IfSome (L.seen log.old).tells (λ disk. IsTrue unused ↔ IsUnused disk.reads)) }
     ensures calls { MakesCalls L.gives log.old log.new (IsFirstRead (error_of result)) }
 {
-    let mut block = [0; 512];
-    match log.read(0, &mut block) {
-        Ok(()) => Ok(is_blank(&block)),
+    let mut blocks = [0; HEADS];
+    match log.read(0, &mut blocks) {
+        Ok(()) => Ok(are_blank(&blocks)),
         Err(error) => Err(error),
     }
 }

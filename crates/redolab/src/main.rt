@@ -1,13 +1,12 @@
 // The program: the top call on standard input and output, and on two devices in memory or in files.
 #![tactic(auto)]
 
-ghost use Rattle.std.specs.Prelude.{◌≡◌, [], false, map, replicate, None, Some, IfErr, IfOk};
+ghost use Rattle.std.specs.Prelude.{◌≡◌, [], false, map, None, Some, IfErr, IfOk};
 ghost use Rattle.std.specs.String.{string_bytes};
 ghost use Rattle.model_script.specs.{asked_of};
 ghost use Rattle.model_script.specs.declared.asked.Asked.{Asked};
-ghost use Rattle.model_device.specs.{settled};
 ghost use Rattle.model_report.specs.declared.fault.Fault.TheVariants.{Memory};
-ghost use Rattle.redo_io.specs.{unused};
+ghost use Rattle.redo_memdisk.specs.Memory.{new_memory};
 ghost use Rattle.redo_lab.specs.declared.shapes.TheConstants.{LOG_LENGTH, STORE_LENGTH};
 
 use model_report::Fault;
@@ -54,10 +53,8 @@ fn asks_for_files(alloc: Global, words: &[String]) -> Result<bool, Fault>
 
 /// A log device and a data device in memory.
 fn in_memory(alloc: Global) -> Result<(MemDisk, MemDisk), AllocError>
-    ensures log { IfOk result (λ devices. devices.0
-        ≡ record { disk = settled (replicate LOG_LENGTH 0); crashed_from = None; plan = unused [] }) }
-    ensures store { IfOk result (λ devices. devices.1
-        ≡ record { disk = settled (replicate STORE_LENGTH 0); crashed_from = None; plan = unused [] }) }
+    ensures log { IfOk result (λ devices. devices.0 ≡ new_memory LOG_LENGTH 0 []) }
+    ensures store { IfOk result (λ devices. devices.1 ≡ new_memory STORE_LENGTH 0 []) }
 {
     Ok((
         MemDisk::new(alloc, LOG_LENGTH)?,
