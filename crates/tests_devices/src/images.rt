@@ -40,26 +40,29 @@ fn two_writes(alloc: Global) -> Result<Vec<Write>, AllocError> {
 }
 
 #[test]
-fn the_last_write_counts_by_whole_sectors(rt: HostRuntime) -> Result<(), Fail> {
+fn a_written_sector_may_hold_any_bytes(rt: HostRuntime) -> Result<(), Fail> {
     let alloc = rt.alloc();
     let base = two_sectors(alloc, 0, 7)?;
     let writes = two_writes(alloc)?;
     assert!(rt; are_within(base.len(), writes.as_slice()));
     let after = apply_writes(alloc, base.as_slice(), writes.as_slice())?;
     assert!(rt; after == two_sectors(alloc, 2, 7)?);
-    // what stands at the two offsets in the first sector, and whether that is an image
-    for (front, back, want) in [
-        (0, 0, true),
-        (1, 1, true),
-        (2, 2, true),
-        (1, 0, false),
-        (1, 2, false),
-        (3, 3, false),
+    // what stands at the two offsets in the first sector and in the second one, and whether that is an image
+    for (front, back, second, want) in [
+        (0, 0, 7, true),
+        (2, 2, 7, true),
+        (1, 0, 7, true),
+        (1, 2, 7, true),
+        (3, 9, 7, true),
+        (2, 2, 8, false),
+        (0, 0, 2, false),
     ] {
-        let mut image = two_sectors(alloc, front, 7)?;
+        let mut image = two_sectors(alloc, front, second)?;
         image[256..512].fill(back);
         let found = is_image(base.as_slice(), writes.as_slice(), image.as_slice());
-        assert!(rt; found == want, "{front} and {back}");
+        assert!(rt; found == want, "{front}, {back} and {second}");
     }
+    let short = vec![in alloc; 2; SECTOR]?;
+    assert!(rt; !is_image(base.as_slice(), writes.as_slice(), short.as_slice()));
     Ok(())
 }

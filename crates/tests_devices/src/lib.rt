@@ -14,6 +14,8 @@ mod files;
 #[cfg(test)]
 mod images;
 #[cfg(test)]
+mod logs;
+#[cfg(test)]
 mod memdisk;
 #[cfg(test)]
 mod parts;

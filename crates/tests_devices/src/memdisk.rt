@@ -76,6 +76,66 @@ fn a_crash_keeps_the_sectors_of_its_pick(rt: HostRuntime) -> Result<(), Fail> {
     Ok(())
 }
 
+/// Fills two sectors, so that a crash keeps them, and fills them anew. Answers what a crash leaves of them.
+fn filled_anew_and_crashed<D: Sectors>(device: &mut D, pick: u64) -> Result<[u8; 1024], DevError>
+    requires { 1024 ≤ (D.seen device.old).size }
+{
+    write_and_sync(device, 0, &[0x55; 1024])?;
+    device.write(0, &[0xAA; 1024])?;
+    device.crash(pick);
+    let mut out = [0; 1024];
+    device.read(0, &mut out)?;
+    Ok(out)
+}
+
+/// How many of the first bytes of a sector were written last, where the others are those from before.
+fn count_new(sector: &[u8]) -> Option<usize> {
+    let count = sector.iter().filter(|byte| **byte == 0xAA).count();
+    let is_torn = count <= sector.len()
+        && sector[..count].iter().all(|byte| *byte == 0xAA)
+        && sector[count..].iter().all(|byte| *byte == 0x55);
+    if is_torn { Some(count) } else { None }
+}
+
+/// The same of two sectors.
+fn counts_new(bytes: &[u8; 1024]) -> (Option<usize>, Option<usize>) {
+    (count_new(&bytes[..512]), count_new(&bytes[512..]))
+}
+
+#[test]
+fn a_crash_tears_the_sectors_that_it_loses(rt: HostRuntime) -> Result<(), Fail> {
+    for (cut, pick, want) in [
+        (0, 0, (0, 0)),
+        (100, 0, (100, 100)),
+        (100, 2, (100, 512)),
+        (511, 1, (512, 511)),
+        (1, u64::MAX, (512, 512)),
+    ] {
+        let mut device = MemDisk::tearing(rt.alloc(), 1024, cut)?;
+        let found = filled_anew_and_crashed(&mut device, pick)?;
+        let counts = counts_new(&found);
+        assert!(rt;
+            counts == (Some(want.0), Some(want.1)),
+            "at the cut {cut} and the pick {pick}"
+        );
+    }
+    Ok(())
+}
+
+#[test]
+fn a_device_that_tears_fails_a_named_call(rt: HostRuntime) -> Result<(), Fail> {
+    // the write that fails is pending, and torn by the crash
+    let calls = vec![in rt.alloc(); 2]?;
+    let mut device = MemDisk::tearing_and_failing(rt.alloc(), 1024, 100, calls)?;
+    write_and_sync(&mut device, 0, &[0x55; 1024])?;
+    assert!(rt; device.write(0, &[0xAA; 512]) == Err(DevError::Failed));
+    device.crash(0);
+    let mut out = [0; 1024];
+    device.read(0, &mut out)?;
+    assert!(rt; counts_new(&out) == (Some(100), Some(0)));
+    Ok(())
+}
+
 /// What a call came to: 0 where it did what it was asked, 1 where the device failed, 2 where memory ran out.
 fn code_of<T: Drop>(answer: Result<T, DevError>) -> u8 {
     match answer {

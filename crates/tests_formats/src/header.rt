@@ -1,8 +1,10 @@
 // Header blocks worked out by hand, and their fields damaged one by one.
-use crate::table::{bytes, number, number32, optional, shape};
-use redo_crc::sector::{put, seal};
-use redo_header::{Head, fill_ckpt, fill_head, newer, place_of, read_ckpt, read_head};
-use redo_lsn::Shape;
+use crate::table::{bytes, format, number, number32, optional, shape};
+use redo_crc::sector::{field_u64, put, seal};
+use redo_header::{
+    Format, Head, fill_ckpt, fill_head, newer, place_of, read_ckpt, read_head, read_one_head,
+};
+use redo_lsn::{Shape, layout_of};
 use std::alloc::Global;
 use std::str::SplitWhitespace;
 
@@ -15,58 +17,85 @@ const SHAPE: Shape = Shape {
 };
 
 #[test]
-fn filled_head(rt: HostRuntime) {
+fn filled_heads(rt: HostRuntime) {
     let mut block = [0xFF; 512];
-    fill_head(&mut block, &SHAPE);
-    let front = b"\0\0\0\x01\0\0\0\0\0\0\0\0\0\0\x20\0redolab 1\0\0\0";
-    assert!(rt; block.starts_with(front));
-    let sizes = b"\0\0\x10\0\0\0\0\x08\0\0\0\x01\0\0\x08\0\0\0\0\x08\0";
-    assert!(rt; block[48..].starts_with(sizes));
+    for (format, number) in [(Format::One, b"\0\0\0\x01"), (Format::Two, b"\0\0\0\x02")] {
+        fill_head(&mut block, format, &SHAPE);
+        assert!(rt; block.starts_with(number));
+        let made = b"\0\0\0\0\0\0\0\0\0\0\x20\0redolab 1\0\0\0";
+        assert!(rt; block[4..].starts_with(made));
+        let sizes = b"\0\0\x10\0\0\0\0\x08\0\0\0\x01\0\0\x08\0\0\0\0\x08\0";
+        assert!(rt; block[48..].starts_with(sizes));
+        assert!(rt; read_one_head(&block) == Head::Good(format, SHAPE));
+    }
 }
 
 #[test]
 fn filled_checkpoints(rt: HostRuntime) {
     let mut block = [0xFF; 512];
-    for (number, lsn) in [
-        (0, 8192),
-        (4, 8704),
-        (3, 1_056_768),
-        (u64::MAX, (1 << 60) - 512),
-    ] {
-        fill_ckpt(&mut block, number, lsn, &SHAPE);
-        assert!(rt; read_ckpt(&block, place_of(number), &SHAPE) == Some((number, lsn)));
+    for format in [Format::One, Format::Two] {
+        let layout = layout_of(format, &SHAPE);
+        for (number, lsn) in [
+            (0, 8192),
+            (4, 8704),
+            (3, 1_056_768),
+            (u64::MAX, (1 << 60) - 512),
+        ] {
+            fill_ckpt(&mut block, number, lsn, &layout);
+            assert!(rt; read_ckpt(&block, place_of(number), &layout) == Some((number, lsn)));
+        }
     }
-    fill_ckpt(&mut block, 4, 8704, &SHAPE);
+    fill_ckpt(&mut block, 4, 8704, &layout_of(Format::One, &SHAPE));
     let numbers = b"\0\0\0\0\0\0\0\x04\0\0\0\0\0\0\x22\0\0\0\0\0\0\0\x0A\0\0\0\0\0\0\x01\0\0\0";
     assert!(rt; block.starts_with(numbers));
 }
 
+// Each format names the offset at which its ring starts, and a checkpoint is read by its own format alone.
+#[test]
+fn checkpoints_at_the_first_block(rt: HostRuntime) {
+    let (one, two) = (
+        layout_of(Format::One, &SHAPE),
+        layout_of(Format::Two, &SHAPE),
+    );
+    let mut block = [0; 512];
+    fill_ckpt(&mut block, 0, 8192, &one);
+    assert!(rt; field_u64(&block, 16) == 2048);
+    assert!(rt; read_ckpt(&block, 1, &one) == Some((0, 8192)));
+    assert!(rt; read_ckpt(&block, 1, &two).is_none());
+    fill_ckpt(&mut block, 0, 8192, &two);
+    assert!(rt; field_u64(&block, 16) == 3072);
+    assert!(rt; read_ckpt(&block, 1, &two) == Some((0, 8192)));
+    assert!(rt; read_ckpt(&block, 1, &one).is_none());
+}
+
 // The header of a store: the offset at which other bytes are written, those, what is then read, and what they are.
 const DAMAGED_HEADS: &str = "\
-0    00000000            format 0                       format 0
-0    00000002            format 2                       format 2
-0    FFFFFFFF            format 4294967295              format 2^32 - 1
-0    000000020000000001  format 2                       format 2 and no start
-7    01                  good 4096 8 1 2048 8           the zeros behind the format
-15   01                  unformatted                    start 8193
-8    01                  unformatted                    start 2^56 + 8192
-16   52                  good 4096 8 1 2048 8           another creator
-47   01                  good 4096 8 1 2048 8           the creator's last byte
-50   20                  unformatted                    page size 8192
-51   01                  unformatted                    page size 4097
-55   00                  unformatted                    no page
-55   01                  good 4096 1 1 2048 8           one page
-55   40                  good 4096 64 1 2048 8          64 pages
-55   41                  unformatted                    65 pages
-56   FFFFFFFF            good 4096 8 4294967295 2048 8  space 2^32 - 1
-62   03FF                unformatted                    1,023 log blocks
-62   0400                good 4096 8 1 1024 8           1,024 log blocks
-60   00100000            good 4096 8 1 1048576 8        1,048,576 log blocks
-60   00100001            unformatted                    1,048,577 log blocks
-67   07                  unformatted                    7 slots
-67   09                  unformatted                    9 slots
-68   01                  good 4096 8 1 2048 8           the first zero
-507  01                  good 4096 8 1 2048 8           the last zero
+0    00000000            format 0                         format 0
+0    00000002            good 2 4096 8 1 2048 8           format 2
+0    00000003            format 3                         format 3
+0    FFFFFFFF            format 4294967295                format 2^32 - 1
+0    000000020000000001  unformatted                      format 2 and no start
+0    000000030000000001  format 3                         format 3 and no start
+7    01                  good 1 4096 8 1 2048 8           the zeros behind the format
+15   01                  unformatted                      start 8193
+8    01                  unformatted                      start 2^56 + 8192
+16   52                  good 1 4096 8 1 2048 8           another creator
+47   01                  good 1 4096 8 1 2048 8           the creator's last byte
+50   20                  unformatted                      page size 8192
+51   01                  unformatted                      page size 4097
+55   00                  unformatted                      no page
+55   01                  good 1 4096 1 1 2048 8           one page
+55   40                  good 1 4096 64 1 2048 8          64 pages
+55   41                  unformatted                      65 pages
+56   FFFFFFFF            good 1 4096 8 4294967295 2048 8  space 2^32 - 1
+62   03FF                unformatted                      1,023 log blocks
+62   0400                good 1 4096 8 1 1024 8           1,024 log blocks
+60   00100000            good 1 4096 8 1 1048576 8        1,048,576 log blocks
+60   00100001            unformatted                      1,048,577 log blocks
+67   07                  unformatted                      7 slots
+67   09                  unformatted                      9 slots
+68   01                  good 1 4096 8 1 2048 8           the first zero
+507  01                  good 1 4096 8 1 2048 8           the last zero
 ";
 
 // The block with the bytes of the next two words written in it.
@@ -85,7 +114,7 @@ fn damaged(alloc: Global, block: &[u8; 512], words: &mut SplitWhitespace<'_>) ->
 fn head(words: &mut SplitWhitespace<'_>) -> Option<Head> {
     match words.next()? {
         "format" => Some(Head::OtherFormat(number32(words)?)),
-        "good" => Some(Head::Good(shape(words)?)),
+        "good" => Some(Head::Good(format(words)?, shape(words)?)),
         "unformatted" => Some(Head::Unformatted),
         _ => None,
     }
@@ -95,29 +124,53 @@ fn head(words: &mut SplitWhitespace<'_>) -> Option<Head> {
 fn is_damaged_head(alloc: Global, block: &[u8; 512], row: &str) -> Option<bool> {
     let mut words = row.split_whitespace();
     let mut damaged = damaged(alloc, block, &mut words)?;
-    let was_read = read_head(&damaged);
+    let was_read = read_one_head(&damaged);
     seal(&mut damaged, 508);
-    Some(was_read == Head::Unformatted && read_head(&damaged) == head(&mut words)?)
+    Some(was_read == Head::Unformatted && read_one_head(&damaged) == head(&mut words)?)
 }
 
 #[test]
 fn damaged_heads(rt: HostRuntime) {
     let mut block = [0; 512];
-    fill_head(&mut block, &SHAPE);
+    fill_head(&mut block, Format::One, &SHAPE);
     for row in DAMAGED_HEADS.lines() {
         assert!(rt;
             is_damaged_head(rt.alloc(), &block, row) == Some(true),
             "{row}"
         );
     }
-    assert!(rt; read_head(&block) == Head::Good(SHAPE));
     // A wrong checksum, and zeros.
     block[511] ^= 1;
-    assert!(rt; read_head(&block) == Head::Unformatted);
-    assert!(rt; read_head(&[0; 512]) == Head::Unformatted);
+    assert!(rt; read_one_head(&block) == Head::Unformatted);
+    assert!(rt; read_one_head(&[0; 512]) == Head::Unformatted);
 }
 
-// Checkpoint 4 at lsn 8704, read in one of the two blocks: the offset at which other bytes are written, those, the
+// The second header block counts where the first one's checksum fails, and only there.
+#[test]
+fn heads_in_two_blocks(rt: HostRuntime) {
+    let broken = [0xFF; 512];
+    let (mut first, mut second) = ([0; 512], [0; 512]);
+    for format in [Format::One, Format::Two] {
+        fill_head(&mut second, format, &SHAPE);
+        assert!(rt; read_head(&broken, &second) == Head::Good(format, SHAPE));
+        assert!(rt; read_head(&second, &broken) == Head::Good(format, SHAPE));
+        fill_head(&mut first, Format::One, &SHAPE);
+        assert!(rt; read_head(&first, &second) == Head::Good(Format::One, SHAPE));
+        // Of a format that isn't known.
+        put(&mut first, 0, b"\0\0\0\x03");
+        seal(&mut first, 508);
+        assert!(rt; read_head(&first, &second) == Head::OtherFormat(3));
+        assert!(rt; read_head(&broken, &first) == Head::OtherFormat(3));
+        // With another start.
+        fill_head(&mut first, Format::Two, &SHAPE);
+        put(&mut first, 8, b"\x01");
+        seal(&mut first, 508);
+        assert!(rt; read_head(&first, &second) == Head::Unformatted);
+    }
+    assert!(rt; read_head(&broken, &broken) == Head::Unformatted);
+}
+
+// Checkpoint 4 at lsn 8704 in format 1, read in one of the two blocks: the offset at which other bytes are written, those, the
 // block, what is then read (number and lsn, or nothing), and what they are.
 const DAMAGED_CHECKPOINTS: &str = "\
 7    02                                1  2 8704                  an even number in block 1
@@ -156,25 +209,27 @@ fn is_damaged_checkpoint(alloc: Global, block: &[u8; 512], row: &str) -> Option<
     let mut words = row.split_whitespace();
     let mut damaged = damaged(alloc, block, &mut words)?;
     let which = number32(&mut words)?;
-    let was_read = read_ckpt(&damaged, which, &SHAPE);
+    let layout = layout_of(Format::One, &SHAPE);
+    let was_read = read_ckpt(&damaged, which, &layout);
     seal(&mut damaged, 508);
-    Some(was_read.is_none() && read_ckpt(&damaged, which, &SHAPE) == checkpoint(&mut words)?)
+    Some(was_read.is_none() && read_ckpt(&damaged, which, &layout) == checkpoint(&mut words)?)
 }
 
 #[test]
 fn damaged_checkpoints(rt: HostRuntime) {
+    let layout = layout_of(Format::One, &SHAPE);
     let mut block = [0; 512];
-    fill_ckpt(&mut block, 4, 8704, &SHAPE);
+    fill_ckpt(&mut block, 4, 8704, &layout);
     for row in DAMAGED_CHECKPOINTS.lines() {
         assert!(rt;
             is_damaged_checkpoint(rt.alloc(), &block, row) == Some(true),
             "{row}"
         );
     }
-    assert!(rt; read_ckpt(&block, 1, &SHAPE) == Some((4, 8704)));
+    assert!(rt; read_ckpt(&block, 1, &layout) == Some((4, 8704)));
     // A wrong checksum.
     block[511] ^= 1;
-    assert!(rt; read_ckpt(&block, 1, &SHAPE).is_none());
+    assert!(rt; read_ckpt(&block, 1, &layout).is_none());
 }
 
 #[test]

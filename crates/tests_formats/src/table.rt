@@ -1,5 +1,5 @@
 // The words of a table's row, with blanks between them. Nothing is read of a row that lacks one, or has another word.
-use redo_lsn::Shape;
+use redo_lsn::{Format, Shape};
 use std::alloc::Global;
 use std::str::SplitWhitespace;
 
@@ -33,6 +33,15 @@ pub fn optional(words: &mut SplitWhitespace<'_>) -> Option<Option<u64>> {
 /// Whether the next word is `yes`.
 pub fn yes(words: &mut SplitWhitespace<'_>) -> Option<bool> {
     Some(words.next()? == "yes")
+}
+
+/// The next word as a format's number.
+pub fn format(words: &mut SplitWhitespace<'_>) -> Option<Format> {
+    match words.next()? {
+        "1" => Some(Format::One),
+        "2" => Some(Format::Two),
+        _ => None,
+    }
 }
 
 /// The next five words as the sizes of a store: its page size, pages, space, log blocks and slots.

@@ -1,6 +1,6 @@
 // Calls on devices that hold zeros.
-use crate::calls::has_lines;
-use crate::tables::{play, spelled};
+use crate::calls::{call_on, has_lines, prints};
+use crate::tables::{left_by, play, spelled};
 use std::test::Fail;
 
 #[test]
@@ -109,6 +109,28 @@ fn refuses_a_script_for_which_the_log_alone_has_no_room(rt: HostRuntime) -> Resu
         )?;
         play(&rt, &row)?;
     }
+    Ok(())
+}
+
+/// 28 groups of 8,192 bytes, and the first string of another one. With a second string of 3,646 bytes that has 7,711, and all of them
+/// 237,087.
+const FULL_LOG: &str =
+    "[1 f s 3 38 (07*4050);s 3 38 (07*4050);s 3 38 (07*70) / *28]1 f s 3 38 (07*4050)";
+
+/// In a log of 1,024 blocks, of which 1,022 are the ring, the last lsn at which a group may end is 252923: the end of its block, with
+/// 278,528 more, is one round from 8192 on. A group of one byte more would end in the next block.
+#[test]
+fn runs_the_log_alone_up_to_its_last_byte(rt: HostRuntime) -> Result<(), Fail> {
+    let small = "new | format --log-blocks 1024 | | 0 | formatted 8192";
+    let row = format!(in rt.alloc();
+        "{small}\nsame | crash --log-only | {FULL_LOG};s 4 38 (08*3647) | 10 | fault fit total 252940"
+    )?;
+    play(&rt, &row)?;
+    let script = format!(in rt.alloc(); "{FULL_LOG};s 4 38 (08*3646)")?;
+    let script = spelled(rt.alloc(), &script)?;
+    let called = call_on(&rt, "crash --log-only", &script, left_by(&rt, small)?)?;
+    let lines = ["g 244972 252923 1 28 flushed", "recovered 29 252923"];
+    assert!(rt; prints(&called, lines)?);
     Ok(())
 }
 

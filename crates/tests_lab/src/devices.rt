@@ -1,25 +1,35 @@
 // The devices that calls are made on.
-ghost use Rattle.std.specs.Prelude.{◌≤◌, ◌<◌, ◌^◌};
-ghost use Rattle.model_base.specs.declared.limits.TheConstants.{START_LSN};
+ghost use Rattle.std.specs.Prelude.{◌≡◌, ◌≤◌, ◌<◌, ◌^◌, ◌%◌};
+ghost use Rattle.model_base.specs.declared.limits.TheConstants.{BLOCK_SIZE, START_LSN};
 
 use model_base::{LSN_LIMIT, Shape};
+use model_log::Format;
 use redo_block::fill;
 use redo_crc::sector;
 use redo_disk::{DevError, Sectors};
 use redo_header::{fill_ckpt, fill_head};
 use redo_lab::{LOG_LENGTH, STORE_LENGTH};
+use redo_lsn::layout_of;
 use redo_memdisk::MemDisk;
 use redo_page::seal;
 use std::alloc::{AllocError, Global};
 use std::test::Fail;
 
+/// Where the second header block stands, and the first tail block, which a run writes first.
+pub(crate) const SECOND_HEAD: u64 = 1024;
+
+pub(crate) const FIRST_TAIL: u64 = 2048;
+
 /// Where the block at lsn 8192 stands, and the one after it.
-pub(crate) const FIRST_BLOCK: u64 = 2048;
+pub(crate) const FIRST_BLOCK: u64 = 3072;
 
-pub(crate) const SECOND_BLOCK: u64 = 2560;
+pub(crate) const SECOND_BLOCK: u64 = 3584;
 
-/// Where the block at the last lsn stands: 8704 bytes below the end of a round, since 2^60 is a number of whole rounds.
-const LAST_BLOCK: u64 = 1_041_920;
+/// How many log blocks a round of the default log has.
+const ROUND: u64 = 2046;
+
+/// Where the block at the last lsn stands: it is the one of number 2031 in its round, since 2^51 - 17 blocks come before it.
+const LAST_BLOCK: u64 = 1_042_944;
 
 /// Bytes of a page, and of a slot.
 const PAGE: u64 = 4096;
@@ -42,20 +52,22 @@ pub(crate) fn blank(alloc: Global) -> Result<Devices, AllocError> {
     })
 }
 
-/// Devices of which the log device fails this call.
-fn failing_log(alloc: Global, call: u64) -> Result<Devices, AllocError> {
+/// How many bytes of a sector's write a crash leaves where that is torn.
+pub(crate) const CUT: usize = 100;
+
+/// Such devices, of which a crash tears the sectors that it loses.
+fn tearing(alloc: Global) -> Result<Devices, AllocError> {
     Ok(Devices {
-        log: MemDisk::failing(alloc, LOG_LENGTH, vec![in alloc; call]?)?,
-        store: MemDisk::new(alloc, STORE_LENGTH)?,
+        log: MemDisk::tearing(alloc, LOG_LENGTH, CUT)?,
+        store: MemDisk::tearing(alloc, STORE_LENGTH, CUT)?,
     })
 }
 
-/// Devices of which the data device fails this call.
-fn failing_store(alloc: Global, call: u64) -> Result<Devices, AllocError> {
-    Ok(Devices {
-        log: MemDisk::new(alloc, LOG_LENGTH)?,
-        store: MemDisk::failing(alloc, STORE_LENGTH, vec![in alloc; call]?)?,
-    })
+/// A device of so many zeros, which fails this call, and of which a crash tears the sectors that it loses.
+fn failing(alloc: Global, length: u64, call: u64) -> Result<MemDisk, AllocError>
+    requires { length % BLOCK_SIZE ≡ 0 }
+{
+    MemDisk::tearing_and_failing(alloc, length, CUT, vec![in alloc; call]?)
 }
 
 /// Writes these bytes on a device that has room for them, and doesn't sync them.
@@ -85,22 +97,61 @@ fn put_no_length(log: &mut MemDisk) -> Result<(), DevError> {
     put(log, FIRST_BLOCK, &block)
 }
 
-/// A block whose record has the type 9.
+/// A tail block whose record has the type 9.
 fn put_no_type(log: &mut MemDisk) -> Result<(), DevError> {
     let mut block = [0; 512];
-    fill(&mut block, 8192, &[9], 12, 1);
+    fill(&mut block, 8192, &[9], 12, 0);
+    put(log, FIRST_TAIL, &block)
+}
+
+/// A block with a group of `1 f b1 3 100 7`, which isn't full, in its place.
+fn put_part(log: &mut MemDisk) -> Result<(), DevError> {
+    let mut block = [0; 512];
+    fill(&mut block, 8192, &[0x81, 1, 3, 0, 100, 7], 12, 1);
     put(log, FIRST_BLOCK, &block)
 }
 
-/// The checkpoint of this number, whose place is that of its parity.
-fn put_checkpoint(log: &mut MemDisk, number: u64, lsn: u64) -> Result<(), DevError>
+/// The checkpoint of this number by this format, whose place is that of the number's parity.
+fn put_checkpoint_by(
+    log: &mut MemDisk,
+    format: Format,
+    number: u64,
+    lsn: u64,
+) -> Result<(), DevError>
     requires started { START_LSN ≤ lsn }
     requires small { lsn < 2 ^ 61 }
 {
     let mut checkpoint = [0; 512];
-    fill_ckpt(&mut checkpoint, number, lsn, &Shape::default_shape());
+    let layout = layout_of(format, &Shape::default_shape());
+    fill_ckpt(&mut checkpoint, number, lsn, &layout);
     let at = if number % 2 == 0 { 512 } else { 1536 };
     put(log, at, &checkpoint)
+}
+
+/// The same by format 2.
+fn put_checkpoint(log: &mut MemDisk, number: u64, lsn: u64) -> Result<(), DevError>
+    requires started { START_LSN ≤ lsn }
+    requires small { lsn < 2 ^ 61 }
+{
+    put_checkpoint_by(log, Format::Two, number, lsn)
+}
+
+/// The header of format 1 of the default sizes.
+fn first_head() -> [u8; 512] {
+    let mut head = [0; 512];
+    fill_head(&mut head, Format::One, &Shape::default_shape());
+    head
+}
+
+/// The log of a store of format 1 on which `1 f b1 3 100 7` was run: its header, its newest checkpoint, and its first block,
+/// which stands where format 2 has a tail block.
+fn put_first_format(log: &mut MemDisk) -> Result<(), DevError> {
+    put(log, 0, &first_head())?;
+    put(log, SECOND_HEAD, &[0; 512])?;
+    put_checkpoint_by(log, Format::One, 1, 8192)?;
+    let mut block = [0; 512];
+    fill(&mut block, 8192, &[0x81, 1, 3, 0, 100, 7], 12, 1);
+    put(log, FIRST_TAIL, &block)
 }
 
 /// A checkpoint at the second block, and that block with no group in it.
@@ -114,7 +165,7 @@ fn put_no_group(log: &mut MemDisk) -> Result<(), DevError> {
 /// A sound header of the format 9.
 fn put_other_format(log: &mut MemDisk) -> Result<(), DevError> {
     let mut head = [0; 512];
-    fill_head(&mut head, &Shape::default_shape());
+    fill_head(&mut head, Format::Two, &Shape::default_shape());
     // the last of the format's four bytes
     head[3] = 9;
     sector::seal(&mut head, 508);
@@ -132,7 +183,7 @@ fn put_last_block(log: &mut MemDisk) -> Result<(), DevError> {
 /// A log of full blocks that hold no group, from the checkpoint once round.
 fn put_whole_round(log: &mut MemDisk) -> Result<(), DevError> {
     let mut block = [0; 512];
-    for i in 0..2048u64 {
+    for i in 0..ROUND {
         fill(&mut block, 8192 + 512 * i, &[7; 496], 0, 0);
         put_pending(log, FIRST_BLOCK + 512 * i, &block)?;
     }
@@ -196,8 +247,14 @@ pub(crate) fn shorten(alloc: Global, devices: &mut Devices, name: &str) -> Resul
 /// Changes devices as a name says; `same` leaves them, and any other name that isn't below is refused.
 pub(crate) fn change(devices: &mut Devices, name: &str) -> Result<(), DevError> {
     match name {
+        "first format" => put_first_format(&mut devices.log),
+        "first head lost" => put(&mut devices.log, 0, &[1; 512]),
+        "second head lost" => put(&mut devices.log, SECOND_HEAD, &[1; 512]),
+        "no first head" => put(&mut devices.log, 0, &[0; 512]),
+        "no second head" => put(&mut devices.log, SECOND_HEAD, &[0; 512]),
         "no length" => put_no_length(&mut devices.log),
         "no type" => put_no_type(&mut devices.log),
+        "part in place" => put_part(&mut devices.log),
         "no group" => put_no_group(&mut devices.log),
         "last block" => put_last_block(&mut devices.log),
         "whole round" => put_whole_round(&mut devices.log),
@@ -220,18 +277,24 @@ pub(crate) fn change(devices: &mut Devices, name: &str) -> Result<(), DevError> 
         "last lsn" => put_checkpoint(&mut devices.log, 2, LSN_LIMIT - 512),
         "log pending" => put_pending(&mut devices.log, 512, &[0; 512]),
         "data pending" => put_pending(&mut devices.store, 512, &[0; 512]),
-        "block pending" => put_pending(&mut devices.log, FIRST_BLOCK, &[0; 512]),
+        "block pending" => put_pending(&mut devices.log, FIRST_TAIL, &[0; 512]),
         "page pending" => put_pending(&mut devices.store, PLACE, &page_of(8204)),
         "same" => Ok(()),
         _ => Err(DevError::Failed),
     }
 }
 
-/// New devices, of which one fails a call where the name is `log fails CALL` or `data fails CALL`.
+/// New devices; those of `tearing` tear the sectors that a crash loses, and so do those of `log fails CALL` or
+/// `data fails CALL`, of which one fails a call.
 pub(crate) fn new_devices(alloc: Global, name: &str) -> Result<Devices, Fail> {
+    let mut devices = match name {
+        "new" => blank(alloc)?,
+        _ => tearing(alloc)?,
+    };
     match name.split_once(" fails ") {
-        Some(("log", call)) => Ok(failing_log(alloc, call.parse::<u64>()?)?),
-        Some((_, call)) => Ok(failing_store(alloc, call.parse::<u64>()?)?),
-        None => Ok(blank(alloc)?),
+        Some(("log", call)) => devices.log = failing(alloc, LOG_LENGTH, call.parse::<u64>()?)?,
+        Some((_, call)) => devices.store = failing(alloc, STORE_LENGTH, call.parse::<u64>()?)?,
+        None => {}
     }
+    Ok(devices)
 }

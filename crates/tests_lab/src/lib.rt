@@ -10,6 +10,8 @@ mod devices;
 #[cfg(test)]
 mod failures;
 #[cfg(test)]
+mod formats;
+#[cfg(test)]
 mod invalid_disk;
 #[cfg(test)]
 mod logs;
@@ -29,6 +31,8 @@ mod summaries;
 mod tables;
 #[cfg(test)]
 mod threads;
+#[cfg(test)]
+mod torn;
 #[cfg(test)]
 mod turns;
 #[cfg(test)]

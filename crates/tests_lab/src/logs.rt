@@ -35,8 +35,8 @@ fn lists_the_blocks_of_one_line(rt: HostRuntime) -> Result<(), Fail> {
         &rt,
         "
 new  | run        | 1 f b1 3 100 7 | 0 | open 8204 / g 8204 8210 1 0 flushed / marks 8210 8210 8210 8192
-same | dump       |                | 0 | store 4096 8 1 2048 8 / checkpoint 1 8192 / block 8192 17 18 12 1 / group 8204 8210 1 / rec b1 3 100 7 / end 8210
-same | dump --why |                | 0 | store 4096 8 1 2048 8 / checkpoint 1 8192 / block 8192 17 18 12 1 / stop 8192 partial / group 8204 8210 1 / rec b1 3 100 7 / end 8210
+same | dump       |                | 0 | store 4096 8 1 2048 8 / checkpoint 1 8192 / block 8192 17 18 12 0 / group 8204 8210 1 / rec b1 3 100 7 / end 8210
+same | dump --why |                | 0 | store 4096 8 1 2048 8 / checkpoint 1 8192 / block 8192 17 18 12 0 / stop 8192 partial / group 8204 8210 1 / rec b1 3 100 7 / end 8210
 ",
     )
 }
@@ -47,7 +47,7 @@ fn lists_a_group_of_two_records(rt: HostRuntime) -> Result<(), Fail> {
         &rt,
         "
 new  | run  | 1 f b1 3 100 7;b1 4 100 8 | 0 | open 8204 / g 8204 8217 1 0 flushed / marks 8217 8217 8217 8192
-same | dump |                           | 0 | store 4096 8 1 2048 8 / checkpoint 1 8192 / block 8192 17 25 12 1 / group 8204 8217 2 / rec b1 3 100 7 / rec b1 4 100 8 / end 8217
+same | dump |                           | 0 | store 4096 8 1 2048 8 / checkpoint 1 8192 / block 8192 17 25 12 0 / group 8204 8217 2 / rec b1 3 100 7 / rec b1 4 100 8 / end 8217
 ",
     )
 }
@@ -58,7 +58,7 @@ fn lists_the_blocks_of_a_long_group(rt: HostRuntime) -> Result<(), Fail> {
         &rt,
         "
 new  | run  | 1 f s 3 38 (0a*1193) | 0 | open 8204 / g 8204 9436 1 0 flushed / marks 9436 9436 9436 8192
-same | dump |                      | 0 | store 4096 8 1 2048 8 / checkpoint 1 8192 / block 8192 17 512 12 1 / block 8704 18 512 0 1 / block 9216 19 220 220 1 / group 8204 9436 1 / rec s 3 38 (0a*1193) / end 9436
+same | dump |                      | 0 | store 4096 8 1 2048 8 / checkpoint 1 8192 / block 8192 17 512 12 1 / block 8704 18 512 0 1 / block 9216 19 220 220 0 / group 8204 9436 1 / rec s 3 38 (0a*1193) / end 9436
 ",
     )
 }
@@ -76,6 +76,19 @@ same      | dump --why | | 0 | store 4096 8 1 2048 8 / checkpoint 0 8192 / stop 
     )
 }
 
+/// A block in its place that passes and isn't full is none of the log: such a one stands in a tail block alone.
+#[test]
+fn ends_before_a_block_in_place_that_is_not_full(rt: HostRuntime) -> Result<(), Fail> {
+    play(
+        &rt,
+        "
+new           | format     | | 0 | formatted 8192
+part in place | recover    | | 0 | read 0 8204
+same          | dump --why | | 0 | store 4096 8 1 2048 8 / checkpoint 0 8192 / stop 8192 length / end 8204
+",
+    )
+}
+
 /// The last lsn of a block is 2^60 - 512.
 #[test]
 fn ends_at_the_last_lsn(rt: HostRuntime) -> Result<(), Fail> {
@@ -88,13 +101,13 @@ last block | dump --why | | 0 | store 4096 8 1 2048 8 / checkpoint 2 11529215046
     )
 }
 
-/// Each of the 2,048 blocks was read.
+/// Each of the 2,046 blocks was read.
 #[test]
-fn ends_behind_a_whole_round(rt: HostRuntime) -> Result<(), Fail> {
+fn ends_after_a_whole_round(rt: HostRuntime) -> Result<(), Fail> {
     let mut devices = left_by(&rt, "new | format | | 0 | formatted 8192")?;
     change(&mut devices, "whole round")?;
     let called = call_on(&rt, "dump --why", "", devices)?;
-    assert!(rt; prints(&called, ["stop 1056768 round", "end 1056780"])?);
+    assert!(rt; prints(&called, ["stop 1055744 round", "end 1055756"])?);
     Ok(())
 }
 

@@ -1,6 +1,6 @@
 // Crashes of a script of four lines under every stop, against what the groups that are kept make of the pages.
 use crate::calls::{Called, call_on};
-use crate::devices::Devices;
+use crate::devices::{CUT, Devices};
 use redo_memdisk::MemDisk;
 use std::alloc::{AllocError, Global};
 use std::process::Abort;
@@ -40,6 +40,9 @@ const PICKS: [u64; 3] = [0, EVERY_OTHER, 18_446_744_073_709_551_615];
 
 /// More calls than the opening and four lines make of a device.
 const MANY_CALLS: u64 = 200;
+
+/// So many calls formatting, opening, the four lines and the reading make of a device at the most.
+const MOST_CALLS: u64 = 80;
 
 /// The words that make a small store, and how long its devices are.
 const FORMAT: &str = "format --pages 6 --log-blocks 1024";
@@ -180,18 +183,30 @@ fn is_stopped(report: &str) -> bool {
     report.contains(" lost\n") || report.contains("left ") || report.contains("open none")
 }
 
-/// A crash of the four lines on a small store that was just formatted.
+/// A crash of the four lines on a small store that is formatted on these devices.
+fn crash_on(
+    rt: &(impl AllocGlobal + Threads + Wait + Sync),
+    words: &str,
+    devices: Devices,
+) -> Result<Called, AllocError> {
+    let made = call_on(rt, FORMAT, "", devices)?;
+    if made.status != 0 {
+        return Ok(made);
+    }
+    call_on(rt, words, SCRIPT, made.devices)
+}
+
+/// The same on devices that tear the sectors which a crash loses.
 fn crash(
     rt: &(impl AllocGlobal + Threads + Wait + Sync),
     words: &str,
 ) -> Result<Called, AllocError> {
     let alloc = rt.alloc();
     let devices = Devices {
-        log: MemDisk::new(alloc, SMALL_LOG)?,
-        store: MemDisk::new(alloc, SMALL_STORE)?,
+        log: MemDisk::tearing(alloc, SMALL_LOG, CUT)?,
+        store: MemDisk::tearing(alloc, SMALL_STORE, CUT)?,
     };
-    let made = call_on(rt, FORMAT, "", devices)?;
-    call_on(rt, words, SCRIPT, made.devices)
+    crash_on(rt, words, devices)
 }
 
 /// Crashes under these options with a pick: whether no stop shows in the report. Groups that are printed as flushed are kept,
@@ -263,4 +278,59 @@ fn keeps_flushed_lines_where_the_data_device_stops(rt: HostRuntime) -> Result<()
 #[test]
 fn keeps_flushed_lines_where_both_devices_stop(rt: HostRuntime) -> Result<(), Fail> {
     stop_at_each_call(&rt, "--turns 1 --stop-log @ --stop-data @")
+}
+
+/// Such devices, which also fail these calls, the first of which come in formatting.
+fn failing_devices(
+    alloc: Global,
+    log_calls: Vec<u64>,
+    store_calls: Vec<u64>,
+) -> Result<Devices, AllocError> {
+    Ok(Devices {
+        log: MemDisk::tearing_and_failing(alloc, SMALL_LOG, CUT, log_calls)?,
+        store: MemDisk::tearing_and_failing(alloc, SMALL_STORE, CUT, store_calls)?,
+    })
+}
+
+/// The devices of which this one fails this call.
+fn devices_failing(alloc: Global, device: &str, call: u64) -> Result<Devices, AllocError> {
+    let calls = vec![in alloc; call]?;
+    if device == "log" {
+        failing_devices(alloc, calls, Vec::new(alloc))
+    } else {
+        failing_devices(alloc, Vec::new(alloc), calls)
+    }
+}
+
+/// Crashes with each pick where a device fails one of its calls, each alone. In formatting and in the reading after the crash that
+/// is told by the fault's line alone. Else the crash comes to a report, which is in order.
+pub(crate) fn fail_each_call(
+    rt: &(impl Abort + AllocGlobal + Threads + Wait + Sync),
+    drive: &str,
+    device: &str,
+    status: u8,
+) -> Result<(), Fail> {
+    let alloc = rt.alloc();
+    let fault = format!(in alloc; "fault {device} device\n")?;
+    for call in 0..MOST_CALLS {
+        for pick in PICKS {
+            let words = format!(in alloc; "crash {drive} --pick {pick}")?;
+            let called = crash_on(rt, &words, devices_failing(alloc, device, call)?)?;
+            let report = str::from_utf8(called.sink.bytes())?;
+            let is_told = called.status == status && report == fault.as_str();
+            let is_read = called.status == 0 && is_in_order(alloc, report)?;
+            assert!(rt; is_told || is_read, "at call {call}, {words}: {report}");
+        }
+    }
+    Ok(())
+}
+
+#[test]
+fn keeps_flushed_lines_where_a_call_of_the_log_device_fails(rt: HostRuntime) -> Result<(), Fail> {
+    fail_each_call(&rt, "--turns 1", "log", 6)
+}
+
+#[test]
+fn keeps_flushed_lines_where_a_call_of_the_data_device_fails(rt: HostRuntime) -> Result<(), Fail> {
+    fail_each_call(&rt, "--turns 1", "data", 7)
 }

@@ -40,6 +40,9 @@ new           | format     |                |  0 | formatted 8192
 log of 3      | recover    |                | 10 | fault fit log 2048
 same          | dump       |                | 10 | fault fit log 2048
 same          | run        | 1 f b1 3 100 7 | 10 | fault fit log 2048
+log of 2      | recover    |                | 10 | fault fit log 2048
+same          | run        | 1 f b1 3 100 7 | 10 | fault fit log 2048
+same          | crash      | 1 f b1 3 100 7 | 10 | fault fit log 2048
 new           | format     |                |  0 | formatted 8192
 log of 8      | recover    |                | 10 | fault fit log 1050624
 same          | dump --why |                | 10 | fault fit log 1050624
@@ -67,7 +70,7 @@ fn runs_on_a_store_of_other_sizes(rt: HostRuntime) -> Result<(), Fail> {
         "
 new  | format --pages 4 --space=9 --log-blocks 1024 |                |  0 | formatted 8192
 same | run                                          | 1 f b1 3 100 7 |  0 | open 8204 / g 8204 8210 1 0 flushed / marks 8210 8210 8210 8192
-same | dump                                         |                |  0 | store 4096 4 9 1024 8 / checkpoint 1 8192 / block 8192 17 18 12 1 / group 8204 8210 1 / rec b1 3 100 7 / end 8210
+same | dump                                         |                |  0 | store 4096 4 9 1024 8 / checkpoint 1 8192 / block 8192 17 18 12 0 / group 8204 8210 1 / rec b1 3 100 7 / end 8210
 same | run                                          | 1 f i 4        | 10 | fault fit page 4
 ",
     )
@@ -91,22 +94,22 @@ copy ahead  | recover                        |                | 0 | read 1 8210 
 same        | crash --stop-data 12 --pick 15 | 2 f b1 4 100 8 | 8 | fault store ahead 5 9000
 new         | format                         |                | 0 | formatted 8192
 high number | run                            | 1 f b1 3 100 7 | 0 | open 8204 / g 8204 8210 1 0 flushed / marks 8210 8210 8210 8192
-same        | dump                           |                | 0 | store 4096 8 1 2048 8 / checkpoint 9223372036854775809 8192 / block 8192 17 18 12 1 / group 8204 8210 1 / rec b1 3 100 7 / end 8210
+same        | dump                           |                | 0 | store 4096 8 1 2048 8 / checkpoint 9223372036854775809 8192 / block 8192 17 18 12 0 / group 8204 8210 1 / rec b1 3 100 7 / end 8210
 new         | format                         |                | 0 | formatted 8192
 high lsn    | crash                          | 1 f b1 3 100 7 | 0 | open 1152921503533105164 / g 1152921503533105164 1152921503533105170 1 0 flushed / marks 1152921503533105170 1152921503533105170 1152921503533105170 1152921503533105152 / recovered 1 1152921503533105170 / p 3 1152921503533105170 (00*62)07
 ",
     )
 }
 
-/// After the last number, 2^64 - 1, comes 0, which isn't the newest: the log is read from the old checkpoint on, up to the end
-/// of the run before, and what was flushed since is lost.
+/// After the last number, 2^64 - 1, comes 0, which isn't the newest: the log is read from the old checkpoint on. The tail block that
+/// had the block there has the new run's by then, so nothing is read, and page 3, which opening wrote, is ahead of the log.
 #[test]
-fn loses_what_was_flushed_behind_the_last_checkpoint(rt: HostRuntime) -> Result<(), Fail> {
+fn is_refused_past_the_last_number(rt: HostRuntime) -> Result<(), Fail> {
     play(
         &rt,
         "
 new         | run --log-only   | 1 f b1 3 100 7 | 0 | open 8204 / g 8204 8210 1 0 flushed / marks 8210 8210 8210 8192
-last number | crash --log-only | 2 f b1 4 100 8 | 0 | open 8716 / g 8716 8722 2 0 flushed / marks 8722 8722 8722 8704 / recovered 0 8210 / p 3 8210 (00*62)07
+last number | crash --log-only | 2 f b1 4 100 8 | 8 | fault store ahead 3 8210
 ",
     )
 }

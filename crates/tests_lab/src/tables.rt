@@ -1,7 +1,7 @@
 // Tables of calls. A row is `DEVICES | WORDS | SCRIPT | STATUS | PRINTED`.
 //
-// DEVICES: `new`, `log fails CALL` and `data fails CALL` are new ones, `same` are those that the row above left. `log of SECTORS` and
-// `data of SECTORS` cut one of those, and any other name is a change of them (`change`).
+// DEVICES: `new`, `tearing`, `log fails CALL` and `data fails CALL` are new ones, `same` are those that the row above left.
+// `log of SECTORS` and `data of SECTORS` cut one of those, and any other name is a change of them (`change`).
 // SCRIPT and PRINTED: ` /` ends a line; after the last printed line it is left out. `(07*62)` stands for 62 times `07`, and
 // `[LINE*130]` for 130 times LINE.
 use crate::calls::{Called, call_on};
@@ -49,7 +49,7 @@ fn cell(row: &str) -> (&str, &str) {
 
 /// The devices of a row, after a row that left these.
 fn devices_of(alloc: Global, name: &str, left: Devices) -> Result<Devices, Fail> {
-    if name == "new" || name.contains("fails") {
+    if name == "new" || name == "tearing" || name.contains("fails") {
         return new_devices(alloc, name);
     }
     let mut devices = left;

@@ -1,7 +1,7 @@
 // Runs in threads.
 use crate::calls::{call_gated, prints, source_of, words_of};
 use crate::devices::blank;
-use crate::stops::crash_with_each_pick;
+use crate::stops::{crash_with_each_pick, fail_each_call};
 use redo_io::MemSink;
 use redo_threads::{Gate, Point};
 use std::process::Abort;
@@ -135,4 +135,18 @@ fn keeps_flushed_lines_where_the_data_device_stops_threads(rt: HostRuntime) -> R
 #[test]
 fn keeps_flushed_lines_where_both_devices_stop_threads(rt: HostRuntime) -> Result<(), Fail> {
     stop_threads(&rt, "--threads --stop-log @ --stop-data @")
+}
+
+#[test]
+fn keeps_flushed_lines_where_a_call_of_the_log_device_fails_threads(
+    rt: HostRuntime,
+) -> Result<(), Fail> {
+    fail_each_call(&rt, "--threads", "log", 6)
+}
+
+#[test]
+fn keeps_flushed_lines_where_a_call_of_the_data_device_fails_threads(
+    rt: HostRuntime,
+) -> Result<(), Fail> {
+    fail_each_call(&rt, "--threads", "data", 7)
 }

@@ -1,7 +1,10 @@
 // Small stores: one that was just formatted, and one that its last run left in the middle; and how they are read and opened.
+ghost use Rattle.std.specs.Prelude.{◌≤◌};
+
 use crate::store::Store;
 use model_base::Shape;
 use redo_disk::Sectors;
+use redo_header::Format;
 use redo_memdisk::MemDisk;
 use redo_open::{format, open_store};
 use redo_recover::{RecFault, Recovered, recover};
@@ -21,14 +24,12 @@ pub const SHAPE: Shape = Shape {
 pub const LOG: usize = 526_336;
 /// Bytes of the data device.
 pub const DATA: usize = 4096 * 11;
-/// The lsn of the last block of the log device's first round.
-pub const LAST_BLOCK: u64 = 531_968;
 /// How a group begins that puts 489 bytes at offset 38 of page 1; it has 496 bytes.
-const WHOLE: [u8; 7] = [0x9E, 1, 1, 0, 38, 1, 0xE9];
+pub const WHOLE: [u8; 7] = [0x9E, 1, 1, 0, 38, 1, 0xE9];
 /// A group of 6 bytes: the byte 7 goes to offset 100 of page 0.
 const ONE_BYTE: [u8; 6] = [0x81, 1, 0, 0, 100, 7];
 /// How a group begins that puts 2,000 bytes at offset 38 of page 1.
-const LONG: [u8; 7] = [0x9E, 1, 1, 0, 38, 7, 0xD0];
+pub const LONG: [u8; 7] = [0x9E, 1, 1, 0, 38, 7, 0xD0];
 
 /// What is read off two devices.
 pub fn read(alloc: Global, log: &mut MemDisk, data: &mut MemDisk) -> Result<Recovered, RecFault> {
@@ -66,40 +67,87 @@ pub fn formatted(alloc: Global) -> Result<Store, Fail> {
 }
 
 /// The data of a full block that begins like this.
-fn full(front: &[u8], rest: u8) -> [u8; 496] {
+pub fn full(front: &[u8], rest: u8) -> [u8; 496] {
     let mut bytes = [rest; 496];
     let count = front.len().min(496);
     bytes[..count].copy_from_slice(&front[..count]);
     bytes
 }
 
+/// The lsn of the last block of the log's first round.
+pub fn last_block(format: Format) -> u64
+    ensures started { 8192 ≤ result }
+    ensures small { result ≤ 600000 }
+{
+    match format {
+        Format::One => 531_968,
+        Format::Two => 530_944,
+    }
+}
+
 /// A log that goes round after its checkpoint: a group in the checkpoint's block; one of 6 bytes in the next, and after
 /// it the front of a long one, which goes on over two more blocks and isn't whole; and an old block after those.
 fn put_log(store: &mut Store) {
+    let last = last_block(store.format);
     store.put_head(&SHAPE);
     store.put_ckpt(&SHAPE, 0, 8192);
-    store.put_ckpt(&SHAPE, 1, LAST_BLOCK);
-    store.put_block(&SHAPE, 1, LAST_BLOCK, &full(&WHOLE, 5), true);
+    store.put_ckpt(&SHAPE, 1, last);
+    store.put_block(&SHAPE, 1, last, &full(&WHOLE, 5), true);
     let mut second = full(&ONE_BYTE, 6);
     second[6..13].copy_from_slice(&LONG);
-    store.put_block(&SHAPE, 1, LAST_BLOCK + 512, &second, true);
-    store.put_block(&SHAPE, 1, LAST_BLOCK + 1024, &[6; 496], false);
-    store.put_block(&SHAPE, 1, LAST_BLOCK + 1536, &[6; 100], false);
-    store.put_block(&SHAPE, 1, LAST_BLOCK + 2048, &full(&WHOLE, 9), true);
+    store.put_block(&SHAPE, 1, last + 512, &second, true);
+    store.put_block(&SHAPE, 1, last + 1024, &[6; 496], false);
+    store.put_block(&SHAPE, 1, last + 1536, &[6; 100], false);
+    store.put_block(&SHAPE, 1, last + 2048, &full(&WHOLE, 9), true);
 }
 
 /// A store that its last run left in the middle. The place of page 0 is torn, and two copies of it stand in slots; the
 /// place of page 1 has none of the log's groups; page 2 is in its place.
-pub fn torn_store(alloc: Global) -> Result<Store, Fail> {
+pub fn torn_store(alloc: Global, format: Format) -> Result<Store, Fail> {
     let mut store = Store::filled(alloc, 0, LOG, DATA)?;
+    store.format = format;
+    let last = last_block(format);
     put_log(&mut store);
-    store.put_page(3, 0, LAST_BLOCK + 524, 3);
-    store.put_page(5, 0, LAST_BLOCK + 12, 2);
+    store.put_page(3, 0, last + 524, 3);
+    store.put_page(5, 0, last + 12, 2);
     store.put_page(0, 1, 8600, 4);
-    store.put_page(8, 0, LAST_BLOCK + 524, 3);
+    store.put_page(8, 0, last + 524, 3);
     store.put_page_byte(8, 2048, 1);
     store.put_page(9, 1, 9000, 4);
     store.put_page(10, 2, 9000, 8);
+    Ok(store)
+}
+
+/// The smallest log, and four pages.
+pub const FOUR: Shape = Shape {
+    page_size: 4096,
+    pages: 4,
+    space: 1,
+    log_blocks: 1024,
+    slots: 8,
+};
+/// A group of 6 bytes: the byte 7 goes to offset 100 of page 3.
+pub const GROUP: [u8; 6] = [0x81, 1, 3, 0, 100, 7];
+
+/// Two devices of zeros for a store of four pages of this format.
+pub fn zeros(alloc: Global, format: Format) -> Result<Store, AllocError> {
+    let mut store = Store::filled(alloc, 0, LOG, DATA + 4096)?;
+    store.format = format;
+    Ok(store)
+}
+
+/// Writes both checkpoints of a store of four pages, and the block of a log of one group.
+pub fn put_group(store: &mut Store) {
+    store.put_ckpt(&FOUR, 0, 8192);
+    store.put_ckpt(&FOUR, 1, 8192);
+    store.put_block(&FOUR, 1, 8192, &GROUP, true);
+}
+
+/// A store of four pages that its last run left with one group on the log.
+pub fn group_store(alloc: Global, format: Format) -> Result<Store, AllocError> {
+    let mut store = zeros(alloc, format)?;
+    store.put_head(&FOUR);
+    put_group(&mut store);
     Ok(store)
 }
 

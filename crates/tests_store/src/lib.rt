@@ -6,6 +6,8 @@ mod batches;
 #[cfg(test)]
 mod fixtures;
 #[cfg(test)]
+mod formatting;
+#[cfg(test)]
 mod opening;
 #[cfg(test)]
 mod recovery;

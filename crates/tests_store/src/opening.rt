@@ -2,11 +2,14 @@
 ghost use Rattle.std.specs.Prelude.{IfOk};
 ghost use Rattle.redo_store.specs.{IsRunnable};
 
-use crate::fixtures::{SHAPE, formatted, open_to_end, pages_of, read_back};
+use crate::fixtures::{
+    FOUR, GROUP, SHAPE, WHOLE, formatted, full, group_store, open_to_end, pages_of, read_back,
+};
 use crate::store::Store;
 use model_base::BLOCK_SIZE;
 use redo_block::are_firsts;
 use redo_disk::{DevError, Sectors};
+use redo_header::Format;
 use redo_lsn::{block_of, is_data_lsn, sn_of};
 use redo_memdisk::{Fused, MemDisk};
 use redo_open::open_store;
@@ -150,9 +153,9 @@ fn a_formatted_store_is_blank(rt: HostRuntime) -> Result<(), Fail> {
     Ok(())
 }
 
-/// How many calls of the log device it takes to open the formatted store: two of reading, eight writes of 128 blocks at the
-/// most, a sync, and two for the checkpoint.
-const CALLS: u64 = 2 + 8 + 1 + 2;
+/// How many calls of the log device it takes to open the formatted store: four of reading, two writes of tail blocks and a
+/// sync, eight writes of 128 blocks at the most and a sync, and two for the checkpoint.
+const CALLS: u64 = 4 + (2 + 1) + (8 + 1) + 2;
 
 /// Of three groups a crash loses the second, and the third stands after the log's end. Opening takes it away: a new group
 /// where the second stood is read alone.
@@ -194,6 +197,61 @@ fn a_full_block_without_a_group_is_passed(rt: HostRuntime) -> Result<(), Fail> {
     Ok(())
 }
 
+/// A store of format 1 is one of format 2 once it is opened, under the second checkpoint after the one that was found.
+#[test]
+fn a_store_of_format_1_becomes_one_of_format_2(rt: HostRuntime) -> Result<(), Fail> {
+    let alloc = rt.alloc();
+    let store = group_store(alloc, Format::One)?;
+    let before = read_back(alloc, &store)?;
+    assert!(rt; before.format == Format::One && before.number == 1 && before.end == 8210);
+    assert!(rt; start_of(&rt, &store)? == (8716, 3));
+    let left = crashed(alloc, open_on(&rt, &store, None)?, 0)?;
+    let read = read_back(alloc, &left)?;
+    assert!(rt; read.format == Format::Two && read.shape == FOUR);
+    assert!(rt; read.number == 3 && read.ckpt == 8704 && read.end == 8716);
+    assert!(rt; read.groups.is_empty() && pages_of(alloc, &read)?.as_str() == "3 8210 7;");
+    Ok(())
+}
+
+/// How many blocks are full between the start of a run at 8716 and the block that comes into the place of 8192's.
+const ROUND: u64 = 1_021;
+/// The lsn of that block.
+const NEXT_ROUND: u64 = 8192 + 512 * 1_022;
+
+/// The last block of the log stands in a tail block, and in its own place there is an old one, of which the number is that of
+/// a round on. Opening takes it away: when the log has gone round, the block there is the one of the run.
+#[test]
+fn the_place_of_a_tail_block_is_cleared(rt: HostRuntime) -> Result<(), Fail> {
+    let alloc = rt.alloc();
+    let mut store = group_store(alloc, Format::Two)?;
+    store.put_in_place(&FOUR, 1, NEXT_ROUND, &full(&[9, 1, 1, 0, 100, 7], 0), true);
+    let opened = open_on(&rt, &store, None)?;
+    assert!(rt; opened.start == 8716);
+    let mut left = crashed(alloc, opened, 0)?;
+    for i in 0..ROUND {
+        left.put_block(&FOUR, 2, 8704 + 512 * i, &full(&WHOLE, 5), true);
+    }
+    left.put_block(&FOUR, 2, NEXT_ROUND, &GROUP, true);
+    assert!(rt; groups_of(alloc, &left)? == (1_022, Some(8716), NEXT_ROUND + 18));
+    Ok(())
+}
+
+/// The lsn of a block that is more than a round past the start of a run at 8716.
+const FAR: u64 = 8192 + 512 * 1_100;
+
+/// A tail block holds a block that fits more than a round past the start of the run. Opening takes it away: when the log has
+/// come there by full blocks, and so has its checkpoint, nothing is read.
+#[test]
+fn a_tail_block_of_a_later_round_is_cleared(rt: HostRuntime) -> Result<(), Fail> {
+    let alloc = rt.alloc();
+    let mut store = group_store(alloc, Format::Two)?;
+    store.put_tail(5, FAR, &GROUP, true);
+    let mut left = crashed(alloc, open_on(&rt, &store, None)?, 0)?;
+    left.put_ckpt(&FOUR, 3, FAR);
+    assert!(rt; groups_of(alloc, &left)? == (0, None, FAR + 12));
+    Ok(())
+}
+
 /// Whether opening refuses the store with this fault, and leaves both devices as they were.
 fn is_refused(alloc: Global, store: &Store, want: RecFault) -> Result<bool, Fail> {
     let (log, data) = store.devices(alloc)?;
@@ -215,6 +273,6 @@ fn a_refused_store_stays_as_it_was(rt: HostRuntime) -> Result<(), Fail> {
     store.put_block(&SHAPE, 1, 8192, &[9, 1, 1, 0, 100, 7], true);
     assert!(rt; is_refused(alloc, &store, RecFault::BadRecord(8204))?);
     store.put_sealed(0, &[1]);
-    assert!(rt; is_refused(alloc, &store, RecFault::BadFormat(0x0100_0001))?);
+    assert!(rt; is_refused(alloc, &store, RecFault::BadFormat(0x0100_0002))?);
     Ok(())
 }

@@ -1,7 +1,8 @@
 // Stores that are recovered, and damaged ones that are not.
-use crate::fixtures::read;
+use crate::fixtures::{full, last_block, pages_of, read, read_back, torn_store};
 use crate::store::{NEVER, Store};
 use model_base::Shape;
+use redo_header::Format;
 use redo_recover::RecFault;
 use std::alloc::{AllocError, Global};
 use std::process::Abort;
@@ -14,25 +15,32 @@ const LOG: u64 = 1_050_624;
 const DATA: u64 = 65_536;
 /// A group of one record: the byte 7 goes to offset 100 of page 3.
 const GROUP: [u8; 6] = [0x81, 1, 3, 0, 100, 7];
+/// It and a second one: the byte 8 goes to offset 101.
+const TWO_GROUPS: [u8; 12] = [0x81, 1, 3, 0, 100, 7, 0x81, 1, 3, 0, 101, 8];
 /// How a group begins that puts 489 bytes at offset 38 of page 3.
-const TEXT: [u8; 7] = [0x9e, 1, 3, 0, 38, 1, 0xe9];
+const FULL: [u8; 7] = [0x9e, 1, 3, 0, 38, 1, 0xe9];
 
-// A row has up to three changes of the sound store, and what comes of recovering it: how many groups, up to which lsn, and the
-// lsn of page 5; or where no further block is read, and why; or the fault. The changes are:
+// A row has up to four changes of a sound store, and what comes of recovering it: how many groups, up to which lsn, and the
+// lsn of page 5; where no further block is read, and why, and the tail block in which the last one was found; or the fault. The
+// changes are:
 //     log AT BYTE            a byte of the log device, without its sector's checksum
 //     sealed AT BYTE BYTE    two bytes of the log device, and its sector's checksum
+//     head BLOCK FORMAT      the header of format 1 or 2 in a header block
+//     tail BLOCK LSN TEXT    the block at this lsn in a tail block, with a text that is named below
+//     place LSN TEXT         the same in its place
 //     data SLOT AT BYTE      a byte of a slot or place; 13 is the place of page 5
 //     page SLOT PAGE LSN     the page of this number, sealed with an lsn in this slot or place
 //     log_sectors COUNT      the log device is so long; the sound one has 2052
 //     data_sectors COUNT     the data device is so long; the sound one has 128
 
-/// Changes of the header. 16777217 is the format 0x01000001.
+/// Changes of the header of a store of format 1, whose block 2 is unused. 16777217 is the format 0x01000001.
 const HEADER: &str = "\
                         | 1 8722 8600
     log 20 1            | NotFormatted
     log 510 1           | NotFormatted
     sealed 20 1 1       | 1 8722 8600
-    sealed 2 0 2        | BadFormat(2)
+    sealed 2 0 2        | NoCheckpoint
+    sealed 2 0 3        | BadFormat(3)
     sealed 0 1 0        | BadFormat(16777217)
     sealed 4 1 1        | 1 8722 8600
     sealed 14 32 1      | NotFormatted
@@ -47,13 +55,19 @@ const HEADER: &str = "\
     sealed 66 0 7       | NotFormatted
     sealed 300 1 1      | 1 8722 8600
     sealed 2 0 9        | BadFormat(9)
+    head 2 2            | 1 8722 8600
+    sealed 2 0 9, head 2 1 | BadFormat(9)
+    log 20 1, head 2 1  | 1 8722 8600
+    log 20 1, head 2 2  | NoCheckpoint
+    log 20 1, head 2 2, sealed 1026 0 3 | BadFormat(3)
+    log_sectors 2       | SmallLog(2048)
     log_sectors 3       | SmallLog(2048)
     log_sectors 8       | SmallLog(1050624)
     log_sectors 2051    | SmallLog(1050624)
     data_sectors 120    | SmallData(65536)
     data_sectors 127    | SmallData(65536)";
 
-/// Changes of the checkpoints and of the log's blocks.
+/// Changes of the checkpoints and of the log's blocks in format 1.
 const BLOCKS: &str = "\
     log 1536 1          | 2 8722 8600
     sealed 1542 0 2     | 2 8722 8600
@@ -82,9 +96,9 @@ const BLOCKS: &str = "\
     sealed 2564 0 13, sealed 2572 31 1 | BadRecord(8716)
     sealed 2564 0 19, sealed 2576 100 129, sealed 2578 0 0 | BadRecord(8716)";
 
-/// Where no further block is read of the same stores, and why.
+/// Where no further block is read of the same stores, and why; no block is found in a tail.
 const STOPS: &str = "\
-                        | (8704, Partial)
+                        | (8704, Partial) None
     sealed 2562 0 19    | (8704, Misfit(Number))
     sealed 2564 2 1     | (8704, Misfit(Length))
     sealed 2564 0 11    | (8704, Misfit(Length))
@@ -93,6 +107,58 @@ const STOPS: &str = "\
     log 2562 1          | (8704, Misfit(Number))
     sealed 2564 2 0, sealed 2566 0 0   | (9216, Misfit(Number))
     sealed 1550 64 0, sealed 1558 40 0 | (16384, Misfit(Number))";
+
+/// Changes of the headers of a store of format 2, and how long its log device is.
+const HEADS: &str = "\
+                        | 1 8722 8600
+    log 20 1            | 1 8722 8600
+    log 1044 1          | 1 8722 8600
+    head 2 1            | 1 8722 8600
+    log 20 1, log 1044 1 | NotFormatted
+    log 20 1, head 2 1  | NoCheckpoint
+    head 0 1            | NoCheckpoint
+    sealed 2 0 3        | BadFormat(3)
+    log 20 1, sealed 1026 0 3 | BadFormat(3)
+    log 512 1, log 1536 1 | NoCheckpoint
+    log_sectors 3       | SmallLog(2048)
+    log_sectors 2051    | SmallLog(1050624)";
+
+/// Changes of the blocks of a store of format 2. Its last one stands in block 4; bytes 2052..2054 have the length, 2054..2056 the
+/// first offset, 2056..2060 the turn. The place of that block is at 3584.
+const TAILS: &str = "\
+                              | 1 8722 8600 (8704, Partial) Some(4)
+    log 1536 1                | 2 8722 8600 (8704, Partial) Some(4)
+    log 2100 1                | 0 8716 8600 (8704, Misfit(Number)) None
+    sealed 2058 0 1           | 0 8716 8600 (8704, Misfit(Number)) None
+    sealed 2056 1 0           | 0 8716 8600 (8704, Misfit(Number)) None
+    sealed 2052 2 0           | 0 8716 8600 (8704, Misfit(Number)) None
+    sealed 2054 0 0           | 0 9228 8600 (8704, Partial) Some(4)
+    sealed 2054 0 13          | 0 8717 8600 (8704, Partial) Some(4)
+    sealed 2052 0 13, sealed 2060 31 1 | BadRecord(8716)
+    sealed 2052 0 19, sealed 2064 100 129, sealed 2066 0 0 | BadRecord(8716)
+    sealed 1558 10 0          | 2 8722 8600 (8704, Partial) Some(4)
+    sealed 1550 64 0, sealed 1558 44 0 | 0 16396 8600 (16384, Misfit(Number)) None
+    tail 4 9216 one           | 0 8716 8600 (8704, Misfit(Number)) None
+    tail 5 9216 two           | 1 8722 8600 (8704, Partial) Some(4)
+    tail 5 8704 two           | 2 8728 8600 (8704, Partial) Some(5)
+    tail 5 8704 short         | 1 8722 8600 (8704, Partial) Some(4)
+    tail 5 8704 six           | 1 8722 8600 (8704, Partial) Some(4)
+    tail 4 8704 six, tail 5 8704 one | BadRecord(8716)
+    tail 4 8704 short, tail 5 8704 one | 1 8722 8600 (8704, Partial) Some(5)
+    tail 5 8704 two, log 2660 1 | 1 8722 8600 (8704, Partial) Some(4)
+    tail 5 8704 two, sealed 2570 0 1 | 1 8722 8600 (8704, Partial) Some(4)
+    tail 5 8704 two, sealed 2564 2 0 | 1 8722 8600 (8704, Partial) Some(4)
+    tail 5 8704 one, sealed 2058 0 1 | 1 8722 8600 (8704, Partial) Some(5)
+    place 8704 two            | 1 8722 8600 (8704, Partial) Some(4)
+    place 8704 two, log 2100 1 | 0 8716 8600 (8704, Misfit(Length)) None
+    place 8704 two, log 2100 1, log 3700 1 | 0 8716 8600 (8704, Misfit(Checksum)) None
+    place 8704 two, log 2100 1, sealed 3590 0 11 | 0 8716 8600 (8704, Misfit(First)) None
+    place 8704 full           | 1 9228 8600 (9216, Misfit(Number)) None
+    place 8704 full, log 3700 1 | 1 8722 8600 (8704, Partial) Some(4)
+    place 8704 full, place 9216 one | 1 9228 8600 (9216, Misfit(Length)) None
+    place 8704 full, tail 5 9216 one | 2 9234 8600 (9216, Partial) Some(5)
+    log 1536 1, log 3172 1, page 13 5 8200 | 0 8204 8200 (8192, Misfit(Checksum)) None
+    log 1536 1, log 3172 1, page 13 5 8200, tail 5 8192 one | 1 8210 8200 (8192, Partial) Some(5)";
 
 /// Changes of the place and of the copies of page 5.
 const PAGES: &str = "\
@@ -120,18 +186,30 @@ const PAGES: &str = "\
     page 10 5 8600                | PageLost(2)
     page 9 1 9000, data 10 0 1    | PageLost(2)";
 
-/// A sound store of the default shape. The checkpoint 0 is at 8,192 and 1 at 8,704, with a full block at the first and a group
+/// How the text begins that has this name, and how many bytes it has: a group, two, one byte of a group, six bytes that are
+/// none, and a group that fills a block.
+fn text_of(name: &str) -> Option<(&'static [u8], usize)> {
+    match name {
+        "one" => Some((&GROUP, 6)),
+        "two" => Some((&TWO_GROUPS, 12)),
+        "short" => Some((&GROUP, 1)),
+        "six" => Some((&[], 6)),
+        "full" => Some((&FULL, 496)),
+        _ => None,
+    }
+}
+
+/// A sound store of the default shape and of this format. The checkpoint 0 is at 8,192 and 1 at 8,704, with a full block at the first and a group
 /// of 6 bytes at the second. Page 5 has the lsn 8,600 in its place and 8,500 in slot 1; the other pages were never written.
-fn sound_store(alloc: Global) -> Result<Store, AllocError> {
+fn sound_store(alloc: Global, format: Format) -> Result<Store, AllocError> {
     let shape = Shape::default_shape();
-    let mut store = Store::filled(alloc, 0, 4096, DATA as usize)?;
+    let mut store = Store::filled(alloc, 0, 8192, DATA as usize)?;
+    store.format = format;
     store.log_length = LOG;
     store.put_head(&shape);
     store.put_ckpt(&shape, 0, 8192);
     store.put_ckpt(&shape, 1, 8704);
-    let mut text = [5; 496];
-    text[..7].copy_from_slice(&TEXT);
-    store.put_block(&shape, 0, 8192, &text, true);
+    store.put_block(&shape, 0, 8192, &full(&FULL, 5), true);
     store.put_block(&shape, 1, 8704, &GROUP, true);
     store.put_page(13, 5, 8600, 3);
     store.put_page(1, 5, 8500, 3);
@@ -159,6 +237,24 @@ fn change(store: &mut Store, change: &str) -> Option<()> {
         "log" => store.put_log_byte(at, byte(&mut words)?),
         "sealed" => store.put_sealed(at, &[byte(&mut words)?, byte(&mut words)?]),
         "data" => store.put_page_byte(at, number(&mut words)?, byte(&mut words)?),
+        "head" => {
+            let format = match byte(&mut words)? {
+                1 => Format::One,
+                _ => Format::Two,
+            };
+            store.put_head_block(at, format, &Shape::default_shape());
+        }
+        "tail" => {
+            let lsn = u64::from(number(&mut words)?);
+            let (front, count) = text_of(words.next()?)?;
+            store.put_tail(at, lsn, &full(front, 5)[..count.min(496)], true);
+        }
+        "place" if 8192 <= at => {
+            let (front, count) = text_of(words.next()?)?;
+            let text = full(front, 5);
+            let shape = Shape::default_shape();
+            store.put_in_place(&shape, 1, u64::from(at), &text[..count.min(496)], true);
+        }
         "page" => {
             let page = number(&mut words)?;
             store.put_page(at, u32::from(page), u64::from(number(&mut words)?), 3);
@@ -170,8 +266,8 @@ fn change(store: &mut Store, change: &str) -> Option<()> {
     Some(())
 }
 
-/// What comes of recovering a store: how many groups, up to which lsn, the lsn of page 5, and where no further block is read
-/// and why; or the fault.
+/// What comes of recovering a store: how many groups, up to which lsn, the lsn of page 5, where no further block is read and why,
+/// and the tail block in which the last one was found; or the fault.
 fn outcome(alloc: Global, store: &Store) -> Result<String, Fail> {
     let (mut log, mut data) = store.devices(alloc)?;
     let read = match read(alloc, &mut log, &mut data) {
@@ -184,41 +280,74 @@ fn outcome(alloc: Global, store: &Store) -> Result<String, Fail> {
         0
     };
     let (count, end, stop) = (read.groups.len(), read.end, read.stop);
-    Ok(format!(in alloc; "{count} {end} {lsn} {stop:?}")?)
+    let tail = read.tail.map(|tail| tail.which);
+    Ok(format!(in alloc; "{count} {end} {lsn} {stop:?} {tail:?}")?)
 }
 
-/// Whether what a row says comes of the sound store with the changes of the row.
-fn holds(alloc: Global, row: &str) -> Result<bool, Fail> {
+/// Whether what a row says comes of the sound store of this format with the changes of the row.
+fn holds(alloc: Global, format: Format, row: &str) -> Result<bool, Fail> {
     let (changes, want) = row.split_once('|').ok_or("no outcome")?;
-    let mut store = sound_store(alloc)?;
+    let mut store = sound_store(alloc, format)?;
     for one in changes.split(',') {
         change(&mut store, one).ok_or("no change")?;
     }
     Ok(outcome(alloc, &store)?.contains(want.trim()))
 }
 
-#[test]
-fn damaged_stores_are_judged(rt: HostRuntime) -> Result<(), Fail> {
-    for table in [HEADER, BLOCKS, STOPS, PAGES] {
+/// Sees that each row of these tables holds of a store of this format.
+fn see_rows(rt: &(impl Abort + AllocGlobal), format: Format, tables: &[&str]) -> Result<(), Fail> {
+    for table in tables {
         for row in table.lines() {
-            assert!(rt; holds(rt.alloc(), row)?, "{row}");
+            assert!(rt; holds(rt.alloc(), format, row)?, "{row}");
         }
     }
     Ok(())
 }
 
-/// A device that fails a call of recovery ends it at once.
+#[test]
+fn damaged_stores_of_format_1_are_judged(rt: HostRuntime) -> Result<(), Fail> {
+    see_rows(&rt, Format::One, &[HEADER, BLOCKS, STOPS, PAGES])
+}
+
+#[test]
+fn damaged_stores_of_format_2_are_judged(rt: HostRuntime) -> Result<(), Fail> {
+    see_rows(&rt, Format::Two, &[HEADS, TAILS, PAGES])
+}
+
+/// A device that fails a call of recovery ends it at once. The log device's calls are its header, in format 2 its tail blocks,
+/// and a stretch of blocks; the first two of each device fill it.
 #[test]
 fn ends_at_a_failing_call(rt: HostRuntime) -> Result<(), Fail> {
-    let store = sound_store(rt.alloc())?;
-    for (log_fails, data_fails, want) in [
-        (2, NEVER, RecFault::LogDev),
-        (3, NEVER, RecFault::LogDev),
-        (NEVER, 2, RecFault::DataDev),
+    for (format, log_fails, data_fails, want) in [
+        (Format::One, 2, NEVER, Some(RecFault::LogDev)),
+        (Format::One, 3, NEVER, Some(RecFault::LogDev)),
+        (Format::One, 4, NEVER, None),
+        (Format::Two, 2, NEVER, Some(RecFault::LogDev)),
+        (Format::Two, 3, NEVER, Some(RecFault::LogDev)),
+        (Format::Two, 4, NEVER, Some(RecFault::LogDev)),
+        (Format::Two, 5, NEVER, None),
+        (Format::Two, NEVER, 2, Some(RecFault::DataDev)),
     ] {
+        let store = sound_store(rt.alloc(), format)?;
         let (mut log, mut data) = store.failing(rt.alloc(), log_fails, data_fails)?;
         let fault = read(rt.alloc(), &mut log, &mut data).err();
-        assert!(rt; fault == Some(want), "at {log_fails} and {data_fails}");
+        assert!(rt; fault == want, "{format:?} at {log_fails} and {data_fails}");
+    }
+    Ok(())
+}
+
+/// A log that goes round after its checkpoint is read up to its end in both formats.
+#[test]
+fn reads_the_torn_store(rt: HostRuntime) -> Result<(), Fail> {
+    for (format, pages) in [
+        (Format::One, "0 532498 7;1 532492 5;2 9000 8;"),
+        (Format::Two, "0 531474 7;1 531468 5;2 9000 8;"),
+    ] {
+        let read = read_back(rt.alloc(), &torn_store(rt.alloc(), format)?)?;
+        let last = last_block(format);
+        assert!(rt; read.format == format && read.number == 1 && read.ckpt == last);
+        assert!(rt; read.groups.len() == 2 && read.end == last + 530);
+        assert!(rt; pages_of(rt.alloc(), &read)?.as_str() == pages);
     }
     Ok(())
 }

@@ -1,7 +1,11 @@
-// Opening that stops at each call of a device, and that is tried again after that.
-use crate::fixtures::{LAST_BLOCK, open_to_end, pages_of, read, read_back, torn_store};
+// Opening that stops at each call of a device, and that is tried again after that, on devices that tear sectors.
+use crate::fixtures::{
+    FOUR, GROUP, LONG, group_store, last_block, open_to_end, pages_of, put_group, read, torn_store,
+    zeros,
+};
 use crate::store::Store;
 use redo_disk::Sectors;
+use redo_header::Format;
 use redo_memdisk::{Fused, MemDisk};
 use redo_recover::RecFault;
 use std::alloc::Global;
@@ -9,15 +13,19 @@ use std::process::Abort;
 use std::test::Fail;
 
 /// Which sector writes since the last good sync a crash keeps: none, all, and every other one.
-const PICKS: [u64; 3] = [0, u64::MAX, 0x5555_5555_5555_5555];
+const PICKS: [u64; 4] = [0, u64::MAX, 0x5555_5555_5555_5555, 0xAAAA_AAAA_AAAA_AAAA];
 
-/// The calls of the log device: the header is read and two stretches of blocks, of which one goes to the log's end; 1,022
-/// blocks are cleared by writes of 128 at the most, and synced; and the checkpoint is written and synced.
-const LOG_CALLS: u64 = 3 + (8 + 1) + 2;
+/// How many first bytes of a sector a crash leaves that loses the rest.
+const CUT: usize = 100;
 
-/// The calls of the data device: the slots and three places are read; after a sync one place is repaired, by a write and a
-/// sync, and two pages are written by five calls.
-const DATA_CALLS: u64 = (1 + 3) + 1 + 2 + 5;
+/// What is to be read of a store at each stop, and once it is opened.
+#[derive(Clone, Copy)]
+struct Kept<'a> {
+    /// The pages.
+    pages: &'a str,
+    /// Where a run on it starts.
+    start: u64,
+}
 
 /// Opens a store on devices that pass so many calls, and crashes both. Gives the fault that opening ended with.
 fn open_and_crash(
@@ -37,66 +45,140 @@ fn open_and_crash(
 }
 
 /// Sees that opening with such a stop ends with this fault and leaves these pages, and that opening once more leaves them
-/// too, with no group to be read.
+/// too, by format 2 and with no group to be read.
 fn see_stop(
     rt: &(impl Abort + AllocGlobal),
     store: &Store,
     limits: (Option<u64>, Option<u64>),
     pick: u64,
-    pages: &str,
+    kept: Kept,
     want: Option<RecFault>,
 ) -> Result<(), Fail> {
     let alloc = rt.alloc();
-    let (mut log, mut data, fault) = open_and_crash(alloc, store.devices(alloc)?, limits, pick);
-    let is_kept = pages_of(alloc, &read(alloc, &mut log, &mut data)?)?.as_str() == pages;
+    let devices = store.tearing(alloc, CUT)?;
+    let (mut log, mut data, fault) = open_and_crash(alloc, devices, limits, pick);
+    let is_kept = pages_of(alloc, &read(alloc, &mut log, &mut data)?)?.as_str() == kept.pages;
     assert!(rt;
         is_kept && fault == want,
-        "at {limits:?} with the pick {pick}"
+        "{fault:?} at {limits:?} with the pick {pick}"
     );
     let (mut log, mut data, _) = open_and_crash(alloc, (log, data), (None, None), 0);
     let read = read(alloc, &mut log, &mut data)?;
-    let is_opened = read.ckpt == LAST_BLOCK + 1024 && read.end == LAST_BLOCK + 1036;
-    let is_kept = pages_of(alloc, &read)?.as_str() == pages;
+    let is_opened = read.format == Format::Two && read.end == kept.start;
+    let is_kept = pages_of(alloc, &read)?.as_str() == kept.pages;
     assert!(rt;
         is_opened && is_kept && read.groups.is_empty(),
-        "after {limits:?}"
+        "after {limits:?} with the pick {pick}"
     );
     Ok(())
+}
+
+/// Sees it at each call of the log device, of which opening makes so many.
+fn see_log_stops(
+    rt: &(impl Abort + AllocGlobal),
+    store: &Store,
+    calls: u64,
+    kept: Kept,
+) -> Result<(), Fail> {
+    for count in 0..calls {
+        for pick in PICKS {
+            let want = Some(RecFault::LogDev);
+            see_stop(rt, store, (Some(count), None), pick, kept, want)?;
+        }
+    }
+    see_stop(rt, store, (Some(calls), None), 0, kept, None)
 }
 
 /// What is read of the pages of the torn store: the group of one byte is applied to the copy of page 0, the whole one to
 /// page 1.
-const PAGES: &str = "0 532498 7;1 532492 5;2 9000 8;";
+fn torn_kept(format: Format) -> Kept<'static> {
+    let start = last_block(format) + 1036;
+    match format {
+        Format::One => Kept {
+            pages: "0 532498 7;1 532492 5;2 9000 8;",
+            start,
+        },
+        Format::Two => Kept {
+            pages: "0 531474 7;1 531468 5;2 9000 8;",
+            start,
+        },
+    }
+}
+
+/// The calls of the log device for the torn store of format 2: the header is read, two stretches of blocks, of which one
+/// goes to the log's end, and the tail blocks; then the header blocks, which are alike. One tail block is cleared, and
+/// synced; then 1,020 blocks by writes of 128 at the most, the place of the block in the other tail block, and that one, and
+/// synced; and the checkpoint is written and synced.
+const TORN_CALLS: u64 = (1 + 2 + 1) + 1 + (1 + 1) + (8 + 2 + 1) + 2;
+
+/// The calls for a store of format 1 after that of the blocks, of which 1,022 or 1,023 are cleared: the first checkpoint is
+/// written and synced; all 1,024 blocks are cleared by writes of 128, and synced; and the second checkpoint and the header
+/// in both its blocks are written and synced.
+const MIGRATION_CALLS: u64 = 2 + (8 + 1) + 3 * 2;
+
+/// Those for the torn store of format 1, of which no header stands in block 2.
+const OLD_CALLS: u64 = (1 + 2) + 1 + 2 + (8 + 1) + MIGRATION_CALLS;
+
+/// The calls of the data device: the slots and three places are read; after a sync one place is repaired, by a write and a
+/// sync, and two pages are written by five calls.
+const DATA_CALLS: u64 = (1 + 3) + 1 + 2 + 5;
 
 #[test]
 fn a_stop_of_the_log_device_leaves_the_pages(rt: HostRuntime) -> Result<(), Fail> {
-    let store = torn_store(rt.alloc())?;
-    for calls in 0..LOG_CALLS {
-        for pick in PICKS {
-            let want = Some(RecFault::LogDev);
-            see_stop(&rt, &store, (Some(calls), None), pick, PAGES, want)?;
-        }
-    }
-    see_stop(&rt, &store, (Some(LOG_CALLS), None), 0, PAGES, None)
+    let store = torn_store(rt.alloc(), Format::Two)?;
+    see_log_stops(&rt, &store, TORN_CALLS, torn_kept(Format::Two))
+}
+
+#[test]
+fn a_stop_of_migration_leaves_the_pages(rt: HostRuntime) -> Result<(), Fail> {
+    let store = torn_store(rt.alloc(), Format::One)?;
+    see_log_stops(&rt, &store, OLD_CALLS, torn_kept(Format::One))
 }
 
 #[test]
 fn a_stop_of_the_data_device_leaves_the_pages(rt: HostRuntime) -> Result<(), Fail> {
-    let store = torn_store(rt.alloc())?;
-    for calls in 0..DATA_CALLS {
-        for pick in PICKS {
-            let want = Some(RecFault::DataDev);
-            see_stop(&rt, &store, (None, Some(calls)), pick, PAGES, want)?;
+    for format in [Format::One, Format::Two] {
+        let store = torn_store(rt.alloc(), format)?;
+        let kept = torn_kept(format);
+        for calls in 0..DATA_CALLS {
+            for pick in PICKS {
+                let want = Some(RecFault::DataDev);
+                see_stop(&rt, &store, (None, Some(calls)), pick, kept, want)?;
+            }
         }
+        see_stop(&rt, &store, (None, Some(DATA_CALLS)), 0, kept, None)?;
     }
-    see_stop(&rt, &store, (None, Some(DATA_CALLS)), 0, PAGES, None)
+    Ok(())
 }
 
+/// Of the block in which the run starts, block 4 has the front of a group that isn't whole, and block 5 a shorter version
+/// with another group. That group is read at no stop.
 #[test]
-fn reads_the_torn_store(rt: HostRuntime) -> Result<(), Fail> {
-    let read = read_back(rt.alloc(), &torn_store(rt.alloc())?)?;
-    assert!(rt; read.number == 1 && read.ckpt == LAST_BLOCK);
-    assert!(rt; read.groups.len() == 2 && read.end == LAST_BLOCK + 530);
-    assert!(rt; pages_of(rt.alloc(), &read)?.as_str() == PAGES);
-    Ok(())
+fn a_stop_shows_no_shorter_tail_block(rt: HostRuntime) -> Result<(), Fail> {
+    let mut store = group_store(rt.alloc(), Format::Two)?;
+    store.put_tail(5, 8192, &GROUP, true);
+    let mut front = [7; 18];
+    front[..7].copy_from_slice(&LONG);
+    store.put_tail(4, 8192, &front, true);
+    let kept = Kept {
+        pages: "",
+        start: 8204,
+    };
+    let calls = (1 + 1 + 1) + 1 + (1 + 1) + (8 + 2 + 1) + 2;
+    see_log_stops(&rt, &store, calls, kept)
+}
+
+/// The only header of a store of format 1 stands in block 2. It is put into block 0 before the one of format 2 comes over
+/// it, so that each stop leaves one.
+#[test]
+fn a_stop_leaves_a_header(rt: HostRuntime) -> Result<(), Fail> {
+    let mut store = zeros(rt.alloc(), Format::One)?;
+    store.put_head_block(2, Format::One, &FOUR);
+    put_group(&mut store);
+    let kept = Kept {
+        pages: "3 8210 7;",
+        start: 8716,
+    };
+    let calls = (1 + 1) + 1 + 2 + (8 + 1) + MIGRATION_CALLS;
+    see_log_stops(&rt, &store, calls, kept)
 }

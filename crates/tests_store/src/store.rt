@@ -6,8 +6,8 @@ use model_base::Shape;
 use redo_block::fill;
 use redo_crc::crc32c;
 use redo_disk::{DevError, Sectors};
-use redo_header::{fill_ckpt, fill_head};
-use redo_lsn::offset_of;
+use redo_header::{Format, fill_ckpt, fill_head};
+use redo_lsn::{layout_of, offset_of};
 use redo_memdisk::MemDisk;
 use redo_page::seal;
 use std::alloc::{AllocError, Global};
@@ -18,6 +18,8 @@ pub const NEVER: u64 = u64::MAX;
 /// What stands at the front of the two devices of a store, after which are zeros, and how long they are.
 #[derive(Drop)]
 pub struct Store {
+    /// The format by which headers, checkpoints and blocks are put there.
+    pub format: Format,
     pub log: Vec<u8>,
     pub log_length: u64,
     pub data: Vec<u8>,
@@ -34,15 +36,34 @@ fn put(device: &mut Vec<u8>, at: usize, bytes: &[u8])
 }
 
 /// A device of this length that begins with these bytes, as far as there is room. It fails the call of this number; the first
-/// two are the ones that fill it.
-fn device_of(alloc: Global, bytes: &[u8], length: u64, fails: u64) -> Result<MemDisk, DevError> {
+/// two are the ones that fill it. Of a sector that a crash loses it keeps so many of the first bytes.
+fn device_of(
+    alloc: Global,
+    bytes: &[u8],
+    length: u64,
+    fails: u64,
+    cut: usize,
+) -> Result<MemDisk, DevError>
+    requires { cut < 512 }
+{
     let mut calls = Vec::new(alloc);
     calls.push(fails)?;
-    let mut device = MemDisk::failing(alloc, length / 512 * 512, calls)?;
+    let mut device = MemDisk::tearing_and_failing(alloc, length / 512 * 512, cut, calls)?;
     let count = (bytes.len() as u64).min(device.len()) / 512 * 512;
     device.write(0, &bytes[..count as usize])?;
     device.sync()?;
     Ok(device)
+}
+
+/// The block at this lsn with these bytes, as far as there is room, under the checkpoint of this number.
+fn block_of(lsn: u64, bytes: &[u8], has_group: bool, number: u32) -> [u8; 512]
+    requires { lsn ≤ 1048576 }
+{
+    let mut sector = [0; 512];
+    let count = bytes.len().min(496);
+    let first = if has_group { 12 } else { 0 };
+    fill(&mut sector, lsn, &bytes[..count], first, number);
+    sector
 }
 
 /// The bytes that stand on a device.
@@ -54,9 +75,10 @@ fn bytes_of(alloc: Global, device: &mut MemDisk) -> Result<Vec<u8>, DevError> {
 }
 
 impl Store {
-    /// Two devices of so many bytes, of which each is this one.
+    /// Two devices of so many bytes, of which each is this one, for a store of format 2.
     pub fn filled(alloc: Global, byte: u8, log: usize, data: usize) -> Result<Store, AllocError> {
         Ok(Store {
+            format: Format::Two,
             log: vec![in alloc; byte; log]?,
             log_length: log as u64,
             data: vec![in alloc; byte; data]?,
@@ -67,6 +89,7 @@ impl Store {
     /// What stands on these devices.
     pub fn of(alloc: Global, log: &mut MemDisk, data: &mut MemDisk) -> Result<Store, DevError> {
         Ok(Store {
+            format: Format::Two,
             log: bytes_of(alloc, log)?,
             log_length: log.len(),
             data: bytes_of(alloc, data)?,
@@ -86,44 +109,87 @@ impl Store {
         log_fails: u64,
         data_fails: u64,
     ) -> Result<(MemDisk, MemDisk), DevError> {
-        let log = device_of(alloc, &self.log, self.log_length, log_fails)?;
-        let data = device_of(alloc, &self.data, self.data_length, data_fails)?;
+        let log = device_of(alloc, &self.log, self.log_length, log_fails, 0)?;
+        let data = device_of(alloc, &self.data, self.data_length, data_fails, 0)?;
         Ok((log, data))
     }
 
-    /// Writes the header of a store of these sizes.
-    pub fn put_head(&mut self, shape: &Shape) {
-        let mut sector = [0; 512];
-        fill_head(&mut sector, shape);
-        put(&mut self.log, 0, &sector);
+    /// The same, which tear the sectors that a crash loses: so many of the first bytes stay.
+    pub fn tearing(&self, alloc: Global, cut: usize) -> Result<(MemDisk, MemDisk), DevError>
+        requires { cut < 512 }
+    {
+        let log = device_of(alloc, &self.log, self.log_length, NEVER, cut)?;
+        let data = device_of(alloc, &self.data, self.data_length, NEVER, cut)?;
+        Ok((log, data))
     }
 
-    /// Writes the checkpoint of this number, 0 or 1.
+    /// Writes the header of a store of these sizes: into block 0, and in format 2 also into block 2.
+    pub fn put_head(&mut self, shape: &Shape) {
+        self.put_head_block(0, self.format, shape);
+        match self.format {
+            Format::One => {}
+            Format::Two => self.put_head_block(2, Format::Two, shape),
+        }
+    }
+
+    /// Writes the header of a store of this format and of these sizes into this header block.
+    pub fn put_head_block(&mut self, which: u16, format: Format, shape: &Shape) {
+        let mut sector = [0; 512];
+        fill_head(&mut sector, format, shape);
+        put(&mut self.log, 512 * usize::from(which), &sector);
+    }
+
+    /// Writes the checkpoint of this number.
     pub fn put_ckpt(&mut self, shape: &Shape, number: u64, lsn: u64)
         requires many_blocks { MIN_LOG_BLOCKS ≤ shape.now.log_blocks }
         requires few_blocks { shape.now.log_blocks ≤ MAX_LOG_BLOCKS }
-        requires few { number < 2 }
         requires started { 8192 ≤ lsn }
         requires small { lsn ≤ 1048576 }
     {
         let mut sector = [0; 512];
-        fill_ckpt(&mut sector, number, lsn, shape);
-        put(&mut self.log, 512 + 1024 * number as usize, &sector);
+        fill_ckpt(&mut sector, number, lsn, &layout_of(self.format, shape));
+        put(&mut self.log, 512 + 1024 * (number % 2) as usize, &sector);
     }
 
-    /// Writes the block at this lsn under the checkpoint of this number, with a group that begins there or none.
+    /// Writes the block at this lsn under the checkpoint of this number, with a group that begins there or none: one that
+    /// isn't full into a tail block in format 2, each other into its place.
     pub fn put_block(&mut self, shape: &Shape, number: u32, lsn: u64, bytes: &[u8], has_group: bool)
         requires many_blocks { MIN_LOG_BLOCKS ≤ shape.now.log_blocks }
         requires few_blocks { shape.now.log_blocks ≤ MAX_LOG_BLOCKS }
         requires started { 8192 ≤ lsn }
         requires small { lsn ≤ 1048576 }
     {
-        let mut sector = [0; 512];
-        let count = bytes.len().min(496);
-        let first = if has_group { 12 } else { 0 };
-        fill(&mut sector, lsn, &bytes[..count], first, number);
-        let at = offset_of(lsn, shape.log_blocks);
+        match self.format {
+            Format::Two if bytes.len() < 496 => self.put_tail(4, lsn, bytes, has_group),
+            _ => self.put_in_place(shape, number, lsn, bytes, has_group),
+        }
+    }
+
+    /// Writes the block into its place, whether it is full or not.
+    pub fn put_in_place(
+        &mut self,
+        shape: &Shape,
+        number: u32,
+        lsn: u64,
+        bytes: &[u8],
+        has_group: bool,
+    )
+        requires many_blocks { MIN_LOG_BLOCKS ≤ shape.now.log_blocks }
+        requires few_blocks { shape.now.log_blocks ≤ MAX_LOG_BLOCKS }
+        requires started { 8192 ≤ lsn }
+        requires small { lsn ≤ 1048576 }
+    {
+        let sector = block_of(lsn, bytes, has_group, number);
+        let at = offset_of(lsn, &layout_of(self.format, shape));
         put(&mut self.log, at as usize, &sector);
+    }
+
+    /// Writes the block into the tail block of this number, as it stands there in the first turn of the numbers of blocks.
+    pub fn put_tail(&mut self, which: u16, lsn: u64, bytes: &[u8], has_group: bool)
+        requires { lsn ≤ 1048576 }
+    {
+        let sector = block_of(lsn, bytes, has_group, 0);
+        put(&mut self.log, 512 * usize::from(which), &sector);
     }
 
     /// Writes a byte of the log device.

@@ -4,6 +4,7 @@ ghost use Rattle.std.specs.Prelude.{◌≤◌};
 use crate::fixtures::{pages_of, torn_store};
 use crate::store::Store;
 use model_base::Shape;
+use redo_header::Format;
 use redo_recover::recover_with;
 use std::alloc::{AllocError, Global};
 use std::test::Fail;
@@ -48,8 +49,13 @@ fn one_group_is_applied_by_two_workers(rt: HostRuntime) -> Result<(), Fail> {
 /// Three pages of different lsns, by two workers and by more than there are pages.
 #[test]
 fn a_torn_store_is_read_by_several_workers(rt: HostRuntime) -> Result<(), Fail> {
-    let store = torn_store(rt.alloc())?;
-    assert!(rt; pages_by(&rt, &store, 2)?.as_str() == "0 532498 7;1 532492 5;2 9000 8;");
-    assert!(rt; pages_by(&rt, &store, 16)?.as_str() == "0 532498 7;1 532492 5;2 9000 8;");
+    for (format, pages) in [
+        (Format::One, "0 532498 7;1 532492 5;2 9000 8;"),
+        (Format::Two, "0 531474 7;1 531468 5;2 9000 8;"),
+    ] {
+        let store = torn_store(rt.alloc(), format)?;
+        assert!(rt; pages_by(&rt, &store, 2)?.as_str() == pages);
+        assert!(rt; pages_by(&rt, &store, 16)?.as_str() == pages);
+    }
     Ok(())
 }

@@ -13,7 +13,7 @@ const DEFAULT: Shape = Shape {
     slots: SLOTS,
 };
 // Where a log that no checkpoint frees has one round of room.
-const ROOM_END: Option<u64> = Some(1_056_768);
+const ROOM_END: Option<u64> = Some(1_055_744);
 
 // What is judged of a script for a store of the default sizes whose run starts after its first block header.
 fn judged(alloc: Global, text: &str, room_end: Option<u64>) -> Result<String, Fail> {

@@ -1,5 +1,5 @@
 // Runs in threads that end.
-use super::store::{Device, left_by};
+use super::store::{Device, LOG_CALLS, left_by};
 use model_report::Entry;
 use model_report::State::{Flushed, Lost};
 use redo_drive::Closed;
@@ -75,10 +75,6 @@ fn no_user_is_waited_for(rt: HostRuntime) -> Result<(), Fail> {
     }
     Ok(())
 }
-
-/// How many calls of the log device the opening of a new store makes: the header is read, and the one stretch of blocks at
-/// which the log ends; 2,048 blocks are cleared by writes of 128, and synced; the checkpoint is written and synced.
-const LOG_CALLS: u64 = 2 + (16 + 1) + 2;
 
 /// The log device fails where the group is written: the user is never answered.
 #[test]

@@ -2,11 +2,11 @@
 ghost use Rattle.std.specs.Prelude.{IfOk, ◌<◌, ◌^◌, ◌≡◌, ◌≤◌};
 ghost use Rattle.model_base.specs.{IsWithinLimits};
 ghost use Rattle.model_log.specs.declared.layout.TheConstants.{BLOCK_HEADER};
-ghost use Rattle.redo_drive.specs.Beginning.{room_from};
+ghost use Rattle.redo_drive.specs.Startable.{room_from};
 ghost use Rattle.redo_store.specs.{IsRunnable};
 
 use model_base::{BLOCK_SIZE, Shape};
-use model_log::BLOCK_HEADER;
+use model_log::{BLOCK_HEADER, TAIL_BLOCKS};
 use model_script::{Script, fitting_script, read_lines_are_ranged};
 use redo_drive::{Closed, Driven, RunEnd};
 use redo_memdisk::{Fused, MemDisk};
@@ -25,6 +25,11 @@ pub type Device = Fused<MemDisk>;
 
 /// Bytes of the log device: four header blocks, and 2,048 log blocks.
 const LOG: u64 = 1_050_624;
+
+/// How many calls of the log device the opening of a new store makes: the header blocks are read, the tail blocks, and the one
+/// stretch of blocks at which the log ends, and then the two blocks of the header once more; the tail blocks are cleared by a
+/// write each, and synced; 2,046 blocks are cleared by writes of 128, and synced; the checkpoint is written and synced.
+pub const LOG_CALLS: u64 = 4 + (2 + 1) + (16 + 1) + 2;
 
 /// Bytes of the data device: the slots, and the places of eight pages.
 const DATA: u64 = 65_536;
@@ -57,7 +62,8 @@ pub fn room_end(log_only: bool, shape: &Shape, start: u64) -> Option<u64>
     ensures { result ≡ room_from log_only shape.now start }
 {
     if log_only {
-        Some(start - BLOCK_HEADER + BLOCK_SIZE * u64::from(shape.log_blocks))
+        let blocks = u64::from(shape.log_blocks) - TAIL_BLOCKS;
+        Some(start - BLOCK_HEADER + BLOCK_SIZE * blocks)
     } else {
         None
     }

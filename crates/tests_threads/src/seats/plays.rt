@@ -1,9 +1,9 @@
 // Runs of seats that one thread plays in turn.
 ghost use Rattle.std.specs.Prelude.{◌≤◌};
 
-use super::store::{DATA_CALLS, LOG_CALLS, SOUND, Way};
+use super::store::{DATA_CALLS, SOUND, Way};
 use super::turns::left_by;
-use crate::store::Device;
+use crate::store::{Device, LOG_CALLS};
 use model_base::{PAGE_SIZE, SLOTS};
 use model_report::Marks;
 use model_report::State::{Flushed, Lost, Written};

@@ -11,10 +11,6 @@ use std::alloc::Global;
 use std::process::Abort;
 use std::test::Fail;
 
-/// How many calls of the log device the opening of a new store makes: the header is read, and the one stretch of blocks at
-/// which the log ends; 2,048 blocks are cleared by writes of 128, and synced; the checkpoint is written and synced.
-pub const LOG_CALLS: u64 = 2 + (16 + 1) + 2;
-
 /// How many calls of the data device it makes: the slots and eight places are read, and there is a sync.
 pub const DATA_CALLS: u64 = (1 + 8) + 1;
 
