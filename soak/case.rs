@@ -8,7 +8,7 @@ use crate::listing::read_of;
 use crate::lsn::start_after;
 use crate::making::{draw_full_script, draw_script, spoil_fit, spoil_text, text_of};
 use crate::options::Options;
-use crate::program::{Call, Program};
+use crate::program::{Call, Program, words_of};
 use crate::report::Report;
 use crate::script::{Line, misfit};
 use std::path::Path;
@@ -243,10 +243,6 @@ impl Case<'_> {
         self.tally.refused += 1;
         call.answers(2, "fault words\n")
     }
-}
-
-pub fn words_of(text: &str) -> Vec<String> {
-    text.split_whitespace().map(str::to_string).collect()
 }
 
 /// The turns were spent while this user hadn't ended.

@@ -1,9 +1,9 @@
 //! Calls on one store in files, of which each opens what the last one left.
 
-use crate::case::{Case, Left, words_of};
+use crate::case::{Case, Left};
 use crate::checking::Store;
 use crate::listing::{check_dump, check_recover, read_of};
-use crate::lsn::BLOCK;
+use crate::program::words_of;
 use crate::script::{DEFAULT_SHAPE, Shape};
 use std::fs;
 
@@ -109,7 +109,7 @@ impl<'a, 'b> Chain<'a, 'b> {
                 };
             }
         }
-        let round = BLOCK * u64::from(self.store.shape.log_blocks);
+        let round = self.store.shape.ring();
         self.case.tally.rounds += u64::from(self.store.end / round > store.end / round);
         if !self.case.draws.once_in(3) {
             self.read()?;
@@ -131,7 +131,7 @@ impl<'a, 'b> Chain<'a, 'b> {
             return call.answers(8, "fault store unformatted\n");
         }
         call.has_succeeded()?;
-        let groups = check_dump(&mut self.store, &call.printed)?;
+        let groups = check_dump(&mut self.store, 2, &call.printed)?;
         let call = self.case.call(&words_of("recover --files"), "")?;
         call.has_succeeded()?;
         check_recover(&self.store, &read_of(&call.printed)?, groups)

@@ -70,7 +70,7 @@ pub struct Asked<'a> {
     pub keeps_all: bool,
 }
 
-fn ensure(holds: bool, message: impl FnOnce() -> String) -> Result<(), String> {
+pub fn ensure(holds: bool, message: impl FnOnce() -> String) -> Result<(), String> {
     if holds { Ok(()) } else { Err(message()) }
 }
 
@@ -219,7 +219,7 @@ fn fits_mode(state: State, mode: Mode) -> bool {
     }
 }
 
-fn is_boundary(report: &Report, start: u64, lsn: u64) -> bool {
+pub fn is_boundary(report: &Report, start: u64, lsn: u64) -> bool {
     lsn == start || report.entries.iter().any(|entry| entry.end == lsn)
 }
 
@@ -308,7 +308,7 @@ fn check_end(
 }
 
 /// Adds the run's groups up to this end to what is known.
-fn take_groups(known: &mut Store, script: &[Line], report: &Report, end: u64) {
+pub fn take_groups(known: &mut Store, script: &[Line], report: &Report, end: u64) {
     for entry in report.entries.iter().filter(|entry| entry.end <= end) {
         let line = lines_of(script, entry.user)[entry.number];
         known.pages.apply(&line.ops, entry.end);

@@ -56,8 +56,8 @@ struct Block {
     checkpoint: u64,
 }
 
-/// Checks what `dump` prints, and says how many groups it lists.
-pub fn check_dump(store: &mut Store, text: &str) -> Result<usize, String> {
+/// Checks what `dump` prints of a store of this format, and says how many groups it lists.
+pub fn check_dump(store: &mut Store, format: u64, text: &str) -> Result<usize, String> {
     let mut lines = text.split_inclusive('\n').peekable();
     let shape = &store.shape;
     let wanted = format!(
@@ -84,7 +84,7 @@ pub fn check_dump(store: &mut Store, text: &str) -> Result<usize, String> {
             checkpoint,
         });
     }
-    check_blocks(store, &blocks, number)?;
+    check_blocks(store, format, &blocks, number)?;
     let listed: Vec<&Logged> = store
         .log
         .iter()
@@ -141,8 +141,10 @@ fn firsts(store: &Store) -> HashMap<u64, u64> {
     firsts
 }
 
-fn check_blocks(store: &Store, blocks: &[Block], number: u64) -> Result<(), String> {
+fn check_blocks(store: &Store, format: u64, blocks: &[Block], number: u64) -> Result<(), String> {
     let firsts = firsts(store);
+    // a tail block tells how often the numbers went round, and no checkpoint
+    let is_tail = |block: &Block| format == 2 && block.length != BLOCK;
     let mut lsn = store.checkpoint;
     let mut newest = 0;
     for (place, block) in blocks.iter().enumerate() {
@@ -152,7 +154,11 @@ fn check_blocks(store: &Store, blocks: &[Block], number: u64) -> Result<(), Stri
             && block.number == lsn / BLOCK % (1 << 30) + 1
             && (block.length == BLOCK || is_last && (BLOCK_HEADER..508).contains(&block.length))
             && block.first == first
-            && (newest..=number).contains(&block.checkpoint);
+            && if is_tail(block) {
+                block.checkpoint == lsn >> 39
+            } else {
+                (newest..=number).contains(&block.checkpoint)
+            };
         if !is_block {
             return Err(format!(
                 "`dump` lists a block at {} that isn't there",

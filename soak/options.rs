@@ -89,7 +89,7 @@ impl Options {
     }
 }
 
-fn draw_turns(draws: &mut Draws) -> Option<u64> {
+pub fn draw_turns(draws: &mut Draws) -> Option<u64> {
     match draws.below(4) {
         0 => None,
         1 => Some(draws.below(100)),

@@ -50,6 +50,10 @@ impl Call {
     }
 }
 
+pub fn words_of(text: &str) -> Vec<String> {
+    text.split_whitespace().map(str::to_string).collect()
+}
+
 impl Program {
     pub fn new(path: PathBuf) -> Program {
         Program { path }
@@ -57,8 +61,20 @@ impl Program {
 
     /// Calls the program in this folder.
     pub fn call(&self, folder: &Path, words: &[String], script: &str) -> Result<Call, String> {
+        self.call_with(folder, words, script, &[])
+    }
+
+    /// Calls the program in this folder, with these variables of the environment.
+    pub fn call_with(
+        &self,
+        folder: &Path,
+        words: &[String],
+        script: &str,
+        variables: &[(&str, String)],
+    ) -> Result<Call, String> {
         let mut child = Command::new(&self.path)
             .args(words)
+            .envs(variables.iter().map(|(name, value)| (name, value)))
             .current_dir(folder)
             .stdin(Stdio::piped())
             .stdout(Stdio::piped())

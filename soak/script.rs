@@ -127,6 +127,13 @@ pub struct Shape {
     pub log_blocks: u32,
 }
 
+impl Shape {
+    /// How many bytes of the log its blocks hold: two of them are for the tails.
+    pub fn ring(&self) -> u64 {
+        BLOCK * (u64::from(self.log_blocks) - 2)
+    }
+}
+
 pub const DEFAULT_SHAPE: Shape = Shape {
     pages: 8,
     space: 1,
@@ -136,7 +143,7 @@ pub const DEFAULT_SHAPE: Shape = Shape {
 pub const USER_START: u64 = 38;
 pub const USER_END: u64 = 4_088;
 pub const MOST_USERS: u32 = 16;
-const MOST_BYTES: u64 = 8_192;
+pub const MOST_BYTES: u64 = 8_192;
 const MARGIN: u64 = 278_528;
 
 /// The words of the first quantity that doesn't fit, where a run would start at this lsn.
@@ -158,7 +165,7 @@ pub fn misfit(script: &[Line], shape: &Shape, start: u64, log_only: bool) -> Opt
         total += length;
     }
     let end = behind(start, total);
-    let room = start - BLOCK_HEADER + BLOCK * u64::from(shape.log_blocks);
+    let room = start - BLOCK_HEADER + shape.ring();
     (log_only && room < end + MARGIN).then(|| format!("total {end}"))
 }
 

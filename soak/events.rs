@@ -1,0 +1,93 @@
+//! The calls that a program made on its two files, as `writes.c` tells of them.
+
+use std::ops::Range;
+
+pub const LOG: usize = 0;
+pub const DATA: usize = 1;
+pub const DEVICES: [usize; 2] = [LOG, DATA];
+
+/// The bytes of each event before those of its write.
+const HEADER: usize = 24;
+
+/// A write, with its place and its bytes.
+pub struct Write {
+    pub at: usize,
+    pub bytes: Vec<u8>,
+}
+
+impl Write {
+    pub fn put(&self, content: &mut Vec<u8>) {
+        let end = self.at + self.bytes.len();
+        if content.len() < end {
+            content.resize(end, 0);
+        }
+        content[self.at..end].copy_from_slice(&self.bytes);
+    }
+}
+
+pub enum What {
+    Seek,
+    Write(Write),
+    /// A sync that succeeded.
+    Sync,
+}
+
+pub struct Event {
+    pub device: usize,
+    pub what: What,
+}
+
+fn number(bytes: &[u8], range: Range<usize>) -> usize {
+    usize::from_le_bytes(bytes[range].try_into().unwrap())
+}
+
+/// The events of a file that `writes.c` has written.
+pub fn events_of(mut bytes: &[u8]) -> Result<Vec<Event>, String> {
+    let mut events = Vec::new();
+    while !bytes.is_empty() {
+        let header = bytes.get(..HEADER).ok_or("an event that is cut off")?;
+        bytes = &bytes[HEADER..];
+        let (at, length) = (number(header, 8..16), number(header, 16..24));
+        let what = match header[0] {
+            b's' => What::Seek,
+            b'f' => What::Sync,
+            _ => {
+                if !(at.is_multiple_of(512) && length.is_multiple_of(512)) {
+                    return Err(format!("a write of {length} bytes at {at}"));
+                }
+                let mut content = vec![0; length];
+                if header[2] == 0 {
+                    let written = bytes.get(..length).ok_or("a write that is cut off")?;
+                    content.copy_from_slice(written);
+                    bytes = &bytes[length..];
+                }
+                What::Write(Write { at, bytes: content })
+            }
+        };
+        events.push(Event {
+            device: usize::from(header[1]),
+            what,
+        });
+    }
+    Ok(events)
+}
+
+/// How often the device was called: each read and write seeks its place first.
+pub fn calls_of(events: &[Event], device: usize) -> u64 {
+    let is_call = |event: &&Event| event.device == device && !matches!(event.what, What::Write(_));
+    events.iter().filter(is_call).count() as u64
+}
+
+/// The writes of the device.
+pub fn writes_of(events: &[Event], device: usize) -> impl Iterator<Item = &Write> {
+    events.iter().filter_map(move |event| match &event.what {
+        What::Write(write) if event.device == device => Some(write),
+        _ => None,
+    })
+}
+
+/// How many of the events come up to the last good sync of the device, that sync among them.
+pub fn synced(events: &[Event], device: usize) -> usize {
+    let is_sync = |event: &Event| event.device == device && matches!(event.what, What::Sync);
+    events.iter().rposition(is_sync).map_or(0, |last| last + 1)
+}

@@ -1,0 +1,280 @@
+//! The log device of both formats: its heads, checkpoints and blocks; and a store of format 2 made one of format 1.
+
+use crate::crc::{SECTOR, field, fits_sector, put_field, seal_sector};
+use crate::draws::Draws;
+use crate::lsn::{BLOCK, BLOCK_HEADER, block_of};
+use crate::script::Shape;
+
+const START: u64 = 8_192;
+/// The sectors of the heads; format 1 has the first alone.
+pub const HEADS: [usize; 2] = [0, 2];
+/// The sectors of the checkpoints of even and odd number.
+const CHECKPOINTS: [usize; 2] = [1, 3];
+/// The sectors of the tail blocks of format 2.
+const TAILS: [usize; 2] = [4, 5];
+const BUFFER: u64 = 65_536;
+/// A block of this length at the most isn't full.
+const MOST_PART: u64 = 507;
+
+/// Sector of the device, of zeros where it ends before.
+fn sector(log: &[u8], number: usize) -> &[u8] {
+    log.get(number * SECTOR..(number + 1) * SECTOR)
+        .unwrap_or(&[0; SECTOR])
+}
+
+fn put_sector(log: &mut [u8], number: usize, bytes: &[u8]) {
+    log[number * SECTOR..(number + 1) * SECTOR].copy_from_slice(bytes);
+}
+
+#[derive(Clone, Copy, Debug, PartialEq)]
+pub struct Head {
+    pub format: u64,
+    pub shape: Shape,
+}
+
+impl Head {
+    fn of(bytes: &[u8]) -> Option<Head> {
+        let is_head = fits_sector(bytes) && field(bytes, 8, 8) == START;
+        is_head.then(|| Head {
+            format: field(bytes, 0, 4),
+            shape: Shape {
+                pages: field(bytes, 52, 4) as u32,
+                space: field(bytes, 56, 4) as u32,
+                log_blocks: field(bytes, 60, 4) as u32,
+            },
+        })
+    }
+
+    /// The head of the first of both sectors whose checksum fits.
+    pub fn of_log(log: &[u8]) -> Option<Head> {
+        let whole = HEADS
+            .map(|number| sector(log, number))
+            .into_iter()
+            .find(|bytes| fits_sector(bytes));
+        whole.and_then(Head::of)
+    }
+
+    fn first_block(&self) -> u64 {
+        if self.format == 1 { 4 } else { 6 }
+    }
+
+    /// How many blocks the ring has.
+    fn ring(&self) -> u64 {
+        u64::from(self.shape.log_blocks) + 4 - self.first_block()
+    }
+
+    /// The device offset of a block.
+    fn offset_of(&self, lsn: u64) -> u64 {
+        BLOCK * self.first_block() + (lsn - START) % (BLOCK * self.ring())
+    }
+
+    fn place_of(&self, lsn: u64) -> usize {
+        (self.offset_of(lsn) / BLOCK) as usize
+    }
+}
+
+/// Whether the heads are both all zero, so that a run formats.
+pub fn is_unused(log: &[u8]) -> bool {
+    let mut heads = HEADS.iter().flat_map(|number| sector(log, *number));
+    heads.all(|byte| *byte == 0)
+}
+
+/// A log block that fits at some lsn.
+#[derive(Clone, Copy)]
+pub struct Block {
+    pub lsn: u64,
+    pub length: u64,
+}
+
+impl Block {
+    /// The block that these bytes are, in a log that hasn't come to 2^39.
+    pub fn of(bytes: &[u8]) -> Option<Block> {
+        let number = field(bytes, 0, 4) & 0x7FFF_FFFF;
+        let (length, first) = (field(bytes, 4, 2), field(bytes, 6, 2));
+        let is_length = (BLOCK_HEADER..=MOST_PART).contains(&length) || length == BLOCK;
+        let is_first = first == 0 || (BLOCK_HEADER..=length.min(MOST_PART)).contains(&first);
+        let is_block = number > START / BLOCK && is_length && is_first && fits_sector(bytes);
+        is_block.then(|| Block {
+            lsn: (number - 1) * BLOCK,
+            length,
+        })
+    }
+
+    fn is_full(&self) -> bool {
+        self.length == BLOCK
+    }
+
+    /// Where its bytes end in the log.
+    pub fn end(&self) -> u64 {
+        if self.is_full() {
+            self.lsn + BLOCK + BLOCK_HEADER
+        } else {
+            self.lsn + self.length
+        }
+    }
+}
+
+/// A checkpoint that passes.
+#[derive(Clone, Copy)]
+struct Checkpoint {
+    number: u64,
+    lsn: u64,
+}
+
+fn checkpoint_of(log: &[u8], head: &Head) -> Option<Checkpoint> {
+    let passing = |(parity, number): (usize, usize)| {
+        let bytes = sector(log, number);
+        let found = Checkpoint {
+            number: field(bytes, 0, 8),
+            lsn: field(bytes, 8, 8),
+        };
+        let passes = fits_sector(bytes)
+            && found.number % 2 == parity as u64
+            && START <= found.lsn
+            && found.lsn.is_multiple_of(BLOCK)
+            && field(bytes, 16, 8) == head.offset_of(found.lsn);
+        passes.then_some(found)
+    };
+    let both = CHECKPOINTS.into_iter().enumerate().filter_map(passing);
+    both.max_by_key(|found| found.number)
+}
+
+fn put_checkpoint(log: &mut [u8], head: &Head, checkpoint: Checkpoint) {
+    let mut bytes = vec![0; SECTOR];
+    put_field(&mut bytes, 0, 8, checkpoint.number);
+    put_field(&mut bytes, 8, 8, checkpoint.lsn);
+    put_field(&mut bytes, 16, 8, head.offset_of(checkpoint.lsn));
+    put_field(&mut bytes, 24, 8, BUFFER);
+    seal_sector(&mut bytes);
+    let number = CHECKPOINTS[(checkpoint.number % 2) as usize];
+    put_sector(log, number, &bytes);
+}
+
+fn head_text(head: &Head) -> Vec<u8> {
+    let mut bytes = vec![0; SECTOR];
+    put_field(&mut bytes, 0, 4, head.format);
+    put_field(&mut bytes, 8, 8, START);
+    bytes[16..25].copy_from_slice(b"redolab 1");
+    let Shape {
+        pages,
+        space,
+        log_blocks,
+    } = head.shape;
+    for (place, value) in [4_096, pages, space, log_blocks, 8].into_iter().enumerate() {
+        put_field(&mut bytes, 48 + 4 * place, 4, u64::from(value));
+    }
+    seal_sector(&mut bytes);
+    bytes
+}
+
+/// The block that a reader of format 2 takes at this lsn.
+fn taken(log: &[u8], head: &Head, lsn: u64) -> Option<(Block, Vec<u8>)> {
+    let at = |number: usize| {
+        let bytes = sector(log, number);
+        let block = Block::of(bytes).filter(|block| block.lsn == lsn)?;
+        Some((block, bytes.to_vec()))
+    };
+    let in_place = at(head.place_of(lsn)).filter(|(block, _)| block.is_full());
+    let tails = TAILS
+        .into_iter()
+        .filter_map(at)
+        .filter(|(block, bytes)| !block.is_full() && field(bytes, 8, 4) == lsn >> 39);
+    // the first of two of one length
+    let tail = tails.rev().max_by_key(|(block, _)| block.length);
+    in_place.or(tail)
+}
+
+/// The blocks that are read of a log of format 2.
+fn scanned(log: &[u8], head: &Head, checkpoint: &Checkpoint) -> Vec<(Block, Vec<u8>)> {
+    let mut blocks = Vec::new();
+    for count in 0..head.ring() {
+        let Some((block, bytes)) = taken(log, head, checkpoint.lsn + count * BLOCK) else {
+            break;
+        };
+        blocks.push((block, bytes));
+        if !block.is_full() {
+            break;
+        }
+    }
+    blocks
+}
+
+/// The log of format 1 that reads as this one of format 2 does. What a reader of format 1 doesn't look at is zero, or anything.
+pub fn in_format_1(draws: &mut Draws, log: &[u8]) -> Result<Vec<u8>, String> {
+    let new = Head::of_log(log).filter(|head| head.format == 2);
+    let new = new.ok_or("no head of format 2")?;
+    let old = Head { format: 1, ..new };
+    let checkpoint = checkpoint_of(log, &new).ok_or("no checkpoint of format 2")?;
+    let mut made = vec![0; log.len()];
+    if draws.once_in(2) {
+        litter(draws, &mut made, &new, checkpoint.lsn);
+    }
+    let mut next = checkpoint.lsn;
+    for (block, mut bytes) in scanned(log, &new, &checkpoint) {
+        if !block.is_full() {
+            put_field(&mut bytes, 8, 4, checkpoint.number & 0xFFFF_FFFF);
+            seal_sector(&mut bytes);
+        }
+        put_sector(&mut made, old.place_of(block.lsn), &bytes);
+        next = block.lsn + BLOCK;
+    }
+    // what follows the last block isn't taken for the next
+    put_sector(&mut made, old.place_of(next), &[0; SECTOR]);
+    put_heads(draws, &mut made, log, &old);
+    put_checkpoints(draws, &mut made, &old, checkpoint);
+    Ok(made)
+}
+
+/// A head of format 1 in the first block and anything in the other, or a broken first block and the head in the other.
+fn put_heads(draws: &mut Draws, made: &mut [u8], log: &[u8], old: &Head) {
+    let mut junk = vec![0; SECTOR];
+    junk.iter_mut()
+        .for_each(|byte| *byte = draws.number() as u8);
+    let head = head_text(old);
+    let (first, second) = match draws.below(8) {
+        0 => (&junk[..], &head[..]),
+        1 => (&head[..], &head[..]),
+        2 => (&head[..], &junk[..]),
+        3 => (&head[..], sector(log, HEADS[1])),
+        _ => (&head[..], &[0; SECTOR][..]),
+    };
+    put_sector(made, HEADS[0], first);
+    put_sector(made, HEADS[1], second);
+}
+
+fn put_checkpoints(draws: &mut Draws, made: &mut [u8], old: &Head, checkpoint: Checkpoint) {
+    if let Some(number) = checkpoint.number.checked_sub(1)
+        && draws.once_in(2)
+    {
+        let lsn = draws.one_of(&[START, checkpoint.lsn]);
+        put_checkpoint(made, old, Checkpoint { number, lsn });
+    }
+    put_checkpoint(made, old, checkpoint);
+}
+
+/// Puts blocks of some lsns and junk into the ring, many where format 2 has the block of that lsn.
+fn litter(draws: &mut Draws, made: &mut [u8], new: &Head, lsn: u64) {
+    for _ in 0..draws.within(1, 40) {
+        let at = block_of(lsn) + BLOCK * draws.below(80);
+        let at = at.saturating_sub(BLOCK * draws.below(40)).max(START);
+        let length = draws.one_of(&[BLOCK, BLOCK, 12, 40, 507]);
+        let mut bytes = vec![0; SECTOR];
+        for eight in bytes.chunks_exact_mut(8) {
+            eight.copy_from_slice(&draws.number().to_be_bytes());
+        }
+        put_field(&mut bytes, 0, 4, at / BLOCK % (1 << 30) + 1);
+        put_field(&mut bytes, 4, 2, length);
+        put_field(&mut bytes, 6, 2, draws.one_of(&[0, BLOCK_HEADER]));
+        put_field(&mut bytes, 8, 4, draws.below(2));
+        if !draws.once_in(8) {
+            seal_sector(&mut bytes);
+        }
+        let ring = new.shape.log_blocks as usize;
+        let place = match draws.below(4) {
+            0 => 4 + draws.below(ring as u64) as usize,
+            1 => draws.one_of(&TAILS),
+            _ => new.place_of(at),
+        };
+        put_sector(made, place, &bytes);
+    }
+}

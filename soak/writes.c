@@ -1,0 +1,120 @@
+// Tells of the calls that a program makes on the files `redo.log` and `redo.data`: each seek, each write with its bytes, each
+// good sync, in their order, whichever thread makes them. It is loaded in front of the C library. EVENTS names the file that
+// takes them. FAILS may hold a device (0 or 1), a number and 0 or 1: that write or sync of the device, counted from 0, then
+// fails, and such a write is made all the same where the last number is 1.
+#define _GNU_SOURCE
+#include <errno.h>
+#include <fcntl.h>
+#include <pthread.h>
+#include <stdint.h>
+#include <stdio.h>
+#include <stdlib.h>
+#include <string.h>
+#include <sys/syscall.h>
+#include <sys/uio.h>
+#include <unistd.h>
+
+enum { UNKNOWN, OTHER, LOG, DATA };
+enum { FILES = 1024, FIRST_FREE = 500 };
+
+struct event {
+    uint8_t kind, device, zeros, unused[5];
+    uint64_t at, length;
+};
+
+static uint8_t names[FILES];
+static int events = -1;
+static long fails_device = -1, fails_number, fails_is_made, changes[2];
+static pthread_mutex_t turn = PTHREAD_MUTEX_INITIALIZER;
+
+__attribute__((constructor)) static void begin(void) {
+    const char *path = getenv("EVENTS"), *fails = getenv("FAILS");
+    if (!path) return;
+    // the program's own files get the numbers that they have without this
+    int opened = syscall(SYS_openat, AT_FDCWD, path, O_WRONLY | O_APPEND | O_CLOEXEC, 0);
+    if (opened < 0) abort();
+    events = syscall(SYS_fcntl, opened, F_DUPFD_CLOEXEC, FIRST_FREE);
+    syscall(SYS_close, opened);
+    if (fails && sscanf(fails, "%ld %ld %ld", &fails_device, &fails_number, &fails_is_made) != 3) abort();
+}
+
+static int name_of(int file) {
+    char link[64], path[4096];
+    if (events < 0 || file < 0 || file >= FILES) return OTHER;
+    if (names[file] != UNKNOWN) return names[file];
+    snprintf(link, sizeof link, "/proc/self/fd/%d", file);
+    long length = syscall(SYS_readlink, link, path, sizeof path - 1);
+    if (length < 0) return OTHER;
+    path[length] = 0;
+    const char *name = strrchr(path, '/');
+    names[file] = !name                           ? OTHER
+                  : !strcmp(name + 1, "redo.log")  ? LOG
+                  : !strcmp(name + 1, "redo.data") ? DATA
+                                                   : OTHER;
+    return names[file];
+}
+
+static int are_zeros(const char *bytes, size_t length) {
+    return length > 0 && bytes[0] == 0 && !memcmp(bytes, bytes + 1, length - 1);
+}
+
+static void tell(char kind, int name, uint64_t at, const void *bytes, size_t length) {
+    int zeros = are_zeros(bytes, length);
+    struct event event = {.kind = kind, .device = name - LOG, .zeros = zeros, .at = at, .length = length};
+    struct iovec parts[2] = {{&event, sizeof event}, {(void *)bytes, zeros ? 0 : length}};
+    long whole = parts[0].iov_len + parts[1].iov_len;
+    if (syscall(SYS_writev, events, parts, 2) != whole) abort();
+}
+
+// Whether the next write or sync of the device is to fail.
+static int is_failing(int name) {
+    return name - LOG == fails_device && changes[name - LOG]++ == fails_number;
+}
+
+off_t lseek(int file, off_t at, int from) {
+    int name = name_of(file);
+    if (name == OTHER) return syscall(SYS_lseek, file, at, from);
+    pthread_mutex_lock(&turn);
+    off_t reached = syscall(SYS_lseek, file, at, from);
+    tell('s', name, reached, "", 0);
+    pthread_mutex_unlock(&turn);
+    return reached;
+}
+
+off_t lseek64(int file, off_t at, int from) { return lseek(file, at, from); }
+
+ssize_t write(int file, const void *bytes, size_t length) {
+    int name = name_of(file);
+    if (name == OTHER) return syscall(SYS_write, file, bytes, length);
+    pthread_mutex_lock(&turn);
+    int fails = is_failing(name);
+    off_t at = syscall(SYS_lseek, file, 0, SEEK_CUR);
+    ssize_t written = fails && !fails_is_made ? 0 : syscall(SYS_write, file, bytes, length);
+    int error = errno;
+    if (written > 0) tell('w', name, at, bytes, written);
+    pthread_mutex_unlock(&turn);
+    errno = fails ? EIO : error;
+    return fails ? -1 : written;
+}
+
+static int sync_by(long call, int file) {
+    int name = name_of(file);
+    if (name == OTHER) return syscall(call, file);
+    pthread_mutex_lock(&turn);
+    int fails = is_failing(name);
+    int answer = fails ? -1 : syscall(call, file);
+    int error = errno;
+    if (answer == 0) tell('f', name, 0, "", 0);
+    pthread_mutex_unlock(&turn);
+    errno = fails ? EIO : error;
+    return answer;
+}
+
+int fsync(int file) { return sync_by(SYS_fsync, file); }
+
+int fdatasync(int file) { return sync_by(SYS_fdatasync, file); }
+
+int close(int file) {
+    if (file >= 0 && file < FILES) names[file] = UNKNOWN;
+    return syscall(SYS_close, file);
+}
