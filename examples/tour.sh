@@ -30,12 +30,12 @@ stop() {
 stop one_line 1 20 'what was written and not synced may survive a crash.' \
     "The log device stops at the sync of the only group. So the group is lost: its commit wasn't answered.
 Yet it is recovered, with its byte 07. Bit 0 of the pick keeps its block; --pick 0 would drop it." \
-    crash --stop-log 22 --pick 1
+    crash --stop-log 27 --pick 1
 
 stop two_users_one_page 1 20 'which commits a crash may take, by their modes.' \
     "The first group waited for the flush, and is the only one recovered. The second waited for the write,
 the fourth for nothing: both were answered and are gone. The third was never answered." \
-    crash --turns 30 --stop-log 24
+    crash --turns 30 --stop-log 29
 
 stop three_lines 1 20 'opening itself is stopped.' \
     "There was no run (open none), so all lines are left, and no page comes back. A store that is in use
@@ -48,7 +48,7 @@ The page is read from its doublewrite slot and the log: 02 is the last of the tw
     crash --stop-data 12 --pick 15
 
 stop log_wraps 32 9 'the log goes round, and a group across its end is lost whole.' \
-    "The script is repeated 32 times. Its 125th group begins at 1056004 and lies across the log's end,
-at 1056768. Both of its writes came through, and their sync failed. The pick keeps the last blocks of the
-log and not its first ones. There an older round stands, so the group is not recovered." \
-    crash --stop-log 281 --pick 3
+    "The script is repeated 32 times. Its 124th group begins at 1047567 and lies across the ring's end,
+at 1055744. All of its writes came through, and their sync failed. The pick keeps its first two blocks.
+In the places of the others an older round stands, so the group is not recovered." \
+    crash --stop-log 407 --pick 3
