@@ -1,7 +1,7 @@
 -- What shapes a store may have.
-use Rattle.std.specs.Prelude.{ℕ, ◌≡◌, ◌≤◌, ◌<◌, ◌^◌, ◌==◌, ◌&&◌, nat_le, nat_lt, Bool}
+use Rattle.std.specs.Prelude.{ℕ, ◌≡◌, ◌≤◌, ◌<◌, ◌%◌, ◌+◌, ◌-◌, ◌^◌, ◌==◌, ◌&&◌, nat_le, nat_lt, Bool}
 use Rattle.model_base.specs.declared.shape.Shape.{Shape}
-use Rattle.model_base.specs.declared.limits.TheConstants.{PAGE_SIZE, MAX_PAGES, DEFAULT_PAGES, DEFAULT_SPACE, DEFAULT_LOG_BLOCKS, MIN_LOG_BLOCKS, MAX_LOG_BLOCKS, SLOTS}
+use Rattle.model_base.specs.declared.limits.TheConstants.{BLOCK_SIZE, PAGE_SIZE, MAX_PAGE_SIZE, MAX_PAGES, DEFAULT_PAGES, DEFAULT_SPACE, DEFAULT_LOG_BLOCKS, MIN_LOG_BLOCKS, MAX_LOG_BLOCKS, PAGE_TRAILER, SLOTS, USER_START}
 
 -- the sizes of a store that is formatted without an option
 abbrev pub default_shape : Shape
@@ -10,6 +10,24 @@ default_shape = record { page_size = PAGE_SIZE; pages = DEFAULT_PAGES; space = D
 -- how many space ids there are: one stands in 4 bytes
 abbrev pub space_limit : ℕ
 space_limit = 2 ^ 32
+
+-- how many bytes a page may have
+unfoldable pub IsPageSize : ℕ → Type 0
+IsPageSize n = n ≡ PAGE_SIZE
+
+-- what is so of each such number, and all that is used of it (the law `page_size_as_facts`)
+pub record IsWholeSectors (n : ℕ) : Type 0 where
+  pub sectors : n % BLOCK_SIZE ≡ 0
+  pub least : BLOCK_SIZE ≤ n
+  pub most : n ≤ MAX_PAGE_SIZE
+
+-- bytes of a page that aren't user bytes
+abbrev pub frame_length : ℕ
+frame_length = USER_START + PAGE_TRAILER
+
+-- how many user bytes a page has
+abbrev pub user_length : Shape → ℕ
+user_length shape = shape.page_size - frame_length
 
 -- each size is one that a store may have; any space id is
 abbrev pub is_within_limits : Shape → Bool
@@ -20,7 +38,7 @@ is_within_limits shape =
 
 -- what passing that test says, fact by fact (the law `limits_as_facts`)
 pub record IsWithinLimits (shape : Shape) : Type 0 where
-  pub page_size : shape.page_size ≡ PAGE_SIZE
+  pub page_size : IsPageSize shape.page_size
   pub some_pages : 1 ≤ shape.pages
   pub few_pages : shape.pages ≤ MAX_PAGES
   pub space : shape.space < space_limit

@@ -12,11 +12,11 @@ mod table;
 
 pub use bytes::Bytes;
 pub use got::Got;
-pub use laws::limits_as_facts;
+pub use laws::{limits_as_facts, page_size_as_facts};
 pub use limits::{
     BLOCK_SIZE, DEFAULT_LOG_BLOCKS, DEFAULT_PAGES, DEFAULT_SPACE, FIRST_DATA_LSN, LSN_LIMIT,
-    MAX_GROUP, MAX_LOG_BLOCKS, MAX_PAGES, MAX_SCRIPT, MIN_LOG_BLOCKS, PAGE_SIZE, SLOTS, START_LSN,
-    USER_BYTES, USER_START,
+    MAX_GROUP, MAX_LOG_BLOCKS, MAX_PAGE_SIZE, MAX_PAGES, MAX_SCRIPT, MIN_LOG_BLOCKS, PAGE_SIZE,
+    PAGE_TRAILER, SLOTS, START_LSN, USER_START,
 };
 pub use shape::Shape;
 pub use spelling_laws::{one_spelling, spelling_lengths};

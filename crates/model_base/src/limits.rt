@@ -2,12 +2,14 @@
 
 /// Bytes of a sector, and of a log block.
 pub const BLOCK_SIZE: u64 = 512;
-/// Bytes of a page.
+/// Bytes of a page of a store that is formatted without an option.
 pub const PAGE_SIZE: u32 = 4096;
+/// The greatest number of bytes that a page may have: the offsets in records have 16 bits.
+pub const MAX_PAGE_SIZE: u32 = 65_536;
 /// The offset of a page's first user byte.
 pub const USER_START: u32 = 38;
-/// User bytes of a page: from offset 38 to 4,087.
-pub const USER_BYTES: u32 = 4050;
+/// Bytes of a page after its user bytes: the second checksum, and the low half of the page lsn.
+pub const PAGE_TRAILER: u32 = 8;
 /// The greatest number of pages of a store; pages are numbered from 0.
 pub const MAX_PAGES: u32 = 64;
 /// The number of pages of a store that is formatted without an option.

@@ -16,12 +16,22 @@ pub struct Shape {
 }
 
 impl Shape {
-    ghost use Rattle.std.specs.Prelude.{◌≡◌};
-    ghost use Rattle.model_base.specs.Limits.{default_shape};
+    ghost use Rattle.std.specs.Prelude.{◌≡◌, ◌≤◌};
+    ghost use Rattle.model_base.specs.Limits.{default_shape, frame_length, IsWithinLimits, user_length};
+
+    /// User bytes of a page.
+    pub fn user_bytes(&self) -> u32
+        requires { frame_length ≤ self.now.page_size }
+        ensures { result ≡ user_length self.now }
+    {
+        self.page_size - (crate::USER_START + crate::PAGE_TRAILER)
+    }
 
     /// The shape of a store that is formatted without an option.
+    #[tactic(auto, using(crate::proofs::ShapeLimits::default_within))]
     pub fn default_shape() -> Shape
-        ensures { result ≡ default_shape }
+        ensures shape { result ≡ default_shape }
+        ensures limits { IsWithinLimits result }
     {
         Shape {
             page_size: crate::PAGE_SIZE,

@@ -10,8 +10,9 @@ use Rattle.std.proofs.Math.Nat.{mod-eq_of_lt}
 use Rattle.byteorder.specs.Numbers.{big_number-reads_back}
 use Rattle.model_base.specs.{field, padded_to}
 use Rattle.model_log.specs.Lsn.{block_number}
-use Rattle.model_log.specs.Block.{with_checksum, length_of, block_text, view_of, fits_number, is_length, is_first, fits_checksum, is_block_at, read_block, data_of}
+use Rattle.model_log.specs.Block.{with_checksum, length_of, block_text, block_view, fits_number, is_length, is_first, fits_checksum, is_block_at, read_block, data_of}
 use Rattle.model_log.specs.declared.block.BlockView.{BlockView}
+use Rattle.model_log.specs.declared.layout.TheConstants.{BLOCK_DATA}
 use Rattle.model_log.proofs.Checksums.{IsByte, bytes-bytes_high_first}
 use Rattle.model_log.proofs.Sealed.{field-sealed, part-sealed, fits_checksum-sealed, length-sealed}
 
@@ -22,7 +23,7 @@ headed number count first ckpt rest =
 
 -- the data, and zeros up to the checksum
 abbrev filled : List ℕ → List ℕ
-filled content = content ++ replicate (496 - length content) 0
+filled content = content ++ replicate (BLOCK_DATA - length content) 0
 
 length-headed : (number count first ckpt : ℕ) (rest : List ℕ) → length (headed number count first ckpt rest) ≡ 12 + length rest
 unfolding headed
@@ -55,16 +56,17 @@ headed-append number count first ckpt rest more = refl
 padded-headed : (number count first ckpt : ℕ) (content : List ℕ) → padded_to 508 (headed number count first ckpt content) ≡ headed number count first ckpt (filled content)
 padded-headed number count first ckpt content =
     let front : List ℕ = headed number count first ckpt content in
-    let room : 508 - length front ≡ 496 - length content = omega (arith, length-headed number count first ckpt content) in
-    ap (λ n. front ++ replicate n 0) room ∙ headed-append number count first ckpt content (replicate (496 - length content) 0)
+    let room : 508 - length front ≡ BLOCK_DATA - length content = omega (arith, length-headed number count first ckpt content) in
+    ap (λ n. front ++ replicate n 0) room ∙ headed-append number count first ckpt content (replicate (BLOCK_DATA - length content) 0)
 
 block_text-headed : (lsn : ℕ) (content : List ℕ) (first ckpt : ℕ) → block_text lsn content first ckpt ≡ with_checksum (headed (block_number lsn) (length_of (length content)) first ckpt (filled content))
 unfolding block_text headed
 block_text-headed lsn content first ckpt =
     ap with_checksum (padded-headed (block_number lsn) (length_of (length content)) first ckpt content)
 
-length-filled : (content : List ℕ) → length content ≤ 496 → length (filled content) ≡ 496
-length-filled content room = omega (arith, length-append content (replicate (496 - length content) 0), length-replicate {A = ℕ} (496 - length content) 0)
+length-filled : (content : List ℕ) → length content ≤ BLOCK_DATA → length (filled content) ≡ BLOCK_DATA
+length-filled content room =
+    omega (arith, length-append content (replicate (BLOCK_DATA - length content) 0), length-replicate {A = ℕ} (BLOCK_DATA - length content) 0)
 
 bytes-headed : (number count first ckpt : ℕ) (rest : List ℕ) → All IsByte rest → All IsByte (headed number count first ckpt rest)
 unfolding headed
@@ -78,15 +80,16 @@ bytes-headed number count first ckpt rest each =
     each
 
 bytes-filled : (content : List ℕ) → All IsByte content → All IsByte (filled content)
-bytes-filled content each = All-append IsByte content (replicate (496 - length content) 0) each (All-replicate IsByte (496 - length content) 0 (omega arith))
+bytes-filled content each =
+    All-append IsByte content (replicate (BLOCK_DATA - length content) 0) each (All-replicate IsByte (BLOCK_DATA - length content) 0 (omega arith))
 
 first-small : (length first : ℕ) → is_first length first ≡ true → first < 2 ^ 16
 first-small length first good = grind (arith, nat_tests)
 
-is_length-length_of : (count : ℕ) → count ≤ 496 → is_length (length_of count) ≡ true
+is_length-length_of : (count : ℕ) → count ≤ BLOCK_DATA → is_length (length_of count) ≡ true
 is_length-length_of count room = grind (arith, nat_tests)
 
-length_of-small : (count : ℕ) → count ≤ 496 → length_of count < 2 ^ 16
+length_of-small : (count : ℕ) → count ≤ BLOCK_DATA → length_of count < 2 ^ 16
 length_of-small count room = grind (arith, nat_tests)
 
 -- the fields of a block, after which its checksum stands
@@ -98,7 +101,7 @@ record Reads (number count first ckpt : ℕ) (bytes : List ℕ) : Type 0 where
   checksum : fits_checksum bytes ≡ true
 
 reads-sealed : (number count first ckpt : ℕ) (rest : List ℕ) → number < 2 ^ 32 → count < 2 ^ 16 → first < 2 ^ 16 → ckpt < 2 ^ 32
-    → length rest ≡ 496 → All IsByte rest → Reads number count first ckpt (with_checksum (headed number count first ckpt rest))
+    → length rest ≡ BLOCK_DATA → All IsByte rest → Reads number count first ckpt (with_checksum (headed number count first ckpt rest))
 reads-sealed number count first ckpt rest number_small count_small first_small ckpt_small whole each =
     let bytes : List ℕ = headed number count first ckpt rest in
     let long : length bytes ≡ 508 = omega (arith, length-headed number count first ckpt rest) in
@@ -129,12 +132,12 @@ read_block-from lsn count first ckpt bytes reads good_length good_first =
     let length : is_length (field 2 4 bytes) ≡ true = ap is_length reads.reads_count ∙ good_length in
     let start : is_first (field 2 4 bytes) (field 2 6 bytes) ≡ true
     = ap (λ n. is_first n (field 2 6 bytes)) reads.reads_count ∙ ap (is_first count) reads.reads_first ∙ good_first in
-    view_when (is_block_at lsn bytes) (view_of bytes) (record { length = count; first = first; ckpt = ckpt })
+    view_when (is_block_at lsn bytes) (block_view bytes) (record { length = count; first = first; ckpt = ckpt })
     (all_four (fits_number lsn bytes) (is_length (field 2 4 bytes)) (is_first (field 2 4 bytes) (field 2 6 bytes)) (fits_checksum bytes) number length start reads.checksum)
     (same_view (field 2 4 bytes) (field 2 6 bytes) (field 4 8 bytes) count first ckpt reads.reads_count reads.reads_first reads.reads_ckpt)
 
 -- what a block that is written from some data has
-pub view-reads_back : (lsn : ℕ) (content : List ℕ) (first ckpt : ℕ) → length content ≤ 496 → All IsByte content → ckpt < 2 ^ 32 → IsTrue (is_first (length_of (length content)) first)
+pub view-reads_back : (lsn : ℕ) (content : List ℕ) (first ckpt : ℕ) → length content ≤ BLOCK_DATA → All IsByte content → ckpt < 2 ^ 32 → IsTrue (is_first (length_of (length content)) first)
     → read_block lsn (block_text lsn content first ckpt) ≡ Some (record { length = length_of (length content); first = first; ckpt = ckpt })
 view-reads_back lsn content first ckpt room each ckpt_small good_first =
     let count : ℕ = length_of (length content) in
@@ -143,11 +146,11 @@ view-reads_back lsn content first ckpt room each ckpt_small good_first =
     (reads-sealed (block_number lsn) count first ckpt (filled content) (omega arith) (length_of-small (length content) room) (first-small count first good_first) ckpt_small (length-filled content room) (bytes-filled content each))
     (is_length-length_of (length content) room) good_first
 
-data-length : (count : ℕ) → count ≤ 496 → min (length_of count) 508 - 12 ≡ count
+data-length : (count : ℕ) → count ≤ BLOCK_DATA → min (length_of count) 508 - 12 ≡ count
 data-length count room = grind (arith, nat_tests)
 
 -- and its data
-pub data-reads_back : (lsn : ℕ) (content : List ℕ) (first ckpt : ℕ) → length content ≤ 496
+pub data-reads_back : (lsn : ℕ) (content : List ℕ) (first ckpt : ℕ) → length content ≤ BLOCK_DATA
     → data_of (record { length = length_of (length content); first = first; ckpt = ckpt }) (block_text lsn content first ckpt) ≡ content
 data-reads_back lsn content first ckpt room =
     let count : ℕ = length_of (length content) in
@@ -157,10 +160,10 @@ data-reads_back lsn content first ckpt room =
     ∙ ap (λ n. take n (drop 12 (with_checksum bytes))) (data-length (length content) room)
     ∙ part-sealed (length content) 12 bytes (omega arith)
     ∙ ap (take (length content)) (drop-headed (block_number lsn) count first ckpt (filled content))
-    ∙ take_at content (replicate (496 - length content) 0) (length content) refl
+    ∙ take_at content (replicate (BLOCK_DATA - length content) 0) (length content) refl
 
 -- a block has 512 bytes
-pub length-block_text : (lsn : ℕ) (content : List ℕ) (first ckpt : ℕ) → length content ≤ 496 → length (block_text lsn content first ckpt) ≡ 512
+pub length-block_text : (lsn : ℕ) (content : List ℕ) (first ckpt : ℕ) → length content ≤ BLOCK_DATA → length (block_text lsn content first ckpt) ≡ 512
 length-block_text lsn content first ckpt room =
     let bytes : List ℕ = headed (block_number lsn) (length_of (length content)) first ckpt (filled content) in
     ap length (block_text-headed lsn content first ckpt)

@@ -4,6 +4,7 @@ use Rattle.std.proofs.lemmas.Bool.Decides.{nat_tests}
 use Rattle.model_log.specs.Lsn.{sn_of, block_of, IsAtDataStart, IsDataLsn}
 use Rattle.model_log.specs.Block.{length_of}
 use Rattle.model_log.specs.Boundary.{stream_between, content_at, length_at}
+use Rattle.model_log.specs.declared.layout.TheConstants.{BLOCK_DATA}
 
 -- the pieces of a stream, as they are cut
 pub stream_between-is : (s : ℕ) (stream : List ℕ) (low high : ℕ) → stream_between s stream low high ≡ take (sn_of high - sn_of low) (drop (sn_of low - sn_of s) stream)
@@ -35,18 +36,18 @@ pub sn_of-start : (s b : ℕ) → IsAtDataStart s → block_of s ≤ b → sn_of
 sn_of-start s b start below = grind (arith, nat_tests)
 
 -- where the blocks from an aligned lsn on stand among the bytes
-pub sn_of-block : (from i : ℕ) → from % 512 ≡ 0 → sn_of (from + 512 * i) ≡ sn_of from + 496 * i
+pub sn_of-block : (from i : ℕ) → from % 512 ≡ 0 → sn_of (from + 512 * i) ≡ sn_of from + BLOCK_DATA * i
 sn_of-block from i aligned = grind (arith, nat_tests)
 
-pub sn_of-next : (b : ℕ) → b % 512 ≡ 0 → sn_of (b + 512) ≡ sn_of b + 496
+pub sn_of-next : (b : ℕ) → b % 512 ≡ 0 → sn_of (b + 512) ≡ sn_of b + BLOCK_DATA
 sn_of-next b aligned = grind (arith, nat_tests)
 
 pub sn_of-header : (b : ℕ) → b % 512 ≡ 0 → sn_of (b + 12) ≡ sn_of b
 sn_of-header b aligned = grind (arith, nat_tests)
 
-pub content-short : (s : ℕ) (stream : List ℕ) (m b : ℕ) → b % 512 ≡ 0 → length (content_at s stream m b) ≤ 496
+pub content-short : (s : ℕ) (stream : List ℕ) (m b : ℕ) → b % 512 ≡ 0 → length (content_at s stream m b) ≤ BLOCK_DATA
 content-short s stream m b aligned =
-    let next : sn_of (b + 512) ≡ sn_of b + 496 = sn_of-next b aligned in
+    let next : sn_of (b + 512) ≡ sn_of b + BLOCK_DATA = sn_of-next b aligned in
     let below : sn_of (min m (b + 512)) ≤ sn_of (b + 512) = sn_of-rises (min m (b + 512)) (b + 512) (omega arith) in
     omega (arith, ap length (content_at-is s stream m b), length-stream_between s stream b (min m (b + 512)))
 

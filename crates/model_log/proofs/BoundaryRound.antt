@@ -8,10 +8,11 @@ use Rattle.model_log.specs.declared.group.Whole.{Whole}
 use Rattle.model_log.specs.Group.{groups_of, stream_of}
 use Rattle.model_log.specs.Record.{IsByte}
 use Rattle.model_log.specs.Lsn.{sn_of, IsAtDataStart, IsDataLsn}
-use Rattle.model_log.specs.Run.{IsBoundary, IsRunOf, spans_of, end_of}
+use Rattle.model_log.specs.Run.{IsBoundary, IsRunOf, spans_of, last_span_end}
 use Rattle.model_log.specs.Block.{block_text, length_of, is_first, read_block, data_of}
 use Rattle.model_log.specs.Boundary.{IsBoundaryBlock, stream_between, content_at, first_at, length_at}
 use Rattle.model_log.specs.declared.block.BlockView.{BlockView}
+use Rattle.model_log.specs.declared.layout.TheConstants.{BLOCK_DATA}
 use Rattle.model_log.proofs.BlockRound.{view-reads_back, data-reads_back}
 use Rattle.model_log.proofs.BoundaryLengths.{sn_of-rises, sn_of-start, content-short, length-boundary}
 use Rattle.model_log.proofs.Runs.{IsReached, boundary-reached, boundary-before_end, data-start, run-front, stream-append}
@@ -48,7 +49,7 @@ reads-as s wholes m b bytes start run each boundary some block =
     let content : List ℕ = content_at s stream m b in
     let first : ℕ = first_at s (spans_of wholes) b in
     let reached : IsReached s wholes m = boundary-reached s wholes m (data-start s start) run boundary in
-    let room : length content ≤ 496 = content-short s stream m b block.aligned in
+    let room : length content ≤ BLOCK_DATA = content-short s stream m b block.aligned in
     let all : All IsByte content = content-bytes s stream m b each in
     let long : length_of (length content) ≡ length_at m b = length-boundary s m b stream start reached.place block.aligned block.from some (omega (arith, reached.reaches)) in
     let tells : TellsFirst s wholes b first = first-tells s wholes b start run block.aligned block.from in
@@ -91,7 +92,7 @@ block-longer s wholes more m b bytes start run boundary block =
     let place : IsDataLsn s = data-start s start in
     let old : IsRunOf s wholes = run-front s wholes more run in
     let reached : IsReached s wholes m = boundary-reached s wholes m place old boundary in
-    let last : m ≤ end_of s (spans_of wholes) = boundary-before_end s wholes m place old boundary in
+    let last : m ≤ last_span_end s (spans_of wholes) = boundary-before_end s wholes m place old boundary in
     let same_content : content_at s stream m b ≡ content_at s (stream_of (groups_of (wholes ++ more))) m b
     = content-longer s m b stream (stream_of (groups_of more)) (sn_of-start s b start block.from) (omega (arith, block.reached)) reached.reaches
     ∙ ap (λ (bytes : List ℕ). content_at s bytes m b) (sym (stream-append wholes more)) in

@@ -10,6 +10,7 @@ use Rattle.model_base.specs.declared.limits.TheConstants.{START_LSN}
 use Rattle.model_base.specs.{field, padded_to}
 use Rattle.model_log.specs.Device.{IsLayout, place_in, round_of}
 use Rattle.model_log.specs.declared.layout.Layout.{Layout}
+use Rattle.model_log.specs.declared.layout.TheConstants.{RING_SIZE}
 use Rattle.model_log.specs.Lsn.{block_of}
 use Rattle.model_log.specs.Block.{with_checksum, fits_checksum}
 use Rattle.model_log.specs.Checkpoint.{place_of, checkpoint_text, is_checkpoint, read_checkpoint}
@@ -39,9 +40,9 @@ bytes-fields number lsn offset =
     let be8 : (n : ℕ) → All IsByte (bytes_high_first 8 n) = bytes-bytes_high_first 8 in
     let two : List ℕ = bytes_high_first 8 number ++ bytes_high_first 8 lsn in
     let three : List ℕ = two ++ bytes_high_first 8 offset in
-    All-append IsByte three (bytes_high_first 8 65536)
+    All-append IsByte three (bytes_high_first 8 RING_SIZE)
     (All-append IsByte two (bytes_high_first 8 offset)
-    (All-append IsByte (bytes_high_first 8 number) (bytes_high_first 8 lsn) (be8 number) (be8 lsn)) (be8 offset)) (be8 65536)
+    (All-append IsByte (bytes_high_first 8 number) (bytes_high_first 8 lsn) (be8 number) (be8 lsn)) (be8 offset)) (be8 RING_SIZE)
 
 place_in-small : (layout : Layout) (lsn : ℕ) → layout.first < 2 ^ 32 → lsn < 2 ^ 60 → place_in layout lsn < 2 ^ 64
 place_in-small layout lsn near small =
@@ -50,8 +51,8 @@ place_in-small layout lsn near small =
     omega arith
 
 -- the tests of a checkpoint, at numbers
-passes : (layout : Layout) (sound : Bool) (number lsn offset which : ℕ) → sound ≡ true → which ≡ place_of number → lsn % 512 ≡ 0 → 8192 ≤ lsn → lsn < 2 ^ 60 → offset ≡ place_in layout lsn
-    → (sound && place_of number == which && lsn % 512 == 0 && nat_le 8192 lsn && nat_lt lsn (2 ^ 60) && offset == place_in layout lsn) ≡ true
+passes : (layout : Layout) (sound : Bool) (number lsn offset which : ℕ) → sound ≡ true → which ≡ place_of number → lsn % 512 ≡ 0 → START_LSN ≤ lsn → lsn < 2 ^ 60 → offset ≡ place_in layout lsn
+    → (sound && place_of number == which && lsn % 512 == 0 && nat_le START_LSN lsn && nat_lt lsn (2 ^ 60) && offset == place_in layout lsn) ≡ true
 passes layout sound number lsn offset which is_sound place aligned low high fits =
     rw (is_sound, eq-eqb _ _ (sym place), eq-eqb _ _ aligned, le-leb _ _ low, lt-ltb _ _ high, eq-eqb _ _ fits) refl
 
@@ -62,7 +63,7 @@ same_pair : (a b c d : ℕ) → a ≡ c → b ≡ d → let pair : ℕ × ℕ = 
 same_pair a b c d first second = rw (first, second) refl
 
 -- the checkpoint that was written is read in its place
-pub checkpoint-reads_back : (number lsn : ℕ) (layout : Layout) → IsLayout layout → number < 2 ^ 64 → 8192 ≤ lsn → lsn < 2 ^ 60 → lsn % 512 ≡ 0
+pub checkpoint-reads_back : (number lsn : ℕ) (layout : Layout) → IsLayout layout → number < 2 ^ 64 → START_LSN ≤ lsn → lsn < 2 ^ 60 → lsn % 512 ≡ 0
     → read_checkpoint (place_of number) layout (checkpoint_text number lsn layout) ≡ Some (number, lsn)
 unfolding read_checkpoint
 checkpoint-reads_back number lsn layout is_layout number_small low high aligned =
@@ -79,6 +80,6 @@ checkpoint-reads_back number lsn layout is_layout number_small low high aligned 
     ap (read_checkpoint (place_of number) layout) (sym (checkpoint_text-from number lsn layout fields refl))
     ∙ found_when (is_checkpoint (place_of number) layout bytes) (field 8 0 bytes, field 8 8 bytes) (number, lsn)
     (passes layout (fits_checksum bytes) (field 8 0 bytes) (field 8 8 bytes) (field 8 16 bytes) (place_of number)
-    sound (ap place_of (sym number_is)) (ap (λ n. n % 512) lsn_is ∙ aligned) (subst (λ (n : ℕ). 8192 ≤ n) (sym lsn_is) low) (subst (λ (n : ℕ). n < 2 ^ 60) (sym lsn_is) high)
+    sound (ap place_of (sym number_is)) (ap (λ n. n % 512) lsn_is ∙ aligned) (subst (λ (n : ℕ). START_LSN ≤ n) (sym lsn_is) low) (subst (λ (n : ℕ). n < 2 ^ 60) (sym lsn_is) high)
     (offset_is ∙ ap (place_in layout) (sym lsn_is)))
     (same_pair _ _ _ _ number_is lsn_is)

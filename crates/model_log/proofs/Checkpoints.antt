@@ -6,11 +6,12 @@ use Rattle.model_log.specs.Device.{place_in}
 use Rattle.model_log.specs.Block.{with_checksum}
 use Rattle.model_log.specs.Checkpoint.{checkpoint_text}
 use Rattle.model_log.specs.declared.layout.Layout.{Layout}
+use Rattle.model_log.specs.declared.layout.TheConstants.{RING_SIZE}
 
 -- the fields of a checkpoint block
 unfoldable pub checkpoint_fields : ℕ → ℕ → ℕ → List ℕ
 checkpoint_fields number lsn offset =
-    bytes_high_first 8 number ++ bytes_high_first 8 lsn ++ bytes_high_first 8 offset ++ bytes_high_first 8 65536
+    bytes_high_first 8 number ++ bytes_high_first 8 lsn ++ bytes_high_first 8 offset ++ bytes_high_first 8 RING_SIZE
 
 -- they make its text
 pub checkpoint_text-from : (number lsn : ℕ) (layout : Layout) (bytes : List ℕ) → bytes ≡ checkpoint_fields number lsn (place_in layout lsn) → with_checksum (padded_to 508 bytes) ≡ checkpoint_text number lsn layout

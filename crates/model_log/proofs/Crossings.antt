@@ -4,7 +4,7 @@ use Rattle.std.proofs.lemmas.Bool.{cases_Bool, cases_lt}
 use Rattle.std.proofs.lemmas.Bool.Decides.{nat_tests}
 use Rattle.model_log.specs.declared.group.Whole.{Whole}
 use Rattle.model_log.specs.Lsn.{block_of, IsDataLsn, IsAtDataStart}
-use Rattle.model_log.specs.Run.{Span, IsBoundary, end_of, span_of, spans_of, IsRunOf}
+use Rattle.model_log.specs.Run.{Span, IsBoundary, last_span_end, span_of, spans_of, IsRunOf}
 use Rattle.model_log.specs.Boundary.{ends_in, crossing_end, first_at}
 use Rattle.model_log.proofs.Runs.{First, first-of, run-first, boundary-reached, boundary-start, data-start}
 
@@ -156,14 +156,14 @@ first-tells s wholes b start run aligned from =
 -- A LONGER RUN
 
 -- the crossing group is found among the old ones
-crossing-longer : (s : ℕ) (wholes more : List Whole) (b : ℕ) → IsDataLsn s → IsRunOf s (wholes ++ more) → b % 512 ≡ 0 → b ≤ end_of s (spans_of wholes)
+crossing-longer : (s : ℕ) (wholes more : List Whole) (b : ℕ) → IsDataLsn s → IsRunOf s (wholes ++ more) → b % 512 ≡ 0 → b ≤ last_span_end s (spans_of wholes)
     → crossing_end b (spans_of (wholes ++ more)) ≡ crossing_end b (spans_of wholes)
 crossing-longer s [] more b place run aligned low = crosses-none s more b place run aligned low
 crossing-longer s (whole ∷ wholes) more b place run aligned low =
     let first : First s whole = first-of s whole (wholes ++ more) place run in
     ap (cond (ends_in b (span_of whole)) (Some whole.end)) (crossing-longer whole.end wholes more b first.place (run-first run).2 aligned low)
 
-pub first_at-longer : (s : ℕ) (wholes more : List Whole) (b : ℕ) → IsDataLsn s → IsRunOf s (wholes ++ more) → b % 512 ≡ 0 → b ≤ end_of s (spans_of wholes)
+pub first_at-longer : (s : ℕ) (wholes more : List Whole) (b : ℕ) → IsDataLsn s → IsRunOf s (wholes ++ more) → b % 512 ≡ 0 → b ≤ last_span_end s (spans_of wholes)
     → first_at s (spans_of wholes) b ≡ first_at s (spans_of (wholes ++ more)) b
 unfolding first_at
 first_at-longer s wholes more b place run aligned low =

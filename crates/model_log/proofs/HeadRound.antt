@@ -6,7 +6,9 @@ use Rattle.std.proofs.lemmas.Bool.{eq-eqb, ltb-true}
 use Rattle.std.proofs.lemmas.List.Elements.{All-append, All-weaker}
 use Rattle.std.proofs.lemmas.List.Sums.{AllPass-from_list_all}
 use Rattle.byteorder.specs.Numbers.{big_number-reads_back}
+use Rattle.model_base.proofs.ShapeLimits.{whole_sectors}
 use Rattle.model_base.specs.declared.shape.Shape.{Shape}
+use Rattle.model_base.specs.declared.limits.TheConstants.{START_LSN}
 use Rattle.model_base.specs.{field, is_within_limits, IsWithinLimits, padded_to}
 use Rattle.model_log.specs.Block.{with_checksum, fits_checksum}
 use Rattle.model_log.specs.Head.{creator, format_number, format_of, head_text, shape_of, read_head}
@@ -28,7 +30,7 @@ unfolding head_fields
 format-head_fields One shape = refl
 format-head_fields Two shape = refl
 
-start-head_fields : (format : Format) (shape : Shape) → field 8 8 (head_fields format shape) ≡ 8192
+start-head_fields : (format : Format) (shape : Shape) → field 8 8 (head_fields format shape) ≡ START_LSN
 unfolding head_fields
 start-head_fields format shape = refl
 
@@ -65,7 +67,7 @@ bytes-head_fields format shape =
     let be8 : (n : ℕ) → All IsByte (bytes_high_first 8 n) = bytes-bytes_high_first 8 in
     let number : ℕ = format_number format in
     let front : List ℕ = bytes_high_first 4 number ++ bytes_high_first 4 0 in
-    let start : List ℕ = front ++ bytes_high_first 8 8192 in
+    let start : List ℕ = front ++ bytes_high_first 8 START_LSN in
     let made : List ℕ = start ++ creator in
     let size : List ℕ = made ++ bytes_high_first 4 shape.page_size in
     let pages : List ℕ = size ++ bytes_high_first 4 shape.pages in
@@ -77,8 +79,8 @@ bytes-head_fields format shape =
     (both size (bytes_high_first 4 shape.pages)
     (both made (bytes_high_first 4 shape.page_size)
     (both start creator
-    (both front (bytes_high_first 8 8192)
-    (both (bytes_high_first 4 number) (bytes_high_first 4 0) (be4 number) (be4 0)) (be8 8192)) bytes-creator)
+    (both front (bytes_high_first 8 START_LSN)
+    (both (bytes_high_first 4 number) (bytes_high_first 4 0) (be4 number) (be4 0)) (be8 START_LSN)) bytes-creator)
     (be4 shape.page_size)) (be4 shape.pages)) (be4 shape.space)) (be4 shape.log_blocks)) (be4 shape.slots)
 
 same_shape : (page_size pages space log_blocks slots : ℕ) (shape : Shape) → page_size ≡ shape.page_size → pages ≡ shape.pages → space ≡ shape.space → log_blocks ≡ shape.log_blocks → slots ≡ shape.slots
@@ -104,14 +106,14 @@ head-reads_back format shape within =
     let sound : fits_checksum bytes ≡ true
     = fits_checksum-sealed (padded_to 508 fields) (length-padded fields (omega arith)) (bytes-padded fields (bytes-head_fields format shape)) in
     let named : field 4 0 bytes ≡ format_number format = field-padded 4 0 fields (omega arith) (omega arith) ∙ format-head_fields format shape in
-    let start : field 8 8 bytes ≡ 8192 = field-padded 8 8 fields (omega arith) (omega arith) ∙ start-head_fields format shape in
+    let start : field 8 8 bytes ≡ START_LSN = field-padded 8 8 fields (omega arith) (omega arith) ∙ start-head_fields format shape in
     let same : shape_of bytes ≡ shape
     = same_shape (field 4 48 bytes) (field 4 52 bytes) (field 4 56 bytes) (field 4 60 bytes) (field 4 64 bytes) shape
-    (field-padded 4 48 fields (omega arith) (omega arith) ∙ page_size-head_fields format shape (omega (arith, within.page_size)))
+    (field-padded 4 48 fields (omega arith) (omega arith) ∙ page_size-head_fields format shape (omega (arith, (whole_sectors shape within).most)))
     (field-padded 4 52 fields (omega arith) (omega arith) ∙ pages-head_fields format shape (omega (arith, within.few_pages)))
     (field-padded 4 56 fields (omega arith) (omega arith) ∙ space-head_fields format shape within.space)
     (field-padded 4 60 fields (omega arith) (omega arith) ∙ log_blocks-head_fields format shape (omega (arith, within.few_blocks)))
     (field-padded 4 64 fields (omega arith) (omega arith) ∙ slots-head_fields format shape (omega (arith, within.slots))) in
     ap read_head (sym (head_text-from format shape fields refl))
-    ∙ good_when (fits_checksum bytes) (field 8 8 bytes == 8192) (is_within_limits (shape_of bytes)) (format_of (field 4 0 bytes)) format (shape_of bytes) shape (OtherFormat (field 4 0 bytes))
+    ∙ good_when (fits_checksum bytes) (field 8 8 bytes == START_LSN) (is_within_limits (shape_of bytes)) (format_of (field 4 0 bytes)) format (shape_of bytes) shape (OtherFormat (field 4 0 bytes))
     sound (ap format_of named ∙ format-found format) (eq-eqb _ _ start) (ap is_within_limits same ∙ is_within_limits_true shape within) same

@@ -2,6 +2,7 @@
 use Rattle.std.proofs.Common.{◌≡◌, ℕ, List, ◌++◌, ap}
 use Rattle.std.specs.Int.{bytes_high_first}
 use Rattle.model_base.specs.declared.shape.Shape.{Shape}
+use Rattle.model_base.specs.declared.limits.TheConstants.{START_LSN}
 use Rattle.model_base.specs.{padded_to}
 use Rattle.model_log.specs.Block.{with_checksum}
 use Rattle.model_log.specs.Head.{creator, format_number, head_text}
@@ -10,7 +11,7 @@ use Rattle.model_log.specs.declared.head.Format.{Format}
 -- the fields of a file header
 unfoldable pub head_fields : Format → Shape → List ℕ
 head_fields format shape =
-    bytes_high_first 4 (format_number format) ++ bytes_high_first 4 0 ++ bytes_high_first 8 8192 ++ creator
+    bytes_high_first 4 (format_number format) ++ bytes_high_first 4 0 ++ bytes_high_first 8 START_LSN ++ creator
     ++ bytes_high_first 4 shape.page_size ++ bytes_high_first 4 shape.pages ++ bytes_high_first 4 shape.space
     ++ bytes_high_first 4 shape.log_blocks ++ bytes_high_first 4 shape.slots
 

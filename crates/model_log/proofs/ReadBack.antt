@@ -3,11 +3,12 @@ use Rattle.std.proofs.Common.{◌≡◌, ℕ, ◌≤◌, List, [], ◌++◌, len
 use Rattle.std.proofs.lemmas.List.{append-nil, take_at, take-append-drop, length-take-le}
 use Rattle.model_base.specs.declared.got.Got.{Got}
 use Rattle.model_base.specs.declared.got.Got.TheVariants.{Value, Short, Bad}
+use Rattle.model_base.specs.declared.limits.TheConstants.{MAX_GROUP}
 use Rattle.model_log.specs.Group.{IsGroup, GivesGroup, group_length, group_text}
 use Rattle.model_log.specs.declared.rec.Rec.{Rec}
 use Rattle.model_log.proofs.Several.{OneGroup, back_nil, one_group}
 
-pub group_in_front : OneGroup → (group : List Rec) (rest : List ℕ) (got : Got (List Rec)) → IsGroup group → group_length group ≤ 8192 → GivesGroup (group_text group ++ rest) got → got ≡ Value group (group_length group)
+pub group_in_front : OneGroup → (group : List Rec) (rest : List ℕ) (got : Got (List Rec)) → IsGroup group → group_length group ≤ MAX_GROUP → GivesGroup (group_text group ++ rest) got → got ≡ Value group (group_length group)
 group_in_front one group rest (Value other len) is short h =
     let bytes : List ℕ = group_text group ++ rest in
     let parts : group_text other ++ drop len bytes ≡ group_text group ++ rest = ap (λ (t : List ℕ). t ++ drop len bytes) (sym h.2.spelled) ∙ take-append-drop len bytes in
@@ -24,5 +25,5 @@ group_in_front one group rest Bad is short h =
     let long : group_length group ≤ length (group_text group ++ rest) = omega (arith, length-append (group_text group) rest) in
     absurd (h.0 group (group_length group) (long, short, record { is_group = is; spelled = take_at (group_text group) rest (group_length group) refl }))
 
-pub group-reads_back : (group : List Rec) (rest : List ℕ) (got : Got (List Rec)) → IsGroup group → group_length group ≤ 8192 → GivesGroup (group_text group ++ rest) got → got ≡ Value group (group_length group)
+pub group-reads_back : (group : List Rec) (rest : List ℕ) (got : Got (List Rec)) → IsGroup group → group_length group ≤ MAX_GROUP → GivesGroup (group_text group ++ rest) got → got ≡ Value group (group_length group)
 group-reads_back = group_in_front one_group

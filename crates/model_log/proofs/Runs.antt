@@ -5,7 +5,7 @@ use Rattle.std.proofs.lemmas.Bool.Decides.{nat_tests}
 use Rattle.model_log.specs.declared.group.Whole.{Whole}
 use Rattle.model_log.specs.Group.{group_length, group_text, groups_of, stream_of}
 use Rattle.model_log.specs.Lsn.{lsn_of, sn_of, IsDataLsn, IsAtDataStart}
-use Rattle.model_log.specs.Run.{Span, IsTiled, IsBoundary, end_of, span_of, spans_of, HasItsLength, IsRunOf}
+use Rattle.model_log.specs.Run.{Span, IsTiled, IsBoundary, last_span_end, span_of, spans_of, HasItsLength, IsRunOf}
 
 -- ANY PIECES
 
@@ -14,16 +14,16 @@ pub boundary-start : (s : ℕ) (spans : List Span) → IsBoundary s spans s
 boundary-start s [] = refl
 boundary-start s (span ∷ spans) = inl refl
 
-pub boundary-end : (s : ℕ) (spans : List Span) → IsBoundary s spans (end_of s spans)
+pub boundary-end : (s : ℕ) (spans : List Span) → IsBoundary s spans (last_span_end s spans)
 boundary-end s [] = refl
 boundary-end s (span ∷ spans) = inr (boundary-end span.end spans)
 
 -- two runs, the second of which starts where the first ends
-pub end_of-append : (s : ℕ) (front back : List Span) → end_of s (front ++ back) ≡ end_of (end_of s front) back
+pub end_of-append : (s : ℕ) (front back : List Span) → last_span_end s (front ++ back) ≡ last_span_end (last_span_end s front) back
 end_of-append s [] back = refl
 end_of-append s (span ∷ front) back = end_of-append span.end front back
 
-pub tiled-append : (s : ℕ) (front back : List Span) → IsTiled s front → IsTiled (end_of s front) back → IsTiled s (front ++ back)
+pub tiled-append : (s : ℕ) (front back : List Span) → IsTiled s front → IsTiled (last_span_end s front) back → IsTiled s (front ++ back)
 tiled-append s [] back a b = b
 tiled-append s (span ∷ front) back a b = (a.0, tiled-append span.end front back a.1 b)
 
@@ -31,7 +31,7 @@ pub tiled-front : (s : ℕ) (front back : List Span) → IsTiled s (front ++ bac
 tiled-front s [] back tiled = tt
 tiled-front s (span ∷ front) back tiled = (tiled.0, tiled-front span.end front back tiled.1)
 
-pub tiled-back : (s : ℕ) (front back : List Span) → IsTiled s (front ++ back) → IsTiled (end_of s front) back
+pub tiled-back : (s : ℕ) (front back : List Span) → IsTiled s (front ++ back) → IsTiled (last_span_end s front) back
 tiled-back s [] back tiled = tiled
 tiled-back s (span ∷ front) back tiled = tiled-back span.end front back tiled.1
 
@@ -40,7 +40,7 @@ pub boundary-front : (s : ℕ) (front back : List Span) (m : ℕ) → IsBoundary
 boundary-front s [] back m is = subst (λ (n : ℕ). IsBoundary s back n) (sym is) (boundary-start s back)
 boundary-front s (span ∷ front) back m is = ⊎_elim (λ same. inl same) (λ later. inr (boundary-front span.end front back m later)) is
 
-pub boundary-back : (s : ℕ) (front back : List Span) (m : ℕ) → IsBoundary (end_of s front) back m → IsBoundary s (front ++ back) m
+pub boundary-back : (s : ℕ) (front back : List Span) (m : ℕ) → IsBoundary (last_span_end s front) back m → IsBoundary s (front ++ back) m
 boundary-back s [] back m is = is
 boundary-back s (span ∷ front) back m is = inr (boundary-back span.end front back m is)
 
@@ -75,7 +75,7 @@ lengths-append [] back a b = b
 lengths-append (whole ∷ front) back a b = (a.0, lengths-append front back a.1 b)
 
 -- two runs of groups joined, and taken apart
-pub run-append : (s : ℕ) (front back : List Whole) → IsRunOf s front → IsRunOf (end_of s (spans_of front)) back → IsRunOf s (front ++ back)
+pub run-append : (s : ℕ) (front back : List Whole) → IsRunOf s front → IsRunOf (last_span_end s (spans_of front)) back → IsRunOf s (front ++ back)
 run-append s front back a b = record {
   tiled = subst (λ (spans : List Span). IsTiled s spans) (sym (spans_of-append front back)) (tiled-append s (spans_of front) (spans_of back) a.tiled b.tiled);
   lengths = lengths-append front back a.lengths b.lengths;
@@ -90,16 +90,16 @@ run-front s front back run = record {
   lengths = lengths-front front back run.lengths;
 }
 
-pub run-back : (s : ℕ) (front back : List Whole) → IsRunOf s (front ++ back) → IsRunOf (end_of s (spans_of front)) back
+pub run-back : (s : ℕ) (front back : List Whole) → IsRunOf s (front ++ back) → IsRunOf (last_span_end s (spans_of front)) back
 run-back s front back run = record {
   tiled = tiled-back s (spans_of front) (spans_of back) (both-tiled s front back run);
   lengths = lengths-back front back run.lengths;
 }
 
 -- one more group at the end
-pub run-push : (s : ℕ) (wholes : List Whole) (whole : Whole) → IsRunOf s wholes → whole.start ≡ end_of s (spans_of wholes) → HasItsLength whole → IsRunOf s (wholes ++ whole ∷ [])
+pub run-push : (s : ℕ) (wholes : List Whole) (whole : Whole) → IsRunOf s wholes → whole.start ≡ last_span_end s (spans_of wholes) → HasItsLength whole → IsRunOf s (wholes ++ whole ∷ [])
 run-push s wholes whole run from to =
-    run-append s wholes (whole ∷ []) run (run-cons (end_of s (spans_of wholes)) whole [] from to (run-none whole.end))
+    run-append s wholes (whole ∷ []) run (run-cons (last_span_end s (spans_of wholes)) whole [] from to (run-none whole.end))
 
 -- a boundary of the front is one of the longer run
 pub boundary-longer : (s : ℕ) (wholes more : List Whole) (m : ℕ) → IsBoundary s (spans_of wholes) m → IsBoundary s (spans_of (wholes ++ more)) m
@@ -177,7 +177,7 @@ boundary-reached s (whole ∷ wholes) m place run boundary =
     }) boundary
 
 -- a boundary is no later than the end
-pub boundary-before_end : (s : ℕ) (wholes : List Whole) (m : ℕ) → IsDataLsn s → IsRunOf s wholes → IsBoundary s (spans_of wholes) m → m ≤ end_of s (spans_of wholes)
+pub boundary-before_end : (s : ℕ) (wholes : List Whole) (m : ℕ) → IsDataLsn s → IsRunOf s wholes → IsBoundary s (spans_of wholes) m → m ≤ last_span_end s (spans_of wholes)
 boundary-before_end s [] m place run is = omega arith
 boundary-before_end s (whole ∷ wholes) m place run is =
     let first : First s whole = first-of s whole wholes place run in

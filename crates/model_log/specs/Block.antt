@@ -25,8 +25,8 @@ block_text lsn content first ckpt =
     ++ content))
 
 -- what the fields of 512 bytes say
-abbrev pub view_of : List ℕ → BlockView
-view_of bytes = record { length = field 2 4 bytes; first = field 2 6 bytes; ckpt = field 4 8 bytes }
+abbrev pub block_view : List ℕ → BlockView
+block_view bytes = record { length = field 2 4 bytes; first = field 2 6 bytes; ckpt = field 4 8 bytes }
 
 -- the number, without the flush bit, is that of the lsn
 abbrev pub fits_number : ℕ → List ℕ → Bool
@@ -47,12 +47,12 @@ fits_checksum bytes = field 4 BLOCK_DATA_END bytes == crc_of (take BLOCK_DATA_EN
 -- the 512 bytes are a block of the lsn
 unfoldable pub is_block_at : ℕ → List ℕ → Bool
 is_block_at lsn bytes =
-    let view : BlockView = view_of bytes in
+    let view : BlockView = block_view bytes in
     fits_number lsn bytes && is_length view.length && is_first view.length view.first && fits_checksum bytes
 
 -- what is read off 512 bytes at an lsn: nothing where they are no block of it
 unfoldable pub read_block : ℕ → List ℕ → Option BlockView
-read_block lsn bytes = if is_block_at lsn bytes then Some (view_of bytes) else None
+read_block lsn bytes = if is_block_at lsn bytes then Some (block_view bytes) else None
 
 -- the block's data is all in use
 abbrev pub is_full : BlockView → Bool

@@ -1,6 +1,6 @@
 -- Why 512 bytes are a block of an lsn, or aren't.
 use Rattle.std.specs.Prelude.{ℕ, List, if◌then◌else◌}
-use Rattle.model_log.specs.Block.{fits_checksum, fits_number, is_first, is_length, view_of}
+use Rattle.model_log.specs.Block.{block_view, fits_checksum, fits_number, is_first, is_length}
 use Rattle.model_log.specs.declared.fit.Fit.{Fit}
 use Rattle.model_log.specs.declared.fit.Fit.TheVariants.{Whole, Number, Length, First, Checksum}
 
@@ -8,8 +8,8 @@ use Rattle.model_log.specs.declared.fit.Fit.TheVariants.{Whole, Number, Length, 
 abbrev pub fit_of : ℕ → List ℕ → Fit
 fit_of lsn bytes =
     if fits_number lsn bytes
-    then (if is_length (view_of bytes).length
-    then (if is_first (view_of bytes).length (view_of bytes).first
+    then (if is_length (block_view bytes).length
+    then (if is_first (block_view bytes).length (block_view bytes).first
     then (if fits_checksum bytes then Whole else Checksum)
     else First)
     else Length)

@@ -11,7 +11,7 @@ pub mod Lsn
 pub mod Record
 pub mod Run
 pub mod Stop
-pub use Rattle.model_log.specs.Block.{data_of, fits_checksum, fits_number, is_first, is_full, is_length, length_of, view_of}
+pub use Rattle.model_log.specs.Block.{block_view, data_of, fits_checksum, fits_number, is_first, is_full, is_length, length_of}
 unfoldable pub use Rattle.model_log.specs.Block.{block_text, is_block_at, read_block, with_checksum}
 pub use Rattle.model_log.specs.Bodies.{IsAfterType, IsBody, IsLength, IsPlace, IsRecord, IsShort, IsSpot, IsString, IsValue}
 pub use Rattle.model_log.specs.Boundary.{IsBoundaryBlock, IsGivenTo, blocks_between, crossing_end, ends_in, framed, length_at}
@@ -29,5 +29,5 @@ unfoldable pub use Rattle.model_log.specs.Head.{head_text, read_head}
 pub use Rattle.model_log.specs.Lsn.{IsAtDataStart, IsDataLsn, block_number, block_of, data_before, lsn_at, lsn_of, sn_of, start_after, turn_of}
 pub use Rattle.model_log.specs.Record.{HasSpelling, HasText, IsByte, IsWidth, after_type, page_of, type_of, value_text}
 unfoldable pub use Rattle.model_log.specs.Record.{record_text, single_text}
-pub use Rattle.model_log.specs.Run.{HasItsLength, IsBoundary, IsRunOf, IsTiled, Span, end_of, span_of, spans_of}
+pub use Rattle.model_log.specs.Run.{HasItsLength, IsBoundary, IsRunOf, IsTiled, Span, last_span_end, span_of, spans_of}
 pub use Rattle.model_log.specs.Stop.{AreFull, IsStop, cause_at, misfit_of}

@@ -17,9 +17,9 @@ IsTiled s [] = Unit {0}
 IsTiled s (span ∷ spans) = (span.start ≡ s) × IsTiled span.end spans
 
 -- where the last ends, or s where there is none
-abbrev pub end_of : ℕ → List Span → ℕ
-end_of s [] = s
-end_of s (span ∷ spans) = end_of span.end spans
+abbrev pub last_span_end : ℕ → List Span → ℕ
+last_span_end s [] = s
+last_span_end s (span ∷ spans) = last_span_end span.end spans
 
 -- s, or the end of one of them
 abbrev pub IsBoundary : ℕ → List Span → ℕ → Type 0

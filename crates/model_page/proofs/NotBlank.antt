@@ -1,11 +1,12 @@
--- The bytes of a page of full size are never all 0, whatever its fields are: the checksum of as many zero bytes isn't 0.
+-- The bytes of a page are never all 0, whatever its fields are: the checksum of as many zero bytes isn't 0.
 use Rattle.std.proofs.Common.{◌≡◌, ℕ, ◌+◌, ◌==◌, ◌%◌, ◌^◌, Bool, true, false, List, [], ◌∷◌, ◌++◌, length, replicate, refl, ap, sym, ◌∙◌, arith, length-append}
 use Rattle.std.specs.Int.{bytes_high_first}
 use Rattle.std.proofs.lemmas.Bool.{eqb-true, and_parts}
-use Rattle.model_base.specs.{after_bit, after_byte, after_eight_bits, crc_of, register_after}
+use Rattle.model_base.specs.{after_bit, after_byte, after_eight_bits, crc_of, frame_length, register_after}
+unfoldable use Rattle.model_base.specs.{IsPageSize}
 use Rattle.model_page.specs.Page.{page_text, middle_text, is_blank}
 
--- the checksum of the zero bytes of a page of full size
+-- the checksum of the zero bytes of a page of 4,096 bytes
 zeros_crc : crc_of (replicate 4084 0) ≡ 3527647855
 unfolding crc_of register_after after_byte after_eight_bits after_bit
 zeros_crc = refl
@@ -51,5 +52,9 @@ blank-parts number space lsn user true long blank =
     let none : is_blank (bytes_high_first 4 3527647855) ≡ true = ap (λ n. is_blank (bytes_high_first 4 n)) (sym value) ∙ blank-front sum middle front in
     absurd cc
 
-pub is_blank-page_text_whole : (number space lsn : ℕ) (user : List ℕ) → length user ≡ 4050 → is_blank (page_text number space lsn user) ≡ false
-is_blank-page_text_whole number space lsn user long = blank-parts number space lsn user (is_blank (page_text number space lsn user)) long refl
+-- so for each page size, of which there is one
+pub is_blank-page_text_whole : (number space lsn : ℕ) (user : List ℕ) → IsPageSize (frame_length + length user)
+    → is_blank (page_text number space lsn user) ≡ false
+unfolding IsPageSize
+is_blank-page_text_whole number space lsn user size =
+    blank-parts number space lsn user (is_blank (page_text number space lsn user)) (omega (arith, size)) refl

@@ -4,23 +4,19 @@
 use Rattle.std.specs.Prelude.{ℕ, ◌+◌, ◌-◌, ◌%◌, ◌^◌, ◌==◌, ◌&&◌, if◌then◌else◌, Bool, List, ◌++◌, length, take, drop}
 use Rattle.std.specs.List.{list_all}
 use Rattle.std.specs.Int.{bytes_high_first}
-use Rattle.model_base.specs.declared.limits.TheConstants.{USER_START}
+use Rattle.model_base.specs.declared.limits.TheConstants.{PAGE_TRAILER, USER_START}
 use Rattle.model_base.specs.{crc_of, field}
 use Rattle.model_page.specs.declared.page.PageState.{PageState}
 use Rattle.model_page.specs.declared.page.PageState.TheVariants.{Blank, Sound, Broken}
-use Rattle.model_page.specs.declared.page.TheConstants.{TRAILER_LENGTH, NUMBER_START, LSN_START, SPACE_START}
-
--- bytes of a page that aren't user bytes
-abbrev pub frame_length : ℕ
-frame_length = USER_START + TRAILER_LENGTH
+use Rattle.model_page.specs.declared.page.TheConstants.{NUMBER_START, LSN_START, SPACE_START}
 
 -- what the checksums are of: all but the first four bytes and the last eight
 abbrev pub checked_part : List ℕ → List ℕ
-checked_part bytes = take (length bytes - TRAILER_LENGTH - NUMBER_START) (drop NUMBER_START bytes)
+checked_part bytes = take (length bytes - PAGE_TRAILER - NUMBER_START) (drop NUMBER_START bytes)
 
 -- the user bytes of a page
 abbrev pub user_part : List ℕ → List ℕ
-user_part bytes = take (length bytes - TRAILER_LENGTH - USER_START) (drop USER_START bytes)
+user_part bytes = take (length bytes - PAGE_TRAILER - USER_START) (drop USER_START bytes)
 
 -- from the page number up to the user bytes' end; neighbours, type and flush lsn are 0
 abbrev pub middle_text : ℕ → ℕ → ℕ → List ℕ → List ℕ
@@ -41,7 +37,7 @@ is_blank bytes = list_all (λ byte. byte == 0) bytes
 abbrev pub is_sound : List ℕ → Bool
 is_sound bytes =
     field 4 0 bytes == crc_of (checked_part bytes)
-    && field 4 (length bytes - TRAILER_LENGTH) bytes == crc_of (checked_part bytes)
+    && field 4 (length bytes - PAGE_TRAILER) bytes == crc_of (checked_part bytes)
     && field 4 (length bytes - 4) bytes == field 8 LSN_START bytes % 2 ^ 32
 
 -- what the check of a page's bytes finds

@@ -1,6 +1,6 @@
 // What holds of every page. Each law is the contract of a function that does nothing.
-ghost use Rattle.std.specs.Prelude.{ℕ, List, length, ◌≡◌, ◌<◌, false, Some};
-ghost use Rattle.model_base.specs.declared.limits.TheConstants.{USER_BYTES};
+ghost use Rattle.std.specs.Prelude.{ℕ, List, length, ◌≡◌, ◌<◌, ◌+◌, false, Some};
+ghost use Rattle.model_base.specs.{frame_length, IsPageSize};
 ghost use Rattle.model_base.specs.declared.shape.Shape.{Shape};
 ghost use Rattle.model_page.specs.Copies.{copy_lsn, IsBestCopy, HasBestCopy, IsKept, IsLost};
 ghost use Rattle.model_page.specs.Fits.{FitsPage};
@@ -18,7 +18,7 @@ pub fn page_reads_back()
     ensures not_blank { (number space lsn : ℕ) (user : List ℕ) → FitsPage number space lsn user
         → 0 < lsn → is_blank (page_text number space lsn user) ≡ false }
     ensures never_blank { (number space lsn : ℕ) (user : List ℕ)
-        → length user ≡ USER_BYTES → is_blank (page_text number space lsn user) ≡ false }
+        → IsPageSize (frame_length + length user) → is_blank (page_text number space lsn user) ≡ false }
     ensures user { (number space lsn : ℕ) (user : List ℕ)
         → user_part (page_text number space lsn user) ≡ user }
 {}

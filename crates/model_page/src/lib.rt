@@ -8,4 +8,4 @@ mod page;
 
 pub use content::Content;
 pub use laws::{best_copy_is_one, kept_is_one, page_reads_back};
-pub use page::{LSN_START, NUMBER_START, PageState, SPACE_START, TRAILER_LENGTH};
+pub use page::{LSN_START, NUMBER_START, PageState, SPACE_START};

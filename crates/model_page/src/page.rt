@@ -6,8 +6,6 @@ pub const NUMBER_START: u32 = 4;
 pub const LSN_START: u32 = 16;
 /// The offset of the space id.
 pub const SPACE_START: u32 = 34;
-/// Bytes after the user bytes: the second checksum, and the low half of the page lsn.
-pub const TRAILER_LENGTH: u32 = 8;
 
 /// What the check of a page's bytes finds.
 #[derive(Clone, Copy, Debug, PartialEq, Eq)]

@@ -4,8 +4,9 @@ use Rattle.std.specs.List.{slice_get}
 use Rattle.std.proofs.lemmas.Bool.{cases_Bool, cases_lt}
 use Rattle.std.proofs.lemmas.Bool.Decides.{nat_tests}
 use Rattle.model_log.specs.declared.group.Whole.{Whole}
-use Rattle.model_log.specs.{block_of, end_of, fits_checksum, fits_number, group_text, groups_of, is_block_at, is_first, is_length, IsDataLsn, IsRunOf, lsn_at, read_block, sn_of, spans_of, start_after, stream_of, view_of}
+use Rattle.model_log.specs.{block_of, block_view, fits_checksum, fits_number, group_text, groups_of, is_block_at, is_first, is_length, IsDataLsn, IsRunOf, last_span_end, lsn_at, read_block, sn_of, spans_of, start_after, stream_of}
 use Rattle.model_log.specs.declared.block.BlockView.{BlockView}
+use Rattle.model_log.specs.declared.layout.TheConstants.{BLOCK_DATA}
 use Rattle.model_log.proofs.Runs.{First, first-of, run-first, boundary-end, IsReached, boundary-reached, stream-none, stream-first, lsn-before}
 use Rattle.model_log.proofs.BoundaryLengths.{sn_of-block, sn_of-header}
 use Rattle.model_store.specs.Scan.{groups_start}
@@ -37,11 +38,11 @@ starts-behind end place =
 
 -- so many bytes of groups precede it
 pub count-end : (s : ℕ) (wholes : List Whole) → IsDataLsn s → IsRunOf s wholes
-    → sn_of (end_of s (spans_of wholes)) ≡ sn_of s + length (stream_of (groups_of wholes))
+    → sn_of (last_span_end s (spans_of wholes)) ≡ sn_of s + length (stream_of (groups_of wholes))
 count-end s [] place run = omega (arith, ap length stream-none)
 count-end s (whole ∷ wholes) place run =
     let first : First s whole = first-of s whole wholes place run in
-    let others : sn_of (end_of whole.end (spans_of wholes)) ≡ sn_of whole.end + length (stream_of (groups_of wholes)) =
+    let others : sn_of (last_span_end whole.end (spans_of wholes)) ≡ sn_of whole.end + length (stream_of (groups_of wholes)) =
     count-end whole.end wholes first.place (run-first run).2 in
     omega (arith, first.count, ap length (stream-first whole wholes), length-append (group_text whole.group) (stream_of (groups_of wholes)))
 
@@ -67,11 +68,11 @@ first-from len first test some =
 pub first-place : (lsn : ℕ) (bytes : List ℕ) (view : BlockView) → read_block lsn bytes ≡ Some view → view.first ≢ 0 → (12 ≤ view.first) × (view.first ≤ 507)
 unfolding read_block is_block_at
 first-place lsn bytes view is some =
-    let found = when-some (is_block_at lsn bytes) (view_of bytes) view is in
-    let test : is_first (view_of bytes).length (view_of bytes).first ≡ true =
-    and-third (fits_number lsn bytes) (is_length (view_of bytes).length) (is_first (view_of bytes).length (view_of bytes).first) (fits_checksum bytes) found.0 in
-    let first : (view_of bytes).first ≡ view.first = ap (λ (one : BlockView). one.first) found.1 in
-    let own = first-from (view_of bytes).length (view_of bytes).first test (λ zero. some (sym first ∙ zero)) in
+    let found = when-some (is_block_at lsn bytes) (block_view bytes) view is in
+    let test : is_first (block_view bytes).length (block_view bytes).first ≡ true =
+    and-third (fits_number lsn bytes) (is_length (block_view bytes).length) (is_first (block_view bytes).length (block_view bytes).first) (fits_checksum bytes) found.0 in
+    let first : (block_view bytes).first ≡ view.first = ap (λ (one : BlockView). one.first) found.1 in
+    let own = first-from (block_view bytes).length (block_view bytes).first test (λ zero. some (sym first ∙ zero)) in
     (omega (arith, own.0), omega (arith, own.1))
 
 -- the block in which groups start, and their offset in it
@@ -101,7 +102,7 @@ pub record IsGroupsStart (ckpt start : ℕ) (views : List BlockView) : Type 0 wh
   pub place : IsDataLsn start
   pub from : lsn_at ckpt i + 12 ≤ start
   pub up_to : start ≤ lsn_at ckpt i + 507
-  pub count : sn_of start ≤ sn_of ckpt + 496 * i + 495
+  pub count : sn_of start ≤ sn_of ckpt + BLOCK_DATA * i + 495
   pub behind : sn_of ckpt ≤ sn_of start
 
 pub within-list : {X : Type 0} (xs : List X) (i : ℕ) (x : X) → slice_get xs i ≡ Some x → i < length xs
@@ -126,7 +127,7 @@ starts-among ckpt start views aligned firsts is =
     let start_is : start ≡ b + found.view.first = found.is in
     let b_aligned : b % 512 ≡ 0 = omega arith in
     let counts : sn_of (b + found.view.first) ≡ sn_of b + (found.view.first - 12) = sn_of-place b found.view.first b_aligned low high in
-    let blocks : sn_of b ≡ sn_of ckpt + 496 * found.i = sn_of-block ckpt found.i aligned in
+    let blocks : sn_of b ≡ sn_of ckpt + BLOCK_DATA * found.i = sn_of-block ckpt found.i aligned in
     let same : sn_of start ≡ sn_of (b + found.view.first) = ap sn_of start_is in
     record {
       i = found.i;
@@ -151,11 +152,11 @@ ends-behind ckpt end views aligned is = record { place = (omega arith, omega ari
 
 -- else there at the most
 pub ends-among : (ckpt start end : ℕ) (views : List BlockView) (bytes : List ℕ) (wholes : List Whole) (rest : List ℕ) → ckpt % 512 ≡ 0
-    → IsGroupsStart ckpt start views → length bytes ≤ 496 * length views → drop (sn_of start - sn_of ckpt) bytes ≡ stream_of (groups_of wholes) ++ rest
-    → IsRunOf start wholes → end ≡ end_of start (spans_of wholes) → EndsWithin ckpt end views
+    → IsGroupsStart ckpt start views → length bytes ≤ BLOCK_DATA * length views → drop (sn_of start - sn_of ckpt) bytes ≡ stream_of (groups_of wholes) ++ rest
+    → IsRunOf start wholes → end ≡ last_span_end start (spans_of wholes) → EndsWithin ckpt end views
 ends-among ckpt start end views bytes wholes rest aligned starts short bytes_are run end_is =
-    let reached : IsReached start wholes (end_of start (spans_of wholes)) =
-    boundary-reached start wholes (end_of start (spans_of wholes)) starts.place run (boundary-end start (spans_of wholes)) in
+    let reached : IsReached start wholes (last_span_end start (spans_of wholes)) =
+    boundary-reached start wholes (last_span_end start (spans_of wholes)) starts.place run (boundary-end start (spans_of wholes)) in
     let stream : List ℕ = stream_of (groups_of wholes) in
     let skipped : ℕ = sn_of start - sn_of ckpt in
     let room : length stream ≤ length bytes - skipped =
@@ -163,7 +164,7 @@ ends-among ckpt start end views bytes wholes rest aligned starts short bytes_are
     let count : sn_of end ≡ sn_of start + length stream = ap sn_of end_is ∙ count-end start wholes starts.place run in
     let below : starts.i < length views = starts.below in
     let last : ℕ = lsn_at ckpt (length views) in
-    let last_count : sn_of (last + 12) ≡ sn_of ckpt + 496 * length views =
+    let last_count : sn_of (last + 12) ≡ sn_of ckpt + BLOCK_DATA * length views =
     sn_of-header last (omega arith) ∙ sn_of-block ckpt (length views) aligned in
     let place : IsDataLsn end = subst IsDataLsn (sym end_is) reached.place in
     let last_place : IsDataLsn (last + 12) = (omega arith, omega arith) in

@@ -6,7 +6,7 @@ use Rattle.std.proofs.lemmas.Bool.Decides.{nat_tests}
 use Rattle.model_base.specs.declared.shape.Shape.{Shape}
 use Rattle.model_log.specs.declared.rec.Rec.{Rec}
 use Rattle.model_log.specs.declared.group.Whole.{Whole}
-use Rattle.model_log.specs.{end_of, group_length, IsRunOf, layout_of, lsn_of, sn_of, spans_of}
+use Rattle.model_log.specs.{group_length, IsRunOf, last_span_end, layout_of, lsn_of, sn_of, spans_of}
 use Rattle.model_log.proofs.Runs.{run-first}
 use Rattle.model_log.specs.declared.block.BlockView.{BlockView}
 use Rattle.model_page.specs.declared.content.Content.{Content}
@@ -69,15 +69,15 @@ step-lsn p whole page false = inr refl
 lsn-later : (start len : ℕ) → start ≤ lsn_of (sn_of start + len)
 lsn-later start len = grind (arith, nat_tests)
 
-ends-after : (start : ℕ) (wholes : List Whole) → IsRunOf start wholes → start ≤ end_of start (spans_of wholes)
+ends-after : (start : ℕ) (wholes : List Whole) → IsRunOf start wholes → start ≤ last_span_end start (spans_of wholes)
 ends-after start [] tiled = omega arith
 ends-after start (whole ∷ wholes) tiled =
     let rises : whole.start ≤ lsn_of (sn_of whole.start + group_length whole.group) = lsn-later whole.start (group_length whole.group) in
-    let others : whole.end ≤ end_of whole.end (spans_of wholes) = ends-after whole.end wholes (run-first tiled).2 in
+    let others : whole.end ≤ last_span_end whole.end (spans_of wholes) = ends-after whole.end wholes (run-first tiled).2 in
     omega (arith, (run-first tiled).0, (run-first tiled).1)
 
 -- each of some groups ends at or below the end of the last of them
-pub ends-below : (start : ℕ) (wholes : List Whole) → IsRunOf start wholes → AllByRecursion (λ (whole : Whole). whole.end ≤ end_of start (spans_of wholes)) wholes
+pub ends-below : (start : ℕ) (wholes : List Whole) → IsRunOf start wholes → AllByRecursion (λ (whole : Whole). whole.end ≤ last_span_end start (spans_of wholes)) wholes
 ends-below start [] tiled = tt
 ends-below start (whole ∷ wholes) tiled = (ends-after whole.end wholes (run-first tiled).2, ends-below whole.end wholes (run-first tiled).2)
 

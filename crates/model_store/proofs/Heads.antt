@@ -2,6 +2,7 @@
 use Rattle.std.proofs.Common.{◌≡◌, ℕ, ◌%◌, ◌^◌, ◌<◌, ◌≤◌, ◌⊎◌, inl, inr, Bool, true, false, cond, ◌&&◌, ltb, leb, eqb, List, Option, Some, None, arith, refl, subst, ⊎_elim}
 use Rattle.std.proofs.lemmas.Bool.Decides.{nat_tests}
 use Rattle.model_base.specs.declared.shape.Shape.{Shape}
+use Rattle.model_base.specs.declared.limits.TheConstants.{START_LSN}
 use Rattle.model_base.specs.{field, is_within_limits, IsWithinLimits}
 use Rattle.model_base.proofs.ShapeLimits.{is_within_limits_facts}
 use Rattle.model_log.specs.{fits_checksum, format_of, head_among, header_block, is_checkpoint, newer, newest_checkpoint, place_in, place_of, read_checkpoint, read_head, shape_of}
@@ -24,7 +25,7 @@ good_parts false start limits found n read shape format e = cc
 pub good-limits : (bytes : List ℕ) (format : Format) (shape : Shape) → read_head bytes ≡ Good format shape → IsWithinLimits shape
 unfolding read_head
 good-limits bytes format shape e =
-    let parts = good_parts (fits_checksum bytes) (eqb (field 8 8 bytes) 8192) (is_within_limits (shape_of bytes)) (format_of (field 4 0 bytes)) (field 4 0 bytes) (shape_of bytes) shape format e in
+    let parts = good_parts (fits_checksum bytes) (eqb (field 8 8 bytes) START_LSN) (is_within_limits (shape_of bytes)) (format_of (field 4 0 bytes)) (field 4 0 bytes) (shape_of bytes) shape format e in
     subst (λ (s : Shape). IsWithinLimits s) parts.1 (is_within_limits_facts (shape_of bytes) parts.0)
 
 either-head : (sound : Bool) (first second head : Head) → cond sound first second ≡ head → (first ≡ head) ⊎ (second ≡ head)
@@ -37,8 +38,8 @@ head-limits first second format shape is =
     ⊎_elim (λ one. good-limits first format shape one) (λ two. good-limits second format shape two)
     (either-head (fits_checksum first) (read_head first) (read_head second) (Good format shape) is)
 
-checkpoint_parts : (a b : Bool) (lsn : ℕ) (f : Bool) → (a && b && eqb (lsn % 512) 0 && leb 8192 lsn && ltb lsn (2 ^ 60) && f) ≡ true
-    → (lsn % 512 ≡ 0) × (8192 ≤ lsn) × (lsn < 2 ^ 60)
+checkpoint_parts : (a b : Bool) (lsn : ℕ) (f : Bool) → (a && b && eqb (lsn % 512) 0 && leb START_LSN lsn && ltb lsn (2 ^ 60) && f) ≡ true
+    → (lsn % 512 ≡ 0) × (START_LSN ≤ lsn) × (lsn < 2 ^ 60)
 checkpoint_parts a b lsn f e = grind (arith, nat_tests)
 
 -- what is tested passes the test
@@ -47,11 +48,11 @@ tested true x y e = (refl, cc)
 tested false x y e = cc
 
 read_checkpoint-bounds : (which : ℕ) (layout : Layout) (bytes : List ℕ) (found : ℕ × ℕ) → read_checkpoint which layout bytes ≡ Some found
-    → (found.1 % 512 ≡ 0) × (8192 ≤ found.1) × (found.1 < 2 ^ 60)
+    → (found.1 % 512 ≡ 0) × (START_LSN ≤ found.1) × (found.1 < 2 ^ 60)
 unfolding read_checkpoint
 read_checkpoint-bounds which layout bytes found e =
     let parts = tested (is_checkpoint which layout bytes) (field 8 0 bytes, field 8 8 bytes) found e in
-    subst (λ (pair : ℕ × ℕ). (pair.1 % 512 ≡ 0) × (8192 ≤ pair.1) × (pair.1 < 2 ^ 60)) parts.1
+    subst (λ (pair : ℕ × ℕ). (pair.1 % 512 ≡ 0) × (START_LSN ≤ pair.1) × (pair.1 < 2 ^ 60)) parts.1
     (checkpoint_parts (fits_checksum bytes) (eqb (place_of (field 8 0 bytes)) which) (field 8 8 bytes)
     (eqb (field 8 16 bytes) (place_in layout (field 8 8 bytes))) parts.0)
 
@@ -66,7 +67,7 @@ one_of_newer (Some m) (Some n) x e = go (ltb m.0 n.0) m n x e
 
 -- the newest checkpoint is at the lsn of a block of the log
 pub checkpoint-bounds : (layout : Layout) (image : List ℕ) (number ckpt : ℕ) → newest_checkpoint layout image ≡ Some (number, ckpt)
-    → (ckpt % 512 ≡ 0) × (8192 ≤ ckpt) × (ckpt < 2 ^ 60)
+    → (ckpt % 512 ≡ 0) × (START_LSN ≤ ckpt) × (ckpt < 2 ^ 60)
 checkpoint-bounds layout image number ckpt e =
     elim (one_of_newer (read_checkpoint 1 layout (header_block 1 image)) (read_checkpoint 3 layout (header_block 3 image)) (number, ckpt) e) [
       | inl first ↦ read_checkpoint-bounds 1 layout (header_block 1 image) (number, ckpt) first

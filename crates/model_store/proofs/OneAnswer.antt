@@ -2,7 +2,7 @@
 use Rattle.std.proofs.Common.{◌≡◌, ℕ, ◌<◌, ◌≤◌, ◌⊎◌, inl, inr, List, length, Option, Some, None, arith, refl, sym, ap, ap₂, subst, ◌∙◌}
 use Rattle.model_base.specs.declared.shape.Shape.{Shape}
 use Rattle.model_log.specs.declared.group.Whole.{Whole}
-use Rattle.model_log.specs.{end_of, head_of, IsFront, layout_of, log_device_length, newest_checkpoint, spans_of}
+use Rattle.model_log.specs.{head_of, IsFront, last_span_end, layout_of, log_device_length, newest_checkpoint, spans_of}
 use Rattle.model_log.specs.declared.head.Format.{Format}
 use Rattle.model_log.specs.declared.block.BlockView.{BlockView}
 use Rattle.model_log.specs.declared.head.Head.{Head}
@@ -110,7 +110,7 @@ same_bad one shape most source ckpt m n a b =
     let moved = subst (λ xs. AreGroups shape (data_from source ckpt xs b.start) b.start b.wholes b.rest) (sym views) b.groups in
     let groups = subst (λ from. AreGroups shape (data_from source ckpt a.views from) from b.wholes b.rest) (sym start) moved in
     let same = same_groups one shape (data_from source ckpt a.views a.start) a.start a.wholes b.wholes a.rest b.rest a.groups groups a.no_storable b.no_storable in
-    a.at ∙ ap₂ end_of start (ap spans_of same.0) ∙ sym b.at
+    a.at ∙ ap₂ last_span_end start (ap spans_of same.0) ∙ sym b.at
 
 same_scanned : OneGroup → (log data_bytes : List ℕ) (format : Format) (shape : Shape) (ckpt : ℕ) (o q : Option Refusal) → ScanAnswer log data_bytes format shape ckpt o → ScanAnswer log data_bytes format shape ckpt q → o ≡ q
 same_scanned one log data_bytes format shape ckpt o q (inl (m, bad, is)) (inl (n, wrong, at)) =

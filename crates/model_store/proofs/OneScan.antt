@@ -5,7 +5,7 @@ use Rattle.std.proofs.lemmas.List.{append-nil, nil_from_length}
 use Rattle.model_base.specs.declared.shape.Shape.{Shape}
 use Rattle.model_log.specs.declared.rec.Rec.{Rec}
 use Rattle.model_log.specs.declared.group.Whole.{Whole}
-use Rattle.model_log.specs.{end_of, group_length, group_text, groups_of, is_full, IsFront, IsGroup, IsRunOf, IsUnfinished, lsn_of, sn_of, spans_of, stream_of}
+use Rattle.model_log.specs.{group_length, group_text, groups_of, is_full, IsFront, IsGroup, IsRunOf, IsUnfinished, last_span_end, lsn_of, sn_of, spans_of, stream_of}
 use Rattle.model_log.specs.declared.block.BlockView.{BlockView}
 use Rattle.model_log.proofs.Runs.{run-first}
 use Rattle.model_store.specs.Scan.{AreBlocks, IsStorable, AreGroups, AreGroupsOf, IsScan, HasNoStorable, Source, groups_start, data_from}
@@ -93,7 +93,7 @@ same_groups_of one shape source ckpt views None ws vs m n a b = (a.0 ∙ sym b.0
 same_groups_of one shape source ckpt views (Some start) ws vs m n (rest, a, front, m_is) (tail, b, back, n_is) =
     let same = same_groups one shape (data_from source ckpt views start) start ws vs rest tail a b
     (front-no_storable one shape rest front) (front-no_storable one shape tail back) in
-    (same.0, m_is ∙ ap (λ (groups : List Whole). end_of start (spans_of groups)) same.0 ∙ sym n_is)
+    (same.0, m_is ∙ ap (λ (groups : List Whole). last_span_end start (spans_of groups)) same.0 ∙ sym n_is)
 
 -- the scan of a source is determined
 pub same_scan : OneGroup → (shape : Shape) (most : ℕ) (source : Source) (ckpt : ℕ) (views blocks : List BlockView) (ws vs : List Whole) (m n : ℕ)

@@ -7,6 +7,7 @@ use Rattle.model_base.specs.declared.shape.Shape.{Shape}
 use Rattle.model_log.specs.declared.group.Whole.{Whole}
 use Rattle.model_log.specs.{is_full, lsn_at}
 use Rattle.model_log.specs.declared.block.BlockView.{BlockView}
+use Rattle.model_log.specs.declared.layout.TheConstants.{BLOCK_DATA}
 use Rattle.model_store.specs.Scan.{AreGroupsOf, IsScan, bytes_of, groups_start, joined, Source, Taken, view_at}
 use Rattle.model_store.proofs.Ending.{IsGroupsStart, EndsWithin, AreFirstsIn, starts-among, ends-behind, ends-among}
 
@@ -18,8 +19,8 @@ data_at source lsn = bytes_of (source lsn)
 -- that of a full block, which has all of it.
 pub record IsSoundSource (source : Source) : Type 0 where
   pub first : (lsn : ℕ) (block : Taken) → source lsn ≡ Some block → block.view.first ≢ 0 → (12 ≤ block.view.first) × (block.view.first ≤ 507)
-  pub short : (lsn : ℕ) (block : Taken) → source lsn ≡ Some block → length block.bytes ≤ 496
-  pub full : (lsn : ℕ) (block : Taken) → source lsn ≡ Some block → is_full block.view ≡ true → length block.bytes ≡ 496
+  pub short : (lsn : ℕ) (block : Taken) → source lsn ≡ Some block → length block.bytes ≤ BLOCK_DATA
+  pub full : (lsn : ℕ) (block : Taken) → source lsn ≡ Some block → is_full block.view ≡ true → length block.bytes ≡ BLOCK_DATA
 
 -- each of the views is what the scan takes
 abbrev pub AreTaken : Source → ℕ → List BlockView → Type 0
@@ -104,18 +105,18 @@ pub groups-start : (source : Source) (ckpt start : ℕ) (views : List BlockView)
     → AreTaken source ckpt views → groups_start ckpt views ≡ Some start → IsGroupsStart ckpt start views
 groups-start source ckpt start views sound aligned each is = starts-among ckpt start views aligned (firsts-taken source ckpt views sound each) is
 
-short-data : (source : Source) (lsn : ℕ) (found : Option Taken) → IsSoundSource source → source lsn ≡ found → length (bytes_of found) ≤ 496
+short-data : (source : Source) (lsn : ℕ) (found : Option Taken) → IsSoundSource source → source lsn ≡ found → length (bytes_of found) ≤ BLOCK_DATA
 short-data source lsn None sound is = omega arith
 short-data source lsn (Some block) sound is = sound.short lsn block is
 
-joined-short : (source : Source) (lsn : ℕ) (views : List BlockView) → IsSoundSource source → length (joined source lsn views) ≤ 496 * length views
+joined-short : (source : Source) (lsn : ℕ) (views : List BlockView) → IsSoundSource source → length (joined source lsn views) ≤ BLOCK_DATA * length views
 joined-short source lsn [] sound = omega arith
 joined-short source lsn (view ∷ views) sound =
-    let first : length (data_at source lsn) ≤ 496 = short-data source lsn (source lsn) sound refl in
-    let others : length (joined source (lsn + 512) views) ≤ 496 * length views = joined-short source (lsn + 512) views sound in
+    let first : length (data_at source lsn) ≤ BLOCK_DATA = short-data source lsn (source lsn) sound refl in
+    let others : length (joined source (lsn + 512) views) ≤ BLOCK_DATA * length views = joined-short source (lsn + 512) views sound in
     omega (arith, length-append (data_at source lsn) (joined source (lsn + 512) views))
 
-full-data : (source : Source) (lsn : ℕ) (view : BlockView) → IsSoundSource source → view_at source lsn ≡ Some view → is_full view ≡ true → length (data_at source lsn) ≡ 496
+full-data : (source : Source) (lsn : ℕ) (view : BlockView) → IsSoundSource source → view_at source lsn ≡ Some view → is_full view ≡ true → length (data_at source lsn) ≡ BLOCK_DATA
 full-data source lsn view sound at full =
     let found : Found source lsn view = found-at source lsn view at in
     ap (λ (o : Option Taken). length (bytes_of o)) found.is ∙ sound.full lsn found.block found.is (ap is_full found.view_is ∙ full)
@@ -123,13 +124,13 @@ full-data source lsn view sound at full =
 pub joined-full : (source : Source) (lsn : ℕ) (views : List BlockView) → IsSoundSource source
     → ((i : ℕ) (view : BlockView) → slice_get views i ≡ Some view → view_at source (lsn_at lsn i) ≡ Some view)
     → ((i : ℕ) (view : BlockView) → slice_get views i ≡ Some view → is_full view ≡ true)
-    → length (joined source lsn views) ≡ 496 * length views
+    → length (joined source lsn views) ≡ BLOCK_DATA * length views
 joined-full source lsn [] sound each full = omega arith
 joined-full source lsn (view ∷ views) sound each full =
     let here : lsn_at lsn 0 ≡ lsn = omega arith in
     let at : view_at source lsn ≡ Some view = sym (ap (view_at source) here) ∙ each 0 view refl in
-    let first : length (data_at source lsn) ≡ 496 = full-data source lsn view sound at (full 0 view refl) in
-    let others : length (joined source (lsn + 512) views) ≡ 496 * length views =
+    let first : length (data_at source lsn) ≡ BLOCK_DATA = full-data source lsn view sound at (full 0 view refl) in
+    let others : length (joined source (lsn + 512) views) ≡ BLOCK_DATA * length views =
     joined-full source (lsn + 512) views sound
     (λ i other found. (let next : lsn_at (lsn + 512) i ≡ lsn_at lsn (suc i) = omega arith in ap (view_at source) next ∙ each (suc i) other found))
     (λ i other found. full (suc i) other found) in

@@ -3,13 +3,14 @@ use Rattle.std.proofs.Common.{◌≡◌, ◌≤◌, ◌<◌, ◌+◌, ◌-◌, �
 use Rattle.std.proofs.lemmas.Bool.{cases_Bool}
 use Rattle.std.proofs.lemmas.Bool.Decides.{nat_tests}
 use Rattle.model_base.specs.declared.shape.Shape.{Shape}
-use Rattle.model_base.specs.declared.limits.TheConstants.{LSN_LIMIT}
+use Rattle.model_base.specs.declared.limits.TheConstants.{LSN_LIMIT, MIN_LOG_BLOCKS}
 use Rattle.model_base.specs.{IsWithinLimits}
 use Rattle.model_log.specs.{data_of, header_block, is_full, IsLayout, layout_of, log_block, log_device_length, place_in, read_block, ring_start, round_of, turn_of}
 use Rattle.model_log.specs.declared.block.BlockView.{BlockView}
 use Rattle.model_log.specs.declared.head.Format.{Format}
 use Rattle.model_log.specs.declared.head.Format.TheVariants.{One, Two}
 use Rattle.model_log.specs.declared.layout.Layout.{Layout}
+use Rattle.model_log.specs.declared.layout.TheConstants.{BLOCK_DATA}
 use Rattle.model_log.proofs.Layouts.{has-blocks, is_layout_of}
 use Rattle.model_log.proofs.Places.{place-within}
 use Rattle.model_store.specs.Scan.{Taken, taken_from, Source}
@@ -176,10 +177,10 @@ limit-off false x block is = absurd cc
 
 -- A SOURCE THAT READS WHOLE BLOCKS IS SOUND.
 
-short-data : (n : ℕ) (bytes : List ℕ) → length (take (min n 508 - 12) (drop 12 bytes)) ≤ 496
+short-data : (n : ℕ) (bytes : List ℕ) → length (take (min n 508 - 12) (drop 12 bytes)) ≤ BLOCK_DATA
 short-data n bytes = omega (arith, length-take (min n 508 - 12) (drop 12 bytes))
 
-full-data : (n : ℕ) (bytes : List ℕ) → length bytes ≡ 512 → n ≡ 512 → length (take (min n 508 - 12) (drop 12 bytes)) ≡ 496
+full-data : (n : ℕ) (bytes : List ℕ) → length bytes ≡ 512 → n ≡ 512 → length (take (min n 508 - 12) (drop 12 bytes)) ≡ BLOCK_DATA
 full-data n bytes long all = omega (arith, length-take (min n 508 - 12) (drop 12 bytes), length-drop 12 bytes)
 
 length-full : (view : BlockView) → is_full view ≡ true → view.length ≡ 512
@@ -211,7 +212,7 @@ log-sound layout image is_layout long =
     (limit-off (ltb lsn LSN_LIMIT) (taken_among layout.format lsn (log_block layout lsn image) (header_block 4 image) (header_block 5 image)) block is))
 
 -- the ring of a store ends where its log device does
-ring-ends : (format : Format) (shape : Shape) → 1024 ≤ shape.log_blocks → ring_start (layout_of format shape) + round_of (layout_of format shape) ≡ log_device_length shape
+ring-ends : (format : Format) (shape : Shape) → MIN_LOG_BLOCKS ≤ shape.log_blocks → ring_start (layout_of format shape) + round_of (layout_of format shape) ≡ log_device_length shape
 ring-ends One shape many = omega arith
 ring-ends Two shape many = omega arith
 

@@ -4,7 +4,7 @@ use Rattle.std.specs.List.{AllByRecursion}
 use Rattle.std.specs.Option.{option_map}
 use Rattle.model_base.specs.declared.shape.Shape.{Shape}
 use Rattle.model_base.specs.declared.limits.TheConstants.{BLOCK_SIZE, MAX_GROUP}
-use Rattle.model_log.specs.{data_of, end_of, group_length, group_text, GroupFits, groups_of, is_full, IsFront, IsGroup, IsRunOf, lsn_at, sn_of, spans_of, stream_of}
+use Rattle.model_log.specs.{data_of, group_length, group_text, GroupFits, groups_of, is_full, IsFront, IsGroup, IsRunOf, last_span_end, lsn_at, sn_of, spans_of, stream_of}
 use Rattle.model_log.specs.declared.rec.Rec.{Rec}
 use Rattle.model_log.specs.declared.group.Whole.{Whole}
 use Rattle.model_log.specs.declared.layout.TheConstants.{BLOCK_HEADER}
@@ -86,7 +86,7 @@ AreGroupsOf shape source ckpt views None wholes end =
     (wholes ≡ []) × (end ≡ lsn_at ckpt (length views) + BLOCK_HEADER)
 AreGroupsOf shape source ckpt views (Some start) wholes end =
     (rest : List ℕ) × AreGroups shape (data_from source ckpt views start) start wholes rest
-    × IsFront rest × (end ≡ end_of start (spans_of wholes))
+    × IsFront rest × (end ≡ last_span_end start (spans_of wholes))
 
 -- The scan of a source from the checkpoint at the lsn `ckpt` on: the blocks, the whole groups, and the end.
 pub record IsScan (shape : Shape) (most : ℕ) (source : Source) (ckpt : ℕ) (views : List BlockView) (wholes : List Whole) (end : ℕ) : Type 0 where
@@ -105,4 +105,4 @@ pub record IsBadRecord (shape : Shape) (most : ℕ) (source : Source) (ckpt lsn 
   pub groups : AreGroups shape (data_from source ckpt views start) start wholes rest
   pub no_storable : HasNoStorable shape rest
   pub no_rest : IsFront rest → ⊥
-  pub at : lsn ≡ end_of start (spans_of wholes)
+  pub at : lsn ≡ last_span_end start (spans_of wholes)
