@@ -1,11 +1,11 @@
 -- While the two header blocks are made alike, the log is read as it was.
-use Rattle.std.proofs.Common.{◌≡◌, ◌≤◌, ◌+◌, ◌⊎◌, ℕ, inl, List, length, Option, Some, None, sym, ap, ◌∙◌, ⊎_elim, arith}
+use Rattle.std.proofs.Common.{◌≡◌, ◌≤◌, ◌⊎◌, ℕ, inl, List, length, Option, Some, None, sym, ap, ◌∙◌, ⊎_elim, arith}
 use Rattle.model_device.specs.{sector}
 use Rattle.model_base.specs.declared.shape.Shape.{Shape}
 use Rattle.model_log.specs.declared.head.Format.{Format}
 use Rattle.model_log.specs.declared.head.Format.TheVariants.{One, Two}
 use Rattle.model_log.specs.declared.layout.Layout.{Layout}
-use Rattle.model_log.specs.{header_block, layout_of, log_block, lsn_at, read_checkpoint, sector_of}
+use Rattle.model_log.specs.{header_block, layout_of, log_block, lsn_at, sector_of}
 use Rattle.model_store.specs.{AreFoundIn, AreInPlace, IsOrderly, IsReading, IsScan, read_full, read_tail, taken, taken_from}
 use Rattle.model_store.specs.Reading.{Reading}
 use Rattle.model_store.specs.declared.tail.Tail.{Tail}
@@ -15,7 +15,7 @@ use Rattle.model_parts.specs.Opened.{found_layout, ReadsOpened}
 use Rattle.model_parts.specs.Rewritten.{IsRewriting}
 use Rattle.model_parts.proofs.Clearing.{block-sector, ring-from}
 use Rattle.model_parts.proofs.Dropping.{whole-scan}
-use Rattle.model_parts.proofs.Reread.{again-reads, IsLogRead, log-read, same-newest}
+use Rattle.model_parts.proofs.Reread.{again-reads, same-newest}
 
 first-from : (format : Format) (shape : Shape) → 4 ≤ (layout_of format shape).first
 first-from One shape = omega arith

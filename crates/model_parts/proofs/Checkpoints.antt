@@ -18,7 +18,7 @@ use Rattle.model_log.proofs.Layouts.{has-blocks}
 use Rattle.model_log.proofs.Places.{HasBlocks}
 use Rattle.model_parts.specs.declared.marks.LogMarks.{LogMarks}
 use Rattle.model_parts.specs.declared.marks.TailMarks.{TailMarks}
-use Rattle.model_parts.specs.Held.{AreInOrder, HoldsTail, IsBeside, IsLive, IsPlace, IsTail, IsWritten, LogHoldsWith, MayStand, other_place}
+use Rattle.model_parts.specs.Held.{AreInOrder, HoldsTail, IsBeside, IsBlockPlace, IsLive, IsTail, IsWritten, LogHoldsWith, MayStand, other_place}
 use Rattle.model_parts.specs.Marks.{after_asked, after_checkpoint, after_synced, HasNextNumber, MayBeNext, tails_synced}
 use Rattle.model_parts.proofs.LogImages.{beside-kept, header-below, place-cases, places-on}
 use Rattle.model_parts.proofs.Puts.{adds-holds, HasToStay, place-past, place-wider, PutsWell, tail-wider}
@@ -39,7 +39,7 @@ settled-holds shape s wholes marks tails disk order is =
       heads = λ k at bytes may. ap read_head (only k bytes may) ∙ is.heads k at;
       order = order;
       kept = record { boundary = order.written; from = order.stable_written; up_to = omega arith; place = is.place };
-      blocks = λ b in_round bytes may. subst (λ (x : List ℕ). IsPlace s wholes marks.written marks.given b x) (sym (only (sector_of (run_layout shape) b) bytes may))
+      blocks = λ b in_round bytes may. subst (λ (x : List ℕ). IsBlockPlace s wholes marks.written marks.given b x) (sym (only (sector_of (run_layout shape) b) bytes may))
           (place-wider s wholes marks.written marks.written marks.written marks.given b (sector (sector_of (run_layout shape) b) disk.reads) (omega arith) order.written_given (is.blocks b in_round));
       tail_blocks = λ k at bytes may. subst (λ (x : List ℕ). IsTail s wholes marks.given marks.ckpt x) (sym (only k bytes may))
           (tail-wider s wholes marks.written marks.given marks.ckpt marks.ckpt (sector k disk.reads) order.written_given (omega arith) (is.tail_blocks k at));
@@ -134,7 +134,7 @@ places-differ number same = ⊎_elim (λ e. omega (arith, e.0, e.1)) (λ o. omeg
 other-odd : (number : ℕ) → (other_place number ≡ 1) ⊎ (other_place number ≡ 3)
 other-odd number = ⊎_elim (λ e. inr e.1) (λ o. inl o.1) (place-cases number)
 
-next-read : (layout : Layout) (marks : LogMarks) (lsn : ℕ) → IsLayout layout → 8192 ≤ lsn → MayBeNext marks lsn → HasNextNumber marks
+next-read : (layout : Layout) (marks : LogMarks) (lsn : ℕ) → IsLayout layout → START_LSN ≤ lsn → MayBeNext marks lsn → HasNextNumber marks
     → read_checkpoint (other_place marks.number) layout (checkpoint_text (marks.number + 1) lsn layout) ≡ Some (marks.number + 1, lsn)
 next-read layout marks lsn is_layout started next small =
     ap (λ k. read_checkpoint k layout (checkpoint_text (marks.number + 1) lsn layout)) (sym (next-place marks.number))
@@ -263,7 +263,7 @@ checkpointed-live shape s wholes marks tails disk lsn write is_layout live next 
     let older : read_checkpoint (other_place (marks.number + 1)) (run_layout shape) (sector (other_place (marks.number + 1)) reads) ≡ Some (marks.number, marks.ckpt) =
     ap (λ j. read_checkpoint j (run_layout shape) (sector j reads)) (next-other marks.number)
     ∙ ap (read_checkpoint (place_of marks.number) (run_layout shape)) (kept (place_of marks.number) (λ same. places-differ marks.number same)) ∙ is.checkpoint in
-    let places : (b : ℕ) → IsInRound (run_layout shape) lsn b → IsPlace s wholes marks.written marks.written b (sector (sector_of (run_layout shape) b) disk.reads) =
+    let places : (b : ℕ) → IsInRound (run_layout shape) lsn b → IsBlockPlace s wholes marks.written marks.written b (sector (sector_of (run_layout shape) b) disk.reads) =
     places-on (run_layout shape) s wholes marks marks.written marks.written lsn (λ j. sector j disk.reads) blocks order order.stable_written
     (omega (arith, order.written_given, order.room)) next.aligned later next.up_to is.blocks in
     settled-live shape s wholes (after_checkpoint (marks.number + 1) lsn marks) tails (written disk write) (in_order-checkpoint (run_layout shape) s wholes marks lsn order next) (record {
@@ -273,7 +273,7 @@ checkpointed-live shape s wholes marks tails disk lsn write is_layout live next 
       place = is.place;
       blocks = λ b in_round. (
           let low : 6 ≤ sector_of (run_layout shape) b = place-past shape b in
-          subst (λ (x : List ℕ). IsPlace s wholes marks.written marks.written b x) (sym (past (sector_of (run_layout shape) b) (omega arith))) (places b in_round));
+          subst (λ (x : List ℕ). IsBlockPlace s wholes marks.written marks.written b x) (sym (past (sector_of (run_layout shape) b) (omega arith))) (places b in_round));
       tail_blocks = λ j at. subst (λ (x : List ℕ). IsTail s wholes marks.written lsn x) (sym (past j (⊎_elim (λ e. omega arith) (λ o. omega arith) at)))
           (tail-wider s wholes marks.written marks.written marks.ckpt lsn (sector j disk.reads) (omega arith) later (is.tail_blocks j at));
       newest_tail = subst (λ (x : List ℕ). HoldsTail s wholes marks.written x) (sym (past tails.newest (⊎_elim (λ e. omega arith) (λ o. omega arith) is.place))) is.newest_tail;

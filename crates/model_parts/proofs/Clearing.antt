@@ -2,17 +2,16 @@
 use Rattle.std.proofs.Common.{◌≡◌, ◌≢◌, ◌≤◌, ◌<◌, ◌+◌, ◌*◌, ◌/◌, ◌%◌, ◌-◌, ◌⊎◌, ℕ, zero, suc, inl, inr, List, length, take, drop, Option, Some, None, refl, sym, ap, subst, ◌∙◌, ⊎_elim, arith}
 use Rattle.std.proofs.lemmas.Bool.{cases_lt}
 use Rattle.model_base.specs.declared.shape.Shape.{Shape}
+use Rattle.model_base.specs.declared.limits.TheConstants.{START_LSN}
 use Rattle.model_log.specs.{block_of, fits_checksum, IsInRound, IsLayout, IsTailPlace, layout_of, log_block, lsn_at, place_in, ring_start, round_of, sector_of}
 use Rattle.model_log.specs.declared.head.Format.{Format}
 use Rattle.model_log.specs.declared.head.Format.TheVariants.{One, Two}
 use Rattle.model_log.specs.declared.layout.Layout.{Layout}
-use Rattle.model_log.specs.declared.layout.TheConstants.{HEADER_BLOCKS, TAIL_BLOCKS}
 use Rattle.model_log.proofs.Places.{one-place_each, place-from, sector-place}
 use Rattle.model_device.specs.{sector}
-use Rattle.model_store.specs.{IsTakenTail}
 use Rattle.model_store.specs.declared.tail.Tail.{Tail}
 use Rattle.model_parts.specs.Changes.{IsErased, IsErasing, IsUnsealed}
-use Rattle.model_parts.specs.Cleared.{IsClearing, IsCleared, IsKept, IsOfTail, IsOutside, IsPastKept, IsStaleTail}
+use Rattle.model_parts.specs.Cleared.{IsClearing, IsCleared, IsInKeptRange, IsOfTail, IsOutside, IsPastKept, IsStaleTail}
 use Rattle.model_parts.proofs.Stages.{MayGo}
 
 -- PLACES.
@@ -29,7 +28,7 @@ ring-from layout b =
     omega arith
 
 -- two blocks of one round that have one sector are one
-pub one-sector : (layout : Layout) (ckpt b c : ℕ) → 8192 ≤ ckpt → IsInRound layout ckpt b → IsInRound layout ckpt c → sector_of layout b ≡ sector_of layout c → b ≡ c
+pub one-sector : (layout : Layout) (ckpt b c : ℕ) → START_LSN ≤ ckpt → IsInRound layout ckpt b → IsInRound layout ckpt c → sector_of layout b ≡ sector_of layout c → b ≡ c
 one-sector layout ckpt b c started b_in c_in same =
     one-place_each layout ckpt b c started b_in c_in (sym (sector-place layout b) ∙ ap (λ (k : ℕ). 512 * k) same ∙ sector-place layout c)
 
@@ -46,7 +45,7 @@ pub record IsLog (layout : Layout) (ckpt start : ℕ) : Type 0 where
   pub is_layout : IsLayout layout
   pub first : layout.format ≡ Two → layout.first ≡ 6
   pub aligned : ckpt % 512 ≡ 0
-  pub started : 8192 ≤ ckpt
+  pub started : START_LSN ≤ ckpt
   pub place : start % 512 ≡ 12
   pub low : ckpt + 12 ≤ start
   pub high : start ≤ ckpt + round_of layout + 12
@@ -91,12 +90,12 @@ header-not_past layout ckpt start (Some tail) k log is below past =
     (λ which. ⊎_elim (λ e. omega (arith, which.0)) (λ o. omega (arith, which.0)) is.place) own) past
 
 -- a kept block's place isn't that of another block of the round
-outside-apart : (layout : Layout) (ckpt start b c : ℕ) → IsLog layout ckpt start → IsKept layout ckpt start b → IsOutside layout ckpt start c → sector_of layout b ≡ sector_of layout c → ⊥
+outside-apart : (layout : Layout) (ckpt start b c : ℕ) → IsLog layout ckpt start → IsInKeptRange layout ckpt start b → IsOutside layout ckpt start c → sector_of layout b ≡ sector_of layout c → ⊥
 outside-apart layout ckpt start b c log kept outside same =
     let one : b ≡ c = one-sector layout ckpt b c log.started kept.in_round outside.in_round same in
     omega (arith, kept.before, outside.from)
 
-pub kept-not_past : (layout : Layout) (ckpt start b : ℕ) (tail : Option Tail) → IsLog layout ckpt start → IsTailIn layout ckpt tail → IsKept layout ckpt start b → IsOther tail b
+pub kept-not_past : (layout : Layout) (ckpt start b : ℕ) (tail : Option Tail) → IsLog layout ckpt start → IsTailIn layout ckpt tail → IsInKeptRange layout ckpt start b → IsOther tail b
     → IsPastKept layout ckpt start tail (sector_of layout b) → ⊥
 kept-not_past layout ckpt start b None log is kept other past =
     ⊎_elim (λ ring. outside-apart layout ckpt start b ring.0 log kept ring.1 ring.2) (λ none. none) past

@@ -11,7 +11,8 @@ use Rattle.model_device.specs.Disk.{Disk}
 use Rattle.model_device.specs.declared.write.Write.{Write}
 use Rattle.model_store.specs.{IsFair}
 use Rattle.model_parts.specs.Batch.{Fresh, IsNew, IsFreshPage, IsBatch, new_text, slots_write, place_writes, after_batch}
-use Rattle.model_parts.specs.Stored.{IsKnown, copied, KeepsPage, ImageHolds, Keeps, Stored, AreNotNewer}
+use Rattle.model_parts.specs.Stored.{IsKnown, copied, KeepsPage, ImageHolds, Keeps, Stored}
+use Rattle.model_parts.specs.BatchKept.{AreNotNewer}
 use Rattle.model_parts.proofs.Stretches.{AreApart, ArePut, fair-apart, fair-put, apart-put, take-apart, take-put, pieces-apart, pieces-has, length-after, stretch-piece}
 use Rattle.model_parts.proofs.Writes.{HasSizes, sizes-from, slots-apart, slots-put, places-apart, places-put, places-has, in-or, after-none, after-some}
 use Rattle.model_parts.proofs.Kept.{same-place, same-copy, same-copied, broken-place, broken-copy, place-new, copy-new, IsCopyOf, copy-is}
@@ -40,9 +41,9 @@ ready-from shape copies was disk stored =
 
 -- the writes leave the places alone, and the slots too or make each the text of its page
 record AreOnSlots (shape : Shape) (batch : List Fresh) (long : ℕ) (writes : List Write) : Type 0 where
-  places : (p : ℕ) → p < shape.pages → AreApart ((shape.slots + p) * 4096) long writes
-  slots : (n : ℕ) → length batch ≤ n → AreApart (n * 4096) long writes
-  texts : (n : ℕ) (new : Fresh) → slice_get batch n ≡ Some new → ArePut (n * 4096) long (new_text shape new) writes
+  places : (p : ℕ) → p < shape.pages → AreApart shape.page_size ((shape.slots + p) * shape.page_size) long writes
+  slots : (n : ℕ) → length batch ≤ n → AreApart shape.page_size (n * shape.page_size) long writes
+  texts : (n : ℕ) (new : Fresh) → slice_get batch n ≡ Some new → ArePut shape.page_size (n * shape.page_size) long (new_text shape new) writes
 
 record HasFresh (batch : List Fresh) (n : ℕ) : Type 0 where
   new : Fresh
@@ -76,9 +77,9 @@ slots-pending shape copies was batch disk is batch_is ready writes image fair = 
       let has : HasFresh batch slot = fresh-at batch slot inside in
       ⊎_elim (λ broken. let none : None ≡ Some lsn = sym (broken-copy shape image p slot broken) ∙ passes in absurd cc)
       (λ whole. ⊎_elim old (λ text.
-      let copy : IsCopyOf shape image p slot lsn has.new = copy-is shape image has.new p slot lsn is.space is.few_pages (batch_is.each slot has.new has.at) text passes in
+      let copy : IsCopyOf shape image p slot lsn has.new = copy-is shape image has.new p slot lsn is (batch_is.each slot has.new has.at) text passes in
       inr (new-at batch p slot has.new (copied shape image slot lsn) has.at copy.page copy.content)) whole)
-      (fair-put shape slot disk image (new_text shape has.new) is.page_size (omega arith) (writes.texts slot has.new has.at) fair))
+      (fair-put shape slot disk image (new_text shape has.new) (omega arith) (writes.texts slot has.new has.at) fair))
       (λ beyond. old (fair-apart shape slot disk image is.page_size (writes.slots slot beyond) fair.possible)) (cases_lt slot (length batch));
 }
 
@@ -101,7 +102,7 @@ pub keeps-slots : (shape : Shape) (copies : ℕ → Content → Type 0) (was : �
     → IsReady shape copies was old.base → IsSlotsOrNot shape batch old new → Keeps shape copies was batch new
 keeps-slots shape copies was batch old new is batch_is ready_old pending =
     let ready : IsReady shape copies was new.base = subst (λ (b : List ℕ). IsReady shape copies was b) (sym pending.base) ready_old in
-    let sizes : HasSizes shape (length new.base) = sizes-from shape (length new.base) is.page_size is.slots is.few_pages ready.long in
+    let sizes : HasSizes shape (length new.base) = sizes-from shape (length new.base) is ready.long in
     let writes : AreOnSlots shape batch (length new.base) new.writes =
     ⊎_elim (λ none. subst (λ (ws : List Write). AreOnSlots shape batch (length new.base) ws) (sym none) (none-written shape batch (length new.base)))
     (λ one. subst (λ (ws : List Write). AreOnSlots shape batch (length new.base) ws) (sym one) (slots-written shape batch (length new.base) sizes batch_is)) pending.writes in
@@ -131,22 +132,22 @@ pub record IsCopied (shape : Shape) (copies : ℕ → Content → Type 0) (was :
 pub copied-from : (shape : Shape) (copies : ℕ → Content → Type 0) (was : ℕ → Content) (batch : List Fresh) (base : List ℕ) → IsWithinLimits shape → IsBatch shape batch
     → IsReady shape copies was base → IsCopied shape copies was batch (after_write base (slots_write shape batch))
 copied-from shape copies was batch base is batch_is ready =
-    let sizes : HasSizes shape (length base) = sizes-from shape (length base) is.page_size is.slots is.few_pages ready.long in
+    let sizes : HasSizes shape (length base) = sizes-from shape (length base) is ready.long in
     let writes : AreOnSlots shape batch (length base) (slots_write shape batch ∷ []) = slots-written shape batch (length base) sizes batch_is in
     let new_base : List ℕ = after_write base (slots_write shape batch) in
-    let same : (n : ℕ) → AreApart (n * 4096) (length base) (slots_write shape batch ∷ []) → stretch_at shape n new_base ≡ stretch_at shape n base = λ n apart.
-    stretch-piece shape n new_base is.page_size ∙ pieces-apart (n * 4096) base (slots_write shape batch ∷ []) (length base) refl apart ∙ sym (stretch-piece shape n base is.page_size) in
+    let same : (n : ℕ) → AreApart shape.page_size (n * shape.page_size) (length base) (slots_write shape batch ∷ []) → stretch_at shape n new_base ≡ stretch_at shape n base = λ n apart.
+    stretch-piece shape n new_base ∙ pieces-apart shape.page_size (n * shape.page_size) base (slots_write shape batch ∷ []) (length base) refl apart ∙ sym (stretch-piece shape n base) in
     let text : (i : ℕ) (new : Fresh) → slice_get batch i ≡ Some new → slot_bytes shape i new_base ≡ new_text shape new = λ i new at.
-    stretch-piece shape i new_base is.page_size ∙ pieces-has (i * 4096) base (new_text shape new) (slots_write shape batch ∷ []) (length base) refl (writes.texts i new at)
+    stretch-piece shape i new_base ∙ pieces-has shape.page_size (i * shape.page_size) base (new_text shape new) (slots_write shape batch ∷ []) (length base) refl (writes.texts i new at)
     (inl (inl (slots-put shape batch i (length base) new sizes batch_is at))) in
-    let long : length new_base ≡ length base = length-after (length batch * 4096) base [] (slots_write shape batch ∷ []) (length base) refl (apart-put (length batch * 4096) (length base) [] (slots_write shape batch ∷ []) (writes.slots (length batch) (omega arith))) in
+    let long : length new_base ≡ length base = length-after shape.page_size (length batch * shape.page_size) base [] (slots_write shape batch ∷ []) (length base) refl (apart-put shape.page_size (length batch * shape.page_size) (length base) [] (slots_write shape batch ∷ []) (writes.slots (length batch) (omega arith))) in
     record {
       ready = record {
         long = omega (arith, ready.long, long);
         places = λ p below. same-place shape base new_base p (was p) (same (shape.slots + p) (writes.places p below)) (ready.places p below);
         known = λ p slot lsn page below passes. ⊎_elim (λ inside.
             let has : HasFresh batch slot = fresh-at batch slot inside in
-            let copy : IsCopyOf shape new_base p slot lsn has.new = copy-is shape new_base has.new p slot lsn is.space is.few_pages (batch_is.each slot has.new has.at) (text slot has.new has.at) passes in
+            let copy : IsCopyOf shape new_base p slot lsn has.new = copy-is shape new_base has.new p slot lsn is (batch_is.each slot has.new has.at) (text slot has.new has.at) passes in
             inr (new-at batch p slot has.new (copied shape new_base slot lsn) has.at copy.page copy.content))
             (λ beyond.
             let here : slot_bytes shape slot new_base ≡ slot_bytes shape slot base = same slot (writes.slots slot beyond) in
@@ -158,9 +159,9 @@ copied-from shape copies was batch base is batch_is ready =
 
 -- the writes leave the slots alone, and each place too or make it the text of its page
 pub record AreOnPlaces (shape : Shape) (batch : List Fresh) (long : ℕ) (writes : List Write) : Type 0 where
-  pub slots : (n : ℕ) → n < shape.slots → AreApart (n * 4096) long writes
-  pub others : (p : ℕ) → ((i : ℕ) (new : Fresh) → slice_get batch i ≡ Some new → new.page ≡ p → ⊥) → AreApart ((shape.slots + p) * 4096) long writes
-  pub texts : (i : ℕ) (new : Fresh) → slice_get batch i ≡ Some new → ArePut ((shape.slots + new.page) * 4096) long (new_text shape new) writes
+  pub slots : (n : ℕ) → n < shape.slots → AreApart shape.page_size (n * shape.page_size) long writes
+  pub others : (p : ℕ) → ((i : ℕ) (new : Fresh) → slice_get batch i ≡ Some new → new.page ≡ p → ⊥) → AreApart shape.page_size ((shape.slots + p) * shape.page_size) long writes
+  pub texts : (i : ℕ) (new : Fresh) → slice_get batch i ≡ Some new → ArePut shape.page_size ((shape.slots + new.page) * shape.page_size) long (new_text shape new) writes
 
 same-texts : (shape : Shape) (batch : List Fresh) (i j : ℕ) (new other : Fresh) → IsBatch shape batch → slice_get batch i ≡ Some new → slice_get batch j ≡ Some other → other.page ≡ new.page → new_text shape other ≡ new_text shape new
 same-texts shape batch i j new other is at at_other page =
@@ -177,9 +178,9 @@ places-on shape batch long sizes is = record {
 
 pub take-on : (shape : Shape) (batch : List Fresh) (long count : ℕ) (writes : List Write) → AreOnPlaces shape batch long writes → AreOnPlaces shape batch long (take count writes)
 take-on shape batch long count writes are = record {
-  slots = λ n below. take-apart (n * 4096) long count writes (are.slots n below);
-  others = λ p none. take-apart ((shape.slots + p) * 4096) long count writes (are.others p none);
-  texts = λ i new at. take-put ((shape.slots + new.page) * 4096) long count (new_text shape new) writes (are.texts i new at);
+  slots = λ n below. take-apart shape.page_size (n * shape.page_size) long count writes (are.slots n below);
+  others = λ p none. take-apart shape.page_size ((shape.slots + p) * shape.page_size) long count writes (are.others p none);
+  texts = λ i new at. take-put shape.page_size ((shape.slots + new.page) * shape.page_size) long count (new_text shape new) writes (are.texts i new at);
 }
 
 pub places-pending : (shape : Shape) (copies : ℕ → Content → Type 0) (was : ℕ → Content) (batch : List Fresh) (disk : Disk) → IsWithinLimits shape → IsBatch shape batch → AreNotNewer copies batch
@@ -202,7 +203,7 @@ places-pending shape copies was batch disk is batch_is older held writes image f
           let fresh : IsFreshPage shape new = batch_is.each has.i new has.at in
           let few : has.i < shape.slots = omega (arith, batch_is.few, slice_get_within batch has.i new has.at) in
           let own : copy_lsn shape image new.page has.i ≡ Some new.content.lsn =
-          copy-new shape image new has.i is.space is.few_pages fresh (slot has.i few ∙ held.texts has.i new has.at) in
+          copy-new shape image new has.i is fresh (slot has.i few ∙ held.texts has.i new has.at) in
           let best : HasBestCopy shape image new.page = best-copy shape image new.page has.i new.content.lsn few own in
           let counts : Content = copied shape image best.slot best.lsn in
           let greatest : new.content.lsn ≤ best.lsn = best.best.greatest has.i new.content.lsn few own in
@@ -219,10 +220,10 @@ places-pending shape copies was batch disk is batch_is older held writes image f
           (λ whole. ⊎_elim (λ same. subst (λ (q : ℕ). place_bytes shape q image ≡ place_bytes shape q disk.base → KeepsPage shape was batch image q) (sym has.page) as_it_was same)
           (λ text. record {
             content = has.new.content;
-            kept = inl (place-new shape image has.new is.space is.few_pages (batch_is.each has.i has.new has.at) text);
+            kept = inl (place-new shape image has.new is (batch_is.each has.i has.new has.at) text);
             which = inr (new-at batch has.new.page has.i has.new has.new.content has.at refl refl);
           }) whole)
-          (fair-put shape (shape.slots + has.new.page) disk image (new_text shape has.new) is.page_size (omega (arith, (batch_is.each has.i has.new has.at).below)) (writes.texts has.i has.new has.at) fair)))
+          (fair-put shape (shape.slots + has.new.page) disk image (new_text shape has.new) (omega (arith, (batch_is.each has.i has.new has.at).below)) (writes.texts has.i has.new has.at) fair)))
           (λ none. as_it_was (fair-apart shape (shape.slots + p) disk image is.page_size (writes.others p none) fair.possible)) (in-or batch p);
       known = known;
     }
@@ -230,19 +231,19 @@ places-pending shape copies was batch disk is batch_is older held writes image f
 pub placed-from : (shape : Shape) (copies : ℕ → Content → Type 0) (was : ℕ → Content) (batch : List Fresh) (base : List ℕ) → IsWithinLimits shape → IsBatch shape batch
     → IsCopied shape copies was batch base → IsReady shape (IsKnown copies batch) (after_batch batch was) (after_writes base (place_writes shape batch))
 placed-from shape copies was batch base is batch_is held =
-    let sizes : HasSizes shape (length base) = sizes-from shape (length base) is.page_size is.slots is.few_pages held.ready.long in
+    let sizes : HasSizes shape (length base) = sizes-from shape (length base) is held.ready.long in
     let writes : AreOnPlaces shape batch (length base) (place_writes shape batch) = places-on shape batch (length base) sizes batch_is in
     let new_base : List ℕ = after_writes base (place_writes shape batch) in
-    let same : (n : ℕ) → AreApart (n * 4096) (length base) (place_writes shape batch) → stretch_at shape n new_base ≡ stretch_at shape n base = λ n apart.
-    stretch-piece shape n new_base is.page_size ∙ pieces-apart (n * 4096) base (place_writes shape batch) (length base) refl apart ∙ sym (stretch-piece shape n base is.page_size) in
-    let long : length new_base ≡ length base = length-after 0 base [] (place_writes shape batch) (length base) refl (apart-put 0 (length base) [] (place_writes shape batch) (writes.slots 0 (omega (arith, is.slots)))) in
+    let same : (n : ℕ) → AreApart shape.page_size (n * shape.page_size) (length base) (place_writes shape batch) → stretch_at shape n new_base ≡ stretch_at shape n base = λ n apart.
+    stretch-piece shape n new_base ∙ pieces-apart shape.page_size (n * shape.page_size) base (place_writes shape batch) (length base) refl apart ∙ sym (stretch-piece shape n base) in
+    let long : length new_base ≡ length base = length-after shape.page_size (0 * shape.page_size) base [] (place_writes shape batch) (length base) refl (apart-put shape.page_size (0 * shape.page_size) (length base) [] (place_writes shape batch) (writes.slots 0 (omega (arith, is.slots)))) in
     record {
       long = omega (arith, held.ready.long, long);
       places = λ p below. ⊎_elim (λ has. subst (λ (q : ℕ). IsInPlace shape new_base q (after_batch batch was q)) has.page
           (subst (λ (c : Content). IsInPlace shape new_base has.new.page c) (sym (after-some batch was has.new.page has.i has.new batch_is.different has.at refl))
-          (place-new shape new_base has.new is.space is.few_pages (batch_is.each has.i has.new has.at)
-          (stretch-piece shape (shape.slots + has.new.page) new_base is.page_size
-          ∙ pieces-has ((shape.slots + has.new.page) * 4096) base (new_text shape has.new) (place_writes shape batch) (length base) refl (writes.texts has.i has.new has.at)
+          (place-new shape new_base has.new is (batch_is.each has.i has.new has.at)
+          (stretch-piece shape (shape.slots + has.new.page) new_base
+          ∙ pieces-has shape.page_size ((shape.slots + has.new.page) * shape.page_size) base (new_text shape has.new) (place_writes shape batch) (length base) refl (writes.texts has.i has.new has.at)
           (inl (places-has shape batch has.i (length base) has.new sizes batch_is.each has.at))))))
           (λ none. subst (λ (c : Content). IsInPlace shape new_base p c) (sym (after-none batch was p none))
           (same-place shape base new_base p (was p) (same (shape.slots + p) (writes.others p none)) (held.ready.places p below))) (in-or batch p);

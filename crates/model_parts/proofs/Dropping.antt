@@ -5,8 +5,9 @@ use Rattle.std.proofs.lemmas.Bool.{cases_lt}
 use Rattle.std.proofs.lemmas.List.{take-append-drop, drop-append-le, take-append-le, nil_from_length, take_all}
 use Rattle.model_base.specs.declared.shape.Shape.{Shape}
 use Rattle.model_log.specs.declared.group.Whole.{Whole}
-use Rattle.model_log.specs.{block_of, end_of, groups_of, is_full, IsDataLsn, IsFront, IsRunOf, lsn_at, sn_of, spans_of, start_after, stream_of}
+use Rattle.model_log.specs.{block_of, groups_of, is_full, IsDataLsn, IsFront, IsRunOf, last_span_end, lsn_at, sn_of, spans_of, start_after, stream_of}
 use Rattle.model_log.specs.declared.block.BlockView.{BlockView}
+use Rattle.model_log.specs.declared.layout.TheConstants.{BLOCK_DATA}
 use Rattle.model_log.proofs.Runs.{First, first-of, run-first, boundary-start, boundary-before_end}
 use Rattle.model_log.proofs.BoundaryLengths.{sn_of-rises, sn_of-block, sn_of-header}
 use Rattle.model_store.specs.{AreGroups, AreGroupsOf, data_from, groups_start, IsLastOf, IsScan, IsStorable, joined, Source, view_at}
@@ -108,12 +109,12 @@ stay-last most old new ckpt views next few is =
 
 -- a run of groups that ends where it starts has none
 none-between : (shape : Shape) (start : ℕ) (wholes : List Whole) → IsDataLsn start → IsRunOf start wholes → AllByRecursion (IsStorable shape) (groups_of wholes)
-    → end_of start (spans_of wholes) ≤ start → wholes ≡ []
+    → last_span_end start (spans_of wholes) ≤ start → wholes ≡ []
 none-between shape start [] place run each same = refl
 none-between shape start (whole ∷ wholes) place run each same =
     let first : First start whole = first-of start whole wholes place run in
     let rises : start < whole.end = first-ends shape start whole place first each.0 in
-    let others : whole.end ≤ end_of whole.end (spans_of wholes) =
+    let others : whole.end ≤ last_span_end whole.end (spans_of wholes) =
     boundary-before_end whole.end wholes whole.end first.place (run-first run).2 (boundary-start whole.end (spans_of wholes)) in
     absurd (omega arith)
 
@@ -122,7 +123,7 @@ record Cut (shape : Shape) (old : Source) (ckpt : ℕ) (front back : List BlockV
   aligned : ckpt % 512 ≡ 0
   sound : IsSoundSource old
   taken : AreTaken old ckpt (front ++ back)
-  long : length (joined old ckpt front) ≡ 496 * length front
+  long : length (joined old ckpt front) ≡ BLOCK_DATA * length front
   some : 1 ≤ length back
   groups : AreGroupsOf shape old ckpt (front ++ back) (groups_start ckpt (front ++ back)) wholes end
   ends : EndsWithin ckpt end (front ++ back)
@@ -141,15 +142,15 @@ cut-found shape old ckpt start front back wholes end cut found =
     let head : List ℕ = joined old ckpt front in
     let tail : List ℕ = joined old (lsn_at ckpt (length front)) back in
     let stream : List ℕ = stream_of (groups_of wholes) in
-    let head_long : length head ≡ 496 * length front = cut.long in
+    let head_long : length head ≡ BLOCK_DATA * length front = cut.long in
     let within : skipped ≤ length head = omega (arith, starts.count, starts.below, starts.behind) in
     let data_is : data_from old ckpt (front ++ back) start ≡ drop skipped head ++ tail =
     ap (drop skipped) (joined-append old ckpt front back) ∙ drop-append-le skipped head tail within in
     let bytes : drop skipped head ++ tail ≡ stream ++ all.0 = sym data_is ∙ groups.bytes_are in
-    let end_is : end ≡ end_of start (spans_of wholes) = all.3 in
+    let end_is : end ≡ last_span_end start (spans_of wholes) = all.3 in
     let count : sn_of end ≡ sn_of start + length stream = ap sn_of end_is ∙ count-end start wholes starts.place groups.run in
     let last : ℕ = lsn_at ckpt (length front) in
-    let last_count : sn_of (last + 12) ≡ sn_of ckpt + 496 * length front =
+    let last_count : sn_of (last + 12) ≡ sn_of ckpt + BLOCK_DATA * length front =
     sn_of-header last (omega (arith, cut.aligned)) ∙ sn_of-block ckpt (length front) cut.aligned in
     let most : sn_of end ≤ sn_of (last + 12) = sn_of-rises end (last + 12) cut.reaches in
     let short : length stream ≤ length (drop skipped head) = omega (arith, length-drop skipped head, starts.behind) in
@@ -173,8 +174,8 @@ cut-none shape old ckpt start front back wholes end cut both none =
     (let there : lsn_at last i ≡ lsn_at ckpt (length front + i) = omega arith in
     ap (view_at old) there ∙ cut.taken (length front + i) view (get-back front back i ∙ at)) in
     let starts : IsGroupsStart last start back = groups-start old last start back cut.sound (omega (arith, cut.aligned)) taken_back behind in
-    let end_is : end ≡ end_of start (spans_of wholes) = all.3 in
-    let reached : start ≤ end_of start (spans_of wholes) =
+    let end_is : end ≡ last_span_end start (spans_of wholes) = all.3 in
+    let reached : start ≤ last_span_end start (spans_of wholes) =
     boundary-before_end start wholes start starts.place groups.run (boundary-start start (spans_of wholes)) in
     let here : last + 12 ≤ start = omega (arith, starts.from) in
     let empty : wholes ≡ [] = none-between shape start wholes starts.place groups.run groups.each (omega (arith, cut.reaches)) in

@@ -1,12 +1,13 @@
 -- What is read of a store that was just formatted.
-use Rattle.std.proofs.Common.{◌≡◌, ◌≤◌, ◌<◌, ◌+◌, ◌-◌, ◌*◌, ◌++◌, ℕ, zero, suc, inl, inr, cond, List, [], length, take, drop, replicate, Some, None, refl, sym, ap, ◌∙◌, ⊎_elim, arith, lit≤, lit<}
+use Rattle.std.proofs.Common.{◌≡◌, ◌≤◌, ◌<◌, ◌+◌, ◌-◌, ◌*◌, ◌/◌, ◌%◌, ◌++◌, ℕ, zero, suc, inl, inr, cond, List, [], length, take, drop, replicate, Some, None, refl, sym, ap, ◌∙◌, ⊎_elim, arith, lit≤, lit<}
 use Rattle.std.proofs.Math.Seq.{take-add}
 use Rattle.std.specs.List.{slice_get}
 use Rattle.std.proofs.lemmas.Bool.{cases_Bool}
 use Rattle.std.proofs.lemmas.List.{drop-take, take-take, length-replicate, replicate-append-replicate}
+use Rattle.model_base.proofs.ShapeLimits.{whole_sectors}
 use Rattle.model_base.specs.{IsWithinLimits}
 use Rattle.model_base.specs.declared.shape.Shape.{Shape}
-use Rattle.model_base.specs.declared.limits.TheConstants.{START_LSN}
+use Rattle.model_base.specs.declared.limits.TheConstants.{BLOCK_SIZE, FIRST_DATA_LSN, MIN_LOG_BLOCKS, START_LSN}
 use Rattle.model_device.specs.{sector, settled}
 use Rattle.model_device.specs.Disk.{Disk}
 use Rattle.model_log.specs.{checkpoint_text, fits_checksum, head_of, head_text, IsLayout, log_block, log_device_length, newer, newest_checkpoint, place_in, read_block, read_checkpoint, read_head, ring_start, round_of, run_layout, sector_of}
@@ -29,7 +30,9 @@ use Rattle.model_parts.specs.Changes.{IsUnsealed}
 use Rattle.model_parts.specs.Formatted.{zero_block}
 use Rattle.model_parts.specs.Formatted.{IsFormattedLog, IsFormattedData, IsFormatted, formatted_store}
 use Rattle.model_parts.specs.Opened.{IsOpenable}
-use Rattle.model_parts.specs.Stored.{copied, IsOpened, IsUpTo}
+use Rattle.model_parts.specs.Stored.{copied, IsUpTo}
+use Rattle.model_parts.specs.BatchKept.{IsOpened}
+use Rattle.model_parts.proofs.Rows.{row_ends, row-sector}
 use Rattle.model_parts.proofs.Stretches.{stretch-piece}
 use Rattle.model_parts.proofs.Unread.{unsealed-checkpoint, unsealed-head, unsealed-unread, zeros-unsealed}
 use Rattle.model_parts.proofs.Zeros.{zeros-opened}
@@ -90,7 +93,7 @@ none-unread bytes broken = unsealed-unread START_LSN bytes broken
 none-taken : (shape : Shape) (log : List ℕ) → IsWithinLimits shape → IsBegunLog shape log → taken (run_layout shape) log START_LSN ≡ None
 none-taken shape log limits is =
     let layout : Layout = run_layout shape in
-    let many : 1024 ≤ shape.log_blocks = limits.many_blocks in
+    let many : MIN_LOG_BLOCKS ≤ shape.log_blocks = limits.many_blocks in
     let blocks : HasBlocks layout = has-blocks layout (is_layout_of Two shape many limits.few_blocks) in
     let k : ℕ = sector_of layout START_LSN in
     let at : 512 * k ≡ place_in layout START_LSN = sector-place layout START_LSN in
@@ -113,26 +116,30 @@ zeros-front (suc n) bytes zeros =
     ∙ replicate-append-replicate (512 * n) 512 0 ∙ ap (λ m. replicate m 0) (sym next)
 
 -- a stretch that ends within the front of the bytes
-stretch-front : (shape : Shape) (n all : ℕ) (bytes : List ℕ) → shape.page_size ≡ 4096 → n * 4096 + 4096 ≤ all → stretch_at shape n bytes ≡ stretch_at shape n (take all bytes)
-stretch-front shape n all bytes size within =
-    let rest : ℕ = all - n * 4096 in
-    let sum : n * 4096 + rest ≡ all = omega arith in
-    let inside : take 4096 (drop (n * 4096) (take all bytes)) ≡ take 4096 (drop (n * 4096) bytes) =
-    ap (λ m. take 4096 (drop (n * 4096) (take m bytes))) (sym sum) ∙ ap (take 4096) (drop-take (n * 4096) rest bytes)
-    ∙ take-take 4096 rest (drop (n * 4096) bytes) (omega arith) in
-    stretch-piece shape n bytes size ∙ sym inside ∙ sym (stretch-piece shape n (take all bytes) size)
+stretch-front : (shape : Shape) (n all : ℕ) (bytes : List ℕ) → n * shape.page_size + shape.page_size ≤ all
+    → stretch_at shape n bytes ≡ stretch_at shape n (take all bytes)
+stretch-front shape n all bytes within =
+    let size : ℕ = shape.page_size in
+    let at : ℕ = n * size in
+    let rest : ℕ = all - at in
+    let sum : at + rest ≡ all = omega arith in
+    let inside : take size (drop at (take all bytes)) ≡ take size (drop at bytes) =
+    ap (λ m. take size (drop at (take m bytes))) (sym sum) ∙ ap (take size) (drop-take at rest bytes)
+    ∙ take-take size rest (drop at bytes) (omega arith) in
+    stretch-piece shape n bytes ∙ sym inside ∙ sym (stretch-piece shape n (take all bytes))
 
 blank-front : (shape : Shape) (data_bytes : List ℕ) → IsWithinLimits shape → IsFormattedData shape data_bytes → (n : ℕ) → n < shape.slots + shape.pages
     → stretch_at shape n data_bytes ≡ stretch_at shape n (replicate (data_device_length shape) 0)
 blank-front shape data_bytes limits is n below =
     let all : ℕ = data_device_length shape in
-    let size : shape.page_size ≡ 4096 = limits.page_size in
-    let all_is : all ≡ (shape.slots + shape.pages) * 4096 = ap (λ s. (shape.slots + shape.pages) * s) size in
-    let count : ℕ = (shape.slots + shape.pages) * 8 in
-    let sectors : 512 * count ≡ all = omega arith in
+    let whole : all % BLOCK_SIZE ≡ 0 =
+    row-sector (shape.slots + shape.pages) shape.page_size (whole_sectors shape limits).sectors in
+    let count : ℕ = all / BLOCK_SIZE in
+    let sectors : BLOCK_SIZE * count ≡ all = omega arith in
     let front : take all data_bytes ≡ replicate all 0 =
     ap (λ m. take m data_bytes) (sym sectors) ∙ zeros-front count data_bytes (λ k inside. is.zeros k (omega arith)) ∙ ap (λ m. replicate m 0) sectors in
-    stretch-front shape n all data_bytes size (omega arith) ∙ ap (stretch_at shape n) front
+    stretch-front shape n all data_bytes (row_ends n (shape.slots + shape.pages) shape.page_size below)
+    ∙ ap (stretch_at shape n) front
 
 blank-place : (shape : Shape) (data_bytes : List ℕ) (p : ℕ) → IsWithinLimits shape → IsFormattedData shape data_bytes → p < shape.pages
     → IsInPlace shape data_bytes p (blank_page shape)
@@ -175,7 +182,7 @@ formatted-devices shape log_bytes data_bytes limits log pages = record {
 }
 
 formatted-page : (shape : Shape) (data_bytes : List ℕ) (p : ℕ) (page : Content) → IsWithinLimits shape → IsFormattedData shape data_bytes
-    → slice_get (replicate shape.pages (blank_page shape)) p ≡ Some page → IsReadPage shape data_bytes [] 8204 p page
+    → slice_get (replicate shape.pages (blank_page shape)) p ≡ Some page → IsReadPage shape data_bytes [] FIRST_DATA_LSN p page
 formatted-page shape data_bytes p page limits is at =
     let found = slice_get-replicate shape.pages p (blank_page shape) page at in
     record { kept = blank_page shape; is_kept = inl (blank-place shape data_bytes p limits is found.0); not_ahead = lit≤ tt; replay = found.1 }

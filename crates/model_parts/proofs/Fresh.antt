@@ -1,5 +1,5 @@
 -- The next checkpoint of an opened store: what is read while it is written, and that a run can start once it stays.
-use Rattle.std.proofs.Common.{◌≡◌, ◌≢◌, ◌≤◌, ◌<◌, ◌+◌, ◌-◌, ◌%◌, ◌==◌, ◌&&◌, ◌⊎◌, ℕ, inl, inr, Bool, true, false, cond, List, length, Option, Some, None, refl, sym, ap, subst, ◌∙◌, ⊎_elim, arith}
+use Rattle.std.proofs.Common.{◌≡◌, ◌≢◌, ◌≤◌, ◌<◌, ◌+◌, ◌==◌, ◌&&◌, ◌⊎◌, ℕ, inl, inr, Bool, true, false, cond, List, length, Option, Some, None, refl, sym, ap, subst, ◌∙◌, ⊎_elim, arith}
 use Rattle.std.specs.Prelude.{nat_lt}
 use Rattle.std.proofs.lemmas.Bool.{cases_Bool}
 use Rattle.std.proofs.lemmas.Bool.Decides.{nat_tests}
@@ -11,9 +11,9 @@ use Rattle.model_log.specs.declared.head.Format.TheVariants.{One, Two}
 use Rattle.model_log.specs.declared.head.Head.{Head}
 use Rattle.model_log.specs.declared.head.Head.TheVariants.{Good}
 use Rattle.model_log.specs.declared.layout.Layout.{Layout}
-use Rattle.model_log.specs.{checkpoint_text, fits_checksum, head_of, header_block, is_checkpoint, IsInRound, layout_of, log_block, lsn_at, newer, newest_checkpoint, place_of, read_block, read_checkpoint, read_head, sector_of}
+use Rattle.model_log.specs.{checkpoint_text, fits_checksum, head_of, is_checkpoint, IsInRound, layout_of, log_block, lsn_at, newer, newest_checkpoint, place_of, read_checkpoint, read_head, sector_of}
 use Rattle.model_log.proofs.CheckpointRound.{checkpoint-reads_back}
-use Rattle.model_store.specs.{AreFoundIn, IsOrderly, IsReading, IsScan, read_full, read_tail, taken}
+use Rattle.model_store.specs.{AreFoundIn, IsOrderly, IsReading, read_full, read_tail, taken}
 use Rattle.model_store.specs.Reading.{Reading}
 use Rattle.model_store.specs.declared.tail.Tail.{Tail}
 use Rattle.model_store.proofs.Taking.{taken-same, unread-full}
@@ -24,7 +24,7 @@ use Rattle.model_parts.specs.LogFresh.{IsFresh}
 use Rattle.model_parts.specs.Opened.{found_layout, numbers_taken, ReadsOpened, start_block, start_of}
 use Rattle.model_parts.specs.Rewritten.{IsRewriting, IsRewritten}
 use Rattle.model_parts.proofs.Clearing.{block-sector, clearing-header, cleared-clearing, IsTailIn, ring-from, same-or_not}
-use Rattle.model_parts.proofs.Dropping.{Rescans, whole-scan}
+use Rattle.model_parts.proofs.Dropping.{whole-scan}
 use Rattle.model_parts.proofs.Newest.{at-one, both-places, checkpoint-place, IsOldOrAt, newest-at, next-other, other-next, up-to_newest}
 use Rattle.model_parts.proofs.Next.{gone-from, none-taken, round-gone, tail-gone}
 use Rattle.model_parts.proofs.Reread.{again-reads, clearing-found, has-next, HasNext, IsFoundAgain, IsLogRead, IsNextFound, log-read, next-reads, same-head_of, same-newest, tail-read}

@@ -3,10 +3,9 @@ use Rattle.std.proofs.Common.{◌≡◌, ◌%◌, ℕ, ◌+◌, inl, inr, false,
 use Rattle.model_device.specs.{IsImage, sector, settled}
 use Rattle.model_device.specs.Disk.{Disk}
 use Rattle.model_device.proofs.Images.{settled_images}
-use Rattle.model_log.specs.{checkpoint_text, header_block, IsInRound, log_block, place_of, run_layout, sector_of}
-use Rattle.model_log.specs.declared.head.Format.{Format}
+use Rattle.model_log.specs.{checkpoint_text, IsInRound, place_of, run_layout}
 use Rattle.model_log.specs.declared.head.Format.TheVariants.{One, Two}
-use Rattle.model_store.specs.{AreFoundIn, IsFair, IsFairLog, IsOrderly, IsReading, read_full, read_tail}
+use Rattle.model_store.specs.{AreFoundIn, IsFair, IsFairLog, IsOrderly, IsReading, read_full}
 use Rattle.model_store.specs.Reading.{Reading}
 use Rattle.model_store.specs.declared.tail.Tail.{Tail}
 use Rattle.model_store.proofs.Taking.{taken-none_two}
@@ -18,7 +17,8 @@ use Rattle.model_parts.specs.Migrating.{IsMigrating}
 use Rattle.model_parts.specs.Opened.{found_layout, IsOpenable, KeepsOpened, numbers_taken, ReadsOpened, start_block, start_of}
 use Rattle.model_parts.specs.Ready.{IsReady}
 use Rattle.model_parts.specs.Rewritten.{IsRewriting}
-use Rattle.model_parts.specs.Stored.{IsUpTo, read_as, Stored}
+use Rattle.model_parts.specs.Stored.{IsUpTo, Stored}
+use Rattle.model_parts.specs.BatchKept.{read_as}
 use Rattle.model_parts.proofs.Alike.{kept-head_reads}
 use Rattle.model_parts.proofs.Clearing.{block-sector}
 use Rattle.model_parts.proofs.Fresh.{marking-reads, some-taken}

@@ -1,5 +1,6 @@
 -- The kept page of an image, as its stretches tell it.
-use Rattle.std.proofs.Common.{◌≡◌, ◌≤◌, ◌<◌, ◌^◌, ℕ, List, Some, None, refl, sym, ap, ◌∙◌}
+use Rattle.std.proofs.Common.{◌≡◌, ℕ, List, Some, None, refl, sym, ap, ◌∙◌}
+use Rattle.model_base.specs.{IsWithinLimits}
 use Rattle.model_base.specs.declared.shape.Shape.{Shape}
 use Rattle.model_page.specs.{copy_lsn, copy_lsn_by, IsInPlace, page_check, place_bytes, place_lsn, place_lsn_by, slot_bytes, user_part}
 use Rattle.model_page.specs.declared.content.Content.{Content}
@@ -31,27 +32,30 @@ pub broken-copy : (shape : Shape) (image : List ℕ) (p slot : ℕ) → page_che
 broken-copy shape image p slot is = ap (copy_lsn_by shape p) is
 
 -- a stretch with the text of a new page
-pub place-new : (shape : Shape) (image : List ℕ) (new : Fresh) → shape.space < 2 ^ 32 → shape.pages ≤ 64 → IsFreshPage shape new → place_bytes shape new.page image ≡ new_text shape new
+pub place-new : (shape : Shape) (image : List ℕ) (new : Fresh) → IsWithinLimits shape → IsFreshPage shape new
+    → place_bytes shape new.page image ≡ new_text shape new
     → IsInPlace shape image new.page new.content
-place-new shape image new space pages fresh is = record {
-  passes = ap (λ b. place_lsn_by shape new.page (page_check b)) is ∙ ap (place_lsn_by shape new.page) (check-new_text shape new space pages fresh) ∙ place-sound shape new.page new.content.lsn;
+place-new shape image new limits fresh is = record {
+  passes = ap (λ b. place_lsn_by shape new.page (page_check b)) is ∙ ap (place_lsn_by shape new.page) (check-new_text shape new limits fresh) ∙ place-sound shape new.page new.content.lsn;
   user = sym (ap user_part is ∙ user-new_text shape new);
 }
 
-pub copy-new : (shape : Shape) (image : List ℕ) (new : Fresh) (slot : ℕ) → shape.space < 2 ^ 32 → shape.pages ≤ 64 → IsFreshPage shape new → slot_bytes shape slot image ≡ new_text shape new
+pub copy-new : (shape : Shape) (image : List ℕ) (new : Fresh) (slot : ℕ) → IsWithinLimits shape → IsFreshPage shape new
+    → slot_bytes shape slot image ≡ new_text shape new
     → copy_lsn shape image new.page slot ≡ Some new.content.lsn
-copy-new shape image new slot space pages fresh is =
-    ap (λ b. copy_lsn_by shape new.page (page_check b)) is ∙ ap (copy_lsn_by shape new.page) (check-new_text shape new space pages fresh) ∙ copy-sound shape new.page new.content.lsn
+copy-new shape image new slot limits fresh is =
+    ap (λ b. copy_lsn_by shape new.page (page_check b)) is ∙ ap (copy_lsn_by shape new.page) (check-new_text shape new limits fresh) ∙ copy-sound shape new.page new.content.lsn
 
 pub record IsCopyOf (shape : Shape) (image : List ℕ) (p slot lsn : ℕ) (new : Fresh) : Type 0 where
   pub page : new.page ≡ p
   pub content : copied shape image slot lsn ≡ new.content
 
-pub copy-is : (shape : Shape) (image : List ℕ) (new : Fresh) (p slot lsn : ℕ) → shape.space < 2 ^ 32 → shape.pages ≤ 64 → IsFreshPage shape new → slot_bytes shape slot image ≡ new_text shape new
+pub copy-is : (shape : Shape) (image : List ℕ) (new : Fresh) (p slot lsn : ℕ) → IsWithinLimits shape
+    → IsFreshPage shape new → slot_bytes shape slot image ≡ new_text shape new
     → copy_lsn shape image p slot ≡ Some lsn → IsCopyOf shape image p slot lsn new
-copy-is shape image new p slot lsn space pages fresh is passes =
+copy-is shape image new p slot lsn limits fresh is passes =
     let named = copy-named shape p new.page shape.space new.content.lsn lsn
-    (sym (ap (λ b. copy_lsn_by shape p (page_check b)) is ∙ ap (copy_lsn_by shape p) (check-new_text shape new space pages fresh)) ∙ passes) in
+    (sym (ap (λ b. copy_lsn_by shape p (page_check b)) is ∙ ap (copy_lsn_by shape p) (check-new_text shape new limits fresh)) ∙ passes) in
     record {
       page = named.0;
       content = same_content (copied shape image slot lsn) new.content (sym named.1) (ap user_part is ∙ user-new_text shape new);

@@ -1,9 +1,7 @@
 -- A log of which blocks are being cleared away gives less, in either format.
-use Rattle.std.proofs.Common.{◌≡◌, ◌≤◌, ◌<◌, ◌+◌, ◌*◌, ◌%◌, ◌⊎◌, ℕ, suc, inl, inr, Bool, true, false, cond, List, length, Option, Some, None, refl, sym, ap, subst, ◌∙◌, ⊎_elim, arith}
+use Rattle.std.proofs.Common.{◌≡◌, ◌≤◌, ◌<◌, ◌%◌, ℕ, inl, inr, Bool, true, false, cond, List, length, Option, Some, None, refl, sym, ap, subst, ◌∙◌, ⊎_elim, arith}
 use Rattle.std.specs.Prelude.{nat_lt}
-use Rattle.std.specs.List.{slice_get}
 use Rattle.std.specs.Option.{option_map}
-use Rattle.std.proofs.lemmas.Bool.{cases_lt}
 use Rattle.model_base.specs.declared.shape.Shape.{Shape}
 use Rattle.model_base.specs.declared.limits.TheConstants.{LSN_LIMIT}
 use Rattle.model_log.specs.declared.group.Whole.{Whole}
@@ -13,9 +11,8 @@ use Rattle.model_log.specs.declared.head.Format.{Format}
 use Rattle.model_log.specs.declared.head.Format.TheVariants.{One, Two}
 use Rattle.model_log.specs.declared.layout.Layout.{Layout}
 use Rattle.model_device.specs.{sector}
-use Rattle.model_store.specs.{AreFoundIn, AreInPlace, IsInTail, IsLastOf, IsScan, longer, read_full, read_tail, Taken, taken, taken_among, taken_from, view_at}
+use Rattle.model_store.specs.{AreFoundIn, AreInPlace, IsInTail, IsScan, read_full, read_tail, Taken, taken, taken_among, taken_from, view_at}
 use Rattle.model_store.specs.declared.tail.Tail.{Tail}
-use Rattle.model_store.proofs.Places.{has_place, same_some}
 use Rattle.model_store.proofs.Sources.{Found, found-at}
 use Rattle.model_store.proofs.Taking.{from-full, taken-none_one, taken-same_one}
 use Rattle.model_parts.specs.Changes.{IsErased, IsErasing, IsUnsealed}

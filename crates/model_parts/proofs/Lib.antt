@@ -29,6 +29,7 @@ pub mod Puts
 pub mod Repairs
 pub mod Replay
 pub mod Reread
+pub mod Rows
 pub mod Scans
 pub mod Splits
 pub mod Stages

@@ -5,7 +5,7 @@ use Rattle.std.proofs.lemmas.Bool.{cases_lt}
 use Rattle.std.proofs.lemmas.Bool.Decides.{nat_tests}
 use Rattle.std.proofs.lemmas.List.Elements.{All-nil}
 use Rattle.model_base.specs.{field}
-use Rattle.model_base.specs.declared.limits.TheConstants.{BLOCK_SIZE, LSN_LIMIT, START_LSN}
+use Rattle.model_base.specs.declared.limits.TheConstants.{BLOCK_SIZE, FIRST_DATA_LSN, LSN_LIMIT, START_LSN}
 use Rattle.model_base.specs.declared.shape.Shape.{Shape}
 use Rattle.model_device.specs.{IsSectorWrite, sector, settled}
 use Rattle.model_device.specs.Disk.{Disk}
@@ -14,7 +14,7 @@ use Rattle.model_log.specs.{fits_checksum, is_checkpoint, newer, place_in, place
 use Rattle.model_log.proofs.Places.{HasBlocks}
 use Rattle.model_log.proofs.Runs.{run-none}
 use Rattle.model_parts.specs.declared.marks.LogMarks.{LogMarks}
-use Rattle.model_parts.specs.Held.{AreInOrder, IsBeside, IsLive, IsPlace, IsTail, IsWritten, LogHoldsWith, MayStand, other_place}
+use Rattle.model_parts.specs.Held.{AreInOrder, IsBeside, IsBlockPlace, IsLive, IsTail, IsWritten, LogHoldsWith, MayStand, other_place}
 use Rattle.model_parts.specs.LogFresh.{IsFresh}
 use Rattle.model_parts.specs.Marks.{first_marks, first_tails}
 use Rattle.model_parts.proofs.LogImages.{when_less, when_not_less}
@@ -111,7 +111,7 @@ beside-older marks (Some other) older = inl (older other refl)
 
 -- THE START.
 
-in_order-first : (layout : Layout) (start number : ℕ) → 1 ≤ layout.blocks → start % 512 ≡ 12 → 8204 ≤ start → AreInOrder layout start [] (first_marks start number)
+in_order-first : (layout : Layout) (start number : ℕ) → 1 ≤ layout.blocks → start % 512 ≡ 12 → FIRST_DATA_LSN ≤ start → AreInOrder layout start [] (first_marks start number)
 in_order-first layout start number some place low = record {
   starts = place;
   run = run-none start;
@@ -147,7 +147,7 @@ fresh-written shape start number disk place fresh =
     }
 
 -- and with nothing pending that is all that there is
-fresh-holds : (shape : Shape) (start number : ℕ) (disk : Disk) → HasBlocks (run_layout shape) → start % 512 ≡ 12 → 8204 ≤ start
+fresh-holds : (shape : Shape) (start number : ℕ) (disk : Disk) → HasBlocks (run_layout shape) → start % 512 ≡ 12 → FIRST_DATA_LSN ≤ start
     → IsWritten shape start [] (first_marks start number) (first_tails start) disk → LogHoldsWith shape start [] (first_marks start number) (first_tails start) (settled disk.reads)
 fresh-holds shape start number disk blocks place low is =
     let marks : LogMarks = first_marks start number in
@@ -158,14 +158,14 @@ fresh-holds shape start number disk blocks place low is =
       heads = λ k at bytes may. ap read_head (only k bytes may) ∙ is.heads k at;
       order = in_order-first (run_layout shape) start number blocks.some place low;
       kept = record { boundary = refl; from = omega arith; up_to = omega arith; place = inr refl };
-      blocks = λ b in_round bytes may. subst (λ (x : List ℕ). IsPlace start [] start start b x) (sym (only (sector_of (run_layout shape) b) bytes may)) (is.blocks b in_round);
+      blocks = λ b in_round bytes may. subst (λ (x : List ℕ). IsBlockPlace start [] start start b x) (sym (only (sector_of (run_layout shape) b) bytes may)) (is.blocks b in_round);
       tail_blocks = λ k at bytes may. subst (λ (x : List ℕ). IsTail start [] start (start - 12) x) (sym (only k bytes may)) (is.tail_blocks k at);
       kept_tail = λ bytes may. inl (omega arith);
       checkpoint = λ bytes may. ap (read_checkpoint (place_of number) (run_layout shape)) (only (place_of number) bytes may) ∙ is.checkpoint;
       beside = λ bytes may. subst (λ (x : List ℕ). IsBeside marks (read_checkpoint (other_place number) (run_layout shape) x)) (sym (only (other_place number) bytes may)) is.beside;
     }
 
-pub fresh-live : (shape : Shape) (start number : ℕ) (disk : Disk) → HasBlocks (run_layout shape) → start % 512 ≡ 12 → 8204 ≤ start
+pub fresh-live : (shape : Shape) (start number : ℕ) (disk : Disk) → HasBlocks (run_layout shape) → start % 512 ≡ 12 → FIRST_DATA_LSN ≤ start
     → IsFresh shape start number disk → IsLive shape start [] (first_marks start number) (first_tails start) disk
 fresh-live shape start number disk blocks place low fresh =
     let is : IsWritten shape start [] (first_marks start number) (first_tails start) disk = fresh-written shape start number disk place fresh in

@@ -3,7 +3,7 @@ use Rattle.std.proofs.Common.{◌≡◌, ◌≤◌, ◌<◌, ◌+◌, ◌-◌, �
 use Rattle.std.specs.Prelude.{nat_lt}
 use Rattle.std.proofs.lemmas.Bool.{cases_lt, cases_Bool}
 use Rattle.std.proofs.lemmas.Bool.Decides.{nat_tests}
-use Rattle.model_base.specs.declared.limits.TheConstants.{LSN_LIMIT}
+use Rattle.model_base.specs.declared.limits.TheConstants.{LSN_LIMIT, START_LSN}
 use Rattle.model_base.specs.declared.shape.Shape.{Shape}
 use Rattle.model_device.specs.{sector}
 use Rattle.model_device.specs.Disk.{Disk}
@@ -19,7 +19,7 @@ use Rattle.model_log.proofs.Runs.{boundary-reached, data-start}
 use Rattle.model_store.specs.{HasHead, if_full, IsFairLog, read_tail, taken, taken_among}
 use Rattle.model_parts.specs.declared.marks.LogMarks.{LogMarks}
 use Rattle.model_parts.specs.declared.marks.TailMarks.{TailMarks}
-use Rattle.model_parts.specs.Held.{AreInOrder, HoldsTail, IsBeside, IsNotFull, IsPartBlock, IsPlace, IsTail, LogHoldsWith, MayStand, other_place}
+use Rattle.model_parts.specs.Held.{AreInOrder, HoldsTail, IsBeside, IsBlockPlace, IsNotFull, IsPartBlock, IsTail, LogHoldsWith, MayStand, other_place}
 use Rattle.model_parts.proofs.LogRows.{IsTaken}
 use Rattle.model_parts.proofs.Tails.{IsRunWithBytes, KeepsTail, round-unread, takes}
 use Rattle.model_parts.proofs.Torn.{stands-sector}
@@ -121,7 +121,7 @@ ring-within shape b blocks =
     let place = sector-place (run_layout shape) b in
     omega (arith, blocks.some)
 
-ring-round : (layout : Layout) (b : ℕ) → HasBlocks layout → b % 512 ≡ 0 → 8192 ≤ b → sector_of layout (b + round_of layout) ≡ sector_of layout b
+ring-round : (layout : Layout) (b : ℕ) → HasBlocks layout → b % 512 ≡ 0 → START_LSN ≤ b → sector_of layout (b + round_of layout) ≡ sector_of layout b
 ring-round layout b blocks aligned started = ap (λ n. n / 512) (place-round layout b blocks aligned started)
 
 -- a block below a checkpoint, which is at most a boundary, is full below that
@@ -133,7 +133,7 @@ below-ckpt s wholes mark ckpt b start run boundary ckpt_aligned aligned below re
 
 -- the place of a full block, for the block one round of the log on
 round-place : (layout : Layout) (s : ℕ) (wholes : List Whole) (low high b : ℕ) (bytes : List ℕ) → HasBlocks layout → b + 524 ≤ low → low ≤ b + round_of layout + 12
-    → IsPlace s wholes low high b bytes → IsNotFull low (b + round_of layout) bytes
+    → IsBlockPlace s wholes low high b bytes → IsNotFull low (b + round_of layout) bytes
 round-place layout s wholes low high b bytes blocks below within is =
     ⊎_elim (λ full. record { none_below = omega arith; unread = ap if_full (round-unread layout s wholes high b bytes blocks full.block) })
     (λ none. absurd (omega (arith, none.none_below))) is
@@ -141,8 +141,8 @@ round-place layout s wholes low high b bytes blocks below within is =
 -- the places of a later checkpoint's round, which the lower mark has reached
 pub places-on : (layout : Layout) (s : ℕ) (wholes : List Whole) (marks : LogMarks) (low high ckpt : ℕ) (at : ℕ → List ℕ) → HasBlocks layout → AreInOrder layout s wholes marks
     → marks.stable ≤ low → low ≤ marks.ckpt + round_of layout → ckpt % 512 ≡ 0 → marks.ckpt ≤ ckpt → ckpt ≤ marks.stable
-    → ((b : ℕ) → IsInRound layout marks.ckpt b → IsPlace s wholes low high b (at (sector_of layout b)))
-    → (b : ℕ) → IsInRound layout ckpt b → IsPlace s wholes low high b (at (sector_of layout b))
+    → ((b : ℕ) → IsInRound layout marks.ckpt b → IsBlockPlace s wholes low high b (at (sector_of layout b)))
+    → (b : ℕ) → IsInRound layout ckpt b → IsBlockPlace s wholes low high b (at (sector_of layout b))
 places-on layout s wholes marks low high ckpt at blocks order reached room ckpt_aligned later below here b in_round =
     let n : ℕ = round_of layout in
     ⊎_elim (λ near. here b (record { aligned = in_round.aligned; from = omega (arith, in_round.from); below = near }))
@@ -156,7 +156,7 @@ places-on layout s wholes marks low high ckpt at blocks order reached room ckpt_
     let none : IsNotFull low (old + n) (at (sector_of layout old)) =
     round-place layout s wholes low high old (at (sector_of layout old)) blocks (omega arith) (omega arith) (here old old_in) in
     let turned : IsNotFull low (old + n) (at (sector_of layout (old + n))) = subst (λ (k : ℕ). IsNotFull low (old + n) (at k)) (sym same) none in
-    subst (λ (c : ℕ). IsPlace s wholes low high c (at (sector_of layout c))) is (inr turned)) (cases_lt b (marks.ckpt + n))
+    subst (λ (c : ℕ). IsBlockPlace s wholes low high c (at (sector_of layout c))) is (inr turned)) (cases_lt b (marks.ckpt + n))
 
 -- WHAT AN IMAGE HOLDS.
 
@@ -205,7 +205,7 @@ image-holds shape s wholes marks tails disk image blocks run small holds fair =
       there = ⊎_elim (λ e. inl (subst (λ (k : ℕ). HoldsTail s wholes tails.kept (sector k image)) e own))
           (λ o. inr (subst (λ (k : ℕ). HoldsTail s wholes tails.kept (sector k image)) o own)) holds.kept.place;
     } in
-    let places : (b : ℕ) → IsInRound (run_layout shape) newest.ckpt b → IsPlace s wholes tails.kept marks.given b (sector (sector_of (run_layout shape) b) image) =
+    let places : (b : ℕ) → IsInRound (run_layout shape) newest.ckpt b → IsBlockPlace s wholes tails.kept marks.given b (sector (sector_of (run_layout shape) b) image) =
     places-on (run_layout shape) s wholes marks tails.kept marks.given newest.ckpt (λ k. sector k image) blocks order holds.kept.from (omega (arith, holds.kept.up_to, order.written_given, order.room))
     newest.aligned newest.from (omega (arith, newest.up_to, order.asked_stable))
     (λ b in_round. holds.blocks b in_round (sector (sector_of (run_layout shape) b) image) (stand (sector_of (run_layout shape) b) (ring-within shape b blocks))) in
@@ -224,8 +224,8 @@ image-holds shape s wholes marks tails disk image blocks run small holds fair =
       takes = λ b aligned from below. ⊎_elim
           (λ near.
           let test : nat_lt b LSN_LIMIT ≡ true = below-yes b LSN_LIMIT near in
-          let place : IsPlace s wholes tails.kept marks.given b (log_block (run_layout shape) b image) =
-          subst (λ (bytes : List ℕ). IsPlace s wholes tails.kept marks.given b bytes) (sector-log_block (run_layout shape) b image) (places b (record { aligned = aligned; from = from; below = below })) in
+          let place : IsBlockPlace s wholes tails.kept marks.given b (log_block (run_layout shape) b image) =
+          subst (λ (bytes : List ℕ). IsBlockPlace s wholes tails.kept marks.given b bytes) (sector-log_block (run_layout shape) b image) (places b (record { aligned = aligned; from = from; below = below })) in
           subst (λ t. IsTaken s wholes tails.kept marks.given b (cond t (taken_among Two b (log_block (run_layout shape) b image) (sector 4 image) (sector 5 image)) None)) (sym test)
           (takes s wholes tails.kept marks.given b (log_block (run_layout shape) b image) (sector 4 image) (sector 5 image) run holds.kept.boundary order.given kept_given aligned place
           (tail-at s wholes marks.given marks.ckpt b (sector 4 image) four aligned (omega (arith, newest.from)))

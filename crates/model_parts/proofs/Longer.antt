@@ -9,7 +9,7 @@ use Rattle.model_log.proofs.BoundaryRound.{block-longer}
 use Rattle.model_log.proofs.Runs.{boundary-longer}
 use Rattle.model_parts.specs.declared.marks.LogMarks.{LogMarks}
 use Rattle.model_parts.specs.declared.marks.TailMarks.{TailMarks}
-use Rattle.model_parts.specs.Held.{AreInOrder, HoldsTail, IsLive, IsPlace, IsTail, IsWritten, LogHoldsWith}
+use Rattle.model_parts.specs.Held.{AreInOrder, HoldsTail, IsBlockPlace, IsLive, IsTail, IsWritten, LogHoldsWith}
 
 in_order-more : (layout : Layout) (s : ℕ) (wholes more : List Whole) (marks : LogMarks) → IsRunOf s (wholes ++ more) → AreInOrder layout s wholes marks
     → AreInOrder layout s (wholes ++ more) marks
@@ -30,7 +30,7 @@ in_order-more layout s wholes more marks run order = record {
 }
 
 place-longer : (s : ℕ) (wholes more : List Whole) (low high b : ℕ) (bytes : List ℕ) → IsAtDataStart s → IsRunOf s (wholes ++ more) → IsBoundary s (spans_of wholes) high
-    → IsPlace s wholes low high b bytes → IsPlace s (wholes ++ more) low high b bytes
+    → IsBlockPlace s wholes low high b bytes → IsBlockPlace s (wholes ++ more) low high b bytes
 place-longer s wholes more low high b bytes start run boundary is =
     ⊎_elim (λ full. inl (record { full = full.full; block = block-longer s wholes more high b bytes start run boundary full.block }))
     (λ none. inr none) is

@@ -1,8 +1,8 @@
 -- A store of format 1 is taken to format 2: at each moment its log is read as empty from one lsn on, by the format that its
 -- header gives.
-use Rattle.std.proofs.Common.{◌≡◌, ◌≢◌, ◌≤◌, ◌<◌, ◌+◌, ◌-◌, ◌*◌, ◌%◌, ◌^◌, ◌⊎◌, ℕ, inl, inr, Bool, true, false, cond, List, length, Option, Some, None, refl, sym, ap, subst, ◌∙◌, ⊎_elim, arith}
-use Rattle.std.proofs.lemmas.Bool.{cases_Bool}
+use Rattle.std.proofs.Common.{◌≡◌, ◌≢◌, ◌≤◌, ◌<◌, ◌+◌, ◌*◌, ◌⊎◌, ℕ, inl, inr, Bool, true, false, cond, List, length, Option, Some, None, refl, sym, ap, subst, ◌∙◌, ⊎_elim, arith}
 use Rattle.model_base.specs.declared.shape.Shape.{Shape}
+use Rattle.model_base.specs.declared.limits.TheConstants.{MIN_LOG_BLOCKS}
 use Rattle.model_base.specs.{IsWithinLimits}
 use Rattle.model_device.specs.{sector, settled}
 use Rattle.model_log.specs.declared.head.Format.{Format}
@@ -10,11 +10,11 @@ use Rattle.model_log.specs.declared.head.Format.TheVariants.{One, Two}
 use Rattle.model_log.specs.declared.head.Head.{Head}
 use Rattle.model_log.specs.declared.head.Head.TheVariants.{Good, Unformatted}
 use Rattle.model_log.specs.declared.layout.Layout.{Layout}
-use Rattle.model_log.specs.{checkpoint_text, fits_checksum, head_of, head_text, IsInRound, IsLayout, IsTailPlace, layout_of, log_block, log_device_length, newer, newest_checkpoint, place_in, place_of, read_checkpoint, read_head, ring_start, round_of, run_layout, sector_of}
+use Rattle.model_log.specs.{checkpoint_text, fits_checksum, head_of, head_text, IsLayout, IsTailPlace, layout_of, log_block, log_device_length, newest_checkpoint, place_in, place_of, read_checkpoint, read_head, ring_start, round_of, run_layout, sector_of}
 use Rattle.model_log.proofs.CheckpointRound.{checkpoint-reads_back}
 use Rattle.model_log.proofs.HeadRound.{head-reads_back}
 use Rattle.model_log.proofs.Layouts.{has-blocks, is_layout_of}
-use Rattle.model_log.proofs.Places.{HasBlocks, place-within, sector-place}
+use Rattle.model_log.proofs.Places.{place-within, sector-place}
 use Rattle.model_store.specs.{AreFoundIn, IsOrderly, read_full, read_tail, taken}
 use Rattle.model_store.specs.Reading.{Reading}
 use Rattle.model_store.specs.declared.tail.Tail.{Tail}
@@ -34,7 +34,7 @@ use Rattle.model_parts.proofs.Unread.{unsealed-checkpoint, unsealed-full, unseal
 
 -- THE LOG BLOCKS, in either format, are those after the header blocks.
 
-ring-count : (format : Format) (shape : Shape) → 1024 ≤ shape.log_blocks → (layout_of format shape).first + (layout_of format shape).blocks ≡ 4 + shape.log_blocks
+ring-count : (format : Format) (shape : Shape) → MIN_LOG_BLOCKS ≤ shape.log_blocks → (layout_of format shape).first + (layout_of format shape).blocks ≡ 4 + shape.log_blocks
 ring-count One shape many = omega arith
 ring-count Two shape many = omega arith
 

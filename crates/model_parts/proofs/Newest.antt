@@ -1,11 +1,11 @@
 -- The newest of two checkpoints, where one of them is known.
-use Rattle.std.proofs.Common.{◌≡◌, ◌≤◌, ◌<◌, ◌+◌, ◌-◌, ◌%◌, ◌^◌, ◌==◌, ◌⊎◌, ℕ, inl, inr, Bool, true, false, cond, List, Option, Some, None, refl, sym, ap, subst, ◌∙◌, ⊎_elim, arith}
+use Rattle.std.proofs.Common.{◌≡◌, ◌≤◌, ◌<◌, ◌+◌, ◌%◌, ◌^◌, ◌⊎◌, ℕ, inl, inr, Bool, true, false, cond, List, Option, Some, None, refl, sym, ap, subst, ◌∙◌, ⊎_elim, arith}
 use Rattle.std.specs.Prelude.{nat_lt}
 use Rattle.std.proofs.lemmas.Bool.{cases_lt}
 use Rattle.std.proofs.lemmas.Bool.Decides.{nat_tests}
 use Rattle.model_base.specs.{field}
-use Rattle.model_device.specs.{sector}
-use Rattle.model_log.specs.{checkpoint_text, header_block, is_checkpoint, IsLayout, newer, newest_checkpoint, place_of, read_checkpoint}
+use Rattle.model_base.specs.declared.limits.TheConstants.{START_LSN}
+use Rattle.model_log.specs.{checkpoint_text, is_checkpoint, IsLayout, newer, place_of, read_checkpoint}
 use Rattle.model_log.specs.declared.layout.Layout.{Layout}
 use Rattle.model_log.proofs.CheckpointRound.{checkpoint-reads_back}
 use Rattle.model_parts.specs.Held.{other_place}
@@ -126,7 +126,7 @@ either-pair : (t : Bool) (found wanted : ℕ × ℕ) → found ≡ wanted → (c
 either-pair true found wanted same = inr (ap (λ (pair : ℕ × ℕ). Some pair) same)
 either-pair false found wanted same = inl refl
 
-text-fields : (number lsn : ℕ) (layout : Layout) → IsLayout layout → number < 2 ^ 64 → 8192 ≤ lsn → lsn < 2 ^ 60 → lsn % 512 ≡ 0
+text-fields : (number lsn : ℕ) (layout : Layout) → IsLayout layout → number < 2 ^ 64 → START_LSN ≤ lsn → lsn < 2 ^ 60 → lsn % 512 ≡ 0
     → let bytes : List ℕ = checkpoint_text number lsn layout in let pair : ℕ × ℕ = (field 8 0 bytes, field 8 8 bytes) in pair ≡ (number, lsn)
 unfolding read_checkpoint
 text-fields number lsn layout is_layout small low high aligned =
@@ -134,7 +134,7 @@ text-fields number lsn layout is_layout small low high aligned =
     some-pair (is_checkpoint (place_of number) layout bytes) (field 8 0 bytes, field 8 8 bytes) (number, lsn)
     (checkpoint-reads_back number lsn layout is_layout small low high aligned)
 
-pub other-format : (which number lsn : ℕ) (layout other : Layout) → IsLayout layout → number < 2 ^ 64 → 8192 ≤ lsn → lsn < 2 ^ 60 → lsn % 512 ≡ 0
+pub other-format : (which number lsn : ℕ) (layout other : Layout) → IsLayout layout → number < 2 ^ 64 → START_LSN ≤ lsn → lsn < 2 ^ 60 → lsn % 512 ≡ 0
     → (read_checkpoint which other (checkpoint_text number lsn layout) ≡ None) ⊎ (read_checkpoint which other (checkpoint_text number lsn layout) ≡ Some (number, lsn))
 unfolding read_checkpoint
 other-format which number lsn layout other is_layout small low high aligned =

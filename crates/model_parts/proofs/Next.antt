@@ -1,7 +1,6 @@
 -- Once a log is cleared, nothing is read of it from where the run starts on.
-use Rattle.std.proofs.Common.{◌≡◌, ◌≢◌, ◌≤◌, ◌<◌, ◌+◌, ◌-◌, ◌*◌, ◌/◌, ◌%◌, ◌⊎◌, ℕ, inl, inr, Bool, true, false, cond, List, length, take, drop, Option, Some, None, refl, sym, ap, subst, ◌∙◌, ⊎_elim, arith}
+use Rattle.std.proofs.Common.{◌≡◌, ◌≤◌, ◌<◌, ◌+◌, ◌-◌, ◌*◌, ◌/◌, ◌%◌, ◌⊎◌, ℕ, inl, inr, Bool, true, false, cond, List, length, take, drop, Option, Some, None, refl, sym, ap, subst, ◌∙◌, ⊎_elim, arith}
 use Rattle.std.specs.Prelude.{nat_lt}
-use Rattle.std.specs.List.{slice_get}
 use Rattle.std.specs.Option.{option_map}
 use Rattle.std.proofs.lemmas.Bool.{cases_lt}
 use Rattle.model_base.specs.declared.shape.Shape.{Shape}
@@ -15,13 +14,13 @@ use Rattle.model_log.specs.declared.layout.Layout.{Layout}
 use Rattle.model_log.specs.{block_of, header_block, IsInRound, IsTailPlace, layout_of, log_block, lsn_at, place_in, read_block, round_of, sector_of}
 use Rattle.model_log.proofs.Layouts.{has-blocks}
 use Rattle.model_log.proofs.Places.{HasBlocks, place-round}
-use Rattle.model_store.specs.{AreFoundIn, IsScan, IsTakenTail, read_full, read_tail, Taken, taken, taken_from, view_at}
+use Rattle.model_store.specs.{AreFoundIn, IsScan, read_tail, Taken, taken, taken_from}
 use Rattle.model_store.specs.declared.tail.Tail.{Tail}
 use Rattle.model_store.proofs.Places.{has_place}
 use Rattle.model_store.proofs.Taking.{from-full, taken-none_one, taken-none_two, unread-full}
-use Rattle.model_parts.specs.Changes.{IsErased, IsUnsealed}
-use Rattle.model_parts.specs.Cleared.{IsCleared, IsKept, IsOutside, IsPastKept, IsStaleTail}
-use Rattle.model_parts.proofs.Clearing.{block-sector, header-not_past, header-not_stale, IsLog, IsOther, IsTailIn, IsTailOf, kept-not_past, ring-not_stale, stale-not_past, taken-not_past}
+use Rattle.model_parts.specs.Changes.{IsUnsealed}
+use Rattle.model_parts.specs.Cleared.{IsCleared, IsInKeptRange, IsPastKept, IsStaleTail}
+use Rattle.model_parts.proofs.Clearing.{block-sector, IsLog, IsOther, IsTailIn, kept-not_past, ring-not_stale, stale-not_past, taken-not_past}
 use Rattle.model_parts.proofs.Unread.{round-unread, tail-once, unsealed-tail, unsealed-unread}
 
 -- WHERE THE BLOCKS STOOD THAT WERE READ, but for one that was taken from a tail block.
@@ -81,7 +80,7 @@ gone-from format shape most ckpt start views wholes end tail old new log is amon
           (λ other.
           let i : ℕ = (b - ckpt) / 512 in
           let at : lsn_at ckpt i ≡ b = omega (arith, log.aligned) in
-          let kept : IsKept layout ckpt start b = record { in_round = record { aligned = aligned; from = from; below = omega (arith, log.high, log.aligned, log.place) }; before = before } in
+          let kept : IsInKeptRange layout ckpt start b = record { in_round = record { aligned = aligned; from = from; below = omega (arith, log.high, log.aligned, log.place) }; before = before } in
           let same : log_block layout b new ≡ log_block layout b old =
           block-sector layout b new
           ∙ cleared.then.others (sector_of layout b) (kept-not_past layout ckpt start b tail log is kept other)

@@ -9,7 +9,8 @@ use Rattle.model_device.specs.{settled}
 use Rattle.model_device.specs.Disk.{Disk}
 use Rattle.model_store.specs.{IsNoNewerCopy, IsOrderly}
 use Rattle.model_store.specs.Reading.{Reading}
-use Rattle.model_parts.specs.Stored.{IsOpened, copied, read_as}
+use Rattle.model_parts.specs.Stored.{copied}
+use Rattle.model_parts.specs.BatchKept.{IsOpened, read_as}
 use Rattle.model_page.proofs.Kept.{same_content}
 
 pub orderly-opened : (log : List ℕ) (reading : Reading) (was : ℕ → Content) (disk : Disk) → IsOrderly log disk.base reading → disk ≡ settled disk.base

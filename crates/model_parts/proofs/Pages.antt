@@ -7,7 +7,8 @@ use Rattle.model_page.specs.{blank_page, copy_lsn, IsKept, slot_bytes, user_part
 use Rattle.model_page.specs.declared.content.Content.{Content}
 use Rattle.model_parts.specs.Batch.{Fresh, IsNew}
 use Rattle.model_parts.specs.Repair.{KeepsAll}
-use Rattle.model_parts.specs.Stored.{copied, ImageHolds, IsUpTo, Keeps, KeepsPage, read_as, Stored}
+use Rattle.model_parts.specs.Stored.{copied, ImageHolds, IsUpTo, Keeps, KeepsPage, Stored}
+use Rattle.model_parts.specs.BatchKept.{read_as}
 use Rattle.model_parts.proofs.Kept.{same-copy}
 use Rattle.model_store.specs.{HasOldCopies, IsFair, IsNoNewerCopy, IsOrderly, IsReading, IsReadPage}
 use Rattle.model_store.specs.Reading.{Reading}

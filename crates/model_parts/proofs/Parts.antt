@@ -10,7 +10,8 @@ use Rattle.model_device.specs.Disk.{Disk}
 use Rattle.model_device.specs.declared.write.Write.{Write}
 use Rattle.model_parts.specs.Batch.{Fresh, IsNew, IsBatch, slots_write, place_writes, after_batch}
 use Rattle.model_parts.specs.Steps.{written_all, ArePutOrNot, after_both, FailsBoth}
-use Rattle.model_parts.specs.Stored.{IsKnown, copied, KeepsPage, ImageHolds, IsSteady, Keeps, Stored, AreNotNewer, IsUpTo, IsLater, IsOpened, IsBefore, KeepsPages}
+use Rattle.model_parts.specs.Stored.{IsKnown, copied, KeepsPage, ImageHolds, IsSteady, Keeps, Stored, IsUpTo, IsLater}
+use Rattle.model_parts.specs.BatchKept.{AreNotNewer, IsOpened, IsBefore, KeepsPages}
 use Rattle.model_parts.proofs.Writes.{HasSizes, sizes-from, in-or, after-none, after-some}
 use Rattle.model_parts.proofs.DataImages.{IsReady, ready-from, IsSlotsOrNot, keeps-slots, stored-from, IsCopied, copied-from, AreOnPlaces, places-on, take-on, places-pending, placed-from, new-at}
 use Rattle.model_base.specs.{IsWithinLimits}
@@ -70,7 +71,7 @@ write-failed shape copies was batch old new is batch_is older ready nothing call
     let some : HasSome (settled base) (place_writes shape batch) new =
     some-pending (settled base) new (place_writes shape batch) refl (subst (λ (d : Disk). ArePutOrNot (place_writes shape batch) d new) (mid-is old (slots_write shape batch) nothing) second) in
     let held_new : IsCopied shape copies was batch new.base = subst (λ (b : List ℕ). IsCopied shape copies was batch b) (sym some.base) held in
-    let sizes : HasSizes shape (length new.base) = sizes-from shape (length new.base) is.page_size is.slots is.few_pages held_new.ready.long in
+    let sizes : HasSizes shape (length new.base) = sizes-from shape (length new.base) is held_new.ready.long in
     let on : AreOnPlaces shape batch (length new.base) new.writes =
     subst (λ (ws : List Write). AreOnPlaces shape batch (length new.base) ws) (sym some.pending)
     (take-on shape batch (length new.base) some.count (place_writes shape batch) (places-on shape batch (length new.base) sizes batch_is)) in

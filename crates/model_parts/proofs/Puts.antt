@@ -1,7 +1,7 @@
 -- The writes of `write_to` keep what a log device holds.
 use Rattle.std.proofs.Common.{◌≡◌, ◌≤◌, ◌<◌, ◌+◌, ◌-◌, ◌*◌, ◌%◌, ◌⊎◌, ℕ, inl, inr, List, length, take, drop, Some, refl, sym, ap, subst, ◌∙◌, ⊎_elim, arith}
 use Rattle.std.proofs.lemmas.List.{take_all}
-use Rattle.model_base.specs.declared.limits.TheConstants.{BLOCK_SIZE}
+use Rattle.model_base.specs.declared.limits.TheConstants.{BLOCK_SIZE, START_LSN}
 use Rattle.model_base.specs.declared.shape.Shape.{Shape}
 use Rattle.model_device.specs.{Covers, IsSectorWrite, written_sector}
 use Rattle.model_device.specs.Disk.{Disk}
@@ -14,7 +14,7 @@ use Rattle.model_log.proofs.BoundaryRound.{block-later}
 use Rattle.model_log.proofs.Places.{one-place_each, place-from, place-on, sector-place}
 use Rattle.model_parts.specs.declared.marks.LogMarks.{LogMarks}
 use Rattle.model_parts.specs.declared.marks.TailMarks.{TailMarks}
-use Rattle.model_parts.specs.Held.{AreInOrder, IsBeside, IsFullBlock, IsHeadPlace, IsPlace, IsTail, IsTailBlock, LogHoldsWith, MayStand, NEXT_DATA, other_place}
+use Rattle.model_parts.specs.Held.{AreInOrder, IsBeside, IsBlockPlace, IsFullBlock, IsHeadPlace, IsTail, IsTailBlock, LogHoldsWith, MayStand, NEXT_DATA, other_place}
 use Rattle.model_parts.proofs.LogImages.{beside-kept, header-below}
 use Rattle.model_parts.proofs.Tails.{broken-place, broken-tail, tail-is}
 use Rattle.model_parts.proofs.Torn.{AddsTorn, IsWhole}
@@ -27,7 +27,7 @@ full-wider s wholes high most b bytes later is = record {
   block = block-later s wholes high most b bytes (omega (arith, is.full)) later is.block;
 }
 
-pub place-wider : (s : ℕ) (wholes : List Whole) (low high least most b : ℕ) (bytes : List ℕ) → least ≤ low → high ≤ most → IsPlace s wholes low high b bytes → IsPlace s wholes least most b bytes
+pub place-wider : (s : ℕ) (wholes : List Whole) (low high least most b : ℕ) (bytes : List ℕ) → least ≤ low → high ≤ most → IsBlockPlace s wholes low high b bytes → IsBlockPlace s wholes least most b bytes
 place-wider s wholes low high least most b bytes lower later is =
     ⊎_elim (λ full. inl (full-wider s wholes high most b bytes later full))
     (λ none. inr (record { none_below = omega (arith, none.none_below); unread = none.unread })) is
@@ -64,7 +64,7 @@ pub record PutsWell (shape : Shape) (s : ℕ) (wholes : List Whole) (marks : Log
   pub sectors : IsSectorWrite (log_device_length shape) write
   pub spares : (k : ℕ) → HasToStay marks tails k → Covers write k → ⊥
   pub blocks : (b : ℕ) → IsInRound (run_layout shape) marks.ckpt b → Covers write (sector_of (run_layout shape) b) → (bytes : List ℕ) → IsWhole write (sector_of (run_layout shape) b) bytes
-      → IsPlace s wholes tails.kept marks.given b bytes
+      → IsBlockPlace s wholes tails.kept marks.given b bytes
   pub tail_blocks : (k : ℕ) → IsTailPlace k → Covers write k → (bytes : List ℕ) → IsWhole write k bytes → IsTail s wholes marks.given marks.ckpt bytes
   pub beside : Covers write (other_place marks.number) → (bytes : List ℕ) → IsWhole write (other_place marks.number) bytes
       → IsBeside marks (read_checkpoint (other_place marks.number) (run_layout shape) bytes)
@@ -132,7 +132,7 @@ pub record IsOneOf (layout : Layout) (from count b : ℕ) (write : Write) : Type
   pub is : b ≡ from + 512 * i
   pub bytes : written_sector write (sector_of layout b) ≡ take 512 (drop (512 * i) write.bytes)
 
-pub covered : (shape : Shape) (s : ℕ) (wholes : List Whole) (kept mark ckpt from count b : ℕ) (write : Write) → 8192 ≤ ckpt
+pub covered : (shape : Shape) (s : ℕ) (wholes : List Whole) (kept mark ckpt from count b : ℕ) (write : Write) → START_LSN ≤ ckpt
     → WritesFull shape s wholes kept mark ckpt from count write → IsInRound (run_layout shape) ckpt b → Covers write (sector_of (run_layout shape) b) → IsOneOf (run_layout shape) from count b write
 covered shape s wholes kept mark ckpt from count b write started writes in_round covers =
     let here : 512 * sector_of (run_layout shape) b ≡ place_in (run_layout shape) b = sector-place (run_layout shape) b in
@@ -186,7 +186,7 @@ full-sectors shape s wholes kept mark ckpt from count write some writes =
     }
 
 pub full-puts : (shape : Shape) (s : ℕ) (wholes : List Whole) (marks : LogMarks) (tails : TailMarks) (from count : ℕ) (write : Write) → 1 ≤ (run_layout shape).blocks
-    → IsTailPlace tails.tail → 8192 ≤ marks.ckpt → WritesFull shape s wholes tails.kept marks.given marks.ckpt from count write → PutsWell shape s wholes marks tails write
+    → IsTailPlace tails.tail → START_LSN ≤ marks.ckpt → WritesFull shape s wholes tails.kept marks.given marks.ckpt from count write → PutsWell shape s wholes marks tails write
 full-puts shape s wholes marks tails from count write some place started writes =
     let limits = header-below marks.number in
     let none : (k : ℕ) → k < 6 → Covers write k → ⊥ = λ k below covers. not-below shape s wholes tails.kept marks.given marks.ckpt from count k write writes below covers in

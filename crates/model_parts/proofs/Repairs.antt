@@ -1,8 +1,7 @@
 -- The repair of a page keeps what each fair image holds.
-use Rattle.std.proofs.Common.{◌≡◌, ◌≢◌, ◌≤◌, ◌<◌, ◌+◌, ◌-◌, ◌*◌, ◌⊎◌, ℕ, inl, inr, List, [], ◌∷◌, ◌++◌, length, take, drop, Option, Some, None, refl, sym, ap, subst, ◌∙◌, ⊎_elim, length-take, length-drop, arith}
+use Rattle.std.proofs.Common.{◌≡◌, ◌≢◌, ◌≤◌, ◌<◌, ◌+◌, ◌*◌, ◌⊎◌, ℕ, inl, inr, List, [], ◌∷◌, ◌++◌, length, drop, Option, Some, None, refl, sym, ap, subst, ◌∙◌, ⊎_elim, length-take, length-drop, arith}
 use Rattle.std.specs.Prelude.{◌↔◌}
 use Rattle.std.proofs.lemmas.Bool.{cases_lt}
-use Rattle.std.proofs.lemmas.List.{take_all}
 use Rattle.model_base.specs.declared.shape.Shape.{Shape}
 use Rattle.model_page.specs.{copy_lsn, copy_lsn_by, data_device_length, HasBestCopy, IsBestCopy, IsInSlot, IsKept, page_check, place_bytes, place_lsn, place_lsn_by, slot_bytes, stretch_at, user_part}
 use Rattle.model_page.specs.declared.content.Content.{Content}
@@ -12,12 +11,11 @@ use Rattle.model_device.specs.{after_write, settled}
 use Rattle.model_device.specs.Disk.{Disk}
 use Rattle.model_device.specs.declared.write.Write.{Write}
 use Rattle.model_store.specs.{IsFair}
-use Rattle.model_parts.specs.Batch.{place_at}
 use Rattle.model_parts.specs.Repair.{SameSlots, IsCopyPut, IsPutBack, FailsPutBack, repair_write, KeepsSame, IsRepairable, KeepsAll, IsRepaired}
 use Rattle.model_parts.specs.Stored.{HasNothingPending}
 use Rattle.model_page.proofs.BestCopy.{best-copy}
 use Rattle.model_parts.proofs.Stretches.{IsApart, IsPut, AreApart, ArePut, fair-apart, fair-put, pieces-apart, pieces-has, length-after, stretch-piece}
-use Rattle.model_parts.proofs.Writes.{HasSizes, sizes-from}
+use Rattle.model_parts.proofs.Writes.{HasSizes, sizes-from, stretch-apart, stretch-ends, stretch-put}
 use Rattle.model_base.specs.{IsWithinLimits}
 use Rattle.model_page.proofs.Kept.{same_best}
 use Rattle.model_parts.proofs.Kept.{same-place, same-place_lsn, same-copy, broken-place}
@@ -92,26 +90,23 @@ mended-keeps shape page slot lsn old new broken best is p content below =
     (λ text. put-kept shape old new page slot lsn content is.slots broken best text) whole) is.place))
     (λ other. as_it_was (is.others p below other)) (same-or p page)
 
-pub length-stretch : (shape : Shape) (n : ℕ) (bytes : List ℕ) → shape.page_size ≡ 4096 → n < shape.slots + shape.pages → (shape.slots + shape.pages) * 4096 ≤ length bytes → length (stretch_at shape n bytes) ≡ 4096
-length-stretch shape n bytes size below room =
-    ap length (stretch-piece shape n bytes size) ∙ length-take 4096 (drop (n * 4096) bytes) ∙ omega (arith, length-drop (n * 4096) bytes)
+pub length-stretch : (shape : Shape) (n : ℕ) (bytes : List ℕ) → HasSizes shape (length bytes)
+    → n < shape.slots + shape.pages
+    → length (stretch_at shape n bytes) ≡ shape.page_size
+length-stretch shape n bytes sizes below =
+    ap length (stretch-piece shape n bytes) ∙ length-take shape.page_size (drop (n * shape.page_size) bytes)
+    ∙ omega (arith, length-drop (n * shape.page_size) bytes, stretch-ends shape n (length bytes) sizes below)
 
 record IsRepairWrite (shape : Shape) (page long : ℕ) (text : List ℕ) (write : Write) : Type 0 where
-  put : IsPut ((shape.slots + page) * 4096) long text write
-  apart : (n : ℕ) → (n ≡ shape.slots + page → ⊥) → IsApart (n * 4096) long write
+  put : IsPut shape.page_size ((shape.slots + page) * shape.page_size) long text write
+  apart : (n : ℕ) → (n ≡ shape.slots + page → ⊥) → IsApart shape.page_size (n * shape.page_size) long write
 
-repair-puts : (shape : Shape) (page long : ℕ) (text : List ℕ) → HasSizes shape long → page < shape.pages → length text ≡ 4096 → IsRepairWrite shape page long text (repair_write shape page text)
-repair-puts shape page long text sizes below count =
-    let at : place_at shape page ≡ (shape.slots + page) * 4096 = ap (λ s. (shape.slots + page) * s) sizes.page_size in
-    let none : (shape.slots + page) * 4096 - place_at shape page ≡ 0 = omega arith in
-    let within : place_at shape page + length text ≤ long = omega (arith, sizes.room) in
-    record {
-      put = record { within = within; from = omega arith; up_to = omega arith; same = ap (λ k. take 4096 (drop k text)) none ∙ take_all 4096 text (omega arith) };
-      apart = λ n other. record {
-        within = within;
-        beside = ⊎_elim (λ less. inl (omega arith)) (λ not_less. ⊎_elim (λ more. inr (omega arith)) (λ not_more. absurd (other (omega arith))) (cases_lt (shape.slots + page) n)) (cases_lt n (shape.slots + page));
-      };
-    }
+repair-puts : (shape : Shape) (page long : ℕ) (text : List ℕ) → HasSizes shape long → page < shape.pages
+    → length text ≡ shape.page_size → IsRepairWrite shape page long text (repair_write shape page text)
+repair-puts shape page long text sizes below count = record {
+  put = stretch-put shape long (shape.slots + page) text sizes (omega arith) count;
+  apart = λ n other. stretch-apart shape long n (shape.slots + page) text sizes (omega arith) count (λ is. other (sym is));
+}
 
 -- nothing came of the write, or it is pending
 pub record IsRepairing (shape : Shape) (page slot : ℕ) (old new : Disk) : Type 0 where
@@ -119,23 +114,23 @@ pub record IsRepairing (shape : Shape) (page slot : ℕ) (old new : Disk) : Type
   pub writes : (new.writes ≡ []) ⊎ (new.writes ≡ repair_write shape page (slot_bytes shape slot old.base) ∷ [])
 
 record AreRepairing (shape : Shape) (page long : ℕ) (text : List ℕ) (writes : List Write) : Type 0 where
-  put : ArePut ((shape.slots + page) * 4096) long text writes
-  apart : (n : ℕ) → (n ≡ shape.slots + page → ⊥) → AreApart (n * 4096) long writes
+  put : ArePut shape.page_size ((shape.slots + page) * shape.page_size) long text writes
+  apart : (n : ℕ) → (n ≡ shape.slots + page → ⊥) → AreApart shape.page_size (n * shape.page_size) long writes
 
 mended-image : (shape : Shape) (page slot : ℕ) (disk : Disk) (image : List ℕ) → IsWithinLimits shape → page < shape.pages
     → AreRepairing shape page (length disk.base) (slot_bytes shape slot disk.base) disk.writes → IsFair shape disk image → IsMended shape page slot disk.base image
 mended-image shape page slot disk image is below writes fair = record {
   slots = λ n few. fair-apart shape n disk image is.page_size (writes.apart n (λ same. absurd (omega arith))) fair.possible;
   others = λ p inside other. fair-apart shape (shape.slots + p) disk image is.page_size (writes.apart (shape.slots + p) (λ same. other (omega arith))) fair.possible;
-  place = fair-put shape (shape.slots + page) disk image (slot_bytes shape slot disk.base) is.page_size (omega arith) writes.put fair;
+  place = fair-put shape (shape.slots + page) disk image (slot_bytes shape slot disk.base) (omega arith) writes.put fair;
 }
 
 pub keeps-repairing : (shape : Shape) (page slot lsn : ℕ) (old new : Disk) → IsWithinLimits shape → page < shape.pages → data_device_length shape ≤ length old.base
     → place_lsn shape old.base page ≡ None → IsBestCopy shape old.base page slot lsn → IsRepairing shape page slot old new → KeepsAll shape old new
 keeps-repairing shape page slot lsn old new is below long broken best repairing =
-    let sizes : HasSizes shape (length old.base) = sizes-from shape (length old.base) is.page_size is.slots is.few_pages long in
+    let sizes : HasSizes shape (length old.base) = sizes-from shape (length old.base) is long in
     let text : List ℕ = slot_bytes shape slot old.base in
-    let count : length text ≡ 4096 = length-stretch shape slot old.base is.page_size (omega (arith, best.below)) sizes.room in
+    let count : length text ≡ shape.page_size = length-stretch shape slot old.base sizes (omega (arith, best.below)) in
     let write : IsRepairWrite shape page (length old.base) text (repair_write shape page text) = repair-puts shape page (length old.base) text sizes below count in
     let writes : AreRepairing shape page (length old.base) text new.writes =
     ⊎_elim (λ none. subst (λ (ws : List Write). AreRepairing shape page (length old.base) text ws) (sym none) (record { put = tt; apart = λ n other. tt }))
@@ -161,18 +156,18 @@ pub keeps-repaired : (shape : Shape) (page slot lsn : ℕ) (old new : Disk) → 
     → place_lsn shape old.base page ≡ None → IsBestCopy shape old.base page slot lsn → new ≡ settled (after_write old.base (repair_write shape page (slot_bytes shape slot old.base)))
     → HasRepaired shape page old new
 keeps-repaired shape page slot lsn old new is below long broken best same =
-    let sizes : HasSizes shape (length old.base) = sizes-from shape (length old.base) is.page_size is.slots is.few_pages long in
+    let sizes : HasSizes shape (length old.base) = sizes-from shape (length old.base) is long in
     let text : List ℕ = slot_bytes shape slot old.base in
-    let count : length text ≡ 4096 = length-stretch shape slot old.base is.page_size (omega (arith, best.below)) sizes.room in
+    let count : length text ≡ shape.page_size = length-stretch shape slot old.base sizes (omega (arith, best.below)) in
     let write : IsRepairWrite shape page (length old.base) text (repair_write shape page text) = repair-puts shape page (length old.base) text sizes below count in
     let base : List ℕ = after_write old.base (repair_write shape page text) in
     let size : length base ≡ length old.base =
-    length-after ((shape.slots + page) * 4096) old.base text (repair_write shape page text ∷ []) (length old.base) refl (inr write.put, tt) in
+    length-after shape.page_size ((shape.slots + page) * shape.page_size) old.base text (repair_write shape page text ∷ []) (length old.base) refl (inr write.put, tt) in
     let beside : (n : ℕ) → (n ≡ shape.slots + page → ⊥) → stretch_at shape n base ≡ stretch_at shape n old.base = λ n other.
-    stretch-piece shape n base is.page_size ∙ pieces-apart (n * 4096) old.base (repair_write shape page text ∷ []) (length old.base) refl (write.apart n other, tt) ∙ sym (stretch-piece shape n old.base is.page_size) in
+    stretch-piece shape n base ∙ pieces-apart shape.page_size (n * shape.page_size) old.base (repair_write shape page text ∷ []) (length old.base) refl (write.apart n other, tt) ∙ sym (stretch-piece shape n old.base) in
     let here : stretch_at shape (shape.slots + page) base ≡ text =
-    stretch-piece shape (shape.slots + page) base is.page_size
-    ∙ pieces-has ((shape.slots + page) * 4096) old.base text (repair_write shape page text ∷ []) (length old.base) refl (inr write.put, tt) (inl (inl write.put)) in
+    stretch-piece shape (shape.slots + page) base
+    ∙ pieces-has shape.page_size ((shape.slots + page) * shape.page_size) old.base text (repair_write shape page text ∷ []) (length old.base) refl (inr write.put, tt) (inl (inl write.put)) in
     let all : (n : ℕ) (image : List ℕ) → IsFair shape (settled base) image → stretch_at shape n image ≡ stretch_at shape n base = λ n image fair.
     fair-apart shape n (settled base) image is.page_size tt fair.possible in
     subst (λ (d : Disk). HasRepaired shape page old d) (sym same) (record {

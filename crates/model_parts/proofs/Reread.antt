@@ -1,22 +1,21 @@
 -- What is read off the devices of a store while it is opened, and once a checkpoint of opening stands.
-use Rattle.std.proofs.Common.{◌≡◌, ◌≢◌, ◌≤◌, ◌<◌, ◌+◌, ◌*◌, ◌%◌, ◌^◌, ◌⊎◌, ℕ, inl, inr, Bool, cond, List, [], length, Option, Some, None, refl, sym, ap, subst, ◌∙◌, ⊎_elim, arith}
+use Rattle.std.proofs.Common.{◌≡◌, ◌≤◌, ◌<◌, ◌+◌, ◌*◌, ◌%◌, ◌^◌, ℕ, inl, inr, List, [], length, Option, Some, None, refl, sym, ap, subst, ◌∙◌, ⊎_elim, arith}
 use Rattle.std.specs.List.{slice_get}
-use Rattle.std.proofs.lemmas.Bool.{cases_Bool}
 use Rattle.model_base.specs.declared.shape.Shape.{Shape}
+use Rattle.model_base.specs.declared.limits.TheConstants.{START_LSN}
 use Rattle.model_base.specs.{IsWithinLimits}
 use Rattle.model_device.specs.{sector}
 use Rattle.model_log.specs.declared.group.Whole.{Whole}
 use Rattle.model_log.specs.declared.head.Format.{Format}
-use Rattle.model_log.specs.declared.head.Format.TheVariants.{One, Two}
 use Rattle.model_log.specs.declared.head.Head.TheVariants.{Good}
 use Rattle.model_log.specs.declared.layout.Layout.{Layout}
-use Rattle.model_log.specs.{head_among, head_of, header_block, layout_of, log_device_length, newer, newest_checkpoint, read_checkpoint, round_of}
+use Rattle.model_log.specs.{head_among, head_of, header_block, layout_of, log_device_length, newer, newest_checkpoint, read_checkpoint}
 use Rattle.model_log.specs.declared.block.BlockView.{BlockView}
 use Rattle.model_log.proofs.Layouts.{is_layout_of}
 use Rattle.model_page.specs.{IsKept}
 use Rattle.model_page.specs.declared.content.Content.{Content}
 use Rattle.model_page.proofs.Kept.{same_kept}
-use Rattle.model_store.specs.{AreFoundIn, AreGroupsOf, groups_start, HasHead, IsOrderly, IsReading, IsReadPage, IsScan, replayed, Source, taken}
+use Rattle.model_store.specs.{AreFoundIn, AreGroupsOf, groups_start, IsOrderly, IsReading, IsReadPage, IsScan, replayed, Source, taken}
 use Rattle.model_store.specs.Reading.{Reading}
 use Rattle.model_store.specs.declared.tail.Tail.{Tail}
 use Rattle.model_store.proofs.Ending.{EndsWithin, IsGroupsStart, StartsBehind, start-within, starts-behind}
@@ -234,7 +233,7 @@ next-reads opened format number log_bytes data_bytes new_log new_data reads next
 pub record HasNext (opened : Reading) : Type 0 where
   pub number : opened.number + 2 < 2 ^ 64
   pub aligned : start_block opened % 512 ≡ 0
-  pub started : 8192 ≤ start_block opened
+  pub started : START_LSN ≤ start_block opened
   pub small : start_block opened < 2 ^ 60
 
 pub has-next : (log_bytes data_bytes : List ℕ) (opened : Reading) → IsOrderly log_bytes data_bytes opened → HasNext opened

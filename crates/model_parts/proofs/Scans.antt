@@ -5,7 +5,7 @@ use Rattle.std.proofs.lemmas.List.{drop-drop, drop-take}
 use Rattle.std.proofs.lemmas.Bool.{cases_lt}
 use Rattle.model_base.specs.declared.shape.Shape.{Shape}
 use Rattle.model_log.specs.declared.group.Whole.{Whole}
-use Rattle.model_log.specs.{block_of, end_of, groups_of, IsBoundary, IsDataLsn, IsRunOf, sn_of, Span, spans_of, stream_between, stream_of}
+use Rattle.model_log.specs.{block_of, groups_of, IsBoundary, IsDataLsn, IsRunOf, last_span_end, sn_of, Span, spans_of, stream_between, stream_of}
 use Rattle.model_log.specs.declared.block.BlockView.{BlockView}
 use Rattle.model_log.proofs.BoundaryLengths.{sn_of-rises, sn_of-start}
 use Rattle.model_log.proofs.Runs.{boundary-reached, boundary-back, spans_of-append, end_of-append, run-front, run-back, data-start}
@@ -39,10 +39,10 @@ piece-from s wholes ckpt start end first second third split =
     ∙ drop-front (stream_of (groups_of split.before)) (stream_of (groups_of split.after)))
 
 -- where two runs of groups end, and a boundary of the second
-ends-both : (s : ℕ) (before middle : List Whole) → end_of s (spans_of (before ++ middle)) ≡ end_of (end_of s (spans_of before)) (spans_of middle)
-ends-both s before middle = ap (end_of s) (spans_of-append before middle) ∙ end_of-append s (spans_of before) (spans_of middle)
+ends-both : (s : ℕ) (before middle : List Whole) → last_span_end s (spans_of (before ++ middle)) ≡ last_span_end (last_span_end s (spans_of before)) (spans_of middle)
+ends-both s before middle = ap (last_span_end s) (spans_of-append before middle) ∙ end_of-append s (spans_of before) (spans_of middle)
 
-boundary-behind : (s : ℕ) (before others : List Whole) (m : ℕ) → IsBoundary (end_of s (spans_of before)) (spans_of others) m → IsBoundary s (spans_of (before ++ others)) m
+boundary-behind : (s : ℕ) (before others : List Whole) (m : ℕ) → IsBoundary (last_span_end s (spans_of before)) (spans_of others) m → IsBoundary s (spans_of (before ++ others)) m
 boundary-behind s before others m is =
     subst (λ (spans : List Span). IsBoundary s spans m) (sym (spans_of-append before others)) (boundary-back s (spans_of before) (spans_of others) m is)
 
@@ -72,7 +72,7 @@ record Found (shape : Shape) (s : ℕ) (wholes : List Whole) (low high ckpt : �
   parts : wholes ≡ before ++ (middle ++ after)
   groups : AreGroupsOf shape source ckpt views found middle mark
   boundary : IsBoundary s (spans_of wholes) mark
-  ends : end_of s (spans_of (before ++ middle)) ≡ mark
+  ends : last_span_end s (spans_of (before ++ middle)) ≡ mark
   from : low ≤ mark
   up_to : mark ≤ high
   starts : AllByRecursion (λ (whole : Whole). whole.start < ckpt) before
@@ -107,7 +107,7 @@ found-some shape s wholes low high ckpt end start source views run from reaches 
     let split : Splits s wholes start = split-at shape s wholes start first run.run run.good least.boundary in
     let after_start = boundary-reached s wholes start first run.run least.boundary in
     let cut : Cuts shape start split.after end = cut-at shape start split.after end after_start.place place before_end split.run (good-after shape wholes split.before split.after split.parts run.good) in
-    let mark : ℕ = end_of start (spans_of cut.middle) in
+    let mark : ℕ = last_span_end start (spans_of cut.middle) in
     let after_mark = boundary-reached start split.after mark after_start.place split.run cut.boundary in
     let piece : data_from source ckpt views start ≡ stream_of (groups_of cut.middle) ++ cut.rest =
     ap (drop (sn_of start - sn_of ckpt)) bytes
@@ -127,7 +127,7 @@ found-some shape s wholes low high ckpt end start source views run from reaches 
       );
       boundary = subst (λ (groups : List Whole). IsBoundary s (spans_of groups) mark) (sym split.parts)
           (boundary-behind s split.before split.after mark (subst (λ (n : ℕ). IsBoundary n (spans_of split.after) mark) (sym split.ends) cut.boundary));
-      ends = ends-both s split.before cut.middle ∙ ap (λ n. end_of n (spans_of cut.middle)) split.ends;
+      ends = ends-both s split.before cut.middle ∙ ap (λ n. last_span_end n (spans_of cut.middle)) split.ends;
       from = ⊎_elim (λ early. omega (arith, after_mark.behind))
           (λ late. cut.last low (split.later low run.low_is late) reaches) (cases_lt low start);
       up_to = omega (arith, cut.below);
@@ -158,7 +158,7 @@ scans-to shape most s wholes low high ckpt source run aligned from before room h
     let parts : wholes ≡ (groups.before ++ groups.middle) ++ groups.after = groups.parts ∙ sym (append_assoc groups.before groups.middle groups.after) in
     let both : IsRunOf s (groups.before ++ groups.middle ++ groups.after) = subst (λ (all : List Whole). IsRunOf s all) parts run.run in
     let front : IsRunOf s (groups.before ++ groups.middle) = run-front s (groups.before ++ groups.middle) groups.after both in
-    let back : IsRunOf (end_of s (spans_of (groups.before ++ groups.middle))) groups.after = run-back s (groups.before ++ groups.middle) groups.after both in
+    let back : IsRunOf (last_span_end s (spans_of (groups.before ++ groups.middle))) groups.after = run-back s (groups.before ++ groups.middle) groups.after both in
     let first : IsDataLsn s = data-start s run.starts in
     let mark_place : IsDataLsn groups.mark = subst IsDataLsn groups.ends (end-reached s (groups.before ++ groups.middle) first front).place in
     record {

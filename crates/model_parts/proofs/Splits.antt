@@ -7,7 +7,7 @@ use Rattle.model_base.specs.declared.shape.Shape.{Shape}
 use Rattle.model_log.specs.declared.rec.Rec.{Rec}
 use Rattle.model_log.specs.declared.rec.Rec.TheVariants.{Init}
 use Rattle.model_log.specs.declared.group.Whole.{Whole}
-use Rattle.model_log.specs.{end_of, group_length, group_text, groups_of, IsBoundary, IsDataLsn, IsFront, IsGroup, IsRunOf, sn_of, spans_of, stream_of}
+use Rattle.model_log.specs.{group_length, group_text, groups_of, IsBoundary, IsDataLsn, IsFront, IsGroup, IsRunOf, last_span_end, sn_of, spans_of, stream_of}
 use Rattle.model_store.specs.{IsStorable}
 use Rattle.model_parts.proofs.Bytes.{group_text-some}
 use Rattle.model_log.proofs.Runs.{First, first-of, run-first, run-none, run-cons, boundary-start, boundary-end, IsReached, boundary-reached, stream-none, stream-first, lsn-before}
@@ -30,7 +30,7 @@ pub record Splits (s : ℕ) (wholes : List Whole) (m : ℕ) : Type 0 where
   pub before : List Whole
   pub after : List Whole
   pub parts : wholes ≡ before ++ after
-  pub ends : end_of s (spans_of before) ≡ m
+  pub ends : last_span_end s (spans_of before) ≡ m
   pub run : IsRunOf m after
   pub count : sn_of m ≡ sn_of s + length (stream_of (groups_of before))
   pub stream : stream_of (groups_of wholes) ≡ stream_of (groups_of before) ++ stream_of (groups_of after)
@@ -95,9 +95,9 @@ pub record Cuts (shape : Shape) (s : ℕ) (wholes : List Whole) (e : ℕ) : Type
   pub front : IsFront rest
   pub run : IsRunOf s middle
   pub each : AllByRecursion (IsStorable shape) (groups_of middle)
-  pub boundary : IsBoundary s (spans_of wholes) (end_of s (spans_of middle))
-  pub below : end_of s (spans_of middle) ≤ e
-  pub last : (n : ℕ) → IsBoundary s (spans_of wholes) n → n ≤ e → n ≤ end_of s (spans_of middle)
+  pub boundary : IsBoundary s (spans_of wholes) (last_span_end s (spans_of middle))
+  pub below : last_span_end s (spans_of middle) ≤ e
+  pub last : (n : ℕ) → IsBoundary s (spans_of wholes) n → n ≤ e → n ≤ last_span_end s (spans_of middle)
 
 -- a group, to begin with
 one_group : List Rec
@@ -179,7 +179,7 @@ cut-more : (shape : Shape) (s e : ℕ) (whole : Whole) (wholes : List Whole) →
 cut-more shape s e whole wholes run good first fits others =
     let rises : sn_of whole.end ≤ sn_of e = sn_of-rises whole.end e fits in
     let count : sn_of e - sn_of s ≡ group_length whole.group + (sn_of e - sn_of whole.end) = omega (arith, first.count) in
-    let behind : whole.end ≤ end_of whole.end (spans_of others.middle) = others.last whole.end (boundary-start whole.end (spans_of wholes)) fits in
+    let behind : whole.end ≤ last_span_end whole.end (spans_of others.middle) = others.last whole.end (boundary-start whole.end (spans_of wholes)) fits in
     record {
       middle = whole ∷ others.middle;
       after = others.after;
@@ -212,10 +212,10 @@ cut-at shape s (whole ∷ wholes) e place held low run good =
 -- THE GROUPS AT OR BELOW A MARK, AND FROM ONE ON
 
 -- a run ends no earlier than it starts
-pub end-reached : (s : ℕ) (wholes : List Whole) → IsDataLsn s → IsRunOf s wholes → IsReached s wholes (end_of s (spans_of wholes))
-end-reached s wholes place run = boundary-reached s wholes (end_of s (spans_of wholes)) place run (boundary-end s (spans_of wholes))
+pub end-reached : (s : ℕ) (wholes : List Whole) → IsDataLsn s → IsRunOf s wholes → IsReached s wholes (last_span_end s (spans_of wholes))
+end-reached s wholes place run = boundary-reached s wholes (last_span_end s (spans_of wholes)) place run (boundary-end s (spans_of wholes))
 
-pub all-below-end : (s : ℕ) (wholes : List Whole) → IsDataLsn s → IsRunOf s wholes → AllByRecursion (λ (whole : Whole). whole.end ≤ end_of s (spans_of wholes)) wholes
+pub all-below-end : (s : ℕ) (wholes : List Whole) → IsDataLsn s → IsRunOf s wholes → AllByRecursion (λ (whole : Whole). whole.end ≤ last_span_end s (spans_of wholes)) wholes
 all-below-end s [] place run = tt
 all-below-end s (whole ∷ wholes) place run =
     let first : First s whole = first-of s whole wholes place run in

@@ -10,15 +10,16 @@ use Rattle.model_base.specs.{field}
 use Rattle.model_log.specs.declared.group.Whole.{Whole}
 use Rattle.model_log.specs.declared.head.Format.TheVariants.{Two}
 use Rattle.model_log.specs.declared.layout.Layout.{Layout}
-use Rattle.model_log.specs.{block_number, block_of, block_text, content_at, first_at, fits_checksum, fits_number, groups_of, is_block_at, is_first, is_full, is_length, IsAtDataStart, IsBoundary, IsBoundaryBlock, IsByte, IsRunOf, length_at, length_of, read_block, round_of, spans_of, stream_of, turn_of, view_of}
+use Rattle.model_log.specs.{block_number, block_of, block_text, block_view, content_at, first_at, fits_checksum, fits_number, groups_of, is_block_at, is_first, is_full, is_length, IsAtDataStart, IsBoundary, IsBoundaryBlock, IsByte, IsRunOf, length_at, length_of, read_block, round_of, spans_of, stream_of, turn_of}
 use Rattle.model_log.specs.declared.block.BlockView.{BlockView}
+use Rattle.model_log.specs.declared.layout.TheConstants.{BLOCK_DATA}
 use Rattle.model_log.proofs.BoundaryLengths.{content-short}
 use Rattle.model_log.proofs.BoundaryRound.{ReadsAs, reads-as}
 use Rattle.model_log.proofs.Runs.{boundary-reached, data-start}
 use Rattle.model_log.proofs.Sealed.{field-padded}
 use Rattle.model_log.proofs.Places.{HasBlocks}
 use Rattle.model_store.specs.{if_full, if_tail, in_place_or, longer, read_full, read_tail, Taken, taken_among, taken_from}
-use Rattle.model_parts.specs.Held.{HoldsTail, IsFullBlock, IsPartBlock, IsPlace, IsTail, IsTailBlock}
+use Rattle.model_parts.specs.Held.{HoldsTail, IsBlockPlace, IsFullBlock, IsPartBlock, IsTail, IsTailBlock}
 use Rattle.model_parts.proofs.LogRows.{IsTaken}
 
 -- WHAT ISN'T READ.
@@ -34,8 +35,8 @@ and-last false b c d none = refl
 pub broken-unread : (b : ℕ) (bytes : List ℕ) → fits_checksum bytes ≡ false → read_block b bytes ≡ None
 unfolding read_block is_block_at
 broken-unread b bytes broken =
-    ap (λ t. cond t (Some (view_of bytes)) None)
-    (and-last (fits_number b bytes) (is_length (view_of bytes).length) (is_first (view_of bytes).length (view_of bytes).first) (fits_checksum bytes) broken)
+    ap (λ t. cond t (Some (block_view bytes)) None)
+    (and-last (fits_number b bytes) (is_length (block_view bytes).length) (is_first (block_view bytes).length (block_view bytes).first) (fits_checksum bytes) broken)
 
 and-first : (a b c d : Bool) → a ≡ false → (a && b && c && d) ≡ false
 and-first true b c d is = absurd cc
@@ -46,11 +47,11 @@ pub other-number : (b : ℕ) (bytes : List ℕ) → field 4 0 bytes % 2 ^ 31 ≢
 unfolding read_block is_block_at
 other-number b bytes other =
     let fits : fits_number b bytes ≡ false = grind (arith, nat_tests) in
-    ap (λ t. cond t (Some (view_of bytes)) None)
-    (and-first (fits_number b bytes) (is_length (view_of bytes).length) (is_first (view_of bytes).length (view_of bytes).first) (fits_checksum bytes) fits)
+    ap (λ t. cond t (Some (block_view bytes)) None)
+    (and-first (fits_number b bytes) (is_length (block_view bytes).length) (is_first (block_view bytes).length (block_view bytes).first) (fits_checksum bytes) fits)
 
 -- the number of a block, and what it names as its checkpoint
-number-of_block : (lsn : ℕ) (content : List ℕ) (first ckpt : ℕ) → length content ≤ 496 → field 4 0 (block_text lsn content first ckpt) ≡ block_number lsn
+number-of_block : (lsn : ℕ) (content : List ℕ) (first ckpt : ℕ) → length content ≤ BLOCK_DATA → field 4 0 (block_text lsn content first ckpt) ≡ block_number lsn
 unfolding block_text
 number-of_block lsn content first ckpt room =
     let head : List ℕ = bytes_high_first 4 (block_number lsn) ++ bytes_high_first 2 (length_of (length content)) ++ bytes_high_first 2 first ++ bytes_high_first 4 ckpt in
@@ -66,7 +67,8 @@ round-unread layout s wholes m b bytes blocks block =
     let few : layout.blocks < 1073741824 = blocks.few in
     other-number (b + round_of layout) bytes (λ same. absurd (omega arith))
 
-pub ckpt-of_block : (lsn : ℕ) (content : List ℕ) (first ckpt : ℕ) → length content ≤ 496 → ckpt < 2 ^ 32 → field 4 8 (block_text lsn content first ckpt) ≡ ckpt
+pub ckpt-of_block : (lsn : ℕ) (content : List ℕ) (first ckpt : ℕ) → length content ≤ BLOCK_DATA → ckpt < 2 ^ 32
+    → field 4 8 (block_text lsn content first ckpt) ≡ ckpt
 unfolding block_text
 ckpt-of_block lsn content first ckpt room small =
     let head : List ℕ = bytes_high_first 4 (block_number lsn) ++ bytes_high_first 2 (length_of (length content)) ++ bytes_high_first 2 first ++ bytes_high_first 4 ckpt in
@@ -84,7 +86,7 @@ view-cases true view b other =
 -- where the turn isn't that of the lsn
 pub other-turn : (b : ℕ) (bytes : List ℕ) → field 4 8 bytes ≢ turn_of b → read_tail b bytes ≡ None
 unfolding read_block
-other-turn b bytes other = view-cases (is_block_at b bytes) (view_of bytes) b other
+other-turn b bytes other = view-cases (is_block_at b bytes) (block_view bytes) b other
 
 -- A tail block fits at the lsn of its own block and nowhere else: the number tells the lsn up to whole turns of the
 -- numbers, and the turn stands beside it.
@@ -94,7 +96,7 @@ tail-elsewhere s wholes mark b bytes aligned is apart =
     let block : IsBoundaryBlock s wholes mark (block_of mark) bytes = is.block in
     let content : List ℕ = content_at s (stream_of (groups_of wholes)) mark (block_of mark) in
     let first : ℕ = first_at s (spans_of wholes) (block_of mark) in
-    let short : length content ≤ 496 = content-short s (stream_of (groups_of wholes)) mark (block_of mark) block.aligned in
+    let short : length content ≤ BLOCK_DATA = content-short s (stream_of (groups_of wholes)) mark (block_of mark) block.aligned in
     let number : field 4 0 bytes ≡ block_number (block_of mark) = ap (field 4 0) block.block ∙ number-of_block (block_of mark) content first block.ckpt short in
     let turn : field 4 8 bytes ≡ turn_of (block_of mark) = is.turn in
     ⊎_elim (λ less. other-turn b bytes (λ same. absurd (omega arith)))
@@ -148,15 +150,15 @@ some-view : (t : Bool) (x view : BlockView) → cond t (Some x) None ≡ Some vi
 some-view true x view is = cc
 some-view false x view is = absurd cc
 
-pub view-is : (b : ℕ) (bytes : List ℕ) (view : BlockView) → read_block b bytes ≡ Some view → view_of bytes ≡ view
+pub view-is : (b : ℕ) (bytes : List ℕ) (view : BlockView) → read_block b bytes ≡ Some view → block_view bytes ≡ view
 unfolding read_block
-view-is b bytes view read = some-view (is_block_at b bytes) (view_of bytes) view read
+view-is b bytes view read = some-view (is_block_at b bytes) (block_view bytes) view read
 
 block-reads : (s : ℕ) (wholes : List Whole) (m b : ℕ) (bytes : List ℕ) → IsRunWithBytes s wholes → IsBoundary s (spans_of wholes) m → b + 12 < m
     → IsBoundaryBlock s wholes m b bytes → BlockReads s wholes m b bytes
 block-reads s wholes m b bytes run boundary some block =
     let reads : ReadsAs s wholes m b bytes = reads-as s wholes m b bytes run.starts run.run run.bytes boundary some block in
-    let same : view_of bytes ≡ reads.view = view-is b bytes reads.view reads.read in
+    let same : block_view bytes ≡ reads.view = view-is b bytes reads.view reads.read in
     record {
       view = reads.view;
       read = reads.read;
@@ -323,7 +325,7 @@ not-in-place : (bytes : List ℕ) (found : Option BlockView) (tail : Option Take
 not-in-place bytes found tail is = ap (λ x. in_place_or bytes x tail) is
 
 pub takes : (s : ℕ) (wholes : List Whole) (low high b : ℕ) (place one two : List ℕ) → IsRunWithBytes s wholes → IsBoundary s (spans_of wholes) low → IsBoundary s (spans_of wholes) high
-    → low ≤ high → b % 512 ≡ 0 → IsPlace s wholes low high b place
+    → low ≤ high → b % 512 ≡ 0 → IsBlockPlace s wholes low high b place
     → (read_tail b one ≡ None) ⊎ IsPartBlock s wholes high b one → (read_tail b two ≡ None) ⊎ IsPartBlock s wholes high b two
     → KeepsTail s wholes low one two → IsTaken s wholes low high b (taken_among Two b place one two)
 takes s wholes low high b place one two run low_is high_is later aligned stands first second keeps =

@@ -1,11 +1,11 @@
 -- Bytes of which nothing is read at an lsn: those whose checksum doesn't fit, zeros among them, and those of another block.
-use Rattle.std.proofs.Common.{◌≡◌, ◌≢◌, ◌&&◌, ◌==◌, ◌≤◌, ◌<◌, ◌+◌, ◌*◌, ◌/◌, ◌%◌, ◌^◌, ◌⊎◌, ℕ, inl, inr, Bool, true, false, cond, List, Option, Some, None, refl, sym, ap, ◌∙◌, ⊎_elim, arith}
+use Rattle.std.proofs.Common.{◌≡◌, ◌≢◌, ◌&&◌, ◌==◌, ◌≤◌, ◌<◌, ◌+◌, ◌%◌, ◌^◌, ℕ, Bool, true, false, cond, List, Some, None, refl, sym, ap, ◌∙◌, ⊎_elim, arith}
 use Rattle.std.specs.Prelude.{nat_le, nat_lt}
 use Rattle.std.proofs.lemmas.Bool.{cases_lt, cases_Bool}
 use Rattle.std.proofs.lemmas.Bool.Decides.{nat_tests}
 use Rattle.model_base.specs.{after_bit, after_byte, after_eight_bits, crc_of, field, register_after}
 use Rattle.model_base.specs.declared.limits.TheConstants.{BLOCK_SIZE, START_LSN}
-use Rattle.model_log.specs.{block_number, fits_checksum, fits_number, format_of, good_head, is_block_at, is_checkpoint, is_first, is_full, is_length, place_in, place_of, read_block, read_checkpoint, read_head, round_of, turn_of, view_of}
+use Rattle.model_log.specs.{block_number, block_view, fits_checksum, fits_number, format_of, good_head, is_block_at, is_first, is_full, is_length, place_in, place_of, read_block, read_checkpoint, read_head, round_of, turn_of}
 use Rattle.model_log.specs.declared.block.BlockView.{BlockView}
 use Rattle.model_log.specs.declared.head.Head.TheVariants.{OtherFormat, Unformatted}
 use Rattle.model_log.specs.declared.layout.Layout.{Layout}
@@ -27,8 +27,8 @@ and-last false b c d none = refl
 pub unsealed-unread : (lsn : ℕ) (bytes : List ℕ) → IsUnsealed bytes → read_block lsn bytes ≡ None
 unfolding read_block is_block_at
 unsealed-unread lsn bytes broken =
-    ap (λ t. cond t (Some (view_of bytes)) None)
-    (and-last (fits_number lsn bytes) (is_length (view_of bytes).length) (is_first (view_of bytes).length (view_of bytes).first) (fits_checksum bytes) broken)
+    ap (λ t. cond t (Some (block_view bytes)) None)
+    (and-last (fits_number lsn bytes) (is_length (block_view bytes).length) (is_first (block_view bytes).length (block_view bytes).first) (fits_checksum bytes) broken)
 
 pub unsealed-full : (lsn : ℕ) (bytes : List ℕ) → IsUnsealed bytes → read_full lsn bytes ≡ None
 unsealed-full lsn bytes broken = ap if_full (unsealed-unread lsn bytes broken)
@@ -68,8 +68,8 @@ other-number : (lsn : ℕ) (bytes : List ℕ) → field 4 0 bytes % 2 ^ 31 ≢ b
 unfolding read_block is_block_at
 other-number lsn bytes other =
     let fits : fits_number lsn bytes ≡ false = grind (arith, nat_tests) in
-    ap (λ t. cond t (Some (view_of bytes)) None)
-    (and-none (fits_number lsn bytes) (is_length (view_of bytes).length) (is_first (view_of bytes).length (view_of bytes).first) (fits_checksum bytes) fits)
+    ap (λ t. cond t (Some (block_view bytes)) None)
+    (and-none (fits_number lsn bytes) (is_length (block_view bytes).length) (is_first (block_view bytes).length (block_view bytes).first) (fits_checksum bytes) fits)
 
 when-some : (t : Bool) (view found : BlockView) → cond t (Some view) None ≡ Some found → (t ≡ true) × (view ≡ found)
 when-some true view found is = (refl, cc)
@@ -78,14 +78,14 @@ when-some false view found is = absurd cc
 -- a block that is read at an lsn has its number, and is what its fields say
 record Reads (lsn : ℕ) (bytes : List ℕ) (view : BlockView) : Type 0 where
   number : field 4 0 bytes % 2 ^ 31 ≡ block_number lsn
-  view_is : view_of bytes ≡ view
+  view_is : block_view bytes ≡ view
 
 block-reads : (lsn : ℕ) (bytes : List ℕ) (view : BlockView) → read_block lsn bytes ≡ Some view → Reads lsn bytes view
 unfolding read_block is_block_at
 block-reads lsn bytes view is =
-    let test = when-some (is_block_at lsn bytes) (view_of bytes) view is in
+    let test = when-some (is_block_at lsn bytes) (block_view bytes) view is in
     let fits : fits_number lsn bytes ≡ true =
-    and-first (fits_number lsn bytes) (is_length (view_of bytes).length) (is_first (view_of bytes).length (view_of bytes).first) (fits_checksum bytes) test.0 in
+    and-first (fits_number lsn bytes) (is_length (block_view bytes).length) (is_first (block_view bytes).length (block_view bytes).first) (fits_checksum bytes) test.0 in
     record { number = grind (arith, nat_tests); view_is = test.1 }
 
 -- in the next round of the log a block has another number
@@ -117,7 +117,7 @@ view-cases true view lsn other =
 
 other-turn : (lsn : ℕ) (bytes : List ℕ) → field 4 8 bytes ≢ turn_of lsn → read_tail lsn bytes ≡ None
 unfolding read_block
-other-turn lsn bytes other = view-cases (is_block_at lsn bytes) (view_of bytes) lsn other
+other-turn lsn bytes other = view-cases (is_block_at lsn bytes) (block_view bytes) lsn other
 
 eq-from : (a b : ℕ) → (a == b) ≡ true → a ≡ b
 eq-from a b test = grind (arith, nat_tests)

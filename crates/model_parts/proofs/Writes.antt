@@ -6,78 +6,104 @@ use Rattle.std.proofs.lemmas.Bool.{cases_lt}
 use Rattle.std.proofs.lemmas.Bool.Decides.{nat_tests}
 use Rattle.std.proofs.lemmas.Option.{slice_get_within}
 use Rattle.std.proofs.lemmas.List.{take_all}
+use Rattle.std.proofs.Math.Nat.{mul-le-mul_right}
+use Rattle.model_base.specs.{IsPageSize, IsWithinLimits}
 use Rattle.model_base.specs.declared.shape.Shape.{Shape}
 use Rattle.model_page.specs.{data_device_length}
 use Rattle.model_page.specs.declared.content.Content.{Content}
-use Rattle.model_parts.specs.Batch.{Fresh, IsFreshPage, IsBatch, new_text, batch_text, slots_write, place_at, place_write, place_writes, after_batch}
+use Rattle.model_parts.specs.Batch.{Fresh, IsFreshPage, IsBatch, new_text, batch_text, slots_write, place_write, place_writes, after_batch}
 use Rattle.model_parts.proofs.Stretches.{IsApart, IsPut, AreApart, ArePut, HasPut}
 use Rattle.model_parts.proofs.Batches.{length-new_text, length-batch_text, text-at}
+use Rattle.model_parts.proofs.Rows.{row_ends}
 
 -- what each lemma needs of the sizes
 pub record HasSizes (shape : Shape) (long : ℕ) : Type 0 where
-  pub page_size : shape.page_size ≡ 4096
-  pub slots : shape.slots ≡ 8
-  pub pages : shape.pages ≤ 64
-  pub room : (shape.slots + shape.pages) * 4096 ≤ long
+  pub page_size : IsPageSize shape.page_size
+  pub room : data_device_length shape ≤ long
 
-pub sizes-from : (shape : Shape) (long : ℕ) → shape.page_size ≡ 4096 → shape.slots ≡ 8 → shape.pages ≤ 64 → data_device_length shape ≤ long → HasSizes shape long
-sizes-from shape long size slots pages within = record {
-  page_size = size;
-  slots = slots;
-  pages = pages;
-  room = subst (λ (n : ℕ). (shape.slots + shape.pages) * n ≤ long) size within;
-}
+pub sizes-from : (shape : Shape) (long : ℕ) → IsWithinLimits shape → data_device_length shape ≤ long
+    → HasSizes shape long
+sizes-from shape long is within = record { page_size = is.page_size; room = within }
+
+-- each stretch of the device ends within it
+pub stretch-ends : (shape : Shape) (n long : ℕ) → HasSizes shape long → n < shape.slots + shape.pages
+    → n * shape.page_size + shape.page_size ≤ long
+stretch-ends shape n long sizes below =
+    omega (arith, row_ends n (shape.slots + shape.pages) shape.page_size below, sizes.room)
+
+-- bytes of as many rows as there are before another row, on a device that has the slots
+slots-end : (shape : Shape) (count long : ℕ) → HasSizes shape long → count ≤ shape.slots
+    → count * shape.page_size ≤ long
+slots-end shape count long sizes few =
+    let all : count * shape.page_size ≤ (shape.slots + shape.pages) * shape.page_size =
+    mul-le-mul_right shape.page_size (omega arith) in
+    omega (arith, all, sizes.room)
 
 pub slots-apart : (shape : Shape) (batch : List Fresh) (n long : ℕ) → HasSizes shape long → IsBatch shape batch → length batch ≤ n
-    → IsApart (n * 4096) long (slots_write shape batch)
+    → IsApart shape.page_size (n * shape.page_size) long (slots_write shape batch)
 slots-apart shape batch n long sizes is behind =
-    let count : length (batch_text shape batch) ≡ 4096 * length batch = length-batch_text shape batch is.each in
-    record { within = omega (arith, sizes.room, is.few); beside = inr (omega arith) }
+    let count : length (batch_text shape batch) ≡ length batch * shape.page_size =
+    length-batch_text shape batch sizes.page_size is.each in
+    let before : length batch * shape.page_size ≤ n * shape.page_size = mul-le-mul_right shape.page_size behind in
+    record { within = omega (arith, slots-end shape (length batch) long sizes is.few); beside = inr (omega arith) }
 
 pub slots-put : (shape : Shape) (batch : List Fresh) (n long : ℕ) (new : Fresh) → HasSizes shape long → IsBatch shape batch → slice_get batch n ≡ Some new
-    → IsPut (n * 4096) long (new_text shape new) (slots_write shape batch)
+    → IsPut shape.page_size (n * shape.page_size) long (new_text shape new) (slots_write shape batch)
 slots-put shape batch n long new sizes is at =
-    let count : length (batch_text shape batch) ≡ 4096 * length batch = length-batch_text shape batch is.each in
+    let count : length (batch_text shape batch) ≡ length batch * shape.page_size =
+    length-batch_text shape batch sizes.page_size is.each in
     let below : n < length batch = slice_get_within batch n new at in
-    let none : n * 4096 - 0 ≡ n * 4096 = omega arith in
+    let none : n * shape.page_size - 0 ≡ n * shape.page_size = omega arith in
     record {
-      within = omega (arith, sizes.room, is.few);
+      within = omega (arith, slots-end shape (length batch) long sizes is.few);
+      from = omega arith;
+      up_to = omega (arith, row_ends n (length batch) shape.page_size below);
+      same = ap (λ k. take shape.page_size (drop k (batch_text shape batch))) none
+          ∙ text-at shape batch n new sizes.page_size is.each at;
+    }
+
+-- a write of one whole stretch leaves each other one alone
+pub stretch-apart : (shape : Shape) (long n m : ℕ) (text : List ℕ) → HasSizes shape long → m < shape.slots + shape.pages
+    → length text ≡ shape.page_size → (m ≡ n → ⊥)
+    → IsApart shape.page_size (n * shape.page_size) long (record { at = m * shape.page_size; bytes = text })
+stretch-apart shape long n m text sizes below count other = record {
+  within = omega (arith, stretch-ends shape m long sizes below);
+  beside = ⊎_elim (λ before. inr (omega (arith, row_ends m n shape.page_size before)))
+      (λ not_before. ⊎_elim (λ behind. inl (row_ends n m shape.page_size behind)) (λ same. absurd (other (omega arith)))
+      (cases_lt n m))
+      (cases_lt m n);
+}
+
+-- and makes it those bytes
+pub stretch-put : (shape : Shape) (long m : ℕ) (text : List ℕ) → HasSizes shape long → m < shape.slots + shape.pages
+    → length text ≡ shape.page_size
+    → IsPut shape.page_size (m * shape.page_size) long text (record { at = m * shape.page_size; bytes = text })
+stretch-put shape long m text sizes below count =
+    let none : m * shape.page_size - m * shape.page_size ≡ 0 = omega arith in
+    record {
+      within = omega (arith, stretch-ends shape m long sizes below);
       from = omega arith;
       up_to = omega arith;
-      same = ap (λ k. take 4096 (drop k (batch_text shape batch))) none ∙ text-at shape batch n new is.each at;
+      same = ap (λ k. take shape.page_size (drop k text)) none ∙ take_all shape.page_size text (omega arith);
     }
 
-place-offset : (shape : Shape) (long page : ℕ) → HasSizes shape long → place_at shape page ≡ (shape.slots + page) * 4096
-place-offset shape long page sizes = ap (λ s. (shape.slots + page) * s) sizes.page_size
-
-place-apart : (shape : Shape) (new : Fresh) (n long : ℕ) → HasSizes shape long → IsFreshPage shape new → (shape.slots + new.page ≡ n → ⊥)
-    → IsApart (n * 4096) long (place_write shape new)
+place-apart : (shape : Shape) (new : Fresh) (n long : ℕ) → HasSizes shape long → IsFreshPage shape new
+    → (shape.slots + new.page ≡ n → ⊥)
+    → IsApart shape.page_size (n * shape.page_size) long (place_write shape new)
 place-apart shape new n long sizes fresh other =
-    let at : place_at shape new.page ≡ (shape.slots + new.page) * 4096 = place-offset shape long new.page sizes in
-    let count : length (new_text shape new) ≡ 4096 = length-new_text shape new fresh.long in
-    record {
-      within = omega (arith, sizes.room, fresh.below);
-      beside = ⊎_elim (λ before. inr (omega arith)) (λ not_before. ⊎_elim (λ behind. inl (omega arith)) (λ same. absurd (other (omega arith))) (cases_lt n (shape.slots + new.page)))
-          (cases_lt (shape.slots + new.page) n);
-    }
+    stretch-apart shape long n (shape.slots + new.page) (new_text shape new) sizes (omega (arith, fresh.below))
+    (length-new_text shape new sizes.page_size fresh.long) other
 
 pub place-put : (shape : Shape) (new : Fresh) (long : ℕ) → HasSizes shape long → IsFreshPage shape new
-    → IsPut ((shape.slots + new.page) * 4096) long (new_text shape new) (place_write shape new)
+    → IsPut shape.page_size ((shape.slots + new.page) * shape.page_size) long (new_text shape new) (place_write shape new)
 place-put shape new long sizes fresh =
-    let at : place_at shape new.page ≡ (shape.slots + new.page) * 4096 = place-offset shape long new.page sizes in
-    let count : length (new_text shape new) ≡ 4096 = length-new_text shape new fresh.long in
-    let none : (shape.slots + new.page) * 4096 - place_at shape new.page ≡ 0 = omega arith in
-    record {
-      within = omega (arith, sizes.room, fresh.below);
-      from = omega arith;
-      up_to = omega arith;
-      same = ap (λ k. take 4096 (drop k (new_text shape new))) none ∙ take_all 4096 (new_text shape new) (omega arith);
-    }
+    stretch-put shape long (shape.slots + new.page) (new_text shape new) sizes (omega (arith, fresh.below))
+    (length-new_text shape new sizes.page_size fresh.long)
 
 pub places-apart : (shape : Shape) (batch : List Fresh) (n long : ℕ) → HasSizes shape long
     → ((i : ℕ) (new : Fresh) → slice_get batch i ≡ Some new → IsFreshPage shape new)
     → ((i : ℕ) (new : Fresh) → slice_get batch i ≡ Some new → shape.slots + new.page ≡ n → ⊥)
-    → AreApart (n * 4096) long (place_writes shape batch)
+    → AreApart shape.page_size (n * shape.page_size) long (place_writes shape batch)
 places-apart shape [] n long sizes each other = tt
 places-apart shape (new ∷ batch) n long sizes each other = (
   place-apart shape new n long sizes (each 0 new refl) (other 0 new refl),
@@ -87,24 +113,25 @@ places-apart shape (new ∷ batch) n long sizes each other = (
 pub places-put : (shape : Shape) (batch : List Fresh) (p long : ℕ) (text : List ℕ) → HasSizes shape long
     → ((i : ℕ) (new : Fresh) → slice_get batch i ≡ Some new → IsFreshPage shape new)
     → ((i : ℕ) (new : Fresh) → slice_get batch i ≡ Some new → new.page ≡ p → new_text shape new ≡ text)
-    → ArePut ((shape.slots + p) * 4096) long text (place_writes shape batch)
+    → ArePut shape.page_size ((shape.slots + p) * shape.page_size) long text (place_writes shape batch)
 places-put shape [] p long text sizes each same = tt
 places-put shape (new ∷ batch) p long text sizes each same =
     let here : (new.page ≡ p) ⊎ (shape.slots + new.page ≡ shape.slots + p → ⊥) =
     ⊎_elim (λ less. inr (λ is. absurd (omega arith))) (λ not_less. ⊎_elim (λ more. inr (λ is. absurd (omega arith))) (λ not_more. inl (omega arith)) (cases_lt p new.page)) (cases_lt new.page p) in (
-      ⊎_elim (λ is. inr (subst (λ (x : List ℕ). IsPut ((shape.slots + p) * 4096) long x (place_write shape new)) (same 0 new refl is)
-          (subst (λ (q : ℕ). IsPut ((shape.slots + q) * 4096) long (new_text shape new) (place_write shape new)) is (place-put shape new long sizes (each 0 new refl)))))
+      ⊎_elim (λ is. inr (subst (λ (x : List ℕ). IsPut shape.page_size ((shape.slots + p) * shape.page_size) long x (place_write shape new)) (same 0 new refl is)
+          (subst (λ (q : ℕ). IsPut shape.page_size ((shape.slots + q) * shape.page_size) long (new_text shape new) (place_write shape new)) is (place-put shape new long sizes (each 0 new refl)))))
           (λ apart. inl (place-apart shape new (shape.slots + p) long sizes (each 0 new refl) apart)) here,
       places-put shape batch p long text sizes (λ i more at. each (suc i) more at) (λ i more at. same (suc i) more at),
     )
 
 pub places-has : (shape : Shape) (batch : List Fresh) (i long : ℕ) (new : Fresh) → HasSizes shape long
     → ((i : ℕ) (new : Fresh) → slice_get batch i ≡ Some new → IsFreshPage shape new)
-    → slice_get batch i ≡ Some new → HasPut ((shape.slots + new.page) * 4096) long (new_text shape new) (place_writes shape batch)
+    → slice_get batch i ≡ Some new
+    → HasPut shape.page_size ((shape.slots + new.page) * shape.page_size) long (new_text shape new) (place_writes shape batch)
 places-has shape [] i long new sizes each at = absurd cc
 places-has shape (first ∷ batch) zero long new sizes each at =
     let same : first ≡ new = cc in
-    inl (subst (λ (x : Fresh). IsPut ((shape.slots + x.page) * 4096) long (new_text shape x) (place_write shape first)) same (place-put shape first long sizes (each 0 first refl)))
+    inl (subst (λ (x : Fresh). IsPut shape.page_size ((shape.slots + x.page) * shape.page_size) long (new_text shape x) (place_write shape first)) same (place-put shape first long sizes (each 0 first refl)))
 places-has shape (first ∷ batch) (suc i) long new sizes each at =
     inr (places-has shape batch i long new sizes (λ j more here. each (suc j) more here) at)
 

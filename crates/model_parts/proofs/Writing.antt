@@ -4,6 +4,7 @@ use Rattle.std.specs.Prelude.{nat_lt}
 use Rattle.std.proofs.lemmas.Bool.{cases_lt}
 use Rattle.std.proofs.lemmas.Bool.Decides.{nat_tests}
 use Rattle.model_base.specs.declared.shape.Shape.{Shape}
+use Rattle.model_base.specs.declared.limits.TheConstants.{START_LSN}
 use Rattle.model_device.specs.{after_write, Covers, IsSectorWrite, sector, written, written_sector}
 use Rattle.model_device.specs.Disk.{Disk}
 use Rattle.model_device.specs.declared.write.Write.{Write}
@@ -143,7 +144,7 @@ put-full shape s wholes mark p count b kept ckpt write bytes writes one put =
           (subst (λ (x : List ℕ). IsBoundaryBlock s wholes mark (p + 512 * one.i) x) (sym text) (writes.each one.i one.below));
     }
 
-blocks-more : (shape : Shape) (s : ℕ) (wholes : List Whole) (kept mark ckpt p count b : ℕ) (write : Write) (reads : List ℕ) → 8192 ≤ ckpt → 1 ≤ (run_layout shape).blocks → log_device_length shape ≤ length reads
+blocks-more : (shape : Shape) (s : ℕ) (wholes : List Whole) (kept mark ckpt p count b : ℕ) (write : Write) (reads : List ℕ) → START_LSN ≤ ckpt → 1 ≤ (run_layout shape).blocks → log_device_length shape ≤ length reads
     → WritesFull shape s wholes kept mark ckpt p count write → IsInRound (run_layout shape) ckpt b → IsPlaceUpTo s wholes mark p b (sector (sector_of (run_layout shape) b) reads)
     → IsPlaceUpTo s wholes mark (p + 512 * count) b (sector (sector_of (run_layout shape) b) (after_write reads write))
 blocks-more shape s wholes kept mark ckpt p count b write reads started some long writes in_round is =

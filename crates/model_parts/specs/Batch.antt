@@ -1,7 +1,7 @@
 -- The pages of a batch, and how they are written: side by side into the slots, then each into its place.
 use Rattle.std.specs.Prelude.{ℕ, ◌≡◌, ◌≤◌, ◌<◌, ◌+◌, ◌*◌, ◌^◌, ◌==◌, if◌then◌else◌, List, [], ◌∷◌, ◌++◌, length, take, drop, map, Some, slice_get, slice_index}
 use Rattle.model_base.specs.declared.shape.Shape.{Shape}
-use Rattle.model_base.specs.declared.limits.TheConstants.{USER_BYTES}
+use Rattle.model_base.specs.{user_length}
 use Rattle.model_page.specs.{page_text}
 use Rattle.model_page.specs.declared.content.Content.{Content}
 use Rattle.model_device.specs.declared.write.Write.{Write}
@@ -12,10 +12,11 @@ pub record Fresh : Type 0 where
   pub content : Content
 
 -- the batch of these pairs of page and lsn, the user bytes being joined
-abbrev pub batch_of : List (ℕ × ℕ) → List ℕ → List Fresh
-batch_of [] users = []
-batch_of (pair ∷ pairs) users =
-    (record { page = pair.0; content = record { lsn = pair.1; user = take USER_BYTES users } }) ∷ batch_of pairs (drop USER_BYTES users)
+abbrev pub batch_of : Shape → List (ℕ × ℕ) → List ℕ → List Fresh
+batch_of shape [] users = []
+batch_of shape (pair ∷ pairs) users =
+    (record { page = pair.0; content = record { lsn = pair.1; user = take (user_length shape) users } })
+    ∷ batch_of shape pairs (drop (user_length shape) users)
 
 -- the batch has this for the page
 pub record IsNew (batch : List Fresh) (p : ℕ) (content : Content) : Type 0 where
@@ -31,7 +32,7 @@ after_batch (new ∷ batch) was p = if new.page == p then new.content else after
 pub record IsFreshPage (shape : Shape) (new : Fresh) : Type 0 where
   pub below : new.page < shape.pages
   pub small_lsn : new.content.lsn < 2 ^ 64
-  pub long : length new.content.user ≡ USER_BYTES
+  pub long : length new.content.user ≡ user_length shape
   pub bytes : (i : ℕ) → slice_index new.content.user i < 256
 
 -- a batch that one call can write
@@ -45,7 +46,7 @@ pub record IsBatch (shape : Shape) (batch : List Fresh) : Type 0 where
 -- its type does, which a clause doesn't know of the numbers in a slice of pairs.
 pub record IsWritable (shape : Shape) (pairs : List (ℕ × ℕ)) (users : List ℕ) : Type 0 where
   pub few : length pairs ≤ shape.slots
-  pub count : length users ≡ USER_BYTES * length pairs
+  pub count : length users ≡ length pairs * user_length shape
   pub below : (i : ℕ) (pair : ℕ × ℕ) → slice_get pairs i ≡ Some pair → pair.0 < shape.pages
   pub small_lsn : (i : ℕ) (pair : ℕ × ℕ) → slice_get pairs i ≡ Some pair → pair.1 < 2 ^ 64
   pub different : (i j : ℕ) (pair other : ℕ × ℕ) → slice_get pairs i ≡ Some pair → slice_get pairs j ≡ Some other → pair.0 ≡ other.0 → i ≡ j

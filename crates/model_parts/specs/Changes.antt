@@ -1,7 +1,6 @@
 -- What a step of opening or formatting does to the sectors of a log device: what a fair image holds while it goes on, and
 -- what the device holds once it is done.
 use Rattle.std.specs.Prelude.{ℕ, ◌≡◌, ◌≢◌, ◌⊎◌, false, List, length}
-use Rattle.model_base.specs.declared.limits.TheConstants.{BLOCK_SIZE}
 use Rattle.model_device.specs.{sector}
 use Rattle.model_log.specs.{fits_checksum}
 

@@ -9,7 +9,7 @@ use Rattle.model_store.specs.declared.tail.Tail.{Tail}
 use Rattle.model_parts.specs.Changes.{IsErased, IsErasing}
 
 -- the kept range: from the checkpoint's block to the block before that of the lsn at which the run will start
-pub record IsKept (layout : Layout) (ckpt start b : ℕ) : Type 0 where
+pub record IsInKeptRange (layout : Layout) (ckpt start b : ℕ) : Type 0 where
   pub in_round : IsInRound layout ckpt b
   pub before : b < block_of start
 

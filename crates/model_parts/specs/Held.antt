@@ -36,8 +36,8 @@ pub record IsNotFull (low b : ℕ) (bytes : List ℕ) : Type 0 where
   pub unread : read_full b bytes ≡ None
 
 -- what may stand in the place of the block at b: a full block of the run, or none, where none is below the lower mark
-abbrev pub IsPlace : ℕ → List Whole → ℕ → ℕ → ℕ → List ℕ → Type 0
-IsPlace s wholes low high b bytes = IsFullBlock s wholes high b bytes ⊎ IsNotFull low b bytes
+abbrev pub IsBlockPlace : ℕ → List Whole → ℕ → ℕ → ℕ → List ℕ → Type 0
+IsBlockPlace s wholes low high b bytes = IsFullBlock s wholes high b bytes ⊎ IsNotFull low b bytes
 
 -- the incomplete block at b for a boundary up to the mark
 pub record IsPartBlock (s : ℕ) (wholes : List Whole) (high b : ℕ) (bytes : List ℕ) : Type 0 where
@@ -118,7 +118,7 @@ pub record LogHoldsWith (shape : Shape) (s : ℕ) (wholes : List Whole) (marks :
   pub order : AreInOrder (run_layout shape) s wholes marks
   pub kept : IsKeptMark s wholes marks tails
   pub blocks : (b : ℕ) → IsInRound (run_layout shape) marks.ckpt b → (bytes : List ℕ) → MayStand disk (sector_of (run_layout shape) b) bytes
-      → IsPlace s wholes tails.kept marks.given b bytes
+      → IsBlockPlace s wholes tails.kept marks.given b bytes
   pub tail_blocks : (k : ℕ) → IsTailPlace k → (bytes : List ℕ) → MayStand disk k bytes → IsTail s wholes marks.given marks.ckpt bytes
   pub kept_tail : (bytes : List ℕ) → MayStand disk tails.tail bytes → HoldsTail s wholes tails.kept bytes
   pub checkpoint : (bytes : List ℕ) → MayStand disk (place_of marks.number) bytes
@@ -138,7 +138,7 @@ pub record IsWritten (shape : Shape) (s : ℕ) (wholes : List Whole) (marks : Lo
   pub all_given : marks.given ≡ marks.written
   pub place : IsTailPlace tails.newest
   pub blocks : (b : ℕ) → IsInRound (run_layout shape) marks.ckpt b
-      → IsPlace s wholes marks.written marks.written b (sector (sector_of (run_layout shape) b) disk.reads)
+      → IsBlockPlace s wholes marks.written marks.written b (sector (sector_of (run_layout shape) b) disk.reads)
   pub tail_blocks : (k : ℕ) → IsTailPlace k → IsTail s wholes marks.written marks.ckpt (sector k disk.reads)
   pub newest_tail : HoldsTail s wholes marks.written (sector tails.newest disk.reads)
   pub checkpoint : read_checkpoint (place_of marks.number) (run_layout shape) (sector (place_of marks.number) disk.reads)

@@ -1,5 +1,6 @@
 pub mod Again
 pub mod Batch
+pub mod BatchKept
 pub mod Changes
 pub mod Cleared
 pub mod Formatted
@@ -19,7 +20,7 @@ pub mod Stored
 pub mod Written
 pub use Rattle.model_parts.specs.Batch.{Fresh, IsBatch, IsFreshPage, IsNew, IsWritable, after_batch, batch_of, batch_text, new_text, place_at, place_write, place_writes, slots_write}
 pub use Rattle.model_parts.specs.Changes.{IsErased, IsErasing, IsPut, IsPutting, IsUnsealed}
-pub use Rattle.model_parts.specs.Cleared.{IsCleared, IsClearing, IsKept, IsOfTail, IsOutside, IsPastKept, IsStaleTail}
+pub use Rattle.model_parts.specs.Cleared.{IsCleared, IsClearing, IsInKeptRange, IsOfTail, IsOutside, IsPastKept, IsStaleTail}
 pub use Rattle.model_parts.specs.Formatted.{IsFormatted, IsFormattedData, IsFormattedLog, IsStillBefore, KeepsNoStore, formatted_store, zero_block}
 pub use Rattle.model_parts.specs.Found.{IsAtRest, IsUnopened, KeepsHead}
 pub use Rattle.model_parts.specs.Held.{AreInOrder, IsHeadPlace, IsLive, IsWritten, LogHolds, LogHoldsWith, MayStand, other_place}
@@ -33,5 +34,6 @@ pub use Rattle.model_parts.specs.Ready.{IsReady}
 pub use Rattle.model_parts.specs.Repair.{FailsPutBack, IsCopyPut, IsPutBack, IsRepairable, IsRepaired, KeepsAll, KeepsSame, SameSlots, repair_write}
 pub use Rattle.model_parts.specs.Rewritten.{IsRewriting, IsRewritten}
 pub use Rattle.model_parts.specs.Steps.{ArePutOrNot, FailsBoth, FailsOne, after_both, written_all}
-pub use Rattle.model_parts.specs.Stored.{HasNothingPending, ImageHolds, IsBefore, IsKnown, IsLater, IsOldOrNew, IsOpened, IsSteady, IsUpTo, Keeps, KeepsPage, KeepsPages, copied, read_as}
+pub use Rattle.model_parts.specs.Stored.{HasNothingPending, ImageHolds, IsKnown, IsLater, IsOldOrNew, IsSteady, IsUpTo, Keeps, KeepsPage, copied}
+pub use Rattle.model_parts.specs.BatchKept.{IsBefore, IsOpened, KeepsPages, read_as}
 pub use Rattle.model_parts.specs.Written.{IsWrittenOver}

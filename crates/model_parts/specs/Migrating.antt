@@ -1,6 +1,6 @@
 -- A store of format 1 is taken to format 2 once it is opened: each page stands in its place, so that all that counts of
 -- the log is that it is read as empty from the same lsn on.
-use Rattle.std.specs.Prelude.{ℕ, ◌≡◌, ◌≤◌, ◌<◌, ◌+◌, ◌⊎◌, List}
+use Rattle.std.specs.Prelude.{ℕ, ◌≤◌, ◌<◌, ◌+◌, ◌⊎◌, List}
 use Rattle.model_base.specs.declared.shape.Shape.{Shape}
 use Rattle.model_log.specs.{checkpoint_text, head_text, place_of, run_layout}
 use Rattle.model_log.specs.declared.head.Format.TheVariants.{Two}

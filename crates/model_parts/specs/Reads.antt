@@ -3,7 +3,7 @@ use Rattle.std.specs.Prelude.{ℕ, ◌≡◌, ◌≤◌, ◌<◌, ◌^◌, List,
 use Rattle.std.specs.List.{AllByRecursion}
 use Rattle.model_base.specs.declared.shape.Shape.{Shape}
 use Rattle.model_base.specs.declared.limits.TheConstants.{LSN_LIMIT}
-use Rattle.model_log.specs.{end_of, groups_of, IsBoundary, newest_checkpoint, run_layout, spans_of}
+use Rattle.model_log.specs.{groups_of, IsBoundary, last_span_end, newest_checkpoint, run_layout, spans_of}
 use Rattle.model_log.specs.declared.head.Format.TheVariants.{Two}
 use Rattle.model_log.specs.declared.group.Whole.{Whole}
 use Rattle.model_log.specs.declared.block.BlockView.{BlockView}
@@ -21,7 +21,7 @@ pub record ScansTo (shape : Shape) (most s : ℕ) (wholes : List Whole) (low hig
   pub parts : wholes ≡ before ++ (middle ++ after)
   pub scan : IsScan shape most source ckpt views middle mark
   pub boundary : IsBoundary s (spans_of wholes) mark
-  pub ends : end_of s (spans_of (before ++ middle)) ≡ mark
+  pub ends : last_span_end s (spans_of (before ++ middle)) ≡ mark
   pub from : low ≤ mark
   pub up_to : mark ≤ high
   pub starts : AllByRecursion (λ (whole : Whole). whole.start < ckpt) before

@@ -3,7 +3,8 @@ use Rattle.std.specs.Prelude.{◌+◌, [], false}
 use Rattle.model_device.specs.Disk.{Disk}
 use Rattle.model_store.specs.Reading.{Reading}
 use Rattle.model_parts.specs.LogFresh.{IsFresh}
-use Rattle.model_parts.specs.Stored.{IsUpTo, read_as, Stored}
+use Rattle.model_parts.specs.Stored.{IsUpTo, Stored}
+use Rattle.model_parts.specs.BatchKept.{read_as}
 use Rattle.model_parts.specs.Opened.{numbers_taken, start_of}
 
 -- The log device has the last checkpoint of opening where the run starts, and nothing is read from there on; each place of the data device

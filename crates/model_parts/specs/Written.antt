@@ -1,7 +1,7 @@
 -- The pages of a store while they are written as they were read, batch after batch.
 use Rattle.std.specs.Prelude.{ℕ, ◌≡◌, ◌<◌, ◌⊎◌, List}
 use Rattle.model_parts.specs.Batch.{Fresh, IsNew}
-use Rattle.model_parts.specs.Stored.{read_as}
+use Rattle.model_parts.specs.BatchKept.{read_as}
 use Rattle.model_page.specs.{IsKept}
 use Rattle.model_page.specs.declared.content.Content.{Content}
 use Rattle.model_store.specs.Reading.{Reading}

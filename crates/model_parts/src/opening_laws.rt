@@ -19,7 +19,8 @@ ghost use Rattle.model_parts.specs.Opened.{IsOpenable, ReadsOpened, KeepsOpened,
 ghost use Rattle.model_parts.specs.Ready.{IsReady};
 ghost use Rattle.model_parts.specs.Repair.{KeepsAll};
 ghost use Rattle.model_parts.specs.Rewritten.{IsRewriting, IsRewritten};
-ghost use Rattle.model_parts.specs.Stored.{IsUpTo, Keeps, read_as, Stored};
+ghost use Rattle.model_parts.specs.Stored.{IsUpTo, Keeps, Stored};
+ghost use Rattle.model_parts.specs.BatchKept.{read_as};
 ghost use Rattle.model_parts.specs.Written.{IsWrittenOver};
 ghost use Rattle.model_store.specs.{AreFoundIn, IsFair, IsFairLog, IsOrderly, IsReading};
 ghost use Rattle.model_store.specs.declared.tail.Tail.{Tail};

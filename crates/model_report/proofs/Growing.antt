@@ -4,7 +4,7 @@ use Rattle.std.specs.Prelude.{nat_le}
 use Rattle.std.proofs.lemmas.Bool.{leb-true, leb-false, eqb-true}
 use Rattle.std.proofs.lemmas.List.{append-nil, length_push}
 use Rattle.std.proofs.lemmas.List.Elements.{filter-append}
-use Rattle.model_log.specs.{end_of, IsTiled}
+use Rattle.model_log.specs.{IsTiled, last_span_end}
 use Rattle.model_script.specs.declared.script.ScriptLine.{ScriptLine}
 use Rattle.model_report.specs.Answered.{HasNoLost, IsAnswered, state_by}
 use Rattle.model_report.specs.Legal.{IsLegal, IsLegalEntry, FitsMarks, FitsMode, entries_of_user, entry_spans}
@@ -21,7 +21,7 @@ push-place (z ∷ xs) y zero x e = inl e
 push-place (z ∷ xs) y (suc i) x e =
     elim (push-place xs y i x e) [ inl old ↦ inl old | inr (last, is) ↦ inr (ap suc last, is) ]
 
-tiled-more : (s : ℕ) (entries : List Entry) (entry : Entry) → IsTiled s (entry_spans entries) → entry.start ≡ end_of s (entry_spans entries)
+tiled-more : (s : ℕ) (entries : List Entry) (entry : Entry) → IsTiled s (entry_spans entries) → entry.start ≡ last_span_end s (entry_spans entries)
     → IsTiled s (entry_spans (entries ++ entry ∷ []))
 tiled-more s [] entry tiled start = (start, tt)
 tiled-more s (first ∷ entries) entry tiled start = (tiled.0, tiled-more first.end entries entry tiled.1 start)
@@ -64,7 +64,7 @@ users-by user entries entry false other users k none = subst IsUsers (sym (more-
 
 -- a legal history with the next entry of a user none of whose commits is lost
 pub legal-more : (script : List ScriptLine) (space s : ℕ) (marks : Marks) (entries : List Entry) (entry : Entry)
-    → IsLegal script space s marks entries → entry.start ≡ end_of s (entry_spans entries) → IsLegalEntry script space marks entry
+    → IsLegal script space s marks entries → entry.start ≡ last_span_end s (entry_spans entries) → IsLegalEntry script space marks entry
     → entry.k ≡ length (entries_of_user entry.user entries) → HasNoLost (entries_of_user entry.user entries)
     → IsLegal script space s marks (entries ++ entry ∷ [])
 legal-more script space s marks entries entry legal start here k none =

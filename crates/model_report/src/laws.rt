@@ -2,7 +2,7 @@
 ghost use Rattle.std.specs.Prelude.{◌≡◌, ◌≤◌, ◌<◌, ℕ, List, [], ◌∷◌, ◌++◌, length, take, slice_get, Some};
 ghost use Rattle.std.specs.List.{AllByRecursion};
 ghost use Rattle.model_log.specs.declared.group.Whole.{Whole};
-ghost use Rattle.model_log.specs.{end_of, IsBoundary, IsRunOf, spans_of};
+ghost use Rattle.model_log.specs.{IsBoundary, IsRunOf, last_span_end, spans_of};
 ghost use Rattle.model_script.specs.declared.script.ScriptLine.{ScriptLine};
 ghost use Rattle.model_report.specs.Answered.{HasNoLost, IsAnswered, state_by};
 ghost use Rattle.model_report.specs.Legal.{FitsMarks, FitsMode, IsLegal, IsLegalEntry, count_up_to, entries_of_user, entry_spans, wholes_of};
@@ -12,7 +12,7 @@ ghost use Rattle.model_report.specs.declared.entry.Marks.{Marks};
 /// A legal history stays legal with one more entry at its end, of a user none of whose commits is lost.
 pub fn legal_history_grows()
     ensures { (script : List ScriptLine) (space s : ℕ) (marks : Marks) (entries : List Entry) (entry : Entry) →
-        IsLegal script space s marks entries → entry.start ≡ end_of s (entry_spans entries) →
+        IsLegal script space s marks entries → entry.start ≡ last_span_end s (entry_spans entries) →
         IsLegalEntry script space marks entry → entry.k ≡ length (entries_of_user entry.user entries) →
         HasNoLost (entries_of_user entry.user entries) →
         IsLegal script space s marks (entries ++ entry ∷ []) }

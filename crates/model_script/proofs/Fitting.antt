@@ -2,6 +2,7 @@
 use Rattle.std.proofs.Common.{ℕ, ◌≡◌, ◌≢◌, ◌≤◌, ◌<◌, ◌+◌, ◌^◌, ◌||◌, Bool, true, false, nat_lt, nat_le, List, [], ◌∷◌, ◌++◌, length, map, Option, Some, None, IfSome, ◌⊎◌, inl, inr, refl, arith}
 use Rattle.std.specs.List.{AllByRecursion}
 use Rattle.std.proofs.lemmas.Bool.Decides.{nat_tests}
+use Rattle.model_base.proofs.ShapeLimits.{whole_sectors}
 use Rattle.model_base.specs.{IsWithinLimits}
 use Rattle.model_base.specs.declared.shape.Shape.{Shape}
 use Rattle.model_base.specs.declared.limits.TheConstants.{LSN_LIMIT, MAX_GROUP, USER_START}
@@ -60,8 +61,7 @@ spelled width value (inr (inr (inr eight))) small = rw eight (let below : value 
 
 short_text : (shape : Shape) (offset count : ℕ) → IsWithinLimits shape → offset + count ≤ user_end shape → count < 2 ^ 16
 short_text shape offset count limits below =
-    let size = limits.page_size in
-    omega (arith, size, below)
+    omega (arith, (whole_sectors shape limits).most, below)
 
 num_is : (shape : Shape) (width page offset value : ℕ) → IsWithinLimits shape → IsInRange (Num width page offset value) → item_misfit shape (Num width page offset value) ≡ None → RecordIs shape (Num width page offset value)
 num_is shape width page offset value limits range none =

@@ -49,8 +49,8 @@ number_or least greatest default None = Some default
 number_or least greatest default (Some n) = number_within least greatest n
 
 -- how a script is run: by turns of the seed 0 where nothing else is asked
-abbrev pub drive_of : List Given → Option Drive
-drive_of options =
+abbrev pub given_drive : List Given → Option Drive
+given_drive options =
     option_map (λ max. record {
       seed = unwrap_or (given_number name.Turns options) 0;
       max = max;
@@ -61,29 +61,29 @@ drive_of options =
 abbrev pub drive_names : List Name
 drive_names = name.Turns ∷ name.Max ∷ name.Threads ∷ name.LogOnly ∷ []
 
-abbrev pub format_of : List Given → Option Command
-format_of options =
+abbrev pub given_format : List Given → Option Command
+given_format options =
     option_and_then (λ pages. option_and_then (λ space. option_map (λ log_blocks. Format pages space log_blocks)
     (number_or MIN_LOG_BLOCKS MAX_LOG_BLOCKS DEFAULT_LOG_BLOCKS (given_number name.LogBlocks options)))
     (number_or 0 (2 ^ 32 - 1) DEFAULT_SPACE (given_number name.Space options)))
     (number_or 1 MAX_PAGES DEFAULT_PAGES (given_number name.Pages options))
 
 -- how many workers apply the groups of the log: one where nothing else is asked
-abbrev pub workers_of : List Given → Option ℕ
-workers_of options = number_or 1 MAX_WORKERS 1 (given_number name.Workers options)
+abbrev pub given_workers : List Given → Option ℕ
+given_workers options = number_or 1 MAX_WORKERS 1 (given_number name.Workers options)
 
-abbrev pub crash_of : List Given → Option Command
-crash_of options =
+abbrev pub given_crash : List Given → Option Command
+given_crash options =
     option_and_then (λ drive. option_map (λ workers. Crash drive (given_number name.StopLog options) (given_number name.StopData options)
-    (unwrap_or (given_number name.Pick options) 0) workers) (workers_of options)) (drive_of options)
+    (unwrap_or (given_number name.Pick options) 0) workers) (given_workers options)) (given_drive options)
 
 -- the seed, the number of users and the number of groups
-abbrev pub gen_of : List Given → List ℕ → Option Command
-gen_of options (seed ∷ users ∷ groups ∷ []) =
+abbrev pub given_gen : List Given → List ℕ → Option Command
+given_gen options (seed ∷ users ∷ groups ∷ []) =
     option_and_then (λ users. option_and_then (λ groups. option_map (λ max. Gen seed users groups (is_given name.Run options) max)
     (number_or 0 MAX_TURNS DEFAULT_TURNS (given_number name.Max options)))
     (number_within 0 MAX_GENERATED groups)) (number_within 1 MAX_USERS users)
-gen_of options values = None
+given_gen options values = None
 
 -- the command, where its options are among those that it has
 abbrev pub where_allowed : List Name → List Given → Option Command → Option Command
@@ -92,16 +92,16 @@ where_allowed names options command = if are_among names options && are_differen
 -- the command of this name, which has no number by itself
 abbrev pub plain_command : List ℕ → List Given → Option Command
 plain_command text options =
-    if bytes_eq text (codes "format") then where_allowed (name.Pages ∷ name.Space ∷ name.LogBlocks ∷ []) options (format_of options)
-    else (if bytes_eq text (codes "run") then where_allowed drive_names options (option_map Run (drive_of options))
-    else (if bytes_eq text (codes "crash") then where_allowed (name.StopLog ∷ name.StopData ∷ name.Pick ∷ name.Workers ∷ drive_names) options (crash_of options)
-    else (if bytes_eq text (codes "recover") then where_allowed (name.Workers ∷ []) options (option_map Recover (workers_of options))
+    if bytes_eq text (codes "format") then where_allowed (name.Pages ∷ name.Space ∷ name.LogBlocks ∷ []) options (given_format options)
+    else (if bytes_eq text (codes "run") then where_allowed drive_names options (option_map Run (given_drive options))
+    else (if bytes_eq text (codes "crash") then where_allowed (name.StopLog ∷ name.StopData ∷ name.Pick ∷ name.Workers ∷ drive_names) options (given_crash options)
+    else (if bytes_eq text (codes "recover") then where_allowed (name.Workers ∷ []) options (option_map Recover (given_workers options))
     else (if bytes_eq text (codes "dump") then where_allowed (name.Why ∷ []) options (Some (Dump (is_given name.Why options))) else None))))
 
 -- the command of this name with these options and these numbers by themselves
-abbrev pub command_of : List ℕ → List Given → List ℕ → Option Command
-command_of text options values =
-    if bytes_eq text (codes "gen") then where_allowed (name.Run ∷ name.Max ∷ []) options (gen_of options values)
+abbrev pub named_command : List ℕ → List Given → List ℕ → Option Command
+named_command text options values =
+    if bytes_eq text (codes "gen") then where_allowed (name.Run ∷ name.Max ∷ []) options (given_gen options values)
     else elim values [ [] ↦ plain_command text options | value ∷ others ↦ None ]
 
 -- What the words of a call ask for, without the name of the program.
@@ -109,4 +109,4 @@ unfoldable pub asked_of : List (List ℕ) → Option Asked
 asked_of [] = None
 asked_of (text ∷ texts) =
     option_and_then (λ (said : Said). option_map (λ command. record { command = command; files = is_given name.Files said.options })
-    (command_of text said.options said.values)) (said_from Any texts)
+    (named_command text said.options said.values)) (said_from Any texts)

@@ -23,41 +23,41 @@ draw n state = state_after n state / 65536
 
 -- Draws in order: an operation's kind and page; for all but `i` its offset; for a number its value; for a string its
 -- length and then its bytes. All of these are told by the state before the operation.
-abbrev pub kind_at : ℕ → ℕ
-kind_at state = draw 1 state % 6
+abbrev pub drawn_kind : ℕ → ℕ
+drawn_kind state = draw 1 state % 6
 
-abbrev pub page_at : ℕ → ℕ
-page_at state = draw 2 state % 8
+abbrev pub drawn_page : ℕ → ℕ
+drawn_page state = draw 2 state % 8
 
-abbrev pub offset_at : ℕ → ℕ
-offset_at state = 38 + draw 3 state % 4000
+abbrev pub drawn_offset : ℕ → ℕ
+drawn_offset state = 38 + draw 3 state % 4000
 
-abbrev pub length_at : ℕ → ℕ
-length_at state = 1 + draw 4 state % 40
+abbrev pub drawn_length : ℕ → ℕ
+drawn_length state = 1 + draw 4 state % 40
 
 -- so many bytes, a draw each
-abbrev pub bytes_at : ℕ → ℕ → List ℕ
-bytes_at zero state = []
-bytes_at (suc n) state = draw 1 state % 256 ∷ bytes_at n (next_state state)
+abbrev pub drawn_bytes : ℕ → ℕ → List ℕ
+drawn_bytes zero state = []
+drawn_bytes (suc n) state = draw 1 state % 256 ∷ drawn_bytes n (next_state state)
 
 -- kinds 0 to 3 are b1, b2, b4 and b8; 5 is i, and 4 is s
-abbrev pub item_at : ℕ → Item
-item_at state =
-    if kind_at state == 5 then Init (page_at state)
-    else (if kind_at state == 0 then Num 1 (page_at state) (offset_at state) (draw 4 state % 256)
-    else (if kind_at state == 1 then Num 2 (page_at state) (offset_at state) (draw 4 state)
-    else (if kind_at state == 2 then Num 4 (page_at state) (offset_at state) (draw 4 state)
-    else (if kind_at state == 3 then Num 8 (page_at state) (offset_at state) (draw 4 state)
-    else Text (page_at state) (offset_at state) (bytes_at (length_at state) (state_after 4 state))))))
+abbrev pub drawn_item : ℕ → Item
+drawn_item state =
+    if drawn_kind state == 5 then Init (drawn_page state)
+    else (if drawn_kind state == 0 then Num 1 (drawn_page state) (drawn_offset state) (draw 4 state % 256)
+    else (if drawn_kind state == 1 then Num 2 (drawn_page state) (drawn_offset state) (draw 4 state)
+    else (if drawn_kind state == 2 then Num 4 (drawn_page state) (drawn_offset state) (draw 4 state)
+    else (if drawn_kind state == 3 then Num 8 (drawn_page state) (drawn_offset state) (draw 4 state)
+    else Text (drawn_page state) (drawn_offset state) (drawn_bytes (drawn_length state) (state_after 4 state))))))
 
 -- how many draws the operation takes
 abbrev pub item_draws : ℕ → ℕ
-item_draws state = if kind_at state == 5 then 2 else (if nat_lt (kind_at state) 4 then 4 else 4 + length_at state)
+item_draws state = if drawn_kind state == 5 then 2 else (if nat_lt (drawn_kind state) 4 then 4 else 4 + drawn_length state)
 
 -- so many operations
-abbrev pub items_at : ℕ → ℕ → List Item
-items_at zero state = []
-items_at (suc n) state = item_at state ∷ items_at n (state_after (item_draws state) state)
+abbrev pub drawn_items : ℕ → ℕ → List Item
+drawn_items zero state = []
+drawn_items (suc n) state = drawn_item state ∷ drawn_items n (state_after (item_draws state) state)
 
 -- the state after so many operations
 abbrev pub state_after_items : ℕ → ℕ → ℕ
@@ -65,25 +65,25 @@ state_after_items zero state = state
 state_after_items (suc n) state = state_after_items n (state_after (item_draws state) state)
 
 -- A line's draws: its mode, where 0 is f, 1 is w and 2 is n; how many operations it has; then these.
-abbrev pub mode_at : ℕ → ℕ
-mode_at state = if draw 1 state % 3 == 0 then 1 else (if draw 1 state % 3 == 1 then 2 else 0)
+abbrev pub drawn_mode : ℕ → ℕ
+drawn_mode state = if draw 1 state % 3 == 0 then 1 else (if draw 1 state % 3 == 1 then 2 else 0)
 
-abbrev pub count_at : ℕ → ℕ
-count_at state = 1 + draw 2 state % 3
+abbrev pub drawn_count : ℕ → ℕ
+drawn_count state = 1 + draw 2 state % 3
 
-abbrev pub line_at : ℕ → ℕ → ScriptLine
-line_at user state = record { user = user; mode = mode_at state; items = items_at (count_at state) (state_after 2 state) }
+abbrev pub drawn_line : ℕ → ℕ → ScriptLine
+drawn_line user state = record { user = user; mode = drawn_mode state; items = drawn_items (drawn_count state) (state_after 2 state) }
 
 abbrev pub state_after_line : ℕ → ℕ
-state_after_line state = state_after_items (count_at state) (state_after 2 state)
+state_after_line state = state_after_items (drawn_count state) (state_after 2 state)
 
 -- so many lines, of which the first has the number j; the users take turns
-abbrev pub lines_at : (users j count state : ℕ) → List ScriptLine
-lines_at users j zero state = []
-lines_at users j (suc count) state = line_at (1 + j % users) state ∷ lines_at users (j + 1) count (state_after_line state)
+abbrev pub drawn_lines : (users j count state : ℕ) → List ScriptLine
+drawn_lines users j zero state = []
+drawn_lines users j (suc count) state = drawn_line (1 + j % users) state ∷ drawn_lines users (j + 1) count (state_after_line state)
 
 unfoldable pub generated_lines : (seed users groups : ℕ) → List ScriptLine
-generated_lines seed users groups = lines_at users 0 groups (first_state seed)
+generated_lines seed users groups = drawn_lines users 0 groups (first_state seed)
 
 -- The text that `gen` prints.
 unfoldable pub generated_text : (seed users groups : ℕ) → List ℕ

@@ -6,11 +6,11 @@ pub mod LineGroup
 pub mod Ranges
 pub mod Spelling
 pub mod Words
-pub use Rattle.model_script.specs.Commands.{are_among, are_different, command_of, crash_of, drive_names, drive_of, format_of, gen_of, given_number, is_among, is_given, is_named, number_or, number_within, plain_command, where_allowed, workers_of}
+pub use Rattle.model_script.specs.Commands.{are_among, are_different, drive_names, given_crash, given_drive, given_format, given_gen, given_number, given_workers, is_among, is_given, is_named, named_command, number_or, number_within, plain_command, where_allowed}
 unfoldable pub use Rattle.model_script.specs.Commands.{asked_of}
 pub use Rattle.model_script.specs.Fit.{LineFits, ScriptFits, first_misfit_of, group_misfit, item_misfit, lsn_misfit, misfit_if, page_misfit, round_end, script_end, total_misfit, user_misfit, write_misfit}
 unfoldable pub use Rattle.model_script.specs.Fit.{first_misfit, line_misfit}
-pub use Rattle.model_script.specs.Generator.{bytes_at, count_at, draw, first_state, item_at, item_draws, items_at, kind_at, length_at, line_at, lines_at, next_state, offset_at, page_at, state_after, state_after_items, state_after_line}
+pub use Rattle.model_script.specs.Generator.{draw, drawn_bytes, drawn_count, drawn_item, drawn_items, drawn_kind, drawn_length, drawn_line, drawn_lines, drawn_offset, drawn_page, first_state, item_draws, next_state, state_after, state_after_items, state_after_line}
 unfoldable pub use Rattle.model_script.specs.Generator.{generated_lines, generated_text}
 pub use Rattle.model_script.specs.Grammar.{digits_value, is_number, is_skipped, items_of, line_from, line_of_parts, mode_of, number_item, operations_of, script_from, text_item, width_of, with_line, words_of}
 unfoldable pub use Rattle.model_script.specs.Grammar.{hex_bytes, item_of, number_below, script_line_of, script_of}

@@ -24,7 +24,7 @@ use Rattle.model_script.specs.Grammar as grammar
 use Rattle.model_base.specs.{default_shape}
 use Rattle.model_store.specs.Reading.{Reading}
 use Rattle.model_theorem.specs.Crash.{CrashSafe}
-use Rattle.model_base.specs.declared.limits.TheConstants.{LSN_LIMIT}
+use Rattle.model_base.specs.declared.limits.TheConstants.{LSN_LIMIT, START_LSN}
 use Rattle.model_theorem.specs.Values.{Opened}
 use Rattle.model_parts.specs.{IsUnopened}
 use Rattle.model_theorem.specs.Opening.{HasCheckpoint, IsOpeningDone, IsOpeningStopped}
@@ -276,7 +276,7 @@ none-first : (end : ℕ) → end ≡ 8204 → count_up_to end lost_run.entries �
 none-first end is = ap (λ end. count_up_to end lost_run.entries) is
 
 pub admits-lost : (found log : List ℕ) (writes : List Write) (reads data_bytes : List ℕ) (reading : Reading) → ReadsAsOpened log data_bytes new_store reading
-    → MovedCheckpoint found new_store reading → AreOfBlocks writes → 8192 ≤ reading.ckpt → CrashSafe (lost_call found log writes reads data_bytes reading) new_store (lost_account reading)
+    → MovedCheckpoint found new_store reading → AreOfBlocks writes → START_LSN ≤ reading.ckpt → CrashSafe (lost_call found log writes reads data_bytes reading) new_store (lost_account reading)
 admits-lost found log writes reads data_bytes reading as_opened held are ckpt = record {
   every_script = record {
     whole = record { all_read = (refl, refl); is_script = two-text };

@@ -3,7 +3,7 @@ use Rattle.std.proofs.Common.{◌≡◌, ℕ, ◌<◌, ◌≤◌, ◌⊎◌, inl
 use Rattle.std.specs.List.{AllByRecursion}
 use Rattle.model_base.specs.declared.shape.Shape.{Shape}
 use Rattle.model_log.specs.declared.group.Whole.{Whole}
-use Rattle.model_log.specs.{end_of, groups_of, IsBoundary, IsDataLsn, IsRunOf, spans_of}
+use Rattle.model_log.specs.{groups_of, IsBoundary, IsDataLsn, IsRunOf, last_span_end, spans_of}
 use Rattle.model_page.specs.declared.content.Content.{Content}
 use Rattle.model_store.specs.{IsNoNewerCopy, IsReadPage, IsStorable, page_folded, replayed, touches, upto}
 use Rattle.model_page.specs.{copy_lsn}
@@ -32,12 +32,12 @@ read-page shape s before middle after ckpt mark p q page cut low at passed =
     let outside_middle : AllByRecursion (IsOutside q) middle =
     (all-parts (IsOutside q) middle after (all-parts (IsOutside q) before (middle ++ after) outside).1).0 in
     let run_before : IsRunOf s before = run-front s before (middle ++ after) cut.run in
-    let run_middle : IsRunOf (end_of s (spans_of before)) middle =
-    run-front (end_of s (spans_of before)) middle after (run-back s before (middle ++ after) cut.run) in
+    let run_middle : IsRunOf (last_span_end s (spans_of before)) middle =
+    run-front (last_span_end s (spans_of before)) middle after (run-back s before (middle ++ after) cut.run) in
     let good_middle : AllByRecursion (IsStorable shape) (groups_of middle) =
     (good-parts shape middle after (good-parts shape before (middle ++ after) cut.good).1).0 in
-    let place : IsDataLsn (end_of s (spans_of before)) = (end-reached s before cut.place run_before).place in
-    let between : IsBetween q middle = between-from shape (end_of s (spans_of before)) q middle place run_middle good_middle outside_middle in
+    let place : IsDataLsn (last_span_end s (spans_of before)) = (end-reached s before cut.place run_before).place in
+    let between : IsBetween q middle = between-from shape (last_span_end s (spans_of before)) q middle place run_middle good_middle outside_middle in
     let first : Content = page_folded p before page in
     let passed_before : HasPassed p before ckpt q =
     (all-parts (λ (whole : Whole). touches p whole.group ≡ true → whole.start < ckpt → whole.end ≤ q) before (middle ++ after) passed).0 in

@@ -4,7 +4,7 @@ use Rattle.std.specs.Prelude.{nat_le}
 use Rattle.std.specs.List.{AllByRecursion}
 use Rattle.model_base.specs.declared.shape.Shape.{Shape}
 use Rattle.model_log.specs.declared.group.Whole.{Whole}
-use Rattle.model_log.specs.{end_of, groups_of, IsDataLsn, IsRunOf, spans_of}
+use Rattle.model_log.specs.{groups_of, IsDataLsn, IsRunOf, last_span_end, spans_of}
 use Rattle.model_device.specs.Disk.{Disk}
 use Rattle.model_page.specs.declared.content.Content.{Content}
 use Rattle.model_store.specs.{IsNoNewerCopy, IsStorable, page_after, page_folded, touches, upto, user_after}
@@ -27,30 +27,30 @@ passed-more p x q (whole ∷ wholes) more starts passed = (passed.0, passed-more
 
 -- groups after the run change no prefix of it
 prefix_of-more : (shape : Shape) (page : Content) (s : ℕ) (wholes more : List Whole) (stable p : ℕ) (content : Content) → IsDataLsn s → IsRunOf s (wholes ++ more)
-    → AllByRecursion (IsStorable shape) (groups_of (wholes ++ more)) → stable ≤ end_of s (spans_of wholes)
+    → AllByRecursion (IsStorable shape) (groups_of (wholes ++ more)) → stable ≤ last_span_end s (spans_of wholes)
     → IsPrefixOf page wholes stable p content → IsPrefixOf page (wholes ++ more) stable p content
 prefix_of-more shape page s wholes more stable p content place run good stable_low kept =
-    let end : IsDataLsn (end_of s (spans_of wholes)) = (end-reached s wholes place (run-front s wholes more run)).place in
+    let end : IsDataLsn (last_span_end s (spans_of wholes)) = (end-reached s wholes place (run-front s wholes more run)).place in
     let good_more : AllByRecursion (IsStorable shape) (groups_of more) = (good-parts shape wholes more good).1 in
     let above : AllByRecursion (λ (whole : Whole). content.lsn < whole.end) more =
-    all-behind shape content.lsn (end_of s (spans_of wholes)) more end (run-back s wholes more run) good_more (omega (arith, kept.behind)) in
+    all-behind shape content.lsn (last_span_end s (spans_of wholes)) more end (run-back s wholes more run) good_more (omega (arith, kept.behind)) in
     record {
       prefix = kept.prefix ∙ sym (upto-append p content.lsn wholes more page ∙ upto-none p content.lsn more (upto p content.lsn wholes page) above);
       behind = kept.behind;
     }
 
 pub prefix-more : (shape : Shape) (page : Content) (s : ℕ) (wholes more : List Whole) (stable ckpt p : ℕ) (content : Content) → IsDataLsn s → IsRunOf s (wholes ++ more)
-    → AllByRecursion (IsStorable shape) (groups_of (wholes ++ more)) → stable ≤ end_of s (spans_of wholes) → ckpt ≤ end_of s (spans_of wholes)
+    → AllByRecursion (IsStorable shape) (groups_of (wholes ++ more)) → stable ≤ last_span_end s (spans_of wholes) → ckpt ≤ last_span_end s (spans_of wholes)
     → IsKeptPrefix page wholes stable ckpt p content → IsKeptPrefix page (wholes ++ more) stable ckpt p content
 prefix-more shape page s wholes more stable ckpt p content place run good stable_low ckpt_low kept =
-    let end : IsDataLsn (end_of s (spans_of wholes)) = (end-reached s wholes place (run-front s wholes more run)).place in
+    let end : IsDataLsn (last_span_end s (spans_of wholes)) = (end-reached s wholes place (run-front s wholes more run)).place in
     record {
       is_prefix = prefix_of-more shape page s wholes more stable p content place run good stable_low kept.is_prefix;
-      passed = passed-more p ckpt content.lsn wholes more (all-from ckpt (end_of s (spans_of wholes)) more end (run-back s wholes more run) ckpt_low) kept.passed;
+      passed = passed-more p ckpt content.lsn wholes more (all-from ckpt (last_span_end s (spans_of wholes)) more end (run-back s wholes more run) ckpt_low) kept.passed;
     }
 
 pub data-more : (shape : Shape) (opened : List Content) (s : ℕ) (wholes more : List Whole) (stable ckpt : ℕ) (disk : Disk) → IsDataLsn s → IsRunOf s (wholes ++ more)
-    → AllByRecursion (IsStorable shape) (groups_of (wholes ++ more)) → stable ≤ end_of s (spans_of wholes) → ckpt ≤ end_of s (spans_of wholes)
+    → AllByRecursion (IsStorable shape) (groups_of (wholes ++ more)) → stable ≤ last_span_end s (spans_of wholes) → ckpt ≤ last_span_end s (spans_of wholes)
     → DataHolds shape opened wholes stable ckpt disk → DataHolds shape opened (wholes ++ more) stable ckpt disk
 data-more shape opened s wholes more stable ckpt disk place tiled good stable_low ckpt_low holds = record {
   long = holds.long;

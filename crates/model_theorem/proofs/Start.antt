@@ -18,7 +18,7 @@ use Rattle.model_parts.proofs.Reread.{IsLogRead, log-read, HasNext, has-next}
 use Rattle.model_store.proofs.Folding.{read-not_ahead}
 use Rattle.model_theorem.specs.Closed.{IsClosed}
 use Rattle.model_theorem.specs.Given.{AreGiven}
-use Rattle.model_theorem.specs.Kept.{copy_of, DataHolds, IsPrefixOf, IsUnwritten}
+use Rattle.model_theorem.specs.Kept.{copy_of, DataHolds, HasOpenedPages, IsPrefixOf}
 use Rattle.model_theorem.specs.Start.{IsStart, opened_as, unplayed}
 use Rattle.model_theorem.proofs.Closing.{end-start}
 
@@ -45,7 +45,7 @@ start-live reading script log_disk data_disk is =
 
 -- the data device
 pub start-unwritten : (reading : Reading) (script : List ScriptLine) (log_disk data_disk : Disk) → IsStart reading script log_disk data_disk
-    → IsUnwritten reading.shape reading.pages data_disk
+    → HasOpenedPages reading.shape reading.pages data_disk
 start-unwritten reading script log_disk data_disk is = record {
   long = is.ready.pages.keeps.long;
   keeps = λ image fair. (let here : IsRewritten reading image = stored-image reading data_disk image is.orderly.reads.count is.ready.pages fair in here.each);
@@ -53,7 +53,7 @@ start-unwritten reading script log_disk data_disk is = record {
 }
 
 -- pages that nobody wrote, where the run has no group
-unwritten-holds : (shape : Shape) (opened : List Content) (stable ckpt : ℕ) (disk : Disk) → ((p : ℕ) (page : Content) → slice_get opened p ≡ Some page → page.lsn ≤ stable) → IsUnwritten shape opened disk
+unwritten-holds : (shape : Shape) (opened : List Content) (stable ckpt : ℕ) (disk : Disk) → ((p : ℕ) (page : Content) → slice_get opened p ≡ Some page → page.lsn ≤ stable) → HasOpenedPages shape opened disk
     → DataHolds shape opened [] stable ckpt disk
 unwritten-holds shape opened stable ckpt disk old is = record {
   long = is.long;

@@ -5,12 +5,12 @@ use Rattle.model_log.specs.declared.group.Whole.{Whole}
 use Rattle.model_device.specs.Disk.{Disk}
 use Rattle.model_page.specs.declared.content.Content.{Content}
 use Rattle.model_theorem.specs.Kept.{IsKeptPrefix, DataHolds, copy_of}
-use Rattle.model_theorem.specs.Stored.{IsEither, IsBatchOf, IsPageStored, IsStored}
+use Rattle.model_theorem.specs.Stored.{IsEither, IsBatchPrefix, IsPageStored, IsStored}
 use Rattle.model_theorem.proofs.Later.{passed-on}
 
 -- what either content is
 either-prefix : (page : Content) (wholes : List Whole) (stable ckpt p : ℕ) (was : Content) (batch : Option Content) (content : Content)
-    → IsKeptPrefix page wholes stable ckpt p was → IsBatchOf page wholes stable p was batch → IsEither was batch content
+    → IsKeptPrefix page wholes stable ckpt p was → IsBatchPrefix page wholes stable p was batch → IsEither was batch content
     → IsKeptPrefix page wholes stable ckpt p content × (was.lsn ≤ content.lsn)
 either-prefix page wholes stable ckpt p was None content last next is =
     (subst (IsKeptPrefix page wholes stable ckpt p) (sym is) last, omega (arith, ap (λ (c : Content). c.lsn) is))

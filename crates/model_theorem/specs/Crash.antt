@@ -10,7 +10,7 @@ use Rattle.model_report.specs.{IsLeft, report_text}
 use Rattle.model_theorem.specs.Opening.{AreUnopened, IsOpenedBefore}
 use Rattle.model_theorem.specs.Run.{IsRun, IsPrefixRead, LosesOnlyByFailure}
 use Rattle.model_theorem.specs.Script.{IsWholeScript, FitsOpened}
-use Rattle.model_theorem.specs.Values.{Device, Crash, Opened, Account, entries_of, start_of, marks_of}
+use Rattle.model_theorem.specs.Values.{Device, Crash, Opened, Account, entries_of, run_start, marks_of}
 
 -- Every script: where it was run, it fits the store.
 pub record IsEveryScript (crash : Crash) (opened : Opened) (account : Account) : Type 0 where
@@ -51,7 +51,7 @@ pub record AreAnyStops (crash : Crash) : Type 0 where
 -- what was read.
 pub record IsPrinted (crash : Crash) (account : Account) : Type 0 where
   pub taken : IfSome crash.taken (λ before. crash.taken_now ≡ Some (before ++ account.printed))
-  pub report : account.printed ≡ report_text (start_of account.run) (entries_of account.run) account.left (marks_of account.run)
+  pub report : account.printed ≡ report_text (run_start account.run) (entries_of account.run) account.left (marks_of account.run)
       (Some (account.reading.end, account.reading.pages))
   pub left_is : IsLeft account.script (entries_of account.run) account.left
 

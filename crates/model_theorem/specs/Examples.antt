@@ -20,7 +20,7 @@ use Rattle.model_store.specs.Reading.{Reading}
 use Rattle.model_report.specs.declared.entry.Entry.{Entry}
 use Rattle.model_report.specs.declared.entry.State.TheVariants.{Lost, Flushed}
 use Rattle.model_theorem.specs.Opening.{HeldOlder}
-use Rattle.model_theorem.specs.Values.{CrashOptions, Device, Crash, Opened, Ran, Account, entries_of, start_of, marks_of}
+use Rattle.model_theorem.specs.Values.{CrashOptions, Device, Crash, Opened, Ran, Account, entries_of, run_start, marks_of}
 
 -- REFUSED.
 
@@ -172,7 +172,7 @@ failed_device found bytes writes reads limit passed faults = record {
 -- the text that the account has to print
 abbrev pub report_of : Option Ran → List (ℕ × ℕ) → Reading → List ℕ
 report_of run left reading =
-    report_text (start_of run) (entries_of run) left (marks_of run) (Some (reading.end, reading.pages))
+    report_text (run_start run) (entries_of run) left (marks_of run) (Some (reading.end, reading.pages))
 
 -- an account of a script, a run and what is left of the script, where this is read afterwards
 abbrev pub account_of : List ℕ → List ScriptLine → Option Ran → List (ℕ × ℕ) → Reading → Account

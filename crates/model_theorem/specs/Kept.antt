@@ -47,7 +47,7 @@ pub record DataHolds (shape : Shape) (opened : List Content) (wholes : List Whol
       → KeepsPrefix shape image page wholes stable ckpt p
 
 -- each fair image keeps the pages as they were opened, and has no copy that is ahead of one
-pub record IsUnwritten (shape : Shape) (opened : List Content) (disk : Disk) : Type 0 where
+pub record HasOpenedPages (shape : Shape) (opened : List Content) (disk : Disk) : Type 0 where
   pub long : data_device_length shape ≤ length disk.base
   pub keeps : (image : List ℕ) → IsFair shape disk image → (p : ℕ) (page : Content) → slice_get opened p ≡ Some page
       → IsKept shape image p page

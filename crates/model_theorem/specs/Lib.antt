@@ -17,9 +17,9 @@ pub use Rattle.model_theorem.specs.Crashed.{IsCrashOf, before_crash}
 pub use Rattle.model_theorem.specs.Given.{AreGiven}
 pub use Rattle.model_theorem.specs.Kept.{DataHolds, HasPassed, IsKeptPrefix, copy_of}
 pub use Rattle.model_theorem.specs.Opening.{AreUnopened, HasCheckpoint, HasCheckpointFrom, HeldOlder, IsOpenedBefore}
-pub use Rattle.model_theorem.specs.Premises.{IsFresh, RunPremises}
-pub use Rattle.model_theorem.specs.Run.{IsPrefixRead, IsRun, LosesOnlyByFailure, ReadsPrefix, RunPromise, RunSafe}
+pub use Rattle.model_theorem.specs.Premises.{IsSettledAtEntry}
+pub use Rattle.model_theorem.specs.Run.{IsPrefixRead, IsRun, LosesOnlyByFailure, ReadsPrefix, RunSafe}
 pub use Rattle.model_theorem.specs.Script.{FitsOpened, IsWholeScript, room_of}
 pub use Rattle.model_theorem.specs.Start.{IsStart, opened_as}
-pub use Rattle.model_theorem.specs.Stored.{IsBatchOf, IsEither, IsStored}
-pub use Rattle.model_theorem.specs.Values.{Account, CrashOptions, Device, Opened, Ran, RunAccount, RunCall, RunDevice, RunResult, Stop, entries_of, marks_of, start_of}
+pub use Rattle.model_theorem.specs.Stored.{IsBatchPrefix, IsEither, IsStored}
+pub use Rattle.model_theorem.specs.Values.{Account, CrashOptions, Device, Opened, Ran, RunResult, Stop, entries_of, marks_of, run_start}

@@ -6,26 +6,20 @@ use Rattle.model_base.specs.{last_count}
 use Rattle.model_device.specs.{HasOneImage, IsValid}
 use Rattle.model_device.specs.Disk.{Disk}
 use Rattle.model_store.specs.{IsFair, IsFairLog, Opens}
-use Rattle.model_theorem.specs.Values.{Crash, RunCall, Opened}
+use Rattle.model_theorem.specs.Values.{Crash, Opened}
 
 -- at entry a crash would leave what reads give, and the count of faults can still rise
-pub record IsFresh (at_entry : Disk) (faults : ℕ) : Type 0 where
+pub record IsSettledAtEntry (at_entry : Disk) (faults : ℕ) : Type 0 where
   pub valid : IsValid at_entry
   pub one_image : HasOneImage at_entry at_entry.reads
   pub can_count : faults < last_count
 
 -- The premises of a call that opens this store.
 pub record Premises (crash : Crash) (opened : Opened) : Type 0 where
-  pub log_fresh : IsFresh crash.log_device.at_entry crash.log_device.faults_at_entry
-  pub data_fresh : IsFresh crash.data_device.at_entry crash.data_device.faults_at_entry
+  pub log_fresh : IsSettledAtEntry crash.log_device.at_entry crash.log_device.faults_at_entry
+  pub data_fresh : IsSettledAtEntry crash.data_device.at_entry crash.data_device.faults_at_entry
   -- the devices hold a store that is in order, or the log device is unused, so that the command formats them
   pub opens : Opens crash.log_device.at_entry.reads crash.data_device.at_entry.reads opened.shape opened.pages opened.end
   -- what the crash left is fair: no torn block or page passes its checksum by chance
   pub log_fair : IsFairLog crash.log_device.crashed_from crash.log_device.left.reads
   pub data_fair : IsFair opened.shape crash.data_device.crashed_from crash.data_device.left.reads
-
--- The premises of a call of `run` that opens this store.
-pub record RunPremises (call : RunCall) (opened : Opened) : Type 0 where
-  pub log_fresh : IsFresh call.log_device.at_entry call.log_device.faults_at_entry
-  pub data_fresh : IsFresh call.data_device.at_entry call.data_device.faults_at_entry
-  pub opens : Opens call.log_device.at_entry.reads call.data_device.at_entry.reads opened.shape opened.pages opened.end

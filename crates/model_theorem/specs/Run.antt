@@ -4,12 +4,10 @@ use Rattle.model_log.specs.{IsBoundary, start_after}
 use Rattle.model_store.specs.{folded, HasOldCopies, IsFair, IsFairLog, IsReading}
 use Rattle.model_store.specs.Reading.{Reading}
 use Rattle.model_script.specs.declared.script.ScriptLine.{ScriptLine}
-use Rattle.model_report.specs.{count_up_to, entry_spans, IsLeft, IsLegal, report_text, wholes_of}
+use Rattle.model_report.specs.{count_up_to, entry_spans, IsLeft, IsLegal, wholes_of}
 use Rattle.model_report.specs.declared.entry.Entry.{Entry}
 use Rattle.model_report.specs.declared.entry.State.TheVariants.{Lost, Flushed}
-use Rattle.model_theorem.specs.Opening.{AreUnopened, IsOpenedBefore}
-use Rattle.model_theorem.specs.Script.{IsWholeScript, FitsOpened}
-use Rattle.model_theorem.specs.Values.{Opened, Ran, RunAccount, RunCall, RunResult, entries_of}
+use Rattle.model_theorem.specs.Values.{Opened, Ran, RunResult, entries_of}
 
 -- THE RUN: a legal history of the script, from the start after the opened log, with marks between its groups.
 pub record IsRun (script : List ScriptLine) (opened : Opened) (run : Ran) : Type 0 where
@@ -62,21 +60,3 @@ pub record RunSafe (failures : ℕ) (result : RunResult) : Type 0 where
   pub every_image : (log data_bytes : List ℕ) → IsFairLog result.log_disk log → IsFair result.opened.shape result.data_disk data_bytes
       → ReadsPrefix result.script result.opened result.run log data_bytes
   pub lost_only_by_failure : LosesOnlyByFailure failures result.run result.left
-
--- What is promised of a call of `run` on devices that open this store: the account is one of it, and the report is that of
--- the account. The fuses were armed before opening, which came to its end, so that there is a run. A failure of either device
--- counts.
-pub record RunPromise (call : RunCall) (opened : Opened) (account : RunAccount) : Type 0 where
-  pub every_script : IsWholeScript call.source call.source_left account.text account.script
-  pub fits : FitsOpened call.log_only opened account.script
-  pub prints : call.report ≡ report_text (Some account.run.start) account.run.entries account.left (Some account.run.marks) None
-  pub unopened : AreUnopened call.log_device.at_entry call.data_device.at_entry call.log_device.armed_from call.data_device.armed_from
-  pub opened_first : IsOpenedBefore opened.shape call.log_device.armed_from call.log_device.left (Some account.run)
-  pub safe : RunSafe (call.log_device.failures + call.data_device.failures) (record {
-    script = account.script;
-    opened = opened;
-    run = Some account.run;
-    left = account.left;
-    log_disk = call.log_device.left;
-    data_disk = call.data_device.left;
-  })

@@ -15,14 +15,14 @@ IsEither was None content = content ≡ was
 IsEither was (Some new) content = (content ≡ was) ⊎ (content ≡ new)
 
 -- the batch at hand, if it has the page: a prefix of the run, no older than what was written last
-abbrev pub IsBatchOf : Content → List Whole → ℕ → ℕ → Content → Option Content → Type 0
-IsBatchOf page wholes stable p was None = Unit {0}
-IsBatchOf page wholes stable p was (Some new) = IsPrefixOf page wholes stable p new × (was.lsn ≤ new.lsn)
+abbrev pub IsBatchPrefix : Content → List Whole → ℕ → ℕ → Content → Option Content → Type 0
+IsBatchPrefix page wholes stable p was None = Unit {0}
+IsBatchPrefix page wholes stable p was (Some new) = IsPrefixOf page wholes stable p new × (was.lsn ≤ new.lsn)
 
 -- Page p was last written as `was`, and the batch at hand has it as `batch`, if it has it.
 pub record IsPageStored (shape : Shape) (page : Content) (wholes : List Whole) (stable ckpt p : ℕ) (was : Content) (batch : Option Content) (disk : Disk) : Type 0 where
   pub last : IsKeptPrefix page wholes stable ckpt p was
-  pub next : IsBatchOf page wholes stable p was batch
+  pub next : IsBatchPrefix page wholes stable p was batch
   pub kept : (image : List ℕ) → IsFair shape disk image → (content : Content) × IsKept shape image p content × IsEither was batch content
   pub copies : (image : List ℕ) (slot lsn : ℕ) → IsFair shape disk image → slot < shape.slots → copy_lsn shape image p slot ≡ Some lsn
       → (lsn < was.lsn) ⊎ IsEither was batch (copy_of shape image slot lsn)

@@ -63,30 +63,6 @@ pub record Crash : Type 0 where
   pub log_device : Device
   pub data_device : Device
 
--- One of the two devices of a call that doesn't crash them.
-pub record RunDevice : Type 0 where
-  -- what it meant when it was handed in, and how often it had failed
-  pub at_entry : Disk
-  pub faults_at_entry : ℕ
-  -- what it meant when its fuse was armed
-  pub armed_from : Disk
-  -- what it means now
-  pub left : Disk
-  -- how many calls of it answered `Failed`
-  pub failures : ℕ
-
--- A call of `redolab run` whose run came to its end, or was ended by a device that failed. A source need not tell its
--- bytes.
-pub record RunCall : Type 0 where
-  pub log_only : Bool
-  -- what the source had left at entry, and what it has left now
-  pub source : Option (List ℕ)
-  pub source_left : Option (List ℕ)
-  pub log_device : RunDevice
-  pub data_device : RunDevice
-  -- the report that was to be printed
-  pub report : List ℕ
-
 -- WHAT WAS OPENED, which the devices at entry decide.
 
 -- a store as it is opened: its sizes, its pages, and where its log ends
@@ -123,22 +99,14 @@ pub record Account : Type 0 where
   pub reading : Reading
   pub printed : List ℕ
 
--- An account of a call of `run`: the text that was read and the script that it is, the run, and for each user that has
--- lines without an entry, how many.
-pub record RunAccount : Type 0 where
-  pub text : List ℕ
-  pub script : List ScriptLine
-  pub run : Ran
-  pub left : List (ℕ × ℕ)
-
 -- the groups that were reserved: none where opening was stopped
 abbrev pub entries_of : Option Ran → List Entry
 entries_of None = []
 entries_of (Some run) = run.entries
 
-abbrev pub start_of : Option Ran → Option ℕ
-start_of None = None
-start_of (Some run) = Some run.start
+abbrev pub run_start : Option Ran → Option ℕ
+run_start None = None
+run_start (Some run) = Some run.start
 
 abbrev pub marks_of : Option Ran → Option Marks
 marks_of None = None

@@ -2,7 +2,7 @@
 ghost use Rattle.std.specs.Prelude.{◌≡◌, ◌≢◌, ◌≤◌, ◌<◌, ◌+◌, ◌++◌, [], ℕ, List, Option, Some};
 ghost use Rattle.std.specs.List.{AllByRecursion};
 ghost use Rattle.model_base.specs.declared.shape.Shape.{Shape};
-ghost use Rattle.model_log.specs.{end_of, groups_of, IsDataLsn, IsRunOf, spans_of};
+ghost use Rattle.model_log.specs.{groups_of, IsDataLsn, IsRunOf, last_span_end, spans_of};
 ghost use Rattle.model_log.specs.declared.group.Whole.{Whole};
 ghost use Rattle.model_device.specs.Disk.{Disk};
 ghost use Rattle.model_page.specs.declared.content.Content.{Content};
@@ -17,7 +17,7 @@ ghost use Rattle.model_theorem.specs.Closed.{Held, IsClosed, IsHeld};
 ghost use Rattle.model_theorem.specs.Crashed.{IsCrashOf, before_crash};
 ghost use Rattle.model_report.specs.{IsLeft};
 ghost use Rattle.model_script.specs.declared.script.ScriptLine.{ScriptLine};
-ghost use Rattle.model_theorem.specs.Kept.{DataHolds, IsUnwritten};
+ghost use Rattle.model_theorem.specs.Kept.{DataHolds, HasOpenedPages};
 ghost use Rattle.model_theorem.specs.Start.{IsStart, opened_as, unplayed};
 ghost use Rattle.model_theorem.specs.Stored.{IsStored};
 ghost use Rattle.model_theorem.specs.Given.{AreGiven};
@@ -76,7 +76,7 @@ pub fn opened_store_is_closed()
         → IsLive reading.shape (start_of reading) [] (first_marks (start_of reading) (reading.number + numbers_taken reading.format))
         (first_tails (start_of reading)) log_disk }
     ensures unwritten { (reading : Reading) (script : List ScriptLine) (log_disk data_disk : Disk)
-        → IsStart reading script log_disk data_disk → IsUnwritten reading.shape reading.pages data_disk }
+        → IsStart reading script log_disk data_disk → HasOpenedPages reading.shape reading.pages data_disk }
     ensures closed { (failures : ℕ) (reading : Reading) (script : List ScriptLine) (left : List (ℕ × ℕ)) (log_disk data_disk : Disk)
         → IsStart reading script log_disk data_disk → IsLeft script [] left → (left ≢ [] → 0 < failures)
         → IsClosed failures (unplayed reading script left log_disk data_disk) }
@@ -92,7 +92,7 @@ pub fn stored_pages_hold()
 pub fn longer_data()
     ensures { (shape : Shape) (opened : List Content) (s : ℕ) (wholes more : List Whole) (stable ckpt : ℕ) (disk : Disk)
         → IsDataLsn s → IsRunOf s (wholes ++ more) → AllByRecursion (IsStorable shape) (groups_of (wholes ++ more))
-        → stable ≤ end_of s (spans_of wholes) → ckpt ≤ end_of s (spans_of wholes)
+        → stable ≤ last_span_end s (spans_of wholes) → ckpt ≤ last_span_end s (spans_of wholes)
         → DataHolds shape opened wholes stable ckpt disk → DataHolds shape opened (wholes ++ more) stable ckpt disk }
 {}
 

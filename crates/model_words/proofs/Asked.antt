@@ -4,7 +4,7 @@ use Rattle.std.specs.Prelude.{if◌then◌else◌, option_and_then, find, fold, 
 use Rattle.std.specs.Str.{bytes_eq}
 use Rattle.clap.specs.Walk.{Row, Text, with_default}
 use Rattle.clap.proofs.WalkLemmas.{both}
-use Rattle.model_script.specs.{digits_value, is_number, number_below, Said, are_different, command_of, given_number, is_flag, is_given, is_named, number_or, number_within, said_from, with_option, with_value, word_number}
+use Rattle.model_script.specs.{digits_value, is_number, number_below, Said, are_different, named_command, given_number, is_flag, is_given, is_named, number_or, number_within, said_from, with_option, with_value, word_number}
 use Rattle.model_script.specs.declared.asked.Asked.{Asked}
 use Rattle.model_script.specs.declared.words.Expected.TheVariants.{Any}
 use Rattle.model_script.specs.declared.words.Given.{Given}
@@ -135,7 +135,7 @@ module _ (nm : Text) (names : List Name) (v : Bool) (p : Place) where
   read rows = option_and_then finish (check (leaf nm names v) rows)
 
   abbrev pub answer : Said → Option Asked
-  answer said = option_map (λ command. record { command = command; files = is_given name.Files said.options }) (command_of nm said.options said.values)
+  answer said = option_map (λ command. record { command = command; files = is_given name.Files said.options }) (named_command nm said.options said.values)
 
   abbrev pub reads : Option (List Use) → Option Asked
   reads found = option_and_then finish (option_and_then (check (leaf nm names v)) (option_and_then (adds []) found))

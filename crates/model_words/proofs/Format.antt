@@ -3,7 +3,7 @@ use Rattle.std.proofs.Common.{◌≡◌, ◌∙◌, ◌-◌, ◌^◌, inl, inr, 
 use Rattle.std.specs.Prelude.{option_and_then, fold}
 use Rattle.clap.specs.Walk.{Row, Rule, Text, first_of, with_default}
 use Rattle.model_base.specs.declared.limits.TheConstants.{DEFAULT_LOG_BLOCKS, DEFAULT_PAGES, DEFAULT_SPACE, MAX_LOG_BLOCKS, MAX_PAGES, MIN_LOG_BLOCKS}
-use Rattle.model_script.specs.{are_different, format_of, is_flag, is_given, word_number}
+use Rattle.model_script.specs.{are_different, given_format, is_flag, is_given, word_number}
 use Rattle.model_script.specs.declared.asked.Asked.{Asked}
 use Rattle.model_script.specs.declared.asked.Command.TheVariants as asked
 use Rattle.model_script.specs.declared.words.Name.{Name}
@@ -66,9 +66,9 @@ format_is = record {
       (or_is 1 MAX_PAGES DEFAULT_PAGES _ _ (text name.Pages refl (number_kept (codes "pages") (rules format_names false) (map use_row us) refl)) i)
       (or_is 0 (2 ^ 32 - 1) DEFAULT_SPACE _ _ (text name.Space refl (number_kept (codes "space") (rules format_names false) (map use_row us) refl)) i)
       (or_is MIN_LOG_BLOCKS MAX_LOG_BLOCKS DEFAULT_LOG_BLOCKS _ _ (text name.LogBlocks refl (number_kept (codes "log-blocks") (rules format_names false) (map use_row us) refl)) i))
-      ∙ good_options (are_members format_names said.options) (are_different said.options) (is_given name.Files said.options) said.values (format_of said.options) m
+      ∙ good_options (are_members format_names said.options) (are_different said.options) (is_given name.Files said.options) said.values (given_format said.options) m
       (different_is format_names plain us said ok e ∙ d);
   bad = format_bad;
-  other = λ said e. unfit_options (are_members format_names said.options) (are_different said.options) (is_given name.Files said.options) said.values (format_of said.options) e;
-  twice = λ said e. twice_options (are_members format_names said.options) (are_different said.options) (is_given name.Files said.options) said.values (format_of said.options) e;
+  other = λ said e. unfit_options (are_members format_names said.options) (are_different said.options) (is_given name.Files said.options) said.values (given_format said.options) e;
+  twice = λ said e. twice_options (are_members format_names said.options) (are_different said.options) (is_given name.Files said.options) said.values (given_format said.options) e;
 }

@@ -9,7 +9,7 @@ use Rattle.clap.specs.Takes.{is_given as was_given}
 use Rattle.clap.specs.Walk.{Row, Rule, Text, first_of, with_default}
 use Rattle.clap.specs.declared.error.kind.ErrorKind.TheVariants as kind
 use Rattle.model_script.specs.declared.misfit.TheConstants.{MAX_USERS}
-use Rattle.model_script.specs.{Said, are_different, gen_of, is_flag, is_given, number_within, with_option, with_value, word_number}
+use Rattle.model_script.specs.{Said, are_different, given_gen, is_flag, is_given, number_within, with_option, with_value, word_number}
 use Rattle.model_script.specs.declared.asked.Asked.{Asked}
 use Rattle.model_script.specs.declared.asked.Command.{Command}
 use Rattle.model_script.specs.declared.asked.Command.TheVariants as asked
@@ -200,9 +200,9 @@ gen_bad rows0 (inl b) = go b.0 b.1 b.2 b.3 b.4 b.5
 abbrev gen_answer : Bool → Bool → Bool → Option Command → Option Asked
 gen_answer files members different command = as_asked files (if members && different then command else None)
 
-gen_short : (rows0 : List Row) (files members different : Bool) (said : Said) → gen_of said.options said.values ≡ None
+gen_short : (rows0 : List Row) (files members different : Bool) (said : Said) → given_gen said.options said.values ≡ None
     → gen_with (fs rows0) (run_at rows0) (seed_at rows0) (users_at rows0) (groups_at rows0) (max_at rows0) ≡ None
-    → read (codes "gen") gen_names true zero_read rows0 ≡ gen_answer files members different (gen_of said.options said.values)
+    → read (codes "gen") gen_names true zero_read rows0 ≡ gen_answer files members different (given_gen said.options said.values)
 gen_short rows0 files members different said none e =
     then_none rows0 e ∙ sym (ap (gen_answer files members different) none ∙ go (members && different))
   where
@@ -219,15 +219,15 @@ gen_values : (us : List Use) (said : Said) (values : List ℕ) → said.values �
     → are_different said.options ≡ true → read (codes "gen") gen_names true zero_read (map use_row us) ≡ answer (codes "gen") gen_names true zero_read said
 gen_values us said [] v ok e m d =
     let are = subst (ValuesAre zero_read us) v (values_in gen_names zero_read us said ok e) in
-    gen_short (map use_row us) (is_given name.Files said.options) (are_members gen_names said.options) (are_different said.options) said (ap (gen_of said.options) v)
+    gen_short (map use_row us) (is_given name.Files said.options) (are_members gen_names said.options) (are_different said.options) said (ap (given_gen said.options) v)
     (no_seed (map use_row us) (whole_value _ _ (ap text_number (number_kept (codes "seed") gen_rules (map use_row us) refl) ∙ are.0)))
 gen_values us said (a ∷ []) v ok e m d =
     let are = subst (ValuesAre zero_read us) v (values_in gen_names zero_read us said ok e) in
-    gen_short (map use_row us) (is_given name.Files said.options) (are_members gen_names said.options) (are_different said.options) said (ap (gen_of said.options) v)
+    gen_short (map use_row us) (is_given name.Files said.options) (are_members gen_names said.options) (are_different said.options) said (ap (given_gen said.options) v)
     (no_users (map use_row us) (within_is 1 MAX_USERS _ _ (ap text_number (number_kept (codes "users") gen_rules (map use_row us) refl) ∙ are.1)))
 gen_values us said (a ∷ b ∷ []) v ok e m d =
     let are = subst (ValuesAre zero_read us) v (values_in gen_names zero_read us said ok e) in
-    gen_short (map use_row us) (is_given name.Files said.options) (are_members gen_names said.options) (are_different said.options) said (ap (gen_of said.options) v)
+    gen_short (map use_row us) (is_given name.Files said.options) (are_members gen_names said.options) (are_different said.options) said (ap (given_gen said.options) v)
     (no_groups (map use_row us) (within_is 0 MAX_GENERATED _ _ (ap text_number (number_kept (codes "groups") gen_rules (map use_row us) refl) ∙ are.2)))
 gen_values us said (a ∷ b ∷ g ∷ []) v ok e m d =
     let are = subst (ValuesAre zero_read us) v (values_in gen_names zero_read us said ok e) in
@@ -241,11 +241,11 @@ gen_values us said (a ∷ b ∷ g ∷ []) v ok e m d =
     (within_is 1 MAX_USERS _ _ (ap text_number (number_kept (codes "users") gen_rules (map use_row us) refl) ∙ are.1) i)
     (within_is 0 MAX_GENERATED _ _ (ap text_number (number_kept (codes "groups") gen_rules (map use_row us) refl) ∙ are.2) i)
     (or_is 0 MAX_TURNS DEFAULT_TURNS _ _ (text name.Max refl (number_kept (codes "max") gen_rules (map use_row us) refl)) i))
-    ∙ ap (λ vs. as_asked (is_given name.Files said.options) (gen_of said.options vs)) (sym v)
-    ∙ ap₂ (λ x y. gen_answer (is_given name.Files said.options) x y (gen_of said.options said.values)) (sym (members_true (are_members gen_names said.options) m)) (sym d)
+    ∙ ap (λ vs. as_asked (is_given name.Files said.options) (given_gen said.options vs)) (sym v)
+    ∙ ap₂ (λ x y. gen_answer (is_given name.Files said.options) x y (given_gen said.options said.values)) (sym (members_true (are_members gen_names said.options) m)) (sym d)
 gen_values us said (a ∷ b ∷ g ∷ x ∷ xs) v ok e m d = absurd (true≢false (sym m ∙ and-false (are_members gen_names said.options)))
 
-gen_other : (members different files : Bool) (options : List Given) (values : List ℕ) → (members && fits zero_read values) ≡ false → gen_answer files members different (gen_of options values) ≡ None
+gen_other : (members different files : Bool) (options : List Given) (values : List ℕ) → (members && fits zero_read values) ≡ false → gen_answer files members different (given_gen options values) ≡ None
 gen_other false different files options values e = refl
 gen_other true different files options [] e = absurd (true≢false e)
 gen_other true different files options (a ∷ []) e = absurd (true≢false e)
@@ -266,5 +266,5 @@ gen_is = record {
   good = λ us said ok e d m. gen_values us said said.values refl ok e m (different_is gen_names zero_read us said ok e ∙ d);
   bad = gen_bad;
   other = λ said e. gen_other (are_members gen_names said.options) (are_different said.options) (is_given name.Files said.options) said.options said.values e;
-  twice = λ said e. gen_twice (are_members gen_names said.options) (are_different said.options) (is_given name.Files said.options) (gen_of said.options said.values) e;
+  twice = λ said e. gen_twice (are_members gen_names said.options) (are_different said.options) (is_given name.Files said.options) (given_gen said.options said.values) e;
 }

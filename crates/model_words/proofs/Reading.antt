@@ -2,7 +2,7 @@
 use Rattle.std.proofs.Common.{◌≡◌, ◌∙◌, inl, inr, refl, sym, ap, ℕ, Bool, true, false, List, map, codes, Option, Some, None, option_map, true≢false}
 use Rattle.std.specs.Prelude.{fold}
 use Rattle.clap.specs.Walk.{Row, Text, first_of, with_default}
-use Rattle.model_script.specs.{are_different, workers_of, is_flag, is_given, word_number}
+use Rattle.model_script.specs.{are_different, given_workers, is_flag, is_given, word_number}
 use Rattle.model_script.specs.declared.asked.Asked.{Asked}
 use Rattle.model_script.specs.declared.asked.Command.TheVariants as asked
 use Rattle.model_script.specs.declared.words.Name.{Name}
@@ -43,11 +43,11 @@ recover_is = record {
       let given = given_is recover_names (rules recover_names false) plain us said ok e in
       (λ i. recover_with (given name.Files refl (flag_kept (codes "files") (rules recover_names false) (map use_row us) refl) i)
       (or_is 1 MAX_WORKERS 1 _ _ (text name.Workers refl (number_kept (codes "workers") (rules recover_names false) (map use_row us) refl)) i))
-      ∙ good_options (are_members recover_names said.options) (are_different said.options) (is_given name.Files said.options) said.values (option_map asked.Recover (workers_of said.options)) m
+      ∙ good_options (are_members recover_names said.options) (are_different said.options) (is_given name.Files said.options) said.values (option_map asked.Recover (given_workers said.options)) m
       (different_is recover_names plain us said ok e ∙ d);
   bad = recover_bad;
-  other = λ said e. unfit_options (are_members recover_names said.options) (are_different said.options) (is_given name.Files said.options) said.values (option_map asked.Recover (workers_of said.options)) e;
-  twice = λ said e. twice_options (are_members recover_names said.options) (are_different said.options) (is_given name.Files said.options) said.values (option_map asked.Recover (workers_of said.options)) e;
+  other = λ said e. unfit_options (are_members recover_names said.options) (are_different said.options) (is_given name.Files said.options) said.values (option_map asked.Recover (given_workers said.options)) e;
+  twice = λ said e. twice_options (are_members recover_names said.options) (are_different said.options) (is_given name.Files said.options) said.values (option_map asked.Recover (given_workers said.options)) e;
 }
 
 -- ---- dump

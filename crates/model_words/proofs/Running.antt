@@ -2,7 +2,7 @@
 use Rattle.std.proofs.Common.{◌≡◌, ◌∙◌, ◌-◌, ◌^◌, inl, inr, refl, sym, ap, ℕ, Bool, true, false, List, map, codes, Option, Some, None, option_map, true≢false}
 use Rattle.std.specs.Prelude.{option_and_then, fold}
 use Rattle.clap.specs.Walk.{Row, Text, first_of, with_default}
-use Rattle.model_script.specs.{are_different, crash_of, drive_of, is_flag, is_given, word_number}
+use Rattle.model_script.specs.{are_different, given_crash, given_drive, is_flag, is_given, word_number}
 use Rattle.model_script.specs.declared.asked.Asked.{Asked}
 use Rattle.model_script.specs.declared.asked.Command.TheVariants as asked
 use Rattle.model_script.specs.declared.asked.Drive.{Drive}
@@ -105,11 +105,11 @@ run_is = record {
       (given name.LogOnly refl (flag_kept (codes "log-only") (rules run_names false) (map use_row us) refl) i)
       (whole_is _ _ (text name.Turns refl (number_kept (codes "turns") (rules run_names false) (map use_row us) refl)) i)
       (or_is 0 MAX_TURNS DEFAULT_TURNS _ _ (text name.Max refl (number_kept (codes "max") (rules run_names false) (map use_row us) refl)) i)))
-      ∙ good_options (are_members run_names said.options) (are_different said.options) (is_given name.Files said.options) said.values (option_map asked.Run (drive_of said.options)) m
+      ∙ good_options (are_members run_names said.options) (are_different said.options) (is_given name.Files said.options) said.values (option_map asked.Run (given_drive said.options)) m
       (different_is run_names plain us said ok e ∙ d);
   bad = run_bad;
-  other = λ said e. unfit_options (are_members run_names said.options) (are_different said.options) (is_given name.Files said.options) said.values (option_map asked.Run (drive_of said.options)) e;
-  twice = λ said e. twice_options (are_members run_names said.options) (are_different said.options) (is_given name.Files said.options) said.values (option_map asked.Run (drive_of said.options)) e;
+  other = λ said e. unfit_options (are_members run_names said.options) (are_different said.options) (is_given name.Files said.options) said.values (option_map asked.Run (given_drive said.options)) e;
+  twice = λ said e. twice_options (are_members run_names said.options) (are_different said.options) (is_given name.Files said.options) said.values (option_map asked.Run (given_drive said.options)) e;
 }
 
 crash_bad : (rows0 : List Row) → Bad crash_names plain rows0 → read (codes "crash") crash_names false plain rows0 ≡ None
@@ -175,9 +175,9 @@ crash_is = record {
       (text name.StopData refl (number_kept (codes "stop-data") (rules crash_names false) (map use_row us) refl) i)
       (whole_is _ _ (text name.Pick refl (number_kept (codes "pick") (rules crash_names false) (map use_row us) refl)) i)
       (or_is 1 MAX_WORKERS 1 _ _ (text name.Workers refl (number_kept (codes "workers") (rules crash_names false) (map use_row us) refl)) i))
-      ∙ good_options (are_members crash_names said.options) (are_different said.options) (is_given name.Files said.options) said.values (crash_of said.options) m
+      ∙ good_options (are_members crash_names said.options) (are_different said.options) (is_given name.Files said.options) said.values (given_crash said.options) m
       (different_is crash_names plain us said ok e ∙ d);
   bad = crash_bad;
-  other = λ said e. unfit_options (are_members crash_names said.options) (are_different said.options) (is_given name.Files said.options) said.values (crash_of said.options) e;
-  twice = λ said e. twice_options (are_members crash_names said.options) (are_different said.options) (is_given name.Files said.options) said.values (crash_of said.options) e;
+  other = λ said e. unfit_options (are_members crash_names said.options) (are_different said.options) (is_given name.Files said.options) said.values (given_crash said.options) e;
+  twice = λ said e. twice_options (are_members crash_names said.options) (are_different said.options) (is_given name.Files said.options) said.values (given_crash said.options) e;
 }

@@ -7,7 +7,7 @@ use Rattle.std.proofs.lemmas.Slice.Eq.{bytes_eq-Decides}
 use Rattle.clap.specs.Walk.{Names, Text, answers_to, nothing_held, walk_from, with_default}
 use Rattle.clap.specs.Simple.{names_of}
 use Rattle.clap.proofs.OnLiterals.{clap_on_literals}
-use Rattle.model_script.specs.{Said, asked_of, command_of, is_given, said_from}
+use Rattle.model_script.specs.{Said, asked_of, is_given, named_command, said_from}
 use Rattle.model_script.specs.declared.asked.Asked.{Asked}
 use Rattle.model_script.specs.declared.words.Expected.TheVariants.{Any}
 use Rattle.model_script.specs.declared.words.Given.{Given}
@@ -81,11 +81,11 @@ module _ (t : Text) (ts : List Text) where
     other : (nm : Text) → is_name nm ≡ false → bytes_eq t nm ≡ false
     other nm e = bytes_sym t nm ∙ e
 
-    no_command : (options : List Given) (values : List ℕ) → command_of t options values ≡ None
+    no_command : (options : List Given) (values : List ℕ) → named_command t options values ≡ None
     no_command options [] = rw (other (codes "gen") gen, other (codes "format") format, other (codes "run") run, other (codes "crash") crash, other (codes "recover") recover, other (codes "dump") dump) refl
     no_command options (x ∷ xs) = rw (other (codes "gen") gen) refl
 
-    no_answer : (y : Option Said) → option_and_then (λ (said : Said). option_map (λ command. record { command = command; files = is_given name.Files said.options }) (command_of t said.options said.values)) y ≡ (let none : Option Asked = None in none)
+    no_answer : (y : Option Said) → option_and_then (λ (said : Said). option_map (λ command. record { command = command; files = is_given name.Files said.options }) (named_command t said.options said.values)) y ≡ (let none : Option Asked = None in none)
     no_answer None = refl
     no_answer (Some said) = ap (option_map (λ command. record { command = command; files = is_given name.Files said.options })) (no_command said.options said.values)
 
