@@ -6,7 +6,7 @@ use Rattle.std.proofs.lemmas.List.{get_or-drop, get_or-replicate, get_or-take, l
 use Rattle.std.specs.Int.{bytes_high_first}
 use Rattle.std.specs.List.{AllByRecursion}
 use native.Mathlib.Decide.{dec_le}
-use Rattle.model_base.specs.{IsWithinLimits, overwritten}
+use Rattle.model_base.specs.{overwritten, user_length}
 use Rattle.model_base.specs.declared.shape.Shape.{Shape}
 use Rattle.model_core.specs.Changes.{after_from, value_at, writes}
 use Rattle.model_log.specs.{GroupFits, page_of, RecordFits}
@@ -90,28 +90,36 @@ group_acts p [] n j w h = inr (λ u e. refl)
 group_acts p (rec ∷ recs) n j w h = after n j (stepped (eqb (page_of rec) p) rec) (user_after p recs)
     (λ u e. step_long (eqb (page_of rec) p) rec n u w.0 e) (step_acts (eqb (page_of rec) p) rec n j w.0 h) (group_acts p recs n j w.1 h)
 
-record_within : (shape : Shape) (rec : Rec) → shape.page_size ≡ 4096 → RecordFits shape rec → Within 4050 rec
-record_within shape (Num width space page offset value) size fits = let a = fits.2.after_header in let b = fits.2.before_trailer in omega arith
-record_within shape (Text space page offset bytes) size fits = let a = fits.1.after_header in let b = fits.1.before_trailer in omega arith
-record_within shape (Init space page) size fits = tt
+record_within : (shape : Shape) (rec : Rec) → RecordFits shape rec → Within (user_length shape) rec
+record_within shape (Num width space page offset value) fits = let a = fits.2.after_header in let b = fits.2.before_trailer in omega arith
+record_within shape (Text space page offset bytes) fits = let a = fits.1.after_header in let b = fits.1.before_trailer in omega arith
+record_within shape (Init space page) fits = tt
 
-group_within : (shape : Shape) (group : List Rec) → shape.page_size ≡ 4096 → GroupFits shape group → AllByRecursion (Within 4050) group
-group_within shape [] size fits = tt
-group_within shape (rec ∷ recs) size fits = (record_within shape rec size fits.0, group_within shape recs size fits.1)
+group_within : (shape : Shape) (group : List Rec) → GroupFits shape group → AllByRecursion (Within (user_length shape)) group
+group_within shape [] fits = tt
+group_within shape (rec ∷ recs) fits = (record_within shape rec fits.0, group_within shape recs fits.1)
 
-pub decided : (shape : Shape) (group : List Rec) (p j : ℕ) (user : List ℕ) → IsWithinLimits shape → GroupFits shape group → length user ≡ 4050 → j < 4050
-    → get_or (user_after p group user) j 0 ≡ cond (writes p group j) (value_at p group j) (get_or user j 0)
-decided shape group p j user limits fits l h = ⊎_elim
-    (λ t. let a = t.1 (replicate 4050 0) (length-replicate {A = ℕ} 4050 0) in let b = t.1 (replicate 4050 255) (length-replicate {A = ℕ} 4050 255) in
-    t.1 user l ∙ (sym a ∙ sym (ap (λ (x : Bool). cond x (value_at p group j) (get_or user j 0)) (eq-eqb (value_at p group j) (byte (after_from 255 p group) j) (a ∙ sym b)))))
-    (λ t. let a = t (replicate 4050 0) (length-replicate {A = ℕ} 4050 0) ∙ get_or-replicate {A = ℕ} 4050 j 0 0 h in let b = t (replicate 4050 255) (length-replicate {A = ℕ} 4050 255) ∙ get_or-replicate {A = ℕ} 4050 j 255 0 h in
-    t user l ∙ sym (ap (λ (x : Bool). cond x (value_at p group j) (get_or user j 0)) (ne_eqb (value_at p group j) (byte (after_from 255 p group) j) (λ e. let z : ◌≡◌ {A = ℕ} 0 255 = sym a ∙ (e ∙ b) in absurd (omega arith)))))
-    (group_acts p group 4050 j (group_within shape group (limits.page_size) fits) h)
+pub decided : (shape : Shape) (group : List Rec) (p j : ℕ) (user : List ℕ) → GroupFits shape group
+    → length user ≡ user_length shape → j < user_length shape
+    → get_or (user_after p group user) j 0 ≡ cond (writes shape p group j) (value_at shape p group j) (get_or user j 0)
+decided shape group p j user fits l h =
+    let n : ℕ = user_length shape in
+    let low : List ℕ = replicate n 0 in
+    let high : List ℕ = replicate n 255 in
+    let low_long : length low ≡ n = length-replicate {A = ℕ} n 0 in
+    let high_long : length high ≡ n = length-replicate {A = ℕ} n 255 in
+    ⊎_elim
+    (λ t. let a = t.1 low low_long in let b = t.1 high high_long in
+    t.1 user l ∙ (sym a ∙ sym (ap (λ (x : Bool). cond x (value_at shape p group j) (get_or user j 0)) (eq-eqb (value_at shape p group j) (byte (after_from shape 255 p group) j) (a ∙ sym b)))))
+    (λ t. let a = t low low_long ∙ get_or-replicate {A = ℕ} n j 0 0 h in let b = t high high_long ∙ get_or-replicate {A = ℕ} n j 255 0 h in
+    t user l ∙ sym (ap (λ (x : Bool). cond x (value_at shape p group j) (get_or user j 0)) (ne_eqb (value_at shape p group j) (byte (after_from shape 255 p group) j) (λ e. let z : ◌≡◌ {A = ℕ} 0 255 = sym a ∙ (e ∙ b) in absurd (omega arith)))))
+    (group_acts p group n j (group_within shape group fits) h)
 
 group_long : (p : ℕ) (group : List Rec) (n : ℕ) (u : List ℕ) → AllByRecursion (Within n) group → length u ≡ n → length (user_after p group u) ≡ n
 group_long p [] n u w e = e
 group_long p (rec ∷ recs) n u w e = group_long p recs n (stepped (eqb (page_of rec) p) rec u) w.1 (step_long (eqb (page_of rec) p) rec n u w.0 e)
 
 -- a page keeps as many user bytes as it has
-pub user_long : (shape : Shape) (group : List Rec) (p : ℕ) (user : List ℕ) → IsWithinLimits shape → GroupFits shape group → length user ≡ 4050 → length (user_after p group user) ≡ 4050
-user_long shape group p user limits fits l = group_long p group 4050 user (group_within shape group limits.page_size fits) l
+pub user_long : (shape : Shape) (group : List Rec) (p : ℕ) (user : List ℕ) → GroupFits shape group
+    → length user ≡ user_length shape → length (user_after p group user) ≡ user_length shape
+user_long shape group p user fits l = group_long p group (user_length shape) user (group_within shape group fits) l

@@ -2,15 +2,15 @@
 use Rattle.std.proofs.Common.{ap, refl, ℕ, ◌≡◌}
 use Rattle.model_core.specs.Actors.{Actor}
 use Rattle.model_core.specs.Answers.{heard}
-use Rattle.model_core.specs.CheckpointerProgram.{checkpointer_op, checkpointer_took}
-use Rattle.model_core.specs.CleanerProgram.{cleaner_op, cleaner_took}
-use Rattle.model_core.specs.CloserProgram.{closer_op, closer_took}
-use Rattle.model_core.specs.FlusherProgram.{flusher_op, flusher_took}
+use Rattle.model_core.specs.CheckpointerProgram.{checkpointer_ending, checkpointer_op, checkpointer_took}
+use Rattle.model_core.specs.CleanerProgram.{cleaner_ending, cleaner_op, cleaner_took}
+use Rattle.model_core.specs.CloserProgram.{closer_ending, closer_op, closer_took}
+use Rattle.model_core.specs.FlusherProgram.{flusher_ending, flusher_op, flusher_took}
 use Rattle.model_core.specs.Program.{own_op, own_took}
 use Rattle.model_core.specs.States.{CheckpointerState, CleanerState, CloserState, FlusherState, UserState, WriterState}
-use Rattle.model_core.specs.UserProgram.{user_op, user_took}
-use Rattle.model_core.specs.Waiting.{HasStopped, checkpointer_ending, cleaner_ending, closer_ending, flusher_ending, user_ending, writer_ending}
-use Rattle.model_core.specs.WriterProgram.{writer_op, writer_took}
+use Rattle.model_core.specs.UserProgram.{user_ending, user_op, user_took}
+use Rattle.model_core.specs.Waiting.{HasStopped}
+use Rattle.model_core.specs.WriterProgram.{writer_ending, writer_op, writer_took}
 use Rattle.model_core.specs.declared.ops.Answer.{Answer}
 use Rattle.model_core.specs.declared.ops.Op.{Op}
 use Rattle.model_core.specs.declared.steps.CheckpointerStep.{CheckpointerStep}

@@ -5,12 +5,15 @@ use Rattle.std.proofs.lemmas.Nat.{le_bytes_8}
 use Rattle.std.specs.Int.{from_le_bytes, w64}
 use Rattle.std.specs.Prelude.{get_or, slice_index, slice_set}
 use native.Mathlib.Decide.{dec_le, ℕ_discrete}
+use Rattle.model_base.specs.{IsPageSize}
 use Rattle.model_core.proofs.Groups.{back, front}
 use Rattle.model_core.proofs.Lanes.{lane_of_zero, lane_read, lane_small, lanes_are, lanes_long}
+use Rattle.model_core.proofs.PageSizes.{has_room}
 unfoldable use Rattle.model_core.specs.Lanes.{lane, lanes, packed}
 use Rattle.model_core.specs.Groups.{CellWrite}
-use Rattle.model_core.specs.Lanes.{frame_bytes}
+use Rattle.model_core.specs.Lanes.{frame_bytes, framed_page}
 use Rattle.model_core.specs.UserProgram.{put_lanes, same_word}
+use Rattle.model_core.specs.declared.limits.TheConstants.{FRAME_WORDS}
 
 -- A FRAME'S BYTE is that lane of its word
 pub frame_long : (frame : List ℕ) → length (frame_bytes frame) ≡ 8 * length frame
@@ -26,9 +29,19 @@ frame_byte (w ∷ ws) i = elim (dec_le 8 i) [
   | no d ↦ front (lanes 0 8 w) (frame_bytes ws) i (omega (arith, lanes_long 0 8 w)) ∙ lanes_are 0 8 w i (omega arith) ∙ ap (λ (k : ℕ). lane k w) (let e : 0 + i ≡ i % 8 = omega arith in e) ∙ ap (λ (k : ℕ). lane (i % 8) (slice_index (w ∷ ws) k)) (let e : zero ≡ i / 8 = omega arith in e)
 ]
 
--- its next word
-pub frame_next : (frame : List ℕ) (q : ℕ) → q < length frame → take (8 * q + 8) (frame_bytes frame) ≡ take (8 * q) (frame_bytes frame) ++ lanes 0 8 (slice_index frame q)
-frame_next frame q l = ext_get_or 0 _ _ (long_of) (λ i lt. by i lt (dec_le (8 * q) i))
+-- A PAGE IN ITS FRAME has all its bytes, each in that lane of its word
+pub framed_long : (n : ℕ) (frame : List ℕ) → IsPageSize n → length frame ≡ FRAME_WORDS
+    → length (framed_page n frame) ≡ n
+framed_long n frame size long = length-take-le n (frame_bytes frame) (omega (arith, frame_long frame, has_room n size))
+
+pub framed_byte : (n : ℕ) (frame : List ℕ) (i : ℕ) → i < n
+    → slice_index (framed_page n frame) i ≡ lane (i % 8) (slice_index frame (i / 8))
+framed_byte n frame i below = get_or-take n (frame_bytes frame) i 0 below ∙ frame_byte frame i
+
+-- and the next word of a longer one
+pub framed_next : (frame : List ℕ) (q : ℕ) → q < length frame
+    → framed_page (8 * q + 8) frame ≡ framed_page (8 * q) frame ++ lanes 0 8 (slice_index frame q)
+framed_next frame q l = ext_get_or 0 _ _ (long_of) (λ i lt. by i lt (dec_le (8 * q) i))
   where
     bytes : List ℕ
     bytes = frame_bytes frame
@@ -121,10 +134,12 @@ lanes_small w i = elim (dec_le 8 i) [
     beyond (y ∷ ys) zero le = absurd (omega arith)
     beyond (y ∷ ys) (suc k) le = beyond ys k (omega arith)
 
--- A WORD STORED WITH CELLS IN ITS LANES: a byte of the frame then
-pub word_byte : (frame : List ℕ) (q : ℕ) (xs : List CellWrite) (i : ℕ) → q < length frame → InWord q xs
-    → slice_index (frame_bytes (slice_set frame q (packed 0 (put_lanes xs (lanes 0 8 (slice_index frame q)))))) i ≡ put_at xs i (slice_index (frame_bytes frame) i)
-word_byte frame q xs i lt h = frame_byte (slice_set frame q new) i ∙ by (ℕ_discrete (i / 8) q) ∙ ap (put_at xs i) (sym (frame_byte frame i))
+-- A WORD STORED WITH CELLS IN ITS LANES: a byte of the page then
+pub word_byte : (n : ℕ) (frame : List ℕ) (q : ℕ) (xs : List CellWrite) (i : ℕ) → i < n → q < length frame → InWord q xs
+    → slice_index (framed_page n (slice_set frame q (packed 0 (put_lanes xs (lanes 0 8 (slice_index frame q)))))) i
+    ≡ put_at xs i (slice_index (framed_page n frame) i)
+word_byte n frame q xs i below lt h =
+    framed_byte n (slice_set frame q new) i below ∙ by (ℕ_discrete (i / 8) q) ∙ ap (put_at xs i) (sym (framed_byte n frame i below))
   where
     old : List ℕ
     old = lanes 0 8 (slice_index frame q)

@@ -14,7 +14,8 @@ unfoldable use Rattle.model_core.specs.Lanes.{lane, lanes, packed}
 use Rattle.model_core.specs.Lsn.{floor, lsn}
 use Rattle.model_core.specs.States.{UserState}
 use Rattle.model_core.specs.UserProgram.{copy_place, group_bytes, next_bytes, next_count}
-use Rattle.model_core.specs.declared.limits.TheConstants.{LOG_BUFFER}
+use Rattle.model_core.specs.declared.limits.TheConstants.{BUFFER_WORDS, LOG_BUFFER}
+use Rattle.model_log.specs.declared.layout.TheConstants.{BLOCK_DATA}
 
 -- ON LANES. What stands in a lane is a byte
 pub lane_small : (j w : ℕ) → lane j w < 256
@@ -189,13 +190,13 @@ unfolding lsn
 word_grows x y h = omega arith
 
 -- a word lies in one block
-pub word_block : (x y : ℕ) → lsn x / 8 ≡ lsn y / 8 → x / 496 ≡ y / 496
+pub word_block : (x y : ℕ) → lsn x / 8 ≡ lsn y / 8 → x / BLOCK_DATA ≡ y / BLOCK_DATA
 unfolding lsn
 word_block x y h = omega arith
 
 -- NO TWO LIVE PLACES IN ONE LANE: in the window two places in one cell are in one word of the log, and in one lane they are one
 pub cell_word : (x y mark : ℕ) → floor mark ≤ lsn x → floor mark ≤ lsn y → lsn x < floor mark + LOG_BUFFER → lsn y < floor mark + LOG_BUFFER → cell_of x ≡ cell_of y → lsn x / 8 ≡ lsn y / 8
-cell_word x y mark lx ly hx hy e = ring_same (lsn x / 8) (lsn y / 8) (floor mark / 8) 8192 (omega arith) (omega arith) (omega arith) (omega arith) e
+cell_word x y mark lx ly hx hy e = ring_same (lsn x / 8) (lsn y / 8) (floor mark / 8) BUFFER_WORDS (omega arith) (omega arith) (omega arith) (omega arith) e
 
 pub lane_place : (x y : ℕ) → lsn x / 8 ≡ lsn y / 8 → lane_of x ≡ lane_of y → x ≡ y
 lane_place x y w l = lsn_same x y (omega arith)
@@ -205,7 +206,7 @@ pub word_up : (w x : ℕ) → lsn w / 8 ≤ lsn x / 8 → floor (lsn w) ≤ lsn 
 word_up w x h = omega arith
 
 -- the run's start begins a word
-pub base_word : (base read x : ℕ) → base % 496 ≡ 0 → base ≤ read → lsn read / 8 ≤ lsn x / 8 → base ≤ x
+pub base_word : (base read x : ℕ) → base % BLOCK_DATA ≡ 0 → base ≤ read → lsn read / 8 ≤ lsn x / 8 → base ≤ x
 unfolding lsn
 base_word base read x even le h = omega arith
 
@@ -218,15 +219,15 @@ pub part_word : (k t : ℕ) → k ≤ t → lsn t - lsn k < left_in_word k → k
 unfolding lsn
 part_word k t le h = omega arith
 
-pub left_block : (k : ℕ) → k + left_in_word k ≤ (k / 496 + 1) * 496
+pub left_block : (k : ℕ) → k + left_in_word k ≤ (k / BLOCK_DATA + 1) * BLOCK_DATA
 left_block k = omega arith
 
 -- one turn of the log buffer ago the same lane stood for another place
-pub turn_before : (x : ℕ) → 63488 ≤ x → lsn (x - 63488) + 65536 ≡ lsn x
+pub turn_before : (x : ℕ) → 63488 ≤ x → lsn (x - 63488) + LOG_BUFFER ≡ lsn x
 unfolding lsn
 turn_before x h = omega arith
 
-pub turned_far : (x mark : ℕ) → floor mark + 65536 ≤ lsn x → 63488 ≤ x
+pub turned_far : (x mark : ℕ) → floor mark + LOG_BUFFER ≤ lsn x → 63488 ≤ x
 unfolding lsn
 turned_far x mark h = omega arith
 

@@ -13,13 +13,14 @@ use Rattle.model_core.specs.CloserProgram.{closer_op, closer_took}
 use Rattle.model_core.specs.FlushLists.{Listed}
 use Rattle.model_core.specs.FlusherProgram.{flusher_op}
 use Rattle.model_core.specs.Holding.{HasHolder, closer_holds_tail, holds_tail, user_holds_tail, writer_holds_tail}
-use Rattle.model_core.specs.Layout.{SharedWords, read, wrote}
+use Rattle.model_core.specs.Layout.{SharedWords}
+use Rattle.model_core.specs.NamedWords.{read, wrote}
 use Rattle.model_core.specs.Program.{checked, is_checking, next, own_op, own_took, took}
 use Rattle.model_core.specs.States.{Advance, CheckpointerState, CleanerState, CloserState, FlusherState, UserState, WriterState}
 use Rattle.model_core.specs.Tails.{tail_word}
 use Rattle.model_core.specs.UserProgram.{user_op, user_took}
 use Rattle.model_core.specs.Holding.{ChecksWithoutTail}
-use Rattle.model_core.specs.WordTurn.{found, shared_answer, shared_left}
+use Rattle.model_core.specs.NamedTurn.{found, shared_answer, shared_left}
 use Rattle.model_core.specs.WriterProgram.{tail_after, writer_op, writer_took}
 use Rattle.model_core.specs.declared.ops.Answer.{Answer}
 use Rattle.model_core.specs.declared.ops.Op.{Op}

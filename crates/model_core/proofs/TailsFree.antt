@@ -1,16 +1,20 @@
 -- An actor that checks for a failure holds no tail, and one that has ended holds none.
 use Rattle.std.proofs.Common.{Bool, cond, eqb, false, length, nat_lt, refl, true, ℕ, ◌+◌, ◌/◌, ◌≡◌}
 use Rattle.model_core.specs.Actors.{Actor}
+use Rattle.model_core.specs.ActorProgram.{ActorProgram, checked_of}
 use Rattle.model_core.specs.Advancing.{advance_holds, advance_took, frees, stays_put}
 use Rattle.model_core.specs.Answers.{heard, old_of, on_call, on_take}
-use Rattle.model_core.specs.CloserProgram.{closer_took}
+use Rattle.model_core.specs.CheckpointerProgram.{checkpointer_program}
+use Rattle.model_core.specs.CleanerProgram.{cleaner_program}
+use Rattle.model_core.specs.FlusherProgram.{flusher_program}
+use Rattle.model_core.specs.CloserProgram.{closer_ending, closer_program, closer_took}
 use Rattle.model_core.specs.Holding.{ChecksWithoutTail, closer_holds_tail, holds_tail, user_holds_tail, writer_holds_tail}
 use Rattle.model_core.specs.Program.{checked, is_checking, own_took, took}
 use Rattle.model_core.specs.States.{Advance, CloserState, UserState, WriterState}
 use Rattle.model_core.specs.Tails.{tail_of}
-use Rattle.model_core.specs.UserProgram.{answered, can_close, can_link, cells_of, change_at, changes, frame_count, group_bytes, group_end, has_passed, has_room, has_space, is_whole, mode, next_count, to_next_page, user_took, with_mark, word_step}
-use Rattle.model_core.specs.Waiting.{HasStopped, closer_ending, user_ending, writer_ending}
-use Rattle.model_core.specs.WriterProgram.{finds_no_more, has_log_space, has_whole_word, stands_outside, tail_after, writer_took}
+use Rattle.model_core.specs.UserProgram.{answered, can_close, can_link, cells_of, change_at, changes, frame_count, group_bytes, group_end, has_passed, has_room, has_space, is_whole, mode, next_count, to_next_page, user_ending, user_program, user_took, with_mark, word_step}
+use Rattle.model_core.specs.Waiting.{HasStopped}
+use Rattle.model_core.specs.WriterProgram.{finds_no_more, has_log_space, has_whole_word, stands_outside, tail_after, writer_ending, writer_program, writer_took}
 use Rattle.model_core.specs.declared.ops.Answer.{Answer}
 use Rattle.model_core.specs.declared.steps.AdvanceStep.{AdvanceStep}
 use Rattle.model_core.specs.declared.steps.CloserStep.{CloserStep}
@@ -21,10 +25,7 @@ use Rattle.model_core.specs.Actors as actor
 use Rattle.model_core.specs.declared.ops.Answer.TheVariants as answer
 use Rattle.model_core.specs.declared.ops.Step.TheVariants as step
 use Rattle.model_core.specs.declared.steps.AdvanceStep.TheVariants as advance_step
-use Rattle.model_core.specs.declared.steps.CheckpointerStep.TheVariants as checkpointer_step
-use Rattle.model_core.specs.declared.steps.CleanerStep.TheVariants as cleaner_step
 use Rattle.model_core.specs.declared.steps.CloserStep.TheVariants as closer_step
-use Rattle.model_core.specs.declared.steps.FlusherStep.TheVariants as flusher_step
 use Rattle.model_core.specs.declared.steps.UserStep.TheVariants as user_step
 use Rattle.model_core.specs.declared.steps.WriterStep.TheVariants as writer_step
 use Rattle.model_core.specs.declared.words.LinkBuffer.TheVariants as link_buffer
@@ -176,44 +177,24 @@ closer_free t a closer_step.Failed own = λ e. absurd (cc)
 own_free : (a : Actor) (r : Answer) → is_checking a ≡ false → ChecksWithoutTail (own_took a r)
 own_free (actor.User u) r own = λ e b. user_holds_none b _ (user_free u (heard r) u.step own e)
 own_free (actor.Writer s) r own = λ e b. writer_holds_none b _ (writer_free s r s.step own e)
-own_free (actor.Flusher f) r own = λ e b. refl
 own_free (actor.Closer t) r own = λ e b. closer_holds_none b _ (closer_free t r t.step own e)
-own_free (actor.Cleaner v) r own = λ e b. refl
-own_free (actor.Checkpointer t) r own = λ e b. refl
-own_free (actor.Joined es) r own = λ e b. refl
+own_free _ r own = λ e b. refl
 
 -- or has loaded FAILED, and checks no more
+checks_no_more : {S : Type 0} (p : ActorProgram S) (s : S) (n : ℕ) → p.checks (p.goes_on s) ≡ false → p.checks (p.fails (p.goes_on s) n) ≡ false → p.checks (checked_of p s n) ≡ false
+checks_no_more p s n on ends = by (eqb n 0)
+  where
+    by : (b : Bool) → p.checks (cond b (p.goes_on s) (p.fails (p.goes_on s) n)) ≡ false
+    by true = on
+    by false = ends
+
 checked_free : (a : Actor) (n : ℕ) → is_checking a ≡ true → is_checking (checked a n) ≡ false
-checked_free (actor.User u) n e = by (eqb n 0)
-  where
-    by : (b : Bool) → is_checking (actor.User (cond b (record u { checks = false }) (record u { checks = false; code = n; step = user_step.Failed }))) ≡ false
-    by true = refl
-    by false = refl
-checked_free (actor.Writer s) n e = by (eqb n 0)
-  where
-    by : (b : Bool) → is_checking (actor.Writer (cond b (record s { checks = false }) (record s { checks = false; code = n; step = writer_step.Failed }))) ≡ false
-    by true = refl
-    by false = refl
-checked_free (actor.Flusher f) n e = by (eqb n 0)
-  where
-    by : (b : Bool) → is_checking (actor.Flusher (cond b (record f { checks = false }) (record f { checks = false; code = n; step = flusher_step.Failed }))) ≡ false
-    by true = refl
-    by false = refl
-checked_free (actor.Closer t) n e = by (eqb n 0)
-  where
-    by : (b : Bool) → is_checking (actor.Closer (cond b (record t { checks = false }) (record t { checks = false; code = n; step = closer_step.Failed }))) ≡ false
-    by true = refl
-    by false = refl
-checked_free (actor.Cleaner v) n e = by (eqb n 0)
-  where
-    by : (b : Bool) → is_checking (actor.Cleaner (cond b (record v { checks = false }) (record v { checks = false; code = n; step = cleaner_step.Failed }))) ≡ false
-    by true = refl
-    by false = refl
-checked_free (actor.Checkpointer t) n e = by (eqb n 0)
-  where
-    by : (b : Bool) → is_checking (actor.Checkpointer (cond b (record t { checks = false }) (record t { checks = false; code = n; step = checkpointer_step.Failed }))) ≡ false
-    by true = refl
-    by false = refl
+checked_free (actor.User u) n e = checks_no_more user_program u n refl refl
+checked_free (actor.Writer s) n e = checks_no_more writer_program s n refl refl
+checked_free (actor.Flusher f) n e = checks_no_more flusher_program f n refl refl
+checked_free (actor.Closer t) n e = checks_no_more closer_program t n refl refl
+checked_free (actor.Cleaner v) n e = checks_no_more cleaner_program v n refl refl
+checked_free (actor.Checkpointer t) n e = checks_no_more checkpointer_program t n refl refl
 checked_free (actor.Joined es) n e = refl
 
 pub took_free : (a : Actor) (r : Answer) → ChecksWithoutTail (took a r)
@@ -239,8 +220,5 @@ closer_stopped code _ e = absurd (e refl)
 pub stopped_free : (a : Actor) → HasStopped a → (b : LinkBuffer) → holds_tail b a ≡ false
 stopped_free (actor.User u) e b = user_holds_none b u.step (user_stopped u.code u.step e)
 stopped_free (actor.Writer s) e b = writer_holds_none b s.step (writer_stopped s.code s.step e)
-stopped_free (actor.Flusher f) e b = refl
 stopped_free (actor.Closer t) e b = closer_holds_none b t.step (closer_stopped t.code t.step e)
-stopped_free (actor.Cleaner v) e b = refl
-stopped_free (actor.Checkpointer t) e b = refl
-stopped_free (actor.Joined es) e b = refl
+stopped_free _ e b = refl

@@ -1,18 +1,19 @@
 -- What a wait leaves: the actor checks FAILED next, and then takes the same step again, or begins its round anew.
 use Rattle.std.proofs.Common.{Bool, [], cond, eqb, false, length, refl, true, ℕ, ◌+◌, ◌-◌, ◌≡◌}
+use Rattle.model_core.specs.ActorProgram.{opposite}
 use Rattle.model_core.specs.Actors.{Actor}
 use Rattle.model_core.specs.Advancing.{advance_took, frees, stays_put}
 use Rattle.model_core.specs.Answers.{has_taken, heard, old_of, on_take}
-use Rattle.model_core.specs.CheckpointerProgram.{checkpointer_took, is_above}
-use Rattle.model_core.specs.CleanerProgram.{cleaner_took, next_in_round}
-use Rattle.model_core.specs.CloserProgram.{closer_took}
-use Rattle.model_core.specs.FlusherProgram.{flusher_took}
+use Rattle.model_core.specs.CheckpointerProgram.{checkpointer_took, checkpointer_waits, is_above}
+use Rattle.model_core.specs.CleanerProgram.{cleaner_took, cleaner_waits, finds_none, next_in_round}
+use Rattle.model_core.specs.CloserProgram.{closer_took, closer_waits}
+use Rattle.model_core.specs.FlusherProgram.{flusher_took, flusher_waits}
 use Rattle.model_core.specs.Program.{is_checking, own_took}
 use Rattle.model_core.specs.States.{Advance, CheckpointerState, CleanerState, CloserState, FlusherState, UserState, WriterState}
 use Rattle.model_core.specs.Tails.{tail_of}
-use Rattle.model_core.specs.UserProgram.{can_close, can_link, has_passed, has_room, has_space, user_took}
-use Rattle.model_core.specs.Waiting.{checkpointer_again, checkpointer_waits, cleaner_again, cleaner_waits, closer_again, closer_waits, finds_none, flusher_waits, opposite, user_again, user_waits, waits, writer_again, writer_waits}
-use Rattle.model_core.specs.WriterProgram.{finds_no_more, has_log_space, stands_outside, tail_after, writer_took}
+use Rattle.model_core.specs.UserProgram.{can_close, can_link, has_passed, has_room, has_space, user_took, user_waits}
+use Rattle.model_core.specs.Waiting.{waits}
+use Rattle.model_core.specs.WriterProgram.{finds_no_more, has_log_space, stands_outside, tail_after, writer_took, writer_waits}
 use Rattle.model_core.specs.declared.limits.TheConstants.{BATCH_PAGES}
 use Rattle.model_core.specs.declared.ops.Answer.{Answer}
 use Rattle.model_core.specs.declared.steps.AdvanceStep.{AdvanceStep}
@@ -31,6 +32,33 @@ use Rattle.model_core.specs.declared.steps.CloserStep.TheVariants as closer_step
 use Rattle.model_core.specs.declared.steps.FlusherStep.TheVariants as flusher_step
 use Rattle.model_core.specs.declared.steps.UserStep.TheVariants as user_step
 use Rattle.model_core.specs.declared.steps.WriterStep.TheVariants as writer_step
+
+-- Which rounds begin anew: after a wait a user checks the free space again from its first part, and loads a tail again from
+-- the first; an advance begins anew; the cleaner goes round again, and the checkpointer seeks another candidate. Every other
+-- wait repeats its step.
+abbrev pub user_again : UserStep → UserStep
+user_again user_step.LoadSn = user_step.LoadCheckpoint
+user_again (user_step.AdvanceWritten s) = user_step.LoadWtail
+user_again user_step.ReloadWtail = user_step.LoadWtail
+user_again (user_step.AdvanceClosed s) = user_step.LoadCtail
+user_again user_step.ReloadCtail = user_step.LoadCtail
+user_again s = s
+
+abbrev pub writer_again : WriterStep → WriterStep
+writer_again (writer_step.Advance v) = writer_step.Advance advance_step.LoadTail
+writer_again s = s
+
+abbrev pub closer_again : CloserStep → CloserStep
+closer_again (closer_step.Advance v) = closer_step.Advance advance_step.LoadTail
+closer_again s = s
+
+abbrev pub cleaner_again : CleanerStep → CleanerStep
+cleaner_again cleaner_step.RemoveFromList = cleaner_step.RemoveFromList
+cleaner_again s = cleaner_step.LoadFlushed
+
+abbrev pub checkpointer_again : CheckpointerStep → CheckpointerStep
+checkpointer_again checkpointer_step.LoadFlushed = checkpointer_step.LoadCtail
+checkpointer_again s = s
 
 -- a user that waits checks, at the step that it takes again
 abbrev UserIs : UserState → UserStep → Type 0

@@ -2,22 +2,23 @@
 use Rattle.std.proofs.Common.{Bool, List, ap, cond, eqb, eqb-true, false, inl, inr, refl, subst, true, ℕ, ◌%◌, ◌+◌, ◌≡◌, ◌⊎◌}
 use Rattle.std.proofs.Math.Logic.{⊎_map}
 use Rattle.std.specs.Prelude.{None, slice_index, slice_set}
+use Rattle.model_core.specs.ActorProgram.{opposite}
 use Rattle.model_core.specs.Actors.{Actor}
 use Rattle.model_core.specs.Advancing.{advance_op, frees, stays_put, tail_at}
 use Rattle.model_core.specs.Answers.{has_taken, heard, old_of, on_take}
-use Rattle.model_core.specs.CheckpointerProgram.{checkpointer_op}
-use Rattle.model_core.specs.CleanerProgram.{cleaner_op, first_of_batch}
-use Rattle.model_core.specs.CloserProgram.{closer_op}
+use Rattle.model_core.specs.CheckpointerProgram.{checkpointer_op, checkpointer_waits}
+use Rattle.model_core.specs.CleanerProgram.{cleaner_op, cleaner_waits, finds_none, first_of_batch}
+use Rattle.model_core.specs.CloserProgram.{closer_op, closer_waits}
 use Rattle.model_core.specs.FlushLists.{Listed, oldest_end}
-use Rattle.model_core.specs.FlusherProgram.{flusher_op}
+use Rattle.model_core.specs.FlusherProgram.{flusher_op, flusher_waits}
 use Rattle.model_core.specs.Layout.{device_at, index, lists_at}
 use Rattle.model_core.specs.Program.{own_op}
 use Rattle.model_core.specs.States.{Advance, CheckpointerState, CleanerState, CloserState, FlusherState, UserState, WriterState}
 use Rattle.model_core.specs.Tails.{tail_word}
-use Rattle.model_core.specs.UserProgram.{page_of, user_op}
-use Rattle.model_core.specs.Waiting.{IsFreeing, checkpointer_waits, cleaner_waits, closer_waits, finds_none, flusher_waits, opposite, user_waits, waits, writer_waits}
+use Rattle.model_core.specs.UserProgram.{current_page, user_op, user_waits}
+use Rattle.model_core.specs.Waiting.{IsFreeing, waits}
 use Rattle.model_core.specs.WordTurn.{answer_of, word_found, words_left}
-use Rattle.model_core.specs.WriterProgram.{finds_no_more, writer_op}
+use Rattle.model_core.specs.WriterProgram.{finds_no_more, writer_op, writer_waits}
 use Rattle.model_core.specs.declared.limits.TheConstants.{FLUSH_LISTS}
 use Rattle.model_core.specs.declared.steps.AdvanceStep.{AdvanceStep}
 use Rattle.model_core.specs.declared.steps.CheckpointerStep.{CheckpointerStep}
@@ -87,17 +88,17 @@ module _ (ls : ℕ → List Listed) (broken : Bool) (code mark : ℕ) (ws : List
       (advance_words link_buffer.Written u.advance s (subst (λ a. stays_put u.advance (heard a) s ≡ true) (told link_buffer.Written u.advance s) e))
   user_words u (user_step.AdvanceClosed s) e = ⊎_map (λ same. same) (λ freed. (inr (ap user_step.AdvanceClosed freed.0), freed.1))
       (advance_words link_buffer.Closed u.advance s (subst (λ a. stays_put u.advance (heard a) s ≡ true) (told link_buffer.Closed u.advance s) e))
-  user_words u user_step.TakeLatch e = inl (by (eqb (slice_index ws (index (word.Latch (page_of u)))) 0) e)
+  user_words u user_step.TakeLatch e = inl (by (eqb (slice_index ws (index (word.Latch (current_page u)))) 0) e)
     where
-      by : (b : Bool) → opposite b ≡ true → ◌≡◌ {A = List ℕ} (cond b (slice_set ws (index (word.Latch (page_of u))) 1) ws) ws
+      by : (b : Bool) → opposite b ≡ true → ◌≡◌ {A = List ℕ} (cond b (slice_set ws (index (word.Latch (current_page u))) 1) ws) ws
       by true e = absurd (cc)
       by false e = refl
   user_words u user_step.LoadWrite e = inl refl
   user_words u user_step.ReloadWtail e = inl refl
   user_words u user_step.ReloadCtail e = inl refl
-  user_words u user_step.AddToList e = inl (by (eqb (slice_index ws (lists_at + page_of u % FLUSH_LISTS)) 0) e)
+  user_words u user_step.AddToList e = inl (by (eqb (slice_index ws (lists_at + current_page u % FLUSH_LISTS)) 0) e)
     where
-      by : (b : Bool) → opposite (eqb (heard (cond b (answer.Taken None) answer.Held)) 0) ≡ true → ◌≡◌ {A = List ℕ} (cond b (slice_set ws (lists_at + page_of u % FLUSH_LISTS) 1) ws) ws
+      by : (b : Bool) → opposite (eqb (heard (cond b (answer.Taken None) answer.Held)) 0) ≡ true → ◌≡◌ {A = List ℕ} (cond b (slice_set ws (lists_at + current_page u % FLUSH_LISTS) 1) ws) ws
       by true e = absurd (cc)
       by false e = refl
   user_words u user_step.AwaitMark e = inl refl

@@ -1,10 +1,11 @@
 -- How many words the bytes of a group fill. Words that hold bytes of the stream are counted without those of a block's header.
 use Rattle.std.proofs.Common.{arith, ℕ, ◌%◌, ◌*◌, ◌+◌, ◌-◌, ◌/◌, ◌<◌, ◌≡◌, ◌≤◌}
+use Rattle.model_log.specs.declared.layout.TheConstants.{BLOCK_DATA}
 use Rattle.model_core.specs.Lanes.{left_in_word}
 use Rattle.model_core.specs.Lsn.{lsn}
 
 abbrev pub data_word : ℕ → ℕ
-data_word x = x / 496 * 63 + (x % 496 + 4) / 8
+data_word x = x / BLOCK_DATA * 63 + (x % BLOCK_DATA + 4) / 8
 
 -- two places have one number where they are in one word
 pub same_number : (x y : ℕ) → lsn x / 8 ≡ lsn y / 8 → data_word x ≡ data_word y

@@ -1,6 +1,7 @@
 -- The words of a store are numbered from 0 on, each below how many there are.
 use Rattle.std.proofs.Common.{arith, ℕ, ◌<◌}
-use Rattle.model_core.specs.Layout.{IsWord, index, word_count}
+use Rattle.model_core.specs.Layout.{index}
+use Rattle.model_core.specs.NamedWords.{IsWord, word_count}
 use Rattle.model_core.specs.declared.words.Word.{Word}
 use Rattle.model_core.specs.declared.words.Word.TheVariants as word
 

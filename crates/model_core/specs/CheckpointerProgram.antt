@@ -1,14 +1,17 @@
 -- The program of the checkpointer.
 use Rattle.std.specs.Prelude.{Bool, None, Option, Some, cond, false, min, nat_lt, true, ℕ, ◌+◌, ◌-◌, ◌==◌}
+use Rattle.model_core.specs.ActorProgram.{ActorProgram, opposite}
 use Rattle.model_core.specs.Answers.{on_call, code_of, oldest_in, old_of, on_take, has_taken}
 use Rattle.model_core.specs.Lsn.{floor}
 use Rattle.model_core.specs.States.{CheckpointerState}
 use Rattle.model_core.specs.Tails.{tail_of}
 use Rattle.model_core.specs.declared.ops.Answer.{Answer}
 use Rattle.model_core.specs.declared.ops.Op.{Op}
+use Rattle.model_core.specs.declared.ops.Step.{Step}
 use Rattle.model_core.specs.declared.steps.CheckpointerStep.{CheckpointerStep}
 use Rattle.model_core.specs.declared.words.Word.TheVariants as word
 use Rattle.model_core.specs.declared.ops.Op.TheVariants as op
+use Rattle.model_core.specs.declared.ops.Step.TheVariants as step
 use Rattle.model_core.specs.declared.steps.CheckpointerStep.TheVariants as checkpointer_step
 use Rattle.model_core.specs.declared.limits.TheConstants.{CLOSED_LINKS, FLUSH_LISTS}
 
@@ -52,12 +55,24 @@ checkpointer_took t a checkpointer_step.StoreFailed = record t { step = checkpoi
 checkpointer_took t a checkpointer_step.GiveFailed = record t { step = checkpointer_step.Failed }
 checkpointer_took t a checkpointer_step.Failed = t
 
-abbrev pub checkpointer_checked : CheckpointerState → ℕ → CheckpointerState
-checkpointer_checked t n = cond (n == 0) (record t { checks = false }) (record t { checks = false; code = n; step = checkpointer_step.Failed })
+-- it waits for a flush list, for a higher checkpoint, for the log part
+abbrev pub checkpointer_waits : CheckpointerState → Answer → CheckpointerStep → Bool
+checkpointer_waits t a checkpointer_step.ReadList = opposite (has_taken a)
+checkpointer_waits t a checkpointer_step.LoadFlushed = opposite (is_above t (old_of a))
+checkpointer_waits t a checkpointer_step.TakeDevice = on_take a false false true
+checkpointer_waits t a _ = false
 
--- what an actor's own code computes
-abbrev pub checkpointer_next : CheckpointerState → Op
-checkpointer_next t = cond t.checks (op.Load word.Failed) (checkpointer_op t t.step)
+abbrev pub checkpointer_ending : ℕ → CheckpointerStep → Step
+checkpointer_ending code checkpointer_step.Failed = step.Failed code
+checkpointer_ending code _ = step.Moved
 
-abbrev pub checkpointer_after : CheckpointerState → Answer → CheckpointerState
-checkpointer_after t a = cond t.checks (checkpointer_checked t (old_of a)) (checkpointer_took t a t.step)
+abbrev pub checkpointer_program : ActorProgram CheckpointerState
+checkpointer_program = record {
+  checks = λ t. t.checks;
+  goes_on = λ t. record t { checks = false };
+  fails = λ t n. record t { code = n; step = checkpointer_step.Failed };
+  op = λ t. checkpointer_op t t.step;
+  took = λ t a. checkpointer_took t a t.step;
+  waits = λ t a. checkpointer_waits t a t.step;
+  ending = λ t. checkpointer_ending t.code t.step;
+}

@@ -1,14 +1,17 @@
 -- The program of the cleaner.
-use Rattle.std.specs.Prelude.{[], cond, drop, false, get_or, length, nat_le, true, ℕ, ◌%◌, ◌++◌, ◌+◌, ◌-◌, ◌/◌, ◌==◌, ◌∷◌}
+use Rattle.std.specs.Prelude.{Bool, [], cond, drop, false, get_or, length, nat_le, true, ℕ, ◌%◌, ◌++◌, ◌+◌, ◌-◌, ◌/◌, ◌==◌, ◌∷◌}
+use Rattle.model_core.specs.ActorProgram.{ActorProgram, opposite}
 use Rattle.model_core.specs.Answers.{on_call, code_of, old_of, has_taken}
 use Rattle.model_core.specs.States.{CleanerState, BatchPage}
 use Rattle.model_core.specs.declared.ops.Answer.{Answer}
 use Rattle.model_core.specs.declared.ops.Op.{Op}
+use Rattle.model_core.specs.declared.ops.Step.{Step}
 use Rattle.model_core.specs.declared.steps.CleanerStep.{CleanerStep}
 use Rattle.model_core.specs.declared.words.Word.TheVariants as word
 use Rattle.model_core.specs.declared.ops.Op.TheVariants as op
+use Rattle.model_core.specs.declared.ops.Step.TheVariants as step
 use Rattle.model_core.specs.declared.steps.CleanerStep.TheVariants as cleaner_step
-use Rattle.model_core.specs.declared.limits.TheConstants.{FLUSH_LISTS, FRAME_CELLS, BATCH_PAGES, WORD_LANES}
+use Rattle.model_core.specs.declared.limits.TheConstants.{FLUSH_LISTS, BATCH_PAGES, WORD_LANES}
 unfoldable use Rattle.model_core.specs.Lanes.{lanes}
 
 abbrev pub no_page : BatchPage
@@ -52,7 +55,7 @@ cleaner_took v a cleaner_step.LoadOldest = cond (old_of a == 0) (next_in_round v
 cleaner_took v a cleaner_step.TakeLatch = cond (old_of a == 0) (record v { step = cleaner_step.LoadNewest }) (next_in_round v)
 cleaner_took v a cleaner_step.LoadNewest = cond (nat_le (old_of a) v.flushed) (record v { newest = old_of a; kept = []; step = cleaner_step.LoadFrame }) (record v { step = cleaner_step.ReleaseSkipped })
 cleaner_took v a cleaner_step.ReleaseSkipped = next_in_round v
-cleaner_took v a cleaner_step.LoadFrame = cond (length v.kept + WORD_LANES == FRAME_CELLS) (next_in_round (record v { batch = v.batch ++ page_loaded v (old_of a) ∷ [] })) (record v { kept = v.kept ++ lanes 0 WORD_LANES (old_of a); step = cleaner_step.LoadFrame })
+cleaner_took v a cleaner_step.LoadFrame = cond (length v.kept + WORD_LANES == v.page_size) (next_in_round (record v { batch = v.batch ++ page_loaded v (old_of a) ∷ [] })) (record v { kept = v.kept ++ lanes 0 WORD_LANES (old_of a); step = cleaner_step.LoadFrame })
 cleaner_took v a cleaner_step.WriteBatch = record v { code = code_of a; step = on_call a cleaner_step.RemoveFromList cleaner_step.StoreFailed }
 cleaner_took v a cleaner_step.RemoveFromList = cond (has_taken a) (record v { step = cleaner_step.ClearOldest }) (record v { checks = true; step = cleaner_step.RemoveFromList })
 cleaner_took v a cleaner_step.ClearOldest = record v { step = cleaner_step.GiveList }
@@ -61,12 +64,29 @@ cleaner_took v a cleaner_step.ReleaseLatch = record v { batch = drop 1 v.batch; 
 cleaner_took v a cleaner_step.StoreFailed = record v { step = cleaner_step.Failed }
 cleaner_took v a cleaner_step.Failed = v
 
-abbrev pub cleaner_checked : CleanerState → ℕ → CleanerState
-cleaner_checked v n = cond (n == 0) (record v { checks = false }) (record v { checks = false; code = n; step = cleaner_step.Failed })
+-- the round ends with no page to write
+abbrev pub finds_none : CleanerState → Bool
+finds_none v = cond (v.left == 1) (length v.batch == 0) false
 
--- what an actor's own code computes
-abbrev pub cleaner_next : CleanerState → Op
-cleaner_next v = cond v.checks (op.Load word.Failed) (cleaner_op v v.step)
+-- it waits for a page to write, where its round ends without one; for a flush list
+abbrev pub cleaner_waits : CleanerState → Answer → CleanerStep → Bool
+cleaner_waits v a cleaner_step.LoadOldest = cond (old_of a == 0) (finds_none v) false
+cleaner_waits v a cleaner_step.TakeLatch = cond (old_of a == 0) false (finds_none v)
+cleaner_waits v a cleaner_step.ReleaseSkipped = finds_none v
+cleaner_waits v a cleaner_step.RemoveFromList = opposite (has_taken a)
+cleaner_waits v a _ = false
 
-abbrev pub cleaner_after : CleanerState → Answer → CleanerState
-cleaner_after v a = cond v.checks (cleaner_checked v (old_of a)) (cleaner_took v a v.step)
+abbrev pub cleaner_ending : ℕ → CleanerStep → Step
+cleaner_ending code cleaner_step.Failed = step.Failed code
+cleaner_ending code _ = step.Moved
+
+abbrev pub cleaner_program : ActorProgram CleanerState
+cleaner_program = record {
+  checks = λ v. v.checks;
+  goes_on = λ v. record v { checks = false };
+  fails = λ v n. record v { code = n; step = cleaner_step.Failed };
+  op = λ v. cleaner_op v v.step;
+  took = λ v a. cleaner_took v a v.step;
+  waits = λ v a. cleaner_waits v a v.step;
+  ending = λ v. cleaner_ending v.code v.step;
+}

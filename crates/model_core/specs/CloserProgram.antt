@@ -1,13 +1,15 @@
 -- The program of the closer.
-use Rattle.std.specs.Prelude.{cond, false, ℕ, ◌==◌}
+use Rattle.std.specs.Prelude.{Bool, cond, false, ℕ}
+use Rattle.model_core.specs.ActorProgram.{ActorProgram}
 use Rattle.model_core.specs.Advancing.{advance_next, advance_op, advance_took, ends, stays_put}
 use Rattle.model_core.specs.Answers.{old_of}
 use Rattle.model_core.specs.States.{CloserState}
 use Rattle.model_core.specs.declared.ops.Answer.{Answer}
 use Rattle.model_core.specs.declared.ops.Op.{Op}
+use Rattle.model_core.specs.declared.ops.Step.{Step}
 use Rattle.model_core.specs.declared.steps.CloserStep.{CloserStep}
-use Rattle.model_core.specs.declared.words.Word.TheVariants as word
 use Rattle.model_core.specs.declared.ops.Op.TheVariants as op
+use Rattle.model_core.specs.declared.ops.Step.TheVariants as step
 use Rattle.model_core.specs.declared.steps.AdvanceStep.TheVariants as advance_step
 use Rattle.model_core.specs.declared.steps.CloserStep.TheVariants as closer_step
 use Rattle.model_core.specs.declared.words.LinkBuffer.TheVariants as link_buffer
@@ -24,12 +26,22 @@ closer_took t a (closer_step.Advance v) = record t {
 }
 closer_took t a closer_step.Failed = t
 
-abbrev pub closer_checked : CloserState → ℕ → CloserState
-closer_checked t n = cond (n == 0) (record t { checks = false }) (record t { checks = false; code = n; step = closer_step.Failed })
+-- it waits for a link
+abbrev pub closer_waits : CloserState → Answer → CloserStep → Bool
+closer_waits t a (closer_step.Advance v) = stays_put t.advance (old_of a) v
+closer_waits t a _ = false
 
--- what an actor's own code computes
-abbrev pub closer_next : CloserState → Op
-closer_next t = cond t.checks (op.Load word.Failed) (closer_op t t.step)
+abbrev pub closer_ending : ℕ → CloserStep → Step
+closer_ending code closer_step.Failed = step.Failed code
+closer_ending code _ = step.Moved
 
-abbrev pub closer_after : CloserState → Answer → CloserState
-closer_after t a = cond t.checks (closer_checked t (old_of a)) (closer_took t a t.step)
+abbrev pub closer_program : ActorProgram CloserState
+closer_program = record {
+  checks = λ t. t.checks;
+  goes_on = λ t. record t { checks = false };
+  fails = λ t n. record t { code = n; step = closer_step.Failed };
+  op = λ t. closer_op t t.step;
+  took = λ t a. closer_took t a t.step;
+  waits = λ t a. closer_waits t a t.step;
+  ending = λ t. closer_ending t.code t.step;
+}

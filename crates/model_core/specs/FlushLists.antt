@@ -6,8 +6,8 @@ pub record Listed : Type 0 where
   pub page : ℕ
   pub oldest : ℕ
 
-abbrev pub joined : List Listed → ℕ → ℕ → List Listed
-joined l p x = l ++ (record { page = p; oldest = x }) ∷ []
+abbrev pub appended : List Listed → ℕ → ℕ → List Listed
+appended l p x = l ++ (record { page = p; oldest = x }) ∷ []
 
 -- a list without a page
 abbrev pub without : ℕ → List Listed → List Listed

@@ -1,12 +1,15 @@
 -- The program of the flusher.
-use Rattle.std.specs.Prelude.{cond, false, true, ℕ, ◌==◌}
+use Rattle.std.specs.Prelude.{Bool, cond, false, true, ℕ, ◌==◌}
+use Rattle.model_core.specs.ActorProgram.{ActorProgram}
 use Rattle.model_core.specs.Answers.{on_call, code_of, old_of, on_take}
 use Rattle.model_core.specs.States.{FlusherState}
 use Rattle.model_core.specs.declared.ops.Answer.{Answer}
 use Rattle.model_core.specs.declared.ops.Op.{Op}
+use Rattle.model_core.specs.declared.ops.Step.{Step}
 use Rattle.model_core.specs.declared.steps.FlusherStep.{FlusherStep}
 use Rattle.model_core.specs.declared.words.Word.TheVariants as word
 use Rattle.model_core.specs.declared.ops.Op.TheVariants as op
+use Rattle.model_core.specs.declared.ops.Step.TheVariants as step
 use Rattle.model_core.specs.declared.steps.FlusherStep.TheVariants as flusher_step
 
 abbrev pub flusher_op : FlusherState → FlusherStep → Op
@@ -31,11 +34,23 @@ flusher_took f a flusher_step.StoreFailed = record f { step = flusher_step.GiveF
 flusher_took f a flusher_step.GiveFailed = record f { step = flusher_step.Failed }
 flusher_took f a flusher_step.Failed = f
 
-abbrev pub flusher_checked : FlusherState → ℕ → FlusherState
-flusher_checked f n = cond (n == 0) (record f { checks = false }) (record f { checks = false; code = n; step = flusher_step.Failed })
+-- it waits for something written, for the log part
+abbrev pub flusher_waits : FlusherState → Answer → FlusherStep → Bool
+flusher_waits f a flusher_step.LoadWrite = old_of a == f.last
+flusher_waits f a flusher_step.TakeDevice = on_take a false false true
+flusher_waits f a _ = false
 
-abbrev pub flusher_next : FlusherState → Op
-flusher_next f = cond f.checks (op.Load word.Failed) (flusher_op f f.step)
+abbrev pub flusher_ending : ℕ → FlusherStep → Step
+flusher_ending code flusher_step.Failed = step.Failed code
+flusher_ending code _ = step.Moved
 
-abbrev pub flusher_after : FlusherState → Answer → FlusherState
-flusher_after f a = cond f.checks (flusher_checked f (old_of a)) (flusher_took f a f.step)
+abbrev pub flusher_program : ActorProgram FlusherState
+flusher_program = record {
+  checks = λ f. f.checks;
+  goes_on = λ f. record f { checks = false };
+  fails = λ f n. record f { code = n; step = flusher_step.Failed };
+  op = λ f. flusher_op f f.step;
+  took = λ f a. flusher_took f a f.step;
+  waits = λ f a. flusher_waits f a f.step;
+  ending = λ f. flusher_ending f.code f.step;
+}

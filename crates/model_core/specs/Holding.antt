@@ -49,13 +49,10 @@ checkpointer_holds _ = false
 
 -- whether an actor holds the log part
 abbrev pub holds : Actor → Bool
-holds (actor.User u) = false
 holds (actor.Writer s) = writer_holds s.step
 holds (actor.Flusher f) = flusher_holds f.step
-holds (actor.Closer t) = false
-holds (actor.Cleaner v) = false
 holds (actor.Checkpointer t) = checkpointer_holds t.step
-holds (actor.Joined es) = false
+holds _ = false
 
 -- whether an actor holds the tail of a link buffer: only while it advances it
 abbrev pub user_holds_tail : LinkBuffer → UserStep → Bool

@@ -1,6 +1,6 @@
 -- The eight byte lanes of a word: lane j is worth 256^j. The byte of an lsn stands in the word of its eight, in the lane of
 -- its place there.
-use Rattle.std.specs.Prelude.{List, [], min, replicate, slice_index, ℕ, ◌%◌, ◌++◌, ◌-◌, ◌/◌, ◌∷◌}
+use Rattle.std.specs.Prelude.{List, [], min, replicate, slice_index, take, ℕ, ◌%◌, ◌++◌, ◌-◌, ◌/◌, ◌∷◌}
 use Rattle.std.specs.Int.{byte_at, bytes_low_first, from_le_bytes, w64}
 use Rattle.model_core.specs.Lsn.{lsn}
 use Rattle.model_core.specs.declared.limits.TheConstants.{BUFFER_WORDS, WORD_LANES}
@@ -22,6 +22,10 @@ packed j bytes = from_le_bytes w64 (replicate j 0 ++ bytes)
 abbrev pub frame_bytes : List ℕ → List ℕ
 frame_bytes [] = []
 frame_bytes (w ∷ ws) = lanes 0 WORD_LANES w ++ frame_bytes ws
+
+-- the page of so many bytes that a frame holds: the first of those
+abbrev pub framed_page : ℕ → List ℕ → List ℕ
+framed_page n frame = take n (frame_bytes frame)
 
 -- of a place of the stream: the word of the log buffer in which its byte stands, and the lane there
 abbrev pub cell_of : ℕ → ℕ

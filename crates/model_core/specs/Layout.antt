@@ -1,6 +1,6 @@
 -- Where each word stands in the list of words.
-use Rattle.std.specs.Prelude.{Bool, List, [], get_or, length, slice_index, slice_set, ℕ, ◌*◌, ◌++◌, ◌+◌, ◌<◌, ◌∷◌, ◌≡◌}
-use Rattle.model_core.specs.Tails.{is_held, tail_of, tail_word}
+use Rattle.std.specs.Prelude.{Bool, List, [], get_or, length, ℕ, ◌*◌, ◌++◌, ◌+◌, ◌<◌, ◌∷◌, ◌≡◌}
+use Rattle.model_core.specs.Tails.{tail_word}
 use Rattle.model_core.specs.declared.words.Word.{Word}
 use Rattle.model_core.specs.declared.words.Word.TheVariants as word
 use Rattle.model_core.specs.declared.limits.TheConstants.{BUFFER_BLOCKS, BUFFER_WORDS, WRITTEN_LINKS, CLOSED_LINKS, FLUSH_LISTS, FRAME_WORDS}
@@ -34,10 +34,6 @@ frame_at = 3
 abbrev pub page_stride : ℕ
 page_stride = frame_at + FRAME_WORDS
 
--- how many words a store of so many pages has
-abbrev pub word_count : ℕ → ℕ
-word_count pages = pages_at + pages * page_stride
-
 abbrev pub index : Word → ℕ
 index word.Sn = 0
 index word.Write = 1
@@ -56,19 +52,6 @@ index (word.Latch p) = pages_at + p * page_stride
 index (word.Newest p) = pages_at + (p * page_stride + 1)
 index (word.Oldest p) = pages_at + (p * page_stride + 2)
 index (word.Frame p i) = pages_at + (p * page_stride + (frame_at + i))
-
--- the word is one of a store of so many pages
-abbrev pub IsWord : ℕ → Word → Type 0
-IsWord pages (word.List i) = i < FLUSH_LISTS
-IsWord pages (word.Wlink i) = i < WRITTEN_LINKS
-IsWord pages (word.Clink i) = i < CLOSED_LINKS
-IsWord pages (word.Cell i) = i < BUFFER_WORDS
-IsWord pages (word.First i) = i < BUFFER_BLOCKS
-IsWord pages (word.Latch p) = p < pages
-IsWord pages (word.Newest p) = p < pages
-IsWord pages (word.Oldest p) = p < pages
-IsWord pages (word.Frame p i) = (p < pages) × (i < FRAME_WORDS)
-IsWord pages _ = Unit {0}
 
 -- a page's words
 pub record PageWords : Type 0 where
@@ -121,44 +104,3 @@ rows m = m.lists ++ (m.wlinks ++ (m.clinks ++ (m.cells ++ (m.firsts ++ flat_page
 
 abbrev pub flat : SharedWords → List ℕ
 flat m = m.sn ∷ m.write ∷ tail_word m.wtail m.wheld ∷ m.flushed ∷ m.ckpt ∷ tail_word m.ctail m.cheld ∷ m.failed ∷ m.device ∷ rows m
-
-abbrev pub read : SharedWords → Word → ℕ
-read m word.Sn = m.sn
-read m word.Write = m.write
-read m word.Wtail = tail_word m.wtail m.wheld
-read m word.Flushed = m.flushed
-read m word.Ckpt = m.ckpt
-read m word.Ctail = tail_word m.ctail m.cheld
-read m word.Failed = m.failed
-read m word.Device = m.device
-read m (word.List i) = slice_index m.lists i
-read m (word.Wlink i) = slice_index m.wlinks i
-read m (word.Clink i) = slice_index m.clinks i
-read m (word.Cell i) = slice_index m.cells i
-read m (word.First i) = slice_index m.firsts i
-read m (word.Latch p) = (page_words_at m.page_words p).latch
-read m (word.Newest p) = (page_words_at m.page_words p).newest
-read m (word.Oldest p) = (page_words_at m.page_words p).oldest
-read m (word.Frame p i) = slice_index (page_words_at m.page_words p).frame i
-
-abbrev pub with_page_words : SharedWords → ℕ → PageWords → SharedWords
-with_page_words m p w = record m { page_words = slice_set m.page_words p w }
-
-abbrev pub wrote : SharedWords → Word → ℕ → SharedWords
-wrote m word.Sn x = record m { sn = x }
-wrote m word.Write x = record m { write = x }
-wrote m word.Wtail x = record m { wtail = tail_of x; wheld = is_held x }
-wrote m word.Flushed x = record m { flushed = x }
-wrote m word.Ckpt x = record m { ckpt = x }
-wrote m word.Ctail x = record m { ctail = tail_of x; cheld = is_held x }
-wrote m word.Failed x = record m { failed = x }
-wrote m word.Device x = record m { device = x }
-wrote m (word.List i) x = record m { lists = slice_set m.lists i x }
-wrote m (word.Wlink i) x = record m { wlinks = slice_set m.wlinks i x }
-wrote m (word.Clink i) x = record m { clinks = slice_set m.clinks i x }
-wrote m (word.Cell i) x = record m { cells = slice_set m.cells i x }
-wrote m (word.First i) x = record m { firsts = slice_set m.firsts i x }
-wrote m (word.Latch p) x = with_page_words m p (record (page_words_at m.page_words p) { latch = x })
-wrote m (word.Newest p) x = with_page_words m p (record (page_words_at m.page_words p) { newest = x })
-wrote m (word.Oldest p) x = with_page_words m p (record (page_words_at m.page_words p) { oldest = x })
-wrote m (word.Frame p i) x = with_page_words m p (record (page_words_at m.page_words p) { frame = slice_set (page_words_at m.page_words p).frame i x })

@@ -1,3 +1,4 @@
+pub mod ActorProgram
 pub mod Actors
 pub mod Advancing
 pub mod AnswerFits
@@ -12,40 +13,48 @@ pub mod Fitting
 pub mod FlushLists
 pub mod FlusherProgram
 pub mod Groups
+pub mod Hands
 pub mod Holding
 pub mod Lanes
+pub mod Later
 pub mod Layout
 pub mod LogSide
 pub mod Lsn
+pub mod NamedTurn
+pub mod NamedWords
 pub mod NewActors
 pub mod Program
 pub mod Setup
 pub mod StartWords
 pub mod States
+pub mod Stream
 pub mod Tails
 pub mod Turn
 pub mod UserProgram
 pub mod Waiting
 pub mod WordTurn
 pub mod WriterProgram
+pub use Rattle.model_core.specs.ActorProgram.{after_of, checked_of}
 pub use Rattle.model_core.specs.Actors.{Actor, Batch, Blocks, Lent, Nothing}
 pub use Rattle.model_core.specs.Advancing.{advance_holds, advance_next, advance_op, advance_took, ends, frees, loaded_tail, slot_at, stays_put, tail_at}
 pub use Rattle.model_core.specs.AnswerFits.{PageFitting, cleaner_fits, closer_fits, user_page_fits}
 pub use Rattle.model_core.specs.Answers.{code_of, has_taken, heard, old_of, oldest_in}
 pub use Rattle.model_core.specs.Changes.{after_from, cell_where_same, change_on, changed_cells, changes_of, line_of, value_at, writes}
 unfoldable pub use Rattle.model_core.specs.Changes.{collected}
-pub use Rattle.model_core.specs.CheckpointerProgram.{candidate, checkpointer_after, checkpointer_checked, checkpointer_next, checkpointer_op, checkpointer_took, is_above, lowered}
-pub use Rattle.model_core.specs.CleanerProgram.{cleaner_after, cleaner_checked, cleaner_next, cleaner_op, cleaner_took, end_round, first_of_batch, next_in_round, no_page, page_loaded}
-pub use Rattle.model_core.specs.CloserProgram.{closer_after, closer_checked, closer_next, closer_op, closer_took}
+pub use Rattle.model_core.specs.CheckpointerProgram.{candidate, checkpointer_ending, checkpointer_op, checkpointer_program, checkpointer_took, checkpointer_waits, is_above, lowered}
+pub use Rattle.model_core.specs.CleanerProgram.{cleaner_ending, cleaner_op, cleaner_program, cleaner_took, cleaner_waits, end_round, finds_none, first_of_batch, next_in_round, no_page, page_loaded}
+pub use Rattle.model_core.specs.CloserProgram.{closer_ending, closer_op, closer_program, closer_took, closer_waits}
 pub use Rattle.model_core.specs.FailureCodes.{IsDataCode, IsLogCode, data_device_code, log_device_code, no_memory_code}
 pub use Rattle.model_core.specs.Fitting.{advance_fits, answer_limit, user_fits, writer_fits}
-pub use Rattle.model_core.specs.FlushLists.{Each, Listed, Relaxed, joined, oldest_end, oldest_of, without}
-pub use Rattle.model_core.specs.FlusherProgram.{flusher_after, flusher_checked, flusher_next, flusher_op, flusher_took}
-pub use Rattle.model_core.specs.Groups.{CellWrite, Entry, IsBound, IsLent, KeptPage, PageChange, Tiles, byte_at, crosses, crossing, end_of, first_of, stream, sum_of}
+pub use Rattle.model_core.specs.FlushLists.{Each, Listed, Relaxed, appended, oldest_end, oldest_of, without}
+pub use Rattle.model_core.specs.FlusherProgram.{flusher_ending, flusher_op, flusher_program, flusher_took, flusher_waits}
+pub use Rattle.model_core.specs.Groups.{CellWrite, Entry, KeptPage, PageChange, end_of}
+pub use Rattle.model_core.specs.Stream.{IsBound, IsLent, Tiles, byte_at, crosses, crossing, first_of, stream, sum_of}
 pub use Rattle.model_core.specs.Holding.{ChecksWithoutTail, HasHolder, advance_of, checkpointer_holds, flusher_holds, holds, holds_tail, writer_holds}
-pub use Rattle.model_core.specs.Lanes.{byte_in, cell_of, frame_bytes, lane_of, left_in_word}
+pub use Rattle.model_core.specs.Lanes.{byte_in, cell_of, frame_bytes, framed_page, lane_of, left_in_word}
 unfoldable pub use Rattle.model_core.specs.Lanes.{lane, lanes, packed}
-pub use Rattle.model_core.specs.Layout.{IsSized, IsWord, PageWords, SharedWords, blank_words, cells_at, closed_links_at, firsts_at, flat, flat_page_words, index, page_stride, page_words_at, pages_at, read, rows, with_page_words, word_count, wrote}
+pub use Rattle.model_core.specs.Layout.{IsSized, PageWords, SharedWords, blank_words, cells_at, closed_links_at, firsts_at, flat, flat_page_words, index, page_stride, page_words_at, pages_at, rows}
+pub use Rattle.model_core.specs.NamedWords.{IsWord, read, with_page_words, word_count, wrote}
 pub use Rattle.model_core.specs.Lsn.{ceiling, floor}
 unfoldable pub use Rattle.model_core.specs.Lsn.{lsn}
 pub use Rattle.model_core.specs.NewActors.{new_checkpointer, new_cleaner, new_closer, new_flusher, new_user, new_writer}
@@ -54,7 +63,8 @@ pub use Rattle.model_core.specs.Setup.{IsScripted}
 pub use Rattle.model_core.specs.States.{Advance, BatchPage, CheckpointerState, CleanerState, CloserState, FlusherState, Line, LoadedMarks, UserState, WriterState, no_advance, none_loaded}
 pub use Rattle.model_core.specs.Tails.{is_held, tail_of, tail_word}
 pub use Rattle.model_core.specs.Turn.{Core, DataServed, LogServed, list_word}
-pub use Rattle.model_core.specs.UserProgram.{after_link, answered, can_close, can_link, cells_of, change_at, changes, copy_place, frame_count, frame_word, group_bytes, group_end, has_passed, has_room, has_space, is_whole, line, line_at, mode, next_bytes, next_count, next_puts, page_of, put_lanes, put_of, same_word, stored_word, to_next_page, user_advanced, user_checked, user_next, user_op, user_took, with_close_room, with_link_room, with_mark, without_close_room, without_link_room, word_step}
-pub use Rattle.model_core.specs.Waiting.{checkpointer_ending, checkpointer_waits, cleaner_ending, cleaner_waits, closer_ending, closer_waits, finds_none, flusher_ending, flusher_waits, step_of, user_ending, user_waits, writer_ending, writer_waits}
-pub use Rattle.model_core.specs.WordTurn.{OnWord, OpWords, after, answer_of, found, list_answer, lists_left, shared_answer, shared_left, word_found, words_after, words_left}
-pub use Rattle.model_core.specs.WriterProgram.{finds_no_more, full_blocks, has_log_space, has_whole_word, read_place, stands_outside, tail_after, word_end, writer_after, writer_checked, writer_next, writer_op, writer_took}
+pub use Rattle.model_core.specs.UserProgram.{after_link, answered, can_close, can_link, cells_of, change_at, changes, copy_place, current_page, frame_count, frame_word, group_bytes, group_end, has_passed, has_room, has_space, is_whole, line, line_at, mode, next_bytes, next_count, next_puts, put_lanes, put_of, same_word, stored_word, to_next_page, user_advanced, user_ending, user_op, user_program, user_took, user_waits, with_close_room, with_link_room, with_mark, without_close_room, without_link_room, word_step}
+pub use Rattle.model_core.specs.Waiting.{step_of}
+pub use Rattle.model_core.specs.WordTurn.{answer_of, list_answer, lists_left, word_found, words_after, words_left}
+pub use Rattle.model_core.specs.NamedTurn.{OnWord, OpWords, after, found, shared_answer, shared_left}
+pub use Rattle.model_core.specs.WriterProgram.{finds_no_more, full_blocks, has_log_space, has_whole_word, read_place, stands_outside, tail_after, word_end, writer_ending, writer_op, writer_program, writer_took, writer_waits}

@@ -1,15 +1,16 @@
--- The programs of all actors. An actor that checks loads FAILED, and ends where it finds a code there.
+-- The actors with their programs: what each has, and its next Op.
 use Rattle.std.specs.Prelude.{Bool, List, [], cond, false, ℕ, ◌++◌, ◌+◌, ◌∷◌}
+use Rattle.model_core.specs.ActorProgram.{ActorProgram, checked_of}
 use Rattle.model_core.specs.Actors.{Actor, Batch, Blocks, Lent, Nothing}
-use Rattle.model_core.specs.Answers.{heard, old_of}
-use Rattle.model_core.specs.CheckpointerProgram.{checkpointer_op, checkpointer_checked, checkpointer_took}
-use Rattle.model_core.specs.CleanerProgram.{cleaner_op, cleaner_checked, cleaner_took}
-use Rattle.model_core.specs.CloserProgram.{closer_op, closer_checked, closer_took}
-use Rattle.model_core.specs.FlusherProgram.{flusher_op, flusher_checked, flusher_took}
+use Rattle.model_core.specs.Answers.{old_of}
+use Rattle.model_core.specs.CheckpointerProgram.{checkpointer_program}
+use Rattle.model_core.specs.CleanerProgram.{cleaner_program}
+use Rattle.model_core.specs.CloserProgram.{closer_program}
+use Rattle.model_core.specs.FlusherProgram.{flusher_program}
 use Rattle.model_core.specs.Groups.{Entry}
 use Rattle.model_core.specs.States.{Line, UserState}
-use Rattle.model_core.specs.UserProgram.{line, line_at, user_op, user_checked, user_took}
-use Rattle.model_core.specs.WriterProgram.{writer_op, writer_checked, writer_took}
+use Rattle.model_core.specs.UserProgram.{line, line_at, user_program}
+use Rattle.model_core.specs.WriterProgram.{writer_program}
 use Rattle.model_core.specs.declared.ops.Answer.{Answer}
 use Rattle.model_core.specs.declared.ops.Op.{Op}
 use Rattle.model_core.specs.declared.steps.UserStep.{UserStep}
@@ -18,47 +19,34 @@ use Rattle.model_core.specs.declared.ops.Op.TheVariants as op
 use Rattle.model_core.specs.declared.steps.UserStep.TheVariants as user_step
 use Rattle.model_core.specs.Actors as actor
 
+-- What is asked of an actor's case, its program and its state, and of the groups of a joined seat: the one place that names the
+-- program of each case.
+abbrev pub by_program : {R : Type 0} → ((S : Type 0) → (S → Actor) → ActorProgram S → S → R) → (List Entry → R) → Actor → R
+by_program f g (actor.User u) = f _ actor.User user_program u
+by_program f g (actor.Writer s) = f _ actor.Writer writer_program s
+by_program f g (actor.Flusher t) = f _ actor.Flusher flusher_program t
+by_program f g (actor.Closer t) = f _ actor.Closer closer_program t
+by_program f g (actor.Cleaner v) = f _ actor.Cleaner cleaner_program v
+by_program f g (actor.Checkpointer t) = f _ actor.Checkpointer checkpointer_program t
+by_program f g (actor.Joined es) = g es
+
 -- its next Op is a load of FAILED
 abbrev pub is_checking : Actor → Bool
-is_checking (actor.User u) = u.checks
-is_checking (actor.Writer s) = s.checks
-is_checking (actor.Flusher f) = f.checks
-is_checking (actor.Closer t) = t.checks
-is_checking (actor.Cleaner v) = v.checks
-is_checking (actor.Checkpointer t) = t.checks
-is_checking (actor.Joined es) = false
+is_checking = by_program (λ _ _ p s. p.checks s) (λ es. false)
 
 -- the Op of its step, and its next Op
 abbrev pub own_op : Actor → Op
-own_op (actor.User u) = user_op u u.step
-own_op (actor.Writer s) = writer_op s s.step
-own_op (actor.Flusher f) = flusher_op f f.step
-own_op (actor.Closer t) = closer_op t t.step
-own_op (actor.Cleaner v) = cleaner_op v v.step
-own_op (actor.Checkpointer t) = checkpointer_op t t.step
-own_op (actor.Joined es) = op.Rest
+own_op = by_program (λ _ _ p s. p.op s) (λ es. op.Rest)
 
 abbrev pub next : Actor → Op
 next a = cond (is_checking a) (op.Load word.Failed) (own_op a)
 
 -- its state after a load of FAILED, after the Op of its step, and after its next Op
 abbrev pub checked : Actor → ℕ → Actor
-checked (actor.User u) n = actor.User (user_checked u n)
-checked (actor.Writer s) n = actor.Writer (writer_checked s n)
-checked (actor.Flusher f) n = actor.Flusher (flusher_checked f n)
-checked (actor.Closer t) n = actor.Closer (closer_checked t n)
-checked (actor.Cleaner v) n = actor.Cleaner (cleaner_checked v n)
-checked (actor.Checkpointer t) n = actor.Checkpointer (checkpointer_checked t n)
-checked (actor.Joined es) n = actor.Joined es
+checked a n = by_program (λ _ case p s. case (checked_of p s n)) actor.Joined a
 
 abbrev pub own_took : Actor → Answer → Actor
-own_took (actor.User u) a = actor.User (user_took u (heard a) u.step)
-own_took (actor.Writer s) a = actor.Writer (writer_took s a s.step)
-own_took (actor.Flusher f) a = actor.Flusher (flusher_took f a f.step)
-own_took (actor.Closer t) a = actor.Closer (closer_took t a t.step)
-own_took (actor.Cleaner v) a = actor.Cleaner (cleaner_took v a v.step)
-own_took (actor.Checkpointer t) a = actor.Checkpointer (checkpointer_took t a t.step)
-own_took (actor.Joined es) a = actor.Joined es
+own_took a r = by_program (λ _ case p s. case (p.took s r)) actor.Joined a
 
 abbrev pub took : Actor → Answer → Actor
 took a r = cond (is_checking a) (checked a (old_of r)) (own_took a r)

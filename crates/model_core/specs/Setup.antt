@@ -1,15 +1,16 @@
 -- What never changes in a run.
 use Rattle.std.specs.Prelude.{Bool, List, [], false, get_or, length, true, ℕ, ◌<◌, ◌≡◌, ◌≢◌}
+use Rattle.model_base.specs.{IsPageSize}
 use Rattle.model_core.specs.Groups.{KeptPage, PageChange}
 use Rattle.model_core.specs.States.{Line}
 use Rattle.model_core.specs.UserProgram.{change_at, line_at}
-use Rattle.model_core.specs.declared.limits.TheConstants.{FRAME_CELLS}
 
--- the sn of the run's start, the blocks of the log's ring, the pages, whether the log runs alone, and the lines of each user
+-- the sn of the run's start, the blocks of the log's ring, the pages and their size, whether the log runs alone, and the lines of each user
 pub record Setup : Type 0 where
   pub base : ℕ
   pub blocks : ℕ
   pub pages : ℕ
+  pub page_size : ℕ
   pub log_only : Bool
   pub script : ℕ → List Line
   -- each page as the run found it
@@ -24,9 +25,10 @@ pub record IsScripted (c : Setup) : Type 0 where
   pub alone : c.log_only ≡ true → (user j : ℕ) → ◌≡◌ {A = List PageChange} (line_at (c.script user) j).changes []
   pub some_page : c.log_only ≡ false → (user j : ℕ) → j < length (c.script user) → 0 < length (line_at (c.script user) j).changes
   pub there : (user j k : ℕ) → k < length (line_at (c.script user) j).changes → (change_at (line_at (c.script user) j).changes k).page < c.pages
-  -- each page once, and cells of its frame
+  pub page_size : IsPageSize c.page_size
+  -- each page once, and bytes of it
   pub apart : (user j i k : ℕ) → i < k → k < length (line_at (c.script user) j).changes → (change_at (line_at (c.script user) j).changes i).page ≢ (change_at (line_at (c.script user) j).changes k).page
-  pub within : (user j k i : ℕ) → k < length (line_at (c.script user) j).changes → (get_or (change_at (line_at (c.script user) j).changes k).cells i (record { at = 0; value = 0 })).at < FRAME_CELLS
+  pub within : (user j k i : ℕ) → k < length (line_at (c.script user) j).changes → (get_or (change_at (line_at (c.script user) j).changes k).cells i (record { at = 0; value = 0 })).at < c.page_size
   -- ascending
   pub ascending : (user j k a b : ℕ) → a < b → b < length (change_at (line_at (c.script user) j).changes k).cells → (get_or (change_at (line_at (c.script user) j).changes k).cells a (record { at = 0; value = 0 })).at < (get_or (change_at (line_at (c.script user) j).changes k).cells b (record { at = 0; value = 0 })).at
   pub are_bytes : (user j k i : ℕ) → (get_or (change_at (line_at (c.script user) j).changes k).cells i (record { at = 0; value = 0 })).value < 256

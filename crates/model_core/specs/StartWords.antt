@@ -1,6 +1,6 @@
 -- The words of a store as a run begins.
 use Rattle.std.specs.Prelude.{cond, false, slice_index, ℕ, ◌%◌, ◌+◌, ◌-◌, ◌/◌, ◌<◌, ◌==◌, ◌≡◌, ◌≤◌}
-use Rattle.model_core.specs.Lanes.{frame_bytes}
+use Rattle.model_core.specs.Lanes.{framed_page}
 use Rattle.model_core.specs.Layout.{IsSized, page_words_at, PageWords, SharedWords}
 use Rattle.model_core.specs.Lsn.{lsn}
 use Rattle.model_core.specs.Setup.{Setup}
@@ -31,7 +31,7 @@ pub record StartWords (c : Setup) (m : SharedWords) : Type 0 where
 -- the words of the pages: each page is free, unlisted, and as it was opened
 pub record StartPageWords (c : Setup) (m : SharedWords) : Type 0 where
   pub page_words : (p : ℕ) → p < c.pages → ◌≡◌ {A = PageWords} (page_words_at m.page_words p) (record { latch = 0; newest = 0; oldest = 0; frame = (page_words_at m.page_words p).frame })
-  pub frames : (p : ℕ) → p < c.pages → frame_bytes (page_words_at m.page_words p).frame ≡ (c.opened p).bytes
+  pub frames : (p : ℕ) → p < c.pages → framed_page c.page_size (page_words_at m.page_words p).frame ≡ (c.opened p).bytes
   pub early : (p : ℕ) → p < c.pages → (c.opened p).lsn ≤ lsn c.base
   pub ctail : m.ctail ≡ lsn c.base
   pub cheld : m.cheld ≡ false

@@ -99,9 +99,10 @@ pub record BatchPage : Type 0 where
   pub bytes : List ℕ
 
 -- The cleaner. `flushed` is the round's loaded FLUSHED; `page` is looked at now, and `left` pages with it are left in the
--- round; of the page latched now, `newest` is loaded and `kept` are its first cells.
+-- round; of the page latched now, `newest` is loaded and `kept` are its first bytes.
 pub record CleanerState : Type 0 where
   pub pages : ℕ
+  pub page_size : ℕ
   pub flushed : ℕ
   pub page : ℕ
   pub left : ℕ

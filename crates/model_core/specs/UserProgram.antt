@@ -1,6 +1,8 @@
 -- The program of a user: its next Op, and its state after the answer.
 use Rattle.std.specs.Prelude.{Bool, List, [], cond, drop, false, get_or, length, min, nat_le, nat_lt, slice_set, suc, take, true, ℕ, ◌%◌, ◌*◌, ◌++◌, ◌+◌, ◌-◌, ◌/◌, ◌==◌, ◌∷◌}
+use Rattle.model_core.specs.ActorProgram.{ActorProgram, opposite}
 use Rattle.model_core.specs.Advancing.{advance_next, advance_op, advance_took, frees, loaded_tail, stays_put}
+use Rattle.model_core.specs.Answers.{heard}
 use Rattle.model_core.specs.Groups.{PageChange, CellWrite}
 use Rattle.model_core.specs.Lanes.{cell_of, lane_of, left_in_word}
 unfoldable use Rattle.model_core.specs.Lanes.{lanes, packed}
@@ -8,10 +10,12 @@ use Rattle.model_core.specs.Lsn.{floor, lsn}
 use Rattle.model_core.specs.States.{Line, LoadedMarks, UserState}
 use Rattle.model_core.specs.Tails.{tail_of}
 use Rattle.model_core.specs.declared.ops.Op.{Op}
+use Rattle.model_core.specs.declared.ops.Step.{Step}
 use Rattle.model_core.specs.declared.steps.AdvanceStep.{AdvanceStep}
 use Rattle.model_core.specs.declared.steps.UserStep.{UserStep}
 use Rattle.model_core.specs.declared.words.Word.TheVariants as word
 use Rattle.model_core.specs.declared.ops.Op.TheVariants as op
+use Rattle.model_core.specs.declared.ops.Step.TheVariants as step
 use Rattle.model_core.specs.declared.steps.AdvanceStep.TheVariants as advance_step
 use Rattle.model_core.specs.declared.steps.UserStep.TheVariants as user_step
 use Rattle.model_core.specs.declared.words.LinkBuffer.TheVariants as link_buffer
@@ -36,8 +40,8 @@ changes u = (line_at u.lines u.k).changes
 abbrev pub change_at : List PageChange → ℕ → PageChange
 change_at cs i = get_or cs i (record { page = 0; cells = [] })
 
-abbrev pub page_of : UserState → ℕ
-page_of u = (change_at (changes u) u.page).page
+abbrev pub current_page : UserState → ℕ
+current_page u = (change_at (changes u) u.page).page
 
 abbrev pub cells_of : UserState → List CellWrite
 cells_of u = (change_at (changes u) u.page).cells
@@ -95,7 +99,7 @@ next_bytes u = take (next_count u) (drop u.copied (group_bytes u))
 abbrev pub user_op : UserState → UserStep → Op
 user_op u user_step.LoadCheckpoint = op.Load word.Ckpt
 user_op u user_step.LoadSn = op.Load word.Sn
-user_op u user_step.TakeLatch = op.Swap (word.Latch (page_of u)) 0 1
+user_op u user_step.TakeLatch = op.Swap (word.Latch (current_page u)) 0 1
 user_op u user_step.Reserve = op.Add word.Sn (length (group_bytes u))
 user_op u user_step.LoadWrite = op.Load word.Write
 user_op u user_step.AddCell = op.Add (word.Cell (cell_of (copy_place u))) (packed (lane_of (copy_place u)) (next_bytes u))
@@ -107,15 +111,15 @@ user_op u user_step.StoreLink = op.Store (word.Wlink (lsn u.start % WRITTEN_LINK
 user_op u user_step.LoadCtail = op.Load word.Ctail
 user_op u (user_step.AdvanceClosed s) = advance_op link_buffer.Closed u.advance s
 user_op u user_step.ReloadCtail = op.Load word.Ctail
-user_op u user_step.LoadFrame = op.Load (word.Frame (page_of u) (frame_word u))
-user_op u user_step.StoreFrame = op.Store (word.Frame (page_of u) (frame_word u)) (stored_word u)
-user_op u user_step.StoreNewest = op.Store (word.Newest (page_of u)) (lsn (group_end u))
-user_op u user_step.LoadOldest = op.Load (word.Oldest (page_of u))
-user_op u user_step.AddToList = op.TakeAdd (page_of u) (lsn u.start)
-user_op u user_step.StoreOldest = op.Store (word.Oldest (page_of u)) (lsn u.start)
-user_op u user_step.GiveList = op.GiveList (page_of u % FLUSH_LISTS)
+user_op u user_step.LoadFrame = op.Load (word.Frame (current_page u) (frame_word u))
+user_op u user_step.StoreFrame = op.Store (word.Frame (current_page u) (frame_word u)) (stored_word u)
+user_op u user_step.StoreNewest = op.Store (word.Newest (current_page u)) (lsn (group_end u))
+user_op u user_step.LoadOldest = op.Load (word.Oldest (current_page u))
+user_op u user_step.AddToList = op.TakeAdd (current_page u) (lsn u.start)
+user_op u user_step.StoreOldest = op.Store (word.Oldest (current_page u)) (lsn u.start)
+user_op u user_step.GiveList = op.GiveList (current_page u % FLUSH_LISTS)
 user_op u user_step.StoreClosedLink = op.Store (word.Clink (lsn u.start % CLOSED_LINKS)) (lsn (group_end u) - lsn u.start)
-user_op u user_step.ReleaseLatch = op.Store (word.Latch (page_of u)) 0
+user_op u user_step.ReleaseLatch = op.Store (word.Latch (current_page u)) 0
 user_op u user_step.AwaitMark = op.Load (cond (mode u == 1) word.Flushed word.Write)
 user_op u user_step.Done = op.Rest
 user_op u user_step.Failed = op.Rest
@@ -207,12 +211,32 @@ user_took u n user_step.AwaitMark = cond (has_passed u n) (answered (record u { 
 user_took u n user_step.Done = u
 user_took u n user_step.Failed = u
 
-abbrev pub user_checked : UserState → ℕ → UserState
-user_checked u n = cond (n == 0) (record u { checks = false }) (record u { checks = false; code = n; step = user_step.Failed })
+-- it waits for space in the log, a latch, room in the three buffers, a flush list, its mark
+abbrev pub user_waits : UserState → ℕ → UserStep → Bool
+user_waits u n user_step.LoadSn = opposite (has_space u n)
+user_waits u n user_step.TakeLatch = opposite (n == 0)
+user_waits u n user_step.LoadWrite = opposite (has_room u n)
+user_waits u n (user_step.AdvanceWritten s) = stays_put u.advance n s
+user_waits u n user_step.ReloadWtail = opposite (can_link u (tail_of n))
+user_waits u n (user_step.AdvanceClosed s) = stays_put u.advance n s
+user_waits u n user_step.ReloadCtail = opposite (can_close u (tail_of n))
+user_waits u n user_step.AddToList = opposite (n == 0)
+user_waits u n user_step.AwaitMark = opposite (has_passed u n)
+user_waits u n _ = false
 
--- what an actor's own code computes
-abbrev pub user_next : UserState → Op
-user_next u = cond u.checks (op.Load word.Failed) (user_op u u.step)
+-- whether it has ended, and how
+abbrev pub user_ending : ℕ → UserStep → Step
+user_ending code user_step.Done = step.Ended
+user_ending code user_step.Failed = step.Failed code
+user_ending code _ = step.Moved
 
-abbrev pub user_after : UserState → ℕ → UserState
-user_after u n = cond u.checks (user_checked u n) (user_took u n u.step)
+abbrev pub user_program : ActorProgram UserState
+user_program = record {
+  checks = λ u. u.checks;
+  goes_on = λ u. record u { checks = false };
+  fails = λ u n. record u { code = n; step = user_step.Failed };
+  op = λ u. user_op u u.step;
+  took = λ u a. user_took u (heard a) u.step;
+  waits = λ u a. user_waits u (heard a) u.step;
+  ending = λ u. user_ending u.code u.step;
+}

@@ -1,5 +1,6 @@
 -- The program of the writer.
 use Rattle.std.specs.Prelude.{Bool, [], cond, drop, false, length, nat_le, true, ℕ, ◌%◌, ◌*◌, ◌++◌, ◌+◌, ◌-◌, ◌/◌, ◌==◌, ◌∷◌}
+use Rattle.model_core.specs.ActorProgram.{ActorProgram, opposite}
 use Rattle.model_core.specs.Advancing.{advance_next, advance_op, advance_took, ends}
 use Rattle.model_core.specs.Answers.{on_call, code_of, old_of, on_take}
 use Rattle.model_core.specs.Lanes.{cell_of, lane_of, left_in_word}
@@ -9,10 +10,12 @@ use Rattle.model_core.specs.States.{WriterState}
 use Rattle.model_core.specs.Tails.{tail_of}
 use Rattle.model_core.specs.declared.ops.Answer.{Answer}
 use Rattle.model_core.specs.declared.ops.Op.{Op}
+use Rattle.model_core.specs.declared.ops.Step.{Step}
 use Rattle.model_core.specs.declared.steps.AdvanceStep.{AdvanceStep}
 use Rattle.model_core.specs.declared.steps.WriterStep.{WriterStep}
 use Rattle.model_core.specs.declared.words.Word.TheVariants as word
 use Rattle.model_core.specs.declared.ops.Op.TheVariants as op
+use Rattle.model_core.specs.declared.ops.Step.TheVariants as step
 use Rattle.model_core.specs.declared.steps.AdvanceStep.TheVariants as advance_step
 use Rattle.model_core.specs.declared.steps.WriterStep.TheVariants as writer_step
 use Rattle.model_core.specs.declared.words.LinkBuffer.TheVariants as link_buffer
@@ -104,11 +107,24 @@ writer_took s a writer_step.StoreFailed = record s { step = writer_step.GiveFail
 writer_took s a writer_step.GiveFailed = record s { step = writer_step.Failed }
 writer_took s a writer_step.Failed = s
 
-abbrev pub writer_checked : WriterState → ℕ → WriterState
-writer_checked s n = cond (n == 0) (record s { checks = false }) (record s { checks = false; code = n; step = writer_step.Failed })
+-- it waits for a tail above WRITE, for space in the log, for the log part
+abbrev pub writer_waits : WriterState → Answer → WriterStep → Bool
+writer_waits s a (writer_step.Advance v) = finds_no_more s (old_of a) v
+writer_waits s a writer_step.LoadCheckpoint = opposite (has_log_space s (old_of a))
+writer_waits s a writer_step.TakeDevice = on_take a false false true
+writer_waits s a _ = false
 
-abbrev pub writer_next : WriterState → Op
-writer_next s = cond s.checks (op.Load word.Failed) (writer_op s s.step)
+abbrev pub writer_ending : ℕ → WriterStep → Step
+writer_ending code writer_step.Failed = step.Failed code
+writer_ending code _ = step.Moved
 
-abbrev pub writer_after : WriterState → Answer → WriterState
-writer_after s a = cond s.checks (writer_checked s (old_of a)) (writer_took s a s.step)
+abbrev pub writer_program : ActorProgram WriterState
+writer_program = record {
+  checks = λ s. s.checks;
+  goes_on = λ s. record s { checks = false };
+  fails = λ s n. record s { code = n; step = writer_step.Failed };
+  op = λ s. writer_op s s.step;
+  took = λ s a. writer_took s a s.step;
+  waits = λ s a. writer_waits s a s.step;
+  ending = λ s. writer_ending s.code s.step;
+}

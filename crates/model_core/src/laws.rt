@@ -2,7 +2,8 @@
 ghost use Rattle.std.specs.Prelude.{◌≡◌, ◌<◌, ◌⊎◌, ℕ, Bool, List, false, true};
 ghost use Rattle.model_core.specs.Actors.{Actor};
 ghost use Rattle.model_core.specs.FlushLists.{Listed};
-ghost use Rattle.model_core.specs.Layout.{IsWord, index, word_count};
+ghost use Rattle.model_core.specs.Layout.{index};
+ghost use Rattle.model_core.specs.NamedWords.{IsWord, word_count};
 ghost use Rattle.model_core.specs.Holding.{ChecksWithoutTail, holds_tail};
 ghost use Rattle.model_core.specs.Program.{is_checking, own_op, own_took, took};
 ghost use Rattle.model_core.specs.Waiting.{waits, IsFreeing, HasStopped};

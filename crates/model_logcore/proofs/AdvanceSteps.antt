@@ -9,6 +9,7 @@ use Rattle.model_core.proofs.Tails.{held_in, tail_in}
 use Rattle.model_core.specs.{Actor, Advance, end_of, floor, is_held, IsBound, IsSized, lsn, SharedWords, tail_of, tail_word}
 use Rattle.model_core.specs.LogSide.{LogSide}
 use Rattle.model_core.specs.Setup.{Setup}
+use Rattle.model_core.specs.declared.limits.TheConstants.{LOG_BUFFER, WRITTEN_LINKS}
 use Rattle.model_logcore.proofs.Frame.{Later, unchanged}
 use Rattle.model_logcore.proofs.GroupEnds.{end_near}
 use Rattle.model_logcore.proofs.Same.{later_marks, numbers_sized, part_same, stored_else, stored_here, wlinks_sized}
@@ -31,10 +32,10 @@ module _ (D : LogSide) (c : Setup) (spare : ℕ) (m : SharedWords) (g : LogGhost
   tails = let O = before.global.order in let a = O.wtail_is in let b = lsn_le g.wtail g.tail O.wtail_tail in omega arith
 
   -- what a link that stands at the place says
-  pub link_here : (n : ℕ) → slice_index m.wlinks (lsn g.tail % 32768) ≡ n → 0 < n → (o : WrittenLink g.log g.state m.wtail g.tail (lsn g.tail % 32768) n) × (o.group.start ≡ g.tail)
+  pub link_here : (n : ℕ) → slice_index m.wlinks (lsn g.tail % WRITTEN_LINKS) ≡ n → 0 < n → (o : WrittenLink g.log g.state m.wtail g.tail (lsn g.tail % WRITTEN_LINKS) n) × (o.group.start ≡ g.tail)
   link_here n v pos =
-      let o = before.global.written_links.links_are (lsn g.tail % 32768) (omega arith) (omega arith) in
-      let o' : WrittenLink g.log g.state m.wtail g.tail (lsn g.tail % 32768) n = subst (λ (k : ℕ). WrittenLink g.log g.state m.wtail g.tail (lsn g.tail % 32768) k) v o in
+      let o = before.global.written_links.links_are (lsn g.tail % WRITTEN_LINKS) (omega arith) (omega arith) in
+      let o' : WrittenLink g.log g.state m.wtail g.tail (lsn g.tail % WRITTEN_LINKS) n = subst (λ (k : ℕ). WrittenLink g.log g.state m.wtail g.tail (lsn g.tail % WRITTEN_LINKS) k) v o in
       let a = o'.since in let b = o'.near in
       let w = tails in
       (o', link_same o'.group.start g.tail g.tail m.wtail w a (omega arith) b (let l = lsn_le g.tail o'.group.start a in omega arith) (sym o'.slot))
@@ -88,11 +89,11 @@ module _ (D : LogSide) (c : Setup) (spare : ℕ) (m : SharedWords) (g : LogGhost
     holds_it t held t_is held_is free loaded = let O = before.global.order in record { held = held_is; mine = refl; tail = loaded ∙ sym t_is; place = loaded ∙ O.wtail_is ∙ ap lsn (sym (O.free free)) }
 
     -- it clears the link at its place, and goes on to the end of the group that starts there
-    pub clears_link : (i : ℕ) → i ≡ v.place % 32768 → HoldsWtail D c m g p seat v → 0 < v.link → slice_index m.wlinks (v.place % 32768) ≡ v.link
+    pub clears_link : (i : ℕ) → i ≡ v.place % WRITTEN_LINKS → HoldsWtail D c m g p seat v → 0 < v.link → slice_index m.wlinks (v.place % WRITTEN_LINKS) ≡ v.link
         → (to : ℕ) × Moves D c m g p seat (record m { wlinks = slice_set m.wlinks i 0 }) (record g { tail = to }) × HoldsWtail D c (record m { wlinks = slice_set m.wlinks i 0 }) (record g { tail = to }) p seat (record v { place = v.place + v.link; link = 0 })
     clears_link i place_is mine some_link value =
-        let i_is : i ≡ lsn g.tail % 32768 = place_is ∙ ap (λ (k : ℕ). k % 32768) mine.place in
-        let here = link_here v.link (ap (λ (k : ℕ). slice_index m.wlinks (k % 32768)) (sym mine.place) ∙ value) some_link in
+        let i_is : i ≡ lsn g.tail % WRITTEN_LINKS = place_is ∙ ap (λ (k : ℕ). k % WRITTEN_LINKS) mine.place in
+        let here = link_here v.link (ap (λ (k : ℕ). slice_index m.wlinks (k % WRITTEN_LINKS)) (sym mine.place) ∙ value) some_link in
         let o = here.0 in
         let from = here.1 in
         let e = o.group in
@@ -110,7 +111,7 @@ module _ (D : LogSide) (c : Setup) (spare : ℕ) (m : SharedWords) (g : LogGhost
         let w_tails = tails in
         let two : g.state e.start ≡ 2 = o.whole e.start (omega arith) (omega arith) in
         let stands = (G.ring_cells.stands e.start (word_grows g.read e.start (omega arith)) (omega arith) (omega arith)).1 in
-        let near_end : lsn to < floor m.write + 65536 = end_near c.base m.firsts m.write g.write g.log g.first g.state g.entered e.start e.start to O.write_is G.first_offsets (omega arith) stands (λ crosses. G.first_offsets.stored o.at e o.is two crosses) in (
+        let near_end : lsn to < floor m.write + LOG_BUFFER = end_near c.base m.firsts m.write g.write g.log g.first g.state g.entered e.start e.start to O.write_is G.first_offsets (omega arith) stands (λ crosses. G.first_offsets.stored o.at e o.is two crosses) in (
           to,
           record {
             sized = wlinks_sized i 0 before.sized;
@@ -153,14 +154,14 @@ module _ (D : LogSide) (c : Setup) (spare : ℕ) (m : SharedWords) (g : LogGhost
                         | no d ↦ (let a = (G.tiled.placed o.at e o.is q.group.start (omega arith) (omega arith)).0 in
                             let k = (G.tiled.placed q.at q.group q.is q.group.start (omega arith) (omega arith)).0 in
                             let same : q.group.start ≡ g.tail = sym k ∙ a ∙ from in
-                            absurd (n (q.slot ∙ ap (λ (x : ℕ). lsn x % 32768) same ∙ sym i_is)))
+                            absurd (n (q.slot ∙ ap (λ (x : ℕ). lsn x % WRITTEN_LINKS) same ∙ sym i_is)))
                       ] in
                       subst (λ (k : ℕ). WrittenLink g.log g.state m.wtail to j k) (sym z) (record { at = q.at; group = q.group; is = q.is; slot = q.slot; size = q.size; since = past; near = q.near; whole = q.whole }))
                 ];
                 standing = λ j x x_is linked f. let q = G.written_links.standing j x x_is linked (omega arith) in
                     let q0 = q.0 in let near = q.1 in
-                    let n : lsn x.start % 32768 ≢ i = (λ z. let same : x.start ≡ g.tail = link_same x.start g.tail g.tail m.wtail w_tails (omega arith) (omega arith) near (let k = lsn_le g.tail x.start (omega arith) in omega arith) (z ∙ i_is) in omega arith) in
-                    let z = else (lsn x.start % 32768) n in
+                    let n : lsn x.start % WRITTEN_LINKS ≢ i = (λ z. let same : x.start ≡ g.tail = link_same x.start g.tail g.tail m.wtail w_tails (omega arith) (omega arith) near (let k = lsn_le g.tail x.start (omega arith) in omega arith) (z ∙ i_is) in omega arith) in
+                    let z = else (lsn x.start % WRITTEN_LINKS) n in
                     (omega arith, near);
               };
               commits = G.commits;

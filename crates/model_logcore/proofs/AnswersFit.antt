@@ -5,6 +5,7 @@ use Rattle.std.specs.Prelude.{slice_index}
 use lib.ListN.{get_elem?}
 use native.Mathlib.Decide.{dec_le, ℕ_discrete}
 use Rattle.model_base.specs.declared.limits.TheConstants.{LSN_LIMIT}
+use Rattle.model_log.specs.declared.layout.TheConstants.{BLOCK_DATA}
 use Rattle.model_core.proofs.Groups.{first_base, first_from, tiles_at}
 use Rattle.model_core.proofs.Lanes.{part_word}
 use Rattle.model_core.proofs.Lsns.{floor_lsn, lsn_below, lsn_block, lsn_le, sn_below}
@@ -17,6 +18,7 @@ use Rattle.model_core.specs.declared.ops.Op.{Op}
 use Rattle.model_core.specs.declared.steps.AdvanceStep.{AdvanceStep}
 use Rattle.model_core.specs.declared.steps.UserStep.{UserStep}
 use Rattle.model_core.specs.declared.steps.WriterStep.{WriterStep}
+use Rattle.model_core.specs.declared.limits.TheConstants.{WRITTEN_LINKS}
 use Rattle.model_logcore.proofs.RingSteps.{sum_small}
 use Rattle.model_logcore.proofs.UserGroups.{lengths_step}
 use Rattle.model_logcore.proofs.WriterCells.{block_is, first_true}
@@ -57,9 +59,9 @@ module _ (D : LogSide) (c : Setup) (spare : ℕ) (m : SharedWords) (g : LogGhost
   tail_small_in = let e = tail_in m.wtail m.wheld in let s = small_wtail in omega arith
 
   -- a link at the place of an advance leads no further than SN
-  linked_small : (place n : ℕ) → place ≡ lsn g.tail → slice_index m.wlinks (place % 32768) ≡ n → place + n < answer_limit
+  linked_small : (place n : ℕ) → place ≡ lsn g.tail → slice_index m.wlinks (place % WRITTEN_LINKS) ≡ n → place + n < answer_limit
   linked_small place n t e = let O = before.global.order in let sm = small_sn in let le = lsn_le g.tail m.sn O.tail_sn in elim (dec_le 1 n) [
-    | yes d ↦ (let v : slice_index m.wlinks (lsn g.tail % 32768) ≡ n = ap (λ (k : ℕ). slice_index m.wlinks (k % 32768)) (sym t) ∙ e in
+    | yes d ↦ (let v : slice_index m.wlinks (lsn g.tail % WRITTEN_LINKS) ≡ n = ap (λ (k : ℕ). slice_index m.wlinks (k % WRITTEN_LINKS)) (sym t) ∙ e in
         let o = link_here D c spare m g p actors before n v (omega arith) in
         let w = (tiles_at g.log c.base m.sn o.0.at o.0.group before.global.tiled.tiles o.0.is).1 in
         let k = lsn_le (end_of o.0.group) m.sn w in
@@ -70,7 +72,7 @@ module _ (D : LogSide) (c : Setup) (spare : ℕ) (m : SharedWords) (g : LogGhost
 
   advance_can : (v : Advance) (s : AdvanceStep) → AdvanceAt D c m g p seat v s → (ls : ℕ → List Listed) (broken : Bool) (code mark : ℕ) → advance_fits v (old_of (shared_answer ls broken code mark m (advance_op link_buffer.Written v s))) s
   advance_can v advance_step.LoadTail h ls broken code mark = tail_small_in
-  advance_can v advance_step.LoadLink h ls broken code mark = linked_small v.place (slice_index m.wlinks (v.place % 32768)) h.place refl
+  advance_can v advance_step.LoadLink h ls broken code mark = linked_small v.place (slice_index m.wlinks (v.place % WRITTEN_LINKS)) h.place refl
   advance_can v _ h ls broken code mark = tt
 
   user_can : (u : UserState) → get_elem? actors seat ≡ maybe.some (actor.User u) → (f : UserStep) → UserAt D c m g p seat u f → (ls : ℕ → List Listed) (broken : Bool) (code mark : ℕ) → user_fits u (old_of (shared_answer ls broken code mark m (user_op u f))) f
@@ -103,11 +105,11 @@ module _ (D : LogSide) (c : Setup) (spare : ℕ) (m : SharedWords) (g : LogGhost
     kept_small : g.read < g.target → length s.kept < 63488
     kept_small l = let a = mine.long in let t = tail_small in omega arith
 
-    first_small : length s.kept ≡ 496 * length s.firsts → g.read < g.target → slice_index m.firsts (lsn (read_place s) / 512 % 128) < 512
+    first_small : length s.kept ≡ BLOCK_DATA * length s.firsts → g.read < g.target → slice_index m.firsts (lsn (read_place s) / 512 % 128) < 512
     first_small e l =
         let value : slice_index m.firsts (lsn (read_place s) / 512 % 128) ≡ first_of c.base g.log g.entered =
         ap (λ (k : ℕ). slice_index m.firsts (k % 128)) (block_is D c spare m g p actors seat s before at e) ∙ before.global.first_offsets.slots_are g.entered (omega arith) (omega arith) ∙ first_true D c spare m g p actors seat s before at e l in
-        elim (ℕ_discrete g.entered (c.base / 496)) [
+        elim (ℕ_discrete g.entered (c.base / BLOCK_DATA)) [
           | yes z ↦ (let k : first_of c.base g.log g.entered ≡ 12 = ap (first_of c.base g.log) z ∙ first_base c.base g.log in omega arith)
           | no n ↦ ⊎_elim (λ z. omega arith) (λ z. let v = z.4 in omega arith) (first_from c.base g.log g.entered n)
         ]

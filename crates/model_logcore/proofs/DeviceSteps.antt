@@ -13,7 +13,7 @@ use Rattle.model_logcore.proofs.Same.{facts_same, later_marks, numbers_sized, pa
 use Rattle.model_logcore.proofs.WriterCells.{lends}
 use Rattle.model_logcore.proofs.WriterSteps.{tail_near, wsteps}
 use Rattle.model_logcore.specs.LogFacts.{LogGhost, LogFacts, LogPartFacts, sum_over_actors}
-use Rattle.model_logcore.specs.LogFits.{Fits, WriterAt, WriterFits}
+use Rattle.model_logcore.specs.LogFits.{LogFits, WriterAt, WriterFits}
 use Rattle.model_logcore.specs.LogHalf.{LogHalf, left_to_reserve}
 use Rattle.model_logcore.specs.LogLaws.{AfterWrite, CanWrite, LogLaws}
 use mathlib.Core.Option as maybe
@@ -23,7 +23,7 @@ use Rattle.model_core.specs.Actors as actor
 
 module _ (D : LogSide) (c : Setup) (m : SharedWords) (g : LogGhost) (p : D.Part) where
   -- the turn word and its holder are no matter of an actor's own facts
-  fits_moot : (d q j : ℕ) (a : Actor) → LogFacts D c m g p → Fits D c m g p j a → Fits D c (record m { device = d }) (record g { holder = q }) p j a
+  fits_moot : (d q j : ℕ) (a : Actor) → LogFacts D c m g p → LogFits D c m g p j a → LogFits D c (record m { device = d }) (record g { holder = q }) p j a
   fits_moot d q j a G h = others_later D c m (record m { device = d }) g (record g { holder = q }) p p (suc j) G
       (later_marks D c m g p (omega arith) (omega arith) (omega arith) (omega arith) (λ z. z) (λ _ _. unchanged))
       (still_same D c m g p (omega arith) (λ z. z) refl)
@@ -35,7 +35,7 @@ module _ (D : LogSide) (c : Setup) (m : SharedWords) (g : LogGhost) (p : D.Part)
 
 module _ (D : LogSide) (c : Setup) (spare : ℕ) (m : SharedWords) (g : LogGhost) (p : D.Part) (actors : List Actor) (seat : ℕ) (a : Actor) (before : LogHalf D c spare m g p actors) (at : get_elem? actors seat ≡ maybe.some a) where
   -- an actor that finds the part free takes it
-  pub takes : (b : Actor) → m.device ≡ 0 → holds b ≡ true → Fits D c m g p seat b → ◌≡◌ {A = List Entry} (entries b) (entries a) → left_to_reserve b ≤ left_to_reserve a → (h : LogGhost) × Kept D c spare (record m { device = 1 }) h p (set actors seat b) × (◌≡◌ {A = List Entry} (h.log) (g.log))
+  pub takes : (b : Actor) → m.device ≡ 0 → holds b ≡ true → LogFits D c m g p seat b → ◌≡◌ {A = List Entry} (entries b) (entries a) → left_to_reserve b ≤ left_to_reserve a → (h : LogGhost) × Kept D c spare (record m { device = 1 }) h p (set actors seat b) × (◌≡◌ {A = List Entry} (h.log) (g.log))
   takes b free hold f same le = (
     record g { holder = seat },
     moved D c spare m (record m { device = 1 }) g (record g { holder = seat }) p p actors seat b before (numbers_sized before.sized) (global_moot D c m g p 1 seat (omega arith) before.global)
@@ -50,7 +50,7 @@ module _ (D : LogSide) (c : Setup) (spare : ℕ) (m : SharedWords) (g : LogGhost
   )
 
   -- its holder gives it back
-  pub gives : (b : Actor) → holds a ≡ true → holds b ≡ false → Fits D c m g p seat b → ◌≡◌ {A = List Entry} (entries b) (entries a) → left_to_reserve b ≤ left_to_reserve a → (h : LogGhost) × Kept D c spare (record m { device = 0 }) h p (set actors seat b) × (◌≡◌ {A = List Entry} (h.log) (g.log))
+  pub gives : (b : Actor) → holds a ≡ true → holds b ≡ false → LogFits D c m g p seat b → ◌≡◌ {A = List Entry} (entries b) (entries a) → left_to_reserve b ≤ left_to_reserve a → (h : LogGhost) × Kept D c spare (record m { device = 0 }) h p (set actors seat b) × (◌≡◌ {A = List Entry} (h.log) (g.log))
   gives b had free f same le = (
     record g { holder = 0 },
     moved D c spare m (record m { device = 0 }) g (record g { holder = 0 }) p p actors seat b before (numbers_sized before.sized) (global_moot D c m g p 0 0 (omega arith) before.global)
@@ -65,7 +65,7 @@ module _ (D : LogSide) (c : Setup) (spare : ℕ) (m : SharedWords) (g : LogGhost
   )
 
   -- an actor's own state alone changes, and it holds what it held
-  pub stays : (b : Actor) → holds b ≡ holds a → Fits D c m g p seat b → ◌≡◌ {A = List Entry} (entries b) (entries a) → left_to_reserve b ≤ left_to_reserve a → Kept D c spare m g p (set actors seat b)
+  pub stays : (b : Actor) → holds b ≡ holds a → LogFits D c m g p seat b → ◌≡◌ {A = List Entry} (entries b) (entries a) → left_to_reserve b ≤ left_to_reserve a → Kept D c spare m g p (set actors seat b)
   stays b keep f same le = moved_on D c spare m m g g p p actors seat a b before at before.sized before.global f (λ j x n e. before.each j x e) refl refl refl refl keep same le
 
   -- no other actor holds the part

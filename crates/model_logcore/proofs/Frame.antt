@@ -5,6 +5,7 @@ use lib.ListN.{get_elem?}
 use mathlib.Core.Option.{some, some-injective, some-ne-none}
 use native.Mathlib.Decide.{ℕ_discrete}
 use Rattle.model_base.specs.declared.limits.TheConstants.{LSN_LIMIT}
+use Rattle.model_log.specs.declared.layout.TheConstants.{BLOCK_DATA}
 use Rattle.model_core.proofs.Lists.{at_set, set_at, set_else}
 use Rattle.model_core.proofs.Groups.{tiles_at}
 use Rattle.model_core.proofs.Lsns.{floor_grows, lsn_below}
@@ -16,8 +17,9 @@ use Rattle.model_core.specs.declared.steps.UserStep.{UserStep}
 use Rattle.model_core.specs.declared.steps.CheckpointerStep.{CheckpointerStep}
 use Rattle.model_core.specs.declared.steps.WriterStep.{WriterStep}
 use Rattle.model_core.specs.declared.steps.FlusherStep.{FlusherStep}
+use Rattle.model_core.specs.declared.limits.TheConstants.{WRITTEN_LINKS}
 use Rattle.model_logcore.specs.LogFacts.{LogGhost, LogFacts, Place, count_of, sum_over_actors}
-use Rattle.model_logcore.specs.LogFits.{AdvanceAt, AreBelow, CheckpointerAt, CheckpointerFits, CleanerTold, Fits, FlusherAt, FlusherFits, Hand, LacksFirst, HasAllCopied, HasLinked, HasStoppedAt, HoldsWtail, UserAt, UserFits, WriterAt, WriterFits}
+use Rattle.model_logcore.specs.LogFits.{AdvanceAt, AreBelow, CheckpointerAt, CheckpointerFits, CleanerTold, LogFits, FlusherAt, FlusherFits, Hand, LacksFirst, HasAllCopied, HasLinked, HasStoppedAt, HoldsWtail, UserAt, UserFits, WriterAt, WriterFits}
 use Rattle.model_logcore.specs.LogHalf.{Counted, LogHalf, HasTaker, left_to_reserve}
 use Rattle.model_core.specs.declared.steps.AdvanceStep.TheVariants as advance_step
 use Rattle.model_core.specs.declared.steps.UserStep.TheVariants as user_step
@@ -59,7 +61,7 @@ pub record StillHeld (h h' : Bool) (a a' w w' t t' : ℕ) (links links' : List �
   pub advancer : a' ≡ a
   pub wtail : w' ≡ w
   pub tail : t' ≡ t
-  pub link : 0 < slice_index links (lsn t % 32768) → slice_index links' (lsn t % 32768) ≡ slice_index links (lsn t % 32768)
+  pub link : 0 < slice_index links (lsn t % WRITTEN_LINKS) → slice_index links' (lsn t % WRITTEN_LINKS) ≡ slice_index links (lsn t % WRITTEN_LINKS)
 
 pub unchanged : {h : Bool} {a w t : ℕ} {links : List ℕ} → StillHeld h h a a w w t t links links
 unchanged = record { held = refl; advancer = refl; wtail = refl; tail = refl; link = λ z. refl }
@@ -71,8 +73,8 @@ module _ (D : LogSide) (c : Setup) where
 
   -- the actor at one seat moves
   pub moved : (spare : ℕ) (m m' : SharedWords) (g g' : LogGhost) (p p' : D.Part) (actors : List Actor) (seat : ℕ) (b : Actor) → LogHalf D c spare m g p actors
-      → IsSized c.pages m' → LogFacts D c m' g' p' → Fits D c m' g' p' seat b
-      → ((j : ℕ) (a : Actor) → j ≢ seat → get_elem? actors j ≡ some a → Fits D c m' g' p' j a)
+      → IsSized c.pages m' → LogFacts D c m' g' p' → LogFits D c m' g' p' seat b
+      → ((j : ℕ) (a : Actor) → j ≢ seat → get_elem? actors j ≡ some a → LogFits D c m' g' p' j a)
       → (holds b ≡ true → (m'.device ≡ 1) × (seat ≡ g'.holder))
       → ((j : ℕ) (a : Actor) → j ≢ seat → get_elem? actors j ≡ some a → holds a ≡ true → (m'.device ≡ 1) × (j ≡ g'.holder))
       → Counted (set actors seat b) g'.log
@@ -82,7 +84,7 @@ module _ (D : LogSide) (c : Setup) where
   moved spare m m' g g' p p' actors seat b before sized global mine others turn turns counted room taken = λ advanced without_tail. record {
     sized = sized;
     global = global;
-    each = λ j a e. ⊎_elim (λ t. subst (λ (z : ℕ × Actor). Fits D c m' g' p' z.0 z.1) (λ i. (sym t.0 i, t.1 i)) mine) (λ t. others j a t.0 t.1) (at_set actors seat j b a e);
+    each = λ j a e. ⊎_elim (λ t. subst (λ (z : ℕ × Actor). LogFits D c m' g' p' z.0 z.1) (λ i. (sym t.0 i, t.1 i)) mine) (λ t. others j a t.0 t.1) (at_set actors seat j b a e);
     turns = λ j a e. ⊎_elim (λ t. subst (λ (z : ℕ × Actor). holds z.1 ≡ true → (m'.device ≡ 1) × (z.0 ≡ g'.holder)) (λ i. (sym t.0 i, t.1 i)) turn) (λ t. turns j a t.0 t.1) (at_set actors seat j b a e);
     counted = counted;
     room = room;
@@ -93,8 +95,8 @@ module _ (D : LogSide) (c : Setup) where
 
   -- the same where it holds what it held, and its groups stay
   pub moved_on : (spare : ℕ) (m m' : SharedWords) (g g' : LogGhost) (p p' : D.Part) (actors : List Actor) (seat : ℕ) (a b : Actor) → LogHalf D c spare m g p actors → get_elem? actors seat ≡ some a
-      → IsSized c.pages m' → LogFacts D c m' g' p' → Fits D c m' g' p' seat b
-      → ((j : ℕ) (x : Actor) → j ≢ seat → get_elem? actors j ≡ some x → Fits D c m' g' p' j x)
+      → IsSized c.pages m' → LogFacts D c m' g' p' → LogFits D c m' g' p' seat b
+      → ((j : ℕ) (x : Actor) → j ≢ seat → get_elem? actors j ≡ some x → LogFits D c m' g' p' j x)
       → m'.device ≡ m.device → g'.holder ≡ g.holder → g'.log ≡ g.log → m'.sn ≡ m.sn
       → holds b ≡ holds a → ◌≡◌ {A = List Entry} (entries b) (entries a) → left_to_reserve b ≤ left_to_reserve a
       → Kept spare m' g' p' (set actors seat b)
@@ -117,7 +119,7 @@ module _ (D : LogSide) (c : Setup) where
     pub states : (x : ℕ) → x < m.sn → (g.place x).owner ≢ seat → g'.state x ≡ g.state x
     pub linked : (x : ℕ) → x < m.sn → g.state x ≡ 2 → g'.state x ≡ 2
     pub firsts : (q : ℕ) → 0 < g.first q → 0 < g'.first q
-    pub bare : (i : ℕ) (e : Entry) → get_elem? g.log i ≡ some e → (g.place e.start).owner ≢ seat → e.start / 496 < end_of e / 496 → g.first (end_of e / 496) ≡ 0 → g'.first (end_of e / 496) ≡ 0
+    pub bare : (i : ℕ) (e : Entry) → get_elem? g.log i ≡ some e → (g.place e.start).owner ≢ seat → e.start / BLOCK_DATA < end_of e / BLOCK_DATA → g.first (end_of e / BLOCK_DATA) ≡ 0 → g'.first (end_of e / BLOCK_DATA) ≡ 0
     pub seats : (v : ℕ) → g'.seat_of v ≡ g.seat_of v
     pub counts : (v : ℕ) → g.seat_of v ≢ seat → count_of v g'.log ≡ count_of v g.log
     pub answers : (v : ℕ) → g.seat_of v ≢ seat → g'.answered v ≡ g.answered v
@@ -155,8 +157,9 @@ module _ (D : LogSide) (c : Setup) where
     advance_later seat j v later ne advance_step.TakeTail h = tt
     advance_later seat j v later ne advance_step.LoadLink h = holds_later seat j v later ne h
     advance_later seat j v later ne advance_step.ClearLink h = let k = later.holder (λ e. ne (sym h.0.mine ∙ e)) h.0.held in
-        let here : slice_index m.wlinks (lsn g.tail % 32768) ≡ v.link = subst (λ (t : ℕ). slice_index m.wlinks (t % 32768) ≡ v.link) h.0.place h.2 in
-        (holds_later seat j v later ne h.0, h.1, subst (λ (t : ℕ). slice_index m'.wlinks (t % 32768) ≡ v.link) (sym h.0.place) (k.link (let z = h.1 in omega arith) ∙ here))
+        let here : slice_index m.wlinks (lsn g.tail % WRITTEN_LINKS) ≡ v.link =
+        subst (λ (t : ℕ). slice_index m.wlinks (t % WRITTEN_LINKS) ≡ v.link) h.0.place h.2 in
+        (holds_later seat j v later ne h.0, h.1, subst (λ (t : ℕ). slice_index m'.wlinks (t % WRITTEN_LINKS) ≡ v.link) (sym h.0.place) (k.link (let z = h.1 in omega arith) ∙ here))
     advance_later seat j v later ne advance_step.FreeTail h = holds_later seat j v later ne h
 
     all_copied_later : (seat j : ℕ) (u : UserState) → Tiles c.base g.log m.sn → Later m g m' g' seat → j ≢ seat → HasAllCopied D c m g p j u → HasAllCopied D c m' g' p' j u
@@ -224,10 +227,10 @@ module _ (D : LogSide) (c : Setup) where
       pub ckpt : m.ckpt ≤ m'.ckpt
       pub failed : 0 < m.failed → 0 < m'.failed
       pub bytes : (x : ℕ) → c.base ≤ x → x < g.target → byte_at c.base g'.log x ≡ byte_at c.base g.log x
-      pub firsts : (q : ℕ) → 496 * q < g.target → first_of c.base g'.log q ≡ first_of c.base g.log q
+      pub firsts : (q : ℕ) → BLOCK_DATA * q < g.target → first_of c.base g'.log q ≡ first_of c.base g.log q
       pub written : D.written p' ≡ D.written p
 
-    module _ (s : WriterState) (seat j : ℕ) (later : Later m g m' g' seat) (ne : j ≢ seat) (still : Still) (base : c.base % 496 ≡ 0) (low : c.base ≤ g.write) (reads : g.read ≤ g.target) where
+    module _ (s : WriterState) (seat j : ℕ) (later : Later m g m' g' seat) (ne : j ≢ seat) (still : Still) (base : c.base % BLOCK_DATA ≡ 0) (low : c.base ≤ g.write) (reads : g.read ≤ g.target) where
       idle_later : (g.read ≡ g.write) × (D.written p ≡ m.write) → (g'.read ≡ g'.write) × (D.written p' ≡ m'.write)
       idle_later h = (still.read ∙ h.0 ∙ sym still.gwrite, still.written ∙ h.1 ∙ sym still.write)
 
@@ -240,7 +243,7 @@ module _ (D : LogSide) (c : Setup) where
       within : (i n : ℕ) → i < n → read_place s + n ≤ g.target → read_place s + i < g.target
       within i n l le = omega arith
 
-      writer_at_later : s.tail ≡ lsn g.target → s.from ≡ g.write / 496 * 496 → s.from + length s.kept ≡ g.read → s.from + 496 * length s.firsts ≡ 496 * g.entered
+      writer_at_later : s.tail ≡ lsn g.target → s.from ≡ g.write / BLOCK_DATA * BLOCK_DATA → s.from + length s.kept ≡ g.read → s.from + BLOCK_DATA * length s.firsts ≡ BLOCK_DATA * g.entered
           → (st : WriterStep) → (writer_holds st ≡ true → ◌≡◌ {A = D.Part} p' p) → WriterAt D c m g p j s st → WriterAt D c m' g' p' j s st
       writer_at_later tail from long wide (writer_step.Advance v) part h = (idle_later h.0, advance_later seat j s.advance later ne v h.1)
       writer_at_later tail from long wide writer_step.LoadCheckpoint part h = (busy_later h.0, still.read ∙ h.1 ∙ sym still.gwrite)
@@ -270,18 +273,18 @@ module _ (D : LogSide) (c : Setup) where
       writer_at_later tail from long wide writer_step.GiveFailed part h = still.failed h
       writer_at_later tail from long wide writer_step.Failed part h = still.failed h
 
-      pub writer_later : g.entered * 496 < g.target + 496 → (writer_holds s.step ≡ true → ◌≡◌ {A = D.Part} p' p) → WriterFits D c m g p j s → WriterFits D c m' g' p' j s
+      pub writer_later : g.entered * BLOCK_DATA < g.target + BLOCK_DATA → (writer_holds s.step ≡ true → ◌≡◌ {A = D.Part} p' p) → WriterFits D c m g p j s → WriterFits D c m' g' p' j s
       writer_later near part h =
           let f = h.from in let lg = h.long in let w = h.wide in record {
             alone = h.alone ∙ sym still.writer;
             blocks = h.blocks;
             tail = h.tail ∙ ap lsn (sym still.target);
             write = h.write ∙ sym still.write;
-            from = h.from ∙ ap (λ (t : ℕ). t / 496 * 496) (sym still.gwrite);
+            from = h.from ∙ ap (λ (t : ℕ). t / BLOCK_DATA * BLOCK_DATA) (sym still.gwrite);
             long = h.long ∙ sym still.read;
             kept = λ k lt. h.kept k lt ∙ sym (still.bytes (s.from + k) (omega arith) (omega arith));
-            wide = h.wide ∙ ap (λ (t : ℕ). 496 * t) (sym still.entered);
-            firsts = λ i lt. h.firsts i lt ∙ sym (still.firsts (g.write / 496 + i) (omega arith)) ∙ ap (λ (t : ℕ). first_of c.base g'.log (t / 496 + i)) (sym still.gwrite);
+            wide = h.wide ∙ ap (λ (t : ℕ). BLOCK_DATA * t) (sym still.entered);
+            firsts = λ i lt. h.firsts i lt ∙ sym (still.firsts (g.write / BLOCK_DATA + i) (omega arith)) ∙ ap (λ (t : ℕ). first_of c.base g'.log (t / BLOCK_DATA + i)) (sym still.gwrite);
             ckpt = (let a = h.ckpt in let b = still.ckpt in omega arith);
             no_device_while_checking = h.no_device_while_checking;
             step = writer_at_later h.tail h.from h.long h.wide s.step part h.step;
@@ -339,7 +342,7 @@ module _ (D : LogSide) (c : Setup) where
     checkpointer_fits_later j t rest part h = record { alone = h.alone; own = h.own ∙ sym rest.ckpt_word; no_device_while_checking = h.no_device_while_checking; step = checkpointer_at_later t rest t.step part h.step }
 
     -- every other actor is as before
-    pub others_later : (seat : ℕ) → LogFacts D c m g p → Later m g m' g' seat → Still → Same → (j : ℕ) (a : Actor) → j ≢ seat → (holds a ≡ true → ◌≡◌ {A = D.Part} p' p) → Fits D c m g p j a → Fits D c m' g' p' j a
+    pub others_later : (seat : ℕ) → LogFacts D c m g p → Later m g m' g' seat → Still → Same → (j : ℕ) (a : Actor) → j ≢ seat → (holds a ≡ true → ◌≡◌ {A = D.Part} p' p) → LogFits D c m g p j a → LogFits D c m' g' p' j a
     others_later seat G later still same j (actor.User u) ne part h = user_later seat j u G.tiled.tiles later ne h
     others_later seat G later still same j (actor.Writer s) ne part h = let O = G.order in writer_later s seat j later ne still O.base_even O.base_write O.read_target (let e = O.entered_target in omega arith) part h
     others_later seat G later still same j (actor.Flusher f) ne part h = flusher_later j f later.write same part h
@@ -349,7 +352,7 @@ module _ (D : LogSide) (c : Setup) where
     others_later seat G later still same j (actor.Joined es) ne part h = tt
 
     -- the same where the writer moves, which is alone
-    pub others_writer : (seat : ℕ) → seat ≡ g.writer → LogFacts D c m g p → Later m g m' g' seat → Same → (j : ℕ) (a : Actor) → j ≢ seat → (holds a ≡ true → ◌≡◌ {A = D.Part} p' p) → Fits D c m g p j a → Fits D c m' g' p' j a
+    pub others_writer : (seat : ℕ) → seat ≡ g.writer → LogFacts D c m g p → Later m g m' g' seat → Same → (j : ℕ) (a : Actor) → j ≢ seat → (holds a ≡ true → ◌≡◌ {A = D.Part} p' p) → LogFits D c m g p j a → LogFits D c m' g' p' j a
     others_writer seat is G later same j (actor.User u) ne part h = user_later seat j u G.tiled.tiles later ne h
     others_writer seat is G later same j (actor.Writer s) ne part h = absurd (ne (h.alone ∙ sym is))
     others_writer seat is G later same j (actor.Flusher f) ne part h = flusher_later j f later.write same part h
@@ -359,7 +362,7 @@ module _ (D : LogSide) (c : Setup) where
     others_writer seat is G later same j (actor.Joined es) ne part h = tt
 
     -- the same where the flusher moves, which is alone
-    pub others_flusher : (seat : ℕ) → seat ≡ g.writer + 1 → LogFacts D c m g p → Later m g m' g' seat → Still → Rest → (j : ℕ) (a : Actor) → j ≢ seat → (holds a ≡ true → ◌≡◌ {A = D.Part} p' p) → Fits D c m g p j a → Fits D c m' g' p' j a
+    pub others_flusher : (seat : ℕ) → seat ≡ g.writer + 1 → LogFacts D c m g p → Later m g m' g' seat → Still → Rest → (j : ℕ) (a : Actor) → j ≢ seat → (holds a ≡ true → ◌≡◌ {A = D.Part} p' p) → LogFits D c m g p j a → LogFits D c m' g' p' j a
     others_flusher seat is G later still rest j (actor.User u) ne part h = user_later seat j u G.tiled.tiles later ne h
     others_flusher seat is G later still rest j (actor.Writer s) ne part h = let O = G.order in writer_later s seat j later ne still O.base_even O.base_write O.read_target (let e = O.entered_target in omega arith) part h
     others_flusher seat is G later still rest j (actor.Flusher f) ne part h = absurd (ne (h.alone ∙ sym is))
@@ -369,7 +372,7 @@ module _ (D : LogSide) (c : Setup) where
     others_flusher seat is G later still rest j (actor.Joined es) ne part h = tt
 
     -- the same where the checkpointer moves, which is alone, and the newest checkpoint may change
-    pub others_pointer : (seat : ℕ) → seat ≡ c.checkpointer → LogFacts D c m g p → Later m g m' g' seat → Still → m'.flushed ≡ m.flushed → (j : ℕ) (a : Actor) → j ≢ seat → (holds a ≡ true → ◌≡◌ {A = D.Part} p' p) → Fits D c m g p j a → Fits D c m' g' p' j a
+    pub others_pointer : (seat : ℕ) → seat ≡ c.checkpointer → LogFacts D c m g p → Later m g m' g' seat → Still → m'.flushed ≡ m.flushed → (j : ℕ) (a : Actor) → j ≢ seat → (holds a ≡ true → ◌≡◌ {A = D.Part} p' p) → LogFits D c m g p j a → LogFits D c m' g' p' j a
     others_pointer seat is G later still fl j (actor.User u) ne part h = user_later seat j u G.tiled.tiles later ne h
     others_pointer seat is G later still fl j (actor.Writer s) ne part h = let O = G.order in writer_later s seat j later ne still O.base_even O.base_write O.read_target (let e = O.entered_target in omega arith) part h
     others_pointer seat is G later still fl j (actor.Flusher f) ne part h = flusher_later_by j f later.write still.writer fl later.failed part h

@@ -10,22 +10,22 @@ use Rattle.model_core.specs.Setup.{Setup}
 use Rattle.model_core.specs.declared.limits.TheConstants.{LOG_BUFFER}
 use Rattle.model_log.specs.declared.layout.TheConstants.{BLOCK_DATA}
 use Rattle.model_logcore.specs.LogFacts.{FirstOffsets, LogFacts, LogGhost}
-use Rattle.model_logcore.specs.LogFits.{EndIsNear, Hand, HasFirst}
+use Rattle.model_logcore.specs.LogFits.{EndIsNear, Hand, HasStoredFirst}
 
 -- a group's end is near if one of its bytes is, and FIRST of the block that it ends in is stored, if it starts in another
 pub end_near : (base : ℕ) (slots : List ℕ) (write w : ℕ) (log : List Entry) (first state : ℕ → ℕ) (entered start x end : ℕ) → write ≡ lsn w → FirstOffsets base slots write log first state entered
     → start ≤ x → lsn x < floor write + LOG_BUFFER → (start / BLOCK_DATA < end / BLOCK_DATA → 0 < first (end / BLOCK_DATA)) → lsn end < floor write + LOG_BUFFER
 end_near base slots write w log first state entered start x end is F le near stored =
-    let b = block_below x w (subst (λ (k : ℕ). lsn x < floor k + 65536) is near) in
+    let b = block_below x w (subst (λ (k : ℕ). lsn x < floor k + LOG_BUFFER) is near) in
     let f : floor write ≡ floor (lsn w) = ap floor is in
     let o = lsn_offset end in let q = lsn_block end in
-    elim (dec_le (end / 496) (start / 496)) [
+    elim (dec_le (end / BLOCK_DATA) (start / BLOCK_DATA)) [
       | yes d ↦ omega arith
-      | no n ↦ (let k = F.near (end / 496) (stored (omega arith)) in omega arith)
+      | no n ↦ (let k = F.near (end / BLOCK_DATA) (stored (omega arith)) in omega arith)
     ]
 
 -- the group in hand of a user, once a byte of it is copied
-pub hand_end_near : (D : LogSide) (c : Setup) (m : SharedWords) (g : LogGhost) (p : D.Part) (seat : ℕ) (u : UserState) → LogFacts D c m g p → Hand D c m g p seat u → u.copied ≡ length (group_bytes u) → HasFirst D c m g p u → 0 < u.copied → EndIsNear D c m g p u
+pub hand_end_near : (D : LogSide) (c : Setup) (m : SharedWords) (g : LogGhost) (p : D.Part) (seat : ℕ) (u : UserState) → LogFacts D c m g p → Hand D c m g p seat u → u.copied ≡ length (group_bytes u) → HasStoredFirst D c m g p u → 0 < u.copied → EndIsNear D c m g p u
 hand_end_near D c m g p seat u G h all stored some =
     let w = tiles_at g.log c.base m.sn h.at _ G.tiled.tiles h.is in
     let w0 = w.0 in let w1 = w.1 in

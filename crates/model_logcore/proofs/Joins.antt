@@ -10,7 +10,7 @@ use Rattle.model_core.specs.LogSide.{LogSide}
 use Rattle.model_core.specs.Setup.{Setup}
 use Rattle.model_logcore.proofs.Frame.{total_set}
 use Rattle.model_logcore.specs.LogFacts.{LogGhost, sum_over_actors}
-use Rattle.model_logcore.specs.LogFits.{Fits}
+use Rattle.model_logcore.specs.LogFits.{LogFits}
 use Rattle.model_logcore.specs.LogHalf.{LogHalf, left_to_reserve}
 use Rattle.model_core.specs.Actors as actor
 use Rattle.model_core.specs.declared.words.LinkBuffer.TheVariants as link_buffer
@@ -22,8 +22,8 @@ pub half_joins : (D : LogSide) (c : Setup) (spare : ℕ) (m : SharedWords) (g : 
 half_joins D c spare m g p actors seat other a b at ne at' free free' off off' k =
     let both : Actor = actor.Joined (entries a ++ entries b) in
     let none : Actor = actor.Joined [] in
-    let step = λ (vs : List Actor) (i : ℕ) (es : List Entry) (j : ℕ) (x : Actor) (e : get_elem? (set vs i (actor.Joined es)) j ≡ maybe.some x) (f : get_elem? vs j ≡ maybe.some x → Fits D c m g p j x).
-    ⊎_elim (λ t. subst (λ (z : Actor). Fits D c m g p j z) t.1 tt) (λ t. f t.1) (at_set vs i j (actor.Joined es) x e) in
+    let step = λ (vs : List Actor) (i : ℕ) (es : List Entry) (j : ℕ) (x : Actor) (e : get_elem? (set vs i (actor.Joined es)) j ≡ maybe.some x) (f : get_elem? vs j ≡ maybe.some x → LogFits D c m g p j x).
+    ⊎_elim (λ t. subst (λ (z : Actor). LogFits D c m g p j z) t.1 tt) (λ t. f t.1) (at_set vs i j (actor.Joined es) x e) in
     let gone = λ (vs : List Actor) (i : ℕ) (es : List Entry) (j : ℕ) (x : Actor) (h : holds x ≡ true) (e : get_elem? (set vs i (actor.Joined es)) j ≡ maybe.some x).
     ⊎_elim (λ t. let z : false ≡ true = ap holds t.1 ∙ h in let n : get_elem? vs j ≡ maybe.some x = absurd (cc) in n) (λ t. t.1) (at_set vs i j (actor.Joined es) x e) in
     record {

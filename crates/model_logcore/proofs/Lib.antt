@@ -2,6 +2,7 @@ pub mod AdvanceSteps
 pub mod AnswerSteps
 pub mod AnswersFit
 pub mod DeviceSteps
+pub mod Failures
 pub mod FlusherSteps
 pub mod Frame
 pub mod GroupEnds
@@ -15,6 +16,7 @@ pub mod Ready
 pub mod ReserveSteps
 pub mod RingSteps
 pub mod Same
+pub mod StartEmpty
 pub mod StartHolds
 pub mod UserAdvances
 pub mod UserGroups

@@ -11,6 +11,9 @@ use Rattle.model_core.specs.{Actor, answered, changes, end_of, Entry, entry, gro
 use Rattle.model_core.specs.LogSide.{LogSide}
 use Rattle.model_core.specs.Setup.{Setup}
 use Rattle.model_core.specs.declared.steps.UserStep.{UserStep}
+use Rattle.model_core.specs.declared.limits.TheConstants.{ADVANCE_PLACES, WRITTEN_LINKS}
+use Rattle.model_log.specs.declared.layout.TheConstants.{BLOCK_DATA}
+use Rattle.model_base.specs.declared.limits.TheConstants.{MAX_GROUP}
 use Rattle.model_logcore.proofs.AnswerSteps.{answer_global, answered_fits}
 use Rattle.model_logcore.proofs.Frame.{StillHeld, Kept, Later}
 use Rattle.model_logcore.proofs.RingSteps.{above_tail, commits_states, hand_lies, refit, steps, still_words}
@@ -33,7 +36,7 @@ module _ (D : LogSide) (L : LogLaws D) (c : Setup) (spare : ℕ) (m : SharedWord
   chained i v = record m { wlinks = slice_set m.wlinks i v }
 
   module _ (i v : ℕ) (i_is : i ≡ lsn u.start % 32768) (v_is : v ≡ lsn (group_end u) - lsn u.start) (h : UserAt D c m g p seat u user_step.StoreLink) where
-    lies : (c.base ≤ u.start) × (group_end u ≤ m.sn) × (0 < length (group_bytes u)) × (length (group_bytes u) ≤ 8192)
+    lies : (c.base ≤ u.start) × (group_end u ≤ m.sn) × (0 < length (group_bytes u)) × (length (group_bytes u) ≤ MAX_GROUP)
     lies = hand_lies D c spare m g p actors seat u before at h.2
 
     one : (x : ℕ) → u.start ≤ x → x < group_end u → g.state x ≡ 1
@@ -124,7 +127,7 @@ module _ (D : LogSide) (L : LogLaws D) (c : Setup) (spare : ℕ) (m : SharedWord
             near = G.first_offsets.near;
             true_first = G.first_offsets.true_first;
             stored = λ j e e_is two cross. ⊎_elim (λ z. G.first_offsets.stored j e e_is z cross)
-                (λ z. let a = z.0 in let b = z.1 in subst (λ (k : ℕ). 0 < g.first (k / 496)) (sym b) (h.4 (omega arith))) (who j e e_is two);
+                (λ z. let a = z.0 in let b = z.1 in subst (λ (k : ℕ). 0 < g.first (k / BLOCK_DATA)) (sym b) (h.4 (omega arith))) (who j e e_is two);
             begun = G.first_offsets.begun;
           };
           written_links = record {
@@ -153,8 +156,8 @@ module _ (D : LogSide) (L : LogLaws D) (c : Setup) (spare : ℕ) (m : SharedWord
                     whole = λ x l r. new_two x (o.whole x l r);
                   }))
             ];
-            standing = λ j e e_is two from. ⊎_elim (λ z. let o = G.written_links.standing j e e_is z from in (full (lsn e.start % 32768) o.0, o.1))
-                (λ z. (subst (λ (k : ℕ). 0 < slice_index (chained i v).wlinks (lsn k % 32768)) (sym z.0) (let y = stored_here m.wlinks i v (lsn u.start % 32768) (sym i_is) slot in let k = positive in omega arith), subst (λ (k : ℕ). lsn k < m.wtail + 32768) (sym z.0) h.5))
+            standing = λ j e e_is two from. ⊎_elim (λ z. let o = G.written_links.standing j e e_is z from in (full (lsn e.start % WRITTEN_LINKS) o.0, o.1))
+                (λ z. (subst (λ (k : ℕ). 0 < slice_index (chained i v).wlinks (lsn k % WRITTEN_LINKS)) (sym z.0) (let y = stored_here m.wlinks i v (lsn u.start % WRITTEN_LINKS) (sym i_is) slot in let k = positive in omega arith), subst (λ (k : ℕ). lsn k < m.wtail + ADVANCE_PLACES) (sym z.0) h.5))
                 (who j e e_is two);
           };
           commits = commits_states g.state tied.state new_two G.commits;
@@ -176,15 +179,15 @@ module _ (D : LogSide) (L : LogLaws D) (c : Setup) (spare : ℕ) (m : SharedWord
       states = λ x l o. st x ∙ outside x (λ a b. o (h.2.own x a b));
       linked = λ x l two. st x ∙ new_two x two;
       firsts = λ q z. let y = fi q in omega arith;
-      bare = λ _ e _ _ _ none. fi (end_of e / 496) ∙ none;
+      bare = λ _ e _ _ _ none. fi (end_of e / BLOCK_DATA) ∙ none;
       seats = se;
       counts = λ x n. ap (count_of x) lo;
       answers = an;
       holder = ho;
     }
 
-    link_still : 0 < slice_index m.wlinks (lsn g.tail % 32768) → slice_index (chained i v).wlinks (lsn g.tail % 32768) ≡ slice_index m.wlinks (lsn g.tail % 32768)
-    link_still s = stored_else m.wlinks i v (lsn g.tail % 32768) (λ e. empty (subst (λ (y : ℕ). 0 < slice_index m.wlinks y) e s))
+    link_still : 0 < slice_index m.wlinks (lsn g.tail % WRITTEN_LINKS) → slice_index (chained i v).wlinks (lsn g.tail % WRITTEN_LINKS) ≡ slice_index m.wlinks (lsn g.tail % WRITTEN_LINKS)
+    link_still s = stored_else m.wlinks i v (lsn g.tail % WRITTEN_LINKS) (λ e. empty (subst (λ (y : ℕ). 0 < slice_index m.wlinks y) e s))
 
     held_then : g.advancer ≢ seat → m.wheld ≡ true → StillHeld m.wheld m.wheld g.advancer g.advancer m.wtail m.wtail g.tail g.tail m.wlinks (chained i v).wlinks
     held_then _ _ = record { held = refl; advancer = refl; wtail = refl; tail = refl; link = link_still }
@@ -219,5 +222,5 @@ module _ (D : LogSide) (L : LogLaws D) (c : Setup) (spare : ℕ) (m : SharedWord
     tie_any false = (tied, tie_to user_step.LoadCtail (h.0, h.1, (h.2.at, h.2.is, inside)) (omega arith), refl)
 
   -- it stores the link
-  pub keeps_store_link : UserAt D c m g p seat u user_step.StoreLink → (h : LogGhost) × Kept D c spare (record m { wlinks = slice_set m.wlinks (lsn u.start % 32768) (lsn (group_end u) - lsn u.start) }) h p (set actors seat (actor.User (user_took u 0 user_step.StoreLink))) × (◌≡◌ {A = List Entry} (h.log) (g.log))
-  keeps_store_link h = tie_any (lsn u.start % 32768) (lsn (group_end u) - lsn u.start) refl refl h (eqb (length (changes u)) 0)
+  pub keeps_store_link : UserAt D c m g p seat u user_step.StoreLink → (h : LogGhost) × Kept D c spare (record m { wlinks = slice_set m.wlinks (lsn u.start % WRITTEN_LINKS) (lsn (group_end u) - lsn u.start) }) h p (set actors seat (actor.User (user_took u 0 user_step.StoreLink))) × (◌≡◌ {A = List Entry} (h.log) (g.log))
+  keeps_store_link h = tie_any (lsn u.start % WRITTEN_LINKS) (lsn (group_end u) - lsn u.start) refl refl h (eqb (length (changes u)) 0)

@@ -8,7 +8,7 @@ use Rattle.model_core.specs.Setup.{Setup}
 use Rattle.model_logcore.proofs.Frame.{unchanged, Kept, others_later, others_pointer, moved_on}
 use Rattle.model_logcore.proofs.Same.{facts_same, later_marks, part_kept, part_same, still_same}
 use Rattle.model_logcore.specs.LogFacts.{LogGhost}
-use Rattle.model_logcore.specs.LogFits.{Fits, CheckpointerFits}
+use Rattle.model_logcore.specs.LogFits.{LogFits, CheckpointerFits}
 use Rattle.model_logcore.specs.LogHalf.{LogHalf, left_to_reserve}
 use Rattle.model_logcore.specs.LogLaws.{AfterCheckpoint}
 use mathlib.Core.Option as maybe
@@ -20,7 +20,7 @@ module _ (D : LogSide) (c : Setup) (spare : ℕ) (m : SharedWords) (g : LogGhost
   -- words that the log half doesn't read change, FAILED to a code, or CKPT up to the newest checkpoint
   pub page_aside : (lists clinks : List ℕ) (page_words : List PageWords) (ctail : ℕ) (cheld : Bool) (ckpt failed : ℕ) (b : Actor) → IsSized c.pages (record m { lists = lists; clinks = clinks; page_words = page_words; ctail = ctail; cheld = cheld; ckpt = ckpt; failed = failed })
       → m.ckpt ≤ ckpt → ckpt ≤ D.ckpt p → (0 < m.failed → 0 < failed) → (ckpt ≡ m.ckpt) ⊎ (seat ≡ c.checkpointer)
-      → Fits D c (record m { lists = lists; clinks = clinks; page_words = page_words; ctail = ctail; cheld = cheld; ckpt = ckpt; failed = failed }) g p seat b → holds b ≡ holds a → ◌≡◌ {A = List Entry} (entries b) (entries a) → left_to_reserve b ≤ left_to_reserve a
+      → LogFits D c (record m { lists = lists; clinks = clinks; page_words = page_words; ctail = ctail; cheld = cheld; ckpt = ckpt; failed = failed }) g p seat b → holds b ≡ holds a → ◌≡◌ {A = List Entry} (entries b) (entries a) → left_to_reserve b ≤ left_to_reserve a
       → Kept D c spare (record m { lists = lists; clinks = clinks; page_words = page_words; ctail = ctail; cheld = cheld; ckpt = ckpt; failed = failed }) g p (set actors seat b)
   page_aside lists clinks page_words ctail cheld ckpt failed b sized up low fails who f keep same le =
       let m' : SharedWords = record m { lists = lists; clinks = clinks; page_words = page_words; ctail = ctail; cheld = cheld; ckpt = ckpt; failed = failed } in

@@ -7,7 +7,7 @@ use Rattle.model_core.proofs.Lists.{at_set, set_again}
 use Rattle.model_core.proofs.TailHolders.{holder_stays}
 use Rattle.model_core.proofs.TailsFree.{took_free}
 unfoldable use Rattle.model_core.specs.{lanes}
-use Rattle.model_core.specs.{Actor, Advance, Batch, Blocks, checked, ChecksWithoutTail, checkpointer_holds, checkpointer_op, checkpointer_took, CheckpointerState, cleaner_op, cleaner_took, CleanerState, closer_op, closer_took, CloserState, Entry, first_of_batch, floor, flusher_holds, flusher_op, flusher_took, FlusherState, heard, is_held, IsSized, lent, Listed, log_left, LogServed, lowered, next, next_in_round, Nothing, old_of, oldest_end, own_took, page_loaded, page_of, page_words_at, PageWords, phase_log, shared_answer, shared_left, SharedWords, tail_of, tail_word, took, user_op, user_took, UserState, with_page_words, writer_holds, writer_op, writer_took, WriterState}
+use Rattle.model_core.specs.{Actor, Advance, Batch, Blocks, checked, ChecksWithoutTail, checkpointer_holds, checkpointer_op, checkpointer_took, CheckpointerState, cleaner_op, cleaner_took, CleanerState, closer_op, closer_took, CloserState, Entry, first_of_batch, floor, flusher_holds, flusher_op, flusher_took, FlusherState, heard, is_held, IsSized, lent, Listed, log_left, LogServed, lowered, next, next_in_round, Nothing, old_of, oldest_end, own_took, page_loaded, current_page, page_words_at, PageWords, phase_log, shared_answer, shared_left, SharedWords, tail_of, tail_word, took, user_op, user_took, UserState, with_page_words, writer_holds, writer_op, writer_took, WriterState}
 use Rattle.model_core.specs.LogSide.{LogSide}
 use Rattle.model_core.specs.Setup.{Setup}
 use Rattle.model_core.specs.declared.ops.Answer.{Answer}
@@ -19,6 +19,7 @@ use Rattle.model_core.specs.declared.steps.UserStep.{UserStep}
 use Rattle.model_core.specs.declared.steps.CheckpointerStep.{CheckpointerStep}
 use Rattle.model_core.specs.declared.steps.WriterStep.{WriterStep}
 use Rattle.model_core.specs.declared.steps.FlusherStep.{FlusherStep}
+use Rattle.model_core.specs.declared.limits.TheConstants.{ADVANCE_PLACES, CLOSED_LINKS}
 use Rattle.model_logcore.proofs.LogAside.{page_aside, points_by}
 use Rattle.model_logcore.proofs.DeviceSteps.{can_write, gives, stays, takes, writes_by}
 use Rattle.model_logcore.proofs.FlusherSteps.{flusher_checked, keeps_fault, keeps_flushed, keeps_watch, syncs_by}
@@ -93,10 +94,10 @@ module _ (D : LogSide) (L : LogLaws D) (c : Setup) (spare : ℕ) (m : SharedWord
     user_own user_step.StoreClosedLink is h unasked s = same _ _ s (user_keeps D L c spare m g p actors seat u before at user_step.StoreClosedLink is h unasked tt)
     user_own user_step.ReleaseLatch is h unasked s = same _ _ s (user_keeps D L c spare m g p actors seat u before at user_step.ReleaseLatch is h unasked tt)
     user_own user_step.AwaitMark is h unasked s = same _ _ s (user_keeps D L c spare m g p actors seat u before at user_step.AwaitMark is h unasked tt)
-    user_own user_step.AddToList is h unasked s = list_by (eqb (slice_index m.lists (page_of u % 4)) 0) h s
+    user_own user_step.AddToList is h unasked s = list_by (eqb (slice_index m.lists (current_page u % 4)) 0) h s
       where
         list_by : (b : Bool) → UserAt D c m g p seat u user_step.AddToList → ◌≡◌ {A = D.Part} q p
-            → (k : LogGhost) × Kept D c spare (cond b (record m { lists = slice_set m.lists (page_of u % 4) 1 }) m) k q (set actors seat (actor.User (user_took u (heard (cond b (answer.Taken None) answer.Held)) user_step.AddToList))) × (◌≡◌ {A = List Entry} (k.log) g.log)
+            → (k : LogGhost) × Kept D c spare (cond b (record m { lists = slice_set m.lists (current_page u % 4) 1 }) m) k q (set actors seat (actor.User (user_took u (heard (cond b (answer.Taken None) answer.Held)) user_step.AddToList))) × (◌≡◌ {A = List Entry} (k.log) g.log)
         list_by true h s = same _ _ s (g, user_list D L c spare m g p actors seat u before at true h, refl)
         list_by false h s = same _ _ s (g, user_list D L c spare m g p actors seat u before at false h, refl)
     user_own user_step.GiveList is h unasked s = same _ _ s (g, user_give D L c spare m g p actors seat u before at h, refl)
@@ -217,8 +218,8 @@ module _ (D : LogSide) (L : LogLaws D) (c : Setup) (spare : ℕ) (m : SharedWord
         by : (b : Bool) → (h : LogGhost) × Kept D c spare (cond b (record m { ctail = tail_of (tail_word t.advance.tail true); cheld = is_held (tail_word t.advance.tail true) }) m) h q (set actors seat (actor.Closer (record t { advance = record t.advance { place = t.advance.tail }; checks = cond b false true; step = closer_step.Advance (cond (cond b false true) advance_step.LoadTail advance_step.LoadLink) }))) × (◌≡◌ {A = List Entry} (h.log) g.log)
         by true = advances m.clinks (tail_of (tail_word t.advance.tail true)) (is_held (tail_word t.advance.tail true)) (record t.advance { place = t.advance.tail }) false advance_step.LoadLink (numbers_sized before.sized) v
         by false = advances m.clinks m.ctail m.cheld (record t.advance { place = t.advance.tail }) true advance_step.LoadTail before.sized v
-    closer_own (closer_step.Advance advance_step.LoadLink) is v = advances m.clinks m.ctail m.cheld (record t.advance { link = slice_index m.clinks (t.advance.place % 16384) }) false (cond (eqb (slice_index m.clinks (t.advance.place % 16384)) 0) advance_step.FreeTail advance_step.ClearLink) before.sized v
-    closer_own (closer_step.Advance advance_step.ClearLink) is v = advances (slice_set m.clinks (t.advance.place % 16384) 0) m.ctail m.cheld (record t.advance { place = t.advance.place + t.advance.link; link = 0 }) false (cond (ltb (t.advance.place + t.advance.link) (t.advance.tail + 32768)) advance_step.LoadLink advance_step.FreeTail) (clinks_sized (t.advance.place % 16384) 0 before.sized) v
+    closer_own (closer_step.Advance advance_step.LoadLink) is v = advances m.clinks m.ctail m.cheld (record t.advance { link = slice_index m.clinks (t.advance.place % CLOSED_LINKS) }) false (cond (eqb (slice_index m.clinks (t.advance.place % CLOSED_LINKS)) 0) advance_step.FreeTail advance_step.ClearLink) before.sized v
+    closer_own (closer_step.Advance advance_step.ClearLink) is v = advances (slice_set m.clinks (t.advance.place % CLOSED_LINKS) 0) m.ctail m.cheld (record t.advance { place = t.advance.place + t.advance.link; link = 0 }) false (cond (ltb (t.advance.place + t.advance.link) (t.advance.tail + ADVANCE_PLACES)) advance_step.LoadLink advance_step.FreeTail) (clinks_sized (t.advance.place % CLOSED_LINKS) 0 before.sized) v
     closer_own (closer_step.Advance advance_step.FreeTail) is v = advances m.clinks (tail_of (tail_word t.advance.place false)) (is_held (tail_word t.advance.place false)) t.advance (eqb t.advance.place t.advance.tail) advance_step.LoadTail (numbers_sized before.sized) v
     closer_own closer_step.Failed is v = rested (actor.Closer t) at v
 
@@ -276,7 +277,7 @@ module _ (D : LogSide) (L : LogLaws D) (c : Setup) (spare : ℕ) (m : SharedWord
         by true = plain (record x { newest = (page_words_at m.page_words x.page).newest; kept = []; step = cleaner_step.LoadFrame }) (λ z. absurd (cc)) (λ z. absurd (cc)) v
         by false = plain (record x { step = cleaner_step.ReleaseSkipped }) (λ z. absurd (cc)) (λ z. absurd (cc)) v
     cleaner_own cleaner_step.ReleaseSkipped is v = leafy x.page (record (page_words_at m.page_words x.page) { latch = 0 }) refl (next_in_round x) (next_in_round_on x).0 (next_in_round_on x).1 v
-    cleaner_own cleaner_step.LoadFrame is v = by (eqb (length x.kept + 8) 4096)
+    cleaner_own cleaner_step.LoadFrame is v = by (eqb (length x.kept + 8) x.page_size)
       where
         by : (b : Bool) → CleanerDone m (cond b (next_in_round (record x { batch = x.batch ++ page_loaded x (slice_index (page_words_at m.page_words x.page).frame (length x.kept / 8)) ∷ [] })) (record x { kept = x.kept ++ lanes 0 8 (slice_index (page_words_at m.page_words x.page).frame (length x.kept / 8)); step = cleaner_step.LoadFrame }))
         by true = let y : CleanerState = record x { batch = x.batch ++ page_loaded x (slice_index (page_words_at m.page_words x.page).frame (length x.kept / 8)) ∷ [] } in plain (next_in_round y) (next_in_round_on y).0 (next_in_round_on y).1 v

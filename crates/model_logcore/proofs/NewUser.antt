@@ -11,7 +11,7 @@ use Rattle.model_core.specs.LogSide.{LogSide}
 use Rattle.model_core.specs.Setup.{Setup}
 use Rattle.model_logcore.proofs.UserGroups.{count_some}
 use Rattle.model_logcore.specs.LogFacts.{LogGhost, count_of, sum_over_actors}
-use Rattle.model_logcore.specs.LogFits.{AreBelow, Fits, UserAt, UserFits}
+use Rattle.model_logcore.specs.LogFits.{AreBelow, LogFits, UserAt, UserFits}
 use Rattle.model_logcore.specs.LogHalf.{LogHalf, left_to_reserve}
 use Rattle.model_logcore.proofs.NewUsers.{new_free, new_user_is}
 use Rattle.model_logcore.specs.Start.{StartUser}
@@ -49,7 +49,7 @@ half_seats_user D c spare m g p actors u S k other none =
         part = G.part;
       };
       each = λ j a e. ⊎_elim (λ t. others D c m g p u.user (length actors) j a (λ v v_is. other j v (t ∙ ap maybe.some v_is)) (k.each j a t))
-          (λ t. subst (λ (z : ℕ × Actor). Fits D c m g' p z.0 z.1) (λ i. (sym t.0 i, t.1 i)) (new_fits D c m g p u S none (length actors)))
+          (λ t. subst (λ (z : ℕ × Actor). LogFits D c m g' p z.0 z.1) (λ i. (sym t.0 i, t.1 i)) (new_fits D c m g p u S none (length actors)))
           (at_end actors (actor.User u) a j e);
       turns = λ j a e h. ⊎_elim (λ t. k.turns j a t h) (λ t. let z : false ≡ true = ap holds t.1 ∙ h in absurd (cc)) (at_end actors (actor.User u) a j e);
       taken = λ d. let t = k.taken d in (t.0, at_longer actors (actor.User u ∷ []) g.holder t.0 t.1, t.2);
@@ -64,7 +64,7 @@ half_seats_user D c spare m g p actors u S k other none =
     sum_end f [] v = omega arith
     sum_end f (x ∷ xs) v = let r = sum_end f xs v in omega arith
 
-    others : (D : LogSide) (c : Setup) (m : SharedWords) (g : LogGhost) (p : D.Part) (user n j : ℕ) (a : Actor) → ((v : UserState) → a ≡ actor.User v → v.user ≢ user) → Fits D c m g p j a → Fits D c m (with_user g user n) p j a
+    others : (D : LogSide) (c : Setup) (m : SharedWords) (g : LogGhost) (p : D.Part) (user n j : ℕ) (a : Actor) → ((v : UserState) → a ≡ actor.User v → v.user ≢ user) → LogFits D c m g p j a → LogFits D c m (with_user g user n) p j a
     others D c m g p user n j (actor.User v) ne h = record {
       own_seat = changed_else g.seat_of user n v.user (ne v refl) ∙ h.own_seat;
       blocks = h.blocks;

@@ -6,7 +6,8 @@ use Rattle.std.specs.Prelude.{slice_index}
 use lib.ListN.{get_elem?}
 use mathlib.Core.Option.{some}
 use native.Mathlib.Decide.{dec_le, ℕ_discrete}
-use Rattle.model_base.specs.declared.limits.TheConstants.{LSN_LIMIT}
+use Rattle.model_base.specs.declared.limits.TheConstants.{LSN_LIMIT, MAX_GROUP}
+use Rattle.model_log.specs.declared.layout.TheConstants.{BLOCK_DATA}
 use Rattle.model_core.proofs.Lists.{at_last, at_longer}
 use Rattle.model_core.proofs.Groups.{at_end, at_less, back, bound_snoc, byte_snoc, crosses_is, first_from, first_snoc, ranged, ranged_below, ranged_in, stream_long, stream_snoc, tiles_at, tiles_snoc, sum_of_append}
 use Rattle.model_core.proofs.Lanes.{base_word}
@@ -25,8 +26,8 @@ use Rattle.model_core.specs.declared.steps.UserStep.TheVariants as user_step
 use Rattle.model_core.specs.Actors as actor
 
 -- a block with a first offset begins at or below the end of the groups
-first_low : (base : ℕ) (log : List Entry) (n q v : ℕ) → Tiles base log n → base ≤ n → 0 < v → v ≡ first_of base log q → q ≤ n / 496
-first_low base log n q v t le some_v true_v = elim (ℕ_discrete q (base / 496)) [
+first_low : (base : ℕ) (log : List Entry) (n q v : ℕ) → Tiles base log n → base ≤ n → 0 < v → v ≡ first_of base log q → q ≤ n / BLOCK_DATA
+first_low base log n q v t le some_v true_v = elim (ℕ_discrete q (base / BLOCK_DATA)) [
   | yes d ↦ omega arith
   | no d ↦ ⊎_elim (λ z. absurd (omega arith)) (λ z. let w = tiles_at log base n z.0 z.1 t z.2 in let k = crosses_is q z.1 z.3 in let a = w.1 in let b = k.0 in omega arith) (first_from base log q d)
 ]
@@ -65,11 +66,12 @@ module _ (D : LogSide) (L : LogLaws D) (c : Setup) (spare : ℕ) (m : SharedWord
       let old : (x : ℕ) → c.base ≤ x → x < n → byte_at c.base g'.log x ≡ byte_at c.base g.log x = λ x lo hi. byte_snoc g.log c.base n e x T.tiles lo hi in
       let new : (j : ℕ) → byte_at c.base g'.log (n + j) ≡ slice_index (group_bytes u) j = λ j.
       ap (λ (z : List ℕ). slice_index z (n + j - c.base)) (stream_snoc g.log e) ∙ ap (slice_index (stream g.log ++ group_bytes u)) (let z : n + j - c.base ≡ length (stream g.log) + j = omega arith in z) ∙ back (stream g.log) (group_bytes u) (length (stream g.log)) j refl in
-      let lies : (i : ℕ) (x : Entry) → get_elem? g.log i ≡ some x → (c.base ≤ x.start) × (end_of x ≤ n) × (0 < length x.bytes) × (length x.bytes ≤ 8192) = λ i x z. tiles_at g.log c.base n i x T.tiles z in
+      let lies : (i : ℕ) (x : Entry) → get_elem? g.log i ≡ some x → (c.base ≤ x.start) × (end_of x ≤ n) × (0 < length x.bytes) × (length x.bytes ≤ MAX_GROUP) = λ i x z. tiles_at g.log c.base n i x T.tiles z in
       let last : get_elem? (g.log ++ e ∷ []) (length g.log) ≡ some e = at_last g.log e (length g.log) refl in
       let counted : count_of u.user (g.log ++ e ∷ []) ≡ length w.starts = (let a = count_snoc u.user g.log e in let o = one_of u.user e refl in let z = mine.counted in omega (arith, length-append u.starts (n ∷ []))) in
       let long : length w.starts ≡ u.k + 1 = (let z = is.0 in omega (arith, length-append u.starts (n ∷ []))) in
-      let first_old : (r : ℕ) → 496 * r < g.target → first_of c.base g'.log r ≡ first_of c.base g.log r = λ r l. first_snoc c.base g.log e r (omega arith) in
+      let first_old : (r : ℕ) → BLOCK_DATA * r < g.target → first_of c.base g'.log r ≡ first_of c.base g.log r =
+      λ r l. first_snoc c.base g.log e r (omega arith) in
       let added : entries (actor.User w) ≡ entries (actor.User u) ++ e ∷ [] = entries_snoc u.user u.lines 0 u.starts n ∙ ap (λ (j : ℕ). entries (actor.User u) ++ entry u.user j n (line_at u.lines j) ∷ []) (let z : 0 + length u.starts ≡ u.k = (let y = is.0 in omega arith) in z) in
       let rest : lengths (drop (length u.starts) u.lines) ≡ b + lengths (drop (length w.starts) u.lines) =
       ap (λ (j : ℕ). lengths (drop j u.lines)) is.0 ∙ lengths_step u.lines u.k is.1 ∙ ap (λ (j : ℕ). b + lengths (drop j u.lines)) (sym long) in (
@@ -205,8 +207,8 @@ module _ (D : LogSide) (L : LogLaws D) (c : Setup) (spare : ℕ) (m : SharedWord
                   bare = λ x l r. state_in x (omega arith) r;
                 },
                 refl,
-                (λ cross. elim (dec_le 1 (g.first ((n + b) / 496))) [
-                  | yes d ↦ (let low = first_low c.base g.log n ((n + b) / 496) (g.first ((n + b) / 496)) T.tiles (omega arith) d (G.first_offsets.true_first ((n + b) / 496) d) in absurd (omega arith))
+                (λ cross. elim (dec_le 1 (g.first ((n + b) / BLOCK_DATA))) [
+                  | yes d ↦ (let low = first_low c.base g.log n ((n + b) / BLOCK_DATA) (g.first ((n + b) / BLOCK_DATA)) T.tiles (omega arith) d (G.first_offsets.true_first ((n + b) / BLOCK_DATA) d) in absurd (omega arith))
                   | no d ↦ omega arith
                 ]),
               );

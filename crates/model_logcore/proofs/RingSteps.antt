@@ -5,6 +5,7 @@ use Rattle.std.specs.Prelude.{slice_index, slice_set}
 use lib.ListN.{get_elem?}
 use mathlib.Core.Option.{some}
 use native.Mathlib.Decide.{dec_le, ℕ_discrete}
+use Rattle.model_log.specs.declared.layout.TheConstants.{BLOCK_DATA}
 use Rattle.model_core.proofs.Groups.{changed, changed_else, changed_here, entry_byte, is_crosses, ranged, ranged_in, ranged_out, tiles_at}
 use Rattle.model_core.proofs.Lanes.{add_else, add_here, add_wide, cell_word, left_fits, next_are, next_few, next_lanes, next_long, next_some, next_within, same_word, word_grows, word_up}
 use Rattle.model_core.proofs.Lsns.{block_below, block_window, floor_grows, lsn_block, lsn_le, lsn_less, lsn_offset, lsn_wide, ring_same}
@@ -13,10 +14,12 @@ use Rattle.model_core.specs.{Actor, Advance, byte_at, byte_in, cell_of, copy_pla
 use Rattle.model_core.specs.LogSide.{LogSide}
 use Rattle.model_core.specs.Setup.{Setup}
 use Rattle.model_core.specs.declared.steps.UserStep.{UserStep}
+use Rattle.model_core.specs.declared.limits.TheConstants.{BUFFER_WORDS, LOG_BUFFER}
+use Rattle.model_base.specs.declared.limits.TheConstants.{MAX_GROUP}
 use Rattle.model_logcore.proofs.UserGroups.{crossing_same, first_is}
 use Rattle.model_logcore.proofs.Frame.{unchanged, Kept, Later, Still, others_later, moved_on}
 use Rattle.model_logcore.proofs.Same.{cells_sized, firsts_sized, stored_here, stored_else}
-use Rattle.model_logcore.specs.LogFacts.{WrittenLinks, IsBare, LogGhost, LogFacts, FirstOffsets, InHand, RingCells, count_of, Commits}
+use Rattle.model_logcore.specs.LogFacts.{WrittenLinks, HasZeroLane, LogGhost, LogFacts, FirstOffsets, InHand, RingCells, count_of, Commits}
 use Rattle.model_logcore.specs.LogFits.{AreBelow, Hand, UserAt, UserFits}
 use Rattle.model_logcore.specs.LogHalf.{LogHalf, left_to_reserve}
 use Rattle.model_core.specs.declared.steps.UserStep.TheVariants as user_step
@@ -83,7 +86,7 @@ module _ (D : LogSide) (c : Setup) (spare : ℕ) (m : SharedWords) (g : LogGhost
       device holder log sn refl same le
 
   -- where the group in hand lies
-  pub hand_lies : (h : Hand D c m g p seat u) → (c.base ≤ u.start) × (group_end u ≤ m.sn) × (0 < length (group_bytes u)) × (length (group_bytes u) ≤ 8192)
+  pub hand_lies : (h : Hand D c m g p seat u) → (c.base ≤ u.start) × (group_end u ≤ m.sn) × (0 < length (group_bytes u)) × (length (group_bytes u) ≤ MAX_GROUP)
   hand_lies h = tiles_at g.log c.base m.sn h.at _ before.global.tiled.tiles h.is
 
   -- a place that isn't linked isn't below the writer's tail
@@ -107,12 +110,12 @@ module _ (D : LogSide) (c : Setup) (spare : ℕ) (m : SharedWords) (g : LogGhost
     written = refl;
   }
 
-  copy_tested : (m' : SharedWords) (g' : LogGhost) (b d : Bool) → eqb (u.copied + next_count u) (length (group_bytes u)) ≡ b → ltb (u.start / 496) (group_end u / 496) ≡ d → m'.write ≡ m.write → u.copied + next_count u ≤ length (group_bytes u)
+  copy_tested : (m' : SharedWords) (g' : LogGhost) (b d : Bool) → eqb (u.copied + next_count u) (length (group_bytes u)) ≡ b → ltb (u.start / BLOCK_DATA) (group_end u / BLOCK_DATA) ≡ d → m'.write ≡ m.write → u.copied + next_count u ≤ length (group_bytes u)
       → ((q : ℕ) → g'.first q ≡ g.first q) → InHand g'.log g'.place g'.state seat u.user u.k u.start (u.copied + next_count u) (line u) → UserAt D c m g p seat u user_step.AddCell
       → UserAt D c m' g' p seat (record u { copied = u.copied + next_count u; step = cond b (cond d user_step.StoreFirst user_step.LoadWtail) user_step.AddCell }) (cond b (cond d user_step.StoreFirst user_step.LoadWtail) user_step.AddCell)
-  copy_tested m' g' true true e f w few firsts i h = (h.0, h.1, i, eqb-true (u.copied + next_count u) (length (group_bytes u)) e, subst (λ (k : ℕ). lsn (group_end u) < floor k + 65536) (sym w) h.4, ltb-true (u.start / 496) (group_end u / 496) f, (λ cross. firsts (group_end u / 496) ∙ h.5 cross), h.6)
-  copy_tested m' g' true false e f w few firsts i h = (h.0, h.1, i, eqb-true (u.copied + next_count u) (length (group_bytes u)) e, λ l. let n = ltb-false (u.start / 496) (group_end u / 496) f in absurd (omega arith))
-  copy_tested m' g' false d e f w few firsts i h = (h.0, h.1, i, (let n = eqb-false (u.copied + next_count u) (length (group_bytes u)) e in below_of (u.copied + next_count u) (length (group_bytes u)) few n), subst (λ (k : ℕ). lsn (group_end u) < floor k + 65536) (sym w) h.4, (λ cross. firsts (group_end u / 496) ∙ h.5 cross), h.6)
+  copy_tested m' g' true true e f w few firsts i h = (h.0, h.1, i, eqb-true (u.copied + next_count u) (length (group_bytes u)) e, subst (λ (k : ℕ). lsn (group_end u) < floor k + LOG_BUFFER) (sym w) h.4, ltb-true (u.start / BLOCK_DATA) (group_end u / BLOCK_DATA) f, (λ cross. firsts (group_end u / BLOCK_DATA) ∙ h.5 cross), h.6)
+  copy_tested m' g' true false e f w few firsts i h = (h.0, h.1, i, eqb-true (u.copied + next_count u) (length (group_bytes u)) e, λ l. let n = ltb-false (u.start / BLOCK_DATA) (group_end u / BLOCK_DATA) f in absurd (omega arith))
+  copy_tested m' g' false d e f w few firsts i h = (h.0, h.1, i, (let n = eqb-false (u.copied + next_count u) (length (group_bytes u)) e in below_of (u.copied + next_count u) (length (group_bytes u)) few n), subst (λ (k : ℕ). lsn (group_end u) < floor k + LOG_BUFFER) (sym w) h.4, (λ cross. firsts (group_end u / BLOCK_DATA) ∙ h.5 cross), h.6)
     where
       below_of : (a b : ℕ) → a ≤ b → a ≢ b → a < b
       below_of a b l n = omega arith
@@ -145,7 +148,7 @@ module _ (D : LogSide) (c : Setup) (spare : ℕ) (m : SharedWords) (g : LogGhost
     long : length (next_bytes u) ≡ count
     long = next_long u (let l = h.3 in omega arith)
 
-    lies : (c.base ≤ u.start) × (group_end u ≤ m.sn) × (0 < length (group_bytes u)) × (length (group_bytes u) ≤ 8192)
+    lies : (c.base ≤ u.start) × (group_end u ≤ m.sn) × (0 < length (group_bytes u)) × (length (group_bytes u) ≤ MAX_GROUP)
     lies = hand_lies h.2
 
     up : g.tail ≤ place
@@ -160,7 +163,7 @@ module _ (D : LogSide) (c : Setup) (spare : ℕ) (m : SharedWords) (g : LogGhost
     inside_sn : (x : ℕ) → x < place + count → x < m.sn
     inside_sn x l = let f = count_few in let w = lies.1 in omega arith
 
-    near : (x : ℕ) → x < place + count → lsn x < floor m.write + 65536
+    near : (x : ℕ) → x < place + count → lsn x < floor m.write + LOG_BUFFER
     near x l = let f = count_few in let z = lsn_le x (group_end u) (omega arith) in let e = h.4 in omega arith
 
     low_at : (x : ℕ) → place ≤ x → floor m.write ≤ lsn x
@@ -169,11 +172,11 @@ module _ (D : LogSide) (c : Setup) (spare : ℕ) (m : SharedWords) (g : LogGhost
     slot : cell_of place < length m.cells
     slot = let z = before.sized.cells in subst (λ (n : ℕ). cell_of place < n) (sym z) (small_of (lsn place / 8))
       where
-        small_of : (n : ℕ) → n % 8192 < 8192
+        small_of : (n : ℕ) → n % BUFFER_WORDS < BUFFER_WORDS
         small_of n = omega arith
 
     in_cell : (j : ℕ) → j < count → cell_of (place + j) ≡ cell_of place
-    in_cell j l = ap (λ (n : ℕ). n % 8192) (same_word place j (let w = next_within u in omega arith))
+    in_cell j l = ap (λ (n : ℕ). n % BUFFER_WORDS) (same_word place j (let w = next_within u in omega arith))
 
     in_lane : (j : ℕ) → j < count → lane_of (place + j) ≡ lane_of place + j
     in_lane j l = next_lanes place j (let w = next_within u in omega arith)
@@ -214,7 +217,7 @@ module _ (D : LogSide) (c : Setup) (spare : ℕ) (m : SharedWords) (g : LogGhost
         let byte = entry_byte g.log c.base m.sn h.2.at _ (u.copied + j) before.global.tiled.tiles h.2.is (omega arith) in
         lane_then (place + j) (in_cell j l) ∙ ap (λ (k : ℕ). lane k (old_word + packed (lane_of place) (next_bytes u))) (in_lane j l) ∙ sum ∙ next_are u j l ∙ sym byte ∙ ap (byte_at c.base g.log) (let z : u.start + (u.copied + j) ≡ place + j = omega arith in z)
 
-    copied_else : (x : ℕ) → floor m.write ≤ lsn x → lsn x < floor m.write + 65536 → (place ≤ x → x < place + count → ⊥) → byte_in new_cells x ≡ byte_in m.cells x
+    copied_else : (x : ℕ) → floor m.write ≤ lsn x → lsn x < floor m.write + LOG_BUFFER → (place ≤ x → x < place + count → ⊥) → byte_in new_cells x ≡ byte_in m.cells x
     copied_else x lo hi out = elim (ℕ_discrete (cell_of x) (cell_of place)) [
       | no n ↦ ap (lane (lane_of x)) (stored_else m.cells (cell_of place) (slice_index m.cells (cell_of place) + packed (lane_of place) (next_bytes u)) (cell_of x) n)
       | yes e ↦ (let w : lsn x / 8 ≡ lsn place / 8 = cell_word x place m.write lo low hi (near place (let s = count_some in omega arith)) e in
@@ -248,24 +251,24 @@ module _ (D : LogSide) (c : Setup) (spare : ℕ) (m : SharedWords) (g : LogGhost
       bare = λ x lo hi b. bare_by x lo hi b (dec_le place x) (dec_le (place + count) x);
     }
       where
-        old_stands : (x : ℕ) → lsn g.read / 8 ≤ lsn x / 8 → x < m.sn → 0 < copies x → (place ≤ x → x < place + count → ⊥) → (byte_in new_cells x ≡ byte_at c.base g.log x) × (lsn x < floor m.write + 65536)
+        old_stands : (x : ℕ) → lsn g.read / 8 ≤ lsn x / 8 → x < m.sn → 0 < copies x → (place ≤ x → x < place + count → ⊥) → (byte_in new_cells x ≡ byte_at c.base g.log x) × (lsn x < floor m.write + LOG_BUFFER)
         old_stands x l r s out =
             let o = before.global.ring_cells.stands x l r (let z = copies_out x out in omega arith) in
             let O = before.global.order in
             let z = word_up g.read x l in let a = O.write_is in let w = lsn_le g.write g.read O.write_read in
             (copied_else x (let y = floor_grows (lsn g.write) (lsn g.read) w in let v : floor m.write ≡ floor (lsn g.write) = ap floor a in omega arith) o.1 out ∙ o.0, o.1)
 
-        by : (x : ℕ) → lsn g.read / 8 ≤ lsn x / 8 → x < m.sn → 0 < copies x → Dec (place ≤ x) → Dec (place + count ≤ x) → (byte_in new_cells x ≡ byte_at c.base g.log x) × (lsn x < floor m.write + 65536)
+        by : (x : ℕ) → lsn g.read / 8 ≤ lsn x / 8 → x < m.sn → 0 < copies x → Dec (place ≤ x) → Dec (place + count ≤ x) → (byte_in new_cells x ≡ byte_at c.base g.log x) × (lsn x < floor m.write + LOG_BUFFER)
         by x l r s (yes d) (no q) =
             let j : ℕ = x - place in let is : place + j ≡ x = omega arith in
             (subst (λ (y : ℕ). byte_in new_cells y ≡ byte_at c.base g.log y) is (copied_here j (omega arith)), near x (omega arith))
         by x l r s (yes d) (yes q) = old_stands x l r s (λ a b. omega arith)
         by x l r s (no d) q = old_stands x l r s (λ a b. omega arith)
 
-        old_bare : (x : ℕ) → floor m.write ≤ lsn x → lsn x < floor m.write + 65536 → IsBare m.sn copies g.read x → (place ≤ x → x < place + count → ⊥) → byte_in new_cells x ≡ 0
+        old_bare : (x : ℕ) → floor m.write ≤ lsn x → lsn x < floor m.write + LOG_BUFFER → HasZeroLane m.sn copies g.read x → (place ≤ x → x < place + count → ⊥) → byte_in new_cells x ≡ 0
         old_bare x lo hi b out = copied_else x lo hi out ∙ before.global.ring_cells.bare x lo hi (⊎_elim (λ z. inl z) (λ z. ⊎_elim (λ y. inr (inl y)) (λ y. inr (inr (sym (copies_out x out) ∙ y))) z) b)
 
-        bare_by : (x : ℕ) → floor m.write ≤ lsn x → lsn x < floor m.write + 65536 → IsBare m.sn copies g.read x → Dec (place ≤ x) → Dec (place + count ≤ x) → byte_in new_cells x ≡ 0
+        bare_by : (x : ℕ) → floor m.write ≤ lsn x → lsn x < floor m.write + LOG_BUFFER → HasZeroLane m.sn copies g.read x → Dec (place ≤ x) → Dec (place + count ≤ x) → byte_in new_cells x ≡ 0
         bare_by x lo hi b (yes d) (no q) =
             let one = copies_in x d (omega arith) in let less = inside_sn x (omega arith) in let w = word_grows g.read x (let f = from_read in omega arith) in
             absurd (⊎_elim (λ z. omega arith) (λ z. ⊎_elim (λ y. omega arith) (λ y. omega arith) z) b)
@@ -281,7 +284,7 @@ module _ (D : LogSide) (c : Setup) (spare : ℕ) (m : SharedWords) (g : LogGhost
       let m' : SharedWords = record m { cells = slice_set m.cells (cell_of k) (slice_index m.cells (cell_of k) + packed (lane_of k) (next_bytes u)) } in
       let g' : LogGhost = record g { state = copies h } in
       let b : Bool = eqb (u.copied + n) (length (group_bytes u)) in
-      let d : Bool = ltb (u.start / 496) (group_end u / 496) in
+      let d : Bool = ltb (u.start / BLOCK_DATA) (group_end u / BLOCK_DATA) in
       let G = before.global in
       let hand = h.2 in
       let few = count_few h in
@@ -344,9 +347,9 @@ module _ (D : LogSide) (c : Setup) (spare : ℕ) (m : SharedWords) (g : LogGhost
       → (h : LogGhost) × Kept D c spare (record m { firsts = slice_set m.firsts (lsn (group_end u) / 512 % 128) (lsn (group_end u) % 512) }) h p (set actors seat (actor.User (user_took u 0 user_step.StoreFirst))) × (◌≡◌ {A = List Entry} (h.log) (g.log))
   keeps_store_first is h = stored (lsn (group_end u) / 512 % 128) (lsn (group_end u) % 512) (ap (λ (k : ℕ). k % 128) (lsn_block (group_end u))) (lsn_offset (group_end u))
     where
-      stored : (i v : ℕ) → i ≡ group_end u / 496 % 128 → v ≡ group_end u % 496 + 12 → (h : LogGhost) × Kept D c spare (record m { firsts = slice_set m.firsts i v }) h p (set actors seat (actor.User (user_took u 0 user_step.StoreFirst))) × (◌≡◌ {A = List Entry} (h.log) (g.log))
+      stored : (i v : ℕ) → i ≡ group_end u / BLOCK_DATA % 128 → v ≡ group_end u % BLOCK_DATA + 12 → (h : LogGhost) × Kept D c spare (record m { firsts = slice_set m.firsts i v }) h p (set actors seat (actor.User (user_took u 0 user_step.StoreFirst))) × (◌≡◌ {A = List Entry} (h.log) (g.log))
       stored i v i_is v_is =
-          let q : ℕ = group_end u / 496 in
+          let q : ℕ = group_end u / BLOCK_DATA in
           let m' : SharedWords = record m { firsts = slice_set m.firsts i v } in
           let g' : LogGhost = record g { first = changed g.first q v } in
           let G = before.global in
@@ -365,7 +368,7 @@ module _ (D : LogSide) (c : Setup) (spare : ℕ) (m : SharedWords) (g : LogGhost
           let to : q < g.entered + 128 = block_window (group_end u) g.write m.write g.entered O.write_is (omega arith) hi in
           let here : (x : ℕ) → x ≡ q → g'.first x ≡ v = λ x e. changed_here g.first q v x e in
           let else : (x : ℕ) → x ≢ q → g'.first x ≡ g.first x = λ x n. changed_else g.first q v x n in
-          let near : q * 512 < floor m.write + 65536 = subst (λ (k : ℕ). lsn (group_end u) < floor k + 65536 → q * 512 < floor k + 65536) (sym O.write_is) (block_below (group_end u) g.write) hi in
+          let near : q * 512 < floor m.write + LOG_BUFFER = subst (λ (k : ℕ). lsn (group_end u) < floor k + LOG_BUFFER → q * 512 < floor k + LOG_BUFFER) (sym O.write_is) (block_below (group_end u) g.write) hi in
           let more : (x : ℕ) → 0 < g.first x → 0 < g'.first x = λ x s. elim (ℕ_discrete x q) [
             | yes e ↦ (let z = here x e in omega arith)
             | no n ↦ (let z = else x n in omega arith)
@@ -384,15 +387,15 @@ module _ (D : LogSide) (c : Setup) (spare : ℕ) (m : SharedWords) (g : LogGhost
                       | no n ↦ stored_else m.firsts i v (x % 128) n ∙ H.slots_are x l r ∙ sym (else x (λ e. n (ap (λ (k : ℕ). k % 128) e ∙ sym i_is)))
                     ];
                     near = λ x s. elim (ℕ_discrete x q) [
-                      | yes e ↦ subst (λ (k : ℕ). k * 512 < floor m.write + 65536) (sym e) near
+                      | yes e ↦ subst (λ (k : ℕ). k * 512 < floor m.write + LOG_BUFFER) (sym e) near
                       | no n ↦ H.near x (let z = else x n in omega arith)
                     ];
                     true_first = λ x s. elim (ℕ_discrete x q) [
                       | yes e ↦ here x e ∙ v_is ∙ sym (first_is c m.sn g.log g.place hand.at (entry u.user u.k u.start (line u)) q G.tiled hand.is (is_crosses q (entry u.user u.k u.start (line u)) refl over_block)) ∙ ap (first_of c.base g.log) (sym e)
                       | no n ↦ else x n ∙ H.true_first x (let z = else x n in omega arith)
                     ];
-                    stored = λ j e e_is two k. more (end_of e / 496) (H.stored j e e_is two k);
-                    begun = more (c.base / 496) H.begun;
+                    stored = λ j e e_is two k. more (end_of e / BLOCK_DATA) (H.stored j e e_is two k);
+                    begun = more (c.base / BLOCK_DATA) H.begun;
                   };
                   written_links = G.written_links;
                   commits = G.commits;
@@ -410,10 +413,10 @@ module _ (D : LogSide) (c : Setup) (spare : ℕ) (m : SharedWords) (g : LogGhost
                   states = λ x l o. refl;
                   linked = λ x l two. two;
                   firsts = more;
-                  bare = λ j e e_is other cross none. elim (ℕ_discrete (end_of e / 496) q) [
+                  bare = λ j e e_is other cross none. elim (ℕ_discrete (end_of e / BLOCK_DATA) q) [
                     | yes same ↦ (let start = crossing_same c m.sn g.log g.place j hand.at e (entry u.user u.k u.start (line u)) q G.tiled e_is hand.is same (omega arith) refl over_block in
                         absurd (other (ap (λ (x : ℕ). (g.place x).owner) start ∙ hand.own u.start (omega arith) (omega arith))))
-                    | no n ↦ else (end_of e / 496) n ∙ none
+                    | no n ↦ else (end_of e / BLOCK_DATA) n ∙ none
                   ];
                   seats = λ x. refl;
                   counts = λ x n. refl;

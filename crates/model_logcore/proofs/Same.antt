@@ -5,6 +5,8 @@ use native.Mathlib.Decide.{ℕ_discrete}
 use Rattle.model_core.specs.{Advance, blank_words, IsBound, IsSized, lsn, page_words_at, PageWords, SharedWords, with_page_words, writer_holds, WriterState}
 use Rattle.model_core.specs.LogSide.{LogSide}
 use Rattle.model_core.specs.Setup.{Setup}
+use Rattle.model_core.specs.declared.limits.TheConstants.{FRAME_WORDS}
+use Rattle.model_log.specs.declared.layout.TheConstants.{BLOCK_DATA}
 use Rattle.model_core.specs.declared.steps.WriterStep.{WriterStep}
 use Rattle.model_logcore.proofs.Frame.{Later, Still, StillHeld}
 use Rattle.model_logcore.specs.LogFacts.{LogFacts, LogGhost, LogPartFacts, MarkOrder}
@@ -52,7 +54,7 @@ page_sized {m = m} p w e z = record {
   firsts = z.firsts;
   page_words = length-set m.page_words p w ∙ z.page_words;
   frames = λ q l. elim (ℕ_discrete q p) [
-    | yes y ↦ subst (λ (r : ℕ). length (page_words_at (set m.page_words p w) r).frame ≡ 512) (sym y) (ap (λ (x : PageWords). length x.frame) (get_or-set_same m.page_words p w blank_words (let k = z.page_words in omega arith)) ∙ e ∙ ap (λ (r : ℕ). length (page_words_at m.page_words r).frame) (sym y) ∙ z.frames q l)
+    | yes y ↦ subst (λ (r : ℕ). length (page_words_at (set m.page_words p w) r).frame ≡ FRAME_WORDS) (sym y) (ap (λ (x : PageWords). length x.frame) (get_or-set_same m.page_words p w blank_words (let k = z.page_words in omega arith)) ∙ e ∙ ap (λ (r : ℕ). length (page_words_at m.page_words r).frame) (sym y) ∙ z.frames q l)
     | no n ↦ ap (λ (x : PageWords). length x.frame) (get_or-set_other m.page_words p q w blank_words n) ∙ z.frames q l
   ];
 }
@@ -105,7 +107,8 @@ module _ (D : LogSide) (c : Setup) (m : SharedWords) (g : LogGhost) (p : D.Part)
 
   -- the tail with which the writer goes on, its read place and the blocks that it has entered go on
   pub order_on : {target read entered : ℕ} → MarkOrder c.base g.log m.sn m.write m.wtail m.wheld m.flushed g.write g.wtail g.flushed g.tail g.target g.read g.entered
-      → g.write ≤ read → read ≤ target → target ≤ g.wtail → read ≤ 496 * entered → 496 * entered < target + 496 → IsBound c.base g.log target
+      → g.write ≤ read → read ≤ target → target ≤ g.wtail → read ≤ BLOCK_DATA * entered → BLOCK_DATA * entered < target + BLOCK_DATA
+      → IsBound c.base g.log target
       → MarkOrder c.base g.log m.sn m.write m.wtail m.wheld m.flushed g.write g.wtail g.flushed g.tail target read entered
   order_on O low high up within next bound = record {
     base_even = O.base_even;

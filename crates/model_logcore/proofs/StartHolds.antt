@@ -3,6 +3,7 @@ use Rattle.std.proofs.Common.{Bool, List, [], ap, arith, cond, eq-eqb, eqb, fals
 use lib.ListN.{get_elem?}
 use native.Mathlib.Decide.{ℕ_discrete}
 use Rattle.model_base.specs.declared.limits.TheConstants.{LSN_LIMIT}
+use Rattle.model_log.specs.declared.layout.TheConstants.{BLOCK_DATA}
 use Rattle.model_core.proofs.Groups.{first_base}
 use Rattle.model_core.proofs.Lanes.{base_word, lane_of_zero}
 use Rattle.model_core.proofs.Lsns.{floor_lsn, lsn_block, lsn_offset}
@@ -10,9 +11,10 @@ unfoldable use Rattle.model_core.specs.{lane}
 use Rattle.model_core.specs.{Actor, cell_of, ChecksWithoutTail, CheckpointerState, CleanerState, CloserState, entries, entries_from, first_of, floor, FlusherState, holds, lane_of, LoadedMarks, lsn, SharedWords, sum_of, WriterState}
 use Rattle.model_core.specs.LogSide.{LogSide}
 use Rattle.model_core.specs.Setup.{Setup}
-use Rattle.model_logcore.proofs.NewUsers.{new_free, new_user_is}
+use Rattle.model_logcore.proofs.NewUsers.{new_user_is}
+use Rattle.model_logcore.proofs.StartEmpty.{start_tail}
 use Rattle.model_logcore.specs.LogFacts.{LogFacts, LogGhost, sum_over_actors}
-use Rattle.model_logcore.specs.LogFits.{AreBelow, CheckpointerFits, Fits, FlusherFits, UserAt, WriterFits}
+use Rattle.model_logcore.specs.LogFits.{AreBelow, CheckpointerFits, FlusherFits, LogFits, UserAt, WriterFits}
 use Rattle.model_logcore.specs.LogHalf.{LogHalf, left_to_reserve}
 use Rattle.model_logcore.specs.Start.{StartActor, StartPart}
 use Rattle.model_core.specs.StartWords.{StartWords}
@@ -24,7 +26,7 @@ use mathlib.Core.Option as maybe
 
 module _ (D : LogSide) (c : Setup) (m : SharedWords) (p : D.Part) (seat_of : ℕ → ℕ) (writer : ℕ) (W : StartWords c m) (P : StartPart D c p) where
   abbrev pub start_first : ℕ → ℕ
-  start_first q = cond (eqb q (c.base / 496)) 12 0
+  start_first q = cond (eqb q (c.base / BLOCK_DATA)) 12 0
 
   abbrev pub start : LogGhost
   start = record {
@@ -41,19 +43,19 @@ module _ (D : LogSide) (c : Setup) (m : SharedWords) (p : D.Part) (seat_of : ℕ
     advancer = 0;
     target = c.base;
     read = c.base;
-    entered = c.base / 496;
+    entered = c.base / BLOCK_DATA;
     writer = writer;
     holder = 0;
   }
 
-  only_base : (q : ℕ) → 0 < start_first q → q ≡ c.base / 496
-  only_base q h = elim (ℕ_discrete q (c.base / 496)) [
+  only_base : (q : ℕ) → 0 < start_first q → q ≡ c.base / BLOCK_DATA
+  only_base q h = elim (ℕ_discrete q (c.base / BLOCK_DATA)) [
     | yes e ↦ e
-    | no n ↦ (let z : start_first q ≡ 0 = ap (λ (b : Bool). let k : ℕ = cond b 12 0 in k) (ne_eqb q (c.base / 496) n) in absurd (omega arith))
+    | no n ↦ (let z : start_first q ≡ 0 = ap (λ (b : Bool). let k : ℕ = cond b 12 0 in k) (ne_eqb q (c.base / BLOCK_DATA) n) in absurd (omega arith))
   ]
 
-  base_first : start_first (c.base / 496) ≡ 12
-  base_first = ap (λ (b : Bool). let k : ℕ = cond b 12 0 in k) (eq-eqb (c.base / 496) (c.base / 496) refl)
+  base_first : start_first (c.base / BLOCK_DATA) ≡ 12
+  base_first = ap (λ (b : Bool). let k : ℕ = cond b 12 0 in k) (eq-eqb (c.base / BLOCK_DATA) (c.base / BLOCK_DATA) refl)
 
   start_global : LogFacts D c m start p
   start_global =
@@ -116,7 +118,7 @@ module _ (D : LogSide) (c : Setup) (m : SharedWords) (p : D.Part) (seat_of : ℕ
         };
       }
 
-  start_fits : (seat : ℕ) (a : Actor) → StartActor c seat_of writer seat a → Fits D c m start p seat a
+  start_fits : (seat : ℕ) (a : Actor) → StartActor c seat_of writer seat a → LogFits D c m start p seat a
   start_fits seat (actor.User u) h = let k = new_user_is c u h.1 in record {
     own_seat = h.0;
     blocks = k.blocks;
@@ -133,7 +135,7 @@ module _ (D : LogSide) (c : Setup) (m : SharedWords) (p : D.Part) (seat_of : ℕ
     blocks = refl;
     tail = refl;
     write = sym W.write;
-    from = ap (λ (q : ℕ). q * 496) (lsn_block c.base);
+    from = ap (λ (q : ℕ). q * BLOCK_DATA) (lsn_block c.base);
     long = (let b = lsn_block c.base in omega arith);
     kept = λ j l. absurd (omega arith);
     wide = (let b = lsn_block c.base in omega arith);
@@ -150,31 +152,18 @@ module _ (D : LogSide) (c : Setup) (m : SharedWords) (p : D.Part) (seat_of : ℕ
   start_fits seat (actor.Joined es) h = tt
 
   start_holds : (seat : ℕ) (a : Actor) → StartActor c seat_of writer seat a → holds a ≡ false
-  start_holds seat (actor.User u) h = refl
   start_holds seat (actor.Writer s) h = ap (λ (z : WriterState). holds (actor.Writer z)) h.1
   start_holds seat (actor.Flusher f) h = ap (λ (z : FlusherState). holds (actor.Flusher z)) h.1
-  start_holds seat (actor.Closer t) h = refl
-  start_holds seat (actor.Cleaner v) h = refl
   start_holds seat (actor.Checkpointer t) h = ap (λ (z : CheckpointerState). holds (actor.Checkpointer z)) h.1
-  start_holds seat (actor.Joined es) h = refl
+  start_holds seat _ h = refl
 
   start_entries : (seat : ℕ) (a : Actor) → StartActor c seat_of writer seat a → entries a ≡ []
   start_entries seat (actor.User u) h = ap (entries_from u.user u.lines 0) (new_user_is c u h.1).starts
-  start_entries seat (actor.Writer s) h = refl
-  start_entries seat (actor.Flusher f) h = refl
-  start_entries seat (actor.Closer t) h = refl
-  start_entries seat (actor.Cleaner v) h = refl
-  start_entries seat (actor.Checkpointer t) h = refl
   start_entries seat (actor.Joined es) h = h
+  start_entries seat _ h = refl
 
   start_free : (seat : ℕ) (a : Actor) → StartActor c seat_of writer seat a → ChecksWithoutTail a
-  start_free seat (actor.User u) h = new_free c u h.1
-  start_free seat (actor.Writer s) h = λ e. let z : false ≡ true = sym (ap (λ (y : WriterState). y.checks) h.1) ∙ e in absurd (cc)
-  start_free seat (actor.Flusher f) h = λ _ b. refl
-  start_free seat (actor.Closer t) h = λ e. let z : false ≡ true = sym (ap (λ (y : CloserState). y.checks) h.1) ∙ e in absurd (cc)
-  start_free seat (actor.Cleaner v) h = λ _ b. refl
-  start_free seat (actor.Checkpointer t) h = λ _ b. refl
-  start_free seat (actor.Joined es) h = λ _ b. refl
+  start_free seat a h = λ _ b. start_tail c seat_of writer seat a h b
 
   no_sum : (f : Actor → ℕ) (actors : List Actor) → ((i : ℕ) (a : Actor) → get_elem? actors i ≡ maybe.some a → f a ≡ 0) → sum_over_actors f actors ≡ 0
   no_sum f [] h = refl

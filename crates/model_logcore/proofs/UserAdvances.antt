@@ -10,6 +10,7 @@ use Rattle.model_core.specs.LogSide.{LogSide}
 use Rattle.model_core.specs.Setup.{Setup}
 use Rattle.model_core.specs.declared.steps.AdvanceStep.{AdvanceStep}
 use Rattle.model_core.specs.declared.steps.UserStep.{UserStep}
+use Rattle.model_core.specs.declared.limits.TheConstants.{ADVANCE_PLACES, WRITTEN_LINKS}
 use Rattle.model_logcore.proofs.AdvanceSteps.{clears_link, frees_tail, holds_it, is_free, Moves, stays, takes_tail}
 use Rattle.model_logcore.proofs.Frame.{Kept}
 use Rattle.model_logcore.proofs.RingSteps.{refit_advance, steps}
@@ -82,23 +83,24 @@ module _ (D : LogSide) (c : Setup) (spare : ℕ) (m : SharedWords) (g : LogGhost
           )
       by false e = quiet u.loaded.wtail mine.loaded.wtail_below (record u.advance { place = u.advance.tail }) true false advance_step.LoadLink h (λ z. absurd (cc))
 
-  pub keeps_load_link : HasAllCopied D c m g p seat u → HoldsWtail D c m g p seat u.advance → Advanced m (user_took u (slice_index m.wlinks (u.advance.place % 32768)) (user_step.AdvanceWritten advance_step.LoadLink))
-  keeps_load_link h holds = by (slice_index m.wlinks (u.advance.place % 32768)) refl (eqb (slice_index m.wlinks (u.advance.place % 32768)) 0) refl
+  pub keeps_load_link : HasAllCopied D c m g p seat u → HoldsWtail D c m g p seat u.advance → Advanced m (user_took u (slice_index m.wlinks (u.advance.place % WRITTEN_LINKS)) (user_step.AdvanceWritten advance_step.LoadLink))
+  keeps_load_link h holds =
+      by (slice_index m.wlinks (u.advance.place % WRITTEN_LINKS)) refl (eqb (slice_index m.wlinks (u.advance.place % WRITTEN_LINKS)) 0) refl
     where
-      by : (n : ℕ) → slice_index m.wlinks (u.advance.place % 32768) ≡ n → (b : Bool) → eqb n 0 ≡ b → Advanced m (stood u.loaded.wtail (record u.advance { link = n }) false (user_step.AdvanceWritten (cond b advance_step.FreeTail advance_step.ClearLink)))
+      by : (n : ℕ) → slice_index m.wlinks (u.advance.place % WRITTEN_LINKS) ≡ n → (b : Bool) → eqb n 0 ≡ b → Advanced m (stood u.loaded.wtail (record u.advance { link = n }) false (user_step.AdvanceWritten (cond b advance_step.FreeTail advance_step.ClearLink)))
       by n v true e = quiet u.loaded.wtail mine.loaded.wtail_below (record u.advance { link = n }) false false advance_step.FreeTail h (λ _ _. holds)
       by n v false e = quiet u.loaded.wtail mine.loaded.wtail_below (record u.advance { link = n }) false false advance_step.ClearLink h (λ _ _. (holds, (let k = eqb-false n 0 e in omega arith), v))
 
   pub keeps_clear_link : HasAllCopied D c m g p seat u → AdvanceAt D c m g p seat u.advance advance_step.ClearLink
-      → Advanced (record m { wlinks = slice_set m.wlinks (u.advance.place % 32768) 0 }) (user_took u (slice_index m.wlinks (u.advance.place % 32768)) (user_step.AdvanceWritten advance_step.ClearLink))
-  keeps_clear_link h holds = by (ltb (u.advance.place + u.advance.link) (u.advance.tail + 32768))
+      → Advanced (record m { wlinks = slice_set m.wlinks (u.advance.place % WRITTEN_LINKS) 0 }) (user_took u (slice_index m.wlinks (u.advance.place % WRITTEN_LINKS)) (user_step.AdvanceWritten advance_step.ClearLink))
+  keeps_clear_link h holds = by (ltb (u.advance.place + u.advance.link) (u.advance.tail + ADVANCE_PLACES))
     where
-      by : (b : Bool) → Advanced (record m { wlinks = slice_set m.wlinks (u.advance.place % 32768) 0 }) (stood u.loaded.wtail (record u.advance { place = u.advance.place + u.advance.link; link = 0 }) false (user_step.AdvanceWritten (cond b advance_step.LoadLink advance_step.FreeTail)))
-      by b = let k = clears_link D c spare m g p actors before seat u.advance (u.advance.place % 32768) refl holds.0 holds.1 holds.2 in
-          (record g { tail = k.0 }, goes_on m.wtail m.wheld (slice_set m.wlinks (u.advance.place % 32768) 0) g.wtail k.0 g.advancer k.1 u.loaded.wtail mine.loaded.wtail_below (record u.advance { place = u.advance.place + u.advance.link; link = 0 }) false false (cond b advance_step.LoadLink advance_step.FreeTail) h (λ _ _. next b k.0 k.2), refl)
+      by : (b : Bool) → Advanced (record m { wlinks = slice_set m.wlinks (u.advance.place % WRITTEN_LINKS) 0 }) (stood u.loaded.wtail (record u.advance { place = u.advance.place + u.advance.link; link = 0 }) false (user_step.AdvanceWritten (cond b advance_step.LoadLink advance_step.FreeTail)))
+      by b = let k = clears_link D c spare m g p actors before seat u.advance (u.advance.place % WRITTEN_LINKS) refl holds.0 holds.1 holds.2 in
+          (record g { tail = k.0 }, goes_on m.wtail m.wheld (slice_set m.wlinks (u.advance.place % WRITTEN_LINKS) 0) g.wtail k.0 g.advancer k.1 u.loaded.wtail mine.loaded.wtail_below (record u.advance { place = u.advance.place + u.advance.link; link = 0 }) false false (cond b advance_step.LoadLink advance_step.FreeTail) h (λ _ _. next b k.0 k.2), refl)
         where
-          next : (b : Bool) (to : ℕ) → HoldsWtail D c (record m { wlinks = slice_set m.wlinks (u.advance.place % 32768) 0 }) (record g { tail = to }) p seat (record u.advance { place = u.advance.place + u.advance.link; link = 0 })
-              → AdvanceAt D c (record m { wlinks = slice_set m.wlinks (u.advance.place % 32768) 0 }) (record g { tail = to }) p seat (record u.advance { place = u.advance.place + u.advance.link; link = 0 }) (cond b advance_step.LoadLink advance_step.FreeTail)
+          next : (b : Bool) (to : ℕ) → HoldsWtail D c (record m { wlinks = slice_set m.wlinks (u.advance.place % WRITTEN_LINKS) 0 }) (record g { tail = to }) p seat (record u.advance { place = u.advance.place + u.advance.link; link = 0 })
+              → AdvanceAt D c (record m { wlinks = slice_set m.wlinks (u.advance.place % WRITTEN_LINKS) 0 }) (record g { tail = to }) p seat (record u.advance { place = u.advance.place + u.advance.link; link = 0 }) (cond b advance_step.LoadLink advance_step.FreeTail)
           next true to k = k
           next false to k = k
 

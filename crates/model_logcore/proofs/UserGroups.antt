@@ -2,6 +2,7 @@
 use Rattle.std.proofs.Common.{Bool, List, [], ap, arith, cond, drop, eq-eqb, eqb, length, ne_eqb, refl, subst, suc, sym, take, true, zero, ℕ, ◌%◌, ◌*◌, ◌++◌, ◌+◌, ◌-◌, ◌/◌, ◌<◌, ◌∙◌, ◌∷◌, ◌≡◌, ◌≢◌}
 use lib.ListN.{get_elem?}
 use native.Mathlib.Decide.{dec_le, ℕ_discrete}
+use Rattle.model_log.specs.declared.layout.TheConstants.{BLOCK_DATA}
 use Rattle.model_core.proofs.Groups.{crosses_is, crossing_some, crossing_there, some_same, sum_of_append, tiles_at}
 use Rattle.model_core.specs.{crosses, crossing, end_of, entries_from, Entry, entry, first_of, Line, line_at}
 use Rattle.model_core.specs.Setup.{Setup}
@@ -65,22 +66,22 @@ rank_same c sn log place i j e f T ei fj user k =
     some_same log j e f (subst (λ (q : ℕ). get_elem? log q ≡ maybe.some e) equal ei) fj
 
 -- groups that cross into one block start at one place
-pub crossing_same : (c : Setup) (sn : ℕ) (log : List Entry) (place : ℕ → Place) (i j : ℕ) (e f : Entry) (q : ℕ) → Tiled c sn log place → get_elem? log i ≡ maybe.some e → get_elem? log j ≡ maybe.some f → end_of e / 496 ≡ q → e.start / 496 < q → end_of f / 496 ≡ q → f.start / 496 < q → e.start ≡ f.start
+pub crossing_same : (c : Setup) (sn : ℕ) (log : List Entry) (place : ℕ → Place) (i j : ℕ) (e f : Entry) (q : ℕ) → Tiled c sn log place → get_elem? log i ≡ maybe.some e → get_elem? log j ≡ maybe.some f → end_of e / BLOCK_DATA ≡ q → e.start / BLOCK_DATA < q → end_of f / BLOCK_DATA ≡ q → f.start / BLOCK_DATA < q → e.start ≡ f.start
 crossing_same c sn log place i j e f q T ei fj e0 e1 f0 f1 =
-    let y : ℕ = 496 * q - 1 in
+    let y : ℕ = BLOCK_DATA * q - 1 in
     sym (T.placed i e ei y (omega arith) (omega arith)).0 ∙ (T.placed j f fj y (omega arith) (omega arith)).0
 
 -- the one group that crosses into a block gives its first offset
-pub first_is : (c : Setup) (sn : ℕ) (log : List Entry) (place : ℕ → Place) (i : ℕ) (e : Entry) (q : ℕ) → Tiled c sn log place → get_elem? log i ≡ maybe.some e → crosses q e ≡ true → first_of c.base log q ≡ end_of e % 496 + 12
+pub first_is : (c : Setup) (sn : ℕ) (log : List Entry) (place : ℕ → Place) (i : ℕ) (e : Entry) (q : ℕ) → Tiled c sn log place → get_elem? log i ≡ maybe.some e → crosses q e ≡ true → first_of c.base log q ≡ end_of e % BLOCK_DATA + 12
 first_is c sn log place i e q T is x =
     let k = crosses_is q e x in let k0 = k.0 in let k1 = k.1 in
     let w = tiles_at log c.base sn i e T.tiles is in let w0 = w.0 in
-    let later : q ≢ c.base / 496 = (λ z. absurd (omega arith)) in
+    let later : q ≢ c.base / BLOCK_DATA = (λ z. absurd (omega arith)) in
     let r = crossing_some q log (crossing_there q log i e is x) in
     let o = r.1 in
     let v = crosses_is q o r.3 in let v0 = v.0 in let v1 = v.1 in
-    let y : ℕ = 496 * q - 1 in
+    let y : ℕ = BLOCK_DATA * q - 1 in
     let a = (T.placed i e is y (omega arith) (omega arith)).1 in
     let b = (T.placed r.0 o r.2 y (omega arith) (omega arith)).1 in
     let same : end_of o ≡ end_of e = sym b ∙ a in
-    ap (λ z. cond z 12 (crossing q log)) (ne_eqb q (c.base / 496) later) ∙ r.4 ∙ ap (λ (n : ℕ). n % 496 + 12) same
+    ap (λ z. cond z 12 (crossing q log)) (ne_eqb q (c.base / BLOCK_DATA) later) ∙ r.4 ∙ ap (λ (n : ℕ). n % BLOCK_DATA + 12) same

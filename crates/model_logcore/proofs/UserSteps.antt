@@ -6,12 +6,13 @@ use lib.ListN.{get_elem?}
 use mathlib.Core.Option.{some}
 use Rattle.model_core.proofs.Groups.{changed, changed_else, changed_here}
 use Rattle.model_core.proofs.Tails.{tail_in}
-use Rattle.model_core.specs.{Actor, Advance, after, answered, cells_of, change_at, changes, entries, Entry, floor, found, frame_count, frame_word, group_end, is_held, is_whole, IsSized, LoadedMarks, lsn, mode, OnWord, page_of, page_words_at, PageWords, phase_log, SharedWords, stored_word, tail_of, tail_word, to_next_page, user_op, user_took, UserState, with_mark, with_page_words}
+use Rattle.model_core.specs.{Actor, Advance, after, answered, cells_of, change_at, changes, current_page, entries, Entry, floor, found, frame_count, frame_word, group_end, is_held, is_whole, IsSized, LoadedMarks, lsn, mode, OnWord, page_words_at, PageWords, phase_log, SharedWords, stored_word, tail_of, tail_word, to_next_page, user_op, user_took, UserState, with_mark, with_page_words}
 use Rattle.model_core.specs.LogSide.{LogSide}
 use Rattle.model_core.specs.Setup.{Setup}
 use Rattle.model_core.specs.declared.ops.Op.{Op}
 use Rattle.model_core.specs.declared.steps.AdvanceStep.{AdvanceStep}
 use Rattle.model_core.specs.declared.steps.UserStep.{UserStep}
+use Rattle.model_core.specs.declared.limits.TheConstants.{ADVANCE_PLACES, CLOSED_LINKS, FREE_MARGIN, LOG_BUFFER, WRITTEN_LINKS}
 use Rattle.model_logcore.proofs.Frame.{unchanged, Kept, Later}
 use Rattle.model_logcore.proofs.GroupEnds.{hand_end_near}
 use Rattle.model_logcore.proofs.AnswerSteps.{answer_global, answered_fits}
@@ -72,14 +73,14 @@ module _ (D : LogSide) (L : LogLaws D) (c : Setup) (spare : ℕ) (m : SharedWord
   ctail_loaded : (t : ℕ) → AreBelow (record u.loaded { ctail = t }) m.ckpt m.write m.wtail m.flushed
   ctail_loaded t = record { ckpt_below = mine.loaded.ckpt_below; write_below = mine.loaded.write_below; wtail_below = mine.loaded.wtail_below; flushed_below = mine.loaded.flushed_below }
 
-  room_by : u.checks ≡ false → (b : Bool) → ltb (lsn (group_end u)) (floor m.write + 65536) ≡ b → UserAt D c m g p seat u user_step.LoadWrite → Now (cond b (record u { loaded = record u.loaded { write = m.write }; step = user_step.AddCell }) (record u { loaded = record u.loaded { write = m.write }; checks = true; step = user_step.LoadWrite }))
-  room_by unasked true e h = shift u.page u.cell u.copied (record u.loaded { write = m.write }) u.code u.checks user_step.AddCell write_loaded (h.0, h.1, h.2, (let z = h.3 in let s = (mine.sound u.k h.1).0 in omega arith), ltb-true (lsn (group_end u)) (floor m.write + 65536) e, h.4, unasked)
+  room_by : u.checks ≡ false → (b : Bool) → ltb (lsn (group_end u)) (floor m.write + LOG_BUFFER) ≡ b → UserAt D c m g p seat u user_step.LoadWrite → Now (cond b (record u { loaded = record u.loaded { write = m.write }; step = user_step.AddCell }) (record u { loaded = record u.loaded { write = m.write }; checks = true; step = user_step.LoadWrite }))
+  room_by unasked true e h = shift u.page u.cell u.copied (record u.loaded { write = m.write }) u.code u.checks user_step.AddCell write_loaded (h.0, h.1, h.2, (let z = h.3 in let s = (mine.sound u.k h.1).0 in omega arith), ltb-true (lsn (group_end u)) (floor m.write + LOG_BUFFER) e, h.4, unasked)
   room_by unasked false e h = shift u.page u.cell u.copied (record u.loaded { write = m.write }) u.code true user_step.LoadWrite write_loaded h
 
   -- it loads WTAIL, and goes on to a step where it has no room for its link
-  space_by : (t : ℕ) → t ≡ m.wtail → (b : Bool) → ltb (lsn u.start) (t + 32768) ≡ b → (waits : Bool) (ph : UserStep) → HasAllCopied D c m g p seat u → UserAt D c m g p seat (record u { loaded = record u.loaded { wtail = t }; checks = waits; step = ph }) ph
+  space_by : (t : ℕ) → t ≡ m.wtail → (b : Bool) → ltb (lsn u.start) (t + WRITTEN_LINKS) ≡ b → (waits : Bool) (ph : UserStep) → HasAllCopied D c m g p seat u → UserAt D c m g p seat (record u { loaded = record u.loaded { wtail = t }; checks = waits; step = ph }) ph
       → Now (cond b (record u { loaded = record u.loaded { wtail = t }; step = user_step.StoreLink }) (record u { loaded = record u.loaded { wtail = t }; checks = waits; step = ph }))
-  space_by t is true e waits ph h else = shift u.page u.cell u.copied (record u.loaded { wtail = t }) u.code u.checks user_step.StoreLink (wtail_loaded t is) (h.0, h.1, h.2, h.3, h.4, (let z = ltb-true (lsn u.start) (t + 32768) e in omega arith))
+  space_by t is true e waits ph h else = shift u.page u.cell u.copied (record u.loaded { wtail = t }) u.code u.checks user_step.StoreLink (wtail_loaded t is) (h.0, h.1, h.2, h.3, h.4, (let z = ltb-true (lsn u.start) (t + WRITTEN_LINKS) e in omega arith))
   space_by t is false e waits ph h else = shift u.page u.cell u.copied (record u.loaded { wtail = t }) u.code waits ph (wtail_loaded t is) else
 
   -- it loads FLUSHED or WRITE, and its commit is answered where that has passed its end
@@ -175,9 +176,9 @@ module _ (D : LogSide) (L : LogLaws D) (c : Setup) (spare : ℕ) (m : SharedWord
   turned_any lists clinks page_words ctail cheld sized h false false false = moves lists clinks page_words ctail cheld sized (u.page + 1) 0 u.checks user_step.LoadFrame h
 
   latch_by : (b d : Bool) → UserAt D c m g p seat u user_step.TakeLatch
-      → Kept D c spare (cond b (with_page_words m (page_of u) (record (page_words_at m.page_words (page_of u)) { latch = 1 })) m) g p (set actors seat (actor.User (cond b (record u { page = u.page + 1; step = cond d user_step.Reserve user_step.TakeLatch }) (record u { checks = true; step = user_step.TakeLatch }))))
-  latch_by true true h = moves m.lists m.clinks (slice_set m.page_words (page_of u) (record (page_words_at m.page_words (page_of u)) { latch = 1 })) m.ctail m.cheld (page_sized (page_of u) (record (page_words_at m.page_words (page_of u)) { latch = 1 }) refl before.sized) (u.page + 1) u.cell u.checks user_step.Reserve h
-  latch_by true false h = moves m.lists m.clinks (slice_set m.page_words (page_of u) (record (page_words_at m.page_words (page_of u)) { latch = 1 })) m.ctail m.cheld (page_sized (page_of u) (record (page_words_at m.page_words (page_of u)) { latch = 1 }) refl before.sized) (u.page + 1) u.cell u.checks user_step.TakeLatch h
+      → Kept D c spare (cond b (with_page_words m (current_page u) (record (page_words_at m.page_words (current_page u)) { latch = 1 })) m) g p (set actors seat (actor.User (cond b (record u { page = u.page + 1; step = cond d user_step.Reserve user_step.TakeLatch }) (record u { checks = true; step = user_step.TakeLatch }))))
+  latch_by true true h = moves m.lists m.clinks (slice_set m.page_words (current_page u) (record (page_words_at m.page_words (current_page u)) { latch = 1 })) m.ctail m.cheld (page_sized (current_page u) (record (page_words_at m.page_words (current_page u)) { latch = 1 }) refl before.sized) (u.page + 1) u.cell u.checks user_step.Reserve h
+  latch_by true false h = moves m.lists m.clinks (slice_set m.page_words (current_page u) (record (page_words_at m.page_words (current_page u)) { latch = 1 })) m.ctail m.cheld (page_sized (current_page u) (record (page_words_at m.page_words (current_page u)) { latch = 1 }) refl before.sized) (u.page + 1) u.cell u.checks user_step.TakeLatch h
   latch_by false d h = shift u.page u.cell u.copied u.loaded u.code true user_step.TakeLatch mine.loaded h
 
   -- it loads CTAIL, and goes on to a step where it has no room for its link
@@ -246,12 +247,12 @@ module _ (D : LogSide) (L : LogLaws D) (c : Setup) (spare : ℕ) (m : SharedWord
 
   -- it finds its page's list free, or held
   pub user_list : (b : Bool) → UserAt D c m g p seat u user_step.AddToList
-      → Kept D c spare (cond b (record m { lists = slice_set m.lists (page_of u % 4) 1 }) m) g p (set actors seat (actor.User (record u { checks = cond b false true; step = cond b user_step.StoreOldest user_step.AddToList })))
-  user_list true h = moves (slice_set m.lists (page_of u % 4) 1) m.clinks m.page_words m.ctail m.cheld (lists_sized (page_of u % 4) 1 before.sized) u.page u.cell false user_step.StoreOldest h
+      → Kept D c spare (cond b (record m { lists = slice_set m.lists (current_page u % 4) 1 }) m) g p (set actors seat (actor.User (record u { checks = cond b false true; step = cond b user_step.StoreOldest user_step.AddToList })))
+  user_list true h = moves (slice_set m.lists (current_page u % 4) 1) m.clinks m.page_words m.ctail m.cheld (lists_sized (current_page u % 4) 1 before.sized) u.page u.cell false user_step.StoreOldest h
   user_list false h = shift u.page u.cell u.copied u.loaded u.code true user_step.AddToList mine.loaded h
 
-  pub user_give : UserAt D c m g p seat u user_step.GiveList → Kept D c spare (record m { lists = slice_set m.lists (page_of u % 4) 0 }) g p (set actors seat (actor.User (to_next_page u)))
-  user_give h = turned_any (slice_set m.lists (page_of u % 4) 0) m.clinks m.page_words m.ctail m.cheld (lists_sized (page_of u % 4) 0 before.sized) h (eqb (u.page + 1) (length (changes u))) (eqb 0 (length (change_at (changes u) (u.page + 1)).cells)) (is_whole (change_at (changes u) (u.page + 1)).cells 0)
+  pub user_give : UserAt D c m g p seat u user_step.GiveList → Kept D c spare (record m { lists = slice_set m.lists (current_page u % 4) 0 }) g p (set actors seat (actor.User (to_next_page u)))
+  user_give h = turned_any (slice_set m.lists (current_page u % 4) 0) m.clinks m.page_words m.ctail m.cheld (lists_sized (current_page u % 4) 0 before.sized) h (eqb (u.page + 1) (length (changes u))) (eqb 0 (length (change_at (changes u) (u.page + 1)).cells)) (is_whole (change_at (changes u) (u.page + 1)).cells 0)
 
   abbrev KeptSo : Op → UserState → UserStep → Type 0
   KeptSo o w f = (h : LogGhost) × Kept D c spare (after o m) h p (set actors seat (actor.User w)) × (◌≡◌ {A = List Entry} (h.log) (phase_log g.log m.sn u f))
@@ -269,36 +270,36 @@ module _ (D : LogSide) (L : LogLaws D) (c : Setup) (spare : ℕ) (m : SharedWord
   -- Each step of a user that doesn't check
   pub user_keeps : (f : UserStep) → u.step ≡ f → UserAt D c m g p seat u f → u.checks ≡ false → OnWord (user_op u f) → KeptSo (user_op u f) (user_took u (found (user_op u f) m) f) f
   user_keeps user_step.LoadCheckpoint is h unasked on = (g, shift u.page u.cell u.copied (record u.loaded { ckpt = m.ckpt }) u.code u.checks user_step.LoadSn (record { ckpt_below = omega arith; write_below = mine.loaded.write_below; wtail_below = mine.loaded.wtail_below; flushed_below = mine.loaded.flushed_below }) h, refl)
-  user_keeps user_step.LoadSn is h unasked on = (g, total_by (nat_le (lsn m.sn + 278528) (u.loaded.ckpt + 512 * u.blocks)) h, refl)
+  user_keeps user_step.LoadSn is h unasked on = (g, total_by (nat_le (lsn m.sn + FREE_MARGIN) (u.loaded.ckpt + 512 * u.blocks)) h, refl)
   user_keeps user_step.Reserve is h unasked on = keeps_reserve D L c spare m g p actors seat u before at h
-  user_keeps user_step.LoadWrite is h unasked on = (g, room_by unasked (ltb (lsn (group_end u)) (floor m.write + 65536)) refl h, refl)
+  user_keeps user_step.LoadWrite is h unasked on = (g, room_by unasked (ltb (lsn (group_end u)) (floor m.write + LOG_BUFFER)) refl h, refl)
   user_keeps user_step.AddCell is h unasked on = keeps_add_cell D c spare m g p actors seat u before at is h
   user_keeps user_step.StoreFirst is h unasked on = keeps_store_first D c spare m g p actors seat u before at is h
-  user_keeps user_step.LoadWtail is h unasked on = (g, space_by (tail_of (tail_word m.wtail m.wheld)) (tail_in m.wtail m.wheld) (ltb (lsn u.start) (tail_of (tail_word m.wtail m.wheld) + 32768)) refl false (user_step.AdvanceWritten advance_step.LoadTail) h (h, tt), refl)
+  user_keeps user_step.LoadWtail is h unasked on = (g, space_by (tail_of (tail_word m.wtail m.wheld)) (tail_in m.wtail m.wheld) (ltb (lsn u.start) (tail_of (tail_word m.wtail m.wheld) + WRITTEN_LINKS)) refl false (user_step.AdvanceWritten advance_step.LoadTail) h (h, tt), refl)
   user_keeps (user_step.AdvanceWritten advance_step.LoadTail) is h unasked on = written.keeps_load_tail D c spare m g p actors seat u before at h.0
   user_keeps (user_step.AdvanceWritten advance_step.TakeTail) is h unasked on = written.keeps_take_tail D c spare m g p actors seat u before at h.0
   user_keeps (user_step.AdvanceWritten advance_step.LoadLink) is h unasked on = written.keeps_load_link D c spare m g p actors seat u before at h.0 h.1
   user_keeps (user_step.AdvanceWritten advance_step.ClearLink) is h unasked on = written.keeps_clear_link D c spare m g p actors seat u before at h.0 h.1
   user_keeps (user_step.AdvanceWritten advance_step.FreeTail) is h unasked on = written.keeps_free_tail D c spare m g p actors seat u before at h.0 h.1
-  user_keeps user_step.ReloadWtail is h unasked on = (g, space_by (tail_of (tail_word m.wtail m.wheld)) (tail_in m.wtail m.wheld) (ltb (lsn u.start) (tail_of (tail_word m.wtail m.wheld) + 32768)) refl true user_step.LoadWtail h h, refl)
+  user_keeps user_step.ReloadWtail is h unasked on = (g, space_by (tail_of (tail_word m.wtail m.wheld)) (tail_in m.wtail m.wheld) (ltb (lsn u.start) (tail_of (tail_word m.wtail m.wheld) + WRITTEN_LINKS)) refl true user_step.LoadWtail h h, refl)
   user_keeps user_step.StoreLink is h unasked on = keeps_store_link D L c spare m g p actors seat u before at h
   user_keeps user_step.AwaitMark is h unasked on = await_by (found (user_op u user_step.AwaitMark) m) (nat_le (lsn (group_end u)) (found (user_op u user_step.AwaitMark) m)) refl mode_flush mode_write (mark_loaded (eqb (mode u) 1)) h
-  user_keeps user_step.TakeLatch is h unasked on = (g, latch_by (eqb (page_words_at m.page_words (page_of u)).latch 0) (eqb (u.page + 1) (length (changes u))) h, refl)
-  user_keeps user_step.LoadCtail is h unasked on = (g, tail_by (tail_of (tail_word m.ctail m.cheld)) (ltb (lsn u.start) (tail_of (tail_word m.ctail m.cheld) + 16384)) (eqb u.cell (length (cells_of u))) (is_whole (cells_of u) u.cell) false (user_step.AdvanceClosed advance_step.LoadTail) h h, refl)
+  user_keeps user_step.TakeLatch is h unasked on = (g, latch_by (eqb (page_words_at m.page_words (current_page u)).latch 0) (eqb (u.page + 1) (length (changes u))) h, refl)
+  user_keeps user_step.LoadCtail is h unasked on = (g, tail_by (tail_of (tail_word m.ctail m.cheld)) (ltb (lsn u.start) (tail_of (tail_word m.ctail m.cheld) + CLOSED_LINKS)) (eqb u.cell (length (cells_of u))) (is_whole (cells_of u) u.cell) false (user_step.AdvanceClosed advance_step.LoadTail) h h, refl)
   user_keeps (user_step.AdvanceClosed advance_step.LoadTail) is h unasked on = (g, closes m.clinks m.ctail m.cheld before.sized (tail_of (tail_word m.ctail m.cheld)) (record u.advance { tail = tail_of (tail_word m.ctail m.cheld) }) (is_held (tail_word m.ctail m.cheld)) false advance_step.TakeTail h, refl)
   user_keeps (user_step.AdvanceClosed advance_step.TakeTail) is h unasked on = (g, takes_closed (eqb (tail_word m.ctail m.cheld) (tail_word u.advance.tail false)) h, refl)
-  user_keeps (user_step.AdvanceClosed advance_step.LoadLink) is h unasked on = (g, closes m.clinks m.ctail m.cheld before.sized u.loaded.ctail (record u.advance { link = slice_index m.clinks (u.advance.place % 16384) }) false false (cond (eqb (slice_index m.clinks (u.advance.place % 16384)) 0) advance_step.FreeTail advance_step.ClearLink) h, refl)
-  user_keeps (user_step.AdvanceClosed advance_step.ClearLink) is h unasked on = (g, closes (slice_set m.clinks (u.advance.place % 16384) 0) m.ctail m.cheld (clinks_sized (u.advance.place % 16384) 0 before.sized) u.loaded.ctail (record u.advance { place = u.advance.place + u.advance.link; link = 0 }) false false (cond (ltb (u.advance.place + u.advance.link) (u.advance.tail + 32768)) advance_step.LoadLink advance_step.FreeTail) h, refl)
+  user_keeps (user_step.AdvanceClosed advance_step.LoadLink) is h unasked on = (g, closes m.clinks m.ctail m.cheld before.sized u.loaded.ctail (record u.advance { link = slice_index m.clinks (u.advance.place % CLOSED_LINKS) }) false false (cond (eqb (slice_index m.clinks (u.advance.place % CLOSED_LINKS)) 0) advance_step.FreeTail advance_step.ClearLink) h, refl)
+  user_keeps (user_step.AdvanceClosed advance_step.ClearLink) is h unasked on = (g, closes (slice_set m.clinks (u.advance.place % CLOSED_LINKS) 0) m.ctail m.cheld (clinks_sized (u.advance.place % CLOSED_LINKS) 0 before.sized) u.loaded.ctail (record u.advance { place = u.advance.place + u.advance.link; link = 0 }) false false (cond (ltb (u.advance.place + u.advance.link) (u.advance.tail + ADVANCE_PLACES)) advance_step.LoadLink advance_step.FreeTail) h, refl)
   user_keeps (user_step.AdvanceClosed advance_step.FreeTail) is h unasked on = (g, closes m.clinks (tail_of (tail_word u.advance.place false)) (is_held (tail_word u.advance.place false)) (numbers_sized before.sized) u.loaded.ctail u.advance (eqb u.advance.place u.advance.tail) true advance_step.LoadTail h, refl)
-  user_keeps user_step.ReloadCtail is h unasked on = (g, tail_by (tail_of (tail_word m.ctail m.cheld)) (ltb (lsn u.start) (tail_of (tail_word m.ctail m.cheld) + 16384)) (eqb u.cell (length (cells_of u))) (is_whole (cells_of u) u.cell) true user_step.LoadCtail h h, refl)
-  user_keeps user_step.LoadFrame is h unasked on = (g, worded m.page_words before.sized u.cell (slice_index (page_words_at m.page_words (page_of u)).frame (frame_word u)) user_step.StoreFrame h, refl)
-  user_keeps user_step.StoreFrame is h unasked on = (g, cell_by (slice_set m.page_words (page_of u) (record (page_words_at m.page_words (page_of u)) { frame = slice_set (page_words_at m.page_words (page_of u)).frame (frame_word u) (stored_word u) })) (page_sized (page_of u) (record (page_words_at m.page_words (page_of u)) { frame = slice_set (page_words_at m.page_words (page_of u)).frame (frame_word u) (stored_word u) }) (length-set (page_words_at m.page_words (page_of u)).frame (frame_word u) (stored_word u)) before.sized) (u.cell + frame_count u) (eqb (u.cell + frame_count u) (length (cells_of u))) (is_whole (cells_of u) (u.cell + frame_count u)) h, refl)
-  user_keeps user_step.StoreNewest is h unasked on = (g, moves m.lists m.clinks (slice_set m.page_words (page_of u) (record (page_words_at m.page_words (page_of u)) { newest = lsn (group_end u) })) m.ctail m.cheld (page_sized (page_of u) (record (page_words_at m.page_words (page_of u)) { newest = lsn (group_end u) }) refl before.sized) u.page u.cell u.checks user_step.LoadOldest h, refl)
-  user_keeps user_step.LoadOldest is h unasked on = (g, oldest_by (eqb (page_words_at m.page_words (page_of u)).oldest 0) h, refl)
+  user_keeps user_step.ReloadCtail is h unasked on = (g, tail_by (tail_of (tail_word m.ctail m.cheld)) (ltb (lsn u.start) (tail_of (tail_word m.ctail m.cheld) + CLOSED_LINKS)) (eqb u.cell (length (cells_of u))) (is_whole (cells_of u) u.cell) true user_step.LoadCtail h h, refl)
+  user_keeps user_step.LoadFrame is h unasked on = (g, worded m.page_words before.sized u.cell (slice_index (page_words_at m.page_words (current_page u)).frame (frame_word u)) user_step.StoreFrame h, refl)
+  user_keeps user_step.StoreFrame is h unasked on = (g, cell_by (slice_set m.page_words (current_page u) (record (page_words_at m.page_words (current_page u)) { frame = slice_set (page_words_at m.page_words (current_page u)).frame (frame_word u) (stored_word u) })) (page_sized (current_page u) (record (page_words_at m.page_words (current_page u)) { frame = slice_set (page_words_at m.page_words (current_page u)).frame (frame_word u) (stored_word u) }) (length-set (page_words_at m.page_words (current_page u)).frame (frame_word u) (stored_word u)) before.sized) (u.cell + frame_count u) (eqb (u.cell + frame_count u) (length (cells_of u))) (is_whole (cells_of u) (u.cell + frame_count u)) h, refl)
+  user_keeps user_step.StoreNewest is h unasked on = (g, moves m.lists m.clinks (slice_set m.page_words (current_page u) (record (page_words_at m.page_words (current_page u)) { newest = lsn (group_end u) })) m.ctail m.cheld (page_sized (current_page u) (record (page_words_at m.page_words (current_page u)) { newest = lsn (group_end u) }) refl before.sized) u.page u.cell u.checks user_step.LoadOldest h, refl)
+  user_keeps user_step.LoadOldest is h unasked on = (g, oldest_by (eqb (page_words_at m.page_words (current_page u)).oldest 0) h, refl)
   user_keeps user_step.AddToList is h unasked on = absurd on
-  user_keeps user_step.StoreOldest is h unasked on = (g, moves m.lists m.clinks (slice_set m.page_words (page_of u) (record (page_words_at m.page_words (page_of u)) { oldest = lsn u.start })) m.ctail m.cheld (page_sized (page_of u) (record (page_words_at m.page_words (page_of u)) { oldest = lsn u.start }) refl before.sized) u.page u.cell u.checks user_step.GiveList h, refl)
+  user_keeps user_step.StoreOldest is h unasked on = (g, moves m.lists m.clinks (slice_set m.page_words (current_page u) (record (page_words_at m.page_words (current_page u)) { oldest = lsn u.start })) m.ctail m.cheld (page_sized (current_page u) (record (page_words_at m.page_words (current_page u)) { oldest = lsn u.start }) refl before.sized) u.page u.cell u.checks user_step.GiveList h, refl)
   user_keeps user_step.GiveList is h unasked on = absurd on
-  user_keeps user_step.StoreClosedLink is h unasked on = (g, moves m.lists (slice_set m.clinks (lsn u.start % 16384) (lsn (group_end u) - lsn u.start)) m.page_words m.ctail m.cheld (clinks_sized (lsn u.start % 16384) (lsn (group_end u) - lsn u.start) before.sized) 0 u.cell u.checks user_step.ReleaseLatch h, refl)
-  user_keeps user_step.ReleaseLatch is h unasked on = free_by (slice_set m.page_words (page_of u) (record (page_words_at m.page_words (page_of u)) { latch = 0 })) (page_sized (page_of u) (record (page_words_at m.page_words (page_of u)) { latch = 0 }) refl before.sized) (eqb (u.page + 1) (length (changes u))) (eqb (mode u) 0) refl h
+  user_keeps user_step.StoreClosedLink is h unasked on = (g, moves m.lists (slice_set m.clinks (lsn u.start % CLOSED_LINKS) (lsn (group_end u) - lsn u.start)) m.page_words m.ctail m.cheld (clinks_sized (lsn u.start % CLOSED_LINKS) (lsn (group_end u) - lsn u.start) before.sized) 0 u.cell u.checks user_step.ReleaseLatch h, refl)
+  user_keeps user_step.ReleaseLatch is h unasked on = free_by (slice_set m.page_words (current_page u) (record (page_words_at m.page_words (current_page u)) { latch = 0 })) (page_sized (current_page u) (record (page_words_at m.page_words (current_page u)) { latch = 0 }) refl before.sized) (eqb (u.page + 1) (length (changes u))) (eqb (mode u) 0) refl h
   user_keeps user_step.Done is h unasked on = absurd on
   user_keeps user_step.Failed is h unasked on = absurd on

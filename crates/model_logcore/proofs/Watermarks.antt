@@ -3,6 +3,7 @@ use Rattle.std.proofs.Common.{Bool, List, ap, arith, cond, eqb, eqb-true, false,
 use Rattle.std.proofs.lemmas.Bool.{eqb-false}
 use lib.ListN.{get_elem?}
 use native.Mathlib.Decide.{dec_le}
+use Rattle.model_log.specs.declared.layout.TheConstants.{BLOCK_DATA}
 use Rattle.model_core.proofs.Groups.{is_crosses, tiles_at}
 use Rattle.model_core.proofs.Lanes.{word_grows}
 use Rattle.model_core.proofs.Lsns.{lsn_le}
@@ -15,10 +16,11 @@ use Rattle.model_core.specs.declared.steps.AdvanceStep.{AdvanceStep}
 use Rattle.model_core.specs.declared.steps.CloserStep.{CloserStep}
 use Rattle.model_core.specs.declared.steps.UserStep.{UserStep}
 use Rattle.model_core.specs.declared.steps.WriterStep.{WriterStep}
+use Rattle.model_core.specs.declared.limits.TheConstants.{LOG_BUFFER}
 use Rattle.model_logcore.proofs.GroupEnds.{end_near, hand_end_near}
 use Rattle.model_logcore.proofs.UserGroups.{first_is}
 use Rattle.model_logcore.specs.LogFacts.{LogGhost}
-use Rattle.model_logcore.specs.LogFits.{AdvanceAt, CheckpointerAt, CheckpointerFits, EndIsNear, FlusherAt, FlusherFits, Hand, HasFirst, HasLinked, HoldsWtail, LacksFirst, UserAt, UserFits, WriterAt, WriterFits}
+use Rattle.model_logcore.specs.LogFits.{AdvanceAt, CheckpointerAt, CheckpointerFits, EndIsNear, FlusherAt, FlusherFits, Hand, HasLinked, HasStoredFirst, HoldsWtail, LacksFirst, UserAt, UserFits, WriterAt, WriterFits}
 use Rattle.model_logcore.specs.LogHalf.{LogHalf}
 use Rattle.model_logcore.specs.TailWord.{TailWordIs}
 use Rattle.model_logcore.specs.Watermarks.{first_in_hand, HandAgrees, HasCopied, HasLoadedBelow, HasMetFailure, IsGroupLinked, LogWatermarks, OwnMarkIs, UsersAgree}
@@ -113,13 +115,13 @@ module _ (D : LogSide) (c : Setup) (spare : ℕ) (m : SharedWords) (g : LogGhost
   }
 
   -- a linked group that isn't wholly read has a byte that isn't read, and FIRST of the block that it ends in is stored
-  end_below : (i : ℕ) (e : Entry) → get_elem? g.log i ≡ maybe.some e → g.read < end_of e → IsGroupLinked g.state e → lsn (end_of e) < floor m.write + 65536
+  end_below : (i : ℕ) (e : Entry) → get_elem? g.log i ≡ maybe.some e → g.read < end_of e → IsGroupLinked g.state e → lsn (end_of e) < floor m.write + LOG_BUFFER
   end_below i e is unread linked =
       let G = half.global in
       let w = tiles_at g.log c.base m.sn i e G.tiled.tiles is in
       let w1 = w.1 in let w2 = w.2 in
       let two : g.state e.start ≡ 2 = linked e.start (omega arith) (omega arith) in
-      let by : (x : ℕ) → g.read ≤ x → e.start ≤ x → x < end_of e → lsn (end_of e) < floor m.write + 65536 = λ x above lo hi. let copied = linked x lo hi in
+      let by : (x : ℕ) → g.read ≤ x → e.start ≤ x → x < end_of e → lsn (end_of e) < floor m.write + LOG_BUFFER = λ x above lo hi. let copied = linked x lo hi in
       end_near c.base m.firsts m.write g.write g.log g.first g.state g.entered e.start x (end_of e) G.order.write_is G.first_offsets lo (G.ring_cells.stands x (word_grows g.read x above) (omega arith) (omega arith)).1 (λ crosses. G.first_offsets.stored i e is two crosses) in
       elim (dec_le g.read e.start) [ yes d ↦ by e.start d (omega arith) (omega arith) | no n ↦ by g.read (omega arith) (omega arith) unread ]
 
@@ -141,19 +143,19 @@ module _ (D : LogSide) (c : Setup) (spare : ℕ) (m : SharedWords) (g : LogGhost
   hand_near seat u _ h held copied some = absurd (not_linked u h.2 copied)
 
   -- FIRST of the block that a group in hand crosses into
-  stored_first : (seat : ℕ) (u : UserState) → Hand D c m g p seat u → u.start / 496 < group_end u / 496 → 0 < g.first (group_end u / 496) → g.first (group_end u / 496) ≡ group_end u % 496 + 12
-  stored_first seat u h cross some = let G = half.global in let e : Entry = entry u.user u.k u.start (line u) in let q : ℕ = group_end u / 496 in
+  stored_first : (seat : ℕ) (u : UserState) → Hand D c m g p seat u → u.start / BLOCK_DATA < group_end u / BLOCK_DATA → 0 < g.first (group_end u / BLOCK_DATA) → g.first (group_end u / BLOCK_DATA) ≡ group_end u % BLOCK_DATA + 12
+  stored_first seat u h cross some = let G = half.global in let e : Entry = entry u.user u.k u.start (line u) in let q : ℕ = group_end u / BLOCK_DATA in
       G.first_offsets.true_first q some ∙ first_is c m.sn g.log g.place h.at e q G.tiled h.is (is_crosses q e refl cross)
 
-  stopped_first : (seat : ℕ) (u : UserState) (b : Bool) → eqb u.copied (length (group_bytes u)) ≡ b → Hand D c m g p seat u → u.copied ≤ length (group_bytes u) → (u.copied < length (group_bytes u) → LacksFirst D c m g p u) → (u.copied ≡ length (group_bytes u) → HasFirst D c m g p u) → u.start / 496 < group_end u / 496
-      → g.first (group_end u / 496) ≡ cond b (group_end u % 496 + 12) 0
+  stopped_first : (seat : ℕ) (u : UserState) (b : Bool) → eqb u.copied (length (group_bytes u)) ≡ b → Hand D c m g p seat u → u.copied ≤ length (group_bytes u) → (u.copied < length (group_bytes u) → LacksFirst D c m g p u) → (u.copied ≡ length (group_bytes u) → HasStoredFirst D c m g p u) → u.start / BLOCK_DATA < group_end u / BLOCK_DATA
+      → g.first (group_end u / BLOCK_DATA) ≡ cond b (group_end u % BLOCK_DATA + 12) 0
   stopped_first seat u true e h few lacks has cross = stored_first seat u h cross (has (eqb-true u.copied (length (group_bytes u)) e) cross)
   stopped_first seat u false e h few lacks has cross = lacks (let n = eqb-false u.copied (length (group_bytes u)) e in below_of u.copied (length (group_bytes u)) few n) cross
     where
       below_of : (a b : ℕ) → a ≤ b → a ≢ b → a < b
       below_of a b l n = omega arith
 
-  first_hand : (seat : ℕ) (u : UserState) (f : UserStep) → UserAt D c m g p seat u f → length u.starts ≡ u.k + 1 → HasCopied g.state u → u.start / 496 < group_end u / 496 → g.first (group_end u / 496) ≡ first_in_hand u f
+  first_hand : (seat : ℕ) (u : UserState) (f : UserStep) → UserAt D c m g p seat u f → length u.starts ≡ u.k + 1 → HasCopied g.state u → u.start / BLOCK_DATA < group_end u / BLOCK_DATA → g.first (group_end u / BLOCK_DATA) ≡ first_in_hand u f
   first_hand seat u user_step.LoadCheckpoint h held copied cross = let z = h.0 in absurd (omega arith)
   first_hand seat u user_step.LoadSn h held copied cross = let z = h.0 in absurd (omega arith)
   first_hand seat u user_step.TakeLatch h held copied cross = let z = h.0 in absurd (omega arith)

@@ -10,6 +10,7 @@ use Rattle.model_core.specs.{Actor, Advance, Entry, is_held, lsn, SharedWords, t
 use Rattle.model_core.specs.LogSide.{LogSide}
 use Rattle.model_core.specs.Setup.{Setup}
 use Rattle.model_core.specs.declared.steps.WriterStep.{WriterStep}
+use Rattle.model_core.specs.declared.limits.TheConstants.{ADVANCE_PLACES, WRITTEN_LINKS}
 use Rattle.model_logcore.proofs.AdvanceSteps.{clears_link, frees_tail, holds_it, is_free, Moves, stays, takes_tail}
 use Rattle.model_logcore.proofs.Frame.{unchanged, Kept}
 use Rattle.model_logcore.proofs.Same.{later_marks, order_on, writer_same}
@@ -95,23 +96,23 @@ module _ (D : LogSide) (c : Setup) (spare : ℕ) (m : SharedWords) (g : LogGhost
           )
       by false e low f = (g, ended m.wtail m.wheld m.wlinks g.wtail g.tail g.advancer g.target (stays D c spare m g p actors before seat) s.tail (record s.advance { place = s.advance.tail }) low mine.tail f (ap writer_holds is) h, refl)
 
-  pub keeps_load_link : s.step ≡ writer_step.Advance advance_step.LoadLink → WriterAt D c m g p seat s (writer_step.Advance advance_step.LoadLink) → Advanced m (writer_took s (answer.Old (slice_index m.wlinks (s.advance.place % 32768))) (writer_step.Advance advance_step.LoadLink))
-  keeps_load_link is h = by (slice_index m.wlinks (s.advance.place % 32768)) refl (eqb (slice_index m.wlinks (s.advance.place % 32768)) 0) refl
+  pub keeps_load_link : s.step ≡ writer_step.Advance advance_step.LoadLink → WriterAt D c m g p seat s (writer_step.Advance advance_step.LoadLink) → Advanced m (writer_took s (answer.Old (slice_index m.wlinks (s.advance.place % WRITTEN_LINKS))) (writer_step.Advance advance_step.LoadLink))
+  keeps_load_link is h = by (slice_index m.wlinks (s.advance.place % WRITTEN_LINKS)) refl (eqb (slice_index m.wlinks (s.advance.place % WRITTEN_LINKS)) 0) refl
     where
-      by : (n : ℕ) → slice_index m.wlinks (s.advance.place % 32768) ≡ n → (b : Bool) → eqb n 0 ≡ b → Advanced m (record s { advance = record s.advance { link = n }; checks = false; step = writer_step.Advance (cond b advance_step.FreeTail advance_step.ClearLink) })
+      by : (n : ℕ) → slice_index m.wlinks (s.advance.place % WRITTEN_LINKS) ≡ n → (b : Bool) → eqb n 0 ≡ b → Advanced m (record s { advance = record s.advance { link = n }; checks = false; step = writer_step.Advance (cond b advance_step.FreeTail advance_step.ClearLink) })
       by n v true e = (g, advances m.wtail m.wheld m.wlinks g.wtail g.tail g.advancer g.target (stays D c spare m g p actors before seat) s.tail (record s.advance { link = n }) false (writer_step.Advance advance_step.FreeTail) mine.tail refl (ap writer_holds is) h, refl)
       by n v false e = (g, advances m.wtail m.wheld m.wlinks g.wtail g.tail g.advancer g.target (stays D c spare m g p actors before seat) s.tail (record s.advance { link = n }) false (writer_step.Advance advance_step.ClearLink) mine.tail refl (ap writer_holds is) (h.0, (h.1, (let k = eqb-false n 0 e in omega arith), v)), refl)
 
   pub keeps_clear_link : s.step ≡ writer_step.Advance advance_step.ClearLink → WriterAt D c m g p seat s (writer_step.Advance advance_step.ClearLink)
-      → Advanced (record m { wlinks = slice_set m.wlinks (s.advance.place % 32768) 0 }) (writer_took s (answer.Old (slice_index m.wlinks (s.advance.place % 32768))) (writer_step.Advance advance_step.ClearLink))
-  keeps_clear_link is h = by (ltb (s.advance.place + s.advance.link) (s.advance.tail + 32768))
+      → Advanced (record m { wlinks = slice_set m.wlinks (s.advance.place % WRITTEN_LINKS) 0 }) (writer_took s (answer.Old (slice_index m.wlinks (s.advance.place % WRITTEN_LINKS))) (writer_step.Advance advance_step.ClearLink))
+  keeps_clear_link is h = by (ltb (s.advance.place + s.advance.link) (s.advance.tail + ADVANCE_PLACES))
     where
-      by : (b : Bool) → Advanced (record m { wlinks = slice_set m.wlinks (s.advance.place % 32768) 0 }) (record s { advance = record s.advance { place = s.advance.place + s.advance.link; link = 0 }; checks = false; step = writer_step.Advance (cond b advance_step.LoadLink advance_step.FreeTail) })
-      by b = let k = clears_link D c spare m g p actors before seat s.advance (s.advance.place % 32768) refl h.1.0 h.1.1 h.1.2 in
-          (record g { tail = k.0 }, advances m.wtail m.wheld (slice_set m.wlinks (s.advance.place % 32768) 0) g.wtail k.0 g.advancer g.target k.1 s.tail (record s.advance { place = s.advance.place + s.advance.link; link = 0 }) false (writer_step.Advance (cond b advance_step.LoadLink advance_step.FreeTail)) mine.tail refl (ap writer_holds is) (h.0, next b k.0 k.2), refl)
+      by : (b : Bool) → Advanced (record m { wlinks = slice_set m.wlinks (s.advance.place % WRITTEN_LINKS) 0 }) (record s { advance = record s.advance { place = s.advance.place + s.advance.link; link = 0 }; checks = false; step = writer_step.Advance (cond b advance_step.LoadLink advance_step.FreeTail) })
+      by b = let k = clears_link D c spare m g p actors before seat s.advance (s.advance.place % WRITTEN_LINKS) refl h.1.0 h.1.1 h.1.2 in
+          (record g { tail = k.0 }, advances m.wtail m.wheld (slice_set m.wlinks (s.advance.place % WRITTEN_LINKS) 0) g.wtail k.0 g.advancer g.target k.1 s.tail (record s.advance { place = s.advance.place + s.advance.link; link = 0 }) false (writer_step.Advance (cond b advance_step.LoadLink advance_step.FreeTail)) mine.tail refl (ap writer_holds is) (h.0, next b k.0 k.2), refl)
         where
-          next : (b : Bool) (to : ℕ) → HoldsWtail D c (record m { wlinks = slice_set m.wlinks (s.advance.place % 32768) 0 }) (record g { tail = to }) p seat (record s.advance { place = s.advance.place + s.advance.link; link = 0 })
-              → AdvanceAt D c (record m { wlinks = slice_set m.wlinks (s.advance.place % 32768) 0 }) (record g { tail = to }) p seat (record s.advance { place = s.advance.place + s.advance.link; link = 0 }) (cond b advance_step.LoadLink advance_step.FreeTail)
+          next : (b : Bool) (to : ℕ) → HoldsWtail D c (record m { wlinks = slice_set m.wlinks (s.advance.place % WRITTEN_LINKS) 0 }) (record g { tail = to }) p seat (record s.advance { place = s.advance.place + s.advance.link; link = 0 })
+              → AdvanceAt D c (record m { wlinks = slice_set m.wlinks (s.advance.place % WRITTEN_LINKS) 0 }) (record g { tail = to }) p seat (record s.advance { place = s.advance.place + s.advance.link; link = 0 }) (cond b advance_step.LoadLink advance_step.FreeTail)
           next true to k = k
           next false to k = k
 

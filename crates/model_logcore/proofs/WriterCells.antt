@@ -4,6 +4,7 @@ use Rattle.std.proofs.lemmas.Bool.{eqb-false, leb-false}
 use Rattle.std.specs.Prelude.{nat_le, slice_index, slice_set}
 use lib.ListN.{get_elem?}
 use native.Mathlib.Decide.{dec_le, ℕ_discrete}
+use Rattle.model_log.specs.declared.layout.TheConstants.{BLOCK_DATA}
 use Rattle.model_core.proofs.Groups.{back, crosses_is, first_from, front, tiles_at}
 use Rattle.model_core.proofs.Lanes.{cell_word, in_later_word, lane_of_zero, lanes_are, lanes_long, later_word, left_block, next_lanes, part_word, same_word, whole_word, word_grows, word_up}
 use Rattle.model_core.proofs.Lsns.{floor_grows, floor_lsn, lsn_block, lsn_le, lsn_same, ring_same}
@@ -12,6 +13,7 @@ use Rattle.model_core.specs.{Actor, byte_at, ceiling, cell_of, end_of, Entry, fi
 use Rattle.model_core.specs.LogSide.{LogSide}
 use Rattle.model_core.specs.Setup.{Setup}
 use Rattle.model_core.specs.declared.steps.WriterStep.{WriterStep}
+use Rattle.model_core.specs.declared.limits.TheConstants.{BUFFER_WORDS, LOG_BUFFER}
 use Rattle.model_logcore.proofs.Same.{cells_sized, firsts_sized, later_marks, order_on, stored_here, stored_else}
 use Rattle.model_logcore.proofs.WriterSteps.{WNow, own, ranks, wquiet, wsteps}
 use Rattle.model_logcore.proofs.Frame.{unchanged, Kept}
@@ -37,12 +39,12 @@ module _ (D : LogSide) (c : Setup) (spare : ℕ) (m : SharedWords) (g : LogGhost
   limit_by : (b d : Bool) → nat_le (ceiling s.tail) (m.ckpt + 512 * s.blocks) ≡ b → stands_outside s ≡ d → writer_holds s.step ≡ false → WriterAt D c m g p seat s writer_step.LoadCheckpoint
       → WNow D c spare m g p actors seat s before at (cond b (record s { ckpt = m.ckpt; step = cond d writer_step.LoadFirst writer_step.LoadCell }) (record s { ckpt = m.ckpt; checks = true; step = writer_step.LoadCheckpoint }))
   limit_by true true e f free h = quiet s.first m.ckpt s.code s.checks writer_step.LoadFirst (omega arith) (λ z. refl) (sym free)
-      (h.0, (let a = h.0.0 in let z = h.1 in omega arith), leb-true (ceiling s.tail) (m.ckpt + 512 * s.blocks) e, eqb-true (length s.kept) (496 * length s.firsts) f)
+      (h.0, (let a = h.0.0 in let z = h.1 in omega arith), leb-true (ceiling s.tail) (m.ckpt + 512 * s.blocks) e, eqb-true (length s.kept) (BLOCK_DATA * length s.firsts) f)
   limit_by true false e f free h = quiet s.first m.ckpt s.code s.checks writer_step.LoadCell (omega arith) (λ z. refl) (sym free) (
     h.0,
     (let a = h.0.0 in let z = h.1 in omega arith),
     leb-true (ceiling s.tail) (m.ckpt + 512 * s.blocks) e,
-    (let n = eqb-false (length s.kept) (496 * length s.firsts) f in let a = fit.long in let w = fit.wide in let r = before.global.order.read_entered in omega arith),
+    (let n = eqb-false (length s.kept) (BLOCK_DATA * length s.firsts) f in let a = fit.long in let w = fit.wide in let r = before.global.order.read_entered in omega arith),
   )
   limit_by false d e f free h = quiet s.first m.ckpt s.code true writer_step.LoadCheckpoint (omega arith) (λ z. refl) (sym free) h
 
@@ -51,28 +53,28 @@ module _ (D : LogSide) (c : Setup) (spare : ℕ) (m : SharedWords) (g : LogGhost
   keeps_load_checkpoint is h = limit_by (nat_le (ceiling s.tail) (m.ckpt + 512 * s.blocks)) (stands_outside s) refl refl (ap writer_holds is) h
 
   -- where it enters a block
-  at_block : length s.kept ≡ 496 * length s.firsts → (read_place s ≡ g.read) × (g.read ≡ 496 * g.entered)
+  at_block : length s.kept ≡ BLOCK_DATA * length s.firsts → (read_place s ≡ g.read) × (g.read ≡ BLOCK_DATA * g.entered)
   at_block e = let a = fit.long in let w = fit.wide in (a, omega arith)
 
-  pub block_is : length s.kept ≡ 496 * length s.firsts → lsn (read_place s) / 512 ≡ g.entered
+  pub block_is : length s.kept ≡ BLOCK_DATA * length s.firsts → lsn (read_place s) / 512 ≡ g.entered
   block_is e = let b = at_block e in let a = b.0 in let z = b.1 in let k = lsn_block (read_place s) in omega arith
 
   -- FIRST of the block that the writer enters is the block's first offset: all groups that start below it are linked
-  pub first_true : length s.kept ≡ 496 * length s.firsts → g.read < g.target → g.first g.entered ≡ first_of c.base g.log g.entered
+  pub first_true : length s.kept ≡ BLOCK_DATA * length s.firsts → g.read < g.target → g.first g.entered ≡ first_of c.base g.log g.entered
   first_true e l =
       let q : ℕ = g.entered in
       let G = before.global in
       let b = at_block e in let b1 = b.1 in
       elim (dec_le 1 (g.first q)) [
         | yes d ↦ G.first_offsets.true_first q (omega arith)
-        | no d ↦ elim (ℕ_discrete q (c.base / 496)) [
+        | no d ↦ elim (ℕ_discrete q (c.base / BLOCK_DATA)) [
           | yes z ↦ (let k : 0 < g.first q = subst (λ (x : ℕ). 0 < g.first x) (sym z) G.first_offsets.begun in absurd (omega arith))
           | no n ↦ ⊎_elim (λ z. omega arith)
               (λ z. let k = crosses_is q z.1 z.3 in let k0 = k.0 in let k1 = k.1 in
               let w = tiles_at g.log c.base m.sn z.0 z.1 G.tiled.tiles z.2 in let w0 = w.0 in
               let two = G.written_links.linked z.1.start w0 (let up = order.2 in omega arith) in
               let some_first = G.first_offsets.stored z.0 z.1 z.2 two (omega arith) in
-              let same : g.first (end_of z.1 / 496) ≡ g.first q = ap g.first k0 in
+              let same : g.first (end_of z.1 / BLOCK_DATA) ≡ g.first q = ap g.first k0 in
               absurd (omega arith))
               (first_from c.base g.log q n)
         ]
@@ -138,8 +140,8 @@ module _ (D : LogSide) (c : Setup) (spare : ℕ) (m : SharedWords) (g : LogGhost
                   wide = omega (arith, length-append s.firsts (s.first ∷ []));
                   firsts = λ j l. elim (dec_le (length s.firsts) j) [
                     | yes d ↦ (let z : j ≡ length s.firsts + 0 = omega (arith, length-append s.firsts (s.first ∷ [])) in
-                        subst (λ (y : ℕ). slice_index (s.firsts ++ s.first ∷ []) y ≡ first_of c.base g.log (g.write / 496 + y)) (sym z)
-                        (back s.firsts (s.first ∷ []) (length s.firsts) 0 refl ∙ h.4 ∙ ap (first_of c.base g.log) (let k : g.entered ≡ g.write / 496 + (length s.firsts + 0) = omega arith in k)))
+                        subst (λ (y : ℕ). slice_index (s.firsts ++ s.first ∷ []) y ≡ first_of c.base g.log (g.write / BLOCK_DATA + y)) (sym z)
+                        (back s.firsts (s.first ∷ []) (length s.firsts) 0 refl ∙ h.4 ∙ ap (first_of c.base g.log) (let k : g.entered ≡ g.write / BLOCK_DATA + (length s.firsts + 0) = omega arith in k)))
                     | no d ↦ front s.firsts (s.first ∷ []) j (omega arith) ∙ fit.firsts j (omega arith)
                   ];
                   ckpt = fit.ckpt;
@@ -152,16 +154,16 @@ module _ (D : LogSide) (c : Setup) (spare : ℕ) (m : SharedWords) (g : LogGhost
           )
 
   -- a block that it has entered ends at or before the first one that it hasn't
-  from_even : s.from % 496 ≡ 0
-  from_even = let f = fit.from in even_of (g.write / 496) s.from f
+  from_even : s.from % BLOCK_DATA ≡ 0
+  from_even = let f = fit.from in even_of (g.write / BLOCK_DATA) s.from f
     where
-      even_of : (q n : ℕ) → n ≡ q * 496 → n % 496 ≡ 0
+      even_of : (q n : ℕ) → n ≡ q * BLOCK_DATA → n % BLOCK_DATA ≡ 0
       even_of q n e = omega arith
 
-  end_before : (k n entered kept firsts from : ℕ) → k ≡ from + kept → from + 496 * firsts ≡ 496 * entered → kept < 496 * firsts → from % 496 ≡ 0 → k + n ≤ (k / 496 + 1) * 496 → k + n ≤ 496 * entered
+  end_before : (k n entered kept firsts from : ℕ) → k ≡ from + kept → from + BLOCK_DATA * firsts ≡ BLOCK_DATA * entered → kept < BLOCK_DATA * firsts → from % BLOCK_DATA ≡ 0 → k + n ≤ (k / BLOCK_DATA + 1) * BLOCK_DATA → k + n ≤ BLOCK_DATA * entered
   end_before k n entered kept firsts from k_is wide room even le = omega arith
 
-  end_within : (k n left entered kept firsts from : ℕ) → k ≡ from + kept → from + 496 * firsts ≡ 496 * entered → kept < 496 * firsts → from % 496 ≡ 0 → n < left → k + left ≤ (k / 496 + 1) * 496 → k + n ≡ g.target → g.target ≤ 496 * entered
+  end_within : (k n left entered kept firsts from : ℕ) → k ≡ from + kept → from + BLOCK_DATA * firsts ≡ BLOCK_DATA * entered → kept < BLOCK_DATA * firsts → from % BLOCK_DATA ≡ 0 → n < left → k + left ≤ (k / BLOCK_DATA + 1) * BLOCK_DATA → k + n ≡ g.target → g.target ≤ BLOCK_DATA * entered
   end_within k n left entered kept firsts from k_is wide room even few le is = let z = end_before k left entered kept firsts from k_is wide room even le in omega arith
 
   -- the lanes of the word at the read place hold the stream's bytes, up to the tail
@@ -173,7 +175,7 @@ module _ (D : LogSide) (c : Setup) (spare : ℕ) (m : SharedWords) (g : LogGhost
           let two = before.global.written_links.linked (k + j) (omega arith) (let up = r.2 in omega arith) in
           let z = before.global.ring_cells.stands (k + j) (word_grows g.read (k + j) (omega arith)) (omega arith) (omega arith) in
           ap (λ (y : ℕ). lane y (slice_index m.cells (cell_of k))) (sym (next_lanes k j l))
-          ∙ ap (λ (y : ℕ). lane (lane_of (k + j)) (slice_index m.cells (y % 8192))) (sym (same_word k j l)) ∙ z.0
+          ∙ ap (λ (y : ℕ). lane (lane_of (k + j)) (slice_index m.cells (y % BUFFER_WORDS))) (sym (same_word k j l)) ∙ z.0
 
   -- it keeps so many bytes more, from the lanes of a word that has them
   kept_on : (n w : ℕ) → ((j : ℕ) → j < n → lane (lane_of (read_place s) + j) w ≡ byte_at c.base g.log (read_place s + j)) → (i : ℕ) → i < length (s.kept ++ lanes (lane_of (read_place s)) n w)
@@ -256,7 +258,7 @@ module _ (D : LogSide) (c : Setup) (spare : ℕ) (m : SharedWords) (g : LogGhost
               let same : lsn g.target / 8 ≡ lsn g.read / 8 = ap (λ (x : ℕ). lsn x / 8) (sym q.1) ∙ same_word (read_place s) n q.0 ∙ ap (λ (x : ℕ). lsn x / 8) fit.long in
               let in_block = left_block (read_place s) in
               let wi = fit.wide in let k3 = h.3 in let q0 = q.0 in let q1 = q.1 in
-              let to : g.target ≤ 496 * g.entered = end_within (read_place s) n (left_in_word (read_place s)) g.entered (length s.kept) (length s.firsts) s.from refl wi k3 (from_even) q0 in_block q1 in (
+              let to : g.target ≤ BLOCK_DATA * g.entered = end_within (read_place s) n (left_in_word (read_place s)) g.entered (length s.kept) (length s.firsts) s.from refl wi k3 (from_even) q0 in_block q1 in (
                 g',
                 wsteps D c spare m g p actors seat s before at m g' p refl (record s { kept = s.kept ++ lanes (lane_of (read_place s)) n (slice_index m.cells (cell_of (read_place s))); step = writer_step.TakeDevice }) before.sized
                     (record {
@@ -299,21 +301,21 @@ module _ (D : LogSide) (c : Setup) (spare : ℕ) (m : SharedWords) (g : LogGhost
   -- it clears the word that it has loaded, and keeps its bytes
   pub keeps_clear_cell : s.step ≡ writer_step.ClearCell → WriterAt D c m g p seat s writer_step.ClearCell
       → (h : LogGhost) × Kept D c spare (record m { cells = slice_set m.cells (cell_of (read_place s)) 0 }) h p (set actors seat (actor.Writer (writer_took s (answer.Old 0) writer_step.ClearCell))) × (◌≡◌ {A = List Entry} (h.log) (g.log))
-  keeps_clear_cell is h = cleared (left_in_word (read_place s)) refl (eqb (lsn (word_end s)) s.tail) (eqb (length s.kept + left_in_word (read_place s)) (496 * length s.firsts)) refl refl
+  keeps_clear_cell is h = cleared (left_in_word (read_place s)) refl (eqb (lsn (word_end s)) s.tail) (eqb (length s.kept + left_in_word (read_place s)) (BLOCK_DATA * length s.firsts)) refl refl
     where
       slot : cell_of (read_place s) < length m.cells
       slot = let z = before.sized.cells in subst (λ (n : ℕ). cell_of (read_place s) < n) (sym z) (small_of (lsn (read_place s) / 8))
         where
-          small_of : (n : ℕ) → n % 8192 < 8192
+          small_of : (n : ℕ) → n % BUFFER_WORDS < BUFFER_WORDS
           small_of n = omega arith
 
-      entered_end : word_end s ≤ 496 * g.entered
+      entered_end : word_end s ≤ BLOCK_DATA * g.entered
       entered_end = end_before (read_place s) (left_in_word (read_place s)) g.entered (length s.kept) (length s.firsts) s.from refl fit.wide h.3 from_even (left_block (read_place s))
 
       low : floor m.write ≤ lsn (read_place s)
       low = let O = before.global.order in let a = O.write_is in let w = lsn_le g.write g.read O.write_read in let e : lsn (read_place s) ≡ lsn g.read = ap lsn fit.long in omega arith
 
-      here_near : lsn (read_place s) < floor m.write + 65536
+      here_near : lsn (read_place s) < floor m.write + LOG_BUFFER
       here_near = let r = order in let r0 = r.0 in let r3 = r.3 in let r4 = r.4 in let l = h.1 in
           let two = before.global.written_links.linked g.read (omega arith) (let up = r.2 in omega arith) in
           let e : lsn (read_place s) ≡ lsn g.read = ap lsn fit.long in
@@ -339,7 +341,7 @@ module _ (D : LogSide) (c : Setup) (spare : ℕ) (m : SharedWords) (g : LogGhost
               (λ z. inl (elim (dec_le (lsn (read_place s) / 8) (lsn x / 8)) [
                 | no d ↦ omega arith
                 | yes d ↦ elim (ℕ_discrete (lsn x / 8) (lsn (read_place s) / 8)) [
-                  | yes q ↦ absurd (n (ap (λ (y : ℕ). y % 8192) q))
+                  | yes q ↦ absurd (n (ap (λ (y : ℕ). y % BUFFER_WORDS) q))
                   | no q ↦ (let past = in_later_word (read_place s) x (omega arith) in let w = word_grows (word_end s) x past in absurd (omega arith))
                 ]
               ]))
@@ -347,7 +349,7 @@ module _ (D : LogSide) (c : Setup) (spare : ℕ) (m : SharedWords) (g : LogGhost
         ];
       }
 
-      cleared : (n : ℕ) → n ≡ left_in_word (read_place s) → (b d : Bool) → eqb (lsn (word_end s)) s.tail ≡ b → eqb (length s.kept + left_in_word (read_place s)) (496 * length s.firsts) ≡ d
+      cleared : (n : ℕ) → n ≡ left_in_word (read_place s) → (b d : Bool) → eqb (lsn (word_end s)) s.tail ≡ b → eqb (length s.kept + left_in_word (read_place s)) (BLOCK_DATA * length s.firsts) ≡ d
           → (h : LogGhost) × Kept D c spare (record m { cells = slice_set m.cells (cell_of (read_place s)) 0 }) h p (set actors seat (actor.Writer (record s { kept = s.kept ++ lanes (lane_of (read_place s)) (left_in_word (read_place s)) s.word; word = 0; step = after_word b d }))) × (◌≡◌ {A = List Entry} (h.log) (g.log))
       cleared n n_is b d e f =
           let g' : LogGhost = record g { read = word_end s } in
@@ -401,14 +403,15 @@ module _ (D : LogSide) (c : Setup) (spare : ℕ) (m : SharedWords) (g : LogGhost
           kept_count : length (s.kept ++ lanes (lane_of (read_place s)) (left_in_word (read_place s)) s.word) ≡ length s.kept + left_in_word (read_place s)
           kept_count = length-append s.kept (lanes (lane_of (read_place s)) (left_in_word (read_place s)) s.word) ∙ ap (λ (y : ℕ). length s.kept + y) (lanes_long (lane_of (read_place s)) (left_in_word (read_place s)) s.word)
 
-          room : (n l : ℕ) → l ≡ length s.kept + n → length s.kept + n ≢ 496 * length s.firsts → read_place s + n ≤ 496 * g.entered → l < 496 * length s.firsts
+          room : (n l : ℕ) → l ≡ length s.kept + n → length s.kept + n ≢ BLOCK_DATA * length s.firsts
+              → read_place s + n ≤ BLOCK_DATA * g.entered → l < BLOCK_DATA * length s.firsts
           room n l l_is ne le = let w = fit.wide in omega arith
 
-          goes : (b d : Bool) → eqb (lsn (word_end s)) s.tail ≡ b → eqb (length s.kept + left_in_word (read_place s)) (496 * length s.firsts) ≡ d
+          goes : (b d : Bool) → eqb (lsn (word_end s)) s.tail ≡ b → eqb (length s.kept + left_in_word (read_place s)) (BLOCK_DATA * length s.firsts) ≡ d
               → WriterAt D c (record m { cells = slice_set m.cells (cell_of (read_place s)) 0 }) (record g { read = word_end s }) p seat (record s { kept = s.kept ++ lanes (lane_of (read_place s)) (left_in_word (read_place s)) s.word; word = 0; step = after_word b d }) (after_word b d)
           goes true d e f = (h.0, lsn_same (word_end s) g.target (eqb-true (lsn (word_end s)) s.tail e ∙ fit.tail), h.2)
-          goes false true e f = (h.0, further e, h.2, kept_count ∙ eqb-true (length s.kept + left_in_word (read_place s)) (496 * length s.firsts) f)
-          goes false false e f = (h.0, further e, h.2, (let z = eqb-false (length s.kept + left_in_word (read_place s)) (496 * length s.firsts) f in room (left_in_word (read_place s)) (length (s.kept ++ lanes (lane_of (read_place s)) (left_in_word (read_place s)) s.word)) kept_count z entered_end))
+          goes false true e f = (h.0, further e, h.2, kept_count ∙ eqb-true (length s.kept + left_in_word (read_place s)) (BLOCK_DATA * length s.firsts) f)
+          goes false false e f = (h.0, further e, h.2, (let z = eqb-false (length s.kept + left_in_word (read_place s)) (BLOCK_DATA * length s.firsts) f in room (left_in_word (read_place s)) (length (s.kept ++ lanes (lane_of (read_place s)) (left_in_word (read_place s)) s.word)) kept_count z entered_end))
 
   -- what it hands to write_to
   pub lends : g.read ≡ g.target → IsLent c.base g.log g.write g.target s.kept s.firsts

@@ -6,6 +6,7 @@ use Rattle.model_core.specs.{Actor, floor, holds, IsSized, SharedWords, writer_h
 use Rattle.model_core.specs.LogSide.{LogSide}
 use Rattle.model_core.specs.Setup.{Setup}
 use Rattle.model_core.specs.declared.steps.WriterStep.{WriterStep}
+use Rattle.model_core.specs.declared.limits.TheConstants.{LOG_BUFFER}
 use Rattle.model_logcore.proofs.Frame.{unchanged, Kept, Later, others_writer, moved_on}
 use Rattle.model_logcore.proofs.Same.{later_marks, writer_same}
 use Rattle.model_logcore.specs.LogFacts.{LogGhost, LogFacts}
@@ -50,5 +51,5 @@ module _ (D : LogSide) (c : Setup) (spare : ℕ) (m : SharedWords) (g : LogGhost
   ranks = let O = before.global.order in let a = O.target_wtail in let b = O.wtail_tail in let d = O.tail_sn in (O.write_read, O.read_target, (omega arith), (omega arith), O.base_write)
 
   -- its tail is less than the log buffer past the block of WRITE
-  pub tail_near : s.tail < floor m.write + 65536
+  pub tail_near : s.tail < floor m.write + LOG_BUFFER
   tail_near = let O = before.global.order in let near = O.near in let t = own.tail in let r = ranks in let r2 = r.2 in let l = lsn_le g.target g.tail (omega arith) in omega arith

@@ -4,12 +4,14 @@ use Rattle.std.proofs.lemmas.List.{get_or-drop}
 use lib.ListN.{get_elem?}
 use native.Mathlib.Decide.{dec_le}
 use Rattle.std.specs.Prelude.{slice_index}
+use Rattle.model_log.specs.declared.layout.TheConstants.{BLOCK_DATA}
 use Rattle.model_core.proofs.Lanes.{turn_before, turned_far}
 use Rattle.model_core.proofs.Lsns.{floor_grows, lsn_le}
 unfoldable use Rattle.model_core.specs.{lane}
 use Rattle.model_core.specs.{Actor, byte_at, byte_in, Entry, first_of, floor, full_blocks, lsn, SharedWords, writer_holds, writer_took, WriterState}
 use Rattle.model_core.specs.LogSide.{LogSide}
 use Rattle.model_core.specs.Setup.{Setup}
+use Rattle.model_core.specs.declared.limits.TheConstants.{BUFFER_WORDS, LOG_BUFFER}
 use Rattle.model_logcore.proofs.Same.{facts_same, later_marks, numbers_sized, part_same, writer_same}
 use Rattle.model_logcore.proofs.WriterSteps.{own, ranks, tail_near, wsteps}
 use Rattle.model_logcore.proofs.Frame.{unchanged, Kept}
@@ -28,13 +30,14 @@ module _ (D : LogSide) (c : Setup) (spare : ℕ) (m : SharedWords) (g : LogGhost
   order : (g.write ≤ g.read) × (g.read ≤ g.target) × (g.target ≤ g.tail) × (g.target ≤ m.sn) × (c.base ≤ g.write)
   order = ranks D c spare m g p actors seat s before at
 
-  lane_turned : (cells : List ℕ) (a b : ℕ) → a + 65536 ≡ b → lane (a % 8) (slice_index cells (a / 8 % 8192)) ≡ lane (b % 8) (slice_index cells (b / 8 % 8192))
+  lane_turned : (cells : List ℕ) (a b : ℕ) → a + LOG_BUFFER ≡ b
+      → lane (a % 8) (slice_index cells (a / 8 % BUFFER_WORDS)) ≡ lane (b % 8) (slice_index cells (b / 8 % BUFFER_WORDS))
   lane_turned cells a b e = (λ i. lane (lanes_same i) (slice_index cells (words_same i)))
     where
       lanes_same : a % 8 ≡ b % 8
       lanes_same = omega arith
 
-      words_same : a / 8 % 8192 ≡ b / 8 % 8192
+      words_same : a / 8 % BUFFER_WORDS ≡ b / 8 % BUFFER_WORDS
       words_same = omega arith
 
   -- it stores WRITE, and keeps the last block, where that isn't full
@@ -78,14 +81,14 @@ module _ (D : LogSide) (c : Setup) (spare : ℕ) (m : SharedWords) (g : LogGhost
               ring_cells = record {
                 wide = G.ring_cells.wide;
                 stands = λ x l q z. let o = G.ring_cells.stands x l q z in let o1 = o.1 in (o.0, omega arith);
-                bare = λ x lo hi z. elim (dec_le (floor m.write + 65536) (lsn x)) [
+                bare = λ x lo hi z. elim (dec_le (floor m.write + LOG_BUFFER) (lsn x)) [
                   | no d ↦ G.ring_cells.bare x (omega arith) (omega arith) z
                   | yes d ↦ (let far = turned_far x m.write d in
                       let y : ℕ = x - 63488 in
                       let back = turn_before x far in
                       let sm = tail_near D c spare m g p actors seat s before at in let wr = fit.write in let tl = fit.tail in
                       let same_mark : floor s.tail ≡ floor (lsn g.target) = ap floor tl in
-                      let step : floor s.tail ≤ floor m.write + 65536 = (let z : floor s.tail ≤ s.tail = omega arith in omega arith) in
+                      let step : floor s.tail ≤ floor m.write + LOG_BUFFER = (let z : floor s.tail ≤ s.tail = omega arith in omega arith) in
                       let read_is : lsn g.read ≡ lsn g.target = ap lsn k3 in
                       let one : byte_in m.cells y ≡ byte_in m.cells x = lane_turned m.cells (lsn y) (lsn x) back in
                       sym one ∙ G.ring_cells.bare y (omega arith) (omega arith) (inl (omega arith)))
@@ -102,10 +105,10 @@ module _ (D : LogSide) (c : Setup) (spare : ℕ) (m : SharedWords) (g : LogGhost
               tail = fit.tail;
               write = refl;
               from = omega arith;
-              long = omega (arith, length-drop (496 * full_blocks s) s.kept);
-              kept = λ j l. get_or-drop (496 * full_blocks s) s.kept j 0 ∙ fit.kept (496 * full_blocks s + j) (omega (arith, length-drop (496 * full_blocks s) s.kept)) ∙ ap (byte_at c.base g.log) (let z : s.from + (496 * full_blocks s + j) ≡ s.from + 496 * full_blocks s + j = omega arith in z);
+              long = omega (arith, length-drop (BLOCK_DATA * full_blocks s) s.kept);
+              kept = λ j l. get_or-drop (BLOCK_DATA * full_blocks s) s.kept j 0 ∙ fit.kept (BLOCK_DATA * full_blocks s + j) (omega (arith, length-drop (BLOCK_DATA * full_blocks s) s.kept)) ∙ ap (byte_at c.base g.log) (let z : s.from + (BLOCK_DATA * full_blocks s + j) ≡ s.from + BLOCK_DATA * full_blocks s + j = omega arith in z);
               wide = omega (arith, length-drop (full_blocks s) s.firsts);
-              firsts = λ i l. get_or-drop (full_blocks s) s.firsts i 0 ∙ fit.firsts (full_blocks s + i) (omega (arith, length-drop (full_blocks s) s.firsts)) ∙ ap (first_of c.base g.log) (let z : g.write / 496 + (full_blocks s + i) ≡ g.target / 496 + i = omega arith in z);
+              firsts = λ i l. get_or-drop (full_blocks s) s.firsts i 0 ∙ fit.firsts (full_blocks s + i) (omega (arith, length-drop (full_blocks s) s.firsts)) ∙ ap (first_of c.base g.log) (let z : g.write / BLOCK_DATA + (full_blocks s + i) ≡ g.target / BLOCK_DATA + i = omega arith in z);
               ckpt = fit.ckpt;
               no_device_while_checking = λ z. let y = fit.no_device_while_checking z in let x : true ≡ false = sym (ap writer_holds is) ∙ y in absurd (cc);
               step = ((k3, k2), refl);

@@ -79,15 +79,15 @@ pub record MarkOrder (base : ℕ) (log : List Entry) (sn write wtail : ℕ) (whe
   pub flushed_bound : IsBound base log gflushed
 
 -- The place's lane is 0: its word was cleared, as each one is all of whose places are read; or its byte isn't copied.
-abbrev pub IsBare : ℕ → (ℕ → ℕ) → ℕ → ℕ → Type 0
-IsBare sn state read x = (lsn x / WORD_LANES < lsn read / WORD_LANES) ⊎ (sn ≤ x) ⊎ (state x ≡ 0)
+abbrev pub HasZeroLane : ℕ → (ℕ → ℕ) → ℕ → ℕ → Type 0
+HasZeroLane sn state read x = (lsn x / WORD_LANES < lsn read / WORD_LANES) ⊎ (sn ≤ x) ⊎ (state x ≡ 0)
 
 -- Copied bytes. In the window of the log buffer, from the block floor of WRITE to that plus 65,536, each lane holds the copied
 -- byte of the one place that it stands for, or 0 where that byte isn't copied or its word was cleared.
 pub record RingCells (base sn : ℕ) (cells : List ℕ) (write : ℕ) (log : List Entry) (state : ℕ → ℕ) (read : ℕ) : Type 0 where
   pub wide : (i : ℕ) → slice_index cells i < 2 ^ 64
   pub stands : (x : ℕ) → lsn read / WORD_LANES ≤ lsn x / WORD_LANES → x < sn → 0 < state x → (byte_in cells x ≡ byte_at base log x) × (lsn x < floor write + LOG_BUFFER)
-  pub bare : (x : ℕ) → floor write ≤ lsn x → lsn x < floor write + LOG_BUFFER → IsBare sn state read x → byte_in cells x ≡ 0
+  pub bare : (x : ℕ) → floor write ≤ lsn x → lsn x < floor write + LOG_BUFFER → HasZeroLane sn state read x → byte_in cells x ≡ 0
 
 -- first offsets: FIRST of each block that the writer hasn't entered is what was stored there, or 0
 pub record FirstOffsets (base : ℕ) (slots : List ℕ) (write : ℕ) (log : List Entry) (first state : ℕ → ℕ) (entered : ℕ) : Type 0 where

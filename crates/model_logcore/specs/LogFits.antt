@@ -42,8 +42,8 @@ module _ (D : LogSide) (c : Setup) (m : SharedWords) (g : LogGhost) (p : D.Part)
   abbrev pub Hand : ℕ → UserState → Type 0
   Hand seat u = InHand g.log g.place g.state seat u.user u.k u.start u.copied (line u)
 
-  abbrev pub IsBefore : UserState → Type 0
-  IsBefore u = (length u.starts ≡ u.k) × (u.k < length u.lines)
+  abbrev pub HasNextLine : UserState → Type 0
+  HasNextLine u = (length u.starts ≡ u.k) × (u.k < length u.lines)
 
   -- its group in hand is linked, each of its places
   abbrev pub HasLinked : UserState → Type 0
@@ -58,8 +58,8 @@ module _ (D : LogSide) (c : Setup) (m : SharedWords) (g : LogGhost) (p : D.Part)
   EndIsNear u = lsn (group_end u) < floor m.write + LOG_BUFFER
 
   -- FIRST of the block in which it ends is stored, if it starts in another
-  abbrev pub HasFirst : UserState → Type 0
-  HasFirst u = u.start / BLOCK_DATA < group_end u / BLOCK_DATA → 0 < g.first (group_end u / BLOCK_DATA)
+  abbrev pub HasStoredFirst : UserState → Type 0
+  HasStoredFirst u = u.start / BLOCK_DATA < group_end u / BLOCK_DATA → 0 < g.first (group_end u / BLOCK_DATA)
 
   -- that FIRST isn't stored yet
   abbrev pub LacksFirst : UserState → Type 0
@@ -68,7 +68,7 @@ module _ (D : LogSide) (c : Setup) (m : SharedWords) (g : LogGhost) (p : D.Part)
   -- How far the group in hand came of a user that has ended by a failure: so many of its bytes are copied, none but where its
   -- end is near, and with all of them FIRST is stored; or it is linked.
   abbrev pub HasStoppedAt : ℕ → UserState → Type 0
-  HasStoppedAt seat u = (Hand seat u × (u.copied ≤ length (group_bytes u)) × (0 < u.copied → EndIsNear u) × (u.copied < length (group_bytes u) → LacksFirst u) × (u.copied ≡ length (group_bytes u) → HasFirst u)) ⊎ HasLinked u
+  HasStoppedAt seat u = (Hand seat u × (u.copied ≤ length (group_bytes u)) × (0 < u.copied → EndIsNear u) × (u.copied < length (group_bytes u) → LacksFirst u) × (u.copied ≡ length (group_bytes u) → HasStoredFirst u)) ⊎ HasLinked u
 
   abbrev pub HoldsWtail : ℕ → Advance → Type 0
   HoldsWtail seat v = IsHolder m.wheld g.advancer m.wtail g.tail seat v.tail v.place
@@ -82,20 +82,20 @@ module _ (D : LogSide) (c : Setup) (m : SharedWords) (g : LogGhost) (p : D.Part)
 
   -- its group in hand is copied, and not linked
   abbrev pub HasAllCopied : ℕ → UserState → Type 0
-  HasAllCopied seat u = (length u.starts ≡ u.k + 1) × (u.k < length u.lines) × Hand seat u × (u.copied ≡ length (group_bytes u)) × HasFirst u
+  HasAllCopied seat u = (length u.starts ≡ u.k + 1) × (u.k < length u.lines) × Hand seat u × (u.copied ≡ length (group_bytes u)) × HasStoredFirst u
 
   abbrev pub UserAt : ℕ → UserState → UserStep → Type 0
-  UserAt seat u user_step.LoadCheckpoint = IsBefore u
-  UserAt seat u user_step.LoadSn = IsBefore u
-  UserAt seat u user_step.Reserve = IsBefore u
+  UserAt seat u user_step.LoadCheckpoint = HasNextLine u
+  UserAt seat u user_step.LoadSn = HasNextLine u
+  UserAt seat u user_step.Reserve = HasNextLine u
   UserAt seat u user_step.LoadWrite = (length u.starts ≡ u.k + 1) × (u.k < length u.lines) × Hand seat u × (u.copied ≡ 0) × LacksFirst u
   UserAt seat u user_step.AddCell = (length u.starts ≡ u.k + 1) × (u.k < length u.lines) × Hand seat u × (u.copied < length (group_bytes u)) × EndIsNear u × LacksFirst u × (u.checks ≡ false)
   UserAt seat u user_step.StoreFirst = (length u.starts ≡ u.k + 1) × (u.k < length u.lines) × Hand seat u × (u.copied ≡ length (group_bytes u)) × EndIsNear u × (u.start / BLOCK_DATA < group_end u / BLOCK_DATA) × LacksFirst u × (u.checks ≡ false)
   UserAt seat u user_step.LoadWtail = HasAllCopied seat u
   UserAt seat u (user_step.AdvanceWritten s) = HasAllCopied seat u × AdvanceAt seat u.advance s
   UserAt seat u user_step.ReloadWtail = HasAllCopied seat u
-  UserAt seat u user_step.StoreLink = (length u.starts ≡ u.k + 1) × (u.k < length u.lines) × Hand seat u × (u.copied ≡ length (group_bytes u)) × HasFirst u × (lsn u.start < m.wtail + WRITTEN_LINKS)
-  UserAt seat u user_step.TakeLatch = IsBefore u
+  UserAt seat u user_step.StoreLink = (length u.starts ≡ u.k + 1) × (u.k < length u.lines) × Hand seat u × (u.copied ≡ length (group_bytes u)) × HasStoredFirst u × (lsn u.start < m.wtail + WRITTEN_LINKS)
+  UserAt seat u user_step.TakeLatch = HasNextLine u
   UserAt seat u user_step.LoadCtail = IsLinked u
   UserAt seat u (user_step.AdvanceClosed s) = IsLinked u
   UserAt seat u user_step.ReloadCtail = IsLinked u
@@ -131,8 +131,8 @@ module _ (D : LogSide) (c : Setup) (m : SharedWords) (g : LogGhost) (p : D.Part)
   abbrev pub IsBusy : WriterState → Type 0
   IsBusy s = (g.write < g.target) × (D.written p ≡ m.write)
 
-  abbrev pub IsWithin : WriterState → Type 0
-  IsWithin s = ceiling s.tail ≤ s.ckpt + BLOCK_SIZE * s.blocks
+  abbrev pub HasRingRoom : WriterState → Type 0
+  HasRingRoom s = ceiling s.tail ≤ s.ckpt + BLOCK_SIZE * s.blocks
 
   -- it has loaded the word of its read place, which holds the stream's bytes
   abbrev pub HasWord : WriterState → Type 0
@@ -141,13 +141,13 @@ module _ (D : LogSide) (c : Setup) (m : SharedWords) (g : LogGhost) (p : D.Part)
   abbrev pub WriterAt : ℕ → WriterState → WriterStep → Type 0
   WriterAt seat s (writer_step.Advance v) = IsIdle s × AdvanceAt seat s.advance v
   WriterAt seat s writer_step.LoadCheckpoint = IsBusy s × (g.read ≡ g.write)
-  WriterAt seat s writer_step.LoadFirst = IsBusy s × (g.read < g.target) × IsWithin s × (length s.kept ≡ BLOCK_DATA * length s.firsts)
-  WriterAt seat s writer_step.ClearFirst = IsBusy s × (g.read < g.target) × IsWithin s × (length s.kept ≡ BLOCK_DATA * length s.firsts) × (s.first ≡ first_of c.base g.log g.entered)
-  WriterAt seat s writer_step.LoadCell = IsBusy s × (g.read < g.target) × IsWithin s × (length s.kept < BLOCK_DATA * length s.firsts)
-  WriterAt seat s writer_step.ClearCell = IsBusy s × (g.read < g.target) × IsWithin s × (length s.kept < BLOCK_DATA * length s.firsts) × (word_end s ≤ g.target) × HasWord s
-  WriterAt seat s writer_step.TakeDevice = IsBusy s × (g.read ≡ g.target) × IsWithin s
-  WriterAt seat s writer_step.GiveBroken = IsBusy s × (g.read ≡ g.target) × IsWithin s
-  WriterAt seat s writer_step.WriteTo = IsBusy s × (g.read ≡ g.target) × IsWithin s × (D.failed p ≡ false)
+  WriterAt seat s writer_step.LoadFirst = IsBusy s × (g.read < g.target) × HasRingRoom s × (length s.kept ≡ BLOCK_DATA * length s.firsts)
+  WriterAt seat s writer_step.ClearFirst = IsBusy s × (g.read < g.target) × HasRingRoom s × (length s.kept ≡ BLOCK_DATA * length s.firsts) × (s.first ≡ first_of c.base g.log g.entered)
+  WriterAt seat s writer_step.LoadCell = IsBusy s × (g.read < g.target) × HasRingRoom s × (length s.kept < BLOCK_DATA * length s.firsts)
+  WriterAt seat s writer_step.ClearCell = IsBusy s × (g.read < g.target) × HasRingRoom s × (length s.kept < BLOCK_DATA * length s.firsts) × (word_end s ≤ g.target) × HasWord s
+  WriterAt seat s writer_step.TakeDevice = IsBusy s × (g.read ≡ g.target) × HasRingRoom s
+  WriterAt seat s writer_step.GiveBroken = IsBusy s × (g.read ≡ g.target) × HasRingRoom s
+  WriterAt seat s writer_step.WriteTo = IsBusy s × (g.read ≡ g.target) × HasRingRoom s × (D.failed p ≡ false)
   WriterAt seat s writer_step.StoreWrite = (g.write < g.target) × (D.written p ≡ s.tail) × (g.read ≡ g.target)
   WriterAt seat s writer_step.GiveDevice = IsIdle s × (s.tail ≡ s.write)
   WriterAt seat s writer_step.StoreFailed = (0 < s.code) × D.Cause p s.code
@@ -202,11 +202,11 @@ module _ (D : LogSide) (c : Setup) (m : SharedWords) (g : LogGhost) (p : D.Part)
     pub no_device_while_checking : t.checks ≡ true → checkpointer_holds t.step ≡ false
     pub step : CheckpointerAt t t.step
 
-  abbrev pub Fits : ℕ → Actor → Type 0
-  Fits seat (actor.User u) = UserFits seat u
-  Fits seat (actor.Writer s) = WriterFits seat s
-  Fits seat (actor.Flusher f) = FlusherFits seat f
-  Fits seat (actor.Closer t) = t.step ≡ closer_step.Failed → 0 < m.failed
-  Fits seat (actor.Cleaner v) = CleanerTold v
-  Fits seat (actor.Checkpointer t) = CheckpointerFits seat t
-  Fits seat (actor.Joined es) = Unit {0}
+  abbrev pub LogFits : ℕ → Actor → Type 0
+  LogFits seat (actor.User u) = UserFits seat u
+  LogFits seat (actor.Writer s) = WriterFits seat s
+  LogFits seat (actor.Flusher f) = FlusherFits seat f
+  LogFits seat (actor.Closer t) = t.step ≡ closer_step.Failed → 0 < m.failed
+  LogFits seat (actor.Cleaner v) = CleanerTold v
+  LogFits seat (actor.Checkpointer t) = CheckpointerFits seat t
+  LogFits seat (actor.Joined es) = Unit {0}

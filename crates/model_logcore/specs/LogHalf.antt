@@ -3,11 +3,11 @@ use Rattle.std.specs.Prelude.{List, [], drop, length, true, ℕ, ◌+◌, ◌<�
 use lib.ListN.{get_elem?}
 use mathlib.Core.Option.{some}
 use Rattle.model_base.specs.declared.limits.TheConstants.{LSN_LIMIT}
-use Rattle.model_core.specs.{Actor, ChecksWithoutTail, entries, Entry, flat, HasHolder, holds, IsSized, Line, lsn, SharedWords, sum_of}
+use Rattle.model_core.specs.{Actor, ChecksWithoutTail, entries, Entry, HasHolder, holds, IsSized, Line, lsn, SharedWords, sum_of}
 use Rattle.model_core.specs.LogSide.{LogSide}
 use Rattle.model_core.specs.Setup.{Setup}
 use Rattle.model_logcore.specs.LogFacts.{LogGhost, LogFacts, sum_over_actors}
-use Rattle.model_logcore.specs.LogFits.{Fits}
+use Rattle.model_logcore.specs.LogFits.{LogFits}
 use Rattle.model_core.specs.Actors as actor
 use Rattle.model_core.specs.declared.words.LinkBuffer.TheVariants as link_buffer
 
@@ -31,7 +31,7 @@ HasTaker actors seat = (a : Actor) × (get_elem? actors seat ≡ some a) × (hol
 pub record LogHalf (D : LogSide) (c : Setup) (spare : ℕ) (m : SharedWords) (g : LogGhost) (p : D.Part) (actors : List Actor) : Type 0 where
   pub sized : IsSized c.pages m
   pub global : LogFacts D c m g p
-  pub each : (seat : ℕ) (a : Actor) → get_elem? actors seat ≡ some a → Fits D c m g p seat a
+  pub each : (seat : ℕ) (a : Actor) → get_elem? actors seat ≡ some a → LogFits D c m g p seat a
   pub turns : (seat : ℕ) (a : Actor) → get_elem? actors seat ≡ some a → holds a ≡ true → (m.device ≡ 1) × (seat ≡ g.holder)
   pub taken : m.device ≡ 1 → HasTaker actors g.holder
   pub advanced : m.wheld ≡ true → HasHolder link_buffer.Written actors
@@ -39,9 +39,3 @@ pub record LogHalf (D : LogSide) (c : Setup) (spare : ℕ) (m : SharedWords) (g 
   pub counted : Counted actors g.log
   -- where all groups will end at most
   pub room : lsn (m.sn + sum_over_actors left_to_reserve actors + spare) < LSN_LIMIT
-
-pub record RunningLog (D : LogSide) (c : Setup) (spare : ℕ) (ws : List ℕ) (p : D.Part) (actors : List Actor) : Type 0 where
-  pub shared : SharedWords
-  pub log_ghost : LogGhost
-  pub flat_is : ws ≡ flat shared
-  pub half : LogHalf D c spare shared log_ghost p actors

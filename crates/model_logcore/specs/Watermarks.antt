@@ -9,7 +9,7 @@ use Rattle.model_core.specs.LogSide.{LogSide}
 use Rattle.model_core.specs.Setup.{Setup}
 use Rattle.model_core.specs.declared.limits.TheConstants.{BUFFER_BLOCKS, LOG_BUFFER, WORD_LANES, WRITTEN_LINKS}
 use Rattle.model_log.specs.declared.layout.TheConstants.{BLOCK_DATA, BLOCK_HEADER}
-use Rattle.model_logcore.specs.LogFacts.{IsBare, WrittenLink, count_of}
+use Rattle.model_logcore.specs.LogFacts.{HasZeroLane, WrittenLink, count_of}
 use Rattle.model_logcore.specs.LogFits.{AreBelow}
 use Rattle.model_logcore.specs.LogHalf.{Counted}
 use Rattle.model_logcore.specs.TailWord.{TailWordIs}
@@ -89,7 +89,7 @@ pub record GroupsTile (c : Setup) (sn : ℕ) (actors : List Actor) (log : List E
 -- group crosses that is reserved and hasn't come to its store, and that of each block into which no group crosses.
 pub record CopiedBytesStand (base : ℕ) (m : SharedWords) (actors : List Actor) (log : List Entry) (progress first : ℕ → ℕ) (tail read entered : ℕ) : Type 0 where
   pub lane_stands : (x : ℕ) → lsn read / WORD_LANES ≤ lsn x / WORD_LANES → x < m.sn → IsCopied progress x → byte_in m.cells x ≡ byte_at base log x
-  pub lane_bare : (x : ℕ) → floor m.write ≤ lsn x → lsn x < floor m.write + LOG_BUFFER → IsBare m.sn progress read x → byte_in m.cells x ≡ 0
+  pub lane_bare : (x : ℕ) → floor m.write ≤ lsn x → lsn x < floor m.write + LOG_BUFFER → HasZeroLane m.sn progress read x → byte_in m.cells x ≡ 0
   pub cleared_below : (x : ℕ) → base ≤ x → lsn x < floor m.write → lsn x / WORD_LANES < lsn read / WORD_LANES
   pub below : (x : ℕ) → read ≤ x → x < m.sn → IsCopied progress x → lsn x < floor m.write + LOG_BUFFER
   pub tail_below : lsn tail < floor m.write + LOG_BUFFER

@@ -21,7 +21,7 @@ use Rattle.model_pagecore.specs.Pages.{Laid, start_lsn}
 use Rattle.model_core.specs.declared.steps.AdvanceStep.TheVariants as advance_step
 use Rattle.model_core.specs.declared.words.LinkBuffer.TheVariants as link_buffer
 use Rattle.model_core.specs.Actors as actor
-use Rattle.model_core.specs.declared.limits.TheConstants.{CLOSED_LINKS}
+use Rattle.model_core.specs.declared.limits.TheConstants.{ADVANCE_PLACES, CLOSED_LINKS}
 
 -- the step after one: an advance that ends stands at its first
 abbrev pub step_left : Advance → ℕ → AdvanceStep → AdvanceStep
@@ -174,7 +174,7 @@ module _ (E : DataSide) (c : Setup) (seat_of : ℕ → ℕ) (m : SharedWords) (l
             keeps_taken v (tail_of (tail_word v.tail true)) (is_held (tail_word v.tail true)) (sym (held_in m.ctail m.cheld) ∙ ap is_held w ∙ held_in v.tail false) (sym loaded) (tail_in v.tail true ∙ sym loaded) (held_in v.tail true) f
         by false e f = keeps_words (record v { place = v.tail }) advance_step.LoadTail tt f
     keeps_advance v advance_step.LoadLink o long fits = keeps_found v o (slice_index m.clinks (v.place % CLOSED_LINKS)) refl (eqb (slice_index m.clinks (v.place % CLOSED_LINKS)) 0) refl fits
-    keeps_advance v advance_step.ClearLink o long fits = by (ltb (v.place + v.link) (v.tail + 32768)) fits
+    keeps_advance v advance_step.ClearLink o long fits = by (ltb (v.place + v.link) (v.tail + ADVANCE_PLACES)) fits
       where
         by : (e : Bool) → Fits b (record v { place = v.place + v.link; link = 0 }) (cond e advance_step.LoadLink advance_step.FreeTail) → Left (record m { clinks = slice_set m.clinks (v.place % CLOSED_LINKS) 0 }) b
         by true f = keeps_cleared v o.0 o.1 long advance_step.LoadLink (λ _ _ z. z) f

@@ -1,12 +1,13 @@
 -- The cleaner's batch is written, or fails.
-use Rattle.std.proofs.Common.{Bool, List, [], ap, arith, cond, eqb, eqb-true, false, inl, inr, length, refl, set, subst, suc, sym, true, zero, ℕ, ⊎_elim, ◌*◌, ◌<◌, ◌∙◌, ◌∷◌, ◌≡◌, ◌≢◌, ◌≤◌, ◌⊎◌}
+use Rattle.std.proofs.Common.{Bool, List, [], ap, arith, cond, eqb, eqb-true, false, inl, inr, length, refl, set, subst, suc, sym, true, zero, ℕ, ⊎_elim, ◌<◌, ◌∙◌, ◌∷◌, ◌≡◌, ◌≢◌, ◌≤◌, ◌⊎◌}
 use Rattle.std.proofs.lemmas.Bool.{eqb-false}
 use lib.ListN.{get_elem?}
 use mathlib.Core.Option.{some, some-injective, some-ne-none}
 use native.Mathlib.Decide.{dec_le, ℕ_discrete}
+use Rattle.model_base.specs.{IsPageSize}
 use Rattle.model_base.specs.declared.limits.TheConstants.{LSN_LIMIT}
 use Rattle.model_core.proofs.Groups.{some_same}
-use Rattle.model_core.specs.{Actor, BatchPage, CleanerState, Entry, frame_bytes, KeptPage, Listed, lsn, page_words_at, SharedWords, UserState}
+use Rattle.model_core.specs.{Actor, BatchPage, CleanerState, Entry, framed_page, KeptPage, Listed, lsn, page_words_at, SharedWords, UserState}
 use Rattle.model_core.specs.DataSide.{DataSide}
 use Rattle.model_core.specs.Setup.{Setup}
 use Rattle.model_pagecore.proofs.PageHistory.{last_most, upto_whole}
@@ -15,13 +16,13 @@ use Rattle.model_pagecore.proofs.PageStep.{mate}
 use Rattle.model_pagecore.specs.DataLaws.{CanBatch, kept_in, renewed}
 use Rattle.model_pagecore.proofs.Unfinished.{none_unfinished}
 use Rattle.model_pagecore.specs.Growing.{Grows}
-use Rattle.model_pagecore.specs.PageFacts.{AreUnfinished, PageGhost, listed}
-use Rattle.model_pagecore.specs.PageHalf.{AreKept, At, CleanerAt, CleanerFits, InBatch, PageHalf, runs}
+use Rattle.model_pagecore.specs.PageFacts.{AreUnfinished, PageGhost, listed_lsn}
+use Rattle.model_pagecore.specs.PageHalf.{At, CleanerAt, CleanerFits, InBatch, IsBatchKept, PageHalf, runs}
 use Rattle.model_pagecore.specs.Pages.{All, EndsAt, FrameStage, GroupInHand, Laid, Last, NewestStage, OnePage, ListingStage, Agree, none_in_hand, applied_upto}
 use Rattle.model_core.specs.declared.steps.CleanerStep.TheVariants as cleaner_step
 use Rattle.model_core.specs.Actors as actor
 use Rattle.model_core.specs.declared.limits.TheConstants.{FRAME_WORDS}
-use Rattle.model_core.proofs.FrameWords.{frame_long}
+use Rattle.model_core.proofs.FrameWords.{framed_long}
 
 -- a page with a batch is the batch's, or as it was
 pub kept_cases : (batch : List BatchPage) (q : ℕ) (k : KeptPage) → ((i : ℕ) × (x : BatchPage) × (get_elem? batch i ≡ some x) × (x.page ≡ q) × ◌≡◌ {A = KeptPage} (kept_in batch q k) (record { lsn = x.lsn; bytes = x.bytes })) ⊎ (((i : ℕ) (x : BatchPage) → get_elem? batch i ≡ some x → x.page ≢ q) × ◌≡◌ {A = KeptPage} (kept_in batch q k) k)
@@ -42,7 +43,7 @@ module _ (E : DataSide) (c : Setup) (seat_of : ℕ → ℕ) (m : SharedWords) (l
     (mates : (j : ℕ) (u : UserState) → get_elem? actors j ≡ some (actor.User u) → seat_of u.user ≡ j) (W : Laid (lsn c.base) (lsn m.sn) log) where
   -- what the cleaner knows of a page that it holds, with its lsn and bytes
   pub held_facts : (p : ℕ) → At E c m log h ls d seat p none_in_hand All Last Agree → 0 < (page_words_at m.page_words p).oldest
-      → ((h.kept_page p).lsn ≤ (page_words_at m.page_words p).newest) × EndsAt p log (page_words_at m.page_words p).newest × (frame_bytes (page_words_at m.page_words p).frame ≡ applied_upto p (page_words_at m.page_words p).newest log (c.opened p).bytes)
+      → ((h.kept_page p).lsn ≤ (page_words_at m.page_words p).newest) × EndsAt p log (page_words_at m.page_words p).newest × (framed_page c.page_size (page_words_at m.page_words p).frame ≡ applied_upto p (page_words_at m.page_words p).newest log (c.opened p).bytes)
   held_facts p o pos =
       let S = before.paged.each_page p o.there in
       let st = S.oldest pos in
@@ -62,14 +63,14 @@ module _ (E : DataSide) (c : Setup) (seat_of : ℕ → ℕ) (m : SharedWords) (l
     now : CleanerAt E c m log h ls d seat v cleaner_step.WriteBatch
     now = subst (CleanerAt E c m log h ls d seat v) ph own.step
 
-    pub can_batch : ((p : ℕ) → p < c.pages → length (page_words_at m.page_words p).frame ≡ FRAME_WORDS) → m.flushed < LSN_LIMIT → CanBatch E c.pages h.kept_page v.batch d
-    can_batch frames small = record {
+    pub can_batch : IsPageSize c.page_size → ((p : ℕ) → p < c.pages → length (page_words_at m.page_words p).frame ≡ FRAME_WORDS) → m.flushed < LSN_LIMIT → CanBatch E c h.kept_page v.batch d
+    can_batch size frames small = record {
       sound = (own.sound (ap runs ph)).0;
       some_pages = now.1;
       few = own.few;
       each = λ i x is. let o = now.0 i x (omega arith) is in let low = o.0.low in let of = own.flushed in record {
         there = o.0.held.there;
-        whole = ap length o.0.bytes ∙ frame_long (page_words_at m.page_words x.page).frame ∙ ap (λ (n : ℕ). 8 * n) (frames x.page o.0.held.there);
+        whole = ap length o.0.bytes ∙ framed_long c.page_size (page_words_at m.page_words x.page).frame size (frames x.page o.0.held.there);
         small = omega arith;
       };
       newer = λ i x is. let o = now.0 i x (omega arith) is in let f = held_facts x.page o.0.held o.1 in let f0 = f.0 in let nw = o.0.newest in
@@ -91,7 +92,7 @@ module _ (E : DataSide) (c : Setup) (seat_of : ℕ → ℕ) (m : SharedWords) (l
         let z : (kept_page q).lsn ≡ r.1.lsn = ap (λ (y : KeptPage). y.lsn) r.4 in omega arith)
         (λ r. let z : (kept_page q).lsn ≡ (h.kept_page q).lsn = ap (λ (y : KeptPage). y.lsn) r.1 in omega arith)
         (kept_cases v.batch q (h.kept_page q)) in
-        let kept : AreKept E c m log h' ls e v = λ i x is. ⊎_elim
+        let kept : IsBatchKept E c m log h' ls e v = λ i x is. ⊎_elim
         (λ r. let same : i ≡ r.0 = elim (ℕ_discrete i r.0) [
           | yes z ↦ z
           | no z ↦ elim (dec_le i r.0) [
@@ -128,7 +129,7 @@ module _ (E : DataSide) (c : Setup) (seat_of : ℕ → ℕ) (m : SharedWords) (l
                       change = λ j y is tc cl. ⊎_elim (λ z. inl z) (λ z. inr (omega arith)) (S.change j y is tc cl);
                       passed = λ j y is tc lt. let z = S.passed j y is tc lt in omega arith;
                     })
-                    (λ r. subst (λ (y : KeptPage). OnePage q (lsn c.base) (c.opened q) log h.closed h.given stable (page_words_at m.page_words q) (listed ls q) y) (sym r.1) S)
+                    (λ r. subst (λ (y : KeptPage). OnePage c q log h.closed h.given stable (page_words_at m.page_words q) (listed_lsn ls q) y) (sym r.1) S)
                     (kept_cases v.batch q (h.kept_page q));
                 within = P.within;
                 flushed = P.flushed;
@@ -140,6 +141,7 @@ module _ (E : DataSide) (c : Setup) (seat_of : ℕ → ℕ) (m : SharedWords) (l
               (record {
                 alone = own.alone;
                 pages = own.pages;
+                page_size = own.page_size;
                 page = own.page;
                 flushed = own.flushed;
                 sound = λ _. (sound, refl);
@@ -191,7 +193,7 @@ module _ (E : DataSide) (c : Setup) (seat_of : ℕ → ℕ) (m : SharedWords) (l
           h',
           page_moved E c m m log log stable stable h h' ls ls d e actors seat (actor.Cleaner (record v { code = code; step = cleaner_step.StoreFailed }))
               (record { closed_links = P.closed_links; lists = P.lists; each_page = P.each_page; within = P.within; flushed = P.flushed; stable_top = P.stable_top; stored = holds; unfinished = left; alone = P.alone })
-              (record { alone = own.alone; pages = own.pages; page = own.page; flushed = own.flushed; sound = λ z. absurd (cc); apart = own.apart; few = own.few; cause = λ _. cause; step = held })
+              (record { alone = own.alone; pages = own.pages; page_size = own.page_size; page = own.page; flushed = own.flushed; sound = λ z. absurd (cc); apart = own.apart; few = own.few; cause = λ _. cause; step = held })
               (λ j a n z. page_others E c seat_of m m log log h h' ls ls d e seat j n
               (pages_same refl refl refl refl (omega arith))
               (λ other. absurd (other own.alone))

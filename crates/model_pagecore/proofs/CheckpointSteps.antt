@@ -6,7 +6,7 @@ use lib.ListN.{get_elem?}
 use mathlib.Core.Option.{some, some-ne-none}
 use Rattle.model_core.proofs.Groups.{some_same}
 use Rattle.model_core.proofs.Tails.{tail_in}
-use Rattle.model_core.specs.{Actor, BatchPage, checkpointer_took, CheckpointerState, cleaner_took, CleanerState, Entry, first_of_batch, floor, frame_bytes, Listed, lsn, no_page, page_words_at, PageWords, SharedWords, tail_word, UserState, with_page_words}
+use Rattle.model_core.specs.{Actor, BatchPage, checkpointer_took, CheckpointerState, cleaner_took, CleanerState, Entry, first_of_batch, floor, framed_page, Listed, lsn, no_page, page_words_at, PageWords, SharedWords, tail_word, UserState, with_page_words}
 use Rattle.model_core.specs.DataSide.{DataSide}
 use Rattle.model_core.specs.Setup.{Setup}
 use Rattle.model_core.specs.declared.steps.CleanerStep.{CleanerStep}
@@ -16,7 +16,7 @@ use Rattle.model_pagecore.proofs.PageStep.{at_else, at_here, freed_sheet, latche
 use Rattle.model_pagecore.specs.Growing.{Grows}
 use Rattle.model_pagecore.specs.PageFacts.{PageGhost}
 use Rattle.model_pagecore.specs.PageHalf.{AreBatch, At, CanGive, CleanerAt, CleanerFits, InBatch, PageHalf, CheckpointerPagesAt, CheckpointerPageFits, Unlisting, rests, runs}
-use Rattle.model_pagecore.specs.Pages.{All, InWordOnly, Laid, Last, Unlisted, ListingStage, Agree, end_lsn, none_in_hand, start_lsn, touches}
+use Rattle.model_pagecore.specs.Pages.{All, InWordOnly, Laid, Last, Unlisted, ListingStage, Agree, end_lsn, none_in_hand, start_lsn, is_changed_page}
 use Rattle.model_core.specs.declared.ops.Answer.TheVariants as answer
 use Rattle.model_core.specs.declared.steps.CleanerStep.TheVariants as cleaner_step
 use Rattle.model_core.specs.declared.steps.CheckpointerStep.TheVariants as checkpointer_step
@@ -56,7 +56,7 @@ module _ (E : DataSide) (c : Setup) (seat_of : ℕ → ℕ) (m : SharedWords) (l
     -- it finds a list held
     pub keeps_list_held : v.step ≡ cleaner_step.RemoveFromList → Now m h (record v { checks = true; step = cleaner_step.RemoveFromList })
     keeps_list_held ph = page_quiet E c seat_of m log stable h ls d actors seat before mates (actor.Cleaner (record v { checks = true; step = cleaner_step.RemoveFromList }))
-        (at_stage E c seat_of m log stable h ls d actors seat before mates W v at (record v { checks = true; step = cleaner_step.RemoveFromList }) (ap runs ph) refl refl refl refl (λ z. absurd (cc)) m h ls refl refl (subst (CleanerAt E c m log h ls d seat v) ph own.step))
+        (at_stage E c seat_of m log stable h ls d actors seat before mates W v at (record v { checks = true; step = cleaner_step.RemoveFromList }) (ap runs ph) refl refl refl refl refl (λ z. absurd (cc)) m h ls refl refl (subst (CleanerAt E c m log h ls d seat v) ph own.step))
 
     -- the words of the first page of the batch change, but for its frame and NEWEST
     module _ (long : length m.page_words ≡ c.pages) (t : ListingStage) (o : Unlisting E c m log h ls d seat v t) (w' : PageWords) (fr : w'.frame ≡ (page_words_at m.page_words p).frame) (nw : w'.newest ≡ (page_words_at m.page_words p).newest) where
@@ -68,7 +68,7 @@ module _ (E : DataSide) (c : Setup) (seat_of : ℕ → ℕ) (m : SharedWords) (l
             record {
               held = at_else E c seat_of m log stable h ls d actors seat before mates p w' h.holder a.there long (inr a.mine) (λ _ _. refl) y.page none_in_hand All Last Agree ne r.0.held;
               newest = r.0.newest ∙ sym (ap (λ (k : PageWords). k.newest) ye);
-              bytes = r.0.bytes ∙ sym (ap (λ (k : PageWords). frame_bytes k.frame) ye);
+              bytes = r.0.bytes ∙ sym (ap (λ (k : PageWords). framed_page c.page_size k.frame) ye);
               low = r.0.low;
             },
             subst (λ (k : PageWords). 0 < k.oldest) (sym ye) r.1,
@@ -79,7 +79,7 @@ module _ (E : DataSide) (c : Setup) (seat_of : ℕ → ℕ) (m : SharedWords) (l
           let we = leaf_here E c seat_of m log stable h ls d actors seat before mates p w' (let z = a.there in omega arith) in record {
             held = subst (λ (q : ℕ). At E c (with_page_words m p w') log h ls d seat q none_in_hand All Last t') e held;
             newest = b.newest ∙ ap (λ (q : ℕ). (page_words_at m.page_words q).newest) (sym e) ∙ sym nw ∙ sym (ap (λ (k : PageWords). k.newest) we) ∙ ap (λ (q : ℕ). (page_words_at (with_page_words m p w').page_words q).newest) e;
-            bytes = b.bytes ∙ ap (λ (q : ℕ). frame_bytes (page_words_at m.page_words q).frame) (sym e) ∙ sym (ap frame_bytes fr) ∙ sym (ap (λ (k : PageWords). frame_bytes k.frame) we) ∙ ap (λ (q : ℕ). frame_bytes (page_words_at (with_page_words m p w').page_words q).frame) e;
+            bytes = b.bytes ∙ ap (λ (q : ℕ). framed_page c.page_size (page_words_at m.page_words q).frame) (sym e) ∙ sym (ap (framed_page c.page_size) fr) ∙ sym (ap (λ (k : PageWords). framed_page c.page_size k.frame) we) ∙ ap (λ (q : ℕ). framed_page c.page_size (page_words_at (with_page_words m p w').page_words q).frame) e;
             low = b.low;
           }
 
@@ -95,7 +95,7 @@ module _ (E : DataSide) (c : Setup) (seat_of : ℕ → ℕ) (m : SharedWords) (l
         leaf_step E c seat_of m log stable h ls d actors seat before mates p w' h.holder a.there long (inr a.mine) (λ _ _. refl) (actor.Cleaner (record v { step = cleaner_step.GiveList }))
         (latched_sheet E c seat_of m log stable h ls d actors seat before mates p w' a.there a.latched (λ z. absurd (omega arith)))
         (λ n. absurd (n own.alone)) (λ _. a.mine)
-        (at_stage E c seat_of m log stable h ls d actors seat before mates W v at (record v { step = cleaner_step.GiveList }) (ap runs ph) refl refl refl refl (λ z. absurd (cc)) m' h ls refl refl
+        (at_stage E c seat_of m log stable h ls d actors seat before mates W v at (record v { step = cleaner_step.GiveList }) (ap runs ph) refl refl refl refl refl (λ z. absurd (cc)) m' h ls refl refl
         ((o.0.0, others_in long InWordOnly o.0 w' refl refl 1 (omega arith) o.0.1, first_in long InWordOnly o.0 w' refl refl Unlisted here, o.0.3), o.1))
 
     -- it gives the list back
@@ -105,7 +105,7 @@ module _ (E : DataSide) (c : Setup) (seat_of : ℕ → ℕ) (m : SharedWords) (l
         let m' : SharedWords = record m { lists = slice_set m.lists (p % 4) 0 } in
         let same = list_at E c seat_of m log stable h ls d actors seat before mates (p % 4) 0 h.list_holder ls long (omega arith) (inr o.1.1) (λ _ _. refl) in
         list_step E c seat_of m log stable h ls d actors seat before mates (p % 4) 0 h.list_holder ls long (omega arith) (inr o.1.1) (λ _ _. refl) (actor.Cleaner (record v { step = cleaner_step.ReleaseLatch })) before.paged.lists before.paged.each_page (λ _ _ _. refl)
-        (at_stage E c seat_of m log stable h ls d actors seat before mates W v at (record v { step = cleaner_step.ReleaseLatch }) (ap runs ph) refl refl refl refl (λ z. absurd (cc)) m' h ls refl refl (
+        (at_stage E c seat_of m log stable h ls d actors seat before mates W v at (record v { step = cleaner_step.ReleaseLatch }) (ap runs ph) refl refl refl refl refl (λ z. absurd (cc)) m' h ls refl refl (
           o.0.0,
           (λ i y l is. let r = o.0.1 i y l is in (record { held = same y.page none_in_hand All Last Agree refl r.0.held; newest = r.0.newest; bytes = r.0.bytes; low = r.0.low }, r.1)),
           (λ y is. let r = o.0.2 y is in record { held = same y.page none_in_hand All Last Unlisted refl r.held; newest = r.newest; bytes = r.bytes; low = r.low }),
@@ -127,6 +127,7 @@ module _ (E : DataSide) (c : Setup) (seat_of : ℕ → ℕ) (m : SharedWords) (l
         let fits : (st : CleanerStep) → (st ≡ cleaner_step.StoreFailed → ⊥) → CleanerAt E c m' log h ls d seat (record v { batch = drop 1 v.batch; step = st }) st → CleanerFits E c m' log h ls d seat (record v { batch = drop 1 v.batch; step = st }) = λ st nf k. record {
           alone = own.alone;
           pages = own.pages;
+          page_size = own.page_size;
           page = own.page;
           flushed = own.flushed;
           sound = λ _. own.sound (ap runs ph);
@@ -225,6 +226,6 @@ module _ (E : DataSide) (c : Setup) (seat_of : ℕ → ℕ) (m : SharedWords) (l
         )
 
     -- every group that starts below its candidate ends at or below the stable mark, so the call's condition holds
-    pub all_passed : CanGive E c m log h ls d t → ((i : ℕ) (e : Entry) → get_elem? log i ≡ some e → (q : ℕ) × (q < c.pages) × (touches q e.changes ≡ true)) → (t.to ≤ stable) × ((i : ℕ) (e : Entry) → get_elem? log i ≡ some e → start_lsn e < t.to → end_lsn e ≤ stable)
+    pub all_passed : CanGive E c m log h ls d t → ((i : ℕ) (e : Entry) → get_elem? log i ≡ some e → (q : ℕ) × (q < c.pages) × (is_changed_page q e.changes ≡ true)) → (t.to ≤ stable) × ((i : ℕ) (e : Entry) → get_elem? log i ≡ some e → start_lsn e < t.to → end_lsn e ≤ stable)
     all_passed o every = let o2 = o.2 in let fl = before.paged.flushed in
         ((omega arith), (λ i e is lt. let q = every i e is in let b = (before.paged.each_page q.0 q.1).behind in let z = o.0 q.0 q.1 (omega arith) i e is q.2 lt in omega arith))

@@ -10,9 +10,9 @@ use Rattle.model_core.specs.DataSide.{DataSide}
 use Rattle.model_core.specs.Setup.{Setup}
 use Rattle.model_pagecore.proofs.PageStep.{named, ring_step}
 use Rattle.model_pagecore.specs.Growing.{Grows}
-use Rattle.model_pagecore.specs.PageFacts.{PageGhost, ClosedLink, listed}
+use Rattle.model_pagecore.specs.PageFacts.{PageGhost, ClosedLink, listed_lsn}
 use Rattle.model_pagecore.specs.PageHalf.{At, PageHalf, UserPagesAt, UserPageFits, group_in_hand}
-use Rattle.model_pagecore.specs.Pages.{All, Laid, Last, IsListed, start_lsn, touches}
+use Rattle.model_pagecore.specs.Pages.{All, Laid, Last, IsListed, start_lsn, is_changed_page}
 use Rattle.model_core.specs.declared.steps.UserStep.TheVariants as user_step
 use Rattle.model_core.specs.Actors as actor
 use Rattle.model_core.specs.declared.limits.TheConstants.{CLOSED_LINKS}
@@ -89,9 +89,9 @@ module _ (E : DataSide) (c : Setup) (seat_of : ℕ → ℕ) (m : SharedWords) (l
               behind = S.behind;
               change = λ j e is tc z. elim (ℕ_discrete e.start u.start) [
                 | yes s ↦ (let same = (same_start (lsn c.base) (lsn m.sn) log j work.at e g W is work.is s).1 in
-                    let mine = named q (changes u) (ap (λ (y : Entry). touches q y.changes) (sym same) ∙ tc) in
+                    let mine = named q (changes u) (ap (λ (y : Entry). is_changed_page q y.changes) (sym same) ∙ tc) in
                     let st = (done mine.0 mine.1).page.listing in
-                    let st' : (0 < listed ls q) × (listed ls q ≤ lsn u.start) = subst (λ (y : ℕ). (0 < listed ls y) × (listed ls y ≤ lsn u.start)) mine.2 (st.1, st.2) in
+                    let st' : (0 < listed_lsn ls q) × (listed_lsn ls q ≤ lsn u.start) = subst (λ (y : ℕ). (0 < listed_lsn ls y) × (listed_lsn ls y ≤ lsn u.start)) mine.2 (st.1, st.2) in
                     let a = st'.0 in let b = st'.1 in
                     let lows : start_lsn e ≡ lsn u.start = ap lsn s in
                     inl (a, omega arith))

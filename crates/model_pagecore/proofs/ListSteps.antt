@@ -6,13 +6,13 @@ use mathlib.Core.Option.{some}
 use native.Mathlib.Decide.{dec_le, ℕ_discrete}
 use Rattle.model_core.proofs.Groups.{changed, changed_else, changed_here, some_same}
 use Rattle.model_core.proofs.Lsns.{lsn_some}
-use Rattle.model_core.specs.{Actor, BatchPage, CheckpointerState, CleanerState, Each, Entry, entry, first_of_batch, joined, line, Listed, lowered, lsn, oldest_end, oldest_of, page_of, page_words_at, Relaxed, SharedWords, user_took, UserState, without}
+use Rattle.model_core.specs.{Actor, appended, BatchPage, CheckpointerState, CleanerState, current_page, Each, Entry, entry, first_of_batch, line, Listed, lowered, lsn, oldest_end, oldest_of, page_words_at, Relaxed, SharedWords, user_took, UserState, without}
 use Rattle.model_core.specs.DataSide.{DataSide}
 use Rattle.model_core.specs.Setup.{Setup}
 use Rattle.model_pagecore.proofs.PageHistory.{each_joined, each_more, each_without, joined_else, joined_here, last_most, oldest_after, relaxed_joined, relaxed_without, without_else, without_here}
 use Rattle.model_pagecore.proofs.PageStep.{list_at, list_mem, list_sheet, list_step, work_here}
 use Rattle.model_pagecore.specs.Growing.{Grows}
-use Rattle.model_pagecore.specs.PageFacts.{PageGhost, listed}
+use Rattle.model_pagecore.specs.PageFacts.{PageGhost, listed_lsn}
 use Rattle.model_pagecore.specs.PageHalf.{At, CleanerAt, CleanerFits, InBatch, PageHalf, CheckpointerPagesAt, CheckpointerPageFits, UserPagesAt, UserPageFits, rests, runs}
 use Rattle.model_pagecore.specs.Pages.{InListOnly, All, InWordOnly, Laid, Last, Unlisted, OnePage, Agree, none_in_hand, last_end, start_lsn}
 use Rattle.model_core.specs.declared.steps.UserStep.TheVariants as user_step
@@ -34,14 +34,14 @@ lowered_passes x a p (y ∷ ys) r o le lt = let z = oldest_after y ys p r o in o
 module _ (E : DataSide) (c : Setup) (seat_of : ℕ → ℕ) (m : SharedWords) (log : List Entry) (stable : ℕ) (h : PageGhost) (ls : ℕ → List Listed) (d : E.Part) (actors : List Actor) (seat : ℕ) (before : PageHalf E c m log stable h ls d actors)
     (mates : (j : ℕ) (u : UserState) → get_elem? actors j ≡ some (actor.User u) → seat_of u.user ≡ j) (W : Laid (lsn c.base) (lsn m.sn) log) where
   -- a user adds the page that it is at, with its group's start
-  pub keeps_add : (u : UserState) → get_elem? actors seat ≡ some (actor.User u) → (ls' : ℕ → List Listed) → ls' (page_of u % 4) ≡ joined (ls (page_of u % 4)) (page_of u) (lsn u.start) → ((i : ℕ) → i ≢ page_of u % 4 → ls' i ≡ ls i)
-      → length m.lists ≡ 4 → slice_index m.lists (page_of u % 4) ≡ 0 → u.checks ≡ false → u.step ≡ user_step.AddToList
-      → (k : PageGhost) × PageHalf E c (record m { lists = slice_set m.lists (page_of u % 4) 1 }) log stable k ls' d (set actors seat (actor.User (user_took u 0 user_step.AddToList))) × Grows m h k
+  pub keeps_add : (u : UserState) → get_elem? actors seat ≡ some (actor.User u) → (ls' : ℕ → List Listed) → ls' (current_page u % 4) ≡ appended (ls (current_page u % 4)) (current_page u) (lsn u.start) → ((i : ℕ) → i ≢ current_page u % 4 → ls' i ≡ ls i)
+      → length m.lists ≡ 4 → slice_index m.lists (current_page u % 4) ≡ 0 → u.checks ≡ false → u.step ≡ user_step.AddToList
+      → (k : PageGhost) × PageHalf E c (record m { lists = slice_set m.lists (current_page u % 4) 1 }) log stable k ls' d (set actors seat (actor.User (user_took u 0 user_step.AddToList))) × Grows m h k
   keeps_add u at ls' ls_here ls_else long free checks ph =
       let F : UserPageFits E c m log h ls d seat u = before.each seat (actor.User u) at in
       let o : UserPagesAt E c m log h ls d seat u user_step.AddToList = subst (UserPagesAt E c m log h ls d seat u) ph F.step in
       let work = o.0 in let near = o.1 in let pl = near.1 in
-      let p : ℕ = page_of u in
+      let p : ℕ = current_page u in
       let i : ℕ = p % 4 in
       let x : ℕ = lsn u.start in
       let here = work.here pl in
@@ -56,8 +56,8 @@ module _ (E : DataSide) (c : Setup) (seat_of : ℕ → ℕ) (m : SharedWords) (l
       let ord = C.order in
       let n0 = near.0 in
       let same_turn : (j : ℕ) → j ≢ i → turns j ≡ h.list_holder j = λ j n. changed_else h.list_holder i seat j n in
-      let listed_here : listed ls' p ≡ x = ap (oldest_of p) ls_here ∙ joined_here (ls i) p x (L.real i) off1 in
-      let listed_else : (q : ℕ) → q ≢ p → listed ls' q ≡ listed ls q = λ q n. elim (ℕ_discrete (q % 4) i) [
+      let listed_here : listed_lsn ls' p ≡ x = ap (oldest_of p) ls_here ∙ joined_here (ls i) p x (L.real i) off1 in
+      let listed_else : (q : ℕ) → q ≢ p → listed_lsn ls' q ≡ listed_lsn ls q = λ q n. elim (ℕ_discrete (q % 4) i) [
         | yes e ↦ ap (λ (j : ℕ). oldest_of q (ls' j)) e ∙ ap (oldest_of q) ls_here ∙ joined_else (ls i) p x q n ∙ ap (λ (j : ℕ). oldest_of q (ls j)) (sym e)
         | no k ↦ ap (oldest_of q) (ls_else (q % 4) k)
       ] in
@@ -80,7 +80,7 @@ module _ (E : DataSide) (c : Setup) (seat_of : ℕ → ℕ) (m : SharedWords) (l
               ];
             })
             (λ q t. elim (ℕ_discrete q p) [
-              | yes e ↦ subst (λ (r : ℕ). OnePage r (lsn c.base) (c.opened r) log h.closed h.given stable (page_words_at m.page_words r) (listed ls' r) (h.kept_page r)) (sym e)
+              | yes e ↦ subst (λ (r : ℕ). OnePage c r log h.closed h.given stable (page_words_at m.page_words r) (listed_lsn ls' r) (h.kept_page r)) (sym e)
                   (let S = P.each_page p here.there in let la = here.latched in record {
                     latch = S.latch;
                     free = λ z. absurd (omega arith);
@@ -134,8 +134,8 @@ module _ (E : DataSide) (c : Setup) (seat_of : ℕ → ℕ) (m : SharedWords) (l
       let turns : ℕ → ℕ = changed h.list_holder i seat in
       let h' : PageGhost = record h { list_holder = turns } in
       let same_turn : (j : ℕ) → j ≢ i → turns j ≡ h.list_holder j = λ j n. changed_else h.list_holder i seat j n in
-      let listed_here : listed ls' p ≡ 0 = ap (oldest_of p) ls_here ∙ without_here (ls i) p in
-      let listed_else : (q : ℕ) → q ≢ p → listed ls' q ≡ listed ls q = λ q n. elim (ℕ_discrete (q % 4) i) [
+      let listed_here : listed_lsn ls' p ≡ 0 = ap (oldest_of p) ls_here ∙ without_here (ls i) p in
+      let listed_else : (q : ℕ) → q ≢ p → listed_lsn ls' q ≡ listed_lsn ls q = λ q n. elim (ℕ_discrete (q % 4) i) [
         | yes e ↦ ap (λ (j : ℕ). oldest_of q (ls' j)) e ∙ ap (oldest_of q) ls_here ∙ without_else (ls i) p q n ∙ ap (λ (j : ℕ). oldest_of q (ls j)) (sym e)
         | no k ↦ ap (oldest_of q) (ls_else (q % 4) k)
       ] in
@@ -158,7 +158,7 @@ module _ (E : DataSide) (c : Setup) (seat_of : ℕ → ℕ) (m : SharedWords) (l
               ];
             })
             (λ q t. elim (ℕ_discrete q p) [
-              | yes e ↦ subst (λ (r : ℕ). OnePage r (lsn c.base) (c.opened r) log h.closed h.given stable (page_words_at m.page_words r) (listed ls' r) (h.kept_page r)) (sym e)
+              | yes e ↦ subst (λ (r : ℕ). OnePage c r log h.closed h.given stable (page_words_at m.page_words r) (listed_lsn ls' r) (h.kept_page r)) (sym e)
                   (let la = held.latched in record {
                     latch = S.latch;
                     free = λ z. absurd (omega arith);
@@ -176,6 +176,7 @@ module _ (E : DataSide) (c : Setup) (seat_of : ℕ → ℕ) (m : SharedWords) (l
             (record {
               alone = F.alone;
               pages = F.pages;
+              page_size = F.page_size;
               page = F.page;
               flushed = F.flushed;
               sound = λ z. F.sound (ap runs ph);
@@ -218,7 +219,7 @@ module _ (E : DataSide) (c : Setup) (seat_of : ℕ → ℕ) (m : SharedWords) (l
       let o0 = o.0 in
       let turns : ℕ → ℕ = changed h.list_holder t.list seat in
       let same_turn : (j : ℕ) → j ≢ t.list → turns j ≡ h.list_holder j = λ j n. changed_else h.list_holder t.list seat j n in
-      let listed_same : (q : ℕ) → listed ls' q ≡ listed ls q = λ q. ap (oldest_of q) (ls_same (q % 4)) in (
+      let listed_same : (q : ℕ) → listed_lsn ls' q ≡ listed_lsn ls q = λ q. ap (oldest_of q) (ls_same (q % 4)) in (
         record h { list_holder = turns },
         list_step E c seat_of m log stable h ls d actors seat before mates t.list 1 turns ls' long o.2 (inl free) same_turn (actor.Checkpointer (record t { to = x'; step = checkpointer_step.GiveList }))
             (record { relaxed = λ j. subst Relaxed (sym (ls_same j)) (L.relaxed j); near = λ j. subst (Each (λ y. y.oldest < m.ctail + CLOSED_LINKS)) (sym (ls_same j)) (L.near j); real = λ j. subst (Each (λ y. 0 < y.oldest)) (sym (ls_same j)) (L.real j) })

@@ -7,7 +7,7 @@ use mathlib.Core.Option.{some}
 use native.Mathlib.Decide.{dec_le, ℕ_discrete}
 use Rattle.model_core.proofs.Lists.{at_longer, at_set}
 use Rattle.model_core.proofs.Groups.{at_end, at_less}
-use Rattle.model_core.specs.{Actor, Advance, BatchPage, cells_of, change_at, changes, CheckpointerState, CleanerState, CloserState, Entry, entry, first_of_batch, frame_bytes, frame_word, KeptPage, line, Listed, page_of, page_words_at, PageWords, SharedWords, UserState}
+use Rattle.model_core.specs.{Actor, Advance, BatchPage, cells_of, change_at, changes, CheckpointerState, CleanerState, CloserState, current_page, Entry, entry, first_of_batch, frame_word, framed_page, KeptPage, line, Listed, page_words_at, PageWords, SharedWords, UserState}
 use Rattle.model_core.specs.DataSide.{DataSide}
 use Rattle.model_core.specs.Setup.{Setup}
 use Rattle.model_core.specs.declared.steps.AdvanceStep.{AdvanceStep}
@@ -17,9 +17,9 @@ use Rattle.model_core.specs.declared.steps.UserStep.{UserStep}
 use Rattle.model_core.specs.declared.steps.CheckpointerStep.{CheckpointerStep}
 use Rattle.model_pagecore.proofs.PageHistory.{last_snoc, puts_none, whole_snoc}
 use Rattle.model_pagecore.specs.Latches.{CleanerHasLatch, UserHasLatch}
-use Rattle.model_pagecore.specs.PageFacts.{PageGhost, PageFacts, listed}
-use Rattle.model_pagecore.specs.PageHalf.{AreBatch, AreHeld, AreKept, At, CanGive, CleanerAt, CleanerFits, CleanerHolds, CloserAt, CloserFits, ClosingAt, HasList, HasPage, HoldsCtail, HoldsOnly, InBatch, HasPagesInHand, IsFresh, IsNear, Looking, PageFits, PageHalf, CheckpointerPagesAt, CheckpointerPageFits, ReadBelow, Unlisting, UserClosingAt, UserHolds, UserPagesAt, UserPageFits, PagesInHand, group_in_hand}
-use Rattle.model_pagecore.specs.Pages.{InListOnly, All, Before, AgreeBelow, Cells, InWordOnly, FrameIs, FrameStage, GroupInHand, Last, NewestIs, NewestStage, Unlisted, PageIs, Passed, OnePage, ListingStage, ListingIs, IsListed, Agree, cells_on, end_lsn, none_in_hand, last_end, write_cells, touches, applied_upto, applied_all}
+use Rattle.model_pagecore.specs.PageFacts.{PageGhost, PageFacts, listed_lsn}
+use Rattle.model_pagecore.specs.PageHalf.{AreBatch, AreLatched, IsBatchKept, At, CanGive, CleanerAt, CleanerFits, CleanerHolds, CloserAt, CloserFits, ClosingAt, HasList, HasPage, HoldsCtail, HoldsOnly, InBatch, HasPagesInHand, HasUntouchedPages, IsNear, Looking, PageFits, PageHalf, CheckpointerPagesAt, CheckpointerPageFits, ReadBelow, Unlisting, UserClosingAt, UserHolds, UserPagesAt, UserPageFits, PagesInHand, group_in_hand}
+use Rattle.model_pagecore.specs.Pages.{InListOnly, All, Before, AgreeBelow, Cells, InWordOnly, FrameIs, FrameStage, GroupInHand, Last, NewestIs, NewestStage, Unlisted, PageIs, Passed, OnePage, ListingStage, ListingIs, IsListed, Agree, cells_on, end_lsn, none_in_hand, last_end, write_cells, is_changed_page, applied_upto, applied_all}
 use Rattle.model_core.specs.declared.steps.AdvanceStep.TheVariants as advance_step
 use Rattle.model_core.specs.declared.steps.UserStep.TheVariants as user_step
 use Rattle.model_core.specs.declared.steps.CloserStep.TheVariants as closer_step
@@ -36,7 +36,7 @@ pub record Longer (log log' : List Entry) : Type 0 where
 pub record LogLater (p : ℕ) (log log' : List Entry) : Type 0 where
   pub applied_all : (b : List ℕ) → applied_all p log' b ≡ applied_all p log b
   pub last : (n : ℕ) → last_end p log' n ≡ last_end p log n
-  pub fresh : (i : ℕ) (e : Entry) → get_elem? log' i ≡ some e → touches p e.changes ≡ true → get_elem? log i ≡ some e
+  pub fresh : (i : ℕ) (e : Entry) → get_elem? log' i ≡ some e → is_changed_page p e.changes ≡ true → get_elem? log i ≡ some e
 
 pub longer_same : (log : List Entry) → Longer log log
 longer_same log = record { old = λ i e z. z; takes = λ i e z. refl }
@@ -50,28 +50,31 @@ longer_snoc log e = record {
   takes = λ i x z. let l = at_less log i x z in take-append-le i log (e ∷ []) (omega arith);
 }
 
-pub log_snoc : (p : ℕ) (log : List Entry) (e : Entry) → touches p e.changes ≡ false → LogLater p log (log ++ e ∷ [])
+pub log_snoc : (p : ℕ) (log : List Entry) (e : Entry) → is_changed_page p e.changes ≡ false → LogLater p log (log ++ e ∷ [])
 log_snoc p log e t = record {
   applied_all = λ b. whole_snoc p log e b ∙ puts_none p e.changes (applied_all p log b) t;
   last = λ n. last_snoc p log e n ∙ ap (λ (d : Bool). cond d (end_lsn e) (last_end p log n)) t;
-  fresh = λ i x z k. ⊎_elim (λ q. q) (λ q. let y : touches p x.changes ≡ false = ap (λ (r : Entry). touches p r.changes) (sym q.1) ∙ t in absurd (cc)) (at_end log e x i z);
+  fresh = λ i x z k. ⊎_elim (λ q. q) (λ q. let y : is_changed_page p x.changes ≡ false = ap (λ (r : Entry). is_changed_page p r.changes) (sym q.1) ∙ t in absurd (cc)) (at_end log e x i z);
 }
 
-pub page_later : (p : ℕ) (b : List ℕ) (log log' : List Entry) (k : GroupInHand) (w w' : PageWords) (l l' : ℕ) (f : FrameStage) (n : NewestStage) (t : ListingStage) → LogLater p log log' → ◌≡◌ {A = List Entry} (take k.at log') (take k.at log) → ◌≡◌ {A = PageWords} w' w → l' ≡ l
-    → PageIs p b log k w l f n t → PageIs p b log' k w' l' f n t
-page_later p b log log' k w w' l l' f n t L tk we le h = record {
+pub page_later : (c : Setup) (p : ℕ) (log log' : List Entry) (k : GroupInHand) (w w' : PageWords) (l l' : ℕ) (f : FrameStage) (n : NewestStage) (t : ListingStage) → LogLater p log log' → ◌≡◌ {A = List Entry} (take k.at log') (take k.at log) → ◌≡◌ {A = PageWords} w' w → l' ≡ l
+    → PageIs c p log k w l f n t → PageIs c p log' k w' l' f n t
+page_later c p log log' k w w' l l' f n t L tk we le h = record {
   frame = frame f h.frame;
   newest = newest n h.newest;
   listing = subst (λ (x : ℕ). ListingIs k w'.oldest x t) (sym le) (subst (λ (x : PageWords). ListingIs k x.oldest l t) (sym we) h.listing);
 }
   where
-    fr : frame_bytes w'.frame ≡ frame_bytes w.frame
-    fr = ap (λ (x : PageWords). frame_bytes x.frame) we
+    b : List ℕ
+    b = (c.opened p).bytes
+
+    fr : framed_page c.page_size w'.frame ≡ framed_page c.page_size w.frame
+    fr = ap (λ (x : PageWords). framed_page c.page_size x.frame) we
 
     nw : w'.newest ≡ w.newest
     nw = ap (λ (x : PageWords). x.newest) we
 
-    frame : (f : FrameStage) → FrameIs p b log k (frame_bytes w.frame) f → FrameIs p b log' k (frame_bytes w'.frame) f
+    frame : (f : FrameStage) → FrameIs p b log k (framed_page c.page_size w.frame) f → FrameIs p b log' k (framed_page c.page_size w'.frame) f
     frame All e = fr ∙ e ∙ sym (L.applied_all b)
     frame (Cells j) e = fr ∙ e ∙ ap (λ (x : List Entry). write_cells (take j (cells_on p k.changes)) (applied_all p x b)) (sym tk)
 
@@ -80,20 +83,20 @@ page_later p b log log' k w w' l l' f n t L tk we le h = record {
     newest Before e = nw ∙ e ∙ ap (λ (x : List Entry). last_end p x 0) (sym tk)
 
 -- what a step leaves of a page that it doesn't change
-pub one_page_later : (p from : ℕ) (origin : KeptPage) (log log' : List Entry) (closed closed' : ℕ → Bool) (given stable stable' : ℕ) (w w' : PageWords) (l l' : ℕ) (k k' : KeptPage)
-    → Longer log log' → LogLater p log log' → applied_upto p k.lsn log' origin.bytes ≡ applied_upto p k.lsn log origin.bytes
-    → ((i : ℕ) (e : Entry) → get_elem? log i ≡ some e → touches p e.changes ≡ true → closed' e.start ≡ true → closed e.start ≡ true)
+pub one_page_later : (c : Setup) (p : ℕ) (log log' : List Entry) (closed closed' : ℕ → Bool) (given stable stable' : ℕ) (w w' : PageWords) (l l' : ℕ) (k k' : KeptPage)
+    → Longer log log' → LogLater p log log' → applied_upto p k.lsn log' (c.opened p).bytes ≡ applied_upto p k.lsn log (c.opened p).bytes
+    → ((i : ℕ) (e : Entry) → get_elem? log i ≡ some e → is_changed_page p e.changes ≡ true → closed' e.start ≡ true → closed e.start ≡ true)
     → ◌≡◌ {A = PageWords} w' w → l' ≡ l → ◌≡◌ {A = KeptPage} k' k → stable ≤ stable'
-    → OnePage p from origin log closed given stable w l k → OnePage p from origin log' closed' given stable' w' l' k'
-one_page_later p from origin log log' closed closed' given stable stable' w w' l l' k k' G L up cl we le ke st h = subst (λ (x : KeptPage). OnePage p from origin log' closed' given stable' w' l' x) (sym ke) (record {
+    → OnePage c p log closed given stable w l k → OnePage c p log' closed' given stable' w' l' k'
+one_page_later c p log log' closed closed' given stable stable' w w' l l' k k' G L up cl we le ke st h = subst (λ (x : KeptPage). OnePage c p log' closed' given stable' w' l' x) (sym ke) (record {
   latch = subst (λ (x : PageWords). x.latch ≤ 1) (sym we) h.latch;
-  free = λ z. page_later p origin.bytes log log' none_in_hand w w' l l' All Last Agree L refl we le (h.free (sym (ap (λ (x : PageWords). x.latch) we) ∙ z));
+  free = λ z. page_later c p log log' none_in_hand w w' l l' All Last Agree L refl we le (h.free (sym (ap (λ (x : PageWords). x.latch) we) ∙ z));
   oldest = λ z. let o = h.oldest (subst (λ (x : PageWords). 0 < x.oldest) we z) in (o.0, o.1, G.old o.0 o.1 o.2, o.3, o.4 ∙ sym (ap (λ (x : PageWords). x.oldest) we));
   fold = h.fold ∙ sym up;
   ends = ⊎_elim (λ z. inl z) (λ o. inr (o.0, o.1, G.old o.0 o.1 o.2, o.3, o.4)) h.ends;
   early = h.early;
   behind = let z = h.behind in omega arith;
-  change = λ i e is t c. let is' = L.fresh i e is t in ⊎_elim (λ z. inl (let a = z.0 in let b = z.1 in (omega arith, omega arith))) (λ z. inr z) (h.change i e is' t (cl i e is' t c));
+  change = λ i e is t shut. let is' = L.fresh i e is t in ⊎_elim (λ z. inl (let a = z.0 in let b = z.1 in (omega arith, omega arith))) (λ z. inr z) (h.change i e is' t (cl i e is' t shut));
   passed = λ i e is t lt. h.passed i e (L.fresh i e is t) t lt;
 })
 
@@ -104,7 +107,7 @@ module _ (E : DataSide) (c : Setup) (seat_of : ℕ → ℕ) (m m' : SharedWords)
     pub logs : (p : ℕ) → (page_words_at m.page_words p).latch ≡ 1 → h.holder p ≢ seat → LogLater p log log'
     pub page_words : (p : ℕ) → (page_words_at m.page_words p).latch ≡ 1 → h.holder p ≢ seat → ◌≡◌ {A = PageWords} (page_words_at m'.page_words p) (page_words_at m.page_words p)
     pub holders : (p : ℕ) → (page_words_at m.page_words p).latch ≡ 1 → h.holder p ≢ seat → h'.holder p ≡ h.holder p
-    pub listeds : (p : ℕ) → (page_words_at m.page_words p).latch ≡ 1 → h.holder p ≢ seat → listed ls' p ≡ listed ls p
+    pub listeds : (p : ℕ) → (page_words_at m.page_words p).latch ≡ 1 → h.holder p ≢ seat → listed_lsn ls' p ≡ listed_lsn ls p
     pub taken : (p : ℕ) → (page_words_at m'.page_words p).latch ≡ 1 → h'.holder p ≢ seat → ((page_words_at m.page_words p).latch ≡ 1) × (h'.holder p ≡ h.holder p)
     pub opens : (i : ℕ) (e : Entry) → get_elem? log i ≡ some e → seat_of e.user ≢ seat → h'.closed e.start ≡ h.closed e.start
     pub lists : (i : ℕ) → slice_index m.lists i ≡ 1 → h.list_holder i ≢ seat → (slice_index m'.lists i ≡ 1) × (h'.list_holder i ≡ h.list_holder i)
@@ -132,7 +135,7 @@ module _ (E : DataSide) (c : Setup) (seat_of : ℕ → ℕ) (m m' : SharedWords)
           there = o.there;
           latched = ap (λ (x : PageWords). x.latch) we ∙ o.latched;
           mine = later.holders p o.latched other ∙ o.mine;
-          page = page_later p (c.opened p).bytes log log' k (page_words_at m.page_words p) (page_words_at m'.page_words p) (listed ls p) (listed ls' p) f n t (later.logs p o.latched other) tk we (later.listeds p o.latched other) o.page;
+          page = page_later c p log log' k (page_words_at m.page_words p) (page_words_at m'.page_words p) (listed_lsn ls p) (listed_lsn ls' p) f n t (later.logs p o.latched other) tk we (later.listeds p o.latched other) o.page;
         }
 
     leaf_later : (p : ℕ) (k : GroupInHand) (f : FrameStage) (n : NewestStage) (t : ListingStage) → At E c m log h ls d j p k f n t → ◌≡◌ {A = PageWords} (page_words_at m'.page_words p) (page_words_at m.page_words p)
@@ -147,7 +150,7 @@ module _ (E : DataSide) (c : Setup) (seat_of : ℕ → ℕ) (m m' : SharedWords)
     only_later : (named : ℕ → Type 0) → HoldsOnly E c m log h ls d j named → HoldsOnly E c m' log' h' ls' d' j named
     only_later named o p there la own = let r = later.taken p la (λ z. ne (sym own ∙ z)) in o p there r.0 (sym r.1 ∙ own)
 
-    held_later : (u : UserState) (lo hi : ℕ) → AreHeld E c m log h ls d j u lo hi → AreHeld E c m' log' h' ls' d' j u lo hi
+    held_later : (u : UserState) (lo hi : ℕ) → AreLatched E c m log h ls d j u lo hi → AreLatched E c m' log' h' ls' d' j u lo hi
     held_later u lo hi o k a b = at_later ((change_at (changes u) k).page) none_in_hand All Last Agree refl (o k a b)
 
     work_later : (g : Entry) (page : ℕ) (f : FrameStage) (n : NewestStage) (t : ListingStage) → seat_of g.user ≡ j → PagesInHand E c m log h ls d j g page f n t → PagesInHand E c m' log' h' ls' d' j g page f n t
@@ -156,7 +159,7 @@ module _ (E : DataSide) (c : Setup) (seat_of : ℕ → ℕ) (m m' : SharedWords)
           at = o.at;
           is = later.longer.old o.at g o.is;
           not_closed = later.opens o.at g o.is (λ z. ne (sym own_seat ∙ z)) ∙ o.not_closed;
-          last = λ i e is l k lk. untouched i e is l k lk (some_at k lk) (touches ((change_at g.changes k).page) e.changes) refl;
+          last = λ i e is l k lk. untouched i e is l k lk (some_at k lk) (is_changed_page ((change_at g.changes k).page) e.changes) refl;
           before = λ k a b. at_later _ (group_in_hand E c m log h ls d g o.at) All Last IsListed tk (o.before k a b);
           here = λ a. at_later _ (group_in_hand E c m log h ls d g o.at) f n t tk (o.here a);
           after = λ k a b. at_later _ (group_in_hand E c m log h ls d g o.at) (Cells 0) Before AgreeBelow tk (o.after k a b);
@@ -171,14 +174,14 @@ module _ (E : DataSide) (c : Setup) (seat_of : ℕ → ℕ) (m m' : SharedWords)
           | no a ↦ logs_later _ _ All Last IsListed (o.before k (omega arith) lk)
         ]
 
-        untouched : (i : ℕ) (e : Entry) → get_elem? log' i ≡ some e → o.at < i → (k : ℕ) → k < length g.changes → LogLater ((change_at g.changes k).page) log log' → (b : Bool) → touches ((change_at g.changes k).page) e.changes ≡ b → b ≡ false
+        untouched : (i : ℕ) (e : Entry) → get_elem? log' i ≡ some e → o.at < i → (k : ℕ) → k < length g.changes → LogLater ((change_at g.changes k).page) log log' → (b : Bool) → is_changed_page ((change_at g.changes k).page) e.changes ≡ b → b ≡ false
         untouched i e is l k lk L true t' = sym t' ∙ o.last i e (L.fresh i e is t') l k lk
         untouched i e is l k lk L false t' = refl
 
     in_work_later : (u : UserState) (f : FrameStage) (n : NewestStage) (t : ListingStage) → seat_of u.user ≡ j → HasPagesInHand E c m log h ls d j u f n t → HasPagesInHand E c m' log' h' ls' d' j u f n t
     in_work_later u f n t own_seat o = work_later (entry u.user u.k u.start (line u)) u.page f n t own_seat o
 
-    fresh_later : (u : UserState) → seat_of u.user ≡ j → IsFresh E c m log h ls d j u → IsFresh E c m' log' h' ls' d' j u
+    fresh_later : (u : UserState) → seat_of u.user ≡ j → HasUntouchedPages E c m log h ls d j u → HasUntouchedPages E c m' log' h' ls' d' j u
     fresh_later u own_seat o = (in_work_later u (Cells 0) Before AgreeBelow own_seat o.0, o.1, o.2)
 
     near_later : (u : UserState) → IsNear E c m log h ls d u → IsNear E c m' log' h' ls' d' u
@@ -204,8 +207,8 @@ module _ (E : DataSide) (c : Setup) (seat_of : ℕ → ℕ) (m m' : SharedWords)
     user_holds_later u own_seat user_step.StoreNewest o = (in_work_later u (Cells (length (cells_of u))) Before AgreeBelow own_seat o.0, near_later u o.1)
     user_holds_later u own_seat user_step.LoadOldest o = (in_work_later u All Last AgreeBelow own_seat o.0, near_later u o.1)
     user_holds_later u own_seat user_step.AddToList o = (in_work_later u All Last Unlisted own_seat o.0, near_later u o.1)
-    user_holds_later u own_seat user_step.StoreOldest o = (in_work_later u All Last InListOnly own_seat o.0, near_later u o.1, list_later (page_of u % 4) o.2)
-    user_holds_later u own_seat user_step.GiveList o = (in_work_later u All Last IsListed own_seat o.0, near_later u o.1, list_later (page_of u % 4) o.2)
+    user_holds_later u own_seat user_step.StoreOldest o = (in_work_later u All Last InListOnly own_seat o.0, near_later u o.1, list_later (current_page u % 4) o.2)
+    user_holds_later u own_seat user_step.GiveList o = (in_work_later u All Last IsListed own_seat o.0, near_later u o.1, list_later (current_page u % 4) o.2)
     user_holds_later u own_seat user_step.StoreClosedLink o = (in_work_later u All Last IsListed own_seat o.0, (let a = o.1 in let b = later.ctail in omega arith), o.2, o.3)
     user_holds_later u own_seat user_step.ReleaseLatch o = (held_later u u.page (length (changes u)) o.0, o.1)
     user_holds_later u own_seat user_step.AwaitMark o = tt
@@ -253,7 +256,7 @@ module _ (E : DataSide) (c : Setup) (seat_of : ℕ → ℕ) (m m' : SharedWords)
     batch_one f x t o = let we = leaf_later x.page none_in_hand All Last t o.held in record {
       held = at_later x.page none_in_hand All Last t refl o.held;
       newest = o.newest ∙ sym (ap (λ (y : PageWords). y.newest) we);
-      bytes = o.bytes ∙ sym (ap (λ (y : PageWords). frame_bytes y.frame) we);
+      bytes = o.bytes ∙ sym (ap (λ (y : PageWords). framed_page c.page_size y.frame) we);
       low = o.low;
     }
 
@@ -266,7 +269,7 @@ module _ (E : DataSide) (c : Setup) (seat_of : ℕ → ℕ) (m m' : SharedWords)
     has_page_later : (v : CleanerState) → HasPage E c m log h ls d j v → HasPage E c m' log' h' ls' d' j v
     has_page_later v o = (at_later v.page none_in_hand All Last Agree refl o.0, subst (λ (y : PageWords). 0 < y.oldest) (sym (leaf_later v.page none_in_hand All Last Agree o.0)) o.1)
 
-    kept_later : (v : CleanerState) → StillCleaner → AreKept E c m log h ls d v → AreKept E c m' log' h' ls' d' v
+    kept_later : (v : CleanerState) → StillCleaner → IsBatchKept E c m log h ls d v → IsBatchKept E c m' log' h' ls' d' v
     kept_later v still o i x is = let r = o i x is in (ap (λ (y : KeptPage). y.lsn) (still.kept_page x.page) ∙ r.0, ap (λ (y : KeptPage). y.bytes) (still.kept_page x.page) ∙ r.1)
 
     unlisting_later : (v : CleanerState) (t : ListingStage) → StillCleaner → Unlisting E c m log h ls d j v t → Unlisting E c m' log' h' ls' d' j v t
@@ -279,7 +282,7 @@ module _ (E : DataSide) (c : Setup) (seat_of : ℕ → ℕ) (m m' : SharedWords)
     cleaner_holds_later v still cleaner_step.LoadNewest o = (looking_later v o.0, has_page_later v o.1)
     cleaner_holds_later v still cleaner_step.ReleaseSkipped o = (looking_later v o.0, has_page_later v o.1)
     cleaner_holds_later v still cleaner_step.LoadFrame o = let we = leaf_later v.page none_in_hand All Last Agree o.1.0 in
-        (looking_later v o.0, has_page_later v o.1, o.2 ∙ sym (ap (λ (y : PageWords). y.newest) we), o.3, o.4 ∙ sym (ap (λ (y : PageWords). take (length v.kept) (frame_bytes y.frame)) we), o.5, o.6)
+        (looking_later v o.0, has_page_later v o.1, o.2 ∙ sym (ap (λ (y : PageWords). y.newest) we), o.3, o.4 ∙ sym (ap (λ (y : PageWords). framed_page (length v.kept) y.frame) we), o.5, o.6)
     cleaner_holds_later v still cleaner_step.WriteBatch o = (batch_later v 0 o.0, o.1)
     cleaner_holds_later v still cleaner_step.RemoveFromList o = (unlisting_later v Agree still o.0, (λ x is. subst (λ (y : PageWords). 0 < y.oldest) (sym (leaf_later x.page none_in_hand All Last Agree (o.0.2 x is).held)) (o.1 x is)))
     cleaner_holds_later v still cleaner_step.ClearOldest o = (unlisting_later v InWordOnly still o.0, list_later (first_of_batch v % 4) o.1)
@@ -296,6 +299,7 @@ module _ (E : DataSide) (c : Setup) (seat_of : ℕ → ℕ) (m m' : SharedWords)
     cleaner_later v still o = record {
       alone = o.alone;
       pages = o.pages;
+      page_size = o.page_size;
       page = o.page;
       flushed = (let a = o.flushed in let b = later.flushed in omega arith);
       sound = λ z. let r = o.sound z in (ap E.failed still.store ∙ r.0, still.unfinished ∙ r.1);

@@ -3,7 +3,7 @@ use Rattle.std.proofs.Common.{List, [], ap, arith, false, inl, refl, subst, sym,
 use Rattle.std.specs.Prelude.{slice_index}
 use lib.ListN.{get_elem?}
 use mathlib.Core.Option.{some, some-ne-none}
-use Rattle.model_core.specs.{Actor, BatchPage, frame_bytes, KeptPage, lsn, page_words_at, PageWords, SharedWords}
+use Rattle.model_core.specs.{Actor, BatchPage, framed_page, KeptPage, lsn, page_words_at, PageWords, SharedWords}
 use Rattle.model_core.specs.DataSide.{DataSide}
 use Rattle.model_core.specs.Setup.{Setup}
 use Rattle.model_pagecore.proofs.Unfinished.{none_unfinished}
@@ -13,7 +13,7 @@ use Rattle.model_pagecore.specs.Pages.{OnePage}
 
 pub record StartPages (E : DataSide) (c : Setup) (m : SharedWords) (stable : ℕ) (h : PageGhost) (d : E.Part) : Type 0 where
   pub page_words : (p : ℕ) → p < c.pages → ◌≡◌ {A = PageWords} (page_words_at m.page_words p) (record { latch = 0; newest = 0; oldest = 0; frame = (page_words_at m.page_words p).frame })
-  pub frames : (p : ℕ) → p < c.pages → frame_bytes (page_words_at m.page_words p).frame ≡ (c.opened p).bytes
+  pub frames : (p : ℕ) → p < c.pages → framed_page c.page_size (page_words_at m.page_words p).frame ≡ (c.opened p).bytes
   pub early : (p : ℕ) → p < c.pages → (c.opened p).lsn ≤ lsn c.base
   pub sn : m.sn ≡ c.base
   pub stable_is : stable ≡ lsn c.base
@@ -43,7 +43,7 @@ pages_start E c m stable h d actors S fits = let s1 = S.sn in let s2 = S.stable_
           standing = λ i e is. absurd (some-ne-none e (sym is));
         };
         lists = record { relaxed = λ _. tt; near = λ _. tt; real = λ _. tt };
-        each_page = λ p t. subst (λ (w : PageWords). OnePage p (lsn c.base) (c.opened p) [] h.closed h.given stable w 0 (h.kept_page p)) (sym (S.page_words p t)) (subst (λ (k : KeptPage). OnePage p (lsn c.base) (c.opened p) [] h.closed h.given stable (record { latch = 0; newest = 0; oldest = 0; frame = (page_words_at m.page_words p).frame }) 0 k) (sym (S.kept_page p)) (record {
+        each_page = λ p t. subst (λ (w : PageWords). OnePage c p [] h.closed h.given stable w 0 (h.kept_page p)) (sym (S.page_words p t)) (subst (λ (k : KeptPage). OnePage c p [] h.closed h.given stable (record { latch = 0; newest = 0; oldest = 0; frame = (page_words_at m.page_words p).frame }) 0 k) (sym (S.kept_page p)) (record {
           latch = omega arith;
           free = λ _. record { frame = S.frames p t; newest = refl; listing = refl };
           oldest = λ z. absurd (omega arith);

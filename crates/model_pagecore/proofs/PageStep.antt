@@ -10,28 +10,28 @@ use Rattle.model_core.specs.Setup.{Setup}
 use Rattle.model_pagecore.proofs.PageHistory.{each_more}
 use Rattle.model_pagecore.proofs.PageFrame.{log_same, longer_same, one_page_later, page_later, page_moved, page_others, pages_same}
 use Rattle.model_pagecore.proofs.Unfinished.{unfinished_later}
-use Rattle.model_pagecore.specs.PageFacts.{ClosedLinks, PageGhost, ListFacts, listed}
+use Rattle.model_pagecore.specs.PageFacts.{ClosedLinks, PageGhost, ListFacts, listed_lsn}
 use Rattle.model_pagecore.specs.PageHalf.{At, PageFits, PageHalf, PagesInHand, group_in_hand}
-use Rattle.model_pagecore.specs.Pages.{All, Before, AgreeBelow, Cells, FrameStage, GroupInHand, Last, NewestStage, PageIs, OnePage, ListingStage, IsListed, StartsAt, Agree, cells_on, none_in_hand, touches}
+use Rattle.model_pagecore.specs.Pages.{All, Before, AgreeBelow, Cells, FrameStage, GroupInHand, Last, NewestStage, PageIs, OnePage, ListingStage, IsListed, StartsAt, Agree, cells_on, none_in_hand, is_changed_page}
 use Rattle.model_core.specs.Actors as actor
 use Rattle.model_core.specs.declared.limits.TheConstants.{CLOSED_LINKS}
 
 -- the change on a page that a group names, if it names each once
-pub cells_mine : (cs : List PageChange) (k : ℕ) → k < length cs → ((i : ℕ) → i < k → (change_at cs i).page ≢ (change_at cs k).page) → (◌≡◌ {A = List CellWrite} (cells_on (change_at cs k).page cs) (change_at cs k).cells) × (touches (change_at cs k).page cs ≡ true)
+pub cells_mine : (cs : List PageChange) (k : ℕ) → k < length cs → ((i : ℕ) → i < k → (change_at cs i).page ≢ (change_at cs k).page) → (◌≡◌ {A = List CellWrite} (cells_on (change_at cs k).page cs) (change_at cs k).cells) × (is_changed_page (change_at cs k).page cs ≡ true)
 cells_mine [] k l h = absurd (omega arith)
-cells_mine (c ∷ cs) zero l h = (ap (λ (b : Bool). cond b c.cells (cells_on c.page cs)) (eq-eqb c.page c.page refl), ap (λ (b : Bool). cond b true (touches c.page cs)) (eq-eqb c.page c.page refl))
+cells_mine (c ∷ cs) zero l h = (ap (λ (b : Bool). cond b c.cells (cells_on c.page cs)) (eq-eqb c.page c.page refl), ap (λ (b : Bool). cond b true (is_changed_page c.page cs)) (eq-eqb c.page c.page refl))
 cells_mine (c ∷ cs) (suc k) l h =
     let p : ℕ = (change_at cs k).page in
     let n : c.page ≢ p = h zero (omega arith) in
     let r = cells_mine cs k (omega arith) (λ i lt. h (suc i) (omega arith)) in
-    (ap (λ (b : Bool). cond b c.cells (cells_on p cs)) (ne_eqb c.page p n) ∙ r.0, ap (λ (b : Bool). cond b true (touches p cs)) (ne_eqb c.page p n) ∙ r.1)
+    (ap (λ (b : Bool). cond b c.cells (cells_on p cs)) (ne_eqb c.page p n) ∙ r.0, ap (λ (b : Bool). cond b true (is_changed_page p cs)) (ne_eqb c.page p n) ∙ r.1)
 
 -- a page that a group touches is one that it names
-pub named : (p : ℕ) (cs : List PageChange) → touches p cs ≡ true → (k : ℕ) × (k < length cs) × ((change_at cs k).page ≡ p)
+pub named : (p : ℕ) (cs : List PageChange) → is_changed_page p cs ≡ true → (k : ℕ) × (k < length cs) × ((change_at cs k).page ≡ p)
 named p [] e = absurd (cc)
 named p (c ∷ cs) e = at (eqb c.page p) refl e (λ z. named p cs z)
   where
-    at : (b : Bool) → eqb c.page p ≡ b → cond b true (touches p cs) ≡ true → (touches p cs ≡ true → (k : ℕ) × (k < length cs) × ((change_at cs k).page ≡ p)) → (k : ℕ) × (k < suc (length cs)) × ((change_at (c ∷ cs) k).page ≡ p)
+    at : (b : Bool) → eqb c.page p ≡ b → cond b true (is_changed_page p cs) ≡ true → (is_changed_page p cs ≡ true → (k : ℕ) × (k < length cs) × ((change_at cs k).page ≡ p)) → (k : ℕ) × (k < suc (length cs)) × ((change_at (c ∷ cs) k).page ≡ p)
     at true f e more = (zero, omega arith, eqb-true c.page p f)
     at false f e more = let r = more e in let r1 = r.1 in (suc r.0, (omega arith), r.2)
 
@@ -51,7 +51,7 @@ module _ (E : DataSide) (c : Setup) (seat_of : ℕ → ℕ) (m : SharedWords) (l
         closed_links = subst (λ (x : ℕ). ClosedLinks log h.closed m'.ctail m'.cheld h.tail (lsn x) m'.clinks) e5 (subst (λ (x : Bool). ClosedLinks log h.closed m'.ctail x h.tail (lsn m.sn) m'.clinks) (sym e6)
             (subst (λ (x : ℕ). ClosedLinks log h.closed x m.cheld h.tail (lsn m.sn) m'.clinks) (sym e4) (subst (λ (x : List ℕ). ClosedLinks log h.closed m.ctail m.cheld h.tail (lsn m.sn) x) (sym e3) K)));
         lists = subst (λ (x : ℕ). ListFacts ls x) (sym e4) P.lists;
-        each_page = λ p t. one_page_later p (lsn c.base) (c.opened p) log log h.closed h.closed h.given stable stable' (page_words_at m.page_words p) (page_words_at m'.page_words p) (listed ls p) (listed ls p) (h.kept_page p) (h.kept_page p)
+        each_page = λ p t. one_page_later c p log log h.closed h.closed h.given stable stable' (page_words_at m.page_words p) (page_words_at m'.page_words p) (listed_lsn ls p) (listed_lsn ls p) (h.kept_page p) (h.kept_page p)
             (longer_same log) (log_same p log) refl (λ _ _ _ _ z. z) (ap (λ (x : List PageWords). page_words_at x p) e1) refl refl ge (P.each_page p t);
         within = (let z = P.within in omega arith);
         flushed = fl;
@@ -93,10 +93,10 @@ module _ (E : DataSide) (c : Setup) (seat_of : ℕ → ℕ) (m : SharedWords) (l
       there = o.there;
       latched = ap (λ (x : PageWords). x.latch) we ∙ o.latched;
       mine = same q ne ∙ o.mine;
-      page = page_later q (c.opened q).bytes log log k (page_words_at m.page_words q) (page_words_at leaf_mem.page_words q) (listed ls q) (listed ls q) f n t (log_same q log) refl we refl o.page;
+      page = page_later c q log log k (page_words_at m.page_words q) (page_words_at leaf_mem.page_words q) (listed_lsn ls q) (listed_lsn ls q) f n t (log_same q log) refl we refl o.page;
     }
 
-    pub leaf_step : (b : Actor) → OnePage p (lsn c.base) (c.opened p) log h.closed h.given stable w (listed ls p) (h.kept_page p) → (seat ≢ c.cleaner → 0 < (page_words_at m.page_words p).oldest → 0 < w.oldest) → (w.latch ≡ 1 → holders p ≡ seat)
+    pub leaf_step : (b : Actor) → OnePage c p log h.closed h.given stable w (listed_lsn ls p) (h.kept_page p) → (seat ≢ c.cleaner → 0 < (page_words_at m.page_words p).oldest → 0 < w.oldest) → (w.latch ≡ 1 → holders p ≡ seat)
         → PageFits E c leaf_mem log leaf_folio ls d seat b → PageHalf E c leaf_mem log stable leaf_folio ls d (set actors seat b)
     leaf_step b sheet kept owned fits = let P = before.paged in let l : p < length m.page_words = omega arith in
         page_moved E c m leaf_mem log log stable stable h leaf_folio ls ls d d actors seat b
@@ -104,9 +104,9 @@ module _ (E : DataSide) (c : Setup) (seat_of : ℕ → ℕ) (m : SharedWords) (l
           closed_links = P.closed_links;
           lists = P.lists;
           each_page = λ q t. elim (ℕ_discrete q p) [
-            | yes e ↦ subst (λ (x : ℕ). OnePage x (lsn c.base) (c.opened x) log h.closed h.given stable (page_words_at leaf_mem.page_words x) (listed ls x) (h.kept_page x)) (sym e)
-                (subst (λ (x : PageWords). OnePage p (lsn c.base) (c.opened p) log h.closed h.given stable x (listed ls p) (h.kept_page p)) (sym (leaf_here p w l)) sheet)
-            | no n ↦ one_page_later q (lsn c.base) (c.opened q) log log h.closed h.closed h.given stable stable (page_words_at m.page_words q) (page_words_at leaf_mem.page_words q) (listed ls q) (listed ls q) (h.kept_page q) (h.kept_page q)
+            | yes e ↦ subst (λ (x : ℕ). OnePage c x log h.closed h.given stable (page_words_at leaf_mem.page_words x) (listed_lsn ls x) (h.kept_page x)) (sym e)
+                (subst (λ (x : PageWords). OnePage c p log h.closed h.given stable x (listed_lsn ls p) (h.kept_page p)) (sym (leaf_here p w l)) sheet)
+            | no n ↦ one_page_later c q log log h.closed h.closed h.given stable stable (page_words_at m.page_words q) (page_words_at leaf_mem.page_words q) (listed_lsn ls q) (listed_lsn ls q) (h.kept_page q) (h.kept_page q)
                 (longer_same log) (log_same q log) refl (λ _ _ _ _ z. z) (leaf_else p w q n) refl refl (omega arith) (P.each_page q t)
           ];
           within = P.within;
@@ -148,16 +148,16 @@ module _ (E : DataSide) (c : Setup) (seat_of : ℕ → ℕ) (m : SharedWords) (l
         a (mate j a e) (before.each j a e))
 
     -- the page has become this, with the latch kept
-    pub at_here : (k : GroupInHand) (f : FrameStage) (n : NewestStage) (t : ListingStage) → w.latch ≡ 1 → holders p ≡ seat → PageIs p (c.opened p).bytes log k w (listed ls p) f n t → At E c leaf_mem log leaf_folio ls d seat p k f n t
+    pub at_here : (k : GroupInHand) (f : FrameStage) (n : NewestStage) (t : ListingStage) → w.latch ≡ 1 → holders p ≡ seat → PageIs c p log k w (listed_lsn ls p) f n t → At E c leaf_mem log leaf_folio ls d seat p k f n t
     at_here k f n t la ho is = let we = leaf_here p w (omega arith) in record {
       there = there;
       latched = ap (λ (x : PageWords). x.latch) we ∙ la;
       mine = ho;
-      page = page_later p (c.opened p).bytes log log k w (page_words_at leaf_mem.page_words p) (listed ls p) (listed ls p) f n t (log_same p log) refl we refl is;
+      page = page_later c p log log k w (page_words_at leaf_mem.page_words p) (listed_lsn ls p) (listed_lsn ls p) f n t (log_same p log) refl we refl is;
     }
 
   -- a latched page with other words in its frame, or another OLDEST
-  pub latched_sheet : (p : ℕ) (w : PageWords) → p < c.pages → w.latch ≡ 1 → (0 < w.oldest → StartsAt p log w.oldest) → OnePage p (lsn c.base) (c.opened p) log h.closed h.given stable w (listed ls p) (h.kept_page p)
+  pub latched_sheet : (p : ℕ) (w : PageWords) → p < c.pages → w.latch ≡ 1 → (0 < w.oldest → StartsAt p log w.oldest) → OnePage c p log h.closed h.given stable w (listed_lsn ls p) (h.kept_page p)
   latched_sheet p w t la o = let S = before.paged.each_page p t in record {
     latch = omega arith;
     free = λ z. absurd (omega arith);
@@ -170,7 +170,7 @@ module _ (E : DataSide) (c : Setup) (seat_of : ℕ → ℕ) (m : SharedWords) (l
     passed = S.passed;
   }
 
-  pub freed_sheet : (p : ℕ) (w : PageWords) → p < c.pages → w.latch ≡ 0 → (0 < w.oldest → StartsAt p log w.oldest) → PageIs p (c.opened p).bytes log none_in_hand w (listed ls p) All Last Agree → OnePage p (lsn c.base) (c.opened p) log h.closed h.given stable w (listed ls p) (h.kept_page p)
+  pub freed_sheet : (p : ℕ) (w : PageWords) → p < c.pages → w.latch ≡ 0 → (0 < w.oldest → StartsAt p log w.oldest) → PageIs c p log none_in_hand w (listed_lsn ls p) All Last Agree → OnePage c p log h.closed h.given stable w (listed_lsn ls p) (h.kept_page p)
   freed_sheet p w t la o is = let S = before.paged.each_page p t in record {
     latch = omega arith;
     free = λ z. is;
@@ -206,20 +206,20 @@ module _ (E : DataSide) (c : Setup) (seat_of : ℕ → ℕ) (m : SharedWords) (l
     abbrev pub list_folio : PageGhost
     list_folio = record h { list_holder = turns }
 
-    pub list_at : (q : ℕ) (k : GroupInHand) (f : FrameStage) (n : NewestStage) (t : ListingStage) → listed ls' q ≡ listed ls q → At E c m log h ls d seat q k f n t → At E c list_mem log list_folio ls' d seat q k f n t
+    pub list_at : (q : ℕ) (k : GroupInHand) (f : FrameStage) (n : NewestStage) (t : ListingStage) → listed_lsn ls' q ≡ listed_lsn ls q → At E c m log h ls d seat q k f n t → At E c list_mem log list_folio ls' d seat q k f n t
     list_at q k f n t e o = record {
       there = o.there;
       latched = o.latched;
       mine = o.mine;
-      page = page_later q (c.opened q).bytes log log k (page_words_at m.page_words q) (page_words_at m.page_words q) (listed ls q) (listed ls' q) f n t (log_same q log) refl refl e o.page;
+      page = page_later c q log log k (page_words_at m.page_words q) (page_words_at m.page_words q) (listed_lsn ls q) (listed_lsn ls' q) f n t (log_same q log) refl refl e o.page;
     }
 
-    pub list_sheet : (q : ℕ) → q < c.pages → listed ls' q ≡ listed ls q → OnePage q (lsn c.base) (c.opened q) log h.closed h.given stable (page_words_at m.page_words q) (listed ls' q) (h.kept_page q)
-    list_sheet q t e = one_page_later q (lsn c.base) (c.opened q) log log h.closed h.closed h.given stable stable (page_words_at m.page_words q) (page_words_at m.page_words q) (listed ls q) (listed ls' q) (h.kept_page q) (h.kept_page q)
+    pub list_sheet : (q : ℕ) → q < c.pages → listed_lsn ls' q ≡ listed_lsn ls q → OnePage c q log h.closed h.given stable (page_words_at m.page_words q) (listed_lsn ls' q) (h.kept_page q)
+    list_sheet q t e = one_page_later c q log log h.closed h.closed h.given stable stable (page_words_at m.page_words q) (page_words_at m.page_words q) (listed_lsn ls q) (listed_lsn ls' q) (h.kept_page q) (h.kept_page q)
         (longer_same log) (log_same q log) refl (λ _ _ _ _ z. z) refl e refl (omega arith) (before.paged.each_page q t)
 
-    pub list_step : (b : Actor) → ListFacts ls' m.ctail → ((q : ℕ) → q < c.pages → OnePage q (lsn c.base) (c.opened q) log h.closed h.given stable (page_words_at m.page_words q) (listed ls' q) (h.kept_page q))
-        → ((q : ℕ) → (page_words_at m.page_words q).latch ≡ 1 → h.holder q ≢ seat → listed ls' q ≡ listed ls q) → PageFits E c list_mem log list_folio ls' d seat b → PageHalf E c list_mem log stable list_folio ls' d (set actors seat b)
+    pub list_step : (b : Actor) → ListFacts ls' m.ctail → ((q : ℕ) → q < c.pages → OnePage c q log h.closed h.given stable (page_words_at m.page_words q) (listed_lsn ls' q) (h.kept_page q))
+        → ((q : ℕ) → (page_words_at m.page_words q).latch ≡ 1 → h.holder q ≢ seat → listed_lsn ls' q ≡ listed_lsn ls q) → PageFits E c list_mem log list_folio ls' d seat b → PageHalf E c list_mem log stable list_folio ls' d (set actors seat b)
     list_step b waits each_page others fits = let P = before.paged in
         page_moved E c m list_mem log log stable stable h list_folio ls ls' d d actors seat b
         (record { closed_links = P.closed_links; lists = waits; each_page = each_page; within = P.within; flushed = P.flushed; stable_top = P.stable_top; stored = P.stored; unfinished = P.unfinished; alone = P.alone })
@@ -253,7 +253,7 @@ module _ (E : DataSide) (c : Setup) (seat_of : ℕ → ℕ) (m : SharedWords) (l
     ring_folio = record h { closed = closed; tail = tail; advancer = advancer }
 
     pub ring_step : (b : Actor) → ClosedLinks log closed ctail cheld tail (lsn m.sn) links → m.ctail ≤ ctail
-        → ((q : ℕ) → q < c.pages → OnePage q (lsn c.base) (c.opened q) log closed h.given stable (page_words_at m.page_words q) (listed ls q) (h.kept_page q))
+        → ((q : ℕ) → q < c.pages → OnePage c q log closed h.given stable (page_words_at m.page_words q) (listed_lsn ls q) (h.kept_page q))
         → ((i : ℕ) (e : Entry) → get_elem? log i ≡ some e → seat_of e.user ≢ seat → closed e.start ≡ h.closed e.start) → ((x : ℕ) → h.closed x ≡ true → closed x ≡ true)
         → (m.cheld ≡ true → h.advancer ≢ seat → (cheld ≡ true) × (advancer ≡ h.advancer) × (ctail ≡ m.ctail) × (tail ≡ h.tail))
         → PageFits E c ring_mem log ring_folio ls d seat b → PageHalf E c ring_mem log stable ring_folio ls d (set actors seat b)

@@ -14,9 +14,9 @@ use Rattle.model_pagecore.proofs.PageHistory.{upto_snoc}
 use Rattle.model_pagecore.proofs.PageFrame.{log_snoc, longer_snoc, page_moved, page_others, one_page_later}
 use Rattle.model_pagecore.proofs.PageStep.{mate, named}
 use Rattle.model_pagecore.proofs.Unfinished.{unfinished_later}
-use Rattle.model_pagecore.specs.PageFacts.{PageGhost, listed}
+use Rattle.model_pagecore.specs.PageFacts.{PageGhost, listed_lsn}
 use Rattle.model_pagecore.specs.PageHalf.{At, PageHalf, UserPagesAt, UserPageFits, group_in_hand}
-use Rattle.model_pagecore.specs.Pages.{All, Before, AgreeBelow, Cells, Laid, Last, OnePage, Agree, none_in_hand, last_end, start_lsn, touches, applied_upto, applied_all}
+use Rattle.model_pagecore.specs.Pages.{All, Before, AgreeBelow, Cells, Laid, Last, OnePage, Agree, none_in_hand, last_end, start_lsn, is_changed_page, applied_upto, applied_all}
 use Rattle.model_core.specs.declared.steps.UserStep.TheVariants as user_step
 use Rattle.model_core.specs.Actors as actor
 
@@ -38,8 +38,8 @@ module _ (E : DataSide) (c : Setup) (seat_of : ℕ → ℕ) (m : SharedWords) (l
       let shut : (b : Bool) → h.closed m.sn ≡ b → b ≡ false = λ b. elim b as (λ (x : Bool). h.closed m.sn ≡ x → x ≡ false) [ true ↦ (λ z. absurd (open_here z)) | false ↦ (λ z. refl) ] in
       let longer = longer_snoc log g in
       let seam : ◌≡◌ {A = List Entry} (take (length log) log') log = take-append_seam log (g ∷ []) in
-      let own_page : (q : ℕ) → touches q g.changes ≡ true → At E c m log h ls d seat q none_in_hand All Last Agree = λ q t. let k = named q g.changes t in subst (λ (y : ℕ). At E c m log h ls d seat y none_in_hand All Last Agree) k.2 (o k.0 (omega arith) k.1) in
-      let not_own : (q : ℕ) → (page_words_at m.page_words q).latch ≡ 1 → h.holder q ≢ seat → (b : Bool) → touches q g.changes ≡ b → b ≡ false = λ q la ho b. elim b as (λ (x : Bool). touches q g.changes ≡ x → x ≡ false) [ true ↦ (λ z. absurd (ho (own_page q z).mine)) | false ↦ (λ z. refl) ] in
+      let own_page : (q : ℕ) → is_changed_page q g.changes ≡ true → At E c m log h ls d seat q none_in_hand All Last Agree = λ q t. let k = named q g.changes t in subst (λ (y : ℕ). At E c m log h ls d seat y none_in_hand All Last Agree) k.2 (o k.0 (omega arith) k.1) in
+      let not_own : (q : ℕ) → (page_words_at m.page_words q).latch ≡ 1 → h.holder q ≢ seat → (b : Bool) → is_changed_page q g.changes ≡ b → b ≡ false = λ q la ho b. elim b as (λ (x : Bool). is_changed_page q g.changes ≡ x → x ≡ false) [ true ↦ (λ z. absurd (ho (own_page q z).mine)) | false ↦ (λ z. refl) ] in
       let held : (k : ℕ) → k < length (changes u) → At E c m' log' h ls d seat (change_at (changes u) k).page (group_in_hand E c m' log' h ls d g (length log)) (Cells 0) Before AgreeBelow = λ k l.
       let a = o k (omega arith) l in
       let S = P.each_page ((change_at (changes u) k).page) a.there in
@@ -54,7 +54,7 @@ module _ (E : DataSide) (c : Setup) (seat_of : ℕ → ℕ) (m : SharedWords) (l
           newest = a.page.newest ∙ ap (λ (x : List Entry). last_end p x 0) (sym seam);
           listing = (
             tied,
-            elim (dec_le (listed ls p) 0) [
+            elim (dec_le (listed_lsn ls p) 0) [
               | yes z ↦ (let y = lsn_some m.sn in omega arith)
               | no z ↦ (let y = S.oldest (omega arith) in let w = W.wide y.0 y.1 y.2 in let n = W.under y.0 y.1 y.2 in let y4 = y.4 in omega arith)
             ],
@@ -76,7 +76,7 @@ module _ (E : DataSide) (c : Setup) (seat_of : ℕ → ℕ) (m : SharedWords) (l
         lists = P.lists;
         each_page = λ q t. let S = P.each_page q t in let be = S.behind in
             let same_upto : applied_upto q (h.kept_page q).lsn log' (c.opened q).bytes ≡ applied_upto q (h.kept_page q).lsn log (c.opened q).bytes = upto_snoc q (h.kept_page q).lsn log g (c.opened q).bytes (omega arith) in
-            let by : (b : Bool) → touches q g.changes ≡ b → OnePage q (lsn c.base) (c.opened q) log' h.closed h.given stable (page_words_at m.page_words q) (listed ls q) (h.kept_page q) = λ b. elim b as (λ (x : Bool). touches q g.changes ≡ x → OnePage q (lsn c.base) (c.opened q) log' h.closed h.given stable (page_words_at m.page_words q) (listed ls q) (h.kept_page q)) [
+            let by : (b : Bool) → is_changed_page q g.changes ≡ b → OnePage c q log' h.closed h.given stable (page_words_at m.page_words q) (listed_lsn ls q) (h.kept_page q) = λ b. elim b as (λ (x : Bool). is_changed_page q g.changes ≡ x → OnePage c q log' h.closed h.given stable (page_words_at m.page_words q) (listed_lsn ls q) (h.kept_page q)) [
               | true ↦ (λ z. let a = own_page q z in let la = a.latched in record {
                 latch = S.latch;
                 free = λ y. absurd (omega arith);
@@ -88,8 +88,8 @@ module _ (E : DataSide) (c : Setup) (seat_of : ℕ → ℕ) (m : SharedWords) (l
                 change = λ i e is tc cl. ⊎_elim (λ y. S.change i e y tc cl) (λ y. absurd (open_here (ap (λ (r : Entry). h.closed r.start) y.1 ∙ cl))) (at_end log g e i is);
                 passed = λ i e is tc lt. ⊎_elim (λ y. S.passed i e y tc lt) (λ y. let r : start_lsn e ≡ lsn m.sn = ap start_lsn (sym y.1) in absurd (omega arith)) (at_end log g e i is);
               })
-              | false ↦ (λ z. one_page_later q (lsn c.base) (c.opened q) log log' h.closed h.closed h.given stable stable (page_words_at m.page_words q) (page_words_at m.page_words q) (listed ls q) (listed ls q) (h.kept_page q) (h.kept_page q) longer (log_snoc q log g z) same_upto (λ _ _ _ _ y. y) refl refl refl (omega arith) S)
-            ] in by (touches q g.changes) refl;
+              | false ↦ (λ z. one_page_later c q log log' h.closed h.closed h.given stable stable (page_words_at m.page_words q) (page_words_at m.page_words q) (listed_lsn ls q) (listed_lsn ls q) (h.kept_page q) (h.kept_page q) longer (log_snoc q log g z) same_upto (λ _ _ _ _ y. y) refl refl refl (omega arith) S)
+            ] in by (is_changed_page q g.changes) refl;
         within = P.within;
         flushed = P.flushed;
         stable_top = omega arith;
@@ -138,5 +138,5 @@ module _ (E : DataSide) (c : Setup) (seat_of : ℕ → ℕ) (m : SharedWords) (l
       (λ _. record { given = refl; passed = λ p x _ le y i w is tc lt. ⊎_elim (λ r. y i w r tc lt) (λ r. let k : start_lsn w ≡ lsn m.sn = ap start_lsn (sym r.1) in absurd (omega arith)) (at_end log g w i is) })
       a (mate E c seat_of m log stable h ls d actors seat before mates j a z) (before.each j a z))
     where
-      by_own : (q : ℕ) → ((b : Bool) → touches q (changes u) ≡ b → b ≡ false) → touches q (changes u) ≡ false
-      by_own q f = f (touches q (changes u)) refl
+      by_own : (q : ℕ) → ((b : Bool) → is_changed_page q (changes u) ≡ b → b ≡ false) → is_changed_page q (changes u) ≡ false
+      by_own q f = f (is_changed_page q (changes u)) refl

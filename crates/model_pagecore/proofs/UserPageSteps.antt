@@ -9,22 +9,24 @@ use native.Mathlib.Decide.{ℕ_discrete}
 use Rattle.model_core.proofs.Groups.{changed, changed_else, changed_here}
 use Rattle.model_core.proofs.Lsns.{lsn_some}
 unfoldable use Rattle.model_core.specs.{lanes, packed}
-use Rattle.model_core.specs.{Actor, Advance, after_link, answered, cells_of, CellWrite, change_at, changes, Entry, entry, frame_bytes, frame_count, frame_word, group_end, is_whole, line, Listed, lsn, mode, page_of, next_puts, page_words_at, PageWords, put_lanes, put_of, same_word, SharedWords, stored_word, to_next_page, user_took, UserState, with_page_words, word_step}
+use Rattle.model_base.specs.{IsPageSize}
+use Rattle.model_core.specs.{Actor, Advance, after_link, answered, cells_of, CellWrite, change_at, changes, current_page, Entry, entry, frame_count, frame_word, framed_page, group_end, is_whole, line, Listed, lsn, mode, next_puts, page_words_at, PageWords, put_lanes, put_of, same_word, SharedWords, stored_word, to_next_page, user_took, UserState, with_page_words, word_step}
 use Rattle.model_core.specs.DataSide.{DataSide}
 use Rattle.model_core.specs.Setup.{Setup}
 use Rattle.model_core.specs.declared.steps.UserStep.{UserStep}
 use Rattle.model_pagecore.proofs.FrameStores.{word_stored, writes_next}
+use Rattle.model_core.proofs.PageSizes.{has_room}
 use Rattle.model_core.proofs.FrameWords.{Ascend, cell_at, counted_in_word, InWord, whole_word_put}
 use Rattle.model_core.proofs.Lanes.{lanes_long}
 use Rattle.model_pagecore.proofs.PageHistory.{last_after, take_all, whole_after}
 use Rattle.model_pagecore.proofs.PageStep.{at_else, at_here, cells_mine, freed_sheet, latched_sheet, leaf_step, list_at, list_step, page_quiet, work_here}
 use Rattle.model_pagecore.specs.Growing.{Grows}
-use Rattle.model_pagecore.specs.PageFacts.{PageGhost, listed}
+use Rattle.model_pagecore.specs.PageFacts.{PageGhost, listed_lsn}
 use Rattle.model_pagecore.specs.PageHalf.{At, HasPagesInHand, IsNear, PageHalf, UserClosingAt, UserPagesAt, UserPageFits, PagesInHand, group_in_hand}
-use Rattle.model_pagecore.specs.Pages.{InListOnly, All, Before, AgreeBelow, Cells, FrameStage, Laid, Last, NewestStage, PageIs, ListingStage, IsListed, StartsAt, Agree, cells_on, none_in_hand, write_cells, touches, applied_all}
+use Rattle.model_pagecore.specs.Pages.{InListOnly, All, Before, AgreeBelow, Cells, FrameStage, Laid, Last, NewestStage, PageIs, ListingStage, IsListed, StartsAt, Agree, cells_on, none_in_hand, write_cells, is_changed_page, applied_all}
 use Rattle.model_core.specs.declared.steps.UserStep.TheVariants as user_step
 use Rattle.model_core.specs.Actors as actor
-use Rattle.model_core.specs.declared.limits.TheConstants.{FRAME_WORDS}
+use Rattle.model_core.specs.declared.limits.TheConstants.{FRAME_CELLS, FRAME_WORDS}
 
 -- a user that goes on with one of two steps, and advances no tail at either
 module _ (E : DataSide) (c : Setup) (m : SharedWords) (log : List Entry) (h : PageGhost) (ls : ℕ → List Listed) (d : E.Part) (seat : ℕ) (v : Advance) where
@@ -101,12 +103,12 @@ module _ (E : DataSide) (c : Setup) (seat_of : ℕ → ℕ) (m : SharedWords) (l
 
     -- facts of its page in hand
     abbrev p : ℕ
-    p = page_of u
+    p = current_page u
 
     abbrev w : PageWords
-    w = page_words_at m.page_words (page_of u)
+    w = page_words_at m.page_words (current_page u)
 
-    mine_cells : u.page < length (changes u) → (◌≡◌ {A = List CellWrite} (cells_on p (changes u)) (cells_of u)) × (touches p (changes u) ≡ true)
+    mine_cells : u.page < length (changes u) → (◌≡◌ {A = List CellWrite} (cells_on p (changes u)) (cells_of u)) × (is_changed_page p (changes u) ≡ true)
     mine_cells l = cells_mine (changes u) u.page l (λ i lt. own.apart u.k i u.page lt l)
 
     abbrev pub Now : SharedWords → PageGhost → UserState → Type 0
@@ -114,7 +116,7 @@ module _ (E : DataSide) (c : Setup) (seat_of : ℕ → ℕ) (m : SharedWords) (l
 
     -- the words of its page in hand change under its latch
     module _ (long : length m.page_words ≡ c.pages) (pl : u.page < length (changes u)) (f : FrameStage) (n : NewestStage) (t : ListingStage) (o : PagesInHand E c m log h ls d seat g u.page f n t) (w' : PageWords) (la : w'.latch ≡ 1) (old : 0 < w'.oldest → StartsAt p log w'.oldest) (kept : 0 < w.oldest → 0 < w'.oldest) where
-      own_leaf : (f' : FrameStage) (n' : NewestStage) (t' : ListingStage) → PageIs p (c.opened p).bytes log (group_in_hand E c m log h ls d g o.at) w' (listed ls p) f' n' t' → PagesInHand E c (with_page_words m p w') log h ls d seat g u.page f' n' t'
+      own_leaf : (f' : FrameStage) (n' : NewestStage) (t' : ListingStage) → PageIs c p log (group_in_hand E c m log h ls d g o.at) w' (listed_lsn ls p) f' n' t' → PagesInHand E c (with_page_words m p w') log h ls d seat g u.page f' n' t'
       own_leaf f' n' t' is = let a = o.here pl in
           work_here E c seat_of m log stable h ls d actors seat before mates (with_page_words m p w') h ls d g u.page (own.apart u.k) pl f f' n n' t t' o o.not_closed
           (λ q k f n t ne x. at_else E c seat_of m log stable h ls d actors seat before mates p w' h.holder a.there long (inr a.mine) (λ _ _. refl) q k f n t ne x)
@@ -154,8 +156,8 @@ module _ (E : DataSide) (c : Setup) (seat_of : ℕ → ℕ) (m : SharedWords) (l
             some_of false e = absurd (cc)
 
     -- it stores that word
-    pub keeps_store_frame : length m.page_words ≡ c.pages → ((q : ℕ) → q < c.pages → length (page_words_at m.page_words q).frame ≡ FRAME_WORDS) → u.step ≡ user_step.StoreFrame → Now (with_page_words m p (record w { frame = slice_set w.frame (frame_word u) (stored_word u) })) h (user_took u 0 user_step.StoreFrame)
-    keeps_store_frame long sizes ph =
+    pub keeps_store_frame : IsPageSize c.page_size → length m.page_words ≡ c.pages → ((q : ℕ) → q < c.pages → length (page_words_at m.page_words q).frame ≡ FRAME_WORDS) → u.step ≡ user_step.StoreFrame → Now (with_page_words m p (record w { frame = slice_set w.frame (frame_word u) (stored_word u) })) h (user_took u 0 user_step.StoreFrame)
+    keeps_store_frame size long sizes ph =
         let o : UserPagesAt E c m log h ls d seat u user_step.StoreFrame = subst (UserPagesAt E c m log h ls d seat u) ph own.step in
         let work = o.0 in let near = o.1 in let lt = o.2 in let word_is = o.3 in
         let a = work.here near.1 in
@@ -164,12 +166,12 @@ module _ (E : DataSide) (c : Setup) (seat_of : ℕ → ℕ) (m : SharedWords) (l
         let w' : PageWords = record w { frame = slice_set w.frame (frame_word u) (stored_word u) } in
         let b0 : List ℕ = applied_all p (take work.at log) (c.opened p).bytes in
         let cells = (mine_cells near.1).0 in
-        let old : frame_bytes w.frame ≡ write_cells (take u.cell (cells_of u)) b0 = a.page.frame ∙ ap (λ (l : List CellWrite). write_cells (take u.cell l) b0) cells in
-        let there : frame_word u < length w.frame = within_word (sizes p a.there) (own.within u.k u.page u.cell near.1) in
+        let old : framed_page c.page_size w.frame ≡ write_cells (take u.cell (cells_of u)) b0 = a.page.frame ∙ ap (λ (l : List CellWrite). write_cells (take u.cell l) b0) cells in
+        let there : frame_word u < length w.frame = within_word (sizes p a.there) (has_room c.page_size size) (own.within u.k u.page u.cell near.1) in
         let in_word : InWord (frame_word u) (next_puts u) = counted_in_word (frame_word u) (drop u.cell (cells_of u)) (λ i. subst (λ (z : CellWrite). z.value < 256) (sym (get_or-drop u.cell (cells_of u) i (record { at = 0; value = 0 }))) (own.are_bytes u.k u.page (u.cell + i))) in
-        let new : frame_bytes (slice_set w.frame (frame_word u) (stored_word u)) ≡ write_cells (take (u.cell + n) (cells_on p (changes u))) b0 =
-        ap (λ (l : List ℕ). frame_bytes (slice_set w.frame (frame_word u) (packed 0 l))) (same_lanes in_word word_is)
-        ∙ word_stored w.frame (frame_word u) (next_puts u) there in_word ∙ ap (write_cells (next_puts u)) old ∙ sym (writes_next (cells_of u) u.cell n b0)
+        let new : framed_page c.page_size (slice_set w.frame (frame_word u) (stored_word u)) ≡ write_cells (take (u.cell + n) (cells_on p (changes u))) b0 =
+        ap (λ (l : List ℕ). framed_page c.page_size (slice_set w.frame (frame_word u) (packed 0 l))) (same_lanes in_word word_is)
+        ∙ word_stored c.page_size w.frame (frame_word u) (next_puts u) there in_word ∙ ap (write_cells (next_puts u)) old ∙ sym (writes_next (cells_of u) u.cell n b0)
         ∙ ap (λ (l : List CellWrite). write_cells (take (u.cell + n) l) b0) (sym cells) in
         let x : UserState = record u { cell = u.cell + n; word = 0; step = cond (eqb (u.cell + n) (length (cells_of u))) user_step.StoreNewest (word_step (cells_of u) (u.cell + n)) } in
         let old_ok : 0 < w'.oldest → StartsAt p log w'.oldest = (before.paged.each_page p a.there).oldest in
@@ -212,8 +214,8 @@ module _ (E : DataSide) (c : Setup) (seat_of : ℕ → ℕ) (m : SharedWords) (l
                 let eb : (cell_at (next_puts u) b).at ≡ (cell_at (cells_of u) (u.cell + b)).at = ap (λ (x : CellWrite). x.at) at_b in
                 omega arith
 
-        within_word : length w.frame ≡ FRAME_WORDS → (put_of u).at < 4096 → frame_word u < length w.frame
-        within_word long lt = omega arith
+        within_word : length w.frame ≡ FRAME_WORDS → c.page_size ≤ FRAME_CELLS → (put_of u).at < c.page_size → frame_word u < length w.frame
+        within_word long room lt = omega arith
 
     -- it stores NEWEST
     pub keeps_store_newest : length m.page_words ≡ c.pages → u.step ≡ user_step.StoreNewest → Now (with_page_words m p (record w { newest = lsn (group_end u) })) h (user_took u 0 user_step.StoreNewest)
@@ -224,8 +226,8 @@ module _ (E : DataSide) (c : Setup) (seat_of : ℕ → ℕ) (m : SharedWords) (l
         let w' : PageWords = record w { newest = lsn (group_end u) } in
         let b0 : List ℕ = applied_all p (take work.at log) (c.opened p).bytes in
         let k = mine_cells near.1 in
-        let later : (i : ℕ) (e : Entry) → get_elem? log i ≡ some e → work.at < i → touches p e.changes ≡ false = λ i e is l. work.last i e is l u.page near.1 in
-        let all : frame_bytes w.frame ≡ applied_all p log (c.opened p).bytes = a.page.frame ∙ ap (λ (l : List CellWrite). write_cells (take (length (cells_of u)) l) b0) k.0 ∙ ap (λ (l : List CellWrite). write_cells l b0) (take_all (cells_of u)) ∙ ap (λ (l : List CellWrite). write_cells l b0) (sym k.0)
+        let later : (i : ℕ) (e : Entry) → get_elem? log i ≡ some e → work.at < i → is_changed_page p e.changes ≡ false = λ i e is l. work.last i e is l u.page near.1 in
+        let all : framed_page c.page_size w.frame ≡ applied_all p log (c.opened p).bytes = a.page.frame ∙ ap (λ (l : List CellWrite). write_cells (take (length (cells_of u)) l) b0) k.0 ∙ ap (λ (l : List CellWrite). write_cells l b0) (take_all (cells_of u)) ∙ ap (λ (l : List CellWrite). write_cells l b0) (sym k.0)
         ∙ sym (whole_after p log work.at g (c.opened p).bytes work.is later) in
         let old_ok : 0 < w'.oldest → StartsAt p log w'.oldest = (before.paged.each_page p a.there).oldest in
         own_step long near.1 (Cells (length (cells_of u))) Before AgreeBelow work w' a.latched old_ok (λ z. z) (record u { step = user_step.LoadOldest })
@@ -330,7 +332,7 @@ module _ (E : DataSide) (c : Setup) (seat_of : ℕ → ℕ) (m : SharedWords) (l
         let there = own.there u.k u.page o.1 in
         let S = before.paged.each_page p there in
         let same : (q : ℕ) → q ≢ p → holders q ≡ h.holder q = λ q n. changed_else h.holder p seat q n in
-        let is : PageIs p (c.opened p).bytes log none_in_hand w' (listed ls p) All Last Agree = (let f = S.free free in record { frame = f.frame; newest = f.newest; listing = f.listing }) in
+        let is : PageIs c p log none_in_hand w' (listed_lsn ls p) All Last Agree = (let f = S.free free in record { frame = f.frame; newest = f.newest; listing = f.listing }) in
         let held : (k : ℕ) → k < u.page + 1 → At E c m' log h' ls d seat (change_at (changes u) k).page none_in_hand All Last Agree = λ k l. elim (ℕ_discrete k u.page) [
           | yes e ↦ subst (λ (i : ℕ). At E c m' log h' ls d seat (change_at (changes u) i).page none_in_hand All Last Agree) (sym e)
               (at_here E c seat_of m log stable h ls d actors seat before mates p w' holders there long (inl free) same none_in_hand All Last Agree refl (changed_here h.holder p seat p refl) is)

@@ -14,7 +14,7 @@ use Rattle.model_pagecore.proofs.PageStep.{page_quiet}
 use Rattle.model_pagecore.proofs.UserPageSteps.{framed, word_closing}
 use Rattle.model_pagecore.specs.Growing.{Grows}
 use Rattle.model_pagecore.specs.PageFacts.{PageGhost}
-use Rattle.model_pagecore.specs.PageHalf.{ClosingAt, HasPagesInHand, IsFresh, PageHalf, UserClosingAt, UserPageFits, UserPagesAt}
+use Rattle.model_pagecore.specs.PageHalf.{ClosingAt, HasPagesInHand, HasUntouchedPages, PageHalf, UserClosingAt, UserPageFits, UserPagesAt}
 use Rattle.model_pagecore.specs.Pages.{Before, AgreeBelow, Cells, Laid}
 use Rattle.model_core.specs.declared.steps.AdvanceStep.TheVariants as advance_step
 use Rattle.model_core.specs.declared.steps.UserStep.TheVariants as user_step
@@ -33,7 +33,7 @@ module _ (E : DataSide) (c : Setup) (seat_of : ℕ → ℕ) (m : SharedWords) (l
     own = before.each seat (actor.User u) at
 
     abbrev Waits : SharedWords → PageGhost → UserState → Type 0
-    Waits m' h' x = IsFresh E c m' log h' ls d seat x × (0 < length (changes x))
+    Waits m' h' x = HasUntouchedPages E c m' log h' ls d seat x × (0 < length (changes x))
 
     abbrev pub Now : UserState → Type 0
     Now x = PageHalf E c m log stable h ls d (set actors seat (actor.User x))

@@ -5,7 +5,8 @@ use mathlib.Core.Option.{some}
 use Rattle.model_base.specs.declared.limits.TheConstants.{LSN_LIMIT}
 use Rattle.model_core.specs.DataSide.{DataSide}
 use Rattle.model_core.specs.{BatchPage, IsDataCode, KeptPage}
-use Rattle.model_core.specs.declared.limits.TheConstants.{BATCH_PAGES, FRAME_CELLS}
+use Rattle.model_core.specs.Setup.{Setup}
+use Rattle.model_core.specs.declared.limits.TheConstants.{BATCH_PAGES}
 
 -- the kept pages with a batch
 abbrev pub kept_in : List BatchPage → ℕ → KeptPage → KeptPage
@@ -15,10 +16,10 @@ kept_in (t ∷ ts) p k = cond (t.page == p) (record { lsn = t.lsn; bytes = t.byt
 abbrev pub renewed : (ℕ → KeptPage) → List BatchPage → ℕ → KeptPage
 renewed kept_page batch p = kept_in batch p (kept_page p)
 
--- a page of a batch is one of so many that the store has, with all its cells, and its lsn is one of a store
-pub record IsStorePage (pages : ℕ) (t : BatchPage) : Type 0 where
-  pub there : t.page < pages
-  pub whole : length t.bytes ≡ FRAME_CELLS
+-- a page of a batch is one that the store has, with all its bytes, and its lsn is one of a store
+pub record IsStorePage (c : Setup) (t : BatchPage) : Type 0 where
+  pub there : t.page < c.pages
+  pub whole : length t.bytes ≡ c.page_size
   pub small : t.lsn < LSN_LIMIT
 
 -- it has each page once
@@ -26,11 +27,11 @@ abbrev pub AreApart : List BatchPage → Type 0
 AreApart batch = (i j : ℕ) (t u : BatchPage) → get_elem? batch i ≡ some t → get_elem? batch j ≡ some u → i < j → t.page ≢ u.page
 
 module _ (E : DataSide) where
-  pub record CanBatch (pages : ℕ) (kept_page : ℕ → KeptPage) (batch : List BatchPage) (d : E.Part) : Type 0 where
+  pub record CanBatch (c : Setup) (kept_page : ℕ → KeptPage) (batch : List BatchPage) (d : E.Part) : Type 0 where
     pub sound : E.failed d ≡ false
     pub some_pages : 0 < length batch
     pub few : length batch ≤ BATCH_PAGES
-    pub each : (i : ℕ) (t : BatchPage) → get_elem? batch i ≡ some t → IsStorePage pages t
+    pub each : (i : ℕ) (t : BatchPage) → get_elem? batch i ≡ some t → IsStorePage c t
     -- no page goes back, and none has two contents for one lsn
     pub newer : (i : ℕ) (t : BatchPage) → get_elem? batch i ≡ some t → ((kept_page t.page).lsn ≤ t.lsn) × ((kept_page t.page).lsn ≡ t.lsn → (kept_page t.page).bytes ≡ t.bytes)
     pub apart : AreApart batch
@@ -46,4 +47,4 @@ module _ (E : DataSide) where
 pub record DataLaws (E : DataSide) : Type 0 where
   pub codes : (d : E.Part) (code : ℕ) → E.Cause d code → IsDataCode code
   pub broken : (d : E.Part) (code : ℕ) → E.Cause d code → E.failed d ≡ true
-  pub batches : (pages : ℕ) (kept_page : ℕ → KeptPage) (batch : List BatchPage) (code : ℕ) (d e : E.Part) → E.Holds kept_page [] d → CanBatch E pages kept_page batch d → E.Batched batch code d e → AfterBatch E kept_page batch code d e
+  pub batches : (c : Setup) (kept_page : ℕ → KeptPage) (batch : List BatchPage) (code : ℕ) (d e : E.Part) → E.Holds kept_page [] d → CanBatch E c kept_page batch d → E.Batched batch code d e → AfterBatch E kept_page batch code d e

@@ -51,8 +51,8 @@ pub record ListFacts (ls : ℕ → List Listed) (ctail : ℕ) : Type 0 where
   pub near : (i : ℕ) → Each (λ x. x.oldest < ctail + CLOSED_LINKS) (ls i)
   pub real : (i : ℕ) → Each (λ x. 0 < x.oldest) (ls i)
 
-abbrev pub listed : (ℕ → List Listed) → ℕ → ℕ
-listed ls p = oldest_of p (ls (p % FLUSH_LISTS))
+abbrev pub listed_lsn : (ℕ → List Listed) → ℕ → ℕ
+listed_lsn ls p = oldest_of p (ls (p % FLUSH_LISTS))
 
 -- A page of a batch whose writing failed: it may be kept as it was last written, or so. So too it is the opened page with
 -- exactly the groups up to its lsn, which are stable, and no older than it was.
@@ -71,7 +71,7 @@ pub record AreUnfinished (pages : ℕ) (opened kept_page : ℕ → KeptPage) (lo
 pub record PageFacts (E : DataSide) (c : Setup) (m : SharedWords) (log : List Entry) (stable : ℕ) (h : PageGhost) (ls : ℕ → List Listed) (d : E.Part) : Type 0 where
   pub closed_links : ClosedLinks log h.closed m.ctail m.cheld h.tail (lsn m.sn) m.clinks
   pub lists : ListFacts ls m.ctail
-  pub each_page : (p : ℕ) → p < c.pages → OnePage p (lsn c.base) (c.opened p) log h.closed h.given stable (page_words_at m.page_words p) (listed ls p) (h.kept_page p)
+  pub each_page : (p : ℕ) → p < c.pages → OnePage c p log h.closed h.given stable (page_words_at m.page_words p) (listed_lsn ls p) (h.kept_page p)
   pub within : h.given ≤ stable
   pub flushed : m.flushed ≤ stable
   pub stable_top : stable ≤ lsn m.sn

@@ -1,8 +1,8 @@
 -- The page half of the invariant: what holds of each actor, and the whole.
-use Rattle.std.specs.Prelude.{Bool, List, [], false, get_or, length, slice_index, take, true, ℕ, ◌%◌, ◌+◌, ◌<◌, ◌≡◌, ◌≢◌, ◌≤◌, ◌⊎◌}
+use Rattle.std.specs.Prelude.{Bool, List, [], false, get_or, length, slice_index, true, ℕ, ◌%◌, ◌+◌, ◌<◌, ◌≡◌, ◌≢◌, ◌≤◌, ◌⊎◌}
 use lib.ListN.{get_elem?}
 use mathlib.Core.Option.{some}
-use Rattle.model_core.specs.{Actor, Advance, BatchPage, cells_of, change_at, changes, CheckpointerState, CleanerState, CloserState, Entry, entry, first_of_batch, frame_bytes, frame_word, is_whole, line, line_at, Listed, lsn, page_of, page_words_at, PageWords, SharedWords, UserState}
+use Rattle.model_core.specs.{Actor, Advance, BatchPage, cells_of, change_at, changes, CheckpointerState, CleanerState, CloserState, current_page, Entry, entry, first_of_batch, frame_word, framed_page, is_whole, line, line_at, Listed, lsn, page_words_at, PageWords, SharedWords, UserState}
 use Rattle.model_core.specs.DataSide.{DataSide}
 use Rattle.model_core.specs.Setup.{Setup}
 use Rattle.model_core.specs.declared.steps.AdvanceStep.{AdvanceStep}
@@ -12,8 +12,8 @@ use Rattle.model_core.specs.declared.steps.UserStep.{UserStep}
 use Rattle.model_core.specs.declared.steps.CheckpointerStep.{CheckpointerStep}
 use Rattle.model_pagecore.specs.DataLaws.{AreApart}
 use Rattle.model_pagecore.specs.Latches.{CleanerHasLatch, UserHasLatch}
-use Rattle.model_pagecore.specs.PageFacts.{PageGhost, PageFacts, listed}
-use Rattle.model_pagecore.specs.Pages.{InListOnly, All, Before, AgreeBelow, Cells, InWordOnly, FrameStage, GroupInHand, Last, NewestStage, Unlisted, PageIs, Passed, ListingStage, IsListed, Agree, end_lsn, none_in_hand, start_lsn, touches}
+use Rattle.model_pagecore.specs.PageFacts.{PageGhost, PageFacts, listed_lsn}
+use Rattle.model_pagecore.specs.Pages.{InListOnly, All, Before, AgreeBelow, Cells, InWordOnly, FrameStage, GroupInHand, Last, NewestStage, Unlisted, PageIs, Passed, ListingStage, IsListed, Agree, end_lsn, none_in_hand, start_lsn, is_changed_page}
 use Rattle.model_core.specs.declared.steps.AdvanceStep.TheVariants as advance_step
 use Rattle.model_core.specs.declared.steps.UserStep.TheVariants as user_step
 use Rattle.model_core.specs.declared.steps.CloserStep.TheVariants as closer_step
@@ -21,7 +21,7 @@ use Rattle.model_core.specs.declared.steps.CleanerStep.TheVariants as cleaner_st
 use Rattle.model_core.specs.declared.steps.CheckpointerStep.TheVariants as checkpointer_step
 use Rattle.model_core.specs.Actors as actor
 use Rattle.model_base.specs.declared.limits.TheConstants.{BLOCK_SIZE}
-use Rattle.model_core.specs.declared.limits.TheConstants.{CLOSED_LINKS, FLUSH_LISTS, FRAME_CELLS, BATCH_PAGES, WORD_LANES}
+use Rattle.model_core.specs.declared.limits.TheConstants.{CLOSED_LINKS, FLUSH_LISTS, BATCH_PAGES, WORD_LANES}
 
 -- until the cleaner ends the data part hasn't failed
 abbrev pub runs : CleanerStep → Bool
@@ -44,12 +44,12 @@ pub record IsHeldAt (c : Setup) (log : List Entry) (seat p : ℕ) (w : PageWords
   pub there : p < c.pages
   pub latched : w.latch ≡ 1
   pub mine : holder ≡ seat
-  pub page : PageIs p (c.opened p).bytes log k w l f n t
+  pub page : PageIs c p log k w l f n t
 
 module _ (E : DataSide) (c : Setup) (m : SharedWords) (log : List Entry) (h : PageGhost) (ls : ℕ → List Listed) (d : E.Part) where
   -- the same of the page's words, its latch's holder and what stands in its list now
   abbrev pub At : ℕ → ℕ → GroupInHand → FrameStage → NewestStage → ListingStage → Type 0
-  At seat p k f n t = IsHeldAt c log seat p (page_words_at m.page_words p) (h.holder p) (listed ls p) k f n t
+  At seat p k f n t = IsHeldAt c log seat p (page_words_at m.page_words p) (h.holder p) (listed_lsn ls p) k f n t
 
   abbrev pub HasList : ℕ → ℕ → Type 0
   HasList seat i = (slice_index m.lists i ≡ 1) × (h.list_holder i ≡ seat)
@@ -66,7 +66,7 @@ module _ (E : DataSide) (c : Setup) (m : SharedWords) (log : List Entry) (h : Pa
     pub at : ℕ
     pub is : get_elem? log at ≡ some g
     pub not_closed : h.closed g.start ≡ false
-    pub last : (i : ℕ) (e : Entry) → get_elem? log i ≡ some e → at < i → (k : ℕ) → k < length g.changes → touches (named_at g k) e.changes ≡ false
+    pub last : (i : ℕ) (e : Entry) → get_elem? log i ≡ some e → at < i → (k : ℕ) → k < length g.changes → is_changed_page (named_at g k) e.changes ≡ false
     pub before : (k : ℕ) → k < page → k < length g.changes → At seat (named_at g k) (group_in_hand g at) All Last IsListed
     pub here : page < length g.changes → At seat (named_at g page) (group_in_hand g at) f n t
     pub after : (k : ℕ) → page < k → k < length g.changes → At seat (named_at g k) (group_in_hand g at) (Cells 0) Before AgreeBelow
@@ -74,39 +74,39 @@ module _ (E : DataSide) (c : Setup) (m : SharedWords) (log : List Entry) (h : Pa
   abbrev pub HasPagesInHand : ℕ → UserState → FrameStage → NewestStage → ListingStage → Type 0
   HasPagesInHand seat u f n t = PagesInHand seat (entry u.user u.k u.start (line u)) u.page f n t
 
-  abbrev pub IsFresh : ℕ → UserState → Type 0
-  IsFresh seat u = HasPagesInHand seat u (Cells 0) Before AgreeBelow × (u.page ≡ 0) × (u.cell ≡ 0)
+  abbrev pub HasUntouchedPages : ℕ → UserState → Type 0
+  HasUntouchedPages seat u = HasPagesInHand seat u (Cells 0) Before AgreeBelow × (u.page ≡ 0) × (u.cell ≡ 0)
 
   abbrev pub IsNear : UserState → Type 0
   IsNear u = (lsn u.start < m.ctail + CLOSED_LINKS) × (u.page < length (changes u))
 
   -- the pages from lo to below hi are latched and whole
-  abbrev pub AreHeld : ℕ → UserState → ℕ → ℕ → Type 0
-  AreHeld seat u lo hi = (k : ℕ) → lo ≤ k → k < hi → At seat (change_at (changes u) k).page none_in_hand All Last Agree
+  abbrev pub AreLatched : ℕ → UserState → ℕ → ℕ → Type 0
+  AreLatched seat u lo hi = (k : ℕ) → lo ≤ k → k < hi → At seat (change_at (changes u) k).page none_in_hand All Last Agree
 
   -- what it knows of the pages, and of those that it holds, before this step
   abbrev pub UserHolds : ℕ → UserState → UserStep → Type 0
-  UserHolds seat u user_step.TakeLatch = AreHeld seat u 0 u.page × (u.page < length (changes u))
-  UserHolds seat u user_step.Reserve = AreHeld seat u 0 (length (changes u))
-  UserHolds seat u user_step.LoadWrite = IsFresh seat u
-  UserHolds seat u user_step.AddCell = IsFresh seat u
-  UserHolds seat u user_step.StoreFirst = IsFresh seat u
-  UserHolds seat u user_step.LoadWtail = IsFresh seat u
-  UserHolds seat u (user_step.AdvanceWritten s) = IsFresh seat u
-  UserHolds seat u user_step.ReloadWtail = IsFresh seat u
-  UserHolds seat u user_step.StoreLink = IsFresh seat u
-  UserHolds seat u user_step.LoadCtail = IsFresh seat u × (0 < length (changes u))
-  UserHolds seat u (user_step.AdvanceClosed s) = IsFresh seat u × (0 < length (changes u))
-  UserHolds seat u user_step.ReloadCtail = IsFresh seat u × (0 < length (changes u))
+  UserHolds seat u user_step.TakeLatch = AreLatched seat u 0 u.page × (u.page < length (changes u))
+  UserHolds seat u user_step.Reserve = AreLatched seat u 0 (length (changes u))
+  UserHolds seat u user_step.LoadWrite = HasUntouchedPages seat u
+  UserHolds seat u user_step.AddCell = HasUntouchedPages seat u
+  UserHolds seat u user_step.StoreFirst = HasUntouchedPages seat u
+  UserHolds seat u user_step.LoadWtail = HasUntouchedPages seat u
+  UserHolds seat u (user_step.AdvanceWritten s) = HasUntouchedPages seat u
+  UserHolds seat u user_step.ReloadWtail = HasUntouchedPages seat u
+  UserHolds seat u user_step.StoreLink = HasUntouchedPages seat u
+  UserHolds seat u user_step.LoadCtail = HasUntouchedPages seat u × (0 < length (changes u))
+  UserHolds seat u (user_step.AdvanceClosed s) = HasUntouchedPages seat u × (0 < length (changes u))
+  UserHolds seat u user_step.ReloadCtail = HasUntouchedPages seat u × (0 < length (changes u))
   UserHolds seat u user_step.LoadFrame = HasPagesInHand seat u (Cells u.cell) Before AgreeBelow × IsNear u × (u.cell < length (cells_of u))
-  UserHolds seat u user_step.StoreFrame = HasPagesInHand seat u (Cells u.cell) Before AgreeBelow × IsNear u × (u.cell < length (cells_of u)) × ((u.word ≡ slice_index (page_words_at m.page_words (page_of u)).frame (frame_word u)) ⊎ (is_whole (cells_of u) u.cell ≡ true))
+  UserHolds seat u user_step.StoreFrame = HasPagesInHand seat u (Cells u.cell) Before AgreeBelow × IsNear u × (u.cell < length (cells_of u)) × ((u.word ≡ slice_index (page_words_at m.page_words (current_page u)).frame (frame_word u)) ⊎ (is_whole (cells_of u) u.cell ≡ true))
   UserHolds seat u user_step.StoreNewest = HasPagesInHand seat u (Cells (length (cells_of u))) Before AgreeBelow × IsNear u
   UserHolds seat u user_step.LoadOldest = HasPagesInHand seat u All Last AgreeBelow × IsNear u
   UserHolds seat u user_step.AddToList = HasPagesInHand seat u All Last Unlisted × IsNear u
-  UserHolds seat u user_step.StoreOldest = HasPagesInHand seat u All Last InListOnly × IsNear u × HasList seat (page_of u % FLUSH_LISTS)
-  UserHolds seat u user_step.GiveList = HasPagesInHand seat u All Last IsListed × IsNear u × HasList seat (page_of u % FLUSH_LISTS)
+  UserHolds seat u user_step.StoreOldest = HasPagesInHand seat u All Last InListOnly × IsNear u × HasList seat (current_page u % FLUSH_LISTS)
+  UserHolds seat u user_step.GiveList = HasPagesInHand seat u All Last IsListed × IsNear u × HasList seat (current_page u % FLUSH_LISTS)
   UserHolds seat u user_step.StoreClosedLink = HasPagesInHand seat u All Last IsListed × (lsn u.start < m.ctail + CLOSED_LINKS) × (u.page ≡ length (changes u)) × (0 < length (changes u))
-  UserHolds seat u user_step.ReleaseLatch = AreHeld seat u u.page (length (changes u)) × (u.page < length (changes u))
+  UserHolds seat u user_step.ReleaseLatch = AreLatched seat u u.page (length (changes u)) × (u.page < length (changes u))
   UserHolds seat u user_step.Failed = ⊥
   UserHolds seat u _ = Unit {0}
 
@@ -146,11 +146,11 @@ module _ (E : DataSide) (c : Setup) (m : SharedWords) (log : List Entry) (h : Pa
   CloserAt seat v (closer_step.Advance s) = ClosingAt seat v s
   CloserAt seat v _ = Unit {0}
 
-  -- the lines name pages that there are, each once, and cells of a frame
+  -- the lines name pages that there are, each once, and bytes of them
   pub record UserPageFits (seat : ℕ) (u : UserState) : Type 0 where
     pub there : (j k : ℕ) → k < length (line_at u.lines j).changes → (change_at (line_at u.lines j).changes k).page < c.pages
     pub apart : (j i k : ℕ) → i < k → k < length (line_at u.lines j).changes → (change_at (line_at u.lines j).changes i).page ≢ (change_at (line_at u.lines j).changes k).page
-    pub within : (j k i : ℕ) → k < length (line_at u.lines j).changes → (get_or (change_at (line_at u.lines j).changes k).cells i (record { at = 0; value = 0 })).at < FRAME_CELLS
+    pub within : (j k i : ℕ) → k < length (line_at u.lines j).changes → (get_or (change_at (line_at u.lines j).changes k).cells i (record { at = 0; value = 0 })).at < c.page_size
     pub ascending : (j k a b : ℕ) → a < b → b < length (change_at (line_at u.lines j).changes k).cells → (get_or (change_at (line_at u.lines j).changes k).cells a (record { at = 0; value = 0 })).at < (get_or (change_at (line_at u.lines j).changes k).cells b (record { at = 0; value = 0 })).at
     pub are_bytes : (j k i : ℕ) → (get_or (change_at (line_at u.lines j).changes k).cells i (record { at = 0; value = 0 })).value < 256
     pub loaded : u.loaded.ctail ≤ m.ctail
@@ -166,7 +166,7 @@ module _ (E : DataSide) (c : Setup) (m : SharedWords) (log : List Entry) (h : Pa
   pub record InBatch (seat flushed : ℕ) (x : BatchPage) (t : ListingStage) : Type 0 where
     pub held : At seat x.page none_in_hand All Last t
     pub newest : x.lsn ≡ (page_words_at m.page_words x.page).newest
-    pub bytes : x.bytes ≡ frame_bytes (page_words_at m.page_words x.page).frame
+    pub bytes : x.bytes ≡ framed_page c.page_size (page_words_at m.page_words x.page).frame
     pub low : x.lsn ≤ flushed
 
   abbrev pub AreIn : ℕ → ℕ → List BatchPage → ℕ → Type 0
@@ -191,11 +191,11 @@ module _ (E : DataSide) (c : Setup) (m : SharedWords) (log : List Entry) (h : Pa
   HasPage seat v = At seat v.page none_in_hand All Last Agree × (0 < (page_words_at m.page_words v.page).oldest)
 
   -- what the batch says is what a store keeps
-  abbrev pub AreKept : CleanerState → Type 0
-  AreKept v = (i : ℕ) (x : BatchPage) → get_elem? v.batch i ≡ some x → ((h.kept_page x.page).lsn ≡ x.lsn) × ((h.kept_page x.page).bytes ≡ x.bytes)
+  abbrev pub IsBatchKept : CleanerState → Type 0
+  IsBatchKept v = (i : ℕ) (x : BatchPage) → get_elem? v.batch i ≡ some x → ((h.kept_page x.page).lsn ≡ x.lsn) × ((h.kept_page x.page).bytes ≡ x.bytes)
 
   abbrev pub Unlisting : ℕ → CleanerState → ListingStage → Type 0
-  Unlisting seat v t = AreKept v × AreBatch seat v 1 × ((x : BatchPage) → get_elem? v.batch 0 ≡ some x → InBatch seat v.flushed x t) × (0 < length v.batch)
+  Unlisting seat v t = IsBatchKept v × AreBatch seat v 1 × ((x : BatchPage) → get_elem? v.batch 0 ≡ some x → InBatch seat v.flushed x t) × (0 < length v.batch)
 
   -- what it knows of the pages, and of those that it holds, before this step
   abbrev pub CleanerHolds : ℕ → CleanerState → CleanerStep → Type 0
@@ -204,7 +204,7 @@ module _ (E : DataSide) (c : Setup) (m : SharedWords) (log : List Entry) (h : Pa
   CleanerHolds seat v cleaner_step.TakeLatch = Looking seat v × (0 < (page_words_at m.page_words v.page).oldest)
   CleanerHolds seat v cleaner_step.LoadNewest = Looking seat v × HasPage seat v
   CleanerHolds seat v cleaner_step.ReleaseSkipped = Looking seat v × HasPage seat v
-  CleanerHolds seat v cleaner_step.LoadFrame = Looking seat v × HasPage seat v × (v.newest ≡ (page_words_at m.page_words v.page).newest) × (v.newest ≤ v.flushed) × (v.kept ≡ take (length v.kept) (frame_bytes (page_words_at m.page_words v.page).frame)) × (length v.kept < FRAME_CELLS) × (length v.kept % WORD_LANES ≡ 0)
+  CleanerHolds seat v cleaner_step.LoadFrame = Looking seat v × HasPage seat v × (v.newest ≡ (page_words_at m.page_words v.page).newest) × (v.newest ≤ v.flushed) × (v.kept ≡ framed_page (length v.kept) (page_words_at m.page_words v.page).frame) × (length v.kept < c.page_size) × (length v.kept % WORD_LANES ≡ 0)
   CleanerHolds seat v cleaner_step.WriteBatch = AreBatch seat v 0 × (0 < length v.batch)
   CleanerHolds seat v cleaner_step.RemoveFromList = Unlisting seat v Agree × ((x : BatchPage) → get_elem? v.batch 0 ≡ some x → 0 < (page_words_at m.page_words x.page).oldest)
   CleanerHolds seat v cleaner_step.ClearOldest = Unlisting seat v InWordOnly × HasList seat (first_of_batch v % FLUSH_LISTS)
@@ -222,6 +222,7 @@ module _ (E : DataSide) (c : Setup) (m : SharedWords) (log : List Entry) (h : Pa
   pub record CleanerFits (seat : ℕ) (v : CleanerState) : Type 0 where
     pub alone : seat ≡ c.cleaner
     pub pages : v.pages ≡ c.pages
+    pub page_size : v.page_size ≡ c.page_size
     pub page : v.page < c.pages
     pub flushed : v.flushed ≤ m.flushed
     pub sound : runs v.step ≡ true → (E.failed d ≡ false) × (h.unfinished ≡ [])

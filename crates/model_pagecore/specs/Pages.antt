@@ -2,7 +2,8 @@
 use Rattle.std.specs.Prelude.{Bool, List, [], cond, false, nat_le, slice_set, take, true, ℕ, ◌<◌, ◌==◌, ◌∷◌, ◌≡◌, ◌≤◌, ◌⊎◌}
 use lib.ListN.{get_elem?}
 use mathlib.Core.Option.{some}
-use Rattle.model_core.specs.{CellWrite, end_of, Entry, frame_bytes, KeptPage, lsn, PageChange, PageWords}
+use Rattle.model_core.specs.{CellWrite, end_of, Entry, framed_page, KeptPage, lsn, PageChange, PageWords}
+use Rattle.model_core.specs.Setup.{Setup}
 
 -- where a group starts and ends
 abbrev pub start_lsn : Entry → ℕ
@@ -11,9 +12,9 @@ start_lsn e = lsn e.start
 abbrev pub end_lsn : Entry → ℕ
 end_lsn e = lsn (end_of e)
 
-abbrev pub touches : ℕ → List PageChange → Bool
-touches p [] = false
-touches p (c ∷ cs) = cond (c.page == p) true (touches p cs)
+abbrev pub is_changed_page : ℕ → List PageChange → Bool
+is_changed_page p [] = false
+is_changed_page p (c ∷ cs) = cond (c.page == p) true (is_changed_page p cs)
 
 abbrev pub cells_on : ℕ → List PageChange → List CellWrite
 cells_on p [] = []
@@ -36,17 +37,17 @@ applied_upto p q (e ∷ es) b = applied_upto p q es (cond (nat_le (end_lsn e) q)
 -- the end of the last group on p, else n
 abbrev pub last_end : ℕ → List Entry → ℕ → ℕ
 last_end p [] n = n
-last_end p (e ∷ es) n = last_end p es (cond (touches p e.changes) (end_lsn e) n)
+last_end p (e ∷ es) n = last_end p es (cond (is_changed_page p e.changes) (end_lsn e) n)
 
 abbrev pub StartsAt : ℕ → List Entry → ℕ → Type 0
-StartsAt p log a = (i : ℕ) × (e : Entry) × (get_elem? log i ≡ some e) × (touches p e.changes ≡ true) × (start_lsn e ≡ a)
+StartsAt p log a = (i : ℕ) × (e : Entry) × (get_elem? log i ≡ some e) × (is_changed_page p e.changes ≡ true) × (start_lsn e ≡ a)
 
 abbrev pub EndsAt : ℕ → List Entry → ℕ → Type 0
-EndsAt p log q = (i : ℕ) × (e : Entry) × (get_elem? log i ≡ some e) × (touches p e.changes ≡ true) × (end_lsn e ≡ q)
+EndsAt p log q = (i : ℕ) × (e : Entry) × (get_elem? log i ≡ some e) × (is_changed_page p e.changes ≡ true) × (end_lsn e ≡ q)
 
 -- a page that is kept with the lsn q lacks nothing that starts below x
 abbrev pub Passed : ℕ → List Entry → ℕ → ℕ → Type 0
-Passed p log q x = (i : ℕ) (e : Entry) → get_elem? log i ≡ some e → touches p e.changes ≡ true → start_lsn e < x → end_lsn e ≤ q
+Passed p log q x = (i : ℕ) (e : Entry) → get_elem? log i ≡ some e → is_changed_page p e.changes ≡ true → start_lsn e < x → end_lsn e ≤ q
 
 -- the groups follow each other from an lsn to another
 pub record Laid (from top : ℕ) (log : List Entry) : Type 0 where
@@ -100,19 +101,19 @@ ListingIs k o l InListOnly = (o ≡ 0) × (l ≡ k.from)
 ListingIs k o l IsListed = (o ≡ l) × (0 < l) × (l ≤ k.from)
 ListingIs k o l InWordOnly = (0 < o) × (l ≡ 0)
 
-pub record PageIs (p : ℕ) (b : List ℕ) (log : List Entry) (k : GroupInHand) (w : PageWords) (l : ℕ) (f : FrameStage) (n : NewestStage) (t : ListingStage) : Type 0 where
-  pub frame : FrameIs p b log k (frame_bytes w.frame) f
+pub record PageIs (c : Setup) (p : ℕ) (log : List Entry) (k : GroupInHand) (w : PageWords) (l : ℕ) (f : FrameStage) (n : NewestStage) (t : ListingStage) : Type 0 where
+  pub frame : FrameIs p (c.opened p).bytes log k (framed_page c.page_size w.frame) f
   pub newest : NewestIs p log k w.newest n
   pub listing : ListingIs k w.oldest l t
 
 -- what holds of each page: `l` is what stands in its list, `k` what a store read now would keep
-pub record OnePage (p from : ℕ) (origin : KeptPage) (log : List Entry) (closed : ℕ → Bool) (given stable : ℕ) (w : PageWords) (l : ℕ) (k : KeptPage) : Type 0 where
+pub record OnePage (c : Setup) (p : ℕ) (log : List Entry) (closed : ℕ → Bool) (given stable : ℕ) (w : PageWords) (l : ℕ) (k : KeptPage) : Type 0 where
   pub latch : w.latch ≤ 1
-  pub free : w.latch ≡ 0 → PageIs p origin.bytes log none_in_hand w l All Last Agree
+  pub free : w.latch ≡ 0 → PageIs c p log none_in_hand w l All Last Agree
   pub oldest : 0 < w.oldest → StartsAt p log w.oldest
-  pub fold : k.bytes ≡ applied_upto p k.lsn log origin.bytes
-  pub ends : (k.lsn ≡ origin.lsn) ⊎ EndsAt p log k.lsn
-  pub early : origin.lsn ≤ from
+  pub fold : k.bytes ≡ applied_upto p k.lsn log (c.opened p).bytes
+  pub ends : (k.lsn ≡ (c.opened p).lsn) ⊎ EndsAt p log k.lsn
+  pub early : (c.opened p).lsn ≤ lsn c.base
   pub behind : k.lsn ≤ stable
-  pub change : (i : ℕ) (e : Entry) → get_elem? log i ≡ some e → touches p e.changes ≡ true → closed e.start ≡ true → ((0 < l) × (l ≤ start_lsn e)) ⊎ (end_lsn e ≤ k.lsn)
+  pub change : (i : ℕ) (e : Entry) → get_elem? log i ≡ some e → is_changed_page p e.changes ≡ true → closed e.start ≡ true → ((0 < l) × (l ≤ start_lsn e)) ⊎ (end_lsn e ≤ k.lsn)
   pub passed : Passed p log k.lsn given

@@ -20,7 +20,7 @@ use Rattle.model_logcore.specs.Ready.{Ready}
 use Rattle.model_pagecore.specs.DataLaws.{DataLaws}
 use Rattle.model_pagecore.specs.{PageGhost}
 use Rattle.model_running.proofs.CallConditions.{all_written, can_checkpoint, can_write_batch}
-use Rattle.model_running.specs.DataReady.{DataReady}
+use Rattle.model_running.specs.DataReady.{BatchReady}
 use Rattle.model_running.specs.RunningStore.{BothHalves}
 use Rattle.model_core.specs.declared.words.Word.TheVariants as word
 use Rattle.model_core.specs.declared.ops.Op.TheVariants as op
@@ -37,39 +37,39 @@ module _ (D : LogSide) (L : LogLaws D) (E : DataSide) (EL : DataLaws E) (c : Set
   pub log_ready : (a : Actor) → get_elem? actors seat ≡ some a → Ready D c g p a (next a)
   log_ready a at = ready D L c spare m g p actors seat both.logged a at (λ t is step. can_checkpoint D L E EL c spare m g h ls p d actors seat both t (at ∙ ap some is) step)
 
-  cleaner_ready : (v : CleanerState) → get_elem? actors seat ≡ some (actor.Cleaner v) → (f : CleanerStep) → v.step ≡ f → DataReady E c.pages h.kept_page (Batch v.batch) d (cleaner_op v f)
+  cleaner_ready : (v : CleanerState) → get_elem? actors seat ≡ some (actor.Cleaner v) → (f : CleanerStep) → v.step ≡ f → BatchReady E c h.kept_page (Batch v.batch) d (cleaner_op v f)
   cleaner_ready v at cleaner_step.WriteBatch is = (
     all_written D L E EL c spare m g h ls p d actors seat both v at is,
     can_write_batch D L E EL c spare m g h ls p d actors seat both v at is,
   )
   cleaner_ready v at _ is = tt
 
-  checking : (l : Lent) (b : Bool) (o : Op) → DataReady E c.pages h.kept_page l d o → DataReady E c.pages h.kept_page l d (cond b (op.Load word.Failed) o)
+  checking : (l : Lent) (b : Bool) (o : Op) → BatchReady E c h.kept_page l d o → BatchReady E c h.kept_page l d (cond b (op.Load word.Failed) o)
   checking l true o ready = tt
   checking l false o ready = ready
 
-  user_data : (l : Lent) (u : UserState) (f : UserStep) → DataReady E c.pages h.kept_page l d (user_op u f)
+  user_data : (l : Lent) (u : UserState) (f : UserStep) → BatchReady E c h.kept_page l d (user_op u f)
   user_data l u (user_step.AdvanceWritten advance_step.LoadTail) = tt
   user_data l u (user_step.AdvanceClosed advance_step.LoadTail) = tt
   user_data l u _ = tt
 
-  writer_data : (l : Lent) (s : WriterState) (f : WriterStep) → DataReady E c.pages h.kept_page l d (writer_op s f)
+  writer_data : (l : Lent) (s : WriterState) (f : WriterStep) → BatchReady E c h.kept_page l d (writer_op s f)
   writer_data l s (writer_step.Advance advance_step.LoadTail) = tt
   writer_data l s _ = tt
 
-  flusher_data : (l : Lent) (t : FlusherState) (f : FlusherStep) → DataReady E c.pages h.kept_page l d (flusher_op t f)
+  flusher_data : (l : Lent) (t : FlusherState) (f : FlusherStep) → BatchReady E c h.kept_page l d (flusher_op t f)
   flusher_data l t flusher_step.LoadWrite = tt
   flusher_data l t _ = tt
 
-  closer_data : (l : Lent) (t : CloserState) (f : CloserStep) → DataReady E c.pages h.kept_page l d (closer_op t f)
+  closer_data : (l : Lent) (t : CloserState) (f : CloserStep) → BatchReady E c h.kept_page l d (closer_op t f)
   closer_data l t (closer_step.Advance advance_step.LoadTail) = tt
   closer_data l t _ = tt
 
-  checkpointer_data : (l : Lent) (t : CheckpointerState) (f : CheckpointerStep) → DataReady E c.pages h.kept_page l d (checkpointer_op t f)
+  checkpointer_data : (l : Lent) (t : CheckpointerState) (f : CheckpointerStep) → BatchReady E c h.kept_page l d (checkpointer_op t f)
   checkpointer_data l t checkpointer_step.LoadCtail = tt
   checkpointer_data l t _ = tt
 
-  pub data_ready : (a : Actor) → get_elem? actors seat ≡ some a → DataReady E c.pages h.kept_page (lent a) d (next a)
+  pub data_ready : (a : Actor) → get_elem? actors seat ≡ some a → BatchReady E c h.kept_page (lent a) d (next a)
   data_ready (actor.User u) at = checking Nothing u.checks (user_op u u.step) (user_data Nothing u u.step)
   data_ready (actor.Writer s) at = checking (Blocks s.kept s.firsts) s.checks (writer_op s s.step) (writer_data (Blocks s.kept s.firsts) s s.step)
   data_ready (actor.Flusher t) at = checking Nothing t.checks (flusher_op t t.step) (flusher_data Nothing t t.step)

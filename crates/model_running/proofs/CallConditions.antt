@@ -15,7 +15,7 @@ use Rattle.model_pagecore.proofs.BatchSteps.{can_batch}
 use Rattle.model_pagecore.proofs.PageHistory.{laid}
 use Rattle.model_pagecore.proofs.CheckpointSteps.{all_passed}
 use Rattle.model_pagecore.proofs.PageStep.{cells_mine}
-use Rattle.model_pagecore.specs.{AfterBatch, CanBatch, CheckpointerPageFits, CheckpointerPagesAt, CleanerFits, Laid, PageGhost, runs, touches}
+use Rattle.model_pagecore.specs.{AfterBatch, CanBatch, CheckpointerPageFits, CheckpointerPagesAt, CleanerFits, Laid, PageGhost, is_changed_page, runs}
 use Rattle.model_pagecore.specs.DataLaws.{DataLaws}
 use Rattle.model_pagecore.specs.PageHalf.{PageHalf}
 use Rattle.model_running.specs.RunningStore.{BothHalves}
@@ -45,7 +45,7 @@ module _ (D : LogSide) (L : LogLaws D) (E : DataSide) (EL : DataLaws E) (c : Set
   page_fits t at = B.each seat (actor.Checkpointer t) at
 
   -- where pages are in use each group touches one of the store's
-  pub every : c.log_only ≡ false → (i : ℕ) (y : Entry) → get_elem? g.log i ≡ some y → (k : ℕ) × (k < c.pages) × (touches k y.changes ≡ true)
+  pub every : c.log_only ≡ false → (i : ℕ) (y : Entry) → get_elem? g.log i ≡ some y → (k : ℕ) × (k < c.pages) × (is_changed_page k y.changes ≡ true)
   every w i y is =
       let T = M.global.tiled.lines i y is in
       let some_change : 0 < length y.changes = subst (λ (cs : List PageChange). 0 < length cs) (sym T.2) (both.script.some_page w y.user y.k T.0) in
@@ -70,10 +70,10 @@ module _ (D : LogSide) (L : LogLaws D) (E : DataSide) (EL : DataLaws E) (c : Set
       let XF : CleanerFits E c m g.log h ls d seat x = B.each seat (actor.Cleaner x) at in
       subst (λ (l : List BatchPage). E.Holds h.kept_page l d) (XF.sound (ap runs is)).1 B.paged.stored
 
-  pub can_write_batch : (x : CleanerState) → get_elem? actors seat ≡ some (actor.Cleaner x) → x.step ≡ cleaner_step.WriteBatch → CanBatch E c.pages h.kept_page x.batch d
-  can_write_batch x at is = can_batch E c g.seat_of m g.log (D.stable p) h ls d actors seat B mates W x at is Z.frames small_flushed
+  pub can_write_batch : (x : CleanerState) → get_elem? actors seat ≡ some (actor.Cleaner x) → x.step ≡ cleaner_step.WriteBatch → CanBatch E c h.kept_page x.batch d
+  can_write_batch x at is = can_batch E c g.seat_of m g.log (D.stable p) h ls d actors seat B mates W x at is both.script.page_size Z.frames small_flushed
 
   -- what writing the cleaner's batch leaves
   pub after_batch : (x : CleanerState) → get_elem? actors seat ≡ some (actor.Cleaner x) → x.step ≡ cleaner_step.WriteBatch → (code : ℕ) (e : E.Part) → E.Batched x.batch code d e → AfterBatch E h.kept_page x.batch code d e
   after_batch x at is code e v =
-      EL.batches c.pages h.kept_page x.batch code d e (all_written x at is) (can_write_batch x at is) v
+      EL.batches c h.kept_page x.batch code d e (all_written x at is) (can_write_batch x at is) v

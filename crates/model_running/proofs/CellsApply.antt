@@ -3,7 +3,8 @@ use Rattle.std.proofs.Common.{Bool, List, [], ap, arith, cond, drop, eq-eqb, eqb
 use Rattle.std.proofs.Common.{length-drop, length-take, ne_eqb}
 use Rattle.std.proofs.lemmas.List.{ext_get_or, get_or-drop, get_or-take, length-set}
 use native.Mathlib.Decide.{ℕ_discrete}
-use Rattle.model_base.specs.{IsWithinLimits}
+use Rattle.model_base.proofs.ShapeLimits.{whole_sectors}
+use Rattle.model_base.specs.{frame_length, IsWithinLimits, user_length}
 use Rattle.model_base.specs.declared.shape.Shape.{Shape}
 use Rattle.model_core.proofs.Bytewise.{decided, user_long}
 use Rattle.model_core.proofs.Collected.{collected_none}
@@ -20,7 +21,7 @@ use Rattle.model_store.specs.Apply as apply
 -- THE CHANGE OF ONE PAGE, of those that a group makes.
 
 abbrev changed : ℕ → List PageChange → Bool
-changed p cs = pages_of.touches p cs
+changed p cs = pages_of.is_changed_page p cs
 
 cells_front : (p : ℕ) (xs ys : List PageChange) → changed p ys ≡ false → ◌≡◌ {A = List CellWrite} (cells_on p (xs ++ ys)) (cells_on p xs)
 cells_front p [] ys none = none_on p ys none
@@ -47,57 +48,57 @@ changed_behind p (c ∷ cs) ys none = by (eqb c.page p) none (λ z. changed_behi
     by false none more = more none
 
 -- of page p they change the cells that the group decides, if it touches the page
-pub record IsChangeOn (p : ℕ) (group : List Rec) (cs : List PageChange) : Type 0 where
-  pub touched : pages_of.touches p cs ≡ apply.touches p group
-  pub cells : ◌≡◌ {A = List CellWrite} (cells_on p cs) (cond (apply.touches p group) (changed_cells p group) [])
+pub record IsChangeOn (shape : Shape) (p : ℕ) (group : List Rec) (cs : List PageChange) : Type 0 where
+  pub touched : pages_of.is_changed_page p cs ≡ apply.touches p group
+  pub cells : ◌≡◌ {A = List CellWrite} (cells_on p cs) (cond (apply.touches p group) (changed_cells shape p group) [])
 
 -- of one page
-abbrev only : Bool → ℕ → List Rec → List PageChange
-only b k group = cond b (record { page = k; cells = changed_cells k group } ∷ []) []
+abbrev only : Shape → Bool → ℕ → List Rec → List PageChange
+only shape b k group = cond b (record { page = k; cells = changed_cells shape k group } ∷ []) []
 
-own_touched : (group : List Rec) (p : ℕ) (b : Bool) → changed p (only b p group) ≡ b
-own_touched group p true = ap (λ (z : Bool). cond z true false) (eq-eqb p p refl)
-own_touched group p false = refl
+own_touched : (shape : Shape) (group : List Rec) (p : ℕ) (b : Bool) → changed p (only shape b p group) ≡ b
+own_touched shape group p true = ap (λ (z : Bool). cond z true false) (eq-eqb p p refl)
+own_touched shape group p false = refl
 
-own_cells : (group : List Rec) (p : ℕ) (b : Bool) → ◌≡◌ {A = List CellWrite} (cells_on p (only b p group)) (cond b (changed_cells p group) [])
-own_cells group p true = ap (λ (z : Bool). cond z (changed_cells p group) []) (eq-eqb p p refl)
-own_cells group p false = refl
+own_cells : (shape : Shape) (group : List Rec) (p : ℕ) (b : Bool) → ◌≡◌ {A = List CellWrite} (cells_on p (only shape b p group)) (cond b (changed_cells shape p group) [])
+own_cells shape group p true = ap (λ (z : Bool). cond z (changed_cells shape p group) []) (eq-eqb p p refl)
+own_cells shape group p false = refl
 
-other_untouched : (group : List Rec) (k p : ℕ) → k ≢ p → (b : Bool) → changed p (only b k group) ≡ false
-other_untouched group k p other true = ap (λ (z : Bool). cond z true false) (ne_eqb k p other)
-other_untouched group k p other false = refl
+other_untouched : (shape : Shape) (group : List Rec) (k p : ℕ) → k ≢ p → (b : Bool) → changed p (only shape b k group) ≡ false
+other_untouched shape group k p other true = ap (λ (z : Bool). cond z true false) (ne_eqb k p other)
+other_untouched shape group k p other false = refl
 
-next_collected : (group : List Rec) (n : ℕ) → ◌≡◌ {A = List PageChange} (collected (change_on group) (suc n)) (collected (change_on group) n ++ change_on group n)
+next_collected : (shape : Shape) (group : List Rec) (n : ℕ) → ◌≡◌ {A = List PageChange} (collected (change_on shape group) (suc n)) (collected (change_on shape group) n ++ change_on shape group n)
 unfolding collected
-next_collected group n = refl
+next_collected shape group n = refl
 
-untouched_below : (group : List Rec) (p n : ℕ) → n ≤ p → changed p (collected (change_on group) n) ≡ false
-untouched_below group p zero low = ap (changed p) (collected_none (change_on group))
-untouched_below group p (suc n) low =
-    let rest = untouched_below group p n (omega arith) in
-    let last : changed p (change_on group n) ≡ false = other_untouched group n p (λ e. absurd (omega arith)) (apply.touches n group) in
-    ap (changed p) (next_collected group n) ∙ changed_front p (collected (change_on group) n) (change_on group n) last ∙ rest
+untouched_below : (shape : Shape) (group : List Rec) (p n : ℕ) → n ≤ p → changed p (collected (change_on shape group) n) ≡ false
+untouched_below shape group p zero low = ap (changed p) (collected_none (change_on shape group))
+untouched_below shape group p (suc n) low =
+    let rest = untouched_below shape group p n (omega arith) in
+    let last : changed p (change_on shape group n) ≡ false = other_untouched shape group n p (λ e. absurd (omega arith)) (apply.touches n group) in
+    ap (changed p) (next_collected shape group n) ∙ changed_front p (collected (change_on shape group) n) (change_on shape group n) last ∙ rest
 
-pub change_of_page : (group : List Rec) (p n : ℕ) → p < n → IsChangeOn p group (collected (change_on group) n)
-change_of_page group p zero low = absurd (omega arith)
-change_of_page group p (suc n) low = elim (ℕ_discrete n p) [
-  | yes e ↦ here (untouched_below group p n (omega arith)) e
-  | no other ↦ before (change_of_page group p n (omega arith)) (other_untouched group n p other (apply.touches n group))
+pub change_of_page : (shape : Shape) (group : List Rec) (p n : ℕ) → p < n → IsChangeOn shape p group (collected (change_on shape group) n)
+change_of_page shape group p zero low = absurd (omega arith)
+change_of_page shape group p (suc n) low = elim (ℕ_discrete n p) [
+  | yes e ↦ here (untouched_below shape group p n (omega arith)) e
+  | no other ↦ before (change_of_page shape group p n (omega arith)) (other_untouched shape group n p other (apply.touches n group))
 ]
   where
     front : List PageChange
-    front = collected (change_on group) n
+    front = collected (change_on shape group) n
 
-    here : changed p front ≡ false → n ≡ p → IsChangeOn p group (collected (change_on group) (suc n))
+    here : changed p front ≡ false → n ≡ p → IsChangeOn shape p group (collected (change_on shape group) (suc n))
     here none e = record {
-      touched = ap (changed p) (next_collected group n) ∙ changed_behind p front (change_on group n) none ∙ ap (λ (k : ℕ). changed p (change_on group k)) e ∙ own_touched group p (apply.touches p group);
-      cells = ap (cells_on p) (next_collected group n) ∙ cells_behind p front (change_on group n) none ∙ ap (λ (k : ℕ). cells_on p (change_on group k)) e ∙ own_cells group p (apply.touches p group);
+      touched = ap (changed p) (next_collected shape group n) ∙ changed_behind p front (change_on shape group n) none ∙ ap (λ (k : ℕ). changed p (change_on shape group k)) e ∙ own_touched shape group p (apply.touches p group);
+      cells = ap (cells_on p) (next_collected shape group n) ∙ cells_behind p front (change_on shape group n) none ∙ ap (λ (k : ℕ). cells_on p (change_on shape group k)) e ∙ own_cells shape group p (apply.touches p group);
     }
 
-    before : IsChangeOn p group front → changed p (change_on group n) ≡ false → IsChangeOn p group (collected (change_on group) (suc n))
+    before : IsChangeOn shape p group front → changed p (change_on shape group n) ≡ false → IsChangeOn shape p group (collected (change_on shape group) (suc n))
     before is none = record {
-      touched = ap (changed p) (next_collected group n) ∙ changed_front p front (change_on group n) none ∙ is.touched;
-      cells = ap (cells_on p) (next_collected group n) ∙ cells_front p front (change_on group n) none ∙ is.cells;
+      touched = ap (changed p) (next_collected shape group n) ∙ changed_front p front (change_on shape group n) none ∙ is.touched;
+      cells = ap (cells_on p) (next_collected shape group n) ∙ cells_front p front (change_on shape group n) none ∙ is.cells;
     }
 
 -- WHAT STANDS IN A CELL, once the cells of a page are stored.
@@ -157,38 +158,46 @@ module _ (low high : List ℕ) where
 
 -- THE USER BYTES OF A PAGE.
 
-pub user_length : (b : List ℕ) → length b ≡ 4096 → length (user_part b) ≡ 4050
-user_length b long = let d = length-drop 38 b in length-take (length b - 8 - 38) (drop 38 b) ∙ (omega arith)
+pub user_part_long : (shape : Shape) (b : List ℕ) → length b ≡ shape.page_size → length (user_part b) ≡ user_length shape
+user_part_long shape b long = omega (arith, long, length-drop 38 b, length-take (length b - 8 - 38) (drop 38 b))
 
-user_at : (b : List ℕ) (j : ℕ) → length b ≡ 4096 → j < 4050 → byte (user_part b) j ≡ byte b (38 + j)
-user_at b j long below = get_or-take (length b - 8 - 38) (drop 38 b) j 0 (omega arith) ∙ get_or-drop 38 b j 0
+user_at : (b : List ℕ) (j : ℕ) → j < length b - frame_length → byte (user_part b) j ≡ byte b (38 + j)
+user_at b j below = get_or-take (length b - 8 - 38) (drop 38 b) j 0 (omega arith) ∙ get_or-drop 38 b j 0
 
 -- a page with the changed cells of a group is the page with the group applied
-pub cells_apply : (shape : Shape) (group : List Rec) (pages p : ℕ) (b : List ℕ) → IsWithinLimits shape → GroupFits shape group → p < pages → length b ≡ 4096
-    → user_part (write_cells (cells_on p (changes_of pages group)) b) ≡ cond (apply.touches p group) (user_after p group (user_part b)) (user_part b)
-cells_apply shape group pages p b limits fits there long =
-    ap (λ (z : List CellWrite). user_part (write_cells z b)) (change_of_page group p pages there).cells ∙ by (apply.touches p group)
+pub cells_apply : (shape : Shape) (group : List Rec) (p : ℕ) (b : List ℕ) → IsWithinLimits shape → GroupFits shape group
+    → p < shape.pages → length b ≡ shape.page_size → user_part (write_cells (cells_on p (changes_of shape group)) b)
+    ≡ cond (apply.touches p group) (user_after p group (user_part b)) (user_part b)
+cells_apply shape group p b limits fits there long =
+    ap (λ (z : List CellWrite). user_part (write_cells z b)) (change_of_page shape group p shape.pages there).cells ∙ by (apply.touches p group)
   where
+    n : ℕ
+    n = user_length shape
+
     low : List ℕ
-    low = after_from 0 p group
+    low = after_from shape 0 p group
 
     high : List ℕ
-    high = after_from 255 p group
+    high = after_from shape 255 p group
 
     new : List ℕ
-    new = write_cells (cells low high 4050) b
+    new = write_cells (cells low high n) b
 
-    new_long : length new ≡ 4096
-    new_long = writes_long (cells low high 4050) b ∙ long
+    new_long : length new ≡ shape.page_size
+    new_long = writes_long (cells low high n) b ∙ long
+
+    room : 38 + n ≤ length b
+    room = let s = (whole_sectors shape limits).least in omega arith
 
     each : (j : ℕ) → j < length (user_part new) → byte (user_part new) j ≡ byte (user_after p group (user_part b)) j
     each j below =
-        let l = user_length new new_long in
-        let m = user_length b long in
-        user_at new j new_long (omega arith) ∙ cell_stored low high 4050 j b (omega arith) (omega arith)
-        ∙ ap (λ (k : ℕ). cond (writes p group j) (value_at p group j) k) (sym (user_at b j long (omega arith)))
-        ∙ sym (decided shape group p j (user_part b) limits fits m (omega arith))
+        let l = user_part_long shape new new_long in
+        let m = user_part_long shape b long in
+        let here : j < n = omega arith in
+        user_at new j (omega (arith, here, new_long)) ∙ cell_stored low high n j b here room
+        ∙ ap (λ (k : ℕ). cond (writes shape p group j) (value_at shape p group j) k) (sym (user_at b j (omega (arith, here, long))))
+        ∙ sym (decided shape group p j (user_part b) fits m here)
 
-    by : (t : Bool) → user_part (write_cells (cond t (changed_cells p group) []) b) ≡ cond t (user_after p group (user_part b)) (user_part b)
-    by true = ext_get_or 0 (user_part new) (user_after p group (user_part b)) (user_length new new_long ∙ sym (user_long shape group p (user_part b) limits fits (user_length b long))) each
+    by : (t : Bool) → user_part (write_cells (cond t (changed_cells shape p group) []) b) ≡ cond t (user_after p group (user_part b)) (user_part b)
+    by true = ext_get_or 0 (user_part new) (user_after p group (user_part b)) (user_part_long shape new new_long ∙ sym (user_long shape group p (user_part b) fits (user_part_long shape b long))) each
     by false = refl

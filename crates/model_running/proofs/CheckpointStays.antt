@@ -3,7 +3,7 @@ use Rattle.std.proofs.Common.{Bool, List, cond, eqb, false, refl, true, ℕ, ◌
 use Rattle.std.specs.Prelude.{slice_index, slice_set}
 use lib.ListN.{get_elem?}
 use mathlib.Core.Option.{some}
-use Rattle.model_core.specs.{Actor, cleaner_op, CleanerState, closer_op, CloserState, first_of_batch, flusher_op, FlusherState, Listed, next, page_of, page_words_at, shared_left, SharedWords, user_op, UserState, with_page_words, writer_op, WriterState, Advance, advance_op, read, tail_word, wrote}
+use Rattle.model_core.specs.{Actor, cleaner_op, CleanerState, closer_op, CloserState, first_of_batch, flusher_op, FlusherState, Listed, next, current_page, page_words_at, shared_left, SharedWords, user_op, UserState, with_page_words, writer_op, WriterState, Advance, advance_op, read, tail_word, wrote}
 use Rattle.model_core.specs.DataSide.{DataSide}
 use Rattle.model_core.specs.LogSide.{LogSide}
 use Rattle.model_core.specs.Setup.{Setup}
@@ -44,8 +44,8 @@ module _ (m : SharedWords) where
   user_stays : (u : UserState) (f : UserStep) → Stays (shared_left m (user_op u f))
   user_stays u (user_step.AdvanceWritten advance_step.TakeTail) = taken link_buffer.Written u.advance
   user_stays u (user_step.AdvanceClosed advance_step.TakeTail) = taken link_buffer.Closed u.advance
-  user_stays u user_step.TakeLatch = let w = page_words_at m.page_words (page_of u) in either (eqb w.latch 0) (with_page_words m (page_of u) (record w { latch = 1 })) refl
-  user_stays u user_step.AddToList = let i : ℕ = page_of u % 4 in either (eqb (slice_index m.lists i) 0) (record m { lists = slice_set m.lists i 1 }) refl
+  user_stays u user_step.TakeLatch = let w = page_words_at m.page_words (current_page u) in either (eqb w.latch 0) (with_page_words m (current_page u) (record w { latch = 1 })) refl
+  user_stays u user_step.AddToList = let i : ℕ = current_page u % 4 in either (eqb (slice_index m.lists i) 0) (record m { lists = slice_set m.lists i 1 }) refl
   user_stays u _ = refl
 
   writer_stays : (s : WriterState) (f : WriterStep) → Stays (shared_left m (writer_op s f))

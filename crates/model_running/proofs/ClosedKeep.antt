@@ -7,15 +7,17 @@ use native.Mathlib.Decide.{dec_le}
 use Rattle.model_core.proofs.Groups.{tiles_at}
 use Rattle.model_core.proofs.Lists.{at_set, at_snoc}
 use Rattle.model_core.proofs.Lsns.{lsn_less, lsn_same, ring_same}
-use Rattle.model_core.specs.{Actor, Entry, entry, group_end, heard, line, Listed, log_left, lsn, next, old_of, phase_log, shared_left, SharedWords, took, user_checked, user_op, user_took, UserState}
+use Rattle.model_core.specs.{Actor, checked_of, entry, Entry, group_end, heard, line, Listed, log_left, lsn, next, old_of, phase_log, shared_left, SharedWords, took, user_op, user_program, user_took, UserState}
 use Rattle.model_core.specs.DataSide.{DataSide}
 use Rattle.model_core.specs.LogSide.{LogSide}
 use Rattle.model_core.specs.Setup.{Setup}
 use Rattle.model_core.specs.declared.ops.Answer.{Answer}
 use Rattle.model_core.specs.declared.steps.UserStep.{UserStep}
+use Rattle.model_core.specs.declared.limits.TheConstants.{CLOSED_LINKS}
 use Rattle.model_logcore.specs.{LogGhost, UserAt, UserFits}
 use Rattle.model_pagecore.specs.{ClosedLinks, Grows, PageGhost, UserPageFits, UserPagesAt}
-use Rattle.model_running.proofs.SeatsKeep.{SameActor, took_keeps}
+use Rattle.model_core.proofs.Later.{took_later, was_user}
+use Rattle.model_core.specs.Later.{IsSameActor}
 use Rattle.model_running.proofs.UserCloses.{Needs, closes, closes_checked}
 use Rattle.model_running.specs.RunningStore.{BothHalves}
 use Rattle.model_running.specs.UsersClosed.{HandIsClosed, UserClosed, UsersClosed}
@@ -50,11 +52,11 @@ module _ (D : LogSide) (E : DataSide) (c : Setup) (spare : ℕ) (m : SharedWords
     before = both.closed seat u at
 
     -- its link is stored, so its group is closed: the link in that slot is its own
-    linked : UserAt D c m g p seat u user_step.StoreClosedLink → UserPagesAt E c m g.log h ls d seat u user_step.StoreClosedLink → LinksAfter g.log (record m { clinks = slice_set m.clinks (lsn u.start % 16384) (lsn (group_end u) - lsn u.start) }) → k.closed u.start ≡ true
+    linked : UserAt D c m g p seat u user_step.StoreClosedLink → UserPagesAt E c m g.log h ls d seat u user_step.StoreClosedLink → LinksAfter g.log (record m { clinks = slice_set m.clinks (lsn u.start % CLOSED_LINKS) (lsn (group_end u) - lsn u.start) }) → k.closed u.start ≡ true
     linked l o C = elim (dec_le k.tail (lsn u.start)) [
       | no below ↦ C.below l.2.0 (entry u.user u.k u.start (line u)) l.2.1 (omega arith)
       | yes from ↦ (
-          let i : ℕ = lsn u.start % 16384 in
+          let i : ℕ = lsn u.start % CLOSED_LINKS in
           let n : ℕ = lsn (group_end u) - lsn u.start in
           let lies = (tiles_at g.log c.base m.sn l.2.0 (entry u.user u.k u.start (line u)) both.logged.global.tiled.tiles l.2.1).2 in
           let some_bytes = lsn_less u.start (group_end u) (omega arith) in
@@ -62,7 +64,7 @@ module _ (D : LogSide) (E : DataSide) (c : Setup) (spare : ℕ) (m : SharedWords
           let own = C.links_are i (omega arith) (omega arith) in
           let since = own.since in let order = C.order in let near = o.1 in
           let window = C.window own.at own.group own.is own.done in
-          let same : lsn u.start ≡ lsn own.group.start = ring_same (lsn u.start) (lsn own.group.start) m.ctail 16384 (omega arith) (omega arith) near window own.slot in
+          let same : lsn u.start ≡ lsn own.group.start = ring_same (lsn u.start) (lsn own.group.start) m.ctail CLOSED_LINKS (omega arith) (omega arith) near window own.slot in
           subst (λ (x : ℕ). k.closed x ≡ true) (sym (lsn_same u.start own.group.start same)) own.done)
     ]
 
@@ -93,7 +95,7 @@ module _ (D : LogSide) (E : DataSide) (c : Setup) (spare : ℕ) (m : SharedWords
     stepped n f is l cl = stays n f is (λ z. absurd (cc)) l cl
 
     own_by : (b : Bool) (r : Answer) (v : UserState) → LinksAfter (cond b g.log (phase_log g.log m.sn u u.step)) (shared_left m (cond b (op.Load word.Failed) (user_op u u.step)))
-        → ◌≡◌ {A = Actor} (cond b (actor.User (user_checked u (old_of r))) (actor.User (user_took u (heard r) u.step))) (actor.User v) → UserClosed (cond b g.log (phase_log g.log m.sn u u.step)) k.closed v
+        → ◌≡◌ {A = Actor} (cond b (actor.User (checked_of user_program u (old_of r))) (actor.User (user_took u (heard r) u.step))) (actor.User v) → UserClosed (cond b g.log (phase_log g.log m.sn u u.step)) k.closed v
     own_by true r v C e = subst (UserClosed g.log k.closed) (ap (user_in v) e) (closes_checked c m.sn g.log g.place both.logged.global.tiled h.closed k.closed grows.closed u before (old_of r))
     own_by false r v C e = subst (UserClosed (phase_log g.log m.sn u u.step) k.closed) (ap (user_in v) e)
         (stepped (heard r) u.step refl mine.step (λ step. closing false u.step mine.step pages.step C refl step))
@@ -119,21 +121,13 @@ module _ (D : LogSide) (E : DataSide) (c : Setup) (spare : ℕ) (m : SharedWords
       let o : UserFits D c m g p j v = both.logged.each j (actor.User v) there in
       absurd (not (sym o.own_seat ∙ ap g.seat_of (sym own ∙ sym mine) ∙ f.own_seat)))
       (added u at u.checks u.step i e is))
-  another (actor.Writer s) at j v not there = other g.log j v there (λ i e is own. is)
-  another (actor.Flusher s) at j v not there = other g.log j v there (λ i e is own. is)
-  another (actor.Closer s) at j v not there = other g.log j v there (λ i e is own. is)
-  another (actor.Cleaner s) at j v not there = other g.log j v there (λ i e is own. is)
-  another (actor.Checkpointer s) at j v not there = other g.log j v there (λ i e is own. is)
-  another (actor.Joined s) at j v not there = other g.log j v there (λ i e is own. is)
+  another _ at j v not there = other g.log j v there (λ i e is own. is)
 
   own : (a : Actor) → get_elem? actors seat ≡ some a → (r : Answer) → LinksAfter (log_left g.log m.sn a) (shared_left m (next a)) → (v : UserState) → ◌≡◌ {A = Actor} (took a r) (actor.User v) → UserClosed (log_left g.log m.sn a) k.closed v
-  own (actor.User u) at r C v e = own_by u at u.checks r v C e
-  own (actor.Writer s) at r C v e = absurd (subst (SameActor (actor.Writer s)) e (took_keeps (actor.Writer s) r))
-  own (actor.Flusher s) at r C v e = absurd (subst (SameActor (actor.Flusher s)) e (took_keeps (actor.Flusher s) r))
-  own (actor.Closer s) at r C v e = absurd (subst (SameActor (actor.Closer s)) e (took_keeps (actor.Closer s) r))
-  own (actor.Cleaner s) at r C v e = absurd (subst (SameActor (actor.Cleaner s)) e (took_keeps (actor.Cleaner s) r))
-  own (actor.Checkpointer s) at r C v e = absurd (subst (SameActor (actor.Checkpointer s)) e (took_keeps (actor.Checkpointer s) r))
-  own (actor.Joined s) at r C v e = absurd (subst (SameActor (actor.Joined s)) e (took_keeps (actor.Joined s) r))
+  own a at r C v e =
+      let w = was_user a v (subst (IsSameActor a) e (took_later a r)) in
+      subst (λ (z : Actor). get_elem? actors seat ≡ some z → LinksAfter (log_left g.log m.sn z) (shared_left m (next z)) → ◌≡◌ {A = Actor} (took z r) (actor.User v) → UserClosed (log_left g.log m.sn z) k.closed v)
+      (sym w.1) (λ at_user C_user e_user. own_by w.0 at_user w.0.checks r v C_user e_user) at C e
 
   pub users_closed : (a : Actor) → get_elem? actors seat ≡ some a → (r : Answer) → LinksAfter (log_left g.log m.sn a) (shared_left m (next a)) → UsersClosed (log_left g.log m.sn a) k.closed (set actors seat (took a r))
   users_closed a at r C j v there = ⊎_elim (λ z. own a at r C v z.1) (λ z. another a at j v z.0 z.1) (at_set actors seat j (took a r) (actor.User v) there)

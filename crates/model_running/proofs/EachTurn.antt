@@ -1,7 +1,7 @@
 -- Each turn of any actor, whatever its device calls answer, leaves a running store.
 use Rattle.std.proofs.Common.{List, ap, arith, cond, eqb, refl, set, subst, suc, sym, zero, ℕ, ◌%◌, ◌+◌, ◌<◌, ◌∙◌, ◌≡◌}
 use Rattle.std.specs.Prelude.{slice_index}
-use Rattle.model_core.specs.{Actor, answer_of, Core, joined, list_word, Listed, lists_left, next, took, without, words_left}
+use Rattle.model_core.specs.{Actor, answer_of, appended, Core, list_word, Listed, lists_left, next, took, without, words_left}
 use Rattle.model_core.specs.DataSide.{DataSide}
 use Rattle.model_core.specs.LogSide.{LogSide}
 use Rattle.model_core.specs.Setup.{Setup}
@@ -20,7 +20,7 @@ use Rattle.model_core.specs.declared.words.Word.TheVariants as word
 
 -- the flush lists after an Op depend on the turn words of the lists alone
 lists_same : (ls : ℕ → List Listed) (first second : ℕ → ℕ) → ((i : ℕ) → i < 4 → first i ≡ second i) → (o : Op) → ◌≡◌ {A = ℕ → List Listed} (lists_left ls first o) (lists_left ls second o)
-lists_same ls first second same (op.TakeAdd p x) = ap {B = ℕ → List Listed} (λ (z : ℕ) (i : ℕ). cond (eqb i (p % 4)) (cond (eqb z 0) (joined (ls i) p x) (ls i)) (ls i)) (same (p % 4) (omega arith))
+lists_same ls first second same (op.TakeAdd p x) = ap {B = ℕ → List Listed} (λ (z : ℕ) (i : ℕ). cond (eqb i (p % 4)) (cond (eqb z 0) (appended (ls i) p x) (ls i)) (ls i)) (same (p % 4) (omega arith))
 lists_same ls first second same (op.TakeRemove p) = ap {B = ℕ → List Listed} (λ (z : ℕ) (i : ℕ). cond (eqb i (p % 4)) (cond (eqb z 0) (without p (ls i)) (ls i)) (ls i)) (same (p % 4) (omega arith))
 lists_same ls first second same _ = refl
 

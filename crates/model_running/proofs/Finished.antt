@@ -1,6 +1,7 @@
 -- What the log half of the invariant says of a run that has ended.
 use Rattle.std.proofs.Common.{List, Some, ap, arith, subst, sym, ℕ, ◌<◌, ◌≡◌, ◌≤◌, ◌∙◌}
 use Rattle.model_base.specs.declared.limits.TheConstants.{LSN_LIMIT}
+use Rattle.model_base.specs.declared.shape.Shape.{Shape}
 use Rattle.model_core.proofs.Lsns.{lsn_le}
 use Rattle.model_core.specs.{Actor, flat, IsBound, lsn, SharedWords}
 use Rattle.model_core.proofs.Tails.{tail_in}
@@ -34,10 +35,10 @@ module _ (D : LogSide) (c : Setup) (spare : ℕ) (m : SharedWords) (g : LogGhost
       (subst (IsBoundary (lsn c.base) (log_spans g.log)) (sym is) (bound_spans g.log c.base m.sn x half.global.tiled.tiles bound))
 
   -- at any moment, so at the end, the groups and the marks are a run of the script
-  pub finished_run : (script : List ScriptLine) (opened : Opened) → IsOfScript c script opened.shape.space → lsn c.base ≡ start_after opened.end → IsRun script opened (run_of c g m)
+  pub finished_run : (script : List ScriptLine) (opened : Opened) → IsOfScript c script opened.shape → lsn c.base ≡ start_after opened.end → IsRun script opened (run_of c g m)
   finished_run script opened S start = let G = half.global in let O = G.order in record {
     start = start;
-    legal = legal_log c script opened.shape.space m.sn g.log g.place g.state g.answered (word_marks m) G.tiled G.commits S;
+    legal = legal_log c script opened.shape m.sn g.log g.place g.state g.answered (word_marks m) G.tiled G.commits S;
     wtail = boundary g.wtail m.wtail O.wtail_is O.wtail_bound;
     write = boundary g.write m.write O.write_is O.write_bound;
     flushed = boundary g.flushed m.flushed O.flushed_is O.flushed_bound;
@@ -45,15 +46,15 @@ module _ (D : LogSide) (c : Setup) (spare : ℕ) (m : SharedWords) (g : LogGhost
   }
 
   -- its groups are those of the log
-  pub finished_groups : (script : List ScriptLine) (space : ℕ) → IsOfScript c script space → AreWholesOf g.log (wholes_of script space (run_of c g m).entries)
-  finished_groups script space S = history_wholes c script space g.answered (word_marks m) g.log S (λ i e is. let l = half.global.tiled.lines i e is in (l.0, l.1))
+  pub finished_groups : (script : List ScriptLine) (shape : Shape) → IsOfScript c script shape → AreWholesOf g.log (wholes_of script shape.space (run_of c g m).entries)
+  finished_groups script shape S = history_wholes c script shape g.answered (word_marks m) g.log S (λ i e is. let l = half.global.tiled.lines i e is in (l.0, l.1))
 
   -- once all users have ended, it loses something only where FAILED has a code, and so a call has failed
-  pub finished_losses : (script : List ScriptLine) (space failures : ℕ) (left : List (ℕ × ℕ)) → IsAtEnd actors → IsOfScript c script space → HasSeats script actors → (0 < m.failed → 0 < failures)
+  pub finished_losses : (script : List ScriptLine) (shape : Shape) (failures : ℕ) (left : List (ℕ × ℕ)) → IsAtEnd actors → IsOfScript c script shape → HasSeats script actors → (0 < m.failed → 0 < failures)
       → IsLeft script (run_of c g m).entries left → LosesOnlyByFailure failures (Some (run_of c g m)) left
-  finished_losses script space failures left end S seats cause is = record {
+  finished_losses script shape failures left end S seats cause is = record {
     lost = λ i entry found lost. cause (lost_entry D c spare m g p actors half end (word_marks m) i entry found lost).1;
-    left = λ some_left. cause (left_lines D c spare m g p actors half end (word_marks m) script space left S seats is some_left);
+    left = λ some_left. cause (left_lines D c spare m g p actors half end (word_marks m) script shape left S seats is some_left);
     stopped = λ none. absurd (cc);
   }
 

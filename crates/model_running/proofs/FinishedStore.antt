@@ -9,7 +9,7 @@ use Rattle.model_running.proofs.Finished.{finished_groups, finished_losses, fini
 use Rattle.model_running.proofs.Seated.{seated_end, seated_seats}
 use Rattle.model_running.proofs.Losses.{lost_entry_exactly, open_line}
 use Rattle.model_running.proofs.OpenLines.{leaves_open}
-use Rattle.model_running.specs.Finished.{CausesAreFailures, FinishedStore, HasCause, SpentStore, StandsForRun}
+use Rattle.model_running.specs.Finished.{CausesAreFailures, FinishedStore, HasFailedPart, SpentStore, StandsForRun}
 use Rattle.model_running.specs.RunOf.{run_of}
 use Rattle.model_running.specs.History.{word_marks, history_of}
 use Rattle.model_running.specs.Script.{IsOfScript}
@@ -25,7 +25,7 @@ use Rattle.model_theorem.specs.{Opened}
 use Rattle.model_core.specs.Actors as actor
 
 -- at any moment the store stands for a run of the script
-unfoldable pub stands_for_run : (D : LogSide) (E : DataSide) (c : Setup) (spare : ℕ) (script : List ScriptLine) (opened : Opened) (s : Core D E) → IsRunning D E c spare s → IsOfScript c script opened.shape.space → lsn c.base ≡ start_after opened.end → StandsForRun D E c script opened s
+unfoldable pub stands_for_run : (D : LogSide) (E : DataSide) (c : Setup) (spare : ℕ) (script : List ScriptLine) (opened : Opened) (s : Core D E) → IsRunning D E c spare s → IsOfScript c script opened.shape → lsn c.base ≡ start_after opened.end → StandsForRun D E c script opened s
 stands_for_run D E c spare script opened s running of_script start =
     let m = running.shared in let g = running.log_ghost in let half = running.both.logged in
     let behind = finished_marks D c spare m g s.log_part s.actors half in
@@ -40,27 +40,27 @@ stands_for_run D E c spare script opened s running of_script start =
       answers = λ seat u at. let f : UserFits D c m g s.log_part seat u = half.each seat (actor.User u) at in f.answers;
       entries = ap (λ (marks : Marks). history_of g.answered marks g.log) (sym (marks_same s.words m running.flat_is));
       holds = half.global.part.holds;
-      groups = finished_groups D c spare m g s.log_part s.actors half script opened.shape.space of_script;
+      groups = finished_groups D c spare m g s.log_part s.actors half script opened.shape of_script;
       flushed = behind.0;
       ckpt = behind.1;
       small = behind.2;
     }
 
 unfoldable pub finished_store : (D : LogSide) (E : DataSide) (c : Setup) (spare : ℕ) (script : List ScriptLine) (opened : Opened) (failures : ℕ) (left : List (ℕ × ℕ)) (s : Core D E) → IsRunning D E c spare s → AreSeated c s.actors → HaveEnded s.actors
-    → IsOfScript c script opened.shape.space → lsn c.base ≡ start_after opened.end → CausesAreFailures D E failures s.log_part s.data_part → FinishedStore D E c script opened failures left s
+    → IsOfScript c script opened.shape → lsn c.base ≡ start_after opened.end → CausesAreFailures D E failures s.log_part s.data_part → FinishedStore D E c script opened failures left s
 unfolding stands_for_run
 finished_store D E c spare script opened failures left s running seated ended of_script start causes =
     let m = running.shared in let g = running.log_ghost in let half = running.both.logged in
     let end = seated_end c s.actors seated ended in
     record {
       stands = stands_for_run D E c spare script opened s running of_script start;
-      loses = finished_losses D c spare m g s.log_part s.actors half script opened.shape.space failures left end of_script (seated_seats c s.actors seated script opened.shape.space of_script)
+      loses = finished_losses D c spare m g s.log_part s.actors half script opened.shape failures left end of_script (seated_seats c s.actors seated script opened.shape of_script)
           (λ failed. ⊎_elim (λ cause. causes.log m.failed cause) (λ cause. causes.data_part m.failed cause) (running.both.cause failed));
       lost = λ i entry found. lost_entry_exactly D c spare m g s.log_part s.actors half end (word_marks m) i entry found;
     }
 
 -- where the turns are spent a user has a line left that isn't answered
-unfoldable pub spent_store : (D : LogSide) (E : DataSide) (c : Setup) (spare : ℕ) (script : List ScriptLine) (opened : Opened) (seed max user : ℕ) (first last : Core D E) → IsRunning D E c spare last → AreSeated c last.actors → IsOfScript c script opened.shape.space → lsn c.base ≡ start_after opened.end
+unfoldable pub spent_store : (D : LogSide) (E : DataSide) (c : Setup) (spare : ℕ) (script : List ScriptLine) (opened : Opened) (seed max user : ℕ) (first last : Core D E) → IsRunning D E c spare last → AreSeated c last.actors → IsOfScript c script opened.shape → lsn c.base ≡ start_after opened.end
     → IsSpent D E seed max user first last → SpentStore D E c script opened user last
 unfolding stands_for_run
 spent_store D E c spare script opened seed max user first last running seated of_script start spent =
@@ -74,8 +74,8 @@ spent_store D E c spare script opened seed max user first last running seated of
       not_ended = spent.not_ended;
       unanswered = subst (λ (v : ℕ). spent.state.k < length (lines_of_user v script)) spent.number
           (let count = of_script.count spent.state.user in let below = open_line D c spare m g last.log_part last.actors half spent.seat spent.state spent.is spent.not_ended in omega arith);
-      leaves = leaves_open D c spare m g last.log_part last.actors half (word_marks m) script opened.shape.space of_script (seated_seats c last.actors seated script opened.shape.space of_script)
-          (HasCause D E last.log_part last.data_part)
+      leaves = leaves_open D c spare m g last.log_part last.actors half (word_marks m) script opened.shape of_script (seated_seats c last.actors seated script opened.shape of_script)
+          (HasFailedPart D E last.log_part last.data_part)
           (λ failed. ⊎_elim (λ cause. (m.failed, inl cause)) (λ cause. (m.failed, inr cause)) (running.both.cause failed)) user spent.seat spent.state spent.is spent.number spent.not_ended spent.least;
       least = spent.least;
     }

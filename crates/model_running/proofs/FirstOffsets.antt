@@ -2,6 +2,7 @@
 use Rattle.std.proofs.Common.{◌≡◌, ℕ, Bool, true, false, cond, eqb, ltb, ◌+◌, ◌-◌, ◌*◌, ◌/◌, ◌%◌, ◌&&◌, List, [], ◌∷◌, Option, Some, None, sym, refl, ap, ◌∙◌, arith, eq-eqb, ne_eqb, lt-ltb, le-ltb}
 use native.Mathlib.Decide.{dec_le, ℕ_discrete}
 use Rattle.model_log.specs.{crossing_end, ends_in, first_at}
+use Rattle.model_log.specs.declared.layout.TheConstants.{BLOCK_DATA}
 use Rattle.model_core.specs.{crosses, crossing, end_of, first_of, lsn}
 use Rattle.model_core.specs.Groups as core
 use Rattle.model_core.proofs.Lsns.{lsn_block, lsn_offset}
@@ -26,11 +27,12 @@ and_cond false b = refl
 
 ends_same : (q : ℕ) (e : core.Entry) → ends_in (512 * q) (log_span e) ≡ crosses q e
 ends_same q e =
-    let a : lsn (end_of e) / 512 * 512 ≡ end_of e / 496 * 512 = ap (λ (k : ℕ). k * 512) (lsn_block (end_of e)) in
-    let b : lsn e.start / 512 * 512 ≡ e.start / 496 * 512 = ap (λ (k : ℕ). k * 512) (lsn_block e.start) in
-    ap (λ (k : ℕ). eqb k (512 * q) && ltb (lsn e.start / 512 * 512) (512 * q)) a ∙ ap (λ (k : ℕ). eqb (end_of e / 496 * 512) (512 * q) && ltb k (512 * q)) b
-    ∙ ap (λ (z : Bool). z && ltb (e.start / 496 * 512) (512 * q)) (same_eq (end_of e / 496) q) ∙ ap (λ (z : Bool). eqb (end_of e / 496) q && z) (same_lt (e.start / 496) q)
-    ∙ and_cond (eqb (end_of e / 496) q) (ltb (e.start / 496) q)
+    let a : lsn (end_of e) / 512 * 512 ≡ end_of e / BLOCK_DATA * 512 = ap (λ (k : ℕ). k * 512) (lsn_block (end_of e)) in
+    let b : lsn e.start / 512 * 512 ≡ e.start / BLOCK_DATA * 512 = ap (λ (k : ℕ). k * 512) (lsn_block e.start) in
+    ap (λ (k : ℕ). eqb k (512 * q) && ltb (lsn e.start / 512 * 512) (512 * q)) a
+    ∙ ap (λ (k : ℕ). eqb (end_of e / BLOCK_DATA * 512) (512 * q) && ltb k (512 * q)) b
+    ∙ ap (λ (z : Bool). z && ltb (e.start / BLOCK_DATA * 512) (512 * q)) (same_eq (end_of e / BLOCK_DATA) q) ∙ ap (λ (z : Bool). eqb (end_of e / BLOCK_DATA) q && z) (same_lt (e.start / BLOCK_DATA) q)
+    ∙ and_cond (eqb (end_of e / BLOCK_DATA) q) (ltb (e.start / BLOCK_DATA) q)
 
 abbrev offset : ℕ → Option ℕ → ℕ
 offset b None = 0
@@ -41,7 +43,7 @@ crossing_same q [] = refl
 crossing_same q (x ∷ xs) = ap (λ (z : Bool). offset (512 * q) (cond z (Some (lsn (end_of x))) (crossing_end (512 * q) (log_spans xs)))) (ends_same q x) ∙ by (crosses q x) refl (crossing_same q xs)
   where
     by : (b : Bool) → crosses q x ≡ b → offset (512 * q) (crossing_end (512 * q) (log_spans xs)) ≡ crossing q xs
-        → offset (512 * q) (cond b (Some (lsn (end_of x))) (crossing_end (512 * q) (log_spans xs))) ≡ cond b (end_of x % 496 + 12) (crossing q xs)
+        → offset (512 * q) (cond b (Some (lsn (end_of x))) (crossing_end (512 * q) (log_spans xs))) ≡ cond b (end_of x % BLOCK_DATA + 12) (crossing q xs)
     by true c r = let k = (crosses_is q x c).0 in let a = lsn_block (end_of x) in let o = lsn_offset (end_of x) in omega arith
     by false c r = r
 
@@ -49,13 +51,14 @@ crossing_same q (x ∷ xs) = ap (λ (z : Bool). offset (512 * q) (cond z (Some (
 pub first_same : (base q b : ℕ) (log : List core.Entry) → b ≡ 512 * q → first_at (lsn base) (log_spans log) b ≡ first_of base log q
 unfolding first_at
 first_same base q b log is =
-    let a : lsn base / 512 * 512 ≡ base / 496 * 512 = ap (λ (k : ℕ). k * 512) (lsn_block base) in
-    let t : eqb (512 * q) (lsn base / 512 * 512) ≡ eqb q (base / 496) = ap (eqb (512 * q)) a ∙ turned in
+    let a : lsn base / 512 * 512 ≡ base / BLOCK_DATA * 512 = ap (λ (k : ℕ). k * 512) (lsn_block base) in
+    let t : eqb (512 * q) (lsn base / 512 * 512) ≡ eqb q (base / BLOCK_DATA) = ap (eqb (512 * q)) a ∙ turned in
     ap (first_at (lsn base) (log_spans log)) is
-    ∙ ap (λ (z : Bool). cond z 12 (offset (512 * q) (crossing_end (512 * q) (log_spans log)))) t ∙ ap (cond (eqb q (base / 496)) 12) (crossing_same q log)
+    ∙ ap (λ (z : Bool). cond z 12 (offset (512 * q) (crossing_end (512 * q) (log_spans log)))) t
+    ∙ ap (cond (eqb q (base / BLOCK_DATA)) 12) (crossing_same q log)
   where
-    turned : eqb (512 * q) (base / 496 * 512) ≡ eqb q (base / 496)
-    turned = elim (ℕ_discrete q (base / 496)) [
-      | yes e ↦ eq-eqb (512 * q) (base / 496 * 512) (omega arith) ∙ sym (eq-eqb q (base / 496) e)
-      | no n ↦ ne_eqb (512 * q) (base / 496 * 512) (λ e. n (omega arith)) ∙ sym (ne_eqb q (base / 496) n)
+    turned : eqb (512 * q) (base / BLOCK_DATA * 512) ≡ eqb q (base / BLOCK_DATA)
+    turned = elim (ℕ_discrete q (base / BLOCK_DATA)) [
+      | yes e ↦ eq-eqb (512 * q) (base / BLOCK_DATA * 512) (omega arith) ∙ sym (eq-eqb q (base / BLOCK_DATA) e)
+      | no n ↦ ne_eqb (512 * q) (base / BLOCK_DATA * 512) (λ e. n (omega arith)) ∙ sym (ne_eqb q (base / BLOCK_DATA) n)
     ]

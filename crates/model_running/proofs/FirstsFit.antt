@@ -5,6 +5,7 @@ use lib.ListN.{get_elem?}
 use mathlib.Core.Option as maybe
 use native.Mathlib.Decide.{ℕ_discrete}
 use Rattle.model_log.specs.{is_first, length_of}
+use Rattle.model_log.specs.declared.layout.TheConstants.{BLOCK_DATA}
 use Rattle.model_core.proofs.Groups.{crosses_is, first_base, first_from, tiles_at}
 use Rattle.model_core.specs.{end_of, first_of, IsBound, Tiles}
 use Rattle.model_core.specs.Groups as core
@@ -26,8 +27,8 @@ bound_above (x ∷ xs) s end n (suc i) e tiles bound is below =
     ⊎_elim (λ z. absurd (omega arith)) (λ z. bound_above xs (s + length x.bytes) end n i e tiles.3 z is below) bound
 
 -- the first offset of a block that holds a byte below the mark n: none, or one among its bytes below n, or at their end
-pub first_place : (base : ℕ) (log : List core.Entry) (end n q : ℕ) → base % 496 ≡ 0 → Tiles base log end → IsBound base log n → 496 * q < n → (first_of base log q ≡ 0) ⊎ ((12 ≤ first_of base log q) × (first_of base log q < 508) × (496 * q + first_of base log q ≤ n + 12))
-first_place base log end n q even tiles bound below = elim (ℕ_discrete q (base / 496)) [
+pub first_place : (base : ℕ) (log : List core.Entry) (end n q : ℕ) → base % BLOCK_DATA ≡ 0 → Tiles base log end → IsBound base log n → BLOCK_DATA * q < n → (first_of base log q ≡ 0) ⊎ ((12 ≤ first_of base log q) × (first_of base log q < 508) × (BLOCK_DATA * q + first_of base log q ≤ n + 12))
+first_place base log end n q even tiles bound below = elim (ℕ_discrete q (base / BLOCK_DATA)) [
   | yes e ↦ (let v : first_of base log q ≡ 12 = ap (first_of base log) e ∙ first_base base log in inr (omega arith, omega arith, omega arith))
   | no ne ↦ ⊎_elim (λ z. inl z) (λ z.
       let e : core.Entry = z.1 in
@@ -37,9 +38,9 @@ first_place base log end n q even tiles bound below = elim (ℕ_discrete q (base
       inr (omega arith, omega arith, omega arith)) (first_from base log q ne)
 ]
 
-pub first_fits : (f k : ℕ) → 0 < k → (f ≡ 0) ⊎ ((12 ≤ f) × (f < 508) × (f ≤ k + 12)) → IsTrue (is_first (length_of (min 496 k)) f)
-first_fits f k some (inl none) = subst (λ (z : ℕ). IsTrue (is_first (length_of (min 496 k)) z)) (sym none) refl
+pub first_fits : (f k : ℕ) → 0 < k → (f ≡ 0) ⊎ ((12 ≤ f) × (f < 508) × (f ≤ k + 12)) → IsTrue (is_first (length_of (min BLOCK_DATA k)) f)
+first_fits f k some (inl none) = subst (λ (z : ℕ). IsTrue (is_first (length_of (min BLOCK_DATA k)) z)) (sym none) refl
 first_fits f k some (inr there) = starts_fit f k some there.0 there.1 there.2
   where
-    starts_fit : (f k : ℕ) → 0 < k → 12 ≤ f → f < 508 → f ≤ k + 12 → IsTrue (is_first (length_of (min 496 k)) f)
+    starts_fit : (f k : ℕ) → 0 < k → 12 ≤ f → f < 508 → f ≤ k + 12 → IsTrue (is_first (length_of (min BLOCK_DATA k)) f)
     starts_fit f k some low high near = grind (arith, nat_tests)

@@ -2,6 +2,7 @@
 use Rattle.std.proofs.Common.{List, Some, [], ap, arith, length, refl, slice_get, subst, suc, sym, zero, ℕ, ◌++◌, ◌+◌, ◌<◌, ◌∙◌, ◌∷◌, ◌≡◌}
 use Rattle.std.specs.List.{AllByRecursion}
 use lib.ListN.{get_elem?}
+use Rattle.model_base.specs.declared.shape.Shape.{Shape}
 use Rattle.model_core.specs.{answered, end_of, Line, line_at, lsn, stream, Tiles}
 use Rattle.model_core.specs.Setup.{Setup}
 use Rattle.model_running.proofs.Places.{lsn_is, sn_back, tiled_spans}
@@ -46,23 +47,23 @@ line_below (x ∷ xs) zero h = (x, refl)
 line_below (x ∷ xs) (suc k) h = line_below xs k (omega arith)
 
 -- the groups that the history names are those of the log
-pub history_wholes : (c : Setup) (script : List ScriptLine) (space : ℕ) (answered : ℕ → ℕ) (marks : Marks) (log : List core.Entry) → IsOfScript c script space
+pub history_wholes : (c : Setup) (script : List ScriptLine) (shape : Shape) (answered : ℕ → ℕ) (marks : Marks) (log : List core.Entry) → IsOfScript c script shape
     → ((i : ℕ) (e : core.Entry) → get_elem? log i ≡ maybe.some e → (e.k < length (c.script e.user)) × (e.bytes ≡ (line_at (c.script e.user) e.k).bytes))
-    → AreWholesOf log (wholes_of script space (history_of answered marks log))
-history_wholes c script space answered marks [] S lines = tt
-history_wholes c script space answered marks (e ∷ es) S lines =
+    → AreWholesOf log (wholes_of script shape.space (history_of answered marks log))
+history_wholes c script shape answered marks [] S lines = tt
+history_wholes c script shape answered marks (e ∷ es) S lines =
     let line = lines 0 e refl in
     let l = line_below (lines_of_user e.user script) e.k (let a = line.0 in let b = S.count e.user in omega arith) in
     let one : ScriptLine = l.0 in
-    let of : IsLineOf c space one (line_at (c.script e.user) e.k) = S.each e.user e.k one l.1 in (
-      record { place = refl; text = ap (λ o. group_text (group_of_line space o)) l.1 ∙ sym (ap (λ (z : Line). z.bytes) of) ∙ sym line.1 },
-      history_wholes c script space answered marks es S (λ i x is. lines (suc i) x is),
+    let of : IsLineOf c shape one (line_at (c.script e.user) e.k) = S.each e.user e.k one l.1 in (
+      record { place = refl; text = ap (λ o. group_text (group_of_line shape.space o)) l.1 ∙ sym (ap (λ (z : Line). z.bytes) of) ∙ sym line.1 },
+      history_wholes c script shape answered marks es S (λ i x is. lines (suc i) x is),
     )
 
 -- the log's last group ends at n
-pub spans_end : (log : List core.Entry) (s n : ℕ) → Tiles s log n → run.end_of (lsn s) (log_spans log) ≡ lsn n
+pub spans_end : (log : List core.Entry) (s n : ℕ) → Tiles s log n → run.last_span_end (lsn s) (log_spans log) ≡ lsn n
 spans_end [] s n t = ap lsn t
-spans_end (e ∷ es) s n t = ap (λ (k : ℕ). run.end_of (lsn (k + length e.bytes)) (log_spans es)) t.0 ∙ spans_end es (s + length e.bytes) n t.3
+spans_end (e ∷ es) s n t = ap (λ (k : ℕ). run.last_span_end (lsn (k + length e.bytes)) (log_spans es)) t.0 ∙ spans_end es (s + length e.bytes) n t.3
 
 -- a group ends as many bytes after its start as its text has
 pub has_length : (e : core.Entry) (whole : Whole) → IsWholeOf e whole → HasItsLength whole

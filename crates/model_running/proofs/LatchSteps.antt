@@ -5,8 +5,8 @@ use mathlib.Core.Option.{some, some-injective, some-ne-none}
 use native.Mathlib.Decide.{ℕ_discrete}
 use Rattle.model_core.proofs.Lists.{at_last, at_longer}
 unfoldable use Rattle.model_core.specs.{lanes}
-use Rattle.model_core.specs.{after_link, BatchPage, can_close, can_link, cells_of, change_at, changes, cleaner_checked, cleaner_took, CleanerState, end_round, first_of_batch, frame_count, group_bytes, is_whole, word_step, group_end, has_room, has_taken, next_count, next_in_round, old_of, page_loaded, page_of, to_next_page, user_checked, user_took, UserState, advance_next, frees, stays_put, tail_of, with_close_room, with_link_room, without_close_room, without_link_room}
-use Rattle.model_core.specs.declared.limits.TheConstants.{BATCH_PAGES, FRAME_CELLS}
+use Rattle.model_core.specs.{advance_next, after_link, BatchPage, can_close, can_link, cells_of, change_at, changes, checked_of, cleaner_program, cleaner_took, CleanerState, current_page, end_round, first_of_batch, frame_count, frees, group_bytes, group_end, has_room, has_taken, is_whole, next_count, next_in_round, old_of, page_loaded, stays_put, tail_of, to_next_page, user_program, user_took, UserState, with_close_room, with_link_room, without_close_room, without_link_room, word_step}
+use Rattle.model_core.specs.declared.limits.TheConstants.{BATCH_PAGES}
 use Rattle.model_core.specs.declared.ops.Answer.{Answer}
 use Rattle.model_core.specs.declared.steps.CleanerStep.{CleanerStep}
 use Rattle.model_core.specs.declared.steps.UserStep.{UserStep}
@@ -53,7 +53,7 @@ module _ (u : UserState) (p : ℕ) where
   linked false some_pages own = inr own
 
   -- it frees the latch of its page, which isn't this one's
-  freed : (b : Bool) → eqb (u.page + 1) (length (changes u)) ≡ b → page_of u ≢ p → IsAmong (changes u) u.page (length (changes u)) p → UserHas (cond b (after_link u) (record u { page = u.page + 1; step = user_step.ReleaseLatch }))
+  freed : (b : Bool) → eqb (u.page + 1) (length (changes u)) ≡ b → current_page u ≢ p → IsAmong (changes u) u.page (length (changes u)) p → UserHas (cond b (after_link u) (record u { page = u.page + 1; step = user_step.ReleaseLatch }))
   freed b last other held = elim (ℕ_discrete held.0 u.page) [
     | yes here ↦ absurd (other (subst (λ (k : ℕ). (change_at (changes u) k).page ≡ p) here held.3))
     | no more ↦ by b last held more
@@ -72,7 +72,7 @@ module _ (u : UserState) (p : ℕ) where
   begins n own = let x : UserState = with_close_room u n in
       pick x (eqb u.cell (length (cells_of u))) user_step.StoreNewest (word_step (cells_of u) u.cell) (inr own) (pick x (is_whole (cells_of u) u.cell) user_step.StoreFrame user_step.LoadFrame (inr own) (inr own))
 
-  pub user_goes : (n : ℕ) (f : UserStep) → (f ≡ user_step.ReleaseLatch → page_of u ≢ p) → UserHasLatch u f p → UserHas (user_took u n f)
+  pub user_goes : (n : ℕ) (f : UserStep) → (f ≡ user_step.ReleaseLatch → current_page u ≢ p) → UserHasLatch u f p → UserHas (user_took u n f)
   user_goes n user_step.LoadCheckpoint other held = absurd held
   user_goes n user_step.LoadSn other held = absurd held
   user_goes n user_step.TakeLatch other held = user_either (eqb n 0) (record u { page = u.page + 1; step = cond (eqb (u.page + 1) (length (changes u))) user_step.Reserve user_step.TakeLatch }) (record u { checks = true; step = user_step.TakeLatch })
@@ -104,7 +104,7 @@ module _ (u : UserState) (p : ℕ) where
   user_goes n user_step.Failed other held = absurd held
 
   -- a load of FAILED
-  pub user_hears : (n : ℕ) → UserHas u → UserHas (user_checked u n)
+  pub user_hears : (n : ℕ) → UserHas u → UserHas (checked_of user_program u n)
   user_hears n held = user_either (eqb n 0) (record u { checks = false }) (record u { checks = false; code = n; step = user_step.Failed }) held (inl refl)
 
 front : (batch : List BatchPage) (x : BatchPage) → get_elem? batch 0 ≡ some x → (v : CleanerState) → ◌≡◌ {A = List BatchPage} v.batch batch → first_of_batch v ≡ x.page
@@ -167,7 +167,7 @@ module _ (v : CleanerState) (p : ℕ) where
   cleaner_goes r cleaner_step.ReleaseSkipped skipped released held = ⊎_elim (λ here. absurd (skipped refl here)) (λ z. goes_on v z) held
   cleaner_goes r cleaner_step.LoadFrame skipped released held =
       let x : CleanerState = record v { batch = v.batch ++ page_loaded v (old_of r) ∷ [] } in
-      cleaner_either (eqb (length v.kept + 8) FRAME_CELLS) (next_in_round x) (record v { kept = v.kept ++ lanes 0 8 (old_of r); step = cleaner_step.LoadFrame }) (goes_on x (enters (page_loaded v (old_of r)) refl held)) (inr held)
+      cleaner_either (eqb (length v.kept + 8) v.page_size) (next_in_round x) (record v { kept = v.kept ++ lanes 0 8 (old_of r); step = cleaner_step.LoadFrame }) (goes_on x (enters (page_loaded v (old_of r)) refl held)) (inr held)
   cleaner_goes r cleaner_step.WriteBatch skipped released held = called r held
   cleaner_goes r cleaner_step.RemoveFromList skipped released held = cleaner_either (has_taken r) (record v { step = cleaner_step.ClearOldest }) (record v { checks = true; step = cleaner_step.RemoveFromList }) (inr held) (inr held)
   cleaner_goes r cleaner_step.ClearOldest skipped released held = inr held
@@ -177,5 +177,5 @@ module _ (v : CleanerState) (p : ℕ) where
   cleaner_goes r cleaner_step.Failed skipped released held = absurd held
 
   -- a load of FAILED
-  pub cleaner_hears : (n : ℕ) → CleanerHas v → CleanerHas (cleaner_checked v n)
+  pub cleaner_hears : (n : ℕ) → CleanerHas v → CleanerHas (checked_of cleaner_program v n)
   cleaner_hears n held = cleaner_either (eqb n 0) (record v { checks = false }) (record v { checks = false; code = n; step = cleaner_step.Failed }) held (inl refl)

@@ -5,7 +5,7 @@ use lib.ListN.{get_elem?}
 use mathlib.Core.Option.{some, some-injective}
 use native.Mathlib.Decide.{ℕ_discrete}
 use Rattle.model_core.proofs.Lists.{set_at, set_else}
-use Rattle.model_core.specs.{Actor, blank_words, changes, checkpointer_op, CheckpointerState, cleaner_checked, cleaner_op, cleaner_took, CleanerState, closer_op, CloserState, Entry, first_of_batch, frame_word, flusher_op, FlusherState, group_end, heard, Listed, lsn, next, next_in_round, old_of, page_of, page_words_at, PageWords, stored_word, shared_answer, shared_left, SharedWords, took, user_checked, user_op, user_took, UserState, with_page_words, writer_op, WriterState, Advance, advance_op, read, tail_word, wrote}
+use Rattle.model_core.specs.{Actor, Advance, advance_op, blank_words, changes, checked_of, checkpointer_op, CheckpointerState, cleaner_op, cleaner_program, cleaner_took, CleanerState, closer_op, CloserState, current_page, Entry, first_of_batch, flusher_op, FlusherState, frame_word, group_end, heard, Listed, lsn, next, next_in_round, old_of, page_words_at, PageWords, read, shared_answer, shared_left, SharedWords, stored_word, tail_word, took, user_op, user_program, user_took, UserState, with_page_words, writer_op, WriterState, wrote}
 use Rattle.model_core.specs.DataSide.{DataSide}
 use Rattle.model_core.specs.LogSide.{LogSide}
 use Rattle.model_core.specs.Setup.{Setup}
@@ -143,7 +143,7 @@ module _ (D : LogSide) (E : DataSide) (c : Setup) (spare : ℕ) (m : SharedWords
     abbrev UserKept : SharedWords → UserState → Type 0
     UserKept m' x = LatchesAreHeld c.pages m' k.holder (set actors seat (actor.User x))
 
-    user_moves : (n : ℕ) (f : UserStep) → u.step ≡ f → (q : ℕ) → (f ≡ user_step.ReleaseLatch → page_of u ≢ q) → HasLatch (actor.User u) q → HasLatch (actor.User (user_took u n f)) q
+    user_moves : (n : ℕ) (f : UserStep) → u.step ≡ f → (q : ℕ) → (f ≡ user_step.ReleaseLatch → current_page u ≢ q) → HasLatch (actor.User u) q → HasLatch (actor.User (user_took u n f)) q
     user_moves n f is q other held = ⊎_elim
         (λ failed. subst (λ (s : UserStep). HasLatch (actor.User (user_took u n s)) q) (sym failed ∙ is) (inl failed))
         (λ z. user_goes u q n f other (subst (λ (s : UserStep). UserHasLatch u s q) is z)) held
@@ -156,16 +156,16 @@ module _ (D : LogSide) (E : DataSide) (c : Setup) (spare : ℕ) (m : SharedWords
 
     -- the latch that it takes is its own
     user_took_it : (m' : SharedWords) (l : List Entry) (ls' : ℕ → List Listed) (e : E.Part) (b : Bool) → eqb (u.page + 1) (length (changes u)) ≡ b
-        → UserPagesAt E c m' l k ls' e seat (record u { page = u.page + 1; step = cond b user_step.Reserve user_step.TakeLatch }) (cond b user_step.Reserve user_step.TakeLatch) → k.holder (page_of u) ≡ seat
+        → UserPagesAt E c m' l k ls' e seat (record u { page = u.page + 1; step = cond b user_step.Reserve user_step.TakeLatch }) (cond b user_step.Reserve user_step.TakeLatch) → k.holder (current_page u) ≡ seat
     user_took_it m' l ls' e true all o = let z = eqb-true (u.page + 1) (length (changes u)) all in (o u.page (omega arith) (omega arith)).mine
     user_took_it m' l ls' e false more o = (o.0 u.page (omega arith) (omega arith)).mine
 
     take_by : (l : List Entry) (ls' : ℕ → List Listed) (e : E.Part) → u.step ≡ user_step.TakeLatch → (b : Bool)
-        → UserPageFits E c (cond b (with_page_words m (page_of u) (record (page_words_at m.page_words (page_of u)) { latch = 1 })) m) l k ls' e seat (cond b (user_took u 0 user_step.TakeLatch) (user_took u 1 user_step.TakeLatch))
-        → UserKept (cond b (with_page_words m (page_of u) (record (page_words_at m.page_words (page_of u)) { latch = 1 })) m) (cond b (user_took u 0 user_step.TakeLatch) (user_took u 1 user_step.TakeLatch))
-    take_by l ls' e is true fits = takes_one k grows (actor.User u) at (page_of u) (actor.User (user_took u 0 user_step.TakeLatch))
-        (user_took_it (with_page_words m (page_of u) (record (page_words_at m.page_words (page_of u)) { latch = 1 })) l ls' e (eqb (u.page + 1) (length (changes u))) refl fits.step)
-        (latch_taken u (page_of u) (eqb (u.page + 1) (length (changes u))) refl (u.page, omega arith, omega arith, refl)) (λ q. user_moves 0 user_step.TakeLatch is q (λ z. absurd (cc)))
+        → UserPageFits E c (cond b (with_page_words m (current_page u) (record (page_words_at m.page_words (current_page u)) { latch = 1 })) m) l k ls' e seat (cond b (user_took u 0 user_step.TakeLatch) (user_took u 1 user_step.TakeLatch))
+        → UserKept (cond b (with_page_words m (current_page u) (record (page_words_at m.page_words (current_page u)) { latch = 1 })) m) (cond b (user_took u 0 user_step.TakeLatch) (user_took u 1 user_step.TakeLatch))
+    take_by l ls' e is true fits = takes_one k grows (actor.User u) at (current_page u) (actor.User (user_took u 0 user_step.TakeLatch))
+        (user_took_it (with_page_words m (current_page u) (record (page_words_at m.page_words (current_page u)) { latch = 1 })) l ls' e (eqb (u.page + 1) (length (changes u))) refl fits.step)
+        (latch_taken u (current_page u) (eqb (u.page + 1) (length (changes u))) refl (u.page, omega arith, omega arith, refl)) (λ q. user_moves 0 user_step.TakeLatch is q (λ z. absurd (cc)))
     take_by l ls' e is false fits = user_quiet m 1 user_step.TakeLatch is (λ z. absurd (cc)) refl
 
     module _ (broken : Bool) (code mark : ℕ) (l : List Entry) (ls' : ℕ → List Listed) (e : E.Part) where
@@ -173,7 +173,7 @@ module _ (D : LogSide) (E : DataSide) (c : Setup) (spare : ℕ) (m : SharedWords
       user_after f = user_took u (heard (shared_answer ls broken code mark m (user_op u f))) f
 
       abbrev here : PageWords
-      here = page_words_at m.page_words (page_of u)
+      here = page_words_at m.page_words (current_page u)
 
       user_keeps : (f : UserStep) → u.step ≡ f → UserPageFits E c (shared_left m (user_op u f)) l k ls' e seat (user_after f) → UserKept (shared_left m (user_op u f)) (user_after f)
       user_keeps (user_step.AdvanceWritten advance_step.TakeTail) is fits =
@@ -181,22 +181,22 @@ module _ (D : LogSide) (E : DataSide) (c : Setup) (spare : ℕ) (m : SharedWords
       user_keeps (user_step.AdvanceClosed advance_step.TakeTail) is fits =
           user_quiet (shared_left m (user_op u (user_step.AdvanceClosed advance_step.TakeTail))) (heard (shared_answer ls broken code mark m (user_op u (user_step.AdvanceClosed advance_step.TakeTail)))) (user_step.AdvanceClosed advance_step.TakeTail) is (λ z. absurd (cc)) (taken m link_buffer.Closed u.advance)
       user_keeps user_step.TakeLatch is fits = take_by l ls' e is (eqb here.latch 0) fits
-      user_keeps user_step.StoreFrame is fits = user_stores (page_of u) (record here { frame = slice_set here.frame (frame_word u) (stored_word u) }) 0 user_step.StoreFrame is (λ z. absurd (cc)) refl
-      user_keeps user_step.StoreNewest is fits = user_stores (page_of u) (record here { newest = lsn (group_end u) }) 0 user_step.StoreNewest is (λ z. absurd (cc)) refl
-      user_keeps user_step.StoreOldest is fits = user_stores (page_of u) (record here { oldest = lsn u.start }) 0 user_step.StoreOldest is (λ z. absurd (cc)) refl
-      user_keeps user_step.AddToList is fits = let i : ℕ = page_of u % 4 in
+      user_keeps user_step.StoreFrame is fits = user_stores (current_page u) (record here { frame = slice_set here.frame (frame_word u) (stored_word u) }) 0 user_step.StoreFrame is (λ z. absurd (cc)) refl
+      user_keeps user_step.StoreNewest is fits = user_stores (current_page u) (record here { newest = lsn (group_end u) }) 0 user_step.StoreNewest is (λ z. absurd (cc)) refl
+      user_keeps user_step.StoreOldest is fits = user_stores (current_page u) (record here { oldest = lsn u.start }) 0 user_step.StoreOldest is (λ z. absurd (cc)) refl
+      user_keeps user_step.AddToList is fits = let i : ℕ = current_page u % 4 in
           user_quiet (shared_left m (user_op u user_step.AddToList)) (heard (shared_answer ls broken code mark m (user_op u user_step.AddToList))) user_step.AddToList is (λ z. absurd (cc)) (either m (eqb (slice_index m.lists i) 0) (record m { lists = slice_set m.lists i 1 }) refl)
-      user_keeps user_step.ReleaseLatch is fits = frees k grows (actor.User u) at (page_of u) (actor.User (user_after user_step.ReleaseLatch)) (λ q other. user_moves 0 user_step.ReleaseLatch is q (λ _. other))
+      user_keeps user_step.ReleaseLatch is fits = frees k grows (actor.User u) at (current_page u) (actor.User (user_after user_step.ReleaseLatch)) (λ q other. user_moves 0 user_step.ReleaseLatch is q (λ _. other))
       user_keeps f is fits = user_quiet (shared_left m (user_op u f)) (heard (shared_answer ls broken code mark m (user_op u f))) f is (λ z. absurd (cc)) refl
 
       abbrev user_next_op : Bool → Op
       user_next_op b = cond b (op.Load word.Failed) (user_op u u.step)
 
       abbrev user_left : Bool → Actor
-      user_left b = cond b (actor.User (user_checked u (old_of (shared_answer ls broken code mark m (user_next_op b))))) (actor.User (user_took u (heard (shared_answer ls broken code mark m (user_next_op b))) u.step))
+      user_left b = cond b (actor.User (checked_of user_program u (old_of (shared_answer ls broken code mark m (user_next_op b))))) (actor.User (user_took u (heard (shared_answer ls broken code mark m (user_next_op b))) u.step))
 
       user_turn : (b : Bool) → PageFits E c (shared_left m (user_next_op b)) l k ls' e seat (user_left b) → LatchesAreHeld c.pages (shared_left m (user_next_op b)) k.holder (set actors seat (user_left b))
-      user_turn true fits = pages_same k grows (actor.User u) at m (actor.User (user_checked u m.failed)) refl (λ q. user_hears u q m.failed)
+      user_turn true fits = pages_same k grows (actor.User u) at m (actor.User (checked_of user_program u m.failed)) refl (λ q. user_hears u q m.failed)
       user_turn false fits = user_keeps u.step refl fits
 
   -- the cleaner's
@@ -242,10 +242,10 @@ module _ (D : LogSide) (E : DataSide) (c : Setup) (spare : ℕ) (m : SharedWords
       cleaner_next_op b = cond b (op.Load word.Failed) (cleaner_op v v.step)
 
       abbrev cleaner_left : Bool → Actor
-      cleaner_left b = cond b (actor.Cleaner (cleaner_checked v (old_of (shared_answer ls broken code mark m (cleaner_next_op b))))) (actor.Cleaner (cleaner_took v (shared_answer ls broken code mark m (cleaner_next_op b)) v.step))
+      cleaner_left b = cond b (actor.Cleaner (checked_of cleaner_program v (old_of (shared_answer ls broken code mark m (cleaner_next_op b))))) (actor.Cleaner (cleaner_took v (shared_answer ls broken code mark m (cleaner_next_op b)) v.step))
 
       cleaner_turn : (b : Bool) → PageFits E c (shared_left m (cleaner_next_op b)) l k ls' e seat (cleaner_left b) → LatchesAreHeld c.pages (shared_left m (cleaner_next_op b)) k.holder (set actors seat (cleaner_left b))
-      cleaner_turn true fits = pages_same k grows (actor.Cleaner v) at m (actor.Cleaner (cleaner_checked v m.failed)) refl (λ q. cleaner_hears v q m.failed)
+      cleaner_turn true fits = pages_same k grows (actor.Cleaner v) at m (actor.Cleaner (checked_of cleaner_program v m.failed)) refl (λ q. cleaner_hears v q m.failed)
       cleaner_turn false fits = cleaner_keeps v.step refl fits
 
   -- whatever the actor's next Op is, and whatever its call answers

@@ -3,11 +3,12 @@ use Rattle.std.proofs.Common.{Bool, List, Some, [], ap, arith, cond, eqb, false,
 use Rattle.std.proofs.lemmas.Bool.{eqb-true, le-ltb, ltb-false, ltb-true}
 use Rattle.std.specs.Prelude.{nat_le}
 use lib.ListN.{get_elem?}
+use Rattle.model_base.specs.declared.shape.Shape.{Shape}
 use Rattle.model_core.specs.{answered, end_of, entry, Line, line_at, lsn, mode}
 use Rattle.model_core.specs.Setup.{Setup}
 use Rattle.model_running.proofs.Groups.{line_below}
 use Rattle.model_running.proofs.Places.{history_spans, lsn_is, sn_back, tiled_spans}
-use Rattle.model_running.specs.History.{entry_of, history_of, state_of}
+use Rattle.model_running.specs.History.{history_entry, history_of, state_of}
 use Rattle.model_running.specs.Script.{IsLineOf, IsOfScript}
 use Rattle.model_report.proofs.Growing.{state_by-allows, state_by-says}
 use Rattle.model_report.specs.{entries_of_user, FitsMarks, FitsMode, IsAnswered, IsLegal, IsLegalEntry, lines_of_user, state_by}
@@ -22,7 +23,7 @@ use mathlib.Core.Option as maybe
 use Rattle.model_core.specs.Groups as core
 
 -- an element of the history is that of a group
-pub from_log : (answered : ℕ → ℕ) (marks : Marks) (log : List core.Entry) (i : ℕ) (entry : Entry) → slice_get (history_of answered marks log) i ≡ Some entry → (e : core.Entry) × (get_elem? log i ≡ maybe.some e) × (entry_of answered marks e ≡ entry)
+pub from_log : (answered : ℕ → ℕ) (marks : Marks) (log : List core.Entry) (i : ℕ) (entry : Entry) → slice_get (history_of answered marks log) i ≡ Some entry → (e : core.Entry) × (get_elem? log i ≡ maybe.some e) × (history_entry answered marks e ≡ entry)
 from_log answered marks [] i entry h = absurd (cc)
 from_log answered marks (x ∷ xs) zero entry h = (x, refl, cc)
 from_log answered marks (x ∷ xs) (suc i) entry h = from_log answered marks xs i entry h
@@ -33,7 +34,7 @@ pub record IsRanked (answered : ℕ → ℕ) (marks : Marks) (user i : ℕ) (log
   pub group : core.Entry
   pub is : get_elem? log place ≡ maybe.some group
   pub own : group.user ≡ user
-  pub entry_is : entry_of answered marks group ≡ entry
+  pub entry_is : history_entry answered marks group ≡ entry
   pub before : count_of user (take place log) ≡ i
 
 pub ranked : (answered : ℕ → ℕ) (marks : Marks) (user i : ℕ) (log : List core.Entry) (entry : Entry) → slice_get (entries_of_user user (history_of answered marks log)) i ≡ Some entry → IsRanked answered marks user i log entry
@@ -51,7 +52,7 @@ ranked answered marks user i (x ∷ xs) entry h = by (λ n e. ranked answered ma
     }
 
     by : ((n : ℕ) → slice_get (entries_of_user user (history_of answered marks xs)) n ≡ Some entry → IsRanked answered marks user n xs entry)
-        → (b : Bool) → eqb x.user user ≡ b → (i : ℕ) → slice_get (cond b (entry_of answered marks x ∷ entries_of_user user (history_of answered marks xs)) (entries_of_user user (history_of answered marks xs))) i ≡ Some entry → IsRanked answered marks user i (x ∷ xs) entry
+        → (b : Bool) → eqb x.user user ≡ b → (i : ℕ) → slice_get (cond b (history_entry answered marks x ∷ entries_of_user user (history_of answered marks xs)) (entries_of_user user (history_of answered marks xs))) i ≡ Some entry → IsRanked answered marks user i (x ∷ xs) entry
     by more true c zero h = record { place = 0; group = x; is = refl; own = eqb-true x.user user c; entry_is = cc; before = refl }
     by more true c (suc i) h = later true i (suc i) c (omega arith) (more i h)
     by more false c i h = later false i i c (omega arith) (more i h)
@@ -61,7 +62,7 @@ counts answered marks user [] = refl
 counts answered marks user (x ∷ xs) = by (eqb x.user user) (counts answered marks user xs)
   where
     by : (b : Bool) → length (entries_of_user user (history_of answered marks xs)) ≡ count_of user xs
-        → length (cond b (entry_of answered marks x ∷ entries_of_user user (history_of answered marks xs)) (entries_of_user user (history_of answered marks xs))) ≡ cond b 1 0 + count_of user xs
+        → length (cond b (history_entry answered marks x ∷ entries_of_user user (history_of answered marks xs)) (entries_of_user user (history_of answered marks xs))) ≡ cond b 1 0 + count_of user xs
     by true r = omega arith
     by false r = omega arith
 
@@ -91,9 +92,9 @@ fits marks mode end k n false c a = (tt, tt)
 fits marks mode end k n true c a = (state_by-says marks end, state_by-allows marks mode end (a (ltb-true k n c)))
 
 -- What the invariant says of the groups and the answered commits makes the history legal
-pub legal_log : (c : Setup) (script : List ScriptLine) (space sn : ℕ) (log : List core.Entry) (place : ℕ → Place) (state answered : ℕ → ℕ) (marks : Marks) → Tiled c sn log place → Commits c marks.write marks.flushed log state answered → IsOfScript c script space
-    → IsLegal script space (lsn c.base) marks (history_of answered marks log)
-legal_log c script space sn log place state answered marks T C S = record {
+pub legal_log : (c : Setup) (script : List ScriptLine) (shape : Shape) (sn : ℕ) (log : List core.Entry) (place : ℕ → Place) (state answered : ℕ → ℕ) (marks : Marks) → Tiled c sn log place → Commits c marks.write marks.flushed log state answered → IsOfScript c script shape
+    → IsLegal script shape.space (lsn c.base) marks (history_of answered marks log)
+legal_log c script shape sn log place state answered marks T C S = record {
   tiled = subst (IsTiled (lsn c.base)) (sym (history_spans answered marks log)) (tiled_spans log c.base sn T.tiles);
   each = λ i entry found.
       let r = from_log answered marks log i entry found in
@@ -101,15 +102,15 @@ legal_log c script space sn log place state answered marks T C S = record {
       let line = T.lines i e r.1 in
       let l = line_below (lines_of_user e.user script) e.k (let a = line.0 in let b = S.count e.user in omega arith) in
       let one : ScriptLine = l.0 in
-      let of : IsLineOf c space one (line_at (c.script e.user) e.k) = S.each e.user e.k one l.1 in
-      let size : length e.bytes ≡ group_length (group_of space one) = ap length (line.1 ∙ ap (λ (z : Line). z.bytes) of) in
+      let of : IsLineOf c shape one (line_at (c.script e.user) e.k) = S.each e.user e.k one l.1 in
+      let size : length e.bytes ≡ group_length (group_of shape.space one) = ap length (line.1 ∙ ap (λ (z : Line). z.bytes) of) in
       let both = fits marks one.mode (lsn (end_of e)) e.k (answered e.user) (ltb e.k (answered e.user)) refl
       (λ below. record { flushed = λ f. C.flush i e r.1 below (ap (λ (z : Line). z.mode) of ∙ f); written = λ w. C.wrote i e r.1 below (ap (λ (z : Line). z.mode) of ∙ w) }) in
-      subst (IsLegalEntry script space marks) r.2 (record {
+      subst (IsLegalEntry script shape.space marks) r.2 (record {
         line = one;
         of_line = record {
           line_is = l.1;
-          end_is = lsn_is (end_of e) ∙ ap lsn_of (let a = sn_back e.start in let z : end_of e ≡ sn_of (lsn e.start) + group_length (group_of space one) = omega arith in z);
+          end_is = lsn_is (end_of e) ∙ ap lsn_of (let a = sn_back e.start in let z : end_of e ≡ sn_of (lsn e.start) + group_length (group_of shape.space one) = omega arith in z);
         };
         marks_say = both.0;
         mode_allows = both.1;

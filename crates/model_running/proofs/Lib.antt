@@ -27,6 +27,7 @@ pub mod LineBytes
 pub mod ListsReady
 pub mod LogTurns
 pub mod Losses
+pub mod MarksReach
 pub mod OpenLines
 pub mod PagePrefixes
 pub mod PageTurn
@@ -35,6 +36,7 @@ pub mod RunEnds
 pub mod Scripted
 pub mod Seated
 pub mod SeatsKeep
+pub mod SlotHolders
 pub mod StartRunning
 pub mod Turns
 pub mod UserCloses

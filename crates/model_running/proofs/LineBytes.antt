@@ -7,8 +7,9 @@ use Rattle.std.specs.Int.{bytes_high_first}
 use Rattle.std.specs.List.{All, AllByRecursion}
 use Rattle.std.specs.Prelude.{slice_index}
 use native.Mathlib.Decide.{dec_le}
-use Rattle.model_base.specs.{overwritten}
-use Rattle.model_base.specs.declared.limits.TheConstants.{USER_BYTES, USER_START}
+use Rattle.model_base.specs.{overwritten, user_length}
+use Rattle.model_base.specs.declared.limits.TheConstants.{USER_START}
+use Rattle.model_base.specs.declared.shape.Shape.{Shape}
 use Rattle.model_core.specs.{after_from, cell_where_same, changed_cells, change_on, changes_of, collected, CellWrite, change_at, PageChange}
 use Rattle.model_base.proofs.ByteLemmas.{AreBytes, AreBytes-append, AreBytes-cons, AreBytes-drop, AreBytes-of_number, AreBytes-take}
 use Rattle.model_log.specs.{HasText, IsByte, page_of}
@@ -68,15 +69,18 @@ no_cell = record { at = 0; value = 0 }
 abbrev pub GetsBytes : PageChange → Type 0
 GetsBytes change = (i : ℕ) → (get_or change.cells i no_cell).value < 256
 
-page_gets : (p : ℕ) (group : List Rec) → AllByRecursion HasText group → (i : ℕ) → (get_or (changed_cells p group) i no_cell).value < 256
-page_gets p group has i =
-    let low : List ℕ = after_from 0 p group in
-    let high : List ℕ = after_from 255 p group in
-    let bytes : AreBytes low = group_bytes p group (replicate USER_BYTES 0) has (zeros USER_BYTES) in
+page_gets : (shape : Shape) (p : ℕ) (group : List Rec) → AllByRecursion HasText group
+    → (i : ℕ) → (get_or (changed_cells shape p group) i no_cell).value < 256
+page_gets shape p group has i =
+    let n : ℕ = user_length shape in
+    let low : List ℕ = after_from shape 0 p group in
+    let high : List ℕ = after_from shape 255 p group in
+    let bytes : AreBytes low = group_bytes p group (replicate n 0) has (zeros n) in
     collected_each (λ (z : CellWrite). z.value < 256) (cell_where_same low high) no_cell (omega arith)
-    (λ j k. if_one (λ (z : CellWrite). z.value < 256) (record { at = USER_START + j; value = slice_index low j }) no_cell (bytes j) (omega arith) (eqb (slice_index low j) (slice_index high j)) k) USER_BYTES i
+    (λ j k. if_one (λ (z : CellWrite). z.value < 256) (record { at = USER_START + j; value = slice_index low j }) no_cell (bytes j) (omega arith) (eqb (slice_index low j) (slice_index high j)) k) n i
 
-pub changes_get_bytes : (pages : ℕ) (group : List Rec) → AllByRecursion HasText group → (k : ℕ) → GetsBytes (change_at (changes_of pages group) k)
-changes_get_bytes pages group has k =
-    collected_each GetsBytes (change_on group) (record { page = 0; cells = [] }) (λ i. omega arith)
-    (λ p j. if_one GetsBytes (record { page = p; cells = changed_cells p group }) (record { page = 0; cells = [] }) (page_gets p group has) (λ i. omega arith) (touches p group) j) pages k
+pub changes_get_bytes : (shape : Shape) (group : List Rec) → AllByRecursion HasText group
+    → (k : ℕ) → GetsBytes (change_at (changes_of shape group) k)
+changes_get_bytes shape group has k =
+    collected_each GetsBytes (change_on shape group) (record { page = 0; cells = [] }) (λ i. omega arith)
+    (λ p j. if_one GetsBytes (record { page = p; cells = changed_cells shape p group }) (record { page = 0; cells = [] }) (page_gets shape p group has) (λ i. omega arith) (touches p group) j) shape.pages k

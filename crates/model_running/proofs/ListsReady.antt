@@ -3,7 +3,7 @@ use Rattle.std.proofs.Common.{Bool, List, [], arith, cond, false, get_or, length
 use lib.ListN.{get_elem?}
 use mathlib.Core.Option.{some}
 use native.Mathlib.Decide.{dec_le}
-use Rattle.model_core.specs.{Actor, BatchPage, checkpointer_op, CheckpointerState, cleaner_op, CleanerState, closer_op, CloserState, flusher_op, FlusherState, Listed, lsn, next, no_page, oldest_of, page_of, SharedWords, user_op, UserState, writer_op, WriterState}
+use Rattle.model_core.specs.{Actor, BatchPage, checkpointer_op, CheckpointerState, cleaner_op, CleanerState, closer_op, CloserState, current_page, flusher_op, FlusherState, Listed, lsn, next, no_page, oldest_of, SharedWords, user_op, UserState, writer_op, WriterState}
 use Rattle.model_core.specs.DataSide.{DataSide}
 use Rattle.model_core.specs.LogSide.{LogSide}
 use Rattle.model_core.specs.Setup.{Setup}
@@ -14,6 +14,7 @@ use Rattle.model_core.specs.declared.steps.CloserStep.{CloserStep}
 use Rattle.model_core.specs.declared.steps.FlusherStep.{FlusherStep}
 use Rattle.model_core.specs.declared.steps.UserStep.{UserStep}
 use Rattle.model_core.specs.declared.steps.WriterStep.{WriterStep}
+use Rattle.model_core.specs.declared.limits.TheConstants.{CLOSED_LINKS}
 use Rattle.model_logcore.proofs.Ready.{ready}
 use Rattle.model_logcore.specs.{LogGhost}
 use Rattle.model_pagecore.proofs.PageHistory.{each_more}
@@ -43,7 +44,7 @@ module _ (D : LogSide) (E : DataSide) (c : Setup) (spare : ℕ) (m : SharedWords
       let C = P.closed_links in
       let ord = C.order in
       let tail_low : h.tail ≤ lsn u.start = elim (dec_le h.tail (lsn u.start)) [ yes z ↦ z | no z ↦ (let y = C.below work.at _ work.is (omega arith) in let un = work.not_closed in absurd (cc)) ] in
-      (here.there, off.1, each_more (λ y. y.oldest < m.ctail + 16384) (λ y. y.oldest < lsn u.start + 16384) (ls (page_of u % 4)) (λ y z. omega arith) (P.lists.near (page_of u % 4)))
+      (here.there, off.1, each_more (λ y. y.oldest < m.ctail + CLOSED_LINKS) (λ y. y.oldest < lsn u.start + CLOSED_LINKS) (ls (current_page u % 4)) (λ y z. omega arith) (P.lists.near (current_page u % 4)))
   user_lists u at _ o = tt
 
   writer_lists : (s : WriterState) (f : WriterStep) → ListReady c.pages ls (writer_op s f)

@@ -2,6 +2,7 @@
 use Rattle.std.proofs.Common.{List, Some, [], ap, arith, cond, inl, inr, length, refl, slice_get, subst, suc, sym, ℕ, ⊎_elim, ◌+◌, ◌<◌, ◌==◌, ◌↔◌, ◌∙◌, ◌∷◌, ◌≡◌, ◌≢◌, ◌≤◌}
 use lib.ListN.{get_elem?}
 use native.Mathlib.Decide.{dec_le, ℕ_discrete}
+use Rattle.model_base.specs.declared.shape.Shape.{Shape}
 use Rattle.model_core.specs.{Actor, entries, entries_from, entry, found, Line, line_at, SharedWords, sum_of, UserState}
 use Rattle.model_core.specs.LogSide.{LogSide}
 use Rattle.model_core.specs.Setup.{Setup}
@@ -63,11 +64,7 @@ module _ (D : LogSide) (c : Setup) (spare : ℕ) (m : SharedWords) (g : LogGhost
     by_actor : (e : core.Entry) (k seat : ℕ) (a : Actor) → get_elem? actors seat ≡ maybe.some a → 0 < count_of e.user (entries a) → k < count_of e.user g.log → g.answered e.user ≤ k → IsLostBy actors e.user k × (0 < m.failed)
     by_actor e k seat (actor.User u) at more below unanswered = ended e.user k seat u at (own_user u.user e.user u.lines 0 u.starts more) below unanswered
     by_actor e k seat (actor.Joined es) at more below unanswered = let z : count_of e.user es ≡ 0 = ap (count_of e.user) (end.unjoined seat es at) in absurd (omega arith)
-    by_actor e k seat (actor.Writer s) at more below unanswered = absurd (omega arith)
-    by_actor e k seat (actor.Flusher s) at more below unanswered = absurd (omega arith)
-    by_actor e k seat (actor.Closer s) at more below unanswered = absurd (omega arith)
-    by_actor e k seat (actor.Cleaner s) at more below unanswered = absurd (omega arith)
-    by_actor e k seat (actor.Checkpointer s) at more below unanswered = absurd (omega arith)
+    by_actor e k seat _ at more below unanswered = absurd (omega arith)
 
     -- a group whose commit isn't answered is the last of a user that has met a failure
     pub unanswered_group : (i : ℕ) (e : core.Entry) → get_elem? g.log i ≡ maybe.some e → g.answered e.user ≤ e.k → IsLostBy actors e.user e.k × (0 < m.failed)
@@ -97,9 +94,9 @@ module _ (D : LogSide) (c : Setup) (spare : ℕ) (m : SharedWords) (g : LogGhost
         (λ failed. let z : UserAt D c m g p seat u user_step.Failed = subst (UserAt D c m g p seat u) failed f.step in (failed, z.1))
         (end.users seat u at)
 
-    pub left_lines : (marks : Marks) (script : List ScriptLine) (space : ℕ) (left : List (ℕ × ℕ)) → IsOfScript c script space → HasSeats script actors → IsLeft script (history_of g.answered marks g.log) left → left ≢ [] → 0 < m.failed
-    left_lines marks script space [] S seats is more = absurd (more refl)
-    left_lines marks script space (pair ∷ left) S seats is more =
+    pub left_lines : (marks : Marks) (script : List ScriptLine) (shape : Shape) (left : List (ℕ × ℕ)) → IsOfScript c script shape → HasSeats script actors → IsLeft script (history_of g.answered marks g.log) left → left ≢ [] → 0 < m.failed
+    left_lines marks script shape [] S seats is more = absurd (more refl)
+    left_lines marks script shape (pair ∷ left) S seats is more =
         let n = is.some 0 pair refl in
         let h : length (lines_of_user pair.0 script) ≡ length (entries_of_user pair.0 (history_of g.answered marks g.log)) + pair.1 = is.counts 0 pair refl in
         let e = counts g.answered marks pair.0 g.log in

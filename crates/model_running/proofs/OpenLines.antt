@@ -3,6 +3,7 @@
 use Rattle.std.proofs.Common.{List, Some, [], ap, arith, inl, inr, length, refl, slice_get, subst, suc, sym, zero, ℕ, ⊎_elim, ◌<◌, ◌∙◌, ◌∷◌, ◌≡◌, ◌≤◌, ◌⊎◌}
 use lib.ListN.{get_elem?}
 use native.Mathlib.Decide.{dec_le, ℕ_discrete}
+use Rattle.model_base.specs.declared.shape.Shape.{Shape}
 use Rattle.model_core.specs.{Actor, SharedWords, UserState}
 use Rattle.model_core.specs.LogSide.{LogSide}
 use Rattle.model_core.specs.Setup.{Setup}
@@ -54,7 +55,7 @@ module _ (D : LogSide) (c : Setup) (spare : ℕ) (m : SharedWords) (g : LogGhost
       let f : count_of r.group.user g.log ≡ count_of v g.log = ap (λ (u : ℕ). count_of u g.log) r.own in
       omega arith
 
-  module _ (script : List ScriptLine) (space : ℕ) (S : IsOfScript c script space) (seats : HasSeats script actors) where
+  module _ (script : List ScriptLine) (shape : Shape) (S : IsOfScript c script shape) (seats : HasSeats script actors) where
     -- a user that has no line has no group
     without_lines : (v : ℕ) → length (lines_of_user v script) ≡ 0 → count_of v g.log ≡ 0
     without_lines v none = elim (dec_le 1 (count_of v g.log)) [

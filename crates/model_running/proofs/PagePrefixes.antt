@@ -24,7 +24,7 @@ use mathlib.Core.Option as maybe
 
 -- the group changes of the pages what its records say
 pub record IsPageGroup (shape : Shape) (e : core.Entry) (whole : Whole) : Type 0 where
-  pub changes : ◌≡◌ {A = List PageChange} e.changes (changes_of shape.pages whole.group)
+  pub changes : ◌≡◌ {A = List PageChange} e.changes (changes_of shape whole.group)
   pub fits : GroupFits shape whole.group
 
 abbrev pub ArePageGroups : Shape → List core.Entry → List Whole → Type 0
@@ -71,8 +71,8 @@ passed_start p q x (e ∷ es) s n (w ∷ ws) tiles are low =
     ((λ found below. absurd (omega arith)), passed_start p q x es (s + length e.bytes) n ws tiles.3 are.1 (omega arith))
 
 module _ (shape : Shape) (limits : IsWithinLimits shape) (p : ℕ) (there : p < shape.pages) where
-  pub touched : (e : core.Entry) (whole : Whole) → IsPageGroup shape e whole → pages_of.touches p e.changes ≡ apply.touches p whole.group
-  touched e whole of = ap (pages_of.touches p) of.changes ∙ (change_of_page whole.group p shape.pages there).touched
+  pub touched : (e : core.Entry) (whole : Whole) → IsPageGroup shape e whole → pages_of.is_changed_page p e.changes ≡ apply.touches p whole.group
+  touched e whole of = ap (pages_of.is_changed_page p) of.changes ∙ (change_of_page shape whole.group p shape.pages there).touched
 
   -- what holds below the bound holds below a lower one
   pub passed_by : (q x y : ℕ) (log : List core.Entry) (wholes : List Whole) → ArePageGroups shape log wholes → AreWholesOf log wholes → y ≤ x → Passed p log q x → HasPassed p wholes y q
@@ -83,21 +83,21 @@ module _ (shape : Shape) (limits : IsWithinLimits shape) (p : ℕ) (there : p < 
       let start = start_is e w es ws places in let end = end_is e w es ws places in
       ((λ found below. let z = passed zero e refl (touched e w are.0 ∙ found) (omega arith) in omega arith), passed_by q x y es ws are.1 places.1 low (λ i f is. passed (suc i) f is))
 
-  step_user : (e : core.Entry) (whole : Whole) (b : List ℕ) (page : Content) → IsPageGroup shape e whole → length b ≡ 4096 → user_part b ≡ page.user → (d : Bool)
+  step_user : (e : core.Entry) (whole : Whole) (b : List ℕ) (page : Content) → IsPageGroup shape e whole → length b ≡ shape.page_size → user_part b ≡ page.user → (d : Bool)
       → user_part (cond d (write_cells (cells_on p e.changes) b) b) ≡ (cond d (page_after p whole.group whole.end page) page).user
   step_user e whole b page of long same true =
-      ap (λ (cs : List PageChange). user_part (write_cells (cells_on p cs) b)) of.changes ∙ cells_apply shape whole.group shape.pages p b limits of.fits there long ∙ by (apply.touches p whole.group)
+      ap (λ (cs : List PageChange). user_part (write_cells (cells_on p cs) b)) of.changes ∙ cells_apply shape whole.group p b limits of.fits there long ∙ by (apply.touches p whole.group)
     where
       by : (t : Bool) → cond t (user_after p whole.group (user_part b)) (user_part b) ≡ (cond t (record { lsn = whole.end; user = user_after p whole.group page.user }) page).user
       by true = ap (user_after p whole.group) same
       by false = same
   step_user e whole b page of long same false = same
 
-  step_long : (e : core.Entry) (b : List ℕ) → length b ≡ 4096 → (d : Bool) → length (cond d (write_cells (cells_on p e.changes) b) b) ≡ 4096
+  step_long : (e : core.Entry) (b : List ℕ) → length b ≡ shape.page_size → (d : Bool) → length (cond d (write_cells (cells_on p e.changes) b) b) ≡ shape.page_size
   step_long e b long true = writes_long (cells_on p e.changes) b ∙ long
   step_long e b long false = long
 
-  pub user_upto : (q : ℕ) (log : List core.Entry) (wholes : List Whole) (b : List ℕ) (page : Content) → ArePageGroups shape log wholes → AreWholesOf log wholes → length b ≡ 4096 → user_part b ≡ page.user
+  pub user_upto : (q : ℕ) (log : List core.Entry) (wholes : List Whole) (b : List ℕ) (page : Content) → ArePageGroups shape log wholes → AreWholesOf log wholes → length b ≡ shape.page_size → user_part b ≡ page.user
       → user_part (applied_upto p q log b) ≡ (upto p q wholes page).user
   user_upto q [] [] b page are places long same = same
   user_upto q [] (w ∷ ws) b page are places long same = absurd are
@@ -109,7 +109,7 @@ module _ (shape : Shape) (limits : IsWithinLimits shape) (p : ℕ) (there : p < 
 
   -- where a group on the page ends at q, that is the lsn of the page with the groups up to q
   pub lsn_upto : (q : ℕ) (log : List core.Entry) (s n : ℕ) (wholes : List Whole) (page : Content) → Tiles s log n → ArePageGroups shape log wholes → AreWholesOf log wholes
-      → (i : ℕ) (e : core.Entry) → get_elem? log i ≡ maybe.some e → pages_of.touches p e.changes ≡ true → end_lsn e ≡ q → (upto p q wholes page).lsn ≡ q
+      → (i : ℕ) (e : core.Entry) → get_elem? log i ≡ maybe.some e → pages_of.is_changed_page p e.changes ≡ true → end_lsn e ≡ q → (upto p q wholes page).lsn ≡ q
   lsn_upto q [] s n wholes page tiles are places i e at on end = absurd (maybe.some-ne-none e (sym at))
   lsn_upto q (x ∷ xs) s n [] page tiles are places i e at on end = absurd are
   lsn_upto q (x ∷ xs) s n (w ∷ ws) page tiles are places zero e at on end =
@@ -117,7 +117,7 @@ module _ (shape : Shape) (limits : IsWithinLimits shape) (p : ℕ) (there : p < 
       let a1 = (above x xs s n tiles).1 in
       let last : end_lsn x ≡ q = ap end_lsn same ∙ end in
       let w_end : w.end ≡ q = end_is x w xs ws places ∙ last in
-      let found : apply.touches p w.group ≡ true = sym (touched x w are.0) ∙ ap (λ (z : core.Entry). pages_of.touches p z.changes) same ∙ on in
+      let found : apply.touches p w.group ≡ true = sym (touched x w are.0) ∙ ap (λ (z : core.Entry). pages_of.is_changed_page p z.changes) same ∙ on in
       ap (λ (z : Content). z.lsn) (ap (upto p q ws) (taken w.end q (page_after p w.group w.end page) page (omega arith)) ∙ upto-none p q ws (page_after p w.group w.end page) (ends_above xs (s + length x.bytes) n q ws tiles.3 places.1 (omega arith)))
       ∙ ap (λ (t : Bool). let z : ℕ = (cond t (record { lsn = w.end; user = user_after p w.group page.user }) page).lsn in z) found ∙ w_end
   lsn_upto q (x ∷ xs) s n (w ∷ ws) page tiles are places (suc i) e at on end =

@@ -6,19 +6,20 @@ use Rattle.model_running.specs.History.{history_of, log_span, log_spans}
 use Rattle.model_report.specs.{entry_spans}
 use Rattle.model_report.specs.declared.entry.Marks.{Marks}
 use Rattle.model_log.specs.{IsBoundary, IsTiled, lsn_of, sn_of, Span}
+use Rattle.model_log.specs.declared.layout.TheConstants.{BLOCK_DATA}
 use Rattle.model_core.specs.Groups as core
 
 -- an sn comes back from its lsn
 pub sn_back : (x : ℕ) → sn_of (lsn x) ≡ x
 unfolding lsn
 sn_back x =
-    let l : ℕ = x / 496 * 512 + x % 496 + 12 in
-    let o : l % 512 ≡ x % 496 + 12 = omega arith in
-    let b : l / 512 ≡ x / 496 = omega arith in
+    let l : ℕ = x / BLOCK_DATA * 512 + x % BLOCK_DATA + 12 in
+    let o : l % 512 ≡ x % BLOCK_DATA + 12 = omega arith in
+    let b : l / 512 ≡ x / BLOCK_DATA = omega arith in
     let first : ltb (l % 512) 12 ≡ false = le-ltb (l % 512) 12 (omega arith) in
     let last : ltb 508 (l % 512) ≡ false = le-ltb 508 (l % 512) (omega arith) in
-    let d : cond (ltb (l % 512) 12) 0 (cond (ltb 508 (l % 512)) 496 (l % 512 - 12)) ≡ l % 512 - 12 = ap (λ (z : Bool). cond z 0 (cond (ltb 508 (l % 512)) 496 (l % 512 - 12))) first ∙ ap (λ (z : Bool). cond z 496 (l % 512 - 12)) last in
-    ap (λ (n : ℕ). l / 512 * 496 + n) d ∙ (omega arith)
+    let d : cond (ltb (l % 512) 12) 0 (cond (ltb 508 (l % 512)) BLOCK_DATA (l % 512 - 12)) ≡ l % 512 - 12 = ap (λ (z : Bool). cond z 0 (cond (ltb 508 (l % 512)) BLOCK_DATA (l % 512 - 12))) first ∙ ap (λ (z : Bool). cond z BLOCK_DATA (l % 512 - 12)) last in
+    ap (λ (n : ℕ). l / 512 * BLOCK_DATA + n) d ∙ (omega arith)
 
 -- the two spellings of an lsn are one
 pub lsn_is : (x : ℕ) → lsn x ≡ lsn_of x

@@ -22,7 +22,7 @@ use Rattle.model_running.specs.Schedule.{IsDone, IsSpent, TakesTurns}
 use Rattle.model_running.specs.Seating.{AreSeated}
 use Rattle.model_script.specs.declared.script.ScriptLine.{ScriptLine}
 
-module _ (D : LogSide) (L : LogLaws D) (E : DataSide) (EL : DataLaws E) (c : Setup) (spare seed max : ℕ) (script : List ScriptLine) (opened : Opened) (first last : Core D E) (running : IsRunning D E c spare first) (of_script : IsOfScript c script opened.shape.space) (start : lsn c.base ≡ start_after opened.end) where
+module _ (D : LogSide) (L : LogLaws D) (E : DataSide) (EL : DataLaws E) (c : Setup) (spare seed max : ℕ) (script : List ScriptLine) (opened : Opened) (first last : Core D E) (running : IsRunning D E c spare first) (of_script : IsOfScript c script opened.shape) (start : lsn c.base ≡ start_after opened.end) where
   pub run_done : (failures : ℕ) (left : List (ℕ × ℕ)) → AreSeated c first.actors → CausesAreFailures D E failures last.log_part last.data_part → IsDone D E seed max first last → FinishedStore D E c script opened failures left last
   run_done failures left seated causes done =
       let after : IsRunning D E c spare last = run_keeps D L E EL c spare seed max done.count first last running done.turns in

@@ -39,6 +39,7 @@ module _ (D : LogSide) (E : DataSide) (c : Setup) (m : SharedWords) (p : D.Part)
   cleaner_fits seat v alone is = subst (λ (z : CleanerState). CleanerFits E c m [] (start_pages c) (λ _. []) d seat z) (sym is) (record {
     alone = alone;
     pages = refl;
+    page_size = refl;
     page = S.some_page;
     flushed = omega arith;
     sound = λ _. (S.sound, refl);
@@ -61,7 +62,7 @@ module _ (D : LogSide) (E : DataSide) (c : Setup) (m : SharedWords) (p : D.Part)
   page_fits seat (actor.User u) at h = let k = new_user_is c u h.1 in record {
     there = λ j i l. subst (λ (ls : List Line). i < length (line_at ls j).changes → (change_at (line_at ls j).changes i).page < c.pages) (sym k.lines) (S.script.there u.user j i) l;
     apart = λ j i n l r. subst (λ (ls : List Line). i < n → n < length (line_at ls j).changes → (change_at (line_at ls j).changes i).page ≢ (change_at (line_at ls j).changes n).page) (sym k.lines) (S.script.apart u.user j i n) l r;
-    within = λ j n i l. subst (λ (ls : List Line). n < length (line_at ls j).changes → (get_or (change_at (line_at ls j).changes n).cells i (record { at = 0; value = 0 })).at < 4096) (sym k.lines) (S.script.within u.user j n i) l;
+    within = λ j n i l. subst (λ (ls : List Line). n < length (line_at ls j).changes → (get_or (change_at (line_at ls j).changes n).cells i (record { at = 0; value = 0 })).at < c.page_size) (sym k.lines) (S.script.within u.user j n i) l;
     ascending = λ j n a b lt l. subst (λ (ls : List Line). b < length (change_at (line_at ls j).changes n).cells → (get_or (change_at (line_at ls j).changes n).cells a (record { at = 0; value = 0 })).at < (get_or (change_at (line_at ls j).changes n).cells b (record { at = 0; value = 0 })).at) (sym k.lines) (S.script.ascending u.user j n a b lt) l;
     are_bytes = λ j n i. subst (λ (ls : List Line). (get_or (change_at (line_at ls j).changes n).cells i (record { at = 0; value = 0 })).value < 256) (sym k.lines) (S.script.are_bytes u.user j n i);
     loaded = (let z : u.loaded.ctail ≡ 0 = ap (λ (z : LoadedMarks). z.ctail) k.loaded in omega arith);

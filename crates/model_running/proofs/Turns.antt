@@ -1,12 +1,14 @@
 -- The one step lemma, over the list of words.
-use Rattle.std.proofs.Common.{Bool, List, [], ap, arith, cond, eqb, false, get_or, length, refl, set, subst, sym, true, ℕ, ◌<◌, ◌∙◌, ◌∷◌, ◌≡◌}
+use Rattle.std.proofs.Common.{Bool, List, [], ap, arith, cond, eqb, false, get_or, length, refl, set, subst, sym, true, ℕ, ◌<◌, ◌∙◌, ◌∷◌, ◌≡◌, ◌≤◌}
 use Rattle.std.specs.Prelude.{slice_index}
 use lib.ListN.{get_elem?}
 use mathlib.Core.Option.{some}
 use Rattle.model_core.specs.{Actor, answer_of, BatchPage, checkpointer_op, CheckpointerState, cleaner_op, CleanerState, closer_op, CloserState, DataServed, first_of_batch, flat, flusher_op, FlusherState, IsWord, lent, Listed, lists_left, LogServed, mode, next, no_page, OpWords, shared_answer, shared_left, SharedWords, took, user_op, UserState, words_left, writer_op, WriterState, Advance, advance_op}
+use Rattle.model_core.proofs.PageSizes.{has_room}
 use Rattle.model_core.specs.DataSide.{DataSide}
 use Rattle.model_core.specs.LogSide.{LogSide}
 use Rattle.model_core.specs.Setup.{Setup}
+use Rattle.model_core.specs.declared.limits.TheConstants.{FRAME_CELLS}
 use Rattle.model_core.specs.declared.ops.Answer.{Answer}
 use Rattle.model_core.specs.declared.ops.Op.{Op}
 use Rattle.model_core.specs.declared.steps.CleanerStep.{CleanerStep}
@@ -37,6 +39,9 @@ use Rattle.model_core.specs.declared.steps.WriterStep.TheVariants as writer_step
 use Rattle.model_core.specs.declared.steps.FlusherStep.TheVariants as flusher_step
 
 module _ (D : LogSide) (E : DataSide) (c : Setup) (spare : ℕ) (m : SharedWords) (g : LogGhost) (h : PageGhost) (ls : ℕ → List Listed) (p : D.Part) (d : E.Part) (actors : List Actor) (seat : ℕ) (both : BothHalves D E c spare m g h ls p d actors) where
+  page_room : c.page_size ≤ FRAME_CELLS
+  page_room = has_room c.page_size both.script.page_size
+
   advance_words : (b : LinkBuffer) (v : Advance) (s : AdvanceStep) → OpWords c.pages (advance_op b v s)
   advance_words link_buffer.Written v advance_step.LoadLink = omega arith
   advance_words link_buffer.Written v advance_step.ClearLink = omega arith
@@ -54,8 +59,8 @@ module _ (D : LogSide) (E : DataSide) (c : Setup) (spare : ℕ) (m : SharedWords
       by true = tt
       by false = tt
   user_words u F user_step.TakeLatch o = F.there u.k u.page o.1
-  user_words u F user_step.LoadFrame o = (F.there u.k u.page o.1.1, (let w = F.within u.k u.page u.cell o.1.1 in omega arith))
-  user_words u F user_step.StoreFrame o = (F.there u.k u.page o.1.1, (let w = F.within u.k u.page u.cell o.1.1 in omega arith))
+  user_words u F user_step.LoadFrame o = (F.there u.k u.page o.1.1, (let w = F.within u.k u.page u.cell o.1.1 in let room = page_room in omega arith))
+  user_words u F user_step.StoreFrame o = (F.there u.k u.page o.1.1, (let w = F.within u.k u.page u.cell o.1.1 in let room = page_room in omega arith))
   user_words u F user_step.StoreNewest o = F.there u.k u.page o.1.1
   user_words u F user_step.LoadOldest o = F.there u.k u.page o.1.1
   user_words u F user_step.StoreOldest o = F.there u.k u.page o.1.1
@@ -105,7 +110,7 @@ module _ (D : LogSide) (E : DataSide) (c : Setup) (spare : ℕ) (m : SharedWords
   cleaner_words x l cleaner_step.TakeLatch o = l
   cleaner_words x l cleaner_step.LoadNewest o = l
   cleaner_words x l cleaner_step.ReleaseSkipped o = l
-  cleaner_words x l cleaner_step.LoadFrame o = (l, (let k = o.5 in omega arith))
+  cleaner_words x l cleaner_step.LoadFrame o = (l, (let k = o.5 in let room = page_room in omega arith))
   cleaner_words x l cleaner_step.WriteBatch o = tt
   cleaner_words x l cleaner_step.RemoveFromList o = tt
   cleaner_words x l cleaner_step.ClearOldest o = fore x InWordOnly o.0

@@ -3,7 +3,7 @@ use Rattle.std.proofs.Common.{Bool, List, arith, cond, eqb, eqb-true, false, len
 use lib.ListN.{get_elem?}
 use mathlib.Core.Option.{some}
 use native.Mathlib.Decide.{ℕ_discrete}
-use Rattle.model_core.specs.{after_link, answered, can_close, can_link, cells_of, change_at, changes, Entry, entry, frame_count, group_bytes, is_whole, word_step, group_end, has_passed, has_room, has_space, line, LoadedMarks, mode, next_count, to_next_page, user_checked, user_took, UserState, with_mark, advance_next, frees, stays_put, tail_of, with_close_room, with_link_room, without_close_room, without_link_room}
+use Rattle.model_core.specs.{advance_next, after_link, answered, can_close, can_link, cells_of, change_at, changes, checked_of, entry, Entry, frame_count, frees, group_bytes, group_end, has_passed, has_room, has_space, is_whole, line, LoadedMarks, mode, next_count, stays_put, tail_of, to_next_page, user_program, user_took, UserState, with_close_room, with_link_room, with_mark, without_close_room, without_link_room, word_step}
 use Rattle.model_core.specs.Setup.{Setup}
 use Rattle.model_core.specs.declared.steps.UserStep.{UserStep}
 use Rattle.model_log.specs.declared.layout.TheConstants.{BLOCK_DATA}
@@ -126,6 +126,6 @@ module _ (c : Setup) (sn : ℕ) (log : List Entry) (place : ℕ → Place) (tile
   still _ hand = tt
 
   -- a load of FAILED
-  pub closes_checked : (n : ℕ) → UserClosed log later (user_checked u n)
+  pub closes_checked : (n : ℕ) → UserClosed log later (checked_of user_program u n)
   closes_checked n = either (eqb n 0) (record u { checks = false }) (record u { checks = false; code = n; step = user_step.Failed })
       (keep (record u { checks = false }) refl refl (still u.step before.in_hand)) (keep (record u { checks = false; code = n; step = user_step.Failed }) refl refl tt)

@@ -5,7 +5,7 @@ use Rattle.std.specs.Prelude.{None, nat_le, slice_index, slice_set}
 use lib.ListN.{get_elem?}
 use mathlib.Core.Option.{some}
 unfoldable use Rattle.model_core.specs.{packed}
-use Rattle.model_core.specs.{Actor, after_link, answered, cell_of, changes, copy_place, lane_of, next_bytes, next_count, checked, DataServed, Entry, floor, found, group_bytes, group_end, heard, joined, Listed, lists_left, LogServed, lsn, mode, Nothing, old_of, own_took, page_of, page_words_at, phase_log, shared_answer, shared_left, SharedWords, user_op, user_took, UserState, with_mark, with_page_words, advance_next, advance_op, advance_took, after, can_link, frees, stays_put, tail_of, tail_word, with_link_room, without_link_room, wrote}
+use Rattle.model_core.specs.{Actor, after_link, answered, cell_of, changes, copy_place, lane_of, next_bytes, next_count, checked, DataServed, Entry, floor, found, group_bytes, group_end, heard, appended, Listed, lists_left, LogServed, lsn, mode, Nothing, old_of, own_took, current_page, page_words_at, phase_log, shared_answer, shared_left, SharedWords, user_op, user_took, UserState, with_mark, with_page_words, advance_next, advance_op, advance_took, after, can_link, frees, stays_put, tail_of, tail_word, with_link_room, without_link_room, wrote}
 use Rattle.model_core.specs.DataSide.{DataSide}
 use Rattle.model_core.specs.LogSide.{LogSide}
 use Rattle.model_core.specs.Setup.{Setup}
@@ -18,7 +18,7 @@ use Rattle.model_pagecore.proofs.PageStep.{page_quiet}
 use Rattle.model_pagecore.proofs.UserPageSteps.{keeps_store_frame, keeps_release_latch, keeps_give_list, keeps_take_latch, keeps_store_newest, keeps_load_oldest, keeps_store_oldest, keeps_load_frame, closing_by, tied_fits}
 use Rattle.model_pagecore.proofs.UserRoomSteps.{keeps_advance_closed, keeps_load_ctail, keeps_reload_ctail}
 use Rattle.model_pagecore.proofs.ReserveSteps.{keeps_page_reserve}
-use Rattle.model_pagecore.specs.{Grows, IsFresh, PageGhost, UserPageFits, UserPagesAt, UserClosingAt}
+use Rattle.model_pagecore.specs.{Grows, HasUntouchedPages, PageGhost, UserPageFits, UserPagesAt, UserClosingAt}
 use Rattle.model_pagecore.specs.PageHalf.{PageHalf}
 use Rattle.model_running.specs.RunningStore.{BothHalves}
 use Rattle.model_core.specs.declared.ops.Answer.TheVariants as answer
@@ -58,16 +58,16 @@ module _ (D : LogSide) (E : DataSide) (c : Setup) (spare : ℕ) (m : SharedWords
     total_by true false f = (h, quiet_to (record u { page = 0; cell = 0; step = user_step.TakeLatch }) (record { there = F.there; apart = F.apart; within = F.within; ascending = F.ascending; are_bytes = F.are_bytes; loaded = F.loaded; closing = tt; step = ((λ k lo hi. absurd (omega arith)), (let z = eqb-false (length (changes u)) 0 f in omega arith)) }), unmoved)
     total_by false d0 f = (h, quiet_to (record u { checks = true; step = user_step.LoadCheckpoint }) (record { there = F.there; apart = F.apart; within = F.within; ascending = F.ascending; are_bytes = F.are_bytes; loaded = F.loaded; closing = tt; step = tt }), unmoved)
 
-    latch_by : (b : Bool) → eqb (page_words_at m.page_words (page_of u)).latch 0 ≡ b → u.step ≡ user_step.TakeLatch → UserPagesAt E c m g.log h ls d seat u user_step.TakeLatch
-        → Kept (cond b (with_page_words m (page_of u) (record (page_words_at m.page_words (page_of u)) { latch = 1 })) m) g.log ls (actor.User (cond b (record u { page = u.page + 1; step = cond (eqb (u.page + 1) (length (changes u))) user_step.Reserve user_step.TakeLatch }) (record u { checks = true; step = user_step.TakeLatch })))
-    latch_by true f is o = keeps_take_latch E c g.seat_of m g.log (D.stable p) h ls d actors seat both.paged (mates both) (laid_of both) u at both.logged.sized.page_words is (eqb-true (page_words_at m.page_words (page_of u)).latch 0 f)
+    latch_by : (b : Bool) → eqb (page_words_at m.page_words (current_page u)).latch 0 ≡ b → u.step ≡ user_step.TakeLatch → UserPagesAt E c m g.log h ls d seat u user_step.TakeLatch
+        → Kept (cond b (with_page_words m (current_page u) (record (page_words_at m.page_words (current_page u)) { latch = 1 })) m) g.log ls (actor.User (cond b (record u { page = u.page + 1; step = cond (eqb (u.page + 1) (length (changes u))) user_step.Reserve user_step.TakeLatch }) (record u { checks = true; step = user_step.TakeLatch })))
+    latch_by true f is o = keeps_take_latch E c g.seat_of m g.log (D.stable p) h ls d actors seat both.paged (mates both) (laid_of both) u at both.logged.sized.page_words is (eqb-true (page_words_at m.page_words (current_page u)).latch 0 f)
     latch_by false f is o = (h, quiet_to (record u { checks = true; step = user_step.TakeLatch }) (record { there = F.there; apart = F.apart; within = F.within; ascending = F.ascending; are_bytes = F.are_bytes; loaded = F.loaded; closing = tt; step = o }), unmoved)
 
-    room_by : (b : Bool) → IsFresh E c m g.log h ls d seat u → Kept m g.log ls (actor.User (cond b (record u { loaded = record u.loaded { write = m.write }; step = user_step.AddCell }) (record u { loaded = record u.loaded { write = m.write }; checks = true; step = user_step.LoadWrite })))
+    room_by : (b : Bool) → HasUntouchedPages E c m g.log h ls d seat u → Kept m g.log ls (actor.User (cond b (record u { loaded = record u.loaded { write = m.write }; step = user_step.AddCell }) (record u { loaded = record u.loaded { write = m.write }; checks = true; step = user_step.LoadWrite })))
     room_by true o = (h, quiet_to (record u { loaded = record u.loaded { write = m.write }; step = user_step.AddCell }) (record { there = F.there; apart = F.apart; within = F.within; ascending = F.ascending; are_bytes = F.are_bytes; loaded = F.loaded; closing = tt; step = o }), unmoved)
     room_by false o = (h, quiet_to (record u { loaded = record u.loaded { write = m.write }; checks = true; step = user_step.LoadWrite }) (record { there = F.there; apart = F.apart; within = F.within; ascending = F.ascending; are_bytes = F.are_bytes; loaded = F.loaded; closing = tt; step = o }), unmoved)
 
-    space_by : (b waits : Bool) (f : UserStep) → IsFresh E c m g.log h ls d seat u → UserPagesAt E c m g.log h ls d seat (without_link_room u (tail_word m.wtail m.wheld) waits f) f → UserClosingAt E c m g.log h ls d seat u.advance f
+    space_by : (b waits : Bool) (f : UserStep) → HasUntouchedPages E c m g.log h ls d seat u → UserPagesAt E c m g.log h ls d seat (without_link_room u (tail_word m.wtail m.wheld) waits f) f → UserClosingAt E c m g.log h ls d seat u.advance f
         → Kept m g.log ls (actor.User (cond b (with_link_room u (tail_word m.wtail m.wheld)) (without_link_room u (tail_word m.wtail m.wheld) waits f)))
     space_by true waits f o again closing = (h, quiet_to (with_link_room u (tail_word m.wtail m.wheld)) (record { there = F.there; apart = F.apart; within = F.within; ascending = F.ascending; are_bytes = F.are_bytes; loaded = F.loaded; closing = tt; step = o }), unmoved)
     space_by false waits f o again closing = (h, quiet_to (without_link_room u (tail_word m.wtail m.wheld) waits f) (record { there = F.there; apart = F.apart; within = F.within; ascending = F.ascending; are_bytes = F.are_bytes; loaded = F.loaded; closing = closing; step = again }), unmoved)
@@ -76,7 +76,7 @@ module _ (D : LogSide) (E : DataSide) (c : Setup) (spare : ℕ) (m : SharedWords
     abbrev written_step : Bool → Bool → AdvanceStep → UserStep
     written_step w f r = cond w user_step.LoadWtail (cond f user_step.ReloadWtail (user_step.AdvanceWritten r))
 
-    advanced_fits : (n : ℕ) (s : AdvanceStep) → IsFresh E c m g.log h ls d seat u → UserPageFits E c m g.log h ls d seat (user_took u n (user_step.AdvanceWritten s))
+    advanced_fits : (n : ℕ) (s : AdvanceStep) → HasUntouchedPages E c m g.log h ls d seat u → UserPageFits E c m g.log h ls d seat (user_took u n (user_step.AdvanceWritten s))
     advanced_fits n s o = let w : Bool = stays_put u.advance n s in let r : AdvanceStep = advance_next u.advance n s in
         record { there = F.there; apart = F.apart; within = F.within; ascending = F.ascending; are_bytes = F.are_bytes; loaded = F.loaded; closing = closing w (frees s) r; step = go w (frees s) r }
       where
@@ -93,7 +93,7 @@ module _ (D : LogSide) (E : DataSide) (c : Setup) (spare : ℕ) (m : SharedWords
     abbrev advance_found : LinkBuffer → AdvanceStep → ℕ
     advance_found b s = found (advance_op b u.advance s) m
 
-    advance_written : (s : AdvanceStep) → IsFresh E c m g.log h ls d seat u → Kept (after (advance_op link_buffer.Written u.advance s) m) g.log ls (actor.User (user_took u (advance_found link_buffer.Written s) (user_step.AdvanceWritten s)))
+    advance_written : (s : AdvanceStep) → HasUntouchedPages E c m g.log h ls d seat u → Kept (after (advance_op link_buffer.Written u.advance s) m) g.log ls (actor.User (user_took u (advance_found link_buffer.Written s) (user_step.AdvanceWritten s)))
     advance_written advance_step.TakeTail o = by (eqb (tail_word m.wtail m.wheld) (tail_word u.advance.tail false))
       where
         by : (b : Bool) → Kept (cond b (wrote m word.Wtail (tail_word u.advance.tail true)) m) g.log ls (actor.User (user_took u (tail_word m.wtail m.wheld) (user_step.AdvanceWritten advance_step.TakeTail)))
@@ -104,7 +104,7 @@ module _ (D : LogSide) (E : DataSide) (c : Setup) (spare : ℕ) (m : SharedWords
     advance_closed : (s : AdvanceStep) → u.step ≡ user_step.AdvanceClosed s → Kept (after (advance_op link_buffer.Closed u.advance s) m) g.log ls (actor.User (user_took u (advance_found link_buffer.Closed s) (user_step.AdvanceClosed s)))
     advance_closed s is = keeps_advance_closed E c g.seat_of m g.log (D.stable p) h ls d actors seat both.paged (mates both) (laid_of both) u at s is both.logged.sized.clinks
 
-    copy_by : (b k : Bool) → IsFresh E c m g.log h ls d seat u
+    copy_by : (b k : Bool) → HasUntouchedPages E c m g.log h ls d seat u
         → Kept (record m { cells = slice_set m.cells (cell_of (copy_place u)) (slice_index m.cells (cell_of (copy_place u)) + packed (lane_of (copy_place u)) (next_bytes u)) }) g.log ls (actor.User (record u { copied = u.copied + next_count u; step = cond b (cond k user_step.StoreFirst user_step.LoadWtail) user_step.AddCell }))
     copy_by b k o = (h, away_user both seat (record m { cells = slice_set m.cells (cell_of (copy_place u)) (slice_index m.cells (cell_of (copy_place u)) + packed (lane_of (copy_place u)) (next_bytes u)) }) (record u { copied = u.copied + next_count u; step = cond b (cond k user_step.StoreFirst user_step.LoadWtail) user_step.AddCell }) M1.own_seat (record { there = F.there; apart = F.apart; within = F.within; ascending = F.ascending; are_bytes = F.are_bytes; loaded = F.loaded; closing = closing_by E c m g.log h ls d seat u.advance b (cond k user_step.StoreFirst user_step.LoadWtail) user_step.AddCell (closing_by E c m g.log h ls d seat u.advance k user_step.StoreFirst user_step.LoadWtail tt tt) tt; step = go b k }) refl refl refl refl refl refl refl, unmoved)
       where
@@ -113,18 +113,18 @@ module _ (D : LogSide) (E : DataSide) (c : Setup) (spare : ℕ) (m : SharedWords
         go true false = o
         go false k = o
 
-    tie_by : (b : Bool) → eqb (length (changes u)) 0 ≡ b → IsFresh E c m g.log h ls d seat u
+    tie_by : (b : Bool) → eqb (length (changes u)) 0 ≡ b → HasUntouchedPages E c m g.log h ls d seat u
         → Kept (record m { wlinks = slice_set m.wlinks (lsn u.start % WRITTEN_LINKS) (lsn (group_end u) - lsn u.start) }) g.log ls (actor.User (cond b (after_link u) (record u { step = user_step.LoadCtail })))
     tie_by true f o = (h, away both seat (record m { wlinks = slice_set m.wlinks (lsn u.start % WRITTEN_LINKS) (lsn (group_end u) - lsn u.start) }) (actor.User (after_link u)) (tied_fits E c g.seat_of m g.log (D.stable p) h ls d actors seat both.paged (mates both) (laid_of both) u at (record m { wlinks = slice_set m.wlinks (lsn u.start % WRITTEN_LINKS) (lsn (group_end u) - lsn u.start) }) h ls F.loaded (eqb (mode u) 0) refl) refl refl refl refl refl refl refl, unmoved)
     tie_by false f o = (h, away_user both seat (record m { wlinks = slice_set m.wlinks (lsn u.start % WRITTEN_LINKS) (lsn (group_end u) - lsn u.start) }) (record u { step = user_step.LoadCtail }) M1.own_seat (record { there = F.there; apart = F.apart; within = F.within; ascending = F.ascending; are_bytes = F.are_bytes; loaded = F.loaded; closing = tt; step = (o, (let z = eqb-false (length (changes u)) 0 f in omega arith)) }) refl refl refl refl refl refl refl, unmoved)
 
-    list_by : (b : Bool) → eqb (slice_index m.lists (page_of u % 4)) 0 ≡ b → u.step ≡ user_step.AddToList → u.checks ≡ false → UserPagesAt E c m g.log h ls d seat u user_step.AddToList
-        → Kept (cond b (record m { lists = slice_set m.lists (page_of u % 4) 1 }) m) g.log (λ i. cond (eqb i (page_of u % 4)) (cond b (joined (ls i) (page_of u) (lsn u.start)) (ls i)) (ls i)) (actor.User (user_took u (heard (cond b (answer.Taken None) answer.Held)) user_step.AddToList))
-    list_by true f is checks o = keeps_add E c g.seat_of m g.log (D.stable p) h ls d actors seat both.paged (mates both) (laid_of both) u at (λ i. cond (eqb i (page_of u % 4)) (joined (ls i) (page_of u) (lsn u.start)) (ls i))
-        (ap (λ (z : Bool). cond z (joined (ls (page_of u % 4)) (page_of u) (lsn u.start)) (ls (page_of u % 4))) (eq-eqb (page_of u % 4) (page_of u % 4) refl))
-        (λ i n. ap (λ (z : Bool). cond z (joined (ls i) (page_of u) (lsn u.start)) (ls i)) (ne_eqb i (page_of u % 4) n))
-        both.logged.sized.lists (eqb-true (slice_index m.lists (page_of u % 4)) 0 f) checks is
-    list_by false f is checks o = subst (λ (z : ℕ → List Listed). (k : PageGhost) × PageHalf E c m g.log (D.stable p) k z d (set actors seat (actor.User (user_took u 1 user_step.AddToList))) × Grows m h k) (lists_kept ls (page_of u % 4)) (h, quiet_to (user_took u 1 user_step.AddToList) (record { there = F.there; apart = F.apart; within = F.within; ascending = F.ascending; are_bytes = F.are_bytes; loaded = F.loaded; closing = tt; step = o }), unmoved)
+    list_by : (b : Bool) → eqb (slice_index m.lists (current_page u % 4)) 0 ≡ b → u.step ≡ user_step.AddToList → u.checks ≡ false → UserPagesAt E c m g.log h ls d seat u user_step.AddToList
+        → Kept (cond b (record m { lists = slice_set m.lists (current_page u % 4) 1 }) m) g.log (λ i. cond (eqb i (current_page u % 4)) (cond b (appended (ls i) (current_page u) (lsn u.start)) (ls i)) (ls i)) (actor.User (user_took u (heard (cond b (answer.Taken None) answer.Held)) user_step.AddToList))
+    list_by true f is checks o = keeps_add E c g.seat_of m g.log (D.stable p) h ls d actors seat both.paged (mates both) (laid_of both) u at (λ i. cond (eqb i (current_page u % 4)) (appended (ls i) (current_page u) (lsn u.start)) (ls i))
+        (ap (λ (z : Bool). cond z (appended (ls (current_page u % 4)) (current_page u) (lsn u.start)) (ls (current_page u % 4))) (eq-eqb (current_page u % 4) (current_page u % 4) refl))
+        (λ i n. ap (λ (z : Bool). cond z (appended (ls i) (current_page u) (lsn u.start)) (ls i)) (ne_eqb i (current_page u % 4) n))
+        both.logged.sized.lists (eqb-true (slice_index m.lists (current_page u % 4)) 0 f) checks is
+    list_by false f is checks o = subst (λ (z : ℕ → List Listed). (k : PageGhost) × PageHalf E c m g.log (D.stable p) k z d (set actors seat (actor.User (user_took u 1 user_step.AddToList))) × Grows m h k) (lists_kept ls (current_page u % 4)) (h, quiet_to (user_took u 1 user_step.AddToList) (record { there = F.there; apart = F.apart; within = F.within; ascending = F.ascending; are_bytes = F.are_bytes; loaded = F.loaded; closing = tt; step = o }), unmoved)
 
     mark_ctail : (n : ℕ) (b : Bool) → (cond b (record u.loaded { flushed = n }) (record u.loaded { write = n })).ctail ≤ m.ctail
     mark_ctail n true = F.loaded
@@ -143,7 +143,7 @@ module _ (D : LogSide) (E : DataSide) (c : Setup) (spare : ℕ) (m : SharedWords
         → Kept (shared_left m (user_op u f)) (phase_log g.log m.sn u f) (lists_left ls (λ i. slice_index m.lists i) (user_op u f)) (actor.User (user_took u (heard (shared_answer ls (D.failed p) code (D.stable q) m (user_op u f))) f))
     user_page user_step.LoadCheckpoint is o a checks = (h, quiet_to (record u { loaded = record u.loaded { ckpt = m.ckpt }; step = user_step.LoadSn }) (record { there = F.there; apart = F.apart; within = F.within; ascending = F.ascending; are_bytes = F.are_bytes; loaded = F.loaded; closing = tt; step = tt }), unmoved)
     user_page user_step.LoadSn is o a checks = total_by (nat_le (lsn m.sn + FREE_MARGIN) (u.loaded.ckpt + BLOCK_SIZE * u.blocks)) (eqb (length (changes u)) 0) refl
-    user_page user_step.TakeLatch is o a checks = latch_by (eqb (page_words_at m.page_words (page_of u)).latch 0) refl is o
+    user_page user_step.TakeLatch is o a checks = latch_by (eqb (page_words_at m.page_words (current_page u)).latch 0) refl is o
     user_page user_step.Reserve is o a checks = (h, keeps_page_reserve E c g.seat_of m g.log (D.stable p) h ls d actors seat both.paged (mates both) (laid_of both) u at is (M1.sound u.k a.1).0, unmoved)
     user_page user_step.LoadWrite is o a checks = room_by (ltb (lsn (group_end u)) (floor m.write + LOG_BUFFER)) o
     user_page user_step.AddCell is o a checks = copy_by (eqb (u.copied + next_count u) (length (group_bytes u))) (ltb (u.start / BLOCK_DATA) (group_end u / BLOCK_DATA)) o
@@ -164,12 +164,12 @@ module _ (D : LogSide) (E : DataSide) (c : Setup) (spare : ℕ) (m : SharedWords
     user_page (user_step.AdvanceClosed advance_step.FreeTail) is o a checks = advance_closed advance_step.FreeTail is
     user_page user_step.ReloadCtail is o a checks = (h, keeps_reload_ctail E c g.seat_of m g.log (D.stable p) h ls d actors seat both.paged (mates both) (laid_of both) u at is, unmoved)
     user_page user_step.LoadFrame is o a checks = (h, keeps_load_frame E c g.seat_of m g.log (D.stable p) h ls d actors seat both.paged (mates both) (laid_of both) u at is, unmoved)
-    user_page user_step.StoreFrame is o a checks = (h, keeps_store_frame E c g.seat_of m g.log (D.stable p) h ls d actors seat both.paged (mates both) (laid_of both) u at both.logged.sized.page_words both.logged.sized.frames is, unmoved)
+    user_page user_step.StoreFrame is o a checks = (h, keeps_store_frame E c g.seat_of m g.log (D.stable p) h ls d actors seat both.paged (mates both) (laid_of both) u at both.script.page_size both.logged.sized.page_words both.logged.sized.frames is, unmoved)
     user_page user_step.StoreNewest is o a checks = (h, keeps_store_newest E c g.seat_of m g.log (D.stable p) h ls d actors seat both.paged (mates both) (laid_of both) u at both.logged.sized.page_words is, unmoved)
     user_page user_step.StoreOldest is o a checks = (h, keeps_store_oldest E c g.seat_of m g.log (D.stable p) h ls d actors seat both.paged (mates both) (laid_of both) u at both.logged.sized.page_words is, unmoved)
     user_page user_step.ReleaseLatch is o a checks = (h, keeps_release_latch E c g.seat_of m g.log (D.stable p) h ls d actors seat both.paged (mates both) (laid_of both) u at both.logged.sized.page_words is, unmoved)
     user_page user_step.LoadOldest is o a checks = (h, keeps_load_oldest E c g.seat_of m g.log (D.stable p) h ls d actors seat both.paged (mates both) (laid_of both) u at is, unmoved)
-    user_page user_step.AddToList is o a checks = list_by (eqb (slice_index m.lists (page_of u % 4)) 0) refl is checks o
+    user_page user_step.AddToList is o a checks = list_by (eqb (slice_index m.lists (current_page u % 4)) 0) refl is checks o
     user_page user_step.GiveList is o a checks = (h, keeps_give_list E c g.seat_of m g.log (D.stable p) h ls d actors seat both.paged (mates both) (laid_of both) u at both.logged.sized.lists is, unmoved)
     user_page user_step.StoreClosedLink is o a checks = keeps_close E c g.seat_of m g.log (D.stable p) h ls d actors seat both.paged (mates both) (laid_of both) u at both.logged.sized.clinks is
     user_page user_step.AwaitMark is o a checks = await_by (found (user_op u user_step.AwaitMark) m) (nat_le (lsn (group_end u)) (found (user_op u user_step.AwaitMark) m))

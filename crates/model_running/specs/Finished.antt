@@ -55,8 +55,8 @@ pub record FinishedStore (D : LogSide) (E : DataSide) (c : Setup) (script : List
   pub lost : (i : ℕ) (entry : history.Entry) → slice_get run.entries i ≡ Some entry → (entry.state ≡ Lost) ↔ IsLostBy s.actors entry.user entry.k
 
 -- a call of a part has failed
-abbrev pub HasCause : (D : LogSide) (E : DataSide) → D.Part → E.Part → Type 0
-HasCause D E p d = (code : ℕ) × (D.Cause p code ⊎ E.Cause d code)
+abbrev pub HasFailedPart : (D : LogSide) (E : DataSide) → D.Part → E.Part → Type 0
+HasFailedPart D E p d = (code : ℕ) × (D.Cause p code ⊎ E.Cause d code)
 
 -- The turns are spent: this is the least user that hasn't ended, and the commit of one of its lines isn't answered.
 pub record SpentStore (D : LogSide) (E : DataSide) (c : Setup) (script : List ScriptLine) (opened : Opened) (user : ℕ) (s : Core D E) : Type 0 where
@@ -67,5 +67,5 @@ pub record SpentStore (D : LogSide) (E : DataSide) (c : Setup) (script : List Sc
   pub number : state.user ≡ user
   pub not_ended : HasEnded state → ⊥
   pub unanswered : state.k < length (lines_of_user user script)
-  pub leaves : LeavesOpen script stands.run.entries (HasCause D E s.log_part s.data_part) user
+  pub leaves : LeavesOpen script stands.run.entries (HasFailedPart D E s.log_part s.data_part) user
   pub least : (j : ℕ) (u : UserState) → get_elem? s.actors j ≡ some (actor.User u) → u.user < user → HasEnded u

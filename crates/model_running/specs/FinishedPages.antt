@@ -8,14 +8,14 @@ use Rattle.model_report.specs.{wholes_of}
 use Rattle.model_page.specs.declared.content.Content.{Content}
 use Rattle.model_pagecore.specs.{AreApart}
 use Rattle.model_log.specs.declared.group.Whole.{Whole}
-use Rattle.model_theorem.specs.{IsBatchOf, IsKeptPrefix, Opened, Ran}
+use Rattle.model_theorem.specs.{IsBatchPrefix, IsKeptPrefix, Opened, Ran}
 use Rattle.model_script.specs.declared.script.ScriptLine.{ScriptLine}
 
 -- Each page as it was last written is a prefix of the run that lacks no group that starts below the checkpoint; and what the
 -- batch at hand has for it, if it has it, is a prefix too, and no older.
 pub record ArePrefixes (opened : List Content) (wholes : List Whole) (stable ckpt : ℕ) (was : ℕ → Content) (batch : ℕ → Option Content) : Type 0 where
   pub last : (p : ℕ) (page : Content) → slice_get opened p ≡ Some page → IsKeptPrefix page wholes stable ckpt p (was p)
-  pub next : (p : ℕ) (page : Content) → slice_get opened p ≡ Some page → IsBatchOf page wholes stable p (was p) (batch p)
+  pub next : (p : ℕ) (page : Content) → slice_get opened p ≡ Some page → IsBatchPrefix page wholes stable p (was p) (batch p)
 
 -- The data part holds the pages as prefixes of the run, up to the stable mark of the log part, which lack nothing below the
 -- checkpoint that was last asked for: as they were last written, or as the batch has them whose writing failed.

@@ -15,11 +15,11 @@ use Rattle.model_core.specs.Groups as core
 abbrev pub state_of : ℕ → Marks → core.Entry → State
 state_of answered marks e = cond (nat_lt e.k answered) (state_by marks (lsn (end_of e))) Lost
 
-abbrev pub entry_of : (ℕ → ℕ) → Marks → core.Entry → Entry
-entry_of answered marks e = record { user = e.user; k = e.k; start = lsn e.start; end = lsn (end_of e); state = state_of (answered e.user) marks e }
+abbrev pub history_entry : (ℕ → ℕ) → Marks → core.Entry → Entry
+history_entry answered marks e = record { user = e.user; k = e.k; start = lsn e.start; end = lsn (end_of e); state = state_of (answered e.user) marks e }
 
 abbrev pub history_of : (ℕ → ℕ) → Marks → List core.Entry → List Entry
-history_of answered marks log = map (entry_of answered marks) log
+history_of answered marks log = map (history_entry answered marks) log
 
 -- the words' marks
 abbrev pub word_marks : SharedWords → Marks

@@ -21,12 +21,12 @@ pub mod Watermarks
 pub use Rattle.model_running.specs.Bounds.{HasBytes, HaveSmallCodes}
 pub use Rattle.model_running.specs.ClosedStore.{DataTells, LogTells}
 pub use Rattle.model_running.specs.DataReady.{CanLendBatch}
-pub use Rattle.model_running.specs.Finished.{CausesAreFailures, HasCause}
+pub use Rattle.model_running.specs.Finished.{CausesAreFailures, HasFailedPart}
 pub use Rattle.model_running.specs.FinishedPages.{ArePrefixes}
-pub use Rattle.model_running.specs.History.{AreWholesOf, entry_of, history_of, marks_in, word_marks}
+pub use Rattle.model_running.specs.History.{AreWholesOf, history_entry, history_of, marks_in, word_marks}
 pub use Rattle.model_running.specs.OpenLines.{LeavesOpen}
 pub use Rattle.model_running.specs.OpenedPages.{HasItsPages}
-pub use Rattle.model_running.specs.PageContents.{content_in, content_of, contents_of, new_content}
+pub use Rattle.model_running.specs.PageContents.{content_in, contents_of, kept_content, new_content}
 pub use Rattle.model_running.specs.RunOf.{run_of}
 pub use Rattle.model_running.specs.RunningStore.{BothHalves, IsRunning}
 pub use Rattle.model_running.specs.Schedule.{HasEnded, HaveEnded, IsDone, IsSpent, LastTurn, TakesTurns, seat_of_turn}

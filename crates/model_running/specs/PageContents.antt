@@ -4,11 +4,11 @@ use Rattle.model_core.specs.{BatchPage, KeptPage}
 use Rattle.model_page.specs.{user_part}
 use Rattle.model_page.specs.declared.content.Content.{Content}
 
-abbrev pub content_of : KeptPage → Content
-content_of kept = record { lsn = kept.lsn; user = user_part kept.bytes }
+abbrev pub kept_content : KeptPage → Content
+kept_content kept = record { lsn = kept.lsn; user = user_part kept.bytes }
 
 abbrev pub contents_of : (ℕ → KeptPage) → ℕ → Content
-contents_of kept_page p = content_of (kept_page p)
+contents_of kept_page p = kept_content (kept_page p)
 
 -- what a page of a batch is to hold
 abbrev pub new_content : BatchPage → Content

@@ -12,7 +12,8 @@ use Rattle.model_core.specs.declared.steps.CleanerStep.{CleanerStep}
 use Rattle.model_core.specs.declared.steps.UserStep.{UserStep}
 use Rattle.model_logcore.specs.{LogWatermarks, TailWordIs}
 use Rattle.model_core.specs.StartWords.{start_checkpoint}
-use Rattle.model_pagecore.specs.{Agree, All, applied_upto, AreUnfinished, CheckpointerPagesAt, CleanerHasLatch, CleanerHolds, ClosedLink, end_lsn, EndsAt, HoldsOnly, Last, listed, none_in_hand, PageGhost, PageIs, Passed, start_lsn, StartsAt, touches, UserHasLatch, UserHolds}
+use Rattle.model_pagecore.specs.{Agree, All, applied_upto, AreUnfinished, CheckpointerPagesAt, CleanerHasLatch, CleanerHolds, ClosedLink, end_lsn, EndsAt, HoldsOnly, is_changed_page, Last, listed_lsn, none_in_hand, PageGhost, PageIs, Passed, start_lsn, StartsAt, UserHasLatch, UserHolds}
+use Rattle.model_report.specs.declared.entry.Marks.{Marks}
 use Rattle.model_running.specs.LatchesHeld.{LatchesAreHeld}
 use Rattle.model_running.specs.UsersClosed.{UsersClosed}
 use Rattle.model_core.specs.Actors as actor
@@ -41,7 +42,7 @@ pub record CleanerTells (E : DataSide) (c : Setup) (m : SharedWords) (log : List
 -- of its cells; for the cleaner, all.
 pub record FramesAreApplied (E : DataSide) (c : Setup) (m : SharedWords) (log : List Entry) (h : PageGhost) (ls : ℕ → List Listed) (d : E.Part) (actors : List Actor) : Type 0 where
   pub latch : (p : ℕ) → p < c.pages → (page_words_at m.page_words p).latch ≤ 1
-  pub free : (p : ℕ) → p < c.pages → (page_words_at m.page_words p).latch ≡ 0 → PageIs p (c.opened p).bytes log none_in_hand (page_words_at m.page_words p) (listed ls p) All Last Agree
+  pub free : (p : ℕ) → p < c.pages → (page_words_at m.page_words p).latch ≡ 0 → PageIs c p log none_in_hand (page_words_at m.page_words p) (listed_lsn ls p) All Last Agree
   pub held : LatchesAreHeld c.pages m h.holder actors
   pub user_held : (seat : ℕ) (u : UserState) → get_elem? actors seat ≡ some (actor.User u) → UserTells E c m log h ls d seat u u.step
   pub cleaner_held : (seat : ℕ) (v : CleanerState) → get_elem? actors seat ≡ some (actor.Cleaner v) → CleanerTells E c m log h ls d seat v v.step
@@ -50,7 +51,7 @@ pub record FramesAreApplied (E : DataSide) (c : Setup) (m : SharedWords) (log : 
 -- start or before, or kept up to its end. A closed link is a closed group past the place to which links are cleared, each such
 -- group has its link standing, and below that place all is closed; and so is what the users' states say.
 pub record ClosedChangesAreListedOrKept (c : Setup) (m : SharedWords) (log : List Entry) (h : PageGhost) (ls : ℕ → List Listed) (actors : List Actor) : Type 0 where
-  pub change : (p : ℕ) → p < c.pages → (i : ℕ) (e : Entry) → get_elem? log i ≡ some e → touches p e.changes ≡ true → h.closed e.start ≡ true → ((0 < listed ls p) × (listed ls p ≤ start_lsn e)) ⊎ (end_lsn e ≤ (h.kept_page p).lsn)
+  pub change : (p : ℕ) → p < c.pages → (i : ℕ) (e : Entry) → get_elem? log i ≡ some e → is_changed_page p e.changes ≡ true → h.closed e.start ≡ true → ((0 < listed_lsn ls p) × (listed_lsn ls p ≤ start_lsn e)) ⊎ (end_lsn e ≤ (h.kept_page p).lsn)
   pub oldest : (p : ℕ) → p < c.pages → 0 < (page_words_at m.page_words p).oldest → StartsAt p log (page_words_at m.page_words p).oldest
   pub link : (i : ℕ) → i < CLOSED_LINKS → 0 < slice_index m.clinks i → ClosedLink log h.closed h.tail i (slice_index m.clinks i)
   pub below_tail : (i : ℕ) (e : Entry) → get_elem? log i ≡ some e → start_lsn e < h.tail → h.closed e.start ≡ true
@@ -107,3 +108,12 @@ pub record Watermarks (D : LogSide) (E : DataSide) (c : Setup) (m : SharedWords)
 -- and of a store's whole state
 abbrev pub HasWatermarks : (D : LogSide) (E : DataSide) → Setup → Core D E → Type 0
 HasWatermarks D E c s = (m : SharedWords) × (s.words ≡ flat m) × Watermarks D E c m s.lists s.log_part s.data_part s.actors
+
+-- each mark that an actor has loaded last, and its own that it has stored last, is at most the one that is left
+abbrev pub HasMarksWithin : Marks → Actor → Type 0
+HasMarksWithin m (actor.User u) = (u.loaded.wtail ≤ m.wtail) × (u.loaded.write ≤ m.write) × (u.loaded.flushed ≤ m.flushed) × (u.loaded.ckpt ≤ m.ckpt)
+HasMarksWithin m (actor.Writer s) = (s.tail ≤ m.wtail) × (s.write ≤ m.write) × (s.ckpt ≤ m.ckpt)
+HasMarksWithin m (actor.Flusher f) = (f.write ≤ m.write) × (f.last ≤ m.flushed)
+HasMarksWithin m (actor.Cleaner v) = v.flushed ≤ m.flushed
+HasMarksWithin m (actor.Checkpointer t) = (t.flushed ≤ m.flushed) × (t.own ≤ m.ckpt)
+HasMarksWithin m _ = Unit {0}

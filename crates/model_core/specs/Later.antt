@@ -1,0 +1,15 @@
+-- The same actor, later.
+use Rattle.std.specs.Prelude.{List, ◌≡◌}
+use Rattle.model_core.specs.Actors as model
+use Rattle.model_core.specs.Groups.{Entry}
+use Rattle.model_core.specs.States.{CheckpointerState, CleanerState, CloserState, FlusherState, UserState, WriterState}
+
+-- a user keeps its number and its lines, and any other actor its kind
+abbrev pub IsSameActor : model.Actor → model.Actor → Type 0
+IsSameActor (model.User u) b = (v : UserState) × (b ≡ model.User v) × (v.user ≡ u.user) × (v.lines ≡ u.lines)
+IsSameActor (model.Writer s) b = (t : WriterState) × (b ≡ model.Writer t)
+IsSameActor (model.Flusher s) b = (t : FlusherState) × (b ≡ model.Flusher t)
+IsSameActor (model.Closer s) b = (t : CloserState) × (b ≡ model.Closer t)
+IsSameActor (model.Cleaner s) b = (t : CleanerState) × (b ≡ model.Cleaner t)
+IsSameActor (model.Checkpointer s) b = (t : CheckpointerState) × (b ≡ model.Checkpointer t)
+IsSameActor (model.Joined es) b = (fs : List Entry) × (b ≡ model.Joined fs)
