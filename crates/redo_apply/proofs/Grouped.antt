@@ -6,11 +6,11 @@ use Rattle.std.specs.Int.{bytes_high_first}
 use Rattle.std.proofs.lemmas.List.{drop_more, length-set, length-take-le, length-drop, length-replicate}
 use Rattle.std.proofs.lemmas.Option.{slice_get-get_or, slice_get_within, get_or_from_slice_get}
 use Rattle.model_base.specs.declared.shape.Shape.{Shape}
-use Rattle.model_base.specs.{overwritten}
+use Rattle.model_base.specs.{overwritten, user_length}
 use Rattle.model_log.specs.{GroupFits, page_of, RecordFits}
 use Rattle.model_log.specs.declared.rec.Rec.{Rec}
 use Rattle.model_log.specs.declared.rec.Rec.TheVariants.{Num, Text, Init}
-use Rattle.model_page.specs.{blank_page, blank_pages, user_length}
+use Rattle.model_page.specs.{blank_page, blank_pages}
 use Rattle.model_page.specs.declared.content.Content.{Content}
 use Rattle.model_store.specs.{applied, page_after, user_after_own}
 use Rattle.redo_apply.specs.Fits.{ArePagesOf, WritesWithin}

@@ -1,11 +1,11 @@
 -- When a group may be applied to pages: it fits a store that has them.
 use Rattle.std.specs.Prelude.{ℕ, ◌≡◌, ◌≤◌, ◌+◌, List, length, slice_get, Some}
+use Rattle.model_base.specs.{user_length}
 use Rattle.model_base.specs.declared.shape.Shape.{Shape}
 use Rattle.model_base.specs.declared.limits.TheConstants.{USER_START}
 use Rattle.model_log.specs.{GroupFits}
 use Rattle.model_log.specs.declared.rec.Rec.{Rec}
 use Rattle.model_log.specs.declared.rec.Rec.TheVariants.{Num, Text, Init}
-use Rattle.model_page.specs.{user_length}
 use Rattle.model_page.specs.declared.content.Content.{Content}
 
 -- the pages of a store of this shape

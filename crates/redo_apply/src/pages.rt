@@ -9,9 +9,8 @@ ghost use Rattle.redo_apply.specs.Fits.{ArePagesOf, FitsPages, WritesWithin};
 ghost use Rattle.redo_apply.specs.Replay.{AreAfterWhere, HaveLsns};
 
 use crate::record::{page_of, put_record};
-use model_base::{Shape, USER_START};
+use model_base::Shape;
 use model_log::{Group, Rec};
-use model_page::TRAILER_LENGTH;
 use redo_lsn::NoMemory;
 use std::alloc::{AllocError, Global};
 use std::marker::Model;
@@ -46,7 +45,7 @@ impl Pages {
         ensures pages { IfOk result (λ pages. pages ≡ blank_pages shape.now) }
         ensures its_pages { IfOk result (ArePagesOf shape.now) }
     {
-        let size = (shape.page_size - (USER_START + TRAILER_LENGTH)) as usize;
+        let size = shape.user_bytes() as usize;
         let count = shape.pages as usize;
         let lsns = vec![in alloc; 0; count]?;
         let users = vec![in alloc; 0; size * count]?;

@@ -4,33 +4,34 @@ use Rattle.std.proofs.lemmas.List.{drop_more, append-nil}
 use Rattle.std.proofs.lemmas.Bool.{false≢true}
 use Rattle.std.proofs.lemmas.Bool.Decides.{nat_tests}
 use Rattle.model_log.specs.declared.block.BlockView.{BlockView}
+use Rattle.model_log.specs.declared.layout.TheConstants.{BLOCK_DATA}
 use Rattle.model_log.specs.{block_text, data_of, framed, is_first, is_full, length_of, read_block}
 use Rattle.redo_block.specs.Framing.{AreFirsts, data_with, unframed_blocks, unframed}
 
 -- the first offset of the next block fits it
-pub first-fits : (rest bytes firsts : List ℕ) (i : ℕ) → i < length firsts → bytes ≡ take 496 rest → AreFirsts rest (drop i firsts) → IsTrue (is_first (length_of (length bytes)) (get_or firsts i 0))
+pub first-fits : (rest bytes firsts : List ℕ) (i : ℕ) → i < length firsts → bytes ≡ take BLOCK_DATA rest → AreFirsts rest (drop i firsts) → IsTrue (is_first (length_of (length bytes)) (get_or firsts i 0))
 first-fits rest bytes firsts i below part each =
     let here : AreFirsts rest (get_or firsts i 0 ∷ drop (i + 1) firsts) = subst (AreFirsts rest) (drop_more firsts i 0 below) each in
     subst (λ (xs : List ℕ). IsTrue (is_first (length_of (length xs)) (get_or firsts i 0))) (sym part) here.1
 
 -- and the others fit the others
-pub firsts-drop : (rest others firsts : List ℕ) (i : ℕ) → i < length firsts → others ≡ drop 496 rest → AreFirsts rest (drop i firsts) → AreFirsts others (drop (i + 1) firsts)
+pub firsts-drop : (rest others firsts : List ℕ) (i : ℕ) → i < length firsts → others ≡ drop BLOCK_DATA rest → AreFirsts rest (drop i firsts) → AreFirsts others (drop (i + 1) firsts)
 firsts-drop rest others firsts i below part each =
     let here : AreFirsts rest (get_or firsts i 0 ∷ drop (i + 1) firsts) = subst (AreFirsts rest) (drop_more firsts i 0 below) each in
     subst (λ (xs : List ℕ). AreFirsts xs (drop (i + 1) firsts)) (sym part) here.2
 
 -- one block more
-pub framed-more : (rest bytes others blocks block new firsts whole : List ℕ) (lsn ckpt i : ℕ) → i < length firsts → bytes ≡ take 496 rest → others ≡ drop 496 rest
+pub framed-more : (rest bytes others blocks block new firsts whole : List ℕ) (lsn ckpt i : ℕ) → i < length firsts → bytes ≡ take BLOCK_DATA rest → others ≡ drop BLOCK_DATA rest
     → block ≡ block_text lsn bytes (get_or firsts i 0) ckpt → new ≡ blocks ++ block
     → blocks ++ framed rest lsn (drop i firsts) ckpt ≡ whole → new ++ framed others (lsn + 512) (drop (i + 1) firsts) ckpt ≡ whole
 framed-more rest bytes others blocks block new firsts whole lsn ckpt i below part left filled joined so_far =
-    let text : block ≡ block_text lsn (take 496 rest) (get_or firsts i 0) ckpt = filled ∙ ap (λ xs. block_text lsn xs (get_or firsts i 0) ckpt) part in
-    let step : framed rest lsn (drop i firsts) ckpt ≡ block_text lsn (take 496 rest) (get_or firsts i 0) ckpt ++ framed (drop 496 rest) (lsn + 512) (drop (i + 1) firsts) ckpt
+    let text : block ≡ block_text lsn (take BLOCK_DATA rest) (get_or firsts i 0) ckpt = filled ∙ ap (λ xs. block_text lsn xs (get_or firsts i 0) ckpt) part in
+    let step : framed rest lsn (drop i firsts) ckpt ≡ block_text lsn (take BLOCK_DATA rest) (get_or firsts i 0) ckpt ++ framed (drop BLOCK_DATA rest) (lsn + 512) (drop (i + 1) firsts) ckpt
     = ap (λ xs. framed rest lsn xs ckpt) (drop_more firsts i 0 below) in
-    let tail : List ℕ = framed (drop 496 rest) (lsn + 512) (drop (i + 1) firsts) ckpt in
+    let tail : List ℕ = framed (drop BLOCK_DATA rest) (lsn + 512) (drop (i + 1) firsts) ckpt in
     ap (λ xs. new ++ framed xs (lsn + 512) (drop (i + 1) firsts) ckpt) left
     ∙ ap (λ xs. xs ++ tail) (joined ∙ ap (λ xs. blocks ++ xs) text)
-    ∙ append_assoc blocks (block_text lsn (take 496 rest) (get_or firsts i 0) ckpt) tail
+    ∙ append_assoc blocks (block_text lsn (take BLOCK_DATA rest) (get_or firsts i 0) ckpt) tail
     ∙ ap (λ xs. blocks ++ xs) (sym step) ∙ so_far
 
 -- what is left of the blocks, one block on
@@ -92,7 +93,7 @@ unframed-more rest block others bytes stream new whole lsn view enough cut left 
 
 -- the first offset that comes next fits the first block of the bytes
 IsNext : List ℕ → ℕ → Type 0
-IsNext stream first = (0 < length stream) × IsTrue (is_first (length_of (min 496 (length stream))) first)
+IsNext stream first = (0 < length stream) × IsTrue (is_first (length_of (min BLOCK_DATA (length stream))) first)
 
 pos-length : (xs : List ℕ) → xs ≢ [] → 0 < length xs
 pos-length [] some = absurd (some refl)
@@ -107,22 +108,22 @@ next-fits : (rest firsts : List ℕ) (i : ℕ) → i < length firsts → AreFirs
 unfolding IsNext
 next-fits rest firsts i below each =
     let here : AreFirsts rest (get_or firsts i 0 ∷ drop (i + 1) firsts) = subst (AreFirsts rest) (drop_more firsts i 0 below) each in
-    (pos-length rest here.0, subst (λ (n : ℕ). IsTrue (is_first (length_of n) (get_or firsts i 0))) (length-take 496 rest) here.1)
+    (pos-length rest here.0, subst (λ (n : ℕ). IsTrue (is_first (length_of n) (get_or firsts i 0))) (length-take BLOCK_DATA rest) here.1)
 
 pub firsts-none : (rest stream firsts : List ℕ) (i : ℕ) → i < length firsts
-    → ((0 < length rest) × IsTrue (is_first (length_of (min 496 (length rest))) (get_or firsts i 0)) → IsTrue false)
+    → ((0 < length rest) × IsTrue (is_first (length_of (min BLOCK_DATA (length rest))) (get_or firsts i 0)) → IsTrue false)
     → (AreFirsts rest (drop i firsts) ↔ AreFirsts stream firsts) → (IsTrue false ↔ AreFirsts stream firsts)
 unfolding IsNext
 firsts-none rest stream firsts i below wrong so_far =
     (λ never. absurd (false≢true never), λ all. wrong (next-fits rest firsts i below (so_far.1 all)))
 
 -- where it fits, they do if the others do
-pub firsts-more : (rest others stream firsts : List ℕ) (i : ℕ) → i < length firsts → others ≡ drop 496 rest
-    → (0 < length rest) × IsTrue (is_first (length_of (min 496 (length rest))) (get_or firsts i 0))
+pub firsts-more : (rest others stream firsts : List ℕ) (i : ℕ) → i < length firsts → others ≡ drop BLOCK_DATA rest
+    → (0 < length rest) × IsTrue (is_first (length_of (min BLOCK_DATA (length rest))) (get_or firsts i 0))
     → (AreFirsts rest (drop i firsts) ↔ AreFirsts stream firsts) → (AreFirsts others (drop (i + 1) firsts) ↔ AreFirsts stream firsts)
 firsts-more rest others stream firsts i below left next so_far =
     let first : ℕ = get_or firsts i 0 in
-    let fits : IsTrue (is_first (length_of (length (take 496 rest))) first) = subst (λ (n : ℕ). IsTrue (is_first (length_of n) first)) (sym (length-take 496 rest)) next.1 in (
+    let fits : IsTrue (is_first (length_of (length (take BLOCK_DATA rest))) first) = subst (λ (n : ℕ). IsTrue (is_first (length_of n) first)) (sym (length-take BLOCK_DATA rest)) next.1 in (
       λ each. so_far.0 (subst (AreFirsts rest) (sym (drop_more firsts i 0 below)) (some-length rest next.0, fits, subst (λ (xs : List ℕ). AreFirsts xs (drop (i + 1) firsts)) left each)),
       λ all. firsts-drop rest others firsts i below left (so_far.1 all),
     )

@@ -2,6 +2,7 @@
 use Rattle.std.proofs.Common.{◌≡◌, ◌≤◌, ◌<◌, ◌+◌, ◌-◌, ◌*◌, ◌/◌, ◌%◌, ℕ, suc, min, List, [], ◌∷◌, length, get_or, drop, refl, sym, ap, subst, ◌∙◌, ⊎_elim, length-take, length-drop, arith, IsTrue}
 use Rattle.std.proofs.lemmas.Bool.{cases_lt}
 use Rattle.model_log.specs.declared.group.Whole.{Whole}
+use Rattle.model_log.specs.declared.layout.TheConstants.{BLOCK_DATA}
 use Rattle.model_log.specs.{block_of, first_at, groups_of, is_first, IsAtDataStart, IsGivenTo, IsRunOf, length_at, length_of, sn_of, spans_of, stream_of}
 use Rattle.model_log.proofs.Runs.{IsReached, boundary-reached, data-start}
 use Rattle.model_log.proofs.Crossings.{TellsFirst, first-tells}
@@ -13,32 +14,32 @@ use Rattle.redo_block.proofs.Framings.{some-length}
 
 -- the k-th block of so many bytes has some, and the first offset fits it
 record FitsAt (count k first : ℕ) : Type 0 where
-  some : 496 * k < count
-  fits : IsTrue (is_first (length_of (min 496 (count - 496 * k))) first)
+  some : BLOCK_DATA * k < count
+  fits : IsTrue (is_first (length_of (min BLOCK_DATA (count - BLOCK_DATA * k))) first)
 
 none-left : (stream : List ℕ) → length stream ≤ 0 → stream ≡ []
 none-left [] none = refl
 none-left (byte ∷ stream) none = absurd (omega arith)
 
-next-fits : (count k first : ℕ) → FitsAt count (suc k) first → FitsAt (count - 496) k first
+next-fits : (count k first : ℕ) → FitsAt count (suc k) first → FitsAt (count - BLOCK_DATA) k first
 next-fits count k first here =
-    let left : count - 496 * suc k ≡ count - 496 - 496 * k = omega arith in
+    let left : count - BLOCK_DATA * suc k ≡ count - BLOCK_DATA - BLOCK_DATA * k = omega arith in
     record {
       some = omega (arith, here.some);
-      fits = subst (λ (rest : ℕ). IsTrue (is_first (length_of (min 496 rest)) first)) left here.fits;
+      fits = subst (λ (rest : ℕ). IsTrue (is_first (length_of (min BLOCK_DATA rest)) first)) left here.fits;
     }
 
 -- where each block's first offset fits it, they fit the stream
-all-fit : (stream firsts : List ℕ) → ((k : ℕ) → k < length firsts → FitsAt (length stream) k (get_or firsts k 0)) → length stream ≤ 496 * length firsts → AreFirsts stream firsts
+all-fit : (stream firsts : List ℕ) → ((k : ℕ) → k < length firsts → FitsAt (length stream) k (get_or firsts k 0)) → length stream ≤ BLOCK_DATA * length firsts → AreFirsts stream firsts
 all-fit stream [] each whole = none-left stream whole
 all-fit stream (first ∷ firsts) each whole =
     let here : FitsAt (length stream) 0 first = each 0 (omega arith) in
-    let rest : length (drop 496 stream) ≡ length stream - 496 = length-drop 496 stream in
+    let rest : length (drop BLOCK_DATA stream) ≡ length stream - BLOCK_DATA = length-drop BLOCK_DATA stream in
     let some : 0 < length stream = omega (arith, here.some) in
-    let all : length stream - 496 * 0 ≡ length stream = omega arith in (
+    let all : length stream - BLOCK_DATA * 0 ≡ length stream = omega arith in (
       some-length stream some,
-      subst (λ (count : ℕ). IsTrue (is_first (length_of count) first)) (ap (min 496) all ∙ sym (length-take 496 stream)) here.fits,
-      all-fit (drop 496 stream) firsts
+      subst (λ (count : ℕ). IsTrue (is_first (length_of count) first)) (ap (min BLOCK_DATA) all ∙ sym (length-take BLOCK_DATA stream)) here.fits,
+      all-fit (drop BLOCK_DATA stream) firsts
           (λ k below. subst (λ (count : ℕ). FitsAt count k (get_or firsts k 0)) (sym rest) (next-fits (length stream) k (get_or firsts k 0) (each (suc k) (omega arith))))
           (omega arith),
     )
@@ -46,21 +47,21 @@ all-fit stream (first ∷ firsts) each whole =
 -- so many bytes, from an aligned lsn on, does the block have that begins below the boundary
 first-of_block : (s from m k : ℕ) (wholes : List Whole) → IsAtDataStart s → IsRunOf s wholes → IsReached s wholes m → block_of s ≤ from → from % 512 ≡ 0
     → (bytes firsts : List ℕ) → IsGivenTo s wholes from m bytes firsts → k < length firsts
-    → IsTrue (is_first (length_of (min 496 (sn_of m - sn_of from - 496 * k))) (get_or firsts k 0))
+    → IsTrue (is_first (length_of (min BLOCK_DATA (sn_of m - sn_of from - BLOCK_DATA * k))) (get_or firsts k 0))
 first-of_block s from m k wholes start run reached low aligned bytes firsts given below =
     let b : ℕ = from + 512 * k in
     let first : ℕ = first_at s (spans_of wholes) b in
     let whole : b % 512 ≡ 0 = omega arith in
     let some : b + 12 < m = some-below from m k aligned (count-below from m k aligned (subst (λ (n : ℕ). k < n) given.count below)) in
-    let here : sn_of b ≡ sn_of from + 496 * k = sn_of-block from k aligned in
-    let rest : sn_of m - sn_of from - 496 * k ≡ sn_of m - sn_of b = omega arith in
+    let here : sn_of b ≡ sn_of from + BLOCK_DATA * k = sn_of-block from k aligned in
+    let rest : sn_of m - sn_of from - BLOCK_DATA * k ≡ sn_of m - sn_of b = omega arith in
     let tells : TellsFirst s wholes b first = first-tells s wholes b start run whole (omega arith) in
-    let long : length_of (min 496 (sn_of m - sn_of from - 496 * k)) ≡ length_at m b
-    = ap (λ n. length_of (min 496 n)) rest ∙ ap length_of (least-count m b whole) ∙ length_of-behind m b reached.place whole some in
-    subst (λ (n : ℕ). IsTrue (is_first (length_of (min 496 (sn_of m - sn_of from - 496 * k))) n)) (sym (given.firsts_are k below))
+    let long : length_of (min BLOCK_DATA (sn_of m - sn_of from - BLOCK_DATA * k)) ≡ length_at m b
+    = ap (λ n. length_of (min BLOCK_DATA n)) rest ∙ ap length_of (least-count m b whole) ∙ length_of-behind m b reached.place whole some in
+    subst (λ (n : ℕ). IsTrue (is_first (length_of (min BLOCK_DATA (sn_of m - sn_of from - BLOCK_DATA * k))) n)) (sym (given.firsts_are k below))
     (subst (λ (n : ℕ). IsTrue (is_first n first)) (sym long) (first-fits s wholes m b first tells given.boundary some))
 
-all-of : (count blocks : ℕ) → blocks ≡ (count + 495) / 496 → count ≤ 496 * blocks
+all-of : (count blocks : ℕ) → blocks ≡ (count + 495) / BLOCK_DATA → count ≤ BLOCK_DATA * blocks
 all-of count blocks is = omega arith
 
 -- the bytes that a writer is given are as many as their places tell
@@ -82,10 +83,10 @@ run-firsts_fit s from m wholes bytes firsts start run low aligned given =
     let reached : IsReached s wholes m = boundary-reached s wholes m (data-start s start) run given.boundary in
     let count : length bytes ≡ sn_of m - sn_of from = length-given s from m wholes start run low bytes firsts given in
     let block : block_of from ≡ from = omega arith in
-    let blocks : length firsts ≡ (sn_of m - sn_of from + 495) / 496 = given.count ∙ ap (λ n. (sn_of m - sn_of n + 495) / 496) block in
+    let blocks : length firsts ≡ (sn_of m - sn_of from + 495) / BLOCK_DATA = given.count ∙ ap (λ n. (sn_of m - sn_of n + 495) / BLOCK_DATA) block in
     all-fit bytes firsts
     (λ k below. subst (λ (n : ℕ). FitsAt n k (get_or firsts k 0)) (sym count) (record {
       some = count-below from m k aligned (subst (λ (n : ℕ). k < n) given.count below);
       fits = first-of_block s from m k wholes start run reached low aligned bytes firsts given below;
     }))
-    (subst (λ (n : ℕ). n ≤ 496 * length firsts) (sym count) (all-of (sn_of m - sn_of from) (length firsts) blocks))
+    (subst (λ (n : ℕ). n ≤ BLOCK_DATA * length firsts) (sym count) (all-of (sn_of m - sn_of from) (length firsts) blocks))

@@ -1,6 +1,6 @@
 // One block of the log, filled and read in place.
 ghost use Rattle.std.specs.Prelude.{◌≡◌, ◌≢◌, ◌≤◌, ◌<◌, ◌^◌, ◌↔◌, length, None, IfSome, IsTrue};
-ghost use Rattle.model_log.specs.{block_text, data_of, fit_of, fits_number, is_first, is_length, length_of, read_block, view_of};
+ghost use Rattle.model_log.specs.{block_text, block_view, data_of, fit_of, fits_number, is_first, is_length, length_of, read_block};
 ghost use Rattle.model_log.specs.declared.fit.Fit.TheVariants.{Whole};
 
 use model_base::BLOCK_SIZE;
@@ -38,7 +38,7 @@ pub fn fill(out: &mut [u8; 512], lsn: u64, bytes: &[u8], first: u32, ckpt: u32)
 
 // What the fields of a block say.
 fn view_of(bytes: &[u8; 512]) -> BlockView
-    ensures { result ≡ view_of bytes.now }
+    ensures { result ≡ block_view bytes.now }
 {
     BlockView {
         length: u32::from(field_u16(bytes, 4)),

@@ -5,6 +5,6 @@ use Rattle.redo_command.specs.declared.fault.WordsFault.{WordsFault}
 use Rattle.redo_command.specs.declared.fault.WordsFault.TheVariants.{NotCommand, NoMemory}
 
 -- the fault of these words; memory may run out on any words
-abbrev pub IsFaultOf : List (List ℕ) → WordsFault → Type 0
-IsFaultOf words NotCommand = asked_of words ≡ None
-IsFaultOf words NoMemory = Unit {0}
+abbrev pub IsWordsFaultOf : List (List ℕ) → WordsFault → Type 0
+IsWordsFaultOf words NotCommand = asked_of words ≡ None
+IsWordsFaultOf words NoMemory = Unit {0}

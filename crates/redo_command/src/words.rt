@@ -2,7 +2,7 @@
 ghost use Rattle.std.specs.Prelude.{◌≡◌, Some, IfOk, IfErr, map};
 ghost use Rattle.std.specs.String.{string_bytes};
 ghost use Rattle.model_script.specs.{asked_of};
-ghost use Rattle.redo_command.specs.Fault.{IsFaultOf};
+ghost use Rattle.redo_command.specs.Fault.{IsWordsFaultOf};
 
 use crate::WordsFault;
 use crate::app::redolab_command;
@@ -14,7 +14,7 @@ use std::alloc::Global;
 /// What the words of a call ask for, without the name of the program.
 pub fn read_words(alloc: Global, words: &[String]) -> Result<Asked, WordsFault>
     ensures asked { IfOk result (λ asked. asked_of (map (λ word. string_bytes word) words.now) ≡ Some asked) }
-    ensures fault { IfErr result (IsFaultOf (map (λ word. string_bytes word) words.now)) }
+    ensures fault { IfErr result (IsWordsFaultOf (map (λ word. string_bytes word) words.now)) }
 {
     let command = redolab_command(alloc)?;
     let matches = match command.try_get_matches_from(words) {

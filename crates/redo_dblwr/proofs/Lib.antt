@@ -1,2 +1,3 @@
+pub mod Ranges
 pub mod SideBySide
 pub mod Slots

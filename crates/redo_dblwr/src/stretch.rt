@@ -6,7 +6,7 @@ ghost use Rattle.model_page.specs.{data_device_length, stretch_at};
 ghost use Rattle.redo_dblwr.specs.Requests.{stretch_read};
 ghost use Rattle.redo_disk.specs.{error_of, HasCause, MakesCall, MakesCalls, Reads, Serve};
 
-use model_base::{PAGE_SIZE, Shape};
+use model_base::Shape;
 use redo_disk::{DevError, Sectors};
 
 /// Where the place of a page begins.
@@ -29,7 +29,7 @@ pub fn read_stretch<D: Sectors>(
     requires limits { IsWithinLimits shape.now }
     requires long { data_device_length shape.now ≤ (D.seen device.old).size }
     requires inside { n < shape.now.slots + shape.now.pages }
-    requires out { length out.old ≡ PAGE_SIZE }
+    requires out { length out.old ≡ shape.now.page_size }
     ensures bytes { OnOk result (IfSome (D.seen device.old).tells (λ disk. out.new ≡ stretch_at shape.now n disk.reads)) }
     ensures same { (D.seen device.new).tells ≡ (D.seen device.old).tells }
     ensures size { (D.seen device.new).size ≡ (D.seen device.old).size }

@@ -3,7 +3,8 @@ use Rattle.std.proofs.Common.{◌≡◌, ◌+◌, ◌⊎◌, List, [], ◌∷◌
 use Rattle.std.proofs.lemmas.List.{append-nil, map-append}
 use Rattle.redo_disk.specs.declared.error.DevError.{DevError}
 use Rattle.redo_disk.specs.declared.error.DevError.TheVariants.{NoMemory}
-use Rattle.redo_disk.specs.Calls.{Answer, Call, Reads, Writes, Syncs, answer_of, error_of, Request, request_of, AreReads, failures, failed_calls, changing_calls, StopAtError, first_of, first_error, EndWith, MayEndWith, Serve}
+use Rattle.redo_disk.specs.Calls.{Answer, Call, Reads, Writes, Syncs, device_answer, error_of, Request, request_of, StopAtError, earlier_error, first_error, EndWith, Serve}
+use Rattle.redo_disk.specs.ReadCalls.{AreReads, failures, failed_calls, changing_calls, MayEndWith}
 
 pub failed_calls-append : (xs ys : List Call) → failed_calls (xs ++ ys) ≡ failed_calls xs + failed_calls ys
 failed_calls-append [] ys = omega arith
@@ -23,14 +24,14 @@ changing_calls-reads (Reads at before answer after ∷ calls) reads = omega (ari
 changing_calls-reads (Writes write answer ∷ calls) reads = absurd reads.0
 changing_calls-reads (Syncs answer ∷ calls) reads = absurd reads.0
 
-first_of-none : (first later : Option DevError) → first_of first later ≡ None → (first ≡ None) × (later ≡ None)
+first_of-none : (first later : Option DevError) → earlier_error first later ≡ None → (first ≡ None) × (later ≡ None)
 first_of-none None later none = (refl, none)
 first_of-none (Some error) later none = cc
 
 first_error-append : (xs ys : List Call) → first_error xs ≡ None → first_error (xs ++ ys) ≡ first_error ys
 first_error-append [] ys none = refl
 first_error-append (call ∷ xs) ys none =
-    let front = first_of-none (error_of (answer_of call)) (first_error xs) none in
+    let front = first_of-none (error_of (device_answer call)) (first_error xs) none in
     rw front.0 (first_error-append xs ys front.1)
 
 after-good : (answer : Answer) (calls : List Call) → error_of answer ≡ None → OnErr answer (calls ≡ [])
@@ -40,8 +41,8 @@ after-good (Err error) calls good = cc
 StopAtError-append : (xs ys : List Call) → first_error xs ≡ None → StopAtError xs → StopAtError ys → StopAtError (xs ++ ys)
 StopAtError-append [] ys none front back = back
 StopAtError-append (call ∷ xs) ys none front back =
-    let good = first_of-none (error_of (answer_of call)) (first_error xs) none in
-    (after-good (answer_of call) (xs ++ ys) good.0, StopAtError-append xs ys good.1 front.1 back)
+    let good = first_of-none (error_of (device_answer call)) (first_error xs) none in
+    (after-good (device_answer call) (xs ++ ys) good.0, StopAtError-append xs ys good.1 front.1 back)
 
 pub EndWith-append : (error : Option DevError) (xs ys : List Call) → EndWith None xs → EndWith error ys → EndWith error (xs ++ ys)
 EndWith-append error xs ys front back = record {
@@ -70,7 +71,7 @@ MayEndWith-no_memory calls ends = record { stop = ends.stop; first = inr ((MayEn
 
 -- one that answered an error is the last
 failed_calls-last : (answer : Answer) (calls : List Call) → OnErr answer (calls ≡ [])
-    → failures (error_of answer) + failed_calls calls ≡ failures (first_of (error_of answer) (first_error calls))
+    → failures (error_of answer) + failed_calls calls ≡ failures (earlier_error (error_of answer) (first_error calls))
     ⊎ (error_of answer ≡ None)
 failed_calls-last (Ok done) calls last = inr refl
 failed_calls-last (Err error) calls last = inl (rw last (omega arith))
@@ -79,7 +80,7 @@ failed_calls-last (Err error) calls last = inl (rw last (omega arith))
 pub failed_calls-stopped : (calls : List Call) → StopAtError calls → failed_calls calls ≡ failures (first_error calls)
 failed_calls-stopped [] stop = refl
 failed_calls-stopped (call ∷ calls) stop =
-    ⊎_elim (λ same. same) (λ good. rw good (omega (arith, failed_calls-stopped calls stop.1))) (failed_calls-last (answer_of call) calls stop.0)
+    ⊎_elim (λ same. same) (λ good. rw good (omega (arith, failed_calls-stopped calls stop.1))) (failed_calls-last (device_answer call) calls stop.0)
 
 pub failed_calls-may_end : (error : Option DevError) (calls : List Call) → MayEndWith error calls → failed_calls calls ≡ failures error
 failed_calls-may_end error calls ends =

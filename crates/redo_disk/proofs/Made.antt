@@ -3,7 +3,8 @@ use Rattle.std.proofs.Common.{List, [], ◌∷◌, ◌++◌, Option, Some, None,
 use Rattle.model_device.specs.declared.write.Write.{Write}
 use Rattle.redo_disk.specs.declared.error.DevError.{DevError}
 use Rattle.redo_disk.specs.declared.error.DevError.TheVariants.{NoMemory}
-use Rattle.redo_disk.specs.Calls.{Answer, Call, Reads, Writes, Syncs, answer_of, error_of, Request, ToSync, request_of, put_requests, EndWith, MayEndWith, Serve}
+use Rattle.redo_disk.specs.Calls.{Answer, Call, Reads, Writes, Syncs, device_answer, error_of, Request, ToSync, request_of, put_requests, EndWith, Serve}
+use Rattle.redo_disk.specs.ReadCalls.{MayEndWith}
 use Rattle.redo_disk.specs.Made.{Makes, MakesCall, MakesCalls}
 use Rattle.redo_disk.proofs.Calls.{EndWith-append, MayEndWith-ends, MayEndWith-no_memory, Serve-append, Serve-cut}
 
@@ -58,7 +59,7 @@ no_calls gives device Are are = record { calls = []; made = refl; are = are }
 pub one_call : {D : Type 0} {gives : D → Call → D → Type 0} {old new : D} {call : Call} (Are : List Call → Type 0) → Are (call ∷ []) → MakesCall gives old call new → MakesCalls gives old new Are
 one_call {new = new} {call = call} Are are given = record { calls = call ∷ []; made = (new, given, refl); are = are }
 
-pub EndWith-one : (call : Call) → EndWith (error_of (answer_of call)) (call ∷ [])
+pub EndWith-one : (call : Call) → EndWith (error_of (device_answer call)) (call ∷ [])
 EndWith-one (Reads at before (Ok done) after) = record { stop = (tt, tt); first = refl }
 EndWith-one (Reads at before (Err error) after) = record { stop = (refl, tt); first = refl }
 EndWith-one (Writes write (Ok done)) = record { stop = (tt, tt); first = refl }
@@ -66,14 +67,14 @@ EndWith-one (Writes write (Err error)) = record { stop = (refl, tt); first = ref
 EndWith-one (Syncs (Ok done)) = record { stop = (tt, tt); first = refl }
 EndWith-one (Syncs (Err error)) = record { stop = (refl, tt); first = refl }
 
-pub Serve-one : (call : Call) → Serve (request_of call ∷ []) (error_of (answer_of call)) (call ∷ [])
+pub Serve-one : (call : Call) → Serve (request_of call ∷ []) (error_of (device_answer call)) (call ∷ [])
 Serve-one call = record { ends = EndWith-one call; rest = []; asked = refl; all = λ none. refl }
 
-pub call_ends : {D : Type 0} {gives : D → Call → D → Type 0} {old new : D} {call : Call} → MakesCall gives old call new → MakesCalls gives old new (EndWith (error_of (answer_of call)))
-call_ends {call = call} given = one_call {call = call} (EndWith (error_of (answer_of call))) (EndWith-one call) given
+pub call_ends : {D : Type 0} {gives : D → Call → D → Type 0} {old new : D} {call : Call} → MakesCall gives old call new → MakesCalls gives old new (EndWith (error_of (device_answer call)))
+call_ends {call = call} given = one_call {call = call} (EndWith (error_of (device_answer call))) (EndWith-one call) given
 
-pub call_serves : {D : Type 0} {gives : D → Call → D → Type 0} {old new : D} {call : Call} → MakesCall gives old call new → MakesCalls gives old new (Serve (request_of call ∷ []) (error_of (answer_of call)))
-call_serves {call = call} given = one_call {call = call} (Serve (request_of call ∷ []) (error_of (answer_of call))) (Serve-one call) given
+pub call_serves : {D : Type 0} {gives : D → Call → D → Type 0} {old new : D} {call : Call} → MakesCall gives old call new → MakesCalls gives old new (Serve (request_of call ∷ []) (error_of (device_answer call)))
+call_serves {call = call} given = one_call {call = call} (Serve (request_of call ∷ []) (error_of (device_answer call))) (Serve-one call) given
 
 -- no call, and no error
 pub none_ends : {D : Type 0} (gives : D → Call → D → Type 0) (device : D) → MakesCalls gives device device (EndWith None)

@@ -1,9 +1,7 @@
 -- The calls that code makes of a device, as a list in their order, and what is told of such a list.
-use Rattle.std.specs.Prelude.{ℕ, ◌≡◌, ◌+◌, ◌⊎◌, List, [], ◌∷◌, ◌++◌, length, map, Option, Some, None, Result, Ok, Err, OnErr}
-use Rattle.std.specs.List.{AllByRecursion}
+use Rattle.std.specs.Prelude.{ℕ, ◌≡◌, ◌+◌, List, [], ◌∷◌, ◌++◌, length, map, Option, Some, None, Result, Ok, Err, OnErr}
 use Rattle.model_device.specs.declared.write.Write.{Write}
 use Rattle.redo_disk.specs.declared.error.DevError.{DevError}
-use Rattle.redo_disk.specs.declared.error.DevError.TheVariants.{Failed, NoMemory}
 
 -- what a call answers
 abbrev pub Answer : Type 0
@@ -15,10 +13,10 @@ pub data Call : Type 0 where
   Writes : (write : Write) → (answer : Answer) → Call
   Syncs : (answer : Answer) → Call
 
-abbrev pub answer_of : Call → Answer
-answer_of (Reads at before answer after) = answer
-answer_of (Writes write answer) = answer
-answer_of (Syncs answer) = answer
+abbrev pub device_answer : Call → Answer
+device_answer (Reads at before answer after) = answer
+device_answer (Writes write answer) = answer
+device_answer (Syncs answer) = answer
 
 -- the error that an answer is, if it is one
 abbrev pub error_of : {T : Type 0} → Result T DevError → Option DevError
@@ -36,72 +34,26 @@ request_of (Reads at before answer after) = ToRead at (length before)
 request_of (Writes write answer) = ToWrite write
 request_of (Syncs answer) = ToSync
 
--- the call is a read
-abbrev pub IsRead : Call → Type 0
-IsRead (Reads at before answer after) = Unit {0}
-IsRead (Writes write answer) = ⊥
-IsRead (Syncs answer) = ⊥
-
-abbrev pub AreReads : List Call → Type 0
-AreReads = AllByRecursion IsRead
-
--- whether an error counts as a failure of the device
-abbrev pub failures : Option DevError → ℕ
-failures None = 0
-failures (Some Failed) = 1
-failures (Some NoMemory) = 0
-
--- how many of the calls answered that the device failed
-abbrev pub failed_calls : List Call → ℕ
-failed_calls [] = 0
-failed_calls (call ∷ calls) = failures (error_of (answer_of call)) + failed_calls calls
-
--- whether a call may change the device
-abbrev pub changes : Call → ℕ
-changes (Reads at before answer after) = 0
-changes (Writes write answer) = 1
-changes (Syncs answer) = 1
-
--- how many of the calls are writes or syncs
-abbrev pub changing_calls : List Call → ℕ
-changing_calls [] = 0
-changing_calls (call ∷ calls) = changes call + changing_calls calls
-
 -- nothing follows a call that answered an error
 abbrev pub StopAtError : List Call → Type 0
 StopAtError [] = Unit {0}
-StopAtError (call ∷ calls) = OnErr (answer_of call) (calls ≡ []) × StopAtError calls
+StopAtError (call ∷ calls) = OnErr (device_answer call) (calls ≡ []) × StopAtError calls
 
 -- the first of two errors
-abbrev pub first_of : Option DevError → Option DevError → Option DevError
-first_of None later = later
-first_of (Some error) later = Some error
+abbrev pub earlier_error : Option DevError → Option DevError → Option DevError
+earlier_error None later = later
+earlier_error (Some error) later = Some error
 
 -- the first error that the calls answered
 abbrev pub first_error : List Call → Option DevError
 first_error [] = None
-first_error (call ∷ calls) = first_of (error_of (answer_of call)) (first_error calls)
+first_error (call ∷ calls) = earlier_error (error_of (device_answer call)) (first_error calls)
 
 -- Every call but the last answered Ok, and the last, if it answered an error, answered this one. So code whose answer is
 -- this error neither forgot an error nor made one up, and did nothing after it.
 pub record EndWith (error : Option DevError) (calls : List Call) : Type 0 where
   pub stop : StopAtError calls
   pub first : first_error calls ≡ error
-
--- The same of code that may run out of memory by itself: then the calls all answered Ok.
-pub record MayEndWith (error : Option DevError) (calls : List Call) : Type 0 where
-  pub stop : StopAtError calls
-  pub first : (first_error calls ≡ error) ⊎ (first_error calls ≡ None × error ≡ Some NoMemory)
-
--- the calls are reads, and end so
-pub record ReadsEndWith (error : Option DevError) (calls : List Call) : Type 0 where
-  pub reads : AreReads calls
-  pub ends : EndWith error calls
-
--- the same of code that may run out of memory by itself
-pub record ReadsMayEndWith (error : Option DevError) (calls : List Call) : Type 0 where
-  pub reads : AreReads calls
-  pub ends : MayEndWith error calls
 
 -- The calls ask for these things in this order, for all of them or up to the one that answered this error.
 pub record Serve (requests : List Request) (error : Option DevError) (calls : List Call) : Type 0 where

@@ -11,18 +11,18 @@ use Rattle.std.proofs.lemmas.List.Quantifiers.{all_pairs_push}
 use Rattle.std.proofs.lemmas.Map.Made.{IsDistinct-from_AllPairs}
 use Rattle.std.proofs.lemmas.Map.Steps.{length-le_from_distinct_below}
 use Rattle.redo_flushlist.specs.declared.dirty.Dirty.{Dirty}
-use Rattle.redo_flushlist.specs.Order.{Listing, IsInOrder, IsOtherPage, MayFollow, oldest_of, without}
+use Rattle.redo_flushlist.specs.Order.{Listing, IsInOrder, IsOtherPage, MayFollow, listed_oldest, without_page}
 
 nobody : Dirty
 nobody = record { page = 0; oldest = 0 }
 
 -- a page that isn't listed is no page of the list
-unlisted : (entries : List Dirty) (page i : ℕ) (d : Dirty) → oldest_of entries page ≡ None → i < length entries → (get_or entries i d).page ≢ page
+unlisted : (entries : List Dirty) (page i : ℕ) (d : Dirty) → listed_oldest entries page ≡ None → i < length entries → (get_or entries i d).page ≢ page
 unlisted [] page i d none below = absurd (omega arith)
 unlisted (first ∷ later) page i d none below = go i (first.page == page) refl none below (λ k rest inside. unlisted later page k d rest inside)
   where
     go : (i : ℕ) (b : Bool) → (first.page == page) ≡ b → option_map (λ (dirty : Dirty). dirty.oldest) (cond b (Some first) (find (λ (dirty : Dirty). dirty.page == page) later)) ≡ None
-        → i < suc (length later) → ((k : ℕ) → oldest_of later page ≡ None → k < length later → (get_or later k d).page ≢ page) → (get_or (first ∷ later) i d).page ≢ page
+        → i < suc (length later) → ((k : ℕ) → listed_oldest later page ≡ None → k < length later → (get_or later k d).page ≢ page) → (get_or (first ∷ later) i d).page ≢ page
     go i true test none below others = absurd cc
     go zero false test none below others = λ same. let yes : (first.page == page) ≡ true = eq-eqb first.page page same in absurd cc
     go (suc i) false test none below others = others i none (omega arith)
@@ -53,7 +53,7 @@ below-any q first later n own rest any = go (eqb q first) refl any
     go false test any = rest any
 
 -- there is room for a page that isn't listed
-pub room : (listing : Listing) (page : ℕ) → IsInOrder listing → page < listing.pages → oldest_of listing.entries page ≡ None → length listing.entries < listing.pages
+pub room : (listing : Listing) (page : ℕ) → IsInOrder listing → page < listing.pages → listed_oldest listing.entries page ≡ None → length listing.entries < listing.pages
 room listing page order below none =
     let pages = map (λ (dirty : Dirty). dirty.page) listing.entries in
     let long = length-map listing.entries (λ (dirty : Dirty). dirty.page) in
@@ -70,7 +70,7 @@ room listing page order below none =
     omega arith
 
 -- a page more
-pub order-added : (listing : Listing) (dirty : Dirty) → IsInOrder listing → dirty.page < listing.pages → oldest_of listing.entries dirty.page ≡ None
+pub order-added : (listing : Listing) (dirty : Dirty) → IsInOrder listing → dirty.page < listing.pages → listed_oldest listing.entries dirty.page ≡ None
     → All (λ (earlier : Dirty). MayFollow earlier dirty) listing.entries → IsInOrder (record { pages = listing.pages; entries = listing.entries ++ dirty ∷ [] })
 order-added listing dirty order below none relaxed = record {
   below = All-append (λ (d : Dirty). d.page < listing.pages) listing.entries (dirty ∷ []) order.below (λ k d inside. one k d inside);
@@ -83,7 +83,7 @@ order-added listing dirty order below none relaxed = record {
     one (suc k) d inside = absurd (omega arith)
 
 -- a page less
-pub order-removed : (listing : Listing) (page : ℕ) → IsInOrder listing → IsInOrder (record { pages = listing.pages; entries = without page listing.entries })
+pub order-removed : (listing : Listing) (page : ℕ) → IsInOrder listing → IsInOrder (record { pages = listing.pages; entries = without_page page listing.entries })
 order-removed listing page order = record {
   below = All-filter (λ (dirty : Dirty). not (dirty.page == page)) (λ (dirty : Dirty). dirty.page < listing.pages) listing.entries order.below;
   once = AllPairs-filter IsOtherPage (λ (dirty : Dirty). not (dirty.page == page)) listing.entries order.once;

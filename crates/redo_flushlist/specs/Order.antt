@@ -9,8 +9,8 @@ pub record Listing : Type 0 where
   pub entries : List Dirty
 
 -- the oldest lsn of a page, if it is listed
-abbrev pub oldest_of : List Dirty → ℕ → Option ℕ
-oldest_of entries page = option_map (λ dirty. dirty.oldest) (find (λ dirty. dirty.page == page) entries)
+abbrev pub listed_oldest : List Dirty → ℕ → Option ℕ
+listed_oldest entries page = option_map (λ dirty. dirty.oldest) (find (λ dirty. dirty.page == page) entries)
 
 -- the oldest lsn of the page that entered first
 abbrev pub first_oldest : List Dirty → Option ℕ
@@ -18,8 +18,8 @@ first_oldest [] = None
 first_oldest (dirty ∷ later) = Some dirty.oldest
 
 -- the pages but this one, in their order
-abbrev pub without : ℕ → List Dirty → List Dirty
-without page entries = filter (λ dirty. not (dirty.page == page)) entries
+abbrev pub without_page : ℕ → List Dirty → List Dirty
+without_page page entries = filter (λ dirty. not (dirty.page == page)) entries
 
 -- a page that entered after another has an oldest lsn that is at most so much lower
 abbrev pub MayFollow : Dirty → Dirty → Type 0

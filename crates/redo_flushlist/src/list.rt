@@ -1,6 +1,6 @@
 // A flush list.
 ghost use Rattle.std.specs.Prelude.{◌≡◌, ◌<◌, ◌++◌, ◌∷◌, [], None, All, IfOk, IsSome};
-ghost use Rattle.redo_flushlist.specs.Order.{IsInOrder, MayFollow, first_oldest, oldest_of, without};
+ghost use Rattle.redo_flushlist.specs.Order.{IsInOrder, MayFollow, first_oldest, listed_oldest, without_page};
 
 use crate::Dirty;
 use redo_lsn::NoMemory;
@@ -38,7 +38,7 @@ impl FlushList {
     /// Lists a page whose oldest change starts at this lsn.
     pub fn add(&mut self, page: u32, oldest: u64)
         requires below { page < self.old.pages }
-        requires unlisted { oldest_of self.old.entries page ≡ None }
+        requires unlisted { listed_oldest self.old.entries page ≡ None }
         requires order { All (λ earlier. MayFollow earlier (record { page = page; oldest = oldest })) self.old.entries }
         ensures { self.new ≡ record { pages = self.old.pages; entries = self.old.entries ++ (record { page = page; oldest = oldest }) ∷ [] } }
     {
@@ -50,8 +50,8 @@ impl FlushList {
 
     /// Takes a page off the list.
     pub fn remove(&mut self, page: u32)
-        requires { IsSome (oldest_of self.old.entries page) }
-        ensures { self.new ≡ record { pages = self.old.pages; entries = without page self.old.entries } }
+        requires { IsSome (listed_oldest self.old.entries page) }
+        ensures { self.new ≡ record { pages = self.old.pages; entries = without_page page self.old.entries } }
     {
         self.entries.retain(|dirty| dirty.page != page);
     }
@@ -66,7 +66,7 @@ impl FlushList {
 
     /// The oldest lsn of a page, if it is listed.
     pub fn listed(&self, page: u32) -> Option<u64>
-        ensures { result ≡ oldest_of self.now.entries page }
+        ensures { result ≡ listed_oldest self.now.entries page }
     {
         let dirty = self.entries.iter().find(|dirty| dirty.page == page)?;
         Some(dirty.oldest)

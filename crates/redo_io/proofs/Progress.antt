@@ -7,7 +7,7 @@ use Rattle.std.proofs.lemmas.Fn.{FoldsTo-push}
 use Rattle.std.proofs.lemmas.List.{append-nil}
 use Rattle.std.specs.List.{FoldsTo, concat}
 use Rattle.std.proofs.lemmas.List.Folds.{concat-append}
-use Rattle.redo_io.specs.Reads.{Reading, GivesPiece, LastRead, IsReadThrough}
+use Rattle.redo_io.specs.Reads.{ReadRelation, GivesPiece, LastRead, IsReadThrough}
 use Rattle.redo_io.specs.Sink.{with_taken}
 use Rattle.redo_io.specs.Writes.{TakesSome, Writing}
 use Rattle.redo_io.specs.Source.{TakesFront}
@@ -73,13 +73,13 @@ TakesFront_all (Some bytes) (Some rest) text first end =
     sym (take_all _ text (omega arith)) ∙ first.1 ∙ take_all _ bytes (omega arith)
 
 -- reads of pieces gave this text so far
-pub record HasRead {S : Type 0} (gives : Reading S) (room : ℕ) (old : S) (text : List ℕ) (now : S) : Type 0 where
+pub record HasRead {S : Type 0} (gives : ReadRelation S) (room : ℕ) (old : S) (text : List ℕ) (now : S) : Type 0 where
   pub pieces : List (List ℕ)
   pub reads : FoldsTo (GivesPiece gives room) old pieces now
   pub text_is : text ≡ concat pieces
 
 -- one more piece
-pub HasRead-more : {S : Type 0} (gives : Reading S) (room length_of_buffer : ℕ) (old now new : S) (text out : List ℕ) (n : ℕ) → length_of_buffer ≡ room
+pub HasRead-more : {S : Type 0} (gives : ReadRelation S) (room length_of_buffer : ℕ) (old now new : S) (text out : List ℕ) (n : ℕ) → length_of_buffer ≡ room
     → HasRead gives room old text now → n ≤ length out → 0 < n → gives now length_of_buffer (Ok n) out new → HasRead gives room old (text ++ take n out) new
 HasRead-more {S} gives room length_of_buffer old now new text out n room_is read fits some given =
     let piece = take n out in
@@ -92,7 +92,7 @@ HasRead-more {S} gives room length_of_buffer old now new text out n room_is read
     }
 
 -- the reads are over
-pub IsReadThrough-from : {S : Type 0} (gives : Reading S) (room : ℕ) (old now new : S) (text : List ℕ) (result : Result (List ℕ) ReadFault) → HasRead gives room old text now
+pub IsReadThrough-from : {S : Type 0} (gives : ReadRelation S) (room : ℕ) (old now new : S) (text : List ℕ) (result : Result (List ℕ) ReadFault) → HasRead gives room old text now
     → LastRead gives room now result new → IfOk result (λ whole. whole ≡ text) → IsReadThrough gives room old result new
 IsReadThrough-from gives room old now new text (Ok whole) read last same = record {
   pieces = read.pieces;

@@ -4,12 +4,12 @@ use Rattle.std.specs.List.{list_any}
 use Rattle.model_base.specs.{last_count}
 
 -- one more, where 64 bits hold it
-abbrev pub next_count : ℕ → ℕ
-next_count count = min (count + 1) last_count
+abbrev pub saturating_next : ℕ → ℕ
+saturating_next count = min (count + 1) last_count
 
 -- the count after one more that counts or not
 abbrev pub next_count_if : Bool → ℕ → ℕ
-next_count_if counts count = if counts then next_count count else count
+next_count_if counts count = if counts then saturating_next count else count
 
 -- which calls fail, and how far they have come
 pub record Planned : Type 0 where
@@ -30,16 +30,16 @@ fails_now plan = list_any (λ number. number == plan.calls) plan.failing
 
 -- the plan after a call that didn't fail
 abbrev pub after_ok : Planned → Planned
-after_ok plan = record plan { calls = next_count plan.calls }
+after_ok plan = record plan { calls = saturating_next plan.calls }
 
 -- the plan after a call that failed
 abbrev pub after_failure : Planned → Planned
-after_failure plan = record plan { calls = next_count plan.calls; faults = next_count plan.faults }
+after_failure plan = record plan { calls = saturating_next plan.calls; faults = saturating_next plan.faults }
 
 -- the plan after the next call
-abbrev pub after_call : Planned → Planned
-after_call plan = if fails_now plan then after_failure plan else after_ok plan
+abbrev pub plan_after_call : Planned → Planned
+plan_after_call plan = if fails_now plan then after_failure plan else after_ok plan
 
 -- the plan with a fault that it doesn't name
 abbrev pub with_fault : Planned → Planned
-with_fault plan = record plan { faults = next_count plan.faults }
+with_fault plan = record plan { faults = saturating_next plan.faults }

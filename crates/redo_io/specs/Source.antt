@@ -21,6 +21,12 @@ abbrev pub TakesAtMost : ℕ → Option (List ℕ) → Option (List ℕ) → Typ
 TakesAtMost most None new = new ≡ None
 TakesAtMost most (Some bytes) new = (n : ℕ) × (n ≤ most) × (n ≤ length bytes) × (new ≡ Some (drop n bytes))
 
+-- The text is all that was left, at most so many bytes, and nothing is left.
+pub record IsAllOf (limit : ℕ) (old new : Option (List ℕ)) (text : List ℕ) : Type 0 where
+  pub all : IfSome old (λ bytes. text ≡ bytes)
+  pub none_left : IfSome new (λ bytes. bytes ≡ [])
+  pub short : length text ≤ limit
+
 -- A read into a buffer with room for so many bytes; `out` is what stands in the buffer after it. To read nothing into
 -- some room is the end of input.
 pub record SourceStep (room : ℕ) (old : SourceSeen) (result : Result ℕ IoFault) (out : List ℕ) (new : SourceSeen) : Type 0 where

@@ -2,7 +2,7 @@
 -- what it has left, or the writer what it holds, no byte is lost or made up on the way.
 use Rattle.std.specs.Prelude.{ℕ, ◌≡◌, List, Option, Result, Ok, Err}
 use Rattle.std.specs.Io.KnownBytes.{ReadConsumes, WriteAppends}
-use Rattle.redo_io.specs.Plan.{next_count}
+use Rattle.redo_io.specs.Plan.{saturating_next}
 use Rattle.redo_io.specs.declared.fault.IoFault.{IoFault}
 use Rattle.redo_io.specs.declared.reader_source.ReaderSource.{ReaderSource}
 use Rattle.redo_io.specs.declared.writer_sink.WriterSink.{WriterSink}
@@ -26,7 +26,7 @@ sink_faults sink = sink.faults
 -- the count of faults after a call: one more where it failed
 abbrev pub CountsFault : {T : Type 0} → ℕ → Result T IoFault → ℕ → Type 0
 CountsFault old (Ok value) new = new ≡ old
-CountsFault old (Err fault) new = new ≡ next_count old
+CountsFault old (Err fault) new = new ≡ saturating_next old
 
 -- A read through the source: the bytes that it gives are gone from the reader, and none is where it failed. It finds the
 -- end only where nothing is left.

@@ -1,7 +1,7 @@
 // Which calls of something in memory fail.
 ghost use Rattle.std.specs.Prelude.{◌≡◌, ◌≤◌, IsTrue};
 ghost use Rattle.model_base.specs.{HasRisen};
-ghost use Rattle.redo_io.specs.Plan.{after_call, fails_now, unused, with_fault};
+ghost use Rattle.redo_io.specs.Plan.{fails_now, plan_after_call, unused, with_fault};
 
 use std::marker::Model;
 
@@ -37,7 +37,7 @@ impl Plan {
     /// Counts a call, and says whether it fails, which is a fault.
     pub fn fails(&mut self) -> bool
         ensures named { result ≡ fails_now self.old }
-        ensures after { self.new ≡ after_call self.old }
+        ensures after { self.new ≡ plan_after_call self.old }
         ensures later { self.old.faults ≤ self.new.faults }
         ensures cause { IsTrue result → HasRisen self.old.faults self.new.faults }
     {

@@ -1,8 +1,8 @@
 // Reading a text whole.
-ghost use Rattle.std.specs.Prelude.{◌≡◌, ◌≤◌, ◌<◌, ◌+◌, ◌^◌, [], length, IfOk, OnOk, IfSome, IsErrOf, vec_len};
+ghost use Rattle.std.specs.Prelude.{◌≡◌, ◌≤◌, ◌<◌, ◌+◌, ◌^◌, length, IfOk, IfSome, IsErrOf, vec_len};
 ghost use Rattle.model_base.specs.{HasRisen};
 ghost use Rattle.redo_io.specs.Reads.{IsReadThrough};
-ghost use Rattle.redo_io.specs.Source.{TakesAtMost};
+ghost use Rattle.redo_io.specs.Source.{IsAllOf, TakesAtMost};
 
 use crate::{ReadFault, Source, Text};
 use std::alloc::{AllocError, Global};
@@ -19,9 +19,7 @@ fn empty_piece(alloc: Global) -> Result<Vec<u8>, AllocError>
 /// Reads all that is left, if that is at most `limit` bytes. After an error some bytes are gone from the source.
 pub fn read_all<S: Source>(alloc: Global, src: &mut S, limit: usize) -> Result<Text, ReadFault>
     requires { limit ≤ 2 ^ 32 }
-    ensures all { IfOk result (λ text. IfSome (S.seen src.old).left (λ bytes. text ≡ bytes)) }
-    ensures none_left { OnOk result (IfSome (S.seen src.new).left (λ bytes. bytes ≡ [])) }
-    ensures short { IfOk result (λ text. length text ≤ limit) }
+    ensures ok { IfOk result (IsAllOf limit (S.seen src.old).left (S.seen src.new).left) }
     ensures fault { IsErrOf result ReadFault.Fault → HasRisen (S.seen src.old).faults (S.seen src.new).faults }
     ensures too_long { IsErrOf result ReadFault.TooLong →
         IfSome (S.seen src.old).left (λ bytes. limit < length bytes) }

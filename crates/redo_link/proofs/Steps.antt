@@ -3,7 +3,7 @@ use Rattle.std.proofs.Common.{◌≡◌, ◌≢◌, ◌≤◌, ◌<◌, ◌+◌,
 use Rattle.std.proofs.lemmas.Bool.{cases_lt, cases_eq}
 use Rattle.std.proofs.lemmas.Nat.{mod_below}
 use Rattle.std.proofs.lemmas.List.{get_or-set_same, get_or-set_other, get_or-replicate, length-set, length-replicate}
-use Rattle.redo_link.specs.Links.{Links, IsSound, IsFree, IsAdded, IsCleared, IsFollowed, IsPath, Leads, capacity_of, link_at}
+use Rattle.redo_link.specs.Links.{Links, IsSound, IsFree, IsAdded, AreLinksCleared, IsFollowed, IsPath, Leads, capacity_of, link_at}
 use Rattle.redo_link.proofs.Windows.{Shares, shares, slots-apart, at-inside, at-below, at-behind}
 
 -- a buffer with no link
@@ -162,7 +162,7 @@ sound-followed old new sound is =
 pub record IsOnPath (old now : Links) : Type 0 where
   pub along : Leads old old.tail now.tail
   pub capacity : capacity_of now ≡ capacity_of old
-  pub cleared : IsCleared old now.tail now
+  pub cleared : AreLinksCleared old now.tail now
 
 path-more : (links : Links) (from place to : ℕ) (starts : List ℕ) → IsPath links from starts place → link_at links place ≢ 0 → link_at links place ≡ to → IsPath links from (starts ++ place ∷ []) to
 path-more links from place to [] path some ends = (path, some, ends)

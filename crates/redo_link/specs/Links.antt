@@ -42,7 +42,7 @@ abbrev pub Leads : Links → ℕ → ℕ → Type 0
 Leads links from to = (starts : List ℕ) × IsPath links from starts to
 
 -- the links that start below a place are cleared, and those from there on stand
-pub record IsCleared (old : Links) (place : ℕ) (new : Links) : Type 0 where
+pub record AreLinksCleared (old : Links) (place : ℕ) (new : Links) : Type 0 where
   pub below : (start : ℕ) → start < place → link_at new start ≡ 0
   pub others : (start : ℕ) → place ≤ start → link_at new start ≡ link_at old start
 
@@ -52,11 +52,11 @@ pub record IsFollowed (old new : Links) : Type 0 where
   pub tail : new.tail ≡ link_at old old.tail
   pub forward : old.tail < new.tail
   pub capacity : capacity_of new ≡ capacity_of old
-  pub cleared : IsCleared old new.tail new
+  pub cleared : AreLinksCleared old new.tail new
 
 -- the tail goes along the links to the first place at which none starts, and those followed are cleared
 pub record Advances (old new : Links) : Type 0 where
   pub along : Leads old old.tail new.tail
   pub stops : link_at old new.tail ≡ 0
   pub capacity : capacity_of new ≡ capacity_of old
-  pub cleared : IsCleared old new.tail new
+  pub cleared : AreLinksCleared old new.tail new

@@ -2,11 +2,13 @@
 use Rattle.std.proofs.Common.{◌≡◌, ◌≤◌, ◌<◌, ◌+◌, ◌-◌, ◌*◌, ◌%◌, ◌^◌, ℕ, List, [], length, take, Option, Some, None, sym, ap, subst, ◌∙◌, ⊎_elim, arith}
 use Rattle.std.proofs.lemmas.Bool.{cases_lt}
 use Rattle.model_base.specs.declared.shape.Shape.{Shape}
+use Rattle.model_base.specs.declared.limits.TheConstants.{FIRST_DATA_LSN, MAX_LOG_BLOCKS, MIN_LOG_BLOCKS}
 use Rattle.model_device.specs.{IsPutOrNot, synced, written}
 use Rattle.model_device.specs.Disk.{Disk}
 use Rattle.model_log.specs.declared.group.Whole.{Whole}
 use Rattle.model_log.specs.declared.head.Format.TheVariants.{Two}
 use Rattle.model_log.specs.declared.layout.Layout.{Layout}
+use Rattle.model_log.specs.declared.layout.TheConstants.{BLOCK_DATA}
 use Rattle.model_log.specs.{block_of, checkpoint_text, IsDataLsn, IsGivenTo, IsLayout, other_tail, place_of, run_layout, sn_of}
 use Rattle.model_log.proofs.BoundaryLengths.{sn_of-block, sn_of-rises}
 use Rattle.model_log.proofs.CutStream.{some-below}
@@ -19,8 +21,9 @@ use Rattle.model_parts.proofs.LogFresh.{fresh-live}
 use Rattle.model_parts.proofs.Torn.{put-torn}
 use Rattle.redo_disk.specs.{Call, MakesCalls, Serve, write_at}
 use Rattle.redo_disk.specs.declared.error.DevError.{DevError}
-use Rattle.redo_logdev.specs.Calls.{block_writes, FailsBlocks, full_blocks, full_count, last_block, written_blocks}
-use Rattle.redo_logdev.specs.Part.{DiskHolds, IsSound, MayWrite, Part}
+use Rattle.redo_logdev.specs.Calls.{block_writes, FailsBlocks, framed_full_blocks, full_count, last_block, written_blocks}
+use Rattle.redo_logdev.specs.Part.{DiskHolds, Part}
+use Rattle.redo_logdev.specs.PartConditions.{IsSoundLogPart, MayWrite}
 use Rattle.redo_logdev.proofs.Cuts.{count-firsts, IsCut}
 use Rattle.redo_logdev.proofs.WriteTo.{write_to-err, write_to-ok}
 
@@ -33,12 +36,13 @@ disk-of : (shape : Shape) (s : ℕ) (wholes : List Whole) (marks : LogMarks) (ta
 disk-of shape s wholes marks tails failed disk live = record { holds = live.holds; live = λ same. live.is_written }
 
 -- the layout of a part's device
-pub run-is_layout : (shape : Shape) → 1024 ≤ shape.log_blocks → shape.log_blocks ≤ 1048576 → IsLayout (run_layout shape)
+pub run-is_layout : (shape : Shape) → MIN_LOG_BLOCKS ≤ shape.log_blocks → shape.log_blocks ≤ MAX_LOG_BLOCKS → IsLayout (run_layout shape)
 run-is_layout shape many few = is_layout_of Two shape many few
 
 -- A PART THAT STARTS.
 
-pub fresh-part : (shape : Shape) (start number : ℕ) (disk : Disk) → 1024 ≤ shape.log_blocks → shape.log_blocks ≤ 1048576 → start % 512 ≡ 12 → 8204 ≤ start
+pub fresh-part : (shape : Shape) (start number : ℕ) (disk : Disk) → MIN_LOG_BLOCKS ≤ shape.log_blocks → shape.log_blocks ≤ MAX_LOG_BLOCKS
+    → start % 512 ≡ 12 → FIRST_DATA_LSN ≤ start
     → IsFresh shape start number disk → DiskHolds shape start [] (first_marks start number) (first_tails start) None disk
 fresh-part shape start number disk many few place low fresh =
     disk-of shape start [] (first_marks start number) (first_tails start) None disk
@@ -96,7 +100,7 @@ checkpoint-made shape s wholes marks tails failed lsn at block a b is_layout liv
 -- WRITING.
 
 -- what a part knows when `write_to` is called
-pub cut-from : {L : Type 0} (part : Part L) (mark ckpt : ℕ) (bytes firsts : List ℕ) (size room : ℕ) → IsSound size part.shape part.marks part.tails room
+pub cut-from : {L : Type 0} (part : Part L) (mark ckpt : ℕ) (bytes firsts : List ℕ) (size room : ℕ) → IsSoundLogPart size part.shape part.marks part.tails room
     → MayWrite part mark bytes firsts → ckpt < 2 ^ 32 → IsCut part.shape part.marks mark ckpt (full_count bytes) bytes firsts
 cut-from part mark ckpt bytes firsts size room sound may small = record {
   some_blocks = omega (arith, sound.many_blocks);
@@ -118,7 +122,7 @@ few-blocks part mark bytes firsts may =
     let from : ℕ = block_of part.marks.written in
     let aligned : from % 512 ≡ 0 = omega arith in
     let counts = count-firsts bytes firsts may.fit in
-    let end : sn_of (from + 512 * 128) ≡ sn_of from + 496 * 128 = sn_of-block from 128 aligned in
+    let end : sn_of (from + 512 * 128) ≡ sn_of from + BLOCK_DATA * 128 = sn_of-block from 128 aligned in
     let below : sn_of mark ≤ sn_of (from + 512 * 128) = sn_of-rises mark (from + 512 * 128) (omega (arith, may.near)) in
     omega (arith, counts.0, may.count)
 
@@ -139,15 +143,15 @@ ends-small part mark bytes firsts may =
 pub record AreTexts (marks : LogMarks) (tails : TailMarks) (ckpt : ℕ) (bytes firsts : List ℕ) (from at : ℕ) (full last : List ℕ) : Type 0 where
   pub from_is : from ≡ block_of marks.written
   pub at_is : at ≡ 512 * other_tail tails.tail
-  pub full_is : full ≡ full_blocks (block_of marks.written) bytes firsts ckpt
+  pub full_is : full ≡ framed_full_blocks (block_of marks.written) bytes firsts ckpt
   pub last_is : last ≡ last_block (block_of marks.written) bytes firsts
 
 pub texts-of : (marks : LogMarks) (tails : TailMarks) (ckpt : ℕ) (bytes firsts : List ℕ) (from k count : ℕ) (seen room last : List ℕ) → from ≡ block_of marks.written → k ≡ other_tail tails.tail → seen ≡ room
-    → take count room ≡ full_blocks from bytes firsts ckpt → last ≡ last_block from bytes firsts → AreTexts marks tails ckpt bytes firsts from (512 * k) (take count seen) last
+    → take count room ≡ framed_full_blocks from bytes firsts ckpt → last ≡ last_block from bytes firsts → AreTexts marks tails ckpt bytes firsts from (512 * k) (take count seen) last
 texts-of marks tails ckpt bytes firsts from k count seen room last from_is k_is same full last_is = record {
   from_is = from_is;
   at_is = ap (λ n. 512 * n) k_is;
-  full_is = ap (take count) same ∙ full ∙ ap (λ b. full_blocks b bytes firsts ckpt) from_is;
+  full_is = ap (take count) same ∙ full ∙ ap (λ b. framed_full_blocks b bytes firsts ckpt) from_is;
   last_is = last_is ∙ ap (λ b. last_block b bytes firsts) from_is;
 }
 
@@ -155,11 +159,11 @@ texts-of marks tails ckpt bytes firsts from k count seen room last from_is k_is 
 pub texts_served : {D : Type 0} {gives : D → Call → D → Type 0} {old new : D} {error : Option DevError} (shape : Shape) (marks : LogMarks) (tails : TailMarks) (ckpt : ℕ) (bytes firsts : List ℕ)
     (layout : Layout) (from at : ℕ) (full last : List ℕ) → layout ≡ run_layout shape → AreTexts marks tails ckpt bytes firsts from at full last
     → MakesCalls gives old new (Serve (block_writes layout from full at last) error)
-    → MakesCalls gives old new (Serve (block_writes (run_layout shape) (block_of marks.written) (full_blocks (block_of marks.written) bytes firsts ckpt) (512 * other_tail tails.tail) (last_block (block_of marks.written) bytes firsts)) error)
+    → MakesCalls gives old new (Serve (block_writes (run_layout shape) (block_of marks.written) (framed_full_blocks (block_of marks.written) bytes firsts ckpt) (512 * other_tail tails.tail) (last_block (block_of marks.written) bytes firsts)) error)
 texts_served {gives = gives} {old = old} {new = new} {error = error} shape marks tails ckpt bytes firsts layout from at full last layout_is texts made =
     let here : ℕ = block_of marks.written in
     let there : ℕ = 512 * other_tail tails.tail in
-    let whole : List ℕ = full_blocks here bytes firsts ckpt in
+    let whole : List ℕ = framed_full_blocks here bytes firsts ckpt in
     let Made : Layout → ℕ → List ℕ → ℕ → List ℕ → Type 0 = λ layout from full at last. MakesCalls gives old new (Serve (block_writes layout from full at last) error) in
     subst (λ (x : List ℕ). Made (run_layout shape) here whole there x) texts.last_is
     (subst (λ (n : ℕ). Made (run_layout shape) here whole n last) texts.at_is
@@ -174,7 +178,7 @@ pub write-ok : (shape : Shape) (s : ℕ) (wholes : List Whole) (marks : LogMarks
 write-ok shape s wholes marks tails failed mark ckpt bytes firsts from at full last a b live place cut given texts before is =
     let here : ℕ = block_of marks.written in
     let there : ℕ = 512 * other_tail tails.tail in
-    let whole : List ℕ = full_blocks here bytes firsts ckpt in
+    let whole : List ℕ = framed_full_blocks here bytes firsts ckpt in
     let same : b ≡ written_blocks (run_layout shape) here whole there (last_block here bytes firsts) a =
     is ∙ ap (λ n. written_blocks (run_layout shape) n full at last a) texts.from_is
     ∙ ap (λ (x : List ℕ). written_blocks (run_layout shape) here x at last a) texts.full_is
@@ -190,7 +194,7 @@ pub write-err : (shape : Shape) (s : ℕ) (wholes : List Whole) (marks : LogMark
 write-err shape s wholes marks tails failed error mark ckpt bytes firsts from at full last a b live place cut given texts before fails =
     let here : ℕ = block_of marks.written in
     let there : ℕ = 512 * other_tail tails.tail in
-    let whole : List ℕ = full_blocks here bytes firsts ckpt in
+    let whole : List ℕ = framed_full_blocks here bytes firsts ckpt in
     let same : FailsBlocks (run_layout shape) here whole there (last_block here bytes firsts) a b =
     subst (λ (x : List ℕ). FailsBlocks (run_layout shape) here whole there x a b) texts.last_is
     (subst (λ (n : ℕ). FailsBlocks (run_layout shape) here whole n last a b) texts.at_is

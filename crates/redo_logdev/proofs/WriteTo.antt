@@ -6,6 +6,7 @@ use Rattle.model_device.specs.{Covers, FailsWrite}
 use Rattle.model_device.specs.Disk.{Disk}
 use Rattle.model_device.specs.declared.write.Write.{Write}
 use Rattle.model_log.specs.declared.group.Whole.{Whole}
+use Rattle.model_log.specs.declared.layout.TheConstants.{BLOCK_DATA}
 use Rattle.model_log.specs.{block_of, framed, IsDataLsn, IsGivenTo, IsTailPlace, log_device_length, other_tail, place_in, ring_start, round_of, run_layout, sector_of, turn_of}
 use Rattle.model_log.proofs.CutStream.{length-framed}
 use Rattle.model_log.proofs.Places.{place-within, sector-place}
@@ -78,27 +79,27 @@ ended shape s wholes marks tails mark p at (byte ∷ part) disk some reached (in
 -- whether there is one
 tail-cases : (shape : Shape) (s : ℕ) (wholes : List Whole) (marks : LogMarks) (mark ckpt full k : ℕ) (bytes firsts : List ℕ) → AreInOrder (run_layout shape) s wholes marks → IsDataLsn marks.written
     → IsCut shape marks mark ckpt full bytes firsts → IsGivenTo s wholes (block_of marks.written) mark bytes firsts
-    → let part : List ℕ = framed (drop (496 * full) bytes) (block_of marks.written + 512 * full) (drop full firsts) (turn_of (block_of marks.written + 512 * full)) in
+    → let part : List ℕ = framed (drop (BLOCK_DATA * full) bytes) (block_of marks.written + 512 * full) (drop full firsts) (turn_of (block_of marks.written + 512 * full)) in
     ((length part ≡ 0) × (mark ≤ block_of mark + 12)) ⊎ ((1 ≤ length part) × WritesTail s wholes mark k (write_at (512 * k) part))
 tail-cases shape s wholes marks mark ckpt full k bytes firsts order written_place cut given =
     let b : ℕ = block_of marks.written + 512 * full in
     let ends : Ends shape marks mark full bytes firsts = ends-of shape marks mark ckpt full bytes firsts written_place cut in
-    let long : length (framed (drop (496 * full) bytes) b (drop full firsts) (turn_of b)) ≡ 512 * length (drop full firsts) = length-framed (drop (496 * full) bytes) (drop full firsts) b (turn_of b) in
+    let long : length (framed (drop (BLOCK_DATA * full) bytes) b (drop full firsts) (turn_of b)) ≡ 512 * length (drop full firsts) = length-framed (drop (BLOCK_DATA * full) bytes) (drop full firsts) b (turn_of b) in
     ⊎_elim (λ more. let at = ends.some more in
     inr (omega (arith, at.2, length-drop full firsts), tail-writes shape s wholes marks mark ckpt full k bytes firsts order written_place cut given more))
-    (λ not_more. let same : length bytes ≡ 496 * full = omega (arith, cut.low) in let at = ends.none same in
-    inl (omega (arith, at.1, length-drop full firsts), at.0)) (cases_lt (496 * full) (length bytes))
+    (λ not_more. let same : length bytes ≡ BLOCK_DATA * full = omega (arith, cut.low) in let at = ends.none same in
+    inl (omega (arith, at.1, length-drop full firsts), at.0)) (cases_lt (BLOCK_DATA * full) (length bytes))
 
 pub write_to-ok : (shape : Shape) (s : ℕ) (wholes : List Whole) (marks : LogMarks) (tails : TailMarks) (mark ckpt full : ℕ) (bytes firsts : List ℕ) (old new : Disk)
     → IsDataLsn marks.written → IsCut shape marks mark ckpt full bytes firsts → IsGivenTo s wholes (block_of marks.written) mark bytes firsts → IsLive shape s wholes marks tails old
     → let from : ℕ = block_of marks.written in
-    new ≡ written_blocks (run_layout shape) from (framed (take (496 * full) bytes) from (take full firsts) ckpt) (512 * other_tail tails.tail) (framed (drop (496 * full) bytes) (from + 512 * full) (drop full firsts) (turn_of (from + 512 * full))) old
+    new ≡ written_blocks (run_layout shape) from (framed (take (BLOCK_DATA * full) bytes) from (take full firsts) ckpt) (512 * other_tail tails.tail) (framed (drop (BLOCK_DATA * full) bytes) (from + 512 * full) (drop full firsts) (turn_of (from + 512 * full))) old
     → IsLive shape s wholes (after_written mark marks) (tails_written mark tails) new
 write_to-ok shape s wholes marks tails mark ckpt full bytes firsts old new written_place cut given live same =
     let from : ℕ = block_of marks.written in
-    let all : List ℕ = framed (take (496 * full) bytes) from (take full firsts) ckpt in
+    let all : List ℕ = framed (take (BLOCK_DATA * full) bytes) from (take full firsts) ckpt in
     let k : ℕ = other_tail tails.tail in
-    let part : List ℕ = framed (drop (496 * full) bytes) (from + 512 * full) (drop full firsts) (turn_of (from + 512 * full)) in
+    let part : List ℕ = framed (drop (BLOCK_DATA * full) bytes) (from + 512 * full) (drop full firsts) (turn_of (from + 512 * full)) in
     let ends : Ends shape marks mark full bytes firsts = ends-of shape marks mark ckpt full bytes firsts written_place cut in
     let begun : IsWriting shape s wholes marks tails mark from old = writing-begin shape s wholes marks tails old mark live given.boundary cut.later cut.room in
     let cuts : Cuts shape s wholes marks tails.kept mark from full all = cuts-of shape s wholes marks tails.kept mark ckpt full bytes firsts live.holds.order live.holds.kept.up_to written_place cut given in
@@ -110,16 +111,16 @@ write_to-ok shape s wholes marks tails mark ckpt full bytes firsts old new writt
 pub write_to-err : (shape : Shape) (s : ℕ) (wholes : List Whole) (marks : LogMarks) (tails : TailMarks) (mark ckpt full : ℕ) (bytes firsts : List ℕ) (old new : Disk)
     → IsDataLsn marks.written → IsCut shape marks mark ckpt full bytes firsts → IsGivenTo s wholes (block_of marks.written) mark bytes firsts → IsLive shape s wholes marks tails old
     → let from : ℕ = block_of marks.written in
-    FailsBlocks (run_layout shape) from (framed (take (496 * full) bytes) from (take full firsts) ckpt) (512 * other_tail tails.tail) (framed (drop (496 * full) bytes) (from + 512 * full) (drop full firsts) (turn_of (from + 512 * full))) old new
+    FailsBlocks (run_layout shape) from (framed (take (BLOCK_DATA * full) bytes) from (take full firsts) ckpt) (512 * other_tail tails.tail) (framed (drop (BLOCK_DATA * full) bytes) (from + 512 * full) (drop full firsts) (turn_of (from + 512 * full))) old new
     → LogHoldsWith shape s wholes (after_given mark marks) tails new
 write_to-err shape s wholes marks tails mark ckpt full bytes firsts old new written_place cut given live fails =
     let from : ℕ = block_of marks.written in
-    let all : List ℕ = framed (take (496 * full) bytes) from (take full firsts) ckpt in
+    let all : List ℕ = framed (take (BLOCK_DATA * full) bytes) from (take full firsts) ckpt in
     let at : ℕ = place_in (run_layout shape) from in
     let front : List ℕ = front_of (run_layout shape) from all in
     let back : List ℕ = back_of (run_layout shape) from all in
     let k : ℕ = other_tail tails.tail in
-    let part : List ℕ = framed (drop (496 * full) bytes) (from + 512 * full) (drop full firsts) (turn_of (from + 512 * full)) in
+    let part : List ℕ = framed (drop (BLOCK_DATA * full) bytes) (from + 512 * full) (drop full firsts) (turn_of (from + 512 * full)) in
     let begun : IsWriting shape s wholes marks tails mark from old = writing-begin shape s wholes marks tails old mark live given.boundary cut.later cut.room in
     let cuts : Cuts shape s wholes marks tails.kept mark from full all = cuts-of shape s wholes marks tails.kept mark ckpt full bytes firsts live.holds.order live.holds.kept.up_to written_place cut given in
     let half : IsWriting shape s wholes marks tails mark (from + 512 * cuts.first) (written_if at front old) =

@@ -67,8 +67,8 @@ abbrev pub full_count : List ℕ → ℕ
 full_count stream = length stream / BLOCK_DATA
 
 -- those blocks, the first of them at the lsn `from`, written under this checkpoint
-abbrev pub full_blocks : ℕ → List ℕ → List ℕ → ℕ → List ℕ
-full_blocks from stream firsts ckpt = framed (take (BLOCK_DATA * full_count stream) stream) from (take (full_count stream) firsts) ckpt
+abbrev pub framed_full_blocks : ℕ → List ℕ → List ℕ → ℕ → List ℕ
+framed_full_blocks from stream firsts ckpt = framed (take (BLOCK_DATA * full_count stream) stream) from (take (full_count stream) firsts) ckpt
 
 -- the incomplete block after them, which names the turn of its lsn in place of a checkpoint; nothing where the stream
 -- ends with a full one

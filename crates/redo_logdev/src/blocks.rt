@@ -2,7 +2,7 @@
 ghost use Rattle.std.specs.Prelude.{◌≡◌, ◌≤◌, ◌<◌, ◌+◌, ◌*◌, ◌^◌, ◌⊎◌, length, take};
 ghost use Rattle.model_log.specs.{framed};
 ghost use Rattle.redo_block.specs.{AreFirsts};
-ghost use Rattle.redo_logdev.specs.Calls.{full_blocks, full_count, last_block};
+ghost use Rattle.redo_logdev.specs.Calls.{framed_full_blocks, full_count, last_block};
 
 use model_base::BLOCK_SIZE;
 use model_log::BLOCK_DATA;
@@ -35,7 +35,7 @@ pub fn fill_blocks(
     requires small { from + BLOCK_SIZE * length firsts.now < 2 ^ 61 + BLOCK_SIZE }
     requires room { BLOCK_SIZE * length firsts.now ≤ length room.old }
     requires each { AreFirsts stream.now firsts.now }
-    ensures full { take result.0 room.new ≡ full_blocks from stream.now firsts.now ckpt }
+    ensures full { take result.0 room.new ≡ framed_full_blocks from stream.now firsts.now ckpt }
     ensures full_len { result.0 ≡ BLOCK_SIZE * full_count stream.now }
     ensures last { take result.1 last.new ≡ last_block from stream.now firsts.now }
     ensures last_len { (result.1 ≡ 0) ⊎ (result.1 ≡ BLOCK_SIZE) }

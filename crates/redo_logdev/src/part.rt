@@ -35,7 +35,8 @@ pub struct LogPart<L: Sectors> {
 
 impl<L: Sectors> Model for LogPart<L> {
     ghost use Rattle.std.specs.Prelude.{vec_len};
-    ghost use Rattle.redo_logdev.specs.Part.{Part, IsSound};
+    ghost use Rattle.redo_logdev.specs.Part.{Part};
+    ghost use Rattle.redo_logdev.specs.PartConditions.{IsSoundLogPart};
 
     ghost Value = { Part L };
 
@@ -47,7 +48,7 @@ impl<L: Sectors> Model for LogPart<L> {
       failed = part.failed;
     } };
 
-    ghost invariant = { λ part. IsSound (L.seen part.dev).size part.shape part.marks part.tails (vec_len part.buffer) };
+    ghost invariant = { λ part. IsSoundLogPart (L.seen part.dev).size part.shape part.marks part.tails (vec_len part.buffer) };
 }
 
 impl<L: Sectors> LogPart<L> {

@@ -4,7 +4,7 @@ use Rattle.std.proofs.lemmas.Bool.{cases_lt}
 use Rattle.model_base.specs.{HasRisen}
 use Rattle.model_device.specs.declared.write.Write.{Write}
 use Rattle.redo_disk.specs.declared.error.DevError.TheVariants.{Failed, NoMemory}
-use Rattle.redo_disk.specs.{Answer, answer_of, Call, changes, changing_calls, error_of, failed_calls, failures, Makes, MakesCalls, Reads, Syncs, Writes}
+use Rattle.redo_disk.specs.{Answer, Call, call_changes, changing_calls, device_answer, error_of, failed_calls, failures, Makes, MakesCalls, Reads, Syncs, Writes}
 use Rattle.redo_disk.specs.Seen.{Seen}
 use Rattle.redo_memdisk.specs.Counted.{CountsCalls, KeepsBehind, Through, after_calls, after_one}
 use Rattle.redo_memdisk.specs.Fuse.{fails_next}
@@ -13,7 +13,7 @@ use Rattle.redo_memdisk.specs.declared.fused.Fused.{Fused}
 use Rattle.redo_memdisk.proofs.Counted.{CountsCalls-change, CountsCalls-none, CountsCalls-read, CountsCalls-then}
 
 counts-one : {D : Type 0} (seen : D → Seen) (gives : D → Call → D → Type 0) (old new : Fused D) (call : Call) → CallsThrough seen gives old call new
-    → CountsCalls old.fuse 1 (failures (error_of (answer_of call))) (changes call) new.fuse
+    → CountsCalls old.fuse 1 (failures (error_of (device_answer call))) (call_changes call) new.fuse
 counts-one seen gives old new (Reads at before answer after) through = CountsCalls-read old.fuse new.fuse answer through.failed through.counts
 counts-one seen gives old new (Writes write answer) through = CountsCalls-change old.fuse new.fuse answer through.failed through.counts
 counts-one seen gives old new (Syncs answer) through = CountsCalls-change old.fuse new.fuse answer through.failed through.counts
@@ -87,7 +87,7 @@ sync-behind seen gives old new answer false is through = record {
 }
 
 behind-one : {D : Type 0} (seen : D → Seen) (gives : D → Call → D → Type 0) (old new : Fused D) (call : Call) → CallsThrough seen gives old call new
-    → KeepsBehind seen old (failures (error_of (answer_of call))) new
+    → KeepsBehind seen old (failures (error_of (device_answer call))) new
 behind-one seen gives old new (Reads at before answer after) through = read-behind seen gives old new at before after answer (fails_next old.fuse) refl through
 behind-one seen gives old new (Writes write answer) through = write-behind seen gives old new write answer (fails_next old.fuse) refl through
 behind-one seen gives old new (Syncs answer) through = sync-behind seen gives old new answer (fails_next old.fuse) refl through
@@ -138,7 +138,7 @@ pub keeps-behind : {D : Type 0} (seen : D → Seen) (gives : D → Call → D �
     → KeepsBehind seen old (failed_calls calls) new
 keeps-behind {D} seen gives old new [] made = subst (λ (fused : Fused D). KeepsBehind seen old 0 fused) (sym made) (KeepsBehind-none seen old)
 keeps-behind seen gives old new (call ∷ calls) made =
-    KeepsBehind-then seen old made.0 new (length calls) (failures (error_of (answer_of call))) (failed_calls calls) (changing_calls calls)
+    KeepsBehind-then seen old made.0 new (length calls) (failures (error_of (device_answer call))) (failed_calls calls) (changing_calls calls)
     (behind-one seen gives old made.0 call made.1.given) (counts-calls seen gives made.0 new calls made.2) (keeps-behind seen gives made.0 new calls made.2)
 
 pub after-calls : {D : Type 0} (seen : D → Seen) (gives : D → Call → D → Type 0) (old new : Fused D) (calls : List Call) → Makes (CallsThrough seen gives) old calls new

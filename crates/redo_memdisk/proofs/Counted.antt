@@ -1,7 +1,7 @@
 -- What a fuse counts, one call and then the others.
 use Rattle.std.proofs.Common.{ℕ, zero, suc, ◌≡◌, ◌≤◌, ◌<◌, ◌+◌, Bool, true, false, if◌then◌else◌, Option, Some, None, Ok, Err, IfSome, refl, sym, ap, subst, ◌∙◌, ⊎_elim, arith, zero-add}
 use Rattle.std.proofs.lemmas.Bool.{cases_lt, false≢true}
-use Rattle.redo_io.specs.{next_count}
+use Rattle.redo_io.specs.{saturating_next}
 use Rattle.redo_disk.specs.declared.error.DevError.TheVariants.{Failed, NoMemory}
 use Rattle.redo_disk.specs.{Answer, error_of, failures}
 use Rattle.redo_memdisk.specs.Counted.{CountsCalls, counted, before_arming, while_stopping, after_crash}
@@ -24,11 +24,11 @@ counted-more : (m n count : ℕ) → counted (m + n) count ≡ counted n (counte
 counted-more zero n count = ap (λ k. counted k count) (zero-add n)
 counted-more (suc m) n count =
     let one_out : suc m + n ≡ suc (m + n) = omega arith in
-    ap (λ k. counted k count) one_out ∙ counted-more m n (next_count count)
+    ap (λ k. counted k count) one_out ∙ counted-more m n (saturating_next count)
 
 counted-positive : (n count : ℕ) → 0 < count → 0 < counted n count
 counted-positive zero count some = some
-counted-positive (suc n) count some = counted-positive n (next_count count) (omega arith)
+counted-positive (suc n) count some = counted-positive n (saturating_next count) (omega arith)
 
 abbrev at_stage : Stage → Fuse → Fuse
 at_stage stage fuse = record fuse { stage = stage }
@@ -42,7 +42,7 @@ keeps-within : (limit : Option ℕ) (passed : ℕ) → IfSome limit (λ most. pa
 keeps-within None passed = tt
 keeps-within (Some most) passed = λ within. within
 
-passes-within : (limit : Option ℕ) (passed : ℕ) → has_passed_all Stopping limit passed ≡ false → IfSome limit (λ most. passed ≤ most → next_count passed ≤ most)
+passes-within : (limit : Option ℕ) (passed : ℕ) → has_passed_all Stopping limit passed ≡ false → IfSome limit (λ most. passed ≤ most → saturating_next passed ≤ most)
 passes-within None passed passes = tt
 passes-within (Some most) passed passes = λ within. let below : passed < most = leb-false most passed passes in omega arith
 

@@ -2,7 +2,7 @@
 use Rattle.std.proofs.Common.{Bool, true, refl, ap, ◌∙◌, ◌≡◌, ◌+◌, ◌≤◌, ℕ, Result, inl, inr, ⊎_elim, arith}
 use Rattle.std.proofs.lemmas.Bool.{cases_lt}
 use Rattle.model_base.specs.{HasRisen, last_count}
-use Rattle.redo_io.specs.{next_count}
+use Rattle.redo_io.specs.{saturating_next}
 use Rattle.redo_disk.specs.declared.error.DevError.{DevError}
 use Rattle.redo_disk.specs.{HasCause}
 use Rattle.redo_memdisk.specs.declared.fuse.Fuse.{Fuse}
@@ -10,7 +10,7 @@ use Rattle.redo_memdisk.specs.Fuse.{after_call, after_change, fails_next, with_c
 use Rattle.redo_memdisk.specs.declared.fuse.Stage.{Stage}
 use Rattle.redo_memdisk.specs.declared.fuse.Stage.TheVariants.{Before, Stopping, Crashed}
 
-HasRisen-next_count : (count : ℕ) → HasRisen count (next_count count)
+HasRisen-next_count : (count : ℕ) → HasRisen count (saturating_next count)
 HasRisen-next_count count = ⊎_elim (λ below. inl (omega arith)) (λ stands. inr stands) (cases_lt count last_count)
 
 -- a sum of two counts rises with the second
@@ -18,7 +18,7 @@ HasRisen-right : (before now own own' : ℕ) → before ≤ now → HasRisen own
 HasRisen-right before now own own' keeps risen = ⊎_elim (λ rises. inl (omega arith)) (λ stands. inr (omega arith)) risen
 
 -- a failure of the fuse itself
-pub HasCause-own : {T : Type 0} (before now own own' : ℕ) (result : Result T DevError) → before ≤ now → own' ≡ next_count own
+pub HasCause-own : {T : Type 0} (before now own own' : ℕ) (result : Result T DevError) → before ≤ now → own' ≡ saturating_next own
     → own ≤ own' → HasCause (before + own) (now + own') result
 HasCause-own before now own own' result later same rises = record {
   later = omega arith;
@@ -26,7 +26,7 @@ HasCause-own before now own own' result later same rises = record {
 }
 
 -- the fuse counts a failure of its own
-pub own-after_failed_call : (fuse new : Fuse) (failed : Bool) → fails_next fuse ≡ true → new ≡ after_call fuse failed → new.own ≡ next_count fuse.own
+pub own-after_failed_call : (fuse new : Fuse) (failed : Bool) → fails_next fuse ≡ true → new ≡ after_call fuse failed → new.own ≡ saturating_next fuse.own
 own-after_failed_call fuse new failed fails new_is = ap (λ (f : Fuse). f.own) new_is ∙ rw fails refl
 
 -- counting a change changes nothing of what the fuse fails
@@ -41,6 +41,6 @@ same-own Stopping fuse = refl
 same-own Crashed fuse = refl
 
 -- so it is at a write or a sync
-pub own-after_failed_change : (fuse new : Fuse) (failed : Bool) → fails_next fuse ≡ true → new ≡ after_change fuse failed → new.own ≡ next_count fuse.own
+pub own-after_failed_change : (fuse new : Fuse) (failed : Bool) → fails_next fuse ≡ true → new ≡ after_change fuse failed → new.own ≡ saturating_next fuse.own
 own-after_failed_change fuse new failed fails new_is =
-    own-after_failed_call (with_change fuse.stage fuse) new failed (same-fails_next fuse.stage fuse ∙ fails) new_is ∙ ap next_count (same-own fuse.stage fuse)
+    own-after_failed_call (with_change fuse.stage fuse) new failed (same-fails_next fuse.stage fuse ∙ fails) new_is ∙ ap saturating_next (same-own fuse.stage fuse)

@@ -1,7 +1,7 @@
 -- What a fuse tells after calls through it.
 use Rattle.std.specs.Prelude.{ℕ, zero, suc, ◌≡◌, ◌≤◌, ◌<◌, ◌+◌, ◌⊎◌, List, [], ◌∷◌, length, IsTrue, IfSome}
 use Rattle.model_base.specs.{HasRisen}
-use Rattle.redo_io.specs.{next_count}
+use Rattle.redo_io.specs.{saturating_next}
 use Rattle.redo_disk.specs.{Call, changing_calls, failed_calls, Reads, Syncs, Writes}
 use Rattle.redo_disk.specs.Seen.{Seen}
 use Rattle.redo_memdisk.specs.Fuse.{after_call, after_change, fails_next, is_failed}
@@ -25,7 +25,7 @@ after_calls fuse (call ∷ calls) = after_calls (after_one fuse call) calls
 -- a count after so many more
 abbrev pub counted : ℕ → ℕ → ℕ
 counted zero count = count
-counted (suc more) count = counted more (next_count count)
+counted (suc more) count = counted more (saturating_next count)
 
 -- so many before the fuse is armed, and none at other times
 abbrev pub before_arming : Stage → ℕ → ℕ

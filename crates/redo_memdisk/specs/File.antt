@@ -1,8 +1,8 @@
 -- What a device in a file shows.
 use Rattle.std.specs.Prelude.{List, ℕ, ◌≡◌, None, Ok, Err, length, replicate, take, ◌++◌, ◌-◌}
-use Rattle.redo_io.specs.{next_count}
+use Rattle.redo_io.specs.{saturating_next}
 use Rattle.redo_disk.specs.{Answer, Call}
-use Rattle.redo_disk.specs.Calls.{answer_of}
+use Rattle.redo_disk.specs.Calls.{device_answer}
 use Rattle.redo_disk.specs.declared.error.DevError.TheVariants.{Failed, NoMemory}
 use Rattle.redo_disk.specs.Seen.{Seen}
 use Rattle.redo_memdisk.specs.declared.file.FileDisk.{FileDisk}
@@ -19,12 +19,12 @@ file_seen device = record { size = FILE_DISK_LEN; tells = None; crashed_from = N
 -- the count of failures after a call that answered so: one more where it failed, which is never for want of memory
 abbrev pub CountsFailure : ℕ → Answer → ℕ → Type 0
 CountsFailure old (Ok done) new = new ≡ old
-CountsFailure old (Err Failed) new = new ≡ next_count old
+CountsFailure old (Err Failed) new = new ≡ saturating_next old
 CountsFailure old (Err NoMemory) new = ⊥
 
 -- a call
 abbrev pub FileGives : {R F D : Type 0} → FileDisk R F D → Call → FileDisk R F D → Type 0
-FileGives old call new = CountsFailure old.faults (answer_of call) new.faults
+FileGives old call new = CountsFailure old.faults (device_answer call) new.faults
 
 -- a crash: the device is as it was
 abbrev pub FileCrash : {R F D : Type 0} → FileDisk R F D → ℕ → FileDisk R F D → Type 0

@@ -1,6 +1,6 @@
 -- A fuse lets so many calls of a device through and fails those after them, from when it is armed to the crash.
 use Rattle.std.specs.Prelude.{ℕ, nat_le, Bool, true, false, if◌then◌else◌, Option, Some, None, Result, Ok, Err}
-use Rattle.redo_io.specs.{next_count, next_count_if}
+use Rattle.redo_io.specs.{next_count_if, saturating_next}
 use Rattle.redo_disk.specs.declared.error.DevError.{DevError}
 use Rattle.redo_disk.specs.declared.error.DevError.TheVariants.{Failed, NoMemory}
 use Rattle.redo_memdisk.specs.declared.fuse.Fuse.{Fuse}
@@ -46,12 +46,12 @@ fails_next fuse = has_passed_all fuse.stage fuse.limit fuse.passed
 
 -- the fuse after it failed a call itself
 abbrev pub after_own : Fuse → Fuse
-after_own fuse = record fuse { mid = next_count fuse.mid; own = next_count fuse.own }
+after_own fuse = record fuse { mid = saturating_next fuse.mid; own = saturating_next fuse.own }
 
 -- the fuse after it passed a call on, by whether that answered Failed
 abbrev pub after_passed : Stage → Fuse → Bool → Fuse
-after_passed Before fuse failed = record fuse { early_calls = next_count fuse.early_calls; early = next_count_if failed fuse.early }
-after_passed Stopping fuse failed = record fuse { passed = next_count fuse.passed; mid = next_count_if failed fuse.mid }
+after_passed Before fuse failed = record fuse { early_calls = saturating_next fuse.early_calls; early = next_count_if failed fuse.early }
+after_passed Stopping fuse failed = record fuse { passed = saturating_next fuse.passed; mid = next_count_if failed fuse.mid }
 after_passed Crashed fuse failed = record fuse { late = next_count_if failed fuse.late }
 
 -- the fuse after a call, by whether it answered Failed
@@ -60,9 +60,9 @@ after_call fuse failed = if fails_next fuse then after_own fuse else after_passe
 
 -- a write, a sync or a crash is counted, also by itself where it comes after the crash
 abbrev pub with_change : Stage → Fuse → Fuse
-with_change Before fuse = record fuse { changes = next_count fuse.changes }
-with_change Stopping fuse = record fuse { changes = next_count fuse.changes }
-with_change Crashed fuse = record fuse { late_changes = next_count fuse.late_changes; changes = next_count fuse.changes }
+with_change Before fuse = record fuse { changes = saturating_next fuse.changes }
+with_change Stopping fuse = record fuse { changes = saturating_next fuse.changes }
+with_change Crashed fuse = record fuse { late_changes = saturating_next fuse.late_changes; changes = saturating_next fuse.changes }
 
 -- the fuse after a write or a sync, by whether it answered Failed
 abbrev pub after_change : Fuse → Bool → Fuse

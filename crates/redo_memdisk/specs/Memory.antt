@@ -3,7 +3,7 @@ use Rattle.std.specs.Prelude.{ℕ, ◌≡◌, if◌then◌else◌, List, length,
 use Rattle.model_device.specs.{after_writes, crashed, settled, synced, written}
 use Rattle.model_device.specs.Disk.{Disk}
 use Rattle.model_device.specs.declared.write.Write.{Write}
-use Rattle.redo_io.specs.{after_call, fails_now, Planned, unused}
+use Rattle.redo_io.specs.{fails_now, plan_after_call, Planned, unused}
 use Rattle.redo_disk.specs.{Call, part, Reads, Syncs, Writes}
 use Rattle.redo_disk.specs.Seen.{Seen}
 use Rattle.redo_disk.specs.declared.error.DevError.{DevError}
@@ -45,18 +45,18 @@ pub record ReadsMemory (old : MemState) (at : ℕ) (before : List ℕ) (result :
   pub answer : result ≡ next_answer old.plan
   pub ok : OnOk result (out ≡ part old.disk.reads at (length before))
   pub err : OnErr result (out ≡ before)
-  pub after : new ≡ record old { plan = after_call old.plan }
+  pub after : new ≡ record old { plan = plan_after_call old.plan }
 
 -- A write that finds no memory changes nothing. Any other is pending, whether it fails or not.
 abbrev pub WritesMemory : MemState → Write → Result (Unit {0}) DevError → MemState → Type 0
 WritesMemory old write (Err NoMemory) new = new ≡ old
 WritesMemory old write answer new =
-    (answer ≡ next_answer old.plan) × (new ≡ record old { disk = written old.disk write; plan = after_call old.plan })
+    (answer ≡ next_answer old.plan) × (new ≡ record old { disk = written old.disk write; plan = plan_after_call old.plan })
 
 -- a sync, which does nothing where it fails
 pub record SyncsMemory (old : MemState) (result : Result (Unit {0}) DevError) (new : MemState) : Type 0 where
   pub answer : result ≡ next_answer old.plan
-  pub after : new ≡ record old { disk = if fails_now old.plan then old.disk else synced old.disk; plan = after_call old.plan }
+  pub after : new ≡ record old { disk = if fails_now old.plan then old.disk else synced old.disk; plan = plan_after_call old.plan }
 
 -- a call
 abbrev pub MemGives : MemState → Call → MemState → Type 0

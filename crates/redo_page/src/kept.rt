@@ -1,7 +1,7 @@
 // Which bytes of an image of the data device a page's content is read from.
 ghost use Rattle.std.specs.Prelude.{◌≡◌, ◌+◌, ◌*◌, ◌≤◌, ◌<◌, length, IfOk, MatchOption};
-ghost use Rattle.model_base.specs.{IsWithinLimits};
-ghost use Rattle.model_page.specs.{data_device_length, frame_length, HasNoCopy, IsBestCopy, IsKept, IsLost, stretch_at, user_part};
+ghost use Rattle.model_base.specs.{frame_length, IsWithinLimits};
+ghost use Rattle.model_page.specs.{data_device_length, HasNoCopy, IsBestCopy, IsKept, IsLost, stretch_at, user_part};
 
 use crate::state::{copy_lsn, place_lsn};
 use crate::text::user_part;

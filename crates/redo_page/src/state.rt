@@ -1,11 +1,11 @@
 // What the check of a page's bytes finds, and whether they count as a page's place or as a copy of it.
 ghost use Rattle.std.specs.Prelude.{◌≡◌, ◌+◌, ◌≤◌, length};
-ghost use Rattle.model_base.specs.{field};
-ghost use Rattle.model_page.specs.{copy_lsn_by, frame_length, is_blank, is_sound, page_check, place_lsn_by};
+ghost use Rattle.model_base.specs.{field, frame_length};
+ghost use Rattle.model_page.specs.{copy_lsn_by, is_blank, is_sound, page_check, place_lsn_by};
 
 use byteorder::{BigEndian, ByteOrder};
-use model_base::Shape;
-use model_page::{LSN_START, NUMBER_START, PageState, SPACE_START, TRAILER_LENGTH};
+use model_base::{PAGE_TRAILER, Shape};
+use model_page::{LSN_START, NUMBER_START, PageState, SPACE_START};
 use redo_crc::crc32c;
 
 /// Bytes of a checksum, of a number, and of half an lsn.
@@ -41,7 +41,7 @@ fn is_sound(bytes: &[u8]) -> bool
     requires { frame_length ≤ length bytes.now }
     ensures { result ≡ is_sound bytes.now }
 {
-    let trailer = bytes.len() - TRAILER_LENGTH as usize;
+    let trailer = bytes.len() - PAGE_TRAILER as usize;
     let checksum = crc32c(&bytes[NUMBER_START as usize..trailer]);
     number_at(bytes, 0) == checksum
         && number_at(bytes, trailer) == checksum

@@ -1,9 +1,10 @@
 // A page's user bytes, and its fields and checksums, which are put round them.
 ghost use Rattle.std.specs.Prelude.{◌≡◌, ◌≤◌, ◌+◌, ◌++◌, ℕ, length, take, drop};
-ghost use Rattle.model_page.specs.{frame_length, page_text, user_part};
+ghost use Rattle.model_base.specs.{frame_length};
+ghost use Rattle.model_page.specs.{page_text, user_part};
 
-use model_base::USER_START;
-use model_page::{NUMBER_START, TRAILER_LENGTH};
+use model_base::{PAGE_TRAILER, USER_START};
+use model_page::NUMBER_START;
 use redo_crc::crc32c;
 
 /// The user bytes of a page.
@@ -11,7 +12,7 @@ pub fn user_part(page: &[u8]) -> &[u8]
     requires { frame_length ≤ length page.now }
     ensures { result.now ≡ user_part page.now }
 {
-    &page[USER_START as usize..page.len() - TRAILER_LENGTH as usize]
+    &page[USER_START as usize..page.len() - PAGE_TRAILER as usize]
 }
 
 /// Puts bytes at an offset and gives the offset after them. What stands before and after them stays.
@@ -38,7 +39,7 @@ pub fn seal(page: &mut [u8], number: u32, space: u32, lsn: u64)
     let at = put(page, at, &[0; 2]);
     let at = put(page, at, &[0; 8]);
     put(page, at, &space.to_be_bytes());
-    let trailer = page.len() - TRAILER_LENGTH as usize;
+    let trailer = page.len() - PAGE_TRAILER as usize;
     let checksum = crc32c(&page[NUMBER_START as usize..trailer]).to_be_bytes();
     let low_half = (lsn % (1 << 32)) as u32;
     put(page, 0, &checksum);

@@ -5,11 +5,11 @@ use Rattle.std.specs.List.{slice_get, AllZip, range_with_len}
 use Rattle.std.proofs.lemmas.List.{take_more}
 use Rattle.std.proofs.lemmas.Slice.Zip.{all_zipped_more}
 use Rattle.std.proofs.lemmas.Option.{get_or_from_slice_get, slice_get-get_or, slice_get_within}
+use Rattle.model_base.specs.{user_length}
 use Rattle.model_base.specs.declared.shape.Shape.{Shape}
 use Rattle.model_log.specs.{GroupFits, RecordFits}
 use Rattle.model_log.specs.declared.rec.Rec.{Rec}
 use Rattle.model_log.specs.declared.group.Whole.{Whole}
-use Rattle.model_page.specs.{user_length}
 use Rattle.model_page.specs.declared.content.Content.{Content}
 use Rattle.model_store.specs.{page_after}
 use Rattle.redo_apply.proofs.Grouped.{fits-at}

@@ -1,11 +1,10 @@
 -- Groups that fit a store.
 use Rattle.std.specs.Prelude.{ℕ, ◌≡◌, List, length, slice_get, Some, All}
-use Rattle.model_base.specs.{IsWithinLimits}
+use Rattle.model_base.specs.{IsWithinLimits, user_length}
 use Rattle.model_base.specs.declared.shape.Shape.{Shape}
 use Rattle.model_log.specs.{GroupFits}
 use Rattle.model_log.specs.declared.rec.Rec.{Rec}
 use Rattle.model_log.specs.declared.group.Whole.{Whole}
-use Rattle.model_page.specs.{user_length}
 use Rattle.model_page.specs.declared.content.Content.{Content}
 use Rattle.redo_apply.specs.{ArePagesOf}
 use Rattle.redo_papply.specs.declared.frame.Frame.{Frame}

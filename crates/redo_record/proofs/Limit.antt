@@ -1,6 +1,7 @@
 -- A group is read off the front of at most 8,192 bytes.
 use Rattle.std.proofs.Common.{◌≡◌, ℕ, ◌<◌, ◌≤◌, min, List, [], ◌++◌, length, take, drop, sym, ap, ◌∙◌, append_assoc, arith}
 use Rattle.std.proofs.lemmas.List.{append-nil, take_all, take-take, take-append-drop}
+use Rattle.model_base.specs.declared.limits.TheConstants.{MAX_GROUP}
 use Rattle.model_log.specs.{BeginsWithGroup, group_text, IsFront, IsGroupText}
 use Rattle.redo_record.specs.Reading.{IsPartOf, IsNone}
 use Rattle.model_log.specs.declared.rec.Rec.{Rec}
@@ -10,12 +11,12 @@ use Rattle.model_log.proofs.Several.{OneGroup, back_nil}
 abbrev IsBad : List ℕ → Type 0
 IsBad bytes = ((group : List Rec) (len : ℕ) → BeginsWithGroup bytes group len → ⊥) × (IsFront bytes → ⊥)
 
-module _ (bytes front : List ℕ) (n : ℕ) (is : front ≡ take n bytes) (len : n ≡ min (length bytes) 8192) where
-  whole_front : length bytes < 8192 → front ≡ bytes
+module _ (bytes front : List ℕ) (n : ℕ) (is : front ≡ take n bytes) (len : n ≡ min (length bytes) MAX_GROUP) where
+  whole_front : length bytes < MAX_GROUP → front ≡ bytes
   whole_front small = is ∙ take_all n bytes (omega arith)
 
   -- the front, up to a length and from there on
-  cut : (k : ℕ) → k ≤ length bytes → k ≤ 8192 → take k bytes ++ drop k front ≡ front
+  cut : (k : ℕ) → k ≤ length bytes → k ≤ MAX_GROUP → take k bytes ++ drop k front ≡ front
   cut k within few =
       let below : k ≤ n = omega arith in
       ap (λ (t : List ℕ). t ++ drop k front) (sym (take-take k n bytes below) ∙ ap (take k) (sym is)) ∙ take-append-drop k front
@@ -27,7 +28,7 @@ module _ (bytes front : List ℕ) (n : ℕ) (is : front ≡ take n bytes) (len :
   )
 
   -- a front of a longer group: no group of at most 8,192 bytes begins so
-  pub too_long : OneGroup → 8192 ≤ length bytes → IsPartOf IsGroupText front → IsBad bytes
+  pub too_long : OneGroup → MAX_GROUP ≤ length bytes → IsPartOf IsGroupText front → IsBad bytes
   too_long one long part = (
     λ group k h.
         let whole : group_text group ++ (drop k front ++ part.more) ≡ group_text part.value ++ [] =

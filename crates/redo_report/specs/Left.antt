@@ -9,14 +9,14 @@ use Rattle.model_report.specs.{entries_of_user, lines_of_user}
 use Rattle.model_report.specs.declared.entry.Entry.{Entry}
 
 -- what the map has for a user, and 0 where it has nothing
-abbrev pub count_of : BTreeMap ℕ ℕ → ℕ → ℕ
-count_of counts user = unwrap_or (tree.get nat_cmp counts user) 0
+abbrev pub mapped_count : BTreeMap ℕ ℕ → ℕ → ℕ
+mapped_count counts user = unwrap_or (tree.get nat_cmp counts user) 0
 
 -- the map has how many of the lines each user has
 abbrev pub CountsLines : BTreeMap ℕ ℕ → List ScriptLine → Type 0
-CountsLines counts lines = (user : ℕ) → count_of counts user ≡ length (lines_of_user user lines)
+CountsLines counts lines = (user : ℕ) → mapped_count counts user ≡ length (lines_of_user user lines)
 
 -- the map has, for each user, how many of the lines are more than its entries
 abbrev pub CountsLeft : BTreeMap ℕ ℕ → List ScriptLine → List Entry → Type 0
 CountsLeft counts lines entries =
-    (user : ℕ) → count_of counts user ≡ length (lines_of_user user lines) - length (entries_of_user user entries)
+    (user : ℕ) → mapped_count counts user ≡ length (lines_of_user user lines) - length (entries_of_user user entries)

@@ -7,7 +7,7 @@ ghost use Rattle.redo_script.specs.Judged.{AreUnfitLines, IsUnfitLine, IsUnfitSc
 
 use crate::Unfit;
 use crate::group::group_of;
-use model_base::{LSN_LIMIT, MAX_GROUP, Shape, USER_START};
+use model_base::{LSN_LIMIT, MAX_GROUP, PAGE_TRAILER, Shape, USER_START};
 use model_script::{Item, MARGIN, MAX_USERS, Misfit, Quantity, Script, ScriptLine};
 use redo_lsn::{lsn_of, sn_of};
 use redo_record::Length;
@@ -47,7 +47,7 @@ fn write_misfit(shape: &Shape, offset: u32, count: u64) -> Option<Misfit>
     requires limits { IsWithinLimits shape.now }
     ensures { result ≡ write_misfit shape.now offset count }
 {
-    let user_end = u64::from(shape.page_size - 8);
+    let user_end = u64::from(shape.page_size - PAGE_TRAILER);
     let from = u64::from(offset);
     let outside = from < u64::from(USER_START) || user_end < from || user_end - from < count;
     misfit_if(outside, Quantity::Offset, from)

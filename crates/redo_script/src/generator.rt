@@ -1,6 +1,6 @@
 // The script of a seed.
 ghost use Rattle.std.specs.Prelude.{◌≡◌, ◌≤◌, ◌%◌, ◌+◌, IfOk, OnOk};
-ghost use Rattle.model_script.specs.{bytes_at, draw, generated_lines, generated_text, item_at, item_draws, items_at, line_at, state_after, state_after_items, state_after_line};
+ghost use Rattle.model_script.specs.{draw, drawn_bytes, drawn_item, drawn_items, drawn_line, generated_lines, generated_text, item_draws, state_after, state_after_items, state_after_line};
 ghost use Rattle.model_script.specs.declared.item.Item.TheVariants.{Num};
 ghost use Rattle.model_script.specs.declared.misfit.TheConstants.{MAX_USERS};
 
@@ -15,7 +15,7 @@ use std::alloc::{AllocError, Global};
 /// So many bytes, a draw each.
 #[tactic(auto, using(crate::proofs::Drawing::bytes))]
 fn draw_bytes(alloc: Global, count: u32, draws: &mut Draws) -> Result<Vec<u8>, AllocError>
-    ensures bytes { IfOk result (λ bytes. bytes.items ≡ bytes_at count draws.old) }
+    ensures bytes { IfOk result (λ bytes. bytes.items ≡ drawn_bytes count draws.old) }
     ensures state { OnOk result (draws.new ≡ state_after count draws.old) }
 {
     let mut bytes = Vec::new(alloc);
@@ -40,7 +40,7 @@ fn number_item(width: u32, page: u32, offset: u32, value: u32) -> Item
 /// An operation.
 #[tactic(auto, using(crate::proofs::Drawing::operations))]
 fn draw_item(alloc: Global, draws: &mut Draws) -> Result<Item, AllocError>
-    ensures item { IfOk result (λ item. item ≡ item_at draws.old) }
+    ensures item { IfOk result (λ item. item ≡ drawn_item draws.old) }
     ensures state { OnOk result (draws.new ≡ state_after (item_draws draws.old) draws.old) }
 {
     let kind = draws.take() % 6;
@@ -66,7 +66,7 @@ fn draw_item(alloc: Global, draws: &mut Draws) -> Result<Item, AllocError>
 /// So many operations.
 #[tactic(auto, using(crate::proofs::Drawing::items))]
 fn draw_items(alloc: Global, count: u32, draws: &mut Draws) -> Result<Items, AllocError>
-    ensures items { IfOk result (λ items. items ≡ items_at count draws.old) }
+    ensures items { IfOk result (λ items. items ≡ drawn_items count draws.old) }
     ensures state { OnOk result (draws.new ≡ state_after_items count draws.old) }
 {
     let mut items = Vec::new(alloc);
@@ -78,7 +78,7 @@ fn draw_items(alloc: Global, count: u32, draws: &mut Draws) -> Result<Items, All
 
 /// A line of the user.
 fn draw_line(alloc: Global, user: u32, draws: &mut Draws) -> Result<ScriptLine, AllocError>
-    ensures line { IfOk result (λ line. line ≡ line_at user draws.old) }
+    ensures line { IfOk result (λ line. line ≡ drawn_line user draws.old) }
     ensures state { OnOk result (draws.new ≡ state_after_line draws.old) }
 {
     let mode = match draws.take() % 3 {

@@ -39,11 +39,11 @@ told_ready {D = D} seen part old new page room Known R S step is fitted sized do
     (ready (seen part.dev).tells part.shape page (seen part.dev).size (Known part.shape) fitted.limits below fitted.long sized nothing known) done)
 
 -- what a call leaves that is given a batch, said of the part that its caller names
-pub told_batch : {D : Type 0} (seen : D → Seen) (part old : Part D) (new : D) (was : ℕ → Content) (batch : List Fresh) (room : ℕ) (R : Shape → Disk → Disk → Type 0) (S : Shape → Disk → Type 0)
-    → ((a b : Disk) → data_device_length part.shape ≤ length a.base → IsBefore part.shape was batch a → R part.shape a b → S part.shape b) → part ≡ old
+pub told_batch : {D : Type 0} (seen : D → Seen) (part old : Part D) (new : D) (was : ℕ → Content) (batch : Shape → List Fresh) (room : ℕ) (R : Shape → Disk → Disk → Type 0) (S : Shape → Disk → Type 0)
+    → ((a b : Disk) → data_device_length part.shape ≤ length a.base → IsBefore part.shape was (batch part.shape) a → R part.shape a b → S part.shape b) → part ≡ old
     → IsFitted seen part.dev part.shape room → IfSome (seen part.dev).tells (HasSize (seen part.dev).size) → OnTold (seen part.dev).tells (seen new).tells (R part.shape)
-    → IfSome (seen old.dev).tells (IsBefore old.shape was batch) → IfSome (seen new).tells (S old.shape)
+    → IfSome (seen old.dev).tells (IsBefore old.shape was (batch old.shape)) → IfSome (seen new).tells (S old.shape)
 told_batch {D = D} seen part old new was batch room R S step is fitted sized done =
-    subst (λ (p : Part D). IfSome (seen p.dev).tells (IsBefore p.shape was batch) → IfSome (seen new).tells (S p.shape)) is
-    (λ known. told-step _ _ (λ (disk : Disk). (data_device_length part.shape ≤ length disk.base) × IsBefore part.shape was batch disk) (S part.shape) (R part.shape)
-    (λ a b before. step a b before.0 before.1) (long-known (seen part.dev).tells part.shape (seen part.dev).size (IsBefore part.shape was batch) fitted.long sized known) done)
+    subst (λ (p : Part D). IfSome (seen p.dev).tells (IsBefore p.shape was (batch p.shape)) → IfSome (seen new).tells (S p.shape)) is
+    (λ known. told-step _ _ (λ (disk : Disk). (data_device_length part.shape ≤ length disk.base) × IsBefore part.shape was (batch part.shape) disk) (S part.shape) (R part.shape)
+    (λ a b before. step a b before.0 before.1) (long-known (seen part.dev).tells part.shape (seen part.dev).size (IsBefore part.shape was (batch part.shape)) fitted.long sized known) done)

@@ -14,13 +14,15 @@ use Rattle.redo_disk.proofs.Made.{EndWith-one, call_serves}
 use Rattle.redo_disk.specs.{Answer, Call, error_of, MakesCall, MakesCalls, put_requests, Reads, Serve, ToRead, write_at}
 use Rattle.redo_disk.specs.declared.error.DevError.{DevError}
 use Rattle.redo_store.proofs.Entered.{IsReady}
-use Rattle.redo_store.specs.Requests.{RepairCalls}
+use Rattle.redo_store.specs.RepairRequests.{RepairCalls}
 
 -- the part of the buffer that holds a slot
-pub slot-part : (shape : Shape) (slot : ℕ) (slots : List ℕ) → shape.page_size ≡ 4096 → take (slot * 4096 + 4096 - slot * 4096) (drop (slot * 4096) slots) ≡ slot_bytes shape slot slots
-slot-part shape slot slots size =
-    let count : slot * 4096 + 4096 - slot * 4096 ≡ 4096 = omega arith in
-    ap (λ n. take n (drop (slot * 4096) slots)) count ∙ sym (stretch-piece shape slot slots size)
+pub slot-part : (shape : Shape) (slot : ℕ) (slots : List ℕ)
+    → take (slot * shape.page_size + shape.page_size - slot * shape.page_size) (drop (slot * shape.page_size) slots) ≡ slot_bytes shape slot slots
+slot-part shape slot slots =
+    let at : ℕ = slot * shape.page_size in
+    let count : at + shape.page_size - at ≡ shape.page_size = omega arith in
+    ap (λ n. take n (drop at slots)) count ∙ sym (stretch-piece shape slot slots)
 
 -- the write as the code makes it
 record IsMade (shape : Shape) (page slot lsn : ℕ) (slots : List ℕ) (write : Write) (disk : Disk) : Type 0 where

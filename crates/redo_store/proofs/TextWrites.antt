@@ -2,6 +2,7 @@
 use Rattle.std.proofs.Common.{◌≡◌, ◌+◌, ◌-◌, ◌*◌, ℕ, zero, suc, List, [], ◌∷◌, ◌++◌, length, take, drop, Some, refl, sym, ap, ◌∙◌, arith}
 use Rattle.std.specs.List.{slice_get}
 use Rattle.std.proofs.lemmas.List.{take_at, drop_at, drop-drop}
+use Rattle.model_base.specs.{IsPageSize, user_length}
 use Rattle.model_base.specs.declared.shape.Shape.{Shape}
 use Rattle.model_device.specs.declared.write.Write.{Write}
 use Rattle.model_parts.specs.{batch_of, batch_text, Fresh, IsFreshPage, new_text, place_at, place_write, place_writes}
@@ -28,24 +29,29 @@ length-text_writes shape [] texts = refl
 length-text_writes shape (first ∷ pairs) texts = ap suc (length-text_writes shape pairs (drop shape.page_size texts))
 
 -- of the batch's own texts they are the writes of its places
-pub text_writes-batch : (shape : Shape) (pairs : List (ℕ × ℕ)) (users : List ℕ) → shape.page_size ≡ 4096
-    → ((i : ℕ) (new : Fresh) → slice_get (batch_of pairs users) i ≡ Some new → IsFreshPage shape new)
-    → text_writes shape pairs (batch_text shape (batch_of pairs users)) ≡ place_writes shape (batch_of pairs users)
+pub text_writes-batch : (shape : Shape) (pairs : List (ℕ × ℕ)) (users : List ℕ) → IsPageSize shape.page_size
+    → ((i : ℕ) (new : Fresh) → slice_get (batch_of shape pairs users) i ≡ Some new → IsFreshPage shape new)
+    → text_writes shape pairs (batch_text shape (batch_of shape pairs users)) ≡ place_writes shape (batch_of shape pairs users)
 text_writes-batch shape [] users size each = refl
 text_writes-batch shape (first ∷ pairs) users size each =
-    let new : Fresh = fresh_of first (take 4050 users) in
-    let rest : List ℕ = batch_text shape (batch_of pairs (drop 4050 users)) in
-    let long : length (new_text shape new) ≡ shape.page_size = length-new_text shape new (each 0 new refl).long ∙ sym size in
+    let new : Fresh = fresh_of first (take (user_length shape) users) in
+    let others : List ℕ = drop (user_length shape) users in
+    let rest : List ℕ = batch_text shape (batch_of shape pairs others) in
+    let long : length (new_text shape new) ≡ shape.page_size = length-new_text shape new size (each 0 new refl).long in
     ap (λ t. (let w : Write = record { at = place_at shape first.0; bytes = t } in w) ∷ text_writes shape pairs (drop shape.page_size (new_text shape new ++ rest))) (take_at (new_text shape new) rest shape.page_size long)
     ∙ ap (λ t. place_write shape new ∷ text_writes shape pairs t) (drop_at (new_text shape new) rest shape.page_size long)
-    ∙ ap (λ ws. place_write shape new ∷ ws) (text_writes-batch shape pairs (drop 4050 users) size (λ i other at. each (suc i) other at))
+    ∙ ap (λ ws. place_write shape new ∷ ws) (text_writes-batch shape pairs others size (λ i other at. each (suc i) other at))
 
 -- the i-th write as the code makes it
-pub write-made : (shape : Shape) (pairs : List (ℕ × ℕ)) (texts : List ℕ) (i at : ℕ) (pair : ℕ × ℕ) → shape.page_size ≡ 4096 → slice_get pairs i ≡ Some pair → at ≡ place_at shape pair.0
-    → slice_get (text_writes shape pairs texts) i ≡ Some (record { at = at; bytes = take (i * 4096 + 4096 - i * 4096) (drop (i * 4096) texts) })
-write-made shape pairs texts i at pair size there place =
-    let count : 4096 ≡ i * 4096 + 4096 - i * 4096 = omega arith in
+pub write-made : (shape : Shape) (pairs : List (ℕ × ℕ)) (texts : List ℕ) (i at : ℕ) (pair : ℕ × ℕ)
+    → slice_get pairs i ≡ Some pair → at ≡ place_at shape pair.0
+    → slice_get (text_writes shape pairs texts) i ≡ Some (record {
+      at = at;
+      bytes = take (i * shape.page_size + shape.page_size - i * shape.page_size) (drop (i * shape.page_size) texts);
+    })
+write-made shape pairs texts i at pair there place =
+    let from : ℕ = i * shape.page_size in
+    let count : shape.page_size ≡ from + shape.page_size - from = omega arith in
     writes-at shape pairs texts i pair there
-    ∙ ap (λ s. Some (let w : Write = record { at = place_at shape pair.0; bytes = take s (drop (i * s) texts) } in w)) size
-    ∙ ap (λ n. Some (let w : Write = record { at = place_at shape pair.0; bytes = take n (drop (i * 4096) texts) } in w)) count
-    ∙ ap (λ a. Some (let w : Write = record { at = a; bytes = take (i * 4096 + 4096 - i * 4096) (drop (i * 4096) texts) } in w)) (sym place)
+    ∙ ap (λ n. Some (let w : Write = record { at = place_at shape pair.0; bytes = take n (drop from texts) } in w)) count
+    ∙ ap (λ a. Some (let w : Write = record { at = a; bytes = take (from + shape.page_size - from) (drop from texts) } in w)) (sym place)

@@ -2,8 +2,9 @@ pub mod Copies
 pub mod Opened
 pub mod Part
 pub mod Places
+pub mod RepairRequests
 pub mod Requests
 pub use Rattle.redo_store.specs.Copies.{IsCopyToPut}
 pub use Rattle.redo_store.specs.Opened.{IsRunnable}
 pub use Rattle.redo_store.specs.Part.{PartKeeps, PartStep, PartStores}
-pub use Rattle.redo_store.specs.Requests.{RepairCalls}
+pub use Rattle.redo_store.specs.RepairRequests.{RepairCalls}

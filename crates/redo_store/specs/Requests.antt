@@ -1,11 +1,9 @@
 -- What the calls of a data part ask of its device, and in which order.
-use Rattle.std.specs.Prelude.{ℕ, ◌≡◌, ◌*◌, ◌⊎◌, List, [], ◌∷◌, ◌++◌, length, map, Option, OnOk}
+use Rattle.std.specs.Prelude.{List, [], ◌∷◌, ◌++◌, map}
 use Rattle.model_base.specs.declared.shape.Shape.{Shape}
-use Rattle.model_parts.specs.{Fresh, place_writes, repair_write, slots_write}
+use Rattle.model_parts.specs.{Fresh, place_writes, slots_write}
 use Rattle.model_device.specs.declared.write.Write.{Write}
-use Rattle.model_page.specs.{HasNoCopy, IsBestCopy, slot_bytes}
-use Rattle.redo_disk.specs.{Answer, Call, EndWith, put_requests, Reads, Request, Serve, ToSync, ToWrite}
-use Rattle.redo_disk.specs.declared.error.DevError.{DevError}
+use Rattle.redo_disk.specs.{put_requests, Request, ToSync, ToWrite}
 
 -- writes in their order, and a sync after them
 abbrev pub all_put : List Write → List Request
@@ -14,22 +12,3 @@ all_put writes = map ToWrite writes ++ ToSync ∷ []
 -- A batch is written: its slots by one write, with a sync, and each page into its place, with a sync after the last.
 abbrev pub batch_requests : Shape → List Fresh → List Request
 batch_requests shape batch = put_requests (slots_write shape batch) ++ all_put (place_writes shape batch)
-
--- the copy that counts by these slots is put into the place of its page
-pub record PutsCopy (shape : Shape) (page : ℕ) (slots : List ℕ) (error : Option DevError) (calls : List Call) : Type 0 where
-  pub slot : ℕ
-  pub lsn : ℕ
-  pub best : IsBestCopy shape slots page slot lsn
-  pub serve : Serve (put_requests (repair_write shape page (slot_bytes shape slot slots))) error calls
-
--- A repair: the slots are read by one read, and then the copy that counts by what was read is put into the place of its
--- page; where none passes there is no other call.
-pub record RepairCalls (shape : Shape) (page : ℕ) (error : Option DevError) (calls : List Call) : Type 0 where
-  pub before : List ℕ
-  pub answer : Answer
-  pub slots : List ℕ
-  pub rest : List Call
-  pub all : calls ≡ Reads 0 before answer slots ∷ rest
-  pub size : length before ≡ shape.slots * shape.page_size
-  pub ends : EndWith error calls
-  pub then : OnOk answer (PutsCopy shape page slots error rest ⊎ (HasNoCopy shape slots page × (rest ≡ [])))

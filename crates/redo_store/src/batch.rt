@@ -7,7 +7,7 @@ ghost use Rattle.model_page.specs.{data_device_length};
 ghost use Rattle.redo_disk.specs.{error_of, HasCause, MakesCalls, OnTold, put_requests, Serve};
 ghost use Rattle.redo_store.specs.Requests.{batch_requests};
 
-use crate::places::{PAGE, put_both};
+use crate::places::put_both;
 use model_base::Shape;
 use redo_dblwr::fill_texts;
 use redo_disk::{DevError, Sectors, write_and_sync};
@@ -25,16 +25,16 @@ pub(crate) fn put_slots<D: Sectors>(
     requires batch { IsWritable shape.now batch.now frames.now }
     requires room { length buffer.old ≡ shape.now.slots * shape.now.page_size }
     ensures ok { OnOk result (OnTold (D.seen device.old).tells (D.seen device.new).tells
-        (λ old new. new ≡ synced (written old (slots_write shape.now (batch_of batch.now frames.now))))) }
+        (λ old new. new ≡ synced (written old (slots_write shape.now (batch_of shape.now batch.now frames.now))))) }
     ensures err { OnErr result (OnTold (D.seen device.old).tells (D.seen device.new).tells
-        (IsPutOrNot (slots_write shape.now (batch_of batch.now frames.now)))) }
+        (IsPutOrNot (slots_write shape.now (batch_of shape.now batch.now frames.now)))) }
     ensures size { (D.seen device.new).size ≡ (D.seen device.old).size }
     ensures cause { HasCause (D.seen device.old).faults (D.seen device.new).faults result }
     ensures calls { MakesCalls D.gives device.old device.new
-        (Serve (put_requests (slots_write shape.now (batch_of batch.now frames.now))) (error_of result)) }
+        (Serve (put_requests (slots_write shape.now (batch_of shape.now batch.now frames.now))) (error_of result)) }
 {
     fill_texts(buffer, shape, batch, frames);
-    write_and_sync(device, 0, &buffer[..PAGE * batch.len()])
+    write_and_sync(device, 0, &buffer[..batch.len() * shape.page_size as usize])
 }
 
 /// Writes the pages of a batch into the slots, and once they stay there each into its place.
@@ -50,16 +50,21 @@ pub(crate) fn put_pages<D: Sectors>(
     requires batch { IsWritable shape.now batch.now frames.now }
     requires room { length buffer.old ≡ shape.now.slots * shape.now.page_size }
     ensures ok { OnOk result (OnTold (D.seen device.old).tells (D.seen device.new).tells
-        (λ old new. new ≡ after_both (slots_write shape.now (batch_of batch.now frames.now))
-        (place_writes shape.now (batch_of batch.now frames.now)) old)) }
+        (λ old new. new ≡ after_both (slots_write shape.now (batch_of shape.now batch.now frames.now))
+        (place_writes shape.now (batch_of shape.now batch.now frames.now)) old)) }
     ensures err { OnErr result (OnTold (D.seen device.old).tells (D.seen device.new).tells
-        (FailsBoth (slots_write shape.now (batch_of batch.now frames.now))
-        (place_writes shape.now (batch_of batch.now frames.now)))) }
+        (FailsBoth (slots_write shape.now (batch_of shape.now batch.now frames.now))
+        (place_writes shape.now (batch_of shape.now batch.now frames.now)))) }
     ensures size { (D.seen device.new).size ≡ (D.seen device.old).size }
     ensures cause { HasCause (D.seen device.old).faults (D.seen device.new).faults result }
     ensures calls { MakesCalls D.gives device.old device.new
-        (Serve (batch_requests shape.now (batch_of batch.now frames.now)) (error_of result)) }
+        (Serve (batch_requests shape.now (batch_of shape.now batch.now frames.now)) (error_of result)) }
 {
     fill_texts(buffer, shape, batch, frames);
-    put_both(device, shape, batch, &buffer[..PAGE * batch.len()])
+    put_both(
+        device,
+        shape,
+        batch,
+        &buffer[..batch.len() * shape.page_size as usize],
+    )
 }

@@ -5,9 +5,8 @@ ghost use Rattle.model_parts.specs.{FailsPutBack, IsPutBack};
 ghost use Rattle.model_page.specs.{data_device_length, HasNoCopy, IsBestCopy};
 ghost use Rattle.redo_dblwr.specs.{slots_read};
 ghost use Rattle.redo_disk.specs.{error_of, HasCause, MakesCalls, OnTold, Serve};
-ghost use Rattle.redo_store.specs.Requests.{RepairCalls};
+ghost use Rattle.redo_store.specs.RepairRequests.{RepairCalls};
 
-use crate::places::PAGE;
 use model_base::Shape;
 use redo_dblwr::{place_at, read_slots};
 use redo_disk::{DevError, Sectors, write_and_sync};
@@ -56,8 +55,13 @@ pub(crate) fn put_back<D: Sectors>(
     match best_copy(slots, shape, page) {
         None => Ok(()),
         Some((slot, _)) => {
-            let from = slot as usize * PAGE;
-            write_and_sync(device, place_at(shape, page), &slots[from..from + PAGE])
+            let page_size = shape.page_size as usize;
+            let from = slot as usize * page_size;
+            write_and_sync(
+                device,
+                place_at(shape, page),
+                &slots[from..from + page_size],
+            )
         }
     }
 }

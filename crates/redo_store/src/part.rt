@@ -9,7 +9,8 @@ ghost use Rattle.redo_dblwr.specs.{slots_read, stretch_read};
 ghost use Rattle.redo_disk.specs.{error_of, MakesCall, MakesCalls, OnTold, put_requests, Reads, Serve};
 ghost use Rattle.redo_store.specs.Copies.{IsCopyToPut};
 ghost use Rattle.redo_store.specs.Part.{PartStep, PartStores, PartKeeps};
-ghost use Rattle.redo_store.specs.Requests.{RepairCalls, batch_requests};
+ghost use Rattle.redo_store.specs.Requests.{batch_requests};
+ghost use Rattle.redo_store.specs.RepairRequests.{RepairCalls};
 
 use crate::batch::{put_pages, put_slots};
 use crate::mend::{find_copy, put_back};
@@ -77,11 +78,13 @@ impl<D: Sectors> DataPart<D> {
         requires live { self.old.failed ≡ None }
         requires batch { IsWritable self.old.shape batch.now frames.now }
         ensures stores { (top was : ℕ → Content) → PartStores D.seen top was [] self.old
-            → PartStores D.seen top was (batch_of batch.now frames.now) self.new }
+            → PartStores D.seen top was (batch_of self.old.shape batch.now frames.now) self.new }
         ensures slots { OnOk result (OnTold (D.seen self.old.dev).tells (D.seen self.new.dev).tells
-            (λ old new. new ≡ synced (written old (slots_write self.old.shape (batch_of batch.now frames.now))))) }
+            (λ old new. new ≡ synced (written old
+            (slots_write self.old.shape (batch_of self.old.shape batch.now frames.now))))) }
         ensures calls { MakesCalls D.gives self.old.dev self.new.dev
-            (Serve (put_requests (slots_write self.old.shape (batch_of batch.now frames.now))) (error_of result)) }
+            (Serve (put_requests (slots_write self.old.shape (batch_of self.old.shape batch.now frames.now)))
+            (error_of result)) }
         ensures step { PartStep D.seen self.old result self.new }
     {
         match put_slots(&mut self.dev, &self.shape, batch, frames, &mut self.buffer) {
@@ -98,21 +101,24 @@ impl<D: Sectors> DataPart<D> {
         requires live { self.old.failed ≡ None }
         requires batch { IsWritable self.old.shape batch.now frames.now }
         ensures keeps { (top was : ℕ → Content) → PartStores D.seen top was [] self.old
-            → IsLater top (batch_of batch.now frames.now)
-            → PartKeeps D.seen top was (batch_of batch.now frames.now) self.new }
+            → IsLater top (batch_of self.old.shape batch.now frames.now)
+            → PartKeeps D.seen top was (batch_of self.old.shape batch.now frames.now) self.new }
         ensures ok { (top was : ℕ → Content) → PartStores D.seen top was [] self.old
-            → IsLater top (batch_of batch.now frames.now)
-            → OnOk result (PartStores D.seen (after_batch (batch_of batch.now frames.now) top)
-            (after_batch (batch_of batch.now frames.now) was) [] self.new) }
+            → IsLater top (batch_of self.old.shape batch.now frames.now)
+            → OnOk result (PartStores D.seen (after_batch (batch_of self.old.shape batch.now frames.now) top)
+            (after_batch (batch_of self.old.shape batch.now frames.now) was) [] self.new) }
         ensures pages { (was : ℕ → Content)
-            → IfSome (D.seen self.old.dev).tells (IsBefore self.old.shape was (batch_of batch.now frames.now))
-            → IfSome (D.seen self.new.dev).tells (KeepsPages self.old.shape was (batch_of batch.now frames.now)) }
+            → IfSome (D.seen self.old.dev).tells
+            (IsBefore self.old.shape was (batch_of self.old.shape batch.now frames.now))
+            → IfSome (D.seen self.new.dev).tells
+            (KeepsPages self.old.shape was (batch_of self.old.shape batch.now frames.now)) }
         ensures done { (was : ℕ → Content)
-            → IfSome (D.seen self.old.dev).tells (IsBefore self.old.shape was (batch_of batch.now frames.now))
+            → IfSome (D.seen self.old.dev).tells
+            (IsBefore self.old.shape was (batch_of self.old.shape batch.now frames.now))
             → OnOk result (IfSome (D.seen self.new.dev).tells
-            (IsSteady self.old.shape (after_batch (batch_of batch.now frames.now) was))) }
+            (IsSteady self.old.shape (after_batch (batch_of self.old.shape batch.now frames.now) was))) }
         ensures calls { MakesCalls D.gives self.old.dev self.new.dev
-            (Serve (batch_requests self.old.shape (batch_of batch.now frames.now)) (error_of result)) }
+            (Serve (batch_requests self.old.shape (batch_of self.old.shape batch.now frames.now)) (error_of result)) }
         ensures step { PartStep D.seen self.old result self.new }
     {
         // What the device tells is as long as it says.

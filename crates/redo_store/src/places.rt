@@ -8,12 +8,9 @@ ghost use Rattle.redo_disk.specs.{error_of, HasCause, MakesCalls, OnTold, put_re
 ghost use Rattle.redo_store.specs.Places.{text_writes};
 ghost use Rattle.redo_store.specs.Requests.{all_put};
 
-use model_base::{PAGE_SIZE, Shape};
+use model_base::Shape;
 use redo_dblwr::place_at;
 use redo_disk::{DevError, Sectors, write_and_sync};
-
-/// Bytes of a page.
-pub(crate) const PAGE: usize = PAGE_SIZE as usize;
 
 /// Writes each text into the place of its page.
 fn write_texts<D: Sectors>(
@@ -25,7 +22,7 @@ fn write_texts<D: Sectors>(
     requires limits { IsWithinLimits shape.now }
     requires long { data_device_length shape.now ≤ (D.seen device.old).size }
     requires pages { (i : ℕ) (pair : ℕ × ℕ) → slice_get batch.now i ≡ Some pair → pair.0 < shape.now.pages }
-    requires count { length texts.now ≡ PAGE_SIZE * length batch.now }
+    requires count { length texts.now ≡ length batch.now * shape.now.page_size }
     ensures ok { OnOk result (OnTold (D.seen device.old).tells (D.seen device.new).tells
         (λ old new. new ≡ written_all old (text_writes shape.now batch.now texts.now))) }
     ensures err { OnErr result (OnTold (D.seen device.old).tells (D.seen device.new).tells
@@ -34,9 +31,10 @@ fn write_texts<D: Sectors>(
     ensures cause { HasCause (D.seen device.old).faults (D.seen device.new).faults result }
     ensures calls { MakesCalls D.gives device.old device.new (Serve (map ToWrite (text_writes shape.now batch.now texts.now)) (error_of result)) }
 {
+    let page_size = shape.page_size as usize;
     for (i, (page, _)) in batch.iter().enumerate() {
-        let from = i * PAGE;
-        device.write(place_at(shape, *page), &texts[from..from + PAGE])?;
+        let from = i * page_size;
+        device.write(place_at(shape, *page), &texts[from..from + page_size])?;
     }
     Ok(())
 }
@@ -51,7 +49,7 @@ fn put_texts<D: Sectors>(
     requires limits { IsWithinLimits shape.now }
     requires long { data_device_length shape.now ≤ (D.seen device.old).size }
     requires pages { (i : ℕ) (pair : ℕ × ℕ) → slice_get batch.now i ≡ Some pair → pair.0 < shape.now.pages }
-    requires count { length texts.now ≡ PAGE_SIZE * length batch.now }
+    requires count { length texts.now ≡ length batch.now * shape.now.page_size }
     ensures ok { OnOk result (OnTold (D.seen device.old).tells (D.seen device.new).tells
         (λ old new. new ≡ synced (written_all old (text_writes shape.now batch.now texts.now)))) }
     ensures err { OnErr result (OnTold (D.seen device.old).tells (D.seen device.new).tells
@@ -74,7 +72,7 @@ pub(crate) fn put_both<D: Sectors>(
     requires limits { IsWithinLimits shape.now }
     requires long { data_device_length shape.now ≤ (D.seen device.old).size }
     requires pages { (i : ℕ) (pair : ℕ × ℕ) → slice_get batch.now i ≡ Some pair → pair.0 < shape.now.pages }
-    requires count { length texts.now ≡ PAGE_SIZE * length batch.now }
+    requires count { length texts.now ≡ length batch.now * shape.now.page_size }
     requires few { length batch.now ≤ shape.now.slots }
     ensures ok { OnOk result (OnTold (D.seen device.old).tells (D.seen device.new).tells
         (λ old new. new ≡ after_both (write_at 0 texts.now) (text_writes shape.now batch.now texts.now) old)) }

@@ -4,8 +4,9 @@ ghost use Rattle.model_base.specs.declared.limits.TheConstants.{BLOCK_SIZE};
 ghost use Rattle.model_log.specs.{block_of, other_tail, run_layout};
 ghost use Rattle.model_parts.specs.{after_given, after_written, tails_written};
 ghost use Rattle.redo_disk.specs.{error_of, MakesCalls, Serve};
-ghost use Rattle.redo_logdev.specs.Calls.{block_writes, full_blocks, last_block};
-ghost use Rattle.redo_logdev.specs.Part.{HasMarks, MayWrite, Stays, KeepsWriting};
+ghost use Rattle.redo_logdev.specs.Calls.{block_writes, framed_full_blocks, last_block};
+ghost use Rattle.redo_logdev.specs.Part.{Stays, KeepsWriting};
+ghost use Rattle.redo_logdev.specs.PartConditions.{HasMarks, MayWrite};
 
 use crate::LogPart;
 use crate::blocks::fill_blocks;
@@ -27,7 +28,7 @@ impl<L: Sectors> LogPart<L> {
         ensures stays { Stays L.seen self.old result self.new }
         ensures calls { MakesCalls L.gives self.old.dev self.new.dev
             (Serve (block_writes (run_layout self.old.shape) (block_of self.old.marks.written)
-            (full_blocks (block_of self.old.marks.written) bytes.now firsts.now (self.old.marks.number % 2 ^ 32))
+            (framed_full_blocks (block_of self.old.marks.written) bytes.now firsts.now (self.old.marks.number % 2 ^ 32))
             (BLOCK_SIZE * other_tail self.old.tails.tail)
             (last_block (block_of self.old.marks.written) bytes.now firsts.now))
             (error_of result)) }

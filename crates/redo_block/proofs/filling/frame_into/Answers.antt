@@ -3,6 +3,7 @@ use Rattle.std.proofs.Common.{◌≡◌, ◌≤◌, ◌+◌, ◌-◌, ◌++◌, 
 use Rattle.std.proofs.lemmas.Slice.{take-put_mid}
 use borrow.Rule.Slice.PartMut.{put_mid, mid_of}
 use Rattle.std.proofs.lemmas.List.{take_min, drop_min}
+use Rattle.model_log.specs.declared.layout.TheConstants.{BLOCK_DATA}
 use Rattle.redo_block.proofs.Framings.{first-fits, firsts-drop, framed-more}
 use Rattle.redo_block.proofs.filling.frame_into.Goals as goal
 
@@ -19,7 +20,7 @@ fill_part-requires-clause-small c = omega (arith, c.loop-first.invariant.lsn, c.
 pub fill_part-requires-clause-offset : goal.fill_part-requires-clause-offset
 fill_part-requires-clause-offset c =
     let rest = c.loop-first.rest.now in
-    let part : c.split_at.result.0.now ≡ take 496 rest = c.split_at.ensures.front ∙ ap (λ n. take n rest) c.min.ensures ∙ take_min 496 rest in
+    let part : c.split_at.result.0.now ≡ take BLOCK_DATA rest = c.split_at.ensures.front ∙ ap (λ n. take n rest) c.min.ensures ∙ take_min BLOCK_DATA rest in
     first-fits rest c.split_at.result.0.now c.args.firsts.now c.loop-first.first-index c.loop-first-test.true part c.loop-first.invariant.fit
 
 pub loop-first-preserved : goal.loop-first-preserved
@@ -29,8 +30,8 @@ loop-first-preserved c =
     let block = c.fill_part.new.out in
     let rest = c.loop-first.rest.now in
     let before = c.loop-first.invariant in
-    let part : c.split_at.result.0.now ≡ take 496 rest = c.split_at.ensures.front ∙ ap (λ n. take n rest) c.min.ensures ∙ take_min 496 rest in
-    let left : c.split_at.result.1.now ≡ drop 496 rest = c.split_at.ensures.back ∙ ap (λ n. drop n rest) c.min.ensures ∙ drop_min 496 rest in
+    let part : c.split_at.result.0.now ≡ take BLOCK_DATA rest = c.split_at.ensures.front ∙ ap (λ n. take n rest) c.min.ensures ∙ take_min BLOCK_DATA rest in
+    let left : c.split_at.result.1.now ≡ drop BLOCK_DATA rest = c.split_at.ensures.back ∙ ap (λ n. drop n rest) c.min.ensures ∙ drop_min BLOCK_DATA rest in
     let long : length block ≡ 512 = omega (arith, c.fill_part.auto.out, length-mid_of at (at + 512 - at) out (omega (arith, before.place, before.long, c.requires.room))) in
     let put : take (at + 512) (put_mid at (at + 512 - at) out block) ≡ take at out ++ block =
     take-put_mid at (at + 512 - at) out block (at + 512) (omega arith) (omega (arith, before.place, before.long, c.requires.room)) in

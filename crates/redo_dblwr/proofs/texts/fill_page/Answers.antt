@@ -1,20 +1,35 @@
-use Rattle.std.proofs.Common.{◌≡◌, ◌-◌, ℕ, List, ◌++◌, length, take, drop, ap, refl, ◌∙◌, length-take-le, length-append, length-drop, arith}
+use Rattle.std.proofs.Common.{◌≡◌, ◌+◌, ◌-◌, ℕ, List, ◌++◌, length, take, drop, ap, refl, sym, ◌∙◌, length-take-le, length-append, length-drop, arith}
 use Rattle.std.proofs.lemmas.List.{take_at, drop_at}
 use borrow.Rule.Slice.PartMut.{put_mid}
+use Rattle.model_base.specs.{frame_length}
+use Rattle.model_base.specs.declared.limits.TheConstants.{PAGE_TRAILER, USER_START}
 use Rattle.model_page.specs.{page_text, user_part}
 use Rattle.redo_dblwr.proofs.texts.fill_page.Goals as goal
 
 -- bytes that were put in the user bytes' place are the user bytes
-user-put : (old user : List ℕ) (count : ℕ) → length old ≡ 4096 → length user ≡ 4050 → count ≡ 4050 → user_part (put_mid 38 count old user) ≡ user
-user-put old user count long user_long is =
-    let head : length (take 38 old) ≡ 38 = length-take-le 38 old (omega arith) in
-    let size : length (put_mid 38 count old user) - 8 - 38 ≡ 4050 =
-    omega (arith, length-append (take 38 old) (user ++ drop count (drop 38 old)), length-append user (drop count (drop 38 old)), length-drop count (drop 38 old), length-drop 38 old) in
-    ap (λ n. take n (drop 38 (put_mid 38 count old user))) size
-    ∙ ap (take 4050) (drop_at (take 38 old) (user ++ drop count (drop 38 old)) 38 head)
-    ∙ take_at user (drop count (drop 38 old)) 4050 user_long
+user-put : (old user : List ℕ) (count : ℕ) → length old ≡ frame_length + length user → count ≡ length user
+    → user_part (put_mid USER_START count old user) ≡ user
+user-put old user count long is =
+    let head : List ℕ = take USER_START old in
+    let rest : List ℕ = drop USER_START old in
+    let new : List ℕ = put_mid USER_START count old user in
+    let head_long : length head ≡ USER_START = length-take-le USER_START old (omega arith) in
+    let size : length new - PAGE_TRAILER - USER_START ≡ length user =
+    omega (
+      arith,
+      length-append head (user ++ drop count rest),
+      length-append user (drop count rest),
+      length-drop count rest,
+      length-drop USER_START old,
+    ) in
+    ap (λ n. take n (drop USER_START new)) size
+    ∙ ap (take (length user)) (drop_at head (user ++ drop count rest) USER_START head_long)
+    ∙ take_at user (drop count rest) (length user) refl
 
 pub returns : goal.returns
 returns c =
+    let user : List ℕ = c.copy_from_slice.new.self in
+    let same : user ≡ c.args.user.now = c.copy_from_slice.ensures.after in
     c.seal.ensures ∙ ap (page_text c.args.number c.args.space c.args.lsn)
-    (user-put c.args.out.now c.copy_from_slice.new.self 4050 c.requires.out (omega (arith, ap length c.copy_from_slice.ensures.after, c.requires.user)) refl ∙ c.copy_from_slice.ensures.after)
+    (user-put c.args.out.now user (length c.args.out.now - PAGE_TRAILER - USER_START)
+    (c.requires ∙ ap (λ (u : List ℕ). frame_length + length u) (sym same)) (omega (arith, c.requires, ap length same)) ∙ same)

@@ -1,15 +1,19 @@
 use Rattle.std.proofs.Common.{◌≡◌, ◌≤◌, ◌<◌, Err, length, drop, vec_len, refl, arith, rules}
 use Rattle.std.proofs.lemmas.List.{take_at}
+use Rattle.std.proofs.lemmas.Grind.{common_steps}
 use Rattle.std.proofs.lemmas.Result.{err_from_is_err_and}
 use Rattle.redo_io.proofs.Progress.{TakesFront_more, TakesFront_all, HasRead-more, IsReadThrough-from}
 use Rattle.redo_io.specs.declared.fault.ReadFault.TheVariants.{NoMemory, TooLong}
 use Rattle.redo_io.specs.declared.read.TheConstants.{PIECE}
 use Rattle.redo_io.proofs.read.read_all.Goals as goal
 
-pub returns-then-count-eq0-clause-all : goal.returns-then-count-eq0-clause-all
-returns-then-count-eq0-clause-all g c =
-    let room : 0 < length c.as_mut_slice.result.now = omega (arith, c.as_mut_slice.ensures.len, c.loop-piece.invariant.piece) in
-    rw c.new.ensures (TakesFront_all _ _ c.loop-piece.text.items c.loop-piece.invariant.taken (c.in_ok-count.ensures.step.end c.if-count-eq0.true room))
+pub returns-then-count-eq0-clause-ok : goal.returns-then-count-eq0-clause-ok
+returns-then-count-eq0-clause-ok g c =
+    let room : 0 < length c.as_mut_slice.result.now = omega (arith, c.as_mut_slice.ensures.len, c.loop-piece.invariant.piece) in record {
+      all = rw c.new.ensures (TakesFront_all _ _ c.loop-piece.text.items c.loop-piece.invariant.taken (c.in_ok-count.ensures.step.end c.if-count-eq0.true room));
+      none_left = grind (arith, common_steps);
+      short = grind (arith, common_steps);
+    }
 
 pub returns-then-count-limit-clause-reads : goal.returns-then-count-limit-clause-reads
 returns-then-count-limit-clause-reads g c =

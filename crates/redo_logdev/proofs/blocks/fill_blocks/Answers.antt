@@ -1,5 +1,6 @@
 use Rattle.std.proofs.Common.{◌≡◌, ◌-◌, ◌*◌, ℕ, inl, inr, List, length, take, drop, ap, subst, sym, ◌∙◌, ⊎_elim, length-drop, arith}
 use Rattle.std.proofs.lemmas.Bool.{cases_lt}
+use Rattle.model_log.specs.declared.layout.TheConstants.{BLOCK_DATA}
 use Rattle.redo_block.specs.{AreFirsts}
 use Rattle.redo_logdev.specs.Calls.{full_count}
 use Rattle.redo_logdev.proofs.Cuts.{firsts-count, firsts-drop, firsts-take}
@@ -11,10 +12,10 @@ split_at-requires-2 c = (firsts-count c.args.stream.now c.args.firsts.now c.requ
 pub fill_front-full-requires-clause-each : goal.fill_front-full-requires-clause-each
 fill_front-full-requires-clause-each c =
     let stream = c.args.stream.now in
-    let each : AreFirsts (take (496 * full_count stream) stream) (take (full_count stream) c.args.firsts.now) =
+    let each : AreFirsts (take (BLOCK_DATA * full_count stream) stream) (take (full_count stream) c.args.firsts.now) =
     firsts-take (full_count stream) stream c.args.firsts.now (omega arith) c.requires.each in
     subst (λ (x : List ℕ). AreFirsts x c.split_at-2.result.0.now) (sym c.split_at.ensures.front)
-    (subst (λ (x : List ℕ). AreFirsts (take (496 * full_count stream) stream) x) (sym c.split_at-2.ensures.front) each)
+    (subst (λ (x : List ℕ). AreFirsts (take (BLOCK_DATA * full_count stream) stream) x) (sym c.split_at-2.ensures.front) each)
 
 pub fill_front-requires-clause-room : goal.fill_front-requires-clause-room
 fill_front-requires-clause-room c =
@@ -26,10 +27,10 @@ fill_front-requires-clause-room c =
 pub fill_front-requires-clause-each : goal.fill_front-requires-clause-each
 fill_front-requires-clause-each c =
     let stream = c.args.stream.now in
-    let each : AreFirsts (drop (496 * full_count stream) stream) (drop (full_count stream) c.args.firsts.now) =
+    let each : AreFirsts (drop (BLOCK_DATA * full_count stream) stream) (drop (full_count stream) c.args.firsts.now) =
     firsts-drop (full_count stream) stream c.args.firsts.now (omega arith) c.requires.each in
     subst (λ (x : List ℕ). AreFirsts x c.split_at-2.result.1.now) (sym c.split_at.ensures.back)
-    (subst (λ (x : List ℕ). AreFirsts (drop (496 * full_count stream) stream) x) (sym c.split_at-2.ensures.back) each)
+    (subst (λ (x : List ℕ). AreFirsts (drop (BLOCK_DATA * full_count stream) stream) x) (sym c.split_at-2.ensures.back) each)
 
 pub returns-clause-last_len : goal.returns-clause-last_len
 returns-clause-last_len c =

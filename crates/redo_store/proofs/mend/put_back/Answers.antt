@@ -1,8 +1,9 @@
-use Rattle.std.proofs.Common.{◌≡◌, ◌+◌, ◌-◌, ◌*◌, ℕ, List, take, drop, Option, subst}
+use Rattle.std.proofs.Common.{◌≡◌, ◌<◌, ◌+◌, ◌-◌, ◌*◌, ℕ, List, take, drop, Option, subst, arith}
 use Rattle.std.proofs.lemmas.Result.{err_from_is_err_and, on_ok_weaker, on_err_weaker}
 use Rattle.model_parts.specs.{FailsPutBack, IsPutBack, SameSlots}
 use Rattle.model_device.specs.{IsPutOrNot, synced, written}
 use Rattle.model_device.specs.Disk.{Disk}
+use Rattle.redo_dblwr.proofs.Ranges.{length-row, place-range}
 use Rattle.redo_disk.proofs.Told.{OnTold-weaker}
 use Rattle.redo_disk.specs.{error_of, OnTold, write_at}
 use Rattle.redo_store.proofs.Repaired.{slot-part, put-back, put-failed, repair-unread, repair-none, repair-put}
@@ -22,13 +23,13 @@ returns-in-Some-clause-ok g c =
     let shape = c.args.shape.now in
     let slots = c.read_slots.new.slots in
     let slot = c.in-Some.slot in
-    let bytes : List ℕ = take (slot * 4096 + 4096 - slot * 4096) (drop (slot * 4096) slots) in
+    let bytes : List ℕ = take (slot * shape.page_size + shape.page_size - slot * shape.page_size) (drop (slot * shape.page_size) slots) in
     let told = (g.D.Sectors.seen c.args.device.now).tells in
     let after = (g.D.Sectors.seen c.write_and_sync.new.device).tells in
     let R : Disk → Disk → Type 0 = λ a b. b ≡ synced (written a (write_at c.place_at.result bytes)) in
     on_ok_weaker c.write_and_sync.result
     (λ done. OnTold-weaker told after (λ (disk : Disk). SameSlots shape disk.reads slots) R (IsPutBack shape c.args.page)
-    (λ a b same is. put-back shape c.args.page slot c.in-Some.field-0-1 c.place_at.result slots bytes a b same c.in-Some.ensures c.place_at.ensures (slot-part shape slot slots c.requires.limits.page_size) is)
+    (λ a b same is. put-back shape c.args.page slot c.in-Some.field-0-1 c.place_at.result slots bytes a b same c.in-Some.ensures c.place_at.ensures (slot-part shape slot slots) is)
     c.in_ok-read_slots.ensures.bytes (subst (λ (o : Option Disk). OnTold o after R) c.in_ok-read_slots.ensures.same done))
     c.write_and_sync.ensures.ok
 
@@ -37,13 +38,13 @@ returns-in-Some-clause-err g c =
     let shape = c.args.shape.now in
     let slots = c.read_slots.new.slots in
     let slot = c.in-Some.slot in
-    let bytes : List ℕ = take (slot * 4096 + 4096 - slot * 4096) (drop (slot * 4096) slots) in
+    let bytes : List ℕ = take (slot * shape.page_size + shape.page_size - slot * shape.page_size) (drop (slot * shape.page_size) slots) in
     let told = (g.D.Sectors.seen c.args.device.now).tells in
     let after = (g.D.Sectors.seen c.write_and_sync.new.device).tells in
     let R : Disk → Disk → Type 0 = IsPutOrNot (write_at c.place_at.result bytes) in
     on_err_weaker c.write_and_sync.result
     (λ done. OnTold-weaker told after (λ (disk : Disk). SameSlots shape disk.reads slots) R (FailsPutBack shape c.args.page)
-    (λ a b same is. put-failed shape c.args.page slot c.in-Some.field-0-1 c.place_at.result slots bytes a b same c.in-Some.ensures c.place_at.ensures (slot-part shape slot slots c.requires.limits.page_size) is)
+    (λ a b same is. put-failed shape c.args.page slot c.in-Some.field-0-1 c.place_at.result slots bytes a b same c.in-Some.ensures c.place_at.ensures (slot-part shape slot slots) is)
     c.in_ok-read_slots.ensures.bytes (subst (λ (o : Option Disk). OnTold o after R) c.in_ok-read_slots.ensures.same done))
     c.write_and_sync.ensures.err
 
@@ -52,6 +53,16 @@ returns-in-Some-clause-calls g c =
     let shape = c.args.shape.now in
     let slots = c.read_slots.new.slots in
     let slot = c.in-Some.slot in
-    let bytes : List ℕ = take (slot * 4096 + 4096 - slot * 4096) (drop (slot * 4096) slots) in
+    let bytes : List ℕ = take (slot * shape.page_size + shape.page_size - slot * shape.page_size) (drop (slot * shape.page_size) slots) in
     repair-put g.D.Sectors.gives c.args.device.now c.read_slots.new.device c.write_and_sync.new.device shape c.args.page slot c.in-Some.field-0-1 c.place_at.result c.args.slots.now slots bytes c.in_ok-read_slots.field-0
-    (error_of c.write_and_sync.result) c.requires.room c.in-Some.ensures c.place_at.ensures (slot-part shape slot slots c.requires.limits.page_size) c.in_ok-read_slots.ensures.call c.write_and_sync.ensures.calls
+    (error_of c.write_and_sync.result) c.requires.room c.in-Some.ensures c.place_at.ensures (slot-part shape slot slots) c.in_ok-read_slots.ensures.call c.write_and_sync.ensures.calls
+
+pub write_and_sync-requires : goal.write_and_sync-requires
+write_and_sync-requires g c =
+    let shape = c.args.shape.now in
+    let slots = c.read_slots.new.slots in
+    let slot = c.in-Some.slot in
+    let below : slot < shape.slots = c.in-Some.ensures.below in
+    place-range shape _ c.args.page c.place_at.result _ c.requires.limits.page_size
+    (omega (arith, c.in_ok-read_slots.ensures.size, c.requires.long)) c.requires.inside c.place_at.ensures
+    (length-row slot shape.slots shape.page_size slots below (omega (arith, c.read_slots.auto.slots, c.requires.room)))

@@ -8,8 +8,9 @@ use Rattle.model_parts.specs.declared.marks.TailMarks.{TailMarks}
 use Rattle.redo_disk.specs.{MakesCalls, Serve}
 use Rattle.redo_disk.specs.declared.error.DevError.{DevError}
 use Rattle.redo_disk.proofs.Told.{told-step}
-use Rattle.redo_logdev.specs.Calls.{block_writes, FailsBlocks, full_blocks, full_count, last_block, written_blocks}
-use Rattle.redo_logdev.specs.Part.{Part, MayWrite, PartHolds, DiskHolds}
+use Rattle.redo_logdev.specs.Calls.{block_writes, FailsBlocks, framed_full_blocks, full_count, last_block, written_blocks}
+use Rattle.redo_logdev.specs.Part.{Part, PartHolds, DiskHolds}
+use Rattle.redo_logdev.specs.PartConditions.{MayWrite}
 use Rattle.redo_logdev.proofs.Cuts.{IsCut}
 use Rattle.redo_logdev.proofs.Parts.{AreTexts, cut-from, ends-small, few-blocks, texts_served, texts-of, write-err, write-ok}
 use Rattle.redo_logdev.proofs.part.LogPart.write_to.Goals as goal
@@ -88,7 +89,7 @@ returns-in-Ok-clause-calls g c =
     let texts = texts-of part.marks part.tails (part.marks.number % 4294967296) bytes firsts c.block_of-from.result c.other_tail-free.result c.fill_blocks-full.result.0 c.deref.result.now room last
     c.block_of-from.ensures c.other_tail-free.ensures kept c.fill_blocks-full.ensures.full c.fill_blocks-full.ensures.last in
     subst (λ (p : Part _). MakesCalls g.L.Sectors.gives p.dev c.write_blocks.new.device
-    (Serve (block_writes (run_layout p.shape) (block_of p.marks.written) (full_blocks (block_of p.marks.written) bytes firsts (p.marks.number % 4294967296))
+    (Serve (block_writes (run_layout p.shape) (block_of p.marks.written) (framed_full_blocks (block_of p.marks.written) bytes firsts (p.marks.number % 4294967296))
     (512 * other_tail p.tails.tail) (last_block (block_of p.marks.written) bytes firsts)) None)) c.self.view_is
     (texts_served part.shape part.marks part.tails (part.marks.number % 4294967296) bytes firsts c.layout_of-layout.result c.block_of-from.result (512 * c.other_tail-free.result) _ last
     c.layout_of-layout.ensures.is texts c.in-Ok.ensures.calls)
@@ -105,7 +106,7 @@ returns-in-Err-clause-calls g c =
     c.block_of-from.ensures c.other_tail-free.ensures kept c.fill_blocks-full.ensures.full c.fill_blocks-full.ensures.last in
     let failed : Option DevError = Some c.in-Err.error in
     subst (λ (p : Part _). MakesCalls g.L.Sectors.gives p.dev c.write_blocks.new.device
-    (Serve (block_writes (run_layout p.shape) (block_of p.marks.written) (full_blocks (block_of p.marks.written) bytes firsts (p.marks.number % 4294967296))
+    (Serve (block_writes (run_layout p.shape) (block_of p.marks.written) (framed_full_blocks (block_of p.marks.written) bytes firsts (p.marks.number % 4294967296))
     (512 * other_tail p.tails.tail) (last_block (block_of p.marks.written) bytes firsts)) failed)) c.self.view_is
     (texts_served part.shape part.marks part.tails (part.marks.number % 4294967296) bytes firsts c.layout_of-layout.result c.block_of-from.result (512 * c.other_tail-free.result) _ last
     c.layout_of-layout.ensures.is texts c.in-Err.ensures.calls)
