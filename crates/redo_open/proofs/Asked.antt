@@ -6,13 +6,15 @@ use Rattle.redo_disk.specs.declared.error.DevError.TheVariants as device
 use Rattle.redo_disk.proofs.Calls.{MayEndWith-append, MayEndWith-no_memory}
 use Rattle.redo_disk.proofs.Made.{joined_calls, may_end, out_of_memory, weaker_calls}
 use Rattle.redo_logdev.specs.Part.{Part as Log}
-use Rattle.redo_open.specs.Opening.{Answer, IsStarted, OpensLog, log_left, data_left, log_error_in, data_error_in}
+use Rattle.redo_open.specs.Opening.{OpenResult, IsStarted, OpensLog, log_device_left, data_device_left, log_error_in, data_error_in}
 use Rattle.redo_open.specs.Places.{IsPageFault}
 use Rattle.redo_recover.specs.{ReadsLog, data_error, data_fault_of, log_error, log_fault_of}
 use Rattle.redo_recover.specs.declared.fault.RecFault.{RecFault}
 use Rattle.redo_recover.specs.declared.fault.RecFault.TheVariants.{DataDev, NoMemory}
 use Rattle.redo_recover.specs.declared.recovered.Recovered.{Recovered}
 use Rattle.redo_store.specs.Part.{Part}
+use Rattle.redo_disk.specs.Seen.{Seen}
+use Rattle.redo_open.specs.Devices.{AreCalled, IsSameDevice}
 
 -- an error of the data device, as its fault
 pub data_ends : {D : Type 0} {gives : D → Call → D → Type 0} {old new : D} (error : DevError) (fault : RecFault) → fault ≡ data_fault_of error
@@ -45,21 +47,41 @@ beside_pages NoMemory own made = out_of_memory made
 beside_pages _ own made = absurd own
 
 -- a run that was started makes no call
-pub started_log : {L D : Type 0} {gives : L → Call → L → Type 0} {old log : L} (store : Part D) (recovered : Recovered) (start : ℕ) (result : Answer L D)
-    → IsStarted log store recovered start result → MakesCalls gives old log (MayEndWith None) → MakesCalls gives old (log_left result) (MayEndWith (log_error_in result))
+started_log : {L D : Type 0} {gives : L → Call → L → Type 0} {old log : L} (store : Part D) (recovered : Recovered) (start : ℕ) (result : OpenResult L D)
+    → IsStarted log store recovered start result → MakesCalls gives old log (MayEndWith None) → MakesCalls gives old (log_device_left result) (MayEndWith (log_error_in result))
 started_log {gives = gives} {old = old} store recovered start (Ok run) is made =
     subst (λ dev. MakesCalls gives old dev (MayEndWith None)) (sym (ap (λ (part : Log _). part.dev) is.log_part)) made
 started_log {gives = gives} {old = old} store recovered start (Err error) (none, log_is, data_is) made =
     subst (λ (f : RecFault). MakesCalls gives old error.1 (MayEndWith (log_error f))) (sym none)
     (subst (λ dev. MakesCalls gives old dev (MayEndWith (Some device.NoMemory))) (sym log_is) (out_of_memory made))
 
-pub started_data : {L D : Type 0} {gives : D → Call → D → Type 0} {old : D} (log : L) (store : Part D) (recovered : Recovered) (start : ℕ) (result : Answer L D)
-    → IsStarted log store recovered start result → MakesCalls gives old store.dev (MayEndWith None) → MakesCalls gives old (data_left result) (MayEndWith (data_error_in result))
+started_data : {L D : Type 0} {gives : D → Call → D → Type 0} {old : D} (log : L) (store : Part D) (recovered : Recovered) (start : ℕ) (result : OpenResult L D)
+    → IsStarted log store recovered start result → MakesCalls gives old store.dev (MayEndWith None) → MakesCalls gives old (data_device_left result) (MayEndWith (data_error_in result))
 started_data {gives = gives} {old = old} log store recovered start (Ok run) is made =
     subst (λ dev. MakesCalls gives old dev (MayEndWith None)) (sym (ap (λ (part : Part _). part.dev) is.data_part)) made
 started_data {gives = gives} {old = old} log store recovered start (Err error) (none, log_is, data_is) made =
     subst (λ (f : RecFault). MakesCalls gives old error.2 (MayEndWith (data_error f))) (sym none)
     (subst (λ dev. MakesCalls gives old dev (MayEndWith (Some device.NoMemory))) (sym data_is) (out_of_memory made))
+
+-- and has the devices that were handed in
+started-log : {L D : Type 0} (log : L) (store : Part D) (recovered : Recovered) (start : ℕ) (result : OpenResult L D) → IsStarted log store recovered start result → log_device_left result ≡ log
+started-log log store recovered start (Ok run) is = ap (λ (part : Log _). part.dev) is.log_part
+started-log log store recovered start (Err error) is = is.1
+
+started-data : {L D : Type 0} (log : L) (store : Part D) (recovered : Recovered) (start : ℕ) (result : OpenResult L D) → IsStarted log store recovered start result → data_device_left result ≡ store.dev
+started-data log store recovered start (Ok run) is = ap (λ (part : Part _). part.dev) is.data_part
+started-data log store recovered start (Err error) is = is.2
+
+pub started_called : {L D : Type 0} {log_gives : L → Call → L → Type 0} {data_gives : D → Call → D → Type 0} (log_seen : L → Seen) (data_seen : D → Seen) (log_old : L) (data_old : D)
+    (log : L) (store : Part D) (recovered : Recovered) (start : ℕ) (result : OpenResult L D) → IsStarted log store recovered start result
+    → AreCalled log_seen data_seen log_gives data_gives (MayEndWith None) (MayEndWith None) log_old log data_old store.dev
+    → AreCalled log_seen data_seen log_gives data_gives (MayEndWith (log_error_in result)) (MayEndWith (data_error_in result)) log_old (log_device_left result) data_old (data_device_left result)
+started_called log_seen data_seen log_old data_old log store recovered start result is called = record {
+  log = subst (λ dev. IsSameDevice (log_seen log_old) (log_seen dev)) (sym (started-log log store recovered start result is)) called.log;
+  data_device = subst (λ dev. IsSameDevice (data_seen data_old) (data_seen dev)) (sym (started-data log store recovered start result is)) called.data_device;
+  log_calls = started_log store recovered start result is called.log_calls;
+  data_calls = started_data log store recovered start result is called.data_calls;
+}
 
 -- calls, and others after them that may run out of memory
 pub may_end_then : {D : Type 0} {gives : D → Call → D → Type 0} {old middle new : D} {error : Option DevError}

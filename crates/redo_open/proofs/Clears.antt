@@ -3,6 +3,7 @@ use Rattle.std.proofs.Common.{◌≡◌, ◌≤◌, ◌<◌, ◌+◌, ◌-◌, �
 use Rattle.std.specs.Prelude.{replicate, Result, Ok, Err}
 use Rattle.std.proofs.lemmas.Bool.{cases_lt}
 use Rattle.std.proofs.lemmas.Result.{on_ok_weaker}
+use Rattle.model_base.specs.declared.limits.TheConstants.{START_LSN}
 use Rattle.model_device.specs.{Covers}
 use Rattle.model_device.specs.Disk.{Disk}
 use Rattle.model_log.specs.{block_of, place_in, round_of, sector_of}
@@ -37,7 +38,7 @@ piece-of layout ckpt start at count k may piece covers =
     let low : block_of start ≤ at = piece.from in
     let start_place : start % 512 ≡ 12 = may.place in
     let start_low : ckpt + 12 ≤ start = may.from in
-    let started : 8192 ≤ ckpt = may.started in
+    let started : START_LSN ≤ ckpt = may.started in
     let within : at + count ≤ ckpt + round_of layout = piece.within in
     let side : place + 512 * (count / 512) ≤ ring_end layout = omega (arith, piece.side_by_side) in
     let there : place_in layout (at + 512 * i) ≡ place + 512 * i = place-on layout at i (count / 512) at_aligned (omega arith) (omega arith) side in
@@ -61,7 +62,7 @@ piece-covers layout ckpt start at count b k may piece outside from below is =
     let low : block_of start ≤ at = piece.from in
     let start_place : start % 512 ≡ 12 = may.place in
     let start_low : ckpt + 12 ≤ start = may.from in
-    let started : 8192 ≤ ckpt = may.started in
+    let started : START_LSN ≤ ckpt = may.started in
     let i : ℕ = (b - at) / 512 in
     let b_is : at + 512 * i ≡ b = omega arith in
     let side : place + 512 * (count / 512) ≤ ring_end layout = omega (arith, piece.side_by_side) in

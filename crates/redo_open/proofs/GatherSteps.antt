@@ -11,7 +11,7 @@ use Rattle.redo_open.proofs.Gathers.{AreTopPages, added, fresh, gathered-added, 
 use Rattle.redo_open.proofs.Told.{cause-since}
 use Rattle.redo_open.proofs.Writings.{PageRead, live-ok, on-ok-both}
 use Rattle.redo_open.specs.Gather.{AreGathered, Gathered, GatherStep, IsGatheredTo}
-use Rattle.redo_open.specs.Rewrite.{AreTop, IsWrittenTo, WriteStep}
+use Rattle.redo_open.specs.Rewrite.{AreTop, IsWrittenTo, RewriteStep}
 use Rattle.redo_recover.specs.declared.places.Found.{Found}
 use Rattle.redo_store.specs.{PartKeeps, PartStep, PartStores}
 use Rattle.redo_store.specs.Part.{Part}
@@ -20,31 +20,31 @@ use Rattle.redo_store.specs.Part.{Part}
 pub wrote-step : {D : Type 0} (seen : D → Seen) (pages : List Content) (found : List Found) (count : ℕ) (old new : Part D) (batch after : Gathered) (pairs : List (ℕ × ℕ)) (users : List ℕ)
     (result : Result (Unit {0}) DevError) → pairs ≡ batch.pairs → users ≡ batch.users
     → old.failed ≡ None → AreGathered old.shape pages count batch → OnOk result (AreGathered old.shape pages count after)
-    → ((top was : ℕ → Content) → PartStores seen top was [] old → IsLater top (batch_of pairs users) → PartKeeps seen top was (batch_of pairs users) new)
-    → ((top was : ℕ → Content) → PartStores seen top was [] old → IsLater top (batch_of pairs users)
-    → OnOk result (PartStores seen (after_batch (batch_of pairs users) top) (after_batch (batch_of pairs users) was) [] new))
+    → ((top was : ℕ → Content) → PartStores seen top was [] old → IsLater top (batch_of old.shape pairs users) → PartKeeps seen top was (batch_of old.shape pairs users) new)
+    → ((top was : ℕ → Content) → PartStores seen top was [] old → IsLater top (batch_of old.shape pairs users)
+    → OnOk result (PartStores seen (after_batch (batch_of old.shape pairs users) top) (after_batch (batch_of old.shape pairs users) was) [] new))
     → PartStep seen old result new → GatherStep seen old.shape pages found count count old batch result new after
 wrote-step seen pages found count old new batch after pairs users result pairs_is users_is live gathered then keeps_given ok_given step =
-    let same : batch_of pairs users ≡ fresh batch = ap (λ (ps : List (ℕ × ℕ)). batch_of ps users) pairs_is ∙ ap (batch_of batch.pairs) users_is in
+    let same : batch_of old.shape pairs users ≡ fresh old.shape batch = ap (λ (ps : List (ℕ × ℕ)). batch_of old.shape ps users) pairs_is ∙ ap (batch_of old.shape batch.pairs) users_is in
     let keeps = subst (λ (new_pages : List Fresh). (top was : ℕ → Content) → PartStores seen top was [] old → IsLater top new_pages → PartKeeps seen top was new_pages new) same keeps_given in
     let ok = subst (λ (new_pages : List Fresh). (top was : ℕ → Content) → PartStores seen top was [] old → IsLater top new_pages
     → OnOk result (PartStores seen (after_batch new_pages top) (after_batch new_pages was) [] new)) same ok_given in
     let shape : Shape = old.shape in
     let told = (seen old.dev).tells in
     let now = (seen new.dev).tells in
-    let is_top : (top start : ℕ → Content) → AreTop pages found top start → AreTopPages top (fresh batch) = λ top start tops. gathered-top shape pages found top start count batch tops gathered in
+    let is_top : (top start : ℕ → Content) → AreTop pages found top start → AreTopPages top (fresh shape batch) = λ top start tops. gathered-top shape pages found top start count batch tops gathered in
     let stores : (top was : ℕ → Content) → IfSome told (Stored shape (IsUpTo top) was [] false) → PartStores seen top was [] old = λ top was known.
     subst (λ (b : Bool). IfSome told (Stored shape (IsUpTo top) was [] b)) (sym (ap is_some live)) known in
     record {
       keeps = λ top start tops w. gathered-keeps shape top start count batch told now (is_top top start tops) w
-          (subst (λ (s : Shape). IfSome now (Keeps s (IsUpTo top) w.was (fresh batch))) step.shape
-          (keeps top w.was (stores top w.was w.stored) (top-later top (fresh batch) (is_top top start tops))));
+          (subst (λ (s : Shape). IfSome now (Keeps s (IsUpTo top) w.was (fresh shape batch))) step.shape
+          (keeps top w.was (stores top w.was w.stored) (top-later top (fresh shape batch) (is_top top start tops))));
       ok = λ top start tops w. on-ok-both result
           (λ live_now known. gathered-done shape top start count batch after told now (is_top top start tops) w
-          (subst (λ (b : Bool). IfSome now (Stored shape (IsUpTo (after_batch (fresh batch) top)) (after_batch (fresh batch) w.was) [] b)) (ap is_some live_now)
-          (subst (λ (s : Shape). IfSome now (Stored s (IsUpTo (after_batch (fresh batch) top)) (after_batch (fresh batch) w.was) [] (is_some new.failed))) step.shape known)))
+          (subst (λ (b : Bool). IfSome now (Stored shape (IsUpTo (after_batch (fresh shape batch) top)) (after_batch (fresh shape batch) w.was) [] b)) (ap is_some live_now)
+          (subst (λ (s : Shape). IfSome now (Stored s (IsUpTo (after_batch (fresh shape batch) top)) (after_batch (fresh shape batch) w.was) [] (is_some new.failed))) step.shape known)))
           (live-ok result new.failed step.failed)
-          (ok top w.was (stores top w.was w.stored) (top-later top (fresh batch) (is_top top start tops)));
+          (ok top w.was (stores top w.was w.stored) (top-later top (fresh shape batch) (is_top top start tops)));
       gathered = then;
       live = live-ok result new.failed step.failed;
       shape_stays = step.shape;
@@ -82,7 +82,7 @@ failed-step seen shape pages found from to old new batch after error step = reco
 
 -- one more page is gathered
 pub added-step : {D : Type 0} (seen : D → Seen) (shape : Shape) (pages : List Content) (found : List Found) (page lsn : ℕ) (user : List ℕ) (old new : Part D) (batch after : Gathered)
-    → length after.pairs < shape.slots → PageRead pages page lsn user
+    → length after.pairs < shape.slots → PageRead shape pages page lsn user
     → GatherStep seen shape pages found page page old batch (Ok tt) new after → GatherStep seen shape pages found page (page + 1) old batch (Ok tt) new (added after page lsn user)
 added-step seen shape pages found page lsn user old new batch after room read step = record {
   keeps = step.keeps;
@@ -99,7 +99,7 @@ pub written-step : {D : Type 0} (seen : D → Seen) (shape : Shape) (pages : Lis
     → shape ≡ mid.shape → mid.shape ≡ old.shape → (seen mid.dev).size ≡ (seen old.dev).size → (seen old.dev).faults ≤ (seen mid.dev).faults
     → ((top start : ℕ → Content) → AreTop pages found top start → IsWrittenTo shape top start 0 (seen old.dev).tells → IsGatheredTo shape top start count batch (seen mid.dev).tells)
     → GatherStep seen mid.shape pages found count count mid batch result new after → OnOk result (length after.pairs ≡ 0)
-    → WriteStep seen shape pages found 0 count old result new
+    → RewriteStep seen shape pages found 0 count old result new
 written-step seen shape pages found count old mid new batch after result is stays size later told given emptied =
     let step : GatherStep seen shape pages found count count mid batch result new after = subst (λ (s : Shape). GatherStep seen s pages found count count mid batch result new after) (sym is) given in
     record {

@@ -1,13 +1,16 @@
 -- Pages that are gathered and written together.
-use Rattle.std.proofs.Common.{◌≡◌, ◌≢◌, ◌≤◌, ◌<◌, ◌+◌, ◌*◌, ◌^◌, ◌==◌, ◌⊎◌, ◌++◌, ℕ, zero, suc, inl, inr, true, false, cond, List, [], ◌∷◌, length, take, drop, Option, Some, refl, sym, ap, subst, ◌∙◌, ⊎_elim, eq-eqb, arith}
+use Rattle.std.proofs.Common.{◌≡◌, ◌≢◌, ◌≤◌, ◌<◌, ◌+◌, ◌*◌, ◌^◌, ◌==◌, ◌⊎◌, ◌++◌, ℕ, zero, suc, inl, inr, true, false, cond, List, [], ◌∷◌, length, take, drop, Option, Some, refl, sym, ap, subst, ◌∙◌, ⊎_elim, add-one, eq-eqb, arith}
 use Rattle.std.specs.Prelude.{IfSome}
 use Rattle.std.specs.List.{slice_get}
 use Rattle.std.proofs.lemmas.Bool.{cases_lt}
 use Rattle.std.proofs.lemmas.Bool.Decides.{nat_tests}
 use Rattle.std.proofs.lemmas.List.{drop-append-le, drop_at, length-append, length-drop, length_push, take-append-le, take_all}
 use Rattle.std.proofs.lemmas.Option.{slice_get_within}
+use Rattle.std.proofs.Math.Nat.{zero-mul}
+use Rattle.model_base.specs.{user_length}
 use Rattle.model_base.specs.declared.shape.Shape.{Shape}
-use Rattle.model_parts.proofs.Joined.{IsPairAt, batch-at, pair-at}
+use Rattle.model_parts.proofs.Joined.{IsPairAt, batch-at, nth_user, pair-at}
+use Rattle.model_parts.proofs.Rows.{one-more-row, row_ends}
 use Rattle.model_parts.specs.{after_batch, batch_of, Fresh, IsLater, IsNew, IsUpTo, IsWritable, Keeps}
 use Rattle.model_parts.specs.Stored.{Stored}
 use Rattle.model_device.specs.Disk.{Disk}
@@ -15,7 +18,7 @@ use Rattle.model_page.proofs.Kept.{same_content}
 use Rattle.model_page.specs.declared.content.Content.{Content}
 use Rattle.redo_disk.proofs.Told.{known-as}
 use Rattle.redo_open.proofs.Writings.{below-next}
-use Rattle.redo_open.specs.Gather.{AreGathered, Gathered, IsAmong, IsGatheredTo}
+use Rattle.redo_open.specs.Gather.{AreGathered, Gathered, IsBatchedPage, IsGatheredTo}
 use Rattle.redo_open.specs.Rewrite.{AreTop, IsWrittenTo, KeepsWritten}
 use Rattle.redo_recover.specs.declared.places.Found.{Found}
 
@@ -38,25 +41,25 @@ at-either (first ∷ xs) y (suc i) x at = ⊎_elim (λ here. inl here) (λ last.
 
 -- THE PAGES OF A BATCH.
 
-abbrev pub fresh : Gathered → List Fresh
-fresh batch = batch_of batch.pairs batch.users
+abbrev pub fresh : Shape → Gathered → List Fresh
+fresh shape batch = batch_of shape batch.pairs batch.users
 
 -- the batch with one more page
 abbrev pub added : Gathered → ℕ → ℕ → List ℕ → Gathered
-added batch page lsn user = record { pairs = batch.pairs ++ (page, lsn) ∷ []; users = batch.users ++ user }
+added batch page lsn user = record { shape = batch.shape; pairs = batch.pairs ++ (page, lsn) ∷ []; users = batch.users ++ user }
 
 -- what the batch has for a page is the page
 pub record AreTopPages (top : ℕ → Content) (batch : List Fresh) : Type 0 where
   pub each : (p : ℕ) (content : Content) → IsNew batch p content → content ≡ top p
 
 pub gathered-top : (shape : Shape) (pages : List Content) (found : List Found) (top start : ℕ → Content) (count : ℕ) (batch : Gathered) → AreTop pages found top start
-    → AreGathered shape pages count batch → AreTopPages top (fresh batch)
+    → AreGathered shape pages count batch → AreTopPages top (fresh shape batch)
 gathered-top shape pages found top start count batch tops gathered = record {
   each = λ p content new.
-      let one : IsPairAt batch.pairs batch.users new.i (record { page = p; content = content }) = pair-at batch.pairs batch.users new.i (record { page = p; content = content }) new.at in
+      let one : IsPairAt shape batch.pairs batch.users new.i (record { page = p; content = content }) = pair-at shape batch.pairs batch.users new.i (record { page = p; content = content }) new.at in
       let page : p ≡ one.pair.0 = ap (λ (f : Fresh). f.page) one.is in
-      let is : content ≡ record { lsn = one.pair.1; user = take 4050 (drop (new.i * 4050) batch.users) } = ap (λ (f : Fresh). f.content) one.is in
-      is ∙ sym (tops.each one.pair.0 (record { lsn = one.pair.1; user = take 4050 (drop (new.i * 4050) batch.users) }) (gathered.each new.i one.pair one.at)) ∙ ap top (sym page);
+      let is : content ≡ record { lsn = one.pair.1; user = nth_user shape new.i batch.users } = ap (λ (f : Fresh). f.content) one.is in
+      is ∙ sym (tops.each one.pair.0 (record { lsn = one.pair.1; user = nth_user shape new.i batch.users }) (gathered.each new.i one.pair one.at)) ∙ ap top (sym page);
 }
 
 pub top-later : (top : ℕ → Content) (batch : List Fresh) → AreTopPages top batch → IsLater top batch
@@ -97,8 +100,8 @@ after-same batch top are =
     let each : (p : ℕ) → after_batch batch top p ≡ top p = λ p. ⊎_elim (λ is. is) (λ none. none.0) (after-which batch top top p are) in
     λ i p. each p i
 
-among-new : (batch : Gathered) (p : ℕ) (among : IsAmong batch p) → IsNew (fresh batch) p (record { lsn = among.lsn; user = take 4050 (drop (among.i * 4050) batch.users) })
-among-new batch p among = record { i = among.i; at = batch-at batch.pairs batch.users among.i (p, among.lsn) among.at }
+among-new : (shape : Shape) (batch : Gathered) (p : ℕ) (among : IsBatchedPage batch p) → IsNew (fresh shape batch) p (record { lsn = among.lsn; user = nth_user shape among.i batch.users })
+among-new shape batch p among = record { i = among.i; at = batch-at shape batch.pairs batch.users among.i (p, among.lsn) among.at }
 
 -- A BATCH THAT IS WRITTEN.
 
@@ -110,35 +113,35 @@ gathered-writable shape pages count batch gathered within small = record {
   count = gathered.joined;
   below = λ i pair at. within pair.0 (gathered.below i pair at);
   small_lsn = λ i pair at. (
-      let low : pair.1 < 2 ^ 61 = small pair.0 (record { lsn = pair.1; user = take 4050 (drop (i * 4050) batch.users) }) (gathered.each i pair at) in omega arith);
+      let low : pair.1 < 2 ^ 61 = small pair.0 (record { lsn = pair.1; user = nth_user shape i batch.users }) (gathered.each i pair at) in omega arith);
   different = gathered.different;
 }
 
-pub gathered-keeps : (shape : Shape) (top start : ℕ → Content) (count : ℕ) (batch : Gathered) (told now : Option Disk) → AreTopPages top (fresh batch)
-    → (w : IsGatheredTo shape top start count batch told) → IfSome now (Keeps shape (IsUpTo top) w.was (fresh batch)) → KeepsWritten shape top start now
+pub gathered-keeps : (shape : Shape) (top start : ℕ → Content) (count : ℕ) (batch : Gathered) (told now : Option Disk) → AreTopPages top (fresh shape batch)
+    → (w : IsGatheredTo shape top start count batch told) → IfSome now (Keeps shape (IsUpTo top) w.was (fresh shape batch)) → KeepsWritten shape top start now
 gathered-keeps shape top start count batch told now are w keeps = record {
   was = w.was;
-  batch = fresh batch;
+  batch = fresh shape batch;
   keeps = keeps;
   before = w.before;
   as_top = are.each;
 }
 
-pub gathered-done : (shape : Shape) (top start : ℕ → Content) (count : ℕ) (batch after : Gathered) (told now : Option Disk) → AreTopPages top (fresh batch)
+pub gathered-done : (shape : Shape) (top start : ℕ → Content) (count : ℕ) (batch after : Gathered) (told now : Option Disk) → AreTopPages top (fresh shape batch)
     → (w : IsGatheredTo shape top start count batch told)
-    → IfSome now (Stored shape (IsUpTo (after_batch (fresh batch) top)) (after_batch (fresh batch) w.was) [] false)
+    → IfSome now (Stored shape (IsUpTo (after_batch (fresh shape batch) top)) (after_batch (fresh shape batch) w.was) [] false)
     → IsGatheredTo shape top start count after now
 gathered-done shape top start count batch after told now are w done =
-    let next : ℕ → Content = after_batch (fresh batch) w.was in
+    let next : ℕ → Content = after_batch (fresh shape batch) w.was in
     record {
       was = next;
-      stored = subst (λ (t : ℕ → Content). IfSome now (Stored shape (IsUpTo t) next [] false)) (after-same (fresh batch) top are) done;
+      stored = subst (λ (t : ℕ → Content). IfSome now (Stored shape (IsUpTo t) next [] false)) (after-same (fresh shape batch) top are) done;
       before = λ p. ⊎_elim (λ is. inr is)
-          (λ old. ⊎_elim (λ start_is. inl (old.0 ∙ start_is)) (λ top_is. inr (old.0 ∙ top_is)) (w.before p)) (after-which (fresh batch) w.was top p are);
+          (λ old. ⊎_elim (λ start_is. inl (old.0 ∙ start_is)) (λ top_is. inr (old.0 ∙ top_is)) (w.before p)) (after-which (fresh shape batch) w.was top p are);
       done = λ p below. inl (⊎_elim (λ is. is)
           (λ old. ⊎_elim (λ top_is. old.0 ∙ top_is)
-          (λ among. absurd (old.1 (record { lsn = among.lsn; user = take 4050 (drop (among.i * 4050) batch.users) }) (among-new batch p among))) (w.done p below))
-          (after-which (fresh batch) w.was top p are));
+          (λ among. absurd (old.1 (record { lsn = among.lsn; user = nth_user shape among.i batch.users }) (among-new shape batch p among))) (w.done p below))
+          (after-which (fresh shape batch) w.was top p are));
     }
 
 -- NOTHING WRITTEN.
@@ -171,7 +174,7 @@ gathered-added shape top start page lsn user batch told w = record {
   was = w.was;
   stored = w.stored;
   before = w.before;
-  done = below-next (λ p. (w.was p ≡ top p) ⊎ IsAmong (added batch page lsn user) p) page
+  done = below-next (λ p. (w.was p ≡ top p) ⊎ IsBatchedPage (added batch page lsn user) p) page
       (λ p below. ⊎_elim (λ is. inl is)
       (λ among. inr (record { i = among.i; lsn = among.lsn; at = at-front batch.pairs ((page, lsn) ∷ []) among.i (p, among.lsn) among.at })) (w.done p below))
       (inr (record { i = length batch.pairs; lsn = lsn; at = at-end batch.pairs (page, lsn) }));
@@ -180,6 +183,7 @@ gathered-added shape top start page lsn user batch told w = record {
 pub gathered-more : (shape : Shape) (pages : List Content) (count : ℕ) (batch : Gathered) → AreGathered shape pages count batch
     → AreGathered shape pages (count + 1) batch
 gathered-more shape pages count batch gathered = record {
+  of_store = gathered.of_store;
   few = gathered.few;
   joined = gathered.joined;
   below = λ i pair at. omega (arith, gathered.below i pair at);
@@ -187,42 +191,48 @@ gathered-more shape pages count batch gathered = record {
   different = gathered.different;
 }
 
-pub gathered-none : (shape : Shape) (pages : List Content) (count : ℕ) → AreGathered shape pages count (record { pairs = []; users = [] })
-gathered-none shape pages count = record {
+pub gathered-none : (shape own : Shape) (pages : List Content) (count : ℕ) → own ≡ shape
+    → AreGathered shape pages count (record { shape = own; pairs = []; users = [] })
+gathered-none shape own pages count is = record {
+  of_store = is;
   few = omega arith;
-  joined = refl;
+  joined = sym (zero-mul (user_length shape));
   below = λ i pair at. absurd cc;
   each = λ i pair at. absurd cc;
   different = λ i j pair other at there same. absurd cc;
 }
 
-user-front : (i : ℕ) (users user : List ℕ) → (i + 1) * 4050 ≤ length users → take 4050 (drop (i * 4050) (users ++ user)) ≡ take 4050 (drop (i * 4050) users)
-user-front i users user within =
-    ap (take 4050) (drop-append-le (i * 4050) users user (omega arith))
-    ∙ take-append-le 4050 (drop (i * 4050) users) user (omega (arith, length-drop (i * 4050) users))
+user-front : (n i : ℕ) (users user : List ℕ) → i * n + n ≤ length users → take n (drop (i * n) (users ++ user)) ≡ take n (drop (i * n) users)
+user-front n i users user within =
+    ap (take n) (drop-append-le (i * n) users user (omega arith))
+    ∙ take-append-le n (drop (i * n) users) user (omega (arith, length-drop (i * n) users))
 
-user-end : (i : ℕ) (users user : List ℕ) → length users ≡ i * 4050 → length user ≡ 4050 → take 4050 (drop (i * 4050) (users ++ user)) ≡ user
-user-end i users user at long = ap (take 4050) (drop_at users user (i * 4050) at) ∙ take_all 4050 user (omega arith)
+user-end : (n i : ℕ) (users user : List ℕ) → length users ≡ i * n → length user ≡ n → take n (drop (i * n) (users ++ user)) ≡ user
+user-end n i users user at long = ap (take n) (drop_at users user (i * n) at) ∙ take_all n user (omega arith)
 
 pub gathered-with : (shape : Shape) (pages : List Content) (page lsn : ℕ) (user : List ℕ) (content : Content) (batch : Gathered)
     → AreGathered shape pages page batch
-    → length batch.pairs < shape.slots → slice_get pages page ≡ Some content → lsn ≡ content.lsn → user ≡ content.user → length user ≡ 4050
+    → length batch.pairs < shape.slots → slice_get pages page ≡ Some content → lsn ≡ content.lsn → user ≡ content.user → length user ≡ user_length shape
     → AreGathered shape pages (page + 1) (added batch page lsn user)
 gathered-with shape pages page lsn user content batch gathered room read same_lsn same_user long =
     let one : ℕ × ℕ = (page, lsn) in
-    let counted : length (batch.pairs ++ one ∷ []) ≡ length batch.pairs + 1 = length_push batch.pairs one in
+    let n : ℕ = user_length shape in
+    let counted : length (batch.pairs ++ one ∷ []) ≡ suc (length batch.pairs) = length_push batch.pairs one ∙ add-one (length batch.pairs) in
+    let joined : length (batch.users ++ user) ≡ suc (length batch.pairs) * n =
+    length-append batch.users user ∙ omega (arith, gathered.joined, long, one-more-row (length batch.pairs) n) in
     record {
+      of_store = gathered.of_store;
       few = omega arith;
-      joined = omega (arith, length-append batch.users user, gathered.joined);
+      joined = joined ∙ ap (λ (k : ℕ). k * n) (sym counted);
       below = λ i pair at. ⊎_elim (λ old. omega (arith, gathered.below i pair old)) (λ last. omega (arith, ap (λ (x : ℕ × ℕ). x.0) last.1)) (at-either batch.pairs one i pair at);
       each = λ i pair at. ⊎_elim
           (λ old. (let within = slice_get_within batch.pairs i pair old in
-          gathered.each i pair old ∙ ap (λ (u : List ℕ). Some (record { lsn = pair.1; user = u })) (sym (user-front i batch.users user (omega (arith, gathered.joined))))))
+          gathered.each i pair old ∙ ap (λ (u : List ℕ). Some (record { lsn = pair.1; user = u })) (sym (user-front n i batch.users user (omega (arith, gathered.joined, row_ends i (length batch.pairs) n within))))))
           (λ last. (
           let is : content ≡ record { lsn = lsn; user = user } = same_content content (record { lsn = lsn; user = user }) (sym same_lsn) (sym same_user) in
-          let there : slice_get pages page ≡ Some (record { lsn = lsn; user = take 4050 (drop (i * 4050) (batch.users ++ user)) }) =
-          read ∙ ap Some is ∙ ap (λ (u : List ℕ). Some (record { lsn = lsn; user = u })) (sym (user-end i batch.users user (omega (arith, gathered.joined, last.0)) long)) in
-          subst (λ (x : ℕ × ℕ). slice_get pages x.0 ≡ Some (record { lsn = x.1; user = take 4050 (drop (i * 4050) (batch.users ++ user)) })) last.1 there))
+          let there : slice_get pages page ≡ Some (record { lsn = lsn; user = nth_user shape i (batch.users ++ user) }) =
+          read ∙ ap Some is ∙ ap (λ (u : List ℕ). Some (record { lsn = lsn; user = u })) (sym (user-end n i batch.users user (gathered.joined ∙ ap (λ (k : ℕ). k * n) (sym last.0)) long)) in
+          subst (λ (x : ℕ × ℕ). slice_get pages x.0 ≡ Some (record { lsn = x.1; user = nth_user shape i (batch.users ++ user) })) last.1 there))
           (at-either batch.pairs one i pair at);
       different = λ i j pair other at there same. ⊎_elim
           (λ old. ⊎_elim (λ other_old. gathered.different i j pair other old other_old same)
@@ -241,5 +251,5 @@ same-gathered shape pages found top start page one content batch told tops there
       was = w.was;
       stored = w.stored;
       before = w.before;
-      done = below-next (λ p. (w.was p ≡ top p) ⊎ IsAmong batch p) page w.done (inl (⊎_elim (λ old. old ∙ same) (λ new. new) (w.before page)));
+      done = below-next (λ p. (w.was p ≡ top p) ⊎ IsBatchedPage batch p) page w.done (inl (⊎_elim (λ old. old ∙ same) (λ new. new) (w.before page)));
     }

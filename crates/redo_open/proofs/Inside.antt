@@ -17,7 +17,7 @@ use Rattle.redo_open.proofs.Puts.{puts-append}
 use Rattle.redo_open.proofs.Rows.{length-zeros}
 use Rattle.redo_logdev.specs.Part.{Part as Log}
 use Rattle.redo_open.specs.Formatting.{WritesInside}
-use Rattle.redo_open.specs.Opening.{Answer, IsOpenedAs, IsStarted, OpensInside, ReadsThenWrites, log_left, data_left}
+use Rattle.redo_open.specs.Opening.{OpenResult, IsOpenedAs, IsStarted, OpensInside, ReadsThenWrites, log_device_left, data_device_left}
 use Rattle.redo_open.specs.Puts.{ArePuts, PutsWhere}
 use Rattle.redo_recover.specs.{OnContents, ReadsLog}
 use Rattle.redo_recover.specs.declared.fault.RecFault.{RecFault}
@@ -51,9 +51,9 @@ ends_of = weaker_calls (λ calls are. are.ends)
 
 -- a run that was started makes no call
 pub started_inside : {L D : Type 0} {log_gives : L → Call → L → Type 0} {data_gives : D → Call → D → Type 0} {shape : Shape} {log_old : L} {data_old : D} (log : L) (store : Part D)
-    (recovered : Recovered) (start : ℕ) (result : Answer L D) → IsStarted log store recovered start result
+    (recovered : Recovered) (start : ℕ) (result : OpenResult L D) → IsStarted log store recovered start result
     → WritesInside log_gives data_gives shape log_old log data_old store.dev
-    → WritesInside log_gives data_gives shape log_old (log_left result) data_old (data_left result)
+    → WritesInside log_gives data_gives shape log_old (log_device_left result) data_old (data_device_left result)
 started_inside {log_gives = log_gives} {data_gives = data_gives} {shape = shape} {log_old = log_old} {data_old = data_old} log store recovered start (Ok run) is made =
     subst (λ dev. WritesInside log_gives data_gives shape log_old dev data_old run.store.dev) (sym (ap (λ (part : Log _). part.dev) is.log_part))
     (subst (λ dev. WritesInside log_gives data_gives shape log_old log data_old dev) (sym (ap (λ (part : Part _). part.dev) is.data_part)) made)
@@ -94,8 +94,8 @@ unopened-inside log_gives data_gives log_told data_told log data_device error in
   opened = tt;
 }
 
-opened-inside : {L D : Type 0} (log_gives : L → Call → L → Type 0) (data_gives : D → Call → D → Type 0) (log : L) (data_device : D) (result : Answer L D) (read : Reading)
-    → IfOk result (IsOpenedAs read) → ReadsThenWrites log_gives data_gives read.shape log (log_left result) data_device (data_left result)
+opened-inside : {L D : Type 0} (log_gives : L → Call → L → Type 0) (data_gives : D → Call → D → Type 0) (log : L) (data_device : D) (result : OpenResult L D) (read : Reading)
+    → IfOk result (IsOpenedAs read) → ReadsThenWrites log_gives data_gives read.shape log (log_device_left result) data_device (data_device_left result)
     → IfOk result (λ store. ReadsThenWrites log_gives data_gives store.shape log store.log.dev data_device store.store.dev)
 opened-inside log_gives data_gives log data_device (Ok store) read opened inside =
     subst (λ shape. ReadsThenWrites log_gives data_gives shape log store.log.dev data_device store.store.dev) (sym opened.shape) inside
@@ -103,10 +103,10 @@ opened-inside log_gives data_gives log data_device (Err error) read opened insid
 
 -- the store was read, and what was written then lies inside by the shape that was read
 pub read-inside : {L D : Type 0} (log_gives : L → Call → L → Type 0) (data_gives : D → Call → D → Type 0) (log_told data_told : Option Disk) (log : L) (data_device : D)
-    (result : Answer L D) (read : Reading) → OnContents log_told data_told (λ log_bytes data_bytes. IsReading log_bytes data_bytes read) → IfOk result (IsOpenedAs read)
-    → ReadsThenWrites log_gives data_gives read.shape log (log_left result) data_device (data_left result)
+    (result : OpenResult L D) (read : Reading) → OnContents log_told data_told (λ log_bytes data_bytes. IsReading log_bytes data_bytes read) → IfOk result (IsOpenedAs read)
+    → ReadsThenWrites log_gives data_gives read.shape log (log_device_left result) data_device (data_device_left result)
     → OpensInside log_gives data_gives log_told data_told log data_device result
 read-inside log_gives data_gives log_told data_told log data_device result read reads opened inside = record {
-  read = λ reading. as-read log_told data_told reading read (λ shape. ReadsThenWrites log_gives data_gives shape log (log_left result) data_device (data_left result)) reads inside;
+  read = λ reading. as-read log_told data_told reading read (λ shape. ReadsThenWrites log_gives data_gives shape log (log_device_left result) data_device (data_device_left result)) reads inside;
   opened = opened-inside log_gives data_gives log data_device result read opened inside;
 }

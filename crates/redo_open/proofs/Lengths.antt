@@ -3,6 +3,7 @@ use Rattle.std.proofs.Common.{◌≡◌, ◌≤◌, ◌<◌, ◌+◌, ℕ, List,
 use Rattle.std.specs.Int.{bytes_high_first}
 use Rattle.model_base.specs.{padded_to}
 use Rattle.model_base.specs.declared.shape.Shape.{Shape}
+use Rattle.model_base.specs.declared.limits.TheConstants.{START_LSN}
 use Rattle.model_device.specs.{IsWithin}
 use Rattle.model_log.specs.{checkpoint_text, head_text, log_device_length, place_in, place_of}
 use Rattle.model_log.specs.declared.head.Format.{Format}
@@ -23,7 +24,7 @@ length-checkpoint number lsn layout =
 pub length-head : (format : Format) (shape : Shape) → length (head_text format shape) ≡ 512
 unfolding head_text
 length-head format shape =
-    let fields : List ℕ = bytes_high_first 4 (format_number format) ++ bytes_high_first 4 0 ++ bytes_high_first 8 8192 ++ creator
+    let fields : List ℕ = bytes_high_first 4 (format_number format) ++ bytes_high_first 4 0 ++ bytes_high_first 8 START_LSN ++ creator
     ++ bytes_high_first 4 shape.page_size ++ bytes_high_first 4 shape.pages ++ bytes_high_first 4 shape.space
     ++ bytes_high_first 4 shape.log_blocks ++ bytes_high_first 4 shape.slots in
     length-sealed (padded_to 508 fields) ∙ ap (λ n. n + 4) (length-padded fields (omega arith))

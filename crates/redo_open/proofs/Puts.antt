@@ -2,15 +2,15 @@
 use Rattle.std.proofs.Common.{◌++◌, List, [], ◌∷◌, map, Option, None, refl, subst}
 use Rattle.std.specs.List.{AllByRecursion}
 use Rattle.model_device.specs.declared.write.Write.{Write}
-use Rattle.redo_disk.specs.{answer_of, Call, error_of, MakesCall, MakesCalls, put_requests, Reads, Request, Serve, Syncs, ToRead, ToSync, ToWrite, Writes}
+use Rattle.redo_disk.specs.{Call, device_answer, error_of, MakesCall, MakesCalls, put_requests, Reads, Request, Serve, Syncs, ToRead, ToSync, ToWrite, Writes}
 use Rattle.redo_disk.specs.Calls.{request_of}
 use Rattle.redo_disk.specs.declared.error.DevError.{DevError}
 use Rattle.redo_disk.proofs.Calls.{EndWith-append}
 use Rattle.redo_disk.proofs.Made.{EndWith-one, joined_calls, no_calls, one_call, weaker_calls}
-use Rattle.redo_open.specs.Puts.{IsPut, PutsWhere}
+use Rattle.redo_open.specs.Puts.{IsWriteOrSync, PutsWhere}
 
-pub puts-append : (IsSuch : Write → Type 0) (xs ys : List Call) → AllByRecursion (IsPut IsSuch) xs → AllByRecursion (IsPut IsSuch) ys
-    → AllByRecursion (IsPut IsSuch) (xs ++ ys)
+pub puts-append : (IsSuch : Write → Type 0) (xs ys : List Call) → AllByRecursion (IsWriteOrSync IsSuch) xs → AllByRecursion (IsWriteOrSync IsSuch) ys
+    → AllByRecursion (IsWriteOrSync IsSuch) (xs ++ ys)
 puts-append IsSuch [] ys front back = back
 puts-append IsSuch (call ∷ xs) ys front back = (front.0, puts-append IsSuch xs ys front.1 back)
 
@@ -19,10 +19,10 @@ pub put_nothing : {D : Type 0} {IsSuch : Write → Type 0} (gives : D → Call �
 put_nothing {IsSuch = IsSuch} gives dev = no_calls gives dev (PutsWhere IsSuch None) (record { puts = tt; ends = record { stop = tt; first = refl } })
 
 -- one call
-pub put_one : {D : Type 0} {gives : D → Call → D → Type 0} {old new : D} {IsSuch : Write → Type 0} {call : Call} → IsPut IsSuch call → MakesCall gives old call new
-    → MakesCalls gives old new (PutsWhere IsSuch (error_of (answer_of call)))
+pub put_one : {D : Type 0} {gives : D → Call → D → Type 0} {old new : D} {IsSuch : Write → Type 0} {call : Call} → IsWriteOrSync IsSuch call → MakesCall gives old call new
+    → MakesCalls gives old new (PutsWhere IsSuch (error_of (device_answer call)))
 put_one {IsSuch = IsSuch} {call = call} is given =
-    one_call {call = call} (PutsWhere IsSuch (error_of (answer_of call))) (record { puts = (is, tt); ends = EndWith-one call }) given
+    one_call {call = call} (PutsWhere IsSuch (error_of (device_answer call))) (record { puts = (is, tt); ends = EndWith-one call }) given
 
 -- calls, and others after them
 pub puts_then : {D : Type 0} {gives : D → Call → D → Type 0} {old middle new : D} {IsSuch : Write → Type 0} {error : Option DevError}
@@ -33,8 +33,8 @@ puts_then {IsSuch = IsSuch} {error = error} = joined_calls (λ xs ys front back.
 })
 
 -- such writes are others too
-pub put-weaker : (One Both : Write → Type 0) → ((write : Write) → One write → Both write) → (calls : List Call) → AllByRecursion (IsPut One) calls
-    → AllByRecursion (IsPut Both) calls
+pub put-weaker : (One Both : Write → Type 0) → ((write : Write) → One write → Both write) → (calls : List Call) → AllByRecursion (IsWriteOrSync One) calls
+    → AllByRecursion (IsWriteOrSync Both) calls
 put-weaker One Both weaker [] are = tt
 put-weaker One Both weaker (Reads at before answer after ∷ calls) are = absurd are.0
 put-weaker One Both weaker (Writes write answer ∷ calls) are = (weaker write are.0, put-weaker One Both weaker calls are.1)
@@ -52,7 +52,7 @@ IsToPut IsSuch (ToWrite write) = IsSuch write
 IsToPut IsSuch ToSync = Unit {0}
 
 asked-puts : (IsSuch : Write → Type 0) (calls : List Call) (rest : List Request) → AllByRecursion (IsToPut IsSuch) (map request_of calls ++ rest)
-    → AllByRecursion (IsPut IsSuch) calls
+    → AllByRecursion (IsWriteOrSync IsSuch) calls
 asked-puts IsSuch [] rest are = tt
 asked-puts IsSuch (Reads at before answer after ∷ calls) rest are = absurd are.0
 asked-puts IsSuch (Writes write answer ∷ calls) rest are = (are.0, asked-puts IsSuch calls rest are.1)

@@ -3,6 +3,7 @@ use Rattle.std.proofs.Common.{◌≡◌, ◌≤◌, ◌<◌, ◌+◌, ◌%◌, �
 use Rattle.std.proofs.lemmas.Bool.{cases_lt}
 use Rattle.model_base.specs.{IsWithinLimits}
 use Rattle.model_base.specs.declared.shape.Shape.{Shape}
+use Rattle.model_base.specs.declared.limits.TheConstants.{START_LSN}
 use Rattle.model_device.specs.{settled}
 use Rattle.model_device.specs.Disk.{Disk}
 use Rattle.model_log.specs.{IsAtDataStart, layout_of, round_of, start_after}
@@ -22,8 +23,8 @@ use Rattle.redo_apply.specs.{ArePagesOf}
 use Rattle.redo_disk.specs.Seen.{Seen}
 use Rattle.redo_logdev.specs.Part.{Part as Log}
 use Rattle.redo_open.specs.Clear.{MayStart}
-use Rattle.redo_open.specs.Devices.{DevicesStep, IsFrom, IsOpenFault, IsSameDevice, OpensFrom, WhereBothTell}
-use Rattle.redo_open.specs.Opening.{Answer, IsOpenedAs, IsRunOn, IsStarted, OpensRecovered}
+use Rattle.redo_open.specs.Devices.{DevicesStep, IsFrom, IsOpenFault, OpensFrom, WhereBothTell}
+use Rattle.redo_open.specs.Opening.{IsOpenedAs, IsRunOn, IsStarted, OpenResult, OpensRecovered}
 use Rattle.redo_store.specs.{IsRunnable}
 use Rattle.redo_store.specs.declared.opened.Opened.{Opened}
 use Rattle.redo_open.proofs.Both.{both}
@@ -36,7 +37,7 @@ use Rattle.redo_store.specs.Part.{Part}
 
 -- WHERE THE RUN STARTS.
 
-pub may-start : (format : Format) (shape : Shape) (ckpt : ℕ) (wholes : List Whole) (end : ℕ) → IsWithinLimits shape → ckpt % 512 ≡ 0 → 8192 ≤ ckpt → ckpt < 2 ^ 60
+pub may-start : (format : Format) (shape : Shape) (ckpt : ℕ) (wholes : List Whole) (end : ℕ) → IsWithinLimits shape → ckpt % 512 ≡ 0 → START_LSN ≤ ckpt → ckpt < 2 ^ 60
     → IsEndOf (layout_of format shape) ckpt wholes end → MayStart (layout_of format shape) ckpt (start_after end)
 may-start format shape ckpt wholes end limits aligned started small is =
     let starts : StartsBehind end = starts-behind end is.place in
@@ -76,13 +77,13 @@ rests-both opened tail log_old data_old log_bytes data_bytes from =
 pub recovered-none : {L D : Type 0} (log_seen : L → Seen) (data_seen : D → Seen) (opened : Reading) (tail : Option Tail) (log : L) (data_device : D)
     → OpensRecovered log_seen data_seen opened tail (log_seen log) (data_seen data_device) (Err (NoMemory, log, data_device))
 recovered-none log_seen data_seen opened tail log data_device = record {
-  keeps = λ log_bytes data_bytes from. rests-both opened tail (log_seen log) (data_seen data_device) log_bytes data_bytes from;
-  unmoved = λ log_bytes data_bytes from other. absurd (other refl);
-  ready = λ log_bytes data_bytes from. tt;
+  safely = λ log_bytes data_bytes from. record {
+    keeps = rests-both opened tail (log_seen log) (data_seen data_device) log_bytes data_bytes from;
+    unmoved = λ other. absurd (other refl);
+    ready = tt;
+  };
   opened_as = tt;
   runnable = tt;
-  log = record { size = refl; later = omega arith };
-  data_device = record { size = refl; later = omega arith };
   fault = tt;
   log_failed = λ is. absurd cc;
   data_failed = λ is. absurd cc;
@@ -93,13 +94,13 @@ pub recovered-failed : {L D : Type 0} (log_seen : L → Seen) (data_seen : D →
     → DevicesStep opened tail log_old data_old (Err fault) (log_seen log) (data_seen data_device)
     → OpensRecovered log_seen data_seen opened tail log_old data_old (Err (fault, log, data_device))
 recovered-failed log_seen data_seen opened tail log_old data_old fault log data_device step = record {
-  keeps = step.keeps;
-  unmoved = λ log_bytes data_bytes from other. step.unmoved log_bytes data_bytes from;
-  ready = λ log_bytes data_bytes from. tt;
+  safely = λ log_bytes data_bytes from. record {
+    keeps = step.keeps log_bytes data_bytes from;
+    unmoved = λ other. step.unmoved log_bytes data_bytes from;
+    ready = tt;
+  };
   opened_as = tt;
   runnable = tt;
-  log = step.log;
-  data_device = step.data_device;
   fault = step.fault;
   log_failed = λ is. step.log_failed (ap (λ (f : RecFault). Err f) is);
   data_failed = λ is. step.data_failed (ap (λ (f : RecFault). Err f) is);
@@ -155,7 +156,7 @@ number-left opened less = let few : numbers_taken opened.format ≤ 2 = few-take
     few-taken Two = omega arith
 
 pub recovered-started : {L D : Type 0} (log_seen : L → Seen) (data_seen : D → Seen) (recovered : Recovered) (start : ℕ) (log_old data_old : Seen) (log : L) (store : Part D)
-    (result : Answer L D) → IsStartable recovered store start → DevicesStep (reading_of recovered) recovered.tail log_old data_old (Ok tt) (log_seen log) (data_seen store.dev)
+    (result : OpenResult L D) → IsStartable recovered store start → DevicesStep (reading_of recovered) recovered.tail log_old data_old (Ok tt) (log_seen log) (data_seen store.dev)
     → IsStarted log store recovered start result → OpensRecovered log_seen data_seen (reading_of recovered) recovered.tail log_old data_old result
 recovered-started log_seen data_seen recovered start log_old data_old log store (Ok run) facts step is =
     let opened : Reading = reading_of recovered in
@@ -164,23 +165,22 @@ recovered-started log_seen data_seen recovered start log_old data_old log store 
     let log_same : log_seen run.log.dev ≡ log_seen log = ap log_seen log_is in
     let data_same : data_seen run.store.dev ≡ data_seen store.dev = ap data_seen data_is in
     record {
-      keeps = λ log_bytes data_bytes from.
-          subst (λ (s : Seen). WhereBothTell s.tells (data_seen run.store.dev).tells (KeepsOpened opened)) (sym log_same)
-          (subst (λ (s : Seen). WhereBothTell (log_seen log).tells s.tells (KeepsOpened opened)) (sym data_same)
-          (step.keeps log_bytes data_bytes from));
-      unmoved = λ log_bytes data_bytes from. tt;
-      ready = λ log_bytes data_bytes from. record {
-        opened = run-opened log store recovered start run facts is;
-        number = ap (λ (part : Log _). part.marks.number) is.log_part ∙ number-left (reading_of recovered) from.orderly.numbers_left;
-        small = omega (arith, is.start_is, facts.may.up_to, facts.may.is_layout.few_blocks, from.orderly.lsns_left);
-        ready = subst (λ (s : Seen). WhereBothTell s.tells (data_seen run.store.dev).tells (IsReady opened)) (sym log_same)
-            (subst (λ (s : Seen). WhereBothTell (log_seen log).tells s.tells (IsReady opened)) (sym data_same)
-            (step.ok log_bytes data_bytes from));
+      safely = λ log_bytes data_bytes from. record {
+        keeps = subst (λ (s : Seen). WhereBothTell s.tells (data_seen run.store.dev).tells (KeepsOpened opened)) (sym log_same)
+            (subst (λ (s : Seen). WhereBothTell (log_seen log).tells s.tells (KeepsOpened opened)) (sym data_same)
+            (step.keeps log_bytes data_bytes from));
+        unmoved = tt;
+        ready = record {
+          opened = run-opened log store recovered start run facts is;
+          number = ap (λ (part : Log _). part.marks.number) is.log_part ∙ number-left (reading_of recovered) from.orderly.numbers_left;
+          small = omega (arith, is.start_is, facts.may.up_to, facts.may.is_layout.few_blocks, from.orderly.lsns_left);
+          ready = subst (λ (s : Seen). WhereBothTell s.tells (data_seen run.store.dev).tells (IsReady opened)) (sym log_same)
+              (subst (λ (s : Seen). WhereBothTell (log_seen log).tells s.tells (IsReady opened)) (sym data_same)
+              (step.ok log_bytes data_bytes from));
+        };
       };
       opened_as = run-opened log store recovered start run facts is;
       runnable = run-runnable log store recovered start run facts is;
-      log = subst (IsSameDevice log_old) (sym log_same) step.log;
-      data_device = subst (IsSameDevice data_old) (sym data_same) step.data_device;
       fault = tt;
       log_failed = tt;
       data_failed = tt;
@@ -190,16 +190,15 @@ recovered-started log_seen data_seen recovered start log_old data_old log store 
     let log_same : log_seen error.1 ≡ log_seen log = ap log_seen log_is in
     let data_same : data_seen error.2 ≡ data_seen store.dev = ap data_seen data_is in
     record {
-      keeps = λ log_bytes data_bytes from.
-          subst (λ (s : Seen). WhereBothTell s.tells (data_seen error.2).tells (KeepsOpened opened)) (sym log_same)
-          (subst (λ (s : Seen). WhereBothTell (log_seen log).tells s.tells (KeepsOpened opened)) (sym data_same)
-          (step.keeps log_bytes data_bytes from));
-      unmoved = λ log_bytes data_bytes from other. absurd (other none);
-      ready = λ log_bytes data_bytes from. tt;
+      safely = λ log_bytes data_bytes from. record {
+        keeps = subst (λ (s : Seen). WhereBothTell s.tells (data_seen error.2).tells (KeepsOpened opened)) (sym log_same)
+            (subst (λ (s : Seen). WhereBothTell (log_seen log).tells s.tells (KeepsOpened opened)) (sym data_same)
+            (step.keeps log_bytes data_bytes from));
+        unmoved = λ other. absurd (other none);
+        ready = tt;
+      };
       opened_as = tt;
       runnable = tt;
-      log = subst (IsSameDevice log_old) (sym log_same) step.log;
-      data_device = subst (IsSameDevice data_old) (sym data_same) step.data_device;
       fault = subst IsOpenFault (sym none) tt;
       log_failed = λ is. absurd cc;
       data_failed = λ is. absurd cc;

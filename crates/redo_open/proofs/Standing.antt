@@ -6,6 +6,7 @@ use Rattle.std.proofs.lemmas.Option.{slice_get_within}
 use Rattle.model_base.specs.declared.shape.Shape.{Shape}
 use Rattle.model_parts.proofs.Kept.{same-place_lsn}
 use Rattle.model_parts.proofs.Repairs.{same-best}
+use Rattle.model_parts.proofs.Rows.{row_ends}
 use Rattle.model_parts.specs.{SameSlots}
 use Rattle.model_device.specs.Disk.{Disk}
 use Rattle.model_page.specs.{IsBestCopy, place_bytes, place_lsn, slot_bytes}
@@ -54,19 +55,20 @@ stands-in_place shape places page found disk stand at no_slot none =
     let both : Some found.lsn ≡ None = sym is ∙ none in cc
 
 -- or this is the copy that is to be put there
-pub stands-in_slot : (shape : Shape) (places : Places) (page slot : ℕ) (found : Found) (disk : Disk) → shape.page_size ≡ 4096 → IsSettledData shape disk
+pub stands-in_slot : (shape : Shape) (places : Places) (page slot : ℕ) (found : Found) (disk : Disk) (size : ℕ) → shape.page_size ≡ size → IsSettledData shape disk
     → StandFrom shape places page disk → slice_get places.found.items page ≡ Some found → found.slot ≡ Some slot
-    → IsCopyToPut shape page (take (slot * 4096 + 4096 - slot * 4096) (drop (slot * 4096) places.slots.items)) disk
-stands-in_slot shape places page slot found disk size settled stand at in_slot =
+    → IsCopyToPut shape page (take (slot * size + size - slot * size) (drop (slot * size) places.slots.items)) disk
+stands-in_slot shape places page slot found disk size size_is settled stand at in_slot =
     let is = subst (λ (o : Option ℕ). MatchOption o (place_lsn shape disk.base page ≡ Some found.lsn)
     (λ s. (place_lsn shape disk.base page ≡ None) × IsBestCopy shape disk.base page s found.lsn)) in_slot (stand.each page found (omega arith) at) in
     let reads : disk.reads ≡ disk.base = ap (λ (d : Disk). d.reads) settled.nothing_pending in
+    let slots : List ℕ = places.slots.items in
     record {
       broken = ap (λ bytes. place_lsn shape bytes page) reads ∙ is.0;
       slot = slot;
       lsn = found.lsn;
       best = subst (λ bytes. IsBestCopy shape bytes page slot found.lsn) (sym reads) is.1;
-      copy = slot-part shape slot places.slots.items size ∙ stand.slots slot is.1.below ∙ sym (ap (slot_bytes shape slot) reads);
+      copy = subst (λ (n : ℕ). take (slot * n + n - slot * n) (drop (slot * n) slots) ≡ slot_bytes shape slot slots) size_is (slot-part shape slot slots) ∙ stand.slots slot is.1.below ∙ sym (ap (slot_bytes shape slot) reads);
     }
 
 -- its slot is one of the store's
@@ -76,5 +78,5 @@ slot-below shape places page slot found have at in_slot =
     subst (λ (o : Option ℕ). IfSome o (λ s. s < shape.slots)) in_slot (have.below page found at)
 
 -- which stands within the slots
-pub slot-room : (slot slots size : ℕ) → slot < slots → size ≡ 4096 → slot * 4096 + 4096 ≤ slots * size
-slot-room slot slots size below is = subst (λ n. slot * 4096 + 4096 ≤ slots * n) (sym is) (omega arith)
+pub slot-room : (slot slots page_size size : ℕ) → slot < slots → page_size ≡ size → slot * size + size ≤ slots * page_size
+slot-room slot slots page_size size below is = subst (λ n. slot * size + size ≤ slots * n) (sym is) (row_ends slot slots size below)

@@ -1,5 +1,5 @@
 -- A store that is opened, from what its devices told at first.
-use Rattle.std.proofs.Common.{◌≡◌, ◌≤◌, ℕ, List, Option, Some, None, Ok, Err, refl, sym, ap, subst}
+use Rattle.std.proofs.Common.{◌≡◌, ◌≢◌, ◌≤◌, ℕ, List, Option, Some, None, Ok, Err, refl, sym, ap, subst}
 use Rattle.std.specs.Prelude.{IfErr, IfOk, IfSome}
 use Rattle.model_base.specs.{HasRisen}
 use Rattle.model_device.specs.{settled, synced}
@@ -14,8 +14,8 @@ use Rattle.redo_disk.specs.{HasCause, OnTold}
 use Rattle.redo_disk.specs.Seen.{Seen}
 use Rattle.redo_disk.specs.declared.error.DevError.{DevError}
 use Rattle.redo_disk.specs.declared.error.DevError.TheVariants as device
-use Rattle.redo_open.specs.Devices.{IsOpenFault, IsSameDevice, WhereBothTell}
-use Rattle.redo_open.specs.Opening.{Answer, HasFaultCause, IsOpenedAs, IsOpeningOf, WhereRefused, log_left, data_left}
+use Rattle.redo_open.specs.Devices.{IsNotOpened, IsOpenFault, IsSameDevice, WhereBothTell}
+use Rattle.redo_open.specs.Opening.{OpenResult, HasFaultCause, IsOpenedAs, IsOpeningOf, OpensSafely, WhereRefused, log_device_left, data_device_left}
 use Rattle.redo_disk.proofs.Told.{told-step}
 use Rattle.redo_open.proofs.Both.{openable-both}
 use Rattle.redo_open.proofs.Told.{risen-since}
@@ -32,6 +32,15 @@ openable-same opened log data_told log_new data_new log_same data_same =
     subst (λ (o : Option Disk). WhereBothTell log data_told (λ l d. IsOpenable opened l d → WhereBothTell o data_new (KeepsOpened opened))) (sym log_same)
     (subst (λ (o : Option Disk). WhereBothTell log data_told (λ l d. IsOpenable opened l d → WhereBothTell log o (KeepsOpened opened))) (sym data_same)
     (openable-both opened log data_told))
+
+-- a store that isn't opened
+pub err-safely : {L D : Type 0} (log_seen : L → Seen) (data_seen : D → Seen) (opened : Reading) (log data_told : Option Disk) (error : RecFault × L × D)
+    → WhereBothTell log data_told (λ l d. IsOpenable opened l d → WhereBothTell (log_seen error.1).tells (data_seen error.2).tells (KeepsOpened opened))
+    → WhereBothTell log data_told (λ l d. IsOpenable opened l d → error.0 ≢ NoMemory → IfSome (log_seen error.1).tells (IsNotOpened opened))
+    → WhereBothTell log data_told (λ l d. IsOpenable opened l d → OpensSafely log_seen data_seen opened (Err error))
+err-safely log_seen data_seen opened None data_told error keeps unmoved = tt
+err-safely log_seen data_seen opened (Some l) None error keeps unmoved = tt
+err-safely log_seen data_seen opened (Some l) (Some d) error keeps unmoved = λ is. record { keeps = keeps is; unmoved = unmoved is; ready = tt }
 
 -- ONCE THE STORE IS READ, and its data device synced.
 
@@ -99,7 +108,7 @@ read-unrefused log data_device P reading reads refusal =
     on-contents log.tells data_device.tells
     (λ log_bytes data_bytes read refused. absurd (read-not_refused one_group log_bytes data_bytes reading refusal read refused)) reads
 
-pub opening-cause : {L D : Type 0} (log_seen : L → Seen) (data_seen : D → Seen) (log data_device log_mid data_mid : Seen) (result : Answer L D) (reading : Reading)
+pub opening-cause : {L D : Type 0} (log_seen : L → Seen) (data_seen : D → Seen) (log data_device log_mid data_mid : Seen) (result : OpenResult L D) (reading : Reading)
     → OnContents log.tells data_device.tells (λ log_bytes data_bytes. IsReading log_bytes data_bytes reading)
     → log.faults ≤ log_mid.faults → data_device.faults ≤ data_mid.faults → IfErr result (λ error. IsOpenFault error.0)
     → IfErr result (λ error. error.0 ≡ LogDev → HasRisen log_mid.faults (log_seen error.1).faults)
@@ -115,8 +124,8 @@ opening-cause log_seen data_seen log data_device log_mid data_mid (Err error) re
   data_failed = λ failed. risen-since _ _ _ data_later same.1.later (data_failed failed);
 }
 
-pub both-err : {L D : Type 0} (log_seen : L → Seen) (data_seen : D → Seen) (log data_device : Seen) (result : Answer L D)
-    → IsSameDevice log (log_seen (log_left result)) → IsSameDevice data_device (data_seen (data_left result))
+pub both-err : {L D : Type 0} (log_seen : L → Seen) (data_seen : D → Seen) (log data_device : Seen) (result : OpenResult L D)
+    → IsSameDevice log (log_seen (log_device_left result)) → IsSameDevice data_device (data_seen (data_device_left result))
     → IfErr result (λ error. IsSameDevice log (log_seen error.1) × IsSameDevice data_device (data_seen error.2))
 both-err log_seen data_seen log data_device (Ok store) first second = tt
 both-err log_seen data_seen log data_device (Err error) first second = (first, second)
@@ -145,7 +154,7 @@ heads-cause log data_device log_after data_after device.NoMemory fault reading i
 
 -- WHAT IS OPENED is what was read.
 
-pub opening-of : {L D : Type 0} (log data_told : Option Disk) (result : Answer L D) (reading : Reading) → OnContents log data_told (λ log_bytes data_bytes. IsReading log_bytes data_bytes reading)
+pub opening-of : {L D : Type 0} (log data_told : Option Disk) (result : OpenResult L D) (reading : Reading) → OnContents log data_told (λ log_bytes data_bytes. IsReading log_bytes data_bytes reading)
     → IfOk result (IsOpenedAs reading) → IfOk result (λ store. OnContents log data_told (λ log_bytes data_bytes. IsOpeningOf log_bytes data_bytes store))
 opening-of log data_told (Ok store) reading reads opened =
     on-contents log data_told (λ log_bytes data_bytes is. record { reading = reading; is_read = is; opened = opened }) reads

@@ -1,10 +1,10 @@
 -- Pages written as they were read.
-use Rattle.std.proofs.Common.{◌≡◌, ◌<◌, ◌+◌, ℕ, List, length, Option, Some, None, ap, subst, ⊎_elim, arith}
+use Rattle.std.proofs.Common.{◌≡◌, ◌<◌, ◌+◌, ◌∙◌, ℕ, List, length, Option, Some, None, ap, subst, ⊎_elim, arith}
 use Rattle.std.specs.Prelude.{IfSome, Result, Ok, Err, OnOk}
 use Rattle.std.specs.List.{slice_get}
 use Rattle.std.proofs.lemmas.Bool.{cases_lt}
 use Rattle.model_base.specs.declared.shape.Shape.{Shape}
-use Rattle.model_base.specs.{IsWithinLimits}
+use Rattle.model_base.specs.{user_length}
 use Rattle.model_page.specs.declared.content.Content.{Content}
 use Rattle.model_store.proofs.Places.{has_place}
 use Rattle.redo_apply.specs.{ArePagesOf}
@@ -16,12 +16,12 @@ below-next P k below here p less = ⊎_elim (λ under. below p under) (λ not_un
 
 -- THE PAGE AS IT WAS READ.
 
-pub record PageRead (pages : List Content) (page lsn : ℕ) (user : List ℕ) : Type 0 where
+pub record PageRead (shape : Shape) (pages : List Content) (page lsn : ℕ) (user : List ℕ) : Type 0 where
   pub content : Content
   pub at : slice_get pages page ≡ Some content
   pub same_lsn : lsn ≡ content.lsn
   pub same_user : user ≡ content.user
-  pub long : length user ≡ 4050
+  pub long : length user ≡ user_length shape
 
 at-some : {X : Type 0} (o : Option X) (x : X) (P : X → Type 0) → o ≡ Some x → IfSome o P → P x
 at-some o x P is known = subst (λ (o : Option _). IfSome o P) is known
@@ -33,19 +33,18 @@ lsn-read shape pages page lsn its below lsns =
     let there = has_place pages page (omega (arith, its.count)) in
     (there.0, there.1, at-some (slice_get pages page) there.0 (λ (content : Content). lsn ≡ content.lsn) there.1 lsns)
 
-pub page-read : (shape : Shape) (pages : List Content) (page lsn : ℕ) (user : List ℕ) → IsWithinLimits shape → ArePagesOf shape pages → page < shape.pages
+pub page-read : (shape : Shape) (pages : List Content) (page lsn : ℕ) (user : List ℕ) → ArePagesOf shape pages → page < shape.pages
     → IfSome (slice_get pages page) (λ (content : Content). lsn ≡ content.lsn) → IfSome (slice_get pages page) (λ (content : Content). user ≡ content.user)
-    → PageRead pages page lsn user
-page-read shape pages page lsn user limits its below lsns users =
+    → PageRead shape pages page lsn user
+page-read shape pages page lsn user its below lsns users =
     let found = has_place pages page (omega (arith, its.count)) in
     let user_is : user ≡ found.0.user = at-some (slice_get pages page) found.0 (λ (content : Content). user ≡ content.user) found.1 users in
-    let size = its.sizes page found.0 found.1 in
     record {
       content = found.0;
       at = found.1;
       same_lsn = at-some (slice_get pages page) found.0 (λ (content : Content). lsn ≡ content.lsn) found.1 lsns;
       same_user = user_is;
-      long = omega (arith, ap length user_is, size, limits.page_size);
+      long = ap length user_is ∙ its.sizes page found.0 found.1;
     }
 
 -- WHAT AN ANSWER TELLS.

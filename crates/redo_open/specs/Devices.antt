@@ -7,6 +7,7 @@ use Rattle.model_parts.specs.{found_layout, IsAtRest, IsReady, IsUnopened, Keeps
 use Rattle.model_store.specs.{AreFoundIn, IsOrderly}
 use Rattle.model_store.specs.Reading.{Reading}
 use Rattle.model_store.specs.declared.tail.Tail.{Tail}
+use Rattle.redo_disk.specs.{Call, MakesCalls}
 use Rattle.redo_disk.specs.Seen.{Seen}
 use Rattle.redo_open.specs.Places.{IsPageFault}
 use Rattle.redo_recover.specs.declared.fault.RecFault.{RecFault}
@@ -29,6 +30,14 @@ IsNotOpened opened disk = IsUnopened opened.format opened.shape opened.number op
 pub record IsSameDevice (old new : Seen) : Type 0 where
   pub size : new.size ≡ old.size
   pub later : old.faults ≤ new.faults
+
+-- what is so of the two devices whatever is answered: they are the same ones, and got such calls
+pub record AreCalled {L D : Type 0} (log_seen : L → Seen) (data_seen : D → Seen) (log_gives : L → Call → L → Type 0) (data_gives : D → Call → D → Type 0)
+    (LogCalls DataCalls : List Call → Type 0) (log_old log_new : L) (data_old data_new : D) : Type 0 where
+  pub log : IsSameDevice (log_seen log_old) (log_seen log_new)
+  pub data_device : IsSameDevice (data_seen data_old) (data_seen data_new)
+  pub log_calls : MakesCalls log_gives log_old log_new LogCalls
+  pub data_calls : MakesCalls data_gives data_old data_new DataCalls
 
 -- opening ends early after the reading of the store where a device fails or memory runs out, and for nothing else
 abbrev pub IsOpenFault : RecFault → Type 0
@@ -53,8 +62,6 @@ pub record DevicesStep (opened : Reading) (tail : Option Tail) (log_old data_old
       → OnOk result (WhereBothTell log_new.tells data_new.tells (IsReady opened))
   pub unmoved : (log_bytes data_bytes : List ℕ) → OpensFrom opened tail log_old data_old log_bytes data_bytes
       → OnErr result (IfSome log_new.tells (IsNotOpened opened))
-  pub log : IsSameDevice log_old log_new
-  pub data_device : IsSameDevice data_old data_new
   pub fault : IfErr result IsOpenFault
   pub log_failed : IsErrOf result LogDev → HasRisen log_old.faults log_new.faults
   pub data_failed : IsErrOf result DataDev → HasRisen data_old.faults data_new.faults

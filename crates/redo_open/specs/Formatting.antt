@@ -22,12 +22,10 @@ pub record JudgesLengths (shape : Shape) (log_size data_size : ℕ) (result : Re
 
 -- A fault has its cause, and there are no others than these.
 abbrev pub HasFormatCause : Shape → (log data_device log_after data_after : Seen) → RecFault → Type 0
-HasFormatCause shape log data_device log_after data_after (SmallLog n) = IsLengthFault shape log.size data_device.size (SmallLog n)
-HasFormatCause shape log data_device log_after data_after (SmallData n) = IsLengthFault shape log.size data_device.size (SmallData n)
 HasFormatCause shape log data_device log_after data_after LogDev = HasRisen log.faults log_after.faults
 HasFormatCause shape log data_device log_after data_after DataDev = HasRisen data_device.faults data_after.faults
 HasFormatCause shape log data_device log_after data_after NoMemory = Unit {0}
-HasFormatCause shape log data_device log_after data_after _ = ⊥
+HasFormatCause shape log data_device log_after data_after fault = IsLengthFault shape log.size data_device.size fault
 
 -- the calls of both devices, each up to and with this error
 pub record MakesBoth {L D : Type 0} (log_gives : L → Call → L → Type 0) (data_gives : D → Call → D → Type 0) (log_old log_new : L) (data_old data_new : D)

@@ -16,6 +16,6 @@ pub mod Rewrite
 pub mod Store
 pub mod Zeroing
 pub mod Zeros
-pub use Rattle.redo_open.specs.Devices.{IsNotOpened, WhereBothTell}
+pub use Rattle.redo_open.specs.Devices.{AreCalled, IsNotOpened, WhereBothTell}
 pub use Rattle.redo_open.specs.Formatting.{FormatCalls, HasFormatCause, JudgesLengths, WritesInside}
-pub use Rattle.redo_open.specs.Opening.{HasFaultCause, IsOpenedReady, IsOpeningOf, OpensInside, OpensLog}
+pub use Rattle.redo_open.specs.Opening.{HasFaultCause, IsOpenedReady, IsOpeningOf, OpensInside, OpensLog, OpensSafely}

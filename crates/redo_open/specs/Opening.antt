@@ -14,7 +14,7 @@ use Rattle.redo_disk.specs.{AreReads, Call, MakesCalls, MayEndWith}
 use Rattle.redo_disk.specs.Seen.{Seen}
 use Rattle.redo_disk.specs.declared.error.DevError.{DevError}
 use Rattle.redo_store.specs.Part.{Part}
-use Rattle.redo_open.specs.Devices.{IsNotOpened, IsOpenFault, IsSameDevice, OpensFrom, WhereBothTell}
+use Rattle.redo_open.specs.Devices.{IsNotOpened, IsOpenFault, OpensFrom, WhereBothTell}
 use Rattle.redo_open.specs.Formatting.{WritesInside}
 use Rattle.redo_store.specs.{IsRunnable}
 use Rattle.redo_store.specs.declared.opened.Opened.{Opened}
@@ -25,17 +25,17 @@ use Rattle.redo_recover.specs.declared.fault.RecFault.{RecFault}
 use Rattle.redo_recover.specs.declared.fault.RecFault.TheVariants.{LogDev, DataDev, NoMemory}
 
 -- what opening answers: the opened store, or a fault and the two devices
-abbrev pub Answer : Type 0 → Type 0 → Type 0
-Answer L D = Result (Opened L D) (RecFault × L × D)
+abbrev pub OpenResult : Type 0 → Type 0 → Type 0
+OpenResult L D = Result (Opened L D) (RecFault × L × D)
 
 -- the devices that are left: in the parts of the opened store, or handed back
-abbrev pub log_left : {L D : Type 0} → Answer L D → L
-log_left (Ok store) = store.log.dev
-log_left (Err error) = error.1
+abbrev pub log_device_left : {L D : Type 0} → OpenResult L D → L
+log_device_left (Ok store) = store.log.dev
+log_device_left (Err error) = error.1
 
-abbrev pub data_left : {L D : Type 0} → Answer L D → D
-data_left (Ok store) = store.store.dev
-data_left (Err error) = error.2
+abbrev pub data_device_left : {L D : Type 0} → OpenResult L D → D
+data_device_left (Ok store) = store.store.dev
+data_device_left (Err error) = error.2
 
 -- The store is opened as it was read: with its shape and its pages, past its log's end, and under the number of the last
 -- checkpoint of opening.
@@ -80,33 +80,33 @@ pub record IsRunOn {L D : Type 0} (log : L) (store : Part D) (recovered : Recove
   pub log_part : opened.log ≡ record { dev = log; shape = recovered.shape; marks = first_marks start ((recovered.number + numbers_taken recovered.format) % 2 ^ 64); tails = first_tails start; failed = None }
   pub data_part : opened.store ≡ store
 
-abbrev pub IsStarted : {L D : Type 0} → L → Part D → Recovered → ℕ → Answer L D → Type 0
+abbrev pub IsStarted : {L D : Type 0} → L → Part D → Recovered → ℕ → OpenResult L D → Type 0
 IsStarted log store recovered start (Ok opened) = IsRunOn log store recovered start opened
 IsStarted log store recovered start (Err error) = (error.0 ≡ NoMemory) × (error.1 ≡ log) × (error.2 ≡ store.dev)
 
--- A store that was recovered as this is opened. Whatever a crash leaves is read with the opened pages; after Ok a run can
--- start, and until then what stands on the log device tells that it isn't opened.
-pub record OpensRecovered {L D : Type 0} (log_seen : L → Seen) (data_seen : D → Seen) (opened : Reading) (tail : Option Tail) (log_old data_old : Seen) (result : Answer L D) : Type 0 where
-  pub keeps : (log_bytes data_bytes : List ℕ) → OpensFrom opened tail log_old data_old log_bytes data_bytes
-      → WhereBothTell (log_seen (log_left result)).tells (data_seen (data_left result)).tells (KeepsOpened opened)
-  pub unmoved : (log_bytes data_bytes : List ℕ) → OpensFrom opened tail log_old data_old log_bytes data_bytes
-      → IfErr result (λ error. error.0 ≢ NoMemory → IfSome (log_seen error.1).tells (IsNotOpened opened))
-  pub ready : (log_bytes data_bytes : List ℕ) → OpensFrom opened tail log_old data_old log_bytes data_bytes
-      → IfOk result (IsOpenedReady log_seen data_seen opened)
+-- An orderly store is opened. Whatever a crash leaves is read with the opened pages; after Ok a run can start, and until
+-- then what stands on the log device tells that it isn't opened.
+pub record OpensSafely {L D : Type 0} (log_seen : L → Seen) (data_seen : D → Seen) (opened : Reading) (result : OpenResult L D) : Type 0 where
+  pub keeps : WhereBothTell (log_seen (log_device_left result)).tells (data_seen (data_device_left result)).tells (KeepsOpened opened)
+  pub unmoved : IfErr result (λ error. error.0 ≢ NoMemory → IfSome (log_seen error.1).tells (IsNotOpened opened))
+  pub ready : IfOk result (IsOpenedReady log_seen data_seen opened)
+
+-- A store that was recovered as this is opened.
+pub record OpensRecovered {L D : Type 0} (log_seen : L → Seen) (data_seen : D → Seen) (opened : Reading) (tail : Option Tail) (log_old data_old : Seen) (result : OpenResult L D) : Type 0 where
+  pub safely : (log_bytes data_bytes : List ℕ) → OpensFrom opened tail log_old data_old log_bytes data_bytes
+      → OpensSafely log_seen data_seen opened result
   pub opened_as : IfOk result (IsOpenedAs opened)
   pub runnable : IfOk result IsRunnable
-  pub log : IsSameDevice log_old (log_seen (log_left result))
-  pub data_device : IsSameDevice data_old (data_seen (data_left result))
   pub fault : IfErr result (λ error. IsOpenFault error.0)
   pub log_failed : IfErr result (λ error. error.0 ≡ LogDev → HasRisen log_old.faults (log_seen error.1).faults)
   pub data_failed : IfErr result (λ error. error.0 ≡ DataDev → HasRisen data_old.faults (data_seen error.2).faults)
 
 -- the error that the log device may have answered, and the data device
-abbrev pub log_error_in : {L D : Type 0} → Answer L D → Option DevError
+abbrev pub log_error_in : {L D : Type 0} → OpenResult L D → Option DevError
 log_error_in (Ok store) = None
 log_error_in (Err error) = log_error error.0
 
-abbrev pub data_error_in : {L D : Type 0} → Answer L D → Option DevError
+abbrev pub data_error_in : {L D : Type 0} → OpenResult L D → Option DevError
 data_error_in (Ok store) = None
 data_error_in (Err error) = data_error error.0
 
@@ -126,7 +126,7 @@ pub record ReadsThenWrites {L D : Type 0} (log_gives : L → Call → L → Type
 
 -- NOTHING OUTSIDE THE STORE IS WRITTEN, by the shape with which what reads give is read, and by the one that is opened.
 pub record OpensInside {L D : Type 0} (log_gives : L → Call → L → Type 0) (data_gives : D → Call → D → Type 0) (log_told data_told : Option Disk) (log : L) (data_device : D)
-    (result : Answer L D) : Type 0 where
+    (result : OpenResult L D) : Type 0 where
   pub read : (reading : Reading) → OnContents log_told data_told (λ log_bytes data_bytes. IsReading log_bytes data_bytes reading
-      → ReadsThenWrites log_gives data_gives reading.shape log (log_left result) data_device (data_left result))
+      → ReadsThenWrites log_gives data_gives reading.shape log (log_device_left result) data_device (data_device_left result))
   pub opened : IfOk result (λ store. ReadsThenWrites log_gives data_gives store.shape log store.log.dev data_device store.store.dev)

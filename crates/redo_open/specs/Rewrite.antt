@@ -32,7 +32,7 @@ pub record KeepsWritten (shape : Shape) (top start : ℕ → Content) (told : Op
   pub as_top : (p : ℕ) (content : Content) → IsNew batch p content → content ≡ top p
 
 -- A step that writes the pages from `from` to the one before `to`, where it answers Ok.
-pub record WriteStep {D : Type 0} (seen : D → Seen) (shape : Shape) (pages : List Content) (found : List Found) (from to : ℕ) (old : Part D) (result : Result (Unit {0}) DevError) (new : Part D) : Type 0 where
+pub record RewriteStep {D : Type 0} (seen : D → Seen) (shape : Shape) (pages : List Content) (found : List Found) (from to : ℕ) (old : Part D) (result : Result (Unit {0}) DevError) (new : Part D) : Type 0 where
   pub keeps : (top start : ℕ → Content) → AreTop pages found top start → IsWrittenTo shape top start from (seen old.dev).tells
       → KeepsWritten shape top start (seen new.dev).tells
   pub ok : (top start : ℕ → Content) → AreTop pages found top start → IsWrittenTo shape top start from (seen old.dev).tells

@@ -3,10 +3,9 @@ ghost use Rattle.std.specs.Prelude.{◌≡◌, ◌≤◌, ◌<◌, ◌^◌, ℕ,
 ghost use Rattle.model_base.specs.{IsWithinLimits};
 ghost use Rattle.model_log.specs.{layout_of, log_device_length, start_after};
 ghost use Rattle.model_page.specs.declared.content.Content.{Content};
-ghost use Rattle.redo_apply.specs.{ArePagesOf};
-ghost use Rattle.redo_disk.specs.{MakesCalls, MayEndWith};
+ghost use Rattle.redo_disk.specs.{MayEndWith};
 ghost use Rattle.redo_open.specs.Clear.{MayStart};
-ghost use Rattle.redo_open.specs.Devices.{DevicesStep};
+ghost use Rattle.redo_open.specs.Devices.{AreCalled, DevicesStep};
 ghost use Rattle.redo_open.specs.Formatting.{WritesInside};
 ghost use Rattle.redo_open.specs.Mend.{IsSettledData};
 ghost use Rattle.redo_recover.specs.{AreFoundOn, ArePlacesOf, data_error_of, IsTailFound, log_error_of, reading_of};
@@ -38,7 +37,6 @@ pub(crate) fn open_devices<L: Sectors, D: Sectors>(
     requires live { part.old.failed ≡ None }
     requires shape { recovered.now.shape ≡ part.old.shape }
     requires settled { IfSome (D.seen part.old.dev).tells (IsSettledData recovered.now.shape) }
-    requires pages { ArePagesOf recovered.now.shape recovered.now.pages }
     requires places { ArePlacesOf recovered.now.shape recovered.now.places recovered.now.pages }
     requires found { IfSome (D.seen part.old.dev).tells
         (λ disk. AreFoundOn recovered.now.shape recovered.now.places recovered.now.pages disk.base) }
@@ -47,8 +45,8 @@ pub(crate) fn open_devices<L: Sectors, D: Sectors>(
         result (L.seen log.new) (D.seen part.new.dev) }
     ensures shape { part.new.shape ≡ part.old.shape }
     ensures live { OnOk result (part.new.failed ≡ None) }
-    ensures log_calls { MakesCalls L.gives log.old log.new (MayEndWith (log_error_of result)) }
-    ensures data_calls { MakesCalls D.gives part.old.dev part.new.dev (MayEndWith (data_error_of result)) }
+    ensures called { AreCalled L.seen D.seen L.gives D.gives (MayEndWith (log_error_of result)) (MayEndWith (data_error_of result))
+        log.old log.new part.old.dev part.new.dev }
     ensures inside { WritesInside L.gives D.gives recovered.now.shape log.old log.new part.old.dev part.new.dev }
 {
     let layout = layout_of(recovered.format, &recovered.shape);

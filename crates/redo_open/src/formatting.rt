@@ -1,12 +1,14 @@
 // Formatting both devices of a store.
 ghost use Rattle.std.specs.Prelude.{◌≤◌, OnOk, IfErr, IfSome};
 ghost use Rattle.model_base.specs.{IsWithinLimits};
+ghost use Rattle.model_device.specs.{IsWithin};
 ghost use Rattle.model_log.specs.{log_device_length};
 ghost use Rattle.model_parts.specs.{IsFormatted, KeepsNoStore};
 ghost use Rattle.model_page.specs.{data_device_length};
 ghost use Rattle.redo_disk.specs.{HasSize};
-ghost use Rattle.redo_open.specs.Devices.{IsSameDevice, WhereBothTell};
-ghost use Rattle.redo_open.specs.Formatting.{FormatCalls, HasFormatCause, JudgesLengths, WritesInside};
+ghost use Rattle.redo_open.specs.Devices.{AreCalled, WhereBothTell};
+ghost use Rattle.redo_open.specs.Formatting.{FormatCalls, HasFormatCause, JudgesLengths};
+ghost use Rattle.redo_open.specs.Puts.{ArePuts};
 
 use crate::blank::{clear_blocks, clear_heads, clear_pages, put_new_log};
 use model_base::Shape;
@@ -30,10 +32,9 @@ fn format_devices<L: Sectors, D: Sectors>(
         WhereBothTell (L.seen log.new).tells (D.seen data_device.new).tells (KeepsNoStore shape.now log_before data_before)) }
     ensures cause { IfErr result (HasFormatCause shape.now (L.seen log.old) (D.seen data_device.old)
         (L.seen log.new) (D.seen data_device.new)) }
-    ensures log { IsSameDevice (L.seen log.old) (L.seen log.new) }
-    ensures data_device { IsSameDevice (D.seen data_device.old) (D.seen data_device.new) }
+    ensures called { AreCalled L.seen D.seen L.gives D.gives (ArePuts (IsWithin (log_device_length shape.now))) (ArePuts (IsWithin (data_device_length shape.now)))
+        log.old log.new data_device.old data_device.new }
     ensures calls { FormatCalls L.gives D.gives log.old log.new data_device.old data_device.new result }
-    ensures inside { WritesInside L.gives D.gives shape.now log.old log.new data_device.old data_device.new }
 {
     match clear_heads(log) {
         Ok(()) => {}
@@ -69,10 +70,9 @@ pub fn format<L: Sectors, D: Sectors>(
     ensures lengths { JudgesLengths shape.now (L.seen log.old).size (D.seen data_device.old).size result }
     ensures cause { IfErr result (HasFormatCause shape.now (L.seen log.old) (D.seen data_device.old)
         (L.seen log.new) (D.seen data_device.new)) }
-    ensures log { IsSameDevice (L.seen log.old) (L.seen log.new) }
-    ensures data_device { IsSameDevice (D.seen data_device.old) (D.seen data_device.new) }
+    ensures called { AreCalled L.seen D.seen L.gives D.gives (ArePuts (IsWithin (log_device_length shape.now))) (ArePuts (IsWithin (data_device_length shape.now)))
+        log.old log.new data_device.old data_device.new }
     ensures calls { FormatCalls L.gives D.gives log.old log.new data_device.old data_device.new result }
-    ensures inside { WritesInside L.gives D.gives shape.now log.old log.new data_device.old data_device.new }
 {
     match check_lengths(shape, log.len(), data_device.len()) {
         Ok(()) => format_devices(log, data_device, shape),

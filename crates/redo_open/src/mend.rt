@@ -1,6 +1,6 @@
 // Repairing the places of pages that didn't pass.
 ghost use Rattle.std.specs.Prelude.{◌≡◌, ◌<◌, None, IfSome};
-ghost use Rattle.model_base.specs.declared.limits.TheConstants.{PAGE_SIZE};
+ghost use Rattle.model_base.specs.{IsWithinLimits};
 ghost use Rattle.model_device.specs.{IsWithin};
 ghost use Rattle.model_page.specs.{data_device_length};
 ghost use Rattle.redo_disk.specs.{error_of, MakesCalls};
@@ -9,19 +9,21 @@ ghost use Rattle.redo_open.specs.Puts.{PutsWhere};
 ghost use Rattle.redo_open.specs.Store.{MendStep};
 ghost use Rattle.redo_recover.specs.{HaveSlots};
 
-use model_base::{PAGE_SIZE, Shape};
+use model_base::Shape;
 use redo_disk::{DevError, Sectors};
 use redo_recover::Places;
 use redo_store::DataPart;
 
-/// Bytes of a page.
-const PAGE: usize = PAGE_SIZE as usize;
-
 /// Puts the copy of a page that counts into its place, where the place didn't pass.
-fn mend_page<D: Sectors>(part: &mut DataPart<D>, page: u32, places: &Places) -> Result<(), DevError>
+fn mend_page<D: Sectors>(
+    part: &mut DataPart<D>,
+    shape: &Shape,
+    page: u32,
+    places: &Places,
+) -> Result<(), DevError>
     requires live { part.old.failed ≡ None }
+    requires shape { shape.now ≡ part.old.shape }
     requires page { page < part.old.shape.pages }
-    requires sizes { part.old.shape.page_size ≡ PAGE_SIZE }
     requires slots { HaveSlots part.old.shape places.now }
     requires settled { IfSome (D.seen part.old.dev).tells (IsSettledData part.old.shape) }
     requires stand { IfSome (D.seen part.old.dev).tells (StandFrom part.old.shape places.now page) }
@@ -31,8 +33,9 @@ fn mend_page<D: Sectors>(part: &mut DataPart<D>, page: u32, places: &Places) -> 
     match places.found[page as usize].slot {
         None => Ok(()),
         Some(slot) => {
-            let from = slot as usize * PAGE;
-            part.put_copy(page, &places.slots[from..from + PAGE])
+            let size = shape.page_size as usize;
+            let from = slot as usize * size;
+            part.put_copy(page, &places.slots[from..from + size])
         }
     }
 }
@@ -46,7 +49,6 @@ pub(crate) fn mend<D: Sectors>(
 ) -> Result<(), DevError>
     requires live { part.old.failed ≡ None }
     requires shape { shape.now ≡ part.old.shape }
-    requires sizes { shape.now.page_size ≡ PAGE_SIZE }
     requires slots { HaveSlots shape.now places.now }
     requires settled { IfSome (D.seen part.old.dev).tells (IsSettledData shape.now) }
     requires stand { IfSome (D.seen part.old.dev).tells (StandFrom shape.now places.now 0) }
@@ -54,7 +56,7 @@ pub(crate) fn mend<D: Sectors>(
     ensures calls { MakesCalls D.gives part.old.dev part.new.dev (PutsWhere (IsWithin (data_device_length shape.now)) (error_of result)) }
 {
     for page in 0..shape.pages {
-        mend_page(part, page, places)?;
+        mend_page(part, shape, page, places)?;
     }
     Ok(())
 }

@@ -1,14 +1,14 @@
 // Opening a store.
-ghost use Rattle.std.specs.Prelude.{◌≡◌, ◌≢◌, ◌≤◌, ◌<◌, ◌^◌, IfOk, IfErr, IfSome, None};
+ghost use Rattle.std.specs.Prelude.{◌≡◌, ◌≤◌, ◌<◌, ◌^◌, IfOk, IfErr, IfSome, None};
 ghost use Rattle.model_base.specs.declared.limits.TheConstants.{FIRST_DATA_LSN, MAX_LOG_BLOCKS, MIN_LOG_BLOCKS};
 ghost use Rattle.model_log.specs.{IsAtDataStart, log_device_length};
-ghost use Rattle.model_parts.specs.{IsOpenable, KeepsOpened, numbers_taken};
+ghost use Rattle.model_parts.specs.{IsOpenable, numbers_taken};
 ghost use Rattle.model_store.specs.Reading.{Reading};
-ghost use Rattle.redo_disk.specs.{MakesCalls, MayEndWith};
-ghost use Rattle.redo_open.specs.Devices.{IsNotOpened, IsSameDevice, WhereBothTell};
+ghost use Rattle.redo_disk.specs.{MayEndWith};
+ghost use Rattle.redo_open.specs.Devices.{AreCalled, WhereBothTell};
 ghost use Rattle.redo_open.specs.Formatting.{WritesInside};
 ghost use Rattle.redo_open.specs.Mend.{IsSettledData};
-ghost use Rattle.redo_open.specs.Opening.{log_left, data_left, log_error_in, data_error_in, HasFaultCause, IsOpeningOf, IsOpenedReady, IsStarted, OpensInside, OpensLog, OpensRecovered};
+ghost use Rattle.redo_open.specs.Opening.{log_device_left, data_device_left, log_error_in, data_error_in, HasFaultCause, IsOpeningOf, IsStarted, OpensInside, OpensLog, OpensSafely, OpensRecovered};
 ghost use Rattle.redo_store.specs.{IsRunnable};
 ghost use Rattle.redo_recover.specs.{AreFoundOn, IsOfDevices, OnContents, reading_of};
 
@@ -80,9 +80,9 @@ fn open_recovered<L: Sectors, D: Sectors>(
     requires found { IfSome (D.seen data_device).tells
         (λ disk. AreFoundOn recovered.shape recovered.places recovered.pages disk.base) }
     ensures step { OpensRecovered L.seen D.seen (reading_of recovered) recovered.tail (L.seen log) (D.seen data_device) result }
-    ensures log_calls { MakesCalls L.gives log (log_left result) (MayEndWith (log_error_in result)) }
-    ensures data_calls { MakesCalls D.gives data_device (data_left result) (MayEndWith (data_error_in result)) }
-    ensures inside { WritesInside L.gives D.gives recovered.shape log (log_left result) data_device (data_left result) }
+    ensures called { AreCalled L.seen D.seen L.gives D.gives (MayEndWith (log_error_in result)) (MayEndWith (data_error_in result))
+        log (log_device_left result) data_device (data_device_left result) }
+    ensures inside { WritesInside L.gives D.gives recovered.shape log (log_device_left result) data_device (data_device_left result) }
 {
     let mut store = match DataPart::new(alloc, data_device, &recovered.shape) {
         Ok(store) => store,
@@ -109,23 +109,15 @@ pub fn open_store<L: Sectors, D: Sectors>(
     mut log: L,
     mut data_device: D,
 ) -> Result<Opened<L, D>, (RecFault, L, D)>
-    ensures keeps { (opened : Reading) → WhereBothTell (L.seen log).tells (D.seen data_device).tells (λ log_disk data_disk.
-        IsOpenable opened log_disk data_disk
-        → WhereBothTell (L.seen (log_left result)).tells (D.seen (data_left result)).tells (KeepsOpened opened)) }
-    ensures unmoved { (opened : Reading) → WhereBothTell (L.seen log).tells (D.seen data_device).tells (λ log_disk data_disk.
-        IsOpenable opened log_disk data_disk
-        → IfErr result (λ error. error.0 ≢ RecFault.NoMemory → IfSome (L.seen error.1).tells (IsNotOpened opened))) }
-    ensures ready { (opened : Reading) → WhereBothTell (L.seen log).tells (D.seen data_device).tells (λ log_disk data_disk.
-        IsOpenable opened log_disk data_disk → IfOk result (IsOpenedReady L.seen D.seen opened)) }
+    ensures safely { (opened : Reading) → WhereBothTell (L.seen log).tells (D.seen data_device).tells (λ log_disk data_disk.
+        IsOpenable opened log_disk data_disk → OpensSafely L.seen D.seen opened result) }
     ensures read { IfOk result (λ store. OnContents (L.seen log).tells (D.seen data_device).tells
         (λ log_bytes data_bytes. IsOpeningOf log_bytes data_bytes store)) }
     ensures runnable { IfOk result (λ store. IsRunnable store) }
     ensures cause { IfErr result (λ error. HasFaultCause (L.seen log) (D.seen data_device)
         (L.seen error.1) (D.seen error.2) error.0) }
-    ensures log { IsSameDevice (L.seen log) (L.seen (log_left result)) }
-    ensures data_device { IsSameDevice (D.seen data_device) (D.seen (data_left result)) }
-    ensures log_calls { MakesCalls L.gives log (log_left result) (OpensLog (L.seen log).size (log_error_in result)) }
-    ensures data_calls { MakesCalls D.gives data_device (data_left result) (MayEndWith (data_error_in result)) }
+    ensures called { AreCalled L.seen D.seen L.gives D.gives (OpensLog (L.seen log).size (log_error_in result)) (MayEndWith (data_error_in result))
+        log (log_device_left result) data_device (data_device_left result) }
     ensures inside { OpensInside L.gives D.gives (L.seen log).tells (D.seen data_device).tells log data_device result }
 {
     let recovered = match recover(alloc, &mut log, &mut data_device) {

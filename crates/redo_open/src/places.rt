@@ -4,7 +4,6 @@ ghost use Rattle.model_base.specs.{IsWithinLimits};
 ghost use Rattle.model_device.specs.{IsWithin};
 ghost use Rattle.model_page.specs.{data_device_length};
 ghost use Rattle.model_page.specs.declared.content.Content.{Content};
-ghost use Rattle.redo_apply.specs.{ArePagesOf};
 ghost use Rattle.redo_disk.specs.{MakesCalls, MayEndWith};
 ghost use Rattle.redo_open.specs.Mend.{IsSettledData};
 ghost use Rattle.redo_open.specs.Places.{PlacesStep};
@@ -34,7 +33,6 @@ pub(crate) fn open_places<D: Sectors>(
     requires shape { shape.now ≡ part.old.shape }
     requires limits { IsWithinLimits shape.now }
     requires settled { IfSome (D.seen part.old.dev).tells (IsSettledData shape.now) }
-    requires pages { ArePagesOf shape.now pages.now }
     requires places { ArePlacesOf shape.now places.now pages.now }
     requires found { IfSome (D.seen part.old.dev).tells (λ disk. AreFoundOn shape.now places.now pages.now disk.base) }
     requires small { (p : ℕ) (content : Content) → slice_get pages.now p ≡ Some content → content.lsn < 2 ^ 61 }
@@ -42,7 +40,7 @@ pub(crate) fn open_places<D: Sectors>(
     ensures calls { MakesCalls D.gives part.old.dev part.new.dev (MayEndWith (data_error_of result)) }
     ensures inside { MakesCalls D.gives part.old.dev part.new.dev (ArePuts (IsWithin (data_device_length shape.now))) }
 {
-    let mut batch = match Batch::new(alloc) {
+    let mut batch = match Batch::new(alloc, shape) {
         Ok(batch) => batch,
         Err(_) => return Err(RecFault::NoMemory),
     };

@@ -1,7 +1,6 @@
 // Writing the pages that have changed since they were found.
 ghost use Rattle.std.specs.Prelude.{◌≡◌, ◌≤◌, ◌<◌, ◌^◌, ◌+◌, ℕ, List, [], length, None, Some, OnOk, slice_get};
 ghost use Rattle.model_base.specs.{IsWithinLimits};
-ghost use Rattle.model_base.specs.declared.limits.TheConstants.{PAGE_SIZE, SLOTS};
 ghost use Rattle.model_parts.specs.{IsWritable};
 ghost use Rattle.model_device.specs.{IsWithin};
 ghost use Rattle.model_page.specs.{data_device_length};
@@ -10,11 +9,11 @@ ghost use Rattle.redo_apply.specs.{ArePagesOf};
 ghost use Rattle.redo_disk.specs.{error_of, MakesCalls};
 ghost use Rattle.redo_open.specs.Gather.{AreGathered, GatherStep};
 ghost use Rattle.redo_open.specs.Puts.{PutsWhere};
-ghost use Rattle.redo_open.specs.Rewrite.{WriteStep};
+ghost use Rattle.redo_open.specs.Rewrite.{RewriteStep};
 ghost use Rattle.redo_recover.specs.declared.places.Found.{Found};
 
 use crate::batch::Batch;
-use model_base::{SLOTS, Shape};
+use model_base::Shape;
 use redo_apply::Pages;
 use redo_disk::{DevError, Sectors};
 use redo_recover::Places;
@@ -23,7 +22,7 @@ use redo_store::DataPart;
 /// Writes the pages of the batch, which has none then.
 fn write_gathered<D: Sectors>(part: &mut DataPart<D>, batch: &mut Batch) -> Result<(), DevError>
     requires live { part.old.failed ≡ None }
-    requires sizes { part.old.shape.page_size ≡ PAGE_SIZE }
+    requires limits { IsWithinLimits part.old.shape }
     requires writable { IsWritable part.old.shape batch.old.pairs batch.old.users }
     ensures step { (pages : List Content) (found : List Found) (count : ℕ) → AreGathered part.old.shape pages count batch.old
         → GatherStep D.seen part.old.shape pages found count count part.old batch.old result part.new batch.new }
@@ -41,18 +40,18 @@ fn write_gathered<D: Sectors>(part: &mut DataPart<D>, batch: &mut Batch) -> Resu
 /// Writes the pages of the batch if there are as many as slots.
 fn make_room<D: Sectors>(part: &mut DataPart<D>, batch: &mut Batch) -> Result<(), DevError>
     requires live { part.old.failed ≡ None }
-    requires sizes { part.old.shape.page_size ≡ PAGE_SIZE }
-    requires slots { part.old.shape.slots ≡ SLOTS }
+    requires limits { IsWithinLimits part.old.shape }
+    requires shape { batch.old.shape ≡ part.old.shape }
     requires writable { IsWritable part.old.shape batch.old.pairs batch.old.users }
     ensures step { (pages : List Content) (found : List Found) (count : ℕ) → AreGathered part.old.shape pages count batch.old
         → GatherStep D.seen part.old.shape pages found count count part.old batch.old result part.new batch.new }
-    ensures room { OnOk result (length batch.new.pairs < SLOTS) }
+    ensures room { OnOk result (length batch.new.pairs < part.old.shape.slots) }
     ensures calls { MakesCalls D.gives part.old.dev part.new.dev (PutsWhere (IsWithin (data_device_length part.old.shape)) (error_of result)) }
 {
-    if batch.pairs().len() < SLOTS as usize {
-        Ok(())
-    } else {
+    if batch.is_full() {
         write_gathered(part, batch)
+    } else {
+        Ok(())
     }
 }
 
@@ -99,8 +98,8 @@ pub(crate) fn rewrite<D: Sectors>(
     requires pages { ArePagesOf shape.now pages.now }
     requires small { (p : ℕ) (content : Content) → slice_get pages.now p ≡ Some content → content.lsn < 2 ^ 61 }
     requires found { length places.now.found.items ≡ shape.now.pages }
-    requires none { batch.old ≡ record { pairs = []; users = [] } }
-    ensures step { WriteStep D.seen shape.now pages.now places.now.found.items 0 shape.now.pages part.old result part.new }
+    requires none { batch.old ≡ record { shape = shape.now; pairs = []; users = [] } }
+    ensures step { RewriteStep D.seen shape.now pages.now places.now.found.items 0 shape.now.pages part.old result part.new }
     ensures calls { MakesCalls D.gives part.old.dev part.new.dev (PutsWhere (IsWithin (data_device_length shape.now)) (error_of result)) }
 {
     for page in 0..shape.pages {

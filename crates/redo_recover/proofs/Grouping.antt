@@ -6,7 +6,7 @@ use Rattle.model_base.specs.declared.shape.Shape.{Shape}
 use Rattle.model_base.specs.declared.got.Got.TheVariants.{Value, Bad}
 use Rattle.model_log.specs.declared.rec.Rec.{Rec}
 use Rattle.model_log.specs.declared.group.Whole.{Whole}
-use Rattle.model_log.specs.{BeginsWithGroup, end_mark, end_of, GivesGroup, group_length, group_text, GroupFits, groups_of, lsn_of, record_text, single_text, sn_of, spans_of, stream_of}
+use Rattle.model_log.specs.{BeginsWithGroup, end_mark, GivesGroup, group_length, group_text, GroupFits, groups_of, last_span_end, lsn_of, record_text, single_text, sn_of, spans_of, stream_of}
 use Rattle.model_log.proofs.Runs.{run-none, run-push}
 use Rattle.model_store.specs.{AreGroups, IsStorable}
 use Rattle.redo_recover.specs.Groups.{GivesStorable}
@@ -47,7 +47,7 @@ unfolding stream_of
 stream_of-push [] g = append-nil (group_text g)
 stream_of-push (h ∷ gs) g = ap (λ t. group_text h ++ t) (stream_of-push gs g) ∙ sym (append_assoc (group_text h) (stream_of gs) (group_text g))
 
-end_of-push : (s : ℕ) (ws : List Whole) (w : Whole) → end_of s (spans_of (ws ++ w ∷ [])) ≡ w.end
+end_of-push : (s : ℕ) (ws : List Whole) (w : Whole) → last_span_end s (spans_of (ws ++ w ∷ [])) ≡ w.end
 end_of-push s [] w = refl
 end_of-push s (v ∷ ws) w = end_of-push v.end ws w
 
@@ -57,7 +57,7 @@ all-push P (h ∷ gs) g a p = (a.0, all-push P gs g a.1 p)
 
 -- one group more
 AreGroups-push : (shape : Shape) (bytes : List ℕ) (start : ℕ) (ws : List Whole) (w : Whole) (rest more : List ℕ)
-    → AreGroups shape bytes start ws rest → rest ≡ group_text w.group ++ more → IsStorable shape w.group → w.start ≡ end_of start (spans_of ws)
+    → AreGroups shape bytes start ws rest → rest ≡ group_text w.group ++ more → IsStorable shape w.group → w.start ≡ last_span_end start (spans_of ws)
     → w.end ≡ lsn_of (sn_of w.start + group_length w.group) → AreGroups shape bytes start (ws ++ w ∷ []) more
 AreGroups-push shape bytes start ws w rest more a split good from to =
     record {

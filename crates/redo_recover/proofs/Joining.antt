@@ -10,11 +10,11 @@ use Rattle.std.proofs.lemmas.List.Elements.{All-cons, All-nil}
 use Rattle.model_base.specs.declared.shape.Shape.{Shape}
 use Rattle.model_log.specs.declared.rec.Rec.{Rec}
 use Rattle.model_log.specs.declared.group.Whole.{Whole}
-use Rattle.model_log.specs.{end_of, groups_of, spans_of, stream_of}
+use Rattle.model_log.specs.{groups_of, last_span_end, spans_of, stream_of}
 use Rattle.model_log.proofs.Runs.{end_of-append, run-append, spans_of-append, stream-append}
 use Rattle.model_store.specs.{AreGroups, IsStorable}
 use Rattle.redo_recover.proofs.Grouping.{AreGroupsSoFar-none}
-use Rattle.redo_recover.specs.Runs.{AreGroupsSoFar, IsFrontRun, IsRun}
+use Rattle.redo_recover.specs.Runs.{AreGroupsSoFar, HasRunGroups, IsFrontRun}
 use Rattle.redo_recover.specs.declared.run.Run.{Run}
 
 groups_of-append : (ws vs : List Whole) → groups_of (ws ++ vs) ≡ groups_of ws ++ groups_of vs
@@ -27,7 +27,7 @@ each-append P (g ∷ gs) hs a b = (a.0, each-append P gs hs a.1 b)
 
 -- groups after which others stand
 groups-append : (shape : Shape) (bytes middle rest : List ℕ) (start : ℕ) (ws vs : List Whole) → AreGroups shape bytes start ws middle
-    → AreGroups shape middle (end_of start (spans_of ws)) vs rest → AreGroups shape bytes start (ws ++ vs) rest
+    → AreGroups shape middle (last_span_end start (spans_of ws)) vs rest → AreGroups shape bytes start (ws ++ vs) rest
 groups-append shape bytes middle rest start ws vs a b = record {
   bytes_are = a.bytes_are ∙ ap (λ t. stream_of (groups_of ws) ++ t) b.bytes_are
       ∙ sym (append_assoc (stream_of (groups_of ws)) (stream_of (groups_of vs)) rest)
@@ -43,8 +43,8 @@ pub so_far-append : (shape : Shape) (bytes middle rest : List ℕ) (start lsn en
 so_far-append shape bytes middle rest start lsn end ws vs a b = record {
   groups = groups-append shape bytes middle rest start ws vs a.groups
       (subst (λ (m : ℕ). AreGroups shape middle m vs rest) a.at b.groups);
-  at = b.at ∙ ap (λ m. end_of m (spans_of vs)) a.at
-      ∙ sym (ap (end_of start) (spans_of-append ws vs) ∙ end_of-append start (spans_of ws) (spans_of vs));
+  at = b.at ∙ ap (λ m. last_span_end m (spans_of vs)) a.at
+      ∙ sym (ap (last_span_end start) (spans_of-append ws vs) ∙ end_of-append start (spans_of ws) (spans_of vs));
   room = omega (arith, a.room, b.room);
 }
 
@@ -70,7 +70,7 @@ front-so_far shape bytes start run front =
 -- a run that takes over the groups of the next one
 pub run-join : (shape : Shape) (bytes : List ℕ) (front back run : Run) → back.from ≡ front.to → back.start ≡ front.end
     → run.wholes.items ≡ front.wholes.items ++ back.wholes.items → run.from ≡ front.from → run.start ≡ front.start → run.to ≡ back.to → run.end ≡ back.end
-    → IsRun shape bytes front → IsRun shape bytes back → IsRun shape bytes run
+    → HasRunGroups shape bytes front → HasRunGroups shape bytes back → HasRunGroups shape bytes run
 run-join shape bytes front back run meets at wholes first start last end a b = record {
   within = omega (arith, last, b.within);
   groups = rw (wholes, first, start, last, end)
@@ -80,8 +80,8 @@ run-join shape bytes front back run meets at wholes first start last end a b = r
 
 -- a run in front, and the next one
 pub front-join : (shape : Shape) (bytes : List ℕ) (start : ℕ) (old run new : Run)
-    → ((s : Shape) (bs : List ℕ) → IsRun s bs old → IsRun s bs run → IsRun s bs new) → new.from ≡ old.from → new.start ≡ old.start
-    → IsFrontRun shape bytes start old → IsRun shape bytes run → IsFrontRun shape bytes start new
+    → ((s : Shape) (bs : List ℕ) → HasRunGroups s bs old → HasRunGroups s bs run → HasRunGroups s bs new) → new.from ≡ old.from → new.start ≡ old.start
+    → IsFrontRun shape bytes start old → HasRunGroups shape bytes run → IsFrontRun shape bytes start new
 front-join shape bytes start old run new joins first at front one = record {
   is_run = joins shape bytes front.is_run one;
   first = first ∙ front.first;
@@ -90,21 +90,21 @@ front-join shape bytes start old run new joins first at front one = record {
 
 -- the runs of all workers, if all went well
 all-runs : {X : Type 0} (E : Type 0) (shape : Shape) (bytes : List ℕ) (lent : List X) (runs : List Run)
-    → AllZip (λ x (run : Result Run E). IfOk run (IsRun shape bytes)) lent (map Ok runs) → All (IsRun shape bytes) runs
-all-runs E shape bytes [] [] all = All-nil (IsRun shape bytes)
+    → AllZip (λ x (run : Result Run E). IfOk run (HasRunGroups shape bytes)) lent (map Ok runs) → All (HasRunGroups shape bytes) runs
+all-runs E shape bytes [] [] all = All-nil (HasRunGroups shape bytes)
 all-runs E shape bytes [] (run ∷ runs) all = absurd all
 all-runs E shape bytes (x ∷ lent) [] all = absurd all
 all-runs E shape bytes (x ∷ lent) (run ∷ runs) all =
-    All-cons (IsRun shape bytes) run runs all.0 (all-runs E shape bytes lent runs all.1)
+    All-cons (HasRunGroups shape bytes) run runs all.0 (all-runs E shape bytes lent runs all.1)
 
 pub runs-well : {X : Type 0} (E : Type 0) (shape : Shape) (bytes : List ℕ) (lent : List X) (results : List (Result Run E)) (r : Result (Vec Run Global) E)
-    → AllZip (λ x (run : Result Run E). IfOk run (IsRun shape bytes)) lent results
+    → AllZip (λ x (run : Result Run E). IfOk run (HasRunGroups shape bytes)) lent results
     → MatchResult r (λ runs. (ys : List Run) × (results ≡ map Ok ys) × (runs.items ≡ ys)) (λ e. Contains results (Err e))
-    → IfOk r (λ runs. All (IsRun shape bytes) runs.items)
+    → IfOk r (λ runs. All (HasRunGroups shape bytes) runs.items)
 runs-well E shape bytes lent results (Err e) all is = tt
 runs-well E shape bytes lent results (Ok runs) all is =
-    subst (λ (ys : List Run). All (IsRun shape bytes) ys) (sym is.2)
-    (all-runs E shape bytes lent is.0 (subst (λ (rs : List (Result Run E)). AllZip (λ x (run : Result Run E). IfOk run (IsRun shape bytes)) lent rs) is.1 all))
+    subst (λ (ys : List Run). All (HasRunGroups shape bytes) ys) (sym is.2)
+    (all-runs E shape bytes lent is.0 (subst (λ (rs : List (Result Run E)). AllZip (λ x (run : Result Run E). IfOk run (HasRunGroups shape bytes)) lent rs) is.1 all))
 
 pub all-front : {X : Type 0} (P : X → Type 0) (xs : List X) (y : X) → All P (xs ++ y ∷ []) → All P xs × P y
 all-front P [] y all = (All-nil P, all 0 y (omega arith))

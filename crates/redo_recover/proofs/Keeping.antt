@@ -1,13 +1,16 @@
 -- Kept pages, off the slots and one place after another.
-use Rattle.std.proofs.Common.{◌≡◌, ℕ, ◌+◌, ◌-◌, ◌*◌, ◌<◌, ◌≤◌, inr, List, length, take, drop, Option, Some, None, arith, sym, ap, subst, ◌∙◌}
+use Rattle.std.proofs.Common.{◌≡◌, ℕ, zero, suc, ◌+◌, ◌-◌, ◌*◌, ◌%◌, ◌<◌, ◌≤◌, inr, List, length, take, drop, Option, Some, None, arith, refl, sym, ap, subst, ◌∙◌}
 use Rattle.std.proofs.lemmas.List.{drop-take, length-drop, length-take, length-take-le, take-take}
-use Rattle.model_base.specs.declared.limits.TheConstants.{PAGE_SIZE}
+use Rattle.std.proofs.Math.Nat.{le-add_right, mul-le-mul_right, suc-mul, zero-mul}
+use Rattle.model_base.proofs.ShapeLimits.{whole_sectors}
+use Rattle.model_base.specs.{IsWithinLimits, user_length}
+use Rattle.model_base.specs.declared.limits.TheConstants.{BLOCK_SIZE}
 use Rattle.model_base.specs.declared.shape.Shape.{Shape}
-use Rattle.model_page.specs.{copy_lsn, copy_lsn_by, HasNoCopy, IsBestCopy, IsKept, IsLost, page_check, place_bytes, place_lsn, place_lsn_by, slot_bytes, stretch_at, user_length, user_part}
+use Rattle.model_page.specs.{copy_lsn, copy_lsn_by, data_device_length, HasNoCopy, IsBestCopy, IsKept, IsLost, page_check, place_bytes, place_lsn, place_lsn_by, slot_bytes, stretch_at, user_part}
 use Rattle.model_page.specs.declared.content.Content.{Content}
 use Rattle.model_device.specs.Disk.{Disk}
 use Rattle.redo_apply.specs.{ArePagesOf}
-use Rattle.redo_disk.specs.{part}
+use Rattle.redo_disk.specs.{IsRange, part}
 use Rattle.redo_recover.proofs.Contents.{content-both, content-weaker}
 use Rattle.redo_recover.proofs.Paging.{AreKeptFirst, all-kept, first_lost, kept-put}
 use Rattle.redo_recover.specs.Devices.{OnContent}
@@ -16,11 +19,36 @@ use Rattle.redo_recover.specs.Places.{IsFoundAt}
 use Rattle.redo_recover.specs.declared.fault.RecFault.{RecFault}
 use Rattle.redo_recover.specs.declared.fault.RecFault.TheVariants.{SmallLog, NotFormatted, BadFormat, SmallData, NoCheckpoint, BadRecord, PageLost, PageAhead, LogDev, DataDev, NoMemory}
 
-pub user-size : (shape : Shape) (page : List ℕ) → shape.page_size ≡ PAGE_SIZE → length page ≡ shape.page_size → length (user_part page) ≡ user_length shape
-user-size shape page size long = omega (arith, length-take (length page - 8 - 38) (drop 38 page), length-drop 38 page)
+pub user-size : (shape : Shape) (page : List ℕ) → length page ≡ shape.page_size → length (user_part page) ≡ user_length shape
+user-size shape page long = omega (arith, length-take (length page - 8 - 38) (drop 38 page), length-drop 38 page)
 
 room : (slots n size : ℕ) → n < slots → n * size + size ≤ slots * size
 room slots n size h = grind arith
+
+-- stretches of whole sectors begin with sectors
+sector-of : (n size : ℕ) → size % BLOCK_SIZE ≡ 0 → (n * size) % BLOCK_SIZE ≡ 0
+sector-of zero size whole = ap (λ (m : ℕ). m % BLOCK_SIZE) (zero-mul size)
+sector-of (suc n) size whole = let before : (n * size) % BLOCK_SIZE ≡ 0 = sector-of n size whole in omega (arith, suc-mul n size)
+
+-- the slots and each place may be read
+pub slots-range : (shape : Shape) (long : ℕ) → IsWithinLimits shape → data_device_length shape ≤ long → IsRange long 0 (shape.slots * shape.page_size)
+slots-range shape long limits within =
+    let whole = whole_sectors shape limits in
+    record {
+      from_sector = refl;
+      whole_sectors = sector-of shape.slots shape.page_size whole.sectors;
+      within = (let front = mul-le-mul_right shape.page_size (le-add_right shape.slots shape.pages) in omega arith);
+    }
+
+pub place-range : (shape : Shape) (page long : ℕ) → IsWithinLimits shape → page < shape.pages → data_device_length shape ≤ long
+    → IsRange long ((shape.slots + page) * shape.page_size) shape.page_size
+place-range shape page long limits below within =
+    let whole = whole_sectors shape limits in
+    record {
+      from_sector = sector-of (shape.slots + page) shape.page_size whole.sectors;
+      whole_sectors = whole.sectors;
+      within = (let inside = room (shape.slots + shape.pages) (shape.slots + page) shape.page_size (omega arith) in omega arith);
+    }
 
 -- a slot, as all slots were read and as it stands on the device
 pub slot-same : (shape : Shape) (slots image : List ℕ) (n : ℕ) → HoldsSlots shape slots image → n < shape.slots → slot_bytes shape n slots ≡ slot_bytes shape n image

@@ -11,7 +11,7 @@ use Rattle.redo_disk.specs.declared.error.DevError.TheVariants as device
 use Rattle.redo_disk.proofs.Calls.{AreReads-append, MayEndWith-append, MayEndWith-ends, MayEndWith-no_memory}
 use Rattle.redo_disk.proofs.Made.{EndWith-one, joined_calls, no_calls, one_call, weaker_calls}
 use Rattle.redo_recover.specs.Devices.{data_fault_of, log_fault_of}
-use Rattle.redo_recover.specs.Reads.{IsLogRead, IsOnlyRead, MayBeOwn, ReadsLog, data_error, log_error}
+use Rattle.redo_recover.specs.Reads.{IsLogRead, IsOnlyRead, ReadsLog, data_error, log_error}
 use Rattle.redo_recover.specs.declared.fault.RecFault.{RecFault}
 use Rattle.redo_recover.proofs.Unchanged.{IsUnchanged-then}
 
@@ -23,6 +23,12 @@ risen-then old middle new front back (inr stands) = ⊎_elim (λ below. inl belo
 one-reads : (at : ℕ) (before after : List ℕ) (answer : Answer) → ReadsMayEndWith (error_of answer) (Reads at before answer after ∷ [])
 one-reads at before after answer =
     record { reads = (tt, tt); ends = MayEndWith-ends (error_of answer) (Reads at before answer after ∷ []) (EndWith-one (Reads at before answer after)) }
+
+-- no device has to have answered the error: it is none, or the program's own want of memory
+abbrev pub MayBeOwn : Option DevError → Type 0
+MayBeOwn None = Unit {0}
+MayBeOwn (Some device.NoMemory) = Unit {0}
+MayBeOwn (Some device.Failed) = ⊥
 
 none-ends : (error : Option DevError) → MayBeOwn error → MayEndWith error []
 none-ends None own = record { stop = tt; first = inl refl }

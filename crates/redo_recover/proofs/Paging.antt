@@ -9,11 +9,10 @@ use Rattle.model_log.specs.declared.group.Whole.{Whole}
 use Rattle.model_page.proofs.Kept.{same_kept}
 use Rattle.model_page.specs.{IsKept, IsLost}
 use Rattle.model_page.specs.declared.content.Content.{Content}
-use Rattle.model_store.specs.{AreReadPages, IsKeptAt, page_after, replayed}
-use Rattle.model_store.specs.declared.refusal.Refusal.TheVariants as refusal
+use Rattle.model_store.specs.{AreKeptBelow, AreNotAheadBelow, AreReadPages, IsKeptAt, page_after, replayed}
 use Rattle.model_store.proofs.Places.{has_place}
 use Rattle.redo_apply.specs.{AreAfterWhere, AreReplayed, ArePagesOf, HaveLsns}
-use Rattle.redo_recover.specs.Pages.{AreKept, AreNotAhead, IsFirstLost, IsFirstAhead, RefusesPages}
+use Rattle.redo_recover.specs.Pages.{AreKept, AreNotAhead, IsFirstLost, IsFirstAhead}
 use Rattle.redo_recover.proofs.Setting.{slice_get-set}
 
 -- KEPT PAGES
@@ -56,9 +55,14 @@ all-kept shape data_bytes pages count a all = record {
 
 -- JUDGED
 
--- every page is kept, but one is ahead
+-- every page is kept, but one is ahead, the first that is
+abbrev pub IsFirstKeptAhead : Shape → ℕ → ℕ → ℕ → List ℕ → Type 0
+IsFirstKeptAhead shape end p lsn data_bytes =
+    AreKeptBelow shape data_bytes shape.pages
+    × (p < shape.pages) × IsKeptAt shape data_bytes p lsn × (end < lsn) × AreNotAheadBelow shape data_bytes end p
+
 pub ahead-refused : (shape : Shape) (data_bytes : List ℕ) (pages : List Content) (end p lsn : ℕ) → AreKept shape data_bytes pages
-    → IsFirstAhead pages end p lsn → RefusesPages shape data_bytes end (refusal.PageAhead p lsn)
+    → IsFirstAhead pages end p lsn → IsFirstKeptAhead shape end p lsn data_bytes
 ahead-refused shape data_bytes pages end p lsn a first =
     let within : p < length pages = slice_get_within pages p first.page first.at in (
       (λ q h. (let page = has_place pages q (omega (arith, a.count)) in kept-at shape data_bytes q page.0 (a.each q page.0 page.1))),

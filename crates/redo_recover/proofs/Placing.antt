@@ -12,7 +12,7 @@ use Rattle.redo_recover.proofs.Rising.{replayed-above}
 use Rattle.redo_recover.proofs.Setting.{slice_get-set}
 use Rattle.redo_recover.specs.Devices.{OnContent}
 use Rattle.redo_recover.specs.Groups.{EndBehindStarts}
-use Rattle.redo_apply.specs.{AreReplayed}
+use Rattle.redo_apply.specs.{ArePagesOf, AreReplayed}
 use Rattle.redo_recover.specs.Pages.{AreKept, HoldsSlots}
 use Rattle.redo_recover.specs.Places.{AreFoundAt, AreFoundOn, AreFoundWith, ArePlacesOf, HasItsSlot, IsFoundAt, PutsFound}
 use Rattle.redo_recover.specs.declared.places.Found.{Found}
@@ -51,33 +51,33 @@ with-none shape found pages none = record {
 }
 
 -- the page that was put has the lsn with which it was found
-own-lsn : (old new : List Content) (count : ℕ) (last : Found) (page : Content) → PutsFound count old new last → slice_get new count ≡ Some page → last.lsn ≡ page.lsn
-own-lsn old new count last page puts at =
+own-lsn : (shape : Shape) (old new : List Content) (count : ℕ) (last : Found) (page : Content) → PutsFound shape count old new last → slice_get new count ≡ Some page → last.lsn ≡ page.lsn
+own-lsn shape old new count last page puts at =
     elim (slice_get-set old count (record { lsn = last.lsn; user = puts.user }) count page (ap (λ (pages : List Content). slice_get pages count) (sym puts.put) ∙ at)) [
       | inl (same, is) ↦ sym (ap (λ (c : Content). c.lsn) is)
       | inr (other, there) ↦ absurd (other refl)
     ]
 
 -- each other page stays
-other-lsn : (old new : List Content) (count p : ℕ) (last : Found) (page : Content) → PutsFound count old new last → p < count → slice_get new p ≡ Some page
-    → slice_get old p ≡ Some page
-other-lsn old new count p last page puts less at =
+other-lsn : (shape : Shape) (old new : List Content) (count p : ℕ) (last : Found) (page : Content) → PutsFound shape count old new last → p < count
+    → slice_get new p ≡ Some page → slice_get old p ≡ Some page
+other-lsn shape old new count p last page puts less at =
     elim (slice_get-set old count (record { lsn = last.lsn; user = puts.user }) p page (ap (λ (pages : List Content). slice_get pages p) (sym puts.put) ∙ at)) [
       | inl (same, is) ↦ absurd (omega (arith, same, less))
       | inr (other, there) ↦ there
     ]
 
 pub with-next : (shape : Shape) (found all : List Found) (old new : List Content) (count : ℕ) (last : Found) → all ≡ found ++ last ∷ []
-    → AreFoundWith shape count found old → HasItsSlot shape last → PutsFound count old new last → AreFoundWith shape (count + 1) all new
-with-next shape found all old new count last all_is with slot puts = record {
+    → AreFoundWith shape count found old → PutsFound shape count old new last → AreFoundWith shape (count + 1) all new
+with-next shape found all old new count last all_is with puts = record {
   many = omega (arith, ap length all_is, length-append found (last ∷ []), with.many);
-  slots = pushed-each (λ p one. HasItsSlot shape one) found all count last with.many with.slots slot all_is;
+  slots = pushed-each (λ p one. HasItsSlot shape one) found all count last with.many with.slots puts.slot all_is;
   lsns = λ p one page at page_at.
       pushed-each (λ q each. (content : Content) → slice_get new q ≡ Some content → each.lsn ≡ content.lsn) found all count last with.many
       (λ q each there content content_at.
       let within : q < length found = slice_get_within found q each there in
-      with.lsns q each content there (other-lsn old new count q last content puts (omega (arith, within, with.many)) content_at))
-      (λ content content_at. own-lsn old new count last content puts content_at) all_is p one at page page_at;
+      with.lsns q each content there (other-lsn shape old new count q last content puts (omega (arith, within, with.many)) content_at))
+      (λ content content_at. own-lsn shape old new count last content puts content_at) all_is p one at page page_at;
 }
 
 -- GROUPS APPLIED.
@@ -94,9 +94,10 @@ found-above wholes kept new shape count found behind with replay p one page at p
     (replayed-above p from.0.lsn wholes from.0 from.0 behind (inl refl))
 
 pub places-of : (shape : Shape) (places : Places) (wholes : List Whole) (kept new : List Content) → length places.slots.items ≡ shape.slots * shape.page_size
-    → EndBehindStarts wholes → AreFoundWith shape shape.pages places.found.items kept → AreReplayed wholes kept new → ArePlacesOf shape places new
-places-of shape places wholes kept new room behind with replay = record {
+    → EndBehindStarts wholes → AreFoundWith shape shape.pages places.found.items kept → AreReplayed wholes kept new → ArePagesOf shape new → ArePlacesOf shape places new
+places-of shape places wholes kept new room behind with replay its = record {
   have_slots = record { room = room; count = with.many; below = with.slots };
+  its_pages = its;
   risen = λ p one page at page_at.
       ⊎_elim (λ same. (let lsn = with.lsns p one page at same in omega (arith, lsn))) (λ above. omega (arith, above))
       (found-above wholes kept new shape shape.pages places.found.items behind with replay p one page at page_at);

@@ -3,7 +3,7 @@ use Rattle.std.proofs.Common.{◌≡◌, ◌≤◌, ◌&&◌, ℕ, Bool, true, f
 use Rattle.std.specs.Prelude.{IfSome}
 use Rattle.std.proofs.lemmas.Bool.Decides.{nat_tests}
 use Rattle.model_base.specs.declared.limits.TheConstants.{BLOCK_SIZE, LSN_LIMIT}
-use Rattle.model_log.specs.{fits_checksum, fits_number, is_block_at, is_first, is_length, read_block, view_of}
+use Rattle.model_log.specs.{block_view, fits_checksum, fits_number, is_block_at, is_first, is_length, read_block}
 use Rattle.model_log.specs.declared.block.BlockView.{BlockView}
 use Rattle.model_log.specs.declared.head.Format.{Format}
 use Rattle.model_log.specs.declared.head.Format.TheVariants.{One, Two}
@@ -135,11 +135,11 @@ length-bounds n is =
 read-length : (lsn : ℕ) (bytes : List ℕ) (view : BlockView) → read_block lsn bytes ≡ Some view → (12 ≤ view.length) × (view.length ≤ 512)
 unfolding read_block is_block_at
 read-length lsn bytes view is =
-    let found = block-when (is_block_at lsn bytes) (view_of bytes) view is in
-    let test : is_length (view_of bytes).length ≡ true =
-    passed-length (fits_number lsn bytes) (is_length (view_of bytes).length) (is_first (view_of bytes).length (view_of bytes).first) (fits_checksum bytes) found.0 in
-    let same : (view_of bytes).length ≡ view.length = ap (λ (one : BlockView). one.length) found.1 in
-    let own = length-bounds (view_of bytes).length test in
+    let found = block-when (is_block_at lsn bytes) (block_view bytes) view is in
+    let test : is_length (block_view bytes).length ≡ true =
+    passed-length (fits_number lsn bytes) (is_length (block_view bytes).length) (is_first (block_view bytes).length (block_view bytes).first) (fits_checksum bytes) found.0 in
+    let same : (block_view bytes).length ≡ view.length = ap (λ (one : BlockView). one.length) found.1 in
+    let own = length-bounds (block_view bytes).length test in
     (omega (arith, own.0), omega (arith, own.1))
 
 read-view : (lsn : ℕ) (bytes : List ℕ) (view : BlockView) → read_block lsn bytes ≡ Some view → IsView view

@@ -15,7 +15,7 @@ use Rattle.model_store.specs.{HasDevices, HasHead, Refuses}
 use Rattle.model_store.specs.declared.refusal.Refusal.TheVariants as refusal
 use Rattle.redo_disk.specs.{HasSize, part}
 use Rattle.redo_recover.specs.Devices.{OnContent, OnContents, HasCauseIn}
-use Rattle.redo_recover.specs.Start.{IsHeadFault, IsLengthFault, IsStart}
+use Rattle.redo_recover.specs.Start.{IsHeadFault, IsLengthFault, IsRecoveryStart}
 use Rattle.redo_recover.specs.declared.fault.RecFault.{RecFault}
 use Rattle.redo_recover.specs.declared.fault.RecFault.TheVariants.{SmallLog, NotFormatted, BadFormat, SmallData, NoCheckpoint}
 use Rattle.redo_recover.specs.declared.start.Start.{Start}
@@ -126,10 +126,10 @@ checkpoint-cause log data_told log_size data_size header format shape known othe
 
 pub starts : (log data_told : Option Disk) (log_size data_size : ℕ) (header : List ℕ) (start : Start) → OnContent log (IsHeaderOf log_size header)
     → OnContent data_told (λ content. length content ≡ data_size) → IsSound log_size data_size header start.format start.shape
-    → newest_checkpoint (layout_of start.format start.shape) header ≡ Some (start.number, start.ckpt) → OnContents log data_told (λ log_bytes data_bytes. IsStart log_bytes data_bytes start)
+    → newest_checkpoint (layout_of start.format start.shape) header ≡ Some (start.number, start.ckpt) → OnContents log data_told (λ log_bytes data_bytes. IsRecoveryStart log_bytes data_bytes start)
 starts log data_told log_size data_size header start known other sound newest =
     contents-from log data_told (IsHeaderOf log_size header) (λ content. length content ≡ data_size)
-    (λ log_bytes data_bytes. IsStart log_bytes data_bytes start)
+    (λ log_bytes data_bytes. IsRecoveryStart log_bytes data_bytes start)
     (λ log_bytes data_bytes of same. record {
       devices = devices log_size data_size header log_bytes data_bytes start.format start.shape sound of same;
       newest = sym (newest-front (layout_of start.format start.shape) header log_bytes of.front) ∙ newest;

@@ -9,7 +9,7 @@ use Rattle.model_log.specs.declared.head.Format.TheVariants.{Two}
 use Rattle.model_log.specs.declared.layout.Layout.{Layout}
 use Rattle.model_store.specs.{AreFoundIn, AreInPlace, read_full, read_tail, taken_from}
 use Rattle.model_store.proofs.Taking.{from-full, from-tail}
-use Rattle.redo_recover.specs.Taking.{five_of, four_of, tail_at}
+use Rattle.redo_recover.specs.Taking.{five_of, four_of, tail_block_at}
 use Rattle.redo_recover.specs.declared.taking.Stand.{Stand}
 use Rattle.redo_recover.specs.declared.taking.Stand.TheVariants.{Place, Four, Five}
 use Rattle.redo_recover.proofs.Scanning.{AreTails, IsTakenAt}
@@ -55,7 +55,7 @@ found-all layout ckpt views count image many standing two = subst (λ n. AreInPl
 -- one that isn't full stands in its place in format 1, and else in a tail block
 found-part : (layout : Layout) (ckpt : ℕ) (all : List BlockView) (count : ℕ) (stand : Stand) (view : BlockView) (place tails image : List ℕ)
     → IsTakenAt layout ckpt count (Some (stand, view)) place tails image → is_full view ≡ false → AreStanding layout ckpt count image → suc count ≡ length all
-    → IsAt layout.format (lsn_at ckpt count) place (four_of tails) (five_of tails) view stand → AreFoundIn layout image ckpt all (tail_at (lsn_at ckpt count) stand)
+    → IsAt layout.format (lsn_at ckpt count) place (four_of tails) (five_of tails) view stand → AreFoundIn layout image ckpt all (tail_block_at (lsn_at ckpt count) stand)
 found-part layout ckpt all count Place view place tails image t part standing last at =
     λ two. (let yes : is_full view ≡ true = (from-full (read_block (lsn_at ckpt count) place) view (at.1 two)).1 in absurd cc)
 found-part layout ckpt all count Four view place tails image t part standing last at =
@@ -91,7 +91,7 @@ found-part layout ckpt all count Five view place tails image t part standing las
 
 pub found-last : (layout : Layout) (ckpt : ℕ) (views all : List BlockView) (count : ℕ) (stand : Stand) (view : BlockView) (place tails image : List ℕ)
     → IsTakenAt layout ckpt count (Some (stand, view)) place tails image → is_full view ≡ false → AreStanding layout ckpt count image
-    → length views ≡ count → all ≡ views ++ view ∷ [] → AreFoundIn layout image ckpt all (tail_at (lsn_at ckpt count) stand)
+    → length views ≡ count → all ≡ views ++ view ∷ [] → AreFoundIn layout image ckpt all (tail_block_at (lsn_at ckpt count) stand)
 found-last layout ckpt views all count stand view place tails image t part standing many all_is =
     found-part layout ckpt all count stand view place tails image t part standing (omega (arith, ap length all_is, length_push views view, many))
     (stands-at layout.format (lsn_at ckpt count) place (four_of tails) (five_of tails) stand view (sym t.found_is))

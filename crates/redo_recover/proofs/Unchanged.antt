@@ -1,11 +1,11 @@
 -- Calls that only read, one after another.
-use Rattle.std.proofs.Common.{ℕ, List, Option, subst, sym, ◌∙◌, arith}
-use Rattle.model_device.specs.Disk.{Disk}
+use Rattle.std.proofs.Common.{ℕ, List, subst, sym, ◌∙◌, arith}
 use Rattle.redo_disk.specs.Seen.{Seen}
 use Rattle.redo_recover.specs.Devices.{IsUnchanged, OnContent}
 use Rattle.redo_disk.specs.declared.error.DevError.{DevError}
 use Rattle.redo_disk.specs.declared.error.DevError.TheVariants.{Failed, NoMemory}
-use Rattle.redo_recover.specs.Devices.{HasCauseIn, log_fault_of}
+use Rattle.redo_recover.specs.Devices.{log_fault_of}
+use Rattle.redo_recover.specs.Recovery.{IsCaused}
 
 pub IsUnchanged-then : (old middle new : Seen) → IsUnchanged old middle → IsUnchanged middle new → IsUnchanged old new
 IsUnchanged-then old middle new first second = record {
@@ -23,6 +23,6 @@ pub content-after : (old new : Seen) (P : List ℕ → Type 0) → IsUnchanged o
 content-after old new P same known = subst (λ told. OnContent told P) (sym same.tells) known
 
 -- a device's answer names no cause
-pub log_fault-cause : (log data_told : Option Disk) (error : DevError) → HasCauseIn log data_told (log_fault_of error)
-log_fault-cause log data_told Failed = tt
-log_fault-cause log data_told NoMemory = tt
+pub log_fault-caused : (log data_device : Seen) (error : DevError) → IsCaused log data_device (log_fault_of error)
+log_fault-caused log data_device Failed = record { lengths = tt; cause = tt }
+log_fault-caused log data_device NoMemory = record { lengths = tt; cause = tt }

@@ -9,15 +9,12 @@ pub record AreBlocksOf (most ckpt : ℕ) (views : List BlockView) (bytes : List 
   pub views_are : AreBlocks most source ckpt views
   pub bytes_are : bytes ≡ joined source ckpt views
 
--- there are at most so many blocks, and no more data than they have room for
-pub record AreFew (most : ℕ) (views : List BlockView) (bytes : List ℕ) : Type 0 where
-  pub few : length views ≤ most
-  pub short : length bytes ≤ BLOCK_DATA * length views
-
 -- the first offset, where there is one, is that of a data byte
 abbrev pub HasFirst : BlockView → Type 0
 HasFirst view = view.first ≢ 0 → (BLOCK_HEADER ≤ view.first) × (view.first < BLOCK_DATA_END)
 
--- that of each block is
-abbrev pub HaveFirsts : List BlockView → Type 0
-HaveFirsts views = (i : ℕ) (view : BlockView) → slice_get views i ≡ Some view → HasFirst view
+-- there are at most so many blocks, no more data than they have room for, and the first offset of each is within it
+pub record AreBounded (most : ℕ) (views : List BlockView) (bytes : List ℕ) : Type 0 where
+  pub few : length views ≤ most
+  pub short : length bytes ≤ BLOCK_DATA * length views
+  pub firsts : (i : ℕ) (view : BlockView) → slice_get views i ≡ Some view → HasFirst view

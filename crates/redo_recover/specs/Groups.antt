@@ -4,12 +4,14 @@ use Rattle.std.specs.List.{AllByRecursion}
 use Rattle.model_base.specs.declared.shape.Shape.{Shape}
 use Rattle.model_base.specs.declared.got.Got.{Got}
 use Rattle.model_base.specs.declared.got.Got.TheVariants.{Value, Short, Bad}
-use Rattle.model_log.specs.{end_of, group_text, IsDataLsn, IsFront, lsn_at, round_of, sn_of, spans_of}
+use Rattle.model_device.specs.Disk.{Disk}
+use Rattle.model_log.specs.{group_text, IsDataLsn, IsFront, last_span_end, lsn_at, round_of, sn_of, spans_of}
 use Rattle.model_log.specs.declared.rec.Rec.{Rec}
 use Rattle.model_log.specs.declared.group.Whole.{Whole}
 use Rattle.model_log.specs.declared.layout.Layout.{Layout}
 use Rattle.model_log.specs.declared.layout.TheConstants.{BLOCK_HEADER}
-use Rattle.model_store.specs.{AreGroups, HasNoStorable, IsBadRecord, IsStorable, Source}
+use Rattle.model_store.specs.{AreGroups, HasNoStorable, IsBadRecord, IsStorable}
+use Rattle.redo_recover.specs.Devices.{OnSource}
 use Rattle.redo_recover.specs.declared.fault.RecFault.{RecFault}
 use Rattle.redo_recover.specs.declared.fault.RecFault.TheVariants.{BadRecord, LogDev, NoMemory}
 
@@ -25,7 +27,7 @@ pub record EndAt (shape : Shape) (bytes : List ℕ) (start : ℕ) (wholes : List
   pub rest : List ℕ
   pub groups : AreGroups shape bytes start wholes rest
   pub front : IsFront rest
-  pub at : end ≡ end_of start (spans_of wholes)
+  pub at : end ≡ last_span_end start (spans_of wholes)
 
 -- each of the groups ends past the lsn at which it starts
 abbrev pub EndBehindStarts : List Whole → Type 0
@@ -38,7 +40,7 @@ pub record BreakAt (shape : Shape) (bytes : List ℕ) (start lsn : ℕ) : Type 0
   pub groups : AreGroups shape bytes start wholes rest
   pub no_storable : HasNoStorable shape rest
   pub no_rest : IsFront rest → ⊥
-  pub at : lsn ≡ end_of start (spans_of wholes)
+  pub at : lsn ≡ last_span_end start (spans_of wholes)
 
 -- The log ends at a data byte past the checkpoint, at most at the first one of the block where the log has gone round,
 -- and none of the groups ends past that.
@@ -65,9 +67,9 @@ abbrev pub IsParseFault : ℕ → Shape → List ℕ → Option ℕ → RecFault
 IsParseFault ckpt shape bytes None fault = ⊥
 IsParseFault ckpt shape bytes (Some start) fault = IsBreakFault shape (drop (sn_of start - sn_of ckpt) bytes) start fault
 
--- why a source isn't scanned
-abbrev pub IsScanFault : Shape → ℕ → ℕ → RecFault → Source → Type 0
-IsScanFault shape most ckpt (BadRecord lsn) source = IsBadRecord shape most source ckpt lsn
-IsScanFault shape most ckpt LogDev source = ⊤
-IsScanFault shape most ckpt NoMemory source = ⊤
-IsScanFault shape most ckpt _ source = ⊥
+-- why a log isn't scanned
+abbrev pub IsScanFault : Shape → Layout → ℕ → Option Disk → RecFault → Type 0
+IsScanFault shape layout ckpt told (BadRecord lsn) = OnSource layout told (λ source. IsBadRecord shape layout.blocks source ckpt lsn)
+IsScanFault shape layout ckpt told LogDev = ⊤
+IsScanFault shape layout ckpt told NoMemory = ⊤
+IsScanFault shape layout ckpt told _ = ⊥

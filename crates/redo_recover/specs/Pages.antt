@@ -1,13 +1,11 @@
 -- The pages of a store while it is read: as they are kept, judged, and with the scanned groups applied.
-use Rattle.std.specs.Prelude.{ℕ, ◌≡◌, ◌≤◌, ◌<◌, ◌*◌, List, length, take, slice_get, slice_set, Option, Some, IfSome, ⊤}
+use Rattle.std.specs.Prelude.{ℕ, ◌≡◌, ◌≤◌, ◌<◌, ◌*◌, List, length, take, slice_get, slice_set, Option, Some, ⊤}
 use Rattle.model_device.specs.Disk.{Disk}
 use Rattle.model_base.specs.declared.shape.Shape.{Shape}
 use Rattle.model_page.specs.{IsKept, IsLost}
 use Rattle.model_page.specs.declared.content.Content.{Content}
 use Rattle.model_store.specs.{AreKeptBelow, AreNotAheadBelow, IsKeptAt}
-use Rattle.model_store.specs.declared.refusal.Refusal.{Refusal}
-use Rattle.model_store.specs.declared.refusal.Refusal.TheVariants as refusal
-use Rattle.redo_recover.specs.Devices.{OnContent, refusal_of}
+use Rattle.redo_recover.specs.Devices.{OnContent}
 use Rattle.redo_recover.specs.declared.fault.RecFault.{RecFault}
 use Rattle.redo_recover.specs.declared.fault.RecFault.TheVariants.{DataDev, PageLost, PageAhead, NoMemory}
 
@@ -63,14 +61,8 @@ abbrev pub IsAheadFault : List Content → ℕ → RecFault → Type 0
 IsAheadFault pages end (PageAhead p lsn) = IsFirstAhead pages end p lsn
 IsAheadFault pages end _ = ⊥
 
--- why the pages of a store aren't read whose log ends there
-abbrev pub RefusesPages : Shape → List ℕ → ℕ → Refusal → Type 0
-RefusesPages shape data_bytes end (refusal.PageLost p) = IsFirstLost shape data_bytes p
-RefusesPages shape data_bytes end (refusal.PageAhead p lsn) =
-    AreKeptBelow shape data_bytes shape.pages
-    × (p < shape.pages) × IsKeptAt shape data_bytes p lsn × (end < lsn) × AreNotAheadBelow shape data_bytes end p
-RefusesPages shape data_bytes end _ = ⊥
-
--- a fault that names a cause has it
-abbrev pub HasPageCause : Shape → ℕ → RecFault → List ℕ → Type 0
-HasPageCause shape end fault data_bytes = IfSome (refusal_of fault) (RefusesPages shape data_bytes end)
+-- why the pages of a store aren't read whose log ends there: one isn't kept, or else a kept one is ahead
+abbrev pub IsPageFault : Shape → ℕ → Option Disk → RecFault → Type 0
+IsPageFault shape end told (PageAhead p lsn) = OnContent told (λ data_bytes. AreKeptBelow shape data_bytes shape.pages
+    × (p < shape.pages) × IsKeptAt shape data_bytes p lsn × (end < lsn) × AreNotAheadBelow shape data_bytes end p)
+IsPageFault shape end told fault = IsFirstLostFault shape told fault

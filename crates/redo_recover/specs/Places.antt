@@ -3,6 +3,7 @@ use Rattle.std.specs.Prelude.{ℕ, ◌≡◌, ◌≤◌, ◌<◌, ◌*◌, List,
 use Rattle.model_base.specs.declared.shape.Shape.{Shape}
 use Rattle.model_page.specs.{IsBestCopy, IsKept, place_lsn}
 use Rattle.model_page.specs.declared.content.Content.{Content}
+use Rattle.redo_apply.specs.{ArePagesOf}
 use Rattle.redo_recover.specs.Pages.{HoldsSlots}
 use Rattle.redo_recover.specs.declared.places.Found.{Found}
 use Rattle.redo_recover.specs.declared.places.Places.{Places}
@@ -30,9 +31,10 @@ pub record HaveSlots (shape : Shape) (places : Places) : Type 0 where
   pub count : length places.found.items ≡ shape.pages
   pub below : (p : ℕ) (found : Found) → slice_get places.found.items p ≡ Some found → HasItsSlot shape found
 
--- What is known of them whatever the device tells: the slots are there, and no page's lsn has fallen since it was found.
+-- Known whatever the device tells: the slots and the pages are there, and no page's lsn has fallen since it was found.
 pub record ArePlacesOf (shape : Shape) (places : Places) (pages : List Content) : Type 0 where
   pub have_slots : HaveSlots shape places
+  pub its_pages : ArePagesOf shape pages
   pub risen : (p : ℕ) (found : Found) (page : Content) → slice_get places.found.items p ≡ Some found
       → slice_get pages p ≡ Some page → found.lsn ≤ page.lsn
 
@@ -42,8 +44,9 @@ pub record ArePlacesOf (shape : Shape) (places : Places) (pages : List Content) 
 abbrev pub AreFoundAt : Shape → List Found → List ℕ → Type 0
 AreFoundAt shape found image = (p : ℕ) (one : Found) → slice_get found p ≡ Some one → IsFoundAt shape image p one
 
--- one page is put among the others, with the lsn with which it was found
-pub record PutsFound (p : ℕ) (old new : List Content) (found : Found) : Type 0 where
+-- one page is put among the others, with the lsn with which it was found, in its place or in a slot that the store has
+pub record PutsFound (shape : Shape) (p : ℕ) (old new : List Content) (found : Found) : Type 0 where
+  pub slot : HasItsSlot shape found
   pub user : List ℕ
   pub put : new ≡ slice_set old p (record { lsn = found.lsn; user = user })
 

@@ -49,9 +49,3 @@ log_error_of (Err fault) = log_error fault
 abbrev pub data_error_of : {T : Type 0} → Result T RecFault → Option DevError
 data_error_of (Ok value) = None
 data_error_of (Err fault) = data_error fault
-
--- no device has to have answered the error: it is none, or the program's own want of memory
-abbrev pub MayBeOwn : Option DevError → Type 0
-MayBeOwn None = Unit {0}
-MayBeOwn (Some device.NoMemory) = Unit {0}
-MayBeOwn (Some device.Failed) = ⊥

@@ -12,18 +12,18 @@ use Rattle.redo_recover.specs.declared.fault.RecFault.TheVariants.{SmallLog, Sma
 use Rattle.redo_recover.specs.declared.start.Start.{Start}
 
 -- both devices are as long as their header asks, and this is the newest checkpoint
-pub record IsStart (log_bytes data_bytes : List ℕ) (start : Start) : Type 0 where
+pub record IsRecoveryStart (log_bytes data_bytes : List ℕ) (start : Start) : Type 0 where
   pub devices : HasDevices log_bytes data_bytes start.format start.shape
   pub newest : newest_checkpoint (layout_of start.format start.shape) log_bytes ≡ Some (start.number, start.ckpt)
 
 -- the sizes are within the limits and the devices are long enough for them, and the checkpoint is at the lsn of a block
-pub record IsUsable (log_size data_size : ℕ) (start : Start) : Type 0 where
-  pub limits : IsWithinLimits start.shape
-  pub log_long : log_device_length start.shape ≤ log_size
-  pub data_long : data_device_length start.shape ≤ data_size
-  pub aligned : start.ckpt % BLOCK_SIZE ≡ 0
-  pub started : START_LSN ≤ start.ckpt
-  pub small : start.ckpt < LSN_LIMIT
+pub record IsUsable (log_size data_size : ℕ) (shape : Shape) (ckpt : ℕ) : Type 0 where
+  pub limits : IsWithinLimits shape
+  pub log_long : log_device_length shape ≤ log_size
+  pub data_long : data_device_length shape ≤ data_size
+  pub aligned : ckpt % BLOCK_SIZE ≡ 0
+  pub started : START_LSN ≤ ckpt
+  pub small : ckpt < LSN_LIMIT
 
 -- why a header names no shape
 abbrev pub IsHeadFault : List ℕ → RecFault → Type 0

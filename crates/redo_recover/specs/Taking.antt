@@ -56,7 +56,7 @@ block_at place tails None = None
 block_at place tails (Some found) = taken_from (bytes_at place tails found.0) (Some found.1)
 
 -- the tail block in which the block of the lsn stands
-abbrev pub tail_at : ℕ → Stand → Option Tail
-tail_at lsn Place = None
-tail_at lsn Four = Some (record { which = HEADER_BLOCKS; lsn = lsn })
-tail_at lsn Five = Some (record { which = HEADER_BLOCKS + 1; lsn = lsn })
+abbrev pub tail_block_at : ℕ → Stand → Option Tail
+tail_block_at lsn Place = None
+tail_block_at lsn Four = Some (record { which = HEADER_BLOCKS; lsn = lsn })
+tail_block_at lsn Five = Some (record { which = HEADER_BLOCKS + 1; lsn = lsn })

@@ -4,7 +4,7 @@ ghost use Rattle.model_base.specs.declared.limits.TheConstants.{LSN_LIMIT, MAX_L
 ghost use Rattle.model_log.specs.{IsLayout, IsStop, ring_start, round_of};
 ghost use Rattle.model_store.specs.{AreFoundIn, groups_start};
 ghost use Rattle.redo_disk.specs.{error_of};
-ghost use Rattle.redo_recover.specs.Blocks.{AreBlocksOf, AreFew, HaveFirsts};
+ghost use Rattle.redo_recover.specs.Blocks.{AreBlocksOf, AreBounded};
 ghost use Rattle.redo_recover.specs.Devices.{OnContent, OnSource};
 ghost use Rattle.redo_recover.specs.Reading.{IsTailFound};
 ghost use Rattle.redo_recover.specs.Reads.{IsOnlyRead};
@@ -76,8 +76,7 @@ pub(crate) fn read_blocks<L: Sectors>(
     requires started { START_LSN ≤ ckpt }
     requires small { ckpt < LSN_LIMIT }
     ensures blocks { IfOk result (λ blocks. OnSource layout.now (L.seen log.old).tells (AreBlocksOf layout.now.blocks ckpt blocks.views.items blocks.joined.items)) }
-    ensures few { IfOk result (λ blocks. AreFew layout.now.blocks blocks.views.items blocks.joined.items) }
-    ensures firsts { IfOk result (λ blocks. HaveFirsts blocks.views.items) }
+    ensures bounded { IfOk result (λ blocks. AreBounded layout.now.blocks blocks.views.items blocks.joined.items) }
     ensures stop { IfOk result (λ blocks. OnContent (L.seen log.old).tells (IsStop layout.now ckpt blocks.views.items blocks.stop)) }
     ensures tail { IfOk result (λ blocks. OnContent (L.seen log.old).tells (λ content. AreFoundIn layout.now content ckpt blocks.views.items blocks.tail)) }
     ensures found { IfOk result (λ blocks. IfSome blocks.tail (IsTailFound layout.now ckpt)) }

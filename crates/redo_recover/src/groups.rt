@@ -5,7 +5,7 @@ ghost use Rattle.model_base.specs.declared.limits.TheConstants.{LSN_LIMIT, MAX_L
 ghost use Rattle.model_log.specs.{sn_of};
 ghost use Rattle.model_log.specs.declared.layout.Layout.{Layout};
 ghost use Rattle.model_store.specs.{groups_start};
-ghost use Rattle.redo_recover.specs.Blocks.{AreFew, HaveFirsts};
+ghost use Rattle.redo_recover.specs.Blocks.{AreBounded};
 ghost use Rattle.redo_recover.specs.Groups.{GivesStorable, EndAt, IsBreakFault, AreParsed, IsEndOf, IsParseFault};
 ghost use Rattle.redo_recover.specs.Runs.{IsFrontRun};
 
@@ -96,8 +96,7 @@ pub(crate) fn parse<P: Replay>(
 ) -> Result<(Vec<Whole>, u64), RecFault>
     requires ready { P.is_ready replay.now }
     requires limits { IsWithinLimits shape.now }
-    requires few { AreFew MAX_LOG_BLOCKS blocks.now.views.items blocks.now.joined.items }
-    requires firsts { HaveFirsts blocks.now.views.items }
+    requires bounded { AreBounded MAX_LOG_BLOCKS blocks.now.views.items blocks.now.joined.items }
     requires aligned { ckpt % BLOCK_SIZE ≡ 0 }
     requires small { ckpt < LSN_LIMIT }
     ensures parsed { IfOk result (λ found. AreParsed ckpt (length blocks.now.views.items) shape.now blocks.now.joined.items

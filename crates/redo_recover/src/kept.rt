@@ -1,7 +1,7 @@
 // Kept pages, read off the data device place by place.
 ghost use Rattle.std.specs.Prelude.{List, ℕ, ◌≡◌, ◌≤◌, ◌<◌, ◌+◌, ◌*◌, length, take, OnOk, IfOk, IfErr, IfSome, MatchOption};
-ghost use Rattle.model_base.specs.{IsWithinLimits};
-ghost use Rattle.model_page.specs.{data_device_length, IsKept, IsLost, place_bytes, user_length};
+ghost use Rattle.model_base.specs.{IsWithinLimits, user_length};
+ghost use Rattle.model_page.specs.{data_device_length, IsKept, IsLost, place_bytes};
 ghost use Rattle.redo_apply.specs.{ArePagesOf};
 ghost use Rattle.redo_recover.specs.Devices.{OnContent};
 ghost use Rattle.redo_recover.specs.Pages.{AreKept, HoldsSlots, IsFirstLostFault, IsLostFault, PutsKept};
@@ -69,8 +69,7 @@ fn keep_page<D: Sectors>(
     ensures kept { OnOk result (OnContent (D.seen device.old).tells (PutsKept shape.now page pages.old pages.new)) }
     ensures its_pages { OnOk result (ArePagesOf shape.now pages.new) }
     ensures found { IfOk result (λ found. OnContent (D.seen device.old).tells (λ content. IsFoundAt shape.now content page found)) }
-    ensures slot { IfOk result (HasItsSlot shape.now) }
-    ensures lsn { IfOk result (PutsFound page pages.old pages.new) }
+    ensures puts { IfOk result (PutsFound shape.now page pages.old pages.new) }
     ensures fault { IfErr result (IsLostFault shape.now page (D.seen device.old).tells) }
     ensures reads { IsOnlyRead D.seen D.gives device.old (data_error_of result) device.new }
 {

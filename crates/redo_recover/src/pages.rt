@@ -1,18 +1,17 @@
 // The pages of a store: as they are kept, judged, and with the scanned groups applied.
-ghost use Rattle.std.specs.Prelude.{ℕ, ◌≤◌, ◌<◌, length, All, IfOk, IfErr};
+ghost use Rattle.std.specs.Prelude.{◌≤◌, All, IfOk, IfErr};
 ghost use Rattle.model_base.specs.{IsWithinLimits};
-ghost use Rattle.model_base.specs.declared.limits.TheConstants.{MAX_PAGES};
 ghost use Rattle.model_page.specs.{data_device_length};
 ghost use Rattle.model_log.specs.{GroupFits};
 ghost use Rattle.model_log.specs.declared.group.Whole.{Whole};
 ghost use Rattle.std.specs.List.{AllByRecursion};
 ghost use Rattle.model_store.specs.{AreReadPages};
 ghost use Rattle.redo_apply.specs.{ArePagesOf};
-ghost use Rattle.redo_recover.specs.Devices.{HasLengthCause, OnContent};
+ghost use Rattle.redo_recover.specs.Devices.{OnContent};
 ghost use Rattle.redo_recover.specs.Groups.{EndBehindStarts};
-ghost use Rattle.redo_recover.specs.Pages.{AreNotAhead, IsAheadFault, HasPageCause};
+ghost use Rattle.redo_recover.specs.Pages.{AreNotAhead, IsAheadFault, IsPageFault};
 ghost use Rattle.redo_recover.specs.Places.{AreFoundOn, ArePlacesOf};
-ghost use Rattle.redo_recover.specs.Reads.{IsOnlyRead, MayBeOwn, data_error_of, log_error};
+ghost use Rattle.redo_recover.specs.Reads.{IsOnlyRead, data_error_of};
 
 use crate::errors::data_fault;
 use crate::kept::keep_pages;
@@ -33,12 +32,12 @@ pub(crate) struct Placed {
 }
 
 /// Whether a page has an lsn above the log's end.
-fn check_ahead(pages: &Pages, end: u64) -> Result<(), RecFault>
-    requires { length pages.now ≤ MAX_PAGES }
+fn check_ahead(pages: &Pages, shape: &Shape, end: u64) -> Result<(), RecFault>
+    requires { ArePagesOf shape.now pages.now }
     ensures fine { IfOk result (λ _. AreNotAhead pages.now end) }
     ensures fault { IfErr result (IsAheadFault pages.now end) }
 {
-    for number in 0..pages.len() as u32 {
+    for number in 0..shape.pages {
         let lsn = pages.lsn(number);
         if end < lsn {
             return Err(RecFault::PageAhead(number, lsn));
@@ -67,13 +66,10 @@ pub(crate) fn read_pages<D: Sectors, P: Replay>(
         (λ content. AreReadPages shape.now content groups.now end placed.pages)) }
     ensures found { IfOk result (λ placed. OnContent (D.seen device.old).tells
         (AreFoundOn shape.now placed.places placed.pages)) }
-    ensures its_pages { IfOk result (λ placed. ArePagesOf shape.now placed.pages) }
     ensures its_places { IfOk result (λ placed. ArePlacesOf shape.now placed.places placed.pages) }
     ensures not_ahead { IfOk result (λ placed. AreNotAhead placed.pages end) }
-    ensures lengths { (log_size data_size : ℕ) → IfErr result (HasLengthCause log_size data_size) }
-    ensures cause { IfErr result (λ fault. OnContent (D.seen device.old).tells (HasPageCause shape.now end fault)) }
+    ensures fault { IfErr result (IsPageFault shape.now end (D.seen device.old).tells) }
     ensures reads { IsOnlyRead D.seen D.gives device.old (data_error_of result) device.new }
-    ensures apart { IfErr result (λ fault. MayBeOwn (log_error fault)) }
 {
     let slots_length = shape.slots as usize * shape.page_size as usize;
     let slots = match read_part(alloc, device, 0, slots_length) {
@@ -81,7 +77,7 @@ pub(crate) fn read_pages<D: Sectors, P: Replay>(
         Err(error) => return Err(data_fault(error)),
     };
     let (mut pages, found) = keep_pages(alloc, device, shape, slots.as_slice())?;
-    check_ahead(&pages, end)?;
+    check_ahead(&pages, shape, end)?;
     replay.replay(alloc, &mut pages, groups, shape)?;
     let places = Places { slots, found };
     Ok(Placed { pages, places })

@@ -11,7 +11,7 @@ ghost use Rattle.redo_recover.specs.Runs.{IsFrontRun};
 use crate::blocks::Blocks;
 use crate::run::Run;
 use crate::stretch::read_by_all;
-use model_base::{MAX_PAGES, Shape};
+use model_base::Shape;
 use model_log::Whole;
 use redo_apply::Pages;
 use redo_lsn::NoMemory;
@@ -81,7 +81,8 @@ impl Replay for OneWorker {
         groups: &[Whole],
         shape: &Shape,
     ) -> Result<(), NoMemory> {
-        replay_pages(pages, groups, shape);
+        let lsns = Vec::from_slice(alloc, pages.lsns())?;
+        replay_groups(pages, lsns.as_slice(), groups, shape);
         Ok(())
     }
 }
@@ -134,18 +135,4 @@ fn replay_groups(pages: &mut Pages, lsns: &[u64], groups: &[Whole], shape: &Shap
     for whole in groups {
         pages.apply_where(lsns, &whole.group, whole.start, whole.end);
     }
-}
-
-/// Applies to each page each of these groups that starts at or above its lsn.
-fn replay_pages(pages: &mut Pages, groups: &[Whole], shape: &Shape)
-    requires limits { IsWithinLimits shape.now }
-    requires its_pages { ArePagesOf shape.now pages.old }
-    requires fit { All (λ whole. GroupFits shape.now whole.group) groups.now }
-    ensures replayed { AreReplayed groups.now pages.old pages.new }
-    ensures its_pages { ArePagesOf shape.now pages.new }
-{
-    let mut lsns = [0; MAX_PAGES as usize];
-    let count = pages.len();
-    lsns[..count].copy_from_slice(pages.lsns());
-    replay_groups(pages, &lsns[..count], groups, shape);
 }

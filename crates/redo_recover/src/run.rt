@@ -2,7 +2,7 @@
 ghost use Rattle.std.specs.Prelude.{List, ℕ, ◌≡◌, ◌≤◌, ◌<◌, ◌+◌, ◌*◌, ◌++◌, length, drop, OnOk, IfOk};
 ghost use Rattle.model_base.specs.declared.limits.TheConstants.{LSN_LIMIT};
 ghost use Rattle.model_log.specs.{sn_of};
-ghost use Rattle.redo_recover.specs.Runs.{IsFrontRun, IsRun};
+ghost use Rattle.redo_recover.specs.Runs.{HasRunGroups, IsFrontRun};
 
 use crate::groups::read_storable;
 use model_base::Shape;
@@ -41,7 +41,7 @@ impl Run {
 
     /// Takes over the groups of another run, if it begins where this one ends.
     pub(crate) fn join(&mut self, run: Run) -> Result<(), NoMemory>
-        ensures run { OnOk result ((shape : Shape) (bytes : List ℕ) → IsRun shape bytes self.old → IsRun shape bytes run → IsRun shape bytes self.new) }
+        ensures run { OnOk result ((shape : Shape) (bytes : List ℕ) → HasRunGroups shape bytes self.old → HasRunGroups shape bytes run → HasRunGroups shape bytes self.new) }
         ensures first { self.new.from ≡ self.old.from }
         ensures at { self.new.start ≡ self.old.start }
     {
@@ -78,7 +78,7 @@ pub(crate) fn read_run(
 ) -> Result<Run, NoMemory>
     requires within { from ≤ length bytes.now }
     requires room { sn_of start + length (drop from bytes.now) < 2 * LSN_LIMIT }
-    ensures run { IfOk result (IsRun shape.now bytes.now) }
+    ensures run { IfOk result (HasRunGroups shape.now bytes.now) }
     ensures place { IfOk result (λ run. (run.from ≡ from) × (run.start ≡ start)) }
 {
     lsn_and_sn();

@@ -1,13 +1,13 @@
 // The scan of a log from a checkpoint on.
-ghost use Rattle.std.specs.Prelude.{ℕ, ◌≡◌, ◌≤◌, ◌<◌, ◌+◌, ◌%◌, length, All, IfOk, IfErr, IfSome};
+ghost use Rattle.std.specs.Prelude.{◌≡◌, ◌≤◌, ◌<◌, ◌+◌, ◌%◌, IfOk, IfErr};
 ghost use Rattle.model_base.specs.{IsWithinLimits};
 ghost use Rattle.model_base.specs.declared.limits.TheConstants.{BLOCK_SIZE, LSN_LIMIT, START_LSN};
-ghost use Rattle.model_log.specs.{GroupFits, IsLayout, IsStop, ring_start, round_of};
+ghost use Rattle.model_log.specs.{IsLayout, IsStop, ring_start, round_of};
 ghost use Rattle.model_store.specs.{AreFoundIn, IsScan};
-ghost use Rattle.redo_recover.specs.Devices.{HasLengthCause, OnContent, OnSource};
-ghost use Rattle.redo_recover.specs.Groups.{EndBehindStarts, IsEndOf, IsScanFault};
-ghost use Rattle.redo_recover.specs.Reading.{IsTailFound};
-ghost use Rattle.redo_recover.specs.Reads.{IsOnlyRead, MayBeOwn, data_error, log_error_of};
+ghost use Rattle.redo_recover.specs.Devices.{OnContent, OnSource};
+ghost use Rattle.redo_recover.specs.Groups.{IsScanFault};
+ghost use Rattle.redo_recover.specs.Reading.{IsScanOf};
+ghost use Rattle.redo_recover.specs.Reads.{IsOnlyRead, log_error_of};
 
 use crate::RecFault;
 use crate::blocks::{Blocks, read_blocks};
@@ -51,15 +51,9 @@ pub(crate) fn scan_log<L: Sectors, P: Replay>(
         (λ source. IsScan shape.now layout.now.blocks source ckpt scanned.views.items scanned.groups.items scanned.end)) }
     ensures stop { IfOk result (λ scanned. OnContent (L.seen log.old).tells (IsStop layout.now ckpt scanned.views.items scanned.stop)) }
     ensures tail { IfOk result (λ scanned. OnContent (L.seen log.old).tells (λ content. AreFoundIn layout.now content ckpt scanned.views.items scanned.tail)) }
-    ensures found { IfOk result (λ scanned. IfSome scanned.tail (IsTailFound layout.now ckpt)) }
-    ensures few { IfOk result (λ scanned. length scanned.views.items ≤ layout.now.blocks) }
-    ensures end { IfOk result (λ scanned. IsEndOf layout.now ckpt scanned.groups.items scanned.end) }
-    ensures fit { IfOk result (λ scanned. All (λ whole. GroupFits shape.now whole.group) scanned.groups.items) }
-    ensures rise { IfOk result (λ scanned. EndBehindStarts scanned.groups.items) }
-    ensures fault { IfErr result (λ fault. OnSource layout.now (L.seen log.old).tells (IsScanFault shape.now layout.now.blocks ckpt fault)) }
-    ensures lengths { (log_size data_size : ℕ) → IfErr result (HasLengthCause log_size data_size) }
+    ensures scanned { IfOk result (IsScanOf shape.now layout.now ckpt) }
+    ensures fault { IfErr result (IsScanFault shape.now layout.now ckpt (L.seen log.old).tells) }
     ensures reads { IsOnlyRead L.seen L.gives log.old (log_error_of result) log.new }
-    ensures apart { IfErr result (λ fault. MayBeOwn (data_error fault)) }
 {
     let blocks = match read_blocks(alloc, log, layout, ckpt) {
         Ok(blocks) => blocks,

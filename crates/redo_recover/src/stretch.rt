@@ -3,7 +3,7 @@ ghost use Rattle.std.specs.Prelude.{ℕ, List, ◌≤◌, ◌<◌, ◌+◌, ◌*
 ghost use Rattle.model_base.specs.declared.limits.TheConstants.{LSN_LIMIT, MAX_LOG_BLOCKS};
 ghost use Rattle.model_base.specs.declared.shape.Shape.{Shape};
 ghost use Rattle.model_log.specs.{sn_of};
-ghost use Rattle.redo_recover.specs.Runs.{IsFrontRun, IsRun};
+ghost use Rattle.redo_recover.specs.Runs.{HasRunGroups, IsFrontRun};
 
 use crate::blocks::Blocks;
 use crate::run::{Run, read_run};
@@ -75,7 +75,7 @@ fn read_stretch(
 ) -> Result<Run, NoMemory>
     requires within { stretch.now.from ≤ length bytes.now }
     requires room { sn_of start + length bytes.now < 2 * LSN_LIMIT }
-    ensures { IfOk result (IsRun shape.now bytes.now) }
+    ensures { IfOk result (HasRunGroups shape.now bytes.now) }
 {
     lsn_and_sn();
     let Stretch { from, to } = *stretch;
@@ -97,7 +97,7 @@ fn read_stretches(
 ) -> Result<Vec<Run>, NoMemory>
     requires within { All (λ stretch. stretch.from ≤ length bytes.now) stretches.now }
     requires room { sn_of start + length bytes.now < 2 * LSN_LIMIT }
-    ensures { IfOk result (λ runs. All (IsRun shape.now bytes.now) runs.items) }
+    ensures { IfOk result (λ runs. All (HasRunGroups shape.now bytes.now) runs.items) }
 {
     let runs = stretches
         .par_iter()
@@ -105,7 +105,7 @@ fn read_stretches(
         .map(
             |stretch: &Stretch| -> Result<Run, NoMemory>
                 requires { (stretch.now.from ≤ length bytes.now) × (sn_of start + length bytes.now < 2 * LSN_LIMIT) }
-                ensures { IfOk result (IsRun shape.entry.now bytes.entry.now) }
+                ensures { IfOk result (HasRunGroups shape.entry.now bytes.entry.now) }
             { read_stretch(alloc, bytes, start, stretch, shape) },
         )
         .collect::<Result<Vec<Run>, NoMemory>>(rt, alloc)?;
@@ -114,7 +114,7 @@ fn read_stretches(
 
 /// The runs joined, as far as each begins where the one before it ends.
 fn joined(alloc: Global, runs: Vec<Run>, start: u64) -> Result<Run, NoMemory>
-    ensures { IfOk result (λ all. (shape : Shape) (bytes : List ℕ) → All (IsRun shape bytes) runs.items → IsFrontRun shape bytes start all) }
+    ensures { IfOk result (λ all. (shape : Shape) (bytes : List ℕ) → All (HasRunGroups shape bytes) runs.items → IsFrontRun shape bytes start all) }
 {
     let mut all = Run::none(alloc, start);
     for run in runs {

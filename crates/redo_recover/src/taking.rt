@@ -5,7 +5,7 @@ ghost use Rattle.model_log.specs.{cause_at, is_full, misfit_of};
 ghost use Rattle.model_log.specs.declared.layout.TheConstants.{BLOCK_HEADER};
 ghost use Rattle.model_store.specs.{if_full, if_tail};
 ghost use Rattle.redo_recover.specs.Blocks.{HasFirst};
-ghost use Rattle.redo_recover.specs.Taking.{bytes_at, chosen, five_of, found_among, found_at, four_of, tail_at};
+ghost use Rattle.redo_recover.specs.Taking.{bytes_at, chosen, five_of, found_among, found_at, four_of, tail_block_at};
 
 use crate::piece::sector_at;
 use model_base::{BLOCK_SIZE, LSN_LIMIT};
@@ -141,7 +141,7 @@ pub(crate) fn bytes_at<'a>(
 
 /// The tail block in which the block at the lsn stands, if it stands in one.
 pub(crate) fn tail_at(stand: Stand, lsn: u64) -> Option<Tail>
-    ensures { result ≡ tail_at lsn stand }
+    ensures { result ≡ tail_block_at lsn stand }
 {
     match stand {
         Stand::Place => None,

@@ -1,6 +1,9 @@
 -- The slots and places are erased, and a sync makes that stay.
-use Rattle.std.proofs.Common.{◌≡◌, ◌*◌, sym, subst, arith}
+use Rattle.std.proofs.Common.{◌≡◌, ◌+◌, ◌*◌, ◌%◌, ◌∙◌, ℕ, ap, sym, subst, arith}
 use Rattle.std.proofs.lemmas.Result.{err_from_is_err_and, on_ok_weaker}
+use Rattle.model_base.proofs.ShapeLimits.{whole_sectors}
+use Rattle.model_base.specs.declared.limits.TheConstants.{BLOCK_SIZE}
+use Rattle.model_parts.proofs.Rows.{row-sector}
 use Rattle.model_device.specs.{synced}
 use Rattle.model_device.specs.Disk.{Disk}
 use Rattle.model_page.specs.{data_device_length}
@@ -13,6 +16,12 @@ use Rattle.redo_open.proofs.Blanks.{reaches-sized, synced-blank}
 use Rattle.redo_disk.proofs.Told.{OnTold-then}
 use Rattle.redo_open.proofs.Told.{cause-since}
 use Rattle.redo_open.proofs.blank.clear_pages.Goals as goal
+
+pub erase-requires-clause-whole : goal.erase-requires-clause-whole
+erase-requires-clause-whole g c =
+    let shape = c.args.shape.now in
+    let length_is : c.from.result * c.from-2.result ≡ data_device_length shape = cc in
+    ap (λ (n : ℕ). n % BLOCK_SIZE) length_is ∙ row-sector (shape.slots + shape.pages) shape.page_size (whole_sectors shape c.requires.limits).sectors
 
 pub returns-clause-ok : goal.returns-clause-ok
 returns-clause-ok g c =

@@ -43,8 +43,6 @@ returns-in-Err-clause-step g c =
       ok = λ log_bytes data_bytes from. tt;
       unmoved = λ log_bytes data_bytes from. unmoved-clears opened tail log_old data_old log_bytes data_bytes new.tells from
           (log-clears opened tail log_old data_old log_bytes data_bytes (Err c.in-Err.error) new from step);
-      log = record { size = step.size; later = step.cause.later };
-      data_device = record { size = refl; later = omega arith };
       fault = log-cause c.in-Err.error c.log_fault.result c.log_fault.ensures;
       log_failed = log-risen log_old.faults new.faults c.in-Err.error c.log_fault.result c.log_fault.ensures step.cause;
       data_failed = log-not_data c.in-Err.error c.log_fault.result c.log_fault.ensures;
@@ -67,8 +65,6 @@ returns-in-Err-open_places-clause-step g c =
       ok = λ log_bytes data_bytes from. tt;
       unmoved = λ log_bytes data_bytes from. unmoved-clears opened tail log_old data_old log_bytes data_bytes new.tells from
           (cleared-known opened tail log_old data_old log_bytes data_bytes new.tells from (log-cleared opened tail log_old data_old log_bytes data_bytes tt new from step));
-      log = record { size = step.size; later = step.cause.later };
-      data_device = record { size = places.size; later = places.later };
       fault = places-cause c.in-Err-open_places.fault places.own;
       log_failed = places-not_log c.in-Err-open_places.fault places.own;
       data_failed = places.failed;
@@ -94,8 +90,6 @@ returns-in-Ok-mark-clause-step g c =
           (log-cleared opened tail log_old data_old log_bytes data_bytes tt mid from step) marks
           (places.ok log_bytes data_bytes opened (read-as log_bytes data_bytes opened from.orderly) from.data_from);
       unmoved = λ log_bytes data_bytes from. tt;
-      log = record { size = marks.size ∙ step.size; later = omega (arith, marks.cause.later, step.cause.later) };
-      data_device = record { size = places.size; later = places.later };
       fault = tt;
       log_failed = λ failed. absurd cc;
       data_failed = λ failed. absurd cc;
@@ -120,38 +114,54 @@ returns-in-Err-mark-clause-step g c =
       ok = λ log_bytes data_bytes from. tt;
       unmoved = λ log_bytes data_bytes from. unmoved-marks opened tail log_old data_old log_bytes data_bytes mid c.in-Err-mark.error new from
           (log-cleared opened tail log_old data_old log_bytes data_bytes tt mid from step) marks;
-      log = record { size = marks.size ∙ step.size; later = omega (arith, marks.cause.later, step.cause.later) };
-      data_device = record { size = places.size; later = places.later };
       fault = log-cause c.in-Err-mark.error c.log_fault-in-Err-mark.result c.log_fault-in-Err-mark.ensures;
       log_failed = log-risen log_old.faults new.faults c.in-Err-mark.error c.log_fault-in-Err-mark.result c.log_fault-in-Err-mark.ensures
           (cause-since log_old.faults mid.faults new.faults (Err c.in-Err-mark.error) step.cause.later marks.cause);
       data_failed = λ failed. log-not_data c.in-Err-mark.error c.log_fault-in-Err-mark.result c.log_fault-in-Err-mark.ensures failed;
     }
 
-pub returns-in-Err-clause-log_calls : goal.returns-in-Err-clause-log_calls
-returns-in-Err-clause-log_calls g c = log_ends c.in-Err.error c.log_fault.result c.log_fault.ensures (ends_of c.in-Err.ensures.calls)
+-- THE CALLS.
 
-pub returns-in-Err-clause-data_calls : goal.returns-in-Err-clause-data_calls
-returns-in-Err-clause-data_calls g c = beside_log c.in-Err.error c.log_fault.result c.log_fault.ensures (none_may_end g.D.Sectors.gives c.args.part.now.dev)
+pub returns-in-Err-clause-called : goal.returns-in-Err-clause-called
+returns-in-Err-clause-called g c =
+    let step = c.in-Err.ensures.step in record {
+      log = record { size = step.size; later = step.cause.later };
+      data_device = record { size = refl; later = omega arith };
+      log_calls = log_ends c.in-Err.error c.log_fault.result c.log_fault.ensures (ends_of c.in-Err.ensures.calls);
+      data_calls = beside_log c.in-Err.error c.log_fault.result c.log_fault.ensures (none_may_end g.D.Sectors.gives c.args.part.now.dev);
+    }
 
-pub returns-in-Err-open_places-clause-log_calls : goal.returns-in-Err-open_places-clause-log_calls
-returns-in-Err-open_places-clause-log_calls g c = beside_pages c.in-Err-open_places.fault c.in-Err-open_places.ensures.step.own (may_end (ends_of c.in-Ok.ensures.calls))
+pub returns-in-Err-open_places-clause-called : goal.returns-in-Err-open_places-clause-called
+returns-in-Err-open_places-clause-called g c =
+    let step = c.in-Ok.ensures.step in
+    let places = c.in-Err-open_places.ensures.step in record {
+      log = record { size = step.size; later = step.cause.later };
+      data_device = record { size = places.size; later = places.later };
+      log_calls = beside_pages c.in-Err-open_places.fault c.in-Err-open_places.ensures.step.own (may_end (ends_of c.in-Ok.ensures.calls));
+      data_calls = c.in-Err-open_places.ensures.calls;
+    }
 
-pub returns-in-Err-open_places-clause-data_calls : goal.returns-in-Err-open_places-clause-data_calls
-returns-in-Err-open_places-clause-data_calls g c = c.in-Err-open_places.ensures.calls
+pub returns-in-Ok-mark-clause-called : goal.returns-in-Ok-mark-clause-called
+returns-in-Ok-mark-clause-called g c =
+    let step = c.in-Ok.ensures.step in
+    let places = c.in-Ok-open_places.ensures.step in
+    let marks = c.in-Ok-mark.ensures.step in record {
+      log = record { size = marks.size ∙ step.size; later = omega (arith, marks.cause.later, step.cause.later) };
+      data_device = record { size = places.size; later = places.later };
+      log_calls = may_end (ends_then (ends_of c.in-Ok.ensures.calls) (ends_of c.in-Ok-mark.ensures.calls));
+      data_calls = c.in-Ok-open_places.ensures.calls;
+    }
 
-pub returns-in-Ok-mark-clause-log_calls : goal.returns-in-Ok-mark-clause-log_calls
-returns-in-Ok-mark-clause-log_calls g c = may_end (ends_then (ends_of c.in-Ok.ensures.calls) (ends_of c.in-Ok-mark.ensures.calls))
-
-pub returns-in-Ok-mark-clause-data_calls : goal.returns-in-Ok-mark-clause-data_calls
-returns-in-Ok-mark-clause-data_calls g c = c.in-Ok-open_places.ensures.calls
-
-pub returns-in-Err-mark-clause-log_calls : goal.returns-in-Err-mark-clause-log_calls
-returns-in-Err-mark-clause-log_calls g c =
-    log_ends c.in-Err-mark.error c.log_fault-in-Err-mark.result c.log_fault-in-Err-mark.ensures (ends_then (ends_of c.in-Ok.ensures.calls) (ends_of c.in-Err-mark.ensures.calls))
-
-pub returns-in-Err-mark-clause-data_calls : goal.returns-in-Err-mark-clause-data_calls
-returns-in-Err-mark-clause-data_calls g c = beside_log c.in-Err-mark.error c.log_fault-in-Err-mark.result c.log_fault-in-Err-mark.ensures c.in-Ok-open_places.ensures.calls
+pub returns-in-Err-mark-clause-called : goal.returns-in-Err-mark-clause-called
+returns-in-Err-mark-clause-called g c =
+    let step = c.in-Ok.ensures.step in
+    let places = c.in-Ok-open_places.ensures.step in
+    let marks = c.in-Err-mark.ensures.step in record {
+      log = record { size = marks.size ∙ step.size; later = omega (arith, marks.cause.later, step.cause.later) };
+      data_device = record { size = places.size; later = places.later };
+      log_calls = log_ends c.in-Err-mark.error c.log_fault-in-Err-mark.result c.log_fault-in-Err-mark.ensures (ends_then (ends_of c.in-Ok.ensures.calls) (ends_of c.in-Err-mark.ensures.calls));
+      data_calls = beside_log c.in-Err-mark.error c.log_fault-in-Err-mark.result c.log_fault-in-Err-mark.ensures c.in-Ok-open_places.ensures.calls;
+    }
 
 -- THE LENGTHS.
 

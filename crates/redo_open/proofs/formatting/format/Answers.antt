@@ -1,4 +1,4 @@
-use Rattle.std.proofs.Common.{ℕ, subst}
+use Rattle.std.proofs.Common.{ℕ, refl, subst, arith}
 use Rattle.redo_recover.specs.{IsLengthFault}
 use Rattle.redo_open.proofs.Inside.{puts_of}
 use Rattle.redo_open.proofs.Puts.{put_nothing}
@@ -22,8 +22,11 @@ pub returns-in-Err-clause-calls : goal.returns-in-Err-clause-calls
 returns-in-Err-clause-calls g c =
     length-calls g.L.Sectors.gives g.D.Sectors.gives c.args.log.now c.args.data_device.now c.args.shape.now _ _ c.in-Err.fault c.in-Err.ensures.fault
 
-pub returns-in-Err-clause-inside : goal.returns-in-Err-clause-inside
-returns-in-Err-clause-inside g c = record {
-  log = puts_of (put_nothing g.L.Sectors.gives c.args.log.now);
-  data_device = puts_of (put_nothing g.D.Sectors.gives c.args.data_device.now);
-}
+pub returns-in-Err-clause-called : goal.returns-in-Err-clause-called
+returns-in-Err-clause-called g c =
+    record {
+      log = record { size = refl; later = omega arith };
+      data_device = record { size = refl; later = omega arith };
+      log_calls = puts_of (put_nothing g.L.Sectors.gives c.args.log.now);
+      data_calls = puts_of (put_nothing g.D.Sectors.gives c.args.data_device.now);
+    }

@@ -1,5 +1,5 @@
 -- The steps, one after the other, on both devices.
-use Rattle.std.proofs.Common.{◌≤◌, Err, refl, arith}
+use Rattle.std.proofs.Common.{◌≤◌, ◌∙◌, Err, refl, arith}
 use Rattle.std.specs.Prelude.{IfSome}
 use Rattle.model_base.specs.declared.shape.Shape.{Shape}
 use Rattle.model_log.specs.{log_device_length}
@@ -123,28 +123,51 @@ returns-in-Ok-put_new_log-clause-calls g c =
 longer : (shape : Shape) → HEADER_BYTES ≤ log_device_length shape
 longer shape = omega arith
 
-pub returns-in-Err-clause-inside : goal.returns-in-Err-clause-inside
-returns-in-Err-clause-inside g c = record {
-  log = puts_of (put_weaker (within-longer HEADER_BYTES (log_device_length c.args.shape.now) (longer c.args.shape.now)) c.in-Err.ensures.calls);
-  data_device = puts_of (put_nothing g.D.Sectors.gives c.args.data_device.now);
-}
+pub returns-in-Err-clause-called : goal.returns-in-Err-clause-called
+returns-in-Err-clause-called g c =
+    record {
+      log = record { size = c.in-Err.ensures.size; later = c.in-Err.ensures.cause.later };
+      data_device = record { size = refl; later = omega arith };
+      log_calls = puts_of (put_weaker (within-longer HEADER_BYTES (log_device_length c.args.shape.now) (longer c.args.shape.now)) c.in-Err.ensures.calls);
+      data_calls = puts_of (put_nothing g.D.Sectors.gives c.args.data_device.now);
+    }
 
-pub returns-in-Err-clear_blocks-clause-inside : goal.returns-in-Err-clear_blocks-clause-inside
-returns-in-Err-clear_blocks-clause-inside g c =
+pub returns-in-Err-clear_blocks-clause-called : goal.returns-in-Err-clear_blocks-clause-called
+returns-in-Err-clear_blocks-clause-called g c =
     let head = put_weaker (within-longer HEADER_BYTES (log_device_length c.args.shape.now) (longer c.args.shape.now)) c.in-Ok.ensures.calls in
-    record { log = puts_of (puts_then head c.in-Err-clear_blocks.ensures.calls); data_device = puts_of (put_nothing g.D.Sectors.gives c.args.data_device.now) }
+    record {
+      log = record { size = c.in-Err-clear_blocks.ensures.size ∙ c.in-Ok.ensures.size; later = omega (arith, c.in-Err-clear_blocks.ensures.cause.later, c.in-Ok.ensures.cause.later) };
+      data_device = record { size = refl; later = omega arith };
+      log_calls = puts_of (puts_then head c.in-Err-clear_blocks.ensures.calls);
+      data_calls = puts_of (put_nothing g.D.Sectors.gives c.args.data_device.now);
+    }
 
-pub returns-in-Err-clear_pages-clause-inside : goal.returns-in-Err-clear_pages-clause-inside
-returns-in-Err-clear_pages-clause-inside g c =
+pub returns-in-Err-clear_pages-clause-called : goal.returns-in-Err-clear_pages-clause-called
+returns-in-Err-clear_pages-clause-called g c =
     let head = put_weaker (within-longer HEADER_BYTES (log_device_length c.args.shape.now) (longer c.args.shape.now)) c.in-Ok.ensures.calls in
-    record { log = puts_of (puts_then head c.in-Ok-clear_blocks.ensures.calls); data_device = puts_of c.in-Err-clear_pages.ensures.calls }
+    record {
+      log = record { size = c.in-Ok-clear_blocks.ensures.size ∙ c.in-Ok.ensures.size; later = omega (arith, c.in-Ok-clear_blocks.ensures.cause.later, c.in-Ok.ensures.cause.later) };
+      data_device = record { size = c.in-Err-clear_pages.ensures.size; later = c.in-Err-clear_pages.ensures.cause.later };
+      log_calls = puts_of (puts_then head c.in-Ok-clear_blocks.ensures.calls);
+      data_calls = puts_of c.in-Err-clear_pages.ensures.calls;
+    }
 
-pub returns-in-Err-put_new_log-clause-inside : goal.returns-in-Err-put_new_log-clause-inside
-returns-in-Err-put_new_log-clause-inside g c =
+pub returns-in-Err-put_new_log-clause-called : goal.returns-in-Err-put_new_log-clause-called
+returns-in-Err-put_new_log-clause-called g c =
     let head = put_weaker (within-longer HEADER_BYTES (log_device_length c.args.shape.now) (longer c.args.shape.now)) c.in-Ok.ensures.calls in
-    record { log = puts_of (puts_then head (puts_then c.in-Ok-clear_blocks.ensures.calls c.in-Err-put_new_log.ensures.calls)); data_device = puts_of c.in-Ok-clear_pages.ensures.calls }
+    record {
+      log = record { size = c.in-Err-put_new_log.ensures.size ∙ c.in-Ok-clear_blocks.ensures.size ∙ c.in-Ok.ensures.size; later = omega (arith, c.in-Err-put_new_log.ensures.cause.later, c.in-Ok-clear_blocks.ensures.cause.later, c.in-Ok.ensures.cause.later) };
+      data_device = record { size = c.in-Ok-clear_pages.ensures.size; later = c.in-Ok-clear_pages.ensures.cause.later };
+      log_calls = puts_of (puts_then head (puts_then c.in-Ok-clear_blocks.ensures.calls c.in-Err-put_new_log.ensures.calls));
+      data_calls = puts_of c.in-Ok-clear_pages.ensures.calls;
+    }
 
-pub returns-in-Ok-put_new_log-clause-inside : goal.returns-in-Ok-put_new_log-clause-inside
-returns-in-Ok-put_new_log-clause-inside g c =
+pub returns-in-Ok-put_new_log-clause-called : goal.returns-in-Ok-put_new_log-clause-called
+returns-in-Ok-put_new_log-clause-called g c =
     let head = put_weaker (within-longer HEADER_BYTES (log_device_length c.args.shape.now) (longer c.args.shape.now)) c.in-Ok.ensures.calls in
-    record { log = puts_of (puts_then head (puts_then c.in-Ok-clear_blocks.ensures.calls c.in-Ok-put_new_log.ensures.calls)); data_device = puts_of c.in-Ok-clear_pages.ensures.calls }
+    record {
+      log = record { size = c.in-Ok-put_new_log.ensures.size ∙ c.in-Ok-clear_blocks.ensures.size ∙ c.in-Ok.ensures.size; later = omega (arith, c.in-Ok-put_new_log.ensures.cause.later, c.in-Ok-clear_blocks.ensures.cause.later, c.in-Ok.ensures.cause.later) };
+      data_device = record { size = c.in-Ok-clear_pages.ensures.size; later = c.in-Ok-clear_pages.ensures.cause.later };
+      log_calls = puts_of (puts_then head (puts_then c.in-Ok-clear_blocks.ensures.calls c.in-Ok-put_new_log.ensures.calls));
+      data_calls = puts_of c.in-Ok-clear_pages.ensures.calls;
+    }

@@ -1,9 +1,10 @@
 -- The place passed, or the copy that counts is put into it.
-use Rattle.std.proofs.Common.{◌≡◌, ◌<◌, ◌+◌, ◌-◌, ◌*◌, ℕ, List, length, take, drop, Some, refl, sym, ap, subst, arith}
+use Rattle.std.proofs.Common.{◌≡◌, ◌<◌, ◌+◌, ◌-◌, ◌*◌, ◌∙◌, ℕ, List, length, take, drop, Some, refl, sym, ap, subst, arith}
 use Rattle.std.proofs.lemmas.Option.{slice_get_read}
 use Rattle.std.proofs.lemmas.Result.{on_ok_weaker}
 use Rattle.std.specs.Prelude.{IfSome}
 use Rattle.std.specs.List.{slice_get}
+use Rattle.model_base.specs.declared.shape.Shape.{Shape}
 use Rattle.model_parts.specs.{HasNothingPending, IsRepaired, KeepsAll}
 use Rattle.redo_disk.proofs.Told.{known-as, known-both}
 use Rattle.redo_disk.specs.{OnTold}
@@ -24,7 +25,18 @@ slice_bounds-put_copy-end g c =
     slice_get_read c.args.places.now.found.items c.args.part.now.shape.pages c.args.page c.index.result.now (sym c.requires.slots.count) c.requires.page c.index.ensures in
     let in_slot : c.index.result.now.slot ≡ Some c.in-Some.slot = c.in-Some.is in
     let below : c.in-Some.slot < shape.slots = slot-below shape c.args.places.now c.args.page c.in-Some.slot c.index.result.now c.requires.slots at in_slot in
-    omega (arith, slot-room c.in-Some.slot shape.slots shape.page_size below c.requires.sizes, c.requires.slots.room, ap length c.deref.ensures.value)
+    let size_is = ap (λ (s : Shape). s.page_size) (sym c.requires.shape) in
+    omega (arith, slot-room c.in-Some.slot shape.slots shape.page_size c.args.shape.now.page_size below size_is, c.requires.slots.room, ap length c.deref.ensures.value)
+
+pub put_copy-requires-clause-copy : goal.put_copy-requires-clause-copy
+put_copy-requires-clause-copy g c =
+    let shape = c.args.part.now.shape in
+    let at : slice_get c.args.places.now.found.items c.args.page ≡ Some c.index.result.now =
+    slice_get_read c.args.places.now.found.items c.args.part.now.shape.pages c.args.page c.index.result.now (sym c.requires.slots.count) c.requires.page c.index.ensures in
+    let below : c.in-Some.slot < shape.slots = slot-below shape c.args.places.now c.args.page c.in-Some.slot c.index.result.now c.requires.slots at c.in-Some.is in
+    let size_is = ap (λ (s : Shape). s.page_size) (sym c.requires.shape) in
+    let room = slot-room c.in-Some.slot shape.slots shape.page_size c.args.shape.now.page_size below size_is in
+    copy-long c.args.shape.now.page_size c.in-Some.slot c.deref.result.now (omega (arith, room, c.requires.slots.room, ap length c.deref.ensures.value)) ∙ sym size_is
 
 pub put_copy-requires-clause-counts : goal.put_copy-requires-clause-counts
 put_copy-requires-clause-counts g c =
@@ -32,10 +44,12 @@ put_copy-requires-clause-counts g c =
     let page = c.args.page in
     let places = c.args.places.now in
     let slot = c.in-Some.slot in
-    let copy : List ℕ → List ℕ = λ bytes. take (slot * 4096 + 4096 - slot * 4096) (drop (slot * 4096) bytes) in
+    let size = c.args.shape.now.page_size in
+    let size_is = ap (λ (s : Shape). s.page_size) (sym c.requires.shape) in
+    let copy : List ℕ → List ℕ = λ bytes. take (slot * size + size - slot * size) (drop (slot * size) bytes) in
     subst (λ bytes. IfSome (g.D.Sectors.seen c.args.part.now.dev).tells (IsCopyToPut shape page (copy bytes))) (sym c.deref.ensures.value)
     (known-both _ (IsSettledData shape) (StandFrom shape places page) (IsCopyToPut shape page (copy places.slots.items))
-    (λ disk settled stand. stands-in_slot shape places page slot c.index.result.now disk c.requires.sizes settled stand
+    (λ disk settled stand. stands-in_slot shape places page slot c.index.result.now disk size size_is settled stand
     (slice_get_read c.args.places.now.found.items c.args.part.now.shape.pages c.args.page c.index.result.now (sym c.requires.slots.count) c.requires.page c.index.ensures) c.in-Some.is) c.requires.settled c.requires.stand)
 
 pub returns-in-None-clause-step : goal.returns-in-None-clause-step
@@ -79,10 +93,13 @@ returns-in-Some-clause-calls g c =
     let at : slice_get c.args.places.now.found.items c.args.page ≡ Some c.index.result.now =
     slice_get_read c.args.places.now.found.items c.args.part.now.shape.pages c.args.page c.index.result.now (sym c.requires.slots.count) c.requires.page c.index.ensures in
     let below : c.in-Some.slot < shape.slots = slot-below shape c.args.places.now c.args.page c.in-Some.slot c.index.result.now c.requires.slots at c.in-Some.is in
-    let room = slot-room c.in-Some.slot shape.slots shape.page_size below c.requires.sizes in
-    let copy : List ℕ = take (c.in-Some.slot * 4096 + 4096 - c.in-Some.slot * 4096) (drop (c.in-Some.slot * 4096) c.deref.result.now) in
-    let long : length copy ≡ 4096 = copy-long c.in-Some.slot c.deref.result.now (omega (arith, room, c.requires.slots.room, ap length c.deref.ensures.value)) in
-    put_served (repair-within shape c.args.page copy c.requires.sizes c.requires.page long) c.put_copy.ensures.calls
+    let slot = c.in-Some.slot in
+    let size = c.args.shape.now.page_size in
+    let size_is = ap (λ (s : Shape). s.page_size) (sym c.requires.shape) in
+    let room = slot-room slot shape.slots shape.page_size size below size_is in
+    let copy : List ℕ = take (slot * size + size - slot * size) (drop (slot * size) c.deref.result.now) in
+    let long : length copy ≡ size = copy-long size slot c.deref.result.now (omega (arith, room, c.requires.slots.room, ap length c.deref.ensures.value)) in
+    put_served (repair-within shape c.args.page copy c.requires.page (long ∙ sym size_is)) c.put_copy.ensures.calls
 
 pub returns-in-None-clause-calls : goal.returns-in-None-clause-calls
 returns-in-None-clause-calls g c = put_nothing g.D.Sectors.gives c.args.part.now.dev

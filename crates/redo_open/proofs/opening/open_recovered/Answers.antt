@@ -1,18 +1,18 @@
 -- The steps, and then the run.
-use Rattle.std.proofs.Common.{◌≡◌, ◌∙◌, Some, None, Ok, Err, sym, ap, subst}
+use Rattle.std.proofs.Common.{◌≡◌, ◌∙◌, Some, None, Ok, Err, refl, sym, ap, subst, arith}
 use Rattle.model_log.specs.{layout_of}
 use Rattle.model_store.specs.Reading.{Reading}
-use Rattle.redo_disk.specs.{MakesCalls, MayEndWith}
+use Rattle.redo_disk.specs.{MayEndWith}
 use Rattle.redo_disk.specs.Seen.{Seen}
 use Rattle.redo_disk.specs.declared.error.DevError.TheVariants as device
-use Rattle.redo_open.proofs.Asked.{started_log, started_data}
+use Rattle.redo_open.proofs.Asked.{started_called}
 use Rattle.redo_open.proofs.Inside.{puts_of, started_inside}
 use Rattle.redo_open.proofs.Puts.{put_nothing}
 use Rattle.redo_open.specs.Formatting.{WritesInside}
 use Rattle.redo_disk.proofs.Made.{none_may_end, out_of_memory}
-use Rattle.redo_recover.specs.{AreNotAhead, data_error, reading_of}
+use Rattle.redo_recover.specs.{AreNotAhead, data_error, log_error, reading_of}
 use Rattle.redo_open.specs.Clear.{MayStart}
-use Rattle.redo_open.specs.Devices.{DevicesStep}
+use Rattle.redo_open.specs.Devices.{AreCalled, DevicesStep}
 use Rattle.redo_open.specs.Opening.{OpensRecovered}
 use Rattle.redo_open.proofs.Recovered.{IsStartable, may-start, not-ahead-of-start, recovered-none, recovered-failed, recovered-started}
 use Rattle.redo_recover.specs.declared.fault.RecFault.TheVariants.{NoMemory}
@@ -44,11 +44,11 @@ returns-clause-step g c =
     let of = c.requires.of_devices in
     let before : seen c.in-Ok.store.dev ≡ seen c.args.data_device = ap (λ (part : Part _). seen part.dev) c.in-Ok.ensures.part in
     let facts : IsStartable c.args.recovered c.open_devices.new.part c.start_after-start.result = record {
-      limits = of.limits;
+      limits = of.usable.limits;
       may = subst (MayStart (layout_of c.args.recovered.format c.args.recovered.shape) c.args.recovered.ckpt) (sym c.start_after-start.ensures)
-          (may-start c.args.recovered.format c.args.recovered.shape c.args.recovered.ckpt c.args.recovered.groups.items c.args.recovered.end of.limits of.aligned of.started of.small of.end);
+          (may-start c.args.recovered.format c.args.recovered.shape c.args.recovered.ckpt c.args.recovered.groups.items c.args.recovered.end of.usable.limits of.usable.aligned of.usable.started of.usable.small of.end);
       behind = c.start_after-start.ensures;
-      its_pages = of.its_pages;
+      its_pages = of.its_places.its_pages;
       not_ahead = subst (AreNotAhead c.args.recovered.pages) (sym c.start_after-start.ensures)
           (not-ahead-of-start (layout_of c.args.recovered.format c.args.recovered.shape) c.args.recovered.ckpt c.args.recovered.groups.items c.args.recovered.end c.args.recovered.pages of.end of.not_ahead);
       data_shape = c.in-Ok-open_devices.ensures.shape ∙ ap (λ (part : Part _). part.shape) c.in-Ok.ensures.part;
@@ -59,32 +59,38 @@ returns-clause-step g c =
     recovered-started g.L.Sectors.seen seen c.args.recovered c.start_after-start.result (g.L.Sectors.seen c.args.log) (seen c.args.data_device)
     c.open_devices.new.log c.open_devices.new.part c.start_run.result facts step c.start_run.ensures
 
-pub returns-in-Err-clause-log_calls : goal.returns-in-Err-clause-log_calls
-returns-in-Err-clause-log_calls g c = out_of_memory (none_may_end g.L.Sectors.gives c.args.log)
+-- THE CALLS.
 
-pub returns-in-Err-clause-data_calls : goal.returns-in-Err-clause-data_calls
-returns-in-Err-clause-data_calls g c =
-    subst (λ dev. MakesCalls g.D.Sectors.gives c.args.data_device dev (MayEndWith (Some device.NoMemory))) (sym c.in-Err.ensures.dev)
-    (out_of_memory (none_may_end g.D.Sectors.gives c.args.data_device))
+pub returns-in-Err-clause-called : goal.returns-in-Err-clause-called
+returns-in-Err-clause-called g c =
+    let seen = g.D.Sectors.seen in
+    subst (λ dev. AreCalled g.L.Sectors.seen seen g.L.Sectors.gives g.D.Sectors.gives (MayEndWith (Some device.NoMemory)) (MayEndWith (Some device.NoMemory))
+    c.args.log c.args.log c.args.data_device dev) (sym c.in-Err.ensures.dev) (record {
+      log = record { size = refl; later = omega arith };
+      data_device = record { size = refl; later = omega arith };
+      log_calls = out_of_memory (none_may_end g.L.Sectors.gives c.args.log);
+      data_calls = out_of_memory (none_may_end g.D.Sectors.gives c.args.data_device);
+    })
 
-pub returns-in-Err-open_devices-clause-log_calls : goal.returns-in-Err-open_devices-clause-log_calls
-returns-in-Err-open_devices-clause-log_calls g c = c.in-Err-open_devices.ensures.log_calls
-
-pub returns-in-Err-open_devices-clause-data_calls : goal.returns-in-Err-open_devices-clause-data_calls
-returns-in-Err-open_devices-clause-data_calls g c =
+pub returns-in-Err-open_devices-clause-called : goal.returns-in-Err-open_devices-clause-called
+returns-in-Err-open_devices-clause-called g c =
+    let fault = c.in-Err-open_devices.fault in
+    let log = c.open_devices.new.log in
+    let part = c.open_devices.new.part in
     let before = ap (λ (part : Part _). part.dev) c.in-Ok.ensures.part in
-    subst (λ dev. MakesCalls g.D.Sectors.gives c.args.data_device dev (MayEndWith (data_error c.in-Err-open_devices.fault))) (sym c.into_dev.ensures)
-    (subst (λ dev. MakesCalls g.D.Sectors.gives dev c.open_devices.new.part.dev (MayEndWith (data_error c.in-Err-open_devices.fault))) before
-    c.in-Err-open_devices.ensures.data_calls)
+    subst (λ dev. AreCalled g.L.Sectors.seen g.D.Sectors.seen g.L.Sectors.gives g.D.Sectors.gives (MayEndWith (log_error fault)) (MayEndWith (data_error fault))
+    c.args.log log c.args.data_device dev) (sym c.into_dev.ensures)
+    (subst (λ dev. AreCalled g.L.Sectors.seen g.D.Sectors.seen g.L.Sectors.gives g.D.Sectors.gives (MayEndWith (log_error fault)) (MayEndWith (data_error fault))
+    c.args.log log dev part.dev) before c.in-Err-open_devices.ensures.called)
 
-pub returns-clause-log_calls : goal.returns-clause-log_calls
-returns-clause-log_calls g c = started_log c.open_devices.new.part c.args.recovered c.start_after-start.result c.start_run.result c.start_run.ensures c.in-Ok-open_devices.ensures.log_calls
-
-pub returns-clause-data_calls : goal.returns-clause-data_calls
-returns-clause-data_calls g c =
+pub returns-clause-called : goal.returns-clause-called
+returns-clause-called g c =
+    let log = c.open_devices.new.log in
+    let part = c.open_devices.new.part in
     let before = ap (λ (part : Part _). part.dev) c.in-Ok.ensures.part in
-    started_data c.open_devices.new.log c.open_devices.new.part c.args.recovered c.start_after-start.result c.start_run.result c.start_run.ensures
-    (subst (λ dev. MakesCalls g.D.Sectors.gives dev c.open_devices.new.part.dev (MayEndWith None)) before c.in-Ok-open_devices.ensures.data_calls)
+    started_called g.L.Sectors.seen g.D.Sectors.seen c.args.log c.args.data_device log part c.args.recovered c.start_after-start.result c.start_run.result c.start_run.ensures
+    (subst (λ dev. AreCalled g.L.Sectors.seen g.D.Sectors.seen g.L.Sectors.gives g.D.Sectors.gives (MayEndWith None) (MayEndWith None) c.args.log log dev part.dev) before
+    c.in-Ok-open_devices.ensures.called)
 
 -- THE LENGTHS.
 

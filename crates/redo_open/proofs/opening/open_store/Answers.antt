@@ -1,17 +1,15 @@
 -- The store is read and opened.
-use Rattle.std.proofs.Common.{◌≡◌, ◌≢◌, ◌∙◌, ℕ, List, Option, Err, sym, ap, subst, arith}
-use Rattle.std.specs.Prelude.{IfOk, IfErr, IfSome, Result}
+use Rattle.std.proofs.Common.{◌≡◌, ◌∙◌, ℕ, List, Option, Err, sym, ap, subst, arith}
+use Rattle.std.specs.Prelude.{Result}
 use Rattle.model_base.specs.declared.shape.Shape.{Shape}
 use Rattle.model_device.specs.{IsWithin}
 use Rattle.model_device.specs.Disk.{Disk}
 use Rattle.model_log.specs.{log_device_length}
-use Rattle.model_parts.specs.{KeepsOpened}
 use Rattle.model_store.specs.Reading.{Reading}
 use Rattle.redo_disk.specs.{Call, error_of, MakesCalls, part}
 use Rattle.redo_disk.specs.declared.error.DevError.{DevError}
 use Rattle.redo_disk.proofs.Made.{call_ends, may_end}
-use Rattle.redo_open.specs.Devices.{IsNotOpened, WhereBothTell}
-use Rattle.redo_open.specs.Opening.{log_left, data_left, IsOpenedReady}
+use Rattle.redo_open.specs.Opening.{OpensSafely}
 use Rattle.redo_open.specs.Places.{IsPageFault}
 use Rattle.redo_open.specs.Puts.{ArePuts, PutsWhere}
 use Rattle.redo_open.proofs.Asked.{beside_log, data_ends, log_ends, may_end_then, opens_beside, opens_log, opens_then, reads_end}
@@ -19,12 +17,11 @@ use Rattle.redo_open.proofs.Endings.{device-own}
 use Rattle.redo_open.proofs.Headed.{failed-keeps, failed-unmoved, opened-alike, unmoved-same}
 use Rattle.redo_open.proofs.Inside.{data_reads, ends_of, log_reads, puts_behind, puts_of, read-inside, unopened-inside, within-longer}
 use Rattle.redo_open.proofs.Puts.{put_nothing, put_one, put_weaker}
-use Rattle.redo_open.proofs.Stores.{also-refused, heads-cause, openable-same, opening-cause, opening-of, both-err, sync-cause, synced-holds}
+use Rattle.redo_open.proofs.Stores.{also-refused, err-safely, heads-cause, openable-same, opening-cause, opening-of, both-err, sync-cause, synced-holds}
 use Rattle.redo_open.proofs.Told.{cause-since}
 use Rattle.redo_recover.proofs.Only.{log-fault, log-then}
 use Rattle.redo_recover.specs.{AreFoundOn, data_error, log_error, reading_of}
 use Rattle.redo_recover.specs.Devices.{OnContent}
-use Rattle.redo_recover.specs.declared.fault.RecFault.TheVariants.{NoMemory}
 use Rattle.redo_open.proofs.opening.open_store.Goals as goal
 
 -- what was read of the device as it was
@@ -38,77 +35,55 @@ heads_inside shape made = puts_of (put_weaker (within-longer 1536 (log_device_le
 
 -- WHERE NOTHING WAS WRITTEN.
 
-pub returns-in-Err-clause-keeps : goal.returns-in-Err-clause-keeps
-returns-in-Err-clause-keeps g c = λ opened. openable-same opened _ _ _ _ c.in-Err.ensures.log.unchanged.tells c.in-Err.ensures.data_device.unchanged.tells
+pub returns-in-Err-clause-safely : goal.returns-in-Err-clause-safely
+returns-in-Err-clause-safely g c opened =
+    err-safely g.L.Sectors.seen g.D.Sectors.seen opened (g.L.Sectors.seen c.args.log).tells (g.D.Sectors.seen c.args.data_device).tells
+    (c.in-Err.fault, c.recover.new.log, c.recover.new.data_device)
+    (openable-same opened _ _ _ _ c.in-Err.ensures.log.unchanged.tells c.in-Err.ensures.data_device.unchanged.tells)
+    (unmoved-same opened c.in-Err.fault _ _ _ c.in-Err.ensures.log.unchanged.tells)
 
-pub returns-in-Err-clause-unmoved : goal.returns-in-Err-clause-unmoved
-returns-in-Err-clause-unmoved g c = λ opened. unmoved-same opened c.in-Err.fault _ _ _ c.in-Err.ensures.log.unchanged.tells
+pub returns-in-Err-read_heads-clause-safely : goal.returns-in-Err-read_heads-clause-safely
+returns-in-Err-read_heads-clause-safely g c opened =
+    err-safely g.L.Sectors.seen g.D.Sectors.seen opened (g.L.Sectors.seen c.args.log).tells (g.D.Sectors.seen c.args.data_device).tells
+    (c.log_fault.result, c.read_heads.new.log, c.recover.new.data_device)
+    (openable-same opened _ _ _ _ (c.in-Err-read_heads.ensures.reads.unchanged.tells ∙ c.in-Ok.ensures.log.unchanged.tells) c.in-Ok.ensures.data_device.unchanged.tells)
+    (unmoved-same opened c.log_fault.result _ _ _ (c.in-Err-read_heads.ensures.reads.unchanged.tells ∙ c.in-Ok.ensures.log.unchanged.tells))
 
-pub returns-in-Err-read_heads-clause-keeps : goal.returns-in-Err-read_heads-clause-keeps
-returns-in-Err-read_heads-clause-keeps g c =
-    λ opened. openable-same opened _ _ _ _ (c.in-Err-read_heads.ensures.reads.unchanged.tells ∙ c.in-Ok.ensures.log.unchanged.tells) c.in-Ok.ensures.data_device.unchanged.tells
-
-pub returns-in-Err-read_heads-clause-unmoved : goal.returns-in-Err-read_heads-clause-unmoved
-returns-in-Err-read_heads-clause-unmoved g c =
-    λ opened. unmoved-same opened c.log_fault.result _ _ _ (c.in-Err-read_heads.ensures.reads.unchanged.tells ∙ c.in-Ok.ensures.log.unchanged.tells)
-
-pub returns-in-Err-sync-clause-keeps : goal.returns-in-Err-sync-clause-keeps
-returns-in-Err-sync-clause-keeps g c =
-    λ opened. openable-same opened _ _ _ _ (c.in-Ok-read_heads.ensures.reads.unchanged.tells ∙ c.in-Ok.ensures.log.unchanged.tells)
-    (c.in-Err-sync.ensures.step.err ∙ c.in-Ok.ensures.data_device.unchanged.tells)
-
-pub returns-in-Err-sync-clause-unmoved : goal.returns-in-Err-sync-clause-unmoved
-returns-in-Err-sync-clause-unmoved g c =
-    λ opened. unmoved-same opened c.data_fault.result _ _ _ (c.in-Ok-read_heads.ensures.reads.unchanged.tells ∙ c.in-Ok.ensures.log.unchanged.tells)
+pub returns-in-Err-sync-clause-safely : goal.returns-in-Err-sync-clause-safely
+returns-in-Err-sync-clause-safely g c opened =
+    err-safely g.L.Sectors.seen g.D.Sectors.seen opened (g.L.Sectors.seen c.args.log).tells (g.D.Sectors.seen c.args.data_device).tells
+    (c.data_fault.result, c.read_heads.new.log, c.sync.new.self)
+    (openable-same opened _ _ _ _ (c.in-Ok-read_heads.ensures.reads.unchanged.tells ∙ c.in-Ok.ensures.log.unchanged.tells)
+    (c.in-Err-sync.ensures.step.err ∙ c.in-Ok.ensures.data_device.unchanged.tells))
+    (unmoved-same opened c.data_fault.result _ _ _ (c.in-Ok-read_heads.ensures.reads.unchanged.tells ∙ c.in-Ok.ensures.log.unchanged.tells))
 
 -- WHERE THE HEADER BLOCKS COULDN'T BE MADE ALIKE.
 
-pub returns-in-Err-make_alike-clause-keeps : goal.returns-in-Err-make_alike-clause-keeps
-returns-in-Err-make_alike-clause-keeps g c = λ opened.
-    failed-keeps opened c.in-Ok-read_heads.heads (g.L.Sectors.seen c.args.log).tells (g.D.Sectors.seen c.args.data_device).tells (g.D.Sectors.seen c.recover.new.data_device).tells
+pub returns-in-Err-make_alike-clause-safely : goal.returns-in-Err-make_alike-clause-safely
+returns-in-Err-make_alike-clause-safely g c opened =
+    err-safely g.L.Sectors.seen g.D.Sectors.seen opened (g.L.Sectors.seen c.args.log).tells (g.D.Sectors.seen c.args.data_device).tells
+    (c.log_fault-in-Err-make_alike.result, c.make_alike.new.log, c.sync.new.self)
+    (failed-keeps opened c.in-Ok-read_heads.heads (g.L.Sectors.seen c.args.log).tells (g.D.Sectors.seen c.args.data_device).tells (g.D.Sectors.seen c.recover.new.data_device).tells
     (g.L.Sectors.seen c.read_heads.new.log) (g.L.Sectors.seen c.make_alike.new.log) (g.D.Sectors.seen c.sync.new.self) c.in-Err-make_alike.error
     (heads-there c.in-Ok-read_heads.heads _ _ c.in-Ok.ensures.log.unchanged.tells c.in-Ok-read_heads.ensures.content)
     (c.in-Ok-read_heads.ensures.reads.unchanged.tells ∙ c.in-Ok.ensures.log.unchanged.tells) c.in-Ok.ensures.data_device.unchanged.tells c.in-Ok-sync.ensures.step.ok
-    c.in-Err-make_alike.ensures.step
-
-pub returns-in-Err-make_alike-clause-unmoved : goal.returns-in-Err-make_alike-clause-unmoved
-returns-in-Err-make_alike-clause-unmoved g c = λ opened.
-    failed-unmoved opened c.log_fault-in-Err-make_alike.result c.in-Ok-read_heads.heads (g.L.Sectors.seen c.args.log).tells (g.D.Sectors.seen c.args.data_device).tells
+    c.in-Err-make_alike.ensures.step)
+    (failed-unmoved opened c.log_fault-in-Err-make_alike.result c.in-Ok-read_heads.heads (g.L.Sectors.seen c.args.log).tells (g.D.Sectors.seen c.args.data_device).tells
     (g.L.Sectors.seen c.read_heads.new.log) (g.L.Sectors.seen c.make_alike.new.log) c.in-Err-make_alike.error
     (heads-there c.in-Ok-read_heads.heads _ _ c.in-Ok.ensures.log.unchanged.tells c.in-Ok-read_heads.ensures.content)
-    (c.in-Ok-read_heads.ensures.reads.unchanged.tells ∙ c.in-Ok.ensures.log.unchanged.tells) c.in-Err-make_alike.ensures.step
+    (c.in-Ok-read_heads.ensures.reads.unchanged.tells ∙ c.in-Ok.ensures.log.unchanged.tells) c.in-Err-make_alike.ensures.step)
 
 -- ONCE THEY ARE ALIKE.
 
-pub returns-clause-keeps : goal.returns-clause-keeps
-returns-clause-keeps g c = λ opened.
+pub returns-clause-safely : goal.returns-clause-safely
+returns-clause-safely g c = λ opened.
     opened-alike opened (reading_of c.in-Ok.recovered) c.in-Ok.recovered.tail c.in-Ok-read_heads.heads (g.L.Sectors.seen c.args.log).tells (g.D.Sectors.seen c.args.data_device).tells
     (g.D.Sectors.seen c.recover.new.data_device).tells (g.L.Sectors.seen c.read_heads.new.log) (g.L.Sectors.seen c.make_alike.new.log) (g.D.Sectors.seen c.sync.new.self) tt
-    (λ (read : Reading). WhereBothTell (g.L.Sectors.seen (log_left c.open_recovered.result)).tells (g.D.Sectors.seen (data_left c.open_recovered.result)).tells (KeepsOpened read))
+    (λ (read : Reading). OpensSafely g.L.Sectors.seen g.D.Sectors.seen read c.open_recovered.result)
     c.in-Ok.ensures.recovered.read c.in-Ok.ensures.recovered.tail
     (heads-there c.in-Ok-read_heads.heads _ _ c.in-Ok.ensures.log.unchanged.tells c.in-Ok-read_heads.ensures.content)
     (c.in-Ok-read_heads.ensures.reads.unchanged.tells ∙ c.in-Ok.ensures.log.unchanged.tells) c.in-Ok.ensures.data_device.unchanged.tells c.in-Ok-sync.ensures.step.ok
-    c.in-Ok-make_alike.ensures.step c.open_recovered.ensures.step.keeps
-
-pub returns-clause-unmoved : goal.returns-clause-unmoved
-returns-clause-unmoved g c = λ opened.
-    opened-alike opened (reading_of c.in-Ok.recovered) c.in-Ok.recovered.tail c.in-Ok-read_heads.heads (g.L.Sectors.seen c.args.log).tells (g.D.Sectors.seen c.args.data_device).tells
-    (g.D.Sectors.seen c.recover.new.data_device).tells (g.L.Sectors.seen c.read_heads.new.log) (g.L.Sectors.seen c.make_alike.new.log) (g.D.Sectors.seen c.sync.new.self) tt
-    (λ (read : Reading). IfErr c.open_recovered.result (λ error. error.0 ≢ NoMemory → IfSome (g.L.Sectors.seen error.1).tells (IsNotOpened read)))
-    c.in-Ok.ensures.recovered.read c.in-Ok.ensures.recovered.tail
-    (heads-there c.in-Ok-read_heads.heads _ _ c.in-Ok.ensures.log.unchanged.tells c.in-Ok-read_heads.ensures.content)
-    (c.in-Ok-read_heads.ensures.reads.unchanged.tells ∙ c.in-Ok.ensures.log.unchanged.tells) c.in-Ok.ensures.data_device.unchanged.tells c.in-Ok-sync.ensures.step.ok
-    c.in-Ok-make_alike.ensures.step c.open_recovered.ensures.step.unmoved
-
-pub returns-clause-ready : goal.returns-clause-ready
-returns-clause-ready g c = λ opened.
-    opened-alike opened (reading_of c.in-Ok.recovered) c.in-Ok.recovered.tail c.in-Ok-read_heads.heads (g.L.Sectors.seen c.args.log).tells (g.D.Sectors.seen c.args.data_device).tells
-    (g.D.Sectors.seen c.recover.new.data_device).tells (g.L.Sectors.seen c.read_heads.new.log) (g.L.Sectors.seen c.make_alike.new.log) (g.D.Sectors.seen c.sync.new.self) tt
-    (λ (read : Reading). IfOk c.open_recovered.result (IsOpenedReady g.L.Sectors.seen g.D.Sectors.seen read))
-    c.in-Ok.ensures.recovered.read c.in-Ok.ensures.recovered.tail
-    (heads-there c.in-Ok-read_heads.heads _ _ c.in-Ok.ensures.log.unchanged.tells c.in-Ok-read_heads.ensures.content)
-    (c.in-Ok-read_heads.ensures.reads.unchanged.tells ∙ c.in-Ok.ensures.log.unchanged.tells) c.in-Ok.ensures.data_device.unchanged.tells c.in-Ok-sync.ensures.step.ok
-    c.in-Ok-make_alike.ensures.step c.open_recovered.ensures.step.ready
+    c.in-Ok-make_alike.ensures.step c.open_recovered.ensures.step.safely
 
 pub returns-clause-read : goal.returns-clause-read
 returns-clause-read g c =
@@ -157,51 +132,69 @@ returns-clause-cause g c =
     (omega (arith, c.in-Ok.ensures.log.unchanged.later, c.in-Ok-read_heads.ensures.reads.unchanged.later, c.in-Ok-make_alike.ensures.step.cause.later))
     (omega (arith, c.in-Ok.ensures.data_device.unchanged.later, c.in-Ok-sync.ensures.step.cause.later))
     c.open_recovered.ensures.step.fault c.open_recovered.ensures.step.log_failed c.open_recovered.ensures.step.data_failed
-    (both-err g.L.Sectors.seen g.D.Sectors.seen (g.L.Sectors.seen c.make_alike.new.log) (g.D.Sectors.seen c.sync.new.self) c.open_recovered.result c.open_recovered.ensures.step.log c.open_recovered.ensures.step.data_device)
+    (both-err g.L.Sectors.seen g.D.Sectors.seen (g.L.Sectors.seen c.make_alike.new.log) (g.D.Sectors.seen c.sync.new.self) c.open_recovered.result c.open_recovered.ensures.called.log c.open_recovered.ensures.called.data_device)
 
 -- THE CALLS.
 
-pub returns-in-Err-clause-log_calls : goal.returns-in-Err-clause-log_calls
-returns-in-Err-clause-log_calls g c = opens_log c.in-Err.ensures.log.calls
+pub returns-in-Err-clause-called : goal.returns-in-Err-clause-called
+returns-in-Err-clause-called g c =
+    record {
+      log = record { size = c.in-Err.ensures.log.unchanged.size; later = c.in-Err.ensures.log.unchanged.later };
+      data_device = record { size = c.in-Err.ensures.data_device.unchanged.size; later = c.in-Err.ensures.data_device.unchanged.later };
+      log_calls = opens_log c.in-Err.ensures.log.calls;
+      data_calls = reads_end c.in-Err.ensures.data_device.calls;
+    }
 
-pub returns-in-Err-clause-data_calls : goal.returns-in-Err-clause-data_calls
-returns-in-Err-clause-data_calls g c = reads_end c.in-Err.ensures.data_device.calls
-
-pub returns-in-Err-read_heads-clause-log_calls : goal.returns-in-Err-read_heads-clause-log_calls
-returns-in-Err-read_heads-clause-log_calls g c =
+pub returns-in-Err-read_heads-clause-called : goal.returns-in-Err-read_heads-clause-called
+returns-in-Err-read_heads-clause-called g c =
+    let all = log-then _ _ _ _ c.in-Ok.ensures.log c.in-Err-read_heads.ensures.reads in
     let read = log-fault _ _ c.in-Err-read_heads.error c.log_fault.result c.log_fault.ensures (log-then _ _ _ _ c.in-Ok.ensures.log c.in-Err-read_heads.ensures.reads) in
-    opens_log read.calls
+    record {
+      log = record { size = all.unchanged.size; later = all.unchanged.later };
+      data_device = record { size = c.in-Ok.ensures.data_device.unchanged.size; later = c.in-Ok.ensures.data_device.unchanged.later };
+      log_calls = opens_log read.calls;
+      data_calls = beside_log c.in-Err-read_heads.error c.log_fault.result c.log_fault.ensures (reads_end c.in-Ok.ensures.data_device.calls);
+    }
 
-pub returns-in-Err-read_heads-clause-data_calls : goal.returns-in-Err-read_heads-clause-data_calls
-returns-in-Err-read_heads-clause-data_calls g c = beside_log c.in-Err-read_heads.error c.log_fault.result c.log_fault.ensures (reads_end c.in-Ok.ensures.data_device.calls)
-
-pub returns-in-Err-sync-clause-log_calls : goal.returns-in-Err-sync-clause-log_calls
-returns-in-Err-sync-clause-log_calls g c =
+pub returns-in-Err-sync-clause-called : goal.returns-in-Err-sync-clause-called
+returns-in-Err-sync-clause-called g c =
+    let synced = c.in-Err-sync.ensures.step in
+    let before = c.in-Ok.ensures.data_device.unchanged in
     let read = log-then _ _ _ _ c.in-Ok.ensures.log c.in-Ok-read_heads.ensures.reads in
-    opens_beside c.data_fault.result (subst IsPageFault (sym c.data_fault.ensures) (device-own c.in-Err-sync.error)) read.calls
+    record {
+      log = record { size = read.unchanged.size; later = read.unchanged.later };
+      data_device = record { size = synced.size ∙ before.size; later = omega (arith, synced.cause.later, before.later) };
+      log_calls = opens_beside c.data_fault.result (subst IsPageFault (sym c.data_fault.ensures) (device-own c.in-Err-sync.error)) read.calls;
+      data_calls = may_end_then (reads_end c.in-Ok.ensures.data_device.calls) (data_ends c.in-Err-sync.error c.data_fault.result c.data_fault.ensures (call_ends c.in-Err-sync.ensures.gives));
+    }
 
-pub returns-in-Err-sync-clause-data_calls : goal.returns-in-Err-sync-clause-data_calls
-returns-in-Err-sync-clause-data_calls g c =
-    may_end_then (reads_end c.in-Ok.ensures.data_device.calls) (data_ends c.in-Err-sync.error c.data_fault.result c.data_fault.ensures (call_ends c.in-Err-sync.ensures.gives))
-
-pub returns-in-Err-make_alike-clause-log_calls : goal.returns-in-Err-make_alike-clause-log_calls
-returns-in-Err-make_alike-clause-log_calls g c =
+pub returns-in-Err-make_alike-clause-called : goal.returns-in-Err-make_alike-clause-called
+returns-in-Err-make_alike-clause-called g c =
+    let synced = c.in-Ok-sync.ensures.step in
+    let before = c.in-Ok.ensures.data_device.unchanged in
+    let alike = c.in-Err-make_alike.ensures.step in
     let read = log-then _ _ _ _ c.in-Ok.ensures.log c.in-Ok-read_heads.ensures.reads in
-    opens_then read.calls (log_ends c.in-Err-make_alike.error c.log_fault-in-Err-make_alike.result c.log_fault-in-Err-make_alike.ensures (ends_of c.in-Err-make_alike.ensures.calls))
+    record {
+      log = record { size = alike.size ∙ read.unchanged.size; later = omega (arith, alike.cause.later, read.unchanged.later) };
+      data_device = record { size = synced.size ∙ before.size; later = omega (arith, synced.cause.later, before.later) };
+      log_calls = opens_then read.calls (log_ends c.in-Err-make_alike.error c.log_fault-in-Err-make_alike.result c.log_fault-in-Err-make_alike.ensures (ends_of c.in-Err-make_alike.ensures.calls));
+      data_calls = beside_log c.in-Err-make_alike.error c.log_fault-in-Err-make_alike.result c.log_fault-in-Err-make_alike.ensures
+          (may_end_then (reads_end c.in-Ok.ensures.data_device.calls) (may_end (call_ends c.in-Ok-sync.ensures.gives)));
+    }
 
-pub returns-in-Err-make_alike-clause-data_calls : goal.returns-in-Err-make_alike-clause-data_calls
-returns-in-Err-make_alike-clause-data_calls g c =
-    beside_log c.in-Err-make_alike.error c.log_fault-in-Err-make_alike.result c.log_fault-in-Err-make_alike.ensures
-    (may_end_then (reads_end c.in-Ok.ensures.data_device.calls) (may_end (call_ends c.in-Ok-sync.ensures.gives)))
-
-pub returns-clause-log_calls : goal.returns-clause-log_calls
-returns-clause-log_calls g c =
+pub returns-clause-called : goal.returns-clause-called
+returns-clause-called g c =
+    let synced = c.in-Ok-sync.ensures.step in
+    let before = c.in-Ok.ensures.data_device.unchanged in
+    let alike = c.in-Ok-make_alike.ensures.step in
+    let called = c.open_recovered.ensures.called in
     let read = log-then _ _ _ _ c.in-Ok.ensures.log c.in-Ok-read_heads.ensures.reads in
-    opens_then read.calls (may_end_then (may_end (ends_of c.in-Ok-make_alike.ensures.calls)) c.open_recovered.ensures.log_calls)
-
-pub returns-clause-data_calls : goal.returns-clause-data_calls
-returns-clause-data_calls g c =
-    may_end_then (may_end_then (reads_end c.in-Ok.ensures.data_device.calls) (may_end (call_ends c.in-Ok-sync.ensures.gives))) c.open_recovered.ensures.data_calls
+    record {
+      log = record { size = called.log.size ∙ alike.size ∙ read.unchanged.size; later = omega (arith, called.log.later, alike.cause.later, read.unchanged.later) };
+      data_device = record { size = called.data_device.size ∙ synced.size ∙ before.size; later = omega (arith, called.data_device.later, synced.cause.later, before.later) };
+      log_calls = opens_then read.calls (may_end_then (may_end (ends_of c.in-Ok-make_alike.ensures.calls)) c.open_recovered.ensures.called.log_calls);
+      data_calls = may_end_then (may_end_then (reads_end c.in-Ok.ensures.data_device.calls) (may_end (call_ends c.in-Ok-sync.ensures.gives))) c.open_recovered.ensures.called.data_calls;
+    }
 
 -- NOTHING OUTSIDE THE STORE IS WRITTEN.
 

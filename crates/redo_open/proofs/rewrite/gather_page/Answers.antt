@@ -1,5 +1,7 @@
 -- The page hasn't changed, or it is added to the batch, which has room once it is written.
-use Rattle.std.proofs.Common.{◌+◌, ◌∙◌, Err, Ok, sym, subst, arith}
+use Rattle.std.proofs.Common.{◌≡◌, ◌+◌, ◌*◌, ◌∙◌, Err, Ok, length, ap, sym, subst, arith}
+use Rattle.model_base.specs.{user_length}
+use Rattle.model_base.specs.declared.shape.Shape.{Shape}
 use Rattle.std.proofs.lemmas.Option.{slice_get_read}
 use Rattle.std.proofs.lemmas.Result.{err_from_is_err_and}
 use Rattle.redo_open.proofs.Gathers.{added, gathered-more, gathered-writable, same-gathered}
@@ -35,14 +37,26 @@ returns-in_err-make_room-clause-step g c =
     (c.in_err-make_room.ensures.step pages found c.args.page c.requires.gathered) in
     let p = err_from_is_err_and c.from_residual.result c.from_residual.ensures.1 in rw (p.1, p.2) step
 
+pub make_room-requires-clause-shape : goal.make_room-requires-clause-shape
+make_room-requires-clause-shape g c = c.requires.gathered.of_store
+
+pub add-requires-clause-few : goal.add-requires-clause-few
+add-requires-clause-few g c =
+    let now = (c.in_ok-make_room.ensures.step c.args.pages.now c.args.places.now.found.items c.args.page c.requires.gathered).gathered in
+    omega (arith, c.in_ok-make_room.ensures.room, ap (λ (s : Shape). s.slots) now.of_store)
+
 pub add-requires-clause-joined : goal.add-requires-clause-joined
-add-requires-clause-joined g c = (c.in_ok-make_room.ensures.step c.args.pages.now c.args.places.now.found.items c.args.page c.requires.gathered).gathered.joined
+add-requires-clause-joined g c =
+    let now = (c.in_ok-make_room.ensures.step c.args.pages.now c.args.places.now.found.items c.args.page c.requires.gathered).gathered in
+    let batch = c.make_room.new.batch in
+    subst (λ (s : Shape). length batch.users ≡ length batch.pairs * user_length s) (sym now.of_store) now.joined
 
 pub add-requires-clause-long : goal.add-requires-clause-long
 add-requires-clause-long g c =
-    let read : PageRead c.args.pages.now c.args.page c.lsn-lsn.result c.user_bytes.result.now =
-    page-read c.args.part.now.shape c.args.pages.now c.args.page c.lsn-lsn.result c.user_bytes.result.now c.requires.limits c.requires.pages c.requires.page c.lsn-lsn.ensures c.user_bytes.ensures in
-    read.long
+    let read : PageRead c.args.part.now.shape c.args.pages.now c.args.page c.lsn-lsn.result c.user_bytes.result.now =
+    page-read c.args.part.now.shape c.args.pages.now c.args.page c.lsn-lsn.result c.user_bytes.result.now c.requires.pages c.requires.page c.lsn-lsn.ensures c.user_bytes.ensures in
+    let now = (c.in_ok-make_room.ensures.step c.args.pages.now c.args.places.now.found.items c.args.page c.requires.gathered).gathered in
+    read.long ∙ sym (ap user_length now.of_store)
 
 pub returns-clause-step : goal.returns-clause-step
 returns-clause-step g c =
@@ -50,12 +64,12 @@ returns-clause-step g c =
     let pages = c.args.pages.now in
     let found = c.args.places.now.found.items in
     let batch = c.args.batch.now in
-    let read : PageRead pages c.args.page c.lsn-lsn.result c.user_bytes.result.now =
-    page-read shape pages c.args.page c.lsn-lsn.result c.user_bytes.result.now c.requires.limits c.requires.pages c.requires.page c.lsn-lsn.ensures c.user_bytes.ensures in
+    let read : PageRead shape pages c.args.page c.lsn-lsn.result c.user_bytes.result.now =
+    page-read shape pages c.args.page c.lsn-lsn.result c.user_bytes.result.now c.requires.pages c.requires.page c.lsn-lsn.ensures c.user_bytes.ensures in
     let step : GatherStep g.D.Sectors.seen shape pages found c.args.page (c.args.page + 1) c.args.part.now batch (Ok tt) c.make_room.new.part
     (added c.make_room.new.batch c.args.page c.lsn-lsn.result c.user_bytes.result.now) =
     added-step g.D.Sectors.seen shape pages found c.args.page c.lsn-lsn.result c.user_bytes.result.now c.args.part.now c.make_room.new.part batch c.make_room.new.batch
-    (omega (arith, c.in_ok-make_room.ensures.room, c.requires.limits.slots)) read
+    c.in_ok-make_room.ensures.room read
     (c.in_ok-make_room.ensures.step pages found c.args.page c.requires.gathered) in
     subst (λ (b : Gathered). GatherStep g.D.Sectors.seen shape pages found c.args.page (c.args.page + 1) c.args.part.now batch (Ok tt) c.make_room.new.part b) (sym c.add.ensures) step
 

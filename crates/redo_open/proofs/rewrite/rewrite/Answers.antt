@@ -1,6 +1,7 @@
 -- One page after another, and then what is left of the batch.
-use Rattle.std.proofs.Common.{◌≡◌, ◌+◌, ◌∙◌, None, Ok, Some, sym, ap, subst, arith}
+use Rattle.std.proofs.Common.{◌≡◌, ◌+◌, ◌∙◌, None, Ok, Some, sym, subst, arith}
 use Rattle.std.proofs.lemmas.Result.{err_from_is_err_and}
+use Rattle.model_base.specs.{IsWithinLimits}
 use Rattle.model_base.specs.declared.shape.Shape.{Shape}
 use Rattle.model_parts.specs.{IsWritable}
 use Rattle.model_device.specs.{IsWithin}
@@ -38,8 +39,8 @@ loop-page-preserved g c =
       calls = puts_then c.loop-page.invariant.calls calls;
     }
 
-pub write_gathered-requires-clause-sizes : goal.write_gathered-requires-clause-sizes
-write_gathered-requires-clause-sizes g c = ap (λ (s : Shape). s.page_size) (c.loop-page.invariant.shape ∙ sym c.requires.shape) ∙ c.requires.limits.page_size
+pub write_gathered-requires-clause-limits : goal.write_gathered-requires-clause-limits
+write_gathered-requires-clause-limits g c = subst IsWithinLimits (c.requires.shape ∙ sym c.loop-page.invariant.shape) c.requires.limits
 
 pub write_gathered-requires-clause-writable : goal.write_gathered-requires-clause-writable
 write_gathered-requires-clause-writable g c =

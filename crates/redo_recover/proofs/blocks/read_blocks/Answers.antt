@@ -1,4 +1,4 @@
-use Rattle.std.proofs.Common.{◌≡◌, ◌≤◌, ◌+◌, ◌∙◌, ℕ, List, Option, Some, None, length, length-append, take, drop, sym, ap, refl, subst, arith}
+use Rattle.std.proofs.Common.{◌≡◌, ◌≤◌, ◌+◌, ◌∙◌, ℕ, List, Option, Some, None, length, take, drop, sym, ap, refl, subst, arith}
 use Rattle.std.proofs.lemmas.List.{length_push}
 use Rattle.std.proofs.lemmas.Result.{err_from_is_err_and}
 use Rattle.model_log.specs.declared.block.BlockView.{BlockView}
@@ -11,9 +11,9 @@ use Rattle.model_store.specs.declared.tail.Tail.{Tail}
 use Rattle.redo_recover.specs.Blocks.{AreBlocksOf}
 use Rattle.redo_recover.specs.Devices.{OnContent}
 use Rattle.redo_recover.specs.Piece.{IsPieceOf}
-use Rattle.redo_recover.specs.Taking.{bytes_at, tail_at}
+use Rattle.redo_recover.specs.Taking.{bytes_at, tail_block_at}
 use Rattle.redo_recover.specs.declared.taking.Stand.{Stand}
-use Rattle.redo_recover.proofs.Bounds.{firsts-none, firsts-push}
+use Rattle.redo_recover.proofs.Bounds.{bounded-none, bounded-push}
 use Rattle.redo_recover.proofs.Contents.{content-any, content-both, content-weaker}
 use Rattle.redo_recover.proofs.Scanning.{AreBlocksSoFar, IsTakenAt, taken-here, so_far-none, so_far-next, read-stopped, read-last, read-all, length-data_of}
 use Rattle.redo_recover.proofs.Stopping.{stopped-part, stopped-round, stopped-unread}
@@ -35,8 +35,7 @@ loop-i-init g c =
       tails = c.in_ok-tails.ensures.tails;
       piece = content-any old.tells (IsPieceOf (record { from = 0; bytes = c.new.result })) (λ image. c.new.ensures.items ∙ sym (ap (λ n. take n (drop 0 image)) (ap length c.new.ensures.items)));
       many = ap length c.new-views.ensures.items;
-      firsts = firsts-none c.new-views.result.items c.new-views.ensures.items;
-      short = omega (arith, ap length c.new-joined.ensures.items);
+      bounded = bounded-none layout.blocks c.new-views.result.items c.new-joined.result.items c.new-views.ensures.items c.new-joined.ensures.items;
       so_far = content-any old.tells (λ image. AreBlocksSoFar c.args.ckpt c.new-views.result.items c.new-joined.result.items 0 (taken layout image))
           (λ image. so_far-none c.args.ckpt c.new-views.result.items c.new-joined.result.items (taken layout image) c.new-views.ensures.items c.new-joined.ensures.items);
       standing = content-any old.tells (AreStanding layout c.args.ckpt 0) (λ image. standing-none layout c.args.ckpt image);
@@ -61,16 +60,15 @@ loop-i-preserved g c =
     let block : List ℕ = bytes_at place tails c.in-Some.stand in
     let data_is : c.block_data.result.now ≡ data_of c.in-Some.view block = c.block_data.ensures ∙ ap (data_of c.in-Some.view) c.bytes_at.ensures in
     let views : length c.push.new.self.items ≡ length c.loop-i.views.items + 1 = ap length c.in_ok-push.ensures.items ∙ length_push c.loop-i.views.items c.in-Some.view in
-    let bytes : length c.extend_from_slice.new.self.items ≡ length c.loop-i.joined.items + length c.block_data.result.now =
-    ap length c.in_ok-extend_from_slice.ensures.items ∙ length-append c.loop-i.joined.items c.block_data.result.now in
     let room : length c.block_data.result.now ≤ BLOCK_DATA = omega (arith, ap length data_is, length-data_of c.in-Some.view block) in
     record {
       reads = only-then c.args.log.now c.loop-i.log c.with_sector.new.device None before.reads c.in_ok-piece.ensures.reads;
       tails = before.tails;
       piece = of;
       many = omega (arith, views, before.many);
-      firsts = firsts-push c.loop-i.views.items c.push.new.self.items c.in-Some.view before.firsts c.in-Some.ensures.first c.in_ok-push.ensures.items;
-      short = omega (arith, bytes, room, before.short);
+      bounded = bounded-push layout.blocks c.loop-i.views.items c.push.new.self.items c.in-Some.view c.loop-i.joined.items c.extend_from_slice.new.self.items
+          c.block_data.result.now before.bounded (omega (arith, before.many)) c.in-Some.ensures.first room c.in_ok-push.ensures.items
+          c.in_ok-extend_from_slice.ensures.items;
       so_far = content-both old.tells so_far (IsTakenAt layout c.args.ckpt i found place tails)
           (λ image. AreBlocksSoFar c.args.ckpt c.push.new.self.items c.extend_from_slice.new.self.items (i + 1) (taken layout image))
           (λ image a t. so_far-next c.args.ckpt c.loop-i.views.items c.loop-i.joined.items i (taken layout image) c.in-Some.view block
@@ -135,12 +133,8 @@ returns-in_default-clause-tail g c =
     content-weaker old.tells (AreStanding layout c.args.ckpt c.loop-i.i) (λ image. AreFoundIn layout image c.args.ckpt c.loop-i.views.items None)
     (λ image standing. found-all layout c.args.ckpt c.loop-i.views.items c.loop-i.i image c.loop-i.invariant.many standing) c.loop-i.invariant.standing
 
-pub returns-in_default-clause-few : goal.returns-in_default-clause-few
-returns-in_default-clause-few g c =
-    record { few = omega (arith, c.loop-i.invariant.many); short = omega (arith, c.loop-i.invariant.many, c.loop-i.invariant.short) }
-
-pub returns-in_default-clause-firsts : goal.returns-in_default-clause-firsts
-returns-in_default-clause-firsts g c = c.loop-i.invariant.firsts
+pub returns-in_default-clause-bounded : goal.returns-in_default-clause-bounded
+returns-in_default-clause-bounded g c = c.loop-i.invariant.bounded
 
 pub returns-in_default-clause-reads : goal.returns-in_default-clause-reads
 returns-in_default-clause-reads g c = only-then c.args.log.now c.loop-i.log c.with_sector.new.device None c.loop-i.invariant.reads c.in_ok-piece.ensures.reads
@@ -200,25 +194,20 @@ returns-then-not-is_full-clause-tail g c =
     c.sector-place.ensures (sym c.in-Some.is ∙ c.take.ensures.found) of before.tails in
     let lsn = lsn_at c.args.ckpt i in
     let known = content-both old.tells (IsTakenAt layout c.args.ckpt i found place tails) (AreStanding layout c.args.ckpt i)
-    (λ image. AreFoundIn layout image c.args.ckpt c.push.new.self.items (tail_at lsn c.in-Some.stand))
+    (λ image. AreFoundIn layout image c.args.ckpt c.push.new.self.items (tail_block_at lsn c.in-Some.stand))
     (λ image t standing. found-last layout c.args.ckpt c.loop-i.views.items c.push.new.self.items i c.in-Some.stand c.in-Some.view place tails image t
     (sym c.if-not-is_full.ensures) standing before.many c.in_ok-push.ensures.items)
     here before.standing in
     subst (λ (tail : Option Tail). OnContent old.tells (λ image. AreFoundIn layout image c.args.ckpt c.push.new.self.items tail)) (sym c.tail_at-tail.ensures) known
 
-pub returns-then-not-is_full-clause-few : goal.returns-then-not-is_full-clause-few
-returns-then-not-is_full-clause-few g c =
+pub returns-then-not-is_full-clause-bounded : goal.returns-then-not-is_full-clause-bounded
+returns-then-not-is_full-clause-bounded g c =
     let block : List ℕ = bytes_at c.sector-place.result.now c.in_ok-tails.tails c.in-Some.stand in
     let data_is : c.block_data.result.now ≡ data_of c.in-Some.view block = c.block_data.ensures ∙ ap (data_of c.in-Some.view) c.bytes_at.ensures in
-    let views : length c.push.new.self.items ≡ length c.loop-i.views.items + 1 = ap length c.in_ok-push.ensures.items ∙ length_push c.loop-i.views.items c.in-Some.view in
-    let bytes : length c.extend_from_slice.new.self.items ≡ length c.loop-i.joined.items + length c.block_data.result.now =
-    ap length c.in_ok-extend_from_slice.ensures.items ∙ length-append c.loop-i.joined.items c.block_data.result.now in
     let room : length c.block_data.result.now ≤ BLOCK_DATA = omega (arith, ap length data_is, length-data_of c.in-Some.view block) in
-    record { few = omega (arith, views, c.loop-i.invariant.many); short = omega (arith, views, bytes, room, c.loop-i.invariant.many, c.loop-i.invariant.short) }
-
-pub returns-then-not-is_full-clause-firsts : goal.returns-then-not-is_full-clause-firsts
-returns-then-not-is_full-clause-firsts g c =
-    firsts-push c.loop-i.views.items c.push.new.self.items c.in-Some.view c.loop-i.invariant.firsts c.in-Some.ensures.first c.in_ok-push.ensures.items
+    bounded-push c.args.layout.now.blocks c.loop-i.views.items c.push.new.self.items c.in-Some.view c.loop-i.joined.items c.extend_from_slice.new.self.items
+    c.block_data.result.now c.loop-i.invariant.bounded (omega (arith, c.loop-i.invariant.many)) c.in-Some.ensures.first room c.in_ok-push.ensures.items
+    c.in_ok-extend_from_slice.ensures.items
 
 pub returns-then-not-is_full-clause-reads : goal.returns-then-not-is_full-clause-reads
 returns-then-not-is_full-clause-reads g c = only-then c.args.log.now c.loop-i.log c.with_sector.new.device None c.loop-i.invariant.reads c.in_ok-piece.ensures.reads
@@ -251,12 +240,8 @@ returns-clause-tail g c =
     content-weaker old.tells (AreStanding layout c.args.ckpt c.loop-i.i) (λ image. AreFoundIn layout image c.args.ckpt c.loop-i.views.items None)
     (λ image standing. found-all layout c.args.ckpt c.loop-i.views.items c.loop-i.i image c.loop-i.invariant.many standing) c.loop-i.invariant.standing
 
-pub returns-clause-few : goal.returns-clause-few
-returns-clause-few g c =
-    record { few = omega (arith, c.loop-i.invariant.many); short = omega (arith, c.loop-i.invariant.many, c.loop-i.invariant.short) }
-
-pub returns-clause-firsts : goal.returns-clause-firsts
-returns-clause-firsts g c = c.loop-i.invariant.firsts
+pub returns-clause-bounded : goal.returns-clause-bounded
+returns-clause-bounded g c = c.loop-i.invariant.bounded
 
 pub returns-clause-reads : goal.returns-clause-reads
 returns-clause-reads g c = c.loop-i.invariant.reads

@@ -1,6 +1,5 @@
-use Rattle.std.proofs.Common.{◌≡◌, ◌≤◌, ◌*◌, length}
-use Rattle.model_log.specs.declared.layout.TheConstants.{BLOCK_DATA}
-use Rattle.redo_recover.specs.Blocks.{HaveFirsts}
+use Rattle.std.proofs.Common.{◌≡◌, length}
+use Rattle.redo_recover.specs.Blocks.{AreBounded}
 use Rattle.std.specs.Prelude.{None}
 use Rattle.redo_recover.specs.Devices.{OnContent, OnSource}
 use Rattle.redo_recover.specs.Piece.{IsPieceOf}
@@ -17,8 +16,7 @@ invariant-loop-i g l = record {
   tails : OnContent (g.L.Sectors.seen l.fn.log).tells (AreTailsOf l.layout.format l.tails);
   piece : OnContent (g.L.Sectors.seen l.fn.log).tells (IsPieceOf l.piece);
   many : length l.views.items ≡ l.i;
-  firsts : HaveFirsts l.views.items;
-  short : length l.joined.items ≤ BLOCK_DATA * l.i;
+  bounded : AreBounded l.layout.blocks l.views.items l.joined.items;
   so_far : OnSource l.layout (g.L.Sectors.seen l.fn.log).tells (AreBlocksSoFar l.ckpt l.views.items l.joined.items l.i);
   standing : OnContent (g.L.Sectors.seen l.fn.log).tells (AreStanding l.layout l.ckpt l.i);
 }

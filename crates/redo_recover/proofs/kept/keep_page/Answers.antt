@@ -1,13 +1,22 @@
 -- The place is read, and judged beside the slots.
-use Rattle.std.proofs.Common.{◌≡◌, ◌∙◌, ◌*◌, ◌+◌, refl}
+use Rattle.std.proofs.Common.{◌≡◌, ◌∙◌, ◌*◌, ◌+◌, ℕ, refl, subst, sym}
 use Rattle.model_page.specs.{IsLost}
-use Rattle.redo_disk.specs.{part}
+use Rattle.redo_disk.specs.{IsRange, part}
 use Rattle.redo_recover.proofs.Contents.{content-both}
-use Rattle.redo_recover.proofs.Keeping.{part-is}
+use Rattle.redo_recover.proofs.Keeping.{part-is, place-range}
 use Rattle.redo_recover.proofs.Only.{only-data}
 use Rattle.redo_recover.specs.Pages.{HoldsSlots, PutsKept}
 use Rattle.redo_recover.specs.Places.{IsFoundAt}
 use Rattle.redo_recover.proofs.kept.keep_page.Goals as goal
+
+pub read_part-requires : goal.read_part-requires
+read_part-requires g c =
+    let shape = c.args.shape.now in
+    let long = (g.D.Sectors.seen c.args.device.now).size in
+    let at_is : c.from.result * c.from-2.result ≡ (shape.slots + c.args.page) * shape.page_size = cc in
+    record {
+      range = subst (λ (at : ℕ). IsRange long at shape.page_size) (sym at_is) (place-range shape c.args.page long c.requires.limits c.requires.page c.requires.long);
+    }
 
 pub returns-in_default-clause-fault : goal.returns-in_default-clause-fault
 returns-in_default-clause-fault g c =
@@ -49,3 +58,6 @@ returns-clause-its_pages g c = c.put.ensures.its_pages c.args.shape.now c.requir
 
 pub returns-in-Err-clause-reads : goal.returns-in-Err-clause-reads
 returns-in-Err-clause-reads g c = only-data _ _ c.in-Err.error _ c.data_fault.ensures c.in-Err.ensures.reads
+
+pub returns-clause-puts : goal.returns-clause-puts
+returns-clause-puts g c = record { slot = c.in-Some.ensures.slot; user = c.in-Some.user.now; put = c.put.ensures.content }

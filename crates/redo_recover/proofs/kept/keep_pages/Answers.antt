@@ -47,7 +47,7 @@ loop-page-preserved g c =
       room = omega (arith, c.loop-page.invariant.room, c.push_reserved.ensures.capacity);
       filled = omega (arith, c.loop-page.invariant.filled, c.push_reserved.ensures.len);
       with = with-next shape c.loop-page.found.items c.push_reserved.new.self.items c.loop-page.pages c.keep_page.new.pages c.loop-page.page c.in_ok-one.one
-          c.push_reserved.ensures.items c.loop-page.invariant.with c.in_ok-one.ensures.slot c.in_ok-one.ensures.lsn;
+          c.push_reserved.ensures.items c.loop-page.invariant.with c.in_ok-one.ensures.puts;
       found = at-next shape c.loop-page.found.items c.push_reserved.new.self.items c.loop-page.page c.in_ok-one.one old.tells c.loop-page.invariant.with.many
           c.push_reserved.ensures.items c.loop-page.invariant.found
           (content-before old middle (λ content. IsFoundAt shape content c.loop-page.page c.in_ok-one.one) c.loop-page.invariant.reads.unchanged c.in_ok-one.ensures.found);

@@ -1,33 +1,45 @@
 -- The slots are read and then each place, and the kept pages are judged and replayed.
-use Rattle.std.proofs.Common.{None, rules, subst, sym}
+use Rattle.std.proofs.Common.{None, Option, rules, subst, sym}
 use Rattle.std.proofs.lemmas.Result.{err_from_is_err_and}
 use Rattle.model_store.specs.{AreReadPages}
 use Rattle.redo_recover.proofs.Bounds.{replayed-not_ahead}
 use Rattle.redo_recover.proofs.Contents.{content-weaker}
-use Rattle.redo_recover.proofs.Fronts.{ahead-cause, ahead-own}
+use Rattle.redo_recover.proofs.Fronts.{ahead-fault, ahead-own, device-fault, lost-fault}
+use Rattle.redo_recover.proofs.Keeping.{slots-range}
 use Rattle.redo_recover.proofs.Only.{only-data, only-own, only-then}
-use Rattle.redo_recover.proofs.Owning.{data-apart, lost-apart}
 use Rattle.redo_recover.proofs.Paging.{pages-read}
 use Rattle.redo_recover.proofs.Placing.{found-read, places-of}
 use Rattle.redo_recover.proofs.Unchanged.{content-before}
-use Rattle.redo_recover.specs.Reads.{MayBeOwn, data_error, log_error}
-use Rattle.redo_recover.specs.declared.fault.RecFault.{RecFault}
-use Rattle.redo_recover.specs.Devices.{OnContent}
-use Rattle.redo_recover.specs.Pages.{AreKept, HasPageCause}
+use Rattle.model_device.specs.Disk.{Disk}
+use Rattle.redo_recover.specs.Reads.{data_error}
+use Rattle.redo_recover.specs.Pages.{AreKept, IsPageFault}
 use Rattle.redo_recover.specs.Places.{AreFoundAt}
 use Rattle.redo_recover.specs.declared.fault.RecFault.TheVariants.{NoMemory}
 use Rattle.redo_recover.proofs.pages.read_pages.Goals as goal
 
-pub returns-in_err-check_ahead-clause-cause : goal.returns-in_err-check_ahead-clause-cause
-returns-in_err-check_ahead-clause-cause g c =
+pub read_part-requires : goal.read_part-requires
+read_part-requires g c = record { range = slots-range c.args.shape.now (g.D.Sectors.seen c.args.device.now).size c.requires.limits c.requires.long }
+
+pub returns-in-Err-clause-fault : goal.returns-in-Err-clause-fault
+returns-in-Err-clause-fault g c =
+    let told = (g.D.Sectors.seen c.args.device.now).tells in
+    subst (IsPageFault c.args.shape.now c.args.end told) (sym c.data_fault.ensures) (device-fault c.args.shape.now c.args.end told c.in-Err.error)
+
+pub returns-in_err-pages-clause-fault : goal.returns-in_err-pages-clause-fault
+returns-in_err-pages-clause-fault g c =
+    let fault = c.in_err-pages.field-0.0 in
+    let lost = lost-fault c.args.shape.now c.args.end (g.D.Sectors.seen c.read_part.new.device).tells fault c.in_err-pages.ensures.fault in
+    let known = subst (λ (told : Option Disk). IsPageFault c.args.shape.now c.args.end told fault) c.in-Ok.ensures.reads.unchanged.tells lost in
+    search rules
+
+pub returns-in_err-check_ahead-clause-fault : goal.returns-in_err-check_ahead-clause-fault
+returns-in_err-check_ahead-clause-fault g c =
     let shape = c.args.shape.now in
     let fault = c.in_err-check_ahead.field-0.0 in
-    let told = (g.D.Sectors.seen c.args.device.now).tells in
-    let cause : OnContent told (HasPageCause shape c.args.end fault) =
-    content-weaker told (λ content. AreKept shape content c.in_ok-pages.pages) (HasPageCause shape c.args.end fault)
-    (λ content kept. ahead-cause shape content c.args.end c.in_ok-pages.pages fault kept c.in_err-check_ahead.ensures.fault)
-    (content-before (g.D.Sectors.seen c.args.device.now) (g.D.Sectors.seen c.read_part.new.device) (λ content. AreKept shape content c.in_ok-pages.pages)
-    c.in-Ok.ensures.reads.unchanged c.in_ok-pages.ensures.kept) in
+    let old = g.D.Sectors.seen c.args.device.now in
+    let ahead = ahead-fault shape c.args.end c.in_ok-pages.pages old.tells fault
+    (content-before old (g.D.Sectors.seen c.read_part.new.device) (λ content. AreKept shape content c.in_ok-pages.pages)
+    c.in-Ok.ensures.reads.unchanged c.in_ok-pages.ensures.kept) c.in_err-check_ahead.ensures.fault in
     search rules
 
 pub returns-clause-pages : goal.returns-clause-pages
@@ -43,7 +55,7 @@ returns-clause-pages g c =
 pub returns-clause-its_places : goal.returns-clause-its_places
 returns-clause-its_places g c =
     places-of c.args.shape.now (record { slots = c.in-Ok.slots; found = c.in_ok-pages.found }) c.args.groups.now c.in_ok-pages.pages c.replay.new.pages
-    (search rules) c.requires.rise c.in_ok-pages.ensures.lsns c.in_ok-replay.ensures.replayed
+    (search rules) c.requires.rise c.in_ok-pages.ensures.lsns c.in_ok-replay.ensures.replayed c.in_ok-replay.ensures.its_pages
 
 pub returns-clause-found : goal.returns-clause-found
 returns-clause-found g c =
@@ -83,16 +95,3 @@ returns-in_err-replay-clause-reads g c =
 
 pub returns-clause-reads : goal.returns-clause-reads
 returns-clause-reads g c = only-then _ _ _ None c.in-Ok.ensures.reads c.in_ok-pages.ensures.reads
-
-pub returns-in-Err-clause-apart : goal.returns-in-Err-clause-apart
-returns-in-Err-clause-apart g c = subst (λ (f : RecFault). MayBeOwn (log_error f)) (sym c.data_fault.ensures) (data-apart c.in-Err.error)
-
-pub returns-in_err-pages-clause-apart : goal.returns-in_err-pages-clause-apart
-returns-in_err-pages-clause-apart g c =
-    let fault = c.in_err-pages.field-0.0 in
-    let own : MayBeOwn (log_error fault) = lost-apart c.args.shape.now (g.D.Sectors.seen c.read_part.new.device).tells fault c.in_err-pages.ensures.fault in search rules
-
-pub returns-in_err-check_ahead-clause-apart : goal.returns-in_err-check_ahead-clause-apart
-returns-in_err-check_ahead-clause-apart g c =
-    let fault = c.in_err-check_ahead.field-0.0 in
-    let own : MayBeOwn (log_error fault) = (ahead-own c.in_ok-pages.pages c.args.end fault c.in_err-check_ahead.ensures.fault).0 in search rules

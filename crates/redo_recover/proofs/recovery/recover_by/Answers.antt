@@ -1,4 +1,4 @@
-use Rattle.std.proofs.Common.{◌≡◌, ◌≤◌, IfSome, length, List, None, subst, sym}
+use Rattle.std.proofs.Common.{◌≡◌, ◌≤◌, List, None, subst, sym}
 use Rattle.std.proofs.lemmas.Result.{err_from_is_err_and}
 use Rattle.std.specs.List.{AllByRecursion}
 use Rattle.model_log.specs.declared.group.Whole.{Whole}
@@ -6,27 +6,28 @@ use Rattle.model_log.specs.declared.layout.Layout.{Layout}
 use Rattle.model_log.specs.{IsStop, layout_of}
 use Rattle.model_store.specs.{AreFoundIn, IsScan}
 use Rattle.redo_recover.specs.Devices.{OnContent, OnSource}
-use Rattle.redo_recover.specs.Groups.{IsEndOf, IsScanFault}
-use Rattle.redo_recover.specs.Reading.{IsTailFound}
+use Rattle.redo_recover.specs.Groups.{IsScanFault}
+use Rattle.redo_recover.specs.Reading.{IsScanOf}
 use Rattle.redo_recover.specs.Reads.{data_error, log_error}
 use Rattle.redo_recover.proofs.Causing.{page-cause, reading-of, scan-cause}
 use Rattle.redo_recover.proofs.Only.{log-own, log-then, only-none, only-own}
+use Rattle.redo_recover.proofs.Owning.{own-apart, page-apart, page-lengths, scan-apart, scan-lengths}
 use Rattle.redo_recover.proofs.Unchanged.{content-before}
 use Rattle.redo_recover.proofs.recovery.recover_by.Goals as goal
 
 pub read_pages-requires-clause-ends : goal.read_pages-requires-clause-ends
 read_pages-requires-clause-ends g c =
     subst (λ (wholes : List Whole). AllByRecursion (λ (whole : Whole). whole.end ≤ c.in_ok-views.field-0.end) wholes) (sym c.as_slice.ensures.value)
-    c.in_ok-views.ensures.end.groups
+    c.in_ok-views.ensures.scanned.end.groups
 
 pub returns-in_err-format : goal.returns-in_err-format
 returns-in_err-format g c =
     let p = err_from_is_err_and c.from_residual.result c.from_residual.ensures.1 in
     rw (p.1, p.2) (record {
       recovered = tt;
-      caused = record { lengths = c.in_err-format.ensures.lengths; cause = c.in_err-format.ensures.cause };
+      caused = c.in_err-format.ensures.caused;
       log = c.in_err-format.ensures.reads;
-      data_device = only-own _ _ (data_error c.in_err-format.field-0.0) c.in_err-format.ensures.apart (only-none c.args.data_device.now);
+      data_device = only-own _ _ (data_error c.in_err-format.field-0.0) (own-apart c.in_err-format.field-0.0 c.in_err-format.ensures.apart) (only-none c.args.data_device.now);
     })
 
 pub returns-in_err-views : goal.returns-in_err-views
@@ -36,18 +37,18 @@ returns-in_err-views g c =
     let start = c.in_ok-format.field-0 in
     let data_device = g.D.Sectors.seen c.args.data_device.now in
     let fault = c.in_err-views.field-0.0 in
+    let layout : Layout = layout_of start.format start.shape in
+    let is : IsScanFault start.shape layout start.ckpt middle.tells fault =
+    subst (λ (l : Layout). IsScanFault start.shape l start.ckpt middle.tells fault) c.layout_of-layout.ensures.is c.in_err-views.ensures.fault in
     let p = err_from_is_err_and c.from_residual-in_err-views.result c.from_residual-in_err-views.ensures.1 in
     rw (p.1, p.2) (record {
       recovered = tt;
       caused = record {
-        lengths = c.in_err-views.ensures.lengths log.size data_device.size;
-        cause = scan-cause log middle data_device.tells start fault c.in_ok-format.ensures.reads.unchanged
-            c.in_ok-format.ensures.start
-            (subst (λ (layout : Layout). OnSource layout middle.tells (IsScanFault start.shape layout.blocks start.ckpt fault)) c.layout_of-layout.ensures.is
-            c.in_err-views.ensures.fault);
+        lengths = scan-lengths start.shape layout start.ckpt middle.tells fault log.size data_device.size is;
+        cause = scan-cause log middle data_device.tells start fault c.in_ok-format.ensures.reads.unchanged c.in_ok-format.ensures.start is;
       };
       log = log-then _ _ _ _ c.in_ok-format.ensures.reads c.in_err-views.ensures.reads;
-      data_device = only-own _ _ (data_error fault) c.in_err-views.ensures.apart (only-none c.args.data_device.now);
+      data_device = only-own _ _ (data_error fault) (scan-apart start.shape layout start.ckpt middle.tells fault is) (only-none c.args.data_device.now);
     })
 
 pub returns-in_err-pages : goal.returns-in_err-pages
@@ -62,13 +63,13 @@ returns-in_err-pages g c =
     rw (p.1, p.2) (record {
       recovered = tt;
       caused = record {
-        lengths = c.in_err-pages.ensures.lengths log.size data_device.size;
+        lengths = page-lengths start.shape scanned.end data_device.tells fault log.size data_device.size c.in_err-pages.ensures.fault;
         cause = page-cause log middle data_device.tells start c.in_ok-views.field-0.views.items
             c.in_ok-views.field-0.groups.items c.in_ok-views.field-0.end fault c.in_ok-format.ensures.reads.unchanged c.in_ok-format.ensures.start
             (subst (λ (layout : Layout). OnSource layout middle.tells (λ source. IsScan start.shape layout.blocks source start.ckpt scanned.views.items scanned.groups.items scanned.end))
-            c.layout_of-layout.ensures.is c.in_ok-views.ensures.scan) c.in_err-pages.ensures.cause;
+            c.layout_of-layout.ensures.is c.in_ok-views.ensures.scan) c.in_err-pages.ensures.fault;
       };
-      log = log-own _ _ (log_error fault) c.in_err-pages.ensures.apart (log-then _ _ _ None c.in_ok-format.ensures.reads c.in_ok-views.ensures.reads);
+      log = log-own _ _ (log_error fault) (page-apart start.shape scanned.end data_device.tells fault c.in_err-pages.ensures.fault) (log-then _ _ _ None c.in_ok-format.ensures.reads c.in_ok-views.ensures.reads);
       data_device = c.in_err-pages.ensures.reads;
     })
 
@@ -81,6 +82,8 @@ returns g c =
     let scanned = c.in_ok-views.field-0 in
     let placed = c.in_ok-pages.field-0 in
     let same : c.layout_of-layout.result ≡ layout_of start.format start.shape = c.layout_of-layout.ensures.is in
+    let known : IsScanOf start.shape (layout_of start.format start.shape) start.ckpt scanned =
+    subst (λ (layout : Layout). IsScanOf start.shape layout start.ckpt scanned) same c.in_ok-views.ensures.scanned in
     record {
       recovered = record {
         read = reading-of log middle data_device.tells start scanned.views.items scanned.groups.items scanned.end placed.pages
@@ -97,17 +100,11 @@ returns g c =
             c.in_ok-views.ensures.tail);
         sized = c.in_ok-format.ensures.sized;
         of_devices = record {
-          limits = c.in_ok-format.ensures.usable.limits;
-          log_long = c.in_ok-format.ensures.usable.log_long;
-          data_long = c.in_ok-format.ensures.usable.data_long;
-          aligned = c.in_ok-format.ensures.usable.aligned;
-          started = c.in_ok-format.ensures.usable.started;
-          small = c.in_ok-format.ensures.usable.small;
-          few_views = subst (λ (layout : Layout). length scanned.views.items ≤ layout.blocks) same c.in_ok-views.ensures.few;
-          tail = subst (λ (layout : Layout). IfSome scanned.tail (IsTailFound layout start.ckpt)) same c.in_ok-views.ensures.found;
-          its_pages = c.in_ok-pages.ensures.its_pages;
+          usable = c.in_ok-format.ensures.usable;
+          few_views = known.few_views;
+          tail = known.tail;
           its_places = c.in_ok-pages.ensures.its_places;
-          end = subst (λ (layout : Layout). IsEndOf layout start.ckpt scanned.groups.items scanned.end) same c.in_ok-views.ensures.end;
+          end = known.end;
           not_ahead = c.in_ok-pages.ensures.not_ahead;
         };
       };

@@ -1,25 +1,27 @@
-use Rattle.std.proofs.Common.{◌∙◌, ap, sym, subst, arith, rules}
+use Rattle.std.proofs.Common.{◌≢◌, ◌∙◌, ap, sym, subst, arith, rules}
 use Rattle.std.proofs.lemmas.Result.{err_from_is_err_and}
 use Rattle.model_log.specs.{newest_checkpoint}
 use Rattle.model_log.specs.declared.layout.Layout.{Layout}
 use Rattle.model_store.proofs.Heads.{checkpoint-bounds}
 use Rattle.redo_recover.specs.Devices.{HasCauseIn}
-use Rattle.redo_recover.specs.Reads.{MayBeOwn, data_error, log_error}
+use Rattle.redo_recover.specs.Reads.{log_error}
+use Rattle.redo_recover.specs.Recovery.{IsCaused}
 use Rattle.redo_recover.specs.Start.{IsLengthFault}
 use Rattle.redo_recover.specs.declared.fault.RecFault.{RecFault}
+use Rattle.redo_recover.specs.declared.fault.RecFault.TheVariants.{DataDev}
 use Rattle.redo_recover.proofs.Starting.{header-of, sized, head-cause, length-cause, checkpoint-cause, starts}
-use Rattle.redo_recover.proofs.Unchanged.{log_fault-cause}
+use Rattle.redo_recover.proofs.Unchanged.{log_fault-caused}
 use Rattle.redo_recover.proofs.Only.{log-fault, log-one, log-own, log-short}
-use Rattle.redo_recover.proofs.Owning.{head-own, length-own, log-apart}
+use Rattle.redo_recover.proofs.Owning.{apart-own, head-own, length-own, log-apart}
 use Rattle.redo_recover.proofs.start.read_start.Goals as goal
 
-pub returns-in-Err-clause-cause : goal.returns-in-Err-clause-cause
-returns-in-Err-clause-cause g c =
-    subst (HasCauseIn (g.L.Sectors.seen c.args.log.now).tells (g.D.Sectors.seen c.args.device.now).tells) (sym c.log_fault.ensures)
-    (log_fault-cause _ _ c.in-Err.error)
+pub returns-in-Err-clause-caused : goal.returns-in-Err-clause-caused
+returns-in-Err-clause-caused g c =
+    subst (IsCaused (g.L.Sectors.seen c.args.log.now) (g.D.Sectors.seen c.args.device.now)) (sym c.log_fault.ensures)
+    (log_fault-caused _ _ c.in-Err.error)
 
-pub returns-in_err-format-clause-cause : goal.returns-in_err-format-clause-cause
-returns-in_err-format-clause-cause g c =
+pub returns-in_err-format-clause-caused : goal.returns-in_err-format-clause-caused
+returns-in_err-format-clause-caused g c =
     let log = g.L.Sectors.seen c.args.log.now in
     let device = g.D.Sectors.seen c.args.device.now in
     let header = c.read.new.out in
@@ -29,8 +31,8 @@ returns-in_err-format-clause-cause g c =
     head-cause log.tells device.tells log.size header c.in_err-format.field-0.0 of (omega arith) fault in
     search rules
 
-pub returns-in_err-check_lengths-clause-cause : goal.returns-in_err-check_lengths-clause-cause
-returns-in_err-check_lengths-clause-cause g c =
+pub returns-in_err-check_lengths-clause-caused : goal.returns-in_err-check_lengths-clause-caused
+returns-in_err-check_lengths-clause-caused g c =
     let log = g.L.Sectors.seen c.args.log.now in
     let device = g.D.Sectors.seen c.args.device.now in
     let header = c.read.new.out in
@@ -71,8 +73,8 @@ returns-in-Some-clause-usable g c =
       small = bounds.2;
     }
 
-pub returns-in-None-clause-cause : goal.returns-in-None-clause-cause
-returns-in-None-clause-cause g c =
+pub returns-in-None-clause-caused : goal.returns-in-None-clause-caused
+returns-in-None-clause-caused g c =
     let log = g.L.Sectors.seen c.args.log.now in
     let device = g.D.Sectors.seen c.args.device.now in
     let header = c.read.new.out in
@@ -82,8 +84,11 @@ returns-in-None-clause-cause g c =
     let other = sized device.tells device.size c.len.ensures.told in
     let head = c.in_ok-format.ensures.head in
     let newest = ap (λ (layout : Layout). newest_checkpoint layout header) (sym c.layout_of.ensures.is) ∙ sym c.newest_in.ensures ∙ c.in-None.is in
-    checkpoint-cause log.tells device.tells log.size device.size header format shape of other
-    (record { long = omega arith; head = head; log_long = omega (arith, c.in_ok-check_lengths.ensures.fit.0); data_long = omega (arith, c.in_ok-check_lengths.ensures.fit.1) }) newest
+    record {
+      lengths = tt;
+      cause = checkpoint-cause log.tells device.tells log.size device.size header format shape of other
+          (record { long = omega arith; head = head; log_long = omega (arith, c.in_ok-check_lengths.ensures.fit.0); data_long = omega (arith, c.in_ok-check_lengths.ensures.fit.1) }) newest;
+    }
 
 pub returns-then-log_len-lt-HEADER_BYTES-clause-reads : goal.returns-then-log_len-lt-HEADER_BYTES-clause-reads
 returns-then-log_len-lt-HEADER_BYTES-clause-reads g c = log-short c.args.log.now _ tt (omega (arith, c.len-log_len.ensures.size))
@@ -112,14 +117,14 @@ pub returns-in-None-clause-reads : goal.returns-in-None-clause-reads
 returns-in-None-clause-reads g c = log-one _ _ _ _ _ _ _ c.in-Ok.ensures.step c.in-Ok.ensures.gives
 
 pub returns-in-Err-clause-apart : goal.returns-in-Err-clause-apart
-returns-in-Err-clause-apart g c = subst (λ (f : RecFault). MayBeOwn (data_error f)) (sym c.log_fault.ensures) (log-apart c.in-Err.error)
+returns-in-Err-clause-apart g c = subst (λ (f : RecFault). f ≢ DataDev) (sym c.log_fault.ensures) (log-apart c.in-Err.error)
 
 pub returns-in_err-format-clause-apart : goal.returns-in_err-format-clause-apart
 returns-in_err-format-clause-apart g c =
     let fault = c.in_err-format.field-0.0 in
-    let own : MayBeOwn (data_error fault) = (head-own c.read.new.out fault c.in_err-format.ensures.fault).1 in search rules
+    let apart : fault ≢ DataDev = apart-own fault (head-own c.read.new.out fault c.in_err-format.ensures.fault).1 in search rules
 
 pub returns-in_err-check_lengths-clause-apart : goal.returns-in_err-check_lengths-clause-apart
 returns-in_err-check_lengths-clause-apart g c =
     let fault = c.in_err-check_lengths.field-0.0 in
-    let own : MayBeOwn (data_error fault) = (length-own c.in_ok-format.shape _ _ fault c.in_err-check_lengths.ensures.fault).1 in search rules
+    let apart : fault ≢ DataDev = apart-own fault (length-own c.in_ok-format.shape _ _ fault c.in_err-check_lengths.ensures.fault).1 in search rules
