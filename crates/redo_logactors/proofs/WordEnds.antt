@@ -1,5 +1,6 @@
 -- Where the writer stands once it has kept a whole word.
 use Rattle.std.proofs.Common.{List, ap, arith, cond, eqb, length, length-append, ℕ, ◌*◌, ◌++◌, ◌+◌, ◌∙◌, ◌≡◌}
+use Rattle.model_log.specs.declared.layout.TheConstants.{BLOCK_DATA}
 use Rattle.model_core.proofs.Lanes.{lanes_long}
 unfoldable use Rattle.model_core.specs.{lanes}
 use Rattle.model_core.specs.{lane_of, left_in_word, lsn, read_place, writer_took, WriterState}
@@ -12,8 +13,8 @@ pub cleared_word : (s : WriterState) (a : Answer) → (let kept : List ℕ = s.k
 cleared_word s a =
     let l : List ℕ = lanes (lane_of (read_place s)) (left_in_word (read_place s)) s.word in
     let long : length (s.kept ++ l) ≡ length s.kept + left_in_word (read_place s) = length-append s.kept l ∙ ap (λ (n : ℕ). length s.kept + n) (lanes_long (lane_of (read_place s)) (left_in_word (read_place s)) s.word) in
-    ap (λ (n : ℕ). let w : WriterState = record s { kept = s.kept ++ l; word = 0; step = cond (eqb (lsn (s.from + n)) s.tail) writer_step.TakeDevice (cond (eqb n (496 * length s.firsts)) writer_step.LoadFirst writer_step.LoadCell) } in w) long
-    ∙ ap (λ (n : ℕ). let w : WriterState = record s { kept = s.kept ++ l; word = 0; step = cond (eqb (lsn n) s.tail) writer_step.TakeDevice (cond (eqb (length s.kept + left_in_word (read_place s)) (496 * length s.firsts)) writer_step.LoadFirst writer_step.LoadCell) } in w) (sum_of s.from (length s.kept) (left_in_word (read_place s)))
+    ap (λ (n : ℕ). let w : WriterState = record s { kept = s.kept ++ l; word = 0; step = cond (eqb (lsn (s.from + n)) s.tail) writer_step.TakeDevice (cond (eqb n (BLOCK_DATA * length s.firsts)) writer_step.LoadFirst writer_step.LoadCell) } in w) long
+    ∙ ap (λ (n : ℕ). let w : WriterState = record s { kept = s.kept ++ l; word = 0; step = cond (eqb (lsn n) s.tail) writer_step.TakeDevice (cond (eqb (length s.kept + left_in_word (read_place s)) (BLOCK_DATA * length s.firsts)) writer_step.LoadFirst writer_step.LoadCell) } in w) (sum_of s.from (length s.kept) (left_in_word (read_place s)))
   where
     sum_of : (a b c : ℕ) → a + (b + c) ≡ a + b + c
     sum_of a b c = omega arith

@@ -9,9 +9,9 @@ abbrev pub closer_view : Inside → CloserState
 closer_view c = record { advance = c.advance; code = c.code; checks = c.checks; step = c.step }
 
 -- its advance may stand at this step
-abbrev pub MayStand : Advance → CloserStep → Type 0
-MayStand v (closer_step.Advance s) = LeadsToLsn v s
-MayStand v _ = Unit {0}
+abbrev pub CloserLeadsToLsn : Advance → CloserStep → Type 0
+CloserLeadsToLsn v (closer_step.Advance s) = LeadsToLsn v s
+CloserLeadsToLsn v _ = Unit {0}
 
 abbrev pub IsCloser : Inside → Type 0
-IsCloser c = MayStand c.advance c.step
+IsCloser c = CloserLeadsToLsn c.advance c.step

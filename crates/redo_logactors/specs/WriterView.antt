@@ -29,14 +29,14 @@ abbrev pub after_word : WriterState → WriterStep
 after_word s = cond (lsn (read_place s) == s.tail) writer_step.TakeDevice (cond (stands_outside s) writer_step.LoadFirst writer_step.LoadCell)
 
 -- its advance may stand at this step
-abbrev pub MayStand : Advance → WriterStep → Type 0
-MayStand v (writer_step.Advance s) = LeadsToLsn v s
-MayStand v _ = Unit {0}
+abbrev pub WriterLeadsToLsn : Advance → WriterStep → Type 0
+WriterLeadsToLsn v (writer_step.Advance s) = LeadsToLsn v s
+WriterLeadsToLsn v _ = Unit {0}
 
 pub record IsWriter (s : Inside) : Type 0 where
   pub few_blocks : s.blocks < 2 ^ 32
   pub tail : s.tail < 2 ^ 61
-  pub advance : MayStand s.advance s.step
+  pub advance : WriterLeadsToLsn s.advance s.step
   pub write : s.write < 2 ^ 61
   pub from : s.from + KEPT_BYTES + 1 < 2 ^ 61
   pub kept : length s.kept.items ≤ KEPT_BYTES

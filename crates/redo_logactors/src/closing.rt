@@ -2,7 +2,7 @@
 ghost use Rattle.std.specs.Prelude.{◌≡◌, ◌<◌, ◌^◌, ◌==◌, if◌then◌else◌, true};
 ghost use Rattle.model_core.specs.Actors as actor;
 ghost use Rattle.model_core.specs.AnswerFits.{AnswerFits};
-ghost use Rattle.model_core.specs.{closer_after, closer_checked, closer_next, closer_took, lent, old_of, stays_put, step_of};
+ghost use Rattle.model_core.specs.{after_of, checked_of, closer_program, closer_took, lent, next, old_of, stays_put, step_of};
 ghost use Rattle.redo_link.specs.{FindsLsn};
 ghost use Rattle.redo_words.specs.{Lends};
 
@@ -13,7 +13,7 @@ use redo_words::{Answer, Lent, Op, Step, Word, old_of};
 impl Closer {
     /// The Op that it asks for.
     pub fn next(&self) -> Op
-        ensures { result ≡ closer_next self.now }
+        ensures { result ≡ next (actor.Closer self.now) }
     {
         if self.checks {
             return Op::Load(Word::Failed);
@@ -34,7 +34,7 @@ impl Closer {
     /// What it makes of FAILED.
     fn checked(&mut self, n: u64) -> Step
         requires { n < 2 ^ 32 }
-        ensures state { self.new ≡ closer_checked self.old n }
+        ensures state { self.new ≡ checked_of closer_program self.old n }
         ensures step { result ≡ (if n == 0 then Step.Moved else Step.Failed n) }
     {
         self.checks = false;
@@ -66,7 +66,7 @@ impl Closer {
     /// Takes the answer to the Op that it asked for.
     pub fn took(&mut self, answer: Answer) -> Step
         requires { AnswerFits (actor.Closer self.old) answer }
-        ensures state { self.new ≡ closer_after self.old answer }
+        ensures state { self.new ≡ after_of closer_program self.old answer }
         ensures step { result ≡ step_of (actor.Closer self.old) answer }
     {
         if self.checks {

@@ -2,7 +2,7 @@
 ghost use Rattle.std.specs.Prelude.{◌≡◌, ◌<◌, ◌^◌, ◌==◌, if◌then◌else◌, true};
 ghost use Rattle.model_core.specs.Actors as actor;
 ghost use Rattle.model_core.specs.AnswerFits.{AnswerFits};
-ghost use Rattle.model_core.specs.{flusher_after, flusher_checked, flusher_ending, flusher_next, lent, step_of};
+ghost use Rattle.model_core.specs.{after_of, checked_of, flusher_ending, flusher_program, lent, next, step_of};
 ghost use Rattle.redo_words.specs.{Lends};
 
 use crate::flusher::Flusher;
@@ -12,7 +12,7 @@ use redo_words::{Answer, Lent, Op, Step, Word, code_of, old_of};
 impl Flusher {
     /// The Op that it asks for.
     pub fn next(&self) -> Op
-        ensures { result ≡ flusher_next self.now }
+        ensures { result ≡ next (actor.Flusher self.now) }
     {
         if self.checks {
             return Op::Load(Word::Failed);
@@ -40,7 +40,7 @@ impl Flusher {
     /// What it makes of FAILED.
     fn checked(&mut self, n: u64) -> Step
         requires { n < 2 ^ 32 }
-        ensures state { self.new ≡ flusher_checked self.old n }
+        ensures state { self.new ≡ checked_of flusher_program self.old n }
         ensures step { result ≡ (if n == 0 then Step.Moved else Step.Failed n) }
     {
         self.checks = false;
@@ -76,7 +76,7 @@ impl Flusher {
     /// Takes the answer to the Op that it asked for.
     pub fn took(&mut self, answer: Answer) -> Step
         requires { AnswerFits (actor.Flusher self.old) answer }
-        ensures state { self.new ≡ flusher_after self.old answer }
+        ensures state { self.new ≡ after_of flusher_program self.old answer }
         ensures step { result ≡ step_of (actor.Flusher self.old) answer }
     {
         if self.checks {

@@ -4,7 +4,7 @@ ghost use Rattle.model_core.specs.Actors as actor;
 ghost use Rattle.model_core.specs.AnswerFits.{AnswerFits};
 ghost use Rattle.redo_link.specs.{FindsLsn};
 ghost use Rattle.redo_logactors.specs.WriterView.{after_word};
-ghost use Rattle.model_core.specs.{answer_limit, finds_no_more, full_blocks, has_log_space, has_whole_word, lanes, left_in_word, lsn, old_of, read_place, stands_outside, step_of, tail_after, writer_after, writer_took};
+ghost use Rattle.model_core.specs.{after_of, answer_limit, finds_no_more, full_blocks, has_log_space, has_whole_word, lanes, left_in_word, lsn, old_of, read_place, stands_outside, step_of, tail_after, writer_program, writer_took};
 
 use crate::writer::{KEPT_BLOCKS, KEPT_BYTES, Writer};
 use crate::writing::{drop_bytes, drop_firsts};
@@ -168,7 +168,7 @@ impl Writer {
     /// Takes the answer to the Op that it asked for.
     pub fn took(&mut self, answer: Answer) -> Step
         requires { AnswerFits (actor.Writer self.old) answer }
-        ensures state { self.new ≡ writer_after self.old answer }
+        ensures state { self.new ≡ after_of writer_program self.old answer }
         ensures step { result ≡ step_of (actor.Writer self.old) answer }
     {
         if self.checks {

@@ -1,8 +1,8 @@
 // What the writer asks for, and what it makes of the answer.
 ghost use Rattle.std.specs.Prelude.{◌≡◌, ◌<◌, ◌≤◌, ◌+◌, ◌/◌, ◌%◌, ◌^◌, ◌==◌, if◌then◌else◌, true, length, drop, vec_capacity};
 ghost use Rattle.model_core.specs.Actors as actor;
-ghost use Rattle.model_core.specs.{cell_of, lane_of, left_in_word, lent, lsn, read_place, writer_checked, writer_ending, writer_next};
-ghost use Rattle.redo_logactors.specs.WriterView.{MayStand};
+ghost use Rattle.model_core.specs.{cell_of, checked_of, lane_of, left_in_word, lent, lsn, next, read_place, writer_ending, writer_program};
+ghost use Rattle.redo_logactors.specs.WriterView.{WriterLeadsToLsn};
 ghost use Rattle.redo_words.specs.{Lends};
 
 use crate::writer::Writer;
@@ -56,7 +56,7 @@ impl Writer {
 
     /// The Op that it asks for.
     pub fn next(&self) -> Op
-        ensures { result ≡ writer_next self.now }
+        ensures { result ≡ next (actor.Writer self.now) }
     {
         if self.checks {
             return Op::Load(Word::Failed);
@@ -99,7 +99,7 @@ impl Writer {
     /// What it makes of FAILED.
     pub(crate) fn checked(&mut self, n: u64) -> Step
         requires { n < 2 ^ 32 }
-        ensures state { self.new ≡ writer_checked self.old n }
+        ensures state { self.new ≡ checked_of writer_program self.old n }
         ensures step { result ≡ (if n == 0 then Step.Moved else Step.Failed n) }
     {
         self.checks = false;
@@ -113,7 +113,7 @@ impl Writer {
 
     /// It goes on with this step.
     pub(crate) fn goes_on(&mut self, step: WriterStep) -> Step
-        requires { MayStand self.old.advance step }
+        requires { WriterLeadsToLsn self.old.advance step }
         ensures state { self.new ≡ record self.old { step = step } }
         ensures step { result ≡ writer_ending self.old.code step }
     {

@@ -1,15 +1,10 @@
 // The bytes of a batch, kept in room that is made once.
-ghost use Rattle.std.specs.Prelude.{◌≡◌, ◌≤◌, ◌+◌, ◌++◌, length, drop, take, vec_capacity};
+ghost use Rattle.std.specs.Prelude.{◌≡◌, ◌≤◌, ◌+◌, ◌-◌, ◌++◌, length, drop, take, vec_capacity};
 
-use model_base::{USER_BYTES, USER_START};
-use model_page::TRAILER_LENGTH;
+use model_base::{PAGE_TRAILER, USER_START};
 
-/// User bytes of a page, and its other bytes.
-pub(crate) const USERS: usize = USER_BYTES as usize;
-
-pub(crate) const RIM: usize = (USER_START + TRAILER_LENGTH) as usize;
-/// All bytes of a page.
-pub(crate) const PAGE: usize = USERS + RIM;
+/// Bytes of a page that aren't user bytes.
+pub(crate) const RIM: usize = (USER_START + PAGE_TRAILER) as usize;
 /// Where its user bytes begin.
 const USERS_FROM: usize = USER_START as usize;
 
@@ -49,18 +44,18 @@ pub(crate) fn drop_page(batch: &mut Vec<(u32, u64)>)
 
 /// Appends the user bytes of a page to those of others, and the bytes before and after them to those.
 pub(crate) fn split_page(page: &[u8], users: &mut Vec<u8>, rims: &mut Vec<u8>)
-    requires page { length page.now ≡ PAGE }
-    requires users_room { length users.old.items + USERS ≤ vec_capacity users.old }
+    requires page { RIM ≤ length page.now }
+    requires users_room { length users.old.items + (length page.now - RIM) ≤ vec_capacity users.old }
     requires rims_room { length rims.old.items + RIM ≤ vec_capacity rims.old }
-    ensures users { users.new.items ≡ users.old.items ++ take USERS (drop USERS_FROM page.now) }
-    ensures rims { rims.new.items ≡ (rims.old.items ++ take USERS_FROM page.now) ++ drop USERS (drop USERS_FROM page.now) }
-    ensures users_long { length users.new.items ≡ length users.old.items + USERS }
+    ensures users { users.new.items ≡ users.old.items ++ take (length page.now - RIM) (drop USERS_FROM page.now) }
+    ensures rims { rims.new.items ≡ (rims.old.items ++ take USERS_FROM page.now) ++ drop (length page.now - RIM) (drop USERS_FROM page.now) }
+    ensures users_long { length users.new.items ≡ length users.old.items + (length page.now - RIM) }
     ensures rims_long { length rims.new.items ≡ length rims.old.items + RIM }
     ensures users_kept { vec_capacity users.old ≤ vec_capacity users.new }
     ensures rims_kept { vec_capacity rims.old ≤ vec_capacity rims.new }
 {
     let (front, rest) = page.split_at(USERS_FROM);
-    let (user, back) = rest.split_at(USERS);
+    let (user, back) = rest.split_at(page.len() - RIM);
     append(users, user);
     append(rims, front);
     append(rims, back);

@@ -2,7 +2,7 @@
 ghost use Rattle.std.specs.Prelude.{◌≡◌, ◌<◌, ◌^◌, ◌==◌, if◌then◌else◌, true, List, Option};
 ghost use Rattle.model_core.specs.Actors as actor;
 ghost use Rattle.model_core.specs.AnswerFits.{AnswerFits};
-ghost use Rattle.model_core.specs.{candidate, checkpointer_after, checkpointer_checked, checkpointer_ending, checkpointer_next, checkpointer_took, has_taken, is_above, lent, lowered, step_of};
+ghost use Rattle.model_core.specs.{after_of, candidate, checked_of, checkpointer_ending, checkpointer_program, checkpointer_took, has_taken, is_above, lent, lowered, next, step_of};
 ghost use Rattle.redo_pageactors.specs.CheckpointerView.{IsAtList};
 ghost use Rattle.redo_words.specs.{Lends};
 
@@ -25,7 +25,7 @@ fn lowered(to: u64, oldest: Option<u64>) -> u64
 impl Checkpointer {
     /// The Op that it asks for.
     pub fn next(&self) -> Op
-        ensures { result ≡ checkpointer_next self.now }
+        ensures { result ≡ next (actor.Checkpointer self.now) }
     {
         if self.checks {
             return Op::Load(Word::Failed);
@@ -56,7 +56,7 @@ impl Checkpointer {
     /// What it makes of FAILED.
     fn checked(&mut self, n: u64) -> Step
         requires { n < 2 ^ 32 }
-        ensures state { self.new ≡ checkpointer_checked self.old n }
+        ensures state { self.new ≡ checked_of checkpointer_program self.old n }
         ensures step { result ≡ (if n == 0 then Step.Moved else Step.Failed n) }
     {
         self.checks = false;
@@ -153,7 +153,7 @@ impl Checkpointer {
     /// Takes the answer to the Op that it asked for.
     pub fn took(&mut self, answer: Answer) -> Step
         requires { AnswerFits (actor.Checkpointer self.old) answer }
-        ensures state { self.new ≡ checkpointer_after self.old answer }
+        ensures state { self.new ≡ after_of checkpointer_program self.old answer }
         ensures step { result ≡ step_of (actor.Checkpointer self.old) answer }
     {
         if self.checks {

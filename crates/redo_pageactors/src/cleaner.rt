@@ -7,6 +7,7 @@ use std::marker::Model;
 #[derive(Debug, Drop)]
 pub struct Cleaner {
     pub(crate) pages: u32,
+    pub(crate) page_size: u32,
     pub(crate) flushed: u64,
     pub(crate) page: u32,
     pub(crate) left: u32,
@@ -23,11 +24,11 @@ pub struct Cleaner {
 
 impl Model for Cleaner {
     ghost use Rattle.model_core.specs.{CleanerState};
-    ghost use Rattle.redo_pageactors.specs.CleanerView.{cleaner_view, IsCleaner};
+    ghost use Rattle.redo_pageactors.specs.CleanerView.{cleaner_view, IsSoundCleaner};
 
     ghost Value = { CleanerState };
 
     ghost view = { cleaner_view };
 
-    ghost invariant = { IsCleaner };
+    ghost invariant = { IsSoundCleaner };
 }

@@ -1,7 +1,7 @@
 // What the cleaner asks for.
 ghost use Rattle.std.specs.Prelude.{◌≡◌, ◌<◌, length};
 ghost use Rattle.model_core.specs.Actors as actor;
-ghost use Rattle.model_core.specs.{cleaner_next, first_of_batch, lent};
+ghost use Rattle.model_core.specs.{first_of_batch, lent, next};
 ghost use Rattle.redo_words.specs.{Lends};
 
 use crate::cleaner::Cleaner;
@@ -22,7 +22,7 @@ impl Cleaner {
     /// The Op that it asks for.
     #[tactic(auto, using(crate::proofs::BatchPages::length_batch_pages))]
     pub fn next(&self) -> Op
-        ensures { result ≡ cleaner_next self.now }
+        ensures { result ≡ next (actor.Cleaner self.now) }
     {
         if self.checks {
             return Op::Load(Word::Failed);

@@ -3,7 +3,7 @@ ghost use Rattle.std.specs.Prelude.{◌≡◌, IfOk};
 ghost use Rattle.model_base.specs.{IsWithinLimits};
 ghost use Rattle.model_core.specs.{new_checkpointer, new_cleaner};
 
-use crate::batch::{PAGE, RIM, USERS};
+use crate::batch::RIM;
 use crate::checkpointer::Checkpointer;
 use crate::cleaner::Cleaner;
 use model_base::Shape;
@@ -16,16 +16,17 @@ impl Cleaner {
     /// The cleaner of a store of this shape. It takes the room for a batch.
     pub fn new(alloc: Global, shape: &Shape) -> Result<Cleaner, NoMemory>
         requires { IsWithinLimits shape.now }
-        ensures { IfOk result (λ cleaner. cleaner ≡ new_cleaner shape.now.pages) }
+        ensures { IfOk result (λ cleaner. cleaner ≡ new_cleaner shape.now.pages shape.now.page_size) }
     {
-        let pages = shape.pages;
+        let page = shape.page_size as usize;
         let most = BATCH_PAGES as usize;
-        let kept = Vec::with_capacity(alloc, PAGE)?;
+        let kept = Vec::with_capacity(alloc, page)?;
         let batch = Vec::with_capacity(alloc, most)?;
-        let users = Vec::with_capacity(alloc, USERS * most)?;
-        let rims = Vec::with_capacity(alloc, RIM * most)?;
+        let users = Vec::with_capacity(alloc, most * (page - RIM))?;
+        let rims = Vec::with_capacity(alloc, most * RIM)?;
         Ok(Cleaner {
-            pages,
+            pages: shape.pages,
+            page_size: shape.page_size,
             flushed: 0,
             page: 0,
             left: 0,

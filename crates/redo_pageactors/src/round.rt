@@ -2,18 +2,18 @@
 ghost use Rattle.std.specs.Prelude.{◌≡◌, ◌<◌, ◌^◌, ◌==◌, ◌+◌, ◌++◌, ◌∷◌, [], if◌then◌else◌, length, true};
 ghost use Rattle.model_core.specs.Actors as actor;
 ghost use Rattle.model_core.specs.AnswerFits.{AnswerFits};
-ghost use Rattle.model_core.specs.{cleaner_after, cleaner_checked, cleaner_took, finds_none, has_taken, next_in_round, old_of, step_of};
+ghost use Rattle.model_core.specs.{after_of, checked_of, cleaner_program, cleaner_took, finds_none, has_taken, next_in_round, old_of, step_of};
 
-use crate::batch::{RIM, USERS, drop_bytes, drop_page, split_page};
+use crate::batch::{RIM, drop_bytes, drop_page, split_page};
 use crate::cleaner::Cleaner;
-use model_core::{BATCH_PAGES, CleanerStep, FRAME_CELLS, WORD_LANES};
+use model_core::{BATCH_PAGES, CleanerStep, WORD_LANES};
 use redo_words::{Answer, Step, code_of, old_of, push_lanes};
 
 impl Cleaner {
     /// What it makes of FAILED.
     fn checked(&mut self, n: u64) -> Step
         requires { n < 2 ^ 32 }
-        ensures state { self.new ≡ cleaner_checked self.old n }
+        ensures state { self.new ≡ checked_of cleaner_program self.old n }
         ensures step { result ≡ (if n == 0 then Step.Moved else Step.Failed n) }
     {
         self.checks = false;
@@ -66,9 +66,9 @@ impl Cleaner {
     }
 
     /// The page whose bytes are all loaded enters the batch.
-    #[tactic(auto, using(crate::proofs::BatchPages::batch_pages_enter, crate::proofs::BatchPages::length_batch_pages))]
+    #[tactic(auto, using(crate::proofs::BatchPages::batch_pages_enter, crate::proofs::BatchPages::length_batch_pages, crate::proofs::BatchPages::one_more))]
     fn enters_batch(&mut self)
-        requires loaded { length self.old.kept ≡ FRAME_CELLS }
+        requires loaded { length self.old.kept ≡ self.old.page_size }
         requires room { length self.old.batch < BATCH_PAGES }
         requires step { self.old.step ≡ CleanerStep.LoadFlushed }
         ensures { self.new ≡ record self.old {
@@ -89,7 +89,7 @@ impl Cleaner {
         ensures step { result ≡ Step.Moved }
     {
         let loaded = self.kept.len() as u64 + WORD_LANES;
-        if loaded < FRAME_CELLS {
+        if loaded < u64::from(self.page_size) {
             push_lanes(&mut self.kept, old_of(answer), 0, WORD_LANES as usize);
             return Step::Moved;
         }
@@ -150,7 +150,7 @@ impl Cleaner {
     }
 
     /// The latch of the batch's first page was released: it leaves the batch.
-    #[tactic(auto, using(crate::proofs::BatchPages::drop_batch_pages, crate::proofs::BatchPages::length_batch_pages))]
+    #[tactic(auto, using(crate::proofs::BatchPages::drop_batch_pages, crate::proofs::BatchPages::length_batch_pages, crate::proofs::BatchPages::some_first))]
     fn released(&mut self, answer: Answer) -> Step
         requires step { self.old.step ≡ CleanerStep.ReleaseLatch }
         ensures state { self.new ≡ cleaner_took self.old answer CleanerStep.ReleaseLatch }
@@ -158,7 +158,7 @@ impl Cleaner {
     {
         let is_last = self.batch.len() == 1;
         drop_page(&mut self.batch);
-        drop_bytes(&mut self.users, USERS);
+        drop_bytes(&mut self.users, self.page_size as usize - RIM);
         drop_bytes(&mut self.rims, RIM);
         if is_last {
             self.step = CleanerStep::LoadFlushed;
@@ -186,7 +186,7 @@ impl Cleaner {
     /// Takes the answer to the Op that it asked for.
     pub fn took(&mut self, answer: Answer) -> Step
         requires { AnswerFits (actor.Cleaner self.old) answer }
-        ensures state { self.new ≡ cleaner_after self.old answer }
+        ensures state { self.new ≡ after_of cleaner_program self.old answer }
         ensures step { result ≡ step_of (actor.Cleaner self.old) answer }
     {
         let n = old_of(answer);

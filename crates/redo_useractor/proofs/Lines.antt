@@ -11,10 +11,12 @@ use Rattle.redo_useractor.proofs.Pages.{changes_are}
 use Rattle.redo_useractor.specs.Lines.{AreUserLines, IsUserLine}
 use Rattle.redo_useractor.specs.Places.{changes_on, page_if_touched}
 
-pub line_is : (log_only : Bool) (pages mode : ℕ) (group : List Rec) (text touched : List ℕ) → text ≡ group_text group → touched ≡ cond log_only [] (collected (page_if_touched group) pages)
-    → ◌≡◌ {A = Line} (record { mode = mode; bytes = text; changes = changes_on group touched }) (line_of log_only pages mode group)
-line_is true pages mode group text touched t p = λ i. record { mode = mode; bytes = t i; changes = changes_on group (p i) }
-line_is false pages mode group text touched t p = let q = ap (changes_on group) p ∙ changes_are group pages in λ i. record { mode = mode; bytes = t i; changes = q i }
+pub line_is : (log_only : Bool) (shape : Shape) (mode : ℕ) (group : List Rec) (text touched : List ℕ) → text ≡ group_text group
+    → touched ≡ cond log_only [] (collected (page_if_touched group) shape.pages)
+    → ◌≡◌ {A = Line} (record { mode = mode; bytes = text; changes = changes_on shape group touched }) (line_of log_only shape mode group)
+line_is true shape mode group text touched t p = λ i. record { mode = mode; bytes = t i; changes = changes_on shape group (p i) }
+line_is false shape mode group text touched t p =
+    let q = ap (changes_on shape group) p ∙ changes_are shape group shape.pages in λ i. record { mode = mode; bytes = t i; changes = q i }
 
 pub line_here : (shape : Shape) (lines : List (ℕ × List Rec)) (k : ℕ) (line : ℕ × List Rec) → AreUserLines shape lines → k < length lines → line ≡ get_or lines k line → IsUserLine shape line
 line_here shape lines k line are lt is = are k line (slice_get-get_or lines k line lt ∙ ap Some (sym is))

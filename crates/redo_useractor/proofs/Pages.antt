@@ -3,7 +3,8 @@ use Rattle.std.proofs.Common.{Bool, List, [], add-one, ap, arith, cond, eqb, fal
 use Rattle.std.proofs.lemmas.Bool.{and_cases, and_parts, cond-false, cond-true, eq-eqb, leb-false, leb-true, ltb-false, ltb-true, ne_eqb, or_from, or_left, or_right}
 use Rattle.std.proofs.lemmas.List.{map-append}
 use native.Mathlib.Decide.{dec_le}
-use Rattle.model_core.specs.{changed_cells, change_on, changes_of}
+use Rattle.model_base.specs.declared.shape.Shape.{Shape}
+use Rattle.model_core.specs.{changed_cells, change_on}
 unfoldable use Rattle.model_core.specs.Changes.{collected}
 use Rattle.model_core.specs.{PageChange}
 use Rattle.model_log.specs.{page_of}
@@ -78,14 +79,15 @@ pub one_more : (recs : List Rec) (page : ℕ) → touches page recs ≡ true →
 one_more recs page is = ap (collected (page_if_touched recs)) (add-one page) ∙ collected_suc (page_if_touched recs) page ∙ ap (λ xs. collected (page_if_touched recs) page ++ xs) (cond-true (touches page recs) (page ∷ []) [] is)
 
 -- with what changes there
-pub changes_are : (recs : List Rec) (pages : ℕ) → changes_on recs (collected (page_if_touched recs) pages) ≡ changes_of pages recs
-changes_are recs zero = ap (changes_on recs) (collected_none (page_if_touched recs)) ∙ sym (collected_none (change_on recs))
-changes_are recs (suc n) =
-    ap (changes_on recs) (collected_suc (page_if_touched recs) n)
-    ∙ map-append (λ (p : ℕ). let change : PageChange = record { page = p; cells = changed_cells p recs } in change) (collected (page_if_touched recs) n) (page_if_touched recs n)
-    ∙ ap (λ (xs : List PageChange). xs ++ changes_on recs (page_if_touched recs n)) (changes_are recs n) ∙ ap (λ (xs : List PageChange). changes_of n recs ++ xs) (by (touches n recs))
-    ∙ sym (collected_suc (change_on recs) n)
+pub changes_are : (shape : Shape) (recs : List Rec) (pages : ℕ) → changes_on shape recs (collected (page_if_touched recs) pages) ≡ collected (change_on shape recs) pages
+changes_are shape recs zero = ap (changes_on shape recs) (collected_none (page_if_touched recs)) ∙ sym (collected_none (change_on shape recs))
+changes_are shape recs (suc n) =
+    ap (changes_on shape recs) (collected_suc (page_if_touched recs) n)
+    ∙ map-append (λ (p : ℕ). let change : PageChange = record { page = p; cells = changed_cells shape p recs } in change) (collected (page_if_touched recs) n) (page_if_touched recs n)
+    ∙ ap (λ (xs : List PageChange). xs ++ changes_on shape recs (page_if_touched recs n)) (changes_are shape recs n)
+    ∙ ap (λ (xs : List PageChange). collected (change_on shape recs) n ++ xs) (by (touches n recs))
+    ∙ sym (collected_suc (change_on shape recs) n)
   where
-    by : (b : Bool) → changes_on recs (cond b (n ∷ []) []) ≡ cond b (let cs : List PageChange = record { page = n; cells = changed_cells n recs } ∷ [] in cs) []
+    by : (b : Bool) → changes_on shape recs (cond b (n ∷ []) []) ≡ cond b (let cs : List PageChange = record { page = n; cells = changed_cells shape n recs } ∷ [] in cs) []
     by true = refl
     by false = refl

@@ -1,22 +1,23 @@
 -- What the records of a group write, byte by byte, is where a page of zeros and one of ones are alike after them.
-use Rattle.std.proofs.Common.{Bool, List, None, Option, Some, [], ap, arith, cond, drop, eq-eqb, eqb, false, get_or, leb, length, length-append, length-drop, ltb, ne_eqb, refl, replicate, subst, suc, sym, take, true, zero, ℕ, ◌&&◌, ◌%◌, ◌++◌, ◌+◌, ◌-◌, ◌/◌, ◌<◌, ◌^◌, ◌∙◌, ◌∷◌, ◌≡◌, ◌≤◌}
+use Rattle.std.proofs.Common.{Bool, List, None, Option, Some, [], ap, arith, cond, drop, eq-eqb, eqb, false, get_or, inl, inr, leb, length, length-append, length-drop, ltb, ne_eqb, refl, replicate, subst, suc, sym, take, true, zero, ℕ, ◌&&◌, ◌%◌, ◌++◌, ◌+◌, ◌-◌, ◌/◌, ◌<◌, ◌^◌, ◌∙◌, ◌∷◌, ◌≡◌, ◌≤◌, ◌⊎◌}
 use Rattle.std.proofs.Math.ListN.{get_or-append}
 use Rattle.std.proofs.Math.Nat.{div-one}
 use Rattle.std.proofs.Math.Seq.{get_or-append_right}
 use Rattle.std.proofs.lemmas.List.{get_or-drop, get_or-replicate, get_or-take, length-replicate, length-take-le}
-use Rattle.std.proofs.lemmas.Bool.{and_parts, le-leb, le-ltb, lt-leb, lt-ltb, ltb-true}
+use Rattle.std.proofs.lemmas.Bool.{and_parts, and_right, le-leb, le-ltb, lt-leb, lt-ltb, ltb-true}
 use Rattle.std.specs.Int.{byte_at, bytes_high_first}
 use Rattle.std.specs.List.{AllByRecursion}
 use Rattle.std.specs.Option.{unwrap_or}
 use native.Mathlib.Decide.{dec_le}
-use Rattle.model_base.specs.{overwritten}
+use Rattle.model_base.specs.{overwritten, user_length}
+use Rattle.model_base.specs.declared.shape.Shape.{Shape}
 use Rattle.model_core.specs.{after_from, cell_where_same, CellWrite}
 use Rattle.model_log.specs.{page_of}
 use Rattle.model_log.specs.declared.rec.Rec.{Rec}
 use Rattle.model_log.specs.declared.rec.Rec.TheVariants.{Init, Num, Text}
 use Rattle.model_store.specs.{user_after, user_after_own}
 use Rattle.redo_apply.specs.{WritesWithin}
-use Rattle.redo_useractor.specs.Written.{as_cell, later, own_byte, written}
+use Rattle.redo_useractor.specs.Written.{as_cell, later, own_byte, recorded_byte}
 
 pub byte_at-quotient : (i n : ℕ) → byte_at i n ≡ n / 256 ^ i % 256
 byte_at-quotient zero n = ap (λ (q : ℕ). q % 256) (sym (div-one n))
@@ -70,34 +71,36 @@ row_step at bytes u j d acc own fits is its = write_at at bytes u j fits ∙ by 
     by true = refl
     by false = is
 
-own_step : (rec : Rec) (u : List ℕ) (j d : ℕ) (acc : Option ℕ) → WritesWithin 4050 rec → length u ≡ 4050 → j < 4050 → byte u j ≡ unwrap_or acc d
-    → byte (user_after_own rec u) j ≡ unwrap_or (later (own_byte rec j) acc) d
-own_step (Num width space page offset value) u j d acc w long h is =
-    row_step (offset - 38) (bytes_high_first width value) u j d acc (own_byte (Num width space page offset value) j) (let l = long_number width value in let a = w.0 in let b = w.1 in omega arith) is its
+own_step : (n : ℕ) (rec : Rec) (u : List ℕ) (j d : ℕ) (acc : Option ℕ) → WritesWithin n rec → length u ≡ n → j < n → byte u j ≡ unwrap_or acc d
+    → byte (user_after_own rec u) j ≡ unwrap_or (later (own_byte n rec j) acc) d
+own_step n (Num width space page offset value) u j d acc w long h is =
+    row_step (offset - 38) (bytes_high_first width value) u j d acc (own_byte n (Num width space page offset value) j) (let l = long_number width value in let a = w.0 in let b = w.1 in omega arith) is its
   where
     by : (b : Bool) → b ≡ within (offset - 38) width j → cond b (Some (byte_at (width - 1 - (j - (offset - 38))) value)) None ≡ cond b (Some (byte (bytes_high_first width value) (j - (offset - 38)))) None
     by true e = ap Some (sym (number_at width value (j - (offset - 38)) (ltb-true (j - (offset - 38)) width (and_parts (leb (offset - 38) j) (ltb (j - (offset - 38)) width) (sym e)).1)))
     by false e = refl
 
-    its : own_byte (Num width space page offset value) j ≡ cond (within (offset - 38) (length (bytes_high_first width value)) j) (Some (byte (bytes_high_first width value) (j - (offset - 38)))) None
+    its : own_byte n (Num width space page offset value) j ≡ cond (within (offset - 38) (length (bytes_high_first width value)) j) (Some (byte (bytes_high_first width value) (j - (offset - 38)))) None
     its = by (within (offset - 38) width j) refl ∙ ap (λ (n : ℕ). let o : Option ℕ = cond (within (offset - 38) n j) (Some (byte (bytes_high_first width value) (j - (offset - 38)))) None in o) (sym (long_number width value))
-own_step (Text space page offset bytes) u j d acc w long h is = row_step (offset - 38) bytes u j d acc (own_byte (Text space page offset bytes) j) (let a = w.0 in let b = w.1 in omega arith) is refl
-own_step (Init space page) u j d acc w long h is = get_or-replicate (length u) j 0 0 (omega arith)
+own_step n (Text space page offset bytes) u j d acc w long h is = row_step (offset - 38) bytes u j d acc (own_byte n (Text space page offset bytes) j) (let a = w.0 in let b = w.1 in omega arith) is refl
+own_step n (Init space page) u j d acc w long h is =
+    get_or-replicate (length u) j 0 0 (omega arith)
+    ∙ sym (ap (λ (b : Bool). unwrap_or (later (cond b (Some 0) None) acc) d) (lt-ltb j n h))
 
-own_long : (rec : Rec) (u : List ℕ) → WritesWithin 4050 rec → length u ≡ 4050 → length (user_after_own rec u) ≡ 4050
-own_long (Num width space page offset value) u w long = long_row (offset - 38) (bytes_high_first width value) u (let l = long_number width value in let a = w.0 in let b = w.1 in omega arith) ∙ long
-own_long (Text space page offset bytes) u w long = long_row (offset - 38) bytes u (let a = w.0 in let b = w.1 in omega arith) ∙ long
-own_long (Init space page) u w long = length-replicate (length u) 0 ∙ long
+own_long : (n : ℕ) (rec : Rec) (u : List ℕ) → WritesWithin n rec → length u ≡ n → length (user_after_own rec u) ≡ n
+own_long n (Num width space page offset value) u w long = long_row (offset - 38) (bytes_high_first width value) u (let l = long_number width value in let a = w.0 in let b = w.1 in omega arith) ∙ long
+own_long n (Text space page offset bytes) u w long = long_row (offset - 38) bytes u (let a = w.0 in let b = w.1 in omega arith) ∙ long
+own_long n (Init space page) u w long = length-replicate (length u) 0 ∙ long
 
 -- THE RECORDS, at one byte
-written_byte : (p : ℕ) (recs : List Rec) (u : List ℕ) (j d : ℕ) (acc : Option ℕ) → AllByRecursion (WritesWithin 4050) recs → length u ≡ 4050 → j < 4050 → byte u j ≡ unwrap_or acc d
-    → byte (user_after p recs u) j ≡ unwrap_or (written p recs j acc) d
-written_byte p [] u j d acc w long h is = is
-written_byte p (rec ∷ recs) u j d acc w long h is =
-    by (eqb (page_of rec) p) (written_byte p recs (user_after_own rec u) j d (later (own_byte rec j) acc) w.1 (own_long rec u w.0 long) h (own_step rec u j d acc w.0 long h is)) (written_byte p recs u j d acc w.1 long h is)
+written_byte : (n p : ℕ) (recs : List Rec) (u : List ℕ) (j d : ℕ) (acc : Option ℕ) → AllByRecursion (WritesWithin n) recs → length u ≡ n → j < n → byte u j ≡ unwrap_or acc d
+    → byte (user_after p recs u) j ≡ unwrap_or (recorded_byte n p recs j acc) d
+written_byte n p [] u j d acc w long h is = is
+written_byte n p (rec ∷ recs) u j d acc w long h is =
+    by (eqb (page_of rec) p) (written_byte n p recs (user_after_own rec u) j d (later (own_byte n rec j) acc) w.1 (own_long n rec u w.0 long) h (own_step n rec u j d acc w.0 long h is)) (written_byte n p recs u j d acc w.1 long h is)
   where
-    by : (b : Bool) → byte (user_after p recs (user_after_own rec u)) j ≡ unwrap_or (written p recs j (later (own_byte rec j) acc)) d → byte (user_after p recs u) j ≡ unwrap_or (written p recs j acc) d
-        → byte (user_after p recs (cond b (user_after_own rec u) u)) j ≡ unwrap_or (written p recs j (cond b (later (own_byte rec j) acc) acc)) d
+    by : (b : Bool) → byte (user_after p recs (user_after_own rec u)) j ≡ unwrap_or (recorded_byte n p recs j (later (own_byte n rec j) acc)) d → byte (user_after p recs u) j ≡ unwrap_or (recorded_byte n p recs j acc) d
+        → byte (user_after p recs (cond b (user_after_own rec u) u)) j ≡ unwrap_or (recorded_byte n p recs j (cond b (later (own_byte n rec j) acc) acc)) d
     by true own other = own
     by false own other = other
 
@@ -109,7 +112,32 @@ cell_or_none j x y (Some v) low high =
     ap (λ (b : Bool). cond b (let cells : List CellWrite = record { at = 38 + j; value = x } ∷ [] in cells) []) (eq-eqb x y (low ∙ sym high))
     ∙ ap (λ (n : ℕ). let cells : List CellWrite = record { at = 38 + j; value = n } ∷ [] in cells) low
 
-pub cell_same : (p : ℕ) (recs : List Rec) (j : ℕ) → AllByRecursion (WritesWithin 4050) recs → j < 4050 → cell_where_same (after_from 0 p recs) (after_from 255 p recs) j ≡ as_cell (38 + j) (written p recs j None)
-cell_same p recs j w h = cell_or_none j (byte (after_from 0 p recs) j) (byte (after_from 255 p recs) j) (written p recs j None)
-    (written_byte p recs (replicate 4050 0) j 0 None w (length-replicate {A = ℕ} 4050 0) h (get_or-replicate {A = ℕ} 4050 j 0 0 h))
-    (written_byte p recs (replicate 4050 255) j 255 None w (length-replicate {A = ℕ} 4050 255) h (get_or-replicate {A = ℕ} 4050 j 255 0 h))
+pub cell_same : (shape : Shape) (p : ℕ) (recs : List Rec) (j : ℕ) → AllByRecursion (WritesWithin (user_length shape)) recs → j < user_length shape
+    → cell_where_same (after_from shape 0 p recs) (after_from shape 255 p recs) j ≡ as_cell (38 + j) (recorded_byte (user_length shape) p recs j None)
+cell_same shape p recs j w h =
+    let n = user_length shape in
+    cell_or_none j (byte (after_from shape 0 p recs) j) (byte (after_from shape 255 p recs) j) (recorded_byte n p recs j None)
+    (written_byte n p recs (replicate n 0) j 0 None w (length-replicate {A = ℕ} n 0) h (get_or-replicate {A = ℕ} n j 0 0 h))
+    (written_byte n p recs (replicate n 255) j 255 None w (length-replicate {A = ℕ} n 255) h (get_or-replicate {A = ℕ} n j 255 0 h))
+
+-- NOTHING is written past a page's user bytes
+pub row_none : (at long j x : ℕ) → (j < at) ⊎ (at + long ≤ j) → cond (within at long j) (Some x) None ≡ None
+row_none at long j x (inl less) = ap (λ (b : Bool). let o : Option ℕ = cond (b && ltb (j - at) long) (Some x) None in o) (lt-leb at j less)
+row_none at long j x (inr more) =
+    ap (λ (b : Bool). let o : Option ℕ = cond b (Some x) None in o) (and_right (leb at j) (ltb (j - at) long) (le-ltb (j - at) long (omega arith)))
+
+own_past : (n : ℕ) (rec : Rec) (j : ℕ) → WritesWithin n rec → n ≤ j → own_byte n rec j ≡ None
+own_past n (Num width space page offset value) j w past =
+    row_none (offset - 38) width j (byte_at (width - 1 - (j - (offset - 38))) value) (inr (let a = w.0 in let b = w.1 in omega arith))
+own_past n (Text space page offset bytes) j w past =
+    row_none (offset - 38) (length bytes) j (byte bytes (j - (offset - 38))) (inr (let a = w.0 in let b = w.1 in omega arith))
+own_past n (Init space page) j w past = ap (λ (b : Bool). let o : Option ℕ = cond b (Some 0) None in o) (le-ltb j n past)
+
+pub written_past : (n p : ℕ) (recs : List Rec) (j : ℕ) (acc : Option ℕ) → AllByRecursion (WritesWithin n) recs → n ≤ j → recorded_byte n p recs j acc ≡ acc
+written_past n p [] j acc w past = refl
+written_past n p (rec ∷ recs) j acc w past =
+    written_past n p recs j (cond (eqb (page_of rec) p) (later (own_byte n rec j) acc) acc) w.1 past ∙ by (eqb (page_of rec) p)
+  where
+    by : (b : Bool) → cond b (later (own_byte n rec j) acc) acc ≡ acc
+    by false = refl
+    by true = ap (λ (o : Option ℕ). later o acc) (own_past n rec j w.0 past)

@@ -1,6 +1,7 @@
 -- Each line of a user has bytes, and its records write within a page's user bytes.
-use Rattle.std.proofs.Common.{Bool, List, [], arith, length, refl, suc, zero, ℕ, ◌<◌, ◌∷◌, ◌≡◌}
+use Rattle.std.proofs.Common.{Bool, List, [], arith, length, refl, suc, zero, ℕ, ◌<◌, ◌∷◌}
 use Rattle.std.specs.List.{AllByRecursion}
+use Rattle.model_base.specs.{user_length}
 use Rattle.model_base.specs.declared.shape.Shape.{Shape}
 use Rattle.model_core.proofs.Collected.{group_has_text}
 use Rattle.model_core.specs.{line_at}
@@ -8,19 +9,19 @@ use Rattle.model_log.specs.{GroupFits, RecordFits}
 use Rattle.model_log.specs.declared.rec.Rec.{Rec}
 use Rattle.model_log.specs.declared.rec.Rec.TheVariants.{Init, Num, Text}
 use Rattle.redo_apply.specs.{WritesWithin}
-use Rattle.redo_useractor.specs.Lines.{AreUserLines, lines_of}
+use Rattle.redo_useractor.specs.Lines.{AreUserLines, program_lines}
 
-pub some_texts : (shape : Shape) (log_only : Bool) (pages : ℕ) (lines : List (ℕ × List Rec)) → AreUserLines shape lines → (j : ℕ) → j < length (lines_of log_only pages lines)
-    → 0 < length (line_at (lines_of log_only pages lines) j).bytes
-some_texts shape log_only pages [] are j h = absurd (omega arith)
-some_texts shape log_only pages (x ∷ xs) are zero h = group_has_text x.1 (are 0 x refl).is_group
-some_texts shape log_only pages (x ∷ xs) are (suc j) h = some_texts shape log_only pages xs (λ i line e. are (suc i) line e) j (omega arith)
+pub some_texts : (shape : Shape) (log_only : Bool) (lines : List (ℕ × List Rec)) → AreUserLines shape lines → (j : ℕ) → j < length (program_lines log_only shape lines)
+    → 0 < length (line_at (program_lines log_only shape lines) j).bytes
+some_texts shape log_only [] are j h = absurd (omega arith)
+some_texts shape log_only (x ∷ xs) are zero h = group_has_text x.1 (are 0 x refl).is_group
+some_texts shape log_only (x ∷ xs) are (suc j) h = some_texts shape log_only xs (λ i line e. are (suc i) line e) j (omega arith)
 
-record_writes : (shape : Shape) (rec : Rec) → shape.page_size ≡ 4096 → RecordFits shape rec → WritesWithin 4050 rec
-record_writes shape (Num width space page offset value) size fits = let a = fits.2.after_header in let b = fits.2.before_trailer in (a, omega arith)
-record_writes shape (Text space page offset bytes) size fits = let a = fits.1.after_header in let b = fits.1.before_trailer in (a, omega arith)
-record_writes shape (Init space page) size fits = tt
+record_writes : (shape : Shape) (rec : Rec) → RecordFits shape rec → WritesWithin (user_length shape) rec
+record_writes shape (Num width space page offset value) fits = let a = fits.2.after_header in let b = fits.2.before_trailer in (a, omega arith)
+record_writes shape (Text space page offset bytes) fits = let a = fits.1.after_header in let b = fits.1.before_trailer in (a, omega arith)
+record_writes shape (Init space page) fits = tt
 
-pub group_writes : (shape : Shape) (group : List Rec) → shape.page_size ≡ 4096 → GroupFits shape group → AllByRecursion (WritesWithin 4050) group
-group_writes shape [] size fits = tt
-group_writes shape (rec ∷ recs) size fits = (record_writes shape rec size fits.0, group_writes shape recs size fits.1)
+pub group_writes : (shape : Shape) (group : List Rec) → GroupFits shape group → AllByRecursion (WritesWithin (user_length shape)) group
+group_writes shape [] fits = tt
+group_writes shape (rec ∷ recs) fits = (record_writes shape rec fits.0, group_writes shape recs fits.1)

@@ -2,9 +2,10 @@
 -- room.
 use Rattle.std.proofs.Common.{Bool, ap, arith, cond, eq-eqb, false, length, min, nat_lt, ne_eqb, refl, subst, sym, true, ℕ, ⊎_elim, ◌+◌, ◌-◌, ◌/◌, ◌<◌, ◌==◌, ◌∙◌, ◌≡◌, ◌≢◌, ◌≤◌}
 use Rattle.std.proofs.lemmas.Bool.{cases_eq}
+use Rattle.model_core.specs.ActorProgram.{opposite}
 use Rattle.model_core.specs.{advance_next, advance_took, can_link, changes, checked, copy_place, frees, group_bytes, group_end, has_room, heard, left_in_word, loaded_tail, mode, next_count, old_of, own_took, stays_put, step_of, tail_of, took, user_took, user_waits, UserState, with_link_room, without_link_room}
 use Rattle.model_core.specs.Actors as actor
-use Rattle.model_core.specs.Waiting.{ending, opposite}
+use Rattle.model_core.specs.Waiting.{ending}
 use Rattle.model_core.specs.Actors.{Actor}
 use Rattle.model_core.specs.declared.ops.Answer.{Answer}
 use Rattle.model_core.specs.declared.ops.Step.TheVariants as step
@@ -15,14 +16,14 @@ use Rattle.model_log.specs.declared.layout.TheConstants.{BLOCK_DATA}
 use Rattle.redo_useractor.proofs.WordsSpanned.{last_word, one_word_less}
 use Rattle.redo_useractor.specs.UserView.{IsAt, user_view}
 use Rattle.redo_useractor.specs.declared.actor.UserActor.TheInside.{Inside}
-use Rattle.redo_useractor.specs.ToLink.{first_stores, lacks_room, lacks_room_at, linking_steps, to_link, to_link_at, words_left, words_spanned}
+use Rattle.redo_useractor.specs.ToLink.{first_stores, lacks_room, lacks_room_at, linking_steps, to_link, to_link_at, words_spanned, words_to_copy}
 
 -- the state once the next bytes are copied
 abbrev copied_to : UserState → UserStep → UserState
 copied_to u s = record u { copied = u.copied + next_count u; step = s }
 
 -- in the middle of the bytes, and at their end
-further : (u : UserState) → u.copied + next_count u < length (group_bytes u) → words_left u ≡ words_left (copied_to u user_step.AddCell) + 1
+further : (u : UserState) → u.copied + next_count u < length (group_bytes u) → words_to_copy u ≡ words_to_copy (copied_to u user_step.AddCell) + 1
 further u more =
     one_word_less (copy_place u) (next_count u) (length (group_bytes u) - u.copied) (all (left_in_word (copy_place u)) (length (group_bytes u)) u.copied more) (few (next_count u) (length (group_bytes u)) u.copied more)
     ∙ ap (λ (k : ℕ). k + 1) (same u.start u.copied (next_count u) (length (group_bytes u)))
@@ -37,7 +38,7 @@ further u more =
     same start copied n long = ap (λ (x : ℕ). words_spanned x (long - copied - n - 1)) (let e : start + copied + n ≡ start + (copied + n) = omega arith in e)
         ∙ ap (words_spanned (start + (copied + n))) (let e : long - copied - n - 1 ≡ long - (copied + n) - 1 = omega arith in e)
 
-at_end : (u : UserState) → u.copied < length (group_bytes u) → u.copied + next_count u ≡ length (group_bytes u) → words_left u ≡ 1
+at_end : (u : UserState) → u.copied < length (group_bytes u) → u.copied + next_count u ≡ length (group_bytes u) → words_to_copy u ≡ 1
 at_end u some all = last_word (copy_place u) (length (group_bytes u) - u.copied) (left_over (length (group_bytes u)) u.copied some) (few (left_in_word (copy_place u)) (length (group_bytes u)) u.copied all)
   where
     left_over : (long copied : ℕ) → copied < long → 0 < long - copied
@@ -47,12 +48,12 @@ at_end u some all = last_word (copy_place u) (length (group_bytes u) - u.copied)
     few left long copied h = omega arith
 
 -- bytes are copied
-copies : (u : UserState) → u.copied < length (group_bytes u) → words_left u + first_stores u + 2 ≡ to_link (user_took u 0 user_step.AddCell) + 1
+copies : (u : UserState) → u.copied < length (group_bytes u) → words_to_copy u + first_stores u + 2 ≡ to_link (user_took u 0 user_step.AddCell) + 1
 copies u some = ⊎_elim
-    (λ all. subst (λ (b : Bool). words_left u + first_stores u + 2 ≡ to_link (copied_to u (cond b (cond crosses user_step.StoreFirst user_step.LoadWtail) user_step.AddCell)) + 1)
-    (sym (eq-eqb (u.copied + next_count u) (length (group_bytes u)) all)) (ended crosses (words_left u) (at_end u some all)))
-    (λ more. subst (λ (b : Bool). words_left u + first_stores u + 2 ≡ to_link (copied_to u (cond b (cond crosses user_step.StoreFirst user_step.LoadWtail) user_step.AddCell)) + 1)
-    (sym (ne_eqb (u.copied + next_count u) (length (group_bytes u)) more)) (nearer (words_left u) (words_left (copied_to u user_step.AddCell)) (first_stores u) (further u (below (left_in_word (copy_place u)) (length (group_bytes u)) u.copied some more))))
+    (λ all. subst (λ (b : Bool). words_to_copy u + first_stores u + 2 ≡ to_link (copied_to u (cond b (cond crosses user_step.StoreFirst user_step.LoadWtail) user_step.AddCell)) + 1)
+    (sym (eq-eqb (u.copied + next_count u) (length (group_bytes u)) all)) (ended crosses (words_to_copy u) (at_end u some all)))
+    (λ more. subst (λ (b : Bool). words_to_copy u + first_stores u + 2 ≡ to_link (copied_to u (cond b (cond crosses user_step.StoreFirst user_step.LoadWtail) user_step.AddCell)) + 1)
+    (sym (ne_eqb (u.copied + next_count u) (length (group_bytes u)) more)) (nearer (words_to_copy u) (words_to_copy (copied_to u user_step.AddCell)) (first_stores u) (further u (below (left_in_word (copy_place u)) (length (group_bytes u)) u.copied some more))))
     (cases_eq (u.copied + next_count u) (length (group_bytes u)))
   where
     crosses : Bool
@@ -82,7 +83,7 @@ has_left u _ at = tt
 abbrev gained : UserState → ℕ
 gained w = cond (lacks_room w) 0 1
 
-copies_gain : (u : UserState) → u.copied < length (group_bytes u) → words_left u + first_stores u + 2 ≡ to_link (user_took u 0 user_step.AddCell) + gained (user_took u 0 user_step.AddCell)
+copies_gain : (u : UserState) → u.copied < length (group_bytes u) → words_to_copy u + first_stores u + 2 ≡ to_link (user_took u 0 user_step.AddCell) + gained (user_took u 0 user_step.AddCell)
 copies_gain u some = copies u some ∙ ap (λ (b : Bool). to_link (user_took u 0 user_step.AddCell) + cond b 0 1)
     (sym (by (u.copied + next_count u == length (group_bytes u)) (nat_lt (u.start / BLOCK_DATA) (group_end u / BLOCK_DATA))))
   where
@@ -94,7 +95,7 @@ copies_gain u some = copies u some ∙ ap (λ (b : Bool). to_link (user_took u 0
 nearer_at : (u : UserState) (n : ℕ) (s : UserStep) → HasLeft u s → 0 < to_link_at u s → user_waits u n s ≡ false → to_link_at u s ≡ to_link (user_took u n s) + gained (user_took u n s)
 nearer_at u n user_step.LoadWrite left some goes = by (has_room u n) goes
   where
-    by : (b : Bool) → cond b false true ≡ false → words_left u + first_stores u + 3 ≡ to_link (cond b (record u { loaded = record u.loaded { write = n }; step = user_step.AddCell }) (record u { loaded = record u.loaded { write = n }; checks = true; step = user_step.LoadWrite }))
+    by : (b : Bool) → cond b false true ≡ false → words_to_copy u + first_stores u + 3 ≡ to_link (cond b (record u { loaded = record u.loaded { write = n }; step = user_step.AddCell }) (record u { loaded = record u.loaded { write = n }; checks = true; step = user_step.LoadWrite }))
         + gained (cond b (record u { loaded = record u.loaded { write = n }; step = user_step.AddCell }) (record u { loaded = record u.loaded { write = n }; checks = true; step = user_step.LoadWrite }))
     by true h = omega arith
     by false h = cc

@@ -7,4 +7,4 @@ pub mod UserView
 pub mod Words
 pub mod Written
 pub use Rattle.redo_useractor.specs.Ending.{has_ended}
-pub use Rattle.redo_useractor.specs.Lines.{AreUserLines, IsUserLine, lines_of}
+pub use Rattle.redo_useractor.specs.Lines.{AreUserLines, IsUserLine, program_lines}

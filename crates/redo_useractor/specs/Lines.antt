@@ -17,5 +17,5 @@ abbrev pub AreUserLines : Shape → List (ℕ × List Rec) → Type 0
 AreUserLines shape lines = (i : ℕ) (line : ℕ × List Rec) → slice_get lines i ≡ Some line → IsUserLine shape line
 
 -- the lines as the user's program has them
-abbrev pub lines_of : Bool → ℕ → List (ℕ × List Rec) → List Line
-lines_of log_only pages lines = map (λ (line : ℕ × List Rec). line_of log_only pages line.0 line.1) lines
+abbrev pub program_lines : Bool → Shape → List (ℕ × List Rec) → List Line
+program_lines log_only shape lines = map (λ (line : ℕ × List Rec). line_of log_only shape line.0 line.1) lines

@@ -1,6 +1,7 @@
 -- Where a user is among the changed cells of a page: it goes over them word by word.
 use Rattle.std.specs.Prelude.{List, [], cond, drop, get_or, length, map, nat_lt, suc, take, ℕ, ◌+◌, ◌/◌, ◌<◌, ◌∷◌, ◌≡◌, ◌≤◌}
-use Rattle.model_base.specs.declared.limits.TheConstants.{USER_BYTES}
+use Rattle.model_base.specs.declared.limits.TheConstants.{MAX_PAGE_SIZE}
+use Rattle.model_base.specs.declared.shape.Shape.{Shape}
 use Rattle.model_core.specs.{CellWrite, changed_cells, PageChange, same_word}
 use Rattle.model_core.specs.declared.limits.TheConstants.{WORD_LANES}
 use Rattle.model_log.specs.declared.rec.Rec.{Rec}
@@ -21,19 +22,19 @@ cells_in q number cells = take (same_word q (drop number cells)) (drop number ce
 
 -- The next changed cell is the one with this number: it lies in this word, with as many others as are counted. After the last
 -- one the word is the end.
-pub record IsPlace (cells : List CellWrite) (word count number : ℕ) : Type 0 where
+pub record IsNextCell (cells : List CellWrite) (word count number : ℕ) : Type 0 where
   pub before : number ≡ cells_before word cells
   pub within : word ≤ words_end
   pub counted : word < words_end → count ≡ same_word word (drop number cells)
   pub some : word < words_end → 0 < count
   pub next : word < words_end → cells_before (word + 1) cells ≡ number + count
   pub last : word ≡ words_end → number ≡ length cells
-  pub few : word < words_end → number + count ≤ USER_BYTES
+  pub few : word < words_end → number + count ≤ MAX_PAGE_SIZE
 
 -- the page, if the group is on it
 abbrev pub page_if_touched : List Rec → ℕ → List ℕ
 page_if_touched group p = cond (touches p group) (p ∷ []) []
 
--- what a group changes of these pages
-abbrev pub changes_on : List Rec → List ℕ → List PageChange
-changes_on group pages = map (λ (p : ℕ). let change : PageChange = record { page = p; cells = changed_cells p group } in change) pages
+-- what a group changes of these pages of a store
+abbrev pub changes_on : Shape → List Rec → List ℕ → List PageChange
+changes_on shape group pages = map (λ (p : ℕ). let change : PageChange = record { page = p; cells = changed_cells shape p group } in change) pages

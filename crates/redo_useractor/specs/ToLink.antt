@@ -21,12 +21,12 @@ words_spanned x zero = 1
 words_spanned x (suc n) = words_spanned x n + cond (lsn (x + n) / WORD_LANES == lsn (x + n + 1) / WORD_LANES) 0 1
 
 -- how many words those of its bytes fill that aren't copied
-abbrev pub words_left : UserState → ℕ
-words_left u = words_spanned (copy_place u) (length (group_bytes u) - u.copied - 1)
+abbrev pub words_to_copy : UserState → ℕ
+words_to_copy u = words_spanned (copy_place u) (length (group_bytes u) - u.copied - 1)
 
 abbrev pub to_link_at : UserState → UserStep → ℕ
-to_link_at u user_step.LoadWrite = words_left u + first_stores u + 3
-to_link_at u user_step.AddCell = words_left u + first_stores u + 2
+to_link_at u user_step.LoadWrite = words_to_copy u + first_stores u + 3
+to_link_at u user_step.AddCell = words_to_copy u + first_stores u + 2
 to_link_at u user_step.StoreFirst = 3
 to_link_at u user_step.LoadWtail = 2
 to_link_at u (user_step.AdvanceWritten s) = 2

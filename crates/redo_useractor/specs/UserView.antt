@@ -4,7 +4,7 @@ use Rattle.model_core.specs.{answer_limit, cells_of, changes, group_bytes, group
 use Rattle.model_core.specs.declared.steps.UserStep.{UserStep}
 use Rattle.model_core.specs.declared.steps.UserStep.TheVariants as user_step
 use Rattle.redo_link.specs.{LeadsToLsn}
-use Rattle.redo_useractor.specs.Places.{IsPlace}
+use Rattle.redo_useractor.specs.Places.{IsNextCell}
 use Rattle.redo_useractor.specs.Written.{words_end}
 use Rattle.redo_useractor.specs.declared.actor.UserActor.TheInside.{Inside}
 
@@ -52,7 +52,7 @@ IsAtFirst u = (u.page ≡ 0) × (u.cell ≡ 0)
 
 -- it is at the word in which the next changed cell lies
 abbrev pub IsAtWord : Inside → Type 0
-IsAtWord u = IsPlace (cells_of (user_view u)) u.at.word u.at.count u.cell × (u.at.word < words_end)
+IsAtWord u = IsNextCell (cells_of (user_view u)) u.at.word u.at.count u.cell × (u.at.word < words_end)
 
 abbrev pub IsAt : Inside → UserStep → Type 0
 IsAt u user_step.LoadCheckpoint = BeforeGroup u

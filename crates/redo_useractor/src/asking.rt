@@ -1,8 +1,8 @@
 // What a user asks for.
 ghost use Rattle.std.specs.Prelude.{◌≡◌, ◌<◌, ◌≤◌, ◌+◌, ◌-◌, ◌%◌, ◌/◌, ◌^◌, length, nat_lt};
 ghost use Rattle.model_core.specs.Actors as actor;
-ghost use Rattle.model_core.specs.{cell_of, cells_of, change_at, changes, copy_place, group_bytes, frame_count, frame_word, group_end, lane_of, left_in_word, lent, line, lsn, next_count, page_of, put_of, stored_word, user_next, user_op};
-ghost use Rattle.redo_useractor.specs.ToLink.{data_word, first_stores, to_link, words_left};
+ghost use Rattle.model_core.specs.{cell_of, cells_of, change_at, changes, copy_place, frame_count, frame_word, group_bytes, group_end, lane_of, left_in_word, lent, line, lsn, next_count, next, current_page, put_of, stored_word, user_op};
+ghost use Rattle.redo_useractor.specs.ToLink.{data_word, first_stores, to_link, words_to_copy};
 ghost use Rattle.redo_words.specs.{Lends};
 ghost use Rattle.redo_useractor.specs.UserView.{end_limit};
 
@@ -39,7 +39,7 @@ impl UserActor {
     fn page_number(&self) -> u32
         requires line { self.now.k < length self.now.lines }
         requires page { self.now.page < length (changes self.now) }
-        ensures { result ≡ page_of self.now }
+        ensures { result ≡ current_page self.now }
     {
         self.line().page_number(self.page)
     }
@@ -153,7 +153,7 @@ impl UserActor {
 
     /// The Op that it asks for.
     pub fn next(&self) -> Op
-        ensures { result ≡ user_next self.now }
+        ensures { result ≡ next (actor.User self.now) }
     {
         if self.checks {
             return Op::Load(Word::Failed);
@@ -205,7 +205,7 @@ impl UserActor {
         requires line { self.now.k < length self.now.lines }
         requires small { group_end self.now < end_limit }
         requires byte { self.now.copied < length (group_bytes self.now) }
-        ensures value { result ≡ words_left self.now }
+        ensures value { result ≡ words_to_copy self.now }
         ensures few { result < 2 ^ 61 }
     {
         let end = self.start + self.line().text.len() as u64;

@@ -3,7 +3,7 @@ ghost use Rattle.std.specs.Prelude.{◌≡◌, ◌<◌, ◌+◌, ◌==◌, false
 ghost use Rattle.model_core.specs.{change_at, changes, group_end, to_next_page, user_took};
 ghost use Rattle.redo_useractor.specs.CellsStep.{cells_step};
 ghost use Rattle.redo_useractor.specs.Ending.{step_end};
-ghost use Rattle.redo_useractor.specs.Places.{IsPlace};
+ghost use Rattle.redo_useractor.specs.Places.{IsNextCell};
 ghost use Rattle.redo_useractor.specs.UserView.{end_limit};
 
 use crate::actor::UserActor;
@@ -18,7 +18,7 @@ impl UserActor {
         requires one { length self.old.starts ≡ self.old.k + 1 }
         requires small { group_end self.old < end_limit }
         requires page { page < length (changes self.old) }
-        requires place { IsPlace (change_at (changes self.old) page).cells at.word at.count cell }
+        requires place { IsNextCell (change_at (changes self.old) page).cells at.word at.count cell }
         ensures { self.new ≡ record self.old { page = page; cell = cell; step = cells_step (change_at (changes self.old) page).cells cell } }
     {
         self.page = page;

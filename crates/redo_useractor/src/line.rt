@@ -2,12 +2,12 @@
 ghost use Rattle.std.specs.Prelude.{ℕ, ◌≡◌, ◌≤◌, ◌<◌, ◌+◌, List, length};
 ghost use Rattle.model_core.specs.{CellWrite, change_at, lanes, packed, put_lanes};
 ghost use Rattle.redo_useractor.specs.CellsStep.{cells_step};
-ghost use Rattle.redo_useractor.specs.Places.{cells_before, cells_in, IsPlace, word_at};
+ghost use Rattle.redo_useractor.specs.Places.{cells_before, cells_in, IsNextCell, word_at};
 ghost use Rattle.redo_useractor.specs.Written.{words_end};
 
 use crate::words::{count_in, with_written};
 use crate::written::{WORDS_END, next_word};
-use model_base::Bytes;
+use model_base::{Bytes, Shape};
 use model_core::{UserStep, WORD_LANES};
 use model_log::Group;
 use redo_words::Word;
@@ -24,7 +24,7 @@ impl Place {
     /// What a user that has come here does: it stores the word at once where all its lanes change, else it loads it first; past
     /// the last word it goes on with NEWEST.
     pub(crate) fn step(self) -> UserStep
-        ensures { (cells : List CellWrite) (number : ℕ) → IsPlace cells self.word self.count number → result ≡ cells_step cells number }
+        ensures { (cells : List CellWrite) (number : ℕ) → IsNextCell cells self.word self.count number → result ≡ cells_step cells number }
     {
         if self.word == WORDS_END {
             UserStep::StoreNewest
@@ -36,10 +36,11 @@ impl Place {
     }
 }
 
-/// A line: what it waits for, its group and the text of that, and the pages that the group is on, ascending. What it changes
-/// there isn't held cell by cell: the records say it.
+/// A line of a user of a store: what it waits for, its group and the text of that, and the pages that the group is on,
+/// ascending. What it changes there isn't held cell by cell: the records say it.
 #[derive(Debug, Drop)]
 pub struct UserLine {
+    pub(crate) shape: Shape,
     pub(crate) mode: u32,
     pub(crate) text: Bytes,
     pub(crate) group: Group,
@@ -48,16 +49,16 @@ pub struct UserLine {
 
 impl Model for UserLine {
     ghost use Rattle.std.specs.List.{AllByRecursion};
-    ghost use Rattle.model_base.specs.declared.limits.TheConstants.{USER_BYTES};
+    ghost use Rattle.model_base.specs.{IsWholeSectors, user_length};
     ghost use Rattle.model_core.specs.{Line};
     ghost use Rattle.redo_apply.specs.{WritesWithin};
     ghost use Rattle.redo_useractor.specs.Places.{changes_on};
 
     ghost Value = { Line };
 
-    ghost view = { λ line. record { mode = line.mode; bytes = line.text; changes = changes_on line.group line.pages.items } };
+    ghost view = { λ line. record { mode = line.mode; bytes = line.text; changes = changes_on line.shape line.group line.pages.items } };
 
-    ghost invariant = { λ line. AllByRecursion (WritesWithin USER_BYTES) line.group };
+    ghost invariant = { λ line. IsWholeSectors line.shape.page_size × AllByRecursion (WritesWithin (user_length line.shape)) line.group };
 }
 
 impl UserLine {
@@ -80,13 +81,14 @@ impl UserLine {
     fn place_from(&self, page: usize, word: usize) -> Place
         requires page { page < length self.now.changes }
         requires word { word ≤ words_end }
-        ensures { IsPlace (change_at self.now.changes page).cells result.word result.count (cells_before word (change_at self.now.changes page).cells) }
+        ensures { IsNextCell (change_at self.now.changes page).cells result.word result.count (cells_before word (change_at self.now.changes page).cells) }
     {
         let recs = self.group.0.as_slice();
         let number = self.pages[page];
-        let word = next_word(recs, number, word, WORDS_END);
+        let user_bytes = self.shape.user_bytes() as usize;
+        let word = next_word(user_bytes, recs, number, word, WORDS_END);
         let count = if word < WORDS_END {
-            count_in(recs, number, word)
+            count_in(user_bytes, recs, number, word)
         } else {
             0
         };
@@ -96,7 +98,7 @@ impl UserLine {
     /// The first one that its group changes.
     pub(crate) fn first_place(&self, page: usize) -> Place
         requires { page < length self.now.changes }
-        ensures { IsPlace (change_at self.now.changes page).cells result.word result.count 0 }
+        ensures { IsNextCell (change_at self.now.changes page).cells result.word result.count 0 }
     {
         self.place_from(page, 0)
     }
@@ -105,8 +107,8 @@ impl UserLine {
     pub(crate) fn place_behind(&self, page: usize, at: Place) -> Place
         requires page { page < length self.now.changes }
         requires word { at.word < words_end }
-        ensures { (number : ℕ) → IsPlace (change_at self.now.changes page).cells at.word at.count number
-            → IsPlace (change_at self.now.changes page).cells result.word result.count (number + at.count) }
+        ensures { (number : ℕ) → IsNextCell (change_at self.now.changes page).cells at.word at.count number
+            → IsNextCell (change_at self.now.changes page).cells result.word result.count (number + at.count) }
     {
         self.place_from(page, at.word + 1)
     }
@@ -116,7 +118,7 @@ impl UserLine {
     pub(crate) fn frame(&self, page: usize, at: Place) -> Word
         requires page { page < length self.now.changes }
         requires word { at.word < words_end }
-        ensures { (number : ℕ) → IsPlace (change_at self.now.changes page).cells at.word at.count number
+        ensures { (number : ℕ) → IsNextCell (change_at self.now.changes page).cells at.word at.count number
             → result ≡ Word.Frame (change_at self.now.changes page).page (word_at (change_at self.now.changes page).cells number) }
     {
         Word::Frame(self.pages[page], at.word as u32)
@@ -126,9 +128,16 @@ impl UserLine {
     pub(crate) fn with_cells(&self, page: usize, at: Place, old: u64) -> u64
         requires page { page < length self.now.changes }
         requires word { at.word < words_end }
-        ensures { (number : ℕ) → IsPlace (change_at self.now.changes page).cells at.word at.count number
+        ensures { (number : ℕ) → IsNextCell (change_at self.now.changes page).cells at.word at.count number
             → result ≡ packed 0 (put_lanes (cells_in (word_at (change_at self.now.changes page).cells number) number (change_at self.now.changes page).cells) (lanes 0 WORD_LANES old)) }
     {
-        with_written(self.group.0.as_slice(), self.pages[page], at.word, old)
+        let user_bytes = self.shape.user_bytes() as usize;
+        with_written(
+            user_bytes,
+            self.group.0.as_slice(),
+            self.pages[page],
+            at.word,
+            old,
+        )
     }
 }

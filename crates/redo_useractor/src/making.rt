@@ -3,7 +3,7 @@ ghost use Rattle.std.specs.Prelude.{◌≡◌, IfOk};
 ghost use Rattle.model_base.specs.{IsWithinLimits};
 ghost use Rattle.model_core.specs.{line_of, new_user};
 ghost use Rattle.model_log.specs.{run_layout};
-ghost use Rattle.redo_useractor.specs.Lines.{AreUserLines, IsUserLine, lines_of};
+ghost use Rattle.redo_useractor.specs.Lines.{AreUserLines, IsUserLine, program_lines};
 
 use crate::actor::{Marks, UserActor};
 use crate::changes::touched_pages;
@@ -26,7 +26,7 @@ fn line_of(
 ) -> Result<UserLine, NoMemory>
     requires limits { IsWithinLimits shape.now }
     requires line { IsUserLine shape.now (mode, group) }
-    ensures { IfOk result (λ line. line ≡ line_of log_only shape.now.pages mode group) }
+    ensures { IfOk result (λ line. line ≡ line_of log_only shape.now mode group) }
 {
     let text = encode(alloc, &group)?;
     let pages = if log_only {
@@ -35,6 +35,7 @@ fn line_of(
         touched_pages(alloc, shape.pages, group.0.as_slice())?
     };
     Ok(UserLine {
+        shape: *shape,
         mode,
         text,
         group,
@@ -51,7 +52,7 @@ fn lines_of(
 ) -> Result<Vec<UserLine>, NoMemory>
     requires limits { IsWithinLimits shape.now }
     requires lines { AreUserLines shape.now lines.items }
-    ensures { IfOk result (λ made. made.items ≡ lines_of log_only shape.now.pages lines.items) }
+    ensures { IfOk result (λ made. made.items ≡ program_lines log_only shape.now lines.items) }
 {
     let mut made = Vec::with_capacity(alloc, lines.len())?;
     for (mode, group) in lines {
@@ -72,7 +73,7 @@ impl UserActor {
     ) -> Result<UserActor, NoMemory>
         requires limits { IsWithinLimits shape.now }
         requires lines { AreUserLines shape.now lines.items }
-        ensures { IfOk result (λ actor. actor ≡ new_user user (run_layout shape.now).blocks (lines_of log_only shape.now.pages lines.items)) }
+        ensures { IfOk result (λ actor. actor ≡ new_user user (run_layout shape.now).blocks (program_lines log_only shape.now lines.items)) }
     {
         let made = lines_of(alloc, shape, log_only, lines)?;
         let starts = Vec::with_capacity(alloc, made.len())?;

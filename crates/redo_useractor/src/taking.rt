@@ -2,7 +2,7 @@
 ghost use Rattle.std.specs.Prelude.{◌≡◌, ◌≢◌, ◌<◌, ◌+◌, ◌^◌, ◌==◌, false, if◌then◌else◌, length, true};
 ghost use Rattle.model_core.specs.Actors as actor;
 ghost use Rattle.model_core.specs.AnswerFits.{AnswerFits};
-ghost use Rattle.model_core.specs.{after_link, answer_limit, answered, group_bytes, group_end, has_space, step_of, took, user_checked, user_ending, user_took};
+ghost use Rattle.model_core.specs.{after_link, answer_limit, answered, checked_of, group_bytes, group_end, has_space, step_of, took, user_ending, user_program, user_took};
 ghost use Rattle.redo_useractor.specs.Ending.{step_end};
 ghost use Rattle.redo_useractor.specs.ToLink.{lacks_room, linking_steps, to_link};
 ghost use Rattle.redo_useractor.specs.UserView.{end_limit};
@@ -17,7 +17,7 @@ impl UserActor {
     /// What it makes of FAILED.
     fn checked(&mut self, n: u64) -> Step
         requires { n < 2 ^ 32 }
-        ensures state { self.new ≡ user_checked self.old n }
+        ensures state { self.new ≡ checked_of user_program self.old n }
         ensures step { result ≡ (if n == 0 then Step.Moved else Step.Failed n) }
     {
         self.checks = false;

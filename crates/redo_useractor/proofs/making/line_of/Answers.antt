@@ -1,13 +1,18 @@
 use Rattle.std.proofs.Common.{[], Bool, Global, List, Vec, ap, cond, sym, ℕ, ◌∙◌, ◌≡◌}
+use Rattle.model_base.proofs.ShapeLimits.{whole_sectors}
 use Rattle.model_core.specs.{collected}
 use Rattle.model_log.specs.declared.rec.Rec.{Rec}
 use Rattle.redo_useractor.proofs.Lines.{line_is}
+use Rattle.redo_useractor.proofs.Texts.{group_writes}
 use Rattle.redo_useractor.specs.Places.{page_if_touched}
 use Rattle.redo_useractor.proofs.making.line_of.Goals as goal
 use Rattle.redo_useractor.proofs.making.line_of.Goals.{then-log_only, else-log_only+in_ok-pages}
 
+pub invariant_of-result : goal.invariant_of-result
+invariant_of-result c = (whole_sectors c.args.shape.now c.requires.limits, group_writes c.args.shape.now c.args.group c.requires.line.fits)
+
 pub returns : goal.returns
-returns c = line_is c.args.log_only c.args.shape.now.pages c.args.mode c.args.group c.in_ok-text.text c.if-log_only.pages.items c.in_ok-text.ensures its
+returns c = line_is c.args.log_only c.args.shape.now c.args.mode c.args.group c.in_ok-text.text c.if-log_only.pages.items c.in_ok-text.ensures its
   where
     its : c.if-log_only.pages.items ≡ cond c.args.log_only [] (collected (page_if_touched c.args.group) c.args.shape.now.pages)
     its = elim c.if-log_only.branch [

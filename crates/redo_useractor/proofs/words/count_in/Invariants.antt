@@ -5,6 +5,6 @@ use Rattle.redo_useractor.proofs.words.count_in.Given as goal
 
 abbrev pub invariant-loop-lane : goal.invariant-loop-lane
 invariant-loop-lane l = record {
-  counted : l.count ≡ length (collected (λ (i : ℕ). cell_list l.page l.recs (8 * l.word + i)) l.lane);
+  counted : l.count ≡ length (collected (λ (i : ℕ). cell_list l.user_bytes l.page l.recs (8 * l.word + i)) l.lane);
   few : l.count ≤ l.lane;
 }

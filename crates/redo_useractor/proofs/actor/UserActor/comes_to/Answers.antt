@@ -1,7 +1,7 @@
 use Rattle.std.proofs.Common.{arith, length, subst, sym, ◌+◌, ◌<◌, ◌≡◌}
 use Rattle.model_core.specs.{change_at, changes, group_end, UserState}
 use Rattle.redo_useractor.proofs.UserSteps.{at_step}
-use Rattle.redo_useractor.specs.Places.{IsPlace}
+use Rattle.redo_useractor.specs.Places.{IsNextCell}
 use Rattle.redo_useractor.specs.UserView.{end_limit, HasGroup, IsAt, IsAtPage, user_view}
 use Rattle.redo_useractor.specs.declared.actor.UserActor.TheInside.{Inside}
 use Rattle.redo_useractor.proofs.actor.UserActor.comes_to.Goals as goal
@@ -16,7 +16,7 @@ invariant_of-self c =
       one = omega (arith, c.self.inside.starts.ok.0);
     } in
     let page : IsAtPage u = subst (λ (s : UserState). c.args.page < length (changes s)) (sym c.self.view_is) c.requires.page in
-    let here = subst (λ (s : UserState). IsPlace (change_at (changes s) c.args.page).cells c.args.at.word c.args.at.count c.args.cell) (sym c.self.view_is) c.requires.place in
+    let here = subst (λ (s : UserState). IsNextCell (change_at (changes s) c.args.page).cells c.args.at.word c.args.at.count c.args.cell) (sym c.self.view_is) c.requires.place in
     record {
       ckpt = c.self.invariant.ckpt;
       room = c.self.invariant.room;

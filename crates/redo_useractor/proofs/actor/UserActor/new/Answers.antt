@@ -8,7 +8,7 @@ use Rattle.redo_useractor.proofs.actor.UserActor.new.Goals.{then-has_lines, else
 
 pub invariant_of-result : goal.invariant_of-result
 invariant_of-result c =
-    let texts = some_texts c.args.shape.now c.args.log_only c.args.shape.now.pages c.args.lines.items c.requires.lines in
+    let texts = some_texts c.args.shape.now c.args.log_only c.args.lines.items c.requires.lines in
     record {
       ckpt = omega arith;
       room = grind (arith, common_steps);
