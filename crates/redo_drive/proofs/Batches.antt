@@ -5,7 +5,7 @@ use lib.ListN.{get_elem?}
 use mathlib.Core.Option.{some}
 use Rattle.model_core.specs.{BatchPage, KeptPage}
 use Rattle.model_parts.specs.{after_batch, Fresh, IsLater}
-use Rattle.model_running.specs.{content_of, contents_of, new_content}
+use Rattle.model_running.specs.{contents_of, kept_content, new_content}
 use Rattle.model_page.specs.{user_part}
 use Rattle.model_page.specs.declared.content.Content.{Content}
 use Rattle.model_pagecore.specs.{kept_in, renewed}
@@ -22,7 +22,7 @@ fresh_length [] = refl
 fresh_length (x ∷ xs) = ap suc (fresh_length xs)
 
 -- of one lsn and the same bytes
-same_content : (kept : KeptPage) (x : BatchPage) → kept.lsn ≡ x.lsn → kept.bytes ≡ x.bytes → content_of kept ≡ new_content x
+same_content : (kept : KeptPage) (x : BatchPage) → kept.lsn ≡ x.lsn → kept.bytes ≡ x.bytes → kept_content kept ≡ new_content x
 same_content kept x lsn bytes =
     ap (λ (n : ℕ). let z : Content = record { lsn = n; user = user_part kept.bytes } in z) lsn
     ∙ ap (λ (b : List ℕ). let z : Content = record { lsn = x.lsn; user = user_part b } in z) bytes
@@ -43,16 +43,16 @@ later kept_page batch newer = record {
       let content : new_content r.0 ≡ new = ap (λ (z : Fresh). z.content) r.2 in
       let here : (kept_page r.0.page).lsn ≡ r.0.lsn = ap (λ (q : ℕ). (kept_page q).lsn) page ∙ lsn ∙ sym (ap (λ (z : Content). z.lsn) content) in
       let bytes : (kept_page r.0.page).bytes ≡ r.0.bytes = (newer is.i r.0 r.1).1 here in
-      subst (λ (q : ℕ). content_of (kept_page q) ≡ new) page (same_content (kept_page r.0.page) r.0 here bytes ∙ content);
+      subst (λ (q : ℕ). kept_content (kept_page q) ≡ new) page (same_content (kept_page r.0.page) r.0 here bytes ∙ content);
 }
 
 -- what is kept with the batch is what the device holds after it
-after_kept : (batch : List BatchPage) (k : KeptPage) (was : ℕ → Content) (p : ℕ) → was p ≡ content_of k → content_of (kept_in batch p k) ≡ after_batch (fresh_batch batch) was p
+after_kept : (batch : List BatchPage) (k : KeptPage) (was : ℕ → Content) (p : ℕ) → was p ≡ kept_content k → kept_content (kept_in batch p k) ≡ after_batch (fresh_batch batch) was p
 after_kept [] k was p is = sym is
 after_kept (x ∷ xs) k was p is = by (eqb x.page p) (after_kept xs k was p is)
   where
-    by : (b : Bool) → content_of (kept_in xs p k) ≡ after_batch (fresh_batch xs) was p
-        → content_of (cond b (record { lsn = x.lsn; bytes = x.bytes }) (kept_in xs p k)) ≡ cond b (new_content x) (after_batch (fresh_batch xs) was p)
+    by : (b : Bool) → kept_content (kept_in xs p k) ≡ after_batch (fresh_batch xs) was p
+        → kept_content (cond b (record { lsn = x.lsn; bytes = x.bytes }) (kept_in xs p k)) ≡ cond b (new_content x) (after_batch (fresh_batch xs) was p)
     by true rest = refl
     by false rest = rest
 

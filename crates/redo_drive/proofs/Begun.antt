@@ -1,14 +1,14 @@
 -- Where a store was ready, both its devices hold just what was opened.
-use Rattle.std.proofs.Common.{List, None, Option, Some, [], ap, arith, false, get_or, replicate, subst, sym, ℕ, ◌+◌, ◌-◌, ◌/◌, ◌<◌, ◌^◌, ◌∙◌, ◌≡◌, ◌≤◌}
+use Rattle.std.proofs.Common.{List, None, Option, Some, [], ap, arith, false, get_or, subst, sym, ℕ, ◌+◌, ◌-◌, ◌/◌, ◌<◌, ◌^◌, ◌∙◌, ◌≡◌, ◌≤◌}
 use Rattle.std.specs.Prelude.{IfSome}
-use Rattle.model_base.specs.{IsWithinLimits}
 use Rattle.model_base.specs.declared.shape.Shape.{Shape}
+use Rattle.model_base.specs.declared.limits.TheConstants.{START_LSN}
 use Rattle.model_parts.specs.{first_marks, first_tails, IsLive, IsUpTo, numbers_taken, read_as, start_of}
 use Rattle.model_parts.specs.Stored.{Stored}
 use Rattle.model_device.specs.Disk.{Disk}
 use Rattle.model_log.specs.declared.head.Format.{Format}
 use Rattle.model_log.specs.declared.head.Format.TheVariants.{One, Two}
-use Rattle.model_running.specs.{content_of}
+use Rattle.model_running.specs.{kept_content}
 use Rattle.model_parts.specs.declared.marks.LogMarks.{LogMarks}
 use Rattle.model_parts.specs.declared.marks.TailMarks.{TailMarks}
 use Rattle.model_page.specs.{blank_page}
@@ -24,24 +24,20 @@ use Rattle.redo_logdev.specs.{DiskHolds}
 use Rattle.redo_logdev.specs.Part as log
 use Rattle.redo_drive.specs.LogPartSide as log_part
 use Rattle.redo_drive.proofs.StartWordsPages.{content_of-kept_page_of}
-use Rattle.redo_drive.specs.StartWords.{opened_page, unwritten_page}
+use Rattle.redo_drive.specs.StartWords.{opened_page}
 use Rattle.redo_store.specs.Part as store
 
--- a page that was never written is one of any store's
-unwritten_is : (shape : Shape) → IsWithinLimits shape → unwritten_page ≡ blank_page shape
-unfolding unwritten_page
-unwritten_is shape limits = ap (λ (n : ℕ). let page : Content = record { lsn = 0; user = replicate n 0 } in page) (let size = limits.page_size in let e : 4050 ≡ shape.page_size - 46 = omega arith in e)
-
 -- the pages that the run finds are those that were read
-pages_as_read : (shape : Shape) (pages : List Content) (reading : Reading) → IsWithinLimits shape → shape ≡ reading.shape → pages ≡ reading.pages
-    → (p : ℕ) → content_of (opened_page pages p) ≡ read_as reading p
-pages_as_read shape pages reading limits same_shape same_pages p =
-    content_of-kept_page_of (get_or pages p unwritten_page)
-    ∙ ap (λ (page : Content). get_or pages p page) (unwritten_is shape limits ∙ ap blank_page same_shape)
+pages_as_read : (shape : Shape) (pages : List Content) (reading : Reading) → shape ≡ reading.shape → pages ≡ reading.pages
+    → (p : ℕ) → kept_content (opened_page shape pages p) ≡ read_as reading p
+pages_as_read shape pages reading same_shape same_pages p =
+    content_of-kept_page_of (get_or pages p (blank_page shape))
+    ∙ ap (λ (page : Content). get_or pages p page) (ap blank_page same_shape)
     ∙ ap (λ (ps : List Content). get_or ps p (blank_page reading.shape)) same_pages
 
 -- the numbers of checkpoints that opening makes are far from going round
-few_numbers : (format : Format) (found number ckpt : ℕ) → number ≡ found + numbers_taken format → found < 2 ^ 63 → 8192 ≤ ckpt → number ≤ 2 ^ 63 + ckpt / 512
+few_numbers : (format : Format) (found number ckpt : ℕ) → number ≡ found + numbers_taken format → found < 2 ^ 63 → START_LSN ≤ ckpt
+    → number ≤ 2 ^ 63 + ckpt / 512
 few_numbers One found number ckpt is left started = omega arith
 few_numbers Two found number ckpt is left started = omega arith
 
@@ -68,8 +64,8 @@ module _ (reading : Reading) (script : List ScriptLine) (log_disk data_disk : Di
       }
 
   -- the data device
-  pub data_begun : {D : Type 0} (seen : D → Seen) (shape : Shape) (pages : List Content) (part : store.Part D) → IsWithinLimits shape → shape ≡ reading.shape → pages ≡ reading.pages
-      → part.shape ≡ shape → part.failed ≡ None → (seen part.dev).tells ≡ Some data_disk → data_part.HasBegun seen (opened_page pages) part
-  data_begun seen shape pages part limits same_shape same_pages its_shape live tells =
-      opened_begins seen (opened_page pages) reading part (its_shape ∙ same_shape) live (pages_as_read shape pages reading limits same_shape same_pages)
+  pub data_begun : {D : Type 0} (seen : D → Seen) (shape : Shape) (pages : List Content) (part : store.Part D) → shape ≡ reading.shape → pages ≡ reading.pages
+      → part.shape ≡ shape → part.failed ≡ None → (seen part.dev).tells ≡ Some data_disk → data_part.HasBegun seen (opened_page shape pages) part
+  data_begun seen shape pages part same_shape same_pages its_shape live tells =
+      opened_begins seen (opened_page shape pages) reading part (its_shape ∙ same_shape) live (pages_as_read shape pages reading same_shape same_pages)
       (subst (λ (o : Option Disk). IfSome o (Stored reading.shape (IsUpTo (read_as reading)) (read_as reading) [] false)) (sym tells) is.ready.pages)

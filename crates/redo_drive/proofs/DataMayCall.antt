@@ -7,11 +7,12 @@ use native.Mathlib.Decide.{dec_le, ℕ_discrete}
 use Rattle.model_base.specs.{IsWithinLimits}
 use Rattle.model_base.specs.declared.shape.Shape.{Shape}
 use Rattle.model_core.specs.{BatchPage, KeptPage}
+use Rattle.model_core.specs.Setup.{Setup}
 use Rattle.model_parts.proofs.Joined.{batch-at, length-batch_of}
 use Rattle.model_parts.specs.{Fresh, IsWritable}
 use Rattle.model_pagecore.specs.{CanBatch}
 use Rattle.redo_drive.proofs.Batches.{fresh_at, fresh_length}
-use Rattle.redo_drive.proofs.DataPartLaws.{not_failed}
+use Rattle.redo_drive.proofs.Outcome.{not_failed}
 use Rattle.redo_drive.specs.DataPartSide.{HoldsPages, IsBatchOf, data_side}
 use Rattle.redo_disk.specs.Seen.{Seen}
 use Rattle.redo_store.specs.Part.{Part}
@@ -23,26 +24,26 @@ pub record IsPageOf (batch : List BatchPage) (i : ℕ) (pair : ℕ × ℕ) : Typ
   pub page : x.page ≡ pair.0
   pub lsn : x.lsn ≡ pair.1
 
-page_of : (pairs : List (ℕ × ℕ)) (users : List ℕ) (batch : List BatchPage) → IsBatchOf pairs users batch → (i : ℕ) (pair : ℕ × ℕ) → slice_get pairs i ≡ Some pair → IsPageOf batch i pair
-page_of pairs users batch is i pair at =
-    let new = batch-at pairs users i pair at in
+page_of : (shape : Shape) (pairs : List (ℕ × ℕ)) (users : List ℕ) (batch : List BatchPage) → IsBatchOf shape pairs users batch → (i : ℕ) (pair : ℕ × ℕ) → slice_get pairs i ≡ Some pair → IsPageOf batch i pair
+page_of shape pairs users batch is i pair at =
+    let new = batch-at shape pairs users i pair at in
     let r = fresh_at batch i _ (ap (λ (z : List Fresh). slice_get z i) is.pages ∙ new) in
     record { x = r.0; at = r.1; page = ap (λ (z : Fresh). z.page) r.2; lsn = ap (λ (z : Fresh). z.content.lsn) r.2 }
 
 module _ {D : Type 0} (seen : D → Seen) (faults : ℕ) (shape : Shape) (Begun : Type 0) where
-  pub may_write_batch : (kept_page : ℕ → KeptPage) (unfinished batch : List BatchPage) (pairs : List (ℕ × ℕ)) (users : List ℕ) (d : Part D) → IsWithinLimits shape
-      → HoldsPages seen faults shape Begun kept_page unfinished d → CanBatch (data_side seen faults shape Begun) shape.pages kept_page batch d → IsBatchOf pairs users batch
+  pub may_write_batch : (c : Setup) (kept_page : ℕ → KeptPage) (unfinished batch : List BatchPage) (pairs : List (ℕ × ℕ)) (users : List ℕ) (d : Part D) → IsWithinLimits shape → shape.pages ≡ c.pages
+      → HoldsPages seen faults shape Begun kept_page unfinished d → CanBatch (data_side seen faults shape Begun) c kept_page batch d → IsBatchOf shape pairs users batch
       → (d.failed ≡ None) × IsWritable d.shape pairs users
-  may_write_batch kept_page unfinished batch pairs users d limits H C is = (
+  may_write_batch c kept_page unfinished batch pairs users d limits its_pages H C is = (
     not_failed d.failed C.sound,
     subst (λ (s : Shape). IsWritable s pairs users) (sym H.shape_is) (record {
-      few = (let a = C.few in let b : length pairs ≡ length batch = sym (length-batch_of pairs users) ∙ sym (ap length is.pages) ∙ fresh_length batch in let s = limits.slots in omega arith);
+      few = (let a = C.few in let b : length pairs ≡ length batch = sym (length-batch_of shape pairs users) ∙ sym (ap length is.pages) ∙ fresh_length batch in let s = limits.slots in omega arith);
       count = is.count;
-      below = λ i pair at. let p = page_of pairs users batch is i pair at in let t = (C.each i p.x p.at).there in let e = p.page in omega arith;
-      small_lsn = λ i pair at. let p = page_of pairs users batch is i pair at in let t = (C.each i p.x p.at).small in let e = p.lsn in omega arith;
+      below = λ i pair at. let p = page_of shape pairs users batch is i pair at in let t = (C.each i p.x p.at).there in let e = p.page in omega arith;
+      small_lsn = λ i pair at. let p = page_of shape pairs users batch is i pair at in let t = (C.each i p.x p.at).small in let e = p.lsn in omega arith;
       different = λ i j pair other at at_other same.
-          let p = page_of pairs users batch is i pair at in
-          let o = page_of pairs users batch is j other at_other in
+          let p = page_of shape pairs users batch is i pair at in
+          let o = page_of shape pairs users batch is j other at_other in
           let equal : p.x.page ≡ o.x.page = p.page ∙ same ∙ sym o.page in
           elim (ℕ_discrete i j) [
             | yes e ↦ e

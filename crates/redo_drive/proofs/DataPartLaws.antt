@@ -1,10 +1,9 @@
 -- The data part meets the laws by which the running store speaks of it.
-use Rattle.std.proofs.Common.{Err, List, None, Ok, Option, Result, Some, [], ap, arith, cond, false, inl, inr, is_some, refl, subst, sym, true, ⊎_elim, ℕ, ◌<◌, ◌==◌, ◌∙◌, ◌≡◌, ◌≤◌}
+use Rattle.std.proofs.Common.{Err, List, None, Ok, Result, Some, [], ap, arith, cond, inl, inr, is_some, refl, subst, sym, true, ℕ, ◌==◌, ◌∙◌, ◌≡◌}
 use Rattle.std.specs.Prelude.{OnOk}
-use native.Mathlib.Decide.{dec_le}
-use Rattle.model_base.specs.{HasRisen, last_count}
 use Rattle.model_base.specs.declared.shape.Shape.{Shape}
 use Rattle.model_core.specs.DataSide.{DataSide}
+use Rattle.model_core.specs.Setup.{Setup}
 use Rattle.model_core.specs.{BatchPage, IsDataCode, KeptPage}
 use Rattle.model_parts.specs.{after_batch, Fresh, IsLater, IsUpTo, Keeps}
 use Rattle.model_parts.specs.Stored.{Stored}
@@ -13,26 +12,20 @@ use Rattle.model_page.specs.declared.content.Content.{Content}
 use Rattle.model_pagecore.specs.{AfterBatch, CanBatch, renewed}
 use Rattle.model_pagecore.specs.DataLaws.{DataLaws}
 use Rattle.redo_drive.proofs.Batches.{later, renewed_is}
-use Rattle.redo_drive.specs.DataPartSide.{DataWrote, HasFailedBy, HoldsPages, data_side, fault_code, fresh_batch, result_code}
+use Rattle.redo_drive.proofs.Devices.{code_is_small, failed_by, no_cause}
+use Rattle.redo_drive.proofs.Outcome.{not_failed}
+use Rattle.redo_drive.specs.DataPartSide.{DataWrote, HoldsPages, data_side, fresh_batch}
+use Rattle.redo_drive.specs.Devices.{call_code, code_of}
+use Rattle.redo_drive.specs.declared.device.Device.TheVariants.{Data}
 use Rattle.redo_disk.proofs.Told.{known-as}
+use Rattle.redo_disk.specs.{error_of}
 use Rattle.redo_disk.specs.Seen.{Seen}
 use Rattle.redo_disk.specs.declared.error.DevError.{DevError}
 use Rattle.redo_disk.specs.declared.error.DevError.TheVariants.{Failed, NoMemory}
 use Rattle.redo_store.specs.{PartKeeps, PartStep, PartStores}
 use Rattle.redo_store.specs.Part.{Part}
 
-pub not_failed : (failed : Option DevError) → is_some failed ≡ false → failed ≡ None
-not_failed None e = refl
-not_failed (Some fault) e = absurd (cc)
-
--- a count that has risen in a call has risen since an earlier moment
-risen_since : (first before now : ℕ) → first ≤ before → before ≤ now → HasRisen before now → HasRisen first now
-risen_since first before now early grows risen = elim (dec_le last_count first) [
-  | yes d ↦ inr d
-  | no n ↦ ⊎_elim (λ z. inl (omega arith)) (λ z. inl (omega arith)) risen
-]
-
-fault_is : (fault : DevError) → IsDataCode (fault_code fault)
+fault_is : (fault : DevError) → IsDataCode (code_of Data fault)
 fault_is Failed = inl refl
 fault_is NoMemory = inr refl
 
@@ -50,20 +43,17 @@ module _ {D : Type 0} (seen : D → Seen) (faults : ℕ) (shape : Shape) (Begun 
   abbrev Holds : (ℕ → KeptPage) → List BatchPage → Part D → Type 0
   Holds = HoldsPages seen faults shape Begun
 
-  no_cause : (part : Part D) (code : ℕ) → part.failed ≡ None → HasFailedBy seen faults part code → ⊥
-  no_cause part code live cause = let z : None ≡ Some cause.fault = sym live ∙ cause.failed in absurd (cc)
-
-  codes : (d : Part D) (code : ℕ) → HasFailedBy seen faults d code → IsDataCode code
+  codes : (d : Part D) (code : ℕ) → side.Cause d code → IsDataCode code
   codes d code cause = subst IsDataCode (sym cause.code_is) (fault_is cause.fault)
 
-  broken : (d : Part D) (code : ℕ) → HasFailedBy seen faults d code → is_some d.failed ≡ true
+  broken : (d : Part D) (code : ℕ) → side.Cause d code → is_some d.failed ≡ true
   broken d code cause = ap is_some cause.failed
 
   abbrev HeldBy : (ℕ → KeptPage) → List BatchPage → Part D → ℕ → Type 0
   HeldBy kept_page batch e k = Holds (cond (k == 0) (renewed kept_page batch) kept_page) (cond (k == 0) [] batch) e
 
-  batches : (pages : ℕ) (kept_page : ℕ → KeptPage) (batch : List BatchPage) (code : ℕ) (d e : Part D) → Holds kept_page [] d → CanBatch side pages kept_page batch d → DataWrote seen batch code d e → AfterBatch side kept_page batch code d e
-  batches pages kept_page batch code d e H C W = by W.result W.code_is W.step (λ begun. W.ok was was (H.pages begun) up_to)
+  batches : (c : Setup) (kept_page : ℕ → KeptPage) (batch : List BatchPage) (code : ℕ) (d e : Part D) → Holds kept_page [] d → CanBatch side c kept_page batch d → DataWrote seen batch code d e → AfterBatch side kept_page batch code d e
+  batches c kept_page batch code d e H C W = by W.result (W.code_is ∙ ap (call_code Data) W.step.failed) W.step (λ begun. W.ok was was (H.pages begun) up_to)
     where
       was : ℕ → Content
       was = contents_of kept_page
@@ -74,22 +64,18 @@ module _ {D : Type 0} (seen : D → Seen) (faults : ℕ) (shape : Shape) (Begun 
       up_to : IsLater was (fresh_batch batch)
       up_to = later kept_page batch C.newer
 
-      unfinished : (fault : DevError) → code ≡ fault_code fault → PartStep {T = Unit {0}} seen d (Err fault) e → HeldBy kept_page batch e (fault_code fault)
+      unfinished : (fault : DevError) → code ≡ code_of Data fault → PartStep {T = Unit {0}} seen d (Err fault) e → HeldBy kept_page batch e (code_of Data fault)
       unfinished fault code_is step = by_fault fault (record {
         shape_is = step.shape ∙ H.shape_is;
         later = (let z = step.cause.later in let y = H.later in omega arith);
         pages = λ begun. stores_failed seen was was (fresh_batch batch) e fault step.failed (W.keeps was was (H.pages begun) up_to);
       })
         where
-          by_fault : (fault : DevError) → Holds kept_page batch e → HeldBy kept_page batch e (fault_code fault)
+          by_fault : (fault : DevError) → Holds kept_page batch e → HeldBy kept_page batch e (code_of Data fault)
           by_fault Failed held = held
           by_fault NoMemory held = held
 
-      some_code : (fault : DevError) → 0 < fault_code fault
-      some_code Failed = omega arith
-      some_code NoMemory = omega arith
-
-      by : (result : Result (Unit {0}) DevError) → code ≡ result_code result → PartStep seen d result e
+      by : (result : Result (Unit {0}) DevError) → code ≡ call_code Data (error_of result) → PartStep seen d result e
           → (Begun → OnOk result (PartStores seen (after_batch (fresh_batch batch) was) (after_batch (fresh_batch batch) was) [] e)) → AfterBatch side kept_page batch code d e
       by (Ok done) code_is step stores = record {
         holds = subst (HeldBy kept_page batch e) (sym code_is) (record {
@@ -99,20 +85,15 @@ module _ {D : Type 0} (seen : D → Seen) (faults : ℕ) (shape : Shape) (Begun 
         });
         sound = λ good. ap is_some step.failed;
         broken = λ some. absurd (omega arith);
-        causes = λ x cause. absurd (no_cause d x live cause);
+        causes = λ x cause. absurd (no_cause seen Data faults d.dev d.failed x live cause);
         cause = λ some. absurd (omega arith);
       }
-      by (Err fault) code_is step stores = let some = some_code fault in record {
+      by (Err fault) code_is step stores = let some = (code_is_small Data fault).0 in record {
         holds = subst (HeldBy kept_page batch e) (sym code_is) (unfinished fault code_is step);
         sound = λ good. absurd (omega arith);
         broken = λ _. ap is_some step.failed;
-        causes = λ x cause. absurd (no_cause d x live cause);
-        cause = λ _. record {
-          fault = fault;
-          failed = step.failed;
-          code_is = code_is;
-          risen = λ is. risen_since faults (seen d.dev).faults (seen e.dev).faults H.later step.cause.later (step.cause.failed (ap (λ (z : DevError). let r : Result (Unit {0}) DevError = Err z in r) is));
-        };
+        causes = λ x cause. absurd (no_cause seen Data faults d.dev d.failed x live cause);
+        cause = λ _. failed_by seen Data faults d.dev e.dev e.failed code fault step.failed code_is H.later step.cause;
       }
 
   pub data_laws : DataLaws side

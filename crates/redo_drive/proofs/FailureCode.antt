@@ -3,19 +3,13 @@ use Rattle.std.proofs.Common.{List, ap, arith, slice_index, ℕ, ⊎_elim, ◌<�
 use native.Mathlib.Decide.{dec_le}
 use Rattle.model_core.specs.{index}
 use Rattle.model_core.specs.declared.words.Word.TheVariants as word
-use Rattle.redo_drive.specs.DataPartSide as data_part
 use Rattle.redo_disk.specs.Seen.{Seen}
-use Rattle.redo_disk.specs.declared.error.DevError.{DevError}
-use Rattle.redo_disk.specs.declared.error.DevError.TheVariants.{Failed, NoMemory}
-use Rattle.redo_drive.proofs.LogPartEnds.{small_cause}
+use Rattle.redo_drive.proofs.Devices.{code_is_small}
 use Rattle.redo_drive.specs.Playing.{RunOf}
 use Rattle.redo_drive.specs.Running.{RunsOn}
 use Rattle.redo_drive.specs.declared.actor.Actor.{Actor}
+use Rattle.redo_drive.specs.declared.device.Device.TheVariants.{Data, Log}
 use Rattle.redo_drive.specs.declared.parts.Parts.{Parts}
-
-data_codes : (fault : DevError) → data_part.fault_code fault < 2 ^ 32
-data_codes Failed = omega arith
-data_codes NoMemory = omega arith
 
 pub small_code : {L D : Type 0} (log_seen : L → Seen) (data_seen : D → Seen) (run : RunOf L D) (parts : Parts L D) (actors : List Actor) → RunsOn log_seen data_seen run parts actors → slice_index parts.words.words (index word.Failed) < 2 ^ 32
 small_code log_seen data_seen run parts actors runs =
@@ -23,8 +17,8 @@ small_code log_seen data_seen run parts actors runs =
     let is : slice_index parts.words.words (index word.Failed) ≡ m.failed = ap (λ (ws : List ℕ). slice_index ws (index word.Failed)) runs.running.flat_is in
     elim (dec_le 1 m.failed) [
       | yes met ↦ ⊎_elim
-          (λ cause. let z = (small_cause log_seen (log_seen run.first_log.dev).faults parts.log m.failed cause).1 in omega arith)
-          (λ cause. let z = data_codes cause.fault in let e = cause.code_is in omega arith)
+          (λ cause. let z = (code_is_small Log cause.fault).1 in let e = cause.code_is in omega arith)
+          (λ cause. let z = (code_is_small Data cause.fault).1 in let e = cause.code_is in omega arith)
           (runs.running.both.cause met)
       | no none ↦ omega arith
     ]

@@ -13,7 +13,7 @@ use Rattle.model_running.proofs.Finished.{finished_losses, finished_run, marks_s
 use Rattle.model_running.proofs.FinishedPages.{finished_pages}
 use Rattle.model_running.proofs.FinishedStore.{stands_for_run}
 use Rattle.model_running.proofs.Seated.{seated_end, seated_seats}
-use Rattle.model_running.specs.{CausesAreFailures, DataTells, HasCause, HasItsPages, HaveEnded, IsOfScript, LeavesOpen, LogTells, run_of, word_marks}
+use Rattle.model_running.specs.{CausesAreFailures, DataTells, HasFailedPart, HasItsPages, HaveEnded, IsOfScript, LeavesOpen, LogTells, run_of, word_marks}
 use Rattle.model_report.specs.{IsLeft}
 use Rattle.model_report.specs.declared.entry.Entry.{Entry}
 use Rattle.model_report.specs.declared.entry.Marks.{Marks}
@@ -36,11 +36,11 @@ use Rattle.redo_drive.proofs.LogPartEnds.{log_tells}
 use Rattle.redo_drive.specs.LogPartSide as log_part
 use Rattle.redo_drive.proofs.SyncedParts.{data_is_synced, log_tells_synced}
 use Rattle.redo_drive.specs.Beginning.{HaveBegun}
-use Rattle.redo_drive.specs.Startable.{IsOpenedAs, MayBegin}
+use Rattle.redo_drive.specs.Startable.{HasReading, MayBegin}
 use Rattle.redo_drive.specs.Calls.{CallsOn}
-use Rattle.redo_drive.specs.Drive.{ComesToRun, HasMemory, HasMetError, HoldsRun, IsOwedSynced, Owes, failed_in, ran_of}
+use Rattle.redo_drive.specs.Drive.{ComesToRun, HasMemory, HasMetError, HoldsRun, IsOwedSynced, Owes, closed_run, failed_in}
 use Rattle.redo_drive.specs.Leaving.{LeavesRun}
-use Rattle.redo_drive.specs.Playing.{RunOf, data_of, log_of}
+use Rattle.redo_drive.specs.Playing.{RunOf, run_data_side, run_log_side}
 use Rattle.redo_drive.specs.Turning.{core_of}
 use Rattle.redo_drive.specs.Views.{views_of}
 use Rattle.redo_drive.specs.declared.actor.Actor.{Actor}
@@ -68,14 +68,14 @@ module _ {L D : Type 0} (log_seen : L → Seen) (log_gives : L → Call → L �
   run = by.run
 
   abbrev logs : LogSide
-  logs = log_of log_seen data_seen run
+  logs = run_log_side log_seen data_seen run
 
   abbrev datas : DataSide
-  datas = data_of log_seen data_seen run
+  datas = run_data_side log_seen data_seen run
 
   -- the run that the store stood for is the one that it leaves
   abbrev ran : theorem.Ran
-  ran = ran_of opened.start driven.closed
+  ran = closed_run opened.start driven.closed
 
   ran_is : ◌≡◌ {A = theorem.Ran} (run_of run.setup by.runs.running.log_ghost by.runs.running.shared) ran
   ran_is =
@@ -103,8 +103,8 @@ module _ {L D : Type 0} (log_seen : L → Seen) (log_gives : L → Call → L �
   loses left ended memory left_is =
       let cause = causes memory in
       subst (λ (z : theorem.Ran). LosesOnlyByFailure (failed_in driven.closed) (Some z) left) ran_is
-      (finished_losses logs run.setup 0 by.runs.running.shared by.runs.running.log_ghost by.last.log (views_of actors) by.runs.running.both.logged script opened.shape.space (failed_in driven.closed) left
-      (seated_end run.setup (views_of actors) by.runs.seated ended) by.is_run.of_script (seated_seats run.setup (views_of actors) by.runs.seated script opened.shape.space by.is_run.of_script)
+      (finished_losses logs run.setup 0 by.runs.running.shared by.runs.running.log_ghost by.last.log (views_of actors) by.runs.running.both.logged script opened.shape (failed_in driven.closed) left
+      (seated_end run.setup (views_of actors) by.runs.seated ended) by.is_run.of_script (seated_seats run.setup (views_of actors) by.runs.seated script opened.shape by.is_run.of_script)
       (λ failed. ⊎_elim (λ c. cause.log by.runs.running.shared.failed c) (λ c. cause.data_part by.runs.running.shared.failed c) (by.runs.running.both.cause failed)) (left_of_run left left_is))
 
   -- the devices came here by calls, the log's and the data's
@@ -127,15 +127,16 @@ module _ {L D : Type 0} (log_seen : L → Seen) (log_gives : L → Call → L �
   }
 
   -- FAILED's code comes of an error that a device's call answered
-  pub met_error : HasCause logs datas by.last.log by.last.store → HasMetError driven.closed
+  pub met_error : HasFailedPart logs datas by.last.log by.last.store → HasMetError driven.closed
   met_error (code, cause) = ⊎_elim
       (λ c. inl (λ none. let is : driven.closed.log.failed ≡ Some c.fault = ap (λ (z : log.Part L). z.failed) by.log ∙ c.failed in absurd (cc)))
       (λ c. inr (λ none. let is : driven.closed.store.failed ≡ Some c.fault = ap (λ (z : store.Part D). z.failed) by.data_part ∙ c.failed in absurd (cc))) cause
 
-  module _ (may : MayBegin opened script log_only) (reading : Reading) (as_read : IsOpenedAs reading opened) where
+  module _ (may : MayBegin opened script log_only) (reading : Reading) (as_read : HasReading reading opened) where
     its_pages : HasItsPages run.setup (opened_as reading)
     its_pages = let its = by.is_run.its_pages in record {
       count = its.count ∙ ap (λ (z : Shape). z.pages) as_read.shape;
+      page_size = its.page_size ∙ ap (λ (z : Shape). z.page_size) as_read.shape;
       each = λ p page at. its.each p page (subst (λ (z : List Content). slice_get z p ≡ Some page) (sym as_read.pages) at);
     }
 
@@ -177,7 +178,7 @@ module _ {L D : Type 0} (log_seen : L → Seen) (log_gives : L → Call → L �
     held log_disk data_disk log_now data_now start log_tells_now data_tells_now =
         let core = core_of log_seen data_seen run by.last actors in
         let running = by.runs.running in
-        let of_script = subst (λ (z : Shape). IsOfScript run.setup script z.space) as_read.shape by.is_run.of_script in
+        let of_script = subst (IsOfScript run.setup script) as_read.shape by.is_run.of_script in
         let behind : lsn run.setup.base ≡ start_after reading.end = by.is_run.start ∙ as_read.start in
         let given = start-given reading script log_disk data_disk start in
         subst (λ (z : theorem.Ran). IsHeld (record { script = script; opened = opened_as reading; number = reading.number + numbers_taken reading.format; run = z; log_disk = log_now; data_disk = data_now })) ran_is
@@ -186,14 +187,14 @@ module _ {L D : Type 0} (log_seen : L → Seen) (log_gives : L → Call → L �
         (finished_pages logs datas run.setup 0 script (opened_as reading) core running given its_pages of_script))
 
   -- both devices held what was opened, where they told
-  has_begun : (reading : Reading) → IsOpenedAs reading opened → (log_disk data_disk : Disk) → (log_seen opened.log.dev).tells ≡ Some log_disk → (data_seen opened.store.dev).tells ≡ Some data_disk
+  has_begun : (reading : Reading) → HasReading reading opened → (log_disk data_disk : Disk) → (log_seen opened.log.dev).tells ≡ Some log_disk → (data_seen opened.store.dev).tells ≡ Some data_disk
       → IsStart reading script log_disk data_disk → HaveBegun log_seen data_seen run
   has_begun reading as_read log_disk data_disk log_told data_told =
       as_told (data_seen opened.store.dev).tells (λ disk. IsStart reading script log_disk disk → HaveBegun log_seen data_seen run) data_disk data_told
       (as_told (log_seen opened.log.dev).tells (λ disk. IfSome (data_seen opened.store.dev).tells (λ other. IsStart reading script disk other → HaveBegun log_seen data_seen run)) log_disk log_told (by.begun reading as_read))
 
   -- where both devices tell, then and now, and the store was ready
-  where_told : (reading : Reading) → IsOpenedAs reading opened → (Is : Disk → Disk → Type 0)
+  where_told : (reading : Reading) → HasReading reading opened → (Is : Disk → Disk → Type 0)
       → ((log_disk data_disk log_now data_now : Disk) → IsStart reading script log_disk data_disk → HaveBegun log_seen data_seen run
       → (log_seen driven.closed.log.dev).tells ≡ Some log_now → (data_seen driven.closed.store.dev).tells ≡ Some data_now → Is log_now data_now)
       → IfSome (log_seen opened.log.dev).tells (λ log_disk. IfSome (data_seen opened.store.dev).tells (λ data_disk.

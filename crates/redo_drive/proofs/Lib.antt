@@ -6,6 +6,7 @@ pub mod DataMayCall
 pub mod DataPartEnds
 pub mod DataPartLaws
 pub mod DataPartStarts
+pub mod Devices
 pub mod FailedTurns
 pub mod FailureCode
 pub mod InOrder
@@ -26,6 +27,7 @@ pub mod ScriptRoom
 pub mod Seats
 pub mod Served
 pub mod ShapeStays
+pub mod SomeLent
 pub mod StartActors
 pub mod StartWordsFrames
 pub mod StartWordsNames

@@ -4,51 +4,52 @@ use Rattle.std.specs.Prelude.{IsSome, find, not, option_map}
 use Rattle.std.proofs.lemmas.Bool.{eqb-true}
 use Rattle.std.proofs.lemmas.List.{get_or-set_other}
 use Rattle.std.proofs.lemmas.Grind.{get_or-set_at}
-use Rattle.model_core.specs.{Each, joined, Listed, lists_left, oldest_of, without}
+use Rattle.model_core.specs.{appended, Each, Listed, lists_left, oldest_of, without}
 use Rattle.model_core.specs.declared.ops.Op.TheVariants as op
 use Rattle.redo_flushlist.specs.{Listing}
 use Rattle.redo_flushlist.specs.Order as own
 use Rattle.redo_flushlist.specs.declared.dirty.Dirty.{Dirty}
+use Rattle.redo_flushlist.specs.declared.dirty.TheConstants.{FLUSH_ORDER_LAG}
 use Rattle.redo_drive.specs.Lists.{AreLists, Listings, added, empty_lists, listed_of, listing_at, lists_of, no_list, removed, with_list}
 
 abbrev Listed_in : List Dirty → List Listed
 Listed_in es = map listed_of es
 
 -- a page enters after those that it may follow
-pub may_follow : (es : List Dirty) (x : ℕ) → Each (λ (y : Listed). y.oldest < x + 16384) (Listed_in es) → (k : ℕ) (d : Dirty) → k < length es → (get_or es k d).oldest < x + 16384
+pub may_follow : (es : List Dirty) (x : ℕ) → Each (λ (y : Listed). y.oldest < x + FLUSH_ORDER_LAG) (Listed_in es) → (k : ℕ) (d : Dirty) → k < length es → (get_or es k d).oldest < x + FLUSH_ORDER_LAG
 may_follow [] x near k d l = absurd (omega arith)
 may_follow (e ∷ es) x near zero d l = near.0
 may_follow (e ∷ es) x near (suc k) d l = may_follow es x near.1 k d (omega arith)
 
 -- a page that the definition doesn't find isn't there
-pub none_there : (es : List Dirty) (p : ℕ) → Each (λ (y : Listed). 0 < y.oldest) (Listed_in es) → oldest_of p (Listed_in es) ≡ 0 → own.oldest_of es p ≡ None
+pub none_there : (es : List Dirty) (p : ℕ) → Each (λ (y : Listed). 0 < y.oldest) (Listed_in es) → oldest_of p (Listed_in es) ≡ 0 → own.listed_oldest es p ≡ None
 none_there [] p real none = refl
 none_there (e ∷ es) p real none = by (e.page == p) real.0 none (none_there es p real.1)
   where
-    by : (b : Bool) → 0 < e.oldest → cond b e.oldest (oldest_of p (Listed_in es)) ≡ 0 → (oldest_of p (Listed_in es) ≡ 0 → own.oldest_of es p ≡ None)
+    by : (b : Bool) → 0 < e.oldest → cond b e.oldest (oldest_of p (Listed_in es)) ≡ 0 → (oldest_of p (Listed_in es) ≡ 0 → own.listed_oldest es p ≡ None)
         → option_map (λ (d : Dirty). d.oldest) (cond b (Some e) (find (λ (d : Dirty). d.page == p) es)) ≡ None
     by true some none rest = absurd (omega arith)
     by false some none rest = rest none
 
 -- one that it finds is there
-pub some_there : (es : List Dirty) (p : ℕ) → 0 < oldest_of p (Listed_in es) → IsSome (own.oldest_of es p)
+pub some_there : (es : List Dirty) (p : ℕ) → 0 < oldest_of p (Listed_in es) → IsSome (own.listed_oldest es p)
 some_there [] p some = absurd (omega arith)
 some_there (e ∷ es) p some = by (e.page == p) some (some_there es p)
   where
-    by : (b : Bool) → 0 < cond b e.oldest (oldest_of p (Listed_in es)) → (0 < oldest_of p (Listed_in es) → IsSome (own.oldest_of es p))
+    by : (b : Bool) → 0 < cond b e.oldest (oldest_of p (Listed_in es)) → (0 < oldest_of p (Listed_in es) → IsSome (own.listed_oldest es p))
         → IsSome (option_map (λ (d : Dirty). d.oldest) (cond b (Some e) (find (λ (d : Dirty). d.page == p) es)))
     by true some rest = refl
     by false some rest = rest some
 
-entered : (es : List Dirty) (p x : ℕ) → Listed_in (es ++ (record { page = p; oldest = x }) ∷ []) ≡ joined (Listed_in es) p x
+entered : (es : List Dirty) (p x : ℕ) → Listed_in (es ++ (record { page = p; oldest = x }) ∷ []) ≡ appended (Listed_in es) p x
 entered [] p x = refl
 entered (e ∷ es) p x = ap (λ (l : List Listed). listed_of e ∷ l) (entered es p x)
 
-left : (es : List Dirty) (p : ℕ) → Listed_in (own.without p es) ≡ without p (Listed_in es)
+left : (es : List Dirty) (p : ℕ) → Listed_in (own.without_page p es) ≡ without p (Listed_in es)
 left [] p = refl
 left (e ∷ es) p = by (e.page == p) (left es p)
   where
-    by : (b : Bool) → Listed_in (own.without p es) ≡ without p (Listed_in es) → Listed_in (cond (not b) (e ∷ own.without p es) (own.without p es)) ≡ cond b (without p (Listed_in es)) (listed_of e ∷ without p (Listed_in es))
+    by : (b : Bool) → Listed_in (own.without_page p es) ≡ without p (Listed_in es) → Listed_in (cond (not b) (e ∷ own.without_page p es) (own.without_page p es)) ≡ cond b (without p (Listed_in es)) (listed_of e ∷ without p (Listed_in es))
     by true rest = rest
     by false rest = ap (λ (l : List Listed). listed_of e ∷ l) rest
 
@@ -93,9 +94,9 @@ same_choice false l = refl
 
 -- the pages of each list where a page was added by whoever found the list's turn word free, and where one was removed
 add_at : (old new : Listings) (p x i : ℕ) (b : Bool) → AreLists old → ◌≡◌ {A = Listings} new (cond b (added old p x) old)
-    → lists_of new i ≡ cond (i == p % 4) (cond b (joined (lists_of old i) p x) (lists_of old i)) (lists_of old i)
+    → lists_of new i ≡ cond (i == p % 4) (cond b (appended (lists_of old i) p x) (lists_of old i)) (lists_of old i)
 add_at old new p x i true are is =
-    ap (λ (z : Listings). lists_of z i) is ∙ changed old (p % 4) ((listing_at old.lists (p % 4)).entries ++ (record { page = p; oldest = x }) ∷ []) (λ l. joined l p x) are (omega arith) (entered (listing_at old.lists (p % 4)).entries p x) i
+    ap (λ (z : Listings). lists_of z i) is ∙ changed old (p % 4) ((listing_at old.lists (p % 4)).entries ++ (record { page = p; oldest = x }) ∷ []) (λ l. appended l p x) are (omega arith) (entered (listing_at old.lists (p % 4)).entries p x) i
 add_at old new p x i false are is = ap (λ (z : Listings). lists_of z i) is ∙ sym (same_choice (i == p % 4) (lists_of old i))
 
 pub add_left : (old new : Listings) (word : ℕ → ℕ) (p x : ℕ) → AreLists old → ◌≡◌ {A = Listings} new (cond (word (p % 4) == 0) (added old p x) old)
@@ -105,12 +106,17 @@ add_left old new word p x are is k i = add_at old new p x i (word (p % 4) == 0) 
 remove_at : (old new : Listings) (p i : ℕ) (b : Bool) → AreLists old → ◌≡◌ {A = Listings} new (cond b (removed old p) old)
     → lists_of new i ≡ cond (i == p % 4) (cond b (without p (lists_of old i)) (lists_of old i)) (lists_of old i)
 remove_at old new p i true are is =
-    ap (λ (z : Listings). lists_of z i) is ∙ changed old (p % 4) (own.without p (listing_at old.lists (p % 4)).entries) (λ l. without p l) are (omega arith) (left (listing_at old.lists (p % 4)).entries p) i
+    ap (λ (z : Listings). lists_of z i) is ∙ changed old (p % 4) (own.without_page p (listing_at old.lists (p % 4)).entries) (λ l. without p l) are (omega arith) (left (listing_at old.lists (p % 4)).entries p) i
 remove_at old new p i false are is = ap (λ (z : Listings). lists_of z i) is ∙ sym (same_choice (i == p % 4) (lists_of old i))
 
 pub remove_left : (old new : Listings) (word : ℕ → ℕ) (p : ℕ) → AreLists old → ◌≡◌ {A = Listings} new (cond (word (p % 4) == 0) (removed old p) old)
     → ◌≡◌ {A = ℕ → List Listed} (lists_of new) (lists_left (lists_of old) word (op.TakeRemove p))
 remove_left old new word p are is k i = remove_at old new p i (word (p % 4) == 0) are is k
+
+-- a turn word that was found free
+pub found_free : (b : Bool) → not b ≡ false → b ≡ true
+found_free true e = refl
+found_free false e = absurd (cc)
 
 pub empty_are_lists : (pages : ℕ) → AreLists (empty_lists pages)
 empty_are_lists pages = record { count = refl; its_pages = by }

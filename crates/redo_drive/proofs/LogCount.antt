@@ -3,6 +3,7 @@ use Rattle.std.proofs.Common.{Bool, List, [], ap, arith, cond, eqb, false, lengt
 use lib.ListN.{get_elem?}
 use mathlib.Core.Option.{some}
 use native.Mathlib.Decide.{ℕ_discrete}
+use Rattle.model_base.specs.declared.shape.Shape.{Shape}
 use Rattle.model_core.specs.{Entry}
 use Rattle.model_core.specs.Setup.{Setup}
 use Rattle.model_running.specs.{IsOfScript}
@@ -70,6 +71,6 @@ no_more (x ∷ xs) script each =
     let rest = no_more xs w.rest (λ v. let e : cond (eqb x.user v) 1 0 + count_of v xs ≤ length (lines_of_user v script) = each v in let n = w.counts v in omega arith) in
     omega arith
 
-pub log_within_script : (c : Setup) (script : List ScriptLine) (space sn : ℕ) (log : List Entry) (place : ℕ → Place) → Tiled c sn log place → IsOfScript c script space → length log ≤ length script
-log_within_script c script space sn log place T S =
+pub log_within_script : (c : Setup) (script : List ScriptLine) (shape : Shape) (sn : ℕ) (log : List Entry) (place : ℕ → Place) → Tiled c sn log place → IsOfScript c script shape → length log ≤ length script
+log_within_script c script shape sn log place T S =
     no_more log script (λ user. let n = below_limit (λ v. length (c.script v)) user log (λ v. 0) (omega arith) (λ i e is. let r = T.ranks i e is in omega arith) (λ i e is. (T.lines i e is).0) in let s = S.count user in omega arith)

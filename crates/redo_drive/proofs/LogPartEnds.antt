@@ -1,5 +1,5 @@
 -- What the log part's device holds of a run, at any moment and so at its end.
-use Rattle.std.proofs.Common.{Option, Some, arith, refl, subst, sym, ℕ, ◌<◌, ◌^◌, ◌≡◌}
+use Rattle.std.proofs.Common.{Option, Some, refl, subst, ℕ, ◌≡◌}
 use Rattle.std.specs.Prelude.{IfSome}
 use Rattle.model_base.specs.declared.shape.Shape.{Shape}
 use Rattle.model_core.specs.{lsn}
@@ -8,11 +8,9 @@ use Rattle.model_device.specs.Disk.{Disk}
 use Rattle.model_running.specs.{LogTells}
 use Rattle.model_parts.specs.{LogHoldsWith}
 use Rattle.redo_disk.specs.Seen.{Seen}
-use Rattle.redo_disk.specs.declared.error.DevError.{DevError}
-use Rattle.redo_disk.specs.declared.error.DevError.TheVariants.{Failed, NoMemory}
 use Rattle.redo_logdev.specs.{DiskHolds}
 use Rattle.redo_logdev.specs.Part.{Part}
-use Rattle.redo_drive.specs.LogPartSide.{HasFailedBy, fault_code, log_side}
+use Rattle.redo_drive.specs.LogPartSide.{log_side}
 
 -- The device holds the groups that the part does, if it was as it should be when the run began, and the checkpoint isn't older
 -- than then.
@@ -30,11 +28,3 @@ log_tells seen faults number Begun c shape p disk begun same tells = record {
       subst (λ (o : Option Disk). IfSome o (DiskHolds p.shape (lsn c.base) wholes p.marks p.tails p.failed)) tells (held.groups begun wholes are) in
       record { tails = p.tails; holds = subst (λ (z : Shape). LogHoldsWith z (lsn c.base) wholes p.marks p.tails disk) same here.holds };
 }
-
--- a cause is a code of 32 bits, and not 0
-pub small_cause : {L : Type 0} (seen : L → Seen) (faults : ℕ) (p : Part L) (code : ℕ) → HasFailedBy seen faults p code → (0 < code) × (code < 2 ^ 32)
-small_cause seen faults p code cause = subst (λ (k : ℕ). (0 < k) × (k < 2 ^ 32)) (sym cause.code_is) (small cause.fault)
-  where
-    small : (fault : DevError) → (0 < fault_code fault) × (fault_code fault < 2 ^ 32)
-    small Failed = (omega arith, omega arith)
-    small NoMemory = (omega arith, omega arith)

@@ -1,5 +1,5 @@
 -- The log part meets the laws by which the running store speaks of it.
-use Rattle.std.proofs.Common.{Bool, List, [], None, Option, Some, ap, arith, cond, false, inl, inr, length, refl, subst, sym, true, ℕ, ◌%◌, ◌++◌, ◌+◌, ◌/◌, ◌<◌, ◌==◌, ◌^◌, ◌∙◌, ◌∷◌, ◌≡◌, ◌≤◌}
+use Rattle.std.proofs.Common.{Bool, List, [], None, Option, Some, ap, arith, cond, false, inl, inr, length, refl, subst, sym, true, ℕ, ◌%◌, ◌++◌, ◌+◌, ◌/◌, ◌<◌, ◌==◌, ◌^◌, ◌∙◌, ◌∷◌, ◌≡◌, ◌≤◌, is_some}
 use Rattle.std.specs.Prelude.{IfSome}
 use Rattle.model_base.specs.declared.shape.Shape.{Shape}
 use Rattle.model_core.specs.{Entry, IsLogCode, lsn, Tiles}
@@ -16,13 +16,17 @@ use Rattle.model_parts.proofs.Longer.{longer-holds, longer-live}
 use Rattle.model_parts.specs.{after_asked, after_checkpoint, after_given, after_synced, after_written, next_number}
 use Rattle.model_parts.specs.declared.marks.LogMarks.{LogMarks}
 use Rattle.model_log.specs.declared.group.Whole.{Whole}
+use Rattle.model_log.specs.declared.layout.TheConstants.{BLOCK_DATA}
 use Rattle.redo_disk.specs.Seen.{Seen}
 use Rattle.redo_logdev.specs.{PartHolds}
 use Rattle.redo_logdev.specs.Part.{Part}
 use Rattle.redo_drive.proofs.Outcome.{not_failed, outcome, pick}
 use Rattle.redo_disk.specs.declared.error.DevError.{DevError}
 use Rattle.redo_disk.specs.declared.error.DevError.TheVariants.{Failed, NoMemory}
-use Rattle.redo_drive.specs.LogPartSide.{HasFailedBy, HoldsLog, LogCheckpointed, LogSynced, LogWrote, fault_code, has_failed, log_side}
+use Rattle.redo_drive.proofs.Devices.{no_cause}
+use Rattle.redo_drive.specs.Devices.{code_of}
+use Rattle.redo_drive.specs.LogPartSide.{HoldsLog, LogCheckpointed, LogSynced, LogWrote, log_side}
+use Rattle.redo_drive.specs.declared.device.Device.TheVariants.{Log}
 use Rattle.model_log.specs.Run as run
 
 told_so : {P Q : Disk → Type 0} (tells : Option Disk) → ((disk : Disk) → P disk → Q disk) → IfSome tells P → IfSome tells Q
@@ -54,11 +58,7 @@ module _ {L : Type 0} (seen : L → Seen) (faults first : ℕ) (Begun : Type 0) 
   abbrev Holds : ℕ → ℕ → List Entry → Part L → Type 0
   Holds = HoldsLog seen faults first Begun
 
-  -- a cause is of a part whose call has failed, so there is none yet
-  no_cause : (part : Part L) (code : ℕ) → part.failed ≡ None → HasFailedBy seen faults part code → ⊥
-  no_cause part code live cause = let z : None ≡ Some cause.fault = sym live ∙ cause.failed in absurd (cc)
-
-  more : (blocks base n : ℕ) (log : List Entry) (e : Entry) (p : Part L) → base % 496 ≡ 0 → Tiles base log n → e.start ≡ n → 0 < length e.bytes → p.marks.given ≤ lsn n → Holds blocks base log p → Holds blocks base (log ++ e ∷ []) p
+  more : (blocks base n : ℕ) (log : List Entry) (e : Entry) (p : Part L) → base % BLOCK_DATA ≡ 0 → Tiles base log n → e.start ≡ n → 0 < length e.bytes → p.marks.given ≤ lsn n → Holds blocks base log p → Holds blocks base (log ++ e ∷ []) p
   more blocks base n log e p even tiles start some given H = record {
     blocks_are = H.blocks_are;
     later = H.later;
@@ -75,8 +75,8 @@ module _ {L : Type 0} (seen : L → Seen) (faults first : ℕ) (Begun : Type 0) 
         let front : List Whole = r.0 in
         let last : Whole = r.1 in
         let old : IsRunOf (lsn base) front = run_of_log log base n front tiles r.3 in
-        let from : last.start ≡ run.end_of (lsn base) (spans_of front) =
-        ap (λ (z : Span). z.start) r.4.place ∙ ap lsn start ∙ sym (ap (run.end_of (lsn base)) (places log front r.3) ∙ spans_end log base n tiles) in
+        let from : last.start ≡ run.last_span_end (lsn base) (spans_of front) =
+        ap (λ (z : Span). z.start) r.4.place ∙ ap lsn start ∙ sym (ap (run.last_span_end (lsn base)) (places log front r.3) ∙ spans_end log base n tiles) in
         let longer : IsRunOf (lsn base) (front ++ last ∷ []) = run-push (lsn base) front last old from (has_length e last r.4) in
         let held : PartHolds seen (lsn base) (front ++ last ∷ []) p =
         told_so (seen p.dev).tells (λ disk holds. record {
@@ -121,7 +121,7 @@ module _ {L : Type 0} (seen : L → Seen) (faults first : ℕ) (Begun : Type 0) 
         ckpt = ckpt;
         asked = asked;
         sound = o.sound;
-        causes = λ code cause. absurd (no_cause p code live cause);
+        causes = λ code cause. absurd (no_cause seen Log faults p.dev p.failed code live cause);
         cause = o.cause;
       }
 
@@ -157,7 +157,7 @@ module _ {L : Type 0} (seen : L → Seen) (faults first : ℕ) (Begun : Type 0) 
         ckpt = ckpt;
         asked = asked;
         sound = o.sound;
-        causes = λ code cause. absurd (no_cause p code live cause);
+        causes = λ code cause. absurd (no_cause seen Log faults p.dev p.failed code live cause);
         cause = o.cause;
       }
 
@@ -199,7 +199,7 @@ module _ {L : Type 0} (seen : L → Seen) (faults first : ℕ) (Begun : Type 0) 
         ckpt = ckpt;
         asked = asked;
         sound = o.sound;
-        causes = λ code cause. absurd (no_cause p code live cause);
+        causes = λ code cause. absurd (no_cause seen Log faults p.dev p.failed code live cause);
         cause = o.cause;
       }
     where
@@ -214,15 +214,15 @@ module _ {L : Type 0} (seen : L → Seen) (faults first : ℕ) (Begun : Type 0) 
           by false is = let a : q.marks.number ≡ p.marks.number = ap (λ (z : LogMarks). z.number) is in let b : q.marks.ckpt ≡ p.marks.ckpt = ap (λ (z : LogMarks). z.ckpt) is in
               let d : q.marks.ckpt / 512 ≡ p.marks.ckpt / 512 = ap (λ (k : ℕ). k / 512) b in omega arith
 
-  codes : (part : Part L) (code : ℕ) → HasFailedBy seen faults part code → IsLogCode code
+  codes : (part : Part L) (code : ℕ) → side.Cause part code → IsLogCode code
   codes part code cause = subst IsLogCode (sym cause.code_is) (by cause.fault)
     where
-      by : (fault : DevError) → IsLogCode (fault_code fault)
+      by : (fault : DevError) → IsLogCode (code_of Log fault)
       by Failed = inl refl
       by NoMemory = inr refl
 
-  broken : (part : Part L) (code : ℕ) → HasFailedBy seen faults part code → side.failed part ≡ true
-  broken part code cause = ap has_failed cause.failed
+  broken : (part : Part L) (code : ℕ) → side.Cause part code → side.failed part ≡ true
+  broken part code cause = ap is_some cause.failed
 
   pub log_laws : LogLaws side
   log_laws = record { codes = codes; broken = broken; more = more; writes = writes; syncs = syncs; checkpoints = checkpoints }

@@ -8,6 +8,7 @@ use Rattle.model_logcore.specs.{StartPart}
 use Rattle.model_parts.specs.{first_marks}
 use Rattle.model_parts.specs.declared.marks.LogMarks.{LogMarks}
 use Rattle.model_log.specs.declared.group.Whole.{Whole}
+use Rattle.model_log.specs.declared.layout.TheConstants.{BLOCK_DATA}
 use Rattle.redo_disk.specs.Seen.{Seen}
 use Rattle.redo_logdev.specs.{PartHolds}
 use Rattle.redo_logdev.specs.Part.{Part}
@@ -19,7 +20,7 @@ no_wholes [] are = refl
 no_wholes (w ∷ ws) are = absurd are
 
 -- a new part at the sn base, over whatever device
-pub part_starts : {L : Type 0} (seen : L → Seen) (c : Setup) (number : ℕ) (p : Part L) → c.base % 496 ≡ 0 → lsn c.base < 2 ^ 61 → (run_layout p.shape).blocks ≡ c.blocks → p.failed ≡ None → ◌≡◌ {A = LogMarks} p.marks (first_marks (lsn c.base) number)
+pub part_starts : {L : Type 0} (seen : L → Seen) (c : Setup) (number : ℕ) (p : Part L) → c.base % BLOCK_DATA ≡ 0 → lsn c.base < 2 ^ 61 → (run_layout p.shape).blocks ≡ c.blocks → p.failed ≡ None → ◌≡◌ {A = LogMarks} p.marks (first_marks (lsn c.base) number)
     → StartPart (log_side seen (seen p.dev).faults p.marks.number (HasBegun seen (lsn c.base) p)) c p
 part_starts seen c number p even small blocks live marks =
     let stable : p.marks.stable ≡ lsn c.base = ap (λ (z : LogMarks). z.stable) marks in

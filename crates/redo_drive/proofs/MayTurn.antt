@@ -1,7 +1,8 @@
 -- Whoever has a turn may take it: the conditions of what an actor asks for follow from the invariant of the running store.
-use Rattle.std.proofs.Common.{Bool, List, [], ap, arith, cond, false, length, subst, sym, true, ℕ, ◌<◌, ◌^◌, ◌∙◌, ◌≡◌}
+use Rattle.std.proofs.Common.{Bool, List, [], ap, arith, cond, false, length, subst, sym, true, ℕ, ⊎_elim, ◌<◌, ◌^◌, ◌∙◌, ◌≡◌, is_some}
 use lib.ListN.{get_elem?}
 use mathlib.Core.Option.{some}
+use Rattle.model_core.proofs.Asks.{IsNoAddition, user_or_no_addition}
 use Rattle.model_core.proofs.Lsns.{lsn_le}
 use Rattle.model_base.specs.{IsWithinLimits}
 use Rattle.model_base.specs.declared.shape.Shape.{Shape}
@@ -9,7 +10,7 @@ use Rattle.model_core.specs.Actors as model
 use Rattle.model_core.specs.AnswerFits.{AnswerFits}
 use Rattle.model_core.specs.DataSide.{DataSide}
 use Rattle.model_core.specs.Fitting.{Fitting}
-use Rattle.model_core.specs.{answer_of, BatchPage, checkpointer_op, cleaner_op, closer_op, flusher_op, KeptPage, lent, Listed, lsn, next, old_of, OpWords, shared_answer, user_fits, user_op, UserState, writer_op}
+use Rattle.model_core.specs.{answer_of, BatchPage, KeptPage, lent, Listed, lsn, next, old_of, OpWords, shared_answer, user_fits, user_op, UserState}
 use Rattle.model_core.specs.LogSide.{LogSide}
 use Rattle.model_core.specs.Setup.{Setup}
 use Rattle.model_core.specs.declared.ops.Answer.{Answer}
@@ -32,21 +33,21 @@ use Rattle.model_running.specs.DataReady as running
 use Rattle.model_running.specs.ListReady.{ListReady}
 use Rattle.redo_drive.proofs.Lent.{lent_batch}
 use Rattle.redo_drive.proofs.DataMayCall.{may_write_batch}
+use Rattle.redo_drive.proofs.Devices.{code_is_small}
 use Rattle.redo_drive.specs.DataPartSide as data_part
 use Rattle.redo_disk.specs.Seen.{Seen}
-use Rattle.redo_disk.specs.declared.error.DevError.{DevError}
-use Rattle.redo_disk.specs.declared.error.DevError.TheVariants.{Failed, NoMemory}
 use Rattle.redo_logdev.specs.{MayWrite}
 use Rattle.redo_logdev.specs.Part as log
 use Rattle.redo_drive.proofs.LogMayCall.{may_checkpoint, may_sync, may_write}
 use Rattle.redo_drive.proofs.Outcome.{not_failed}
 use Rattle.redo_drive.specs.LogPartSide as log_part
 use Rattle.redo_drive.specs.Lists.{lists_of}
-use Rattle.redo_drive.specs.Playing.{DataReady, HasWholePages, IsPlayable, LogReady, MayBatchLent, MayWriteLent, RunOf, data_of, log_of}
+use Rattle.redo_drive.specs.Playing.{DataReady, HasWholePages, IsPlayable, LogReady, MayBatchLent, MayWriteLent, RunOf, run_data_side, run_log_side}
 use Rattle.redo_drive.specs.Running.{RunsOn}
 use Rattle.redo_drive.specs.Turning.{MayServe}
 use Rattle.redo_drive.specs.Views.{views_of}
 use Rattle.redo_drive.specs.declared.actor.Actor.{Actor}
+use Rattle.redo_drive.specs.declared.device.Device.TheVariants.{Data, Log}
 use Rattle.redo_drive.specs.declared.parts.Parts.{Parts}
 use Rattle.redo_store.specs.Part as store
 use Rattle.redo_words.specs.{HoldsSum, Lends}
@@ -55,17 +56,6 @@ use Rattle.redo_words.specs.declared.lent.Lent.TheVariants as lending
 use Rattle.model_core.specs.declared.steps.UserStep.{UserStep}
 use Rattle.model_core.specs.declared.steps.AdvanceStep.TheVariants as advance_step
 use Rattle.model_core.specs.declared.steps.UserStep.TheVariants as user_step
-use Rattle.model_core.specs.declared.steps.WriterStep.TheVariants as writer_step
-use Rattle.model_core.specs.declared.steps.FlusherStep.TheVariants as flusher_step
-use Rattle.model_core.specs.declared.steps.CloserStep.TheVariants as closer_step
-use Rattle.model_core.specs.declared.steps.CleanerStep.TheVariants as cleaner_step
-use Rattle.model_core.specs.declared.steps.CheckpointerStep.TheVariants as checkpointer_step
-use Rattle.model_core.specs.States as states
-use Rattle.model_core.specs.declared.steps.WriterStep.{WriterStep}
-use Rattle.model_core.specs.declared.steps.FlusherStep.{FlusherStep}
-use Rattle.model_core.specs.declared.steps.CloserStep.{CloserStep}
-use Rattle.model_core.specs.declared.steps.CleanerStep.{CleanerStep}
-use Rattle.model_core.specs.declared.steps.CheckpointerStep.{CheckpointerStep}
 
 -- a word holds the sum: a reservation adds to SN, which stays below its limit, and a user adds bytes onto lanes that are 0
 module _ (ls : ℕ → List Listed) (broken : Bool) (code mark : ℕ) (ws : List ℕ) where
@@ -76,43 +66,20 @@ module _ (ls : ℕ → List Listed) (broken : Bool) (code mark : ℕ) (ws : List
   user_sum u user_step.AddCell fit = fit
   user_sum u _ fit = tt
 
-  writer_sum : (s : states.WriterState) (f : WriterStep) → HoldsSum (writer_op s f) ws
-  writer_sum s (writer_step.Advance advance_step.LoadTail) = tt
-  writer_sum s _ = tt
-
-  flusher_sum : (s : states.FlusherState) (f : FlusherStep) → HoldsSum (flusher_op s f) ws
-  flusher_sum s flusher_step.LoadWrite = tt
-  flusher_sum s _ = tt
-
-  closer_sum : (s : states.CloserState) (f : CloserStep) → HoldsSum (closer_op s f) ws
-  closer_sum s (closer_step.Advance advance_step.LoadTail) = tt
-  closer_sum s _ = tt
-
-  cleaner_sum : (s : states.CleanerState) (f : CleanerStep) → HoldsSum (cleaner_op s f) ws
-  cleaner_sum s cleaner_step.LoadFlushed = tt
-  cleaner_sum s _ = tt
-
-  checkpointer_sum : (s : states.CheckpointerState) (f : CheckpointerStep) → HoldsSum (checkpointer_op s f) ws
-  checkpointer_sum s checkpointer_step.LoadCtail = tt
-  checkpointer_sum s _ = tt
-
-  checking : (b : Bool) (o : Op) → HoldsSum o ws → HoldsSum (cond b (op.Load word.Failed) o) ws
-  checking true o sum = tt
-  checking false o sum = sum
-
   checking_user : (b : Bool) (u : UserState) → cond {A = Type 0} b (Unit {0}) (user_fits u (old_of (answer_of ls broken code mark ws (cond b (op.Load word.Failed) (user_op u u.step)))) u.step)
       → HoldsSum (cond b (op.Load word.Failed) (user_op u u.step)) ws
   checking_user true u fit = tt
   checking_user false u fit = user_sum u u.step fit
 
+  other_sum : (o : Op) → IsNoAddition o → HoldsSum o ws
+  other_sum (op.Add w x) is = absurd is
+  other_sum _ is = tt
+
   pub holds_sum : (a : model.Actor) → Fitting a (answer_of ls broken code mark ws (next a)) → HoldsSum (next a) ws
-  holds_sum (model.User u) fit = checking_user u.checks u fit
-  holds_sum (model.Writer s) fit = checking s.checks (writer_op s s.step) (writer_sum s s.step)
-  holds_sum (model.Flusher s) fit = checking s.checks (flusher_op s s.step) (flusher_sum s s.step)
-  holds_sum (model.Closer s) fit = checking s.checks (closer_op s s.step) (closer_sum s s.step)
-  holds_sum (model.Cleaner s) fit = checking s.checks (cleaner_op s s.step) (cleaner_sum s s.step)
-  holds_sum (model.Checkpointer s) fit = checking s.checks (checkpointer_op s s.step) (checkpointer_sum s s.step)
-  holds_sum (model.Joined es) fit = tt
+  holds_sum a fit = ⊎_elim
+      (λ t. subst (λ (z : model.Actor). Fitting z (answer_of ls broken code mark ws (next z)) → HoldsSum (next z) ws) (sym t.1) (checking_user t.0.checks t.0) fit)
+      (λ t. other_sum (next a) t)
+      (user_or_no_addition a)
 
 -- the calls of the log part
 module _ {L : Type 0} (seen : L → Seen) (faults number : ℕ) (Begun : Type 0) (c : Setup) (g : LogGhost) (p : log.Part L) (a : model.Actor) (H : log_part.HoldsLog seen faults number Begun c.blocks c.base g.log p) (small : p.marks.stable < 2 ^ 60) where
@@ -137,57 +104,48 @@ module _ {L : Type 0} (seen : L → Seen) (faults number : ℕ) (Begun : Type 0)
   log_call _ l lends can = tt
 
 -- the call of the data part
-module _ {D : Type 0} (seen : D → Seen) (faults : ℕ) (shape : Shape) (Begun : Type 0) (pages : ℕ) (its_pages : shape.pages ≡ pages) (limits : IsWithinLimits shape) (kept_page : ℕ → KeptPage) (d : store.Part D) where
+module _ {D : Type 0} (seen : D → Seen) (faults : ℕ) (shape : Shape) (Begun : Type 0) (c : Setup) (its_pages : shape.pages ≡ c.pages) (its_page_size : shape.page_size ≡ c.page_size) (limits : IsWithinLimits shape)
+    (kept_page : ℕ → KeptPage) (d : store.Part D) where
   abbrev data_side : DataSide
   data_side = data_part.data_side seen faults shape Begun
 
-  whole_by : (batch : List BatchPage) → CanBatch data_side pages kept_page batch d → (i : ℕ) (x : BatchPage) → get_elem? batch i ≡ some x → length x.bytes ≡ 4096
-  whole_by batch can i x at = (can.each i x at).whole
+  whole_by : (batch : List BatchPage) → CanBatch data_side c kept_page batch d → (i : ℕ) (x : BatchPage) → get_elem? batch i ≡ some x → length x.bytes ≡ shape.page_size
+  whole_by batch can i x at = (can.each i x at).whole ∙ sym its_page_size
 
-  batch_ready : (ml : model.Lent) (l : Lent) → Lends l ml → running.CanLendBatch data_side pages kept_page ml d → MayBatchLent d l
+  batch_ready : (ml : model.Lent) (l : Lent) → Lends l ml → running.CanLendBatch data_side c kept_page ml d → MayBatchLent d l
   batch_ready model.Nothing l lends can = absurd can
   batch_ready (model.Blocks kept offsets) l lends can = absurd can
   batch_ready (model.Batch batch) lending.Nothing lends can = absurd lends
   batch_ready (model.Batch batch) (lending.Blocks bytes firsts) lends can = absurd lends
   batch_ready (model.Batch batch) (lending.Batch pairs frames) lends can =
-      may_write_batch seen faults shape Begun kept_page [] batch pairs.now frames.now d limits can.0
-      (subst (λ (n : ℕ). CanBatch data_side n kept_page batch d) (sym its_pages) can.1)
-      (lent_batch batch pairs.now frames.now (whole_by batch can.1) lends.0 lends.1)
+      may_write_batch seen faults shape Begun c kept_page [] batch pairs.now frames.now d limits its_pages can.0 can.1
+      (lent_batch shape batch pairs.now frames.now (whole_by batch can.1) lends.0 lends.1)
 
-  pub data_call : (o : Op) (ml : model.Lent) (l : Lent) → Lends l ml → running.DataReady data_side pages kept_page ml d o → DataReady d l o
+  pub data_call : (o : Op) (ml : model.Lent) (l : Lent) → Lends l ml → running.BatchReady data_side c kept_page ml d o → DataReady d l o
   data_call op.WriteBatch ml l lends can = batch_ready ml l lends can
   data_call _ ml l lends can = tt
 
-  pub whole_pages : (o : Op) (ml : model.Lent) → running.DataReady data_side pages kept_page ml d o → HasWholePages o ml
-  whole_pages op.WriteBatch (model.Batch batch) can = whole_by batch can.1
+  pub whole_pages : (o : Op) (ml : model.Lent) → running.BatchReady data_side c kept_page ml d o → HasWholePages d.shape o ml
+  whole_pages op.WriteBatch (model.Batch batch) can = λ i x at. whole_by batch can.1 i x at ∙ ap (λ (z : Shape). z.page_size) (sym can.0.shape_is)
   whole_pages op.WriteBatch model.Nothing can = tt
   whole_pages op.WriteBatch (model.Blocks kept offsets) can = tt
   whole_pages _ ml can = tt
 
--- the codes of both parts are small
-log_codes : (fault : DevError) → log_part.fault_code fault < 2 ^ 32
-log_codes Failed = omega arith
-log_codes NoMemory = omega arith
-
-data_codes : (fault : DevError) → data_part.fault_code fault < 2 ^ 32
-data_codes Failed = omega arith
-data_codes NoMemory = omega arith
-
 module _ {L D : Type 0} (log_seen : L → Seen) (data_seen : D → Seen) (run : RunOf L D) (parts : Parts L D) (actors : List Actor) (R : RunsOn log_seen data_seen run parts actors)
-    (log_laws : LogLaws (log_of log_seen data_seen run)) (data_laws : DataLaws (data_of log_seen data_seen run)) where
+    (log_laws : LogLaws (run_log_side log_seen data_seen run)) (data_laws : DataLaws (run_data_side log_seen data_seen run)) where
   abbrev A : LogSide
-  A = log_of log_seen data_seen run
+  A = run_log_side log_seen data_seen run
 
   abbrev B : DataSide
-  B = data_of log_seen data_seen run
+  B = run_data_side log_seen data_seen run
 
   abbrev c : Setup
   c = run.setup
 
   codes : HaveSmallCodes A B
   codes = record {
-    log = λ p x cause. (let z = log_codes cause.fault in let e = cause.code_is in omega arith);
-    data_part = λ d x cause. (let z = data_codes cause.fault in let e = cause.code_is in omega arith);
+    log = λ p x cause. (let z = (code_is_small Log cause.fault).1 in let e = cause.code_is in omega arith);
+    data_part = λ d x cause. (let z = (code_is_small Data cause.fault).1 in let e = cause.code_is in omega arith);
   }
 
   low_stable : parts.log.marks.stable < 2 ^ 60
@@ -206,33 +164,33 @@ module _ {L D : Type 0} (log_seen : L → Seen) (data_seen : D → Seen) (run : 
     words : OpWords c.pages (next who)
     words = let W = R.running in next_words A B c 0 W.shared W.log_ghost W.page_ghost ls parts.log parts.store (views_of actors) seat W.both who at
 
-    answer_is : (code mark : ℕ) → ◌≡◌ {A = Answer} (answer_of ls (log_part.has_failed parts.log.failed) code mark parts.words.words (next who)) (shared_answer ls (log_part.has_failed parts.log.failed) code mark R.running.shared (next who))
+    answer_is : (code mark : ℕ) → ◌≡◌ {A = Answer} (answer_of ls (is_some parts.log.failed) code mark parts.words.words (next who)) (shared_answer ls (is_some parts.log.failed) code mark R.running.shared (next who))
     answer_is code mark = let W = R.running in
-        ap (λ (ws : List ℕ). answer_of ls (log_part.has_failed parts.log.failed) code mark ws (next who)) W.flat_is
-        ∙ flat_answer c.pages W.shared W.both.logged.sized ls (log_part.has_failed parts.log.failed) code mark (next who) words
+        ap (λ (ws : List ℕ). answer_of ls (is_some parts.log.failed) code mark ws (next who)) W.flat_is
+        ∙ flat_answer c.pages W.shared W.both.logged.sized ls (is_some parts.log.failed) code mark (next who) words
 
-    fits : (code mark : ℕ) → AnswerFits who (answer_of ls (log_part.has_failed parts.log.failed) code mark parts.words.words (next who))
+    fits : (code mark : ℕ) → AnswerFits who (answer_of ls (is_some parts.log.failed) code mark parts.words.words (next who))
     fits code mark = let W = R.running in
         subst (λ (r : Answer). AnswerFits who r) (sym (answer_is code mark))
-        (answer_fits A B c 0 W.shared W.log_ghost W.page_ghost ls parts.log parts.store (views_of actors) seat W.both R.bytes codes (log_part.has_failed parts.log.failed) code mark who at)
+        (answer_fits A B c 0 W.shared W.log_ghost W.page_ghost ls parts.log parts.store (views_of actors) seat W.both R.bytes codes (is_some parts.log.failed) code mark who at)
 
-    data_can : running.DataReady B c.pages R.running.page_ghost.kept_page (lent who) parts.store (next who)
+    data_can : running.BatchReady B c R.running.page_ghost.kept_page (lent who) parts.store (next who)
     data_can = let W = R.running in both_ready.data_ready A log_laws B data_laws c 0 W.shared W.log_ghost W.page_ghost ls parts.log parts.store (views_of actors) seat W.both who at
 
     playable : (l : Lent) → Lends l (lent who) → IsPlayable parts (next who) l
     playable l lends = let W = R.running in record {
       there = subst (λ (n : ℕ). OpWords n (next who)) (sym R.word_pages) words;
-      sum = holds_sum ls (log_part.has_failed parts.log.failed) 0 0 parts.words.words who (fits 0 0).log;
+      sum = holds_sum ls (is_some parts.log.failed) 0 0 parts.words.words who (fits 0 0).log;
       listing = subst (λ (n : ℕ). ListReady n ls (next who)) (sym R.list_pages) (list_ready A B c 0 W.shared W.log_ghost W.page_ghost ls parts.log parts.store (views_of actors) seat W.both who at);
       real = W.both.paged.paged.lists.real;
       log = log_call log_seen (log_seen run.first_log.dev).faults run.first_log.marks.number (log_part.HasBegun log_seen (lsn c.base) run.first_log) c W.log_ghost parts.log who W.both.logged.global.part.holds low_stable (next who) l lends
           (both_ready.log_ready A log_laws B data_laws c 0 W.shared W.log_ghost W.page_ghost ls parts.log parts.store (views_of actors) seat W.both who at);
-      data_part = data_call data_seen (data_seen run.first_data.dev).faults run.shape (data_part.HasBegun data_seen c.opened run.first_data) c.pages R.its_pages R.limits W.page_ghost.kept_page parts.store (next who) (lent who) l lends data_can;
+      data_part = data_call data_seen (data_seen run.first_data.dev).faults run.shape (data_part.HasBegun data_seen c.opened run.first_data) c R.its_pages R.its_page_size R.limits W.page_ghost.kept_page parts.store (next who) (lent who) l lends data_can;
     }
 
     pub may_serve : MayServe parts who
     may_serve = record {
       playable = playable;
-      whole = whole_pages data_seen (data_seen run.first_data.dev).faults run.shape (data_part.HasBegun data_seen c.opened run.first_data) c.pages R.its_pages R.limits R.running.page_ghost.kept_page parts.store (next who) (lent who) data_can;
+      whole = whole_pages data_seen (data_seen run.first_data.dev).faults run.shape (data_part.HasBegun data_seen c.opened run.first_data) c R.its_pages R.its_page_size R.limits R.running.page_ghost.kept_page parts.store (next who) (lent who) data_can;
       fits = fits;
     }

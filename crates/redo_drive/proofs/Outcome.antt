@@ -1,48 +1,43 @@
 -- How a call of the log part ends, by its code.
-use Rattle.std.proofs.Common.{Bool, Err, None, Ok, Option, Result, Some, ap, arith, cond, false, inl, inr, refl, sym, true, ⊎_elim, ℕ, ◌<◌, ◌==◌, ◌∙◌, ◌≡◌, ◌≤◌}
+use Rattle.std.proofs.Common.{Bool, Err, None, Ok, Option, Result, Some, ap, arith, cond, false, refl, sym, true, ℕ, ◌<◌, ◌==◌, ◌∙◌, ◌≡◌, ◌≤◌, is_some}
 use Rattle.std.specs.Prelude.{OnErr, OnOk}
-use Rattle.model_base.specs.{HasRisen, last_count}
 use Rattle.model_parts.specs.declared.marks.LogMarks.{LogMarks}
+use Rattle.redo_disk.specs.{error_of}
 use Rattle.redo_disk.specs.Seen.{Seen}
 use Rattle.redo_disk.specs.declared.error.DevError.{DevError}
 use Rattle.redo_disk.specs.declared.error.DevError.TheVariants.{Failed, NoMemory}
 use Rattle.redo_logdev.specs.{Stays}
 use Rattle.redo_logdev.specs.Part.{Part}
-use Rattle.redo_drive.specs.LogPartSide.{HasFailedBy, LogCalled, has_failed, result_code}
-use native.Mathlib.Decide.{dec_le}
+use Rattle.redo_drive.proofs.Devices.{failed_by}
+use Rattle.redo_drive.specs.Devices.{HasFailedBy, call_code}
+use Rattle.redo_drive.specs.LogPartSide.{LogCalled}
+use Rattle.redo_drive.specs.declared.device.Device.TheVariants.{Log}
 
-pub not_failed : (failed : Option DevError) → has_failed failed ≡ false → failed ≡ None
+pub not_failed : (failed : Option DevError) → is_some failed ≡ false → failed ≡ None
 not_failed None e = refl
 not_failed (Some fault) e = absurd (cc)
 
-pub is_live : (failed : Option DevError) → failed ≡ None → has_failed failed ≡ false
-is_live failed e = ap has_failed e
+pub is_live : (failed : Option DevError) → failed ≡ None → is_some failed ≡ false
+is_live failed e = ap is_some e
 
 -- a choice of two records is a choice of their fields
 pub pick : {A B : Type 0} (f : A → B) (b : Bool) (x y : A) → ◌≡◌ {A = B} (f (cond b x y)) (cond b (f x) (f y))
 pick f true x y = refl
 pick f false x y = refl
 
--- a count that has risen in a call has risen since an earlier moment
-pub risen_since : (first before now : ℕ) → first ≤ before → before ≤ now → HasRisen before now → HasRisen first now
-risen_since first before now early later risen = elim (dec_le last_count first) [
-  | yes d ↦ inr d
-  | no n ↦ ⊎_elim (λ z. inl (omega arith)) (λ z. inl (omega arith)) risen
-]
-
 module _ {L : Type 0} (seen : L → Seen) (faults : ℕ) where
   -- what a call leaves, by its code
   pub record IsOutcome (code : ℕ) (ok err : LogMarks) (old new : Part L) : Type 0 where
     pub marks : ◌≡◌ {A = LogMarks} new.marks (cond (code == 0) ok err)
     pub live : new.failed ≡ None → code ≡ 0
-    pub sound : code ≡ 0 → has_failed new.failed ≡ false
-    pub cause : 0 < code → HasFailedBy seen faults new code
+    pub sound : code ≡ 0 → is_some new.failed ≡ false
+    pub cause : 0 < code → HasFailedBy seen Log faults new.dev new.failed code
     pub later : faults ≤ (seen new.dev).faults
 
   pub outcome : (code : ℕ) (ok err : LogMarks) (old new : Part L) → faults ≤ (seen old.dev).faults → LogCalled seen code ok err old new → IsOutcome code ok err old new
-  outcome code ok err old new early called = by called.result called.code_is called.on_ok called.on_err called.stays
+  outcome code ok err old new early called = by called.result (called.code_is ∙ ap (call_code Log) called.stays.failed) called.on_ok called.on_err called.stays
     where
-      by : (result : Result (Unit {0}) DevError) → code ≡ result_code result → OnOk result (new.marks ≡ ok) → OnErr result (new.marks ≡ err) → Stays seen old result new → IsOutcome code ok err old new
+      by : (result : Result (Unit {0}) DevError) → code ≡ call_code Log (error_of result) → OnOk result (new.marks ≡ ok) → OnErr result (new.marks ≡ err) → Stays seen old result new → IsOutcome code ok err old new
       by (Ok done) code_is on_ok on_err stays = record {
         marks = on_ok ∙ sym (ap (λ (k : ℕ). let z : LogMarks = cond (k == 0) ok err in z) code_is);
         live = λ none. code_is;
@@ -54,13 +49,13 @@ module _ {L : Type 0} (seen : L → Seen) (faults : ℕ) where
         marks = on_err ∙ sym (ap (λ (k : ℕ). let z : LogMarks = cond (k == 0) ok err in z) code_is);
         live = λ none. let z : None ≡ Some Failed = sym none ∙ stays.failed in absurd (cc);
         sound = λ none. absurd (omega arith);
-        cause = λ some. record { fault = Failed; failed = stays.failed; code_is = code_is; risen = λ is. risen_since faults (seen old.dev).faults (seen new.dev).faults early stays.cause.later (stays.cause.failed refl) };
+        cause = λ some. failed_by seen Log faults old.dev new.dev new.failed code Failed stays.failed code_is early stays.cause;
         later = (let z = stays.cause.later in omega arith);
       }
       by (Err NoMemory) code_is on_ok on_err stays = record {
         marks = on_err ∙ sym (ap (λ (k : ℕ). let z : LogMarks = cond (k == 0) ok err in z) code_is);
         live = λ none. let z : None ≡ Some NoMemory = sym none ∙ stays.failed in absurd (cc);
         sound = λ none. absurd (omega arith);
-        cause = λ some. record { fault = NoMemory; failed = stays.failed; code_is = code_is; risen = λ is. absurd (cc) };
+        cause = λ some. failed_by seen Log faults old.dev new.dev new.failed code NoMemory stays.failed code_is early stays.cause;
         later = (let z = stays.cause.later in omega arith);
       }

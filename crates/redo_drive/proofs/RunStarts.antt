@@ -22,6 +22,7 @@ use Rattle.model_logcore.specs.{left_to_reserve, StartPart, sum_over_actors}
 use Rattle.model_parts.specs.{first_marks, first_tails, start_of}
 use Rattle.model_parts.specs.declared.marks.LogMarks.{LogMarks}
 use Rattle.model_log.specs.{IsAtDataStart, lsn_of, run_layout, sn_of}
+use Rattle.model_log.specs.declared.layout.TheConstants.{BLOCK_DATA}
 use Rattle.model_page.specs.declared.content.Content.{Content}
 use Rattle.model_theorem.specs.{IsStart}
 use Rattle.model_running.proofs.StartRunning.{store_starts}
@@ -40,14 +41,14 @@ use Rattle.redo_drive.proofs.Begun.{data_begun, log_begun}
 use Rattle.model_running.proofs.LineBytes.{GetsBytes, changes_get_bytes}
 use Rattle.redo_drive.proofs.ScriptRoom.{room_for_all}
 use Rattle.redo_drive.proofs.StartActors.{IsNew, are_new, are_seated, seat_of_user, writer_seat}
-use Rattle.redo_drive.proofs.StartWordsPages.{full_pages, has_opened_pages}
+use Rattle.redo_drive.proofs.StartWordsPages.{has_opened_pages}
 use Rattle.redo_drive.proofs.UserLines.{of_script, of_user}
 use Rattle.redo_drive.specs.Beginning.{HaveBegun}
-use Rattle.redo_drive.specs.Startable.{IsOpenedAs, MayBegin}
+use Rattle.redo_drive.specs.Startable.{HasReading, MayBegin}
 use Rattle.redo_drive.specs.Begins.{BeginsRun}
 use Rattle.redo_drive.specs.Lists.{Listings, empty_lists, lists_of}
 use Rattle.redo_drive.specs.Making.{IsOwnOf}
-use Rattle.redo_drive.specs.Playing.{RunOf, data_of, log_of}
+use Rattle.redo_drive.specs.Playing.{RunOf, run_data_side, run_log_side}
 use Rattle.redo_drive.specs.Running.{RunsOn}
 use Rattle.redo_drive.specs.Turning.{core_of}
 use Rattle.redo_drive.specs.Setups.{programs_of}
@@ -68,12 +69,12 @@ none_listed pages (suc (suc (suc zero))) = refl
 none_listed pages (suc (suc (suc (suc i)))) = refl
 
 -- the first data byte of a block has as many before it as the blocks before
-sn_at_start : (start : ℕ) → IsAtDataStart start → sn_of start ≡ start / 512 * 496
+sn_at_start : (start : ℕ) → IsAtDataStart start → sn_of start ≡ start / 512 * BLOCK_DATA
 sn_at_start start place =
     let first : ltb (start % 512) 12 ≡ false = le-ltb (start % 512) 12 (omega arith) in
     let last : ltb 508 (start % 512) ≡ false = le-ltb 508 (start % 512) (omega arith) in
-    ap (λ (b : Bool). start / 512 * 496 + cond b 0 (cond (ltb 508 (start % 512)) 496 (start % 512 - 12))) first
-    ∙ ap (λ (b : Bool). start / 512 * 496 + cond b 496 (start % 512 - 12)) last ∙ omega arith
+    ap (λ (b : Bool). start / 512 * BLOCK_DATA + cond b 0 (cond (ltb 508 (start % 512)) BLOCK_DATA (start % 512 - 12))) first
+    ∙ ap (λ (b : Bool). start / 512 * BLOCK_DATA + cond b BLOCK_DATA (start % 512 - 12)) last ∙ omega arith
 
 -- so its lsn comes back from its sn
 lsn_at_start : (start : ℕ) → IsAtDataStart start → lsn (sn_of start) ≡ start
@@ -92,9 +93,9 @@ lines_get_bytes shape pages start script log_only fits user j k = elim (dec_le (
       subst (λ (line : Line). GetsBytes (change_at line.changes k)) (sym (is.each user j one.0 one.1)) (by log_only one.0 (of_user (LineFits shape) script user j one.0 fits one.1).0))
 ]
   where
-    by : (b : Bool) (one : ScriptLine) → LineFits shape one → GetsBytes (change_at (cond b [] (changes_of shape.pages (group_of shape.space one))) k)
+    by : (b : Bool) (one : ScriptLine) → LineFits shape one → GetsBytes (change_at (cond b [] (changes_of shape (group_of shape.space one))) k)
     by true one fit = λ i. omega arith
-    by false one fit = changes_get_bytes shape.pages (group_of shape.space one) fit.has_text.each k
+    by false one fit = changes_get_bytes shape (group_of shape.space one) fit.has_text.each k
 
 -- what holds of what both devices tell
 if_told : (log_told data_told : Option Disk) (P : Disk → Disk → Type 0) → ((log_disk data_disk : Disk) → log_told ≡ Some log_disk → data_told ≡ Some data_disk → P log_disk data_disk)
@@ -113,10 +114,10 @@ module _ {L D : Type 0} (log_seen : L → Seen) (data_seen : D → Seen) (opened
   run = record { setup = setup; shape = opened.shape; first_log = opened.log; first_data = opened.store }
 
   abbrev log_part : LogSide
-  log_part = log_of log_seen data_seen run
+  log_part = run_log_side log_seen data_seen run
 
   abbrev data_part : DataSide
-  data_part = data_of log_seen data_seen run
+  data_part = run_data_side log_seen data_seen run
 
   abbrev seat_of : ℕ → ℕ
   seat_of = seat_of_user opened.shape log_only script
@@ -134,13 +135,14 @@ module _ {L D : Type 0} (log_seen : L → Seen) (data_seen : D → Seen) (opened
   place : lsn setup.base ≡ opened.start
   place = lsn_at_start opened.start may.runnable.place
 
-  even : setup.base % 496 ≡ 0
+  even : setup.base % BLOCK_DATA ≡ 0
   even = let e = sn_at_start opened.start may.runnable.place in omega arith
 
-  starts_on : StartsOn opened.start opened.pages setup
+  starts_on : StartsOn opened.start opened.shape opened.pages setup
   starts_on = record {
     begins = place;
     count = sym may.runnable.its_pages.count;
+    page_size = refl;
     opened = λ p there. refl;
     early = may.runnable.not_ahead;
   }
@@ -169,7 +171,7 @@ module _ {L D : Type 0} (log_seen : L → Seen) (data_seen : D → Seen) (opened
   -- what stands at its start
   store_start : StartStore log_part data_part setup words.by_name opened.log opened.store seat_of writer (views_of own.actors.items)
   store_start = record {
-    script = scripted setup script opened.shape refl (of_script opened.shape opened.pages opened.start script log_only) fit;
+    script = scripted setup script opened.shape may.runnable.limits refl refl (of_script opened.shape opened.pages opened.start script log_only) fit;
     some_page = may.runnable.limits.some_pages;
     words = words.of_log;
     page_words = words.of_pages;
@@ -197,6 +199,7 @@ module _ {L D : Type 0} (log_seen : L → Seen) (data_seen : D → Seen) (opened
   runs = record {
     limits = may.runnable.limits;
     its_pages = refl;
+    its_page_size = refl;
     bytes = record { opened = owns.bytes; cells = λ user j k i. lines_get_bytes opened.shape opened.pages opened.start script log_only may.fits.lines user j k i };
     word_pages = owns.word_pages ∙ may.runnable.its_pages.count;
     list_pages = ap (λ (lists : Listings). lists.pages) owns.lists;
@@ -205,7 +208,7 @@ module _ {L D : Type 0} (log_seen : L → Seen) (data_seen : D → Seen) (opened
   }
 
   -- where the store was ready, its devices hold what was opened
-  begun_on : (reading : Reading) (log_disk data_disk : Disk) → IsOpenedAs reading opened → (log_seen opened.log.dev).tells ≡ Some log_disk → (data_seen opened.store.dev).tells ≡ Some data_disk
+  begun_on : (reading : Reading) (log_disk data_disk : Disk) → HasReading reading opened → (log_seen opened.log.dev).tells ≡ Some log_disk → (data_seen opened.store.dev).tells ≡ Some data_disk
       → IsStart reading script log_disk data_disk → HaveBegun log_seen data_seen run
   begun_on reading log_disk data_disk reads log_tells data_tells is =
       let start : opened.start ≡ start_of reading = reads.start in record {
@@ -213,7 +216,7 @@ module _ {L D : Type 0} (log_seen : L → Seen) (data_seen : D → Seen) (opened
             (log_begun reading script log_disk data_disk is log_seen opened.log (may.runnable.log_shape ∙ reads.shape) may.runnable.log_live
             (may.runnable.log_marks ∙ ap (λ (n : ℕ). let marks : LogMarks = first_marks n opened.log.marks.number in marks) start ∙ ap (λ (n : ℕ). let marks : LogMarks = first_marks (start_of reading) n in marks) reads.number)
             (may.runnable.log_tails ∙ ap first_tails start) log_tells);
-        data_part = data_begun reading script log_disk data_disk is data_seen opened.shape opened.pages opened.store may.runnable.limits reads.shape reads.pages may.runnable.data_shape may.runnable.data_live data_tells;
+        data_part = data_begun reading script log_disk data_disk is data_seen opened.shape opened.pages opened.store reads.shape reads.pages may.runnable.data_shape may.runnable.data_live data_tells;
       }
 
   -- its parts and actors stand at the beginning of the run
@@ -227,8 +230,7 @@ module _ {L D : Type 0} (log_seen : L → Seen) (data_seen : D → Seen) (opened
       start = place;
       log_only_is = refl;
       of_script = of_script opened.shape opened.pages opened.start script log_only;
-      its_pages = has_opened_pages setup (record { shape = opened.shape; pages = opened.pages; end = 0 }) (full_pages opened.shape opened.pages may.runnable.limits may.runnable.its_pages)
-          may.runnable.its_pages.count (sym may.runnable.its_pages.count) (λ p there. refl);
+      its_pages = has_opened_pages setup (record { shape = opened.shape; pages = opened.pages; end = 0 }) may.runnable.limits may.runnable.its_pages (sym may.runnable.its_pages.count) refl (λ p there. refl);
     };
     at_start = record {
       words = words.by_name;

@@ -15,7 +15,7 @@ use Rattle.model_logcore.specs.{left_to_reserve, lengths, sum_over_actors}
 use Rattle.model_script.specs.{group_of, LineFits, script_end}
 use Rattle.model_script.specs.declared.misfit.TheConstants.{MAX_USERS}
 use Rattle.model_script.specs.declared.script.ScriptLine.{ScriptLine}
-use Rattle.redo_useractor.specs.{lines_of}
+use Rattle.redo_useractor.specs.{program_lines}
 use Rattle.redo_drive.specs.Setups.{page_actors, programs_of, start_actors, users_below, users_of}
 
 -- the sum for each number below n
@@ -48,7 +48,7 @@ line_counts : (shape : Shape) (log_only : Bool) (line : ScriptLine) (script : Li
 line_counts shape log_only line script user = by (eqb line.user user)
   where
     in_program : List ScriptLine → List Line
-    in_program lines = lines_of log_only shape.pages (map (λ (one : ScriptLine). (one.mode, group_of shape.space one)) lines)
+    in_program lines = program_lines log_only shape (map (λ (one : ScriptLine). (one.mode, group_of shape.space one)) lines)
 
     by : (b : Bool) → lengths (in_program (cond b (line ∷ lines_of_user user script) (lines_of_user user script)))
         ≡ cond b (group_length (group_of shape.space line)) 0 + lengths (in_program (lines_of_user user script))

@@ -1,16 +1,26 @@
 -- What a call of a part leaves, as the definition of a turn tells it.
-use Rattle.std.proofs.Common.{Bor, List, subst, ℕ, ◌≡◌}
+use Rattle.std.proofs.Common.{Bor, Err, List, Ok, Result, [], refl, subst, sym, ℕ, ◌≡◌}
 use Rattle.std.specs.List.{flat_map}
-use Rattle.std.specs.Prelude.{map}
+use Rattle.std.specs.Prelude.{map, OnErr, OnOk}
 use Rattle.model_base.specs.declared.shape.Shape.{Shape}
 use Rattle.model_core.specs.Actors as model
-use Rattle.model_core.specs.{BatchPage, DataServed}
+use Rattle.model_core.specs.{BatchPage, DataServed, LogServed}
 use Rattle.model_core.specs.declared.ops.Op.TheVariants as op
 use Rattle.model_page.specs.{user_part}
+use Rattle.model_page.specs.declared.content.Content.{Content}
+use Rattle.model_parts.specs.{after_batch, batch_of, Fresh, IsLater}
+use Rattle.model_parts.specs.declared.marks.LogMarks.{LogMarks}
+use Rattle.model_parts.specs.declared.marks.TailMarks.{TailMarks}
 use Rattle.redo_drive.proofs.Lent.{lent_batch}
 use Rattle.redo_drive.specs.DataPartSide as data_part
 use Rattle.redo_disk.specs.Seen.{Seen}
+use Rattle.redo_disk.specs.declared.error.DevError.{DevError}
+use Rattle.redo_drive.specs.Devices.{call_code}
+use Rattle.redo_drive.specs.LogPartSide as log_part
 use Rattle.redo_drive.specs.Playing.{HasWholePages}
+use Rattle.redo_drive.specs.declared.device.Device.TheVariants.{Data, Log}
+use Rattle.redo_logdev.specs.PartConditions.{HasMarks}
+use Rattle.redo_logdev.specs.Part as log
 use Rattle.redo_store.specs.Part as store
 use Rattle.redo_words.specs.{Lends}
 use Rattle.redo_words.specs.declared.lent.Lent.{Lent}
@@ -22,16 +32,67 @@ LendsBatch pages frames (model.Batch batch) =
     (pages ≡ map (λ (b : BatchPage). (b.page, b.lsn)) batch) × (frames ≡ flat_map (λ (b : BatchPage). user_part b.bytes) batch)
 LendsBatch pages frames _ = ⊥
 
-pub batch_served : {D : Type 0} (seen : D → Seen) (faults : ℕ) (shape : Shape) (Begun : Type 0) (pages : List (ℕ × ℕ)) (frames : List ℕ) (code : ℕ) (d e : store.Part D) (l : model.Lent) → LendsBatch pages frames l → HasWholePages op.WriteBatch l
-    → ((batch : List BatchPage) → data_part.IsBatchOf pages frames batch → data_part.DataWrote seen batch code d e)
-    → DataServed (data_part.data_side seen faults shape Begun) d l op.WriteBatch code e
-batch_served seen faults shape Begun pages frames code d e model.Nothing lends whole wrote = absurd lends
-batch_served seen faults shape Begun pages frames code d e (model.Blocks kept offsets) lends whole wrote = absurd lends
-batch_served seen faults shape Begun pages frames code d e (model.Batch batch) lends whole wrote =
-    wrote batch (lent_batch batch pages frames whole lends.0 lends.1)
+-- what the calls of the log part ensure, as the running store tells it
+on_marks : {L : Type 0} (result : Result (Unit {0}) DevError) (new : log.Part L) (marks : LogMarks) (tails : TailMarks)
+    → OnOk result (HasMarks new marks tails) → OnOk result (◌≡◌ {A = LogMarks} new.marks marks)
+on_marks (Ok done) new marks tails is = is.marks
+on_marks (Err fault) new marks tails is = tt
+
+off_marks : {L : Type 0} (result : Result (Unit {0}) DevError) (new : log.Part L) (marks : LogMarks) (tails : TailMarks)
+    → OnErr result (HasMarks new marks tails) → OnErr result (◌≡◌ {A = LogMarks} new.marks marks)
+off_marks (Ok done) new marks tails is = tt
+off_marks (Err fault) new marks tails is = is.marks
+
+pub log_called : {L : Type 0} (seen : L → Seen) (result : Result (Unit {0}) DevError) (old new : log.Part L) (ok err : LogMarks) (ok_tails err_tails : TailMarks)
+    → OnOk result (HasMarks new ok ok_tails) → OnErr result (HasMarks new err err_tails) → log.Stays seen old result new
+    → log_part.LogCalled seen (call_code Log new.failed) ok err old new
+log_called seen result old new ok err ok_tails err_tails on_ok on_err stays = record {
+  result = result;
+  code_is = refl;
+  on_ok = on_marks result new ok ok_tails on_ok;
+  on_err = off_marks result new err err_tails on_err;
+  stays = stays;
+}
+
+-- what is lent is these bytes and first offsets
+abbrev pub LendsBlocks : List ℕ → List ℕ → model.Lent → Type 0
+LendsBlocks bytes firsts (model.Blocks kept offsets) = (bytes ≡ kept) × (firsts ≡ offsets)
+LendsBlocks bytes firsts _ = ⊥
+
+pub write_served : {L : Type 0} (seen : L → Seen) (faults number : ℕ) (Begun : Type 0) (mark : ℕ) (bytes firsts : List ℕ) (p q : log.Part L) (l : model.Lent) → LendsBlocks bytes firsts l
+    → log_part.LogWrote seen mark bytes firsts (call_code Log q.failed) p q
+    → LogServed (log_part.log_side seen faults number Begun) p l (op.WriteTo mark) (call_code Log q.failed) q
+write_served seen faults number Begun mark bytes firsts p q model.Nothing lends wrote = absurd lends
+write_served seen faults number Begun mark bytes firsts p q (model.Batch batch) lends wrote = absurd lends
+write_served seen faults number Begun mark bytes firsts p q (model.Blocks kept offsets) lends wrote =
+    subst (λ (b : List ℕ). log_part.LogWrote seen mark b offsets (call_code Log q.failed) p q) lends.0
+    (subst (λ (f : List ℕ). log_part.LogWrote seen mark bytes f (call_code Log q.failed) p q) lends.1 wrote)
+
+pub batch_served : {D : Type 0} (seen : D → Seen) (faults : ℕ) (shape : Shape) (Begun : Type 0) (pages : List (ℕ × ℕ)) (frames : List ℕ) (result : Result (Unit {0}) DevError) (d e : store.Part D) (l : model.Lent)
+    → LendsBatch pages frames l → HasWholePages d.shape op.WriteBatch l → store.PartStep seen d result e
+    → ((top was : ℕ → Content) → store.PartStores seen top was [] d → IsLater top (batch_of d.shape pages frames) → store.PartKeeps seen top was (batch_of d.shape pages frames) e)
+    → ((top was : ℕ → Content) → store.PartStores seen top was [] d → IsLater top (batch_of d.shape pages frames)
+    → OnOk result (store.PartStores seen (after_batch (batch_of d.shape pages frames) top) (after_batch (batch_of d.shape pages frames) was) [] e))
+    → DataServed (data_part.data_side seen faults shape Begun) d l op.WriteBatch (call_code Data e.failed) e
+batch_served seen faults shape Begun pages frames result d e model.Nothing lends whole step keeps ok = absurd lends
+batch_served seen faults shape Begun pages frames result d e (model.Blocks kept offsets) lends whole step keeps ok = absurd lends
+batch_served seen faults shape Begun pages frames result d e (model.Batch batch) lends whole step keeps ok =
+    let same : batch_of d.shape pages frames ≡ data_part.fresh_batch batch = sym (lent_batch d.shape batch pages frames whole lends.0 lends.1).pages in record {
+      result = result;
+      code_is = refl;
+      step = step;
+      keeps = subst (λ (f : List Fresh). (top was : ℕ → Content) → store.PartStores seen top was [] d → IsLater top f → store.PartKeeps seen top was f e) same keeps;
+      ok = subst (λ (f : List Fresh). (top was : ℕ → Content) → store.PartStores seen top was [] d → IsLater top f
+          → OnOk result (store.PartStores seen (after_batch f top) (after_batch f was) [] e)) same ok;
+    }
 
 -- what is lent, by what it is
 pub batch_lent : (given : Lent) (pages : Bor (List (ℕ × ℕ))) (frames : Bor (List ℕ)) → given ≡ lent.Batch pages frames → (l : model.Lent) → Lends given l → LendsBatch pages.now frames.now l
 batch_lent given pages frames is model.Nothing lends = subst (λ (z : Lent). Lends z model.Nothing) is lends
 batch_lent given pages frames is (model.Blocks kept offsets) lends = subst (λ (z : Lent). Lends z (model.Blocks kept offsets)) is lends
 batch_lent given pages frames is (model.Batch batch) lends = subst (λ (z : Lent). Lends z (model.Batch batch)) is lends
+
+pub blocks_lent : (given : Lent) (bytes firsts : Bor (List ℕ)) → given ≡ lent.Blocks bytes firsts → (l : model.Lent) → Lends given l → LendsBlocks bytes.now firsts.now l
+blocks_lent given bytes firsts is model.Nothing lends = subst (λ (z : Lent). Lends z model.Nothing) is lends
+blocks_lent given bytes firsts is (model.Blocks kept offsets) lends = subst (λ (z : Lent). Lends z (model.Blocks kept offsets)) is lends
+blocks_lent given bytes firsts is (model.Batch batch) lends = subst (λ (z : Lent). Lends z (model.Batch batch)) is lends

@@ -102,7 +102,7 @@ module _ (shape : Shape) (pages : List Content) (start : ℕ) (script : List Scr
     pages_start true is i a at = absurd (some-ne-none a (sym at))
     pages_start false is zero a at = subst (IsHere (length users + 2)) (some-injective (actor.Closer new_closer) a at)
         (record { start = (refl, refl); with_pages = tt })
-    pages_start false is (suc zero) a at = subst (IsHere (length users + 3)) (some-injective (actor.Cleaner (new_cleaner shape.pages)) a at)
+    pages_start false is (suc zero) a at = subst (IsHere (length users + 3)) (some-injective (actor.Cleaner (new_cleaner shape.pages shape.page_size)) a at)
         (record { start = (refl, refl); with_pages = tt })
     pages_start false is (suc (suc zero)) a at = subst (IsHere (length users + 4)) (some-injective (actor.Checkpointer (new_checkpointer start)) a at)
         (record { start = (refl, ap new_checkpointer (sym place)); with_pages = sym is })
@@ -124,7 +124,7 @@ module _ (shape : Shape) (pages : List Content) (start : ℕ) (script : List Scr
 
   are_page_actors : (b : Bool) → ArePageActors b (page_actors shape start b)
   are_page_actors true = refl
-  are_page_actors false = (record { closer = new_closer; cleaner = new_cleaner shape.pages; checkpointer = new_checkpointer start }, refl)
+  are_page_actors false = (record { closer = new_closer; cleaner = new_cleaner shape.pages shape.page_size; checkpointer = new_checkpointer start }, refl)
 
   -- the users that have lines are seated, and the other actors after them
   pub are_seated : AreSeated setup (start_actors shape script start log_only)

@@ -4,19 +4,18 @@ use Rattle.std.specs.Prelude.{Some, slice_get, slice_index}
 use Rattle.std.proofs.lemmas.Bool.{cases_lt}
 use Rattle.std.proofs.lemmas.List.{drop_at, get_or_past, length-replicate, take_at}
 use Rattle.std.proofs.lemmas.Option.{get_or_from_slice_get, slice_get-get_or, slice_get_within}
-use Rattle.model_base.specs.{IsWithinLimits}
-use Rattle.model_base.specs.declared.limits.TheConstants.{USER_BYTES, USER_START}
+use Rattle.model_base.proofs.ShapeLimits.{whole_sectors}
+use Rattle.model_base.specs.{IsWithinLimits, user_length}
+use Rattle.model_base.specs.declared.limits.TheConstants.{PAGE_TRAILER, USER_START}
 use Rattle.model_base.specs.declared.shape.Shape.{Shape}
 use Rattle.model_core.specs.{KeptPage}
 use Rattle.model_core.specs.Setup.{Setup}
-use Rattle.model_core.specs.declared.limits.TheConstants.{FRAME_CELLS}
-use Rattle.model_running.specs.{content_of, HasItsPages}
-use Rattle.model_page.specs.{user_part}
+use Rattle.model_running.specs.{HasItsPages, kept_content}
+use Rattle.model_page.specs.{blank_page, user_part}
 use Rattle.model_page.specs.declared.content.Content.{Content}
-use Rattle.model_page.specs.declared.page.TheConstants.{TRAILER_LENGTH}
 use Rattle.model_theorem.specs.{Opened}
 use Rattle.redo_apply.specs.{ArePagesOf}
-use Rattle.redo_drive.specs.StartWords.{AreFullPages, HoldBytes, kept_page_of, opened_page, page_cells, unwritten_page}
+use Rattle.redo_drive.specs.StartWords.{HoldBytes, kept_page_of, opened_page, page_cells}
 
 -- in so many zeros, and past them, each number is 0
 pub replicate_zero : (n i : ℕ) → slice_index (replicate n 0) i ≡ 0
@@ -52,70 +51,67 @@ module _ (before behind : ℕ) (user : List ℕ) where
       zeros n i = subst (λ (k : ℕ). k < limit) (sym (replicate_zero n i)) some
 
 -- the cells of a page by its user bytes
-pub page_cells-length : (user : List ℕ) → length (page_cells user) ≡ USER_START + length user + TRAILER_LENGTH
+pub page_cells-length : (user : List ℕ) → length (page_cells user) ≡ USER_START + length user + PAGE_TRAILER
 unfolding page_cells
-page_cells-length user = framed-length USER_START TRAILER_LENGTH user
+page_cells-length user = framed-length USER_START PAGE_TRAILER user
 
 pub user_part-page_cells : (user : List ℕ) → user_part (page_cells user) ≡ user
 unfolding page_cells
-user_part-page_cells user = framed-user USER_START TRAILER_LENGTH user
+user_part-page_cells user = framed-user USER_START PAGE_TRAILER user
 
 pub page_cells-small : (limit : ℕ) (user : List ℕ) → 0 < limit → ((i : ℕ) → slice_index user i < limit) → (i : ℕ) → slice_index (page_cells user) i < limit
 unfolding page_cells
-page_cells-small limit user some small = framed-small USER_START TRAILER_LENGTH user limit some small
+page_cells-small limit user some small = framed-small USER_START PAGE_TRAILER user limit some small
 
--- a page that was never written has all its user bytes, each 0
-pub unwritten-length : length unwritten_page.user ≡ USER_BYTES
-unfolding unwritten_page
-unwritten-length = length-replicate {A = ℕ} USER_BYTES 0
-
-pub unwritten-zero : (i : ℕ) → slice_index unwritten_page.user i ≡ 0
-unfolding unwritten_page
-unwritten-zero i = replicate_zero USER_BYTES i
+-- a page that was never written holds 0 in each byte
+blank-zero : (shape : Shape) (i : ℕ) → slice_index (blank_page shape).user i ≡ 0
+blank-zero shape i = replicate_zero (user_length shape) i
 
 -- what a run finds of a page
-pub opened_page-is : (pages : List Content) (p : ℕ) (page : Content) → slice_get pages p ≡ Some page → ◌≡◌ {A = KeptPage} (opened_page pages p) (kept_page_of page)
-opened_page-is pages p page at = ap {A = Content} {B = KeptPage} kept_page_of (get_or_from_slice_get pages p page unwritten_page at)
+pub opened_page-is : (shape : Shape) (pages : List Content) (p : ℕ) (page : Content) → slice_get pages p ≡ Some page
+    → ◌≡◌ {A = KeptPage} (opened_page shape pages p) (kept_page_of page)
+opened_page-is shape pages p page at = ap {A = Content} {B = KeptPage} kept_page_of (get_or_from_slice_get pages p page (blank_page shape) at)
 
-pub content_of-kept_page_of : (page : Content) → content_of (kept_page_of page) ≡ page
+pub content_of-kept_page_of : (page : Content) → kept_content (kept_page_of page) ≡ page
 content_of-kept_page_of page = ap (λ (user : List ℕ). let found : Content = record { lsn = page.lsn; user = user } in found) (user_part-page_cells page.user)
 
 -- it holds the page
-pub content_of-opened_page : (pages : List Content) (p : ℕ) (page : Content) → slice_get pages p ≡ Some page → content_of (opened_page pages p) ≡ page
-content_of-opened_page pages p page at = ap {A = KeptPage} {B = Content} content_of (opened_page-is pages p page at) ∙ content_of-kept_page_of page
+pub content_of-opened_page : (shape : Shape) (pages : List Content) (p : ℕ) (page : Content) → slice_get pages p ≡ Some page
+    → kept_content (opened_page shape pages p) ≡ page
+content_of-opened_page shape pages p page at =
+    ap {A = KeptPage} {B = Content} kept_content (opened_page-is shape pages p page at) ∙ content_of-kept_page_of page
 
--- each page has a frame's cells
-module _ (pages : List Content) (full : AreFullPages pages) where
-  full-user : (p : ℕ) → length (get_or pages p unwritten_page).user ≡ USER_BYTES
-  full-user p = ⊎_elim
-      (λ below. full.sizes p (get_or pages p unwritten_page) (slice_get-get_or pages p unwritten_page below))
-      (λ above. ap (λ (page : Content). length page.user) (get_or_past pages p unwritten_page above) ∙ unwritten-length)
+-- each page has all its bytes
+module _ (shape : Shape) (limits : IsWithinLimits shape) (pages : List Content) (its_pages : ArePagesOf shape pages) where
+  abbrev page_at : ℕ → Content
+  page_at p = get_or pages p (blank_page shape)
+
+  pub user_at : (p : ℕ) → length (page_at p).user ≡ user_length shape
+  user_at p = ⊎_elim
+      (λ below. its_pages.sizes p (page_at p) (slice_get-get_or pages p (blank_page shape) below))
+      (λ above. ap (λ (page : Content). length page.user) (get_or_past pages p (blank_page shape) above) ∙ length-replicate {A = ℕ} (user_length shape) 0)
       (cases_lt p (length pages))
 
-  pub opened_page-length : (p : ℕ) → length (opened_page pages p).bytes ≡ FRAME_CELLS
-  opened_page-length p = page_cells-length (get_or pages p unwritten_page).user ∙ ap (λ (n : ℕ). USER_START + n + TRAILER_LENGTH) (full-user p)
+  pub opened_page-length : (p : ℕ) → length (opened_page shape pages p).bytes ≡ shape.page_size
+  opened_page-length p = page_cells-length (page_at p).user ∙ omega (arith, user_at p, (whole_sectors shape limits).least)
 
 -- where each page holds bytes, so does each cell of the opened pages
-pub opened_pages-bytes : (pages : List Content) → ((p : ℕ) → p < length pages → (i : ℕ) → slice_index (get_or pages p unwritten_page).user i < 256) → HoldBytes pages
-opened_pages-bytes pages each p i = page_cells-small 256 (get_or pages p unwritten_page).user (omega arith) (⊎_elim (each p) blank (cases_lt p (length pages))) i
+pub opened_pages-bytes : (shape : Shape) (pages : List Content) → ((p : ℕ) → p < length pages → (i : ℕ) → slice_index (get_or pages p (blank_page shape)).user i < 256)
+    → HoldBytes shape pages
+opened_pages-bytes shape pages each p i = page_cells-small 256 (get_or pages p (blank_page shape)).user (omega arith) (⊎_elim (each p) blank (cases_lt p (length pages))) i
   where
-    blank : length pages ≤ p → (j : ℕ) → slice_index (get_or pages p unwritten_page).user j < 256
-    blank above j = subst (λ (page : Content). slice_index page.user j < 256) (sym (get_or_past pages p unwritten_page above)) (let z = unwritten-zero j in omega arith)
-
--- the pages of a store are full
-pub full_pages : (shape : Shape) (pages : List Content) → IsWithinLimits shape → ArePagesOf shape pages → AreFullPages pages
-full_pages shape pages limits its_pages = record {
-  few = omega (arith, its_pages.count, limits.few_pages);
-  sizes = λ p page at. let size = its_pages.sizes p page at in let e = limits.page_size in omega arith;
-}
+    blank : length pages ≤ p → (j : ℕ) → slice_index (get_or pages p (blank_page shape)).user j < 256
+    blank above j = subst (λ (page : Content). slice_index page.user j < 256) (sym (get_or_past pages p (blank_page shape) above)) (let z = blank-zero shape j in omega arith)
 
 -- a run on opened pages has the pages of its store
-pub has_opened_pages : (c : Setup) (opened : Opened) → AreFullPages opened.pages → length opened.pages ≡ opened.shape.pages → c.pages ≡ length opened.pages → ((p : ℕ) → p < length opened.pages → ◌≡◌ {A = KeptPage} (c.opened p) (opened_page opened.pages p)) → HasItsPages c opened
-has_opened_pages c opened full count pages each = record {
-  count = pages ∙ count;
+pub has_opened_pages : (c : Setup) (opened : Opened) → IsWithinLimits opened.shape → ArePagesOf opened.shape opened.pages → c.pages ≡ length opened.pages
+    → c.page_size ≡ opened.shape.page_size → ((p : ℕ) → p < length opened.pages → ◌≡◌ {A = KeptPage} (c.opened p) (opened_page opened.shape opened.pages p)) → HasItsPages c opened
+has_opened_pages c opened limits its_pages pages size each = record {
+  count = pages ∙ its_pages.count;
+  page_size = size;
   each = λ p page at. let there : p < length opened.pages = slice_get_within opened.pages p page at in let is = each p there in record {
     there = omega arith;
-    content = ap {A = KeptPage} {B = Content} content_of is ∙ content_of-opened_page opened.pages p page at;
-    cells = ap (λ (kept : KeptPage). length kept.bytes) is ∙ opened_page-length opened.pages full p;
+    content = ap {A = KeptPage} {B = Content} kept_content is ∙ content_of-opened_page opened.shape opened.pages p page at;
+    whole = ap (λ (kept : KeptPage). length kept.bytes) is ∙ opened_page-length opened.shape limits opened.pages its_pages p ∙ sym size;
   };
 }

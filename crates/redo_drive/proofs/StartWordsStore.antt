@@ -4,18 +4,24 @@ use Rattle.std.specs.Prelude.{slice_index, slice_set}
 use Rattle.std.proofs.lemmas.Bool.{cases_eq}
 use Rattle.std.proofs.lemmas.List.{get_or-set_other, get_or-set_same}
 use Rattle.std.proofs.lemmas.Option.{slice_get-get_or}
+use Rattle.model_base.proofs.ShapeLimits.{whole_sectors}
+use Rattle.model_base.specs.{IsWithinLimits}
 use Rattle.model_base.specs.declared.limits.TheConstants.{BLOCK_SIZE}
+use Rattle.model_base.specs.declared.shape.Shape.{Shape}
 use Rattle.model_core.proofs.Lists.{one_turn}
 use Rattle.model_core.proofs.Lsns.{lsn_block, lsn_offset}
-use Rattle.model_core.specs.{blank_words, frame_bytes, IsSized, KeptPage, lsn, page_words_at, PageWords, SharedWords}
+use Rattle.model_core.specs.{blank_words, framed_page, IsSized, KeptPage, lsn, page_words_at, PageWords, SharedWords}
 use Rattle.model_core.specs.Setup.{Setup}
 use Rattle.model_core.specs.declared.limits.TheConstants.{BUFFER_BLOCKS}
 use Rattle.model_log.specs.{data_before, IsAtDataStart, sn_of}
 use Rattle.model_log.specs.declared.layout.TheConstants.{BLOCK_DATA, BLOCK_HEADER}
+use Rattle.model_page.specs.{blank_page}
 use Rattle.model_page.specs.declared.content.Content.{Content}
+use Rattle.redo_apply.specs.{ArePagesOf}
 use Rattle.redo_drive.proofs.StartWordsPacked.{page_frame-bytes}
+use Rattle.redo_drive.proofs.StartWordsPages.{user_at}
 use Rattle.redo_drive.proofs.StartWordsZero.{zero_page, zero_page_at, zero_words, zeros, zeros-length, zeros-zero}
-use Rattle.redo_drive.specs.StartWords.{AreFullPages, AreNamed, IsBlankFrame, StartsOn, page_frame, unwritten_page, with_frame, with_log}
+use Rattle.redo_drive.specs.StartWords.{AreNamed, IsBlankFrame, StartsOn, page_frame, with_frame, with_log}
 use Rattle.redo_drive.specs.FirstWords.{AreStartWords}
 use Rattle.redo_words.specs.Plain.{Plain}
 
@@ -28,17 +34,17 @@ abbrev begun_words : ℕ → ℕ → List PageWords → SharedWords
 begun_words start pages ws = record (with_log start (zero_words pages)) { page_words = ws }
 
 -- so many of the pages have their cells and hold bytes, and the others' cells are 0
-pub record AreSetUpTo (start : ℕ) (pages : List Content) (k : ℕ) (words : Plain) : Type 0 where
+pub record AreSetUpTo (shape : Shape) (start : ℕ) (pages : List Content) (k : ℕ) (words : Plain) : Type 0 where
   pub count : words.pages ≡ length pages
   pub page_words : List PageWords
   pub named : AreNamed words (begun_words start (length pages) page_words)
-  pub done : (p : ℕ) → p < k → p < length pages → ◌≡◌ {A = PageWords} (page_words_at page_words p) (free_page (page_frame (get_or pages p unwritten_page).user))
+  pub done : (p : ℕ) → p < k → p < length pages → ◌≡◌ {A = PageWords} (page_words_at page_words p) (free_page (page_frame (get_or pages p (blank_page shape)).user))
   pub left : (p : ℕ) → k ≤ p → p < length pages → ◌≡◌ {A = PageWords} (page_words_at page_words p) zero_page
-  pub bytes : (p : ℕ) → p < k → p < length pages → (i : ℕ) → slice_index (get_or pages p unwritten_page).user i < 256
+  pub bytes : (p : ℕ) → p < k → p < length pages → (i : ℕ) → slice_index (get_or pages p (blank_page shape)).user i < 256
 
-module _ (start : ℕ) (pages : List Content) where
+module _ (shape : Shape) (start : ℕ) (pages : List Content) where
   -- the words of the log are set, on words that were all 0
-  pub set_none : (words : Plain) (count : ℕ) → count ≡ length pages → words.pages ≡ count → AreNamed words (with_log start (zero_words count)) → AreSetUpTo start pages 0 words
+  pub set_none : (words : Plain) (count : ℕ) → count ≡ length pages → words.pages ≡ count → AreNamed words (with_log start (zero_words count)) → AreSetUpTo shape start pages 0 words
   set_none words count is has named = record {
     count = has ∙ is;
     page_words = (zero_words (length pages)).page_words;
@@ -49,8 +55,8 @@ module _ (start : ℕ) (pages : List Content) where
   }
 
   -- one more page has its cells
-  pub set_more : (mid new : Plain) (k : ℕ) (user : List ℕ) → AreSetUpTo start pages k mid → k < length pages → user ≡ (get_or pages k unwritten_page).user → ((i : ℕ) → slice_index user i < 256)
-      → new.pages ≡ mid.pages → ((m : SharedWords) → AreNamed mid m → IsBlankFrame k m → AreNamed new (with_frame k (page_frame user) m)) → AreSetUpTo start pages (suc k) new
+  pub set_more : (mid new : Plain) (k : ℕ) (user : List ℕ) → AreSetUpTo shape start pages k mid → k < length pages → user ≡ (get_or pages k (blank_page shape)).user → ((i : ℕ) → slice_index user i < 256)
+      → new.pages ≡ mid.pages → ((m : SharedWords) → AreNamed mid m → IsBlankFrame k m → AreNamed new (with_frame k (page_frame user) m)) → AreSetUpTo shape start pages (suc k) new
   set_more mid new k user before there is small same step = record {
     count = same ∙ before.count;
     page_words = slice_set before.page_words k framed;
@@ -58,12 +64,12 @@ module _ (start : ℕ) (pages : List Content) where
     done = λ p below there'. ⊎_elim
         (λ e. ap (page_words_at (slice_set before.page_words k framed)) e ∙ get_or-set_same before.page_words k framed blank_words long
         ∙ ap (λ (w : PageWords). let v : PageWords = record w { frame = page_frame user } in v) blank
-        ∙ ap (λ (us : List ℕ). free_page (page_frame us)) is ∙ ap (λ (q : ℕ). free_page (page_frame (get_or pages q unwritten_page).user)) (sym e))
+        ∙ ap (λ (us : List ℕ). free_page (page_frame us)) is ∙ ap (λ (q : ℕ). free_page (page_frame (get_or pages q (blank_page shape)).user)) (sym e))
         (λ other. get_or-set_other before.page_words k p framed blank_words other ∙ before.done p (omega arith) there')
         (cases_eq p k);
     left = λ p from there'. get_or-set_other before.page_words k p framed blank_words (λ e. omega arith) ∙ before.left p (omega arith) there';
     bytes = λ p below there'. ⊎_elim
-        (λ e. λ i. subst (λ (q : ℕ). slice_index (get_or pages q unwritten_page).user i < 256) (sym e) (subst (λ (us : List ℕ). slice_index us i < 256) is (small i)))
+        (λ e. λ i. subst (λ (q : ℕ). slice_index (get_or pages q (blank_page shape)).user i < 256) (sym e) (subst (λ (us : List ℕ). slice_index us i < 256) is (small i)))
         (λ other. before.bytes p (omega arith) there')
         (cases_eq p k);
   }
@@ -78,7 +84,7 @@ module _ (start : ℕ) (pages : List Content) where
       long = omega (arith, before.named.sized.page_words, before.count)
 
   -- a run that starts there, at the first data byte of a block, has these words
-  module _ (c : Setup) (full : AreFullPages pages) (place : IsAtDataStart start) (on : StartsOn start pages c) where
+  module _ (c : Setup) (limits : IsWithinLimits shape) (its_pages : ArePagesOf shape pages) (place : IsAtDataStart start) (on : StartsOn start shape pages c) where
     -- its first block, its first sn, and the first offsets of the blocks that the log buffer spans
     block : start / BLOCK_SIZE ≡ c.base / BLOCK_DATA
     block = ap (λ (n : ℕ). n / BLOCK_SIZE) (sym on.begins) ∙ lsn_block c.base
@@ -100,7 +106,7 @@ module _ (start : ℕ) (pages : List Content) where
         b : ℕ
         b = c.base / BLOCK_DATA
 
-    pub set_all : (words : Plain) (k : ℕ) → AreSetUpTo start pages k words → length pages ≤ k → AreStartWords words.words c
+    pub set_all : (words : Plain) (k : ℕ) → AreSetUpTo shape start pages k words → length pages ≤ k → AreStartWords words.words c
     set_all words k up_to all = record {
       by_name = begun_words start (length pages) up_to.page_words;
       in_order = up_to.named.in_order;
@@ -124,12 +130,14 @@ module _ (start : ℕ) (pages : List Content) where
         page_words = λ p below. let there : p < length pages = omega (arith, on.count) in
             up_to.done p (omega arith) there ∙ ap (λ (w : PageWords). free_page w.frame) (sym (up_to.done p (omega arith) there));
         frames = λ p below. let there : p < length pages = omega (arith, on.count) in
-            ap (λ (w : PageWords). frame_bytes w.frame) (up_to.done p (omega arith) there)
-            ∙ page_frame-bytes (get_or pages p unwritten_page).user (full.sizes p (get_or pages p unwritten_page) (slice_get-get_or pages p unwritten_page there)) (up_to.bytes p (omega arith) there)
+            ap (λ (w : PageWords). framed_page c.page_size w.frame) (up_to.done p (omega arith) there)
+            ∙ ap (λ (n : ℕ). framed_page n (page_frame (get_or pages p (blank_page shape)).user)) on.page_size
+            ∙ page_frame-bytes shape.page_size (get_or pages p (blank_page shape)).user limits.page_size
+            (omega (arith, user_at shape limits pages its_pages p, (whole_sectors shape limits).least)) (up_to.bytes p (omega arith) there)
             ∙ ap (λ (kept : KeptPage). kept.bytes) (sym (on.opened p there));
         early = λ p below. let there : p < length pages = omega (arith, on.count) in
-            let e : (c.opened p).lsn ≡ (get_or pages p unwritten_page).lsn = ap (λ (kept : KeptPage). kept.lsn) (on.opened p there) in
-            let old = on.early p (get_or pages p unwritten_page) (slice_get-get_or pages p unwritten_page there) in omega (arith, on.begins);
+            let e : (c.opened p).lsn ≡ (get_or pages p (blank_page shape)).lsn = ap (λ (kept : KeptPage). kept.lsn) (on.opened p there) in
+            let old = on.early p (get_or pages p (blank_page shape)) (slice_get-get_or pages p (blank_page shape) there) in omega (arith, on.begins);
         ctail = sym on.begins;
         cheld = refl;
         clinks = zeros-zero _;

@@ -10,7 +10,7 @@ use Rattle.model_core.proofs.Lsns.{lsn_less, sn_below}
 use Rattle.model_core.specs.Actors as model
 use Rattle.model_core.specs.{end_of, entries, entries_from, entry, Line, line_at, lsn, sum_of, Tiles, UserState}
 use Rattle.model_core.specs.Groups as core
-use Rattle.model_running.specs.{entry_of, history_of, word_marks}
+use Rattle.model_running.specs.{history_entry, history_of, word_marks}
 use Rattle.model_report.specs.declared.entry.Entry.{Entry}
 use Rattle.model_report.specs.declared.entry.Marks.{Marks}
 use Rattle.model_logcore.proofs.AnswersFit.{small_sn}
@@ -20,7 +20,7 @@ use Rattle.redo_disk.specs.Seen.{Seen}
 use Rattle.redo_drive.proofs.InOrder.{Rises, same_in_order, total, total_moved}
 use Rattle.redo_drive.proofs.Viewed.{view_at}
 use Rattle.redo_drive.specs.History.{HasGroups, HasReserved, ListsInOrder, all_listed, listed}
-use Rattle.redo_drive.specs.Playing.{RunOf, log_of}
+use Rattle.redo_drive.specs.Playing.{RunOf, run_log_side}
 use Rattle.redo_drive.specs.Running.{RunsOn}
 use Rattle.redo_drive.specs.Views.{view_of, views_of}
 use Rattle.redo_drive.specs.declared.actor.Actor.{Actor}
@@ -41,16 +41,16 @@ history_rises answered marks (e ∷ es) s n tiles =
     (omega arith, rises_later (lsn e.start + 1) (lsn (s + length e.bytes)) (history_of answered marks es) (omega arith) (history_rises answered marks es (s + length e.bytes) n tiles.3))
 
 -- a number of the history's entries is one of the log's groups
-log_total : (answered : ℕ → ℕ) (marks : Marks) (f : Entry → ℕ) (log : List core.Entry) → total f (history_of answered marks log) ≡ sum_of (λ e. f (entry_of answered marks e)) log
+log_total : (answered : ℕ → ℕ) (marks : Marks) (f : Entry → ℕ) (log : List core.Entry) → total f (history_of answered marks log) ≡ sum_of (λ e. f (history_entry answered marks e)) log
 log_total answered marks f [] = refl
-log_total answered marks f (e ∷ es) = ap (λ (n : ℕ). f (entry_of answered marks e) + n) (log_total answered marks f es)
+log_total answered marks f (e ∷ es) = ap (λ (n : ℕ). f (history_entry answered marks e) + n) (log_total answered marks f es)
 
 user_total : (answered : ℕ → ℕ) (marks : Marks) (f : Entry → ℕ) (user done : ℕ) (lines : List Line) (k : ℕ) (starts : List ℕ) → answered user ≡ done
-    → total f (map (entry_of (λ v. done) marks) (entries_from user lines k starts)) ≡ sum_of (λ e. f (entry_of answered marks e)) (entries_from user lines k starts)
+    → total f (map (history_entry (λ v. done) marks) (entries_from user lines k starts)) ≡ sum_of (λ e. f (history_entry answered marks e)) (entries_from user lines k starts)
 user_total answered marks f user done lines k [] is = refl
 user_total answered marks f user done lines k (s ∷ ss) is =
-    let first : f (entry_of (λ v. done) marks (entry user k s (line_at lines k))) ≡ f (entry_of answered marks (entry user k s (line_at lines k))) =
-    ap (λ (n : ℕ). f (entry_of (λ v. n) marks (entry user k s (line_at lines k)))) (sym is) in
+    let first : f (history_entry (λ v. done) marks (entry user k s (line_at lines k))) ≡ f (history_entry answered marks (entry user k s (line_at lines k))) =
+    ap (λ (n : ℕ). f (history_entry (λ v. n) marks (entry user k s (line_at lines k)))) (sym is) in
     let rest = user_total answered marks f user done lines (k + 1) ss is in
     omega arith
 
@@ -85,11 +85,11 @@ ones (x ∷ xs) = let r = ones xs in omega arith
 abbrev AreAnswered : (ℕ → ℕ) → List Actor → Type 0
 AreAnswered answered actors = (seat : ℕ) (u : UserState) → get_elem? (views_of actors) seat ≡ some (model.User u) → answered u.user ≡ u.k
 
-actor_total : (answered : ℕ → ℕ) (marks : Marks) (f : Entry → ℕ) (a : Actor) → ((u : UserState) → view_of a ≡ model.User u → answered u.user ≡ u.k) → total f (listed marks (view_of a)) ≡ sum_of (λ e. f (entry_of answered marks e)) (entries (view_of a))
+actor_total : (answered : ℕ → ℕ) (marks : Marks) (f : Entry → ℕ) (a : Actor) → ((u : UserState) → view_of a ≡ model.User u → answered u.user ≡ u.k) → total f (listed marks (view_of a)) ≡ sum_of (λ e. f (history_entry answered marks e)) (entries (view_of a))
 actor_total answered marks f (own.User u) is = user_total answered marks f u.user u.k u.lines 0 u.starts (is u refl)
 actor_total answered marks f _ is = refl
 
-all_total : (answered : ℕ → ℕ) (marks : Marks) (f : Entry → ℕ) (actors : List Actor) → AreAnswered answered actors → total f (all_listed marks actors) ≡ sum_over_actors (λ a. sum_of (λ e. f (entry_of answered marks e)) (entries a)) (views_of actors)
+all_total : (answered : ℕ → ℕ) (marks : Marks) (f : Entry → ℕ) (actors : List Actor) → AreAnswered answered actors → total f (all_listed marks actors) ≡ sum_over_actors (λ a. sum_of (λ e. f (history_entry answered marks e)) (entries a)) (views_of actors)
 all_total answered marks f [] are = refl
 all_total answered marks f (x ∷ xs) are =
     let parts : total f (all_listed marks (x ∷ xs)) ≡ total f (listed marks (view_of x)) + total f (all_listed marks xs) =
@@ -105,7 +105,7 @@ module _ {L D : Type 0} (log_seen : L → Seen) (data_seen : D → Seen) (run : 
   abbrev marks : Marks
   marks = word_marks runs.running.shared
 
-  abbrev half : LogHalf (log_of log_seen data_seen run) run.setup 0 runs.running.shared ghosts parts.log (views_of actors)
+  abbrev half : LogHalf (run_log_side log_seen data_seen run) run.setup 0 runs.running.shared ghosts parts.log (views_of actors)
   half = runs.running.both.logged
 
   -- what no group of the log has, no group of a user has
@@ -121,13 +121,13 @@ module _ {L D : Type 0} (log_seen : L → Seen) (data_seen : D → Seen) (run : 
 
   reserved : (seat : ℕ) (u : UserState) → get_elem? (views_of actors) seat ≡ some (model.User u) → (k : ℕ) → k < length u.starts → HasReserved u k
   reserved seat u at k l =
-      let f : UserFits (log_of log_seen data_seen run) run.setup runs.running.shared ghosts parts.log seat u = half.each seat (model.User u) at in
+      let f : UserFits (run_log_side log_seen data_seen run) run.setup runs.running.shared ghosts parts.log seat u = half.each seat (model.User u) at in
       let tiled = half.global.tiled in
       let line : suc k - length (run.setup.script u.user) ≡ 0 = none_of_user (λ e. suc e.k - length (run.setup.script e.user)) (λ i e is. let n = (tiled.lines i e is).0 in omega arith) seat u at k l in
       let end : slice_index u.starts k + length (line_at u.lines k).bytes - runs.running.shared.sn ≡ 0 =
       none_of_user (λ e. end_of e - runs.running.shared.sn) (λ i e is. let n = (tiles_at ghosts.log run.setup.base runs.running.shared.sn i e tiled.tiles is).1 in omega arith) seat u at k l in
       let lines : length u.lines ≡ length (run.setup.script u.user) = ap length f.lines in
-      let small = sn_below runs.running.shared.sn runs.running.shared.sn LSN_LIMIT (omega arith) (small_sn (log_of log_seen data_seen run) run.setup 0 runs.running.shared ghosts parts.log (views_of actors) 0 half) in
+      let small = sn_below runs.running.shared.sn runs.running.shared.sn LSN_LIMIT (omega arith) (small_sn (run_log_side log_seen data_seen run) run.setup 0 runs.running.shared ghosts parts.log (views_of actors) 0 half) in
       record { start = l; line = omega arith; small = omega arith }
 
   has_groups : (seat : ℕ) (a : model.Actor) → get_elem? (views_of actors) seat ≡ some a → HasGroups a
@@ -139,12 +139,12 @@ module _ {L D : Type 0} (log_seen : L → Seen) (data_seen : D → Seen) (run : 
 
   sums : (f : Entry → ℕ) → total f (all_listed marks actors) ≡ total f (history_of ghosts.answered marks ghosts.log)
   sums f =
-      all_total ghosts.answered marks f actors (λ seat u at. let fits : UserFits (log_of log_seen data_seen run) run.setup runs.running.shared ghosts parts.log seat u = half.each seat (model.User u) at in fits.answers)
-      ∙ half.counted (λ e. f (entry_of ghosts.answered marks e)) ∙ sym (log_total ghosts.answered marks f ghosts.log)
+      all_total ghosts.answered marks f actors (λ seat u at. let fits : UserFits (run_log_side log_seen data_seen run) run.setup runs.running.shared ghosts parts.log seat u = half.each seat (model.User u) at in fits.answers)
+      ∙ half.counted (λ e. f (history_entry ghosts.answered marks e)) ∙ sym (log_total ghosts.answered marks f ghosts.log)
 
   -- they are as many as the log has
   pub as_many : length (all_listed marks actors) ≡ length ghosts.log
-  as_many = sym (ones (all_listed marks actors)) ∙ sums (λ e. 1) ∙ ones (history_of ghosts.answered marks ghosts.log) ∙ length-map ghosts.log (entry_of ghosts.answered marks)
+  as_many = sym (ones (all_listed marks actors)) ∙ sums (λ e. 1) ∙ ones (history_of ghosts.answered marks ghosts.log) ∙ length-map ghosts.log (history_entry ghosts.answered marks)
 
   -- in lsn order they are the history that the log has
   pub history_is : (history : List Entry) → ListsInOrder marks actors history → ◌≡◌ {A = List Entry} history (history_of ghosts.answered marks ghosts.log)

@@ -67,7 +67,7 @@ module _ (shape : Shape) (script : List ScriptLine) (lines : AllByRecursion IsSc
 
 -- as many lines as the program of a user has
 pub program_length : (shape : Shape) (log_only : Bool) (script : List ScriptLine) (user : ℕ) → length (programs_of shape log_only script user) ≡ length (user_lines shape.space script user)
-program_length shape log_only script user = length-map (user_lines shape.space script user) (λ (line : ℕ × List Rec). line_of log_only shape.pages line.0 line.1)
+program_length shape log_only script user = length-map (user_lines shape.space script user) (λ (line : ℕ × List Rec). line_of log_only shape line.0 line.1)
 
 -- no other number has a program
 pub no_program : (shape : Shape) (script : List ScriptLine) → AllByRecursion IsScriptLine script → AllByRecursion (LineFits shape) script
@@ -79,7 +79,7 @@ no_program shape script lines fits log_only user outside = elim (dec_le 1 (lengt
 
 -- the users' programs are those of the script
 pub of_script : (shape : Shape) (pages : List Content) (start : ℕ) (script : List ScriptLine) (log_only : Bool)
-    → IsOfScript (setup_of shape pages start script log_only) script shape.space
+    → IsOfScript (setup_of shape pages start script log_only) script shape
 of_script shape pages start script log_only = record {
   count = λ user. length-map (map spelled (lines_of_user user script)) program ∙ length-map (lines_of_user user script) spelled;
   each = λ user k one at. get_or_from_slice_get (programs_of shape log_only script user) k (program (spelled one)) (record { mode = 0; bytes = []; changes = [] })
@@ -90,4 +90,4 @@ of_script shape pages start script log_only = record {
     spelled one = (one.mode, group_of shape.space one)
 
     program : ℕ × List Rec → Line
-    program line = line_of log_only shape.pages line.0 line.1
+    program line = line_of log_only shape line.0 line.1

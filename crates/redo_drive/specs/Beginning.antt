@@ -22,7 +22,7 @@ pub record IsRunOfOpened {L D : Type 0} (opened : Opened L D) (script : List Scr
   pub first_data : run.first_data ≡ opened.store
   pub start : lsn run.setup.base ≡ opened.start
   pub log_only_is : run.setup.log_only ≡ log_only
-  pub of_script : IsOfScript run.setup script opened.shape.space
+  pub of_script : IsOfScript run.setup script opened.shape
   pub its_pages : HasItsPages run.setup (record { shape = opened.shape; pages = opened.pages; end = 0 })
 
 -- both devices held just what was opened when the run began

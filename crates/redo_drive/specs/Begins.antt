@@ -7,9 +7,9 @@ use Rattle.model_script.specs.declared.script.ScriptLine.{ScriptLine}
 use Rattle.model_store.specs.Reading.{Reading}
 use Rattle.redo_disk.specs.Seen.{Seen}
 use Rattle.redo_drive.specs.Beginning.{HaveBegun, IsRunOfOpened, StandsAtStart}
-use Rattle.redo_drive.specs.Startable.{IsOpenedAs}
+use Rattle.redo_drive.specs.Startable.{HasReading}
 use Rattle.redo_drive.specs.Lists.{lists_of}
-use Rattle.redo_drive.specs.Playing.{RunOf, data_of, log_of}
+use Rattle.redo_drive.specs.Playing.{RunOf, run_data_side, run_log_side}
 use Rattle.redo_drive.specs.Running.{RunsOn}
 use Rattle.redo_drive.specs.Views.{views_of}
 use Rattle.redo_drive.specs.declared.making.Beginning.{Beginning}
@@ -21,7 +21,7 @@ pub record IsAtStart {L D : Type 0} (log_seen : L → Seen) (data_seen : D → S
   pub words_are : start.parts.words.words ≡ flat words
   pub seat_of : ℕ → ℕ
   pub writer : ℕ
-  pub starts : StartStore (log_of log_seen data_seen run) (data_of log_seen data_seen run) run.setup words
+  pub starts : StartStore (run_log_side log_seen data_seen run) (run_data_side log_seen data_seen run) run.setup words
       start.parts.log start.parts.store seat_of writer (views_of start.actors.items)
   pub none_listed : (i : ℕ) → ◌≡◌ {A = List Listed} (lists_of start.parts.lists i) []
 
@@ -38,6 +38,6 @@ pub record BeginsRun {L D : Type 0} (log_seen : L → Seen) (data_seen : D → S
   pub no_entries : start.entries.items ≡ []
   pub room : length script ≤ vec_capacity start.entries
   -- where the devices tell, and the store was ready, they hold what was opened
-  pub begun : (reading : Reading) → IsOpenedAs reading opened
+  pub begun : (reading : Reading) → HasReading reading opened
       → IfSome (log_seen opened.log.dev).tells (λ log_disk. IfSome (data_seen opened.store.dev).tells (λ data_disk.
       IsStart reading script log_disk data_disk → HaveBegun log_seen data_seen run))

@@ -1,27 +1,18 @@
 -- The data part as the running store sees it.
-use Rattle.std.specs.Prelude.{Err, List, [], OnOk, Ok, Result, Some, is_some, length, map, ℕ, ◌*◌, ◌≡◌, ◌≤◌}
-use Rattle.model_base.specs.{HasRisen}
-use Rattle.model_base.specs.declared.limits.TheConstants.{USER_BYTES}
+use Rattle.std.specs.Prelude.{List, [], OnOk, Result, is_some, length, map, ℕ, ◌*◌, ◌≡◌, ◌≤◌}
+use Rattle.model_base.specs.{user_length}
 use Rattle.model_base.specs.declared.shape.Shape.{Shape}
 use Rattle.model_core.specs.DataSide.{DataSide}
-use Rattle.model_core.specs.{BatchPage, data_device_code, KeptPage, no_memory_code}
+use Rattle.model_core.specs.{BatchPage, KeptPage}
 use Rattle.model_parts.specs.{after_batch, batch_of, Fresh, IsLater}
 use Rattle.model_running.specs.{contents_of, new_content}
 use Rattle.model_page.specs.declared.content.Content.{Content}
 use Rattle.redo_disk.specs.Seen.{Seen}
 use Rattle.redo_disk.specs.declared.error.DevError.{DevError}
-use Rattle.redo_disk.specs.declared.error.DevError.TheVariants.{Failed, NoMemory}
+use Rattle.redo_drive.specs.Devices.{call_code, HasFailedBy}
+use Rattle.redo_drive.specs.declared.device.Device.TheVariants.{Data}
 use Rattle.redo_store.specs.{PartKeeps, PartStep, PartStores}
 use Rattle.redo_store.specs.Part.{Part}
-
--- the code that FAILED gets for what a call answered
-abbrev pub fault_code : DevError → ℕ
-fault_code Failed = data_device_code
-fault_code NoMemory = no_memory_code
-
-abbrev pub result_code : Result (Unit {0}) DevError → ℕ
-result_code (Ok done) = 0
-result_code (Err fault) = fault_code fault
 
 -- the pages of a batch as the device gets them
 abbrev pub fresh_page : BatchPage → Fresh
@@ -31,18 +22,11 @@ abbrev pub fresh_batch : List BatchPage → List Fresh
 fresh_batch batch = map fresh_page batch
 
 -- The batch is of these pairs of page and lsn, the user bytes of its pages being joined.
-pub record IsBatchOf (pairs : List (ℕ × ℕ)) (users : List ℕ) (batch : List BatchPage) : Type 0 where
-  pub pages : fresh_batch batch ≡ batch_of pairs users
-  pub count : length users ≡ USER_BYTES * length pairs
+pub record IsBatchOf (shape : Shape) (pairs : List (ℕ × ℕ)) (users : List ℕ) (batch : List BatchPage) : Type 0 where
+  pub pages : fresh_batch batch ≡ batch_of shape pairs users
+  pub count : length users ≡ length pairs * user_length shape
 
 module _ {D : Type 0} (seen : D → Seen) where
-  -- `faults` is the device's count at the run's start
-  pub record HasFailedBy (faults : ℕ) (part : Part D) (code : ℕ) : Type 0 where
-    pub fault : DevError
-    pub failed : part.failed ≡ Some fault
-    pub code_is : code ≡ fault_code fault
-    pub risen : fault ≡ Failed → HasRisen faults (seen part.dev).faults
-
   -- The device held the opened pages when the run began, and no copy was ahead of one.
   abbrev pub HasBegun : (ℕ → KeptPage) → Part D → Type 0
   HasBegun opened first = PartStores seen (contents_of opened) (contents_of opened) [] first
@@ -58,7 +42,7 @@ module _ {D : Type 0} (seen : D → Seen) where
   -- what writing a batch leaves, whatever it answers
   pub record DataWrote (batch : List BatchPage) (code : ℕ) (old new : Part D) : Type 0 where
     pub result : Result (Unit {0}) DevError
-    pub code_is : code ≡ result_code result
+    pub code_is : code ≡ call_code Data new.failed
     pub step : PartStep seen old result new
     pub keeps : (top was : ℕ → Content) → PartStores seen top was [] old → IsLater top (fresh_batch batch) → PartKeeps seen top was (fresh_batch batch) new
     pub ok : (top was : ℕ → Content) → PartStores seen top was [] old → IsLater top (fresh_batch batch)
@@ -68,7 +52,7 @@ module _ {D : Type 0} (seen : D → Seen) where
   data_side faults shape Begun = record {
     Part = Part D;
     failed = λ part. is_some part.failed;
-    Cause = HasFailedBy faults;
+    Cause = λ part. HasFailedBy seen Data faults part.dev part.failed;
     Holds = HoldsPages faults shape Begun;
     Batched = DataWrote;
   }

@@ -11,7 +11,7 @@ use Rattle.model_store.specs.Reading.{Reading}
 use Rattle.redo_disk.specs.{Call, failures}
 use Rattle.redo_disk.specs.Seen.{Seen}
 use Rattle.redo_disk.specs.declared.error.DevError.TheVariants.{NoMemory}
-use Rattle.redo_drive.specs.Startable.{IsOpenedAs}
+use Rattle.redo_drive.specs.Startable.{HasReading}
 use Rattle.redo_drive.specs.Calls.{CallsOn}
 use Rattle.redo_drive.specs.declared.drive.Driven.{Driven}
 use Rattle.redo_drive.specs.declared.drive.RunEnd.TheVariants as ended
@@ -19,8 +19,8 @@ use Rattle.redo_drive.specs.declared.closed.Closed.{Closed}
 use Rattle.redo_store.specs.declared.opened.Opened.{Opened}
 
 -- the history and the marks of the run
-abbrev pub ran_of : {L D : Type 0} → ℕ → Closed L D → Ran
-ran_of start closed = record { start = start; entries = closed.history; marks = closed.marks }
+abbrev pub closed_run : {L D : Type 0} → ℕ → Closed L D → Ran
+closed_run start closed = record { start = start; entries = closed.history; marks = closed.marks }
 
 -- how many calls of the two devices failed: one of each at the most, since a part whose call failed takes no more
 abbrev pub failed_in : {L D : Type 0} → Closed L D → ℕ
@@ -39,9 +39,9 @@ HasMetError closed = (closed.log.failed ≢ None) ⊎ (closed.store.failed ≢ N
 -- of which a line isn't answered.
 pub record ComesToRun {L D : Type 0} (log_gives : L → Call → L → Type 0) (data_gives : D → Call → D → Type 0) (opened : Opened L D) (script : List ScriptLine) (driven : Driven L D) : Type 0 where
   pub is_run : (end : ℕ) → opened.start ≡ start_after end
-      → IsRun script (record { shape = opened.shape; pages = opened.pages; end = end }) (ran_of opened.start driven.closed)
+      → IsRun script (record { shape = opened.shape; pages = opened.pages; end = end }) (closed_run opened.start driven.closed)
   pub loses : (left : List (ℕ × ℕ)) → driven.ended ≡ ended.Done → HasMemory driven.closed → IsLeft script driven.closed.history left
-      → LosesOnlyByFailure (failed_in driven.closed) (Some (ran_of opened.start driven.closed)) left
+      → LosesOnlyByFailure (failed_in driven.closed) (Some (closed_run opened.start driven.closed)) left
   pub spent : (turns user : ℕ) → driven.ended ≡ ended.Spent turns user → LeavesOpen script driven.closed.history (HasMetError driven.closed) user
   pub log_calls : CallsOn log_gives opened.log.dev None driven.closed.log.dev driven.closed.log.failed
   pub data_calls : CallsOn data_gives opened.store.dev None driven.closed.store.dev driven.closed.store.failed
@@ -49,7 +49,7 @@ pub record ComesToRun {L D : Type 0} (log_gives : L → Call → L → Type 0) (
 -- WHAT A DRIVE LEAVES, whatever ended it, where the devices tell and the store was ready: both devices hold the run.
 abbrev pub HoldsRun : {L D : Type 0} → (L → Seen) → (D → Seen) → Opened L D → List ScriptLine → Driven L D → Type 0
 HoldsRun log_seen data_seen opened script driven =
-    (reading : Reading) → IsOpenedAs reading opened
+    (reading : Reading) → HasReading reading opened
     → IfSome (log_seen opened.log.dev).tells (λ log_disk. IfSome (data_seen opened.store.dev).tells (λ data_disk.
     IsStart reading script log_disk data_disk
     → IfSome (log_seen driven.closed.log.dev).tells (λ log_now. IfSome (data_seen driven.closed.store.dev).tells (λ data_now.
@@ -57,7 +57,7 @@ HoldsRun log_seen data_seen opened script driven =
       script = script;
       opened = opened_as reading;
       number = reading.number + numbers_taken reading.format;
-      run = ran_of opened.start driven.closed;
+      run = closed_run opened.start driven.closed;
       log_disk = log_now;
       data_disk = data_now;
     })))))
@@ -67,7 +67,7 @@ HoldsRun log_seen data_seen opened script driven =
 abbrev pub IsOwedSynced : {L D : Type 0} → (L → Seen) → (D → Seen) → Opened L D → List ScriptLine → Driven L D → Type 0
 IsOwedSynced log_seen data_seen opened script driven =
     driven.closed.log.failed ≡ None → driven.closed.store.failed ≡ None → (reading : Reading) (left : List (ℕ × ℕ)) → driven.ended ≡ ended.Done → HasMemory driven.closed
-    → IsOpenedAs reading opened → IsLeft script driven.closed.history left
+    → HasReading reading opened → IsLeft script driven.closed.history left
     → IfSome (log_seen opened.log.dev).tells (λ log_disk. IfSome (data_seen opened.store.dev).tells (λ data_disk.
     IsStart reading script log_disk data_disk
     → IfSome (log_seen driven.closed.log.dev).tells (λ log_now. IfSome (data_seen driven.closed.store.dev).tells (λ data_now.
@@ -75,7 +75,7 @@ IsOwedSynced log_seen data_seen opened script driven =
       script = script;
       opened = opened_as reading;
       number = reading.number + numbers_taken reading.format;
-      run = ran_of opened.start driven.closed;
+      run = closed_run opened.start driven.closed;
       left = left;
       log_disk = synced log_now;
       data_disk = synced data_now;

@@ -4,7 +4,7 @@ use Rattle.std.specs.List.{flat_map}
 use Rattle.std.specs.List.Sorted.{IsNonDecreasingBy}
 use Rattle.model_core.specs.Actors as model
 use Rattle.model_core.specs.{entries_from, entry, line_at, UserState}
-use Rattle.model_running.specs.{entry_of}
+use Rattle.model_running.specs.{history_entry}
 use Rattle.model_report.specs.declared.entry.Entry.{Entry}
 use Rattle.model_report.specs.declared.entry.Marks.{Marks}
 use Rattle.redo_drive.specs.Views.{view_of}
@@ -23,11 +23,11 @@ HasGroups _ = Unit {0}
 
 -- the group of a user's k-th line, which starts there, as the history lists it
 abbrev pub listed_group : Marks → UserState → ℕ → ℕ → Entry
-listed_group marks u k start = entry_of (λ user. u.k) marks (entry u.user k start (line_at u.lines k))
+listed_group marks u k start = history_entry (λ user. u.k) marks (entry u.user k start (line_at u.lines k))
 
 -- its groups from the k-th line on, which start at these places
 abbrev pub listed_from : Marks → UserState → ℕ → List ℕ → List Entry
-listed_from marks u k starts = map (entry_of (λ user. u.k) marks) (entries_from u.user u.lines k starts)
+listed_from marks u k starts = map (history_entry (λ user. u.k) marks) (entries_from u.user u.lines k starts)
 
 -- the groups of an actor, and those of all
 abbrev pub listed : Marks → model.Actor → List Entry

@@ -9,7 +9,7 @@ use Rattle.model_store.specs.Reading.{Reading}
 use Rattle.redo_disk.specs.{Call}
 use Rattle.redo_disk.specs.Seen.{Seen}
 use Rattle.redo_drive.specs.Beginning.{HaveBegun, IsRunOfOpened}
-use Rattle.redo_drive.specs.Startable.{IsOpenedAs}
+use Rattle.redo_drive.specs.Startable.{HasReading}
 use Rattle.redo_drive.specs.Calls.{CallsOn}
 use Rattle.redo_drive.specs.Playing.{RunOf}
 use Rattle.redo_drive.specs.Running.{RunsOn}
@@ -23,7 +23,7 @@ pub record LeavesRun {L D : Type 0} (log_seen : L → Seen) (log_gives : L → C
     (opened : Opened L D) (script : List ScriptLine) (log_only : Bool) (actors : List Actor) (closed : Closed L D) : Type 0 where
   pub run : RunOf L D
   pub is_run : IsRunOfOpened opened script log_only run
-  pub begun : (reading : Reading) → IsOpenedAs reading opened
+  pub begun : (reading : Reading) → HasReading reading opened
       → IfSome (log_seen opened.log.dev).tells (λ log_disk. IfSome (data_seen opened.store.dev).tells (λ data_disk.
       IsStart reading script log_disk data_disk → HaveBegun log_seen data_seen run))
   pub last : Parts L D

@@ -3,6 +3,7 @@ pub mod Beginning
 pub mod Begins
 pub mod Calls
 pub mod DataPartSide
+pub mod Devices
 pub mod Drive
 pub mod FirstWords
 pub mod History
@@ -16,10 +17,10 @@ pub mod Running
 pub mod Setups
 pub mod Startable
 pub mod StartWords
+pub mod Steps
 pub mod Turning
 pub mod Views
 pub use Rattle.redo_drive.specs.Asking.{AskOfBoth}
-pub use Rattle.redo_drive.specs.Startable.{IsOpenedAs, room_from}
-pub use Rattle.redo_drive.specs.Drive.{ComesToRun, HasMemory, HoldsRun, IsOwedSynced, Owes, ran_of}
-pub use Rattle.redo_drive.specs.LogPartSide.{has_failed}
+pub use Rattle.redo_drive.specs.Startable.{HasReading, room_from}
+pub use Rattle.redo_drive.specs.Drive.{ComesToRun, HasMemory, HoldsRun, IsOwedSynced, Owes, closed_run}
 pub use Rattle.redo_drive.specs.Requests.{checkpoint_requests, sync_requests, write_requests}

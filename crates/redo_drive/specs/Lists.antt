@@ -2,7 +2,7 @@
 use Rattle.std.specs.Prelude.{List, [], get_or, length, map, slice_set, ℕ, ◌%◌, ◌++◌, ◌<◌, ◌∷◌, ◌≡◌}
 use Rattle.model_core.specs.{Listed}
 use Rattle.model_core.specs.declared.limits.TheConstants.{FLUSH_LISTS}
-use Rattle.redo_flushlist.specs.{Listing, without}
+use Rattle.redo_flushlist.specs.{Listing, without_page}
 use Rattle.redo_flushlist.specs.declared.dirty.Dirty.{Dirty}
 
 -- the lists of a store with so many pages
@@ -46,4 +46,4 @@ added listings page oldest =
     with_list listings (page % FLUSH_LISTS) ((listing_at listings.lists (page % FLUSH_LISTS)).entries ++ (record { page = page; oldest = oldest }) ∷ [])
 
 abbrev pub removed : Listings → ℕ → Listings
-removed listings page = with_list listings (page % FLUSH_LISTS) (without page (listing_at listings.lists (page % FLUSH_LISTS)).entries)
+removed listings page = with_list listings (page % FLUSH_LISTS) (without_page page (listing_at listings.lists (page % FLUSH_LISTS)).entries)

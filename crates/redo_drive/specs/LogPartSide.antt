@@ -1,8 +1,7 @@
 -- The log part as the running store sees it.
-use Rattle.std.specs.Prelude.{Bool, Err, List, [], None, OnErr, OnOk, Ok, Option, Result, Some, false, true, ℕ, ◌%◌, ◌+◌, ◌/◌, ◌^◌, ◌<◌, ◌≡◌, ◌≤◌}
-use Rattle.model_base.specs.{HasRisen}
+use Rattle.std.specs.Prelude.{List, [], None, OnErr, OnOk, Result, is_some, ℕ, ◌%◌, ◌+◌, ◌/◌, ◌^◌, ◌<◌, ◌≡◌, ◌≤◌}
 use Rattle.model_base.specs.declared.limits.TheConstants.{BLOCK_SIZE}
-use Rattle.model_core.specs.{Entry, log_device_code, lsn, no_memory_code}
+use Rattle.model_core.specs.{Entry, lsn}
 use Rattle.model_core.specs.LogSide.{LogSide}
 use Rattle.model_running.specs.{AreWholesOf}
 use Rattle.model_parts.specs.{after_asked, after_checkpoint, after_given, after_synced, after_written, next_number}
@@ -10,37 +9,17 @@ use Rattle.model_parts.specs.declared.marks.LogMarks.{LogMarks}
 use Rattle.model_log.specs.declared.group.Whole.{Whole}
 use Rattle.redo_disk.specs.Seen.{Seen}
 use Rattle.redo_disk.specs.declared.error.DevError.{DevError}
-use Rattle.redo_disk.specs.declared.error.DevError.TheVariants.{Failed, NoMemory}
+use Rattle.redo_drive.specs.Devices.{call_code, HasFailedBy}
+use Rattle.redo_drive.specs.declared.device.Device.TheVariants.{Log}
 use Rattle.redo_logdev.specs.{KeepsHolding, KeepsNumbered, KeepsWriting, PartHolds, Stays}
 use Rattle.redo_logdev.specs.Part.{Part}
 use Rattle.model_log.specs.{run_layout}
-
--- the code that FAILED gets for what a call answered
-abbrev pub fault_code : DevError → ℕ
-fault_code Failed = log_device_code
-fault_code NoMemory = no_memory_code
-
-abbrev pub result_code : Result (Unit {0}) DevError → ℕ
-result_code (Ok done) = 0
-result_code (Err fault) = fault_code fault
-
--- the last call failed
-abbrev pub has_failed : Option DevError → Bool
-has_failed None = false
-has_failed (Some fault) = true
 
 -- Its number goes round only after more checkpoints than a log below the limit has room for.
 abbrev pub HasFewCheckpoints : LogMarks → Type 0
 HasFewCheckpoints marks = marks.number ≤ 2 ^ 63 + marks.ckpt / BLOCK_SIZE
 
 module _ {L : Type 0} (seen : L → Seen) where
-  -- `faults` is the device's count at the run's start
-  pub record HasFailedBy (faults : ℕ) (part : Part L) (code : ℕ) : Type 0 where
-    pub fault : DevError
-    pub failed : part.failed ≡ Some fault
-    pub code_is : code ≡ fault_code fault
-    pub risen : fault ≡ Failed → HasRisen faults (seen part.dev).faults
-
   -- The device held nothing but the checkpoint when the run began at this lsn, and the store was in order.
   pub record HasBegun (start : ℕ) (first : Part L) : Type 0 where
     pub holds : PartHolds seen start [] first
@@ -65,7 +44,7 @@ module _ {L : Type 0} (seen : L → Seen) where
   -- what a call leaves, whatever it answers
   pub record LogCalled (code : ℕ) (ok err : LogMarks) (old new : Part L) : Type 0 where
     pub result : Result (Unit {0}) DevError
-    pub code_is : code ≡ result_code result
+    pub code_is : code ≡ call_code Log new.failed
     pub on_ok : OnOk result (new.marks ≡ ok)
     pub on_err : OnErr result (new.marks ≡ err)
     pub stays : Stays seen old result new
@@ -91,9 +70,9 @@ module _ {L : Type 0} (seen : L → Seen) where
     given = λ part. part.marks.given;
     ckpt = λ part. part.marks.ckpt;
     asked = λ part. part.marks.asked;
-    failed = λ part. has_failed part.failed;
+    failed = λ part. is_some part.failed;
     Holds = HoldsLog faults number Begun;
-    Cause = HasFailedBy faults;
+    Cause = λ part. HasFailedBy seen Log faults part.dev part.failed;
     Wrote = LogWrote;
     Synced = LogSynced;
     Checkpointed = LogCheckpointed;

@@ -14,8 +14,8 @@ use Rattle.redo_drive.specs.declared.making.Own.{Own}
 -- The words of the run's start, empty lists, new actors in their seats, and room for an entry of each line.
 pub record IsOwnOf (shape : Shape) (pages : List Content) (script : List ScriptLine) (start : ℕ) (log_only : Bool) (own : Own) : Type 0 where
   pub word_pages : own.words.pages ≡ length pages
-  pub bytes : HoldBytes pages
-  pub words : (c : Setup) → StartsOn start pages c → AreStartWords own.words.words c
+  pub bytes : HoldBytes shape pages
+  pub words : (c : Setup) → StartsOn start shape pages c → AreStartWords own.words.words c
   pub lists : own.lists ≡ empty_lists shape.pages
   pub actors : views_of own.actors.items ≡ start_actors shape script start log_only
   pub no_entries : own.entries.items ≡ []

@@ -1,5 +1,5 @@
 -- What playing an Op asks for, and what it does.
-use Rattle.std.specs.Prelude.{None, length, ℕ, ◌<◌, ◌≡◌}
+use Rattle.std.specs.Prelude.{None, length, ℕ, ◌<◌, ◌≡◌, is_some}
 use lib.ListN.{get_elem?}
 use mathlib.Core.Option.{some}
 use Rattle.model_base.specs.declared.shape.Shape.{Shape}
@@ -8,7 +8,6 @@ use Rattle.model_core.specs.DataSide.{DataSide}
 use Rattle.model_core.specs.{answer_of, BatchPage, DataServed, Each, list_word, lists_left, LogServed, lsn, OpWords, words_left}
 use Rattle.model_core.specs.LogSide.{LogSide}
 use Rattle.model_core.specs.Setup.{Setup}
-use Rattle.model_core.specs.declared.limits.TheConstants.{FRAME_CELLS}
 use Rattle.model_core.specs.declared.ops.Answer.{Answer}
 use Rattle.model_core.specs.declared.ops.Op.{Op}
 use Rattle.model_core.specs.declared.ops.Op.TheVariants as op
@@ -35,12 +34,12 @@ pub record RunOf (L D : Type 0) : Type 0 where
 
 module _ {L D : Type 0} (log_seen : L → Seen) (data_seen : D → Seen) where
   -- both parts as the definition of a turn sees them
-  abbrev pub log_of : RunOf L D → LogSide
-  log_of run = log_part.log_side log_seen (log_seen run.first_log.dev).faults run.first_log.marks.number
+  abbrev pub run_log_side : RunOf L D → LogSide
+  run_log_side run = log_part.log_side log_seen (log_seen run.first_log.dev).faults run.first_log.marks.number
       (log_part.HasBegun log_seen (lsn run.setup.base) run.first_log)
 
-  abbrev pub data_of : RunOf L D → DataSide
-  data_of run = data_part.data_side data_seen (data_seen run.first_data.dev).faults run.shape (data_part.HasBegun data_seen run.setup.opened run.first_data)
+  abbrev pub run_data_side : RunOf L D → DataSide
+  run_data_side run = data_part.data_side data_seen (data_seen run.first_data.dev).faults run.shape (data_part.HasBegun data_seen run.setup.opened run.first_data)
 
 -- a write of the log may be made with what is lent, and the writing of a batch
 abbrev pub MayWriteLent : {L : Type 0} → log.Part L → ℕ → Lent → Type 0
@@ -71,19 +70,24 @@ pub record IsPlayable {L D : Type 0} (parts : Parts L D) (o : Op) (l : Lent) : T
   pub log : LogReady parts.log l o
   pub data_part : DataReady parts.store l o
 
+-- what the log part's call tells
+abbrev pub told_by : Op → ℕ → ℕ
+told_by op.Sync stable = stable
+told_by _ stable = 0
+
 -- the pages of a batch that is written have all their bytes
-abbrev pub HasWholePages : Op → model.Lent → Type 0
-HasWholePages op.WriteBatch (model.Batch batch) = (i : ℕ) (x : BatchPage) → get_elem? batch i ≡ some x → length x.bytes ≡ FRAME_CELLS
-HasWholePages _ _ = Unit {0}
+abbrev pub HasWholePages : Shape → Op → model.Lent → Type 0
+HasWholePages shape op.WriteBatch (model.Batch batch) = (i : ℕ) (x : BatchPage) → get_elem? batch i ≡ some x → length x.bytes ≡ shape.page_size
+HasWholePages shape _ _ = Unit {0}
 
 -- An Op was played, with what its actor lends as the definition of a turn has it.
 pub record IsPlayed {L D : Type 0} (log_seen : L → Seen) (data_seen : D → Seen) (run : RunOf L D) (o : Op) (l : model.Lent) (old : Parts L D) (answer : Answer) (new : Parts L D) : Type 0 where
   pub code : ℕ
-  pub log_served : LogServed (log_of log_seen data_seen run) old.log l o code new.log
-  pub data_served : DataServed (data_of log_seen data_seen run) old.store l o code new.store
+  pub log_served : LogServed (run_log_side log_seen data_seen run) old.log l o code new.log
+  pub data_served : DataServed (run_data_side log_seen data_seen run) old.store l o code new.store
   pub words : new.words.words ≡ words_left old.words.words o
   pub lists : lists_of new.lists ≡ lists_left (lists_of old.lists) (list_word old.words.words) o
-  pub answered : answer ≡ answer_of (lists_of old.lists) (log_part.has_failed old.log.failed) code new.log.marks.stable old.words.words o
+  pub answered : answer ≡ answer_of (lists_of old.lists) (is_some old.log.failed) code new.log.marks.stable old.words.words o
 
 -- the pages stay as many
 pub record HasSamePages {L D : Type 0} (old new : Parts L D) : Type 0 where

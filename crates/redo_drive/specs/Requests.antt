@@ -4,7 +4,7 @@ use Rattle.model_base.specs.declared.limits.TheConstants.{BLOCK_SIZE}
 use Rattle.model_log.specs.{block_of, other_tail, run_layout}
 use Rattle.model_parts.specs.{next_number}
 use Rattle.redo_disk.specs.{put_requests, Request, ToSync}
-use Rattle.redo_logdev.specs.Calls.{block_writes, checkpoint_write, full_blocks, last_block}
+use Rattle.redo_logdev.specs.Calls.{block_writes, checkpoint_write, framed_full_blocks, last_block}
 use Rattle.redo_logdev.specs.Part.{Part}
 
 -- the full blocks of these bytes, by one write, or by two where the log wraps, and then the incomplete one, if there is one, to
@@ -12,7 +12,7 @@ use Rattle.redo_logdev.specs.Part.{Part}
 abbrev pub write_requests : {L : Type 0} → Part L → List ℕ → List ℕ → List Request
 write_requests part bytes firsts =
     block_writes (run_layout part.shape) (block_of part.marks.written)
-    (full_blocks (block_of part.marks.written) bytes firsts (part.marks.number % 2 ^ 32))
+    (framed_full_blocks (block_of part.marks.written) bytes firsts (part.marks.number % 2 ^ 32))
     (BLOCK_SIZE * other_tail part.tails.tail) (last_block (block_of part.marks.written) bytes firsts)
 
 -- one sync

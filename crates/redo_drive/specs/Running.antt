@@ -3,7 +3,7 @@ use Rattle.std.specs.Prelude.{List, ◌≡◌}
 use Rattle.model_base.specs.{IsWithinLimits}
 use Rattle.model_running.specs.{AreSeated, HasBytes, IsRunning}
 use Rattle.redo_disk.specs.Seen.{Seen}
-use Rattle.redo_drive.specs.Playing.{RunOf, data_of, log_of}
+use Rattle.redo_drive.specs.Playing.{RunOf, run_data_side, run_log_side}
 use Rattle.redo_drive.specs.Turning.{core_of}
 use Rattle.redo_drive.specs.Views.{views_of}
 use Rattle.redo_drive.specs.declared.actor.Actor.{Actor}
@@ -14,10 +14,11 @@ module _ {L D : Type 0} (log_seen : L → Seen) (data_seen : D → Seen) (run : 
   pub record RunsOn (parts : Parts L D) (actors : List Actor) : Type 0 where
     pub limits : IsWithinLimits run.shape
     pub its_pages : run.shape.pages ≡ run.setup.pages
+    pub its_page_size : run.shape.page_size ≡ run.setup.page_size
     pub bytes : HasBytes run.setup
     pub word_pages : parts.words.pages ≡ run.setup.pages
     pub list_pages : parts.lists.pages ≡ run.setup.pages
-    pub running : IsRunning (log_of log_seen data_seen run) (data_of log_seen data_seen run) run.setup 0 (core_of log_seen data_seen run parts actors)
+    pub running : IsRunning (run_log_side log_seen data_seen run) (run_data_side log_seen data_seen run) run.setup 0 (core_of log_seen data_seen run parts actors)
     pub seated : AreSeated run.setup (views_of actors)
 
 -- they are on some run

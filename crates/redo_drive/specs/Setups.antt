@@ -9,7 +9,7 @@ use Rattle.model_log.specs.declared.rec.Rec.{Rec}
 use Rattle.model_script.specs.{group_of}
 use Rattle.model_script.specs.declared.misfit.TheConstants.{MAX_USERS}
 use Rattle.model_script.specs.declared.script.ScriptLine.{ScriptLine}
-use Rattle.redo_useractor.specs.{lines_of}
+use Rattle.redo_useractor.specs.{program_lines}
 
 -- the lines of a user, each a mode and a group
 abbrev pub user_lines : (space : ℕ) → List ScriptLine → (user : ℕ) → List (ℕ × List Rec)
@@ -17,7 +17,7 @@ user_lines space script user = map (λ (line : ScriptLine). (line.mode, group_of
 
 -- the lines of each user, as its program has them
 abbrev pub programs_of : Shape → (log_only : Bool) → List ScriptLine → ℕ → List Line
-programs_of shape log_only script user = lines_of log_only shape.pages (user_lines shape.space script user)
+programs_of shape log_only script user = program_lines log_only shape (user_lines shape.space script user)
 
 -- the user of a number, if it has lines
 abbrev pub user_of : (blocks : ℕ) → (ℕ → List Line) → (user : ℕ) → List UserState
@@ -35,7 +35,7 @@ users_of shape log_only script = users_below (run_layout shape).blocks (programs
 abbrev pub page_actors : Shape → (start : ℕ) → (log_only : Bool) → List Actor
 page_actors shape start true = []
 page_actors shape start false =
-    actor.Closer new_closer ∷ actor.Cleaner (new_cleaner shape.pages) ∷ actor.Checkpointer (new_checkpointer start) ∷ []
+    actor.Closer new_closer ∷ actor.Cleaner (new_cleaner shape.pages shape.page_size) ∷ actor.Checkpointer (new_checkpointer start) ∷ []
 
 -- the actors of the run in their seats, with nothing done
 abbrev pub start_actors : Shape → List ScriptLine → (start : ℕ) → (log_only : Bool) → List Actor

@@ -1,57 +1,49 @@
 -- The words of a store as a run begins on its pages, and what never changes in the run.
 use Rattle.std.specs.Prelude.{Bool, List, Some, [], drop, get_or, length, replicate, slice_get, slice_index, slice_set, suc, take, zero, ℕ, ◌%◌, ◌++◌, ◌+◌, ◌-◌, ◌/◌, ◌<◌, ◌∷◌, ◌≡◌, ◌≤◌, false}
-use Rattle.model_base.specs.declared.limits.TheConstants.{BLOCK_SIZE, MAX_PAGES, USER_BYTES, USER_START}
+use Rattle.model_base.specs.declared.limits.TheConstants.{BLOCK_SIZE, PAGE_TRAILER, USER_START}
 use Rattle.model_core.specs.{flat, IsSized, KeptPage, lsn, packed, page_words_at, SharedWords, with_page_words}
 use Rattle.model_core.specs.Setup.{Setup}
 use Rattle.model_core.specs.declared.limits.TheConstants.{BUFFER_BLOCKS, FRAME_WORDS, WORD_LANES}
 use Rattle.model_log.specs.{run_layout, sn_of}
 use Rattle.model_log.specs.declared.layout.TheConstants.{BLOCK_HEADER}
+use Rattle.model_page.specs.{blank_page}
 use Rattle.model_page.specs.declared.content.Content.{Content}
-use Rattle.model_page.specs.declared.page.TheConstants.{TRAILER_LENGTH}
 use Rattle.model_base.specs.declared.shape.Shape.{Shape}
 use Rattle.model_script.specs.declared.script.ScriptLine.{ScriptLine}
 use Rattle.redo_drive.specs.Setups.{programs_of, users_of}
 use Rattle.redo_words.specs.Plain.{Plain}
 
--- the cells of a page's frame: its user bytes, and 0 before and after them, where the running store keeps nothing
+-- the cells of a page: its user bytes, and 0 before and after them, where the running store keeps nothing
 unfoldable pub page_cells : List ℕ → List ℕ
-page_cells user = replicate USER_START 0 ++ user ++ replicate TRAILER_LENGTH 0
+page_cells user = replicate USER_START 0 ++ user ++ replicate PAGE_TRAILER 0
 
 -- these bytes as so many words, eight in each
-abbrev pub words_of : ℕ → List ℕ → List ℕ
-words_of zero bytes = []
-words_of (suc n) bytes = packed 0 (take WORD_LANES bytes) ∷ words_of n (drop WORD_LANES bytes)
+abbrev pub packed_words : ℕ → List ℕ → List ℕ
+packed_words zero bytes = []
+packed_words (suc n) bytes = packed 0 (take WORD_LANES bytes) ∷ packed_words n (drop WORD_LANES bytes)
 
--- the words of a page's frame
+-- the words of a page's frame: after those of the page each is 0
 unfoldable pub page_frame : List ℕ → List ℕ
-page_frame user = words_of FRAME_WORDS (page_cells user)
+page_frame user = packed_words FRAME_WORDS (page_cells user)
 
 -- a page as the running store keeps it
 abbrev pub kept_page_of : Content → KeptPage
 kept_page_of page = record { lsn = page.lsn; bytes = page_cells page.user }
 
--- a page of full size that was never written
-unfoldable pub unwritten_page : Content
-unwritten_page = record { lsn = 0; user = replicate USER_BYTES 0 }
-
 -- each page as a run finds it; a number that no page has counts as a page that was never written
-abbrev pub opened_page : List Content → ℕ → KeptPage
-opened_page pages p = kept_page_of (get_or pages p unwritten_page)
-
--- the pages are no more than a store may have, each of full size
-pub record AreFullPages (pages : List Content) : Type 0 where
-  pub few : length pages ≤ MAX_PAGES
-  pub sizes : (p : ℕ) (page : Content) → slice_get pages p ≡ Some page → length page.user ≡ USER_BYTES
+abbrev pub opened_page : Shape → List Content → ℕ → KeptPage
+opened_page shape pages p = kept_page_of (get_or pages p (blank_page shape))
 
 -- each cell of the opened pages holds a byte
-abbrev pub HoldBytes : List Content → Type 0
-HoldBytes pages = (p i : ℕ) → slice_index (opened_page pages p).bytes i < 256
+abbrev pub HoldBytes : Shape → List Content → Type 0
+HoldBytes shape pages = (p i : ℕ) → slice_index (opened_page shape pages p).bytes i < 256
 
--- the run starts at this lsn on a store with these pages, none of which has a group past the start
-pub record StartsOn (start : ℕ) (pages : List Content) (c : Setup) : Type 0 where
+-- the run starts at this lsn on a store of this shape with these pages, none of which has a group past the start
+pub record StartsOn (start : ℕ) (shape : Shape) (pages : List Content) (c : Setup) : Type 0 where
   pub begins : lsn c.base ≡ start
   pub count : c.pages ≡ length pages
-  pub opened : (p : ℕ) → p < length pages → c.opened p ≡ opened_page pages p
+  pub page_size : c.page_size ≡ shape.page_size
+  pub opened : (p : ℕ) → p < length pages → c.opened p ≡ opened_page shape pages p
   pub early : (p : ℕ) (page : Content) → slice_get pages p ≡ Some page → page.lsn ≤ start
 
 -- these are the words by name, all of them and in their order
@@ -88,9 +80,10 @@ setup_of shape pages start script log_only = record {
   base = sn_of start;
   blocks = (run_layout shape).blocks;
   pages = shape.pages;
+  page_size = shape.page_size;
   log_only = log_only;
   script = programs_of shape log_only script;
-  opened = opened_page pages;
+  opened = opened_page shape pages;
   closer = length (users_of shape log_only script) + 2;
   cleaner = length (users_of shape log_only script) + 3;
   checkpointer = length (users_of shape log_only script) + 4;

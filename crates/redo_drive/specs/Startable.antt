@@ -21,7 +21,7 @@ pub record MayBegin {L D : Type 0} (opened : Opened L D) (script : List ScriptLi
   pub fits : ScriptFits opened.shape opened.start (room_from log_only opened.shape opened.start) script
 
 -- The opened store was in order and read as this.
-pub record IsOpenedAs {L D : Type 0} (reading : Reading) (opened : Opened L D) : Type 0 where
+pub record HasReading {L D : Type 0} (reading : Reading) (opened : Opened L D) : Type 0 where
   pub shape : opened.shape ≡ reading.shape
   pub pages : opened.pages ≡ reading.pages
   pub start : opened.start ≡ start_of reading

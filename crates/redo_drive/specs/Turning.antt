@@ -1,5 +1,5 @@
 -- One turn of an actor, and FAILED after it.
-use Rattle.std.specs.Prelude.{List, slice_index, ℕ, ◌≡◌, ◌⊎◌}
+use Rattle.std.specs.Prelude.{List, slice_index, ℕ, ◌≡◌, ◌⊎◌, is_some}
 use Rattle.model_core.specs.Actors as model
 use Rattle.model_core.specs.AnswerFits.{AnswerFits}
 use Rattle.model_core.specs.{answer_of, Core, index, lent, next, step_of, took}
@@ -8,9 +8,8 @@ use Rattle.model_core.specs.declared.ops.Answer.{Answer}
 use Rattle.model_core.specs.declared.ops.Step.{Step}
 use Rattle.model_core.specs.declared.words.Word.TheVariants as word
 use Rattle.redo_disk.specs.Seen.{Seen}
-use Rattle.redo_drive.specs.LogPartSide.{has_failed}
 use Rattle.redo_drive.specs.Lists.{lists_of}
-use Rattle.redo_drive.specs.Playing.{HasWholePages, IsPlayable, IsPlayed, RunOf, data_of, log_of}
+use Rattle.redo_drive.specs.Playing.{HasWholePages, IsPlayable, IsPlayed, RunOf, run_data_side, run_log_side}
 use Rattle.redo_drive.specs.Views.{views_of}
 use Rattle.redo_drive.specs.declared.actor.Actor.{Actor}
 use Rattle.redo_drive.specs.declared.parts.Parts.{Parts}
@@ -20,8 +19,8 @@ use Rattle.redo_words.specs.declared.lent.Lent.{Lent}
 -- An actor may have its turn: what it asks for may be played, and any answer to it is one that it may take.
 pub record MayServe {L D : Type 0} (parts : Parts L D) (who : model.Actor) : Type 0 where
   pub playable : (l : Lent) → Lends l (lent who) → IsPlayable parts (next who) l
-  pub whole : HasWholePages (next who) (lent who)
-  pub fits : (code mark : ℕ) → AnswerFits who (answer_of (lists_of parts.lists) (has_failed parts.log.failed) code mark parts.words.words (next who))
+  pub whole : HasWholePages parts.store.shape (next who) (lent who)
+  pub fits : (code mark : ℕ) → AnswerFits who (answer_of (lists_of parts.lists) (is_some parts.log.failed) code mark parts.words.words (next who))
 
 -- An actor has had its turn, with this answer.
 pub record IsServed {L D : Type 0} (log_seen : L → Seen) (data_seen : D → Seen) (run : RunOf L D) (old : Parts L D) (who : model.Actor) (step : Step) (new : Parts L D) (who_new : model.Actor) : Type 0 where
@@ -31,7 +30,7 @@ pub record IsServed {L D : Type 0} (log_seen : L → Seen) (data_seen : D → Se
   pub ends : step ≡ step_of who answer
 
 module _ {L D : Type 0} (log_seen : L → Seen) (data_seen : D → Seen) (run : RunOf L D) where
-  abbrev pub core_of : Parts L D → List Actor → Core (log_of log_seen data_seen run) (data_of log_seen data_seen run)
+  abbrev pub core_of : Parts L D → List Actor → Core (run_log_side log_seen data_seen run) (run_data_side log_seen data_seen run)
   core_of parts actors = record {
     words = parts.words.words;
     log_part = parts.log;
@@ -43,13 +42,13 @@ module _ {L D : Type 0} (log_seen : L → Seen) (data_seen : D → Seen) (run : 
   -- one turn of the definition, with some answer
   pub record TakesTurn (old : Parts L D) (actors : List Actor) (seat : ℕ) (step : Step) (new : Parts L D) (after : List Actor) : Type 0 where
     pub answer : Answer
-    pub turn : Turn (log_of log_seen data_seen run) (data_of log_seen data_seen run) (core_of old actors) seat answer step (core_of new after)
+    pub turn : Turn (run_log_side log_seen data_seen run) (run_data_side log_seen data_seen run) (core_of old actors) seat answer step (core_of new after)
 
 -- the code in FAILED
 abbrev pub code_in : {L D : Type 0} → Parts L D → ℕ
 code_in parts = slice_index parts.words.words (index word.Failed)
 
 -- FAILED's code has a cause: a call of a part answered an error that has this code.
-abbrev pub HasCause : {L D : Type 0} (log_seen : L → Seen) (data_seen : D → Seen) → RunOf L D → Parts L D → Type 0
-HasCause log_seen data_seen run parts =
-    (log_of log_seen data_seen run).Cause parts.log (code_in parts) ⊎ (data_of log_seen data_seen run).Cause parts.store (code_in parts)
+abbrev pub FailedHasCause : {L D : Type 0} (log_seen : L → Seen) (data_seen : D → Seen) → RunOf L D → Parts L D → Type 0
+FailedHasCause log_seen data_seen run parts =
+    (run_log_side log_seen data_seen run).Cause parts.log (code_in parts) ⊎ (run_data_side log_seen data_seen run).Cause parts.store (code_in parts)

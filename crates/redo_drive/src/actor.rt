@@ -1,4 +1,11 @@
 // The actors of a running store.
+ghost use Rattle.std.specs.Prelude.{MatchOption, ◌≡◌, ◌≢◌};
+ghost use Rattle.model_core.specs.{UserState};
+ghost use Rattle.model_core.specs.Actors as model;
+ghost use Rattle.redo_drive.specs.Steps.{steps_in_vain};
+ghost use Rattle.redo_drive.specs.Views.{view_of};
+
+use model_core::{FLUSH_LISTS, FRAME_WORDS};
 use redo_logactors::{Closer, Flusher, Writer};
 use redo_pageactors::{Checkpointer, Cleaner};
 use redo_useractor::UserActor;
@@ -12,4 +19,30 @@ pub enum Actor {
     Closer(Closer),
     Cleaner(Cleaner),
     Checkpointer(Checkpointer),
+}
+
+impl Actor {
+    /// The user, if it is one.
+    pub fn user(&self) -> Option<&UserActor>
+        ensures { MatchOption result ((u : UserState) → view_of self.now ≢ model.User u) (λ user. view_of self.now ≡ model.User user.now) }
+    {
+        match self {
+            Actor::User(user) => Some(user),
+            _ => None,
+        }
+    }
+
+    /// How many steps it takes at most from one wait to the next where it comes to nothing.
+    pub fn steps_in_vain(&self) -> u64
+        ensures { result ≡ steps_in_vain (view_of self.now) }
+    {
+        match self {
+            // FAILED, a tail loaded twice and taken, and no link
+            Actor::User(_) | Actor::Writer(_) | Actor::Flusher(_) | Actor::Closer(_) => 5,
+            // fewer than it takes to load a page
+            Actor::Cleaner(_) => FRAME_WORDS - 1,
+            // FAILED, CTAIL, and each list taken and given
+            Actor::Checkpointer(_) => 2 + 2 * FLUSH_LISTS,
+        }
+    }
 }

@@ -71,13 +71,9 @@ fn add_actor(entries: &mut Vec<Entry>, actor: &Actor, marks: &Marks)
     ensures added { length entries.old.items + length (listed marks.now (view_of actor.now)) ≤ vec_capacity entries.old
         → entries.new.items ≡ entries.old.items ++ listed marks.now (view_of actor.now) }
 {
-    match actor {
-        Actor::User(user) => add_user(entries, user, marks),
-        Actor::Writer(_)
-        | Actor::Flusher(_)
-        | Actor::Closer(_)
-        | Actor::Cleaner(_)
-        | Actor::Checkpointer(_) => {}
+    match actor.user() {
+        Some(user) => add_user(entries, user, marks),
+        None => {}
     }
 }
 

@@ -1,18 +1,17 @@
 //! What every drive of a run stands on, however it interleaves the Ops: both device parts as the running store sees them,
-//! the actors, the flush lists, the run as it begins, its history, what it leaves, and what a drive owes. A call of a part
-//! answers by the code that FAILED gets.
+//! the actors, the flush lists, the run as it begins, its history, what it leaves, and what a drive owes. An error stays an
+//! error from a device to the answer of its call, where it becomes the code that FAILED gets.
 #![tactic(auto)]
 
 mod actor;
 mod asking;
 mod calling;
 mod closed;
-mod data_calls;
 mod data_laws;
+mod device;
 mod drive;
 mod history;
 mod lists;
-mod log_calls;
 mod log_laws;
 mod making;
 mod parts;
@@ -20,14 +19,13 @@ mod seating;
 mod start_words;
 
 pub use actor::Actor;
-pub use calling::{call_batch, call_write, called};
+pub use calling::{call_batch, call_checkpoint, call_sync, call_write};
 pub use closed::Closed;
-pub use data_calls::write_batch;
 pub use data_laws::{data_part_meets_laws, data_part_tells, held_pages_are_stored};
+pub use device::{Device, answer_of};
 pub use drive::{Driven, RunEnd};
 pub use history::history_of;
 pub use lists::FlushLists;
-pub use log_calls::{checkpoint, sync, write_to};
 pub use log_laws::{
     log_half_has_watermarks, log_part_keeps_its_shape, log_part_meets_laws, log_part_tells,
 };

@@ -47,7 +47,8 @@ impl FlushLists {
         requires unlisted { oldest_of page (lists_of self.old (page % FLUSH_LISTS)) ≡ 0 }
         requires order { Each (λ listed. listed.oldest < oldest + CLOSED_LINKS) (lists_of self.old (page % FLUSH_LISTS)) }
         requires real { Each (λ listed. 0 < listed.oldest) (lists_of self.old (page % FLUSH_LISTS)) }
-        ensures { self.new ≡ added self.old page oldest }
+        ensures added { self.new ≡ added self.old page oldest }
+        ensures are_lists { AreLists self.old }
     {
         let list = &mut self.lists[page as usize % FLUSH_LISTS as usize];
         list.add(page, oldest);
@@ -56,7 +57,8 @@ impl FlushLists {
     /// Takes a page off its list.
     pub fn remove(&mut self, page: u32)
         requires { 0 < oldest_of page (lists_of self.old (page % FLUSH_LISTS)) }
-        ensures { self.new ≡ removed self.old page }
+        ensures removed { self.new ≡ removed self.old page }
+        ensures are_lists { AreLists self.old }
     {
         let list = &mut self.lists[page as usize % FLUSH_LISTS as usize];
         list.remove(page);
@@ -70,16 +72,10 @@ impl FlushLists {
         self.lists[list as usize].oldest_end()
     }
 
-    /// There are as many as there are to be, each of the store's pages.
-    pub fn are_lists(&self)
-        ensures { AreLists self.now }
-    {
-        let _ = &self.pages;
-    }
-
     /// The lists, in their order.
     pub fn into_lists(self) -> Vec<FlushList>
-        ensures { result.items ≡ self.lists }
+        ensures lists { result.items ≡ self.lists }
+        ensures are_lists { AreLists self }
     {
         let FlushLists { pages: _, lists } = self;
         lists

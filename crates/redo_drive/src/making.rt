@@ -53,7 +53,7 @@ fn make_own(
     requires fits { AllByRecursion (LineFits shape.now) script.now }
     ensures { IfOk result (IsOwnOf shape.now pages.now script.now start log_only) }
 {
-    let words = start_words(alloc, pages, start)?;
+    let words = start_words(alloc, shape, pages, start)?;
     let lists = FlushLists::new(alloc, shape.pages)?;
     let actors = seat_actors(alloc, script.0.as_slice(), shape, start, log_only)?;
     let entries = Vec::with_capacity(alloc, script.0.len())?;

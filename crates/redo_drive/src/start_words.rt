@@ -1,12 +1,14 @@
 // The words of a store as a run begins.
 ghost use Rattle.std.specs.Prelude.{◌<◌, ◌^◌, ◌≡◌, ◌≤◌, ℕ, IfOk, length, slice_index};
+ghost use Rattle.model_base.specs.{IsWithinLimits};
 ghost use Rattle.model_core.specs.{IsWord, SharedWords, wrote};
 ghost use Rattle.model_core.specs.Setup.{Setup};
 ghost use Rattle.model_log.specs.{IsAtDataStart};
-ghost use Rattle.redo_drive.specs.StartWords.{AreFullPages, AreNamed, HoldBytes, IsBlankFrame, StartsOn, page_frame, with_frame, with_log};
+ghost use Rattle.redo_apply.specs.{ArePagesOf};
+ghost use Rattle.redo_drive.specs.StartWords.{AreNamed, HoldBytes, IsBlankFrame, StartsOn, page_frame, with_frame, with_log};
 ghost use Rattle.redo_drive.specs.FirstWords.{AreStartWords};
 
-use model_base::{BLOCK_SIZE, USER_BYTES, USER_START};
+use model_base::{BLOCK_SIZE, MAX_PAGE_SIZE, Shape, USER_START};
 use model_core::{BUFFER_BLOCKS, FRAME_WORDS};
 use model_log::BLOCK_HEADER;
 use redo_apply::Pages;
@@ -43,14 +45,14 @@ fn set_log(words: &mut PlainWords, start: u64)
 
 /// A word of a page's frame, by the page's user bytes.
 fn frame_word(user: &[u8], number: u32) -> u64
-    requires full { length user.now ≡ USER_BYTES }
+    requires short { length user.now ≤ MAX_PAGE_SIZE }
     requires there { number < FRAME_WORDS }
     ensures { result ≡ slice_index (page_frame user.now) number }
 {
     let first = (number * 8) as usize;
     let start = USER_START as usize;
     let from = first.max(start);
-    let to = (first + 8).min(start + USER_BYTES as usize);
+    let to = (first + 8).min(start + user.len());
     if from < to {
         packed(from - first, &user[from - start..to - start])
     } else {
@@ -61,7 +63,7 @@ fn frame_word(user: &[u8], number: u32) -> u64
 /// Writes a page's user bytes into its frame, whose words are all 0.
 fn set_frame(words: &mut PlainWords, page: u32, user: &[u8])
     requires there { page < words.old.pages }
-    requires full { length user.now ≡ USER_BYTES }
+    requires short { length user.now ≤ MAX_PAGE_SIZE }
     ensures pages { words.new.pages ≡ words.old.pages }
     ensures bytes { (i : ℕ) → slice_index user.now i < 256 }
     ensures named { (m : SharedWords) → AreNamed words.old m → IsBlankFrame page m → AreNamed words.new (with_frame page (page_frame user.now) m) }
@@ -71,16 +73,22 @@ fn set_frame(words: &mut PlainWords, page: u32, user: &[u8])
     }
 }
 
-/// The words of a store with these pages, on which a run starts at this lsn. Only `PlainWords::new` takes memory.
-pub fn start_words(alloc: Global, pages: &Pages, start: u64) -> Result<PlainWords, NoMemory>
+/// The words of a store of this shape with these pages, on which a run starts at this lsn. Only `PlainWords::new` takes memory.
+pub fn start_words(
+    alloc: Global,
+    shape: &Shape,
+    pages: &Pages,
+    start: u64,
+) -> Result<PlainWords, NoMemory>
+    requires limits { IsWithinLimits shape.now }
+    requires its_pages { ArePagesOf shape.now pages.now }
     requires place { IsAtDataStart start }
     requires small { start < 2 ^ 61 }
-    requires full { AreFullPages pages.now }
     ensures pages { IfOk result (λ words. words.pages ≡ length pages.now) }
-    ensures bytes { IfOk result (λ _. HoldBytes pages.now) }
-    ensures starts { IfOk result (λ words. (c : Setup) → StartsOn start pages.now c → AreStartWords words.words c) }
+    ensures bytes { IfOk result (λ _. HoldBytes shape.now pages.now) }
+    ensures starts { IfOk result (λ words. (c : Setup) → StartsOn start shape.now pages.now c → AreStartWords words.words c) }
 {
-    let count = pages.len() as u32;
+    let count = shape.pages;
     let mut words = PlainWords::new(alloc, count)?;
     set_log(&mut words, start);
     for page in 0..count {

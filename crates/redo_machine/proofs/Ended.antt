@@ -1,6 +1,6 @@
 -- Which users have ended, in the order of the seats.
-use Rattle.std.proofs.Common.{List, None, Option, Some, [], ap, arith, false, get_or, inl, inr, length, refl, subst, suc, sym, true, zero, ℕ, ⊎_elim, ◌+◌, ◌<◌, ◌≤◌, ◌∙◌, ◌∷◌, ◌≡◌, ◌⊎◌}
-use Rattle.std.specs.Prelude.{MatchOption, is_some}
+use Rattle.std.proofs.Common.{List, [], ap, arith, false, get_or, inl, inr, length, refl, subst, suc, sym, true, zero, ℕ, ⊎_elim, ◌+◌, ◌<◌, ◌≤◌, ◌∙◌, ◌∷◌, ◌≡◌, ◌⊎◌}
+use Rattle.std.specs.Prelude.{◌≢◌}
 use native.Mathlib.Decide.{ℕ_discrete}
 use lib.ListN.{get_elem?}
 use mathlib.Core.Option.{some, some-injective, some-ne-none}
@@ -26,6 +26,17 @@ ended_is u is = step_is u.step is
 pub open_is : (u : UserState) → has_ended u.step ≡ false → HasEnded u → ⊥
 open_is u is ended = ⊎_elim (λ d. let z : has_ended u.step ≡ true = ap has_ended d in absurd (cc)) (λ d. let z : has_ended u.step ≡ true = ap has_ended d in absurd (cc)) ended
 
+-- an actor by the user that it is, if it is one
+pub over_by_user : (a : model.Actor) (u : UserState) → a ≡ model.User u → HasEnded u → IsOver a
+over_by_user a u is ended = subst IsOver (sym is) ended
+
+pub over_without_user : (a : model.Actor) → ((u : UserState) → a ≢ model.User u) → IsOver a
+over_without_user (model.User u) none = absurd (none u refl)
+over_without_user _ none = tt
+
+pub open_by_user : (a : model.Actor) (u : UserState) (user : ℕ) → a ≡ model.User u → IsOpenUser u user → IsOpen a user
+open_by_user a u user is open_user = subst (λ (z : model.Actor). IsOpen z user) (sym is) open_user
+
 -- below this seat each user has ended
 abbrev pub EndedBelow : ℕ → List Actor → Type 0
 EndedBelow seat actors = (j : ℕ) (u : UserState) → j < seat → get_elem? (views_of actors) j ≡ some (model.User u) → HasEnded u
@@ -50,12 +61,7 @@ all_ended actors seat all before j u at = before j u (let p = past (views_of act
 
 opened : (a : model.Actor) (user : ℕ) → IsOpen a user → (u : UserState) × (a ≡ model.User u) × IsOpenUser u user
 opened (model.User u) user is = (u, refl, is)
-opened (model.Writer s) user is = absurd is
-opened (model.Flusher s) user is = absurd is
-opened (model.Closer s) user is = absurd is
-opened (model.Cleaner s) user is = absurd is
-opened (model.Checkpointer s) user is = absurd is
-opened (model.Joined s) user is = absurd is
+opened _ user is = absurd is
 
 pub first_open : (actors : List Actor) (seat : ℕ) (d : Actor) (user : ℕ) → seat < length actors → EndedBelow seat actors → IsOpen (view_of (get_or actors seat d)) user → IsFirstOpen (views_of actors) user
 first_open actors seat d user l before is = let o = opened (view_of (get_or actors seat d)) user is in

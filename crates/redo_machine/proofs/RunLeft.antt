@@ -1,5 +1,5 @@
 -- What a run by turns leaves, and so what it comes to.
-use Rattle.std.proofs.Common.{Bool, List, ap, slice_index, subst, sym, ⊎_elim, inl, inr, ℕ, ◌∙◌, ◌≡◌}
+use Rattle.std.proofs.Common.{List, ap, slice_index, subst, sym, ⊎_elim, inl, inr, ℕ, ◌∙◌, ◌≡◌}
 use Rattle.model_core.specs.{index, lsn}
 use Rattle.model_core.specs.declared.words.Word.TheVariants as word
 use Rattle.model_running.proofs.OpenLines as open_lines
@@ -22,7 +22,7 @@ use Rattle.redo_drive.specs.History.{ListsInOrder}
 use Rattle.redo_drive.specs.Leaving.{LeavesRun}
 use Rattle.redo_drive.specs.Running.{RunsOn}
 use Rattle.redo_drive.specs.declared.making.Beginning.{Beginning}
-use Rattle.redo_drive.specs.Playing.{RunOf, data_of, log_of}
+use Rattle.redo_drive.specs.Playing.{RunOf, run_data_side, run_log_side}
 use Rattle.redo_drive.specs.Turning.{core_of}
 use Rattle.redo_machine.specs.Turns.{AskToEnd, EndsAs}
 use Rattle.redo_drive.specs.Views.{views_of}
@@ -38,7 +38,7 @@ use Rattle.redo_store.specs.Part as store
 -- However a run ended, turns led there.
 turns_taken : {L D : Type 0} (log_seen : L → Seen) (data_seen : D → Seen) (run : RunOf L D) (seed max : ℕ) (first : Parts L D) (actors : List Actor) (how : RunEnd) (last : Parts L D) (after : List Actor)
     → EndsAs log_seen data_seen run seed max first actors how last after
-    → (count : ℕ) × TakesTurns (log_of log_seen data_seen run) (data_of log_seen data_seen run) seed max count (core_of log_seen data_seen run first actors) (core_of log_seen data_seen run last after)
+    → (count : ℕ) × TakesTurns (run_log_side log_seen data_seen run) (run_data_side log_seen data_seen run) seed max count (core_of log_seen data_seen run first actors) (core_of log_seen data_seen run last after)
 turns_taken log_seen data_seen run seed max first actors ended.Done last after ends = (ends.count, ends.turns)
 turns_taken log_seen data_seen run seed max first actors (ended.Spent turns user) last after ends = (max, ends.1.turns)
 
@@ -94,7 +94,7 @@ module _ {L D : Type 0} (log_seen : L → Seen) (log_gives : L → Call → L �
     log_shape =
         let taken = turns_taken log_seen data_seen by.begins.run turns.seed turns.max by.first.parts by.first.actors.items driven.ended by.last by.actors by.ends in
         let run = by.begins.run in
-        run_shape log_seen (log_seen run.first_log.dev).faults run.first_log.marks.number (log_part.HasBegun log_seen (lsn run.setup.base) run.first_log) (data_of log_seen data_seen run) turns.seed turns.max taken.0
+        run_shape log_seen (log_seen run.first_log.dev).faults run.first_log.marks.number (log_part.HasBegun log_seen (lsn run.setup.base) run.first_log) (run_data_side log_seen data_seen run) turns.seed turns.max taken.0
         (core_of log_seen data_seen run by.first.parts by.first.actors.items) (core_of log_seen data_seen run by.last by.actors) taken.1
         ∙ ap (λ (z : log.Part L). z.shape) by.begins.log;
     log = by.log;
@@ -104,11 +104,11 @@ module _ {L D : Type 0} (log_seen : L → Seen) (log_gives : L → Call → L �
     history = by.history;
   }
 
-  is_done : driven.ended ≡ ended.Done → IsDone (log_of log_seen data_seen by.begins.run) (data_of log_seen data_seen by.begins.run) turns.seed turns.max (core_of log_seen data_seen by.begins.run by.first.parts by.first.actors.items) (core_of log_seen data_seen by.begins.run by.last by.actors)
+  is_done : driven.ended ≡ ended.Done → IsDone (run_log_side log_seen data_seen by.begins.run) (run_data_side log_seen data_seen by.begins.run) turns.seed turns.max (core_of log_seen data_seen by.begins.run by.first.parts by.first.actors.items) (core_of log_seen data_seen by.begins.run by.last by.actors)
   is_done done = subst (λ (z : RunEnd). EndsAs log_seen data_seen by.begins.run turns.seed turns.max by.first.parts by.first.actors.items z by.last by.actors) done by.ends
 
   -- where the turns are spent
-  is_spent : (count user : ℕ) → driven.ended ≡ ended.Spent count user → IsSpent (log_of log_seen data_seen by.begins.run) (data_of log_seen data_seen by.begins.run) turns.seed turns.max user (core_of log_seen data_seen by.begins.run by.first.parts by.first.actors.items) (core_of log_seen data_seen by.begins.run by.last by.actors)
+  is_spent : (count user : ℕ) → driven.ended ≡ ended.Spent count user → IsSpent (run_log_side log_seen data_seen by.begins.run) (run_data_side log_seen data_seen by.begins.run) turns.seed turns.max user (core_of log_seen data_seen by.begins.run by.first.parts by.first.actors.items) (core_of log_seen data_seen by.begins.run by.last by.actors)
   is_spent count user spent = (subst (λ (z : RunEnd). EndsAs log_seen data_seen by.begins.run turns.seed turns.max by.first.parts by.first.actors.items z by.last by.actors) spent by.ends).1
 
   leaves_open : (count user : ℕ) → driven.ended ≡ ended.Spent count user → LeavesOpen script driven.closed.history (HasMetError driven.closed) user
@@ -117,8 +117,8 @@ module _ {L D : Type 0} (log_seen : L → Seen) (log_gives : L → Call → L �
       let end = is_spent count user spent in
       let c = by.begins.run.setup in let g = by.runs.running.log_ghost in let m = by.runs.running.shared in
       subst (λ (z : List Entry). LeavesOpen script z (HasMetError driven.closed) user) (sym by.history)
-      (open_lines.leaves_open (log_of log_seen data_seen by.begins.run) c 0 m g by.last.log (views_of by.actors) by.runs.running.both.logged (word_marks m) script opened.shape.space by.begins.is_run.of_script
-      (seated_seats c (views_of by.actors) by.runs.seated script opened.shape.space by.begins.is_run.of_script) (HasMetError driven.closed)
+      (open_lines.leaves_open (run_log_side log_seen data_seen by.begins.run) c 0 m g by.last.log (views_of by.actors) by.runs.running.both.logged (word_marks m) script opened.shape by.begins.is_run.of_script
+      (seated_seats c (views_of by.actors) by.runs.seated script opened.shape by.begins.is_run.of_script) (HasMetError driven.closed)
       (λ failed. left_run.met_error log_seen log_gives data_seen data_gives opened script turns.log_only by.actors driven leaves (⊎_elim (λ cause. (m.failed, inl cause)) (λ cause. (m.failed, inr cause)) (by.runs.running.both.cause failed))) user end.seat end.state end.is end.number end.not_ended end.least)
 
   has_ended : driven.ended ≡ ended.Done → HaveEnded (views_of by.actors)

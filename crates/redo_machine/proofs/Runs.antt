@@ -18,7 +18,7 @@ use Rattle.redo_drive.proofs.Viewed.{length_views, so_at}
 use Rattle.redo_drive.specs.Asking.{AskOfBoth}
 use Rattle.redo_drive.specs.Calls.{CallOnBoth}
 use Rattle.redo_machine.specs.OpenUsers.{IsFirstOpen}
-use Rattle.redo_drive.specs.Playing.{RunOf, data_of, log_of}
+use Rattle.redo_drive.specs.Playing.{RunOf, run_data_side, run_log_side}
 use Rattle.redo_drive.specs.Running.{IsOnRun, RunsOn}
 use Rattle.redo_drive.specs.Turning.{TakesTurn, core_of}
 use Rattle.redo_machine.specs.Turns.{AskInTurns, EndsAsking, IsDrawn}
@@ -47,8 +47,8 @@ next_drawn seed max turn state l drawn more = ap next_state (drawn l) ∙ sym (n
 
 module _ {L D : Type 0} (log_seen : L → Seen) (log_gives : L → Call → L → Type 0) (data_seen : D → Seen) (data_gives : D → Call → D → Type 0) where
   -- so many turns lead from the first state to the last, with what each asked of both devices
-  pub record TurnsAsk (run : RunOf L D) (seed max n : ℕ) (first last : Core (log_of log_seen data_seen run) (data_of log_seen data_seen run)) : Type 0 where
-    pub turns : TakesTurns (log_of log_seen data_seen run) (data_of log_seen data_seen run) seed max n first last
+  pub record TurnsAsk (run : RunOf L D) (seed max n : ℕ) (first last : Core (run_log_side log_seen data_seen run) (run_data_side log_seen data_seen run)) : Type 0 where
+    pub turns : TakesTurns (run_log_side log_seen data_seen run) (run_data_side log_seen data_seen run) seed max n first last
     pub asked : AskInTurns log_seen log_gives data_seen data_gives run seed max n first last turns
 
   -- so many turns of a run lead from the first state to this one
@@ -79,8 +79,8 @@ some_actor c actors S =
 
 module _ {L D : Type 0} (log_seen : L → Seen) (log_gives : L → Call → L → Type 0) (data_seen : D → Seen) (data_gives : D → Call → D → Type 0) (seed max : ℕ) where
   -- so many turns, and one more
-  one_more : (run : RunOf L D) (n : ℕ) (first last : Core (log_of log_seen data_seen run) (data_of log_seen data_seen run))
-      (t : LastTurn (log_of log_seen data_seen run) (data_of log_seen data_seen run) seed max (TakesTurns (log_of log_seen data_seen run) (data_of log_seen data_seen run) seed max n first) n last)
+  one_more : (run : RunOf L D) (n : ℕ) (first last : Core (run_log_side log_seen data_seen run) (run_data_side log_seen data_seen run))
+      (t : LastTurn (run_log_side log_seen data_seen run) (run_data_side log_seen data_seen run) seed max (TakesTurns (run_log_side log_seen data_seen run) (run_data_side log_seen data_seen run) seed max n first) n last)
       → AskInTurns log_seen log_gives data_seen data_gives run seed max (suc n) first last t
       → TurnsAsk log_seen log_gives data_seen data_gives run seed max (n + 1) first last
   one_more run n first last t asked =
@@ -101,25 +101,24 @@ module _ {L D : Type 0} (log_seen : L → Seen) (log_gives : L → Call → L �
   pub goes_on : (turn draws draws_left seats seat : ℕ) (step : Step) (first old new : Machine L D) → InRun log_seen log_gives data_seen data_gives seed max turn draws seats first old
       → (HaveEnded (views_of old.actors.items) → ⊥)
       → seat ≡ seat_of_turn seed max seats turn → IsDrawn seed (turn + 1) max draws_left
-      → ((run : RunOf L D) → RunsOn log_seen data_seen run old.parts old.actors.items → TakesTurn log_seen data_seen run old.parts old.actors.items seat step new.parts new.actors.items)
-      → ((run : RunOf L D) → RunsOn log_seen data_seen run old.parts old.actors.items → RunsOn log_seen data_seen run new.parts new.actors.items)
+      → ((run : RunOf L D) → RunsOn log_seen data_seen run old.parts old.actors.items → TakesTurn log_seen data_seen run old.parts old.actors.items seat step new.parts new.actors.items × RunsOn log_seen data_seen run new.parts new.actors.items)
       → length new.actors.items ≡ length old.actors.items
       → IfSome (slice_get old.actors.items seat) (λ actor. AskOfBoth log_gives data_gives (lent (view_of actor)) (next (view_of actor)) old.parts new.parts)
       → InRun log_seen log_gives data_seen data_gives seed max (turn + 1) draws_left seats first new
-  goes_on turn draws draws_left seats seat step first old new I open_user its drawn takes keeps same asked = record {
+  goes_on turn draws draws_left seats seat step first old new I open_user its drawn keeps same asked = record {
     drawn = drawn;
     count = same ∙ I.count;
     some_seats = I.some_seats;
-    on_run = record { run = I.on_run.run; runs = keeps I.on_run.run I.on_run.runs };
+    on_run = record { run = I.on_run.run; runs = (keeps I.on_run.run I.on_run.runs).1 };
     goes = λ run R.
         let before = I.goes run R in
-        let taken = takes run before.runs in
+        let taken = (keeps run before.runs).0 in
         let count : seats ≡ length (views_of old.actors.items) = sym (length_views old.actors.items ∙ I.count) in
         let its_seat : seat ≡ seat_of_turn seed max (length (views_of old.actors.items)) turn = its ∙ ap (λ (n : ℕ). seat_of_turn seed max n turn) count in
-        let its_turn : Turn (log_of log_seen data_seen run) (data_of log_seen data_seen run) (core_of log_seen data_seen run old.parts old.actors.items) (seat_of_turn seed max (length (views_of old.actors.items)) turn) taken.answer step (core_of log_seen data_seen run new.parts new.actors.items) =
-        subst (λ (s : ℕ). Turn (log_of log_seen data_seen run) (data_of log_seen data_seen run) (core_of log_seen data_seen run old.parts old.actors.items) s taken.answer step (core_of log_seen data_seen run new.parts new.actors.items)) its_seat taken.turn in
+        let its_turn : Turn (run_log_side log_seen data_seen run) (run_data_side log_seen data_seen run) (core_of log_seen data_seen run old.parts old.actors.items) (seat_of_turn seed max (length (views_of old.actors.items)) turn) taken.answer step (core_of log_seen data_seen run new.parts new.actors.items) =
+        subst (λ (s : ℕ). Turn (run_log_side log_seen data_seen run) (run_data_side log_seen data_seen run) (core_of log_seen data_seen run old.parts old.actors.items) s taken.answer step (core_of log_seen data_seen run new.parts new.actors.items)) its_seat taken.turn in
         record {
-          runs = keeps run before.runs;
+          runs = (keeps run before.runs).1;
           taken = one_more run turn (core_of log_seen data_seen run first.parts first.actors.items) (core_of log_seen data_seen run new.parts new.actors.items)
               (record {
                 before = core_of log_seen data_seen run old.parts old.actors.items;

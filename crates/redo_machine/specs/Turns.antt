@@ -6,7 +6,7 @@ use Rattle.model_script.specs.{first_state, state_after}
 use Rattle.redo_disk.specs.{Call}
 use Rattle.redo_disk.specs.Seen.{Seen}
 use Rattle.redo_drive.specs.Asking.{AskOfParts}
-use Rattle.redo_drive.specs.Playing.{RunOf, data_of, log_of}
+use Rattle.redo_drive.specs.Playing.{RunOf, run_data_side, run_log_side}
 use Rattle.redo_drive.specs.Turning.{core_of}
 use Rattle.redo_drive.specs.declared.actor.Actor.{Actor}
 use Rattle.redo_drive.specs.declared.parts.Parts.{Parts}
@@ -19,14 +19,14 @@ IsDrawn seed turn max state = turn < max / 2 → state ≡ state_after turn (fir
 
 -- a run by a seed that ended so
 abbrev pub EndsAs : {L D : Type 0} (log_seen : L → Seen) (data_seen : D → Seen) (run : RunOf L D) (seed max : ℕ) → Parts L D → List Actor → RunEnd → Parts L D → List Actor → Type 0
-EndsAs log_seen data_seen run seed max first actors ran.Done last after = IsDone (log_of log_seen data_seen run) (data_of log_seen data_seen run) seed max (core_of log_seen data_seen run first actors) (core_of log_seen data_seen run last after)
-EndsAs log_seen data_seen run seed max first actors (ran.Spent turns user) last after = (turns ≡ max) × IsSpent (log_of log_seen data_seen run) (data_of log_seen data_seen run) seed max user (core_of log_seen data_seen run first actors) (core_of log_seen data_seen run last after)
+EndsAs log_seen data_seen run seed max first actors ran.Done last after = IsDone (run_log_side log_seen data_seen run) (run_data_side log_seen data_seen run) seed max (core_of log_seen data_seen run first actors) (core_of log_seen data_seen run last after)
+EndsAs log_seen data_seen run seed max first actors (ran.Spent turns user) last after = (turns ≡ max) × IsSpent (run_log_side log_seen data_seen run) (run_data_side log_seen data_seen run) seed max user (core_of log_seen data_seen run first actors) (core_of log_seen data_seen run last after)
 
 -- In each of these turns, from the parts before it to those after it, both devices were asked for what the Op of the actor
 -- whose turn it was asks of them, for all of it or up to the call that answered an error, and for nothing else. After an error
 -- the device was asked for nothing.
 abbrev pub AskInTurns : {L D : Type 0} (log_seen : L → Seen) (log_gives : L → Call → L → Type 0) (data_seen : D → Seen) (data_gives : D → Call → D → Type 0) (run : RunOf L D) (seed max n : ℕ)
-    (first last : Core (log_of log_seen data_seen run) (data_of log_seen data_seen run)) → TakesTurns (log_of log_seen data_seen run) (data_of log_seen data_seen run) seed max n first last → Type 0
+    (first last : Core (run_log_side log_seen data_seen run) (run_data_side log_seen data_seen run)) → TakesTurns (run_log_side log_seen data_seen run) (run_data_side log_seen data_seen run) seed max n first last → Type 0
 AskInTurns log_seen log_gives data_seen data_gives run seed max zero first last turns = Unit {0}
 AskInTurns log_seen log_gives data_seen data_gives run seed max (suc n) first last turns =
     AskOfParts log_gives data_gives (lent turns.turn.who) (next turns.turn.who) turns.before.log_part last.log_part turns.before.data_part last.data_part

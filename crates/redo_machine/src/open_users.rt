@@ -20,16 +20,13 @@ fn number_if_open(user: &UserActor) -> Option<u32>
 }
 
 /// The number of an actor that is a user which hasn't ended.
+#[tactic(auto, using(crate::proofs::Ended::over_by_user, crate::proofs::Ended::over_without_user, crate::proofs::Ended::open_by_user))]
 fn open_number(actor: &Actor) -> Option<u32>
     ensures { MatchOption result (IsOver (view_of actor.now)) (IsOpen (view_of actor.now)) }
 {
-    match actor {
-        Actor::User(user) => number_if_open(user),
-        Actor::Writer(_)
-        | Actor::Flusher(_)
-        | Actor::Closer(_)
-        | Actor::Cleaner(_)
-        | Actor::Checkpointer(_) => None,
+    match actor.user() {
+        Some(user) => number_if_open(user),
+        None => None,
     }
 }
 

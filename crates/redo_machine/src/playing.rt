@@ -1,20 +1,19 @@
 // Playing the Ops of an actor.
-ghost use Rattle.std.specs.Prelude.{◌≡◌, ◌==◌, ◌%◌, ◌<◌, ◌+◌, ℕ, if◌then◌else◌, slice_index, slice_set, None};
+ghost use Rattle.std.specs.Prelude.{◌≡◌, ◌==◌, ◌%◌, ◌<◌, ◌+◌, ℕ, if◌then◌else◌, slice_index, slice_set, None, is_some};
 ghost use Rattle.model_core.specs.Actors as model;
-ghost use Rattle.model_core.specs.{answer_of, Each, index, IsWord, list_answer, list_word, oldest_end, oldest_of, words_left};
+ghost use Rattle.model_core.specs.{answer_of, Each, index, IsWord, list_answer, list_word, lists_left, oldest_end, oldest_of, words_left};
 ghost use Rattle.model_core.specs.declared.limits.TheConstants.{CLOSED_LINKS};
 ghost use Rattle.model_core.specs.declared.ops.Op.TheVariants as op;
 ghost use Rattle.model_core.specs.declared.words.Word.TheVariants as word_is;
-ghost use Rattle.redo_drive.specs.{has_failed};
 ghost use Rattle.redo_drive.specs.Asking.{AskOfBoth};
 ghost use Rattle.redo_drive.specs.Calls.{CallOnBoth};
-ghost use Rattle.redo_drive.specs.Lists.{added, lists_of, removed};
+ghost use Rattle.redo_drive.specs.Lists.{lists_of};
 ghost use Rattle.redo_drive.specs.Playing.{HasSameDevices, HasSamePages, HasWholePages, IsPlayable, IsPlayed, RunOf};
 ghost use Rattle.redo_words.specs.{Lends};
 
 use model_core::FLUSH_LISTS;
 use redo_disk::Sectors;
-use redo_drive::{Parts, call_batch, call_write, called, checkpoint, sync};
+use redo_drive::{Device, Parts, answer_of, call_batch, call_checkpoint, call_sync, call_write};
 use redo_words::{Answer, Lent, Op, PlainWords, Word, old_of};
 
 /// Takes a turn word, if it is free.
@@ -51,7 +50,7 @@ fn take_device<L: Sectors, D: Sectors>(parts: &mut Parts<L, D>) -> Answer
     ensures devices { HasSameDevices parts.old parts.new }
     ensures words { parts.new.words.words ≡ words_left parts.old.words.words op.TakeDevice }
     ensures lists { parts.new.lists ≡ parts.old.lists }
-    ensures answer { (code mark : ℕ) → result ≡ answer_of (lists_of parts.old.lists) (has_failed parts.old.log.failed) code mark parts.old.words.words op.TakeDevice }
+    ensures answer { (code mark : ℕ) → result ≡ answer_of (lists_of parts.old.lists) (is_some parts.old.log.failed) code mark parts.old.words.words op.TakeDevice }
 {
     if !take_turn_word(&mut parts.words, Word::Device) {
         return Answer::Held;
@@ -71,7 +70,7 @@ fn take_add<L: Sectors, D: Sectors>(parts: &mut Parts<L, D>, page: u32, oldest: 
     ensures pages { HasSamePages parts.old parts.new }
     ensures devices { HasSameDevices parts.old parts.new }
     ensures words { parts.new.words.words ≡ words_left parts.old.words.words (op.TakeAdd page oldest) }
-    ensures lists { parts.new.lists ≡ (if list_word parts.old.words.words (page % FLUSH_LISTS) == 0 then added parts.old.lists page oldest else parts.old.lists) }
+    ensures lists { lists_of parts.new.lists ≡ lists_left (lists_of parts.old.lists) (list_word parts.old.words.words) (op.TakeAdd page oldest) }
     ensures answer { result ≡ list_answer (list_word parts.old.words.words (page % FLUSH_LISTS)) None }
 {
     if !take_turn_word(&mut parts.words, list_of(page)) {
@@ -87,7 +86,7 @@ fn take_remove<L: Sectors, D: Sectors>(parts: &mut Parts<L, D>, page: u32) -> An
     ensures pages { HasSamePages parts.old parts.new }
     ensures devices { HasSameDevices parts.old parts.new }
     ensures words { parts.new.words.words ≡ words_left parts.old.words.words (op.TakeRemove page) }
-    ensures lists { parts.new.lists ≡ (if list_word parts.old.words.words (page % FLUSH_LISTS) == 0 then removed parts.old.lists page else parts.old.lists) }
+    ensures lists { lists_of parts.new.lists ≡ lists_left (lists_of parts.old.lists) (list_word parts.old.words.words) (op.TakeRemove page) }
     ensures answer { result ≡ list_answer (list_word parts.old.words.words (page % FLUSH_LISTS)) None }
 {
     if !take_turn_word(&mut parts.words, list_of(page)) {
@@ -116,12 +115,11 @@ fn take_oldest<L: Sectors, D: Sectors>(parts: &mut Parts<L, D>, list: u32) -> An
 pub fn play<L: Sectors, D: Sectors>(parts: &mut Parts<L, D>, op: Op, lent: Lent<'_>) -> Answer
     requires { IsPlayable parts.old op lent }
     ensures pages { HasSamePages parts.old parts.new }
-    ensures played { (run : RunOf L D) (l : model.Lent) → Lends lent.entry l → HasWholePages op l
+    ensures played { (run : RunOf L D) (l : model.Lent) → Lends lent.entry l → HasWholePages parts.old.store.shape op l
         → IsPlayed L.seen D.seen run op l parts.old result parts.new }
-    ensures asked { (l : model.Lent) → Lends lent.entry l → HasWholePages op l → AskOfBoth L.gives D.gives l op parts.old parts.new }
+    ensures asked { (l : model.Lent) → Lends lent.entry l → HasWholePages parts.old.store.shape op l → AskOfBoth L.gives D.gives l op parts.old parts.new }
     ensures calls { CallOnBoth L.gives D.gives parts.old parts.new }
 {
-    parts.lists.are_lists();
     match op {
         Op::Load(_) | Op::Store(_, _) | Op::Add(_, _) | Op::Swap(_, _, _) => {
             parts.words.play(op)
@@ -132,13 +130,13 @@ pub fn play<L: Sectors, D: Sectors>(parts: &mut Parts<L, D>, op: Op, lent: Lent<
         Op::TakeRemove(page) => take_remove(parts, page),
         Op::TakeOldest(list) => take_oldest(parts, list),
         Op::GiveList(list) => give_turn_word(&mut parts.words, Word::List(list)),
-        Op::WriteTo(mark) => called(call_write(&mut parts.log, mark, lent), 0),
+        Op::WriteTo(mark) => answer_of(Device::Log, call_write(&mut parts.log, mark, lent), 0),
         Op::Sync => {
-            let code = sync(&mut parts.log);
-            called(code, parts.log.stable())
+            let ended = call_sync(&mut parts.log);
+            answer_of(Device::Log, ended, parts.log.stable())
         }
-        Op::Checkpoint(lsn) => called(checkpoint(&mut parts.log, lsn), 0),
-        Op::WriteBatch => called(call_batch(&mut parts.store, lent), 0),
+        Op::Checkpoint(lsn) => answer_of(Device::Log, call_checkpoint(&mut parts.log, lsn), 0),
+        Op::WriteBatch => answer_of(Device::Data, call_batch(&mut parts.store, lent), 0),
         Op::Rest => Answer::Rested,
     }
 }

@@ -5,13 +5,13 @@ ghost use Rattle.redo_drive.specs.Asking.{AskOfBoth};
 ghost use Rattle.redo_drive.specs.Calls.{CallOnBoth};
 ghost use Rattle.redo_drive.specs.Playing.{HasSamePages, RunOf};
 ghost use Rattle.redo_drive.specs.Running.{IsOnRun, RunsOn};
-ghost use Rattle.redo_drive.specs.Turning.{HasCause, IsServed, MayServe, TakesTurn};
+ghost use Rattle.redo_drive.specs.Turning.{FailedHasCause, IsServed, MayServe, TakesTurn};
 ghost use Rattle.redo_drive.specs.Views.{view_of};
 
 use crate::machine::Machine;
 use crate::playing::play;
 use redo_disk::Sectors;
-use redo_drive::{Actor, Parts, data_part_meets_laws, log_part_meets_laws};
+use redo_drive::{Actor, Parts};
 use redo_words::Step;
 
 /// Plays the Op that an actor asks for, and gives the actor the answer.
@@ -27,27 +27,6 @@ fn serve<L: Sectors, D: Sectors>(parts: &mut Parts<L, D>, actor: &mut Actor) -> 
     actor.took(answer)
 }
 
-/// Gives the actor at a seat its turn.
-fn turn<L: Sectors, D: Sectors>(
-    parts: &mut Parts<L, D>,
-    actors: &mut Vec<Actor>,
-    seat: usize,
-) -> Step
-    requires on_run { IsOnRun L.seen D.seen parts.old actors.old.items }
-    requires seat { seat < length actors.old.items }
-    ensures turn { (run : RunOf L D) → RunsOn L.seen D.seen run parts.old actors.old.items
-        → TakesTurn L.seen D.seen run parts.old actors.old.items seat result parts.new actors.new.items }
-    ensures runs { (run : RunOf L D) → RunsOn L.seen D.seen run parts.old actors.old.items → RunsOn L.seen D.seen run parts.new actors.new.items }
-    ensures cause { (run : RunOf L D) (code : ℕ) → RunsOn L.seen D.seen run parts.old actors.old.items → result ≡ Step.Failed code → HasCause L.seen D.seen run parts.new }
-    ensures seats { length actors.new.items ≡ length actors.old.items }
-    ensures asked { IfSome (slice_get actors.old.items seat) (λ actor. AskOfBoth L.gives D.gives (lent (view_of actor)) (next (view_of actor)) parts.old parts.new) }
-    ensures calls { CallOnBoth L.gives D.gives parts.old parts.new }
-{
-    log_part_meets_laws::<L>();
-    data_part_meets_laws::<D>();
-    serve(parts, &mut actors[seat])
-}
-
 impl<L: Sectors, D: Sectors> Machine<L, D> {
     /// How many actors there are.
     pub fn seats(&self) -> usize
@@ -61,16 +40,15 @@ impl<L: Sectors, D: Sectors> Machine<L, D> {
         requires on_run { IsOnRun L.seen D.seen self.old.parts self.old.actors.items }
         requires seat { seat < length self.old.actors.items }
         ensures turn { (run : RunOf L D) → RunsOn L.seen D.seen run self.old.parts self.old.actors.items
-            → TakesTurn L.seen D.seen run self.old.parts self.old.actors.items seat result self.new.parts self.new.actors.items }
-        ensures runs { (run : RunOf L D) → RunsOn L.seen D.seen run self.old.parts self.old.actors.items
-            → RunsOn L.seen D.seen run self.new.parts self.new.actors.items }
+            → TakesTurn L.seen D.seen run self.old.parts self.old.actors.items seat result self.new.parts self.new.actors.items
+            × RunsOn L.seen D.seen run self.new.parts self.new.actors.items }
         ensures cause { (run : RunOf L D) (code : ℕ) → RunsOn L.seen D.seen run self.old.parts self.old.actors.items → result ≡ Step.Failed code
-            → HasCause L.seen D.seen run self.new.parts }
+            → FailedHasCause L.seen D.seen run self.new.parts }
         ensures seats { length self.new.actors.items ≡ length self.old.actors.items }
         ensures asked { IfSome (slice_get self.old.actors.items seat) (λ actor. AskOfBoth L.gives D.gives (lent (view_of actor)) (next (view_of actor)) self.old.parts self.new.parts) }
         ensures calls { CallOnBoth L.gives D.gives self.old.parts self.new.parts }
         ensures entries { self.new.entries ≡ self.old.entries }
     {
-        turn(&mut self.parts, &mut self.actors, seat)
+        serve(&mut self.parts, &mut self.actors[seat])
     }
 }

@@ -1,5 +1,5 @@
 -- Each kind of step that the table offers keeps the rule. The step lemma of the running store serves them all.
-use Rattle.std.proofs.Common.{Bool, List, None, Option, Some, [], ap, arith, cond, eq-eqb, eqb, false, get_or-set_other, get_or-set_same, length, length-append, length-set, ne_eqb, refl, subst, suc, sym, true, zero, ℕ, ◌%◌, ◌++◌, ◌+◌, ◌<◌, ◌==◌, ◌^◌, ◌∙◌, ◌∷◌, ◌≡◌, ◌≢◌, inl, inr}
+use Rattle.std.proofs.Common.{Bool, List, None, Option, Some, [], ap, arith, cond, eq-eqb, eqb, false, get_or-set_other, get_or-set_same, length, length-append, length-set, ne_eqb, refl, subst, suc, sym, true, zero, ℕ, ◌%◌, ◌++◌, ◌+◌, ◌<◌, ◌==◌, ◌^◌, ◌∙◌, ◌∷◌, ◌≡◌, ◌≢◌, inl, inr, is_some}
 use Rattle.std.proofs.lemmas.List.{set-get_or}
 use Rattle.std.specs.Prelude.{slice_index, slice_set}
 use lib.ListN.{get_elem?}
@@ -18,24 +18,25 @@ use Rattle.model_core.specs.declared.words.Word.{Word}
 use Rattle.redo_disk.specs.{Call}
 use Rattle.redo_disk.specs.Seen.{Seen}
 use Rattle.redo_logdev.specs.Part as log
-use Rattle.redo_drive.specs.{has_failed}
 use Rattle.redo_drive.proofs.MayTurn.{holds_sum}
 use Rattle.redo_drive.proofs.Played as played
 use Rattle.redo_drive.specs.Lists.{AreLists, listing_at, Listings, lists_of}
-use Rattle.redo_drive.specs.Playing.{data_of, HasSamePages, IsPlayed}
+use Rattle.redo_drive.specs.Playing.{HasSamePages, IsPlayed, run_data_side}
 use Rattle.redo_drive.specs.Views.{view_of, views_of}
 use Rattle.redo_drive.specs.Calls.{CallsOn}
 use Rattle.redo_drive.specs.declared.parts.Parts.{Parts}
 use Rattle.redo_flushlist.specs.{Listing}
-use Rattle.redo_rule.proofs.Hands.{handles}
+use Rattle.model_core.proofs.Hands.{handles}
 use Rattle.redo_rule.proofs.Holders as holders
 use Rattle.redo_rule.proofs.Kept as kept
 use Rattle.redo_rule.proofs.Retook.{one_head}
-use Rattle.redo_rule.proofs.Words.{IsOffTurns, next_off, plain_off, swapped}
+use Rattle.model_core.proofs.TurnWords.{IsOffTurns, next_off}
+use Rattle.redo_rule.proofs.Words.{plain_off, swapped}
 use Rattle.atomic_table.proofs.Lists.{set_here}
-use Rattle.redo_rule.specs.Hands.{hand, Handles, IsFreeToCheck}
+use Rattle.model_core.proofs.Hands.{Handles}
+use Rattle.model_core.specs.Hands.{hand, IsFreeToCheck}
 use Rattle.redo_rule.specs.Plays.{behind, gave, list_behind, list_said, ListFits, looked, saw, seized, Stepped, TakesList, taking}
-use Rattle.redo_rule.specs.Ruled.{content_at, Knows, Ruled}
+use Rattle.redo_rule.specs.Ruled.{Knows, Ruled, slot_content}
 use Rattle.redo_rule.specs.declared.law.About.{About}
 use Rattle.redo_rule.specs.declared.law.Keeping.{Keeping}
 use Rattle.redo_rule.specs.declared.law.Numbered.{Numbered}
@@ -46,7 +47,7 @@ use Rattle.redo_store.specs.Part as store
 use Rattle.redo_words.specs.{HoldsSum}
 
 -- what a slot has depends on the log part and the lists alone
-pub same_content : {L D : Type 0} (p q : Parts L D) → p.log ≡ q.log → p.lists ≡ q.lists → (k : ℕ) → ◌≡◌ {A = Slot L D} (content_at p k) (content_at q k)
+pub same_content : {L D : Type 0} (p q : Parts L D) → p.log ≡ q.log → p.lists ≡ q.lists → (k : ℕ) → ◌≡◌ {A = Slot L D} (slot_content p k) (slot_content q k)
 same_content p q e f zero = ap slot.Log e
 same_content p q e f (suc i) = ap (λ (z : Listings). slot.Pages (listing_at z.lists i)) f
 
@@ -82,12 +83,12 @@ module _ {L D : Type 0} (log_seen : L → Seen) (log_gives : L → Call → L �
       let e : R.parts.words.words ≡ s.words = R.words_are in
       let known : Knows R.parts R.actors R.seat_of R.keeper R.out id me.0 = kept.known log_seen log_gives data_seen data_gives about s R id me.0 x one at in
       let sum : HoldsSum o s.words = subst (HoldsSum o) e (subst (λ (p : Op). HoldsSum p R.parts.words.words) is
-      (holds_sum (lists_of R.parts.lists) (has_failed R.parts.log.failed) 0 0 R.parts.words.words a (kept.fits log_seen log_gives data_seen data_gives about s R id me.0 x one at 0 0).log)) in
+      (holds_sum (lists_of R.parts.lists) (is_some R.parts.log.failed) 0 0 R.parts.words.words a (kept.fits log_seen log_gives data_seen data_gives about s R id me.0 x one at 0 0).log)) in
       let same : HasSamePages R.parts new = record { words = refl; lists = refl } in
       let done : IsPlayed log_seen data_seen R.run (next a) (lent a) R.parts r new = subst (λ (p : Op). IsPlayed log_seen data_seen R.run p (lent a) R.parts r new) (sym is)
       (played.word_played log_seen data_seen R.run (lent a) R.parts o new.words r on (words s.words sum ∙ ap (words_after o) (sym e)) (ap answer.Old (sym (found s.words) ∙ ap (word_found o) (sym e)))) in
       let goes : Handles o (hand a) (λ (z : Answer). hand (took a z)) = subst (λ (p : Op). Handles p (hand a) (λ (z : Answer). hand (took a z))) is (handles a (kept.is_free log_seen log_gives data_seen data_gives about s R id me.0 x one at)) in
-      let own : (k : ℕ) → hand (took a r) ≡ Some k → me.0.held ≡ Some (content_at new k) = λ k h.
+      let own : (k : ℕ) → hand (took a r) ≡ Some k → me.0.held ≡ Some (slot_content new k) = λ k h.
       kept.holds_content log_seen log_gives data_seen data_gives about s R id me.0 x one at k (sym (word_hand o on (hand a) (λ (z : Answer). hand (took a z)) goes n) ∙ h) ∙ ap (λ (z : Slot L D). Some z) (same_content R.parts new refl refl k) in (
         viewed r me.0.held me.0.data_part,
         keeps,
@@ -152,7 +153,7 @@ module _ {L D : Type 0} (log_seen : L → Seen) (log_gives : L → Call → L �
       let known : Knows R.parts R.actors R.seat_of R.keeper R.out id me.0 = kept.known log_seen log_gives data_seen data_gives about s R id me.0 x one at in
       let same : HasSamePages R.parts new = record { words = refl; lists = refl } in
       let done : IsPlayed log_seen data_seen R.run (next a) (lent a) R.parts answer.Held new = subst (λ (p : Op). IsPlayed log_seen data_seen R.run p (lent a) R.parts answer.Held new) (sym is) (plays s R new busy (e ∙ sym R.words_are) refl refl refl) in
-      let own : (j : ℕ) → hand (took a answer.Held) ≡ Some j → me.0.held ≡ Some (content_at new j) = λ j h. absurd (cc) in (
+      let own : (j : ℕ) → hand (took a answer.Held) ≡ Some j → me.0.held ≡ Some (slot_content new j) = λ j h. absurd (cc) in (
         kept.kept log_seen log_gives data_seen data_gives about s R id me.0 x one at answer.Held new same done (viewed answer.Held me.0.held me.0.data_part) R.out refl refl own (λ d h. known.data_part d h)
             (λ j c i ne h hold. same_content R.parts new refl refl i) (λ j u d ne h stored. (R.knows j u h).data_part d stored) s.homes R.lists_are R.log_calls R.data_calls refl R.slots
             (λ i l z. R.home i l (sym (ap (λ (y : List ℕ). slice_index y (7 + i)) e) ∙ z) ∙ ap (λ (y : Slot L D). maybe.some (maybe.some y)) (same_content R.parts new refl refl i))
@@ -165,19 +166,19 @@ module _ {L D : Type 0} (log_seen : L → Seen) (log_gives : L → Call → L �
   finds_free : (o : Op) (k : ℕ) (r : Answer) → next a ≡ o → k < 5 → hand a ≡ None → hand (took a r) ≡ Some k → ((j : ℕ) → hand (took a r) ≡ Some j → j ≡ k)
       → (s : State (Slot L D) (View L D)) (R : Law s) (new : Parts L D) → get_elem? s.views id ≡ maybe.some me.0 → slice_index s.words (7 + k) ≡ 0
       → new.words.words ≡ slice_set s.words (7 + k) 1 → new.words.pages ≡ R.parts.words.pages → new.lists.pages ≡ R.parts.lists.pages → new.log ≡ R.parts.log → new.store ≡ R.parts.store → AreLists new.lists
-      → ((j : ℕ) → j ≢ k → ◌≡◌ {A = Slot L D} (content_at R.parts j) (content_at new j))
+      → ((j : ℕ) → j ≢ k → ◌≡◌ {A = Slot L D} (slot_content R.parts j) (slot_content new j))
       → IsPlayed log_seen data_seen R.run o (lent a) R.parts r new
-      → Law (record { words = new.words.words; homes = slice_set s.homes k maybe.none; views = slice_set s.views id (viewed r (Some (content_at new k)) me.0.data_part) })
-      × Stepped log_seen data_seen x r (Some (content_at new k)) me.0.data_part ((k, content_at R.parts k) ∷ me.1) me (viewed r (Some (content_at new k)) me.0.data_part, (k, content_at R.parts k) ∷ me.1)
+      → Law (record { words = new.words.words; homes = slice_set s.homes k maybe.none; views = slice_set s.views id (viewed r (Some (slot_content new k)) me.0.data_part) })
+      × Stepped log_seen data_seen x r (Some (slot_content new k)) me.0.data_part ((k, slot_content R.parts k) ∷ me.1) me (viewed r (Some (slot_content new k)) me.0.data_part, (k, slot_content R.parts k) ∷ me.1)
   finds_free o k r is below free_hand gets mine s R new at free words count list_count log_same store_same are others plays =
       let known : Knows R.parts R.actors R.seat_of R.keeper R.out id me.0 = kept.known log_seen log_gives data_seen data_gives about s R id me.0 x one at in
       let same : HasSamePages R.parts new = record { words = count; lists = list_count } in
       let done : IsPlayed log_seen data_seen R.run (next a) (lent a) R.parts r new = subst (λ (p : Op). IsPlayed log_seen data_seen R.run p (lent a) R.parts r new) (sym is) plays in
-      let own : (j : ℕ) → hand (took a r) ≡ Some j → Some (content_at new k) ≡ Some (content_at new j) = λ j h. ap (λ (i : ℕ). Some (content_at new i)) (sym (mine j h)) in
+      let own : (j : ℕ) → hand (took a r) ≡ Some j → Some (slot_content new k) ≡ Some (slot_content new j) = λ j h. ap (λ (i : ℕ). Some (slot_content new i)) (sym (mine j h)) in
       -- nobody else holds it, since its word was 0
       let not_held : (n : ℕ) (c : model.Actor) → get_elem? (views_of R.actors) n ≡ maybe.some c → hand c ≡ Some k → ⊥ = λ n c there held.
       let t = (holders.holding log_seen data_seen R.run R.parts R.actors R.runs n c there k held).word_is in let z : slice_index R.parts.words.words (7 + k) ≡ 0 = ap (λ (y : List ℕ). slice_index y (7 + k)) R.words_are ∙ free in omega arith in (
-        kept.kept log_seen log_gives data_seen data_gives about s R id me.0 x one at r new same done (viewed r (Some (content_at new k)) me.0.data_part) R.out refl refl own (λ d h. let t = known.data_part d h in (t.0, t.1 ∙ sym store_same, t.2))
+        kept.kept log_seen log_gives data_seen data_gives about s R id me.0 x one at r new same done (viewed r (Some (slot_content new k)) me.0.data_part) R.out refl refl own (λ d h. let t = known.data_part d h in (t.0, t.1 ∙ sym store_same, t.2))
             (λ n c j ne there hold. others j (λ z. not_held n c there (hold ∙ ap (λ (i : ℕ). Some i) z))) (λ j u d ne h stored. let t = (R.knows j u h).data_part d stored in (t.0, t.1 ∙ sym store_same, t.2))
             (slice_set s.homes k maybe.none) are (subst (λ (z : log.Part L). CallsOn log_gives about.opened.value.log.dev about.opened.value.log.failed z.dev z.failed) (sym log_same) R.log_calls) (subst (λ (z : store.Part D). CallsOn data_gives about.opened.value.store.dev about.opened.value.store.failed z.dev z.failed) (sym store_same) R.data_calls)
             (ap (λ (z : log.Part L). z.shape) log_same) (length-set s.homes k maybe.none ∙ R.slots)
@@ -191,7 +192,7 @@ module _ {L D : Type 0} (log_seen : L → Seen) (log_gives : L → Call → L �
               | yes here ↦ inl (gets ∙ ap (λ (i : ℕ). Some i) (sym here))
               | no far ↦ inr ((λ q. z (ap (λ (y : List ℕ). slice_index y (7 + j)) words ∙ get_or-set_other s.words (7 + k) (7 + j) 1 0 (λ e. far (omega arith)) ∙ q)), λ q. absurd (cc))
             ]),
-        kept.steps log_seen log_gives data_seen data_gives about s R id me.0 x one at r new same done me.1 (Some (content_at new k)) me.0.data_part ((k, content_at R.parts k) ∷ me.1) own (λ d h. (known.data_part d h).1 ∙ sym store_same),
+        kept.steps log_seen log_gives data_seen data_gives about s R id me.0 x one at r new same done me.1 (Some (slot_content new k)) me.0.data_part ((k, slot_content R.parts k) ∷ me.1) own (λ d h. (known.data_part d h).1 ∙ sym store_same),
       )
     where
       taken_word : (s : State (Slot L D) (View L D)) (R : Law s) (k : ℕ) → k < 5 → slice_index (slice_set s.words (7 + k) 1) (7 + k) ≡ 1
@@ -206,7 +207,7 @@ module _ {L D : Type 0} (log_seen : L → Seen) (log_gives : L → Call → L �
     pub log_same : new.log ≡ R.parts.log
     pub store_same : new.store ≡ R.parts.store
     pub are : AreLists new.lists
-    pub others : (j : ℕ) → j ≢ suc i → ◌≡◌ {A = Slot L D} (content_at R.parts j) (content_at new j)
+    pub others : (j : ℕ) → j ≢ suc i → ◌≡◌ {A = Slot L D} (slot_content R.parts j) (slot_content new j)
     pub own : listing_at new.lists.lists i ≡ list_behind o (listing_at R.parts.lists.lists i)
     pub fits : ListFits o (listing_at R.parts.lists.lists i)
     pub plays : IsPlayed log_seen data_seen R.run o (lent a) R.parts (answer.Taken (list_said o (listing_at R.parts.lists.lists i))) new
@@ -215,15 +216,15 @@ module _ {L D : Type 0} (log_seen : L → Seen) (log_gives : L → Call → L �
   pub allows_take : next a ≡ op.TakeDevice → Allows Law slots id me 7 (λ n. either (eqb n 0) 1 n) (seized log_seen data_seen me)
   allows_take is s R wide at small = elim (ℕ_discrete (slice_index s.words 7) 0) [
     | yes free ↦ (
-        let r : Answer = taking (has_failed R.parts.log.failed) in
+        let r : Answer = taking (is_some R.parts.log.failed) in
         let ws : List ℕ = slice_set s.words 7 (either (eqb (slice_index s.words 7) 0) 1 (slice_index s.words 7)) in
         let new : Parts L D = record { words = record { pages = R.parts.words.pages; words = ws }; log = R.parts.log; store = R.parts.store; lists = R.parts.lists } in
         let words : ws ≡ slice_set s.words 7 1 = swapped s.words 7 0 1 ∙ ap (λ (b : Bool). cond b (slice_set s.words 7 1) s.words) (eq-eqb (slice_index s.words 7) 0 free) in
         let goes : Handles op.TakeDevice (hand a) (λ (z : Answer). hand (took a z)) = subst (λ (p : Op). Handles p (hand a) (λ (z : Answer). hand (took a z))) is (handles a (kept.is_free log_seen log_gives data_seen data_gives about s R id me.0 x one at)) in
         let plays = played.took_device log_seen data_seen R.run (lent a) R.parts new r (record { log = refl; data_part = refl }) op.TakeDevice refl
         (swapped s.words 7 0 1 ∙ ap (λ (y : List ℕ). cond (slice_index y 7 == 0) (slice_set y 7 1) y) (sym R.words_are)) refl
-        (λ code mark. sym (ap (λ (b : Bool). cond b (taking (has_failed R.parts.log.failed)) answer.Held) (eq-eqb (slice_index R.parts.words.words 7) 0 (ap (λ (y : List ℕ). slice_index y 7) R.words_are ∙ free)))) in
-        let k = finds_free op.TakeDevice 0 r is (omega arith) goes.0 (took_hand (has_failed R.parts.log.failed) (λ (z : Answer). hand (took a z)) goes.1 (goes.2, goes.3)) (λ j h. taken_hand (has_failed R.parts.log.failed) (λ (z : Answer). hand (took a z)) goes.1 (goes.2, goes.3) j h) s R new at free words refl refl refl refl R.lists_are (λ j ne. same_content R.parts new refl refl j) plays in (
+        (λ code mark. sym (ap (λ (b : Bool). cond b (taking (is_some R.parts.log.failed)) answer.Held) (eq-eqb (slice_index R.parts.words.words 7) 0 (ap (λ (y : List ℕ). slice_index y 7) R.words_are ∙ free)))) in
+        let k = finds_free op.TakeDevice 0 r is (omega arith) goes.0 (took_hand (is_some R.parts.log.failed) (λ (z : Answer). hand (took a z)) goes.1 (goes.2, goes.3)) (λ j h. taken_hand (is_some R.parts.log.failed) (λ (z : Answer). hand (took a z)) goes.1 (goes.2, goes.3) j h) s R new at free words refl refl refl refl R.lists_are (λ j ne. same_content R.parts new refl refl j) plays in (
           viewed r (Some (slot.Log R.parts.log)) me.0.data_part,
           takes 0 (slot.Log R.parts.log),
           R.home 0 (omega arith) free,
@@ -255,7 +256,7 @@ module _ {L D : Type 0} (log_seen : L → Seen) (log_gives : L → Call → L �
       held_plays s R new busy words log_same store_same lists_same =
           let w : cond (slice_index R.parts.words.words 7 == 0) (slice_set R.parts.words.words 7 1) R.parts.words.words ≡ R.parts.words.words = ap (λ (b : Bool). cond b (slice_set R.parts.words.words 7 1) R.parts.words.words) (ne_eqb (slice_index R.parts.words.words 7) 0 (λ z. busy (sym (ap (λ (y : List ℕ). slice_index y 7) R.words_are) ∙ z))) in
           played.took_device log_seen data_seen R.run (lent a) R.parts new answer.Held (record { log = log_same; data_part = store_same }) op.TakeDevice refl (words ∙ sym w) lists_same
-          (λ code mark. sym (ap (λ (b : Bool). cond b (taking (has_failed R.parts.log.failed)) answer.Held) (ne_eqb (slice_index R.parts.words.words 7) 0 (λ z. busy (sym (ap (λ (y : List ℕ). slice_index y 7) R.words_are) ∙ z)))))
+          (λ code mark. sym (ap (λ (b : Bool). cond b (taking (is_some R.parts.log.failed)) answer.Held) (ne_eqb (slice_index R.parts.words.words 7) 0 (λ z. busy (sym (ap (λ (y : List ℕ). slice_index y 7) R.words_are) ∙ z)))))
 
   -- a turn word and its slot are given back
   gives_back : (o : Op) (k : ℕ) (own_slot : Slot L D) → next a ≡ o → k < 5 → hand a ≡ Some k → hand (took a (answer.Taken None)) ≡ None → me.0.held ≡ Some own_slot → me.1 ≡ (k, own_slot) ∷ []
@@ -268,8 +269,8 @@ module _ {L D : Type 0} (log_seen : L → Seen) (log_gives : L → Call → L �
       let known : Knows R.parts R.actors R.seat_of R.keeper R.out id me.0 = kept.known log_seen log_gives data_seen data_gives about s R id me.0 x one at in
       let same : HasSamePages R.parts new = record { words = refl; lists = refl } in
       let done : IsPlayed log_seen data_seen R.run (next a) (lent a) R.parts r new = subst (λ (p : Op). IsPlayed log_seen data_seen R.run p (lent a) R.parts r new) (sym is) (plays s R new (ap (λ (y : List ℕ). slice_set y (7 + k) 0) (sym R.words_are)) refl refl refl) in
-      let own : (j : ℕ) → hand (took a r) ≡ Some j → None ≡ Some (content_at new j) = λ j h. absurd (cc) in
-      let mine : ◌≡◌ {A = Slot L D} own_slot (content_at R.parts k) = kept.same_slot own_slot (content_at R.parts k) (sym held ∙ kept.holds_content log_seen log_gives data_seen data_gives about s R id me.0 x one at k held_k) in
+      let own : (j : ℕ) → hand (took a r) ≡ Some j → None ≡ Some (slot_content new j) = λ j h. absurd (cc) in
+      let mine : ◌≡◌ {A = Slot L D} own_slot (slot_content R.parts k) = kept.same_slot own_slot (slot_content R.parts k) (sym held ∙ kept.holds_content log_seen log_gives data_seen data_gives about s R id me.0 x one at k held_k) in
       let back : put_back s.homes me.1 ≡ slice_set s.homes k (maybe.some own_slot) = ap (put_back s.homes) carried in (
         viewed r None me.0.data_part,
         gives,
@@ -278,7 +279,7 @@ module _ {L D : Type 0} (log_seen : L → Seen) (log_gives : L → Call → L �
             (λ n c j ne h hold. same_content R.parts new refl refl j) (λ j u d ne h stored. (R.knows j u h).data_part d stored) (put_back s.homes me.1) R.lists_are R.log_calls R.data_calls refl
             (ap length back ∙ length-set s.homes k (maybe.some own_slot) ∙ R.slots)
             (λ j l z. ap (λ (y : List (maybe.Option (Slot L D))). get_elem? y j) back ∙ elim (ℕ_discrete j k) [
-              | yes here ↦ (ap (get_elem? (slice_set s.homes k (maybe.some own_slot))) here ∙ set_here s.homes k (maybe.some own_slot) (let n = R.slots in omega arith) ∙ ap (λ (y : Slot L D). maybe.some (maybe.some y)) (mine ∙ ap (content_at R.parts) (sym here) ∙ same_content R.parts new refl refl j))
+              | yes here ↦ (ap (get_elem? (slice_set s.homes k (maybe.some own_slot))) here ∙ set_here s.homes k (maybe.some own_slot) (let n = R.slots in omega arith) ∙ ap (λ (y : Slot L D). maybe.some (maybe.some y)) (mine ∙ ap (slot_content R.parts) (sym here) ∙ same_content R.parts new refl refl j))
               | no far ↦ set_else s.homes k j (maybe.some own_slot) far ∙ R.home j l (sym (get_or-set_other s.words (7 + k) (7 + j) 0 0 (λ e. far (omega arith))) ∙ z) ∙ ap (λ (y : Slot L D). maybe.some (maybe.some y)) (same_content R.parts new refl refl j)
             ])
             (λ z. ap (λ (y : List (maybe.Option (Slot L D))). get_elem? y 5) back ∙ set_else s.homes k 5 (maybe.some own_slot) (λ e. omega arith) ∙ R.data_home z)
@@ -294,7 +295,7 @@ module _ {L D : Type 0} (log_seen : L → Seen) (log_gives : L → Call → L �
   allows_give own_slot is free held carried =
       let goes : Handles op.GiveDevice (hand a) (λ (z : Answer). hand (took a z)) = subst (λ (p : Op). Handles p (hand a) (λ (z : Answer). hand (took a z))) is (handles a free) in
       gives_back op.GiveDevice 0 own_slot is (omega arith) goes.0 goes.1 held carried
-      (λ s R new words log_same store_same lists_same. record { code = 0; log_served = log_same; data_served = played.untouched (data_of log_seen data_seen R.run) R.parts.store new.store (lent a) op.GiveDevice 0 tt store_same; words = words; lists = ap lists_of lists_same; answered = refl })
+      (λ s R new words log_same store_same lists_same. record { code = 0; log_served = log_same; data_served = played.untouched (run_data_side log_seen data_seen R.run) R.parts.store new.store (lent a) op.GiveDevice 0 tt store_same; words = words; lists = ap lists_of lists_same; answered = refl })
 
   pub allows_give_list : (i : ℕ) (own_slot : Slot L D) → next a ≡ op.GiveList i → i < 4 → IsFreeToCheck a → me.0.held ≡ Some own_slot → me.1 ≡ (suc i, own_slot) ∷ [] → Allows Law slots id me (8 + i) (λ _. 0) (gave log_seen data_seen me)
   allows_give_list i own_slot is below free held carried =
@@ -305,7 +306,7 @@ module _ {L D : Type 0} (log_seen : L → Seen) (log_gives : L → Call → L �
       (λ s R new words log_same store_same lists_same. record {
         code = 0;
         log_served = log_same;
-        data_served = played.untouched (data_of log_seen data_seen R.run) R.parts.store new.store (lent a) (op.GiveList i) 0 tt store_same;
+        data_served = played.untouched (run_data_side log_seen data_seen R.run) R.parts.store new.store (lent a) (op.GiveList i) 0 tt store_same;
         words = words ∙ ap (λ (n : ℕ). slice_set R.parts.words.words n 0) word;
         lists = ap lists_of lists_same;
         answered = refl;
@@ -328,7 +329,7 @@ module _ {L D : Type 0} (log_seen : L → Seen) (log_gives : L → Call → L �
         let g = free_plays s R ws (swapped s.words (8 + i) 0 1 ∙ ap (λ (y : List ℕ). cond (slice_index y (8 + i) == 0) (slice_set y (8 + i) 1) y) (sym R.words_are)) (ap (λ (y : List ℕ). slice_index y (8 + i)) R.words_are ∙ free) there in
         let new : Parts L D = g.new in
         let k = finds_free o (suc i) r is (omega arith) goes.0 (goes.1 (list_said o l)) (λ j h. holders.same_number j (suc i) (sym h ∙ goes.1 (list_said o l))) s R new at (ap (slice_index s.words) word ∙ free) (g.words ∙ words ∙ ap (λ (n : ℕ). slice_set s.words n 1) (sym word)) g.count g.list_count g.log_same g.store_same g.are g.others g.plays in
-        let held : ◌≡◌ {A = Slot L D} (content_at new (suc i)) (slot.Pages (list_behind o l)) = ap slot.Pages g.own in (
+        let held : ◌≡◌ {A = Slot L D} (slot_content new (suc i)) (slot.Pages (list_behind o l)) = ap slot.Pages g.own in (
           viewed r (Some (slot.Pages (list_behind o l))) me.0.data_part,
           takes (suc i) (slot.Pages l),
           R.home (suc i) (omega arith) (ap (slice_index s.words) word ∙ free),

@@ -1,5 +1,5 @@
 -- The step that ends a device call keeps the rule: by it the seat's view takes what became of the part.
-use Rattle.std.proofs.Common.{Bool, List, None, Option, Some, [], ap, arith, cond, false, get_or, length, length-set, refl, subst, suc, sym, true, zero, ⊎_elim, ℕ, ◌+◌, ◌<◌, ◌==◌, ◌∙◌, ◌∷◌, ◌≡◌, ◌≢◌, inr}
+use Rattle.std.proofs.Common.{Bool, List, None, Option, Some, [], ap, arith, false, get_or, length, length-set, refl, subst, suc, sym, true, zero, ⊎_elim, ℕ, ◌+◌, ◌<◌, ◌∙◌, ◌∷◌, ◌≡◌, ◌≢◌, inr}
 use Rattle.std.proofs.lemmas.List.{set-get_or}
 use Rattle.std.specs.Prelude.{slice_index, slice_set}
 use lib.ListN.{get_elem?}
@@ -15,24 +15,29 @@ use Rattle.model_core.specs.declared.ops.Op.{Op}
 use Rattle.model_core.specs.declared.ops.Op.TheVariants as op
 use Rattle.redo_disk.specs.{Call, EndWith, MakesCalls}
 use Rattle.redo_disk.specs.Seen.{Seen}
+use Rattle.redo_disk.specs.declared.error.DevError.{DevError}
 use Rattle.redo_logdev.specs.Part as log
 use Rattle.redo_drive.proofs.ShapeStays.{served_shape}
 use Rattle.redo_drive.specs.LogPartSide as log_part
 use Rattle.redo_drive.proofs.CallsOn.{calls_then}
 use Rattle.redo_drive.proofs.Played as played
+use Rattle.redo_drive.proofs.Played.{CallsLog}
 use Rattle.redo_drive.specs.Calls.{CallsOn}
-use Rattle.redo_drive.specs.Lists.{listing_at, Listings, lists_of}
-use Rattle.redo_drive.specs.Playing.{data_of, HasSamePages, IsPlayed, log_of, RunOf}
+use Rattle.redo_drive.specs.Lists.{listing_at, Listings}
+use Rattle.redo_drive.specs.Devices.{call_answer, call_code, code_of}
+use Rattle.redo_drive.specs.Playing.{HasSamePages, IsPlayed, run_data_side, run_log_side, RunOf, told_by}
+use Rattle.redo_drive.specs.declared.device.Device.TheVariants.{Data, Log}
 use Rattle.redo_drive.specs.Views.{view_of, views_of}
 use Rattle.redo_drive.specs.declared.parts.Parts.{Parts}
 use Rattle.redo_rule.proofs.Allowed as allowed
-use Rattle.redo_rule.proofs.Hands.{handles}
+use Rattle.model_core.proofs.Hands.{handles}
 use Rattle.redo_rule.proofs.Holders as holders
 use Rattle.redo_rule.proofs.Kept as kept
 use Rattle.redo_rule.proofs.Retook.{one_head}
-use Rattle.redo_rule.specs.Hands.{hand, Handles, IsFreeToCheck}
-use Rattle.redo_rule.specs.Plays.{batched, behind, called, called_by, data_code, log_code, reached, Stepped, told_by}
-use Rattle.redo_rule.specs.Ruled.{content_at, Knows, Ruled}
+use Rattle.model_core.proofs.Hands.{Handles}
+use Rattle.model_core.specs.Hands.{hand, IsFreeToCheck}
+use Rattle.redo_rule.specs.Plays.{batched, behind, called, reached, Stepped}
+use Rattle.redo_rule.specs.Ruled.{Knows, Ruled, slot_content}
 use Rattle.redo_rule.specs.declared.law.About.{About}
 use Rattle.redo_rule.specs.declared.law.Keeping.{Keeping}
 use Rattle.redo_rule.specs.declared.law.Numbered.{Numbered}
@@ -41,22 +46,16 @@ use Rattle.redo_rule.specs.declared.law.Slot.TheVariants as slot
 use Rattle.redo_rule.specs.declared.law.View.{View}
 use Rattle.redo_store.specs.Part as store
 
--- the Op calls the log part
-abbrev pub CallsLog : Op → Type 0
-CallsLog (op.WriteTo t) = Unit {0}
-CallsLog op.Sync = Unit {0}
-CallsLog (op.Checkpoint x) = Unit {0}
-CallsLog _ = ⊥
+-- an actor that calls the log part holds it, and holds it after the answer
+by_answer : (after : Answer → Option ℕ) → ((n : ℕ) → after (answer.Called n) ≡ Some 0) → ((c : ℕ) → after (answer.Failed c) ≡ Some 0) → (met : Option DevError) (n : ℕ) → after (call_answer Log met n) ≡ Some 0
+by_answer after called failed None n = called n
+by_answer after called failed (Some fault) n = failed (code_of Log fault)
 
-holds_log : (o : Op) → CallsLog o → (before : Option ℕ) (behind : Answer → Option ℕ) → Handles o before behind → (before ≡ Some 0) × ((n : ℕ) → behind (answer.Called n) ≡ Some 0) × ((c : ℕ) → behind (answer.Failed c) ≡ Some 0)
-holds_log (op.WriteTo t) log before behind h = h
-holds_log op.Sync log before behind h = h
-holds_log (op.Checkpoint x) log before behind h = h
-holds_log _ log before behind h = absurd log
-
-held_behind : (b : Bool) (f : Answer → Option ℕ) (n c : ℕ) → ((n : ℕ) → f (answer.Called n) ≡ Some 0) → ((c : ℕ) → f (answer.Failed c) ≡ Some 0) → f (cond b (answer.Called n) (answer.Failed c)) ≡ Some 0
-held_behind true f n c called failed = called n
-held_behind false f n c called failed = failed c
+pub hand_of : (o : Op) → CallsLog o → (before : Option ℕ) (after : Answer → Option ℕ) → Handles o before after → (before ≡ Some 0) × ((met : Option DevError) (n : ℕ) → after (call_answer Log met n) ≡ Some 0)
+hand_of (op.WriteTo t) calls before after h = (h.0, by_answer after h.1 h.2)
+hand_of op.Sync calls before after h = (h.0, by_answer after h.1 h.2)
+hand_of (op.Checkpoint x) calls before after h = (h.0, by_answer after h.1 h.2)
+hand_of _ calls before after h = absurd calls
 
 -- what is in a list of one slot
 one_slot : {L D : Type 0} (k : ℕ) (x y : Slot L D) (l : List (ℕ × Slot L D)) → l ≡ (k, x) ∷ [] → l ≡ (k, y) ∷ [] → ◌≡◌ {A = Slot L D} x y
@@ -78,31 +77,24 @@ module _ {L D : Type 0} (log_seen : L → Seen) (log_gives : L → Call → L �
   abbrev a : model.Actor
   a = view_of x.actor
 
-  log_played : (run : RunOf L D) (o : Op) → CallsLog o → (old new : Parts L D) → new.words.words ≡ old.words.words → new.store ≡ old.store → new.lists ≡ old.lists → LogServed (log_of log_seen data_seen run) old.log (lent a) o (log_code new.log.failed) new.log
-      → IsPlayed log_seen data_seen run o (lent a) old (called_by (log_code new.log.failed) (told_by o new.log.marks.stable)) new
-  log_played run (op.WriteTo t) calls old new words store_same lists_same served = record { code = log_code new.log.failed; log_served = served; data_served = played.untouched (data_of log_seen data_seen run) old.store new.store (lent a) (op.WriteTo t) (log_code new.log.failed) tt store_same; words = words; lists = ap lists_of lists_same; answered = refl }
-  log_played run op.Sync calls old new words store_same lists_same served = record { code = log_code new.log.failed; log_served = served; data_served = played.untouched (data_of log_seen data_seen run) old.store new.store (lent a) op.Sync (log_code new.log.failed) tt store_same; words = words; lists = ap lists_of lists_same; answered = refl }
-  log_played run (op.Checkpoint y) calls old new words store_same lists_same served = record { code = log_code new.log.failed; log_served = served; data_served = played.untouched (data_of log_seen data_seen run) old.store new.store (lent a) (op.Checkpoint y) (log_code new.log.failed) tt store_same; words = words; lists = ap lists_of lists_same; answered = refl }
-  log_played run _ calls old new words store_same lists_same served = absurd calls
-
   pub allows_called : (i : ℕ) (o : Op) (p q : log.Part L) → next a ≡ o → CallsLog o → IsFreeToCheck a → me.0.held ≡ Some (slot.Log p) → me.1 ≡ (0, slot.Log q) ∷ []
-      → ((run : RunOf L D) → LogServed (log_of log_seen data_seen run) p (lent a) o (log_code q.failed) q) → MakesCalls log_gives p.dev q.dev (EndWith q.failed) → p.failed ≡ None
+      → ((run : RunOf L D) → LogServed (run_log_side log_seen data_seen run) p (lent a) o (call_code Log q.failed) q) → MakesCalls log_gives p.dev q.dev (EndWith q.failed) → p.failed ≡ None
       → Allows Law slots id me i (λ n. n) (called log_seen data_seen me)
   allows_called i o p q is calls_log free held carried served calls live s R wide at small =
       let goes : Handles o (hand a) (λ (z : Answer). hand (took a z)) = subst (λ (j : Op). Handles j (hand a) (λ (z : Answer). hand (took a z))) is (handles a free) in
-      let mine = holds_log o calls_log (hand a) (λ (z : Answer). hand (took a z)) goes in
+      let mine = hand_of o calls_log (hand a) (λ (z : Answer). hand (took a z)) goes in
       let known : Knows R.parts R.actors R.seat_of R.keeper R.out id me.0 = kept.known log_seen log_gives data_seen data_gives about s R id me.0 x one at in
       let was : ◌≡◌ {A = log.Part L} p R.parts.log = kept.same_log p R.parts.log (kept.same_slot (slot.Log p) (slot.Log R.parts.log) (sym held ∙ kept.holds_content log_seen log_gives data_seen data_gives about s R id me.0 x one at 0 mine.0)) in
       let e : slice_set s.words i (slice_index s.words i) ≡ s.words = set-get_or s.words i 0 in
       let new : Parts L D = record { words = record { pages = R.parts.words.pages; words = slice_set s.words i (slice_index s.words i) }; log = q; store = R.parts.store; lists = R.parts.lists } in
-      let r : Answer = called_by (log_code q.failed) (told_by o q.marks.stable) in
+      let r : Answer = call_answer Log q.failed (told_by o q.marks.stable) in
       let same : HasSamePages R.parts new = record { words = refl; lists = refl } in
-      let done_o : IsPlayed log_seen data_seen R.run o (lent a) R.parts r new = log_played R.run o calls_log R.parts new (e ∙ sym R.words_are) refl refl (subst (λ (z : log.Part L). LogServed (log_of log_seen data_seen R.run) z (lent a) o (log_code q.failed) q) was (served R.run)) in
+      let done_o : IsPlayed log_seen data_seen R.run o (lent a) R.parts r new = played.log_played log_seen data_seen R.run (lent a) R.parts o new r (e ∙ sym R.words_are) refl o refl calls_log refl (subst (λ (z : log.Part L). LogServed (run_log_side log_seen data_seen R.run) z (lent a) o (call_code Log q.failed) q) was (served R.run)) refl in
       let done : IsPlayed log_seen data_seen R.run (next a) (lent a) R.parts r new = subst (λ (j : Op). IsPlayed log_seen data_seen R.run j (lent a) R.parts r new) (sym is) done_o in
-      let own : (k : ℕ) → hand (took a r) ≡ Some k → Some (slot.Log q) ≡ Some (content_at new k) = λ k h.
-      ap (λ (j : ℕ). Some (content_at new j)) (holders.same_number 0 k (sym (held_behind (log_code q.failed == 0) (λ (z : Answer). hand (took a z)) (told_by o q.marks.stable) (log_code q.failed) mine.1 mine.2) ∙ h)) in
+      let own : (k : ℕ) → hand (took a r) ≡ Some k → Some (slot.Log q) ≡ Some (slot_content new k) = λ k h.
+      ap (λ (j : ℕ). Some (slot_content new j)) (holders.same_number 0 k (sym (mine.1 q.failed (told_by o q.marks.stable)) ∙ h)) in
       let holder = holders.holding log_seen data_seen R.run R.parts R.actors R.runs x.number a (kept.there log_seen log_gives data_seen data_gives about s R id me.0 x one at) 0 mine.0 in
-      let others : (n : ℕ) (c : model.Actor) (k : ℕ) → n ≢ x.number → get_elem? (views_of R.actors) n ≡ maybe.some c → hand c ≡ Some k → ◌≡◌ {A = Slot L D} (content_at R.parts k) (content_at new k) = λ n c k ne there hold. by_slot R.parts new refl k
+      let others : (n : ℕ) (c : model.Actor) (k : ℕ) → n ≢ x.number → get_elem? (views_of R.actors) n ≡ maybe.some c → hand c ≡ Some k → ◌≡◌ {A = Slot L D} (slot_content R.parts k) (slot_content new k) = λ n c k ne there hold. by_slot R.parts new refl k
       (λ z. ne (holders.one_holder log_seen data_seen R.run R.parts R.actors R.runs n x.number c a 0 there (kept.there log_seen log_gives data_seen data_gives about s R id me.0 x one at) (hold ∙ ap (λ (j : ℕ). Some j) z) mine.0)) in (
         record { pages = me.0.pages; seats = behind x r ∷ []; held = Some (slot.Log q); data_part = me.0.data_part },
         keeps,
@@ -112,24 +104,24 @@ module _ {L D : Type 0} (log_seen : L → Seen) (log_gives : L → Call → L �
             (calls_then log_gives about.opened.value.log.dev R.parts.log.dev q.dev about.opened.value.log.failed R.parts.log.failed q.failed R.log_calls
             (subst (λ (z : log.Part L). CallsOn log_gives z.dev z.failed q.dev q.failed) was (record { live = λ none. calls; over = λ some. absurd (some live) })))
             R.data_calls
-            (served_shape log_seen (log_seen R.run.first_log.dev).faults R.run.first_log.marks.number (log_part.HasBegun log_seen (lsn R.run.setup.base) R.run.first_log) p q (log_code q.failed) (lent a) o (served R.run) ∙ ap (λ (z : log.Part L). z.shape) was)
+            (served_shape log_seen (log_seen R.run.first_log.dev).faults R.run.first_log.marks.number (log_part.HasBegun log_seen (lsn R.run.setup.base) R.run.first_log) p q (call_code Log q.failed) (lent a) o (served R.run) ∙ ap (λ (z : log.Part L). z.shape) was)
             R.slots
             (λ k l z. home_of s R new refl k l holder.word_is (sym (ap (λ (y : List ℕ). slice_index y (7 + k)) e) ∙ z))
             R.data_home
-            (λ k l z. inr ((λ u. z (ap (λ (y : List ℕ). slice_index y (7 + k)) e ∙ u)), λ u. held_behind (log_code q.failed == 0) (λ (j : Answer). hand (took a j)) (told_by o q.marks.stable) (log_code q.failed) mine.1 mine.2 ∙ sym mine.0 ∙ u)),
-        λ y z one_y carries. subst (λ (j : log.Part L). Stepped log_seen data_seen y (called_by (log_code j.failed) (told_by (next (view_of y.actor)) j.marks.stable)) (Some (slot.Log j)) me.0.data_part me.1 me (record { pages = me.0.pages; seats = behind x r ∷ []; held = Some (slot.Log q); data_part = me.0.data_part }, me.1))
+            (λ k l z. inr ((λ u. z (ap (λ (y : List ℕ). slice_index y (7 + k)) e ∙ u)), λ u. mine.1 q.failed (told_by o q.marks.stable) ∙ sym mine.0 ∙ u)),
+        λ y z one_y carries. subst (λ (j : log.Part L). Stepped log_seen data_seen y (call_answer Log j.failed (told_by (next (view_of y.actor)) j.marks.stable)) (Some (slot.Log j)) me.0.data_part me.1 me (record { pages = me.0.pages; seats = behind x r ∷ []; held = Some (slot.Log q); data_part = me.0.data_part }, me.1))
             (kept.same_log q z (one_slot 0 (slot.Log q) (slot.Log z) me.1 carried carries))
-            (subst (λ (j : Numbered). Stepped log_seen data_seen j (called_by (log_code q.failed) (told_by (next (view_of j.actor)) q.marks.stable)) (Some (slot.Log q)) me.0.data_part me.1 me (record { pages = me.0.pages; seats = behind x r ∷ []; held = Some (slot.Log q); data_part = me.0.data_part }, me.1))
+            (subst (λ (j : Numbered). Stepped log_seen data_seen j (call_answer Log q.failed (told_by (next (view_of j.actor)) q.marks.stable)) (Some (slot.Log q)) me.0.data_part me.1 me (record { pages = me.0.pages; seats = behind x r ∷ []; held = Some (slot.Log q); data_part = me.0.data_part }, me.1))
             (one_head me.0.seats x y one one_y)
-            (subst (λ (j : Op). Stepped log_seen data_seen x (called_by (log_code q.failed) (told_by j q.marks.stable)) (Some (slot.Log q)) me.0.data_part me.1 me (record { pages = me.0.pages; seats = behind x r ∷ []; held = Some (slot.Log q); data_part = me.0.data_part }, me.1)) (sym is)
+            (subst (λ (j : Op). Stepped log_seen data_seen x (call_answer Log q.failed (told_by j q.marks.stable)) (Some (slot.Log q)) me.0.data_part me.1 me (record { pages = me.0.pages; seats = behind x r ∷ []; held = Some (slot.Log q); data_part = me.0.data_part }, me.1)) (sym is)
             (kept.steps log_seen log_gives data_seen data_gives about s R id me.0 x one at r new same done me.1 (Some (slot.Log q)) me.0.data_part me.1 own (λ d h. (known.data_part d h).1)))),
       )
     where
-      by_slot : (old new : Parts L D) → new.lists ≡ old.lists → (k : ℕ) → (k ≡ 0 → ⊥) → ◌≡◌ {A = Slot L D} (content_at old k) (content_at new k)
+      by_slot : (old new : Parts L D) → new.lists ≡ old.lists → (k : ℕ) → (k ≡ 0 → ⊥) → ◌≡◌ {A = Slot L D} (slot_content old k) (slot_content new k)
       by_slot old new same zero ne = absurd (ne refl)
       by_slot old new same (suc j) ne = ap (λ (z : Listings). slot.Pages (listing_at z.lists j)) (sym same)
 
-      home_of : (s : State (Slot L D) (View L D)) (R : Law s) (new : Parts L D) → new.lists ≡ R.parts.lists → (k : ℕ) → k < 5 → slice_index R.parts.words.words (7 + 0) ≡ 1 → slice_index s.words (7 + k) ≡ 0 → get_elem? s.homes k ≡ maybe.some (maybe.some (content_at new k))
+      home_of : (s : State (Slot L D) (View L D)) (R : Law s) (new : Parts L D) → new.lists ≡ R.parts.lists → (k : ℕ) → k < 5 → slice_index R.parts.words.words (7 + 0) ≡ 1 → slice_index s.words (7 + k) ≡ 0 → get_elem? s.homes k ≡ maybe.some (maybe.some (slot_content new k))
       home_of s R new same zero l taken z = let t : slice_index s.words 7 ≡ 1 = sym (ap (λ (y : List ℕ). slice_index y 7) R.words_are) ∙ taken in absurd (omega arith)
       home_of s R new same (suc j) l taken z = R.home (suc j) l z ∙ ap (λ (y : Slot L D). maybe.some (maybe.some y)) (by_slot R.parts new same (suc j) (λ e. omega arith))
 
@@ -187,7 +179,7 @@ module _ {L D : Type 0} (log_seen : L → Seen) (log_gives : L → Call → L �
 
   -- and after its call it is back
   pub allows_batched : (i : ℕ) (d e : store.Part D) → next a ≡ op.WriteBatch → IsFreeToCheck a → me.0.data_part ≡ Some (record { part = d; out = true }) → me.1 ≡ (5, slot.Data e) ∷ []
-      → ((run : RunOf L D) → DataServed (data_of log_seen data_seen run) d (lent a) op.WriteBatch (data_code e.failed) e) → MakesCalls data_gives d.dev e.dev (EndWith e.failed) → d.failed ≡ None
+      → ((run : RunOf L D) → DataServed (run_data_side log_seen data_seen run) d (lent a) op.WriteBatch (call_code Data e.failed) e) → MakesCalls data_gives d.dev e.dev (EndWith e.failed) → d.failed ≡ None
       → Allows Law slots id me i (λ n. n) (batched log_seen data_seen me)
   allows_batched i d e is free has carried served calls live s R wide at small =
       let goes : Handles op.WriteBatch (hand a) (λ (z : Answer). hand (took a z)) = subst (λ (j : Op). Handles j (hand a) (λ (z : Answer). hand (took a z))) is (handles a free) in
@@ -196,13 +188,13 @@ module _ {L D : Type 0} (log_seen : L → Seen) (log_gives : L → Call → L �
       let was : ◌≡◌ {A = store.Part D} d R.parts.store = mine.1 in
       let q : slice_set s.words i (slice_index s.words i) ≡ s.words = set-get_or s.words i 0 in
       let new : Parts L D = record { words = record { pages = R.parts.words.pages; words = slice_set s.words i (slice_index s.words i) }; log = R.parts.log; store = e; lists = R.parts.lists } in
-      let r : Answer = called_by (data_code e.failed) 0 in
+      let r : Answer = call_answer Data e.failed 0 in
       let same : HasSamePages R.parts new = record { words = refl; lists = refl } in
       let done : IsPlayed log_seen data_seen R.run (next a) (lent a) R.parts r new = subst (λ (j : Op). IsPlayed log_seen data_seen R.run j (lent a) R.parts r new) (sym is)
-      (record { code = data_code e.failed; log_served = refl; data_served = subst (λ (z : store.Part D). DataServed (data_of log_seen data_seen R.run) z (lent a) op.WriteBatch (data_code e.failed) e) was (served R.run); words = q ∙ sym R.words_are; lists = refl; answered = refl }) in
+      (played.batch_played log_seen data_seen R.run (lent a) R.parts op.WriteBatch new r (q ∙ sym R.words_are) refl refl refl (subst (λ (z : store.Part D). DataServed (run_data_side log_seen data_seen R.run) z (lent a) op.WriteBatch (call_code Data e.failed) e) was (served R.run)) refl) in
       let kept_now : Option (Keeping D) = Some (record { part = e; out = false }) in
       let w : View L D = record { pages = me.0.pages; seats = behind x r ∷ []; held = me.0.held; data_part = kept_now } in
-      let own : (k : ℕ) → hand (took a r) ≡ Some k → me.0.held ≡ Some (content_at new k) = λ k h. let n = goes.1 r in absurd (cc) in
+      let own : (k : ℕ) → hand (took a r) ≡ Some k → me.0.held ≡ Some (slot_content new k) = λ k h. let n = goes.1 r in absurd (cc) in
       let left : (z : Keeping D) → kept_now ≡ Some z → (◌≡◌ {A = store.Part D} z.part e) × (false ≡ z.out) = λ z h.
       (sym (ap (λ (o : Option (Keeping D)). part_or e o) h), ap (λ (o : Option (Keeping D)). is_out o) h) in
       let back : put_back s.homes me.1 ≡ slice_set s.homes 5 (maybe.some (slot.Data e)) = ap (put_back s.homes) carried in (
@@ -219,7 +211,7 @@ module _ {L D : Type 0} (log_seen : L → Seen) (log_gives : L → Call → L �
             ∙ R.home k l (sym (ap (λ (y : List ℕ). slice_index y (7 + k)) q) ∙ z) ∙ ap (λ (y : Slot L D). maybe.some (maybe.some y)) (allowed.same_content R.parts new refl refl k))
             (λ z. ap (λ (y : List (maybe.Option (Slot L D))). get_elem? y 5) back ∙ set_here s.homes 5 (maybe.some (slot.Data e)) (let n = R.slots in omega arith))
             (λ k l z. inr ((λ u. z (ap (λ (y : List ℕ). slice_index y (7 + k)) q ∙ u)), λ u. let n = goes.0 in absurd (cc))),
-        λ y f one_y carries. subst (λ (j : store.Part D). Stepped log_seen data_seen y (called_by (data_code j.failed) 0) me.0.held (Some (record { part = j; out = false })) (rest me.1) me (w, rest me.1))
+        λ y f one_y carries. subst (λ (j : store.Part D). Stepped log_seen data_seen y (call_answer Data j.failed 0) me.0.held (Some (record { part = j; out = false })) (rest me.1) me (w, rest me.1))
             (kept.same_data e f (one_slot 5 (slot.Data e) (slot.Data f) me.1 carried carries))
             (subst (λ (j : Numbered). Stepped log_seen data_seen j r me.0.held kept_now (rest me.1) me (record { pages = me.0.pages; seats = behind x r ∷ []; held = me.0.held; data_part = kept_now }, rest me.1)) (one_head me.0.seats x y one one_y)
             (kept.steps log_seen log_gives data_seen data_gives about s R id me.0 x one at r new same done me.1 me.0.held kept_now (rest me.1) own (λ z h. (left z h).0))),

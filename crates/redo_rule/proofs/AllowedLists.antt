@@ -6,7 +6,7 @@ use mathlib.Core.Option as maybe
 use native.Mathlib.Decide.{ℕ_discrete}
 use prog.Atomic.{either}
 use Rattle.atomic_table.specs.Table.{Allows, Me, State}
-use Rattle.model_core.specs.{lent, next, oldest_end, took}
+use Rattle.model_core.specs.{lent, list_word, next, oldest_end, took}
 use Rattle.model_core.specs.Actors as model
 use Rattle.model_core.specs.declared.ops.Answer.{Answer}
 use Rattle.model_core.specs.declared.ops.Answer.TheVariants as answer
@@ -16,19 +16,21 @@ use Rattle.model_running.proofs.ListsReady.{list_ready}
 use Rattle.model_running.specs.ListReady.{ListReady}
 use Rattle.redo_disk.specs.{Call}
 use Rattle.redo_disk.specs.Seen.{Seen}
-use Rattle.redo_flushlist.specs.{Listing, without}
+use Rattle.redo_flushlist.specs.{Listing, without_page}
 use Rattle.redo_flushlist.specs.declared.dirty.Dirty.{Dirty}
+use Rattle.redo_drive.proofs.Listings.{add_left, remove_left}
 use Rattle.redo_drive.proofs.Played as played
 use Rattle.redo_drive.specs.Lists.{added, AreLists, listing_at, Listings, lists_of, no_list, removed, with_list}
-use Rattle.redo_drive.specs.Playing.{data_of, log_of}
+use Rattle.redo_drive.specs.Playing.{run_data_side, run_log_side}
 use Rattle.redo_drive.specs.Views.{view_of, views_of}
 use Rattle.redo_drive.specs.declared.parts.Parts.{Parts}
 use Rattle.redo_rule.proofs.Allowed as allowed
-use Rattle.redo_rule.proofs.Hands.{handles}
+use Rattle.model_core.proofs.Hands.{handles}
 use Rattle.redo_rule.proofs.Retook.{one_head}
-use Rattle.redo_rule.specs.Hands.{hand, Handles, IsFreeToCheck}
+use Rattle.model_core.proofs.Hands.{Handles}
+use Rattle.model_core.specs.Hands.{hand, IsFreeToCheck}
 use Rattle.redo_rule.specs.Plays.{list_behind, list_said, ListFits, seized_list, Stepped, TakesList}
-use Rattle.redo_rule.specs.Ruled.{content_at, Ruled}
+use Rattle.redo_rule.specs.Ruled.{Ruled, slot_content}
 use Rattle.redo_rule.specs.declared.law.About.{About}
 use Rattle.redo_rule.specs.declared.law.Numbered.{Numbered}
 use Rattle.redo_rule.specs.declared.law.Slot.{Slot}
@@ -47,7 +49,7 @@ with_are listings i entries are below = record {
 }
 
 module _ {L D : Type 0} where
-  with_others : (old new : Parts L D) (i : ℕ) (entries : List Dirty) → new.log ≡ old.log → ◌≡◌ {A = Listings} new.lists (with_list old.lists i entries) → (j : ℕ) → j ≢ suc i → ◌≡◌ {A = Slot L D} (content_at old j) (content_at new j)
+  with_others : (old new : Parts L D) (i : ℕ) (entries : List Dirty) → new.log ≡ old.log → ◌≡◌ {A = Listings} new.lists (with_list old.lists i entries) → (j : ℕ) → j ≢ suc i → ◌≡◌ {A = Slot L D} (slot_content old j) (slot_content new j)
   with_others old new i entries log_same lists zero far = ap slot.Log (sym log_same)
   with_others old new i entries log_same lists (suc j) far = ap slot.Pages (sym (ap (λ (z : Listings). listing_at z.lists j) lists ∙ get_or-set_other old.lists.lists i j (record { pages = (listing_at old.lists.lists i).pages; entries = entries }) no_list (λ z. far (ap suc z))))
 
@@ -74,7 +76,7 @@ module _ {L D : Type 0} (log_seen : L → Seen) (log_gives : L → Call → L �
   weaker i f Then Other goes allows s R wide at small = let r = allows s R wide at small in (r.0, r.1, r.2, r.3, goes (slice_index s.words i) _ r.4)
 
   ready : (s : State (Slot L D) (View L D)) (R : Law s) → get_elem? (views_of R.actors) x.number ≡ maybe.some a → ListReady R.run.setup.pages (lists_of R.parts.lists) (next a)
-  ready s R there = let W = R.runs.running in list_ready (log_of log_seen data_seen R.run) (data_of log_seen data_seen R.run) R.run.setup 0 W.shared W.log_ghost W.page_ghost (lists_of R.parts.lists) R.parts.log R.parts.store (views_of R.actors) x.number W.both a there
+  ready s R there = let W = R.runs.running in list_ready (run_log_side log_seen data_seen R.run) (run_data_side log_seen data_seen R.run) R.run.setup 0 W.shared W.log_ghost W.page_ghost (lists_of R.parts.lists) R.parts.log R.parts.store (views_of R.actors) x.number W.both a there
 
   -- TakeAdd
   pub allows_take_add : (p y : ℕ) → next a ≡ op.TakeAdd p y → IsFreeToCheck a → Allows Law slots id me (8 + p % 4) (λ n. either (eqb n 0) 1 n) (seized_list log_seen data_seen me)
@@ -85,9 +87,9 @@ module _ {L D : Type 0} (log_seen : L → Seen) (log_gives : L → Call → L �
       (λ s R new busy words log_same store_same lists_same. let word : 7 + suc (p % 4) ≡ 8 + p % 4 = omega arith in
       let busy_p : slice_index R.parts.words.words (8 + p % 4) ≢ 0 = λ z. busy (ap (slice_index s.words) word ∙ sym (ap (λ (w : List ℕ). slice_index w (8 + p % 4)) R.words_are) ∙ z) in
       let f = ne_eqb (slice_index R.parts.words.words (8 + p % 4)) 0 busy_p in
-      played.took_add log_seen data_seen R.run (lent a) R.parts new answer.Held (record { log = log_same; data_part = store_same }) (op.TakeAdd p y) p y refl R.lists_are
+      played.took_add log_seen data_seen R.run (lent a) R.parts new answer.Held (record { log = log_same; data_part = store_same }) (op.TakeAdd p y) p y refl
       (words ∙ sym (ap (λ (b : Bool). cond b (slice_set R.parts.words.words (8 + p % 4) 1) R.parts.words.words) f))
-      (lists_same ∙ sym (ap (λ (b : Bool). cond b (added R.parts.lists p y) R.parts.lists) f)) (sym (ap (λ (b : Bool). cond b (answer.Taken None) answer.Held) f)))
+      (add_left R.parts.lists new.lists (list_word R.parts.words.words) p y R.lists_are (lists_same ∙ sym (ap (λ (b : Bool). cond b (added R.parts.lists p y) R.parts.lists) f))) (sym (ap (λ (b : Bool). cond b (answer.Taken None) answer.Held) f)))
       (λ s R ws words free_word there.
       let f = eq-eqb (slice_index R.parts.words.words (8 + p % 4)) 0 free_word in
       let entries : List Dirty = (listing_at R.parts.lists.lists (p % 4)).entries ++ (record { page = p; oldest = y }) ∷ [] in
@@ -104,8 +106,8 @@ module _ {L D : Type 0} (log_seen : L → Seen) (log_gives : L → Call → L �
         others = with_others R.parts new (p % 4) entries refl refl;
         own = get_or-set_same R.parts.lists.lists (p % 4) (record { pages = (listing_at R.parts.lists.lists (p % 4)).pages; entries = entries }) no_list (let n = R.lists_are.count in omega arith);
         fits = ((let a1 = may.0 in let a2 = R.lists_are.its_pages (p % 4) (omega arith) in let a3 = R.runs.list_pages in omega arith), may.1, may.2, R.runs.running.both.paged.paged.lists.real (p % 4));
-        plays = played.took_add log_seen data_seen R.run (lent a) R.parts new (answer.Taken None) (record { log = refl; data_part = refl }) (op.TakeAdd p y) p y refl R.lists_are words
-            (sym (ap (λ (b : Bool). cond b (added R.parts.lists p y) R.parts.lists) f)) (sym (ap (λ (b : Bool). cond b (answer.Taken None) answer.Held) f));
+        plays = played.took_add log_seen data_seen R.run (lent a) R.parts new (answer.Taken None) (record { log = refl; data_part = refl }) (op.TakeAdd p y) p y refl words
+            (add_left R.parts.lists new.lists (list_word R.parts.words.words) p y R.lists_are (sym (ap (λ (b : Bool). cond b (added R.parts.lists p y) R.parts.lists) f))) (sym (ap (λ (b : Bool). cond b (answer.Taken None) answer.Held) f));
       }))
 
   -- TakeRemove
@@ -117,12 +119,12 @@ module _ {L D : Type 0} (log_seen : L → Seen) (log_gives : L → Call → L �
       (λ s R new busy words log_same store_same lists_same. let word : 7 + suc (p % 4) ≡ 8 + p % 4 = omega arith in
       let busy_p : slice_index R.parts.words.words (8 + p % 4) ≢ 0 = λ z. busy (ap (slice_index s.words) word ∙ sym (ap (λ (w : List ℕ). slice_index w (8 + p % 4)) R.words_are) ∙ z) in
       let f = ne_eqb (slice_index R.parts.words.words (8 + p % 4)) 0 busy_p in
-      played.took_remove log_seen data_seen R.run (lent a) R.parts new answer.Held (record { log = log_same; data_part = store_same }) (op.TakeRemove p) p refl R.lists_are
+      played.took_remove log_seen data_seen R.run (lent a) R.parts new answer.Held (record { log = log_same; data_part = store_same }) (op.TakeRemove p) p refl
       (words ∙ sym (ap (λ (b : Bool). cond b (slice_set R.parts.words.words (8 + p % 4) 1) R.parts.words.words) f))
-      (lists_same ∙ sym (ap (λ (b : Bool). cond b (removed R.parts.lists p) R.parts.lists) f)) (sym (ap (λ (b : Bool). cond b (answer.Taken None) answer.Held) f)))
+      (remove_left R.parts.lists new.lists (list_word R.parts.words.words) p R.lists_are (lists_same ∙ sym (ap (λ (b : Bool). cond b (removed R.parts.lists p) R.parts.lists) f))) (sym (ap (λ (b : Bool). cond b (answer.Taken None) answer.Held) f)))
       (λ s R ws words free_word there.
       let f = eq-eqb (slice_index R.parts.words.words (8 + p % 4)) 0 free_word in
-      let entries : List Dirty = without p (listing_at R.parts.lists.lists (p % 4)).entries in
+      let entries : List Dirty = without_page p (listing_at R.parts.lists.lists (p % 4)).entries in
       let new : Parts L D = record { words = record { pages = R.parts.words.pages; words = ws }; log = R.parts.log; store = R.parts.store; lists = removed R.parts.lists p } in
       let may : ListReady R.run.setup.pages (lists_of R.parts.lists) (op.TakeRemove p) = subst (ListReady R.run.setup.pages (lists_of R.parts.lists)) is (ready s R there) in
       record {
@@ -136,8 +138,8 @@ module _ {L D : Type 0} (log_seen : L → Seen) (log_gives : L → Call → L �
         others = with_others R.parts new (p % 4) entries refl refl;
         own = get_or-set_same R.parts.lists.lists (p % 4) (record { pages = (listing_at R.parts.lists.lists (p % 4)).pages; entries = entries }) no_list (let n = R.lists_are.count in omega arith);
         fits = may;
-        plays = played.took_remove log_seen data_seen R.run (lent a) R.parts new (answer.Taken None) (record { log = refl; data_part = refl }) (op.TakeRemove p) p refl R.lists_are words
-            (sym (ap (λ (b : Bool). cond b (removed R.parts.lists p) R.parts.lists) f)) (sym (ap (λ (b : Bool). cond b (answer.Taken None) answer.Held) f));
+        plays = played.took_remove log_seen data_seen R.run (lent a) R.parts new (answer.Taken None) (record { log = refl; data_part = refl }) (op.TakeRemove p) p refl words
+            (remove_left R.parts.lists new.lists (list_word R.parts.words.words) p R.lists_are (sym (ap (λ (b : Bool). cond b (removed R.parts.lists p) R.parts.lists) f))) (sym (ap (λ (b : Bool). cond b (answer.Taken None) answer.Held) f));
       }))
 
   -- TakeOldest
@@ -152,7 +154,7 @@ module _ {L D : Type 0} (log_seen : L → Seen) (log_gives : L → Call → L �
       record {
         code = 0;
         log_served = log_same;
-        data_served = played.untouched (data_of log_seen data_seen R.run) R.parts.store new.store (lent a) (op.TakeOldest i) 0 tt store_same;
+        data_served = played.untouched (run_data_side log_seen data_seen R.run) R.parts.store new.store (lent a) (op.TakeOldest i) 0 tt store_same;
         words = words ∙ sym (ap (λ (b : Bool). cond b (slice_set R.parts.words.words (8 + i) 1) R.parts.words.words) f);
         lists = ap lists_of lists_same;
         answered = sym (ap (λ (b : Bool). cond b (answer.Taken (oldest_end (lists_of R.parts.lists i))) answer.Held) f);
@@ -174,7 +176,7 @@ module _ {L D : Type 0} (log_seen : L → Seen) (log_gives : L → Call → L �
         plays = record {
           code = 0;
           log_served = refl;
-          data_served = played.untouched (data_of log_seen data_seen R.run) R.parts.store R.parts.store (lent a) (op.TakeOldest i) 0 tt refl;
+          data_served = played.untouched (run_data_side log_seen data_seen R.run) R.parts.store R.parts.store (lent a) (op.TakeOldest i) 0 tt refl;
           words = words;
           lists = refl;
           answered = sym (ap (λ (b : Bool). cond b (answer.Taken (oldest_end (lists_of R.parts.lists i))) answer.Held) f);

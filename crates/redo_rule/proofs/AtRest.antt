@@ -11,7 +11,7 @@ use Rattle.redo_drive.specs.Views.{view_of}
 use Rattle.redo_drive.specs.declared.actor.Actor.{Actor}
 use Rattle.redo_rule.proofs.Gathered.{there}
 use Rattle.redo_rule.specs.Cutting.{AreFreeToCheck, HoldNothing}
-use Rattle.redo_rule.specs.Hands.{HoldsNothing}
+use Rattle.model_core.specs.Hands.{HoldsNothing}
 use Rattle.redo_rule.specs.Mine.{number_of}
 use Rattle.redo_rule.specs.Seating.{IsSeatOf}
 use Rattle.redo_rule.specs.Sharing.{AreSeatsOf}

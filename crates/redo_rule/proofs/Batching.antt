@@ -1,5 +1,5 @@
 -- What a call of the data part asks and leaves.
-use Rattle.std.proofs.Common.{List, Err, None, Ok, Option, Result, Some, [], ap, arith, false, get_or, refl, subst, sym, true, ℕ, ◌<◌, ◌∙◌, ◌∷◌, ◌≡◌}
+use Rattle.std.proofs.Common.{List, None, Option, Some, [], ap, arith, false, get_or, subst, sym, true, ℕ, ◌<◌, ◌∙◌, ◌∷◌, ◌≡◌}
 use Rattle.atomic_table.specs.Seated.{TableId}
 use Rattle.atomic_table.specs.Table.{Allows, Me, rest}
 use Rattle.atomic_table.specs.declared.shared.Seat.{Seat}
@@ -11,18 +11,19 @@ use Rattle.model_core.specs.declared.ops.Op.{Op}
 use Rattle.model_core.specs.declared.ops.Op.TheVariants as op
 use Rattle.model_core.specs.declared.ops.Step.{Step}
 use Rattle.redo_drive.specs.DataPartSide as data_part
-use Rattle.redo_disk.specs.{Call, EndWith, error_of, MakesCalls}
+use Rattle.redo_disk.specs.{Call, EndWith, MakesCalls}
 use Rattle.redo_disk.specs.Seen.{Seen}
-use Rattle.redo_disk.specs.declared.error.DevError.{DevError}
-use Rattle.redo_drive.specs.Playing.{data_of, DataReady, HasWholePages, MayBatchLent, RunOf}
+use Rattle.redo_drive.specs.Devices.{call_answer, call_code}
+use Rattle.redo_drive.specs.Playing.{DataReady, HasWholePages, MayBatchLent, run_data_side, RunOf}
 use Rattle.redo_drive.specs.Views.{view_of}
+use Rattle.redo_drive.specs.declared.device.Device.TheVariants.{Data}
 use Rattle.redo_rule.proofs.AllowedCalls.{allows_batched, allows_reach}
 use Rattle.redo_rule.proofs.Kept as kept
 use Rattle.redo_rule.proofs.Retook.{view_retook}
 use Rattle.redo_rule.proofs.Stepping as stepping
-use Rattle.redo_rule.specs.Hands.{hand, IsFreeToCheck}
+use Rattle.model_core.specs.Hands.{hand, IsFreeToCheck}
 use Rattle.redo_rule.specs.Mine.{HasPlayed, Mine, number_in, number_of}
-use Rattle.redo_rule.specs.Plays.{batched, behind, called_by, Carries, data_code, MayGo, reached, Shown, Stepped}
+use Rattle.redo_rule.specs.Plays.{batched, behind, Carries, MayGo, reached, Shown, Stepped}
 use Rattle.redo_rule.specs.Ruled.{Ruled}
 use Rattle.redo_rule.specs.declared.law.About.{About}
 use Rattle.redo_rule.specs.Seating.{HasPart}
@@ -34,18 +35,6 @@ use Rattle.redo_store.specs.Part as store
 use Rattle.redo_words.specs.{Lends}
 use Rattle.redo_words.specs.declared.lent.Lent.{Lent}
 use Rattle.redo_words.specs.declared.lent.Lent.TheVariants as lending
-
-result_is : (r : Result (Unit {0}) DevError) → data_part.result_code r ≡ data_code (error_of r)
-result_is (Ok x) = refl
-result_is (Err e) = refl
-
--- the code of the call is what its part tells
-code_is : {D : Type 0} (seen : D → Seen) (faults : ℕ) (shape : Shape) (Begun : Type 0) (d e : store.Part D) (code : ℕ) (l : Lent) (ml : model.Lent) → Lends l ml → MayBatchLent d l → DataServed (data_part.data_side seen faults shape Begun) d ml op.WriteBatch code e → code ≡ data_code e.failed
-code_is seen faults shape Begun d e code (lending.Batch pages frames) (model.Batch batch) lends may w = w.code_is ∙ result_is w.result ∙ ap data_code (sym w.step.failed)
-code_is seen faults shape Begun d e code (lending.Batch pages frames) model.Nothing lends may w = absurd lends
-code_is seen faults shape Begun d e code (lending.Batch pages frames) (model.Blocks bytes firsts) lends may w = absurd lends
-code_is seen faults shape Begun d e code lending.Nothing ml lends may w = absurd may
-code_is seen faults shape Begun d e code (lending.Blocks bytes firsts) ml lends may w = absurd may
 
 live_of : {D : Type 0} (d : store.Part D) (l : Lent) → MayBatchLent d l → d.failed ≡ None
 live_of d (lending.Batch pages frames) may = may.0
@@ -92,29 +81,25 @@ module _ {L D : Type 0} (table : TableId) (seat : Seat (Slot L D) (View L D)) (a
         bare : (5, z) ∷ rest out.me.1 ≡ (5, slot.Data e) ∷ []
         bare = ap (λ (w : Slot L D). (5, w) ∷ rest out.me.1) z_is ∙ ap (λ (w : List (ℕ × Slot L D)). (5, slot.Data e) ∷ rest w) carries_part
 
-        abbrev Served : (D → Seen) → Lent → ℕ → Type 0
-        Served data_seen l code = (faults : ℕ) (shape : Shape) (opened : ℕ → KeptPage) (first : store.Part D) (ml : model.Lent) → Lends l ml → HasWholePages op.WriteBatch ml → DataServed (data_part.data_side data_seen faults shape (data_part.HasBegun data_seen opened first)) p ml op.WriteBatch code e
+        abbrev Served : (D → Seen) → Lent → Type 0
+        Served data_seen l = (faults : ℕ) (shape : Shape) (opened : ℕ → KeptPage) (first : store.Part D) (ml : model.Lent) → Lends l ml → HasWholePages p.shape op.WriteBatch ml → DataServed (data_part.data_side data_seen faults shape (data_part.HasBegun data_seen opened first)) p ml op.WriteBatch (call_code Data e.failed) e
 
-        whole : HasWholePages op.WriteBatch (lent a)
-        whole = subst (λ (o : Op). HasWholePages o (lent a)) is mine.may.whole
+        whole : HasWholePages p.shape op.WriteBatch (lent a)
+        whole = subst (λ (o : Op). HasWholePages p.shape o (lent a)) is
+            (subst (λ (w : store.Part D). HasWholePages w.shape (next a) (lent a)) (sym was) (mine.may.whole (record { part = d; out = false }) has))
 
         may_p : (l : Lent) → Lends l (lent a) → MayBatchLent p l
         may_p l lends = subst (λ (w : store.Part D). MayBatchLent w l) (sym was) (may_batch l lends)
 
-        pub answer_is : (data_seen : D → Seen) (l : Lent) → Lends l (lent a) → (code : ℕ) → Served data_seen l code → code ≡ data_code e.failed
-        answer_is data_seen l lends code served = code_is data_seen 0 p.shape (data_part.HasBegun data_seen (λ _. record { lsn = 0; bytes = [] }) p) p e code l (lent a) lends (may_p l lends)
-            (served 0 p.shape (λ _. record { lsn = 0; bytes = [] }) p (lent a) lends whole)
-
-        pub batched_ok : (log_seen : L → Seen) (log_gives : L → Call → L → Type 0) (data_seen : D → Seen) (data_gives : D → Call → D → Type 0) (about : About L D) (l : Lent) → Lends l (lent a) → (code : ℕ) → Served data_seen l code
+        pub batched_ok : (log_seen : L → Seen) (log_gives : L → Call → L → Type 0) (data_seen : D → Seen) (data_gives : D → Call → D → Type 0) (about : About L D) (l : Lent) → Lends l (lent a) → Served data_seen l
             → MakesCalls data_gives p.dev e.dev (EndWith e.failed)
             → (out.table_id ≡ table) × (0 < table.words) × Allows (Ruled log_seen log_gives data_seen data_gives about) table.slots out.id (out.me.0, (5, z) ∷ rest out.me.1) 0 (λ n. n) (batched log_seen data_seen (out.me.0, (5, z) ∷ rest out.me.1))
-        batched_ok log_seen log_gives data_seen data_gives about l lends code served calls =
+        batched_ok log_seen log_gives data_seen data_gives about l lends served calls =
             let asks : next (view_of mine.who.actor) ≡ op.WriteBatch = ap next mine.state ∙ is in
             let free : IsFreeToCheck (view_of mine.who.actor) = subst IsFreeToCheck (sym mine.state) mine.may.free in
-            let c : code ≡ data_code e.failed = answer_is data_seen l lends code served in
-            let done : (run : RunOf L D) → DataServed (data_of log_seen data_seen run) p (lent (view_of mine.who.actor)) op.WriteBatch (data_code e.failed) e = λ run.
-            subst (λ (w : model.Actor). DataServed (data_of log_seen data_seen run) p (lent w) op.WriteBatch (data_code e.failed) e) (sym mine.state)
-            (subst (λ (k : ℕ). DataServed (data_of log_seen data_seen run) p (lent a) op.WriteBatch k e) c (served (data_seen run.first_data.dev).faults run.shape run.setup.opened run.first_data (lent a) lends whole)) in
+            let done : (run : RunOf L D) → DataServed (run_data_side log_seen data_seen run) p (lent (view_of mine.who.actor)) op.WriteBatch (call_code Data e.failed) e = λ run.
+            subst (λ (w : model.Actor). DataServed (run_data_side log_seen data_seen run) p (lent w) op.WriteBatch (call_code Data e.failed) e) (sym mine.state)
+            (served (data_seen run.first_data.dev).faults run.shape run.setup.opened run.first_data (lent a) lends whole) in
             let one : out.me.0.seats ≡ mine.who ∷ [] = ap (λ (m : Me (Slot L D) (View L D)). m.0.seats) out_is ∙ mine.one in
             let keeps : out.me.0.data_part ≡ Some (record { part = p; out = true }) = ap (λ (m : Me (Slot L D) (View L D)). m.0.data_part) out_is ∙ ap (λ (w : store.Part D). Some (record { part = w; out = true })) (sym was) in (
               out_table ∙ mine.of,
@@ -123,7 +108,7 @@ module _ {L D : Type 0} (table : TableId) (seat : Seat (Slot L D) (View L D)) (a
             )
 
         module _ (log_seen : L → Seen) (data_seen : D → Seen) (after : Seat (Slot L D) (View L D)) (same : after.table_id ≡ out.table_id) (m : ℕ) (told_after : batched log_seen data_seen (out.me.0, (5, z) ∷ rest out.me.1) m after.me)
-            (r : Answer) (r_is : r ≡ called_by (data_code e.failed) 0) (b : model.Actor) (b_is : b ≡ took a r) where
+            (r : Answer) (r_is : r ≡ call_answer Data e.failed 0) (b : model.Actor) (b_is : b ≡ took a r) where
           stepped : Stepped log_seen data_seen mine.who r out.me.0.held (Some (record { part = e; out = false })) (rest out.me.1) (out.me.0, (5, z) ∷ rest out.me.1) after.me
           stepped = subst (λ (w : Answer). Stepped log_seen data_seen mine.who w out.me.0.held (Some (record { part = e; out = false })) (rest out.me.1) (out.me.0, (5, z) ∷ rest out.me.1) after.me) (sym r_is)
               (told_after mine.who e (ap (λ (w : Me (Slot L D) (View L D)). w.0.seats) out_is ∙ mine.one) bare)

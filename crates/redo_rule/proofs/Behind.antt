@@ -2,10 +2,13 @@
 use Rattle.std.proofs.Common.{Bool, None, Option, Some, ap, subst, sym, true, ◌∙◌, ◌≡◌}
 use Rattle.atomic_table.specs.Seated.{TableId}
 use Rattle.atomic_table.specs.declared.shared.Seat.{Seat}
-use Rattle.model_core.specs.{took}
+use Rattle.model_core.proofs.Asks.{batch_writer}
+use Rattle.model_core.proofs.Later.{took_later}
+use Rattle.model_core.specs.{next, took}
 use Rattle.model_core.specs.Actors as model
+use Rattle.model_core.specs.Later.{IsSameActor}
+use Rattle.model_core.specs.declared.ops.Op.TheVariants as op
 use Rattle.model_core.specs.declared.ops.Step.{Step}
-use Rattle.model_running.proofs.SeatsKeep.{SameActor, took_keeps}
 use Rattle.redo_disk.specs.Seen.{Seen}
 use Rattle.redo_rule.specs.Mine.{HasPlayed, Mine}
 use Rattle.redo_rule.specs.Seating.{HasPart, IsCleaner, IsSeatOf}
@@ -13,23 +16,16 @@ use Rattle.redo_rule.specs.declared.law.Keeping.{Keeping}
 use Rattle.redo_rule.specs.declared.law.Slot.{Slot}
 use Rattle.redo_rule.specs.declared.law.View.{View}
 
-same_kind : (a b : model.Actor) → SameActor a b → IsCleaner b → IsCleaner a
-same_kind (model.Cleaner v) b same is = tt
-same_kind (model.User u) (model.Cleaner w) same is = absurd same
-same_kind (model.User u) _ same is = absurd is
-same_kind (model.Writer s) (model.Cleaner w) same is = absurd same
-same_kind (model.Writer s) _ same is = absurd is
-same_kind (model.Flusher t) (model.Cleaner w) same is = absurd same
-same_kind (model.Flusher t) _ same is = absurd is
-same_kind (model.Closer t) (model.Cleaner w) same is = absurd same
-same_kind (model.Closer t) _ same is = absurd is
-same_kind (model.Checkpointer t) (model.Cleaner w) same is = absurd same
-same_kind (model.Checkpointer t) _ same is = absurd is
-same_kind (model.Joined es) (model.Cleaner w) same is = absurd same
-same_kind (model.Joined es) _ same is = absurd is
+was_kind : (a b : model.Actor) → IsSameActor a b → IsCleaner b → IsCleaner a
+was_kind (model.Cleaner v) b later is = tt
+was_kind _ b later is = absurd (subst IsCleaner later.1 is)
 
 pub was_cleaner : {L D : Type 0} (log_seen : L → Seen) (data_seen : D → Seen) (a b : model.Actor) (step : Step) → HasPlayed log_seen data_seen a step b → IsCleaner b → IsCleaner a
-was_cleaner log_seen data_seen a b step h is = same_kind a (took a h.answer) (took_keeps a h.answer) (subst IsCleaner h.is is)
+was_cleaner log_seen data_seen a b step h is = was_kind a (took a h.answer) (took_later a h.answer) (subst IsCleaner h.is is)
+
+-- the cleaner alone writes batches
+pub batch_cleaner : (a : model.Actor) → next a ≡ op.WriteBatch → IsCleaner a
+batch_cleaner a e = subst IsCleaner (sym (batch_writer a e).1) tt
 
 pub seat_behind : {L D : Type 0} (table : TableId) (old new : Seat (Slot L D) (View L D)) (a b : model.Actor) → IsSeatOf table old a → Mine table new b → new.me.0.data_part ≡ old.me.0.data_part → (IsCleaner b → IsCleaner a) → IsSeatOf table new b
 seat_behind table old new a b was mine part kind = record {

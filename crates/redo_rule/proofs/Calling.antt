@@ -1,29 +1,32 @@
 -- What a call of the log part asks and leaves, for the functions of `device`.
-use Rattle.std.proofs.Common.{Bool, Err, List, None, Ok, Option, Result, Some, [], ap, arith, cond, false, get_or, refl, subst, sym, true, ℕ, ◌<◌, ◌==◌, ◌∙◌, ◌∷◌, ◌≡◌}
+use Rattle.std.proofs.Common.{List, None, Option, Some, [], ap, arith, get_or, subst, sym, ℕ, ◌<◌, ◌∙◌, ◌∷◌, ◌≡◌}
 use Rattle.atomic_table.specs.Seated.{TableId}
 use Rattle.atomic_table.specs.Table.{Allows, Me, rest}
 use Rattle.atomic_table.specs.declared.shared.Seat.{Seat}
 use Rattle.model_core.specs.{lent, LogServed, lsn, next, step_of, took, word_count}
 use Rattle.model_core.specs.Actors as model
 use Rattle.model_core.specs.declared.ops.Answer.{Answer}
-use Rattle.model_core.specs.declared.ops.Answer.TheVariants as answer
 use Rattle.model_core.specs.declared.ops.Op.{Op}
 use Rattle.model_core.specs.declared.ops.Op.TheVariants as op
 use Rattle.model_core.specs.declared.ops.Step.{Step}
-use Rattle.redo_disk.specs.{Call, EndWith, error_of, MakesCalls}
+use Rattle.redo_disk.specs.{Call, EndWith, MakesCalls}
 use Rattle.redo_disk.specs.Seen.{Seen}
 use Rattle.redo_disk.specs.declared.error.DevError.{DevError}
 use Rattle.redo_logdev.specs.Part as log
 use Rattle.redo_drive.specs.LogPartSide as log_part
-use Rattle.redo_drive.specs.Playing.{log_of, LogReady, MayWriteLent, RunOf}
+use Rattle.redo_drive.proofs.Played.{CallsLog}
+use Rattle.redo_drive.specs.Devices.{call_answer, call_code}
+use Rattle.redo_drive.specs.Playing.{LogReady, MayWriteLent, run_log_side, RunOf, told_by}
 use Rattle.redo_drive.specs.Views.{view_of}
-use Rattle.redo_rule.proofs.AllowedCalls.{allows_called, CallsLog}
+use Rattle.redo_drive.specs.declared.device.Device.TheVariants.{Log}
+use Rattle.redo_rule.proofs.AllowedCalls.{allows_called, hand_of}
 use Rattle.redo_rule.proofs.Kept as kept
 use Rattle.redo_rule.proofs.Retook.{view_retook}
 use Rattle.redo_rule.proofs.Stepping as stepping
-use Rattle.redo_rule.specs.Hands.{hand, Handles, IsFreeToCheck}
-use Rattle.redo_rule.specs.Mine.{HasPlayed, Mine, number_in, number_of, Stays}
-use Rattle.redo_rule.specs.Plays.{behind, called, called_by, Carries, log_code, MayGo, Shown, Stepped, told_by}
+use Rattle.model_core.proofs.Hands.{Handles}
+use Rattle.model_core.specs.Hands.{hand, IsFreeToCheck}
+use Rattle.redo_rule.specs.Mine.{HasPlayed, KeepsSeat, Mine, number_in, number_of}
+use Rattle.redo_rule.specs.Plays.{behind, called, Carries, MayGo, Shown, Stepped}
 use Rattle.redo_rule.specs.Ruled.{Ruled}
 use Rattle.redo_rule.specs.declared.law.About.{About}
 use Rattle.redo_rule.specs.declared.law.Slot.{Slot}
@@ -32,23 +35,6 @@ use Rattle.redo_rule.specs.declared.law.View.{View}
 use Rattle.redo_words.specs.{Lends}
 use Rattle.redo_words.specs.declared.lent.Lent.{Lent}
 use Rattle.redo_words.specs.declared.lent.Lent.TheVariants as lending
-
--- the code of a call is what its part tells
-result_is : (r : Result (Unit {0}) DevError) → log_part.result_code r ≡ log_code (error_of r)
-result_is (Ok x) = refl
-result_is (Err e) = refl
-
-module _ {L : Type 0} (seen : L → Seen) (faults number : ℕ) (Begun : Type 0) (p q : log.Part L) (code : ℕ) where
-  by_call : (ok err : _) → log_part.LogCalled seen code ok err p q → code ≡ log_code q.failed
-  by_call ok err w = w.code_is ∙ result_is w.result ∙ ap log_code (sym w.stays.failed)
-
-  pub code_is : (l : model.Lent) (o : Op) → CallsLog o → LogServed (log_part.log_side seen faults number Begun) p l o code q → code ≡ log_code q.failed
-  code_is (model.Blocks bytes firsts) (op.WriteTo t) calls w = by_call _ _ w.called
-  code_is model.Nothing (op.WriteTo t) calls w = absurd w
-  code_is (model.Batch batch) (op.WriteTo t) calls w = absurd w
-  code_is l op.Sync calls w = by_call _ _ w.called
-  code_is l (op.Checkpoint x) calls w = by_call _ _ w.called
-  code_is l _ calls w = absurd calls
 
 write_live : {L : Type 0} (p : log.Part L) (t : ℕ) (l : Lent) → MayWriteLent p t l → p.failed ≡ None
 write_live p t (lending.Blocks bytes firsts) may = may.live
@@ -61,26 +47,8 @@ live_of p op.Sync l calls may = may
 live_of p (op.Checkpoint x) l calls may = may.0
 live_of p _ l calls may = absurd calls
 
-hand_of : (o : Op) → CallsLog o → (before : Option ℕ) (after : Answer → Option ℕ) → Handles o before after → (before ≡ Some 0) × ((b : Bool) (n c : ℕ) → after (cond b (answer.Called n) (answer.Failed c)) ≡ Some 0)
-hand_of (op.WriteTo t) calls before after h = (h.0, by h.1 h.2)
-  where
-    by : ((n : ℕ) → after (answer.Called n) ≡ Some 0) → ((c : ℕ) → after (answer.Failed c) ≡ Some 0) → (b : Bool) (n c : ℕ) → after (cond b (answer.Called n) (answer.Failed c)) ≡ Some 0
-    by f g true n c = f n
-    by f g false n c = g c
-hand_of op.Sync calls before after h = (h.0, by h.1 h.2)
-  where
-    by : ((n : ℕ) → after (answer.Called n) ≡ Some 0) → ((c : ℕ) → after (answer.Failed c) ≡ Some 0) → (b : Bool) (n c : ℕ) → after (cond b (answer.Called n) (answer.Failed c)) ≡ Some 0
-    by f g true n c = f n
-    by f g false n c = g c
-hand_of (op.Checkpoint x) calls before after h = (h.0, by h.1 h.2)
-  where
-    by : ((n : ℕ) → after (answer.Called n) ≡ Some 0) → ((c : ℕ) → after (answer.Failed c) ≡ Some 0) → (b : Bool) (n c : ℕ) → after (cond b (answer.Called n) (answer.Failed c)) ≡ Some 0
-    by f g true n c = f n
-    by f g false n c = g c
-hand_of _ calls before after h = absurd calls
-
 module _ {L D : Type 0} (table : TableId) (seat : Seat (Slot L D) (View L D)) (a : model.Actor) (mine : Mine table seat a) (o : Op) (is : next a ≡ o) (calls_log : CallsLog o) where
-  pub hands : (hand a ≡ Some 0) × ((b : Bool) (n c : ℕ) → hand (took a (cond b (answer.Called n) (answer.Failed c))) ≡ Some 0)
+  pub hands : (hand a ≡ Some 0) × ((met : Option DevError) (n : ℕ) → hand (took a (call_answer Log met n)) ≡ Some 0)
   hands = hand_of o calls_log (hand a) (λ r. hand (took a r)) (stepping.goes table seat a mine o is)
 
   abbrev pub own : Carries (Some 0) seat.me
@@ -106,16 +74,14 @@ module _ {L D : Type 0} (table : TableId) (seat : Seat (Slot L D) (View L D)) (a
       bare = ap (λ (w : Slot L D). (0, w) ∷ rest seat.me.1) z_is ∙ ap (λ (w : List (ℕ × Slot L D)). (0, slot.Log q) ∷ rest w) own.1
 
       pub called_ok : (log_seen : L → Seen) (log_gives : L → Call → L → Type 0) (data_seen : D → Seen) (data_gives : D → Call → D → Type 0) (about : About L D) (l : Lent) → Lends l (lent a)
-          → (code : ℕ) → ((faults start : ℕ) (first : log.Part L) → LogServed (log_part.log_side log_seen faults first.marks.number (log_part.HasBegun log_seen start first)) p (lent a) o code q) → MakesCalls log_gives p.dev q.dev (EndWith q.failed)
+          → ((faults start : ℕ) (first : log.Part L) → LogServed (log_part.log_side log_seen faults first.marks.number (log_part.HasBegun log_seen start first)) p (lent a) o (call_code Log q.failed) q) → MakesCalls log_gives p.dev q.dev (EndWith q.failed)
           → (seat.table_id ≡ table) × (0 < table.words) × Allows (Ruled log_seen log_gives data_seen data_gives about) table.slots seat.id (seat.me.0, (0, z) ∷ rest seat.me.1) 0 (λ n. n) (called log_seen data_seen (seat.me.0, (0, z) ∷ rest seat.me.1))
-      called_ok log_seen log_gives data_seen data_gives about l lends code served calls =
+      called_ok log_seen log_gives data_seen data_gives about l lends served calls =
           let asks : next (view_of mine.who.actor) ≡ o = ap next mine.state ∙ is in
           let free : IsFreeToCheck (view_of mine.who.actor) = subst IsFreeToCheck (sym mine.state) mine.may.free in
           let live : p.failed ≡ None = live_of p o l calls_log (subst (λ (w : log.Part L). LogReady w l o) (sym was) (subst (LogReady own.0 l) is (mine.may.log own.0 own.2 hands.0 l lends))) in
-          let c : code ≡ log_code q.failed = code_is log_seen 0 p.marks.number (log_part.HasBegun log_seen 0 p) p q code (lent a) o calls_log (served 0 0 p) in
-          let done : (run : RunOf L D) → LogServed (log_of log_seen data_seen run) p (lent (view_of mine.who.actor)) o (log_code q.failed) q = λ run.
-          subst (λ (w : model.Actor). LogServed (log_of log_seen data_seen run) p (lent w) o (log_code q.failed) q) (sym mine.state)
-          (subst (λ (n : ℕ). LogServed (log_of log_seen data_seen run) p (lent a) o n q) c (served (log_seen run.first_log.dev).faults (lsn run.setup.base) run.first_log)) in
+          let done : (run : RunOf L D) → LogServed (run_log_side log_seen data_seen run) p (lent (view_of mine.who.actor)) o (call_code Log q.failed) q = λ run.
+          subst (λ (w : model.Actor). LogServed (run_log_side log_seen data_seen run) p (lent w) o (call_code Log q.failed) q) (sym mine.state) (served (log_seen run.first_log.dev).faults (lsn run.setup.base) run.first_log) in
           let held : seat.me.0.held ≡ Some (slot.Log p) = own.2 ∙ ap (λ (w : log.Part L). Some (slot.Log w)) (sym was) in (
             mine.of,
             (let w = mine.words in omega arith),
@@ -123,14 +89,14 @@ module _ {L D : Type 0} (table : TableId) (seat : Seat (Slot L D) (View L D)) (a
           )
 
       module _ (log_seen : L → Seen) (data_seen : D → Seen) (after : Seat (Slot L D) (View L D)) (same : after.table_id ≡ seat.table_id) (n : ℕ) (told : called log_seen data_seen (seat.me.0, (0, z) ∷ rest seat.me.1) n after.me)
-          (r : Answer) (r_is : r ≡ called_by (log_code q.failed) (told_by o q.marks.stable)) (b : model.Actor) (b_is : b ≡ took a r) where
+          (r : Answer) (r_is : r ≡ call_answer Log q.failed (told_by o q.marks.stable)) (b : model.Actor) (b_is : b ≡ took a r) where
         stepped : Stepped log_seen data_seen mine.who r (Some (slot.Log q)) seat.me.0.data_part ((0, z) ∷ rest seat.me.1) (seat.me.0, (0, z) ∷ rest seat.me.1) after.me
         stepped = subst (λ (w : Answer). Stepped log_seen data_seen mine.who w (Some (slot.Log q)) seat.me.0.data_part ((0, z) ∷ rest seat.me.1) (seat.me.0, (0, z) ∷ rest seat.me.1) after.me)
-            (ap (λ (j : Op). called_by (log_code q.failed) (told_by j q.marks.stable)) (ap next mine.state ∙ is) ∙ sym r_is) (told mine.who q mine.one bare)
+            (ap (λ (j : Op). call_answer Log q.failed (told_by j q.marks.stable)) (ap next mine.state ∙ is) ∙ sym r_is) (told mine.who q mine.one bare)
 
         pub called_mine : Mine table after b
         called_mine =
-            let still : hand b ≡ Some 0 = ap hand (b_is ∙ ap (took a) r_is) ∙ hands.1 (log_code q.failed == 0) (told_by o q.marks.stable) (log_code q.failed) in record {
+            let still : hand b ≡ Some 0 = ap hand (b_is ∙ ap (took a) r_is) ∙ hands.1 q.failed (told_by o q.marks.stable) in record {
               of = same ∙ mine.of;
               slots = mine.slots;
               words = mine.words ∙ ap word_count (sym (ap (λ (m : Me (Slot L D) (View L D)). m.0.pages) stepped.is));
@@ -145,5 +111,5 @@ module _ {L D : Type 0} (table : TableId) (seat : Seat (Slot L D) (View L D)) (a
         pub called_played : (step : Step) → step ≡ step_of a r → HasPlayed log_seen data_seen a step b
         called_played step ends = record { answer = r; number = mine.who.number; shown = subst (λ (w : model.Actor). Shown log_seen data_seen mine.who.number w r) mine.state stepped.shown; is = b_is; ends = ends }
 
-        pub called_part : Stays seat.me.0 after.me.0
+        pub called_part : KeepsSeat seat.me.0 after.me.0
         called_part = record { number = ap (λ (m : Me (Slot L D) (View L D)). number_of m.0) stepped.is ∙ sym (ap number_in mine.one); data_part = ap (λ (m : Me (Slot L D) (View L D)). m.0.data_part) stepped.is }

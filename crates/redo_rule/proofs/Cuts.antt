@@ -13,18 +13,18 @@ use Rattle.redo_rule.proofs.Allowed.{allows_look}
 use Rattle.redo_rule.proofs.Retook.{one_head}
 use Rattle.redo_rule.proofs.Seated.{joins_ok, splits_ok}
 use Rattle.redo_rule.specs.Cutting.{AreAtRest, IsFirst, MayCut, MayTakeIn}
-use Rattle.redo_rule.specs.Hands.{hand}
+use Rattle.model_core.specs.Hands.{hand}
 use Rattle.redo_rule.specs.Mine.{Mine}
 use Rattle.redo_rule.specs.Plays.{Carries, looked}
 use Rattle.redo_rule.specs.Ruled.{Ruled}
-use Rattle.redo_rule.specs.Seats.{cut_left, cut_right, first_some, head_of, heads_cleaner, spent, tail_of, taken_in}
+use Rattle.redo_rule.specs.Seats.{cut_left, cut_right, first_numbered, first_some, heads_cleaner, rest_numbered, spent, taken_in}
 use Rattle.redo_rule.specs.declared.law.About.{About}
 use Rattle.redo_rule.specs.declared.law.Keeping.{Keeping}
 use Rattle.redo_rule.specs.declared.law.Numbered.{Numbered}
 use Rattle.redo_rule.specs.declared.law.Slot.{Slot}
 use Rattle.redo_rule.specs.declared.law.View.{View}
 
-tail_rest : (l : List Numbered) → AreAtRest l → AreAtRest (tail_of l)
+tail_rest : (l : List Numbered) → AreAtRest l → AreAtRest (rest_numbered l)
 tail_rest [] rest i y e = absurd (maybe.some-ne-none y (sym e))
 tail_rest (x ∷ xs) rest i y e = rest (suc i) y e
 
@@ -51,7 +51,7 @@ module _ {L D : Type 0} (log_seen : L → Seen) (log_gives : L → Call → L �
 
     module _ (token : Seat (Slot L D) (View L D)) (of : token.table_id ≡ first.table_id) (me_is : token.me ≡ (cut_right first.me.0, [])) where
       one : token.me.0.seats ≡ M.head ∷ []
-      one = ap (λ (m : Me (Slot L D) (View L D)). m.0.seats) me_is ∙ ap head_of M.are
+      one = ap (λ (m : Me (Slot L D) (View L D)). m.0.seats) me_is ∙ ap first_numbered M.are
 
       pub look_ok : (token.table_id ≡ table) × (0 < table.words) × Allows (Ruled log_seen log_gives data_seen data_gives about) table.slots token.id token.me 0 (λ n. n) (looked log_seen data_seen token.me)
       look_ok = (of ∙ F.of, some_words, allows_look log_seen log_gives data_seen data_gives about table.slots token.id token.me M.head one 0)

@@ -1,22 +1,22 @@
 -- What the rule says at the end, to a seat that knows all actors, none of which holds anything.
-use Rattle.std.proofs.Common.{Bool, List, None, [], ap, arith, false, length, map, refl, subst, suc, sym, true, zero, ℕ, ◌++◌, ◌+◌, ◌<◌, ◌∙◌, ◌∷◌, ◌≡◌}
+use Rattle.std.proofs.Common.{Bool, List, None, [], ap, arith, false, length, refl, subst, suc, sym, true, zero, ℕ, ◌+◌, ◌<◌, ◌∙◌, ◌∷◌, ◌≡◌}
 use Rattle.std.specs.Prelude.{slice_index}
 use lib.ListN.{get_elem?}
 use mathlib.Core.Option as maybe
 use native.Mathlib.Decide.{ℕ_discrete}
 use Rattle.atomic_table.specs.Table.{Final, Seen as SeenBy}
-use Rattle.model_core.specs.{UserState}
 use Rattle.model_core.specs.Actors as model
 use Rattle.model_core.specs.Setup.{Setup}
-use Rattle.model_running.specs.{ArePageActors, AreSeated}
+use Rattle.model_running.proofs.Seated.{has_cleaner}
+use Rattle.model_running.specs.{AreSeated}
 use Rattle.redo_disk.specs.{Call}
 use Rattle.redo_disk.specs.Seen.{Seen}
 use Rattle.redo_drive.specs.Lists.{listing_at}
 use Rattle.redo_drive.specs.Views.{view_of, views_of}
 use Rattle.redo_drive.specs.declared.actor.Actor.{Actor}
 use Rattle.redo_drive.specs.Running.{RunsOn}
-use Rattle.redo_rule.specs.Ending.{EndsWith}
-use Rattle.redo_rule.specs.Hands.{hand, HoldsNothing}
+use Rattle.redo_rule.specs.Ending.{RunReaches}
+use Rattle.model_core.specs.Hands.{hand, HoldsNothing}
 use Rattle.redo_rule.specs.Ruled.{Knows, numbered, Ruled}
 use Rattle.redo_rule.specs.Seating.{HasPart, IsCleaner}
 use Rattle.redo_rule.specs.declared.law.About.{About}
@@ -42,19 +42,12 @@ view_back [] i a e = absurd (maybe.some-ne-none a (sym e))
 view_back (x ∷ xs) zero a e = (x, refl, maybe.some-injective (view_of x) a e)
 view_back (x ∷ xs) (suc i) a e = view_back xs i a e
 
--- the actors after the users
-behind_users : (users : List UserState) (l : List model.Actor) (i : ℕ) → get_elem? (map model.User users ++ l) (length users + i) ≡ get_elem? l i
-behind_users [] l i = ap (get_elem? l) (let z : 0 + i ≡ i = omega arith in z)
-behind_users (u ∷ users) l i = ap (get_elem? (model.User u ∷ (map model.User users ++ l))) (let z : suc (length users) + i ≡ suc (length users + i) = omega arith in z) ∙ behind_users users l i
-
 -- but where the log runs alone there is a cleaner
 some_cleaner : (c : Setup) (actors : List Actor) → AreSeated c (views_of actors) → c.log_only ≡ false → (i : ℕ) × (a : Actor) × (get_elem? actors i ≡ maybe.some a) × IsCleaner (view_of a)
 some_cleaner c actors S with_pages =
-    let p : ArePageActors false S.others = subst (λ (b : Bool). ArePageActors b S.others) with_pages S.page_actors in
-    let at : get_elem? (views_of actors) (length S.users + 3) ≡ maybe.some (model.Cleaner p.0.cleaner) = ap (λ (l : List model.Actor). get_elem? l (length S.users + 3)) S.are
-    ∙ behind_users S.users (model.Writer S.writer ∷ model.Flusher S.flusher ∷ S.others) 3 ∙ ap (λ (l : List model.Actor). get_elem? l 1) p.1 in
-    let x = view_back actors (length S.users + 3) (model.Cleaner p.0.cleaner) at in
-    (length S.users + 3, x.0, x.1, subst IsCleaner (sym x.2) tt)
+    let k = has_cleaner c (views_of actors) S with_pages in
+    let x = view_back actors k.0 (model.Cleaner k.1) k.2 in
+    (k.0, x.0, x.1, subst IsCleaner (sym x.2) tt)
 
 either_way : (b : Bool) (P : Type 0) → (b ≡ true → P) → (b ≡ false → P) → P
 either_way true P one other = one refl
@@ -64,7 +57,7 @@ module _ {L D : Type 0} (log_seen : L → Seen) (log_gives : L → Call → L �
   pub ends_ok : (id : ℕ) (v : View L D) (ws : List ℕ) (xs : List (Slot L D)) (actors : List Actor) → Final (SeenBy (Ruled log_seen log_gives data_seen data_gives about) id v) ws xs → v.seats ≡ numbered 0 actors → length actors ≡ length about.actors.value.items
       → ((i : ℕ) (a : Actor) → get_elem? actors i ≡ maybe.some a → HoldsNothing (view_of a))
       → ((i : ℕ) (a : Actor) → get_elem? actors i ≡ maybe.some a → IsCleaner (view_of a) → HasPart v) → (about.log_only ≡ true → HasPart v)
-      → EndsWith log_seen log_gives data_seen data_gives about actors ws xs
+      → RunReaches log_seen log_gives data_seen data_gives about actors ws xs
   ends_ok id v ws xs actors final seats long rest cleaner alone =
       let s = final.0 in
       let R = final.1.0 in

@@ -28,7 +28,7 @@ use Rattle.redo_drive.specs.declared.closed.Closed.{Closed}
 use Rattle.redo_rule.proofs.Ends.{ends_ok}
 use Rattle.redo_rule.proofs.Kept as kept
 use Rattle.redo_rule.specs.Closing.{done_with, IsOwedRun, LeavesParts, MayClose}
-use Rattle.redo_rule.specs.Ending.{EndsWith}
+use Rattle.redo_rule.specs.Ending.{RunReaches}
 use Rattle.redo_rule.specs.Ruled.{Ruled}
 use Rattle.redo_rule.specs.Slots.{IsData, IsLog, IsPages}
 use Rattle.redo_rule.specs.declared.closing.Left.{Left}
@@ -101,10 +101,10 @@ nothing_left (x ∷ xs) = nothing_left xs
 module _ {L D : Type 0} (log_seen : L → Seen) (log_gives : L → Call → L → Type 0) (data_seen : D → Seen) (data_gives : D → Call → D → Type 0) (about : About L D) where
   -- what is left where the table is closed
   pub ends_with : (table : TableId) (actors : List Actor) (first : Seat (Slot L D) (View L D)) → MayClose about table actors first → (ws : List ℕ) (xs : List (Slot L D))
-      → Final (SeenBy (Ruled log_seen log_gives data_seen data_gives about) first.id first.me.0) ws xs → EndsWith log_seen log_gives data_seen data_gives about actors ws xs
+      → Final (SeenBy (Ruled log_seen log_gives data_seen data_gives about) first.id first.me.0) ws xs → RunReaches log_seen log_gives data_seen data_gives about actors ws xs
   ends_with table actors first may ws xs final = ends_ok log_seen log_gives data_seen data_gives about first.id first.me.0 ws xs actors final may.all may.count may.rest may.cleaner may.alone
 
-  module _ (actors : List Actor) (ws : List ℕ) (xs : List (Slot L D)) (E : EndsWith log_seen log_gives data_seen data_gives about actors ws xs) where
+  module _ (actors : List Actor) (ws : List ℕ) (xs : List (Slot L D)) (E : RunReaches log_seen log_gives data_seen data_gives about actors ws xs) where
     pub small : slice_index ws (index word.Failed) < 2 ^ 32
     small = subst (λ (z : List ℕ). slice_index z (index word.Failed) < 2 ^ 32) E.words_are (small_code log_seen data_seen E.run E.parts actors E.runs)
 
@@ -159,7 +159,7 @@ module _ {L D : Type 0} (log_seen : L → Seen) (log_gives : L → Call → L �
         let R = P.runs in
         let many = as_many log_seen data_seen P.run P.last actors R in
         let same : length (all_listed left.marks actors) ≡ length (all_listed (word_marks R.running.shared) actors) = ap (λ (z : Marks). length (all_listed z actors)) its_marks in
-        let within = log_within_script P.run.setup about.script.value about.opened.value.shape.space R.running.shared.sn R.running.log_ghost.log R.running.log_ghost.place R.running.both.logged.global.tiled P.is_about.is_run.of_script in
+        let within = log_within_script P.run.setup about.script.value about.opened.value.shape R.running.shared.sn R.running.log_ghost.log R.running.log_ghost.place R.running.both.logged.global.tiled P.is_about.is_run.of_script in
         omega arith
 
     pub its_history : (history : List Entry) → ListsInOrder left.marks actors history → ◌≡◌ {A = List Entry} history (history_of P.runs.running.log_ghost.answered (word_marks P.runs.running.shared) P.runs.running.log_ghost.log)

@@ -7,62 +7,33 @@ use Rattle.atomic_table.proofs.Lists.{at_last, at_longer, drop_at}
 use Rattle.atomic_table.specs.Seated.{TableId}
 use Rattle.atomic_table.specs.declared.shared.Seat.{Seat}
 use Rattle.model_core.specs.{word_count}
-use Rattle.model_core.specs.Actors as model
+use Rattle.redo_drive.proofs.Viewed.{same_actor}
 use Rattle.redo_drive.specs.Views.{view_of}
 use Rattle.redo_drive.specs.declared.actor.Actor.{Actor}
 use Rattle.redo_drive.specs.declared.actor.Actor.TheVariants as own
 use Rattle.redo_rule.proofs.Opens.{numbered_at}
 use Rattle.redo_rule.proofs.Seated.{at_end}
 use Rattle.redo_rule.specs.Cutting.{HoldNothing, IsFirst, MayCut, MayTakeIn}
-use Rattle.redo_rule.specs.Gathering.{AreApart, HasOneCleaner, PartIsKept}
-use Rattle.redo_rule.specs.Hands.{HoldsNothing}
+use Rattle.redo_rule.specs.Gathering.{AreHandedOut, HasOneCleaner, PartIsKept}
+use Rattle.model_core.specs.Hands.{HoldsNothing}
 use Rattle.redo_rule.specs.Mine.{Mine, number_in, number_of}
 use Rattle.redo_rule.specs.Plays.{Carries}
 use Rattle.redo_rule.specs.Ruled.{numbered}
 use Rattle.redo_rule.specs.Seating.{HasPart, IsCleaner, IsSeatOf}
-use Rattle.redo_rule.specs.Seats.{cut_left, cut_right, first_some, head_of, heads_cleaner, is_cleaner, tail_of, taken_in}
+use Rattle.redo_rule.specs.Seats.{cut_left, cut_right, first_numbered, first_some, heads_cleaner, is_cleaner, rest_numbered, taken_in}
 use Rattle.redo_rule.specs.declared.law.Keeping.{Keeping}
 use Rattle.redo_rule.specs.declared.law.Numbered.{Numbered}
 use Rattle.redo_rule.specs.declared.law.Slot.{Slot}
 use Rattle.redo_rule.specs.declared.law.View.{View}
 
--- an actor is known by its view
-abbrev own_of : Actor → model.Actor → Actor
-own_of d (model.User u) = own.User u
-own_of d (model.Writer s) = own.Writer s
-own_of d (model.Flusher t) = own.Flusher t
-own_of d (model.Closer t) = own.Closer t
-own_of d (model.Cleaner v) = own.Cleaner v
-own_of d (model.Checkpointer t) = own.Checkpointer t
-own_of d (model.Joined es) = d
-
-own_back : (d a : Actor) → ◌≡◌ {A = Actor} (own_of d (view_of a)) a
-own_back d (own.User u) = refl
-own_back d (own.Writer s) = refl
-own_back d (own.Flusher t) = refl
-own_back d (own.Closer t) = refl
-own_back d (own.Cleaner v) = refl
-own_back d (own.Checkpointer t) = refl
-
-same_actor : (a b : Actor) → ◌≡◌ {A = model.Actor} (view_of a) (view_of b) → ◌≡◌ {A = Actor} a b
-same_actor a b e = sym (own_back a a) ∙ ap (own_of a) e ∙ own_back a b
-
 -- whether it is the cleaner
 told_cleaner : (a : Actor) → (IsCleaner (view_of a) × (is_cleaner a ≡ true)) ⊎ (is_cleaner a ≡ false)
-told_cleaner (own.User u) = inr refl
-told_cleaner (own.Writer s) = inr refl
-told_cleaner (own.Flusher t) = inr refl
-told_cleaner (own.Closer t) = inr refl
 told_cleaner (own.Cleaner v) = inl (tt, refl)
-told_cleaner (own.Checkpointer t) = inr refl
+told_cleaner _ = inr refl
 
 cleaner_true : (a : Actor) → IsCleaner (view_of a) → is_cleaner a ≡ true
-cleaner_true (own.User u) is = absurd is
-cleaner_true (own.Writer s) is = absurd is
-cleaner_true (own.Flusher t) is = absurd is
-cleaner_true (own.Closer t) is = absurd is
 cleaner_true (own.Cleaner v) is = refl
-cleaner_true (own.Checkpointer t) is = absurd is
+cleaner_true _ is = absurd is
 
 cut_part_is : {D : Type 0} (b : Bool) (o : Option (Keeping D)) (d : Keeping D) → cond b o None ≡ Some d → o ≡ Some d
 cut_part_is true o d e = e
@@ -78,7 +49,7 @@ none_beyond [] i a le e = maybe.some-ne-none a (sym e)
 none_beyond (x ∷ xs) zero a le e = absurd (omega arith)
 none_beyond (x ∷ xs) (suc i) a le e = none_beyond xs i a (omega arith) e
 
-module _ {L D : Type 0} (table : TableId) (actors : List Actor) (first : Seat (Slot L D) (View L D)) (seats : List (Seat (Slot L D) (View L D))) (A : AreApart table actors first seats) where
+module _ {L D : Type 0} (table : TableId) (actors : List Actor) (first : Seat (Slot L D) (View L D)) (seats : List (Seat (Slot L D) (View L D))) (A : AreHandedOut table actors first seats) where
   module _ (less : length seats < length actors) where
     abbrev next_actor : Actor
     next_actor = (there actors (length seats) less).0
@@ -106,7 +77,7 @@ module _ {L D : Type 0} (table : TableId) (actors : List Actor) (first : Seat (S
     module _ (after token : Seat (Slot L D) (View L D)) (is_first : IsFirst table after) (left : after.me.0 ≡ cut_left first.me.0) (right : token.me.0 ≡ cut_right first.me.0)
         (mine : (x : Numbered) → token.me.0.seats ≡ x ∷ [] → Mine table token (view_of x.actor)) (one : HasOneCleaner actors) (part : PartIsKept (length seats) actors first) where
       token_seats : token.me.0.seats ≡ head ∷ []
-      token_seats = ap (λ (v : View L D). v.seats) right ∙ ap head_of are
+      token_seats = ap (λ (v : View L D). v.seats) right ∙ ap first_numbered are
 
       heads : heads_cleaner first.me.0.seats ≡ is_cleaner next_actor
       heads = ap heads_cleaner are
@@ -129,11 +100,11 @@ module _ {L D : Type 0} (table : TableId) (actors : List Actor) (first : Seat (S
       longer : suc (length seats) ≡ length (seats ++ token ∷ [])
       longer = let n = long in omega arith
 
-      pub cut_next : AreApart table actors after (seats ++ token ∷ [])
+      pub cut_next : AreHandedOut table actors after (seats ++ token ∷ [])
       cut_next = record {
         is_first = is_first;
         few = (let n = long in omega arith);
-        others = ap (λ (v : View L D). v.seats) left ∙ ap tail_of are ∙ ap (λ (n : ℕ). numbered n (drop (suc (length seats)) actors)) (sym long) ∙ ap (λ (n : ℕ). numbered (length (seats ++ token ∷ [])) (drop n actors)) longer;
+        others = ap (λ (v : View L D). v.seats) left ∙ ap rest_numbered are ∙ ap (λ (n : ℕ). numbered n (drop (suc (length seats)) actors)) (sym long) ∙ ap (λ (n : ℕ). numbered (length (seats ++ token ∷ [])) (drop n actors)) longer;
         each = λ i seat a e at. ⊎_elim
             (λ t. A.each i seat a t.1 at)
             (λ t. let same : ◌≡◌ {A = Actor} next_actor a = maybe.some-injective next_actor a (sym next_at ∙ ap (get_elem? actors) (sym t.0) ∙ at) in
@@ -206,7 +177,7 @@ module _ {L D : Type 0} (table : TableId) (actors : List Actor) (first : Seat (S
           ∙ ap (λ (l : List Numbered). (record { number = length before; actor = last_actor }) ∷ l) (A.others ∙ ap (λ (n : ℕ). numbered n (drop (length seats) actors)) count ∙ ap (λ (n : ℕ). numbered (length before + 1) (drop n actors)) shorter)
           ∙ sym (ap (numbered (length before)) (drop_at actors (length before) last_actor last_at))
 
-      pub taken_before : AreApart table actors after before
+      pub taken_before : AreHandedOut table actors after before
       taken_before = record {
         is_first = is_first;
         few = (let l = last_less in omega arith);
@@ -237,15 +208,15 @@ module _ {L D : Type 0} (table : TableId) (actors : List Actor) (first : Seat (S
 
 -- no actor has its seat yet, and each has
 module _ {L D : Type 0} (table : TableId) (actors : List Actor) (first : Seat (Slot L D) (View L D)) (seats : List (Seat (Slot L D) (View L D))) where
-  pub all_in_first : IsFirst table first → first.me.0.seats ≡ numbered 0 actors → seats ≡ [] → AreApart table actors first seats
-  all_in_first is_first all none = subst (AreApart table actors first) (sym none) (record {
+  pub all_in_first : IsFirst table first → first.me.0.seats ≡ numbered 0 actors → seats ≡ [] → AreHandedOut table actors first seats
+  all_in_first is_first all none = subst (AreHandedOut table actors first) (sym none) (record {
     is_first = is_first;
     few = omega arith;
     others = all;
     each = λ i seat a e at. absurd (maybe.some-ne-none seat (sym e));
   })
 
-  pub none_in_first : AreApart table actors first seats → length seats ≡ length actors → first.me.0.seats ≡ []
+  pub none_in_first : AreHandedOut table actors first seats → length seats ≡ length actors → first.me.0.seats ≡ []
   none_in_first A all = A.others ∙ ap (numbered (length seats)) (ap (λ (n : ℕ). drop n actors) all ∙ nothing_left actors)
     where
       nothing_left : {A : Type 0} (l : List A) → drop (length l) l ≡ []

@@ -1,5 +1,5 @@
 -- A turn of one actor keeps the rule, whatever it does to the slots.
-use Rattle.std.proofs.Common.{Bool, List, None, Option, Some, [], ap, false, length, length-set, refl, set, subst, suc, sym, zero, ℕ, ⊎_elim, ◌+◌, ◌<◌, ◌∙◌, ◌∷◌, ◌≡◌, ◌≢◌, ◌⊎◌}
+use Rattle.std.proofs.Common.{Bool, List, None, Option, Some, [], ap, false, length, length-set, refl, set, subst, suc, sym, zero, ℕ, ⊎_elim, ◌+◌, ◌<◌, ◌∙◌, ◌∷◌, ◌≡◌, ◌≢◌, ◌⊎◌, is_some}
 use Rattle.std.proofs.lemmas.List.{map-set}
 use Rattle.std.specs.Prelude.{slice_index, slice_set}
 use lib.ListN.{get_elem?}
@@ -16,8 +16,8 @@ use Rattle.model_core.specs.Turn.{LogServed, Turn}
 use Rattle.model_core.specs.declared.ops.Answer.{Answer}
 use Rattle.model_core.specs.declared.ops.Op.{Op}
 use Rattle.model_core.specs.declared.steps.UserStep.TheVariants as user_step
-use Rattle.model_logcore.specs.{CheckpointerAt, FlusherAt, LogGhost, UserAt, UserFits, WriterAt}
-use Rattle.model_logcore.specs.LogFits.{Fits}
+use Rattle.model_logcore.proofs.Failures.{stored_cause}
+use Rattle.model_logcore.specs.{LogGhost, UserAt, UserFits}
 use Rattle.model_logcore.specs.LogLaws.{LogLaws}
 use Rattle.model_pagecore.specs.DataLaws.{DataLaws}
 use Rattle.model_running.proofs.EachTurn.{turn_keeps}
@@ -35,19 +35,19 @@ use Rattle.redo_drive.proofs.MayTurn.{may_serve}
 use Rattle.redo_drive.proofs.TurnsOf.{answer_fits}
 use Rattle.redo_drive.specs.Calls.{CallsOn}
 use Rattle.redo_drive.specs.Lists.{AreLists, lists_of}
-use Rattle.redo_drive.specs.Playing.{DataReady, HasSamePages, IsPlayed, LogReady, RunOf, data_of, log_of}
+use Rattle.redo_drive.specs.Playing.{DataReady, HasSamePages, HasWholePages, IsPlayed, LogReady, RunOf, run_data_side, run_log_side}
 use Rattle.redo_drive.specs.Running.{RunsOn}
 use Rattle.redo_drive.specs.Turning.{core_of, MayServe}
+use Rattle.redo_drive.specs.Steps.{retook}
 use Rattle.redo_drive.specs.Views.{view_of, views_of}
 use Rattle.redo_drive.specs.declared.actor.Actor.{Actor}
 use Rattle.redo_drive.specs.declared.parts.Parts.{Parts}
-use Rattle.redo_rule.proofs.Gives.{gives_hand, has_stored, HasStored, stores}
-use Rattle.redo_rule.proofs.Hands.{stays_free}
+use Rattle.model_core.proofs.FailedCalls.{gives_hand, has_stored, stores}
+use Rattle.model_core.proofs.Hands.{stays_free}
 use Rattle.redo_rule.proofs.Retook.{at_map, view_retook}
-use Rattle.redo_rule.specs.Failing.{GivesFailed}
-use Rattle.redo_rule.specs.Hands.{hand, IsFreeToCheck}
-use Rattle.redo_rule.specs.Plays.{behind, MayGo, retook, Shown, Stepped}
-use Rattle.redo_rule.specs.Ruled.{content_at, HasHolder, Knows, Ruled}
+use Rattle.model_core.specs.Hands.{GivesFailed, hand, IsFreeToCheck}
+use Rattle.redo_rule.specs.Plays.{behind, MayGo, Shown, Stepped}
+use Rattle.redo_rule.specs.Ruled.{IsSlotHeld, Knows, Ruled, slot_content}
 use Rattle.redo_rule.specs.declared.law.About.{About}
 use Rattle.redo_rule.specs.declared.law.Keeping.{Keeping}
 use Rattle.redo_rule.specs.declared.law.Numbered.{Numbered}
@@ -97,21 +97,11 @@ pub same_data : {L D : Type 0} (d e : store.Part D) → ◌≡◌ {A = Slot L D}
 same_data d e is = ap (data_or d) is
 
 -- the laws of both parts, in each run
-pub laws_of_log : {L D : Type 0} (log_seen : L → Seen) (data_seen : D → Seen) (run : RunOf L D) → LogLaws (log_of log_seen data_seen run)
+pub laws_of_log : {L D : Type 0} (log_seen : L → Seen) (data_seen : D → Seen) (run : RunOf L D) → LogLaws (run_log_side log_seen data_seen run)
 laws_of_log log_seen data_seen run = log_laws log_seen (log_seen run.first_log.dev).faults run.first_log.marks.number (log_part.HasBegun log_seen (lsn run.setup.base) run.first_log)
 
-pub laws_of_data : {L D : Type 0} (log_seen : L → Seen) (data_seen : D → Seen) (run : RunOf L D) → DataLaws (data_of log_seen data_seen run)
+pub laws_of_data : {L D : Type 0} (log_seen : L → Seen) (data_seen : D → Seen) (run : RunOf L D) → DataLaws (run_data_side log_seen data_seen run)
 laws_of_data log_seen data_seen run = data_laws data_seen (data_seen run.first_data.dev).faults run.shape (data_part.HasBegun data_seen run.setup.opened run.first_data)
-
--- who has stored a failed call's code in FAILED, about to give the log part back, has a code that the part has
-stored_cause : (E : LogSide) (c : Setup) (m : SharedWords) (g : LogGhost) (p : E.Part) (n : ℕ) (a : model.Actor) (code : ℕ) → HasStored a code → Fits E c m g p n a → E.Cause p code
-stored_cause E c m g p n (model.Writer s) code h fits = subst (E.Cause p) h.1 (subst (WriterAt E c m g p n s) h.0 fits.step).1
-stored_cause E c m g p n (model.Flusher f) code h fits = subst (E.Cause p) h.1 (subst (FlusherAt E c m g p f) h.0 fits.step).1
-stored_cause E c m g p n (model.Checkpointer t) code h fits = subst (E.Cause p) h.1 (subst (CheckpointerAt E c m g p t) h.0 fits.step).1
-stored_cause E c m g p n (model.User u) code h fits = absurd h
-stored_cause E c m g p n (model.Closer t) code h fits = absurd h
-stored_cause E c m g p n (model.Cleaner v) code h fits = absurd h
-stored_cause E c m g p n (model.Joined es) code h fits = absurd h
 
 -- a user that has ended well
 pub all_answered : (E : LogSide) (c : Setup) (m : SharedWords) (g : LogGhost) (p : E.Part) (n : ℕ) (u : UserState) → u.step ≡ user_step.Done → UserFits E c m g p n u → u.k ≡ length u.lines
@@ -126,7 +116,7 @@ module _ {L D : Type 0} (log_seen : L → Seen) (data_seen : D → Seen) (run : 
 
   pub words_there : OpWords parts.words.pages (next a)
   words_there = subst (λ (k : ℕ). OpWords k (next a)) (sym runs.word_pages)
-      (next_words (log_of log_seen data_seen run) (data_of log_seen data_seen run) run.setup 0 runs.running.shared runs.running.log_ghost runs.running.page_ghost (lists_of parts.lists) parts.log parts.store (views_of actors) n runs.running.both a at)
+      (next_words (run_log_side log_seen data_seen run) (run_data_side log_seen data_seen run) run.setup 0 runs.running.shared runs.running.log_ghost runs.running.page_ghost (lists_of parts.lists) parts.log parts.store (views_of actors) n runs.running.both a at)
 
   pub may_go : (pages : ℕ) (held : Option (Slot L D)) (stored : Option (Keeping D)) → pages ≡ parts.words.pages → ((p : log.Part L) → held ≡ Some (slot.Log p) → hand a ≡ Some 0 → ◌≡◌ {A = log.Part L} p parts.log)
       → ((d : Keeping D) → stored ≡ Some d → ◌≡◌ {A = store.Part D} d.part parts.store) → IsFreeToCheck a → MayGo pages held stored a
@@ -134,10 +124,10 @@ module _ {L D : Type 0} (log_seen : L → Seen) (data_seen : D → Seen) (run : 
     there = subst (λ (k : ℕ). OpWords k (next a)) (sym count) words_there;
     log = λ p is mine l lends. subst (λ (q : log.Part L). LogReady q l (next a)) (sym (with_log p is mine)) ((serves.playable l lends).log);
     data_part = λ d is l lends. subst (λ (e : store.Part D). DataReady e l (next a)) (sym (with_data d is)) ((serves.playable l lends).data_part);
-    whole = serves.whole;
+    whole = λ d is. subst (λ (e : store.Part D). HasWholePages e.shape (next a) (lent a)) (sym (with_data d is)) serves.whole;
     free = free;
-    done = λ u is at_end. all_answered (log_of log_seen data_seen run) run.setup runs.running.shared runs.running.log_ghost parts.log n u at_end (runs.running.both.logged.each n (model.User u) (at ∙ ap (λ (z : model.Actor). maybe.some z) is));
-    rest = λ e. subst (λ (o : Op). AnswerFits a (answer_of (lists_of parts.lists) (log_part.has_failed parts.log.failed) 0 0 parts.words.words o)) e (serves.fits 0 0);
+    done = λ u is at_end. all_answered (run_log_side log_seen data_seen run) run.setup runs.running.shared runs.running.log_ghost parts.log n u at_end (runs.running.both.logged.each n (model.User u) (at ∙ ap (λ (z : model.Actor). maybe.some z) is));
+    rest = λ e. subst (λ (o : Op). AnswerFits a (answer_of (lists_of parts.lists) (is_some parts.log.failed) 0 0 parts.words.words o)) e (serves.fits 0 0);
   }
 
 module _ {L D : Type 0} (log_seen : L → Seen) (log_gives : L → Call → L → Type 0) (data_seen : D → Seen) (data_gives : D → Call → D → Type 0) (about : About L D) (s : State (Slot L D) (View L D)) (R : Ruled log_seen log_gives data_seen data_gives about s)
@@ -166,10 +156,10 @@ module _ {L D : Type 0} (log_seen : L → Seen) (log_gives : L → Call → L �
   pub is_free : IsFreeToCheck a
   is_free = known.free 0 x first
 
-  pub holds_content : (k : ℕ) → hand a ≡ Some k → v.held ≡ Some (content_at R.parts k)
+  pub holds_content : (k : ℕ) → hand a ≡ Some k → v.held ≡ Some (slot_content R.parts k)
   holds_content k e = known.held 0 x k first e
 
-  pub fits : (code mark : ℕ) → AnswerFits a (answer_of (lists_of R.parts.lists) (log_part.has_failed R.parts.log.failed) code mark R.parts.words.words (next a))
+  pub fits : (code mark : ℕ) → AnswerFits a (answer_of (lists_of R.parts.lists) (is_some R.parts.log.failed) code mark R.parts.words.words (next a))
   fits code mark = (serves log_seen data_seen R.run R.parts R.actors R.runs x.number a there).fits code mark
 
   module _ (r : Answer) (new : Parts L D) (same : HasSamePages R.parts new) (played : IsPlayed log_seen data_seen R.run (next a) (lent a) R.parts r new) where
@@ -179,7 +169,7 @@ module _ {L D : Type 0} (log_seen : L → Seen) (log_gives : L → Call → L �
     abbrev after : List Actor
     after = set R.actors x.number (retook x.actor r)
 
-    pub turn : Turn (log_of log_seen data_seen R.run) (data_of log_seen data_seen R.run) (core_of log_seen data_seen R.run R.parts R.actors) x.number r (step_of a r) (core_of log_seen data_seen R.run new after)
+    pub turn : Turn (run_log_side log_seen data_seen R.run) (run_data_side log_seen data_seen R.run) (core_of log_seen data_seen R.run R.parts R.actors) x.number r (step_of a r) (core_of log_seen data_seen R.run new after)
     turn = record {
       who = a;
       who_is = there;
@@ -197,12 +187,13 @@ module _ {L D : Type 0} (log_seen : L → Seen) (log_gives : L → Call → L �
     runs_behind = record {
       limits = R.runs.limits;
       its_pages = R.runs.its_pages;
+      its_page_size = R.runs.its_page_size;
       bytes = R.runs.bytes;
       word_pages = same.words ∙ R.runs.word_pages;
       list_pages = same.lists ∙ R.runs.list_pages;
-      running = turn_keeps (log_of log_seen data_seen R.run) (laws_of_log log_seen data_seen R.run) (data_of log_seen data_seen R.run) (laws_of_data log_seen data_seen R.run) R.run.setup 0
+      running = turn_keeps (run_log_side log_seen data_seen R.run) (laws_of_log log_seen data_seen R.run) (run_data_side log_seen data_seen R.run) (laws_of_data log_seen data_seen R.run) R.run.setup 0
           (core_of log_seen data_seen R.run R.parts R.actors) (core_of log_seen data_seen R.run new after) x.number r (step_of a r) R.runs.running turn;
-      seated = turn_keeps_seats (log_of log_seen data_seen R.run) (data_of log_seen data_seen R.run) R.run.setup (core_of log_seen data_seen R.run R.parts R.actors) (core_of log_seen data_seen R.run new after) x.number r (step_of a r) R.runs.seated turn;
+      seated = turn_keeps_seats (run_log_side log_seen data_seen R.run) (run_data_side log_seen data_seen R.run) R.run.setup (core_of log_seen data_seen R.run R.parts R.actors) (core_of log_seen data_seen R.run new after) x.number r (step_of a r) R.runs.seated turn;
     }
 
     pub shown : Shown log_seen data_seen x.number a r
@@ -220,21 +211,21 @@ module _ {L D : Type 0} (log_seen : L → Seen) (log_gives : L → Call → L �
     }
 
     -- this actor, if it has stored its code now
-    told_here : (code : ℕ) → GivesFailed b code → (log_of log_seen data_seen R.run).Cause new.log code
+    told_here : (code : ℕ) → GivesFailed b code → (run_log_side log_seen data_seen R.run).Cause new.log code
     told_here code gives =
         let h = has_stored a r code is_free gives in
-        let same_part : new.log ≡ R.parts.log = subst (λ (o : Op). LogServed (log_of log_seen data_seen R.run) R.parts.log (lent a) o played.code new.log) (stores a code h.0 h.1) played.log_served in
-        subst (λ (p : log.Part L). (log_of log_seen data_seen R.run).Cause p code) (sym same_part)
-        (stored_cause (log_of log_seen data_seen R.run) R.run.setup R.runs.running.shared R.runs.running.log_ghost R.parts.log x.number a code h.1 (R.runs.running.both.logged.each x.number a there))
+        let same_part : new.log ≡ R.parts.log = subst (λ (o : Op). LogServed (run_log_side log_seen data_seen R.run) R.parts.log (lent a) o played.code new.log) (stores a code h.0 h.1) played.log_served in
+        subst (λ (p : log.Part L). (run_log_side log_seen data_seen R.run).Cause p code) (sym same_part)
+        (stored_cause (run_log_side log_seen data_seen R.run) R.run.setup R.runs.running.shared R.runs.running.log_ghost R.parts.log x.number a code h.1 (R.runs.running.both.logged.each x.number a there))
 
     pub there_behind : get_elem? (views_of after) x.number ≡ maybe.some b
     there_behind = at_map view_of after x.number (retook x.actor r) (set_at R.actors x.number x.actor (retook x.actor r) here) ∙ ap (λ (z : model.Actor). maybe.some z) (view_retook x.actor r)
 
     -- who holds a slot after the turn
-    holds_behind : (k : ℕ) → hand b ≡ Some k → HasHolder after k
+    holds_behind : (k : ℕ) → hand b ≡ Some k → IsSlotHeld after k
     holds_behind k e = (x.number, retook x.actor r, set_at R.actors x.number x.actor (retook x.actor r) here, ap hand (view_retook x.actor r) ∙ e)
 
-    held_still : (k : ℕ) → HasHolder R.actors k → (hand a ≡ Some k → hand b ≡ Some k) → HasHolder after k
+    held_still : (k : ℕ) → IsSlotHeld R.actors k → (hand a ≡ Some k → hand b ≡ Some k) → IsSlotHeld after k
     held_still k t keeps = elim (ℕ_discrete t.0 x.number) [
       | yes same ↦ holds_behind k (keeps (ap (λ (z : Actor). hand (view_of z)) (maybe.some-injective x.actor t.1 (sym here ∙ ap (get_elem? R.actors) (sym same) ∙ t.2)) ∙ t.3))
       | no far ↦ (t.0, t.1, set_else R.actors x.number t.0 (retook x.actor r) far ∙ t.2, t.3)
@@ -244,7 +235,7 @@ module _ {L D : Type 0} (log_seen : L → Seen) (log_gives : L → Call → L �
         → MayGo v.pages held stored b
     goes_on held stored with_log with_data = may_go log_seen data_seen R.run new after runs_behind x.number b there_behind v.pages held stored (count ∙ sym same.words) with_log with_data (stays_free a r)
 
-    module _ (w : View L D) (out : Bool) (pages_w : w.pages ≡ v.pages) (seats_w : w.seats ≡ behind x r ∷ []) (own : (k : ℕ) → hand b ≡ Some k → w.held ≡ Some (content_at new k))
+    module _ (w : View L D) (out : Bool) (pages_w : w.pages ≡ v.pages) (seats_w : w.seats ≡ behind x r ∷ []) (own : (k : ℕ) → hand b ≡ Some k → w.held ≡ Some (slot_content new k))
         (data_w : (d : Keeping D) → w.data_part ≡ Some d → (R.keeper ≡ id) × ◌≡◌ {A = store.Part D} d.part new.store × (out ≡ d.out)) where
       knows_w : Knows new after R.seat_of R.keeper out id w
       knows_w = record {
@@ -256,7 +247,7 @@ module _ {L D : Type 0} (log_seen : L → Seen) (log_gives : L → Call → L �
         data_part = data_w;
       }
 
-      module _ (others : (n : ℕ) (c : model.Actor) (k : ℕ) → n ≢ x.number → get_elem? (views_of R.actors) n ≡ maybe.some c → hand c ≡ Some k → ◌≡◌ {A = Slot L D} (content_at R.parts k) (content_at new k))
+      module _ (others : (n : ℕ) (c : model.Actor) (k : ℕ) → n ≢ x.number → get_elem? (views_of R.actors) n ≡ maybe.some c → hand c ≡ Some k → ◌≡◌ {A = Slot L D} (slot_content R.parts k) (slot_content new k))
           (data_others : (j : ℕ) (u : View L D) (d : Keeping D) → j ≢ id → get_elem? s.views j ≡ maybe.some u → u.data_part ≡ Some d → (R.keeper ≡ j) × ◌≡◌ {A = store.Part D} d.part new.store × (out ≡ d.out)) where
         knows_others : (j : ℕ) (u : View L D) → j ≢ id → get_elem? s.views j ≡ maybe.some u → Knows new after R.seat_of R.keeper out j u
         knows_others j u ne e =
@@ -269,17 +260,17 @@ module _ {L D : Type 0} (log_seen : L → Seen) (log_gives : L → Call → L �
               data_part = λ d f. data_others j u d ne e f;
             }
 
-        told_behind : (n : ℕ) (c : Actor) (code : ℕ) → get_elem? after n ≡ maybe.some c → GivesFailed (view_of c) code → (log_of log_seen data_seen R.run).Cause new.log code
+        told_behind : (n : ℕ) (c : Actor) (code : ℕ) → get_elem? after n ≡ maybe.some c → GivesFailed (view_of c) code → (run_log_side log_seen data_seen R.run).Cause new.log code
         told_behind n c code e gives = ⊎_elim
             (λ t. told_here code (subst (λ (z : model.Actor). GivesFailed z code) (sym (ap view_of t.1) ∙ view_retook x.actor r) gives))
-            (λ t. subst (λ (p : log.Part L). (log_of log_seen data_seen R.run).Cause p code)
+            (λ t. subst (λ (p : log.Part L). (run_log_side log_seen data_seen R.run).Cause p code)
             (same_log R.parts.log new.log (others n (view_of c) 0 t.0 (at_map view_of R.actors n c t.1) (gives_hand (view_of c) code gives)))
             (R.told n c code t.1 gives))
             (at_set R.actors x.number n (retook x.actor r) c e)
 
         pub kept : (hs : List (maybe.Option (Slot L D))) → AreLists new.lists
             → CallsOn log_gives about.opened.value.log.dev about.opened.value.log.failed new.log.dev new.log.failed → CallsOn data_gives about.opened.value.store.dev about.opened.value.store.failed new.store.dev new.store.failed
-            → new.log.shape ≡ R.parts.log.shape → length hs ≡ 6 → ((k : ℕ) → k < 5 → slice_index new.words.words (7 + k) ≡ 0 → get_elem? hs k ≡ maybe.some (maybe.some (content_at new k)))
+            → new.log.shape ≡ R.parts.log.shape → length hs ≡ 6 → ((k : ℕ) → k < 5 → slice_index new.words.words (7 + k) ≡ 0 → get_elem? hs k ≡ maybe.some (maybe.some (slot_content new k)))
             → (out ≡ false → get_elem? hs 5 ≡ maybe.some (maybe.some (slot.Data new.store)))
             → ((k : ℕ) → k < 5 → slice_index new.words.words (7 + k) ≢ 0 → (hand b ≡ Some k) ⊎ ((slice_index s.words (7 + k) ≢ 0) × (hand a ≡ Some k → hand b ≡ Some k)))
             → Ruled log_seen log_gives data_seen data_gives about (record { words = new.words.words; homes = hs; views = slice_set s.views id w })
@@ -307,7 +298,7 @@ module _ {L D : Type 0} (log_seen : L → Seen) (log_gives : L → Call → L �
         }
 
     -- what the step tells
-    pub steps : (carried : List (ℕ × Slot L D)) (held : Option (Slot L D)) (stored : Option (Keeping D)) (after_carried : List (ℕ × Slot L D)) → ((k : ℕ) → hand b ≡ Some k → held ≡ Some (content_at new k)) → ((d : Keeping D) → stored ≡ Some d → ◌≡◌ {A = store.Part D} d.part new.store)
+    pub steps : (carried : List (ℕ × Slot L D)) (held : Option (Slot L D)) (stored : Option (Keeping D)) (after_carried : List (ℕ × Slot L D)) → ((k : ℕ) → hand b ≡ Some k → held ≡ Some (slot_content new k)) → ((d : Keeping D) → stored ≡ Some d → ◌≡◌ {A = store.Part D} d.part new.store)
         → Stepped log_seen data_seen x r held stored after_carried (v, carried) (record { pages = v.pages; seats = behind x r ∷ []; held = held; data_part = stored }, after_carried)
     steps carried held stored after_carried own data_is = record {
       fits = answer_fits log_seen data_seen R.run R.parts new a (next a) r refl played (serves log_seen data_seen R.run R.parts R.actors R.runs x.number a there);

@@ -1,7 +1,6 @@
 pub mod Allowed
 pub mod AllowedCalls
 pub mod AllowedLists
-pub mod Asks
 pub mod AtRest
 pub mod Batching
 pub mod Behind
@@ -10,17 +9,13 @@ pub mod Causes
 pub mod Cuts
 pub mod Ends
 pub mod Failing
-pub mod Fails
 pub mod Finishing
 pub mod Gathered
-pub mod Gives
-pub mod Hands
 pub mod Holders
 pub mod Kept
 pub mod Laid
 pub mod Opens
 pub mod Reached
-pub mod Rests
 pub mod Retook
 pub mod Seated
 pub mod Stepping

@@ -1,22 +1,13 @@
 -- The rule holds of a table that was made of parts and actors at the beginning of a run.
-use Rattle.std.proofs.Common.{Bool, List, None, Option, Some, [], ap, arith, cond, false, length, map, refl, subst, suc, sym, true, zero, ℕ, ◌+◌, ◌<◌, ◌==◌, ◌∙◌, ◌∷◌, ◌≡◌}
+use Rattle.std.proofs.Common.{Bool, List, None, Option, Some, [], ap, arith, false, length, map, refl, subst, suc, sym, zero, ℕ, ◌+◌, ◌<◌, ◌∙◌, ◌∷◌, ◌≡◌}
 use Rattle.std.specs.Prelude.{slice_index}
 use lib.ListN.{get_elem?}
 use mathlib.Core.Option as maybe
 use Rattle.atomic_table.specs.Table.{opening}
 use Rattle.model_base.specs.declared.shape.Shape.{Shape}
-use Rattle.model_core.specs.{CheckpointerState, CleanerState, CloserState, flat, FlusherState, holds_tail, new_user, UserState, WriterState}
-use Rattle.model_core.specs.Actors as model
-use Rattle.model_core.specs.Holding.{closer_holds_tail, user_holds_tail, writer_holds_tail}
-use Rattle.model_core.specs.Setup.{Setup}
-use Rattle.model_core.specs.declared.steps.AdvanceStep.TheVariants as advance_step
-use Rattle.model_core.specs.declared.steps.CloserStep.TheVariants as closer_step
-use Rattle.model_core.specs.declared.steps.UserStep.TheVariants as user_step
-use Rattle.model_core.specs.declared.steps.WriterStep.TheVariants as writer_step
-use Rattle.model_core.specs.declared.words.LinkBuffer.{LinkBuffer}
-use Rattle.model_core.specs.declared.words.LinkBuffer.TheVariants as link_buffer
+use Rattle.model_core.specs.{flat}
 use Rattle.model_core.specs.declared.words.Word.TheVariants as word
-use Rattle.model_logcore.specs.{StartActor}
+use Rattle.model_logcore.proofs.StartEmpty.{start_empty}
 use Rattle.model_running.proofs.FlatWords.{flat_read}
 use Rattle.redo_disk.specs.{Call}
 use Rattle.redo_disk.specs.Seen.{Seen}
@@ -29,11 +20,11 @@ use Rattle.redo_drive.specs.Views.{view_of}
 use Rattle.redo_drive.specs.declared.actor.Actor.{Actor}
 use Rattle.redo_drive.specs.declared.making.Beginning.{Beginning}
 use Rattle.redo_drive.specs.declared.parts.Parts.{Parts}
-use Rattle.redo_rule.proofs.Gives.{gives_hand}
+use Rattle.model_core.proofs.FailedCalls.{gives_hand}
 use Rattle.redo_rule.proofs.Holders.{holding}
 use Rattle.redo_rule.proofs.Retook.{at_map}
-use Rattle.redo_rule.specs.Hands.{checkpointer_hand, cleaner_hand, flusher_hand, hand, HoldsNothing, user_hand, writer_hand}
-use Rattle.redo_rule.specs.Ruled.{content_at, first_view, Knows, numbered, Ruled}
+use Rattle.model_core.specs.Hands.{HoldsNothing}
+use Rattle.redo_rule.specs.Ruled.{first_view, Knows, numbered, Ruled, slot_content}
 use Rattle.redo_rule.specs.declared.law.About.{About}
 use Rattle.redo_rule.specs.declared.law.Keeping.{Keeping}
 use Rattle.redo_rule.specs.declared.law.Numbered.{Numbered}
@@ -41,43 +32,6 @@ use Rattle.redo_rule.specs.declared.law.Slot.{Slot}
 use Rattle.redo_rule.specs.declared.law.Slot.TheVariants as slot
 use Rattle.redo_rule.specs.declared.law.View.{View}
 use Rattle.redo_store.specs.Part as store
-
--- a new actor holds nothing
-user_none : (u : UserState) (b : Bool) → user_hand u (cond b user_step.Done user_step.LoadCheckpoint) ≡ None
-user_none u true = refl
-user_none u false = refl
-
-fresh_hand : (c : Setup) (seat_of : ℕ → ℕ) (writer n : ℕ) (a : model.Actor) → StartActor c seat_of writer n a → hand a ≡ None
-fresh_hand c seat_of writer n (model.User u) is = ap (λ (z : UserState). user_hand z z.step) is.1.is ∙ user_none (new_user u.user c.blocks (c.script u.user)) (length (c.script u.user) == 0)
-fresh_hand c seat_of writer n (model.Writer s) is = ap (λ (z : WriterState). writer_hand z.step) is.1
-fresh_hand c seat_of writer n (model.Flusher t) is = ap (λ (z : FlusherState). flusher_hand z.step) is.1
-fresh_hand c seat_of writer n (model.Closer t) is = refl
-fresh_hand c seat_of writer n (model.Cleaner v) is = ap (λ (z : CleanerState). cleaner_hand z z.step) is.1
-fresh_hand c seat_of writer n (model.Checkpointer t) is = ap (λ (z : CheckpointerState). checkpointer_hand z z.step) is.1
-fresh_hand c seat_of writer n (model.Joined es) is = refl
-
-user_free : (b : Bool) (l : LinkBuffer) → user_holds_tail l (cond b user_step.Done user_step.LoadCheckpoint) ≡ false
-user_free true link_buffer.Written = refl
-user_free true link_buffer.Closed = refl
-user_free false link_buffer.Written = refl
-user_free false link_buffer.Closed = refl
-
-writer_free : (l : LinkBuffer) → writer_holds_tail l (writer_step.Advance advance_step.LoadTail) ≡ false
-writer_free link_buffer.Written = refl
-writer_free link_buffer.Closed = refl
-
-closer_free : (l : LinkBuffer) → closer_holds_tail l (closer_step.Advance advance_step.LoadTail) ≡ false
-closer_free link_buffer.Written = refl
-closer_free link_buffer.Closed = refl
-
-fresh_tail : (c : Setup) (seat_of : ℕ → ℕ) (writer n : ℕ) (a : model.Actor) → StartActor c seat_of writer n a → (l : LinkBuffer) → holds_tail l a ≡ false
-fresh_tail c seat_of writer n (model.User u) is l = ap (λ (z : UserState). user_holds_tail l z.step) is.1.is ∙ user_free (length (c.script u.user) == 0) l
-fresh_tail c seat_of writer n (model.Writer s) is l = ap (λ (z : WriterState). writer_holds_tail l z.step) is.1 ∙ writer_free l
-fresh_tail c seat_of writer n (model.Closer t) is l = ap (λ (z : CloserState). closer_holds_tail l z.step) is.1 ∙ closer_free l
-fresh_tail c seat_of writer n (model.Flusher t) is l = refl
-fresh_tail c seat_of writer n (model.Cleaner v) is l = refl
-fresh_tail c seat_of writer n (model.Checkpointer t) is l = refl
-fresh_tail c seat_of writer n (model.Joined es) is l = refl
 
 -- what is known of the data part
 abbrev pub part_or : {D : Type 0} → store.Part D → Option (Keeping D) → store.Part D
@@ -98,7 +52,7 @@ module _ {L D : Type 0} where
   abbrev pub slots_of : Parts L D → List (Slot L D)
   slots_of parts = slot.Log parts.log ∷ slot.Pages (listing_at parts.lists.lists 0) ∷ slot.Pages (listing_at parts.lists.lists 1) ∷ slot.Pages (listing_at parts.lists.lists 2) ∷ slot.Pages (listing_at parts.lists.lists 3) ∷ slot.Data parts.store ∷ []
 
-  at_home : (parts : Parts L D) (k : ℕ) → k < 5 → get_elem? (map maybe.some (slots_of parts)) k ≡ maybe.some (maybe.some (content_at parts k))
+  at_home : (parts : Parts L D) (k : ℕ) → k < 5 → get_elem? (map maybe.some (slots_of parts)) k ≡ maybe.some (maybe.some (slot_content parts k))
   at_home parts zero l = refl
   at_home parts (suc zero) l = refl
   at_home parts (suc (suc zero)) l = refl
@@ -110,10 +64,7 @@ module _ {L D : Type 0} (log_seen : L → Seen) (data_seen : D → Seen) (about 
     (B : BeginsRun log_seen data_seen about.opened.value about.script.value about.log_only start) (actors : ◌≡◌ {A = List Actor} about.actors.value.items start.actors.items) where
   pub fresh : (n : ℕ) (a : Actor) → get_elem? start.actors.items n ≡ maybe.some a → HoldsNothing (view_of a)
   fresh n a at =
-      let is = B.at_start.starts.each n (view_of a) (at_map view_of start.actors.items n a at) in record {
-        no_slot = fresh_hand B.run.setup B.at_start.seat_of B.at_start.writer n (view_of a) is;
-        no_tail = fresh_tail B.run.setup B.at_start.seat_of B.at_start.writer n (view_of a) is;
-      }
+      start_empty B.run.setup B.at_start.seat_of B.at_start.writer n (view_of a) (B.at_start.starts.each n (view_of a) (at_map view_of start.actors.items n a at))
 
   pub there : (i : ℕ) (x : Numbered) → get_elem? (first_view about).seats i ≡ maybe.some x → get_elem? start.actors.items x.number ≡ maybe.some x.actor
   there i x e = let n = numbered_at 0 about.actors.value.items i x e in ap (get_elem? start.actors.items) (let k = n.0 in let z : x.number ≡ i = omega arith in z) ∙ ap (λ (l : List Actor). get_elem? l i) (sym actors) ∙ n.1

@@ -10,9 +10,9 @@ use Rattle.redo_disk.specs.Seen.{Seen}
 use Rattle.redo_drive.specs.Views.{view_of}
 use Rattle.redo_rule.proofs.Kept.{only}
 use Rattle.redo_rule.specs.Cutting.{AreAtRest, IsApart}
-use Rattle.redo_rule.specs.Hands.{hand, IsFreeToCheck}
+use Rattle.model_core.specs.Hands.{hand, IsFreeToCheck}
 use Rattle.redo_rule.specs.Ruled.{Knows, Ruled}
-use Rattle.redo_rule.specs.Seats.{cut_left, cut_right, first_some, head_of, heads_cleaner, spent, tail_of, taken_in}
+use Rattle.redo_rule.specs.Seats.{cut_left, cut_right, first_numbered, first_some, heads_cleaner, rest_numbered, spent, taken_in}
 use Rattle.redo_rule.specs.declared.law.About.{About}
 use Rattle.redo_rule.specs.declared.law.Keeping.{Keeping}
 use Rattle.redo_rule.specs.declared.law.Numbered.{Numbered}
@@ -58,13 +58,13 @@ module _ {L D : Type 0} (log_seen : L → Seen) (log_gives : L → Call → L �
       let seat_of : ℕ → ℕ = λ n. cond (n == x.number) fresh (R.seat_of n) in
       let b : Bool = heads_cleaner v.seats in
       let keeper : ℕ = cond b (cond (R.keeper == id) fresh R.keeper) R.keeper in
-      let in_left : (i : ℕ) (y : Numbered) → get_elem? (cut_left v).seats i ≡ maybe.some y → get_elem? v.seats (suc i) ≡ maybe.some y = λ i y e. ap (λ (l : List Numbered). get_elem? l (suc i)) seats ∙ sym (ap (λ (l : List Numbered). get_elem? (tail_of l) i) seats) ∙ e in
+      let in_left : (i : ℕ) (y : Numbered) → get_elem? (cut_left v).seats i ≡ maybe.some y → get_elem? v.seats (suc i) ≡ maybe.some y = λ i y e. ap (λ (l : List Numbered). get_elem? l (suc i)) seats ∙ sym (ap (λ (l : List Numbered). get_elem? (rest_numbered l) i) seats) ∙ e in
       let old_seat : (n : ℕ) → n ≢ x.number → seat_of n ≡ R.seat_of n = λ n ne. ap (λ (t : Bool). cond t fresh (R.seat_of n)) (ne_eqb n x.number ne) in
       let first : get_elem? v.seats 0 ≡ maybe.some x = ap (λ (l : List Numbered). get_elem? l 0) seats in
-      let in_right : (i : ℕ) (y : Numbered) → get_elem? (cut_right v).seats i ≡ maybe.some y → ◌≡◌ {A = Numbered} x y = λ i y e. only (cut_right v).seats x i y (ap head_of seats) e in
+      let in_right : (i : ℕ) (y : Numbered) → get_elem? (cut_right v).seats i ≡ maybe.some y → ◌≡◌ {A = Numbered} x y = λ i y e. only (cut_right v).seats x i y (ap first_numbered seats) e in
       let left : Knows R.parts R.actors seat_of keeper R.out id (cut_left v) = record {
         pages = λ i y e. K.pages (suc i) y (in_left i y e);
-        mine = λ i y e. let far : y.number ≢ x.number = apart i y (sym (ap (λ (l : List Numbered). get_elem? (tail_of l) i) seats) ∙ e) in (old_seat y.number far ∙ (K.mine (suc i) y (in_left i y e)).0, (K.mine (suc i) y (in_left i y e)).1);
+        mine = λ i y e. let far : y.number ≢ x.number = apart i y (sym (ap (λ (l : List Numbered). get_elem? (rest_numbered l) i) seats) ∙ e) in (old_seat y.number far ∙ (K.mine (suc i) y (in_left i y e)).0, (K.mine (suc i) y (in_left i y e)).1);
         free = λ i y e. K.free (suc i) y (in_left i y e);
         held = λ i y k e h. K.held (suc i) y k (in_left i y e) h;
         data_part = λ d e. let t = part_left b v.data_part d e in let m = K.data_part d t.1 in (ap (λ (z : Bool). cond z (cond (R.keeper == id) fresh R.keeper) R.keeper) t.0 ∙ m.0, m.1, m.2);

@@ -20,12 +20,13 @@ use Rattle.redo_flushlist.specs.{Listing}
 use Rattle.redo_drive.specs.Views.{view_of}
 use Rattle.redo_rule.proofs.Allowed.{allows_add, allows_give, allows_give_list, allows_load, allows_store, allows_swap, allows_take, word_hand}
 use Rattle.redo_rule.proofs.AllowedLists.{allows_take_add, allows_take_oldest, allows_take_remove}
-use Rattle.redo_rule.proofs.Hands.{handles}
+use Rattle.model_core.proofs.Hands.{handles}
 use Rattle.redo_rule.proofs.Retook.{view_retook}
-use Rattle.redo_rule.specs.Hands.{hand, Handles, IsFreeToCheck}
+use Rattle.model_core.proofs.Hands.{Handles}
+use Rattle.model_core.specs.Hands.{hand, IsFreeToCheck}
 use Rattle.redo_rule.specs.Ruled.{Ruled}
 use Rattle.redo_rule.specs.declared.law.About.{About}
-use Rattle.redo_rule.specs.Mine.{HasPlayed, Mine, number_in, number_of, Stays}
+use Rattle.redo_rule.specs.Mine.{HasPlayed, KeepsSeat, Mine, number_in, number_of}
 use Rattle.redo_rule.specs.Plays.{behind, Carries, gave, list_behind, list_said, ListFits, MayGo, saw, seized, seized_list, Shown, Stepped, TakesList, taking}
 use Rattle.redo_rule.specs.declared.law.Keeping.{Keeping}
 use Rattle.redo_rule.specs.declared.law.Slot.{Slot}
@@ -189,5 +190,5 @@ module _ {L D : Type 0} (table : TableId) (seat : Seat (Slot L D) (View L D)) (a
     has_played step ends = record { answer = r; number = mine.who.number; shown = subst (λ (z : model.Actor). Shown log_seen data_seen mine.who.number z r) mine.state stepped.shown; is = is; ends = ends }
 
     -- the view keeps the data part
-    pub keeps_part : stored ≡ seat.me.0.data_part → Stays seat.me.0 after.me.0
+    pub keeps_part : stored ≡ seat.me.0.data_part → KeepsSeat seat.me.0 after.me.0
     keeps_part e = record { number = ap (λ (m : Me (Slot L D) (View L D)). number_of m.0) stepped.is ∙ sym (ap number_in mine.one); data_part = ap (λ (m : Me (Slot L D) (View L D)). m.0.data_part) stepped.is ∙ e }

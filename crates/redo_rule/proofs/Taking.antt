@@ -12,8 +12,8 @@ use Rattle.redo_disk.specs.Seen.{Seen}
 use Rattle.redo_flushlist.specs.{Listing}
 use Rattle.redo_logdev.specs.Part as log
 use Rattle.redo_rule.proofs.Retook.{view_retook}
-use Rattle.redo_rule.specs.Hands.{hand}
-use Rattle.redo_rule.specs.Mine.{HasPlayed, Mine, number_in, number_of, Stays}
+use Rattle.model_core.specs.Hands.{hand}
+use Rattle.redo_rule.specs.Mine.{HasPlayed, KeepsSeat, Mine, number_in, number_of}
 use Rattle.redo_rule.specs.Plays.{behind, Carries, MayGo, Shown, Stepped}
 use Rattle.redo_rule.specs.declared.law.Slot.{Slot}
 use Rattle.redo_rule.specs.declared.law.Slot.TheVariants as slot
@@ -58,5 +58,5 @@ module _ {L D : Type 0} (table : TableId) (seat : Seat (Slot L D) (View L D)) (a
   pub taken_played : (b : model.Actor) → b ≡ took a r → (step : Step) → step ≡ step_of a r → HasPlayed log_seen data_seen a step b
   taken_played b b_is step ends = record { answer = r; number = mine.who.number; shown = subst (λ (y : model.Actor). Shown log_seen data_seen mine.who.number y r) mine.state stepped.shown; is = b_is; ends = ends }
 
-  pub taken_part : Stays seat.me.0 after.me.0
+  pub taken_part : KeepsSeat seat.me.0 after.me.0
   taken_part = record { number = ap (λ (m : Me (Slot L D) (View L D)). number_of m.0) stepped.is ∙ sym (ap number_in mine.one); data_part = ap (λ (m : Me (Slot L D) (View L D)). m.0.data_part) stepped.is }

@@ -1,15 +1,16 @@
 -- A store that is shared as its run begins: no actor has a seat, and the first seat knows them all.
-use Rattle.std.proofs.Common.{Bool, List, Option, [], ap, length, map, subst, suc, sym, true, zero, ℕ, ◌++◌, ◌∙◌, ◌∷◌, ◌≡◌, ◌≤◌}
+use Rattle.std.proofs.Common.{Bool, List, Option, [], ap, length, refl, subst, sym, true, ℕ, ◌∙◌, ◌≡◌, ◌≤◌}
 use Rattle.std.specs.Prelude.{IfSome, IsSome, vec_capacity}
 use lib.ListN.{get_elem?}
 use mathlib.Core.Option as maybe
 use Rattle.atomic_table.specs.Table.{Me}
 use Rattle.model_base.specs.declared.shape.Shape.{Shape}
-use Rattle.model_core.specs.{UserState, word_count}
+use Rattle.model_core.specs.{CleanerState, word_count}
 use Rattle.model_core.specs.Actors as model
 use Rattle.model_core.specs.Setup.{Setup}
 use Rattle.model_logcore.specs.{StartActor}
-use Rattle.model_running.specs.{ArePageActors, AreSeated}
+use Rattle.model_running.proofs.Seated.{no_cleaner}
+use Rattle.model_running.specs.{AreSeated}
 use Rattle.model_script.specs.declared.script.ScriptLine.{ScriptLine}
 use Rattle.redo_disk.specs.Seen.{Seen}
 use Rattle.redo_drive.specs.Startable.{MayBegin}
@@ -33,29 +34,16 @@ use Rattle.redo_rule.specs.declared.shared.Shared.{Shared}
 -- the cleaner has its own seat
 cleaner_place : (c : Setup) (seat_of : ℕ → ℕ) (writer n : ℕ) (a : model.Actor) → StartActor c seat_of writer n a → IsCleaner a → n ≡ c.cleaner
 cleaner_place c seat_of writer n (model.Cleaner v) is cleaner = is.0
-cleaner_place c seat_of writer n (model.User u) is cleaner = absurd cleaner
-cleaner_place c seat_of writer n (model.Writer s) is cleaner = absurd cleaner
-cleaner_place c seat_of writer n (model.Flusher t) is cleaner = absurd cleaner
-cleaner_place c seat_of writer n (model.Closer t) is cleaner = absurd cleaner
-cleaner_place c seat_of writer n (model.Checkpointer t) is cleaner = absurd cleaner
-cleaner_place c seat_of writer n (model.Joined es) is cleaner = absurd cleaner
+cleaner_place c seat_of writer n _ is cleaner = absurd cleaner
 
-no_user : (users : List UserState) (l : List model.Actor) → ((i : ℕ) (a : model.Actor) → get_elem? l i ≡ maybe.some a → IsCleaner a → ⊥)
-    → (i : ℕ) (a : model.Actor) → get_elem? (map model.User users ++ l) i ≡ maybe.some a → IsCleaner a → ⊥
-no_user [] l others i a e is = others i a e is
-no_user (u ∷ users) l others zero a e is = subst IsCleaner (sym (maybe.some-injective (model.User u) a e)) is
-no_user (u ∷ users) l others (suc i) a e is = no_user users l others i a e is
-
-no_other : (l : List model.Actor) → l ≡ [] → (w : model.Actor) (f : model.Actor) → (IsCleaner w → ⊥) → (IsCleaner f → ⊥) → (i : ℕ) (a : model.Actor) → get_elem? (w ∷ f ∷ l) i ≡ maybe.some a → IsCleaner a → ⊥
-no_other l none w f not_w not_f zero a e is = not_w (subst IsCleaner (sym (maybe.some-injective w a e)) is)
-no_other l none w f not_w not_f (suc zero) a e is = not_f (subst IsCleaner (sym (maybe.some-injective f a e)) is)
-no_other l none w f not_w not_f (suc (suc i)) a e is = absurd (maybe.some-ne-none a (sym e ∙ ap (λ (z : List model.Actor). get_elem? z i) none))
+its_state : (a : model.Actor) → IsCleaner a → (v : CleanerState) × (a ≡ model.Cleaner v)
+its_state (model.Cleaner v) is = (v, refl)
+its_state _ is = absurd is
 
 none_there : (c : Setup) (actors : List Actor) → AreSeated c (views_of actors) → c.log_only ≡ true → (i : ℕ) (a : Actor) → get_elem? actors i ≡ maybe.some a → IsCleaner (view_of a) → ⊥
 none_there c actors S alone i a at is =
-    no_user S.users (model.Writer S.writer ∷ model.Flusher S.flusher ∷ S.others)
-    (no_other S.others (subst (λ (b : Bool). ArePageActors b S.others) alone S.page_actors) (model.Writer S.writer) (model.Flusher S.flusher) (λ z. z) (λ z. z))
-    i (view_of a) (ap (λ (l : List model.Actor). get_elem? l i) (sym S.are) ∙ at_map view_of actors i a at) is
+    let v = its_state (view_of a) is in
+    no_cleaner c (views_of actors) S alone i v.0 (at_map view_of actors i a at ∙ ap (λ (z : model.Actor). maybe.some z) v.1)
 
 module _ {L D : Type 0} (log_seen : L → Seen) (data_seen : D → Seen) (about : About L D) (start : Beginning L D)
     (B : BeginsRun log_seen data_seen about.opened.value about.script.value about.log_only start) (actors : ◌≡◌ {A = List Actor} about.actors.value.items start.actors.items)

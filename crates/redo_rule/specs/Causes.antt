@@ -10,13 +10,14 @@ use Rattle.model_core.specs.declared.steps.UserStep.TheVariants as user_step
 use Rattle.model_core.specs.declared.words.Word.TheVariants as word
 use Rattle.redo_disk.specs.Seen.{Seen}
 use Rattle.redo_drive.specs.Turning.{code_in}
-use Rattle.redo_rule.specs.Failing.{CodeHasCause, GivesFailed, StoresFailed}
+use Rattle.model_core.specs.Hands.{GivesFailed, StoresFailed}
+use Rattle.redo_rule.specs.Failing.{CodeHasCause}
 use Rattle.redo_rule.specs.Plays.{Shown}
 
 -- it is a user that has ended: the commit of its last line is answered
-abbrev pub IsAnswered : model.Actor → Type 0
-IsAnswered (model.User u) = (u.step ≡ user_step.Done) × (u.k ≡ length u.lines)
-IsAnswered _ = ⊥
+abbrev pub IsFinishedUser : model.Actor → Type 0
+IsFinishedUser (model.User u) = (u.step ≡ user_step.Done) × (u.k ≡ length u.lines)
+IsFinishedUser _ = ⊥
 
 -- it rests, since it had ended by a failure of this code
 abbrev pub HasEndedBy : model.Actor → ℕ → Type 0
@@ -34,7 +35,7 @@ module _ {L D : Type 0} (log_seen : L → Seen) (data_seen : D → Seen) where
   -- THE CODE BY WHICH ITS STEP ENDED, at that moment: the actor found it in FAILED; or its own device call had failed with it,
   -- and it had stored it and gave the log part back, or, having none, stored it. The code has its cause in what the devices
   -- had met since the run began.
-  pub record HasMetFailure (a : model.Actor) (code : ℕ) : Type 0 where
+  pub record HasFailureCode (a : model.Actor) (code : ℕ) : Type 0 where
     pub number : ℕ
     pub answer : Answer
     pub shown : Shown log_seen data_seen number a answer

@@ -17,7 +17,7 @@ use Rattle.redo_rule.specs.declared.law.Slot.TheVariants as slot
 
 -- The run of the script on the opened store has come to these parts and actors, of which the words and the log part are what
 -- the table had: ALL THAT `Machine::finish` IS GIVEN.
-pub record EndsWith {L D : Type 0} (log_seen : L → Seen) (log_gives : L → Call → L → Type 0) (data_seen : D → Seen) (data_gives : D → Call → D → Type 0)
+pub record RunReaches {L D : Type 0} (log_seen : L → Seen) (log_gives : L → Call → L → Type 0) (data_seen : D → Seen) (data_gives : D → Call → D → Type 0)
     (about : About L D) (actors : List Actor) (words : List ℕ) (slots : List (Slot L D)) : Type 0 where
   pub run : RunOf L D
   pub is_about : IsRunAbout log_seen data_seen about run

@@ -18,7 +18,7 @@ HasOneCleaner actors = (i j : ℕ) (a b : Actor) → get_elem? actors i ≡ some
 
 module _ {L D : Type 0} where
   -- Of the actors the first so many have these seats, and the first seat has the others.
-  pub record AreApart (table : TableId) (actors : List Actor) (first : Seat (Slot L D) (View L D)) (seats : List (Seat (Slot L D) (View L D))) : Type 0 where
+  pub record AreHandedOut (table : TableId) (actors : List Actor) (first : Seat (Slot L D) (View L D)) (seats : List (Seat (Slot L D) (View L D))) : Type 0 where
     pub is_first : IsFirst table first
     pub few : length seats ≤ length actors
     pub others : first.me.0.seats ≡ numbered (length seats) (drop (length seats) actors)

@@ -4,7 +4,6 @@ pub mod Cutting
 pub mod Ending
 pub mod Failing
 pub mod Gathering
-pub mod Hands
 pub mod Mine
 pub mod Plays
 pub mod Reached

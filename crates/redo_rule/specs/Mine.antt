@@ -10,7 +10,7 @@ use Rattle.model_core.specs.declared.ops.Op.TheVariants as op
 use Rattle.model_core.specs.declared.ops.Step.{Step}
 use Rattle.redo_disk.specs.Seen.{Seen}
 use Rattle.redo_drive.specs.Views.{view_of}
-use Rattle.redo_rule.specs.Hands.{hand}
+use Rattle.model_core.specs.Hands.{hand}
 use Rattle.redo_rule.specs.Plays.{Carries, MayGo, Shown}
 use Rattle.redo_rule.specs.declared.law.Numbered.{Numbered}
 use Rattle.redo_rule.specs.declared.law.Slot.{Slot}
@@ -25,7 +25,7 @@ abbrev pub number_of : {L D : Type 0} → View L D → ℕ
 number_of v = number_in v.seats
 
 -- a seat keeps its number, and what it knows of the data part
-pub record Stays {L D : Type 0} (v w : View L D) : Type 0 where
+pub record KeepsSeat {L D : Type 0} (v w : View L D) : Type 0 where
   pub number : number_of w ≡ number_of v
   pub data_part : w.data_part ≡ v.data_part
 

@@ -1,9 +1,9 @@
 -- What each step of the table tells its seat: the actor's state took an answer, and what it may do next.
-use Rattle.std.specs.Prelude.{Bool, List, None, Option, Some, [], cond, false, length, map, true, suc, zero, ℕ, ◌%◌, ◌++◌, ◌+◌, ◌==◌, ◌∷◌, ◌≡◌, ◌≢◌}
+use Rattle.std.specs.Prelude.{Bool, List, None, Option, Some, [], cond, false, length, map, true, suc, zero, ℕ, ◌%◌, ◌++◌, ◌+◌, ◌∷◌, ◌≡◌, ◌≢◌, is_some}
 use lib.ListN.{get_elem?}
 use mathlib.Core.Option.{some}
 use Rattle.atomic_table.specs.Table.{Me, rest}
-use Rattle.model_core.specs.{checkpointer_after, cleaner_after, closer_after, flusher_after, heard, lent, next, old_of, oldest_end, OpWords, step_of, took, user_checked, user_took, UserState, writer_after}
+use Rattle.model_core.specs.{lent, next, oldest_end, OpWords, step_of, took, UserState}
 use Rattle.model_core.specs.Actors as model
 use Rattle.model_core.specs.AnswerFits.{AnswerFits}
 use Rattle.model_core.specs.Turn.{Turn}
@@ -14,22 +14,19 @@ use Rattle.model_core.specs.declared.ops.Op.{Op}
 use Rattle.model_core.specs.declared.ops.Op.TheVariants as op
 use Rattle.model_core.specs.declared.steps.UserStep.TheVariants as user_step
 use Rattle.redo_disk.specs.Seen.{Seen}
-use Rattle.redo_disk.specs.declared.error.DevError.{DevError}
-use Rattle.redo_flushlist.specs.{Listing, without}
+use Rattle.redo_flushlist.specs.{Listing, without_page}
 use Rattle.redo_logdev.specs.Part as log
-use Rattle.redo_drive.specs.{has_failed}
-use Rattle.redo_drive.specs.LogPartSide as log_part
-use Rattle.redo_drive.specs.DataPartSide as data_part
+use Rattle.redo_drive.specs.Devices.{call_answer}
 use Rattle.redo_drive.specs.Lists.{listed_of}
-use Rattle.redo_drive.specs.Playing.{DataReady, HasWholePages, LogReady, RunOf, data_of, log_of}
+use Rattle.redo_drive.specs.Playing.{DataReady, HasWholePages, LogReady, RunOf, run_data_side, run_log_side, told_by}
 use Rattle.redo_drive.specs.Running.{RunsOn}
 use Rattle.redo_drive.specs.Turning.{core_of}
+use Rattle.redo_drive.specs.Steps.{retook}
 use Rattle.redo_drive.specs.Views.{view_of, views_of}
 use Rattle.redo_drive.specs.declared.actor.Actor.{Actor}
-use Rattle.redo_drive.specs.declared.actor.Actor.TheVariants as own
+use Rattle.redo_drive.specs.declared.device.Device.TheVariants.{Data, Log}
 use Rattle.redo_drive.specs.declared.parts.Parts.{Parts}
-use Rattle.redo_rule.specs.Failing.{GivesFailed}
-use Rattle.redo_rule.specs.Hands.{hand, IsFreeToCheck}
+use Rattle.model_core.specs.Hands.{GivesFailed, hand, IsFreeToCheck}
 use Rattle.redo_rule.specs.declared.law.Keeping.{Keeping}
 use Rattle.redo_rule.specs.declared.law.Numbered.{Numbered}
 use Rattle.redo_rule.specs.declared.law.Slot.{Slot}
@@ -42,36 +39,9 @@ use Rattle.model_core.specs.{Each, oldest_of}
 use Rattle.model_core.specs.declared.limits.TheConstants.{CLOSED_LINKS}
 use Rattle.std.specs.Prelude.{◌<◌}
 
--- an actor's state after an answer
-abbrev pub retook : Actor → Answer → Actor
-retook (own.User u) r = own.User (cond u.checks (user_checked u (old_of r)) (user_took u (heard r) u.step))
-retook (own.Writer s) r = own.Writer (writer_after s r)
-retook (own.Flusher t) r = own.Flusher (flusher_after t r)
-retook (own.Closer t) r = own.Closer (closer_after t r)
-retook (own.Cleaner v) r = own.Cleaner (cleaner_after v r)
-retook (own.Checkpointer t) r = own.Checkpointer (checkpointer_after t r)
-
 -- a seat's actor after it
 abbrev pub behind : Numbered → Answer → Numbered
 behind x r = record { number = x.number; actor = retook x.actor r }
-
--- how a device call ended, as its part tells
-abbrev pub log_code : Option DevError → ℕ
-log_code None = 0
-log_code (Some fault) = log_part.fault_code fault
-
-abbrev pub data_code : Option DevError → ℕ
-data_code None = 0
-data_code (Some fault) = data_part.fault_code fault
-
--- the answer to a call that ended so, and told this number
-abbrev pub called_by : ℕ → ℕ → Answer
-called_by code told = cond (code == 0) (answer.Called told) (answer.Failed code)
-
--- what the log part's call tells
-abbrev pub told_by : Op → ℕ → ℕ
-told_by op.Sync stable = stable
-told_by _ stable = 0
 
 -- the answer to whoever gets the log part
 abbrev pub taking : Bool → Answer
@@ -87,7 +57,7 @@ TakesList _ k = ⊥
 -- what it makes of the list, and what it reads off it
 abbrev pub list_behind : Op → Listing → Listing
 list_behind (op.TakeAdd p x) l = record { pages = l.pages; entries = l.entries ++ (record { page = p; oldest = x }) ∷ [] }
-list_behind (op.TakeRemove p) l = record { pages = l.pages; entries = without p l.entries }
+list_behind (op.TakeRemove p) l = record { pages = l.pages; entries = without_page p l.entries }
 list_behind _ l = l
 
 abbrev pub list_said : Op → Listing → Option ℕ
@@ -106,7 +76,7 @@ module _ {L D : Type 0} where
     pub there : OpWords pages (next a)
     pub log : (p : log.Part L) → held ≡ Some (slot.Log p) → hand a ≡ Some 0 → (l : Lent) → Lends l (lent a) → LogReady p l (next a)
     pub data_part : (d : Keeping D) → stored ≡ Some d → (l : Lent) → Lends l (lent a) → DataReady d.part l (next a)
-    pub whole : HasWholePages (next a) (lent a)
+    pub whole : (d : Keeping D) → stored ≡ Some d → HasWholePages d.part.shape (next a) (lent a)
     pub free : IsFreeToCheck a
     pub rest : next a ≡ op.Rest → AnswerFits a answer.Rested
     -- a user that has ended well has all its commits answered
@@ -135,8 +105,8 @@ module _ {L D : Type 0} (log_seen : L → Seen) (data_seen : D → Seen) where
     pub runs_on : RunsOn log_seen data_seen run new after
     pub at : get_elem? (views_of actors) number ≡ some a
     -- where it gives the log part back after a failed call, its code is one that the part has
-    pub told : (code : ℕ) → GivesFailed a code → (log_of log_seen data_seen run).Cause old.log code
-    pub turn : Turn (log_of log_seen data_seen run) (data_of log_seen data_seen run) (core_of log_seen data_seen run old actors) number r (step_of a r) (core_of log_seen data_seen run new after)
+    pub told : (code : ℕ) → GivesFailed a code → (run_log_side log_seen data_seen run).Cause old.log code
+    pub turn : Turn (run_log_side log_seen data_seen run) (run_data_side log_seen data_seen run) (core_of log_seen data_seen run old actors) number r (step_of a r) (core_of log_seen data_seen run new after)
 
   -- the seat's actor took an answer
   pub record Stepped (x : Numbered) (r : Answer) (held : Option (Slot L D)) (stored : Option (Keeping D)) (carried : List (ℕ × Slot L D)) (m m' : Me (Slot L D) (View L D)) : Type 0 where
@@ -152,7 +122,7 @@ module _ {L D : Type 0} (log_seen : L → Seen) (data_seen : D → Seen) where
   -- the taking of the log part
   abbrev pub seized : Me (Slot L D) (View L D) → ℕ → Me (Slot L D) (View L D) → Type 0
   seized m n m' = (x : Numbered) → m.0.seats ≡ x ∷ []
-      → (n ≡ 0 → (p : log.Part L) × Stepped x (taking (has_failed p.failed)) (Some (slot.Log p)) m.0.data_part ((0, slot.Log p) ∷ m.1) m m')
+      → (n ≡ 0 → (p : log.Part L) × Stepped x (taking (is_some p.failed)) (Some (slot.Log p)) m.0.data_part ((0, slot.Log p) ∷ m.1) m m')
       × (n ≢ 0 → Stepped x answer.Held m.0.held m.0.data_part m.1 m m')
 
   -- the taking of a flush list, whose call is to follow
@@ -169,12 +139,12 @@ module _ {L D : Type 0} (log_seen : L → Seen) (data_seen : D → Seen) where
   -- after a call of the log part
   abbrev pub called : Me (Slot L D) (View L D) → ℕ → Me (Slot L D) (View L D) → Type 0
   called m n m' = (x : Numbered) (q : log.Part L) → m.0.seats ≡ x ∷ [] → m.1 ≡ (0, slot.Log q) ∷ []
-      → Stepped x (called_by (log_code q.failed) (told_by (next (view_of x.actor)) q.marks.stable)) (Some (slot.Log q)) m.0.data_part m.1 m m'
+      → Stepped x (call_answer Log q.failed (told_by (next (view_of x.actor)) q.marks.stable)) (Some (slot.Log q)) m.0.data_part m.1 m m'
 
   -- after a call of the data part, which is back in its slot
   abbrev pub batched : Me (Slot L D) (View L D) → ℕ → Me (Slot L D) (View L D) → Type 0
   batched m n m' = (x : Numbered) (e : store.Part D) → m.0.seats ≡ x ∷ [] → m.1 ≡ (5, slot.Data e) ∷ []
-      → Stepped x (called_by (data_code e.failed) 0) m.0.held (Some (record { part = e; out = false })) (rest m.1) m m'
+      → Stepped x (call_answer Data e.failed 0) m.0.held (Some (record { part = e; out = false })) (rest m.1) m m'
 
   -- a look that changes nothing: what the actor may do
   abbrev pub looked : Me (Slot L D) (View L D) → ℕ → Me (Slot L D) (View L D) → Type 0

@@ -9,16 +9,15 @@ use Rattle.model_store.specs.Reading.{Reading}
 use Rattle.redo_disk.specs.{Call}
 use Rattle.redo_disk.specs.Seen.{Seen}
 use Rattle.redo_drive.specs.Beginning.{HaveBegun, IsRunOfOpened}
-use Rattle.redo_drive.specs.Startable.{IsOpenedAs}
+use Rattle.redo_drive.specs.Startable.{HasReading}
 use Rattle.redo_drive.specs.Calls.{CallsOn}
 use Rattle.redo_drive.specs.Lists.{AreLists, listing_at}
-use Rattle.redo_drive.specs.Playing.{RunOf, log_of}
+use Rattle.redo_drive.specs.Playing.{RunOf, run_log_side}
 use Rattle.redo_drive.specs.Running.{RunsOn}
 use Rattle.redo_drive.specs.Views.{view_of}
 use Rattle.redo_drive.specs.declared.actor.Actor.{Actor}
 use Rattle.redo_drive.specs.declared.parts.Parts.{Parts}
-use Rattle.redo_rule.specs.Failing.{GivesFailed}
-use Rattle.redo_rule.specs.Hands.{hand, IsFreeToCheck}
+use Rattle.model_core.specs.Hands.{GivesFailed, hand, IsFreeToCheck}
 use Rattle.redo_rule.specs.declared.law.About.{About}
 use Rattle.redo_rule.specs.declared.law.Keeping.{Keeping}
 use Rattle.redo_rule.specs.declared.law.Numbered.{Numbered}
@@ -32,14 +31,14 @@ numbered k [] = []
 numbered k (x ∷ xs) = record { number = k; actor = x } ∷ numbered (k + 1) xs
 
 -- one of the actors holds the slot
-abbrev pub HasHolder : List Actor → ℕ → Type 0
-HasHolder actors k = (n : ℕ) × (a : Actor) × (get_elem? actors n ≡ some a) × (hand (view_of a) ≡ Some k)
+abbrev pub IsSlotHeld : List Actor → ℕ → Type 0
+IsSlotHeld actors k = (n : ℕ) × (a : Actor) × (get_elem? actors n ≡ some a) × (hand (view_of a) ≡ Some k)
 
 module _ {L D : Type 0} where
   -- what belongs in a slot that has a turn word: the log part, or a flush list
-  abbrev pub content_at : Parts L D → ℕ → Slot L D
-  content_at parts zero = slot.Log parts.log
-  content_at parts (suc i) = slot.Pages (listing_at parts.lists.lists i)
+  abbrev pub slot_content : Parts L D → ℕ → Slot L D
+  slot_content parts zero = slot.Log parts.log
+  slot_content parts (suc i) = slot.Pages (listing_at parts.lists.lists i)
 
   -- the first seat has all actors and the data part
   abbrev pub first_view : About L D → View L D
@@ -56,14 +55,14 @@ module _ {L D : Type 0} where
     pub pages : (i : ℕ) (x : Numbered) → get_elem? v.seats i ≡ some x → v.pages ≡ parts.words.pages
     pub mine : (i : ℕ) (x : Numbered) → get_elem? v.seats i ≡ some x → (seat_of x.number ≡ id) × (get_elem? actors x.number ≡ some x.actor)
     pub free : (i : ℕ) (x : Numbered) → get_elem? v.seats i ≡ some x → IsFreeToCheck (view_of x.actor)
-    pub held : (i : ℕ) (x : Numbered) (k : ℕ) → get_elem? v.seats i ≡ some x → hand (view_of x.actor) ≡ Some k → v.held ≡ Some (content_at parts k)
+    pub held : (i : ℕ) (x : Numbered) (k : ℕ) → get_elem? v.seats i ≡ some x → hand (view_of x.actor) ≡ Some k → v.held ≡ Some (slot_content parts k)
     pub data_part : (d : Keeping D) → v.data_part ≡ Some d → (keeper ≡ id) × (d.part ≡ parts.store) × (out ≡ d.out)
 
 module _ {L D : Type 0} (log_seen : L → Seen) (data_seen : D → Seen) where
   -- the run is that of the script on the opened store, whose devices held it if they told so
   pub record IsRunAbout (about : About L D) (run : RunOf L D) : Type 0 where
     pub is_run : IsRunOfOpened about.opened.value about.script.value about.log_only run
-    pub begun : (reading : Reading) → IsOpenedAs reading about.opened.value
+    pub begun : (reading : Reading) → HasReading reading about.opened.value
         → IfSome (log_seen about.opened.value.log.dev).tells (λ log_disk. IfSome (data_seen about.opened.value.store.dev).tells (λ data_disk.
         IsStart reading about.script.value log_disk data_disk → HaveBegun log_seen data_seen run))
 
@@ -83,11 +82,11 @@ pub record Ruled {L D : Type 0} (log_seen : L → Seen) (log_gives : L → Call 
   pub log_shape : parts.log.shape ≡ about.opened.value.log.shape
   -- what isn't held is at home
   pub slots : length s.homes ≡ 6
-  pub home : (k : ℕ) → k < 5 → slice_index s.words (7 + k) ≡ 0 → get_elem? s.homes k ≡ some (some (content_at parts k))
+  pub home : (k : ℕ) → k < 5 → slice_index s.words (7 + k) ≡ 0 → get_elem? s.homes k ≡ some (some (slot_content parts k))
   -- who gives the log part back after a failed call has a code that the part has
-  pub told : (n : ℕ) (a : Actor) (code : ℕ) → get_elem? actors n ≡ some a → GivesFailed (view_of a) code → (log_of log_seen data_seen run).Cause parts.log code
+  pub told : (n : ℕ) (a : Actor) (code : ℕ) → get_elem? actors n ≡ some a → GivesFailed (view_of a) code → (run_log_side log_seen data_seen run).Cause parts.log code
   -- a turn word that isn't 0 has an actor that holds it
-  pub taken : (k : ℕ) → k < 5 → slice_index s.words (7 + k) ≢ 0 → HasHolder actors k
+  pub taken : (k : ℕ) → k < 5 → slice_index s.words (7 + k) ≢ 0 → IsSlotHeld actors k
   pub seat_of : ℕ → ℕ
   pub keeper : ℕ
   pub out : Bool

@@ -9,13 +9,13 @@ abbrev pub is_cleaner : Actor → Bool
 is_cleaner (own.Cleaner v) = true
 is_cleaner _ = false
 
-abbrev pub head_of : List Numbered → List Numbered
-head_of [] = []
-head_of (x ∷ xs) = x ∷ []
+abbrev pub first_numbered : List Numbered → List Numbered
+first_numbered [] = []
+first_numbered (x ∷ xs) = x ∷ []
 
-abbrev pub tail_of : List Numbered → List Numbered
-tail_of [] = []
-tail_of (x ∷ xs) = xs
+abbrev pub rest_numbered : List Numbered → List Numbered
+rest_numbered [] = []
+rest_numbered (x ∷ xs) = xs
 
 -- the cleaner's seat gets the data part
 abbrev pub heads_cleaner : List Numbered → Bool
@@ -29,10 +29,10 @@ first_some None other = other
 module _ {L D : Type 0} where
   -- the first of its actors gets a seat of its own
   abbrev pub cut_left : View L D → View L D
-  cut_left v = record { pages = v.pages; seats = tail_of v.seats; held = v.held; data_part = cond (heads_cleaner v.seats) None v.data_part }
+  cut_left v = record { pages = v.pages; seats = rest_numbered v.seats; held = v.held; data_part = cond (heads_cleaner v.seats) None v.data_part }
 
   abbrev pub cut_right : View L D → View L D
-  cut_right v = record { pages = v.pages; seats = head_of v.seats; held = None; data_part = cond (heads_cleaner v.seats) v.data_part None }
+  cut_right v = record { pages = v.pages; seats = first_numbered v.seats; held = None; data_part = cond (heads_cleaner v.seats) v.data_part None }
 
   -- what the other has comes before
   abbrev pub taken_in : View L D → View L D → View L D

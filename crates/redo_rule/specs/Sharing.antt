@@ -35,8 +35,8 @@ module _ {L D : Type 0} where
   abbrev pub opened_of : Shared L D → Opened L D
   opened_of shared = shared.board.shared.key.opened.value
 
-  abbrev pub script_of : Shared L D → List ScriptLine
-  script_of shared = shared.board.shared.key.script.value
+  abbrev pub shared_script : Shared L D → List ScriptLine
+  shared_script shared = shared.board.shared.key.script.value
 
   abbrev pub starts_of : Shared L D → List Actor
   starts_of shared = shared.board.shared.key.actors.value.items
@@ -50,14 +50,14 @@ module _ {L D : Type 0} where
     pub each : (i : ℕ) (seat : Seat (Slot L D) (View L D)) (a : Actor) → get_elem? seats i ≡ some seat → get_elem? actors i ≡ some a → IsSeatOf table seat (view_of a) × (number_of seat.me.0 ≡ i)
 
   -- There is room for the history, and the run may begin.
-  pub record IsReady (shared : Shared L D) : Type 0 where
-    pub may : MayBegin (opened_of shared) (script_of shared) shared.board.shared.key.log_only
+  pub record HasRoomToBegin (shared : Shared L D) : Type 0 where
+    pub may : MayBegin (opened_of shared) (shared_script shared) shared.board.shared.key.log_only
     pub no_entries : shared.entries.items ≡ []
-    pub room : length (script_of shared) ≤ vec_capacity shared.entries
+    pub room : length (shared_script shared) ≤ vec_capacity shared.entries
 
   -- NO ACTOR HAS A SEAT YET. These are the actors as they begin, and there is room for their seats.
   pub record IsUnseated (shared : Shared L D) (actors : List Actor) : Type 0 where
-    pub ready : IsReady shared
+    pub ready : HasRoomToBegin shared
     pub actors_are : starts_of shared ≡ actors
     pub one_cleaner : HasOneCleaner actors
     pub no_cleaner : shared.board.shared.key.log_only ≡ true → (i : ℕ) (a : Actor) → get_elem? actors i ≡ some a → IsCleaner (view_of a) → ⊥
@@ -68,15 +68,15 @@ module _ {L D : Type 0} where
     pub seats_fit : IfSome shared.room (λ v. (v.items ≡ []) × (length actors ≤ vec_capacity v))
 
   -- The store is shared as the run of this script on this opened store begins.
-  pub record IsNew (opened : Opened L D) (script : List ScriptLine) (log_only : Bool) (shared : Shared L D) (actors : List Actor) : Type 0 where
+  pub record IsNewlyShared (opened : Opened L D) (script : List ScriptLine) (log_only : Bool) (shared : Shared L D) (actors : List Actor) : Type 0 where
     pub opened_is : opened_of shared ≡ opened
-    pub script_is : script_of shared ≡ script
+    pub script_is : shared_script shared ≡ script
     pub log_only_is : shared.board.shared.key.log_only ≡ log_only
     pub unseated : IsUnseated shared actors
 
   -- EACH ACTOR HAS ITS SEAT. Where the log runs alone the first seat keeps the data part.
   pub record IsSeated (shared : Shared L D) : Type 0 where
-    pub ready : IsReady shared
+    pub ready : HasRoomToBegin shared
     pub first : IsFirst (table_of shared) shared.first
     pub none : shared.first.me.0.seats ≡ []
     pub alone : shared.board.shared.key.log_only ≡ true → HasPart shared.first.me.0

@@ -1,6 +1,7 @@
 -- Calls of what lies in a slot.
-use Rattle.std.specs.Prelude.{◌≡◌}
-use Rattle.redo_disk.specs.{Call, EndWith, MakesCalls}
+use Rattle.std.specs.Prelude.{Result, ◌≡◌}
+use Rattle.redo_disk.specs.{Call, EndWith, error_of, MakesCalls}
+use Rattle.redo_disk.specs.declared.error.DevError.{DevError}
 use Rattle.redo_flushlist.specs.{Listing}
 use Rattle.redo_logdev.specs.Part as log
 use Rattle.redo_rule.specs.declared.law.Slot.{Slot}
@@ -18,20 +19,22 @@ module _ {L D : Type 0} where
   abbrev pub IsData : Slot L D → (store.Part D → Type 0) → Type 0
   IsData s Is = (d : store.Part D) × (s ≡ slot.Data d) × Is d
 
-  -- the log part was called, with this relation between what it was and is
-  pub record IsCalled (gives : L → Call → L → Type 0) (old new : Slot L D) (Served : log.Part L → log.Part L → Type 0) : Type 0 where
+  -- the log part was called, which ended so, with this relation between what it was and is
+  pub record IsCalled (gives : L → Call → L → Type 0) (old new : Slot L D) (ended : Result (Unit {0}) DevError) (Served : log.Part L → log.Part L → Type 0) : Type 0 where
     pub was : log.Part L
     pub now : log.Part L
     pub old_is : old ≡ slot.Log was
     pub new_is : new ≡ slot.Log now
     pub served : Served was now
+    pub told : now.failed ≡ error_of ended
     pub calls : MakesCalls gives was.dev now.dev (EndWith now.failed)
 
   -- the same of the data part
-  pub record IsBatched (gives : D → Call → D → Type 0) (old new : Slot L D) (Served : store.Part D → store.Part D → Type 0) : Type 0 where
+  pub record IsBatched (gives : D → Call → D → Type 0) (old new : Slot L D) (ended : Result (Unit {0}) DevError) (Served : store.Part D → store.Part D → Type 0) : Type 0 where
     pub was : store.Part D
     pub now : store.Part D
     pub old_is : old ≡ slot.Data was
     pub new_is : new ≡ slot.Data now
     pub served : Served was now
+    pub told : now.failed ≡ error_of ended
     pub calls : MakesCalls gives was.dev now.dev (EndWith now.failed)

@@ -10,7 +10,7 @@ use crate::law::{Ring, Seat};
 use crate::plays::{Batched, Reached};
 use crate::slots::batch_slot;
 use redo_disk::Sectors;
-use redo_drive::{Actor, called};
+use redo_drive::{Actor, Device, answer_of};
 use redo_words::Step;
 
 /// The slot of the data part, which has no turn word, since the cleaner alone comes to it.
@@ -31,7 +31,7 @@ pub(crate) fn write_batch<L: Sectors, D: Sectors>(
     ensures number { number_of token.new.me.0 ≡ number_of token.old.me.0 }
 {
     table.load::<Reached>(token, 0);
-    let code = batch_slot(token.slot_mut(table, DATA), actor.lent());
+    let ended = batch_slot(token.slot_mut(table, DATA), actor.lent());
     table.load::<Batched>(token, 0);
-    actor.took(called(code, 0))
+    actor.took(answer_of(Device::Data, ended, 0))
 }

@@ -8,7 +8,7 @@ ghost use Rattle.redo_rule.specs.Closing.{IsOwedRun, LeavesParts, MayClose};
 ghost use Rattle.redo_rule.specs.Cutting.{HoldNothing};
 ghost use Rattle.redo_rule.specs.Failing.{CodeHasCause};
 ghost use Rattle.redo_rule.specs.Reached.{ReachesAll};
-ghost use Rattle.redo_rule.specs.Sharing.{AreSeatsOf, IsSeated, opened_of, script_of, starts_of, table_of};
+ghost use Rattle.redo_rule.specs.Sharing.{AreSeatsOf, IsSeated, opened_of, shared_script, starts_of, table_of};
 
 use crate::law::{Seat, Slot};
 use crate::seats::take_all;
@@ -50,7 +50,6 @@ fn close_table<L: Sectors, D: Sectors>(
     requires { MayClose board.shared.key board.shared.table_id actors.now first }
     ensures { LeavesParts L.seen L.gives D.seen D.gives board.shared.key actors.now result }
 {
-    let _ = actors;
     let mut closed = board.close_with(first);
     let marks = Marks {
         wtail: tail_of(word_in(&closed, Word::Wtail)),
@@ -86,9 +85,9 @@ impl<L: Sectors, D: Sectors> Shared<L, D> {
         requires seats { AreSeatsOf (table_of self) seats.items actors.now }
         requires all { length actors.now ≡ length (starts_of self) }
         requires rest { HoldNothing actors.now }
-        ensures leaves { LeavesRun L.seen L.gives D.seen D.gives (opened_of self) (script_of self) self.board.shared.key.log_only actors.now result }
+        ensures leaves { LeavesRun L.seen L.gives D.seen D.gives (opened_of self) (shared_script self) self.board.shared.key.log_only actors.now result }
         ensures listed { ListsInOrder result.marks actors.now result.history }
-        ensures owed { IsOwedRun L.seen L.gives D.seen D.gives (opened_of self) (script_of self) actors.now result }
+        ensures owed { IsOwedRun L.seen L.gives D.seen D.gives (opened_of self) (shared_script self) actors.now result }
         ensures reaches { ReachesAll actors.now result }
         ensures cause { CodeHasCause L.seen D.seen result.code (opened_of self).log result.log (opened_of self).store result.store }
     {

@@ -3,13 +3,13 @@ ghost use Rattle.std.specs.Prelude.{◌≡◌};
 ghost use Rattle.model_core.specs.{next};
 ghost use Rattle.model_core.specs.declared.ops.Op.TheVariants as op;
 ghost use Rattle.redo_drive.specs.Views.{view_of};
-ghost use Rattle.redo_rule.specs.Mine.{HasPlayed, Mine, Stays};
+ghost use Rattle.redo_rule.specs.Mine.{HasPlayed, KeepsSeat, Mine};
 
 use crate::law::{Ring, Seat};
 use crate::plays::{Called, Gave, Seized};
 use crate::slots::{checkpoint_slot, sync_slot, taken_answer, write_slot};
 use redo_disk::Sectors;
-use redo_drive::{Actor, called};
+use redo_drive::{Actor, Device, answer_of};
 use redo_words::{Answer, Step};
 
 /// The turn word of the log part, and its slot.
@@ -28,7 +28,7 @@ pub(crate) fn take_device<L: Sectors, D: Sectors>(
     ensures mine { Mine table.now.table_id token.new (view_of actor.new) }
     ensures played { HasPlayed L.seen D.seen (view_of actor.old) result (view_of actor.new) }
     ensures seat { token.new.id ≡ token.old.id }
-    ensures stays { Stays token.old.me.0 token.new.me.0 }
+    ensures stays { KeepsSeat token.old.me.0 token.new.me.0 }
 {
     if table.compare_exchange::<Seized>(token, DEVICE, 0, 1) != 0 {
         return actor.took(Answer::Held);
@@ -48,7 +48,7 @@ pub(crate) fn give_device<L: Sectors, D: Sectors>(
     ensures mine { Mine table.now.table_id token.new (view_of actor.new) }
     ensures played { HasPlayed L.seen D.seen (view_of actor.old) result (view_of actor.new) }
     ensures seat { token.new.id ≡ token.old.id }
-    ensures stays { Stays token.old.me.0 token.new.me.0 }
+    ensures stays { KeepsSeat token.old.me.0 token.new.me.0 }
 {
     table.store::<Gave>(token, DEVICE, 0);
     actor.took(Answer::Taken(None))
@@ -66,11 +66,11 @@ pub(crate) fn write_to<L: Sectors, D: Sectors>(
     ensures mine { Mine table.now.table_id token.new (view_of actor.new) }
     ensures played { HasPlayed L.seen D.seen (view_of actor.old) result (view_of actor.new) }
     ensures seat { token.new.id ≡ token.old.id }
-    ensures stays { Stays token.old.me.0 token.new.me.0 }
+    ensures stays { KeepsSeat token.old.me.0 token.new.me.0 }
 {
-    let code = write_slot(token.slot_mut(table, LOG), mark, actor.lent());
+    let ended = write_slot(token.slot_mut(table, LOG), mark, actor.lent());
     table.load::<Called>(token, 0);
-    actor.took(called(code, 0))
+    actor.took(answer_of(Device::Log, ended, 0))
 }
 
 /// `Sync`.
@@ -84,13 +84,11 @@ pub(crate) fn sync<L: Sectors, D: Sectors>(
     ensures mine { Mine table.now.table_id token.new (view_of actor.new) }
     ensures played { HasPlayed L.seen D.seen (view_of actor.old) result (view_of actor.new) }
     ensures seat { token.new.id ≡ token.old.id }
-    ensures stays { Stays token.old.me.0 token.new.me.0 }
+    ensures stays { KeepsSeat token.old.me.0 token.new.me.0 }
 {
-    let lent = actor.lent();
-    let _ = lent;
-    let (code, stable) = sync_slot(token.slot_mut(table, LOG));
+    let (ended, stable) = sync_slot(token.slot_mut(table, LOG));
     table.load::<Called>(token, 0);
-    actor.took(called(code, stable))
+    actor.took(answer_of(Device::Log, ended, stable))
 }
 
 /// `Checkpoint lsn`.
@@ -105,11 +103,9 @@ pub(crate) fn checkpoint<L: Sectors, D: Sectors>(
     ensures mine { Mine table.now.table_id token.new (view_of actor.new) }
     ensures played { HasPlayed L.seen D.seen (view_of actor.old) result (view_of actor.new) }
     ensures seat { token.new.id ≡ token.old.id }
-    ensures stays { Stays token.old.me.0 token.new.me.0 }
+    ensures stays { KeepsSeat token.old.me.0 token.new.me.0 }
 {
-    let lent = actor.lent();
-    let _ = lent;
-    let code = checkpoint_slot(token.slot_mut(table, LOG), lsn);
+    let ended = checkpoint_slot(token.slot_mut(table, LOG), lsn);
     table.load::<Called>(token, 0);
-    actor.took(called(code, 0))
+    actor.took(answer_of(Device::Log, ended, 0))
 }

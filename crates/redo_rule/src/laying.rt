@@ -28,9 +28,8 @@ pub(crate) fn lay_out<L: Sectors, D: Sectors>(
     store: DataPart<D>,
     lists: FlushLists,
 ) -> Result<(Vec<Seat<L, D>>, Vec<Slot<L, D>>), (LogPart<L>, DataPart<D>)>
-    requires { AreLists lists }
     ensures room { IfOk result (λ made. (made.0.items ≡ []) × (seats ≤ vec_capacity made.0)) }
-    ensures slots { IfOk result (λ made. made.1.items ≡ laid log lists store) }
+    ensures slots { IfOk result (λ made. (made.1.items ≡ laid log lists store) × AreLists lists) }
     ensures err { IfErr result (λ parts. (parts.0 ≡ log) × (parts.1 ≡ store)) }
 {
     let Ok(room) = Vec::with_capacity(alloc, seats) else {

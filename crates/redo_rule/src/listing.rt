@@ -4,7 +4,7 @@ ghost use Rattle.model_core.specs.declared.limits.TheConstants.{FLUSH_LISTS};
 ghost use Rattle.model_core.specs.{next};
 ghost use Rattle.model_core.specs.declared.ops.Op.TheVariants as op;
 ghost use Rattle.redo_drive.specs.Views.{view_of};
-ghost use Rattle.redo_rule.specs.Mine.{HasPlayed, Mine, Stays};
+ghost use Rattle.redo_rule.specs.Mine.{HasPlayed, KeepsSeat, Mine};
 
 use crate::law::{Ring, Seat};
 use crate::plays::{Gave, SeizedList};
@@ -41,7 +41,7 @@ pub(crate) fn take_add<L: Sectors, D: Sectors>(
     ensures mine { Mine table.now.table_id token.new (view_of actor.new) }
     ensures played { HasPlayed L.seen D.seen (view_of actor.old) result (view_of actor.new) }
     ensures seat { token.new.id ≡ token.old.id }
-    ensures stays { Stays token.old.me.0 token.new.me.0 }
+    ensures stays { KeepsSeat token.old.me.0 token.new.me.0 }
 {
     let list = page % FLUSH_LISTS as u32;
     if table.compare_exchange::<SeizedList>(token, turn_of(list), 0, 1) != 0 {
@@ -63,7 +63,7 @@ pub(crate) fn take_remove<L: Sectors, D: Sectors>(
     ensures mine { Mine table.now.table_id token.new (view_of actor.new) }
     ensures played { HasPlayed L.seen D.seen (view_of actor.old) result (view_of actor.new) }
     ensures seat { token.new.id ≡ token.old.id }
-    ensures stays { Stays token.old.me.0 token.new.me.0 }
+    ensures stays { KeepsSeat token.old.me.0 token.new.me.0 }
 {
     let list = page % FLUSH_LISTS as u32;
     if table.compare_exchange::<SeizedList>(token, turn_of(list), 0, 1) != 0 {
@@ -85,7 +85,7 @@ pub(crate) fn take_oldest<L: Sectors, D: Sectors>(
     ensures mine { Mine table.now.table_id token.new (view_of actor.new) }
     ensures played { HasPlayed L.seen D.seen (view_of actor.old) result (view_of actor.new) }
     ensures seat { token.new.id ≡ token.old.id }
-    ensures stays { Stays token.old.me.0 token.new.me.0 }
+    ensures stays { KeepsSeat token.old.me.0 token.new.me.0 }
 {
     if table.compare_exchange::<SeizedList>(token, turn_of(list), 0, 1) != 0 {
         return actor.took(Answer::Held);
@@ -106,7 +106,7 @@ pub(crate) fn give_list<L: Sectors, D: Sectors>(
     ensures mine { Mine table.now.table_id token.new (view_of actor.new) }
     ensures played { HasPlayed L.seen D.seen (view_of actor.old) result (view_of actor.new) }
     ensures seat { token.new.id ≡ token.old.id }
-    ensures stays { Stays token.old.me.0 token.new.me.0 }
+    ensures stays { KeepsSeat token.old.me.0 token.new.me.0 }
 {
     table.store::<Gave>(token, turn_of(list), 0);
     actor.took(Answer::Taken(None))

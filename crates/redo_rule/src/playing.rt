@@ -2,8 +2,8 @@
 ghost use Rattle.std.specs.Prelude.{ℕ, ◌≡◌, ◌⊎◌};
 ghost use Rattle.model_core.specs.{next};
 ghost use Rattle.redo_drive.specs.Views.{view_of};
-ghost use Rattle.redo_rule.specs.Causes.{HasEndedBy, HasMetFailure, HasWaited, IsAnswered};
-ghost use Rattle.redo_rule.specs.Mine.{HasGone, HasPlayed, Mine, Stays, number_of};
+ghost use Rattle.redo_rule.specs.Causes.{HasEndedBy, HasFailureCode, HasWaited, IsFinishedUser};
+ghost use Rattle.redo_rule.specs.Mine.{HasGone, HasPlayed, KeepsSeat, Mine, number_of};
 ghost use Rattle.redo_rule.specs.Seating.{IsBare, IsSeatOf};
 
 use crate::batch::write_batch;
@@ -27,7 +27,7 @@ fn play_token<L: Sectors, D: Sectors>(
     requires bare { IsBare op }
     ensures mine { Mine table.now.table_id token.new (view_of actor.new) }
     ensures played { HasPlayed L.seen D.seen (view_of actor.old) result (view_of actor.new) }
-    ensures stays { Stays token.old.me.0 token.new.me.0 }
+    ensures stays { KeepsSeat token.old.me.0 token.new.me.0 }
 {
     match op {
         Op::Load(word) => load(table, token, actor, word),
@@ -78,8 +78,8 @@ pub fn play<L: Sectors, D: Sectors>(
     ensures number { number_of seat.new.me.0 ≡ number_of seat.old.me.0 }
     ensures played { HasGone L.seen D.seen (view_of actor.old) result (view_of actor.new) }
     ensures idle { result ≡ Step.Idle → HasWaited L.seen D.seen (view_of actor.old) }
-    ensures ended { (result ≡ Step.Ended → IsAnswered (view_of actor.new)) × (IsAnswered (view_of actor.new) → result ≡ Step.Ended) }
-    ensures failed { (code : ℕ) → result ≡ Step.Failed code → HasEndedBy (view_of actor.old) code ⊎ HasMetFailure L.seen D.seen (view_of actor.old) code }
+    ensures ended { (result ≡ Step.Ended → IsFinishedUser (view_of actor.new)) × (IsFinishedUser (view_of actor.new) → result ≡ Step.Ended) }
+    ensures failed { (code : ℕ) → result ≡ Step.Failed code → HasEndedBy (view_of actor.old) code ⊎ HasFailureCode L.seen D.seen (view_of actor.old) code }
 {
     play_next(table, seat, actor)
 }

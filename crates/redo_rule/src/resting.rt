@@ -3,7 +3,7 @@ ghost use Rattle.std.specs.Prelude.{false, true, ◌≡◌};
 ghost use Rattle.model_core.specs.{next};
 ghost use Rattle.redo_drive.specs.Views.{view_of};
 ghost use Rattle.redo_rule.specs.Cutting.{AreFreeToCheck, HoldNothing};
-ghost use Rattle.redo_rule.specs.Hands.{HoldsNothing, IsFreeOp, IsFreeToCheck};
+ghost use Rattle.model_core.specs.Hands.{HoldsNothing, IsFreeOp, IsFreeToCheck};
 
 use redo_drive::Actor;
 use redo_words::{Op, Word};

@@ -4,7 +4,7 @@ ghost use lib.ListN.{get_elem?};
 ghost use mathlib.Core.Option.{some};
 ghost use Rattle.redo_drive.specs.Views.{view_of};
 ghost use Rattle.redo_rule.specs.Cutting.{HoldNothing, IsFirst};
-ghost use Rattle.redo_rule.specs.Gathering.{AreApart, HasOneCleaner, PartIsKept};
+ghost use Rattle.redo_rule.specs.Gathering.{AreHandedOut, HasOneCleaner, PartIsKept};
 ghost use Rattle.redo_rule.specs.Ruled.{numbered};
 ghost use Rattle.redo_rule.specs.Seating.{HasPart, IsCleaner};
 ghost use Rattle.redo_rule.specs.Sharing.{AreSeatsOf, IsSeated, IsUnseated, table_of};
@@ -24,12 +24,12 @@ fn cut_all<L: Sectors, D: Sectors>(
     mut seats: Vec<Seat<L, D>>,
     actors: &[Actor],
 ) -> Vec<Seat<L, D>>
-    requires apart { AreApart table.now.table_id actors.now first.old seats.items }
+    requires apart { AreHandedOut table.now.table_id actors.now first.old seats.items }
     requires part { HasPart first.old.me.0 }
     requires cleaner { HasOneCleaner actors.now }
     requires none { seats.items ≡ [] }
     requires room { length actors.now ≤ vec_capacity seats }
-    ensures apart { AreApart table.now.table_id actors.now first.new result.items }
+    ensures apart { AreHandedOut table.now.table_id actors.now first.new result.items }
     ensures all { length result.items ≡ length actors.now }
     ensures part { PartIsKept (length actors.now) actors.now first.new }
 {
@@ -47,7 +47,7 @@ pub(crate) fn take_all<L: Sectors, D: Sectors>(
     mut seats: Vec<Seat<L, D>>,
     actors: &[Actor],
 )
-    requires apart { AreApart table.now.table_id actors.now first.old seats.items }
+    requires apart { AreHandedOut table.now.table_id actors.now first.old seats.items }
     requires rest { HoldNothing actors.now }
     requires all { length seats.items ≡ length actors.now }
     ensures first { IsFirst table.now.table_id first.new }

@@ -1,7 +1,7 @@
 // A store that its actors share, each in a thread of its own.
 ghost use Rattle.std.specs.Prelude.{◌≡◌, IfErr, IfOk};
 ghost use Rattle.redo_drive.specs.Startable.{MayBegin};
-ghost use Rattle.redo_rule.specs.Sharing.{IsNew};
+ghost use Rattle.redo_rule.specs.Sharing.{IsNewlyShared};
 
 use crate::law::{About, Law, Ring, Seat, Slot, View};
 use crate::laying::{lay_out, make_board, parts_in};
@@ -39,7 +39,7 @@ impl<L: Sectors, D: Sectors> Shared<L, D> {
     ) -> Result<(Shared<L, D>, Vec<Actor>), (NoMemory, L, D)>
         requires { MayBegin opened script.now log_only }
         ensures err { IfErr result (λ error. (error.1 ≡ opened.log.dev) × (error.2 ≡ opened.store.dev)) }
-        ensures new { IfOk result (λ made. IsNew opened script.now log_only made.0 made.1.items) }
+        ensures new { IfOk result (λ made. IsNewlyShared opened script.now log_only made.0 made.1.items) }
     {
         let opened_is = Snapshot::of(&opened);
         let Beginning {
@@ -59,7 +59,6 @@ impl<L: Sectors, D: Sectors> Shared<L, D> {
             store,
             lists,
         } = parts;
-        lists.are_lists();
         match lay_out(alloc, actors.len(), log, store, lists) {
             Err((log, store)) => Err((NoMemory, log.into_dev(), store.into_dev())),
             Ok((room, slots)) => match make_board(alloc, words.as_slice(), slots, &about) {

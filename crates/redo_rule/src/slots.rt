@@ -1,13 +1,14 @@
 // Calls of what lies in a slot.
-ghost use Rattle.std.specs.Prelude.{◌≡◌, ℕ, None};
+ghost use Rattle.std.specs.Prelude.{◌≡◌, ℕ, None, is_some};
 ghost use Rattle.model_core.specs.Actors as model;
 ghost use Rattle.model_base.specs.declared.shape.Shape.{Shape};
-ghost use Rattle.model_core.specs.{DataServed, KeptPage, LogServed, oldest_end};
+ghost use Rattle.model_core.specs.{DataServed, KeptPage, LogServed};
 ghost use Rattle.redo_drive.specs.DataPartSide as data_part;
 ghost use Rattle.model_core.specs.declared.ops.Op.TheVariants as op;
 ghost use Rattle.model_parts.specs.{MayBeNext};
 ghost use Rattle.redo_logdev.specs.Part as log_dev;
-ghost use Rattle.redo_drive.specs.{has_failed};
+ghost use Rattle.redo_drive.specs.Devices.{call_code};
+ghost use Rattle.redo_drive.specs.declared.device.Device.TheVariants as device;
 ghost use Rattle.redo_drive.specs.LogPartSide as log_part;
 ghost use Rattle.redo_drive.specs.Playing.{HasWholePages, MayBatchLent, MayWriteLent};
 ghost use Rattle.redo_rule.specs.Plays.{ListFits, list_behind, list_said, taking};
@@ -16,8 +17,8 @@ ghost use Rattle.redo_store.specs.Part as store_dev;
 ghost use Rattle.redo_words.specs.{Lends};
 
 use crate::law::Slot;
-use redo_disk::Sectors;
-use redo_drive::{call_batch, call_write, checkpoint, sync};
+use redo_disk::{DevError, Sectors};
+use redo_drive::{call_batch, call_checkpoint, call_sync, call_write};
 use redo_logdev::LogPart;
 use redo_store::DataPart;
 use redo_words::{Answer, Lent};
@@ -25,7 +26,7 @@ use redo_words::{Answer, Lent};
 /// The answer to whoever has taken the log part.
 pub(crate) fn taken_answer<L: Sectors, D: Sectors>(slot: &Slot<L, D>) -> Answer
     requires { IsLog slot.now (λ p. Unit {0}) }
-    ensures { (p : log_dev.Part L) → slot.now ≡ Slot.Log p → result ≡ taking (has_failed p.failed) }
+    ensures { (p : log_dev.Part L) → slot.now ≡ Slot.Log p → result ≡ taking (is_some p.failed) }
 {
     match slot {
         Slot::Log(part) => match part.failed() {
@@ -41,10 +42,10 @@ pub(crate) fn write_slot<L: Sectors, D: Sectors>(
     slot: &mut Slot<L, D>,
     mark: u64,
     lent: Lent<'_>,
-) -> u32
+) -> Result<(), DevError>
     requires { IsLog slot.old (λ p. MayWriteLent p mark lent) }
-    ensures { IsCalled L.gives slot.old slot.new (λ p q. (faults start : ℕ) (first : log_dev.Part L) (l : model.Lent) → Lends lent.entry l
-        → LogServed (log_part.log_side L.seen faults first.marks.number (log_part.HasBegun L.seen start first)) p l (op.WriteTo mark) result q) }
+    ensures { IsCalled L.gives slot.old slot.new result (λ p q. (faults start : ℕ) (first : log_dev.Part L) (l : model.Lent) → Lends lent.entry l
+        → LogServed (log_part.log_side L.seen faults first.marks.number (log_part.HasBegun L.seen start first)) p l (op.WriteTo mark) (call_code device.Log q.failed) q) }
 {
     match slot {
         Slot::Log(part) => call_write(part, mark, lent),
@@ -52,40 +53,48 @@ pub(crate) fn write_slot<L: Sectors, D: Sectors>(
     }
 }
 
-/// The code of a sync, and the stable mark after it.
-pub(crate) fn sync_slot<L: Sectors, D: Sectors>(slot: &mut Slot<L, D>) -> (u32, u64)
+/// How a sync ended, and the stable mark after it.
+pub(crate) fn sync_slot<L: Sectors, D: Sectors>(
+    slot: &mut Slot<L, D>,
+) -> (Result<(), DevError>, u64)
     requires { IsLog slot.old (λ p. p.failed ≡ None) }
-    ensures called { IsCalled L.gives slot.old slot.new (λ p q. (faults start : ℕ) (first : log_dev.Part L) (l : model.Lent)
-        → LogServed (log_part.log_side L.seen faults first.marks.number (log_part.HasBegun L.seen start first)) p l op.Sync result.0 q) }
+    ensures called { IsCalled L.gives slot.old slot.new result.0 (λ p q. (faults start : ℕ) (first : log_dev.Part L) (l : model.Lent)
+        → LogServed (log_part.log_side L.seen faults first.marks.number (log_part.HasBegun L.seen start first)) p l op.Sync (call_code device.Log q.failed) q) }
     ensures stable { (q : log_dev.Part L) → slot.new ≡ Slot.Log q → result.1 ≡ q.marks.stable }
 {
     match slot {
         Slot::Log(part) => {
-            let code = sync(part);
-            (code, part.stable())
+            let ended = call_sync(part);
+            (ended, part.stable())
         }
         Slot::Pages(_) | Slot::Data(_) => unreachable!(),
     }
 }
 
 /// Writes a checkpoint at an lsn.
-pub(crate) fn checkpoint_slot<L: Sectors, D: Sectors>(slot: &mut Slot<L, D>, lsn: u64) -> u32
+pub(crate) fn checkpoint_slot<L: Sectors, D: Sectors>(
+    slot: &mut Slot<L, D>,
+    lsn: u64,
+) -> Result<(), DevError>
     requires { IsLog slot.old (λ p. (p.failed ≡ None) × MayBeNext p.marks lsn) }
-    ensures { IsCalled L.gives slot.old slot.new (λ p q. (faults start : ℕ) (first : log_dev.Part L) (l : model.Lent)
-        → LogServed (log_part.log_side L.seen faults first.marks.number (log_part.HasBegun L.seen start first)) p l (op.Checkpoint lsn) result q) }
+    ensures { IsCalled L.gives slot.old slot.new result (λ p q. (faults start : ℕ) (first : log_dev.Part L) (l : model.Lent)
+        → LogServed (log_part.log_side L.seen faults first.marks.number (log_part.HasBegun L.seen start first)) p l (op.Checkpoint lsn) (call_code device.Log q.failed) q) }
 {
     match slot {
-        Slot::Log(part) => checkpoint(part, lsn),
+        Slot::Log(part) => call_checkpoint(part, lsn),
         Slot::Pages(_) | Slot::Data(_) => unreachable!(),
     }
 }
 
 /// Writes a batch of pages.
-pub(crate) fn batch_slot<L: Sectors, D: Sectors>(slot: &mut Slot<L, D>, lent: Lent<'_>) -> u32
+pub(crate) fn batch_slot<L: Sectors, D: Sectors>(
+    slot: &mut Slot<L, D>,
+    lent: Lent<'_>,
+) -> Result<(), DevError>
     requires { IsData slot.old (λ p. MayBatchLent p lent) }
-    ensures { IsBatched D.gives slot.old slot.new (λ p q. (faults : ℕ) (shape : Shape) (opened : ℕ → KeptPage) (first : store_dev.Part D) (l : model.Lent) → Lends lent.entry l
-        → HasWholePages op.WriteBatch l
-        → DataServed (data_part.data_side D.seen faults shape (data_part.HasBegun D.seen opened first)) p l op.WriteBatch result q) }
+    ensures { IsBatched D.gives slot.old slot.new result (λ p q. (faults : ℕ) (shape : Shape) (opened : ℕ → KeptPage) (first : store_dev.Part D) (l : model.Lent) → Lends lent.entry l
+        → HasWholePages p.shape op.WriteBatch l
+        → DataServed (data_part.data_side D.seen faults shape (data_part.HasBegun D.seen opened first)) p l op.WriteBatch (call_code device.Data q.failed) q) }
 {
     match slot {
         Slot::Data(part) => call_batch(part, lent),

@@ -3,7 +3,7 @@ ghost use Rattle.std.specs.Prelude.{◌≡◌};
 ghost use Rattle.model_core.specs.{next};
 ghost use Rattle.model_core.specs.declared.ops.Op.TheVariants as op;
 ghost use Rattle.redo_drive.specs.Views.{view_of};
-ghost use Rattle.redo_rule.specs.Mine.{HasPlayed, Mine, Stays};
+ghost use Rattle.redo_rule.specs.Mine.{HasPlayed, KeepsSeat, Mine};
 
 use crate::law::{Ring, Seat};
 use crate::plays::Saw;
@@ -23,7 +23,7 @@ pub(crate) fn load<L: Sectors, D: Sectors>(
     ensures mine { Mine table.now.table_id token.new (view_of actor.new) }
     ensures played { HasPlayed L.seen D.seen (view_of actor.old) result (view_of actor.new) }
     ensures seat { token.new.id ≡ token.old.id }
-    ensures stays { Stays token.old.me.0 token.new.me.0 }
+    ensures stays { KeepsSeat token.old.me.0 token.new.me.0 }
 {
     let n = table.load::<Saw>(token, number_of(word) as usize);
     actor.took(Answer::Old(n))
@@ -42,7 +42,7 @@ pub(crate) fn store<L: Sectors, D: Sectors>(
     ensures mine { Mine table.now.table_id token.new (view_of actor.new) }
     ensures played { HasPlayed L.seen D.seen (view_of actor.old) result (view_of actor.new) }
     ensures seat { token.new.id ≡ token.old.id }
-    ensures stays { Stays token.old.me.0 token.new.me.0 }
+    ensures stays { KeepsSeat token.old.me.0 token.new.me.0 }
 {
     let n = table.swap::<Saw>(token, number_of(word) as usize, number);
     actor.took(Answer::Old(n))
@@ -61,7 +61,7 @@ pub(crate) fn add<L: Sectors, D: Sectors>(
     ensures mine { Mine table.now.table_id token.new (view_of actor.new) }
     ensures played { HasPlayed L.seen D.seen (view_of actor.old) result (view_of actor.new) }
     ensures seat { token.new.id ≡ token.old.id }
-    ensures stays { Stays token.old.me.0 token.new.me.0 }
+    ensures stays { KeepsSeat token.old.me.0 token.new.me.0 }
 {
     let n = table.fetch_add::<Saw>(token, number_of(word) as usize, number);
     actor.took(Answer::Old(n))
@@ -81,7 +81,7 @@ pub(crate) fn swap<L: Sectors, D: Sectors>(
     ensures mine { Mine table.now.table_id token.new (view_of actor.new) }
     ensures played { HasPlayed L.seen D.seen (view_of actor.old) result (view_of actor.new) }
     ensures seat { token.new.id ≡ token.old.id }
-    ensures stays { Stays token.old.me.0 token.new.me.0 }
+    ensures stays { KeepsSeat token.old.me.0 token.new.me.0 }
 {
     let n = table.compare_exchange::<Saw>(token, number_of(word) as usize, old, new);
     actor.took(Answer::Old(n))

@@ -13,7 +13,7 @@ use Rattle.model_running.specs.Schedule.{HaveEnded}
 use Rattle.redo_disk.specs.{Call}
 use Rattle.redo_disk.specs.Seen.{Seen}
 use Rattle.redo_drive.specs.Leaving.{LeavesRun}
-use Rattle.redo_drive.specs.Playing.{log_of}
+use Rattle.redo_drive.specs.Playing.{run_log_side}
 use Rattle.redo_drive.specs.Views.{view_of, views_of}
 use Rattle.redo_drive.specs.declared.actor.Actor.{Actor}
 use Rattle.redo_drive.specs.declared.closed.Closed.{Closed}
@@ -67,6 +67,6 @@ module _ {L D : Type 0} (log_seen : L → Seen) (log_gives : L → Call → L �
       let code : slice_index left.last.words.words (index word.Failed) ≡ R.shared.failed = ap (λ (ws : List ℕ). slice_index ws (index word.Failed)) R.flat_is in
       let zero_is : R.shared.failed ≡ 0 = sym code ∙ sym left.code ∙ none in
       ⊎_elim
-      (λ done. let at_done : UserAt (log_of log_seen data_seen left.run) left.run.setup R.shared R.log_ghost left.last.log seat u user_step.Done = subst (λ (s : UserStep). UserAt (log_of log_seen data_seen left.run) left.run.setup R.shared R.log_ghost left.last.log seat u s) done fits.step in at_done.1)
-      (λ failed. let at_failed : UserAt (log_of log_seen data_seen left.run) left.run.setup R.shared R.log_ghost left.last.log seat u user_step.Failed = subst (λ (s : UserStep). UserAt (log_of log_seen data_seen left.run) left.run.setup R.shared R.log_ghost left.last.log seat u s) failed fits.step in let met = at_failed.1 in absurd (omega arith))
+      (λ done. let at_done : UserAt (run_log_side log_seen data_seen left.run) left.run.setup R.shared R.log_ghost left.last.log seat u user_step.Done = subst (λ (s : UserStep). UserAt (run_log_side log_seen data_seen left.run) left.run.setup R.shared R.log_ghost left.last.log seat u s) done fits.step in at_done.1)
+      (λ failed. let at_failed : UserAt (run_log_side log_seen data_seen left.run) left.run.setup R.shared R.log_ghost left.last.log seat u user_step.Failed = subst (λ (s : UserStep). UserAt (run_log_side log_seen data_seen left.run) left.run.setup R.shared R.log_ghost left.last.log seat u s) failed fits.step in let met = at_failed.1 in absurd (omega arith))
       (ended seat u at)

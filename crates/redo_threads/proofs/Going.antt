@@ -15,8 +15,9 @@ use Rattle.redo_rule.specs.Seating.{IsSeatOf}
 use Rattle.redo_rule.specs.Sharing.{AreSeatsOf}
 use Rattle.redo_rule.specs.declared.law.Slot.{Slot}
 use Rattle.redo_rule.specs.declared.law.View.{View}
-use Rattle.redo_threads.proofs.Later.{all_refl, all_set, all_trans, AllLater, later_refl, later_trans}
-use Rattle.redo_threads.specs.Later.{IsLater}
+use Rattle.model_core.proofs.Later.{later_refl, later_trans}
+use Rattle.redo_threads.proofs.Later.{all_refl, all_set, all_trans, AllLater}
+use Rattle.model_core.specs.Later.{IsSameActor}
 use Rattle.redo_threads.specs.Working.{GoesOn, GoOn}
 use Rattle.redo_threads.specs.declared.crew.Crew.{Crew}
 
@@ -71,7 +72,7 @@ module _ {L D : Type 0} (table : TableId) where
   }
 
   pub go_long : (x y : Crew L D) → GoOn table x y → length y.actors.items ≡ length x.actors.items
-  go_long x y h = sym (length_all_zip (λ (a b : Actor). IsLater (view_of a) (view_of b)) x.actors.items y.actors.items h.actors)
+  go_long x y h = sym (length_all_zip (λ (a b : Actor). IsSameActor (view_of a) (view_of b)) x.actors.items y.actors.items h.actors)
 
   -- one of them has gone on
   pub go_set : (x y z : Crew L D) (n : ℕ) (s t : Seat (Slot L D) (View L D)) (a b : Actor) → GoOn table x y → s ≡ get_or y.seats.items n s → a ≡ get_or y.actors.items n a
@@ -93,7 +94,7 @@ module _ {L D : Type 0} (table : TableId) where
   go_joined x rest y z s t a b xs xa rs ra number h g zs za ys ya = record {
     seats = put_last z.seats.items y.seats.items t z.actors.items y.actors.items b zs za h.seats g.seat (g.number ∙ number ∙ sym (go_long rest y h));
     actors = subst (λ (l : List Actor). AllLater l z.actors.items) (sym xa) (subst (λ (l : List Actor). AllLater (rest.actors.items ++ a ∷ []) l) (sym za)
-        (AllZip-push (λ (u v : Actor). IsLater (view_of u) (view_of v)) rest.actors.items y.actors.items a b h.actors g.actor));
+        (AllZip-push (λ (u v : Actor). IsSameActor (view_of u) (view_of v)) rest.actors.items y.actors.items a b h.actors g.actor));
     seats_fit = let f = h.seats_fit in omega arith;
     actors_fit = let f = h.actors_fit in omega arith;
   }

@@ -10,7 +10,7 @@ use Rattle.redo_drive.specs.History.{ListsInOrder}
 use Rattle.redo_drive.specs.Views.{view_of, views_of}
 use Rattle.redo_drive.specs.declared.actor.Actor.{Actor}
 use Rattle.redo_drive.specs.declared.closed.Closed.{Closed}
-use Rattle.redo_threads.specs.Later.{IsLater}
+use Rattle.model_core.specs.Later.{IsSameActor}
 
 -- each user has answered all of its lines
 abbrev pub HaveAnswered : List model.Actor → Type 0
@@ -19,7 +19,7 @@ HaveAnswered actors = (seat : ℕ) (u : UserState) → get_elem? actors seat ≡
 -- The actors stand in their order. Each user has ended, and has answered all of its lines where the code tells of no failure.
 -- The history lists the groups of these actors.
 pub record HaveRun {L D : Type 0} (starts ends : List Actor) (closed : Closed L D) : Type 0 where
-  pub each : AllZip (λ (a b : Actor). IsLater (view_of a) (view_of b)) starts ends
+  pub each : AllZip (λ (a b : Actor). IsSameActor (view_of a) (view_of b)) starts ends
   pub ended : HaveEnded (views_of ends)
   pub answered : closed.code ≡ 0 → HaveAnswered (views_of ends)
   pub listed : ListsInOrder closed.marks ends closed.history

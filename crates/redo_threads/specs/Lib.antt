@@ -1,4 +1,3 @@
 pub mod Ended
 pub mod InThreads
-pub mod Later
 pub mod Working

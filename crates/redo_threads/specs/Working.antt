@@ -9,13 +9,13 @@ use Rattle.model_core.specs.Actors as model
 use Rattle.model_running.specs.Schedule.{HasEnded}
 use Rattle.redo_drive.specs.Views.{view_of}
 use Rattle.redo_drive.specs.declared.actor.Actor.{Actor}
-use Rattle.redo_rule.specs.Hands.{HoldsNothing}
+use Rattle.model_core.specs.Hands.{HoldsNothing}
 use Rattle.redo_rule.specs.Mine.{number_of}
 use Rattle.redo_rule.specs.Seating.{IsSeatOf}
 use Rattle.redo_rule.specs.Sharing.{AreSeatsOf}
 use Rattle.redo_rule.specs.declared.law.Slot.{Slot}
 use Rattle.redo_rule.specs.declared.law.View.{View}
-use Rattle.redo_threads.specs.Later.{IsLater}
+use Rattle.model_core.specs.Later.{IsSameActor}
 use Rattle.redo_threads.specs.declared.crew.Crew.{Crew}
 
 -- a user has ended
@@ -36,11 +36,11 @@ module _ {L D : Type 0} where
   pub record GoesOn (table : TableId) (before : Seat (Slot L D) (View L D)) (a : Actor) (after : Seat (Slot L D) (View L D)) (b : Actor) : Type 0 where
     pub seat : IsSeatOf table after (view_of b)
     pub number : number_of after.me.0 ≡ number_of before.me.0
-    pub actor : IsLater (view_of a) (view_of b)
+    pub actor : IsSameActor (view_of a) (view_of b)
 
   -- the same actors, later, in their seats, with room for as many as they were
   pub record GoOn (table : TableId) (old new : Crew L D) : Type 0 where
     pub seats : AreSeatsOf table new.seats.items new.actors.items
-    pub actors : AllZip (λ (a b : Actor). IsLater (view_of a) (view_of b)) old.actors.items new.actors.items
+    pub actors : AllZip (λ (a b : Actor). IsSameActor (view_of a) (view_of b)) old.actors.items new.actors.items
     pub seats_fit : vec_capacity old.seats ≤ vec_capacity new.seats
     pub actors_fit : vec_capacity old.actors ≤ vec_capacity new.actors

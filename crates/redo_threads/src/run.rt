@@ -4,7 +4,7 @@ ghost use Rattle.redo_drive.specs.Leaving.{LeavesRun};
 ghost use Rattle.redo_rule.specs.Closing.{IsOwedRun};
 ghost use Rattle.redo_rule.specs.Failing.{CodeHasCause};
 ghost use Rattle.redo_rule.specs.Reached.{ReachesAll};
-ghost use Rattle.redo_rule.specs.Sharing.{IsUnseated, opened_of, script_of};
+ghost use Rattle.redo_rule.specs.Sharing.{IsUnseated, opened_of, shared_script};
 ghost use Rattle.redo_threads.specs.Ended.{HaveRun};
 
 use crate::crew::Crew;
@@ -40,8 +40,8 @@ pub fn run_threads<R: Threads + Wait + Sync, L: Sectors + Send, D: Sectors + Sen
 ) -> (Closed<L, D>, Vec<Actor>)
     requires { IsUnseated shared actors.items }
     ensures run { HaveRun actors.items result.1.items result.0 }
-    ensures leaves { LeavesRun L.seen L.gives D.seen D.gives (opened_of shared) (script_of shared) shared.board.shared.key.log_only result.1.items result.0 }
-    ensures owed { IsOwedRun L.seen L.gives D.seen D.gives (opened_of shared) (script_of shared) result.1.items result.0 }
+    ensures leaves { LeavesRun L.seen L.gives D.seen D.gives (opened_of shared) (shared_script shared) shared.board.shared.key.log_only result.1.items result.0 }
+    ensures owed { IsOwedRun L.seen L.gives D.seen D.gives (opened_of shared) (shared_script shared) result.1.items result.0 }
     ensures reaches { ReachesAll result.1.items result.0 }
     ensures cause { CodeHasCause L.seen D.seen result.0.code (opened_of shared).log result.0.log (opened_of shared).store result.0.store }
 {

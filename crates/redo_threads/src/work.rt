@@ -2,13 +2,12 @@
 ghost use Rattle.std.specs.Prelude.{true, ◌≡◌};
 ghost use Rattle.model_running.specs.Schedule.{HasEnded};
 ghost use Rattle.redo_drive.specs.Views.{view_of};
-ghost use Rattle.redo_rule.specs.Hands.{IsFreeToCheck};
+ghost use Rattle.model_core.specs.Hands.{IsFreeToCheck};
 ghost use Rattle.redo_rule.specs.Seating.{IsSeatOf};
 ghost use Rattle.redo_threads.specs.Working.{AtEnd, GoesOn};
 
 use crate::gate::{Gate, point_after};
 use crate::pace::Pace;
-use model_core::{FLUSH_LISTS, FRAME_WORDS};
 use redo_disk::Sectors;
 use redo_drive::Actor;
 use redo_rule::{Ring, Seat, holds_nothing, play};
@@ -92,18 +91,6 @@ pub(crate) fn turn_if_open<L: Sectors, D: Sectors, G: Gate>(
     Some(turn(table, running, gate, seat, actor))
 }
 
-/// How many steps an actor takes at most from one wait to the next where it comes to nothing.
-fn steps_in_vain(actor: &Actor) -> u64 {
-    match actor {
-        // FAILED, a tail loaded twice and taken, and no link
-        Actor::User(_) | Actor::Writer(_) | Actor::Flusher(_) | Actor::Closer(_) => 5,
-        // fewer than it takes to load a page
-        Actor::Cleaner(_) => FRAME_WORDS - 1,
-        // FAILED, CTAIL, and each list taken and given
-        Actor::Checkpointer(_) => 2 + 2 * FLUSH_LISTS,
-    }
-}
-
 /// Plays an actor up to its end.
 pub(crate) fn work<R: Wait, L: Sectors, D: Sectors, G: Gate>(
     rt: &R,
@@ -117,7 +104,7 @@ pub(crate) fn work<R: Wait, L: Sectors, D: Sectors, G: Gate>(
     ensures goes_on { GoesOn table.now.table_id seat.old actor.old seat.new actor.new }
     ensures at_end { AtEnd (view_of actor.new) }
 {
-    let in_vain = steps_in_vain(actor);
+    let in_vain = actor.steps_in_vain();
     let mut pace = Pace::new();
     let mut moved = false;
     for _ in rt.forever() {

@@ -11,7 +11,7 @@ use Rattle.redo_drive.specs.Setups.{programs_of, user_lines}
 use Rattle.redo_drive.specs.Views.{view_of, views_of}
 use Rattle.redo_drive.specs.declared.actor.Actor.{Actor}
 use Rattle.redo_drive.specs.declared.actor.Actor.TheVariants as own
-use Rattle.redo_useractor.specs.{AreUserLines, lines_of}
+use Rattle.redo_useractor.specs.{AreUserLines, program_lines}
 use Rattle.redo_drive.proofs.seating.seat_users.Goals.{then-not-is_empty+in_ok-actor+in_ok-push, else-not-is_empty}
 use Rattle.redo_drive.proofs.seating.seat_users.Goals as goal
 use Rattle.model_log.specs.{run_layout}
@@ -42,7 +42,7 @@ loop-user-preserved c =
     elim c.if-not-is_empty.branch [
       | then-not-is_empty+in_ok-actor+in_ok-push w ↦
           let state : w.in_ok-actor.actor ≡ new_user user (run_layout shape).blocks (programs user) =
-          w.in_ok-actor.ensures ∙ ap (λ (l : List (ℕ × List Rec)). new_user user (run_layout shape).blocks (lines_of c.args.log_only shape.pages l)) own_lines in
+          w.in_ok-actor.ensures ∙ ap (λ (l : List (ℕ × List Rec)). new_user user (run_layout shape).blocks (program_lines c.args.log_only shape l)) own_lines in
           let full = eqb-false (vec_len c.in_ok-lines.lines) 0 (sym w.if-not-is_empty.ensures) in
           let some_lines : 0 < length (programs user) = elim (dec_le 1 (length (programs user))) [
             | yes some ↦ some

@@ -16,7 +16,7 @@ leads g c =
     let B = c.in_ok-machine.ensures.begins in
     let R = c.run-ended.ensures.runs B.run B.runs in
     let E = c.run-ended.ensures.ends B.run B.runs in
-    let within = log_within_script B.run.setup c.args.script.now c.args.opened.shape.space R.running.shared.sn R.running.log_ghost.log R.running.log_ghost.place R.running.both.logged.global.tiled B.is_run.of_script in
+    let within = log_within_script B.run.setup c.args.script.now c.args.opened.shape R.running.shared.sn R.running.log_ghost.log R.running.log_ghost.place R.running.both.logged.global.tiled B.is_run.of_script in
     record {
       first = record { parts = c.in_ok-machine.machine.parts; actors = c.in_ok-machine.machine.actors; entries = c.in_ok-machine.machine.entries };
       begins = B;

@@ -4,9 +4,8 @@ use Rattle.model_core.specs.Actors as model
 use Rattle.model_core.specs.declared.ops.Answer.TheVariants as answer
 use Rattle.model_core.specs.declared.ops.Op.TheVariants as op
 use Rattle.redo_drive.specs.Views.{view_of}
-use Rattle.redo_rule.proofs.Behind.{batch_behind, seat_behind, was_cleaner}
-use Rattle.redo_rule.proofs.Asks.{batch_cleaner}
-use Rattle.redo_rule.proofs.Rests.{rests}
+use Rattle.redo_rule.proofs.Behind.{batch_behind, batch_cleaner, seat_behind, was_cleaner}
+use Rattle.model_core.proofs.Rests.{rests}
 use Rattle.redo_rule.specs.Seating.{IsSeatOf}
 use Rattle.redo_rule.proofs.playing.play_next.Goals as goal
 

@@ -2,7 +2,7 @@ use Rattle.std.proofs.Common.{arith, rules, subst, sym}
 use Rattle.redo_drive.specs.Views.{view_of}
 use Rattle.redo_drive.specs.declared.actor.Actor.{Actor}
 use Rattle.redo_rule.proofs.AtRest.{at_or, nothing_held, nothing_more}
-use Rattle.redo_rule.specs.Hands.{HoldsNothing, IsFreeToCheck}
+use Rattle.model_core.specs.Hands.{HoldsNothing, IsFreeToCheck}
 use Rattle.redo_rule.proofs.resting.all_hold_nothing.Goals as goal
 
 pub holds_nothing-requires : goal.holds_nothing-requires

@@ -1,7 +1,7 @@
 use Rattle.std.proofs.Common.{List, arith, inl, length, subst, sym, ℕ, ◌≡◌}
 use Rattle.atomic_table.specs.declared.shared.Seat.{Seat}
 use Rattle.redo_rule.proofs.Gathered.{cut_next, cut_part, may_cut}
-use Rattle.redo_rule.specs.Gathering.{AreApart, PartIsKept}
+use Rattle.redo_rule.specs.Gathering.{AreHandedOut, PartIsKept}
 use Rattle.redo_rule.specs.declared.law.Slot.{Slot}
 use Rattle.redo_rule.specs.declared.law.View.{View}
 use Rattle.redo_rule.proofs.seats.cut_all.Goals as goal
@@ -16,7 +16,7 @@ pub loop-first-preserved : goal.loop-first-preserved
 loop-first-preserved g c =
     let e = c.cut_off-seat.ensures in
     record {
-      apart = subst (AreApart c.args.table.now.table_id c.args.actors.now c.cut_off-seat.new.first) (sym c.push_reserved.ensures.items)
+      apart = subst (AreHandedOut c.args.table.now.table_id c.args.actors.now c.cut_off-seat.new.first) (sym c.push_reserved.ensures.items)
           (cut_next c.args.table.now.table_id c.args.actors.now c.loop-first.first c.loop-first.seats.items c.loop-first.invariant.apart (let t = c.loop-first-test.true in omega arith) c.cut_off-seat.new.first c.cut_off-seat.result e.first e.left e.right e.mine c.requires.cleaner c.loop-first.invariant.part);
       part = subst (λ (l : List (Seat (Slot _ _) (View _ _))). PartIsKept (length l) c.args.actors.now c.cut_off-seat.new.first) (sym c.push_reserved.ensures.items)
           (cut_part c.args.table.now.table_id c.args.actors.now c.loop-first.first c.loop-first.seats.items c.loop-first.invariant.apart (let t = c.loop-first-test.true in omega arith) c.cut_off-seat.new.first c.cut_off-seat.result e.first e.left e.right e.mine c.requires.cleaner c.loop-first.invariant.part);

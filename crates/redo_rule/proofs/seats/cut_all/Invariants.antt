@@ -1,12 +1,12 @@
 -- The actors so far have their seats.
 use Rattle.std.proofs.Common.{length, ◌-◌, ◌≤◌}
 use Rattle.std.specs.Prelude.{vec_capacity}
-use Rattle.redo_rule.specs.Gathering.{AreApart, PartIsKept}
+use Rattle.redo_rule.specs.Gathering.{AreHandedOut, PartIsKept}
 use Rattle.redo_rule.proofs.seats.cut_all.Given as goal
 
 abbrev pub invariant-loop-first : goal.invariant-loop-first
 invariant-loop-first g l = record {
-  apart : AreApart l.table.table_id l.actors l.first l.seats.items;
+  apart : AreHandedOut l.table.table_id l.actors l.first l.seats.items;
   part : PartIsKept (length l.seats.items) l.actors l.first;
   room : length l.actors ≤ vec_capacity l.seats;
 }

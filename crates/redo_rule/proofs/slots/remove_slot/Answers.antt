@@ -7,4 +7,4 @@ use Rattle.redo_rule.proofs.Kept.{same_pages}
 use Rattle.redo_rule.proofs.slots.remove_slot.Goals as goal
 
 pub remove-requires : goal.remove-requires
-remove-requires g c = subst (λ (z : Listing). IsSome (own.oldest_of z.entries c.args.page)) (same_pages c.requires.0 c.in-Pages.list (sym c.requires.1 ∙ c.in-Pages.is)) (some_there c.requires.0.entries c.args.page c.requires.2)
+remove-requires g c = subst (λ (z : Listing). IsSome (own.listed_oldest z.entries c.args.page)) (same_pages c.requires.0 c.in-Pages.list (sym c.requires.1 ∙ c.in-Pages.is)) (some_there c.requires.0.entries c.args.page c.requires.2)

@@ -4,7 +4,7 @@ use Rattle.redo_drive.specs.History.{ListsInOrder}
 use Rattle.redo_drive.specs.Views.{views_of}
 use Rattle.redo_drive.specs.declared.actor.Actor.{Actor}
 use Rattle.redo_rule.specs.Cutting.{HoldNothing}
-use Rattle.redo_rule.specs.Sharing.{opened_of, script_of}
+use Rattle.redo_rule.specs.Sharing.{opened_of, shared_script}
 use Rattle.redo_threads.proofs.Ending.{have_answered, have_ended, hold_nothing}
 use Rattle.redo_threads.specs.Ended.{HaveAnswered}
 use Rattle.redo_threads.proofs.run.run_threads.Goals as goal
@@ -20,7 +20,7 @@ returns-clause-run g c =
       each = c.play_all-seats.ensures.goes_on.actors;
       ended = ended;
       answered = subst (λ (l : List Actor). c.finish-closed.result.code ≡ 0 → HaveAnswered (views_of l)) same
-          (have_answered g.L.Sectors.seen g.L.Sectors.gives g.D.Sectors.seen g.D.Sectors.gives (opened_of c.seats-seats.new.self) (script_of c.seats-seats.new.self) c.seats-seats.new.self.board.shared.key.log_only
+          (have_answered g.L.Sectors.seen g.L.Sectors.gives g.D.Sectors.seen g.D.Sectors.gives (opened_of c.seats-seats.new.self) (shared_script c.seats-seats.new.self) c.seats-seats.new.self.board.shared.key.log_only
           c.as_slice-3.result.now c.finish-closed.result c.finish-closed.ensures.leaves (subst (λ (l : List Actor). HaveEnded (views_of l)) (sym same) ended));
       listed = subst (λ (l : List Actor). ListsInOrder c.finish-closed.result.marks l c.finish-closed.result.history) same c.finish-closed.ensures.listed;
     }

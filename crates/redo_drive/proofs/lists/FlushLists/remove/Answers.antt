@@ -12,4 +12,4 @@ remove-requires c =
     let items : List Listing = c.self.inside.lists.items in
     let some = subst (λ (z : Listings). 0 < oldest_of c.args.page (lists_of z (c.args.page % 4))) (sym c.self.view_is) c.requires in
     let here : c.index_mut-list.result.now ≡ listing_at items (c.args.page % 4) = c.index_mut-list.ensures.value ∙ any_default items (c.args.page % 4) _ no_list (let n = c.self.invariant.count in omega arith) in
-    subst (λ (z : Listing). IsSome (own.oldest_of z.entries c.args.page)) (sym here) (some_there (listing_at items (c.args.page % 4)).entries c.args.page some)
+    subst (λ (z : Listing). IsSome (own.listed_oldest z.entries c.args.page)) (sym here) (some_there (listing_at items (c.args.page % 4)).entries c.args.page some)

@@ -22,7 +22,7 @@ loop-turn-preserved g c =
       run = goes_on g.L.Sectors.seen g.L.Sectors.gives g.D.Sectors.seen g.D.Sectors.gives c.args.seed c.args.max c.loop-turn.turn c.loop-turn.draws c.seat_of-seat.new.draws c.seats-seats.result c.seat_of-seat.result c.turn.result c.args.self.now c.loop-turn.self c.turn.new.self I.run
           (subst (λ (actors : List Actor). HaveEnded (views_of actors) → ⊥) c.as_slice.ensures.value c.in-Some.ensures)
           (c.seat_of-seat.ensures.seat c.args.seed I.run.drawn) (c.seat_of-seat.ensures.drawn c.args.seed I.run.drawn)
-          c.turn.ensures.turn c.turn.ensures.runs c.turn.ensures.seats c.turn.ensures.asked;
+          c.turn.ensures.turn c.turn.ensures.seats c.turn.ensures.asked;
       calls = both_then g.L.Sectors.gives g.D.Sectors.gives c.args.self.now.parts c.loop-turn.self.parts c.turn.new.self.parts I.calls c.turn.ensures.calls;
       entries = c.turn.ensures.entries ∙ I.entries;
     }

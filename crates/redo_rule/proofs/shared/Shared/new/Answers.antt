@@ -4,15 +4,12 @@ use Rattle.redo_rule.proofs.Unseated.{about_begins, about_may, unseated}
 use Rattle.redo_rule.specs.declared.law.About.{About}
 use Rattle.redo_rule.proofs.shared.Shared.new.Goals as goal
 
-pub lay_out-requires : goal.lay_out-requires
-lay_out-requires g c = c.are_lists.ensures
-
 pub make_board-requires : goal.make_board-requires
-make_board-requires g c = opens_ok g.L.Sectors.seen g.L.Sectors.gives g.D.Sectors.seen g.D.Sectors.gives (record { opened = c.of-opened_is.result; script = c.of.result; actors = c.of-2.result; log_only = c.args.log_only }) _ (about_begins g.L.Sectors.seen g.D.Sectors.seen (record { opened = c.of-opened_is.result; script = c.of.result; actors = c.of-2.result; log_only = c.args.log_only }) c.args.opened c.args.script.now c.args.log_only c.of-opened_is.ensures c.of.ensures refl c.in_ok-parts.field-0 c.in_ok-parts.ensures.begins) c.are_lists.ensures
-    (ap (λ v. v.items) c.of-2.ensures) _ _ c.as_slice.ensures.words c.in-Ok.ensures.slots
+make_board-requires g c = opens_ok g.L.Sectors.seen g.L.Sectors.gives g.D.Sectors.seen g.D.Sectors.gives (record { opened = c.of-opened_is.result; script = c.of.result; actors = c.of-2.result; log_only = c.args.log_only }) _ (about_begins g.L.Sectors.seen g.D.Sectors.seen (record { opened = c.of-opened_is.result; script = c.of.result; actors = c.of-2.result; log_only = c.args.log_only }) c.args.opened c.args.script.now c.args.log_only c.of-opened_is.ensures c.of.ensures refl c.in_ok-parts.field-0 c.in_ok-parts.ensures.begins) c.in-Ok.ensures.slots.1
+    (ap (λ v. v.items) c.of-2.ensures) _ _ c.as_slice.ensures.words c.in-Ok.ensures.slots.0
 
 pub parts_in-log-requires : goal.parts_in-log-requires
-parts_in-log-requires g c = (c.in_ok-parts.field-0.parts.log, c.in_ok-parts.field-0.parts.lists, c.in_ok-parts.field-0.parts.store, c.in-Err-make_board.ensures.err ∙ c.in-Ok.ensures.slots)
+parts_in-log-requires g c = (c.in_ok-parts.field-0.parts.log, c.in_ok-parts.field-0.parts.lists, c.in_ok-parts.field-0.parts.store, c.in-Err-make_board.ensures.err ∙ c.in-Ok.ensures.slots.0)
 
 pub returns-in-Ok-make_board-clause-new : goal.returns-in-Ok-make_board-clause-new
 returns-in-Ok-make_board-clause-new g c = record {
@@ -26,7 +23,7 @@ returns-in-Ok-make_board-clause-new g c = record {
       (record { board = c.in-Ok-make_board.board; first = c.in-Ok-make_board.first; room = Some c.in-Ok.room; entries = c.in_ok-parts.field-0.entries })
       c.in-Ok-make_board.ensures.key
       c.in-Ok-make_board.ensures.ids
-      (c.in-Ok-make_board.ensures.slots ∙ ap length c.in-Ok.ensures.slots)
+      (c.in-Ok-make_board.ensures.slots ∙ ap length c.in-Ok.ensures.slots.0)
       (c.in-Ok-make_board.ensures.words ∙ c.as_slice.ensures.count)
       c.in-Ok-make_board.ensures.me
       c.in_ok-parts.ensures.begins.no_entries
@@ -38,7 +35,7 @@ returns-in-Ok-make_board-clause-new g c = record {
 pub returns-in-Err-make_board-clause-err : goal.returns-in-Err-make_board-clause-err
 returns-in-Err-make_board-clause-err g c =
     let p = c.in_ok-parts.field-0.parts in
-    let both = c.parts_in-log.ensures p.log p.lists p.store (c.in-Err-make_board.ensures.err ∙ c.in-Ok.ensures.slots) in
+    let both = c.parts_in-log.ensures p.log p.lists p.store (c.in-Err-make_board.ensures.err ∙ c.in-Ok.ensures.slots.0) in
     let B = c.in_ok-parts.ensures.begins in (
       c.into_dev-in-Err-make_board.ensures ∙ ap (λ z. z.dev) (both.0 ∙ B.log),
       c.into_dev-in-Err-make_board-2.ensures ∙ ap (λ z. z.dev) (both.1 ∙ B.data_part),
