@@ -18,7 +18,7 @@ use Rattle.redo_lab.specs.declared.crash_command.Crashing.{Crashing}
 use Rattle.redo_lab.specs.declared.outcome.Outcome.TheVariants as outcome
 use Rattle.redo_lab.proofs.Ends.{AreTelling, at-some, leaves-unprepared}
 use Rattle.redo_lab.specs.Asked.{command_of, IsBadLine, IsLongScript, IsScriptFault, leaves_devices, reads_script}
-use Rattle.redo_lab.specs.Call.{Call, Each, Guarded, IsUnfailed, IsUnwritten, guarded}
+use Rattle.redo_lab.specs.Call.{BothDevices, Guarded, IsUnfailed, IsUnwritten, LabCall, guarded}
 use Rattle.redo_lab.specs.Cause.{CanRun, IsCauseOf, IsPossible, IsUnprepared, MayKeepFrom}
 use Rattle.redo_lab.specs.Laws.{Laws}
 use Rattle.redo_lab.specs.Runs.{command_with, outcome_of}
@@ -49,14 +49,14 @@ unfailed-fresh device alone =
 unwritten-fresh : (device : Guarded) → IsLeftAlone device → IsUnwritten device
 unwritten-fresh device alone = (ap (λ (seen : Seen). seen.tells) alone.seen, ap (λ (fuse : Fuse). fuse.changes) alone.fuse)
 
-module _ (call : Call) (alone : Each IsLeftAlone call) where
+module _ (call : LabCall) (alone : BothDevices IsLeftAlone call) where
   pub tells-alone : AreTelling call
   tells-alone = (still-tells call.log alone.0, still-tells call.store alone.1)
 
-  pub unfailed-alone : Each IsUnfailed call
+  pub unfailed-alone : BothDevices IsUnfailed call
   unfailed-alone = (unfailed-fresh call.log alone.0, unfailed-fresh call.store alone.1)
 
-  pub unwritten-alone : Each IsUnwritten call
+  pub unwritten-alone : BothDevices IsUnwritten call
   unwritten-alone = (unwritten-fresh call.log alone.0, unwritten-fresh call.store alone.1)
 
   pub unprepared-alone : IsUnprepared call
@@ -68,20 +68,20 @@ module _ (call : Call) (alone : Each IsLeftAlone call) where
   pub leaves-alone : Laws → LeavesStore call
   leaves-alone laws = leaves-unprepared call laws unprepared-alone
 
-no-bad-line : (call : Call) (log_only : Bool) (n : ℕ) → CanRun call log_only → IsBadLine call.source call.source_now n → ⊥
+no-bad-line : (call : LabCall) (log_only : Bool) (n : ℕ) → CanRun call log_only → IsBadLine call.source call.source_now n → ⊥
 no-bad-line call log_only n can bad =
     let left = at-some call.source.left (λ left. (bad.text ≡ left) × (call.source_now.left ≡ Some _)) can.text bad.read.all_read can.source in
     let is_script = can.is_script in
     let is_bad = sym (ap script_of left.0) ∙ bad.is_bad in
     cc
 
-no-long-script : (call : Call) (log_only : Bool) (misfit : Misfit) → CanRun call log_only → IsLongScript call.source misfit → ⊥
+no-long-script : (call : LabCall) (log_only : Bool) (misfit : Misfit) → CanRun call log_only → IsLongScript call.source misfit → ⊥
 no-long-script call log_only misfit can long =
     let more = at-some call.source.left (λ left. MAX_SCRIPT < length left) can.text long.long can.source in
     omega (arith, can.short)
 
 -- A COMMAND THAT READS A SCRIPT, which wasn't read
-module _ (call : Call) (command : Command) (log_only : Bool) (alone : Each IsLeftAlone call) (laws : Laws) (reads : reads_script command ≡ true)
+module _ (call : LabCall) (command : Command) (log_only : Bool) (alone : BothDevices IsLeftAlone call) (laws : Laws) (reads : reads_script command ≡ true)
     (writes : leaves_devices command ≡ true → ⊥) (can : IsPossible call command → CanRun call log_only) where
   unscripted : (f : Fault) → IsCauseOf call command f → (CanRun call log_only → (HasRisen call.source.faults call.source_now.faults → ⊥) → MayKeepFrom command f)
       → EndsWith call command (outcome.Fault f)
@@ -102,7 +102,7 @@ module _ (call : Call) (command : Command) (log_only : Bool) (alone : Each IsLef
       (λ can source. absurd (no-long-script call log_only misfit can cause))
   script-fails f cause = absurd cause
 
-pub scripted-unscripted : (call : Call) (drive : Drive) (crash : Option Crashing) (f : Fault) → Each IsLeftAlone call → IsScriptFault call.source call.source_now f → Laws
+pub scripted-unscripted : (call : LabCall) (drive : Drive) (crash : Option Crashing) (f : Fault) → BothDevices IsLeftAlone call → IsScriptFault call.source call.source_now f → Laws
     → EndsWith call (command_with drive crash) (outcome.Fault f)
 scripted-unscripted call drive None f alone cause laws =
     script-fails call (Run drive) drive.log_only alone laws refl (λ leaves. false≢true leaves) (λ possible. possible) f cause
@@ -110,7 +110,7 @@ scripted-unscripted call drive (Some crash) f alone cause laws =
     script-fails call (Crash drive crash.stops.log crash.stops.store crash.pick crash.workers) drive.log_only alone laws refl (λ leaves. false≢true leaves) (λ possible. possible) f cause
 
 -- GEN, and where memory ran out over the script that it runs
-pub gen-ends : {E : Type 0} (call : Call) (seed users groups max : ℕ) (r : Result (List ℕ) E) → Each IsLeftAlone call → call.source_now ≡ call.source
+pub gen-ends : {E : Type 0} (call : LabCall) (seed users groups max : ℕ) (r : Result (List ℕ) E) → BothDevices IsLeftAlone call → call.source_now ≡ call.source
     → IfOk r (λ text. text ≡ generated_text seed users groups) → EndsWith call (Gen seed users groups false max) (outcome_of r)
 gen-ends {E = E} call seed users groups max r alone unread is = record {
   means = means-of r is;
@@ -129,7 +129,7 @@ gen-ends {E = E} call seed users groups max r alone unread is = record {
     done-of (Ok text) = tt
     done-of (Err error) = tt
 
-pub gen-unscripted : (call : Call) (seed users groups max : ℕ) → Each IsLeftAlone call → call.source_now ≡ call.source → Laws
+pub gen-unscripted : (call : LabCall) (seed users groups max : ℕ) → BothDevices IsLeftAlone call → call.source_now ≡ call.source → Laws
     → EndsWith call (Gen seed users groups true max) (outcome.Fault fault.Memory)
 gen-unscripted call seed users groups max alone unread laws = record {
   means = λ runs. inl (unprepared-alone call alone);
@@ -146,8 +146,8 @@ all-left None = refl
 all-left (Some bytes) = (0, omega arith, omega arith, refl)
 
 -- THE CALL OF OTHER WORDS.
-pub nothing-ends : (call : Call) (sink sink_now : SinkSeen) (status : ℕ) (f : Fault) → ((command_of call.words ≡ None) × (f ≡ fault.Words)) ⊎ (f ≡ fault.Memory)
-    → call.source_now ≡ call.source → Each IsLeftAlone call → Laws → IsFaultPrinted [] f status sink sink_now
+pub nothing-ends : (call : LabCall) (sink sink_now : SinkSeen) (status : ℕ) (f : Fault) → ((command_of call.words ≡ None) × (f ≡ fault.Words)) ⊎ (f ≡ fault.Memory)
+    → call.source_now ≡ call.source → BothDevices IsLeftAlone call → Laws → IsFaultPrinted [] f status sink sink_now
     → TakesAtMost (MAX_SCRIPT + PIECE) call.source.left call.source_now.left → IsCallOf call sink sink_now status
 nothing-ends call sink sink_now status f why unread alone laws printed little = record {
   way = inl (record {

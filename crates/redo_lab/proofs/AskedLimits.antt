@@ -4,7 +4,7 @@ use Rattle.std.specs.Option.{option_map, option_and_then}
 use Rattle.std.specs.Str.{bytes_eq}
 use Rattle.model_base.specs.declared.limits.TheConstants.{DEFAULT_LOG_BLOCKS, DEFAULT_PAGES, DEFAULT_SPACE, MAX_LOG_BLOCKS, MAX_PAGES, MIN_LOG_BLOCKS}
 use Rattle.model_script.specs.Commands as commands
-use Rattle.model_script.specs.{are_among, are_different, asked_of, crash_of, drive_names, drive_of, format_of, gen_of, given_number, number_or, number_within, is_given, plain_command, said_from, where_allowed, workers_of}
+use Rattle.model_script.specs.{are_among, are_different, asked_of, given_crash, drive_names, given_drive, given_format, given_gen, given_number, number_or, number_within, is_given, plain_command, said_from, where_allowed, given_workers}
 use Rattle.model_script.specs.declared.asked.Asked.{Asked}
 use Rattle.model_script.specs.declared.asked.Command.{Command}
 use Rattle.model_script.specs.declared.asked.Command.TheVariants.{Run, Recover, Dump}
@@ -17,7 +17,7 @@ use Rattle.model_script.specs.declared.misfit.TheConstants.{MAX_USERS}
 use borrow.Author.Tests.{leb-true}
 use Rattle.model_script.specs.declared.asked.Drive.{Drive}
 use Rattle.redo_lab.specs.declared.crash_command.Crashing.{Crashing}
-use Rattle.redo_lab.specs.Asked.{IsWithin, command_of}
+use Rattle.redo_lab.specs.Asked.{HasAllowedNumbers, command_of}
 use Rattle.redo_lab.specs.Runs.{command_with}
 
 -- the number is between these
@@ -61,7 +61,7 @@ allowed-some false different o command is = cc
 allowed-command : (names : List Name) (options : List Given) (o : Option Command) (command : Command) → where_allowed names options o ≡ Some command → o ≡ Some command
 allowed-command names options o command is = allowed-some (are_among names options) (are_different options) o command is
 
-format-within : (options : List Given) (command : Command) → format_of options ≡ Some command → IsWithin command
+format-within : (options : List Given) (command : Command) → given_format options ≡ Some command → HasAllowedNumbers command
 format-within options command is =
     let pages = and_then-some _ (number_or 1 MAX_PAGES DEFAULT_PAGES (given_number name.Pages options)) command is in
     let space = and_then-some _ (number_or 0 (2 ^ 32 - 1) DEFAULT_SPACE (given_number name.Space options)) command pages.2 in
@@ -69,29 +69,29 @@ format-within options command is =
     let some : IsBetween 1 MAX_PAGES pages.0 = or-between 1 MAX_PAGES DEFAULT_PAGES pages.0 (given_number name.Pages options) (lit≤ tt, lit≤ tt) pages.1 in
     let many : IsBetween MIN_LOG_BLOCKS MAX_LOG_BLOCKS blocks.0 =
     or-between MIN_LOG_BLOCKS MAX_LOG_BLOCKS DEFAULT_LOG_BLOCKS blocks.0 (given_number name.LogBlocks options) (lit≤ tt, lit≤ tt) blocks.1 in
-    subst IsWithin blocks.2 (some.0, some.1, many.0, many.1)
+    subst HasAllowedNumbers blocks.2 (some.0, some.1, many.0, many.1)
 
-run-within : (options : List Given) (command : Command) → option_map Run (drive_of options) ≡ Some command → IsWithin command
-run-within options command is = let run = map-some Run (drive_of options) command is in subst IsWithin run.2 tt
+run-within : (options : List Given) (command : Command) → option_map Run (given_drive options) ≡ Some command → HasAllowedNumbers command
+run-within options command is = let run = map-some Run (given_drive options) command is in subst HasAllowedNumbers run.2 tt
 
-workers-within : (options : List Given) (workers : ℕ) → workers_of options ≡ Some workers → IsBetween 1 MAX_WORKERS workers
+workers-within : (options : List Given) (workers : ℕ) → given_workers options ≡ Some workers → IsBetween 1 MAX_WORKERS workers
 workers-within options workers is = or-between 1 MAX_WORKERS 1 workers (given_number name.Workers options) (lit≤ tt, lit≤ tt) is
 
-crash-within : (options : List Given) (command : Command) → crash_of options ≡ Some command → IsWithin command
+crash-within : (options : List Given) (command : Command) → given_crash options ≡ Some command → HasAllowedNumbers command
 crash-within options command is =
-    let drive = and_then-some _ (drive_of options) command is in
-    let workers = map-some _ (workers_of options) command drive.2 in
-    subst IsWithin workers.2 (workers-within options workers.0 workers.1)
+    let drive = and_then-some _ (given_drive options) command is in
+    let workers = map-some _ (given_workers options) command drive.2 in
+    subst HasAllowedNumbers workers.2 (workers-within options workers.0 workers.1)
 
-recover-within : (options : List Given) (command : Command) → option_map Recover (workers_of options) ≡ Some command → IsWithin command
+recover-within : (options : List Given) (command : Command) → option_map Recover (given_workers options) ≡ Some command → HasAllowedNumbers command
 recover-within options command is =
-    let workers = map-some Recover (workers_of options) command is in
-    subst IsWithin workers.2 (workers-within options workers.0 workers.1)
+    let workers = map-some Recover (given_workers options) command is in
+    subst HasAllowedNumbers workers.2 (workers-within options workers.0 workers.1)
 
-dump-within : (why : Bool) (command : Command) → Some (Dump why) ≡ Some command → IsWithin command
-dump-within why command is = let same : Dump why ≡ command = cc in subst IsWithin same tt
+dump-within : (why : Bool) (command : Command) → Some (Dump why) ≡ Some command → HasAllowedNumbers command
+dump-within why command is = let same : Dump why ≡ command = cc in subst HasAllowedNumbers same tt
 
-gen-within : (options : List Given) (values : List ℕ) (command : Command) → gen_of options values ≡ Some command → IsWithin command
+gen-within : (options : List Given) (values : List ℕ) (command : Command) → given_gen options values ≡ Some command → HasAllowedNumbers command
 gen-within options [] command is = cc
 gen-within options (seed ∷ []) command is = cc
 gen-within options (seed ∷ users ∷ []) command is = cc
@@ -100,14 +100,14 @@ gen-within options (seed ∷ users ∷ groups ∷ []) command is =
     let many = and_then-some _ (number_within 0 _ groups) command some.2 in
     let max = map-some _ (number_or 0 _ _ (given_number name.Max options)) command many.2 in
     let between = within-between 1 MAX_USERS users some.0 some.1 in
-    subst IsWithin max.2 (between.0, between.1)
+    subst HasAllowedNumbers max.2 (between.0, between.1)
 gen-within options (seed ∷ users ∷ groups ∷ more ∷ values) command is = cc
 
 plain-within : (is_format is_run is_crash is_recover is_dump : Bool) (format run crash recover dump : Option Command) (command : Command)
-    → (format ≡ Some command → IsWithin command) → (run ≡ Some command → IsWithin command) → (crash ≡ Some command → IsWithin command)
-    → (recover ≡ Some command → IsWithin command) → (dump ≡ Some command → IsWithin command)
+    → (format ≡ Some command → HasAllowedNumbers command) → (run ≡ Some command → HasAllowedNumbers command) → (crash ≡ Some command → HasAllowedNumbers command)
+    → (recover ≡ Some command → HasAllowedNumbers command) → (dump ≡ Some command → HasAllowedNumbers command)
     → (if is_format then format else (if is_run then run else (if is_crash then crash else (if is_recover then recover else (if is_dump then dump else None))))) ≡ Some command
-    → IsWithin command
+    → HasAllowedNumbers command
 plain-within true is_run is_crash is_recover is_dump format run crash recover dump command a b c d e is = a is
 plain-within false true is_crash is_recover is_dump format run crash recover dump command a b c d e is = b is
 plain-within false false true is_recover is_dump format run crash recover dump command a b c d e is = c is
@@ -122,38 +122,38 @@ abbrev crash_names : List Name
 crash_names = name.StopLog ∷ name.StopData ∷ name.Pick ∷ name.Workers ∷ drive_names
 
 command-within : (text : List ℕ) (options : List Given) (values : List ℕ) (is_gen : Bool) (command : Command)
-    → (if is_gen then where_allowed (name.Run ∷ name.Max ∷ []) options (gen_of options values)
-    else elim values [ [] ↦ plain_command text options | value ∷ others ↦ None ]) ≡ Some command → IsWithin command
-command-within text options values true command is = gen-within options values command (allowed-command (name.Run ∷ name.Max ∷ []) options (gen_of options values) command is)
+    → (if is_gen then where_allowed (name.Run ∷ name.Max ∷ []) options (given_gen options values)
+    else elim values [ [] ↦ plain_command text options | value ∷ others ↦ None ]) ≡ Some command → HasAllowedNumbers command
+command-within text options values true command is = gen-within options values command (allowed-command (name.Run ∷ name.Max ∷ []) options (given_gen options values) command is)
 command-within text options [] false command is = plain-within
     (bytes_eq text (codes "format")) (bytes_eq text (codes "run")) (bytes_eq text (codes "crash")) (bytes_eq text (codes "recover")) (bytes_eq text (codes "dump"))
-    (where_allowed format_names options (format_of options)) (where_allowed drive_names options (option_map Run (drive_of options)))
-    (where_allowed crash_names options (crash_of options)) (where_allowed (name.Workers ∷ []) options (option_map Recover (workers_of options)))
+    (where_allowed format_names options (given_format options)) (where_allowed drive_names options (option_map Run (given_drive options)))
+    (where_allowed crash_names options (given_crash options)) (where_allowed (name.Workers ∷ []) options (option_map Recover (given_workers options)))
     (where_allowed (name.Why ∷ []) options (Some (Dump (is_given name.Why options)))) command
-    (λ is. format-within options command (allowed-command format_names options (format_of options) command is))
-    (λ is. run-within options command (allowed-command drive_names options (option_map Run (drive_of options)) command is))
-    (λ is. crash-within options command (allowed-command crash_names options (crash_of options) command is))
-    (λ is. recover-within options command (allowed-command (name.Workers ∷ []) options (option_map Recover (workers_of options)) command is))
+    (λ is. format-within options command (allowed-command format_names options (given_format options) command is))
+    (λ is. run-within options command (allowed-command drive_names options (option_map Run (given_drive options)) command is))
+    (λ is. crash-within options command (allowed-command crash_names options (given_crash options) command is))
+    (λ is. recover-within options command (allowed-command (name.Workers ∷ []) options (option_map Recover (given_workers options)) command is))
     (λ is. dump-within (is_given name.Why options) command (allowed-command (name.Why ∷ []) options (Some (Dump (is_given name.Why options))) command is))
     is
 command-within text options (value ∷ others) false command is = cc
 
 -- what is asked for is within its limits
-pub asked-within : (words : List (List ℕ)) (asked : Asked) → asked_of words ≡ Some asked → IsWithin asked.command
+pub asked-within : (words : List (List ℕ)) (asked : Asked) → asked_of words ≡ Some asked → HasAllowedNumbers asked.command
 unfolding asked_of
 asked-within [] asked is = cc
 asked-within (text ∷ texts) asked is =
     let said = and_then-some _ (said_from Any texts) asked is in
-    let command = map-some _ (commands.command_of text said.0.options said.0.values) asked said.2 in
-    subst (λ (asked : Asked). IsWithin asked.command) command.2 (command-within text said.0.options said.0.values _ command.0 command.1)
+    let command = map-some _ (commands.named_command text said.0.options said.0.values) asked said.2 in
+    subst (λ (asked : Asked). HasAllowedNumbers asked.command) command.2 (command-within text said.0.options said.0.values _ command.0 command.1)
 
-pub command-of-within : (words : List (List ℕ)) (command : Command) → command_of words ≡ Some command → IsWithin command
+pub command-of-within : (words : List (List ℕ)) (command : Command) → command_of words ≡ Some command → HasAllowedNumbers command
 command-of-within words command is =
     let asked = map-some (λ (asked : Asked). asked.command) (asked_of words) command is in
-    subst IsWithin asked.2 (asked-within words asked.0 asked.1)
+    subst HasAllowedNumbers asked.2 (asked-within words asked.0 asked.1)
 
 -- of a script's crash
-pub within-workers : (asked : Drive) (crash : Option Crashing) → IsWithin (command_with asked crash)
+pub within-workers : (asked : Drive) (crash : Option Crashing) → HasAllowedNumbers (command_with asked crash)
     → IfSome crash (λ crash. (1 ≤ crash.workers) × (crash.workers ≤ MAX_WORKERS))
 within-workers asked None is = tt
 within-workers asked (Some crash) is = is

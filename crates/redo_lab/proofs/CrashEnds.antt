@@ -27,22 +27,22 @@ use Rattle.redo_lab.proofs.Found.{one-opened, told-still}
 use Rattle.redo_lab.proofs.Rereading.{IsCrashedSince, ReadsTo, Was, before, prepared-later}
 use Rattle.redo_lab.specs.Answer.{AreCrashedAs, IsCrashText}
 use Rattle.redo_lab.specs.Asked.{IsScriptRead}
-use Rattle.redo_lab.specs.Call.{Call, Each, IsLeftFair, IsUnfailedAside, WhereOpened, WhereToldNow}
-use Rattle.redo_lab.specs.Cause.{AreOfRun, CanPlay, LeavesRun}
+use Rattle.redo_lab.specs.Call.{BothDevices, IsLeftFair, IsUnfailedAside, LabCall, WhereOpened, WhereToldNow}
+use Rattle.redo_lab.specs.Cause.{AreOfRun, CanPlay, LeavesFailedRun}
 use Rattle.redo_lab.specs.Laws.{Laws}
 use Rattle.redo_lab.specs.Runs.{HasFailed, IsLeftBy, IsReportOf, LosesByFailure}
 use Rattle.redo_lab.specs.Store.{AreReadAsPrefix, AreRefused}
-use Rattle.redo_lab.specs.Told.{IsOpenedFirst, IsRunOf, LeavesStore}
+use Rattle.redo_lab.specs.Told.{HasRunScript, IsOpenedFirst, LeavesStore}
 use Rattle.redo_lab.specs.Ending.{EndsWith, IsDoneOrKeptFrom, IsOutcome}
 
 -- of an opening that a device stopped something is lost only by that
-pub lost-stopped : (call : Call) (script : List ScriptLine) (f : Fault) → HasFailed call f → LosesByFailure call script None
+pub lost-stopped : (call : LabCall) (script : List ScriptLine) (f : Fault) → HasFailed call f → LosesByFailure call script None
 lost-stopped call script fault.LogDevice some left left_is = record { lost = λ i entry at lost. omega arith; left = λ more. omega arith; stopped = λ none. omega arith }
 lost-stopped call script fault.DataDevice some left left_is =
     let more = some.0 in record { lost = λ i entry at lost. omega arith; left = λ more. omega arith; stopped = λ none. omega arith }
 lost-stopped call script f some left left_is = absurd some
 
-module _ (call : Call) (drive : Drive) (stops : Stops) (pick workers : ℕ) (script : List ScriptLine) (run : Option Ran) (log_was data_was : Was) (laws : Laws)
+module _ (call : LabCall) (drive : Drive) (stops : Stops) (pick workers : ℕ) (script : List ScriptLine) (run : Option Ran) (log_was data_was : Was) (laws : Laws)
     (read : IsScriptRead call.source call.source_now script)
     (left_by : IsLeftBy (before call log_was data_was) (Crash drive stops.log stops.store pick workers) drive stops script run Done)
     (loses : LosesByFailure (before call log_was data_was) script run) where
@@ -102,7 +102,7 @@ module _ (call : Call) (drive : Drive) (stops : Stops) (pick workers : ℕ) (scr
       record { limit_is = since.1.armed.limit_is; pick_is = since.1.pick_is; unchanged_since = since.1.armed.late_changes },
     )
 
-    left-crashed : LeavesRun call asked
+    left-crashed : LeavesFailedRun call asked
     left-crashed runs =
         let is : AreOfRun call asked = record {
           script = script;
@@ -117,18 +117,18 @@ module _ (call : Call) (drive : Drive) (stops : Stops) (pick workers : ℕ) (scr
         inr is
 
     -- an outcome of the crash
-    ends-crash : (o : Outcome) → IsOutcome call asked o → (CanPlay call drive.log_only script → Each IsUnfailedAside call → IsDoneOrKeptFrom asked o) → EndsWith call asked o
+    ends-crash : (o : Outcome) → IsOutcome call asked o → (CanPlay call drive.log_only script → BothDevices IsUnfailedAside call → IsDoneOrKeptFrom asked o) → EndsWith call asked o
     ends-crash o means complete = ends-with call asked drive script (record { asked = refl; is_script = read; unread = λ plain. absurd (false≢true (sym plain)) }) laws o
         (since.0.armed.same.tells, since.1.armed.same.tells) crash-leaves means complete
 
     -- the run as the crash met it
     as-met : {log_met store_met : Option Disk} → log_met ≡ log_was.now.tells → store_met ≡ data_was.now.tells
-        → IfSome run (λ run. IsRunOf call asked drive left_by.opened script run Done log_met store_met)
+        → IfSome run (λ run. HasRunScript call asked drive left_by.opened script run Done log_met store_met)
     as-met log_is store_is = met-on run _ _ log_is store_is left_by.ran
       where
         met-on : (run : Option Ran) (log_met store_met : Option Disk) → log_met ≡ log_was.now.tells → store_met ≡ data_was.now.tells
-            → IfSome run (λ run. IsRunOf (before call log_was data_was) asked drive left_by.opened script run Done log_was.now.tells data_was.now.tells)
-            → IfSome run (λ run. IsRunOf call asked drive left_by.opened script run Done log_met store_met)
+            → IfSome run (λ run. HasRunScript (before call log_was data_was) asked drive left_by.opened script run Done log_was.now.tells data_was.now.tells)
+            → IfSome run (λ run. HasRunScript call asked drive left_by.opened script run Done log_met store_met)
         met-on None log_met store_met log_is store_is took = tt
         met-on (Some run) log_met store_met log_is store_is took = record {
           is_script = read;
@@ -144,7 +144,7 @@ module _ (call : Call) (drive : Drive) (stops : Stops) (pick workers : ℕ) (scr
         let counted : log_was.fuse.mid + data_was.fuse.mid ≡ call.log.fuse.mid + call.store.fuse.mid = omega (arith, since.0.mid, since.1.mid) in
         subst (λ (n : ℕ). LosesOnlyByFailure n run left) counted (loses left left_is)
 
-  unfailed-aside : Since 0 0 → Each IsUnfailedAside call
+  unfailed-aside : Since 0 0 → BothDevices IsUnfailedAside call
   unfailed-aside since = ((since.0.armed.early, since.0.armed.late), (since.1.armed.early, since.1.armed.late))
 
   -- THE CRASH THEOREM, of the report and what was read.
@@ -209,7 +209,7 @@ module _ (call : Call) (drive : Drive) (stops : Stops) (pick workers : ℕ) (scr
       where
         fits-on : (run : Option Ran) (log data_disk : Disk) → call.log.entry.tells ≡ Some log → call.store.entry.tells ≡ Some data_disk
             → Opens log.reads data_disk.reads opened.shape opened.pages opened.end
-            → IfSome run (λ run. IsRunOf (before call log_was data_was) asked drive left_by.opened script run Done log_was.now.tells data_was.now.tells)
+            → IfSome run (λ run. HasRunScript (before call log_was data_was) asked drive left_by.opened script run Done log_was.now.tells data_was.now.tells)
             → IfSome run (λ run. FitsOpened drive.log_only opened script)
         fits-on None log data_disk log_is data_is opens took = tt
         fits-on (Some run) log data_disk log_is data_is opens took =

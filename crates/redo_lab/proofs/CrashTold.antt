@@ -9,7 +9,7 @@ use Rattle.redo_lab.proofs.Found.{unopened-as}
 use Rattle.redo_lab.proofs.Rereading.{IsCrashedSince, Was}
 use Rattle.redo_lab.specs.Answer.{IsDevice, stop_of}
 use Rattle.redo_lab.specs.Asked.{IsScriptRead}
-use Rattle.redo_lab.specs.Call.{Call, Guarded}
+use Rattle.redo_lab.specs.Call.{Guarded, LabCall}
 use Rattle.redo_lab.specs.Devices.{ArePrepared}
 use Rattle.redo_lab.specs.Laws.{Laws}
 
@@ -25,7 +25,7 @@ crashes-told (Some disk) new before after told old_is new_is =
 left-image : (before after : Disk) → Crashes before after → IsImage before after.reads
 left-image before after crashes = subst (IsImage before) (sym (ap (λ (d : Disk). d.reads) crashes.left)) crashes.possible
 
-pub whole-script : (call : Call) (script : List ScriptLine) (read : IsScriptRead call.source call.source_now script)
+pub whole-script : (call : LabCall) (script : List ScriptLine) (read : IsScriptRead call.source call.source_now script)
     → IsWholeScript call.source.left call.source_now.left read.text script
 whole-script call script read = record { all_read = read.read.all_read; is_script = read.is_script }
 
@@ -106,7 +106,7 @@ is-crashed was device since told =
     }
 
 -- THE ARMING came before opening.
-pub armed-first : (call : Call) (log_was data_was : Was) → Laws → ArePrepared call → 0 < call.log.fuse.passed + call.log.fuse.mid
+pub armed-first : (call : LabCall) (log_was data_was : Was) → Laws → ArePrepared call → 0 < call.log.fuse.passed + call.log.fuse.mid
     → (log_told : HasTold log_was call.log) (data_told : HasTold data_was call.store) → AreArmedFirst (device_of call.log log_told) (device_of call.store data_told)
 armed-first call log_was data_was laws prepared counted log_told data_told = record {
   opening_counted = counted;

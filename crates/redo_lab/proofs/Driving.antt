@@ -12,13 +12,13 @@ use Rattle.model_script.specs.declared.script.ScriptLine.{ScriptLine}
 use Rattle.model_store.specs.{IsFairLog, IsReading}
 use Rattle.model_store.specs.Reading.{Reading}
 use Rattle.model_theorem.specs.{IsClosed, IsHeld, IsOpenedBefore, IsRun, IsStart, LosesOnlyByFailure, Opened, opened_as, Ran}
-use Rattle.redo_disk.specs.{Call as DeviceCall, failures, MakesCalls, MayEndWith}
+use Rattle.redo_disk.specs.{Call, failures, MakesCalls, MayEndWith}
 use Rattle.redo_disk.specs.Seen.{Seen}
 use Rattle.redo_disk.specs.declared.error.DevError.{DevError}
 use Rattle.redo_disk.specs.declared.error.DevError.TheVariants as device
 use Rattle.redo_disk.proofs.Made.{may_end}
 use Rattle.redo_drive.specs.{HasMemory, Owes}
-use Rattle.redo_drive.specs.Startable.{IsOpenedAs as IsStartedAs}
+use Rattle.redo_drive.specs.Startable.{HasReading}
 use Rattle.redo_drive.specs.Drive.{failed_in}
 use Rattle.redo_drive.specs.declared.drive.Driven.{Driven}
 use Rattle.redo_drive.specs.declared.drive.RunEnd.{RunEnd}
@@ -38,10 +38,10 @@ use Rattle.redo_lab.proofs.Opened.{armed-after}
 use Rattle.redo_lab.proofs.Rereading.{armed-as}
 use Rattle.redo_lab.proofs.SomeLeft.{some-left}
 use Rattle.redo_lab.proofs.Told.{both-told}
-use Rattle.redo_lab.specs.Call.{Call, WhereOpened, WhereToldNow}
+use Rattle.redo_lab.specs.Call.{LabCall, WhereOpened, WhereToldNow}
 use Rattle.redo_lab.specs.Handed.{TellsOf, call_on}
 use Rattle.redo_lab.specs.Laws.{Laws}
-use Rattle.redo_lab.specs.Runs.{ComesTo, IsLeftBy, IsRunning, LosesByFailure, StandsReady, course_done, course_of, ended_by, played_of, ran_of}
+use Rattle.redo_lab.specs.Runs.{ComesTo, CommandRuns, IsLeftBy, LosesByFailure, StandsReady, course_done, course_of, ended_by, played_of, ran_of}
 use Rattle.redo_lab.specs.Store.{AreReadAsPrefix}
 use Rattle.redo_lab.specs.Told.{AreLeftRead, IsOpenedFirst}
 
@@ -52,17 +52,17 @@ synced-fair disk = record {
   each = λ k within fits. record { count = 0; some = omega arith; same = refl };
 }
 
-module _ {L D : Type 0} (log_seen : L → Seen) (log_gives : L → DeviceCall → L → Type 0) (data_seen : D → Seen) (data_gives : D → DeviceCall → D → Type 0)
+module _ {L D : Type 0} (log_seen : L → Seen) (log_gives : L → Call → L → Type 0) (data_seen : D → Seen) (data_gives : D → Call → D → Type 0)
     (words : List (List ℕ)) (source source_now : SourceSeen) (log : L) (data_device : D) (command : Command) (drive : Drive) (stops : Stops) (script : List ScriptLine)
-    (given : store.Opened (Fused L) (Fused D)) (driven : Driven (Fused L) (Fused D)) (running : IsRunning source source_now command drive script) (laws : Laws)
+    (given : store.Opened (Fused L) (Fused D)) (driven : Driven (Fused L) (Fused D)) (running : CommandRuns source source_now command drive script) (laws : Laws)
     (ready : StandsReady log_seen data_seen (call_on log_seen log_gives data_seen data_gives words source source_now log data_device given.log.dev given.store.dev) drive stops script given)
     (told : TellsOf drive.threads log_seen log_gives data_seen data_gives drive given script driven)
     (owes : Owes (seen_through log_seen) (CallsThrough log_seen log_gives) (seen_through data_seen) (CallsThrough data_seen data_gives) given script driven)
     (spends : SpendsTurns (call_on log_seen log_gives data_seen data_gives words source source_now log data_device driven.closed.log.dev driven.closed.store.dev) drive) where
-  abbrev opening : Call
+  abbrev opening : LabCall
   opening = call_on log_seen log_gives data_seen data_gives words source source_now log data_device given.log.dev given.store.dev
 
-  abbrev call : Call
+  abbrev call : LabCall
   call = call_on log_seen log_gives data_seen data_gives words source source_now log data_device driven.closed.log.dev driven.closed.store.dev
 
   abbrev played : Played
@@ -91,7 +91,7 @@ module _ {L D : Type 0} (log_seen : L → Seen) (log_gives : L → DeviceCall �
 
   -- WHAT IS OWED of both devices after the run, on a store that was found when the fuses were armed
   run-found : (P : Reading → Disk → Disk → Type 0)
-      → ((reading : Reading) → IsStartedAs reading given → WhereBothTell (log_seen given.log.dev.inner).tells (data_seen given.store.dev.inner).tells (λ log_disk data_disk.
+      → ((reading : Reading) → HasReading reading given → WhereBothTell (log_seen given.log.dev.inner).tells (data_seen given.store.dev.inner).tells (λ log_disk data_disk.
       IsStart reading script log_disk data_disk
       → WhereBothTell (log_seen driven.closed.log.dev.inner).tells (data_seen driven.closed.store.dev.inner).tells (P reading)))
       → (opened : Opened) → WhereOpened call opened ((found : WasFound opening opened) × WhereToldNow call (P found.reading))

@@ -26,13 +26,13 @@ use Rattle.redo_lab.specs.declared.playing.Stops.{Stops}
 use Rattle.redo_lab.proofs.ByDrive.{in-threads}
 use Rattle.redo_lab.proofs.Found.{one-opened, openable-fresh, same-told, unused-unread}
 use Rattle.redo_lab.specs.Asked.{IsScriptRead, leaves_devices, runs_script}
-use Rattle.redo_lab.specs.Call.{AreUnfailedFor, Call, Each, Guarded, IsInRun, IsUnfailed, IsUnfailedAside, WhereOpened}
-use Rattle.redo_lab.specs.Cause.{AreInRunOrCrashed, AreOfRun, CanPlay, CanRun, IsDeviceFault, IsPastSource, IsPossible, IsRefused, IsRefusedAtEntry, IsUnbegun, IsUnprepared, LeavesRun}
+use Rattle.redo_lab.specs.Call.{AreUnfailedFor, BothDevices, Guarded, IsInRun, IsUnfailed, IsUnfailedAside, LabCall, WhereOpened}
+use Rattle.redo_lab.specs.Cause.{AreInRunOrCrashed, AreOfRun, CanPlay, CanRun, IsDeviceFault, IsPastSource, IsPossible, IsRefused, IsRefusedAtEntry, IsUnbegun, IsUnprepared, LeavesFailedRun}
 use Rattle.redo_lab.specs.Devices.{AreArmed}
 use Rattle.redo_lab.specs.Laws.{Laws}
-use Rattle.redo_lab.specs.Runs.{HasFailed, IsLeftBy, IsRunning, command_with}
+use Rattle.redo_lab.specs.Runs.{CommandRuns, HasFailed, IsLeftBy, command_with}
 use Rattle.redo_lab.specs.Store.{AreAccepted}
-use Rattle.redo_lab.specs.Told.{AreLeftRead, IsOpenedFirst, IsRunOf, IsStored, LeavesStore}
+use Rattle.redo_lab.specs.Told.{AreLeftRead, HasRunScript, IsOpenedFirst, IsOrderlyOrNew, LeavesStore}
 use Rattle.redo_lab.specs.Ending.{EndsWith, IsDoneOrKeptFrom, IsOutcome}
 
 -- what holds of a value that is there
@@ -41,7 +41,7 @@ at-some None P x holds is = cc
 at-some (Some found) P x holds is = let same : found ≡ x = cc in subst P same holds
 
 -- the script that was read is the one that can be run
-pub can-play : (call : Call) (script : List ScriptLine) → IsScriptRead call.source call.source_now script → (log_only : Bool) → CanRun call log_only → CanPlay call log_only script
+pub can-play : (call : LabCall) (script : List ScriptLine) → IsScriptRead call.source call.source_now script → (log_only : Bool) → CanRun call log_only → CanPlay call log_only script
 can-play call script read log_only can =
     let left = at-some call.source.left (λ left. (read.text ≡ left) × (call.source_now.left ≡ Some _)) can.text read.read.all_read can.source in
     let is = sym read.is_script ∙ (ap script_of left.0 ∙ can.is_script) in
@@ -49,19 +49,19 @@ can-play call script read log_only can =
     subst (CanPlay call log_only) same can.plays
 
 -- what the cases of the definitions come to
-pub record RunsScript (call : Call) (command : Command) (drive : Drive) (script : List ScriptLine) : Type 0 where
+pub record RunsScript (call : LabCall) (command : Command) (drive : Drive) (script : List ScriptLine) : Type 0 where
   pub past : IsPastSource call command
   pub writes : leaves_devices command ≡ true → ⊥
   pub runs : runs_script command ≡ true
   pub plays : IsPossible call command → CanPlay call drive.log_only script
   pub fails_early : (device : Guarded) → HasRisen device.entry.faults device.now.faults → 0 < device.fuse.early → IsDeviceFault command device
-  pub unfailed : Each IsUnfailed call → AreUnfailedFor command call
-  pub aside : AreUnfailedFor command call → Each IsUnfailedAside call
+  pub unfailed : BothDevices IsUnfailed call → AreUnfailedFor command call
+  pub aside : AreUnfailedFor command call → BothDevices IsUnfailedAside call
   pub unbegun : IsUnprepared call → IsUnbegun call command
-  pub in_run : Each IsInRun call → AreInRunOrCrashed call command
+  pub in_run : BothDevices IsInRun call → AreInRunOrCrashed call command
   pub refused : (refusal : Refusal) → IsRefusedAtEntry call refusal → IsRefused call command refusal
 
-pub runs-script : (call : Call) (command : Command) (drive : Drive) (script : List ScriptLine) → IsRunning call.source call.source_now command drive script
+pub runs-script : (call : LabCall) (command : Command) (drive : Drive) (script : List ScriptLine) → CommandRuns call.source call.source_now command drive script
     → RunsScript call command drive script
 runs-script call (Run asked) drive script is =
     let same : asked ≡ drive = let some = is.asked in cc in
@@ -110,17 +110,17 @@ runs-script call command drive script is = absurd is.is_script
 
 -- a script that was read off the source
 pub runs-scripted : {source source_now : SourceSeen} {script : List ScriptLine} (drive : Drive) (crash : Option Crashing) → IsScriptRead source source_now script
-    → IsRunning source source_now (command_with drive crash) drive script
+    → CommandRuns source source_now (command_with drive crash) drive script
 runs-scripted drive None read = record { asked = refl; is_script = read; unread = λ plain. absurd (false≢true (sym plain)) }
 runs-scripted drive (Some crash) read = record { asked = refl; is_script = read; unread = λ plain. absurd (false≢true (sym plain)) }
 
 -- A STORE THAT IS LEFT
-pub opens-stored : (call : Call) (opened : Opened) (log data_disk : Disk) → IsStored call opened log data_disk
+pub opens-stored : (call : LabCall) (opened : Opened) (log data_disk : Disk) → IsOrderlyOrNew call opened log data_disk
     → Opens log.reads data_disk.reads opened.shape opened.pages opened.end
 opens-stored call opened log data_disk stored = ⊎_elim (λ orderly. inr orderly) (λ unused. inl unused.0) stored
 
 -- by devices that weren't prepared
-pub leaves-unprepared : (call : Call) → Laws → IsUnprepared call → LeavesStore call
+pub leaves-unprepared : (call : LabCall) → Laws → IsUnprepared call → LeavesStore call
 leaves-unprepared call laws unprepared opened log data_disk log_is data_is log_fresh data_fresh stored fair log_now data_now log_now_is data_now_is = ⊎_elim
     (λ orderly. ⊎_elim
     (λ kept.
@@ -141,44 +141,44 @@ leaves-unprepared call laws unprepared opened log data_disk log_is data_is log_f
         (kept.reading, kept.is_read, kept.old_copies)
 
 -- by a run, or none, of which every image is read as a prefix
-pub leaves-read : (call : Call) (script : List ScriptLine) (run : Option Ran) → AreLeftRead call script run → LeavesStore call
+pub leaves-read : (call : LabCall) (script : List ScriptLine) (run : Option Ran) → AreLeftRead call script run → LeavesStore call
 leaves-read call script run reads opened log data_disk log_is data_is log_fresh data_fresh stored fair log_now data_now log_now_is data_now_is log_bytes data_bytes image is_fair =
     let read = reads opened log data_disk log_is data_is log_fresh data_fresh (opens-stored call opened log data_disk stored)
     log_now data_now log_now_is data_now_is log_bytes data_bytes image is_fair in
     (read.reading, read.is_read, read.old_copies)
 
 -- both devices go on telling
-abbrev pub AreTelling : Call → Type 0
-AreTelling call = Each (λ device. device.entry.tells ≢ None → device.now.tells ≢ None) call
+abbrev pub AreTelling : LabCall → Type 0
+AreTelling call = BothDevices (λ device. device.entry.tells ≢ None → device.now.tells ≢ None) call
 
-pub tells-armed : {call : Call} {stops : Stops} → AreArmed call stops → AreTelling call
+pub tells-armed : {call : LabCall} {stops : Stops} → AreArmed call stops → AreTelling call
 tells-armed armed = (armed.log_device.same.tells, armed.data_device.same.tells)
 
-pub in-run : {call : Call} {stops : Stops} → AreArmed call stops → Each IsInRun call
+pub in-run : {call : LabCall} {stops : Stops} → AreArmed call stops → BothDevices IsInRun call
 in-run armed = (armed.log_device.stage_is, armed.data_device.stage_is)
 
-pub aside-armed : {call : Call} {stops : Stops} → AreArmed call stops → Each IsUnfailedAside call
+pub aside-armed : {call : LabCall} {stops : Stops} → AreArmed call stops → BothDevices IsUnfailedAside call
 aside-armed armed = ((armed.log_device.early, armed.log_device.late), (armed.data_device.early, armed.data_device.late))
 
-pub unfailed-armed : {call : Call} {stops : Stops} → AreArmed call stops → call.log.fuse.mid ≡ 0 → call.store.fuse.mid ≡ 0 → Each IsUnfailed call
+pub unfailed-armed : {call : LabCall} {stops : Stops} → AreArmed call stops → call.log.fuse.mid ≡ 0 → call.store.fuse.mid ≡ 0 → BothDevices IsUnfailed call
 unfailed-armed armed log_none data_none =
     ((armed.log_device.early, log_none, armed.log_device.late), (armed.data_device.early, data_none, armed.data_device.late))
 
 -- the run is a legal one on whatever store was opened
-pub legal-on : (call : Call) (command : Command) (drive : Drive) (opened : Opened) (script : List ScriptLine) (run : Option Ran) (end : RunEnd) (log_met store_met : Option Disk)
-    → Laws → IfSome run (λ run. IsRunOf call command drive opened script run end log_met store_met)
+pub legal-on : (call : LabCall) (command : Command) (drive : Drive) (opened : Opened) (script : List ScriptLine) (run : Option Ran) (end : RunEnd) (log_met store_met : Option Disk)
+    → Laws → IfSome run (λ run. HasRunScript call command drive opened script run end log_met store_met)
     → (store : Opened) → WhereOpened call store (IfSome run (IsRun script store))
 legal-on call command drive opened script None end log_met store_met laws took store log data_disk log_is data_is log_fresh data_fresh opens = tt
 legal-on call command drive opened script (Some run) end log_met store_met laws took store log data_disk log_is data_is log_fresh data_fresh opens =
     subst (λ (o : Opened). IsRun script o run) (one-opened laws log data_disk opened store (took.opens log data_disk log_is data_is) opens) took.in_lsn_order
 
 -- turns are spent by a drive that isn't in threads
-abbrev pub SpendsTurns : Call → Drive → Type 0
+abbrev pub SpendsTurns : LabCall → Drive → Type 0
 SpendsTurns call drive = (opened : Opened) (script : List ScriptLine) (run : Ran) (turns user : ℕ) (log_met store_met : Option Disk)
     → call.drives drive opened script run (Spent turns user) log_met store_met → drive.threads ≡ false
 
-module _ (call : Call) (command : Command) (drive : Drive) (script : List ScriptLine)
-    (running : IsRunning call.source call.source_now command drive script) (laws : Laws) where
+module _ (call : LabCall) (command : Command) (drive : Drive) (script : List ScriptLine)
+    (running : CommandRuns call.source call.source_now command drive script) (laws : Laws) where
   abbrev its : RunsScript call command drive script
   its = runs-script call command drive script running
 
@@ -211,13 +211,13 @@ module _ (call : Call) (command : Command) (drive : Drive) (script : List Script
       (λ can unfailed. absurd (omega (arith, some, (its.aside unfailed).1.0)))
 
   -- THE STORE IS REFUSED at entry.
-  pub ends-refused : (refusal : Refusal) → AreTelling call → LeavesStore call → Each IsUnfailed call → IsRefusedAtEntry call refusal
+  pub ends-refused : (refusal : Refusal) → AreTelling call → LeavesStore call → BothDevices IsUnfailed call → IsRefusedAtEntry call refusal
       → (CanPlay call drive.log_only script → ⊥) → EndsWith call command (outcome.Fault (fault.Store refusal))
   ends-refused refusal tells left unfailed refused wrong = ends-with (outcome.Fault (fault.Store refusal)) tells left
       (its.past, its.unfailed unfailed, its.refused refusal refused) (λ can unfailed. absurd (wrong can))
 
   -- WHAT A RUN LEAVES, or none
-  pub left-read : (run : Option Ran) → Each IsInRun call
+  pub left-read : (run : Option Ran) → BothDevices IsInRun call
       → ((store : Opened) → WhereOpened call store (IfSome run (IsRun script store))) → AreLeftRead call script run → AreOfRun call command
   left-read run armed legal reads = record {
     script = script;
@@ -231,7 +231,7 @@ module _ (call : Call) (command : Command) (drive : Drive) (script : List Script
   }
 
   module _ {stops : Stops} {run : Option Ran} {end : RunEnd} (is : IsLeftBy call command drive stops script run end) where
-    pub left-by : LeavesRun call command
+    pub left-by : LeavesFailedRun call command
     left-by runs = inr (left-read run (in-run is.armed) (legal-on call command drive is.opened script run end _ _ laws is.ran) is.reads)
 
     pub ends-left : (o : Outcome) → IsOutcome call command o
@@ -258,15 +258,15 @@ module _ (call : Call) (command : Command) (drive : Drive) (script : List Script
       (λ can unfailed. (its.runs, in-threads command drive running.asked ∙ spends is.opened script run turns user _ _ is.ran.driven))
 
 -- A COMMAND THAT ISN'T `crash` ends with the fault of a device that failed since its fuse was armed.
-pub record IsUncrashing (call : Call) (command : Command) : Type 0 where
+pub record IsUncrashing (call : LabCall) (command : Command) : Type 0 where
   pub fails : (device : Guarded) → HasRisen device.entry.faults device.now.faults → 0 < device.fuse.mid → IsDeviceFault command device
-  pub unfailed : AreUnfailedFor command call → Each IsUnfailed call
+  pub unfailed : AreUnfailedFor command call → BothDevices IsUnfailed call
   pub unbegun : IsOpenedFirst call call.log.now.tells None × AreLeftRead call [] None → IsUnbegun call command
 
-pub uncrashing-run : (call : Call) (drive : Drive) → IsUncrashing call (Run drive)
+pub uncrashing-run : (call : LabCall) (drive : Drive) → IsUncrashing call (Run drive)
 uncrashing-run call drive = record { fails = λ device risen some. (risen, omega (arith, some)); unfailed = λ none. none; unbegun = λ first. inr first }
 
-pub uncrashing-gen : (call : Call) (seed users groups max : ℕ) → IsUncrashing call (Gen seed users groups true max)
+pub uncrashing-gen : (call : LabCall) (seed users groups max : ℕ) → IsUncrashing call (Gen seed users groups true max)
 uncrashing-gen call seed users groups max = record { fails = λ device risen some. (risen, omega (arith, some)); unfailed = λ none. none; unbegun = λ first. tt }
 
 -- the devices of such a command aren't stopped
@@ -274,8 +274,8 @@ abbrev pub no_stops : Stops
 no_stops = record { log = None; store = None }
 
 -- its fault, of what the call left
-pub ends-failed : (call : Call) (command : Command) (drive : Drive) (script : List ScriptLine) {run : Option Ran} {end : RunEnd}
-    → IsRunning call.source call.source_now command drive script → Laws → IsUncrashing call command → (f : Fault)
+pub ends-failed : (call : LabCall) (command : Command) (drive : Drive) (script : List ScriptLine) {run : Option Ran} {end : RunEnd}
+    → CommandRuns call.source call.source_now command drive script → Laws → IsUncrashing call command → (f : Fault)
     → IsLeftBy call command drive no_stops script run end → IsUnbegun call command → HasFailed call f → EndsWith call command (outcome.Fault f)
 ends-failed call command drive script running laws uncrashing fault.LogDevice is unbegun some =
     let its = runs-script call command drive script running in

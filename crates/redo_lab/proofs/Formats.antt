@@ -13,7 +13,7 @@ use Rattle.model_script.specs.declared.asked.Command.TheVariants.{Format}
 use Rattle.model_store.specs.{IsOrderly}
 use Rattle.model_store.specs.declared.refusal.Refusal.{Refusal}
 use Rattle.model_store.specs.declared.refusal.Refusal.TheVariants as refusal
-use Rattle.redo_disk.specs.{Call as DeviceCall, EndWith, failures, MakesCalls}
+use Rattle.redo_disk.specs.{Call, EndWith, failures, MakesCalls}
 use Rattle.redo_disk.specs.Seen.{Seen}
 use Rattle.redo_disk.specs.declared.error.DevError.{DevError}
 use Rattle.redo_disk.proofs.Calls.{MayEndWith-ends}
@@ -29,8 +29,8 @@ use Rattle.redo_lab.proofs.Alone.{IsLeftAlone, tells-alone, unfailed-alone, unwr
 use Rattle.redo_lab.proofs.Ends.{AreTelling}
 use Rattle.redo_lab.proofs.Fuses.{unarmed-calls}
 use Rattle.redo_lab.proofs.Told.{both-told}
-use Rattle.redo_lab.specs.Answer.{shape_of}
-use Rattle.redo_lab.specs.Call.{Call, Each, Guarded, IsUnfailed, guarded}
+use Rattle.redo_lab.specs.Answer.{asked_shape}
+use Rattle.redo_lab.specs.Call.{BothDevices, Guarded, IsUnfailed, LabCall, guarded}
 use Rattle.redo_lab.specs.Cause.{AreLongEnough, IsPastSource}
 use Rattle.redo_lab.specs.Devices.{IsUnarmed}
 use Rattle.redo_lab.specs.Laws.{Laws}
@@ -38,7 +38,7 @@ use Rattle.redo_lab.specs.Runs.{fault_of, outcome_of}
 use Rattle.redo_lab.specs.Store.{AreBlank, IsTooShort}
 use Rattle.redo_lab.specs.Ending.{EndsWith, IsDoneOrKeptFrom, IsOutcome}
 
-pub unarmed-ends : {D : Type 0} {seen : D → Seen} {gives : D → DeviceCall → D → Type 0} {device : D} {old new : Fused D} {error : Option DevError}
+pub unarmed-ends : {D : Type 0} {seen : D → Seen} {gives : D → Call → D → Type 0} {device : D} {old new : Fused D} {error : Option DevError}
     → IsUnarmed 0 (guarded seen device old) → MakesCalls (CallsThrough seen gives) old new (EndWith error) → IsUnarmed (failures error) (guarded seen device new)
 unarmed-ends {error = error} was made = unarmed-calls was (weaker_calls (MayEndWith-ends error) made)
 
@@ -58,7 +58,7 @@ same-short : (shape : Shape) (cause : Refusal) (log store : Guarded) → BothUna
 same-short shape cause log store was short = subst (λ size. IsTooShort shape log.entry.size size cause) was.1.same.size
     (subst (λ size. IsTooShort shape size store.now.size cause) was.0.same.size short)
 
-module _ {L D : Type 0} (log_seen : L → Seen) (log_gives : L → DeviceCall → L → Type 0) (data_seen : D → Seen) (data_gives : D → DeviceCall → D → Type 0)
+module _ {L D : Type 0} (log_seen : L → Seen) (log_gives : L → Call → L → Type 0) (data_seen : D → Seen) (data_gives : D → Call → D → Type 0)
     (log : L) (store : D) {log_old log_new : Fused L} {data_old data_new : Fused D} (was : BothUnarmed (guarded log_seen log log_old) (guarded data_seen store data_old) 0 0) where
   pub formats-both : (done : Unit {0}) → FormatCalls (CallsThrough log_seen log_gives) (CallsThrough data_seen data_gives) log_old log_new data_old data_new (Ok done)
       → BothUnarmed (guarded log_seen log log_new) (guarded data_seen store data_new) 0 0
@@ -88,18 +88,18 @@ module _ {L D : Type 0} (log_seen : L → Seen) (log_gives : L → DeviceCall �
   format-fails to (PageAhead p lsn) calls cause = absurd cause
 
 -- THE COMMAND.
-module _ (call : Call) (pages space log_blocks : ℕ) (unread : call.source_now ≡ call.source) where
+module _ (call : LabCall) (pages space log_blocks : ℕ) (unread : call.source_now ≡ call.source) where
   abbrev asked : Command
   asked = Format pages space log_blocks
 
   abbrev shape : Shape
-  shape = shape_of pages space log_blocks
+  shape = asked_shape pages space log_blocks
 
   abbrev Since : ℕ → ℕ → Type 0
   Since log_failed data_failed = IsUnarmed log_failed call.log × IsUnarmed data_failed call.store
 
   format-end : (o : Outcome) → AreTelling call → IsOutcome call asked o
-      → (AreLongEnough shape call.log.entry.size call.store.entry.size → Each IsUnfailed call → IsDoneOrKeptFrom asked o) → EndsWith call asked o
+      → (AreLongEnough shape call.log.entry.size call.store.entry.size → BothDevices IsUnfailed call → IsDoneOrKeptFrom asked o) → EndsWith call asked o
   format-end o tells means complete = record {
     means = means;
     unread = λ plain. unread;
@@ -136,7 +136,7 @@ module _ (call : Call) (pages space log_blocks : ℕ) (unread : call.source_now 
   not-long (refusal.SmallData n) short long = absurd (omega (arith, long.data_long, short.1))
   not-long cause short long = absurd short
 
-  pub format-to : {Same : Type 0} → (Same → Each IsLeftAlone call)
+  pub format-to : {Same : Type 0} → (Same → BothDevices IsLeftAlone call)
       → FormatsTo shape call.log.entry.size call.store.entry.size Same Since (λ f. EndsWith call asked (outcome.Fault f))
   format-to alone = record {
     short = λ cause short same. format-end (outcome.Fault (fault.Store cause)) (tells-alone call (alone same))

@@ -1,6 +1,7 @@
 -- The store that two devices open: as they were handed in, and as the arming of their fuses found them.
 use Rattle.std.proofs.Common.{ℕ, ◌≡◌, ◌≢◌, ◌<◌, ◌+◌, cond, List, Option, Some, None, refl, sym, ap, subst, ◌∙◌, inl, ⊎_elim, arith}
-use Rattle.model_base.specs.{default_shape, IsWithinLimits}
+use Rattle.model_base.proofs.ShapeLimits.{default_within}
+use Rattle.model_base.specs.{default_shape}
 use Rattle.model_base.specs.declared.shape.Shape.{Shape}
 use Rattle.model_device.specs.Disk.{Disk}
 use Rattle.model_log.specs.{fits_checksum, head_among, head_of, header_block, layout_of, newest_checkpoint, read_head}
@@ -14,24 +15,13 @@ use Rattle.model_script.specs.declared.script.ScriptLine.{ScriptLine}
 use Rattle.model_store.specs.{IsFair, IsFairLog, IsReading, IsUnused, Opens, OpensOrderly}
 use Rattle.model_store.specs.Reading.{Reading}
 use Rattle.model_store.specs.declared.refusal.Refusal.TheVariants.{NotFormatted}
-use Rattle.model_theorem.specs.{AreUnopened, HasCheckpoint, HeldOlder, IsFresh, IsOpenedBefore, Opened, opened_as, ReadsPrefix}
+use Rattle.model_theorem.specs.{AreUnopened, HasCheckpoint, HeldOlder, IsOpenedBefore, IsSettledAtEntry, Opened, opened_as, ReadsPrefix}
 use Rattle.redo_open.specs.{IsNotOpened}
 use Rattle.redo_lab.specs.declared.playing.Stops.{Stops}
-use Rattle.redo_lab.specs.Call.{Call, WhereOpened}
+use Rattle.redo_lab.specs.Call.{LabCall, WhereOpened}
 use Rattle.redo_lab.specs.Devices.{AreArmed, ArePrepared}
 use Rattle.redo_lab.specs.Laws.{Laws}
-use Rattle.redo_lab.specs.Store.{IsOpenedAs}
-
-pub default-within : IsWithinLimits default_shape
-default-within = record {
-  page_size = refl;
-  some_pages = omega arith;
-  few_pages = omega arith;
-  space = omega arith;
-  many_blocks = omega arith;
-  few_blocks = omega arith;
-  slots = refl;
-}
+use Rattle.redo_lab.specs.Store.{DevicesOpenAs}
 
 -- a device that told goes on telling
 pub told-still : (old new : Option Disk) (disk : Disk) → (old ≢ None → new ≢ None) → old ≡ Some disk → (now : Disk) × (new ≡ Some now)
@@ -54,10 +44,10 @@ unused-unread laws log data_bytes reading unused is_read =
     laws.one_answer log data_bytes reading NotFormatted is_read
     (is_read.scan.devices.head.long, zeros-unformatted (header_block 0 log) (header_block 2 log) unused.first unused.second)
 
-at-rest : (disk : Disk) (faults : ℕ) → IsFresh disk faults → IsAtRest disk
+at-rest : (disk : Disk) (faults : ℕ) → IsSettledAtEntry disk faults → IsAtRest disk
 at-rest disk faults fresh = record { one_image = fresh.one_image; reads = fresh.valid.reads; sectors = fresh.valid.writes }
 
-pub openable-fresh : (log data_disk : Disk) (log_faults data_faults : ℕ) (opened : Opened) → IsFresh log log_faults → IsFresh data_disk data_faults
+pub openable-fresh : (log data_disk : Disk) (log_faults data_faults : ℕ) (opened : Opened) → IsSettledAtEntry log log_faults → IsSettledAtEntry data_disk data_faults
     → (opens : OpensOrderly log.reads data_disk.reads opened.shape opened.pages opened.end) → IsOpenable opens.reading log data_disk
 openable-fresh log data_disk log_faults data_faults opened log_fresh data_fresh opens = record {
   log_rests = at-rest log log_faults log_fresh;
@@ -73,7 +63,7 @@ same-opened a b shape pages end =
     ∙ ap (λ (n : ℕ). record b { end = n }) end
 
 -- WHAT IS OPENED is determined.
-pub one-opened : Laws → (log data_disk : Disk) (a b : Opened) → IsOpenedAs a log data_disk → Opens log.reads data_disk.reads b.shape b.pages b.end → a ≡ b
+pub one-opened : Laws → (log data_disk : Disk) (a b : Opened) → DevicesOpenAs a log data_disk → Opens log.reads data_disk.reads b.shape b.pages b.end → a ≡ b
 one-opened laws log data_disk a b opens_a opens_b = ⊎_elim
     (λ unused_a. ⊎_elim
     (λ unused_b. same-opened a b (unused_a.shape_is ∙ sym unused_b.shape_is) (unused_a.pages_are ∙ sym unused_b.pages_are) (unused_a.end_is ∙ sym unused_b.end_is))
@@ -91,12 +81,12 @@ one-opened laws log data_disk a b opens_a opens_b = ⊎_elim
     opens_a
 
 -- BEFORE OPENING both devices were as they were handed in, or as formatting leaves them.
-pub unopened-as : (call : Call) (log data_disk log_armed data_armed : Disk) → Laws → ArePrepared call → call.log.entry.tells ≡ Some log → call.store.entry.tells ≡ Some data_disk
+pub unopened-as : (call : LabCall) (log data_disk log_armed data_armed : Disk) → Laws → ArePrepared call → call.log.entry.tells ≡ Some log → call.store.entry.tells ≡ Some data_disk
     → call.log.armed_from ≡ Some log_armed → call.store.armed_from ≡ Some data_armed → AreUnopened log data_disk log_armed data_armed
 unopened-as call log data_disk log_armed data_armed laws prepared log_is data_is log_armed_is data_armed_is = record {
   unused = λ unused. ⊎_elim
       (λ formatted.
-      let openable = laws.formatted default_shape log_armed data_armed default-within (formatted.formatted log_armed data_armed log_armed_is data_armed_is) in
+      let openable = laws.formatted default_shape log_armed data_armed default_within (formatted.formatted log_armed data_armed log_armed_is data_armed_is) in
       record { log_rests = openable.log_rests.one_image; data_rests = openable.data_rests.one_image; orderly = openable.orderly })
       (λ in_use. absurd (in_use.used log data_disk log_is data_is unused))
       prepared.which;
@@ -111,7 +101,7 @@ unopened-as call log data_disk log_armed data_armed laws prepared log_is data_is
 }
 
 -- THE STORE WAS FOUND so when the fuses were armed.
-pub record WasFound (call : Call) (opened : Opened) : Type 0 where
+pub record WasFound (call : LabCall) (opened : Opened) : Type 0 where
   pub reading : Reading
   pub same : opened ≡ opened_as reading
   pub log : Disk
@@ -120,7 +110,7 @@ pub record WasFound (call : Call) (opened : Opened) : Type 0 where
   pub data_is : call.store.armed_from ≡ Some data_disk
   pub openable : IsOpenable reading log data_disk
 
-pub was-found : (call : Call) → Laws → ArePrepared call
+pub was-found : (call : LabCall) → Laws → ArePrepared call
     → (call.log.entry.tells ≢ None → call.log.armed_from ≢ None) → (call.store.entry.tells ≢ None → call.store.armed_from ≢ None)
     → (opened : Opened) → WhereOpened call opened (WasFound call opened)
 was-found call laws prepared log_tells data_tells opened log data_disk log_is data_is log_fresh data_fresh opens =
@@ -135,7 +125,7 @@ was-found call laws prepared log_tells data_tells opened log data_disk log_is da
       data_disk = data_told.0;
       log_is = log_told.1;
       data_is = data_told.1;
-      openable = laws.formatted default_shape log_told.0 data_told.0 default-within (formatted.formatted log_told.0 data_told.0 log_told.1 data_told.1);
+      openable = laws.formatted default_shape log_told.0 data_told.0 default_within (formatted.formatted log_told.0 data_told.0 log_told.1 data_told.1);
     })
     (λ in_use. absurd (in_use.used log data_disk log_is data_is unused.unused))
     prepared.which)
@@ -153,7 +143,7 @@ was-found call laws prepared log_tells data_tells opened log data_disk log_is da
     prepared.which)
     opens
 
-pub found-armed : (call : Call) {stops : Stops} → Laws → AreArmed call stops → (opened : Opened) → WhereOpened call opened (WasFound call opened)
+pub found-armed : (call : LabCall) {stops : Stops} → Laws → AreArmed call stops → (opened : Opened) → WhereOpened call opened (WasFound call opened)
 found-armed call laws armed opened = was-found call laws armed.prepared armed.log_device.told armed.data_device.told opened
 
 -- THE CHECKPOINT THAT WAS FOUND: what stood there at the last good sync is an image.

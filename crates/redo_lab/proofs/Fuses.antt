@@ -4,7 +4,7 @@ use Rattle.std.proofs.lemmas.Bool.{false≢true}
 use Rattle.std.specs.Option.{option_and_then}
 use Rattle.model_base.specs.{HasRisen}
 use Rattle.model_theorem.specs.{HasPassedAll}
-use Rattle.redo_io.specs.{next_count, next_count_if}
+use Rattle.redo_io.specs.{next_count_if, saturating_next}
 use Rattle.redo_disk.specs.{Call, changing_calls, failed_calls, failures, Makes, MakesCalls, MayEndWith, Reads, ReadsMayEndWith, Syncs, Writes}
 use Rattle.redo_disk.specs.Seen.{Seen}
 use Rattle.redo_disk.specs.declared.error.DevError.{DevError}
@@ -47,11 +47,11 @@ before fuse = record fuse { stage = Before }
 passed-before : (calls : List Call) (fuse : Fuse) → (after_calls (before fuse) calls).passed ≡ fuse.passed
 passed-before [] fuse = refl
 passed-before (Reads at old answer new ∷ calls) fuse =
-    passed-before calls (record fuse { early_calls = next_count fuse.early_calls; early = next_count_if (is_failed answer) fuse.early })
+    passed-before calls (record fuse { early_calls = saturating_next fuse.early_calls; early = next_count_if (is_failed answer) fuse.early })
 passed-before (Writes write answer ∷ calls) fuse =
-    passed-before calls (record fuse { changes = next_count fuse.changes; early_calls = next_count fuse.early_calls; early = next_count_if (is_failed answer) fuse.early })
+    passed-before calls (record fuse { changes = saturating_next fuse.changes; early_calls = saturating_next fuse.early_calls; early = next_count_if (is_failed answer) fuse.early })
 passed-before (Syncs answer ∷ calls) fuse =
-    passed-before calls (record fuse { changes = next_count fuse.changes; early_calls = next_count fuse.early_calls; early = next_count_if (is_failed answer) fuse.early })
+    passed-before calls (record fuse { changes = saturating_next fuse.changes; early_calls = saturating_next fuse.early_calls; early = next_count_if (is_failed answer) fuse.early })
 
 passed-unarmed : (calls : List Call) (fuse : Fuse) → fuse.stage ≡ Before → (after_calls fuse calls).passed ≡ fuse.passed
 passed-unarmed calls fuse is = ap (λ stage. (after_calls (record fuse { stage = stage }) calls).passed) is ∙ passed-before calls fuse
@@ -99,9 +99,9 @@ passed-behind : (calls : List Call) (fuse : Fuse) → (after_calls (crashed fuse
 passed-behind [] fuse = refl
 passed-behind (Reads at old answer new ∷ calls) fuse = passed-behind calls (record fuse { late = next_count_if (is_failed answer) fuse.late })
 passed-behind (Writes write answer ∷ calls) fuse =
-    passed-behind calls (record fuse { changes = next_count fuse.changes; late_changes = next_count fuse.late_changes; late = next_count_if (is_failed answer) fuse.late })
+    passed-behind calls (record fuse { changes = saturating_next fuse.changes; late_changes = saturating_next fuse.late_changes; late = next_count_if (is_failed answer) fuse.late })
 passed-behind (Syncs answer ∷ calls) fuse =
-    passed-behind calls (record fuse { changes = next_count fuse.changes; late_changes = next_count fuse.late_changes; late = next_count_if (is_failed answer) fuse.late })
+    passed-behind calls (record fuse { changes = saturating_next fuse.changes; late_changes = saturating_next fuse.late_changes; late = next_count_if (is_failed answer) fuse.late })
 
 pub after-crashed : {D : Type 0} (seen : D → Seen) (gives : D → Call → D → Type 0) (old new : Fused D) (calls : List Call) → old.fuse.stage ≡ Crashed
     → Makes (CallsThrough seen gives) old calls new → new.fuse.passed ≡ old.fuse.passed

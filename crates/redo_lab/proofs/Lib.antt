@@ -18,6 +18,7 @@ pub mod Prepared
 pub mod Printed
 pub mod Rereading
 pub mod RunEnds
+pub mod Sizes
 pub mod SomeLeft
 pub mod Telling
 pub mod Told

@@ -1,5 +1,5 @@
 -- A store that was opened, or wasn't, on two devices whose fuses are armed.
-use Rattle.std.proofs.Common.{ℕ, ◌≡◌, ◌≢◌, ◌≤◌, ◌<◌, ◌+◌, List, length, Option, Some, None, IfSome, refl, sym, subst, ◌∙◌, arith}
+use Rattle.std.proofs.Common.{ℕ, ◌≡◌, ◌≢◌, ◌≤◌, ◌<◌, ◌+◌, List, length, Option, Some, None, Ok, Err, IfSome, refl, sym, subst, ◌∙◌, arith}
 use Rattle.model_base.specs.{default_shape}
 use Rattle.model_device.specs.Disk.{Disk}
 use Rattle.model_log.specs.declared.layout.TheConstants.{HEADER_BYTES}
@@ -15,7 +15,7 @@ use Rattle.model_store.specs.Reading.{Reading}
 use Rattle.model_store.specs.declared.refusal.Refusal.{Refusal}
 use Rattle.model_store.specs.declared.refusal.Refusal.TheVariants as refusal
 use Rattle.model_theorem.specs.{opened_as}
-use Rattle.redo_disk.specs.{Call as DeviceCall, failures, MakesCalls, MayEndWith}
+use Rattle.redo_disk.specs.{Call, failures, MakesCalls, MayEndWith}
 use Rattle.redo_disk.specs.Seen.{Seen}
 use Rattle.redo_disk.specs.declared.error.DevError.{DevError}
 use Rattle.redo_disk.proofs.Made.{weaker_calls}
@@ -25,7 +25,8 @@ use Rattle.redo_io.specs.{SourceSeen}
 use Rattle.redo_memdisk.proofs.Behind.{counts-calls}
 use Rattle.redo_memdisk.specs.{CallsThrough, seen_through, while_stopping}
 use Rattle.redo_memdisk.specs.declared.fused.Fused.{Fused}
-use Rattle.redo_open.specs.{HasFaultCause, IsNotOpened, IsOpenedReady, IsOpeningOf, OpensLog, WhereBothTell}
+use Rattle.redo_open.specs.{HasFaultCause, IsNotOpened, IsOpenedReady, IsOpeningOf, OpensLog, OpensSafely, WhereBothTell}
+use Rattle.redo_open.specs.Opening.{OpenResult, data_device_left, log_device_left}
 use Rattle.redo_store.specs.{IsRunnable}
 use Rattle.redo_store.specs.declared.opened.Opened as store
 use Rattle.redo_recover.specs.{data_error, log_error, OnContents}
@@ -37,15 +38,15 @@ use Rattle.redo_lab.proofs.Fuses.{armed-calls}
 use Rattle.redo_lab.proofs.Opening.{HasEnd, has-end, opened-reads, opened_at, opens-as, refused-at, refused-kept, stopped-first, unplayed-memory, unplayed-misfit, unplayed-refused}
 use Rattle.redo_lab.proofs.Rereading.{armed-as, prepared-later, was_of}
 use Rattle.redo_lab.proofs.Told.{both-told, weaker-both}
-use Rattle.redo_lab.specs.Call.{Call}
+use Rattle.redo_lab.specs.Call.{LabCall}
 use Rattle.redo_lab.specs.Devices.{AreArmed, AreAsArmed}
 use Rattle.redo_lab.specs.Handed.{call_on}
 use Rattle.redo_lab.specs.Laws.{Laws}
-use Rattle.redo_lab.specs.Runs.{ComesTo, IsLeftBy, IsRunning, StandsReady, unopened}
+use Rattle.redo_lab.specs.Runs.{ComesTo, CommandRuns, IsLeftBy, StandsReady, unopened}
 use Rattle.redo_lab.specs.Ending.{EndsWith}
 
 -- CALLS OF BOTH DEVICES since their fuses were armed
-pub armed-after : {L D : Type 0} {log_seen : L → Seen} {log_gives : L → DeviceCall → L → Type 0} {data_seen : D → Seen} {data_gives : D → DeviceCall → D → Type 0}
+pub armed-after : {L D : Type 0} {log_seen : L → Seen} {log_gives : L → Call → L → Type 0} {data_seen : D → Seen} {data_gives : D → Call → D → Type 0}
     (words : List (List ℕ)) (source source_now : SourceSeen) (log : L) (data_device : D) {stops : Stops} {log_old log_new : Fused L} {data_old data_new : Fused D} {log_error data_error : Option DevError}
     → AreArmed (call_on log_seen log_gives data_seen data_gives words source source_now log data_device log_old data_old) stops
     → log_old.fuse.mid ≡ 0 → data_old.fuse.mid ≡ 0
@@ -59,7 +60,7 @@ armed-after {log_seen = log_seen} {log_gives = log_gives} {data_seen = data_seen
 }
 
 -- THE DEVICES AFTER OPENING, of whose calls so many failed, and which told this when their fuses were armed
-pub record IsOpening (log_failed data_failed : ℕ) (log_met data_met : Option Disk) (call : Call) (stops : Stops) : Type 0 where
+pub record IsOpening (log_failed data_failed : ℕ) (log_met data_met : Option Disk) (call : LabCall) (stops : Stops) : Type 0 where
   pub armed : AreArmed call stops
   pub counted : 0 < call.log.fuse.passed + call.log.fuse.mid
   pub log_mid : call.log.fuse.mid ≡ log_failed
@@ -67,7 +68,7 @@ pub record IsOpening (log_failed data_failed : ℕ) (log_met data_met : Option D
   pub log_as : call.log.armed_from ≡ log_met
   pub data_as : call.store.armed_from ≡ data_met
 
-pub is-opening : {L D : Type 0} {log_seen : L → Seen} {log_gives : L → DeviceCall → L → Type 0} {data_seen : D → Seen} {data_gives : D → DeviceCall → D → Type 0}
+pub is-opening : {L D : Type 0} {log_seen : L → Seen} {log_gives : L → Call → L → Type 0} {data_seen : D → Seen} {data_gives : D → Call → D → Type 0}
     (words : List (List ℕ)) (source source_now : SourceSeen) (log : L) (data_device : D) {stops : Stops} {log_old log_new : Fused L} {data_old data_new : Fused D} {log_error data_error : Option DevError}
     → AreArmed (call_on log_seen log_gives data_seen data_gives words source source_now log data_device log_old data_old) stops
     → AreAsArmed (call_on log_seen log_gives data_seen data_gives words source source_now log data_device log_old data_old)
@@ -89,9 +90,35 @@ is-opening {log_seen = log_seen} {log_gives = log_gives} words source source_now
       data_as = (armed-as data_device was.data_device.stage_is data_made).told ∙ none.1.1;
     }
 
+-- WHAT OPENING SAYS of each store that it may have found
+module _ {L D : Type 0} (log_seen : L → Seen) (data_seen : D → Seen) (log data_told : Option Disk) where
+  pub opens-keeps : (result : OpenResult L D)
+      → ((reading : Reading) → WhereBothTell log data_told (λ log_disk data_disk. IsOpenable reading log_disk data_disk → OpensSafely log_seen data_seen reading result))
+      → (reading : Reading) → WhereBothTell log data_told (λ log_disk data_disk. IsOpenable reading log_disk data_disk
+      → WhereBothTell (log_seen (log_device_left result)).tells (data_seen (data_device_left result)).tells (KeepsOpened reading))
+  opens-keeps result safely reading = weaker-both {Q = λ log_disk data_disk. IsOpenable reading log_disk data_disk
+      → WhereBothTell (log_seen (log_device_left result)).tells (data_seen (data_device_left result)).tells (KeepsOpened reading)} log data_told
+      (λ log_disk data_disk opens openable. (opens openable).keeps) (safely reading)
+
+  pub opens-unmoved : (error : RecFault × L × D)
+      → ((reading : Reading) → WhereBothTell log data_told (λ log_disk data_disk. IsOpenable reading log_disk data_disk → OpensSafely log_seen data_seen reading (Err error)))
+      → (reading : Reading) → WhereBothTell log data_told (λ log_disk data_disk. IsOpenable reading log_disk data_disk
+      → error.0 ≢ NoMemory → IfSome (log_seen error.1).tells (IsNotOpened reading))
+  opens-unmoved error safely reading = weaker-both {Q = λ log_disk data_disk. IsOpenable reading log_disk data_disk
+      → error.0 ≢ NoMemory → IfSome (log_seen error.1).tells (IsNotOpened reading)} log data_told
+      (λ log_disk data_disk opens openable. (opens openable).unmoved) (safely reading)
+
+  pub opens-ready : (given : store.Opened L D)
+      → ((reading : Reading) → WhereBothTell log data_told (λ log_disk data_disk. IsOpenable reading log_disk data_disk → OpensSafely log_seen data_seen reading (Ok given)))
+      → (reading : Reading) → WhereBothTell log data_told (λ log_disk data_disk. IsOpenable reading log_disk data_disk
+      → IsOpenedReady log_seen data_seen reading given)
+  opens-ready given safely reading = weaker-both {Q = λ log_disk data_disk. IsOpenable reading log_disk data_disk
+      → IsOpenedReady log_seen data_seen reading given} log data_told
+      (λ log_disk data_disk opens openable. (opens openable).ready) (safely reading)
+
 -- WHAT A RUN COMES TO whose store wasn't opened
-module _ (call : Call) (command : Command) (drive : Drive) (stops : Stops) (script : List ScriptLine)
-    (running : IsRunning call.source call.source_now command drive script) (laws : Laws) (log data_device : Seen)
+module _ (call : LabCall) (command : Command) (drive : Drive) (stops : Stops) (script : List ScriptLine)
+    (running : CommandRuns call.source call.source_now command drive script) (laws : Laws) (log data_device : Seen)
     (keeps : (reading : Reading) → WhereBothTell log.tells data_device.tells (λ log_disk data_disk. IsOpenable reading log_disk data_disk
     → WhereBothTell call.log.now.tells call.store.now.tells (KeepsOpened reading))) where
   -- a device failed
@@ -147,8 +174,8 @@ module _ (call : Call) (command : Command) (drive : Drive) (stops : Stops) (scri
   unopened-comes (PageAhead p lsn) log_after data_after log_is data_is is unmoved has = refused-by (PageAhead p lsn) (refusal.PageAhead p lsn) log_after data_after log_is data_is is has has.refused
 
 -- A STORE THAT WAS OPENED on both
-module _ {L D : Type 0} (log_seen : L → Seen) (data_seen : D → Seen) (call : Call) (command : Command) (drive : Drive) (stops : Stops) (script : List ScriptLine)
-    (running : IsRunning call.source call.source_now command drive script) (laws : Laws) (log data_told : Option Disk) (given : store.Opened (Fused L) (Fused D))
+module _ {L D : Type 0} (log_seen : L → Seen) (data_seen : D → Seen) (call : LabCall) (command : Command) (drive : Drive) (stops : Stops) (script : List ScriptLine)
+    (running : CommandRuns call.source call.source_now command drive script) (laws : Laws) (log data_told : Option Disk) (given : store.Opened (Fused L) (Fused D))
     (is : IsOpening 0 0 log data_told call stops)
     (keeps : (reading : Reading) → WhereBothTell log data_told (λ log_disk data_disk. IsOpenable reading log_disk data_disk
     → WhereBothTell call.log.now.tells call.store.now.tells (KeepsOpened reading)))

@@ -1,6 +1,7 @@
 -- Two devices from the arming of their fuses on, while a store is opened on them.
 use Rattle.std.proofs.Common.{ℕ, ◌≡◌, ◌+◌, ◌⊎◌, cond, List, Option, Some, None, IfSome, sym, ap, subst, ◌∙◌, inl, inr, ⊎_elim}
 use Rattle.std.proofs.lemmas.Bool.{eq-eqb}
+use Rattle.model_base.proofs.ShapeLimits.{default_within}
 use Rattle.model_base.specs.{default_shape}
 use Rattle.model_base.specs.declared.limits.TheConstants.{BLOCK_SIZE}
 use Rattle.model_device.specs.Disk.{Disk}
@@ -24,14 +25,14 @@ use Rattle.redo_recover.specs.{OnContents}
 use Rattle.redo_lab.specs.declared.outcome.Outcome.TheVariants as outcome
 use Rattle.redo_lab.specs.declared.playing.Stops.{Stops}
 use Rattle.redo_lab.proofs.Ends.{ends-refused, ends-with, in-run, leaves-read, left-read, tells-armed, unfailed-armed}
-use Rattle.redo_lab.proofs.Found.{default-within, found-armed, one-opened, prefix-opened, stopped-before, told-still}
+use Rattle.redo_lab.proofs.Found.{found-armed, one-opened, prefix-opened, stopped-before, told-still}
 use Rattle.redo_lab.proofs.Told.{both-told, on-contents}
-use Rattle.redo_lab.specs.Call.{AreKept, Call, WhereToldAtEntry}
+use Rattle.redo_lab.specs.Call.{HaveSameContents, LabCall, WhereToldAtEntry}
 use Rattle.redo_lab.specs.Cause.{CanPlay}
 use Rattle.redo_lab.specs.Devices.{AreArmed}
 use Rattle.redo_lab.specs.Laws.{Laws}
-use Rattle.redo_lab.specs.Runs.{IsRunning}
-use Rattle.redo_lab.specs.Store.{AreReadAsPrefix, AreRefused, IsOpenedAs}
+use Rattle.redo_lab.specs.Runs.{CommandRuns}
+use Rattle.redo_lab.specs.Store.{AreReadAsPrefix, AreRefused, DevicesOpenAs}
 use Rattle.redo_lab.specs.Told.{AreLeftRead, IsOpenedFirst}
 use Rattle.redo_lab.specs.Ending.{EndsWith}
 
@@ -69,7 +70,7 @@ has-end (Some log) (Some data_told) given runnable read = record {
 }
 
 -- THE DEVICES AFTER THE CALLS OF OPENING, which met that they told this.
-module _ (call : Call) (stops : Stops) (armed : AreArmed call stops) (laws : Laws) (log_met data_met : Option Disk)
+module _ (call : LabCall) (stops : Stops) (armed : AreArmed call stops) (laws : Laws) (log_met data_met : Option Disk)
     (log_as : call.log.armed_from ≡ log_met) (data_as : call.store.armed_from ≡ data_met) where
   -- a store that could be opened when the fuses were armed is read as it was found
   pub opened-reads : ((reading : Reading) → WhereBothTell log_met data_met (λ log data_disk. IsOpenable reading log data_disk
@@ -106,7 +107,7 @@ module _ (call : Call) (stops : Stops) (armed : AreArmed call stops) (laws : Law
       (λ were. (
         log_told.0.reads,
         data_told.0.reads,
-        (laws.formatted default_shape log_told.0 data_told.0 default-within (were.formatted log_told.0 data_told.0 log_told.1 data_told.1)).orderly.reads,
+        (laws.formatted default_shape log_told.0 data_told.0 default_within (were.formatted log_told.0 data_told.0 log_told.1 data_told.1)).orderly.reads,
         there,
       ))
       (λ were. absurd (were.used log data_disk log_is data_is unused))
@@ -124,7 +125,7 @@ module _ (call : Call) (stops : Stops) (armed : AreArmed call stops) (laws : Law
   used-or-not log data_disk log_is data_is = ⊎_elim (λ were. inl (were.unused log data_disk log_is data_is)) (λ were. inr (were.used log data_disk log_is data_is)) armed.prepared.which
 
   -- WHAT WAS OPENED, as the two devices were handed in
-  pub opens-as : {L D : Type 0} (given : store.Opened L D) (ends : HasEnd log_met data_met given) → WhereToldAtEntry call (IsOpenedAs (opened_at given ends.end))
+  pub opens-as : {L D : Type 0} (given : store.Opened L D) (ends : HasEnd log_met data_met given) → WhereToldAtEntry call (DevicesOpenAs (opened_at given ends.end))
   opens-as given ends log data_disk log_is data_is = ⊎_elim
       (λ unused.
       let read = formatted-read log data_disk log_is data_is unused (IsReadOff given ends.end) ends.read in
@@ -162,7 +163,7 @@ module _ (call : Call) (stops : Stops) (armed : AreArmed call stops) (laws : Law
   -- and both devices mean what they meant
   pub refused-kept : (cause : Refusal) → OnContents log_met data_met (λ log_bytes data_bytes. Refuses log_bytes data_bytes cause)
       → OnContents log_met data_met (λ log_bytes data_bytes. Refuses log_bytes data_bytes cause
-      → (call.log.now.tells ≡ call.log.armed_from) × (call.store.now.tells ≡ call.store.armed_from)) → AreKept call
+      → (call.log.now.tells ≡ call.log.armed_from) × (call.store.now.tells ≡ call.store.armed_from)) → HaveSameContents call
   refused-kept cause refused keeps log data_disk log_is data_is =
       let at = refused-at cause refused log data_disk log_is data_is in
       let kept = used-read log data_disk log_is data_is at.0 (λ log_bytes data_bytes. Refuses log_bytes data_bytes cause
@@ -170,14 +171,14 @@ module _ (call : Call) (stops : Stops) (armed : AreArmed call stops) (laws : Law
       ⊎_elim (λ were. absurd (at.0 (were.unused log data_disk log_is data_is))) (λ were. (kept.0 ∙ were.kept.0, kept.1 ∙ were.kept.1)) armed.prepared.which
 
 -- WHAT A COMMAND COMES TO whose lines weren't run, where no call failed since the fuses were armed, and the store is read as it was found
-module _ (call : Call) (command : Command) (drive : Drive) (stops : Stops) (script : List ScriptLine)
-    (running : IsRunning call.source call.source_now command drive script) (laws : Laws) (armed : AreArmed call stops) (reads : AreLeftRead call script None) where
+module _ (call : LabCall) (command : Command) (drive : Drive) (stops : Stops) (script : List ScriptLine)
+    (running : CommandRuns call.source call.source_now command drive script) (laws : Laws) (armed : AreArmed call stops) (reads : AreLeftRead call script None) where
   pub unplayed-memory : EndsWith call command (outcome.Fault fault.Memory)
   unplayed-memory = ends-with call command drive script running laws (outcome.Fault fault.Memory) (tells-armed armed) (leaves-read call script None reads)
       (λ runs. inr (left-read call command drive script running laws None (in-run armed) (λ store log data_disk log_is data_is log_fresh data_fresh opens. tt) reads))
       (λ can unfailed. tt)
 
-  pub unplayed-misfit : (opened : Opened) (misfit : Misfit) → call.log.fuse.mid ≡ 0 → call.store.fuse.mid ≡ 0 → WhereToldAtEntry call (IsOpenedAs opened)
+  pub unplayed-misfit : (opened : Opened) (misfit : Misfit) → call.log.fuse.mid ≡ 0 → call.store.fuse.mid ≡ 0 → WhereToldAtEntry call (DevicesOpenAs opened)
       → first_misfit opened.shape (start_after opened.end) (room_of drive.log_only opened) script ≡ Some misfit → EndsWith call command (outcome.Fault (fault.Fit misfit))
   unplayed-misfit opened misfit log_none data_none opens first = ends-with call command drive script running laws (outcome.Fault (fault.Fit misfit)) (tells-armed armed)
       (leaves-read call script None reads)
@@ -205,7 +206,7 @@ module _ (call : Call) (command : Command) (drive : Drive) (stops : Stops) (scri
           cc
 
   pub unplayed-refused : (cause : Refusal) → call.log.fuse.mid ≡ 0 → call.store.fuse.mid ≡ 0
-      → WhereToldAtEntry call (λ log data_disk. (IsUnused log.reads → ⊥) × AreRefused cause log data_disk) → AreKept call
+      → WhereToldAtEntry call (λ log data_disk. (IsUnused log.reads → ⊥) × AreRefused cause log data_disk) → HaveSameContents call
       → EndsWith call command (outcome.Fault (fault.Store cause))
   unplayed-refused cause log_none data_none refused kept = ends-refused call command drive script running laws cause (tells-armed armed) (leaves-read call script None reads)
       (unfailed-armed armed log_none data_none)

@@ -10,7 +10,7 @@ use Rattle.model_script.specs.declared.asked.Command.{Command}
 use Rattle.model_script.specs.declared.asked.Command.TheVariants.{Recover, Dump}
 use Rattle.model_store.specs.Reading.{Reading}
 use Rattle.model_store.specs.declared.refusal.Refusal.{Refusal}
-use Rattle.redo_disk.specs.{Call as DeviceCall, failures, MakesCalls, ReadsMayEndWith}
+use Rattle.redo_disk.specs.{Call, failures, MakesCalls, ReadsMayEndWith}
 use Rattle.redo_disk.specs.Seen.{Seen}
 use Rattle.redo_disk.specs.declared.error.DevError.{DevError}
 use Rattle.redo_disk.proofs.Calls.{changing_calls-reads}
@@ -27,7 +27,7 @@ use Rattle.redo_lab.proofs.Rereading.{ReadsTo}
 use Rattle.redo_lab.proofs.Telling.{reads-keep}
 use Rattle.redo_lab.specs.Answer.{IsListing, IsReadOff}
 use Rattle.redo_lab.specs.Asked.{runs_script}
-use Rattle.redo_lab.specs.Call.{AreUnfailedFor, Call, Each, Guarded, IsUnfailed, IsUnwritten, WhereToldAtEntry, guarded}
+use Rattle.redo_lab.specs.Call.{AreUnfailedFor, BothDevices, Guarded, IsUnfailed, IsUnwritten, LabCall, WhereToldAtEntry, guarded}
 use Rattle.redo_lab.specs.Cause.{CanRead, IsDeviceFault, IsPastSource, IsPossible, IsUnbegun}
 use Rattle.redo_lab.specs.Devices.{IsUnarmed}
 use Rattle.redo_lab.specs.Laws.{Laws}
@@ -38,7 +38,7 @@ use Rattle.redo_lab.specs.Ending.{EndsWith, IsDoneOrKeptFrom, IsOutcome}
 abbrev pub IsOnlyRead : ℕ → Guarded → Type 0
 IsOnlyRead failed device = IsUnarmed failed device × IsUnwritten device
 
-pub only-read : {D : Type 0} {seen : D → Seen} {gives : D → DeviceCall → D → Type 0} {device : D} {old new : Fused D} {error : Option DevError}
+pub only-read : {D : Type 0} {seen : D → Seen} {gives : D → Call → D → Type 0} {device : D} {old new : Fused D} {error : Option DevError}
     → inner_of old ≡ device → fuse_of old ≡ fresh → MakesCalls (CallsThrough seen gives) old new (ReadsMayEndWith error)
     → IsOnlyRead (failures error) (guarded seen device new)
 only-read {seen = seen} {gives = gives} {device = device} {old = old} {new = new} inner fuse made =
@@ -51,18 +51,18 @@ only-read {seen = seen} {gives = gives} {device = device} {old = old} {new = new
     )
 
 -- a command that reads both devices, and what it says of them
-pub record ReadsOff (call : Call) (command : Command) (IsTextOf : Reading → List ℕ → Type 0) : Type 0 where
+pub record ReadsOff (call : LabCall) (command : Command) (IsTextOf : Reading → List ℕ → Type 0) : Type 0 where
   pub unread : call.source_now ≡ call.source
   pub past : IsPastSource call command
   pub runs : runs_script command ≡ true → ⊥
-  pub answer : (text : List ℕ) → Each IsUnfailed call → IsReadOff call IsTextOf text → IsOutcome call command (outcome.Text text)
+  pub answer : (text : List ℕ) → BothDevices IsUnfailed call → IsReadOff call IsTextOf text → IsOutcome call command (outcome.Text text)
   pub fails : (device : Guarded) → HasRisen device.entry.faults device.now.faults → 0 < device.fuse.early → IsDeviceFault command device
   pub unbegun : IsUnbegun call command
-  pub refused : (refusal : Refusal) → Each IsUnfailed call → WhereToldAtEntry call (AreRefused refusal) → IsOutcome call command (outcome.Fault (fault.Store refusal))
-  pub unfailed : AreUnfailedFor command call → Each IsUnfailed call
+  pub refused : (refusal : Refusal) → BothDevices IsUnfailed call → WhereToldAtEntry call (AreRefused refusal) → IsOutcome call command (outcome.Fault (fault.Store refusal))
+  pub unfailed : AreUnfailedFor command call → BothDevices IsUnfailed call
   pub reads : IsPossible call command → CanRead call
 
-pub recovers-off : (call : Call) (workers : ℕ) → call.source_now ≡ call.source → ReadsOff call (Recover workers) (λ reading text. text ≡ recover_text reading)
+pub recovers-off : (call : LabCall) (workers : ℕ) → call.source_now ≡ call.source → ReadsOff call (Recover workers) (λ reading text. text ≡ recover_text reading)
 recovers-off call workers unread = record {
   unread = unread;
   past = λ reads. absurd (false≢true reads);
@@ -75,7 +75,7 @@ recovers-off call workers unread = record {
   reads = λ possible. possible;
 }
 
-pub dumps-off : (call : Call) (why : Bool) → call.source_now ≡ call.source → ReadsOff call (Dump why) (IsListing call why)
+pub dumps-off : (call : LabCall) (why : Bool) → call.source_now ≡ call.source → ReadsOff call (Dump why) (IsListing call why)
 dumps-off call why unread = record {
   unread = unread;
   past = λ reads. absurd (false≢true reads);
@@ -89,7 +89,7 @@ dumps-off call why unread = record {
 }
 
 -- the listing that was made of what was recovered
-pub listed : {E : Type 0} (call : Call) (why : Bool) (reading : Reading) (stop : ℕ × Cause) (r : Result (List ℕ) E)
+pub listed : {E : Type 0} (call : LabCall) (why : Bool) (reading : Reading) (stop : ℕ × Cause) (r : Result (List ℕ) E)
     → OnContent call.log.entry.tells (IsStop (layout_of reading.format reading.shape) reading.ckpt reading.views stop)
     → IfOk r (λ text. text ≡ dump_text (if why then Some stop else None) reading) → IfOk r (IsListing call why reading)
 listed call why reading stop (Ok text) stops is = record {
@@ -99,15 +99,15 @@ listed call why reading stop (Ok text) stops is = record {
 }
 listed call why reading stop (Err error) stops is = tt
 
-module _ {call : Call} {command : Command} {IsTextOf : Reading → List ℕ → Type 0} (off : ReadsOff call command IsTextOf) (laws : Laws) where
+module _ {call : LabCall} {command : Command} {IsTextOf : Reading → List ℕ → Type 0} (off : ReadsOff call command IsTextOf) (laws : Laws) where
   abbrev Since : ℕ → ℕ → Type 0
   Since log_failed data_failed = IsOnlyRead log_failed call.log × IsOnlyRead data_failed call.store
 
-  unfailed-reads : Since 0 0 → Each IsUnfailed call
+  unfailed-reads : Since 0 0 → BothDevices IsUnfailed call
   unfailed-reads since = ((since.0.0.early, since.0.0.mid, since.0.0.late), (since.1.0.early, since.1.0.mid, since.1.0.late))
 
   reads-end : {log_failed data_failed : ℕ} (o : Outcome) → Since log_failed data_failed → IsOutcome call command o
-      → (CanRead call → Each IsUnfailed call → IsDoneOrKeptFrom command o) → EndsWith call command o
+      → (CanRead call → BothDevices IsUnfailed call → IsDoneOrKeptFrom command o) → EndsWith call command o
   reads-end o since means complete = record {
     means = means;
     unread = λ plain. off.unread;

@@ -14,7 +14,7 @@ use Rattle.model_script.specs.declared.script.ScriptLine.{ScriptLine}
 use Rattle.model_store.specs.{IsUnused}
 use Rattle.model_store.specs.declared.refusal.Refusal.{Refusal}
 use Rattle.model_store.specs.declared.refusal.Refusal.TheVariants as refusal
-use Rattle.redo_disk.specs.{Call as DeviceCall, failures, HasSize, MakesCalls}
+use Rattle.redo_disk.specs.{Call, failures, HasSize, MakesCalls}
 use Rattle.redo_disk.specs.Seen.{Seen}
 use Rattle.redo_disk.specs.declared.error.DevError.{DevError}
 use Rattle.redo_disk.specs.declared.error.DevError.TheVariants as device
@@ -33,11 +33,11 @@ use Rattle.redo_lab.proofs.Formats.{BothUnarmed, FormatsTo}
 use Rattle.redo_lab.proofs.Fuses.{unarmed-calls, unarmed-fresh}
 use Rattle.redo_lab.proofs.Telling.{reads-keep}
 use Rattle.redo_lab.proofs.Told.{both-told}
-use Rattle.redo_lab.specs.Call.{AreKept, Call, Each, Guarded, WhereToldAtEntry, WhereToldNow, guarded}
+use Rattle.redo_lab.specs.Call.{BothDevices, Guarded, HaveSameContents, LabCall, WhereToldAtEntry, WhereToldNow, guarded}
 use Rattle.redo_lab.specs.Cause.{AreLongEnough, CanPlay, IsUnprepared}
 use Rattle.redo_lab.specs.Devices.{ArePrepared, IsFirstRead, IsUnarmed, to_be_armed}
 use Rattle.redo_lab.specs.Laws.{Laws}
-use Rattle.redo_lab.specs.Runs.{IsRunning, fault_of}
+use Rattle.redo_lab.specs.Runs.{CommandRuns, fault_of}
 use Rattle.redo_lab.specs.Store.{IsTooShort}
 use Rattle.redo_lab.specs.Ending.{EndsWith}
 
@@ -49,7 +49,7 @@ pub record IsReadFirst (failed : ℕ) (log store : Guarded) : Type 0 where
   pub log_calls : log.fuse.early_calls ≡ 1
   pub data_calls : store.fuse.early_calls ≡ 0
 
-pub read-first : {L D : Type 0} {log_seen : L → Seen} {gives : L → DeviceCall → L → Type 0} (data_seen : D → Seen) {log_old log : Fused L} (store : Fused D) {error : Option DevError}
+pub read-first : {L D : Type 0} {log_seen : L → Seen} {gives : L → Call → L → Type 0} (data_seen : D → Seen) {log_old log : Fused L} (store : Fused D) {error : Option DevError}
     → fuse_of log_old ≡ fresh → fuse_of store ≡ fresh → MakesCalls (CallsThrough log_seen gives) log_old log (IsFirstRead error)
     → IsReadFirst (failures error) (guarded log_seen (inner_of log_old) log) (guarded data_seen (inner_of store) store)
 read-first {log_seen = log_seen} {gives = gives} data_seen {log_old = log_old} {log = log} store {error = error} log_fresh data_fresh made =
@@ -68,8 +68,8 @@ read-first {log_seen = log_seen} {gives = gives} data_seen {log_old = log_old} {
     }
 
 -- THE LOG DEVICE IS IN USE.
-pub prepared-in-use : (call : Call) → HEADER_BYTES ≤ call.log.entry.size → IsReadFirst 0 call.log call.store
-    → IfSome call.log.entry.tells (λ disk. IsTrue false ↔ IsUnused disk.reads) → Each (IsUnarmed 0) call × ArePrepared (to_be_armed call)
+pub prepared-in-use : (call : LabCall) → HEADER_BYTES ≤ call.log.entry.size → IsReadFirst 0 call.log call.store
+    → IfSome call.log.entry.tells (λ disk. IsTrue false ↔ IsUnused disk.reads) → BothDevices (IsUnarmed 0) call × ArePrepared (to_be_armed call)
 prepared-in-use call header first used = (
   first.unarmed,
   record {
@@ -84,7 +84,7 @@ prepared-in-use call header first used = (
   },
 )
 
-was-unused : (call : Call) → IfSome call.log.entry.tells (λ disk. IsTrue true ↔ IsUnused disk.reads) → WhereToldAtEntry call (λ log store. IsUnused log.reads)
+was-unused : (call : LabCall) → IfSome call.log.entry.tells (λ disk. IsTrue true ↔ IsUnused disk.reads) → WhereToldAtEntry call (λ log store. IsUnused log.reads)
 was-unused call unused log_disk data_disk log_is data_is =
     (at-some call.log.entry.tells (λ disk. IsTrue true ↔ IsUnused disk.reads) log_disk unused log_is).0 refl
 
@@ -100,11 +100,11 @@ judged-long log store done was judged =
     record { log_long = omega arith; data_long = omega arith }
 
 -- BOTH WERE FORMATTED, after that read.
-pub prepared-formatted : (call : Call) (log store : Guarded) (done : Unit {0}) → HEADER_BYTES ≤ call.log.entry.size → BothUnarmed log store 0 0
+pub prepared-formatted : (call : LabCall) (log store : Guarded) (done : Unit {0}) → HEADER_BYTES ≤ call.log.entry.size → BothUnarmed log store 0 0
     → log.entry.size ≡ call.log.entry.size → store.entry.size ≡ call.store.entry.size
     → IfSome call.log.entry.tells (λ disk. IsTrue true ↔ IsUnused disk.reads) → BothUnarmed call.log call.store 0 0
     → JudgesLengths default_shape log.now.size store.now.size (Ok done) → WhereBothTell call.log.now.tells call.store.now.tells (IsFormatted default_shape)
-    → Each (IsUnarmed 0) call × ArePrepared (to_be_armed call)
+    → BothDevices (IsUnarmed 0) call × ArePrepared (to_be_armed call)
 prepared-formatted call log store done header was log_same data_same unused now judged formatted =
     let long = judged-long log store done was judged in (
       now,
@@ -125,7 +125,7 @@ long-not-short log_size data_size (refusal.SmallLog n) long short = absurd (omeg
 long-not-short log_size data_size (refusal.SmallData n) long short = absurd (omega (arith, long.data_long, short.1))
 long-not-short log_size data_size cause long short = absurd short
 
-has-header : {call : Call} {log_only : Bool} {script : List ScriptLine} → CanPlay call log_only script → IfSome call.log.entry.tells (HasSize call.log.entry.size)
+has-header : {call : LabCall} {log_only : Bool} {script : List ScriptLine} → CanPlay call log_only script → IfSome call.log.entry.tells (HasSize call.log.entry.size)
     → HEADER_BYTES ≤ call.log.entry.size
 has-header {call = call} can sized = ⊎_elim
     (λ unused. let long = (can.long unused.unused).log_long in omega (arith, long))
@@ -136,24 +136,24 @@ has-header {call = call} can sized = ⊎_elim
     can.opens
 
 -- what formatting keeps of devices that were read before
-pub kept-no-store : (call : Call) (log_met data_met : Option Disk) → log_met ≡ call.log.entry.tells → data_met ≡ call.store.entry.tells
+pub kept-no-store : (call : LabCall) (log_met data_met : Option Disk) → log_met ≡ call.log.entry.tells → data_met ≡ call.store.entry.tells
     → WhereBothTell log_met data_met (λ log store. WhereBothTell call.log.now.tells call.store.now.tells (KeepsNoStore default_shape log store))
     → WhereToldAtEntry call (λ log store. WhereToldNow call (KeepsNoStore default_shape log store))
 kept-no-store call log_met data_met log_same data_same keeps log data_disk log_is data_is = both-told call.log.now.tells call.store.now.tells (KeepsNoStore default_shape log data_disk)
     (both-told log_met data_met (λ log store. WhereBothTell call.log.now.tells call.store.now.tells (KeepsNoStore default_shape log store)) keeps log data_disk (log_same ∙ log_is) (data_same ∙ data_is))
 
 -- THEY WEREN'T PREPARED.
-module _ (call : Call) (command : Command) (drive : Drive) (script : List ScriptLine)
-    (running : IsRunning call.source call.source_now command drive script) (laws : Laws) where
+module _ (call : LabCall) (command : Command) (drive : Drive) (script : List ScriptLine)
+    (running : CommandRuns call.source call.source_now command drive script) (laws : Laws) where
   -- the log device is too short for a header, and none was called
-  pub unprepared-small : Each IsLeftAlone call → call.log.entry.size < HEADER_BYTES → IfSome call.log.entry.tells (HasSize call.log.entry.size)
+  pub unprepared-small : BothDevices IsLeftAlone call → call.log.entry.size < HEADER_BYTES → IfSome call.log.entry.tells (HasSize call.log.entry.size)
       → EndsWith call command (outcome.Fault (fault.Store (refusal.SmallLog HEADER_BYTES)))
   unprepared-small alone small sized = ends-refused call command drive script running laws (refusal.SmallLog HEADER_BYTES) (tells-alone call alone) (leaves-alone call alone laws)
       (unfailed-alone call alone)
       (inl (small, refl), λ log data_disk log_is data_is. (ap (λ (seen : Seen). seen.tells) alone.0.seen, ap (λ (seen : Seen). seen.tells) alone.1.seen))
       (λ can. let header = has-header can sized in omega arith)
 
-  kept-first : {failed : ℕ} → IsReadFirst failed call.log call.store → AreKept call
+  kept-first : {failed : ℕ} → IsReadFirst failed call.log call.store → HaveSameContents call
   kept-first first log data_disk log_is data_is = (first.log_kept, first.data_kept)
 
   unprepared-first : {failed : ℕ} → IsReadFirst failed call.log call.store → IsUnprepared call

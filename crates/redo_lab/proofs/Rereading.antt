@@ -7,7 +7,7 @@ use Rattle.model_store.specs.{IsReading, Refuses}
 use Rattle.model_store.specs.Reading.{Reading}
 use Rattle.model_store.specs.declared.refusal.Refusal.{Refusal}
 use Rattle.model_store.specs.declared.refusal.Refusal.TheVariants as refusal
-use Rattle.redo_disk.specs.{Call as DeviceCall, failed_calls, failures, MakesCalls, OnTold, ReadsMayEndWith}
+use Rattle.redo_disk.specs.{Call, failed_calls, failures, MakesCalls, OnTold, ReadsMayEndWith}
 use Rattle.redo_disk.specs.Seen.{Seen}
 use Rattle.redo_disk.specs.declared.error.DevError.{DevError}
 use Rattle.redo_disk.proofs.Made.{weaker_calls}
@@ -24,7 +24,7 @@ use Rattle.redo_lab.specs.declared.outcome.Outcome.TheVariants as outcome
 use Rattle.redo_lab.proofs.Fuses.{after-crashed, armed-calls, armed-kept, crashed-now, crashed-reads, early-kept}
 use Rattle.redo_lab.proofs.Telling.{reads-keep}
 use Rattle.redo_lab.proofs.Told.{on-contents}
-use Rattle.redo_lab.specs.Call.{Call, Guarded, guarded}
+use Rattle.redo_lab.specs.Call.{Guarded, LabCall, guarded}
 use Rattle.redo_lab.specs.Devices.{ArePrepared, IsArmed}
 use Rattle.redo_lab.specs.Runs.{fault_of, outcome_of}
 use Rattle.redo_lab.specs.Store.{AreRefused}
@@ -39,7 +39,7 @@ abbrev pub was_of : {D : Type 0} → (D → Seen) → Fused D → Was
 was_of seen fused = record { now = seen (inner_of fused); fuse = fuse_of fused; armed_from = armed_from seen fused }
 
 -- the call as it was then
-abbrev pub before : Call → Was → Was → Call
+abbrev pub before : LabCall → Was → Was → LabCall
 before call log store = record call {
   log = record call.log { now = log.now; fuse = log.fuse; armed_from = log.armed_from };
   store = record call.store { now = store.now; fuse = store.fuse; armed_from = store.armed_from };
@@ -50,7 +50,7 @@ pub record IsArmedAs (was : Was) (device : Guarded) : Type 0 where
   pub told : device.armed_from ≡ was.armed_from
   pub early_calls : device.fuse.early_calls ≡ was.fuse.early_calls
 
-pub prepared-later : (call : Call) (log store : Was) → IsArmedAs log call.log → IsArmedAs store call.store → ArePrepared (before call log store) → ArePrepared call
+pub prepared-later : (call : LabCall) (log store : Was) → IsArmedAs log call.log → IsArmedAs store call.store → ArePrepared (before call log store) → ArePrepared call
 prepared-later call log store log_as store_as prepared = record {
   header = prepared.header;
   which = ⊎_elim
@@ -68,7 +68,7 @@ prepared-later call log store log_as store_as prepared = record {
       prepared.which;
 }
 
-pub armed-as : {D : Type 0} {seen : D → Seen} {gives : D → DeviceCall → D → Type 0} (device : D) {old new : Fused D} {Are : List DeviceCall → Type 0} → old.fuse.stage ≡ Stopping
+pub armed-as : {D : Type 0} {seen : D → Seen} {gives : D → Call → D → Type 0} (device : D) {old new : Fused D} {Are : List Call → Type 0} → old.fuse.stage ≡ Stopping
     → MakesCalls (CallsThrough seen gives) old new Are → IsArmedAs (was_of seen old) (guarded seen device new)
 armed-as {seen = seen} {gives = gives} device {old = old} {new = new} stage made = record {
   told = armed-kept seen old new (keeps-behind seen gives old new made.calls made.made).armed;
@@ -85,7 +85,7 @@ pub record IsCrashedSince (limit : Option ℕ) (pick failed : ℕ) (was : Was) (
   pub mid : device.fuse.mid ≡ was.fuse.mid
   pub pick_is : device.fuse.pick ≡ Some pick
 
-pub crashed-since : {D : Type 0} {seen : D → Seen} {gives : D → DeviceCall → D → Type 0} {crash_gives : D → ℕ → D → Type 0} {limit : Option ℕ} {pick : ℕ} {device : D} {old met new : Fused D} {error : Option DevError}
+pub crashed-since : {D : Type 0} {seen : D → Seen} {gives : D → Call → D → Type 0} {crash_gives : D → ℕ → D → Type 0} {limit : Option ℕ} {pick : ℕ} {device : D} {old met new : Fused D} {error : Option DevError}
     → IsArmed limit Stopping 0 (guarded seen device old) → CrashesThrough seen crash_gives old pick met → MakesCalls (CallsThrough seen gives) met new (ReadsMayEndWith error)
     → IsCrashedSince limit pick (failures error) (was_of seen old) (guarded seen device new)
 crashed-since {seen = seen} {gives = gives} {pick = pick} {old = old} {met = met} {new = new} was crash made =
@@ -114,7 +114,7 @@ pub record IsReadSince (failed : ℕ) (was : Was) (device : Guarded) : Type 0 wh
   pub mid : device.fuse.mid ≡ failed
   pub passed : 0 < was.fuse.passed → 0 < device.fuse.passed
 
-pub read-since : {D : Type 0} {seen : D → Seen} {gives : D → DeviceCall → D → Type 0} {device : D} {old new : Fused D} {error : Option DevError}
+pub read-since : {D : Type 0} {seen : D → Seen} {gives : D → Call → D → Type 0} {device : D} {old new : Fused D} {error : Option DevError}
     → IsArmed None Stopping 0 (guarded seen device old) → old.fuse.mid ≡ 0 → MakesCalls (CallsThrough seen gives) old new (ReadsMayEndWith error)
     → IsReadSince (failures error) (was_of seen old) (guarded seen device new)
 read-since {seen = seen} {gives = gives} {device = device} {old = old} {new = new} was none made =
@@ -128,7 +128,7 @@ read-since {seen = seen} {gives = gives} {device = device} {old = old} {new = ne
     }
 
 -- recovery's reads of the log
-pub log-reads : {D : Type 0} {gives : D → DeviceCall → D → Type 0} {old new : D} {size : ℕ} {error : Option DevError}
+pub log-reads : {D : Type 0} {gives : D → Call → D → Type 0} {old new : D} {size : ℕ} {error : Option DevError}
     → MakesCalls gives old new (ReadsLog size error) → MakesCalls gives old new (ReadsMayEndWith error)
 log-reads made = weaker_calls (λ calls log. log.reads) made
 

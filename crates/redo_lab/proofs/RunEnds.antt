@@ -22,17 +22,17 @@ use Rattle.redo_lab.proofs.Found.{prefix-none, told-still}
 use Rattle.redo_lab.proofs.Rereading.{IsReadSince, ReadsTo, Was, before, prepared-later}
 use Rattle.redo_lab.proofs.SomeLeft.{some-left}
 use Rattle.redo_lab.specs.Asked.{IsScriptFor, IsScriptRead, drive_of_seed}
-use Rattle.redo_lab.specs.Call.{Call, Guarded, WhereToldNow}
+use Rattle.redo_lab.specs.Call.{Guarded, LabCall, WhereToldNow}
 use Rattle.redo_lab.specs.Cause.{CanPlay}
 use Rattle.redo_lab.specs.Devices.{IsArmed}
 use Rattle.redo_lab.specs.Laws.{Laws}
-use Rattle.redo_lab.specs.Runs.{ComesTo, IsLeftBy, IsPlayedTo, IsReportOf, IsRunPrinted, IsRunning, LosesByFailure, ran_of, summary_of}
+use Rattle.redo_lab.specs.Runs.{ComesTo, CommandRuns, IsLeftBy, IsPlayedTo, IsReportOf, IsRunPrinted, LosesByFailure, ran_of, summary_of}
 use Rattle.redo_lab.specs.Store.{AreRefused}
 use Rattle.redo_lab.specs.Told.{IsReportText, IsRunText, IsSummaryText}
 use Rattle.redo_lab.specs.Ending.{EndsWith}
 
 -- OPENING WAS STOPPED.
-pub ends-stopped : (call : Call) (command : Command) (drive : Drive) (script : List ScriptLine) → IsRunning call.source call.source_now command drive script → Laws
+pub ends-stopped : (call : LabCall) (command : Command) (drive : Drive) (script : List ScriptLine) → CommandRuns call.source call.source_now command drive script → Laws
     → IsUncrashing call command → (f : Fault) → ComesTo call command drive no_stops script (Stopped f) → EndsWith call command (outcome.Fault f)
 ends-stopped call command drive script running laws uncrashing f is = ends-failed call command drive script running laws uncrashing f is.0
     (uncrashing.unbegun (
@@ -44,7 +44,7 @@ ends-stopped call command drive script running laws uncrashing f is = ends-faile
     is.1
 
 -- A TEXT OF A RUN
-run-text : (call : Call) (command : Command) (drive : Drive) (script : List ScriptLine) (run : Ran) (left : List (ℕ × ℕ))
+run-text : (call : LabCall) (command : Command) (drive : Drive) (script : List ScriptLine) (run : Ran) (left : List (ℕ × ℕ))
     (IsTextOf : List ScriptLine → Ran → List (ℕ × ℕ) → List ℕ → Type 0) (text : List ℕ) → IsScriptFor command call.source call.source_now script
     → IsLeftBy call command drive no_stops script (Some run) Done → LosesByFailure call script (Some run) → IsLeft script run.entries left
     → IsTextOf script run left text → IsRunText call command drive IsTextOf text
@@ -63,7 +63,7 @@ run-text call command drive script run left IsTextOf text is_script is loses lef
 risen-unstopped : {device : Guarded} {stage : Stage} {late : ℕ} → IsArmed None stage late device → 0 < device.fuse.mid → HasRisen device.entry.faults device.now.faults
 risen-unstopped was some = ⊎_elim (λ risen. risen) (λ passed. absurd passed) (was.cause some)
 
-module _ (call : Call) (drive : Drive) (script : List ScriptLine) (played : declared.Played) (read : IsScriptRead call.source call.source_now script) (laws : Laws) where
+module _ (call : LabCall) (drive : Drive) (script : List ScriptLine) (played : declared.Played) (read : IsScriptRead call.source call.source_now script) (laws : Laws) where
   run-told : (f : Option Fault) (text : List ℕ) → ComesTo call (Run drive) drive no_stops script (Played played f) → IsReportOf script (Some (ran_of played)) None text
       → IsRunText call (Run drive) drive IsReportText text
   run-told f text was report = run-text call (Run drive) drive script (ran_of played) report.left IsReportText text read was.0 was.1 report.left_is report.text_is
@@ -90,8 +90,8 @@ module _ (call : Call) (drive : Drive) (script : List ScriptLine) (played : decl
   run-played f (outcome.Fault fault) was printed = subst (λ (fault : Fault). EndsWith call (Run drive) (outcome.Fault fault)) (sym printed)
       (left-memory call (Run drive) drive script (runs-scripted drive None read) laws was.0)
 
-module _ (call : Call) (seed users groups max : ℕ) (script : List ScriptLine) (run : Ran) (log_was data_was : Was) (laws : Laws)
-    (running : IsRunning call.source call.source_now (Gen seed users groups true max) (drive_of_seed seed max) script)
+module _ (call : LabCall) (seed users groups max : ℕ) (script : List ScriptLine) (run : Ran) (log_was data_was : Was) (laws : Laws)
+    (running : CommandRuns call.source call.source_now (Gen seed users groups true max) (drive_of_seed seed max) script)
     (left_by : IsLeftBy (before call log_was data_was) (Gen seed users groups true max) (drive_of_seed seed max) no_stops script (Some run) Done)
     (loses : LosesByFailure (before call log_was data_was) script (Some run)) (played : IsPlayedTo (before call log_was data_was) None) where
   abbrev asked : Command

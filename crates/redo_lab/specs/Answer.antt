@@ -12,32 +12,32 @@ use Rattle.model_log.specs.{IsStop, layout_of}
 use Rattle.model_log.specs.declared.cause.Cause.{Cause}
 use Rattle.model_store.specs.{IsReading}
 use Rattle.model_store.specs.Reading.{Reading}
-use Rattle.model_theorem.specs.{Account, CrashOptions, CrashSafe, Device, Opened, Stop, entries_of, marks_of, start_of}
+use Rattle.model_theorem.specs.{Account, CrashOptions, CrashSafe, Device, Opened, Stop, entries_of, marks_of, run_start}
 use Rattle.model_theorem.specs.Premises.{Premises}
 use Rattle.model_theorem.specs.Values as values
 use Rattle.redo_memdisk.specs.declared.fuse.Fuse.{Fuse}
 use Rattle.redo_lab.specs.Asked.{drive_of_seed}
-use Rattle.redo_lab.specs.Call.{Call, Guarded, WhereToldAtEntry, WhereToldNow}
+use Rattle.redo_lab.specs.Call.{Guarded, LabCall, WhereToldAtEntry, WhereToldNow}
 use Rattle.redo_lab.specs.Store.{AreBlank}
 use Rattle.redo_lab.specs.Told.{IsAccount, IsReportText, IsRunText, IsSummaryText}
 
 -- the sizes that the words of `format` ask for
-abbrev pub shape_of : (pages space log_blocks : ℕ) → Shape
-shape_of pages space log_blocks = record default_shape { pages = pages; space = space; log_blocks = log_blocks }
+abbrev pub asked_shape : (pages space log_blocks : ℕ) → Shape
+asked_shape pages space log_blocks = record default_shape { pages = pages; space = space; log_blocks = log_blocks }
 
 -- both devices were formatted: whatever a crash would leave is a new store
-pub record IsFormatted (call : Call) (shape : Shape) (text : List ℕ) : Type 0 where
+pub record IsFormatAnswer (call : LabCall) (shape : Shape) (text : List ℕ) : Type 0 where
   pub blank : WhereToldNow call (AreBlank shape)
   pub text_is : text ≡ format_text
 
 -- the store was read
-pub record IsReadOff (call : Call) (IsTextOf : Reading → List ℕ → Type 0) (text : List ℕ) : Type 0 where
+pub record IsReadOff (call : LabCall) (IsTextOf : Reading → List ℕ → Type 0) (text : List ℕ) : Type 0 where
   pub reading : Reading
   pub is_read : WhereToldAtEntry call (λ log store. IsReading log.reads store.reads reading)
   pub text_is : IsTextOf reading text
 
 -- its listing, and where that is asked why no block is read after these of the log's content
-pub record IsListing (call : Call) (why : Bool) (reading : Reading) (text : List ℕ) : Type 0 where
+pub record IsListing (call : LabCall) (why : Bool) (reading : Reading) (text : List ℕ) : Type 0 where
   pub stop : ℕ × Cause
   pub is_stop : (log : Disk) → call.log.entry.tells ≡ Some log → IsStop (layout_of reading.format reading.shape) reading.ckpt reading.views stop log.reads
   pub text_is : text ≡ dump_text (if why then Some stop else None) reading
@@ -66,7 +66,7 @@ pub record IsDevice (seen : Guarded) (device : Device) : Type 0 where
   pub stop : device.stop ≡ stop_of seen.fuse
 
 -- the call of the theorem is this one
-pub record IsCrashCall (call : Call) (options : CrashOptions) (crash : values.Crash) : Type 0 where
+pub record IsCrashCall (call : LabCall) (options : CrashOptions) (crash : values.Crash) : Type 0 where
   pub options_are : crash.options ≡ options
   pub source : crash.source ≡ call.source.left
   pub source_left : crash.source_left ≡ call.source_now.left
@@ -82,17 +82,17 @@ pub record IsCrashedAs (limit : Option ℕ) (pick : ℕ) (fuse : Fuse) : Type 0 
   pub unchanged_since : fuse.late_changes ≡ 0
 
 -- both devices were crashed as the words ask, and nothing was written since
-abbrev pub AreCrashedAs : (stop_log stop_data : Option ℕ) (pick : ℕ) → Call → Type 0
+abbrev pub AreCrashedAs : (stop_log stop_data : Option ℕ) (pick : ℕ) → LabCall → Type 0
 AreCrashedAs stop_log stop_data pick call = IsCrashedAs stop_log pick call.log.fuse × IsCrashedAs stop_data pick call.store.fuse
 
 -- `crash`: an account of the call, of the drive's run, which the crash met as the run left it; and the theorem of that account.
-pub record IsCrashText (call : Call) (drive : Drive) (stop_log stop_data : Option ℕ) (pick workers : ℕ) (text : List ℕ) : Type 0 where
+pub record IsCrashText (call : LabCall) (drive : Drive) (stop_log stop_data : Option ℕ) (pick workers : ℕ) (text : List ℕ) : Type 0 where
   pub account : Account
   pub opened : Opened
   pub told : IsAccount call (Crash drive stop_log stop_data pick workers) drive opened account.script account.run account.left
       call.log.now.crashed_from call.store.now.crashed_from
   pub text_is : text ≡ account.printed
-  pub report : text ≡ report_text (start_of account.run) (entries_of account.run) account.left (marks_of account.run)
+  pub report : text ≡ report_text (run_start account.run) (entries_of account.run) account.left (marks_of account.run)
       (Some (account.reading.end, account.reading.pages))
   pub crashed : AreCrashedAs stop_log stop_data pick call
   pub is_read : WhereToldNow call (λ log store. IsReading log.reads store.reads account.reading)
@@ -102,8 +102,8 @@ pub record IsCrashText (call : Call) (drive : Drive) (stop_log stop_data : Optio
       × ((store : Opened) → Premises crash store → CrashSafe crash store account)
 
 -- A command that was done has this text to print.
-abbrev pub IsAnswer : Call → Command → List ℕ → Type 0
-IsAnswer call (Format pages space log_blocks) text = IsFormatted call (shape_of pages space log_blocks) text
+abbrev pub IsAnswer : LabCall → Command → List ℕ → Type 0
+IsAnswer call (Format pages space log_blocks) text = IsFormatAnswer call (asked_shape pages space log_blocks) text
 IsAnswer call (Run drive) text = IsRunText call (Run drive) drive IsReportText text
 IsAnswer call (Crash drive stop_log stop_data pick workers) text = IsCrashText call drive stop_log stop_data pick workers text
 IsAnswer call (Recover workers) text = IsReadOff call (λ reading text. text ≡ recover_text reading) text

@@ -6,7 +6,7 @@ use Rattle.model_script.specs.declared.asked.Drive.{Drive}
 use Rattle.model_device.specs.Disk.{Disk}
 use Rattle.model_script.specs.declared.script.ScriptLine.{ScriptLine}
 use Rattle.model_store.specs.{IsFair, IsFairLog, Opens}
-use Rattle.model_theorem.specs.{IsFresh, Opened, Ran}
+use Rattle.model_theorem.specs.{IsSettledAtEntry, Opened, Ran}
 use Rattle.redo_drive.specs.declared.drive.RunEnd.{RunEnd}
 use Rattle.redo_disk.specs.Seen.{Seen}
 use Rattle.redo_io.specs.{SourceSeen}
@@ -29,7 +29,7 @@ guarded seen device fused = record { entry = seen device; now = seen (inner_of f
 
 -- What a call was handed, and what has become of it. `drives` says that the run of this script on this opened store is the one to
 -- which the drive leads, that it ended so, and what both devices meant then: the one place that knows of drives.
-pub record Call : Type 1 where
+pub record LabCall : Type 1 where
   pub words : List (List ℕ)
   pub source : SourceSeen
   pub source_now : SourceSeen
@@ -38,17 +38,17 @@ pub record Call : Type 1 where
   pub drives : Drive → Opened → List ScriptLine → Ran → RunEnd → Option Disk → Option Disk → Type 0
 
 -- where both devices told what they mean when they were handed in, this holds of the two
-abbrev pub WhereToldAtEntry : Call → (Disk → Disk → Type 0) → Type 0
+abbrev pub WhereToldAtEntry : LabCall → (Disk → Disk → Type 0) → Type 0
 WhereToldAtEntry call P = (log store : Disk) → call.log.entry.tells ≡ Some log → call.store.entry.tells ≡ Some store → P log store
 
 -- and where they tell what they mean now
-abbrev pub WhereToldNow : Call → (Disk → Disk → Type 0) → Type 0
+abbrev pub WhereToldNow : LabCall → (Disk → Disk → Type 0) → Type 0
 WhereToldNow call P = (log store : Disk) → call.log.now.tells ≡ Some log → call.store.now.tells ≡ Some store → P log store
 
 -- both told at entry, were fresh, and open this store, which is new or in order
-abbrev pub WhereOpened : Call → Opened → Type 0 → Type 0
+abbrev pub WhereOpened : LabCall → Opened → Type 0 → Type 0
 WhereOpened call opened P = WhereToldAtEntry call (λ log store.
-    IsFresh log call.log.entry.faults → IsFresh store call.store.entry.faults
+    IsSettledAtEntry log call.log.entry.faults → IsSettledAtEntry store call.store.entry.faults
     → Opens log.reads store.reads opened.shape opened.pages opened.end → P)
 
 -- what a crash in the call left of the device is so
@@ -57,13 +57,13 @@ LeavesFair device IsFairOf = (pick : ℕ) (from left : Disk) → device.fuse.pic
     → device.now.tells ≡ Some left → IsFairOf from left.reads
 
 -- what a crash in the call left of the two devices is fair
-pub record IsLeftFair (call : Call) (opened : Opened) : Type 0 where
+pub record IsLeftFair (call : LabCall) (opened : Opened) : Type 0 where
   pub log : LeavesFair call.log IsFairLog
   pub store : LeavesFair call.store (IsFair opened.shape)
 
 -- this is so of both devices
-abbrev pub Each : (Guarded → Type 0) → Call → Type 0
-Each P call = P call.log × P call.store
+abbrev pub BothDevices : (Guarded → Type 0) → LabCall → Type 0
+BothDevices P call = P call.log × P call.store
 
 -- no call answered that the device failed; none but from the arming to the crash
 abbrev pub IsUnfailed : Guarded → Type 0
@@ -73,12 +73,12 @@ abbrev pub IsUnfailedAside : Guarded → Type 0
 IsUnfailedAside device = (device.fuse.early ≡ 0) × (device.fuse.late ≡ 0)
 
 -- In a crash a failure from the arming to the crash is no reason not to be done.
-abbrev pub AreUnfailedFor : Command → Call → Type 0
-AreUnfailedFor (Crash drive stop_log stop_data pick workers) call = Each IsUnfailedAside call
-AreUnfailedFor command call = Each IsUnfailed call
+abbrev pub AreUnfailedFor : Command → LabCall → Type 0
+AreUnfailedFor (Crash drive stop_log stop_data pick workers) call = BothDevices IsUnfailedAside call
+AreUnfailedFor command call = BothDevices IsUnfailed call
 
 -- how many calls failed from the arming to the crash
-abbrev pub mids : Call → ℕ
+abbrev pub mids : LabCall → ℕ
 mids call = call.log.fuse.mid + call.store.fuse.mid
 
 -- the device means what it meant, and nothing was written or synced
@@ -86,8 +86,8 @@ abbrev pub IsUnwritten : Guarded → Type 0
 IsUnwritten device = (device.now.tells ≡ device.entry.tells) × (device.fuse.changes ≡ 0)
 
 -- both devices mean what they meant, where both told
-abbrev pub AreKept : Call → Type 0
-AreKept call = WhereToldAtEntry call (λ log store. Each (λ device. device.now.tells ≡ device.entry.tells) call)
+abbrev pub HaveSameContents : LabCall → Type 0
+HaveSameContents call = WhereToldAtEntry call (λ log store. BothDevices (λ device. device.now.tells ≡ device.entry.tells) call)
 
 -- the device's fuse was armed, and the device wasn't crashed
 abbrev pub IsInRun : Guarded → Type 0

@@ -17,14 +17,14 @@ use Rattle.model_script.specs.declared.script.ScriptLine.{ScriptLine}
 use Rattle.model_store.specs.{IsUnused, IsReading, Opens}
 use Rattle.model_store.specs.declared.refusal.Refusal.{Refusal}
 use Rattle.model_store.specs.declared.refusal.Refusal.TheVariants.{SmallLog}
-use Rattle.model_theorem.specs.{Opened, Ran, room_of, FitsOpened, IsFresh, IsRun}
+use Rattle.model_theorem.specs.{Opened, Ran, room_of, FitsOpened, IsSettledAtEntry, IsRun}
 use Rattle.redo_drive.specs.declared.drive.RunEnd.TheVariants.{Spent}
 use Rattle.redo_memdisk.specs.declared.fuse.Stage.TheVariants.{Before}
-use Rattle.redo_lab.specs.Answer.{AreCrashedAs, shape_of}
+use Rattle.redo_lab.specs.Answer.{AreCrashedAs, asked_shape}
 use Rattle.redo_lab.specs.Asked.{IsBadLine, IsLongScript, IsScriptFor, IsScriptRead, drive_of, reads_script, runs_in_threads, runs_script}
-use Rattle.redo_lab.specs.Call.{AreKept, AreUnfailedFor, Call, Each, Guarded, IsInRun, IsUnfailed, IsUnwritten, WhereToldAtEntry, WhereToldNow, IsLeftFair, WhereOpened}
-use Rattle.redo_lab.specs.Store.{AreReadAsPrefix, AreRefused, IsOpenedAs, IsTooShort}
-use Rattle.redo_lab.specs.Told.{AreLeftRead, IsOpenedFirst, IsRunOf}
+use Rattle.redo_lab.specs.Call.{HaveSameContents, AreUnfailedFor, LabCall, BothDevices, Guarded, IsInRun, IsUnfailed, IsUnwritten, WhereToldAtEntry, WhereToldNow, IsLeftFair, WhereOpened}
+use Rattle.redo_lab.specs.Store.{AreReadAsPrefix, AreRefused, DevicesOpenAs, IsTooShort}
+use Rattle.redo_lab.specs.Told.{AreLeftRead, HasRunScript, IsOpenedFirst}
 use Rattle.model_base.specs.declared.limits.TheConstants.{MAX_SCRIPT}
 use Rattle.model_base.specs.declared.shape.Shape.{Shape}
 use Rattle.model_device.specs.Disk.{Disk}
@@ -32,7 +32,7 @@ use Rattle.model_page.specs.{data_device_length}
 use Rattle.model_store.specs.Reading.{Reading}
 
 -- where the command reads a script, all that the source had left was read, and is one
-abbrev pub IsPastSource : Call → Command → Type 0
+abbrev pub IsPastSource : LabCall → Command → Type 0
 IsPastSource call command = reads_script command ≡ true → (script : List ScriptLine) × IsScriptRead call.source call.source_now script
 
 -- A call of the device failed, and so its count rose; in a crash one before its fuse was armed, or after the crash, since a
@@ -45,24 +45,24 @@ IsDeviceFault command device =
 
 -- no fuse was armed: both devices are as they were; or the log device was unused, and whatever a crash leaves of the two is what
 -- was there, no store, or a new one
-abbrev pub IsUnprepared : Call → Type 0
-IsUnprepared call = Each (λ device. device.fuse.stage ≡ Before) call × (AreKept call
+abbrev pub IsUnprepared : LabCall → Type 0
+IsUnprepared call = BothDevices (λ device. device.fuse.stage ≡ Before) call × (HaveSameContents call
     ⊎ WhereToldAtEntry call (λ log store. IsUnused log.reads × WhereToldNow call (KeepsNoStore default_shape log store)))
 
 -- A run that a device ended is reported. Of `run` the line alone stands where no fuse was armed; or opening didn't come to its
 -- end, and the store is read as it was opened.
-abbrev pub IsUnbegun : Call → Command → Type 0
+abbrev pub IsUnbegun : LabCall → Command → Type 0
 IsUnbegun call (Run drive) = IsUnprepared call ⊎ (IsOpenedFirst call call.log.now.tells None × AreLeftRead call [] None)
 IsUnbegun call command = ⊤
 
 -- both fuses are armed; but in `crash` both devices may be crashed
-abbrev pub AreInRunOrCrashed : Call → Command → Type 0
-AreInRunOrCrashed call (Crash drive stop_log stop_data pick workers) = Each IsInRun call ⊎ AreCrashedAs stop_log stop_data pick call
-AreInRunOrCrashed call command = Each IsInRun call
+abbrev pub AreInRunOrCrashed : LabCall → Command → Type 0
+AreInRunOrCrashed call (Crash drive stop_log stop_data pick workers) = BothDevices IsInRun call ⊎ AreCrashedAs stop_log stop_data pick call
+AreInRunOrCrashed call command = BothDevices IsInRun call
 
 -- THE DEVICES ARE THOSE OF A RUN of the command's script, or of none: on the store that was opened it is a legal history, and each
 -- image is read as a prefix of it, where what a crash left is fair.
-pub record AreOfRun (call : Call) (command : Command) : Type 0 where
+pub record AreOfRun (call : LabCall) (command : Command) : Type 0 where
   pub script : List ScriptLine
   pub run : Option Ran
   pub is_script : IsScriptFor command call.source call.source_now script
@@ -71,23 +71,23 @@ pub record AreOfRun (call : Call) (command : Command) : Type 0 where
       IfSome run (IsRun script store) × AreReadAsPrefix script store run log_disk data_disk))
 
 -- what a command that runs a script leaves where memory ran out or a device failed
-abbrev pub LeavesRun : Call → Command → Type 0
-LeavesRun call command = runs_script command ≡ true → IsUnprepared call ⊎ AreOfRun call command
+abbrev pub LeavesFailedRun : LabCall → Command → Type 0
+LeavesFailedRun call command = runs_script command ≡ true → IsUnprepared call ⊎ AreOfRun call command
 
 -- The store that a run was to open is refused: the log device is too short for a header; or it is unused, and one is too short for
 -- a new store; or it is in use, and what reads gave at entry is refused. Both devices are as they were.
-abbrev pub IsRefusedAtEntry : Call → Refusal → Type 0
+abbrev pub IsRefusedAtEntry : LabCall → Refusal → Type 0
 IsRefusedAtEntry call refusal =
     (((call.log.entry.size < HEADER_BYTES) × (refusal ≡ SmallLog HEADER_BYTES))
     ⊎ ((HEADER_BYTES ≤ call.log.entry.size) × WhereToldAtEntry call (λ log store.
     (IsUnused log.reads × IsTooShort default_shape call.log.entry.size call.store.entry.size refusal)
     ⊎ ((IsUnused log.reads → ⊥) × AreRefused refusal log store))))
-    × AreKept call
+    × HaveSameContents call
 
 -- the store is refused, at entry or as a run or a crash left it
-abbrev pub IsRefused : Call → Command → Refusal → Type 0
+abbrev pub IsRefused : LabCall → Command → Refusal → Type 0
 IsRefused call (Format pages space log_blocks) refusal =
-    IsTooShort (shape_of pages space log_blocks) call.log.entry.size call.store.entry.size refusal × Each IsUnwritten call
+    IsTooShort (asked_shape pages space log_blocks) call.log.entry.size call.store.entry.size refusal × BothDevices IsUnwritten call
 IsRefused call (Run drive) refusal = IsRefusedAtEntry call refusal
 IsRefused call (Crash drive stop_log stop_data pick workers) refusal =
     IsRefusedAtEntry call refusal
@@ -95,50 +95,50 @@ IsRefused call (Crash drive stop_log stop_data pick workers) refusal =
 IsRefused call (Recover workers) refusal = WhereToldAtEntry call (AreRefused refusal)
 IsRefused call (Dump why) refusal = WhereToldAtEntry call (AreRefused refusal)
 IsRefused call (Gen seed users groups true max) refusal =
-    IsRefusedAtEntry call refusal ⊎ (Each IsInRun call × WhereToldNow call (AreRefused refusal))
+    IsRefusedAtEntry call refusal ⊎ (BothDevices IsInRun call × WhereToldNow call (AreRefused refusal))
 IsRefused call (Gen seed users groups false max) refusal = ⊥
 
 -- THE TURNS ARE SPENT: the drive's run has taken so many, which are all, and this is the least user that hasn't ended. What is left
 -- is read as a prefix of the run.
-pub record AreTurnsSpent (call : Call) (command : Command) (turns user : ℕ) : Type 0 where
+pub record AreTurnsSpent (call : LabCall) (command : Command) (turns user : ℕ) : Type 0 where
   pub drive : Drive
   pub asked : drive_of command ≡ Some drive
   pub opened : Opened
   pub script : List ScriptLine
   pub run : Ran
-  pub is_run : IsRunOf call command drive opened script run (Spent turns user) call.log.now.tells call.store.now.tells
-  pub in_run : Each IsInRun call
+  pub is_run : HasRunScript call command drive opened script run (Spent turns user) call.log.now.tells call.store.now.tells
+  pub in_run : BothDevices IsInRun call
   pub reads : AreLeftRead call script (Some run)
 
 -- A quantity of the script is the first that doesn't fit the store that was opened, and is read as it was.
-pub record IsMisfit (call : Call) (command : Command) (misfit : Misfit) : Type 0 where
+pub record IsMisfit (call : LabCall) (command : Command) (misfit : Misfit) : Type 0 where
   pub drive : Drive
   pub asked : drive_of command ≡ Some drive
   pub script : List ScriptLine
   pub opened : Opened
   pub is_script : IsScriptFor command call.source call.source_now script
-  pub opens : WhereToldAtEntry call (IsOpenedAs opened)
+  pub opens : WhereToldAtEntry call (DevicesOpenAs opened)
   pub first : first_misfit opened.shape (start_after opened.end) (room_of drive.log_only opened) script ≡ Some misfit
-  pub in_run : Each IsInRun call
+  pub in_run : BothDevices IsInRun call
   pub reads : AreLeftRead call script None
 
 -- no script was read, for this cause, and nothing was written
-abbrev pub IsUnscripted : Call → Command → Type 0 → Type 0
-IsUnscripted call command Cause = (reads_script command ≡ true) × Cause × Each IsUnwritten call
+abbrev pub IsUnscripted : LabCall → Command → Type 0 → Type 0
+IsUnscripted call command Cause = (reads_script command ≡ true) × Cause × BothDevices IsUnwritten call
 
 -- why the command isn't done
-abbrev pub IsCauseOf : Call → Command → Fault → Type 0
-IsCauseOf call command Memory = LeavesRun call command
+abbrev pub IsCauseOf : LabCall → Command → Fault → Type 0
+IsCauseOf call command Memory = LeavesFailedRun call command
 IsCauseOf call command (Script n) = IsUnscripted call command (IsBadLine call.source call.source_now n)
 IsCauseOf call command Source = IsUnscripted call command (HasRisen call.source.faults call.source_now.faults)
 IsCauseOf call command LogDevice =
-    IsPastSource call command × IsDeviceFault command call.log × IsUnbegun call command × LeavesRun call command
+    IsPastSource call command × IsDeviceFault command call.log × IsUnbegun call command × LeavesFailedRun call command
 IsCauseOf call command DataDevice =
-    IsPastSource call command × IsDeviceFault command call.store × IsUnbegun call command × LeavesRun call command
+    IsPastSource call command × IsDeviceFault command call.store × IsUnbegun call command × LeavesFailedRun call command
 IsCauseOf call command (Store refusal) = IsPastSource call command × AreUnfailedFor command call × IsRefused call command refusal
 IsCauseOf call command (Turns turns user) = AreTurnsSpent call command turns user
 IsCauseOf call command (Fit misfit) =
-    IsUnscripted call command (IsLongScript call.source misfit) ⊎ (Each IsUnfailed call × IsMisfit call command misfit)
+    IsUnscripted call command (IsLongScript call.source misfit) ⊎ (BothDevices IsUnfailed call × IsMisfit call command misfit)
 IsCauseOf call command _ = ⊥
 
 -- both devices are long enough for these sizes
@@ -147,21 +147,21 @@ pub record AreLongEnough (shape : Shape) (log_size store_size : ℕ) : Type 0 wh
   pub data_long : data_device_length shape ≤ store_size
 
 -- The script fits the store that fresh devices open, and what a crash left is fair.
-pub record CanPlay (call : Call) (log_only : Bool) (script : List ScriptLine) : Type 0 where
+pub record CanPlay (call : LabCall) (log_only : Bool) (script : List ScriptLine) : Type 0 where
   pub log : Disk
   pub store : Disk
   pub opened : Opened
   pub log_tells : call.log.entry.tells ≡ Some log
   pub store_tells : call.store.entry.tells ≡ Some store
-  pub log_fresh : IsFresh log call.log.entry.faults
-  pub store_fresh : IsFresh store call.store.entry.faults
+  pub log_fresh : IsSettledAtEntry log call.log.entry.faults
+  pub store_fresh : IsSettledAtEntry store call.store.entry.faults
   pub opens : Opens log.reads store.reads opened.shape opened.pages opened.end
   pub long : IsUnused log.reads → AreLongEnough default_shape call.log.entry.size call.store.entry.size
   pub fits : FitsOpened log_only opened script
   pub fair : IsLeftFair call opened
 
 -- The source holds such a script.
-pub record CanRun (call : Call) (log_only : Bool) : Type 0 where
+pub record CanRun (call : LabCall) (log_only : Bool) : Type 0 where
   pub text : List ℕ
   pub script : List ScriptLine
   pub source : call.source.left ≡ Some text
@@ -170,7 +170,7 @@ pub record CanRun (call : Call) (log_only : Bool) : Type 0 where
   pub plays : CanPlay call log_only script
 
 -- the devices hold a store that can be read
-pub record CanRead (call : Call) : Type 0 where
+pub record CanRead (call : LabCall) : Type 0 where
   pub log : Disk
   pub store : Disk
   pub reading : Reading
@@ -179,9 +179,9 @@ pub record CanRead (call : Call) : Type 0 where
   pub is_read : IsReading log.reads store.reads reading
 
 -- the command can be done
-abbrev pub IsPossible : Call → Command → Type 0
+abbrev pub IsPossible : LabCall → Command → Type 0
 IsPossible call (Format pages space log_blocks) =
-    AreLongEnough (shape_of pages space log_blocks) call.log.entry.size call.store.entry.size
+    AreLongEnough (asked_shape pages space log_blocks) call.log.entry.size call.store.entry.size
 IsPossible call (Run drive) = CanRun call drive.log_only
 IsPossible call (Crash drive stop_log stop_data pick workers) = CanRun call drive.log_only
 IsPossible call (Recover workers) = CanRead call

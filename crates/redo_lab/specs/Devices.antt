@@ -6,12 +6,12 @@ use Rattle.model_log.specs.declared.layout.TheConstants.{HEADER_BYTES}
 use Rattle.model_parts.specs.{IsFormatted}
 use Rattle.model_store.specs.{IsUnused}
 use Rattle.model_theorem.specs.{HasPassedAll}
-use Rattle.redo_disk.specs.{Call as DeviceCall, ReadsEndWith}
+use Rattle.redo_disk.specs.{Call, ReadsEndWith}
 use Rattle.redo_disk.specs.declared.error.DevError.{DevError}
 use Rattle.redo_memdisk.specs.declared.fuse.Stage.{Stage}
 use Rattle.redo_memdisk.specs.declared.fuse.Stage.TheVariants.{Before, Stopping}
 use Rattle.redo_lab.specs.declared.playing.Stops.{Stops}
-use Rattle.redo_lab.specs.Call.{Call, Each, Guarded, WhereToldAtEntry}
+use Rattle.redo_lab.specs.Call.{BothDevices, Guarded, LabCall, WhereToldAtEntry}
 use Rattle.redo_lab.specs.Cause.{AreLongEnough}
 
 -- the device has its size, its count of faults hasn't fallen, and one that told goes on telling
@@ -46,43 +46,43 @@ pub record IsArmed (limit : Option ℕ) (stage : Stage) (failed_since : ℕ) (de
   pub told : device.entry.tells ≢ None → device.armed_from ≢ None
 
 -- the calls are one read, which ended so
-pub record IsFirstRead (error : Option DevError) (calls : List DeviceCall) : Type 0 where
+pub record IsFirstRead (error : Option DevError) (calls : List Call) : Type 0 where
   pub reads : ReadsEndWith error calls
   pub one : length calls ≡ 1
 
 -- The log device was unused, where both told, and both are long enough for a new store; when the fuses were armed they held one
 -- that was just formatted, where they told.
-pub record WereFormatted (call : Call) : Type 0 where
+pub record WereFormatted (call : LabCall) : Type 0 where
   pub unused : WhereToldAtEntry call (λ log store. IsUnused log.reads)
   pub long : AreLongEnough default_shape call.log.entry.size call.store.entry.size
   pub formatted : (log store : Disk) → call.log.armed_from ≡ Some log → call.store.armed_from ≡ Some store → IsFormatted default_shape log store
 
 -- The log device was in use, where both told; and until the fuses were armed both meant what they had meant, the log device was
 -- called once at the most, and the data device wasn't.
-pub record WereInUse (call : Call) : Type 0 where
+pub record WereInUse (call : LabCall) : Type 0 where
   pub used : WhereToldAtEntry call (λ log store. IsUnused log.reads → ⊥)
-  pub kept : Each (λ device. device.armed_from ≡ device.entry.tells) call
+  pub kept : BothDevices (λ device. device.armed_from ≡ device.entry.tells) call
   pub log_calls : call.log.fuse.early_calls ≤ 1
   pub data_calls : call.store.fuse.early_calls ≡ 0
 
 -- BOTH WERE PREPARED when their fuses were armed: they were formatted or are in use.
-pub record ArePrepared (call : Call) : Type 0 where
+pub record ArePrepared (call : LabCall) : Type 0 where
   pub header : HEADER_BYTES ≤ call.log.entry.size
   pub which : WereFormatted call ⊎ WereInUse call
 
 -- the devices as the arming of their fuses finds them
-abbrev pub to_be_armed : Call → Call
+abbrev pub to_be_armed : LabCall → LabCall
 to_be_armed call = record call {
   log = record call.log { armed_from = call.log.now.tells };
   store = record call.store { armed_from = call.store.now.tells };
 }
 
 -- BOTH FUSES ARE ARMED with these stops, after the devices were prepared.
-pub record AreArmed (call : Call) (stops : Stops) : Type 0 where
+pub record AreArmed (call : LabCall) (stops : Stops) : Type 0 where
   pub prepared : ArePrepared call
   pub log_device : IsArmed stops.log Stopping 0 call.log
   pub data_device : IsArmed stops.store Stopping 0 call.store
 
 -- no call failed since, and each means what it meant then
-abbrev pub AreAsArmed : Call → Type 0
-AreAsArmed call = Each (λ device. (device.fuse.mid ≡ 0) × (device.armed_from ≡ device.now.tells)) call
+abbrev pub AreAsArmed : LabCall → Type 0
+AreAsArmed call = BothDevices (λ device. (device.fuse.mid ≡ 0) × (device.armed_from ≡ device.now.tells)) call

@@ -13,7 +13,7 @@ use Rattle.redo_lab.specs.declared.outcome.Outcome.{Outcome}
 use Rattle.redo_lab.specs.declared.outcome.Outcome.TheVariants as outcome
 use Rattle.redo_lab.specs.Answer.{IsAnswer}
 use Rattle.redo_lab.specs.Asked.{command_of, leaves_devices, reads_script, runs_script}
-use Rattle.redo_lab.specs.Call.{AreUnfailedFor, Call, Each, IsUnfailedAside, IsUnwritten}
+use Rattle.redo_lab.specs.Call.{AreUnfailedFor, BothDevices, IsUnfailedAside, IsUnwritten, LabCall}
 use Rattle.redo_lab.specs.Cause.{IsCauseOf, IsPossible, MayKeepFrom}
 use Rattle.redo_lab.specs.Told.{IsReportText, IsRunText, LeavesStore}
 
@@ -38,19 +38,19 @@ abbrev pub IsFaultPrinted : List ℕ → Fault → ℕ → SinkSeen → SinkSeen
 IsFaultPrinted text fault status sink sink_now = (status ≡ status_of fault) × IsPutOut (text ++ fault_line fault) sink sink_now
 
 -- which device ended a run: the log device where both failed
-abbrev pub EndsRun : Call → Fault → Type 0
+abbrev pub EndsRun : LabCall → Fault → Type 0
 EndsRun call LogDevice = HasRisen call.log.entry.faults call.log.now.faults × (0 < call.log.fuse.mid)
 EndsRun call DataDevice =
     HasRisen call.store.entry.faults call.store.now.faults × (0 < call.store.fuse.mid) × (call.log.fuse.mid ≡ 0)
 EndsRun call _ = ⊥
 
 -- a device ended the run, which is reported before the fault's line
-abbrev pub IsReported : Call → Command → List ℕ → Fault → Type 0
-IsReported call (Run drive) text fault = IsRunText call (Run drive) drive IsReportText text × EndsRun call fault × Each IsUnfailedAside call
+abbrev pub IsReported : LabCall → Command → List ℕ → Fault → Type 0
+IsReported call (Run drive) text fault = IsRunText call (Run drive) drive IsReportText text × EndsRun call fault × BothDevices IsUnfailedAside call
 IsReported call command text fault = ⊥
 
 -- WHAT THE COMMAND COMES TO: its text, where no device failed that keeps the command from it; or a report of the run that a device ended; or a fault alone, with its cause
-abbrev pub IsOutcome : Call → Command → Outcome → Type 0
+abbrev pub IsOutcome : LabCall → Command → Outcome → Type 0
 IsOutcome call command (outcome.Text text) = AreUnfailedFor command call × IsAnswer call command text
 IsOutcome call command (outcome.Report text fault) = IsReported call command text fault
 IsOutcome call command (outcome.Fault fault) = IsCauseOf call command fault
@@ -70,32 +70,32 @@ IsDoneOrKeptFrom command (outcome.Fault fault) = MayKeepFrom command fault
 -- WHAT THE OUTCOME SAYS of its call. Whatever it is, what is left of the store is accepted where the command runs a script, and a
 -- device that told goes on telling. A command that can be done is done where nothing failed, or want of
 -- memory or spent turns kept it from that.
-pub record EndsWith (call : Call) (command : Command) (outcome : Outcome) : Type 0 where
+pub record EndsWith (call : LabCall) (command : Command) (outcome : Outcome) : Type 0 where
   pub means : IsOutcome call command outcome
   pub unread : reads_script command ≡ false → call.source_now ≡ call.source
-  pub unwritten : leaves_devices command ≡ true → Each IsUnwritten call
+  pub unwritten : leaves_devices command ≡ true → BothDevices IsUnwritten call
   pub left : runs_script command ≡ true → LeavesStore call
-  pub tells : Each (λ device. device.entry.tells ≢ None → device.now.tells ≢ None) call
+  pub tells : BothDevices (λ device. device.entry.tells ≢ None → device.now.tells ≢ None) call
   pub complete : IsPossible call command → (HasRisen call.source.faults call.source_now.faults → ⊥) → AreUnfailedFor command call
       → IsDoneOrKeptFrom command outcome
 
 -- the words ask for this command, which comes to an outcome that is printed
-pub record EndsCommand (call : Call) (sink sink_now : SinkSeen) (status : ℕ) (command : Command) : Type 0 where
+pub record EndsCommand (call : LabCall) (sink sink_now : SinkSeen) (status : ℕ) (command : Command) : Type 0 where
   pub asked : command_of call.words ≡ Some command
   pub outcome : Outcome
   pub ends : EndsWith call command outcome
   pub printed : IsOutcomePrinted outcome status sink sink_now
 
 -- the words are no command, or there was no memory to read them, and nothing was done
-pub record HasNoCommand (call : Call) (sink sink_now : SinkSeen) (status : ℕ) : Type 0 where
+pub record HasNoCommand (call : LabCall) (sink sink_now : SinkSeen) (status : ℕ) : Type 0 where
   pub fault : Fault
   pub fault_is : ((command_of call.words ≡ None) × (fault ≡ Words)) ⊎ (fault ≡ Memory)
   pub printed : IsFaultPrinted [] fault status sink sink_now
   pub unread : call.source_now ≡ call.source
-  pub unwritten : Each IsUnwritten call
+  pub unwritten : BothDevices IsUnwritten call
   pub left : (command : Command) → command_of call.words ≡ Some command → runs_script command ≡ true → LeavesStore call
 
 -- the call had this sink, which is this now, and ended with this status
-pub record IsCallOf (call : Call) (sink sink_now : SinkSeen) (status : ℕ) : Type 0 where
+pub record IsCallOf (call : LabCall) (sink sink_now : SinkSeen) (status : ℕ) : Type 0 where
   pub way : HasNoCommand call sink sink_now status ⊎ ((command : Command) × EndsCommand call sink sink_now status command)
   pub reads_little : TakesAtMost (MAX_SCRIPT + PIECE) call.source.left call.source_now.left

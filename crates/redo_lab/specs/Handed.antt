@@ -5,7 +5,7 @@ use Rattle.redo_disk.specs.Seen.{Seen}
 use Rattle.redo_io.specs.{SourceSeen}
 use Rattle.redo_memdisk.specs.{entry_of, CallsThrough, seen_through}
 use Rattle.redo_memdisk.specs.declared.fused.Fused.{Fused}
-use Rattle.redo_lab.specs.Call.{Call, guarded}
+use Rattle.redo_lab.specs.Call.{LabCall, guarded}
 use Rattle.model_script.specs.declared.asked.Drive.{Drive}
 use Rattle.model_device.specs.Disk.{Disk}
 use Rattle.model_log.specs.{start_after}
@@ -55,7 +55,7 @@ pub record AreOf {L D : Type 0} (log : L) (store : D) (log_now : Fused L) (data_
 
 -- the call that was handed these words, this source and these devices, which are these now
 abbrev pub call_on : {L D : Type 0} → (L → Seen) → (L → device.Call → L → Type 0) → (D → Seen) → (D → device.Call → D → Type 0) → List (List ℕ)
-    → (source source_now : SourceSeen) → L → D → Fused L → Fused D → Call
+    → (source source_now : SourceSeen) → L → D → Fused L → Fused D → LabCall
 call_on log_seen log_gives data_seen data_gives words source source_now log store log_now data_now = record {
   words = words;
   source = source;

@@ -14,7 +14,7 @@ use Rattle.model_script.specs.declared.asked.Drive.{Drive}
 use Rattle.model_script.specs.declared.script.ScriptLine.{ScriptLine}
 use Rattle.model_store.specs.{IsReading}
 use Rattle.model_store.specs.Reading.{Reading}
-use Rattle.model_theorem.specs.{entries_of, FitsOpened, LosesOnlyByFailure, marks_of, Opened, Ran, start_of}
+use Rattle.model_theorem.specs.{entries_of, FitsOpened, LosesOnlyByFailure, marks_of, Opened, Ran, run_start}
 use Rattle.redo_disk.specs.Seen.{Seen}
 use Rattle.redo_disk.specs.declared.error.DevError.{DevError}
 use Rattle.redo_disk.specs.declared.error.DevError.TheVariants as device
@@ -38,12 +38,12 @@ use Rattle.redo_lab.specs.declared.playing.Played.{Played}
 use Rattle.redo_lab.specs.declared.playing.Ran as declared
 use Rattle.redo_lab.specs.declared.playing.Stops.{Stops}
 use Rattle.redo_lab.specs.Asked.{IsScriptFor, drive_of, reads_script}
-use Rattle.redo_lab.specs.Call.{Call, Each, WhereOpened, WhereToldAtEntry, WhereToldNow, mids}
+use Rattle.redo_lab.specs.Call.{BothDevices, LabCall, WhereOpened, WhereToldAtEntry, WhereToldNow, mids}
 use Rattle.redo_lab.specs.Devices.{AreArmed, ArePrepared, IsUnarmed, to_be_armed}
 use Rattle.redo_lab.specs.Handed.{AreOf, IsOpenedAt}
 use Rattle.redo_lab.specs.Ending.{EndsWith}
-use Rattle.redo_lab.specs.Store.{IsOpenedAs}
-use Rattle.redo_lab.specs.Told.{AreLeftRead, IsOpenedFirst, IsRunOf}
+use Rattle.redo_lab.specs.Store.{DevicesOpenAs}
+use Rattle.redo_lab.specs.Told.{AreLeftRead, HasRunScript, IsOpenedFirst}
 
 -- the fault of a call whose store isn't formatted, read or opened
 abbrev pub fault_of : RecFault → Fault
@@ -67,39 +67,39 @@ command_with asked None = Run asked
 command_with asked (Some crash) = Crash asked crash.stops.log crash.stops.store crash.pick crash.workers
 
 -- THE COMMAND RUNS THIS SCRIPT, by this drive, off a source that is left alone if the script isn't there.
-pub record IsRunning (source source_now : SourceSeen) (command : Command) (drive : Drive) (script : List ScriptLine) : Type 0 where
+pub record CommandRuns (source source_now : SourceSeen) (command : Command) (drive : Drive) (script : List ScriptLine) : Type 0 where
   pub asked : drive_of command ≡ Some drive
   pub is_script : IsScriptFor command source source_now script
   pub unread : reads_script command ≡ false → source_now ≡ source
 
 -- what preparing the devices comes to: they are ready to be armed, or a command that runs a script ends by this
-abbrev pub Prepares : Call → Result (Unit {0}) RecFault → Type 0
-Prepares call (Ok done) = Each (IsUnarmed 0) call × ArePrepared (to_be_armed call)
-Prepares call (Err fault) = (command : Command) (drive : Drive) (script : List ScriptLine) → IsRunning call.source call.source_now command drive script
+abbrev pub Prepares : LabCall → Result (Unit {0}) RecFault → Type 0
+Prepares call (Ok done) = BothDevices (IsUnarmed 0) call × ArePrepared (to_be_armed call)
+Prepares call (Err fault) = (command : Command) (drive : Drive) (script : List ScriptLine) → CommandRuns call.source call.source_now command drive script
     → EndsWith call command (outcome.Fault (fault_of fault))
 
 -- WHAT IS LEFT of a run that ended so, or of an opening that a device stopped: its first call was counted, the run is told rightly of
 -- the store on which it began, and each image of the devices is read as a prefix of it.
-pub record IsLeftBy (call : Call) (command : Command) (drive : Drive) (stops : Stops) (script : List ScriptLine) (run : Option Ran) (end : RunEnd) : Type 0 where
+pub record IsLeftBy (call : LabCall) (command : Command) (drive : Drive) (stops : Stops) (script : List ScriptLine) (run : Option Ran) (end : RunEnd) : Type 0 where
   pub armed : AreArmed call stops
   pub counted : 0 < call.log.fuse.passed + call.log.fuse.mid
   pub opened : Opened
-  pub ran : IfSome run (λ run. IsRunOf call command drive opened script run end call.log.now.tells call.store.now.tells)
+  pub ran : IfSome run (λ run. HasRunScript call command drive opened script run end call.log.now.tells call.store.now.tells)
   pub opened_first : IsOpenedFirst call call.log.now.tells run
   pub reads : AreLeftRead call script run
 
 -- something is lost of it only where a device failed
-abbrev pub LosesByFailure : Call → List ScriptLine → Option Ran → Type 0
+abbrev pub LosesByFailure : LabCall → List ScriptLine → Option Ran → Type 0
 LosesByFailure call script run = (left : List (ℕ × ℕ)) → IsLeft script (entries_of run) left → LosesOnlyByFailure (mids call) run left
 
 -- this device failed since its fuse was armed: the log device where both did
-abbrev pub HasFailed : Call → Fault → Type 0
+abbrev pub HasFailed : LabCall → Fault → Type 0
 HasFailed call fault.LogDevice = 0 < call.log.fuse.mid
 HasFailed call fault.DataDevice = (0 < call.store.fuse.mid) × (call.log.fuse.mid ≡ 0)
 HasFailed call _ = ⊥
 
 -- no device failed, and what reads of the two give is read; or this one did
-abbrev pub IsPlayedTo : Call → Option Fault → Type 0
+abbrev pub IsPlayedTo : LabCall → Option Fault → Type 0
 IsPlayedTo call None = (mids call ≡ 0) × ((store : Opened) → WhereOpened call store (WhereToldNow call (λ log_disk data_disk.
     (reading : Reading) × IsReading log_disk.reads data_disk.reads reading)))
 IsPlayedTo call (Some fault) = HasFailed call fault
@@ -109,7 +109,7 @@ abbrev pub ran_of : Played → Ran
 ran_of played = record { start = played.start; entries = played.history; marks = played.marks }
 
 -- WHAT A RUN COMES TO: the command ends with this fault; or a device stopped opening; or the lines were run.
-abbrev pub ComesTo : Call → Command → Drive → Stops → List ScriptLine → Course → Type 0
+abbrev pub ComesTo : LabCall → Command → Drive → Stops → List ScriptLine → Course → Type 0
 ComesTo call command drive stops script (course.Ended fault) = EndsWith call command (outcome.Fault fault)
 ComesTo call command drive stops script (course.Stopped fault) =
     IsLeftBy call command drive stops script None ended.Done × HasFailed call fault
@@ -118,25 +118,25 @@ ComesTo call command drive stops script (course.Played played fault) =
     × LosesByFailure call script (Some (ran_of played)) × IsPlayedTo call fault
 
 -- the same of the devices that are given back, with which the call is this
-abbrev pub IsRanBy : {L D : Type 0} → (Fused L → Fused D → Call) → Command → Drive → Stops → List ScriptLine → declared.Ran L D → Type 0
+abbrev pub IsRanBy : {L D : Type 0} → (Fused L → Fused D → LabCall) → Command → Drive → Stops → List ScriptLine → declared.Ran L D → Type 0
 IsRanBy call command drive stops script ran = ComesTo (call ran.log ran.store) command drive stops script ran.course
 
 -- THE STORE STANDS OPENED on both devices after their fuses were armed, the script fits it, and no call failed.
-pub record StandsReady {L D : Type 0} (log_seen : L → Seen) (data_seen : D → Seen) (call : Call) (drive : Drive) (stops : Stops) (script : List ScriptLine)
+pub record StandsReady {L D : Type 0} (log_seen : L → Seen) (data_seen : D → Seen) (call : LabCall) (drive : Drive) (stops : Stops) (script : List ScriptLine)
     (given : store.Opened (Fused L) (Fused D)) : Type 0 where
   pub armed : AreArmed call stops
   pub counted : 0 < call.log.fuse.passed + call.log.fuse.mid
   pub unfailed : mids call ≡ 0
   pub opened : Opened
   pub is_opened : IsOpenedAt opened given
-  pub opens : WhereToldAtEntry call (IsOpenedAs opened)
+  pub opens : WhereToldAtEntry call (DevicesOpenAs opened)
   pub fits : FitsOpened drive.log_only opened script
   pub reads : AreLeftRead call script None
   pub ready : (reading : Reading) (log store : Disk) → call.log.armed_from ≡ Some log → call.store.armed_from ≡ Some store
       → IsOpenable reading log store → IsOpenedReady (seen_through log_seen) (seen_through data_seen) reading given
 
 -- the store stands ready for the drive that is asked for, or this came of it
-abbrev pub AreReady : {L D : Type 0} → (L → Seen) → (D → Seen) → (Fused L → Fused D → Call) → Command → Drive → Stops → List ScriptLine
+abbrev pub AreReady : {L D : Type 0} → (L → Seen) → (D → Seen) → (Fused L → Fused D → LabCall) → Command → Drive → Stops → List ScriptLine
     → Result (store.Opened (Fused L) (Fused D)) (declared.Ran L D) → Type 0
 AreReady log_seen data_seen call command drive stops script (Ok given) =
     StandsReady log_seen data_seen (call given.log.dev given.store.dev) drive stops script given
@@ -176,9 +176,9 @@ course_of (ended.Spent turns user) played cause = course.Ended (fault.Turns turn
 course_of ended.Done played cause = course_done played cause
 
 -- the run of the lines that were played, if any were
-abbrev pub run_of : Option (Bor Played) → Option Ran
-run_of None = None
-run_of (Some played) = Some (ran_of played.now)
+abbrev pub played_run : Option (Bor Played) → Option Ran
+played_run None = None
+played_run (Some played) = Some (ran_of played.now)
 
 -- how many groups the run reserved, its flushed mark and its checkpoint, and the checksum of the pages that are read after it
 abbrev pub summary_of : Ran → Reading → List ℕ
@@ -188,7 +188,7 @@ summary_of run reading = summary_text (length run.entries) run.marks.flushed run
 pub record IsReportOf (script : List ScriptLine) (run : Option Ran) (read : Option (ℕ × List Content)) (text : List ℕ) : Type 0 where
   pub left : List (ℕ × ℕ)
   pub left_is : IsLeft script (entries_of run) left
-  pub text_is : text ≡ report_text (start_of run) (entries_of run) left (marks_of run) read
+  pub text_is : text ≡ report_text (run_start run) (entries_of run) left (marks_of run) read
 
 -- what is to be printed of a run that was ended by this, if by anything: its report, if there was memory for it
 abbrev pub IsRunPrinted : List ScriptLine → Ran → Option Fault → Outcome → Type 0

@@ -5,7 +5,7 @@ ghost use Rattle.model_script.specs.declared.asked.Drive.{Drive as Asked};
 ghost use Rattle.model_script.specs.declared.words.TheConstants.{MAX_WORKERS};
 ghost use Rattle.redo_io.specs.{SourceSeen, TakesAtMost};
 ghost use Rattle.redo_io.specs.declared.read.TheConstants.{PIECE};
-ghost use Rattle.redo_lab.specs.Asked.{IsScriptRead, IsWithin, runs_in_threads};
+ghost use Rattle.redo_lab.specs.Asked.{HasAllowedNumbers, IsScriptRead, runs_in_threads};
 ghost use Rattle.redo_lab.specs.Handed.{AreOf, call_on};
 ghost use Rattle.redo_lab.specs.Ending.{EndsWith};
 ghost use Rattle.redo_lab.specs.Runs.{IsRanBy, command_with, stops_of};
@@ -70,7 +70,7 @@ fn source_by_turns<R: Threads + Sync, S: Source, L: Sectors, D: Sectors>(
     log: L,
     store: D,
 ) -> Done<L, D>
-    requires within { IsWithin (command_with asked.drive asked.crash) }
+    requires within { HasAllowedNumbers (command_with asked.drive asked.crash) }
     requires by_turns { asked.drive.threads ≡ false }
     ensures ends { (words : List (List ℕ))
         → EndsWith (call_on L.seen L.gives D.seen D.gives words (S.seen src.old) (S.seen src.new) log store result.log result.store) (command_with asked.drive asked.crash) result.outcome }
@@ -98,7 +98,7 @@ pub(crate) fn source_in_threads<
     D: Sectors + Send,
     G: Gate,
 >(rt: &R, alloc: Global, src: &mut S, gate: &G, asked: Scripted, log: L, store: D) -> Done<L, D>
-    requires within { IsWithin (command_with asked.drive asked.crash) }
+    requires within { HasAllowedNumbers (command_with asked.drive asked.crash) }
     requires in_threads { asked.drive.threads ≡ true }
     ensures ends { (words : List (List ℕ))
         → EndsWith (call_on L.seen L.gives D.seen D.gives words (S.seen src.old) (S.seen src.new) log store result.log result.store) (command_with asked.drive asked.crash) result.outcome }
@@ -127,7 +127,7 @@ pub(crate) fn done<R: Threads + Sync, S: Source, L: Sectors, D: Sectors>(
     log: L,
     store: D,
 ) -> Done<L, D>
-    requires within { IsWithin command }
+    requires within { HasAllowedNumbers command }
     requires by_turns { runs_in_threads command ≡ false }
     ensures ends { (words : List (List ℕ))
         → EndsWith (call_on L.seen L.gives D.seen D.gives words (S.seen src.old) (S.seen src.new) log store result.log result.store) command result.outcome }

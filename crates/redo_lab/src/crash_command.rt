@@ -9,7 +9,7 @@ ghost use Rattle.redo_memdisk.specs.{entry_of};
 ghost use Rattle.redo_lab.specs.Asked.{IsScriptRead};
 ghost use Rattle.redo_lab.specs.Handed.{AreOf, call_on};
 ghost use Rattle.redo_lab.specs.Ending.{EndsWith};
-ghost use Rattle.redo_lab.specs.Runs.{IsLeftBy, IsRanBy, IsReportOf, LosesByFailure, command_with, run_of};
+ghost use Rattle.redo_lab.specs.Runs.{IsLeftBy, IsRanBy, IsReportOf, LosesByFailure, command_with, played_run};
 
 use crate::faults::fault_of;
 use crate::laws::laws;
@@ -43,7 +43,7 @@ fn report_crash(
     recovered: &Recovered,
 ) -> Result<Text, NoMemory>
     requires { length recovered.now.pages ≤ MAX_PAGES }
-    ensures { IfOk result (λ text. IsReportOf script.now (run_of played.entry) (Some (recovered.now.end, recovered.now.pages)) text) }
+    ensures { IfOk result (λ text. IsReportOf script.now (played_run played.entry) (Some (recovered.now.end, recovered.now.pages)) text) }
 {
     let pages = contents(alloc, &recovered.pages)?;
     report_of(
@@ -68,8 +68,8 @@ fn crash_and_read<R: Threads + Sync, L: Sectors, D: Sectors>(
     ensures ends { (asked : Asked) (words : List (List ℕ)) (source source_now : SourceSeen) (log_entry : L) (data_entry : D)
         → IsScriptRead source source_now script.now
         → IsLeftBy (call_on L.seen L.gives D.seen D.gives words source source_now log_entry data_entry log.old store.old) (command_with asked (Some crash)) asked crash.stops
-        script.now (run_of played.entry) ended.Done
-        → LosesByFailure (call_on L.seen L.gives D.seen D.gives words source source_now log_entry data_entry log.old store.old) script.now (run_of played.entry)
+        script.now (played_run played.entry) ended.Done
+        → LosesByFailure (call_on L.seen L.gives D.seen D.gives words source source_now log_entry data_entry log.old store.old) script.now (played_run played.entry)
         → EndsWith (call_on L.seen L.gives D.seen D.gives words source source_now log_entry data_entry log.new store.new) (command_with asked (Some crash)) result }
     ensures entered { AreOf (entry_of log.old) (entry_of store.old) log.new store.new }
 {

@@ -13,7 +13,7 @@ ghost use Rattle.redo_lab.specs.Asked.{drive_of_seed, turns_of};
 ghost use Rattle.redo_lab.specs.declared.playing.Course.TheVariants as course;
 ghost use Rattle.redo_lab.specs.Handed.{AreOf, call_on};
 ghost use Rattle.redo_lab.specs.Ending.{EndsWith};
-ghost use Rattle.redo_lab.specs.Runs.{ComesTo, IsRunning, ran_of, stops_of, summary_of};
+ghost use Rattle.redo_lab.specs.Runs.{ComesTo, CommandRuns, ran_of, stops_of, summary_of};
 
 use crate::faults::fault_of;
 use crate::laws::laws;
@@ -77,7 +77,7 @@ fn read_after<L: Sectors, D: Sectors>(
     store: &mut Fused<D>,
 ) -> Outcome
     ensures ends { (words : List (List ℕ)) (source : SourceSeen) (log_entry : L) (data_entry : D) (seed users groups max : ℕ) (script : List ScriptLine)
-        → IsRunning source source (Gen seed users groups true max) (drive_of_seed seed max) script
+        → CommandRuns source source (Gen seed users groups true max) (drive_of_seed seed max) script
         → ComesTo (call_on L.seen L.gives D.seen D.gives words source source log_entry data_entry log.old store.old) (Gen seed users groups true max) (drive_of_seed seed max)
         (stops_of None) script (course.Played played.now None)
         → EndsWith (call_on L.seen L.gives D.seen D.gives words source source log_entry data_entry log.new store.new) (Gen seed users groups true max) result }

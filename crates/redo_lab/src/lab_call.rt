@@ -1,7 +1,7 @@
 // The top call.
 ghost use Rattle.std.specs.Prelude.{ℕ, ◌≡◌, Some, false, List, map};
 ghost use Rattle.std.specs.String.{string_bytes};
-ghost use Rattle.redo_lab.specs.Asked.{IsWithin, command_of, runs_in_threads};
+ghost use Rattle.redo_lab.specs.Asked.{HasAllowedNumbers, command_of, runs_in_threads};
 ghost use Rattle.redo_lab.specs.Ending.{IsCallOf};
 ghost use Rattle.redo_lab.specs.Handed.{AreOf, call_on};
 
@@ -29,7 +29,7 @@ pub fn lab_turns<R: Threads + Sync, S: Source, O: Sink, L: Sectors, D: Sectors>(
     log: L,
     store: D,
 ) -> Ended<L, D>
-    requires within { IsWithin command }
+    requires within { HasAllowedNumbers command }
     requires by_turns { runs_in_threads command ≡ false }
     ensures call { (words : List (List ℕ)) → command_of words ≡ Some command
         → IsCallOf (call_on L.seen L.gives D.seen D.gives words (S.seen src.old) (S.seen src.new) log store result.log result.store)

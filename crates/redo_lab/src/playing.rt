@@ -15,7 +15,7 @@ ghost use Rattle.redo_lab.specs.declared.playing.Stops.{Stops};
 ghost use Rattle.redo_lab.specs.Asked.{turns_of};
 ghost use Rattle.redo_lab.specs.Devices.{AreArmed, AreAsArmed};
 ghost use Rattle.redo_lab.specs.Handed.{AreOf, call_on};
-ghost use Rattle.redo_lab.specs.Runs.{AreEntered, AreReady, IsRanBy, IsRunning, course_done, course_of, ended_by, played_of, unopened};
+ghost use Rattle.redo_lab.specs.Runs.{AreEntered, AreReady, CommandRuns, IsRanBy, course_done, course_of, ended_by, played_of, unopened};
 
 use crate::faults::fault_of;
 use crate::laws::laws;
@@ -169,7 +169,7 @@ fn open_fitted<L: Sectors, D: Sectors>(
     requires { AllByRecursion IsScriptLine script.now }
     ensures begins { IfOk result (λ opened. MayBegin opened script.now log_only) }
     ensures ready { (words : List (List ℕ)) (source source_now : SourceSeen) (log_entry : L) (data_entry : D) (command : Command) (asked : Asked) (stops : Stops)
-        → IsRunning source source_now command asked script.now → log_only ≡ asked.log_only
+        → CommandRuns source source_now command asked script.now → log_only ≡ asked.log_only
         → AreArmed (call_on L.seen L.gives D.seen D.gives words source source_now log_entry data_entry log store) stops
         → AreAsArmed (call_on L.seen L.gives D.seen D.gives words source source_now log_entry data_entry log store)
         → AreReady L.seen D.seen (call_on L.seen L.gives D.seen D.gives words source source_now log_entry data_entry) command asked stops script.now result }
@@ -216,7 +216,7 @@ fn ready<L: Sectors, D: Sectors>(
     requires { AllByRecursion IsScriptLine script.now }
     ensures begins { IfOk result (λ opened. MayBegin opened script.now log_only) }
     ensures ready { (words : List (List ℕ)) (source source_now : SourceSeen) (command : Command) (asked : Asked)
-        → IsRunning source source_now command asked script.now → log_only ≡ asked.log_only
+        → CommandRuns source source_now command asked script.now → log_only ≡ asked.log_only
         → AreReady L.seen D.seen (call_on L.seen L.gives D.seen D.gives words source source_now log store) command asked stops script.now result }
     ensures entered { AreEntered log store result }
 {
@@ -248,7 +248,7 @@ pub(crate) fn by_turns<L: Sectors, D: Sectors>(
 ) -> Ran<L, D>
     requires { AllByRecursion IsScriptLine script.now }
     ensures comes_to { (words : List (List ℕ)) (source source_now : SourceSeen) (command : Command) (asked : Asked)
-        → IsRunning source source_now command asked script.now → turns.now ≡ turns_of asked → asked.threads ≡ false
+        → CommandRuns source source_now command asked script.now → turns.now ≡ turns_of asked → asked.threads ≡ false
         → IsRanBy (call_on L.seen L.gives D.seen D.gives words source source_now log store) command asked stops script.now result }
     ensures entered { AreOf log store result.log result.store }
 {
@@ -277,7 +277,7 @@ pub(crate) fn in_threads<R: Threads + Wait + Sync, L: Sectors + Send, D: Sectors
 ) -> Ran<L, D>
     requires lines { AllByRecursion IsScriptLine script.now }
     ensures comes_to { (words : List (List ℕ)) (source source_now : SourceSeen) (command : Command) (asked : Asked)
-        → IsRunning source source_now command asked script.now → log_only ≡ asked.log_only → asked.threads ≡ true
+        → CommandRuns source source_now command asked script.now → log_only ≡ asked.log_only → asked.threads ≡ true
         → IsRanBy (call_on L.seen L.gives D.seen D.gives words source source_now log store) command asked stops script.now result }
     ensures entered { AreOf log store result.log result.store }
 {

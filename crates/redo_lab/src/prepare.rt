@@ -12,7 +12,7 @@ ghost use Rattle.redo_memdisk.specs.{entry_of, fresh, fuse_of, inner_of};
 ghost use Rattle.redo_recover.specs.{log_fault_of};
 
 use crate::laws::laws;
-use crate::shapes::default_shape;
+use model_base::Shape;
 use model_log::HEADER_BYTES;
 use redo_disk::{DevError, Sectors};
 use redo_memdisk::Fused;
@@ -75,7 +75,7 @@ pub(crate) fn prepare<L: Sectors, D: Sectors>(
         return Err(RecFault::SmallLog(HEADER_BYTES));
     }
     match is_unused(log) {
-        Ok(true) => match format(log, store, &default_shape()) {
+        Ok(true) => match format(log, store, &Shape::default_shape()) {
             Ok(()) => Ok(()),
             Err(fault) => Err(fault),
         },

@@ -1,6 +1,6 @@
 // The report of a run.
 ghost use Rattle.std.specs.Prelude.{IfOk};
-ghost use Rattle.redo_lab.specs.Runs.{IsReportOf, run_of};
+ghost use Rattle.redo_lab.specs.Runs.{IsReportOf, played_run};
 ghost use Rattle.redo_report.specs.{read_of};
 
 use crate::playing::Played;
@@ -19,7 +19,7 @@ pub(crate) fn report_of(
     run: Option<&Played>,
     read: Option<(u64, &[Content])>,
 ) -> Result<Text, NoMemory>
-    ensures { IfOk result (λ text. IsReportOf script.now (run_of run.entry) (read_of read.entry) text) }
+    ensures { IfOk result (λ text. IsReportOf script.now (played_run run.entry) (read_of read.entry) text) }
 {
     match run {
         None => {

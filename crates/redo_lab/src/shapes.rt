@@ -1,9 +1,8 @@
 // The sizes of a store that is formatted.
 ghost use Rattle.std.specs.Prelude.{◌≡◌};
-ghost use Rattle.model_base.specs.{default_shape};
-ghost use Rattle.redo_lab.specs.Answer.{shape_of};
+ghost use Rattle.redo_lab.specs.Answer.{asked_shape};
 
-use model_base::{DEFAULT_LOG_BLOCKS, DEFAULT_PAGES, DEFAULT_SPACE, PAGE_SIZE, SLOTS, Shape};
+use model_base::Shape;
 
 /// Bytes of a log device on which a store of the default sizes has room.
 pub const LOG_LENGTH: u64 = 1_050_624;
@@ -12,20 +11,12 @@ pub const STORE_LENGTH: u64 = 65_536;
 
 /// The sizes that the words of `format` ask for.
 pub(crate) fn shape_of(pages: u32, space: u32, log_blocks: u32) -> Shape
-    ensures { result ≡ shape_of pages space log_blocks }
+    ensures { result ≡ asked_shape pages space log_blocks }
 {
     Shape {
-        page_size: PAGE_SIZE,
         pages,
         space,
         log_blocks,
-        slots: SLOTS,
+        ..Shape::default_shape()
     }
-}
-
-/// The sizes of a store that is formatted without an option.
-pub(crate) fn default_shape() -> Shape
-    ensures { result ≡ default_shape }
-{
-    shape_of(DEFAULT_PAGES, DEFAULT_SPACE, DEFAULT_LOG_BLOCKS)
 }

@@ -4,7 +4,7 @@ ghost use Rattle.model_base.specs.{IsWithinLimits};
 ghost use Rattle.model_script.specs.declared.asked.Command.TheVariants.{Format, Recover, Dump};
 ghost use Rattle.model_script.specs.declared.words.TheConstants.{MAX_WORKERS};
 ghost use Rattle.redo_io.specs.{SourceSeen};
-ghost use Rattle.redo_lab.specs.Answer.{shape_of};
+ghost use Rattle.redo_lab.specs.Answer.{asked_shape};
 ghost use Rattle.redo_lab.specs.Handed.{AreOf, call_on};
 ghost use Rattle.redo_lab.specs.Ending.{EndsWith};
 
@@ -30,7 +30,7 @@ pub(crate) fn format_devices<L: Sectors, D: Sectors>(
     log: L,
     store: D,
 ) -> Done<L, D>
-    requires { IsWithinLimits (shape_of pages space log_blocks) }
+    requires { IsWithinLimits (asked_shape pages space log_blocks) }
     ensures ends { (words : List (List ℕ)) (source : SourceSeen)
         → EndsWith (call_on L.seen L.gives D.seen D.gives words source source log store result.log result.store) (Format pages space log_blocks) result.outcome }
     ensures entered { AreOf log store result.log result.store }

@@ -1,5 +1,8 @@
+use Rattle.std.proofs.Common.{rules, subst}
 use Rattle.redo_lab.proofs.Alone.{all-left}
+use Rattle.redo_lab.proofs.Sizes.{asked_within}
 use Rattle.redo_lab.proofs.commands.done.Goals as goal
+use Rattle.redo_lab.specs.Asked.{HasAllowedNumbers}
 
 pub returns-in-Format-clause-ends : goal.returns-in-Format-clause-ends
 returns-in-Format-clause-ends g c = λ words. rw c.in-Format.is (c.format_devices.ensures.ends words _)
@@ -48,3 +51,8 @@ returns-in-Dump-clause-taken g c = all-left (g.S.Source.seen c.args.src.now).lef
 
 pub returns-in-Gen-clause-taken : goal.returns-in-Gen-clause-taken
 returns-in-Gen-clause-taken g c = all-left (g.S.Source.seen c.args.src.now).left
+
+pub format_devices-requires : goal.format_devices-requires
+format_devices-requires g c =
+    let asked = subst HasAllowedNumbers c.in-Format.is c.requires.within in
+    asked_within c.in-Format.pages c.in-Format.space c.in-Format.log_blocks asked.0 asked.1 (search rules) asked.2 asked.3

@@ -3,14 +3,14 @@ use Rattle.redo_recover.specs.{reading_of}
 use Rattle.redo_lab.proofs.CrashEnds.{crash-reads}
 use Rattle.redo_lab.proofs.Entered.{both-entries}
 use Rattle.redo_lab.proofs.Rereading.{crashed-since, failure-ends, log-reads, reading-ends, was_of}
-use Rattle.redo_lab.specs.Runs.{run_of}
+use Rattle.redo_lab.specs.Runs.{played_run}
 use Rattle.redo_lab.proofs.crash_command.crash_and_read.Goals as goal
 
 pub returns-in-Ok-clause-ends : goal.returns-in-Ok-clause-ends
 returns-in-Ok-clause-ends g c = λ asked words source source_now log_entry data_entry read left loses.
     let now = c.in-Ok.ensures in
     rw c.of_text.ensures (reading-ends
-    (crash-reads _ asked c.args.crash.stops c.args.crash.pick c.args.crash.workers c.args.script.now (run_of c.args.played)
+    (crash-reads _ asked c.args.crash.stops c.args.crash.pick c.args.crash.workers c.args.script.now (played_run c.args.played)
     (was_of g.L.Sectors.seen c.args.log.now) (was_of g.D.Sectors.seen c.args.store.now) c.laws.ensures read left loses)
     _ _ now.log.unchanged.tells now.data_device.unchanged.tells (reading_of c.in-Ok.recovered) _
     (crashed-since left.armed.log_device c.crash.ensures.gives (log-reads now.log.calls), crashed-since left.armed.data_device c.crash-2.ensures.gives now.data_device.calls)
@@ -20,7 +20,7 @@ pub returns-in-Err-clause-ends : goal.returns-in-Err-clause-ends
 returns-in-Err-clause-ends g c = λ asked words source source_now log_entry data_entry read left loses.
     let now = c.in-Err.ensures in
     rw c.fault_of.ensures (failure-ends
-    (crash-reads _ asked c.args.crash.stops c.args.crash.pick c.args.crash.workers c.args.script.now (run_of c.args.played)
+    (crash-reads _ asked c.args.crash.stops c.args.crash.pick c.args.crash.workers c.args.script.now (played_run c.args.played)
     (was_of g.L.Sectors.seen c.args.log.now) (was_of g.D.Sectors.seen c.args.store.now) c.laws.ensures read left loses)
     _ _ now.log.unchanged.tells now.data_device.unchanged.tells c.in-Err.fault
     (crashed-since left.armed.log_device c.crash.ensures.gives (log-reads now.log.calls), crashed-since left.armed.data_device c.crash-2.ensures.gives now.data_device.calls)

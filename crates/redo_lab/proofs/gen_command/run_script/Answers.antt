@@ -4,13 +4,13 @@ use Rattle.redo_lab.proofs.Ends.{ends-failed, uncrashing-gen}
 use Rattle.redo_lab.proofs.Entered.{entries-then}
 use Rattle.redo_lab.proofs.RunEnds.{ends-stopped}
 use Rattle.redo_lab.specs.Asked.{drive_of_seed}
-use Rattle.redo_lab.specs.Runs.{IsRunning}
+use Rattle.redo_lab.specs.Runs.{CommandRuns}
 use Rattle.redo_lab.proofs.gen_command.run_script.Goals as goal
 use Rattle.redo_lab.proofs.gen_command.run_script.Goals.{in-Ended2, in-None, in-Played, in-Some}
 
 pub returns-clause-ends : goal.returns-clause-ends
 returns-clause-ends g c = λ words source seed users groups max is turns_are.
-    let running : IsRunning source source (Gen seed users groups true max) (drive_of_seed seed max) c.args.script.now =
+    let running : CommandRuns source source (Gen seed users groups true max) (drive_of_seed seed max) c.args.script.now =
     record { asked = refl; is_script = is; unread = λ plain. refl } in
     let comes_to = c.by_turns-course.ensures.comes_to words source source (Gen seed users groups true max) (drive_of_seed seed max) running turns_are refl in
     elim c.match-course.branch [

@@ -1,11 +1,11 @@
 use Rattle.std.proofs.Common.{ap, inr, refl, subst}
 use Rattle.redo_lab.proofs.AskedLimits.{command-of-within}
-use Rattle.redo_lab.specs.Asked.{IsWithin}
+use Rattle.redo_lab.specs.Asked.{HasAllowedNumbers}
 use Rattle.redo_lab.proofs.Alone.{all-left, nothing-ends}
 use Rattle.redo_lab.proofs.lab_call.lab.Goals as goal
 
 pub source_in_threads-done-requires-clause-within : goal.source_in_threads-done-requires-clause-within
-source_in_threads-done-requires-clause-within g c = λ κs live. subst IsWithin c.in-Some.ensures.some.0 (command-of-within _ c.in-Ok.command c.in-Ok.ensures.asked)
+source_in_threads-done-requires-clause-within g c = λ κs live. subst HasAllowedNumbers c.in-Some.ensures.some.0 (command-of-within _ c.in-Ok.command c.in-Ok.ensures.asked)
 
 pub source_in_threads-done-requires-clause-in_threads : goal.source_in_threads-done-requires-clause-in_threads
 source_in_threads-done-requires-clause-in_threads g c = λ κs live. c.in-Some.ensures.some.1

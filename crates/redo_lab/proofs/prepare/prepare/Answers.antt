@@ -16,7 +16,7 @@ returns-in-Ok-clause-prepares g c = λ words source source_now.
     prepared-formatted _ (guarded g.L.Sectors.seen c.args.log.now.inner c.is_unused.new.log) (guarded g.D.Sectors.seen c.args.store.now.inner c.args.store.now) c.in-Ok.field-0 header
     first.unarmed refl refl (rw c.in-Ok-true.field-0-test at c.in-Ok-true.ensures.unused)
     (formats-both g.L.Sectors.seen g.L.Sectors.gives g.D.Sectors.seen g.D.Sectors.gives c.args.log.now.inner c.args.store.now.inner first.unarmed c.in-Ok.field-0 c.in-Ok.ensures.calls)
-    (rw c.default_shape.ensures at c.in-Ok.ensures.lengths) (rw c.default_shape.ensures at c.in-Ok.ensures.formatted)
+    (rw c.default_shape.ensures.shape at c.in-Ok.ensures.lengths) (rw c.default_shape.ensures.shape at c.in-Ok.ensures.formatted)
 
 pub returns-in-Err-format-clause-prepares : goal.returns-in-Err-format-clause-prepares
 returns-in-Err-format-clause-prepares g c = λ words source source_now command asked script running.
@@ -25,8 +25,8 @@ returns-in-Err-format-clause-prepares g c = λ words source source_now command a
     format-fails g.L.Sectors.seen g.L.Sectors.gives g.D.Sectors.seen g.D.Sectors.gives c.args.log.now.inner c.args.store.now.inner first.unarmed
     (unprepared-formatted _ command asked script running c.laws.ensures header (λ same. rw (same.0, same.1) first) (rw c.in-Ok-true.field-0-test at c.in-Ok-true.ensures.unused)
     (kept-no-store (call_on g.L.Sectors.seen g.L.Sectors.gives g.D.Sectors.seen g.D.Sectors.gives words source source_now c.args.log.now.inner c.args.store.now.inner c.format.new.log c.format.new.data_device)
-    _ _ first.log_kept first.data_kept (rw c.default_shape.ensures at c.in-Err-format.ensures.keeps)))
-    c.in-Err-format.fault c.in-Err-format.ensures.calls (rw c.default_shape.ensures at c.in-Err-format.ensures.cause)
+    _ _ first.log_kept first.data_kept (rw c.default_shape.ensures.shape at c.in-Err-format.ensures.keeps)))
+    c.in-Err-format.fault c.in-Err-format.ensures.calls (rw c.default_shape.ensures.shape at c.in-Err-format.ensures.cause)
 
 pub returns-in-Ok-false-clause-prepares : goal.returns-in-Ok-false-clause-prepares
 returns-in-Ok-false-clause-prepares g c = λ words source source_now.
