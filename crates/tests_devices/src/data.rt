@@ -3,7 +3,7 @@ ghost use Rattle.std.specs.Prelude.{◌≡◌, ◌≤◌, ◌+◌, ◌<◌, ◌*
 ghost use Rattle.model_base.specs.{default_shape};
 
 use crate::parts::{DATA, PAGE, USER, blank, data_part_on};
-use model_base::{PAGE_SIZE, Shape};
+use model_base::Shape;
 use redo_disk::{DevError, Sectors};
 use redo_memdisk::MemDisk;
 use redo_page::{PageState, best_copy, check, kept_page, seal};
@@ -125,7 +125,7 @@ fn the_newer_copy_counts(rt: HostRuntime) -> Result<(), Fail> {
 fn repair_broken<D: Sectors>(part: &mut DataPart<D>, page: u32) -> Result<(), Fail>
     requires live { part.old.failed ≡ None }
     requires page { page < part.old.shape.pages }
-    requires page_size { part.old.shape.page_size ≡ PAGE_SIZE }
+    requires page_size { part.old.shape.page_size ≡ PAGE }
     ensures live { IfOk result (λ _. part.new.failed ≡ None) }
     ensures shape { part.new.shape ≡ part.old.shape }
     ensures size { (D.seen part.new.dev).size ≡ (D.seen part.old.dev).size }

@@ -2,7 +2,7 @@
 ghost use Rattle.std.specs.Prelude.{◌≡◌, ◌≤◌, ◌+◌, ◌%◌, IfOk, None};
 ghost use Rattle.model_base.specs.{default_shape};
 
-use model_base::{PAGE_SIZE, Shape, USER_BYTES};
+use model_base::Shape;
 use redo_disk::Sectors;
 use redo_logdev::LogPart;
 use redo_memdisk::MemDisk;
@@ -26,10 +26,10 @@ pub const LOG: u64 = 526_336;
 pub const DATA: u64 = 65_536;
 
 /// Bytes of a page.
-pub const PAGE: usize = PAGE_SIZE as usize;
+pub const PAGE: usize = 4096;
 
 /// User bytes of a page.
-pub const USER: usize = USER_BYTES as usize;
+pub const USER: usize = 4050;
 
 /// Where a run starts.
 pub const START: u64 = 8_204;

@@ -1,5 +1,5 @@
 //! The tests of the formats: numbers, lsns, groups, blocks, headers and pages, and pages and lists of them in memory.
-#![tactic(auto)]
+#![tactic(auto, using(model_base::proofs::ShapeLimits::default_page_size))]
 
 #[cfg(test)]
 mod apply;

@@ -1,5 +1,5 @@
 //! The tests of `lab`: what a call prints, and its status. The texts themselves stand here; clauses name them by definitions alone.
-#![tactic(auto)]
+#![tactic(auto, using(model_base::proofs::ShapeLimits::default_page_size))]
 
 #[cfg(test)]
 mod answers;

@@ -1,5 +1,5 @@
 //! Tests of recovery, and of formatting and opening, on stores that are built byte by byte; and of runs by turns.
-#![tactic(auto)]
+#![tactic(auto, using(model_base::proofs::ShapeLimits::default_page_size))]
 
 #[cfg(test)]
 mod batches;

@@ -1,5 +1,5 @@
 //! The tests of the texts: the edge for text, scripts and fault lines, and the words of a call.
-#![tactic(auto)]
+#![tactic(auto, using(model_base::proofs::ShapeLimits::default_page_size))]
 
 #[cfg(test)]
 mod commands;

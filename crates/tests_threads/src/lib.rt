@@ -1,6 +1,6 @@
 //! The tests of runs in threads: what no contract says of them, that they end, and where a user passes the gate. The seats of a
 //! shared store are played in turn too, by one thread.
-#![tactic(auto)]
+#![tactic(auto, using(model_base::proofs::ShapeLimits::default_page_size))]
 
 #[cfg(test)]
 mod gates;

@@ -6,7 +6,7 @@ use Rattle.std.proofs.lemmas.List.{nil_from_length}
 use Rattle.model_log.specs.{is_first, IsDataLsn, length_of, lsn_of, sn_of}
 use Rattle.redo_block.specs.{AreFirsts}
 use Rattle.model_log.specs.{block_of, round_of, run_layout}
-use Rattle.redo_logdev.specs.Part.{MayWrite}
+use Rattle.redo_logdev.specs.PartConditions.{MayWrite}
 use Rattle.tests_devices.proofs.logs.write_up_to.Goals as goal
 
 some-length : (stream : List ℕ) → 1 ≤ length stream → stream ≢ []
