@@ -4,7 +4,7 @@ ghost use Rattle.model_base.specs.{IsWithinLimits};
 ghost use Rattle.model_parts.specs.{place_at};
 ghost use Rattle.model_page.specs.{data_device_length, stretch_at};
 ghost use Rattle.redo_dblwr.specs.Requests.{stretch_read};
-ghost use Rattle.redo_disk.specs.{error_of, HasCause, MakesCall, MakesCalls, Reads, Serve};
+ghost use Rattle.redo_disk.specs.{error_of, HasCause, MakesCall, MakesCalls, Reads, Serve, StillTells};
 
 use model_base::Shape;
 use redo_disk::{DevError, Sectors};
@@ -30,8 +30,9 @@ pub fn read_stretch<D: Sectors>(
     requires long { data_device_length shape.now ≤ (D.seen device.old).size }
     requires inside { n < shape.now.slots + shape.now.pages }
     requires out { length out.old ≡ shape.now.page_size }
-    ensures bytes { OnOk result (IfSome (D.seen device.old).tells (λ disk. out.new ≡ stretch_at shape.now n disk.reads)) }
-    ensures same { (D.seen device.new).tells ≡ (D.seen device.old).tells }
+    ensures bytes { OnOk result (IfSome (D.seen device.new).tells
+        (λ disk. out.new ≡ stretch_at shape.now n disk.reads)) }
+    ensures same { StillTells (D.seen device.old).tells (D.seen device.new).tells }
     ensures size { (D.seen device.new).size ≡ (D.seen device.old).size }
     ensures cause { HasCause (D.seen device.old).faults (D.seen device.new).faults result }
     ensures call { MakesCall D.gives device.old (Reads (n * shape.now.page_size) out.old result out.new) device.new }

@@ -1,5 +1,5 @@
 -- What a reader of a device sees of it, and what each call does to that. A device that tells what it means goes on
--- telling; one that doesn't never does.
+-- telling, unless a read gives other bytes than it told; one that doesn't tell never does.
 use Rattle.std.specs.Prelude.{ℕ, ◌≡◌, ◌≤◌, ◌+◌, ◌%◌, List, length, take, drop, Option, Some, None, Result, IsErrOf, IfSome, OnOk, OnErr}
 use Rattle.model_base.specs.declared.limits.TheConstants.{BLOCK_SIZE}
 use Rattle.model_base.specs.{HasRisen}
@@ -44,15 +44,24 @@ abbrev pub OnTold : Option Disk → Option Disk → (Disk → Disk → Type 0) �
 OnTold None new R = new ≡ None
 OnTold (Some old) new R = (next : Disk) × (new ≡ Some next) × R old next
 
+-- what a device tells now it told before: it may have fallen silent, and then never tells again
+abbrev pub StillTells : Option Disk → Option Disk → Type 0
+StillTells old new = IfSome new (λ disk. old ≡ Some disk)
+
+-- a device that tells now told before, and the calls relate the two
+abbrev pub WhereTold : Option Disk → Option Disk → (Disk → Disk → Type 0) → Type 0
+WhereTold old new R = IfSome new (λ after. (before : Disk) × (old ≡ Some before) × R before after)
+
 -- The count of faults never falls, and it has risen where the device failed.
 pub record HasCause {T : Type 0} (before now : ℕ) (result : Result T DevError) : Type 0 where
   pub later : before ≤ now
   pub failed : IsErrOf result Failed → HasRisen before now
 
--- A read of so many bytes from an offset on; `out` is what stands in the buffer after it.
+-- A read of so many bytes from an offset on; `out` is what stands in the buffer after it. A device that gives other bytes
+-- than it told tells nothing from then on.
 pub record ReadStep (at count : ℕ) (old : Seen) (result : Result (Unit {0}) DevError) (out : List ℕ) (new : Seen) : Type 0 where
-  pub bytes : OnOk result (IfSome old.tells (λ disk. out ≡ part disk.reads at count))
-  pub same : new.tells ≡ old.tells
+  pub bytes : OnOk result (IfSome new.tells (λ disk. out ≡ part disk.reads at count))
+  pub same : StillTells old.tells new.tells
   pub same_crash : new.crashed_from ≡ old.crashed_from
   pub size : new.size ≡ old.size
   pub cause : HasCause old.faults new.faults result
@@ -71,9 +80,10 @@ pub record SyncStep (old : Seen) (result : Result (Unit {0}) DevError) (new : Se
   pub size : new.size ≡ old.size
   pub cause : HasCause old.faults new.faults result
 
--- A crash, and the start after it: one of the images is left, and what the device meant before is still told.
+-- A crash, and the start after it: where the device still tells, one of the images is left. What it meant before is told
+-- as it was.
 pub record CrashStep (old new : Seen) : Type 0 where
-  pub left : OnTold old.tells new.tells Crashes
+  pub left : WhereTold old.tells new.tells Crashes
   pub from : new.crashed_from ≡ old.tells
   pub size : new.size ≡ old.size
   pub later : old.faults ≤ new.faults

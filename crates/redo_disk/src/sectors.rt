@@ -1,5 +1,5 @@
 // The calls of a device, and what they say of it.
-ghost use Rattle.std.specs.Prelude.{◌≡◌, ℕ, length, IfSome};
+ghost use Rattle.std.specs.Prelude.{◌≡◌, ◌≢◌, ℕ, length, None, IfSome};
 ghost use Rattle.redo_disk.specs.Calls.{Call, Reads, Writes, Syncs};
 ghost use Rattle.redo_disk.specs.Made.{MakesCall};
 ghost use Rattle.redo_disk.specs.Seen.{Seen, IsRange, HasSize, ReadStep, WriteStep, SyncStep, CrashStep, write_at};
@@ -18,6 +18,9 @@ pub trait Sectors {
 
     /// What a call gives: the device before, the call with its answer, and the device after.
     ghost gives: { Self → Call → Self → Type 0 } = { λ _ _ _. Unit {0} };
+
+    /// A device that tells what it means after a call told it before.
+    ghost told_before: { (old new : Self) (call : Call) → gives old call new → (seen new).tells ≢ None → (seen old).tells ≢ None };
 
     /// What a crash with this pick gives.
     ghost crash_gives: { Self → ℕ → Self → Type 0 } = { λ _ _ _. Unit {0} };

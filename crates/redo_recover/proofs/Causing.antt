@@ -9,8 +9,7 @@ use Rattle.model_page.specs.declared.content.Content.{Content}
 use Rattle.model_store.specs.{AreReadPages, IsBadRecord, IsReading, IsScan, Refuses, taken}
 use Rattle.model_store.specs.Reading.{IsScanned}
 use Rattle.model_store.specs.declared.refusal.Refusal.TheVariants as refusal
-use Rattle.redo_disk.specs.Seen.{Seen}
-use Rattle.redo_recover.specs.Devices.{HasCauseIn, IsUnchanged, OnContent, OnContents, OnSource}
+use Rattle.redo_recover.specs.Devices.{HasCauseIn, OnContent, OnContents, OnSource}
 use Rattle.redo_recover.specs.Groups.{IsScanFault}
 use Rattle.redo_recover.specs.Pages.{IsFirstLost, IsPageFault}
 use Rattle.redo_recover.specs.Start.{IsRecoveryStart}
@@ -19,35 +18,34 @@ use Rattle.redo_recover.specs.declared.fault.RecFault.TheVariants.{BadRecord, Pa
 use Rattle.redo_recover.specs.declared.start.Start.{Start}
 use Rattle.redo_recover.proofs.Contents.{contents-more, contents-other}
 use Rattle.redo_recover.proofs.Paging.{IsFirstKeptAhead}
-use Rattle.redo_recover.proofs.Unchanged.{content-before}
 
-pub scan-cause : (old middle : Seen) (data_told : Option Disk) (start : Start) (fault : RecFault) → IsUnchanged old middle
-    → OnContents old.tells data_told (λ log_bytes data_bytes. IsRecoveryStart log_bytes data_bytes start)
-    → IsScanFault start.shape (layout_of start.format start.shape) start.ckpt middle.tells fault → HasCauseIn old.tells data_told fault
-scan-cause old middle data_told start (BadRecord lsn) same starts bad =
+pub scan-cause : (log data_told : Option Disk) (start : Start) (fault : RecFault)
+    → OnContents log data_told (λ log_bytes data_bytes. IsRecoveryStart log_bytes data_bytes start)
+    → IsScanFault start.shape (layout_of start.format start.shape) start.ckpt log fault → HasCauseIn log data_told fault
+scan-cause log data_told start (BadRecord lsn) starts bad =
     let layout : Layout = layout_of start.format start.shape in
     let IsBad : List ℕ → Type 0 = λ content. IsBadRecord start.shape layout.blocks (taken layout content) start.ckpt lsn in
-    contents-more old.tells data_told (λ log_bytes data_bytes. IsRecoveryStart log_bytes data_bytes start) IsBad
+    contents-more log data_told (λ log_bytes data_bytes. IsRecoveryStart log_bytes data_bytes start) IsBad
     (λ log_bytes data_bytes. Refuses log_bytes data_bytes (refusal.BadRecord lsn))
     (λ log_bytes data_bytes is here. (start.format, start.shape, start.number, start.ckpt, is.devices, is.newest, here))
-    starts (content-before old middle IsBad same bad)
-scan-cause old middle data_told start LogDev same starts is = tt
-scan-cause old middle data_told start NoMemory same starts is = tt
-scan-cause old middle data_told start _ same starts none = absurd none
+    starts bad
+scan-cause log data_told start LogDev starts is = tt
+scan-cause log data_told start NoMemory starts is = tt
+scan-cause log data_told start _ starts none = absurd none
 
 -- the log was scanned from there on
 record IsStartScanned (start : Start) (views : List BlockView) (wholes : List Whole) (end : ℕ) (log_bytes data_bytes : List ℕ) : Type 0 where
   pub starts : IsRecoveryStart log_bytes data_bytes start
   pub scan : IsScan start.shape (layout_of start.format start.shape).blocks (taken (layout_of start.format start.shape) log_bytes) start.ckpt views wholes end
 
-started-scanned : (old middle : Seen) (data_told : Option Disk) (start : Start) (views : List BlockView) (wholes : List Whole) (end : ℕ) → IsUnchanged old middle
-    → OnContents old.tells data_told (λ log_bytes data_bytes. IsRecoveryStart log_bytes data_bytes start)
-    → OnSource (layout_of start.format start.shape) middle.tells (λ source. IsScan start.shape (layout_of start.format start.shape).blocks source start.ckpt views wholes end) → OnContents old.tells data_told (IsStartScanned start views wholes end)
-started-scanned old middle data_told start views wholes end same starts scan =
-    contents-more old.tells data_told (λ log_bytes data_bytes. IsRecoveryStart log_bytes data_bytes start)
+started-scanned : (log data_told : Option Disk) (start : Start) (views : List BlockView) (wholes : List Whole) (end : ℕ)
+    → OnContents log data_told (λ log_bytes data_bytes. IsRecoveryStart log_bytes data_bytes start)
+    → OnSource (layout_of start.format start.shape) log (λ source. IsScan start.shape (layout_of start.format start.shape).blocks source start.ckpt views wholes end) → OnContents log data_told (IsStartScanned start views wholes end)
+started-scanned log data_told start views wholes end starts scan =
+    contents-more log data_told (λ log_bytes data_bytes. IsRecoveryStart log_bytes data_bytes start)
     (λ content. IsScan start.shape (layout_of start.format start.shape).blocks (taken (layout_of start.format start.shape) content) start.ckpt views wholes end) (IsStartScanned start views wholes end)
     (λ log_bytes data_bytes first scanned. record { starts = first; scan = scanned }) starts
-    (content-before old middle (λ content. IsScan start.shape (layout_of start.format start.shape).blocks (taken (layout_of start.format start.shape) content) start.ckpt views wholes end) same scan)
+    scan
 
 -- a store of which so much is read
 scanned-to : (start : Start) (views : List BlockView) (wholes : List Whole) (end : ℕ) (log_bytes data_bytes : List ℕ)
@@ -61,33 +59,33 @@ scanned-to start views wholes end log_bytes data_bytes known = record {
   scan = record { devices = known.starts.devices; checkpoint = known.starts.newest; scan = known.scan };
 }
 
-pub page-cause : (old middle : Seen) (data_told : Option Disk) (start : Start) (views : List BlockView) (wholes : List Whole) (end : ℕ) (fault : RecFault)
-    → IsUnchanged old middle → OnContents old.tells data_told (λ log_bytes data_bytes. IsRecoveryStart log_bytes data_bytes start)
-    → OnSource (layout_of start.format start.shape) middle.tells (λ source. IsScan start.shape (layout_of start.format start.shape).blocks source start.ckpt views wholes end)
-    → IsPageFault start.shape end data_told fault → HasCauseIn old.tells data_told fault
-page-cause old middle data_told start views wholes end (PageLost p) same starts scan lost =
-    contents-other old.tells data_told (IsStartScanned start views wholes end) (λ content. IsFirstLost start.shape content p)
+pub page-cause : (log data_told : Option Disk) (start : Start) (views : List BlockView) (wholes : List Whole) (end : ℕ) (fault : RecFault)
+    → OnContents log data_told (λ log_bytes data_bytes. IsRecoveryStart log_bytes data_bytes start)
+    → OnSource (layout_of start.format start.shape) log (λ source. IsScan start.shape (layout_of start.format start.shape).blocks source start.ckpt views wholes end)
+    → IsPageFault start.shape end data_told fault → HasCauseIn log data_told fault
+page-cause log data_told start views wholes end (PageLost p) starts scan lost =
+    contents-other log data_told (IsStartScanned start views wholes end) (λ content. IsFirstLost start.shape content p)
     (λ log_bytes data_bytes. Refuses log_bytes data_bytes (refusal.PageLost p))
     (λ log_bytes data_bytes known is. (start.shape, end, scanned-to start views wholes end log_bytes data_bytes known, is.below, is.lost, is.kept))
-    (started-scanned old middle data_told start views wholes end same starts scan) lost
-page-cause old middle data_told start views wholes end (PageAhead p lsn) same starts scan ahead =
-    contents-other old.tells data_told (IsStartScanned start views wholes end) (IsFirstKeptAhead start.shape end p lsn)
+    (started-scanned log data_told start views wholes end starts scan) lost
+page-cause log data_told start views wholes end (PageAhead p lsn) starts scan ahead =
+    contents-other log data_told (IsStartScanned start views wholes end) (IsFirstKeptAhead start.shape end p lsn)
     (λ log_bytes data_bytes. Refuses log_bytes data_bytes (refusal.PageAhead p lsn))
     (λ log_bytes data_bytes known is. (start.shape, end, scanned-to start views wholes end log_bytes data_bytes known, is.0, is.1, is.2, is.3, is.4))
-    (started-scanned old middle data_told start views wholes end same starts scan) ahead
-page-cause old middle data_told start views wholes end DataDev same starts scan is = tt
-page-cause old middle data_told start views wholes end NoMemory same starts scan is = tt
-page-cause old middle data_told start views wholes end _ same starts scan none = absurd none
+    (started-scanned log data_told start views wholes end starts scan) ahead
+page-cause log data_told start views wholes end DataDev starts scan is = tt
+page-cause log data_told start views wholes end NoMemory starts scan is = tt
+page-cause log data_told start views wholes end _ starts scan none = absurd none
 
 -- THE READING of a store that was started, scanned and whose pages were read.
-pub reading-of : (old middle : Seen) (data_told : Option Disk) (start : Start) (views : List BlockView) (wholes : List Whole) (end : ℕ) (pages : List Content)
-    → IsUnchanged old middle → OnContents old.tells data_told (λ log_bytes data_bytes. IsRecoveryStart log_bytes data_bytes start)
-    → OnSource (layout_of start.format start.shape) middle.tells (λ source. IsScan start.shape (layout_of start.format start.shape).blocks source start.ckpt views wholes end)
+pub reading-of : (log data_told : Option Disk) (start : Start) (views : List BlockView) (wholes : List Whole) (end : ℕ) (pages : List Content)
+    → OnContents log data_told (λ log_bytes data_bytes. IsRecoveryStart log_bytes data_bytes start)
+    → OnSource (layout_of start.format start.shape) log (λ source. IsScan start.shape (layout_of start.format start.shape).blocks source start.ckpt views wholes end)
     → OnContent data_told (λ content. AreReadPages start.shape content wholes end pages)
-    → OnContents old.tells data_told (λ log_bytes data_bytes. IsReading log_bytes data_bytes
+    → OnContents log data_told (λ log_bytes data_bytes. IsReading log_bytes data_bytes
     (record { format = start.format; shape = start.shape; number = start.number; ckpt = start.ckpt; views = views; wholes = wholes; end = end; pages = pages }))
-reading-of old middle data_told start views wholes end pages same starts scan read =
-    contents-other old.tells data_told (IsStartScanned start views wholes end) (λ content. AreReadPages start.shape content wholes end pages)
+reading-of log data_told start views wholes end pages starts scan read =
+    contents-other log data_told (IsStartScanned start views wholes end) (λ content. AreReadPages start.shape content wholes end pages)
     (λ log_bytes data_bytes. IsReading log_bytes data_bytes
     (record { format = start.format; shape = start.shape; number = start.number; ckpt = start.ckpt; views = views; wholes = wholes; end = end; pages = pages }))
     (λ log_bytes data_bytes known all. record {
@@ -95,4 +93,4 @@ reading-of old middle data_told start views wholes end pages same starts scan re
       count = all.count;
       each = all.each;
     })
-    (started-scanned old middle data_told start views wholes end same starts scan) read
+    (started-scanned log data_told start views wholes end starts scan) read

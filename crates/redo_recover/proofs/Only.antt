@@ -13,6 +13,7 @@ use Rattle.redo_disk.proofs.Made.{EndWith-one, joined_calls, no_calls, one_call,
 use Rattle.redo_recover.specs.Devices.{data_fault_of, log_fault_of}
 use Rattle.redo_recover.specs.Reads.{IsLogRead, IsOnlyRead, ReadsLog, data_error, log_error}
 use Rattle.redo_recover.specs.declared.fault.RecFault.{RecFault}
+use Rattle.redo_disk.proofs.Told.{still-same}
 use Rattle.redo_recover.proofs.Unchanged.{IsUnchanged-then}
 
 -- a count that rises from some time on rises from an earlier one on
@@ -38,7 +39,7 @@ none-ends (Some device.Failed) own = absurd own
 module _ {D : Type 0} {seen : D → Seen} {gives : D → Call → D → Type 0} where
   pub only-none : (device : D) → IsOnlyRead seen gives device None device
   only-none device = record {
-    unchanged = record { tells = refl; crashed_from = refl; size = refl; later = omega arith };
+    unchanged = record { tells = still-same (seen device).tells (seen device).tells refl; crashed_from = refl; size = refl; later = omega arith };
     calls = no_calls gives device (ReadsMayEndWith None) (record { reads = tt; ends = record { stop = tt; first = inl refl } });
     failed = λ is. absurd cc;
   }

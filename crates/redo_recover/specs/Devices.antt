@@ -5,18 +5,22 @@ use Rattle.model_log.specs.declared.layout.Layout.{Layout}
 use Rattle.model_store.specs.{Refuses, Source, taken}
 use Rattle.model_store.specs.declared.refusal.Refusal.{Refusal}
 use Rattle.model_store.specs.declared.refusal.Refusal.TheVariants as refusal
-use Rattle.redo_disk.specs.Seen.{Seen}
+use Rattle.redo_disk.specs.Seen.{Seen, StillTells}
 use Rattle.redo_disk.specs.declared.error.DevError.{DevError}
 use Rattle.redo_disk.specs.declared.error.DevError.TheVariants as device
 use Rattle.redo_recover.specs.declared.fault.RecFault.{RecFault}
 use Rattle.redo_recover.specs.declared.fault.RecFault.TheVariants.{SmallLog, NotFormatted, BadFormat, SmallData, NoCheckpoint, BadRecord, PageLost, PageAhead, LogDev, DataDev, NoMemory}
 
--- The device tells what it told before, also of its last crash, and its count of faults hasn't fallen.
+-- The device tells what it told before, if it still tells, and of its last crash what it told; its count of faults hasn't fallen.
 pub record IsUnchanged (old new : Seen) : Type 0 where
-  pub tells : new.tells ≡ old.tells
+  pub tells : StillTells old.tells new.tells
   pub crashed_from : new.crashed_from ≡ old.crashed_from
   pub size : new.size ≡ old.size
   pub later : old.faults ≤ new.faults
+
+-- a device as it was, with what it tells after it was read
+abbrev pub reread : Seen → Seen → Seen
+reread old new = record old { tells = new.tells }
 
 -- what reads of the device give has this property, where it tells
 abbrev pub OnContent : Option Disk → (List ℕ → Type 0) → Type 0

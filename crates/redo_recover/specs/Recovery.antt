@@ -4,7 +4,7 @@ use Rattle.model_log.specs.{IsStop, layout_of}
 use Rattle.model_store.specs.{AreFoundIn, IsReading}
 use Rattle.redo_disk.specs.{Call, HasSize}
 use Rattle.redo_disk.specs.Seen.{Seen}
-use Rattle.redo_recover.specs.Devices.{HasCauseIn, HasLengthCause, OnContent, OnContents}
+use Rattle.redo_recover.specs.Devices.{HasCauseIn, HasLengthCause, OnContent, OnContents, reread}
 use Rattle.redo_recover.specs.Places.{AreFoundOn}
 use Rattle.redo_recover.specs.Reading.{IsOfDevices, reading_of}
 use Rattle.redo_recover.specs.Reads.{IsLogRead, IsOnlyRead, data_error_of, log_error_of}
@@ -26,10 +26,11 @@ pub record IsCaused (log data_device : Seen) (fault : RecFault) : Type 0 where
   pub lengths : HasLengthCause log.size data_device.size fault
   pub cause : HasCauseIn log.tells data_device.tells fault
 
--- THE STORE IS READ OFF ITS TWO DEVICES, or there is a cause why it isn't, and both devices are read and nothing else.
+-- THE STORE IS READ OFF ITS TWO DEVICES, or there is a cause why it isn't, and both devices are read and nothing else. What is
+-- said of bytes is said where both devices still tell.
 pub record Recovers {L D : Type 0} (log_seen : L → Seen) (log_gives : L → Call → L → Type 0) (data_seen : D → Seen) (data_gives : D → Call → D → Type 0)
     (log_old log_new : L) (data_old data_new : D) (result : Result Recovered RecFault) : Type 0 where
-  pub recovered : IfOk result (IsRecovered (log_seen log_old) (data_seen data_old))
-  pub caused : IfErr result (IsCaused (log_seen log_old) (data_seen data_old))
+  pub recovered : IfOk result (IsRecovered (reread (log_seen log_old) (log_seen log_new)) (reread (data_seen data_old) (data_seen data_new)))
+  pub caused : IfErr result (IsCaused (reread (log_seen log_old) (log_seen log_new)) (reread (data_seen data_old) (data_seen data_new)))
   pub log : IsLogRead log_seen log_gives log_old (log_error_of result) log_new
   pub data_device : IsOnlyRead data_seen data_gives data_old (data_error_of result) data_new

@@ -51,7 +51,7 @@ fn readable_end(layout: &Layout, at: u64, left: u64) -> u64
 /// Reads the two tail blocks, which a log of format 1 doesn't have.
 fn read_tails<L: Sectors>(log: &mut L, format: Format) -> Result<[u8; TAILS], DevError>
     requires { HEADER_BYTES + TAILS ≤ (L.seen log.old).size }
-    ensures tails { IfOk result (λ tails. OnContent (L.seen log.old).tells (AreTailsOf format tails)) }
+    ensures tails { IfOk result (λ tails. OnContent (L.seen log.new).tells (AreTailsOf format tails)) }
     ensures reads { IsOnlyRead L.seen L.gives log.old (error_of result) log.new }
 {
     let mut tails = [0; TAILS];
@@ -75,10 +75,10 @@ pub(crate) fn read_blocks<L: Sectors>(
     requires aligned { ckpt % BLOCK_SIZE ≡ 0 }
     requires started { START_LSN ≤ ckpt }
     requires small { ckpt < LSN_LIMIT }
-    ensures blocks { IfOk result (λ blocks. OnSource layout.now (L.seen log.old).tells (AreBlocksOf layout.now.blocks ckpt blocks.views.items blocks.joined.items)) }
+    ensures blocks { IfOk result (λ blocks. OnSource layout.now (L.seen log.new).tells (AreBlocksOf layout.now.blocks ckpt blocks.views.items blocks.joined.items)) }
     ensures bounded { IfOk result (λ blocks. AreBounded layout.now.blocks blocks.views.items blocks.joined.items) }
-    ensures stop { IfOk result (λ blocks. OnContent (L.seen log.old).tells (IsStop layout.now ckpt blocks.views.items blocks.stop)) }
-    ensures tail { IfOk result (λ blocks. OnContent (L.seen log.old).tells (λ content. AreFoundIn layout.now content ckpt blocks.views.items blocks.tail)) }
+    ensures stop { IfOk result (λ blocks. OnContent (L.seen log.new).tells (IsStop layout.now ckpt blocks.views.items blocks.stop)) }
+    ensures tail { IfOk result (λ blocks. OnContent (L.seen log.new).tells (λ content. AreFoundIn layout.now content ckpt blocks.views.items blocks.tail)) }
     ensures found { IfOk result (λ blocks. IfSome blocks.tail (IsTailFound layout.now ckpt)) }
     ensures reads { IsOnlyRead L.seen L.gives log.old (error_of result) log.new }
 {

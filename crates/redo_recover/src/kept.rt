@@ -66,11 +66,11 @@ fn keep_page<D: Sectors>(
     requires slots { OnContent (D.seen device.old).tells (HoldsSlots shape.now slots.now) }
     requires page { page < shape.now.pages }
     requires its_pages { ArePagesOf shape.now pages.old }
-    ensures kept { OnOk result (OnContent (D.seen device.old).tells (PutsKept shape.now page pages.old pages.new)) }
+    ensures kept { OnOk result (OnContent (D.seen device.new).tells (PutsKept shape.now page pages.old pages.new)) }
     ensures its_pages { OnOk result (ArePagesOf shape.now pages.new) }
-    ensures found { IfOk result (λ found. OnContent (D.seen device.old).tells (λ content. IsFoundAt shape.now content page found)) }
+    ensures found { IfOk result (λ found. OnContent (D.seen device.new).tells (λ content. IsFoundAt shape.now content page found)) }
     ensures puts { IfOk result (PutsFound shape.now page pages.old pages.new) }
-    ensures fault { IfErr result (IsLostFault shape.now page (D.seen device.old).tells) }
+    ensures fault { IfErr result (IsLostFault shape.now page (D.seen device.new).tells) }
     ensures reads { IsOnlyRead D.seen D.gives device.old (data_error_of result) device.new }
 {
     let size = shape.page_size as usize;
@@ -97,11 +97,11 @@ pub(crate) fn keep_pages<D: Sectors>(
     requires long { data_device_length shape.now ≤ (D.seen device.old).size }
     requires count { length slots.now ≡ shape.now.slots * shape.now.page_size }
     requires slots { OnContent (D.seen device.old).tells (HoldsSlots shape.now slots.now) }
-    ensures kept { IfOk result (λ kept. OnContent (D.seen device.old).tells (λ content. AreKept shape.now content kept.0)) }
+    ensures kept { IfOk result (λ kept. OnContent (D.seen device.new).tells (λ content. AreKept shape.now content kept.0)) }
     ensures its_pages { IfOk result (λ kept. ArePagesOf shape.now kept.0) }
-    ensures found { IfOk result (λ kept. OnContent (D.seen device.old).tells (AreFoundAt shape.now kept.1.items)) }
+    ensures found { IfOk result (λ kept. OnContent (D.seen device.new).tells (AreFoundAt shape.now kept.1.items)) }
     ensures lsns { IfOk result (λ kept. AreFoundWith shape.now shape.now.pages kept.1.items kept.0) }
-    ensures fault { IfErr result (IsFirstLostFault shape.now (D.seen device.old).tells) }
+    ensures fault { IfErr result (IsFirstLostFault shape.now (D.seen device.new).tells) }
     ensures reads { IsOnlyRead D.seen D.gives device.old (data_error_of result) device.new }
 {
     let mut pages = Pages::blank(alloc, shape)?;

@@ -62,13 +62,13 @@ pub(crate) fn read_pages<D: Sectors, P: Replay>(
     requires fit { All (λ whole. GroupFits shape.now whole.group) groups.now }
     requires ends { AllByRecursion (λ (whole : Whole). whole.end ≤ end) groups.now }
     requires rise { EndBehindStarts groups.now }
-    ensures pages { IfOk result (λ placed. OnContent (D.seen device.old).tells
+    ensures pages { IfOk result (λ placed. OnContent (D.seen device.new).tells
         (λ content. AreReadPages shape.now content groups.now end placed.pages)) }
-    ensures found { IfOk result (λ placed. OnContent (D.seen device.old).tells
+    ensures found { IfOk result (λ placed. OnContent (D.seen device.new).tells
         (AreFoundOn shape.now placed.places placed.pages)) }
     ensures its_places { IfOk result (λ placed. ArePlacesOf shape.now placed.places placed.pages) }
     ensures not_ahead { IfOk result (λ placed. AreNotAhead placed.pages end) }
-    ensures fault { IfErr result (IsPageFault shape.now end (D.seen device.old).tells) }
+    ensures fault { IfErr result (IsPageFault shape.now end (D.seen device.new).tells) }
     ensures reads { IsOnlyRead D.seen D.gives device.old (data_error_of result) device.new }
 {
     let slots_length = shape.slots as usize * shape.page_size as usize;

@@ -52,7 +52,7 @@ impl Piece {
         requires within { end ≤ (D.seen device.old).size }
         ensures has { IfOk result (λ piece. HasSector piece at) }
         ensures content { IfOk result (λ piece. OnContent (D.seen device.old).tells (IsPieceOf self)
-            → OnContent (D.seen device.old).tells (IsPieceOf piece)) }
+            → OnContent (D.seen device.new).tells (IsPieceOf piece)) }
         ensures reads { IsOnlyRead D.seen D.gives device.old (error_of result) device.new }
     {
         if self.has_sector(at) {
@@ -83,7 +83,7 @@ pub(crate) fn read_part<D: Sectors>(
     count: usize,
 ) -> Result<Vec<u8>, DevError>
     requires range { IsRange (D.seen device.old).size at count }
-    ensures content { IfOk result (λ bytes. OnContent (D.seen device.old).tells (λ content. bytes.items ≡ part content at count)) }
+    ensures content { IfOk result (λ bytes. OnContent (D.seen device.new).tells (λ content. bytes.items ≡ part content at count)) }
     ensures count { IfOk result (λ bytes. length bytes.items ≡ count) }
     ensures reads { IsOnlyRead D.seen D.gives device.old (error_of result) device.new }
 {

@@ -47,12 +47,12 @@ pub(crate) fn scan_log<L: Sectors, P: Replay>(
     requires aligned { ckpt % BLOCK_SIZE ≡ 0 }
     requires started { START_LSN ≤ ckpt }
     requires small { ckpt < LSN_LIMIT }
-    ensures scan { IfOk result (λ scanned. OnSource layout.now (L.seen log.old).tells
+    ensures scan { IfOk result (λ scanned. OnSource layout.now (L.seen log.new).tells
         (λ source. IsScan shape.now layout.now.blocks source ckpt scanned.views.items scanned.groups.items scanned.end)) }
-    ensures stop { IfOk result (λ scanned. OnContent (L.seen log.old).tells (IsStop layout.now ckpt scanned.views.items scanned.stop)) }
-    ensures tail { IfOk result (λ scanned. OnContent (L.seen log.old).tells (λ content. AreFoundIn layout.now content ckpt scanned.views.items scanned.tail)) }
+    ensures stop { IfOk result (λ scanned. OnContent (L.seen log.new).tells (IsStop layout.now ckpt scanned.views.items scanned.stop)) }
+    ensures tail { IfOk result (λ scanned. OnContent (L.seen log.new).tells (λ content. AreFoundIn layout.now content ckpt scanned.views.items scanned.tail)) }
     ensures scanned { IfOk result (IsScanOf shape.now layout.now ckpt) }
-    ensures fault { IfErr result (IsScanFault shape.now layout.now ckpt (L.seen log.old).tells) }
+    ensures fault { IfErr result (IsScanFault shape.now layout.now ckpt (L.seen log.new).tells) }
     ensures reads { IsOnlyRead L.seen L.gives log.old (log_error_of result) log.new }
 {
     let blocks = match read_blocks(alloc, log, layout, ckpt) {

@@ -4,7 +4,7 @@ ghost use Rattle.model_base.specs.{IsWithinLimits};
 ghost use Rattle.model_log.specs.{head_of, IsLayout, log_device_length, newest_checkpoint};
 ghost use Rattle.model_page.specs.{data_device_length};
 ghost use Rattle.redo_disk.specs.{HasSize};
-ghost use Rattle.redo_recover.specs.Devices.{OnContents};
+ghost use Rattle.redo_recover.specs.Devices.{OnContents, reread};
 ghost use Rattle.redo_recover.specs.Reads.{IsLogRead, log_error_of};
 ghost use Rattle.redo_recover.specs.Recovery.{IsCaused};
 ghost use Rattle.redo_recover.specs.Start.{IsHeadFault, IsLengthFault, IsRecoveryStart, IsUsable};
@@ -79,11 +79,11 @@ fn newest_in(header: &[u8], layout: &Layout) -> Option<(u64, u64)>
 
 /// Reads the header of the log device, and judges both devices by it.
 pub(crate) fn read_start<L: Sectors, D: Sectors>(log: &mut L, device: &D) -> Result<Start, RecFault>
-    ensures start { IfOk result (λ start. OnContents (L.seen log.old).tells (D.seen device.now).tells
+    ensures start { IfOk result (λ start. OnContents (L.seen log.new).tells (D.seen device.now).tells
         (λ log_bytes data_bytes. IsRecoveryStart log_bytes data_bytes start)) }
     ensures sized { IfOk result (λ _. IfSome (D.seen device.now).tells (HasSize (D.seen device.now).size)) }
     ensures usable { IfOk result (λ start. IsUsable (L.seen log.old).size (D.seen device.now).size start.shape start.ckpt) }
-    ensures caused { IfErr result (IsCaused (L.seen log.old) (D.seen device.now)) }
+    ensures caused { IfErr result (IsCaused (reread (L.seen log.old) (L.seen log.new)) (D.seen device.now)) }
     ensures reads { IsLogRead L.seen L.gives log.old (log_error_of result) log.new }
     ensures apart { IfErr result (λ fault. fault ≢ RecFault.DataDev) }
 {

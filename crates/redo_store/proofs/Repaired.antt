@@ -1,5 +1,6 @@
 -- A repair: the slots are read, and the copy that counts by what was read is put into its place.
-use Rattle.std.proofs.Common.{◌≡◌, ◌+◌, ◌-◌, ◌*◌, ℕ, inl, inr, List, [], ◌∷◌, length, take, drop, Option, Some, None, Ok, Err, refl, sym, ap, subst, ◌∙◌, arith}
+use Rattle.std.proofs.Common.{◌≡◌, ◌+◌, ◌-◌, ◌*◌, ℕ, inl, inr, List, [], ◌∷◌, length, take, drop}
+use Rattle.std.proofs.Common.{IfSome, Option, Some, None, Ok, Err, refl, sym, ap, subst, ◌∙◌, arith}
 use Rattle.model_base.specs.declared.shape.Shape.{Shape}
 use Rattle.model_parts.proofs.Repairs.{HasRepaired, copy-put, copy-put_done, put-back_failed, same-best}
 use Rattle.model_parts.proofs.Stretches.{stretch-piece}
@@ -11,7 +12,9 @@ use Rattle.model_page.specs.{HasNoCopy, IsBestCopy, slot_bytes}
 use Rattle.redo_dblwr.specs.{slots_read}
 use Rattle.redo_disk.proofs.Calls.{EndWith-append}
 use Rattle.redo_disk.proofs.Made.{EndWith-one, call_serves}
-use Rattle.redo_disk.specs.{Answer, Call, error_of, MakesCall, MakesCalls, put_requests, Reads, Serve, ToRead, write_at}
+use Rattle.redo_disk.proofs.Told.{OnTold-weaker, where-still, where-then, where-told}
+use Rattle.redo_disk.specs.{Answer, Call, error_of, MakesCall, MakesCalls, OnTold, put_requests, Reads}
+use Rattle.redo_disk.specs.{Serve, StillTells, ToRead, WhereTold, write_at}
 use Rattle.redo_disk.specs.declared.error.DevError.{DevError}
 use Rattle.redo_store.proofs.Entered.{IsReady}
 use Rattle.redo_store.specs.RepairRequests.{RepairCalls}
@@ -47,6 +50,15 @@ pub put-failed : (shape : Shape) (page slot lsn at : ℕ) (slots bytes : List �
 put-failed shape page slot lsn at slots bytes old new same best at_is bytes_is fails =
     let made : IsMade shape page slot lsn slots (write_at at bytes) old = made-from shape page slot lsn at slots bytes old same best at_is bytes_is in
     inr (record { slot = slot; lsn = lsn; best = made.best; calls = subst (λ (w : Write). IsPutOrNot w old new) made.is fails })
+
+-- what is read, and a call that rests on it
+pub read-then : (old middle new : Option Disk) (P : Disk → Type 0) (R S : Disk → Disk → Type 0)
+    → ((a b : Disk) → P a → R a b → S a b) → StillTells old middle → IfSome middle P → OnTold middle new R
+    → WhereTold old new S
+read-then old middle new P R S weaker still known told =
+    let step : WhereTold middle new S = where-told middle new S (OnTold-weaker middle new P R S weaker known told) in
+    where-then old middle new ◌≡◌ S S (λ a b c same is. subst (λ (disk : Disk). S disk c) (sym same) is)
+    (where-still old middle ◌≡◌ (λ disk. refl) still) step
 
 pub back-keeps : (shape : Shape) (page : ℕ) (old new : Disk) → IsReady shape page (IsRepairable shape page) old → IsPutBack shape page old new → HasRepaired shape page old new
 back-keeps shape page old new ready done =

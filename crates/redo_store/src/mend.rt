@@ -4,7 +4,7 @@ ghost use Rattle.model_base.specs.{IsWithinLimits};
 ghost use Rattle.model_parts.specs.{FailsPutBack, IsPutBack};
 ghost use Rattle.model_page.specs.{data_device_length, HasNoCopy, IsBestCopy};
 ghost use Rattle.redo_dblwr.specs.{slots_read};
-ghost use Rattle.redo_disk.specs.{error_of, HasCause, MakesCalls, OnTold, Serve};
+ghost use Rattle.redo_disk.specs.{error_of, HasCause, MakesCalls, Serve, StillTells, WhereTold};
 ghost use Rattle.redo_store.specs.RepairRequests.{RepairCalls};
 
 use model_base::Shape;
@@ -22,10 +22,11 @@ pub(crate) fn find_copy<D: Sectors>(
     requires limits { IsWithinLimits shape.now }
     requires long { data_device_length shape.now ≤ (D.seen device.old).size }
     requires room { length slots.old ≡ shape.now.slots * shape.now.page_size }
-    ensures found { IfOk result (λ found. IfSome (D.seen device.old).tells (λ disk. MatchOption found (HasNoCopy shape.now disk.reads page)
+    ensures found { IfOk result (λ found. IfSome (D.seen device.new).tells (λ disk. MatchOption found
+        (HasNoCopy shape.now disk.reads page)
         (λ best. IsBestCopy shape.now disk.reads page best.0 best.1))) }
     ensures within { IfOk result (λ found. IfSome found (λ best. best.0 < shape.now.slots)) }
-    ensures same { (D.seen device.new).tells ≡ (D.seen device.old).tells }
+    ensures same { StillTells (D.seen device.old).tells (D.seen device.new).tells }
     ensures size { (D.seen device.new).size ≡ (D.seen device.old).size }
     ensures cause { HasCause (D.seen device.old).faults (D.seen device.new).faults result }
     ensures calls { MakesCalls D.gives device.old device.new (Serve (slots_read shape.now ∷ []) (error_of result)) }
@@ -45,8 +46,10 @@ pub(crate) fn put_back<D: Sectors>(
     requires long { data_device_length shape.now ≤ (D.seen device.old).size }
     requires inside { page < shape.now.pages }
     requires room { length slots.old ≡ shape.now.slots * shape.now.page_size }
-    ensures ok { OnOk result (OnTold (D.seen device.old).tells (D.seen device.new).tells (IsPutBack shape.now page)) }
-    ensures err { OnErr result (OnTold (D.seen device.old).tells (D.seen device.new).tells (FailsPutBack shape.now page)) }
+    ensures ok { OnOk result (WhereTold (D.seen device.old).tells (D.seen device.new).tells
+        (IsPutBack shape.now page)) }
+    ensures err { OnErr result (WhereTold (D.seen device.old).tells (D.seen device.new).tells
+        (FailsPutBack shape.now page)) }
     ensures size { (D.seen device.new).size ≡ (D.seen device.old).size }
     ensures cause { HasCause (D.seen device.old).faults (D.seen device.new).faults result }
     ensures calls { MakesCalls D.gives device.old device.new (RepairCalls shape.now page (error_of result)) }

@@ -6,7 +6,8 @@ ghost use Rattle.model_device.specs.{synced, written};
 ghost use Rattle.model_page.specs.{data_device_length, HasNoCopy, IsBestCopy, place_bytes};
 ghost use Rattle.model_page.specs.declared.content.Content.{Content};
 ghost use Rattle.redo_dblwr.specs.{slots_read, stretch_read};
-ghost use Rattle.redo_disk.specs.{error_of, MakesCall, MakesCalls, OnTold, put_requests, Reads, Serve};
+ghost use Rattle.redo_disk.specs.{error_of, MakesCall, MakesCalls, put_requests, Reads, Serve};
+ghost use Rattle.redo_disk.specs.{OnTold, StillTells, WhereTold};
 ghost use Rattle.redo_store.specs.Copies.{IsCopyToPut};
 ghost use Rattle.redo_store.specs.Part.{PartStep, PartStores, PartKeeps};
 ghost use Rattle.redo_store.specs.Requests.{batch_requests};
@@ -137,11 +138,11 @@ impl<D: Sectors> DataPart<D> {
         requires live { self.old.failed ≡ None }
         requires page { page < self.old.shape.pages }
         requires out { length out.old ≡ self.old.shape.page_size }
-        ensures bytes { OnOk result (IfSome (D.seen self.old.dev).tells
+        ensures bytes { OnOk result (IfSome (D.seen self.new.dev).tells
             (λ disk. out.new ≡ place_bytes self.old.shape page disk.reads)) }
         ensures stores { (top was : ℕ → Content) (batch : List Fresh)
             → PartStores D.seen top was batch self.old → PartStores D.seen top was batch self.new }
-        ensures same { (D.seen self.new.dev).tells ≡ (D.seen self.old.dev).tells }
+        ensures same { StillTells (D.seen self.old.dev).tells (D.seen self.new.dev).tells }
         ensures call { MakesCall D.gives self.old.dev
             (Reads ((self.old.shape.slots + page) * self.old.shape.page_size) out.old result out.new) self.new.dev }
         ensures calls { MakesCalls D.gives self.old.dev self.new.dev
@@ -160,13 +161,13 @@ impl<D: Sectors> DataPart<D> {
     /// The slot and the lsn of the copy of a page that counts, where one passes.
     pub fn best_copy(&mut self, page: u32) -> Result<Option<(u32, u64)>, DevError>
         requires live { self.old.failed ≡ None }
-        ensures found { IfOk result (λ found. IfSome (D.seen self.old.dev).tells (λ disk. MatchOption found
+        ensures found { IfOk result (λ found. IfSome (D.seen self.new.dev).tells (λ disk. MatchOption found
             (HasNoCopy self.old.shape disk.reads page)
             (λ best. IsBestCopy self.old.shape disk.reads page best.0 best.1))) }
         ensures within { IfOk result (λ found. IfSome found (λ best. best.0 < self.old.shape.slots)) }
         ensures stores { (top was : ℕ → Content) (batch : List Fresh)
             → PartStores D.seen top was batch self.old → PartStores D.seen top was batch self.new }
-        ensures same { (D.seen self.new.dev).tells ≡ (D.seen self.old.dev).tells }
+        ensures same { StillTells (D.seen self.old.dev).tells (D.seen self.new.dev).tells }
         ensures calls { MakesCalls D.gives self.old.dev self.new.dev
             (Serve (slots_read self.old.shape ∷ []) (error_of result)) }
         ensures step { PartStep D.seen self.old result self.new }
@@ -187,11 +188,11 @@ impl<D: Sectors> DataPart<D> {
         requires page { page < self.old.shape.pages }
         requires repairable { IfSome (D.seen self.old.dev).tells (IsRepairable self.old.shape page) }
         ensures keeps { IfSome (D.seen self.old.dev).tells HasNothingPending
-            → OnTold (D.seen self.old.dev).tells (D.seen self.new.dev).tells (KeepsAll self.old.shape) }
-        ensures put { OnOk result (OnTold (D.seen self.old.dev).tells (D.seen self.new.dev).tells
+            → WhereTold (D.seen self.old.dev).tells (D.seen self.new.dev).tells (KeepsAll self.old.shape) }
+        ensures put { OnOk result (WhereTold (D.seen self.old.dev).tells (D.seen self.new.dev).tells
             (IsCopyPut self.old.shape page)) }
         ensures ok { IfSome (D.seen self.old.dev).tells HasNothingPending
-            → OnOk result (OnTold (D.seen self.old.dev).tells (D.seen self.new.dev).tells
+            → OnOk result (WhereTold (D.seen self.old.dev).tells (D.seen self.new.dev).tells
             (IsRepaired self.old.shape page)) }
         ensures calls { MakesCalls D.gives self.old.dev self.new.dev (RepairCalls self.old.shape page (error_of result)) }
         ensures step { PartStep D.seen self.old result self.new }

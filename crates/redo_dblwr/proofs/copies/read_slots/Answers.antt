@@ -13,7 +13,9 @@ returns-clause-bytes g c =
     let shape = c.args.shape.now in
     let count = length c.args.slots.now in
     on_ok_weaker c.read.result
-    (known-as (g.D.Sectors.seen c.args.device.now).tells (λ (disk : Disk). c.read.new.out ≡ take count (drop 0 disk.reads)) (λ (disk : Disk). SameSlots shape disk.reads c.read.new.out)
+    (known-as (g.D.Sectors.seen c.read.new.self).tells
+    (λ (disk : Disk). c.read.new.out ≡ take count (drop 0 disk.reads))
+    (λ (disk : Disk). SameSlots shape disk.reads c.read.new.out)
     (λ disk out. front-slots shape disk.reads c.read.new.out count c.requires.room out))
     c.read.ensures.step.bytes
 

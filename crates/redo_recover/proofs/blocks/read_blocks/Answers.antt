@@ -11,7 +11,7 @@ use Rattle.model_store.specs.declared.tail.Tail.{Tail}
 use Rattle.redo_recover.specs.Blocks.{AreBlocksOf}
 use Rattle.redo_recover.specs.Devices.{OnContent}
 use Rattle.redo_recover.specs.Piece.{IsPieceOf}
-use Rattle.redo_recover.specs.Taking.{bytes_at, tail_block_at}
+use Rattle.redo_recover.specs.Taking.{AreTailsOf, bytes_at, tail_block_at}
 use Rattle.redo_recover.specs.declared.taking.Stand.{Stand}
 use Rattle.redo_recover.proofs.Bounds.{bounded-none, bounded-push}
 use Rattle.redo_recover.proofs.Contents.{content-any, content-both, content-weaker}
@@ -19,7 +19,7 @@ use Rattle.redo_recover.proofs.Scanning.{AreBlocksSoFar, IsTakenAt, taken-here, 
 use Rattle.redo_recover.proofs.Stopping.{stopped-part, stopped-round, stopped-unread}
 use Rattle.redo_recover.proofs.Tailing.{AreStanding, found-all, found-last, standing-next, standing-none}
 use Rattle.redo_recover.proofs.Only.{only-own, only-then}
-use Rattle.redo_recover.proofs.Unchanged.{content-before, content-after}
+use Rattle.redo_recover.proofs.Unchanged.{content-after}
 use Rattle.redo_recover.proofs.blocks.read_blocks.Goals as goal
 
 pub with_sector-requires-clause-within : goal.with_sector-requires-clause-within
@@ -28,7 +28,7 @@ with_sector-requires-clause-within g c =
 
 pub loop-i-init : goal.loop-i-init
 loop-i-init g c =
-    let old = g.L.Sectors.seen c.args.log.now in
+    let old = g.L.Sectors.seen c.read_tails.new.log in
     let layout = c.args.layout.now in
     record {
       reads = c.in_ok-tails.ensures.reads;
@@ -43,19 +43,20 @@ loop-i-init g c =
 
 pub loop-i-preserved : goal.loop-i-preserved
 loop-i-preserved g c =
-    let old = g.L.Sectors.seen c.args.log.now in
     let middle = g.L.Sectors.seen c.loop-i.log in
+    let new = g.L.Sectors.seen c.with_sector.new.device in
+    let step = c.in_ok-piece.ensures.reads.unchanged in
     let layout = c.args.layout.now in
     let i = c.loop-i.i in
     let place : List ℕ = c.sector-place.result.now in
     let tails : List ℕ = c.in_ok-tails.tails in
     let piece = c.in_ok-piece.piece in
     let before = c.loop-i.invariant in
-    let of = content-before old middle (IsPieceOf piece) before.reads.unchanged
-    (c.in_ok-piece.ensures.content (content-after old middle (IsPieceOf c.loop-i.piece) before.reads.unchanged before.piece)) in
+    let of = c.in_ok-piece.ensures.content before.piece in
+    let of_tails = content-after middle new (AreTailsOf layout.format tails) step before.tails in
     let found : Option (Stand × BlockView) = Some (c.in-Some.stand, c.in-Some.view) in
-    let here = taken-here old.tells layout c.args.ckpt i piece c.offset_of-at.result place tails found c.in_ok-piece.ensures.has c.offset_of-at.ensures
-    c.sector-place.ensures (sym c.in-Some.is ∙ c.take.ensures.found) of before.tails in
+    let here = taken-here new.tells layout c.args.ckpt i piece c.offset_of-at.result place tails found c.in_ok-piece.ensures.has c.offset_of-at.ensures
+    c.sector-place.ensures (sym c.in-Some.is ∙ c.take.ensures.found) of of_tails in
     let so_far : List ℕ → Type 0 = λ image. AreBlocksSoFar c.args.ckpt c.loop-i.views.items c.loop-i.joined.items i (taken layout image) in
     let block : List ℕ = bytes_at place tails c.in-Some.stand in
     let data_is : c.block_data.result.now ≡ data_of c.in-Some.view block = c.block_data.ensures ∙ ap (data_of c.in-Some.view) c.bytes_at.ensures in
@@ -63,75 +64,78 @@ loop-i-preserved g c =
     let room : length c.block_data.result.now ≤ BLOCK_DATA = omega (arith, ap length data_is, length-data_of c.in-Some.view block) in
     record {
       reads = only-then c.args.log.now c.loop-i.log c.with_sector.new.device None before.reads c.in_ok-piece.ensures.reads;
-      tails = before.tails;
+      tails = of_tails;
       piece = of;
       many = omega (arith, views, before.many);
       bounded = bounded-push layout.blocks c.loop-i.views.items c.push.new.self.items c.in-Some.view c.loop-i.joined.items c.extend_from_slice.new.self.items
           c.block_data.result.now before.bounded (omega (arith, before.many)) c.in-Some.ensures.first room c.in_ok-push.ensures.items
           c.in_ok-extend_from_slice.ensures.items;
-      so_far = content-both old.tells so_far (IsTakenAt layout c.args.ckpt i found place tails)
+      so_far = content-both new.tells so_far (IsTakenAt layout c.args.ckpt i found place tails)
           (λ image. AreBlocksSoFar c.args.ckpt c.push.new.self.items c.extend_from_slice.new.self.items (i + 1) (taken layout image))
           (λ image a t. so_far-next c.args.ckpt c.loop-i.views.items c.loop-i.joined.items i (taken layout image) c.in-Some.view block
           c.push.new.self.items c.extend_from_slice.new.self.items c.block_data.result.now a t.takes (sym c.if-not-is_full.ensures)
           c.in_ok-push.ensures.items c.in_ok-extend_from_slice.ensures.items data_is)
-          before.so_far here;
-      standing = content-both old.tells (IsTakenAt layout c.args.ckpt i found place tails) (AreStanding layout c.args.ckpt i) (AreStanding layout c.args.ckpt (i + 1))
+          (content-after middle new so_far step before.so_far) here;
+      standing = content-both new.tells (IsTakenAt layout c.args.ckpt i found place tails) (AreStanding layout c.args.ckpt i) (AreStanding layout c.args.ckpt (i + 1))
           (λ image t standing. standing-next layout c.args.ckpt i c.in-Some.stand c.in-Some.view place tails image t (sym c.if-not-is_full.ensures) standing)
-          here before.standing;
+          here (content-after middle new (AreStanding layout c.args.ckpt i) step before.standing);
     }
 
 -- WHERE NO BLOCK IS TAKEN.
 
 pub returns-in_default-clause-blocks : goal.returns-in_default-clause-blocks
 returns-in_default-clause-blocks g c =
-    let old = g.L.Sectors.seen c.args.log.now in
     let middle = g.L.Sectors.seen c.loop-i.log in
+    let new = g.L.Sectors.seen c.with_sector.new.device in
+    let step = c.in_ok-piece.ensures.reads.unchanged in
     let layout = c.args.layout.now in
     let i = c.loop-i.i in
     let place : List ℕ = c.sector-place.result.now in
     let tails : List ℕ = c.in_ok-tails.tails in
     let piece = c.in_ok-piece.piece in
     let before = c.loop-i.invariant in
-    let of = content-before old middle (IsPieceOf piece) before.reads.unchanged
-    (c.in_ok-piece.ensures.content (content-after old middle (IsPieceOf c.loop-i.piece) before.reads.unchanged before.piece)) in
+    let of = c.in_ok-piece.ensures.content before.piece in
+    let of_tails = content-after middle new (AreTailsOf layout.format tails) step before.tails in
     let found : Option (Stand × BlockView) = None in
-    let here = taken-here old.tells layout c.args.ckpt i piece c.offset_of-at.result place tails found c.in_ok-piece.ensures.has c.offset_of-at.ensures
-    c.sector-place.ensures (sym c.in_default.is ∙ c.take.ensures.found) of before.tails in
+    let here = taken-here new.tells layout c.args.ckpt i piece c.offset_of-at.result place tails found c.in_ok-piece.ensures.has c.offset_of-at.ensures
+    c.sector-place.ensures (sym c.in_default.is ∙ c.take.ensures.found) of of_tails in
     let so_far : List ℕ → Type 0 = λ image. AreBlocksSoFar c.args.ckpt c.loop-i.views.items c.loop-i.joined.items i (taken layout image) in
-    content-both old.tells so_far (IsTakenAt layout c.args.ckpt i found place tails)
+    content-both new.tells so_far (IsTakenAt layout c.args.ckpt i found place tails)
     (λ image. AreBlocksOf layout.blocks c.args.ckpt c.loop-i.views.items c.loop-i.joined.items (taken layout image))
     (λ image a t. read-stopped layout.blocks c.args.ckpt c.loop-i.views.items c.loop-i.joined.items i (taken layout image) a (omega arith) t.takes)
-    before.so_far here
+    (content-after middle new so_far step before.so_far) here
 
 pub returns-in_default-clause-stop : goal.returns-in_default-clause-stop
 returns-in_default-clause-stop g c =
-    let old = g.L.Sectors.seen c.args.log.now in
     let middle = g.L.Sectors.seen c.loop-i.log in
+    let new = g.L.Sectors.seen c.with_sector.new.device in
+    let step = c.in_ok-piece.ensures.reads.unchanged in
     let layout = c.args.layout.now in
     let i = c.loop-i.i in
     let place : List ℕ = c.sector-place.result.now in
     let tails : List ℕ = c.in_ok-tails.tails in
     let piece = c.in_ok-piece.piece in
     let before = c.loop-i.invariant in
-    let of = content-before old middle (IsPieceOf piece) before.reads.unchanged
-    (c.in_ok-piece.ensures.content (content-after old middle (IsPieceOf c.loop-i.piece) before.reads.unchanged before.piece)) in
+    let of = c.in_ok-piece.ensures.content before.piece in
+    let of_tails = content-after middle new (AreTailsOf layout.format tails) step before.tails in
     let found : Option (Stand × BlockView) = None in
-    let here = taken-here old.tells layout c.args.ckpt i piece c.offset_of-at.result place tails found c.in_ok-piece.ensures.has c.offset_of-at.ensures
-    c.sector-place.ensures (sym c.in_default.is ∙ c.take.ensures.found) of before.tails in
+    let here = taken-here new.tells layout c.args.ckpt i piece c.offset_of-at.result place tails found c.in_ok-piece.ensures.has c.offset_of-at.ensures
+    c.sector-place.ensures (sym c.in_default.is ∙ c.take.ensures.found) of of_tails in
     let so_far : List ℕ → Type 0 = λ image. AreBlocksSoFar c.args.ckpt c.loop-i.views.items c.loop-i.joined.items i (taken layout image) in
     let lsn = lsn_at c.args.ckpt i in
-    content-both old.tells so_far (IsTakenAt layout c.args.ckpt i found place tails)
+    content-both new.tells so_far (IsTakenAt layout c.args.ckpt i found place tails)
     (IsStop layout c.args.ckpt c.loop-i.views.items (lsn, c.untaken.result))
     (λ image a t. stopped-unread layout c.args.ckpt c.loop-i.views.items c.loop-i.joined.items i lsn c.untaken.result found
     place tails image a (omega arith) t refl c.untaken.ensures)
-    before.so_far here
+    (content-after middle new so_far step before.so_far) here
 
 pub returns-in_default-clause-tail : goal.returns-in_default-clause-tail
 returns-in_default-clause-tail g c =
-    let old = g.L.Sectors.seen c.args.log.now in
+    let middle = g.L.Sectors.seen c.loop-i.log in
+    let new = g.L.Sectors.seen c.with_sector.new.device in
     let layout = c.args.layout.now in
-    content-weaker old.tells (AreStanding layout c.args.ckpt c.loop-i.i) (λ image. AreFoundIn layout image c.args.ckpt c.loop-i.views.items None)
-    (λ image standing. found-all layout c.args.ckpt c.loop-i.views.items c.loop-i.i image c.loop-i.invariant.many standing) c.loop-i.invariant.standing
+    content-weaker new.tells (AreStanding layout c.args.ckpt c.loop-i.i) (λ image. AreFoundIn layout image c.args.ckpt c.loop-i.views.items None)
+    (λ image standing. found-all layout c.args.ckpt c.loop-i.views.items c.loop-i.i image c.loop-i.invariant.many standing) (content-after middle new (AreStanding layout c.args.ckpt c.loop-i.i) c.in_ok-piece.ensures.reads.unchanged c.loop-i.invariant.standing)
 
 pub returns-in_default-clause-bounded : goal.returns-in_default-clause-bounded
 returns-in_default-clause-bounded g c = c.loop-i.invariant.bounded
@@ -143,62 +147,65 @@ returns-in_default-clause-reads g c = only-then c.args.log.now c.loop-i.log c.wi
 
 pub returns-then-not-is_full-clause-blocks : goal.returns-then-not-is_full-clause-blocks
 returns-then-not-is_full-clause-blocks g c =
-    let old = g.L.Sectors.seen c.args.log.now in
     let middle = g.L.Sectors.seen c.loop-i.log in
+    let new = g.L.Sectors.seen c.with_sector.new.device in
+    let step = c.in_ok-piece.ensures.reads.unchanged in
     let layout = c.args.layout.now in
     let i = c.loop-i.i in
     let place : List ℕ = c.sector-place.result.now in
     let tails : List ℕ = c.in_ok-tails.tails in
     let piece = c.in_ok-piece.piece in
     let before = c.loop-i.invariant in
-    let of = content-before old middle (IsPieceOf piece) before.reads.unchanged
-    (c.in_ok-piece.ensures.content (content-after old middle (IsPieceOf c.loop-i.piece) before.reads.unchanged before.piece)) in
+    let of = c.in_ok-piece.ensures.content before.piece in
+    let of_tails = content-after middle new (AreTailsOf layout.format tails) step before.tails in
     let found : Option (Stand × BlockView) = Some (c.in-Some.stand, c.in-Some.view) in
-    let here = taken-here old.tells layout c.args.ckpt i piece c.offset_of-at.result place tails found c.in_ok-piece.ensures.has c.offset_of-at.ensures
-    c.sector-place.ensures (sym c.in-Some.is ∙ c.take.ensures.found) of before.tails in
+    let here = taken-here new.tells layout c.args.ckpt i piece c.offset_of-at.result place tails found c.in_ok-piece.ensures.has c.offset_of-at.ensures
+    c.sector-place.ensures (sym c.in-Some.is ∙ c.take.ensures.found) of of_tails in
     let so_far : List ℕ → Type 0 = λ image. AreBlocksSoFar c.args.ckpt c.loop-i.views.items c.loop-i.joined.items i (taken layout image) in
     let block : List ℕ = bytes_at place tails c.in-Some.stand in
     let data_is : c.block_data.result.now ≡ data_of c.in-Some.view block = c.block_data.ensures ∙ ap (data_of c.in-Some.view) c.bytes_at.ensures in
-    content-both old.tells so_far (IsTakenAt layout c.args.ckpt i found place tails)
+    content-both new.tells so_far (IsTakenAt layout c.args.ckpt i found place tails)
     (λ image. AreBlocksOf layout.blocks c.args.ckpt c.push.new.self.items c.extend_from_slice.new.self.items (taken layout image))
     (λ image a t. read-last layout.blocks c.args.ckpt c.loop-i.views.items c.loop-i.joined.items i (taken layout image) c.in-Some.view block
     c.push.new.self.items c.extend_from_slice.new.self.items c.block_data.result.now a (omega arith) t.takes
     (sym c.if-not-is_full.ensures) c.in_ok-push.ensures.items c.in_ok-extend_from_slice.ensures.items data_is)
-    before.so_far here
+    (content-after middle new so_far step before.so_far) here
 
 pub returns-then-not-is_full-clause-stop : goal.returns-then-not-is_full-clause-stop
 returns-then-not-is_full-clause-stop g c =
-    let old = g.L.Sectors.seen c.args.log.now in
+    let middle = g.L.Sectors.seen c.loop-i.log in
+    let new = g.L.Sectors.seen c.with_sector.new.device in
     let layout = c.args.layout.now in
     let lsn = lsn_at c.args.ckpt c.loop-i.i in
-    content-weaker old.tells (λ image. AreBlocksSoFar c.args.ckpt c.loop-i.views.items c.loop-i.joined.items c.loop-i.i (taken layout image))
+    content-weaker new.tells (λ image. AreBlocksSoFar c.args.ckpt c.loop-i.views.items c.loop-i.joined.items c.loop-i.i (taken layout image))
     (IsStop layout c.args.ckpt c.push.new.self.items (lsn, Partial))
     (λ image a. stopped-part layout c.args.ckpt c.loop-i.views.items c.loop-i.joined.items c.loop-i.i lsn c.in-Some.view c.push.new.self.items image a
     refl (sym c.if-not-is_full.ensures) c.in_ok-push.ensures.items)
-    c.loop-i.invariant.so_far
+    (content-after middle new (λ image. AreBlocksSoFar c.args.ckpt c.loop-i.views.items c.loop-i.joined.items c.loop-i.i (taken layout image)) c.in_ok-piece.ensures.reads.unchanged c.loop-i.invariant.so_far)
 
 pub returns-then-not-is_full-clause-tail : goal.returns-then-not-is_full-clause-tail
 returns-then-not-is_full-clause-tail g c =
-    let old = g.L.Sectors.seen c.args.log.now in
     let middle = g.L.Sectors.seen c.loop-i.log in
+    let new = g.L.Sectors.seen c.with_sector.new.device in
+    let step = c.in_ok-piece.ensures.reads.unchanged in
     let layout = c.args.layout.now in
     let i = c.loop-i.i in
     let place : List ℕ = c.sector-place.result.now in
     let tails : List ℕ = c.in_ok-tails.tails in
     let piece = c.in_ok-piece.piece in
     let before = c.loop-i.invariant in
-    let of = content-before old middle (IsPieceOf piece) before.reads.unchanged
-    (c.in_ok-piece.ensures.content (content-after old middle (IsPieceOf c.loop-i.piece) before.reads.unchanged before.piece)) in
+    let of = c.in_ok-piece.ensures.content before.piece in
+    let of_tails = content-after middle new (AreTailsOf layout.format tails) step before.tails in
     let found : Option (Stand × BlockView) = Some (c.in-Some.stand, c.in-Some.view) in
-    let here = taken-here old.tells layout c.args.ckpt i piece c.offset_of-at.result place tails found c.in_ok-piece.ensures.has c.offset_of-at.ensures
-    c.sector-place.ensures (sym c.in-Some.is ∙ c.take.ensures.found) of before.tails in
+    let here = taken-here new.tells layout c.args.ckpt i piece c.offset_of-at.result place tails found c.in_ok-piece.ensures.has c.offset_of-at.ensures
+    c.sector-place.ensures (sym c.in-Some.is ∙ c.take.ensures.found) of of_tails in
     let lsn = lsn_at c.args.ckpt i in
-    let known = content-both old.tells (IsTakenAt layout c.args.ckpt i found place tails) (AreStanding layout c.args.ckpt i)
+    let known = content-both new.tells (IsTakenAt layout c.args.ckpt i found place tails) (AreStanding layout c.args.ckpt i)
     (λ image. AreFoundIn layout image c.args.ckpt c.push.new.self.items (tail_block_at lsn c.in-Some.stand))
     (λ image t standing. found-last layout c.args.ckpt c.loop-i.views.items c.push.new.self.items i c.in-Some.stand c.in-Some.view place tails image t
     (sym c.if-not-is_full.ensures) standing before.many c.in_ok-push.ensures.items)
-    here before.standing in
-    subst (λ (tail : Option Tail). OnContent old.tells (λ image. AreFoundIn layout image c.args.ckpt c.push.new.self.items tail)) (sym c.tail_at-tail.ensures) known
+    here (content-after middle new (AreStanding layout c.args.ckpt i) step before.standing) in
+    subst (λ (tail : Option Tail). OnContent new.tells (λ image. AreFoundIn layout image c.args.ckpt c.push.new.self.items tail)) (sym c.tail_at-tail.ensures) known
 
 pub returns-then-not-is_full-clause-bounded : goal.returns-then-not-is_full-clause-bounded
 returns-then-not-is_full-clause-bounded g c =
@@ -216,7 +223,7 @@ returns-then-not-is_full-clause-reads g c = only-then c.args.log.now c.loop-i.lo
 
 pub returns-clause-blocks : goal.returns-clause-blocks
 returns-clause-blocks g c =
-    let old = g.L.Sectors.seen c.args.log.now in
+    let old = g.L.Sectors.seen c.loop-i.log in
     let layout = c.args.layout.now in
     content-weaker old.tells (λ image. AreBlocksSoFar c.args.ckpt c.loop-i.views.items c.loop-i.joined.items c.loop-i.i (taken layout image))
     (λ image. AreBlocksOf layout.blocks c.args.ckpt c.loop-i.views.items c.loop-i.joined.items (taken layout image))
@@ -224,7 +231,7 @@ returns-clause-blocks g c =
 
 pub returns-clause-stop : goal.returns-clause-stop
 returns-clause-stop g c =
-    let old = g.L.Sectors.seen c.args.log.now in
+    let old = g.L.Sectors.seen c.loop-i.log in
     let layout = c.args.layout.now in
     let lsn = c.args.ckpt + c.round_of.result in
     content-weaker old.tells (λ image. AreBlocksSoFar c.args.ckpt c.loop-i.views.items c.loop-i.joined.items c.loop-i.i (taken layout image))
@@ -235,7 +242,7 @@ returns-clause-stop g c =
 
 pub returns-clause-tail : goal.returns-clause-tail
 returns-clause-tail g c =
-    let old = g.L.Sectors.seen c.args.log.now in
+    let old = g.L.Sectors.seen c.loop-i.log in
     let layout = c.args.layout.now in
     content-weaker old.tells (AreStanding layout c.args.ckpt c.loop-i.i) (λ image. AreFoundIn layout image c.args.ckpt c.loop-i.views.items None)
     (λ image standing. found-all layout c.args.ckpt c.loop-i.views.items c.loop-i.i image c.loop-i.invariant.many standing) c.loop-i.invariant.standing

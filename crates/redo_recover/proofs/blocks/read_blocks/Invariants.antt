@@ -13,10 +13,10 @@ use Rattle.redo_recover.proofs.blocks.read_blocks.Given as goal
 abbrev pub invariant-loop-i : goal.invariant-loop-i
 invariant-loop-i g l = record {
   reads : IsOnlyRead g.L.Sectors.seen g.L.Sectors.gives l.fn.log None l.log;
-  tails : OnContent (g.L.Sectors.seen l.fn.log).tells (AreTailsOf l.layout.format l.tails);
-  piece : OnContent (g.L.Sectors.seen l.fn.log).tells (IsPieceOf l.piece);
+  tails : OnContent (g.L.Sectors.seen l.log).tells (AreTailsOf l.layout.format l.tails);
+  piece : OnContent (g.L.Sectors.seen l.log).tells (IsPieceOf l.piece);
   many : length l.views.items ≡ l.i;
   bounded : AreBounded l.layout.blocks l.views.items l.joined.items;
-  so_far : OnSource l.layout (g.L.Sectors.seen l.fn.log).tells (AreBlocksSoFar l.ckpt l.views.items l.joined.items l.i);
-  standing : OnContent (g.L.Sectors.seen l.fn.log).tells (AreStanding l.layout l.ckpt l.i);
+  so_far : OnSource l.layout (g.L.Sectors.seen l.log).tells (AreBlocksSoFar l.ckpt l.views.items l.joined.items l.i);
+  standing : OnContent (g.L.Sectors.seen l.log).tells (AreStanding l.layout l.ckpt l.i);
 }

@@ -5,6 +5,7 @@ use Rattle.redo_disk.specs.{IsRange, part}
 use Rattle.redo_recover.proofs.Contents.{content-both}
 use Rattle.redo_recover.proofs.Keeping.{part-is, place-range}
 use Rattle.redo_recover.proofs.Only.{only-data}
+use Rattle.redo_recover.proofs.Unchanged.{content-after}
 use Rattle.redo_recover.specs.Pages.{HoldsSlots, PutsKept}
 use Rattle.redo_recover.specs.Places.{IsFoundAt}
 use Rattle.redo_recover.proofs.kept.keep_page.Goals as goal
@@ -24,10 +25,10 @@ returns-in_default-clause-fault g c =
     let at = c.from.result * c.from-2.result in
     let at_is : at ≡ (shape.slots + c.args.page) * shape.page_size = cc in (
       refl,
-      content-both (g.D.Sectors.seen c.args.device.now).tells (HoldsSlots shape c.args.slots.now) (λ content. c.in-Ok.place.items ≡ part content at shape.page_size)
+      content-both (g.D.Sectors.seen c.read_part.new.device).tells (HoldsSlots shape c.args.slots.now) (λ content. c.in-Ok.place.items ≡ part content at shape.page_size)
           (λ content. IsLost shape content c.args.page)
           (λ content slots place. c.in_default.ensures.kept content slots (c.as_slice.ensures.value ∙ place ∙ part-is shape content c.args.page at at_is))
-          c.requires.slots c.in-Ok.ensures.content,
+          (content-after _ _ (HoldsSlots shape c.args.slots.now) c.in-Ok.ensures.reads.unchanged c.requires.slots) c.in-Ok.ensures.content,
     )
 
 pub returns-clause-kept : goal.returns-clause-kept
@@ -35,23 +36,23 @@ returns-clause-kept g c =
     let shape = c.args.shape.now in
     let at = c.from.result * c.from-2.result in
     let at_is : at ≡ (shape.slots + c.args.page) * shape.page_size = cc in
-    content-both (g.D.Sectors.seen c.args.device.now).tells (HoldsSlots shape c.args.slots.now) (λ content. c.in-Ok.place.items ≡ part content at shape.page_size)
+    content-both (g.D.Sectors.seen c.read_part.new.device).tells (HoldsSlots shape c.args.slots.now) (λ content. c.in-Ok.place.items ≡ part content at shape.page_size)
     (PutsKept shape c.args.page c.args.pages.now c.put.new.self)
     (λ content slots place. record {
       kept = record { lsn = c.in-Some.found.lsn; user = c.in-Some.user.now };
       is_kept = c.in-Some.ensures.kept content slots (c.as_slice.ensures.value ∙ place ∙ part-is shape content c.args.page at at_is);
       put = c.put.ensures.content;
-    }) c.requires.slots c.in-Ok.ensures.content
+    }) (content-after _ _ (HoldsSlots shape c.args.slots.now) c.in-Ok.ensures.reads.unchanged c.requires.slots) c.in-Ok.ensures.content
 
 pub returns-clause-found : goal.returns-clause-found
 returns-clause-found g c =
     let shape = c.args.shape.now in
     let at = c.from.result * c.from-2.result in
     let at_is : at ≡ (shape.slots + c.args.page) * shape.page_size = cc in
-    content-both (g.D.Sectors.seen c.args.device.now).tells (HoldsSlots shape c.args.slots.now) (λ content. c.in-Ok.place.items ≡ part content at shape.page_size)
+    content-both (g.D.Sectors.seen c.read_part.new.device).tells (HoldsSlots shape c.args.slots.now) (λ content. c.in-Ok.place.items ≡ part content at shape.page_size)
     (λ content. IsFoundAt shape content c.args.page c.in-Some.found)
     (λ content slots place. c.in-Some.ensures.found content slots (c.as_slice.ensures.value ∙ place ∙ part-is shape content c.args.page at at_is))
-    c.requires.slots c.in-Ok.ensures.content
+    (content-after _ _ (HoldsSlots shape c.args.slots.now) c.in-Ok.ensures.reads.unchanged c.requires.slots) c.in-Ok.ensures.content
 
 pub returns-clause-its_pages : goal.returns-clause-its_pages
 returns-clause-its_pages g c = c.put.ensures.its_pages c.args.shape.now c.requires.its_pages

@@ -7,20 +7,24 @@ use Rattle.redo_recover.proofs.Contents.{content-any}
 use Rattle.redo_recover.proofs.Keeping.{kept-all, kept-next, lost-first}
 use Rattle.redo_recover.proofs.Only.{only-none, only-own, only-then}
 use Rattle.redo_recover.proofs.Placing.{at-next, at-none, with-next, with-none}
-use Rattle.redo_recover.proofs.Unchanged.{content-before}
-use Rattle.redo_recover.specs.Pages.{IsFirstLostFault, IsLostFault, PutsKept}
-use Rattle.redo_recover.specs.Places.{AreFoundAt, IsFoundAt}
+use Rattle.redo_recover.proofs.Unchanged.{content-after}
+use Rattle.redo_recover.proofs.Paging.{AreKeptFirst}
+use Rattle.redo_recover.specs.Pages.{HoldsSlots, IsFirstLostFault}
+use Rattle.redo_recover.specs.Places.{AreFoundAt}
 use Rattle.redo_recover.proofs.kept.keep_pages.Goals as goal
 
 pub returns-in_err-one-clause-fault : goal.returns-in_err-one-clause-fault
 returns-in_err-one-clause-fault g c =
     let shape = c.args.shape.now in
-    let told = (g.D.Sectors.seen c.args.device.now).tells in
+    let middle = g.D.Sectors.seen c.loop-page.device in
+    let new = g.D.Sectors.seen c.keep_page.new.device in
     let fault = c.in_err-one.field-0.0 in
-    let lost : IsLostFault shape c.loop-page.page told fault =
-    subst (λ (o : Option Disk). IsLostFault shape c.loop-page.page o fault) c.loop-page.invariant.reads.unchanged.tells c.in_err-one.ensures.fault in
-    let first : IsFirstLostFault shape told fault = lost-first shape c.loop-page.pages c.loop-page.page told fault (omega arith) c.loop-page.invariant.kept lost in
+    let kept = content-after middle new (λ content. AreKeptFirst shape content c.loop-page.page c.loop-page.pages) c.in_err-one.ensures.reads.unchanged c.loop-page.invariant.kept in
+    let first : IsFirstLostFault shape new.tells fault = lost-first shape c.loop-page.pages c.loop-page.page new.tells fault (omega arith) kept c.in_err-one.ensures.fault in
     search rules
+
+pub keep_page-requires-clause-slots : goal.keep_page-requires-clause-slots
+keep_page-requires-clause-slots g c = content-after _ _ (HoldsSlots c.args.shape.now c.args.slots.now) c.loop-page.invariant.reads.unchanged c.requires.slots
 
 pub loop-page-init : goal.loop-page-init
 loop-page-init g c =
@@ -39,8 +43,9 @@ loop-page-init g c =
 pub loop-page-preserved : goal.loop-page-preserved
 loop-page-preserved g c =
     let shape = c.args.shape.now in
-    let old = g.D.Sectors.seen c.args.device.now in
     let middle = g.D.Sectors.seen c.loop-page.device in
+    let new = g.D.Sectors.seen c.keep_page.new.device in
+    let step = c.in_ok-one.ensures.reads.unchanged in
     record {
       its_pages = c.in_ok-one.ensures.its_pages;
       reads = only-then c.args.device.now c.loop-page.device c.keep_page.new.device None c.loop-page.invariant.reads c.in_ok-one.ensures.reads;
@@ -48,16 +53,15 @@ loop-page-preserved g c =
       filled = omega (arith, c.loop-page.invariant.filled, c.push_reserved.ensures.len);
       with = with-next shape c.loop-page.found.items c.push_reserved.new.self.items c.loop-page.pages c.keep_page.new.pages c.loop-page.page c.in_ok-one.one
           c.push_reserved.ensures.items c.loop-page.invariant.with c.in_ok-one.ensures.puts;
-      found = at-next shape c.loop-page.found.items c.push_reserved.new.self.items c.loop-page.page c.in_ok-one.one old.tells c.loop-page.invariant.with.many
-          c.push_reserved.ensures.items c.loop-page.invariant.found
-          (content-before old middle (λ content. IsFoundAt shape content c.loop-page.page c.in_ok-one.one) c.loop-page.invariant.reads.unchanged c.in_ok-one.ensures.found);
-      kept = kept-next shape c.loop-page.pages c.keep_page.new.pages c.loop-page.page old.tells c.in_ok-one.ensures.its_pages c.loop-page.invariant.kept
-          (content-before old middle (PutsKept shape c.loop-page.page c.loop-page.pages c.keep_page.new.pages) c.loop-page.invariant.reads.unchanged c.in_ok-one.ensures.kept);
+      found = at-next shape c.loop-page.found.items c.push_reserved.new.self.items c.loop-page.page c.in_ok-one.one new.tells c.loop-page.invariant.with.many
+          c.push_reserved.ensures.items (content-after middle new (AreFoundAt shape c.loop-page.found.items) step c.loop-page.invariant.found) c.in_ok-one.ensures.found;
+      kept = kept-next shape c.loop-page.pages c.keep_page.new.pages c.loop-page.page new.tells c.in_ok-one.ensures.its_pages
+          (content-after middle new (λ content. AreKeptFirst shape content c.loop-page.page c.loop-page.pages) step c.loop-page.invariant.kept) c.in_ok-one.ensures.kept;
     }
 
 pub returns-clause-kept : goal.returns-clause-kept
 returns-clause-kept g c =
-    kept-all c.args.shape.now c.loop-page.pages c.loop-page.page (g.D.Sectors.seen c.args.device.now).tells (omega arith) c.loop-page.invariant.kept
+    kept-all c.args.shape.now c.loop-page.pages c.loop-page.page (g.D.Sectors.seen c.loop-page.device).tells (omega arith) c.loop-page.invariant.kept
 
 pub returns-in_err-pages-clause-reads : goal.returns-in_err-pages-clause-reads
 returns-in_err-pages-clause-reads g c =

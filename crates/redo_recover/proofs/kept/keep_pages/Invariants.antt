@@ -14,6 +14,6 @@ invariant-loop-page g l = record {
   room : l.shape.pages ≤ vec_capacity l.found;
   filled : vec_len l.found ≡ l.page;
   with : AreFoundWith l.shape l.page l.found.items l.pages;
-  found : OnContent (g.D.Sectors.seen l.fn.device).tells (AreFoundAt l.shape l.found.items);
-  kept : OnContent (g.D.Sectors.seen l.fn.device).tells (λ content. AreKeptFirst l.shape content l.page l.pages);
+  found : OnContent (g.D.Sectors.seen l.device).tells (AreFoundAt l.shape l.found.items);
+  kept : OnContent (g.D.Sectors.seen l.device).tells (λ content. AreKeptFirst l.shape content l.page l.pages);
 }

@@ -9,7 +9,6 @@ use Rattle.redo_recover.proofs.Keeping.{slots-range}
 use Rattle.redo_recover.proofs.Only.{only-data, only-own, only-then}
 use Rattle.redo_recover.proofs.Paging.{pages-read}
 use Rattle.redo_recover.proofs.Placing.{found-read, places-of}
-use Rattle.redo_recover.proofs.Unchanged.{content-before}
 use Rattle.model_device.specs.Disk.{Disk}
 use Rattle.redo_recover.specs.Reads.{data_error}
 use Rattle.redo_recover.specs.Pages.{AreKept, IsPageFault}
@@ -22,35 +21,32 @@ read_part-requires g c = record { range = slots-range c.args.shape.now (g.D.Sect
 
 pub returns-in-Err-clause-fault : goal.returns-in-Err-clause-fault
 returns-in-Err-clause-fault g c =
-    let told = (g.D.Sectors.seen c.args.device.now).tells in
+    let told = (g.D.Sectors.seen c.read_part.new.device).tells in
     subst (IsPageFault c.args.shape.now c.args.end told) (sym c.data_fault.ensures) (device-fault c.args.shape.now c.args.end told c.in-Err.error)
 
 pub returns-in_err-pages-clause-fault : goal.returns-in_err-pages-clause-fault
 returns-in_err-pages-clause-fault g c =
     let fault = c.in_err-pages.field-0.0 in
-    let lost = lost-fault c.args.shape.now c.args.end (g.D.Sectors.seen c.read_part.new.device).tells fault c.in_err-pages.ensures.fault in
-    let known = subst (λ (told : Option Disk). IsPageFault c.args.shape.now c.args.end told fault) c.in-Ok.ensures.reads.unchanged.tells lost in
+    let known = lost-fault c.args.shape.now c.args.end (g.D.Sectors.seen c.keep_pages.new.device).tells fault c.in_err-pages.ensures.fault in
     search rules
 
 pub returns-in_err-check_ahead-clause-fault : goal.returns-in_err-check_ahead-clause-fault
 returns-in_err-check_ahead-clause-fault g c =
     let shape = c.args.shape.now in
     let fault = c.in_err-check_ahead.field-0.0 in
-    let old = g.D.Sectors.seen c.args.device.now in
-    let ahead = ahead-fault shape c.args.end c.in_ok-pages.pages old.tells fault
-    (content-before old (g.D.Sectors.seen c.read_part.new.device) (λ content. AreKept shape content c.in_ok-pages.pages)
-    c.in-Ok.ensures.reads.unchanged c.in_ok-pages.ensures.kept) c.in_err-check_ahead.ensures.fault in
+    let now = g.D.Sectors.seen c.keep_pages.new.device in
+    let ahead = ahead-fault shape c.args.end c.in_ok-pages.pages now.tells fault
+    c.in_ok-pages.ensures.kept c.in_err-check_ahead.ensures.fault in
     search rules
 
 pub returns-clause-pages : goal.returns-clause-pages
 returns-clause-pages g c =
     let shape = c.args.shape.now in
-    let told = (g.D.Sectors.seen c.args.device.now).tells in
+    let told = (g.D.Sectors.seen c.keep_pages.new.device).tells in
     content-weaker told (λ content. AreKept shape content c.in_ok-pages.pages) (λ content. AreReadPages shape content c.args.groups.now c.args.end c.replay.new.pages)
     (λ content kept. pages-read shape content c.args.groups.now c.args.end c.in_ok-pages.pages c.replay.new.pages
     kept c.in_ok-check_ahead.ensures.fine c.in_ok-replay.ensures.replayed)
-    (content-before (g.D.Sectors.seen c.args.device.now) (g.D.Sectors.seen c.read_part.new.device) (λ content. AreKept shape content c.in_ok-pages.pages)
-    c.in-Ok.ensures.reads.unchanged c.in_ok-pages.ensures.kept)
+    c.in_ok-pages.ensures.kept
 
 pub returns-clause-its_places : goal.returns-clause-its_places
 returns-clause-its_places g c =
@@ -60,13 +56,12 @@ returns-clause-its_places g c =
 pub returns-clause-found : goal.returns-clause-found
 returns-clause-found g c =
     let shape = c.args.shape.now in
-    let old = g.D.Sectors.seen c.args.device.now in
-    let middle = g.D.Sectors.seen c.read_part.new.device in
-    found-read shape (record { slots = c.in-Ok.slots; found = c.in_ok-pages.found }) c.args.groups.now c.in_ok-pages.pages c.replay.new.pages old.tells
+    let now = g.D.Sectors.seen c.keep_pages.new.device in
+    found-read shape (record { slots = c.in-Ok.slots; found = c.in_ok-pages.found }) c.args.groups.now c.in_ok-pages.pages c.replay.new.pages now.tells
     c.requires.rise c.in_ok-pages.ensures.lsns c.in_ok-replay.ensures.replayed
     (search rules)
-    (content-before old middle (λ content. AreKept shape content c.in_ok-pages.pages) c.in-Ok.ensures.reads.unchanged c.in_ok-pages.ensures.kept)
-    (content-before old middle (AreFoundAt shape c.in_ok-pages.found.items) c.in-Ok.ensures.reads.unchanged c.in_ok-pages.ensures.found)
+    c.in_ok-pages.ensures.kept
+    c.in_ok-pages.ensures.found
 
 pub returns-clause-not_ahead : goal.returns-clause-not_ahead
 returns-clause-not_ahead g c =

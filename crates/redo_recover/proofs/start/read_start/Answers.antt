@@ -3,7 +3,9 @@ use Rattle.std.proofs.lemmas.Result.{err_from_is_err_and}
 use Rattle.model_log.specs.{newest_checkpoint}
 use Rattle.model_log.specs.declared.layout.Layout.{Layout}
 use Rattle.model_store.proofs.Heads.{checkpoint-bounds}
-use Rattle.redo_recover.specs.Devices.{HasCauseIn}
+use Rattle.redo_disk.specs.{HasSize}
+use Rattle.redo_disk.proofs.Told.{still-known}
+use Rattle.redo_recover.specs.Devices.{HasCauseIn, reread}
 use Rattle.redo_recover.specs.Reads.{log_error}
 use Rattle.redo_recover.specs.Recovery.{IsCaused}
 use Rattle.redo_recover.specs.Start.{IsLengthFault}
@@ -17,15 +19,15 @@ use Rattle.redo_recover.proofs.start.read_start.Goals as goal
 
 pub returns-in-Err-clause-caused : goal.returns-in-Err-clause-caused
 returns-in-Err-clause-caused g c =
-    subst (IsCaused (g.L.Sectors.seen c.args.log.now) (g.D.Sectors.seen c.args.device.now)) (sym c.log_fault.ensures)
+    subst (IsCaused (reread (g.L.Sectors.seen c.args.log.now) (g.L.Sectors.seen c.read.new.self)) (g.D.Sectors.seen c.args.device.now)) (sym c.log_fault.ensures)
     (log_fault-caused _ _ c.in-Err.error)
 
 pub returns-in_err-format-clause-caused : goal.returns-in_err-format-clause-caused
 returns-in_err-format-clause-caused g c =
-    let log = g.L.Sectors.seen c.args.log.now in
+    let log = reread (g.L.Sectors.seen c.args.log.now) (g.L.Sectors.seen c.read.new.self) in
     let device = g.D.Sectors.seen c.args.device.now in
     let header = c.read.new.out in
-    let of = header-of log.tells log.size header c.len-log_len.ensures.told c.in-Ok.ensures.step.bytes in
+    let of = header-of log.tells log.size header (still-known (g.L.Sectors.seen c.args.log.now).tells log.tells (HasSize log.size) c.in-Ok.ensures.step.same c.len-log_len.ensures.told) c.in-Ok.ensures.step.bytes in
     let fault = c.in_err-format.ensures.fault in
     let cause : HasCauseIn log.tells device.tells c.in_err-format.field-0.0 =
     head-cause log.tells device.tells log.size header c.in_err-format.field-0.0 of (omega arith) fault in
@@ -33,12 +35,12 @@ returns-in_err-format-clause-caused g c =
 
 pub returns-in_err-check_lengths-clause-caused : goal.returns-in_err-check_lengths-clause-caused
 returns-in_err-check_lengths-clause-caused g c =
-    let log = g.L.Sectors.seen c.args.log.now in
+    let log = reread (g.L.Sectors.seen c.args.log.now) (g.L.Sectors.seen c.read.new.self) in
     let device = g.D.Sectors.seen c.args.device.now in
     let header = c.read.new.out in
     let format = c.in_ok-format.format in
     let shape = c.in_ok-format.shape in
-    let of = header-of log.tells log.size header c.len-log_len.ensures.told c.in-Ok.ensures.step.bytes in
+    let of = header-of log.tells log.size header (still-known (g.L.Sectors.seen c.args.log.now).tells log.tells (HasSize log.size) c.in-Ok.ensures.step.same c.len-log_len.ensures.told) c.in-Ok.ensures.step.bytes in
     let other = sized device.tells device.size c.len.ensures.told in
     let head = c.in_ok-format.ensures.head in
     let first = subst (λ n. IsLengthFault shape n c.len.result c.in_err-check_lengths.field-0.0) c.len-log_len.ensures.size c.in_err-check_lengths.ensures.fault in
@@ -49,12 +51,12 @@ returns-in_err-check_lengths-clause-caused g c =
 
 pub returns-in-Some-clause-start : goal.returns-in-Some-clause-start
 returns-in-Some-clause-start g c =
-    let log = g.L.Sectors.seen c.args.log.now in
+    let log = reread (g.L.Sectors.seen c.args.log.now) (g.L.Sectors.seen c.read.new.self) in
     let device = g.D.Sectors.seen c.args.device.now in
     let header = c.read.new.out in
     let format = c.in_ok-format.format in
     let shape = c.in_ok-format.shape in
-    let of = header-of log.tells log.size header c.len-log_len.ensures.told c.in-Ok.ensures.step.bytes in
+    let of = header-of log.tells log.size header (still-known (g.L.Sectors.seen c.args.log.now).tells log.tells (HasSize log.size) c.in-Ok.ensures.step.same c.len-log_len.ensures.told) c.in-Ok.ensures.step.bytes in
     let other = sized device.tells device.size c.len.ensures.told in
     let head = c.in_ok-format.ensures.head in
     let newest = ap (λ (layout : Layout). newest_checkpoint layout header) (sym c.layout_of.ensures.is) ∙ sym c.newest_in.ensures ∙ c.in-Some.is in
@@ -75,12 +77,12 @@ returns-in-Some-clause-usable g c =
 
 pub returns-in-None-clause-caused : goal.returns-in-None-clause-caused
 returns-in-None-clause-caused g c =
-    let log = g.L.Sectors.seen c.args.log.now in
+    let log = reread (g.L.Sectors.seen c.args.log.now) (g.L.Sectors.seen c.read.new.self) in
     let device = g.D.Sectors.seen c.args.device.now in
     let header = c.read.new.out in
     let format = c.in_ok-format.format in
     let shape = c.in_ok-format.shape in
-    let of = header-of log.tells log.size header c.len-log_len.ensures.told c.in-Ok.ensures.step.bytes in
+    let of = header-of log.tells log.size header (still-known (g.L.Sectors.seen c.args.log.now).tells log.tells (HasSize log.size) c.in-Ok.ensures.step.same c.len-log_len.ensures.told) c.in-Ok.ensures.step.bytes in
     let other = sized device.tells device.size c.len.ensures.told in
     let head = c.in_ok-format.ensures.head in
     let newest = ap (λ (layout : Layout). newest_checkpoint layout header) (sym c.layout_of.ensures.is) ∙ sym c.newest_in.ensures ∙ c.in-None.is in

@@ -4,7 +4,8 @@ use Rattle.model_parts.specs.{IsRepaired, KeepsAll}
 use Rattle.model_device.specs.{IsPutOrNot, synced, written}
 use Rattle.model_device.specs.Disk.{Disk}
 use Rattle.redo_dblwr.proofs.Ranges.{place-range}
-use Rattle.redo_disk.specs.{write_at}
+use Rattle.redo_disk.proofs.Told.{OnTold-weaker}
+use Rattle.redo_disk.specs.{OnTold, write_at}
 use Rattle.redo_store.proofs.Copies.{put-fails, put-keeps}
 use Rattle.redo_store.proofs.Entered.{told_ready}
 use Rattle.redo_store.specs.Copies.{IsCopyToPut}
@@ -16,7 +17,8 @@ returns-in-Ok-clause-keeps g c =
     let page = c.args.page in
     let copy = c.args.copy.now in
     let at = c.place_at.result in
-    told_ready g.D.Sectors.seen _ _ c.write_and_sync.new.device page _ (λ shape. IsCopyToPut shape page copy)
+    told_ready g.D.Sectors.seen OnTold OnTold-weaker _ _ c.write_and_sync.new.device page _
+    (λ shape. IsCopyToPut shape page copy)
     (λ (shape : Shape) (a b : Disk). b ≡ synced (written a (write_at at copy))) KeepsAll
     (λ a b ready done. (put-keeps _ page at copy a b c.place_at.ensures ready done).keeps) c.self.view_is c.self.invariant c.len-size.ensures.told c.in-Ok.ensures.ok
     c.requires.page c.requires.counts
@@ -26,8 +28,9 @@ returns-in-Ok-clause-ok g c =
     let page = c.args.page in
     let copy = c.args.copy.now in
     let at = c.place_at.result in
-    told_ready g.D.Sectors.seen _ _ c.write_and_sync.new.device page _ (λ shape. IsCopyToPut shape page copy)
-    (λ (shape : Shape) (a b : Disk). b ≡ synced (written a (write_at at copy))) (λ shape. IsRepaired shape page)
+    told_ready g.D.Sectors.seen OnTold OnTold-weaker _ _ c.write_and_sync.new.device page _
+    (λ shape. IsCopyToPut shape page copy) (λ (shape : Shape) (a b : Disk). b ≡ synced (written a (write_at at copy)))
+    (λ shape. IsRepaired shape page)
     (λ a b ready done. (put-keeps _ page at copy a b c.place_at.ensures ready done).repaired) c.self.view_is c.self.invariant c.len-size.ensures.told c.in-Ok.ensures.ok
     c.requires.page c.requires.counts
 
@@ -36,7 +39,8 @@ returns-in-Err-clause-keeps g c =
     let page = c.args.page in
     let copy = c.args.copy.now in
     let at = c.place_at.result in
-    told_ready g.D.Sectors.seen _ _ c.write_and_sync.new.device page _ (λ shape. IsCopyToPut shape page copy) (λ (shape : Shape). IsPutOrNot (write_at at copy)) KeepsAll
+    told_ready g.D.Sectors.seen OnTold OnTold-weaker _ _ c.write_and_sync.new.device page _
+    (λ shape. IsCopyToPut shape page copy) (λ (shape : Shape). IsPutOrNot (write_at at copy)) KeepsAll
     (λ a b ready fails. put-fails _ page at copy a b c.place_at.ensures ready fails) c.self.view_is c.self.invariant c.len-size.ensures.told c.in-Err.ensures.err
     c.requires.page c.requires.counts
 
