@@ -1,4 +1,5 @@
 mod Cuts
 mod Parts
+mod ReadBlock
 mod SomeWrites
 mod WriteTo

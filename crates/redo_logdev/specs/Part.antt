@@ -43,7 +43,7 @@ KeepsWriting seen old mark bytes firsts new =
     (s : ℕ) (wholes : List Whole) → PartHolds seen s wholes old
     → IsGivenTo s wholes (block_of old.marks.written) mark bytes firsts → PartHolds seen s wholes new
 
--- the same after a sync
+-- the same after a sync, or a read
 abbrev pub KeepsHolding : {L : Type 0} → (L → Seen) → Part L → Part L → Type 0
 KeepsHolding seen old new = (s : ℕ) (wholes : List Whole) → PartHolds seen s wholes old → PartHolds seen s wholes new
 

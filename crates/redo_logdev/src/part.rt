@@ -14,6 +14,7 @@ use std::alloc::Global;
 use std::marker::Model;
 
 mod checkpoint;
+mod read_block;
 mod sync;
 mod write_to;
 
