@@ -2,3 +2,4 @@ mod Groups
 mod Leaves
 mod Limit
 mod Sequence
+mod Skipping

@@ -1,9 +1,10 @@
 -- Two texts one after another: what reading the first and then the second gives.
 use Rattle.std.proofs.Common.{◌≡◌, ◌≢◌, ℕ, List, [], ◌∷◌, ◌++◌, ◌⊎◌, inl, inr, Result, Ok, Err, refl, sym, ap, subst, ◌∙◌, append_assoc}
 use Rattle.std.specs.Prelude.{IsErrAnd}
+use Rattle.redo_record.specs.declared.no_text.NoText.{NoText}
 use Rattle.redo_record.specs.declared.stop.Stop.{Stop}
 use Rattle.redo_record.specs.declared.stop.Stop.TheVariants.{Memory, Short, Bad}
-use Rattle.redo_record.specs.Reading.{Begins, Stops, Reads}
+use Rattle.redo_record.specs.Reading.{Begins, Stops, Reads, stop_of, Takes}
 use Rattle.model_log.proofs.Sequence.{OneText, IsThen}
 
 -- of two fronts of one list, one is a front of the other
@@ -61,6 +62,12 @@ module _ {A B C : Type 0} {IsFirst : List ℕ → A → Type 0} {IsSecond : A �
 pub passed_on : {X A : Type 0} (view : X → A × List ℕ) (IsText : List ℕ → A → Type 0) (bytes : List ℕ) (result : Result X Stop) (stop : Stop) → IsErrAnd result (λ given. given ≡ stop) → Stops IsText bytes stop → Reads view IsText bytes result
 passed_on view IsText bytes (Ok x) stop is h = absurd is
 passed_on view IsText bytes (Err given) stop is h = subst (Stops IsText bytes) (sym is) h
+
+pub taken_on : {X A : Type 0} (view : X → A × List ℕ) (IsText : List ℕ → A → Type 0) (bytes : List ℕ)
+    (result : Result X NoText) (why : NoText) → IsErrAnd result (λ given. given ≡ why)
+    → Stops IsText bytes (stop_of why) → Takes view IsText bytes result
+taken_on view IsText bytes (Ok x) why is h = absurd is
+taken_on view IsText bytes (Err given) why is h = subst (λ (w : NoText). Stops IsText bytes (stop_of w)) (sym is) h
 
 -- where the second text alone makes the value, what reading it gives is what reading both gives
 pub last_reads : {X A B : Type 0} {IsFirst : List ℕ → A → Type 0} {IsSecond : A → List ℕ → B → Type 0} {IsWhole : List ℕ → B → Type 0} (then : IsThen IsFirst IsSecond IsWhole (λ _ value. value)) (one : OneText IsFirst) (view : X → B × List ℕ) (bytes rest : List ℕ) (a : A)

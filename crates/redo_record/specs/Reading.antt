@@ -1,5 +1,7 @@
 -- Reading a text off the front of some bytes.
 use Rattle.std.specs.Prelude.{ℕ, ◌≡◌, ◌≢◌, List, [], ◌++◌, Result, Ok, Err}
+use Rattle.redo_record.specs.declared.no_text.NoText.{NoText}
+use Rattle.redo_record.specs.declared.no_text.NoText.TheVariants as no_text
 use Rattle.redo_record.specs.declared.stop.Stop.{Stop}
 use Rattle.redo_record.specs.declared.stop.Stop.TheVariants.{Memory, Short, Bad}
 
@@ -31,3 +33,13 @@ Stops IsText bytes Bad = IsNone IsText bytes
 abbrev pub Reads : {X A : Type 0} → (X → A × List ℕ) → (List ℕ → A → Type 0) → List ℕ → Result X Stop → Type 0
 Reads view IsText bytes (Ok found) = Begins IsText bytes (view found).0 (view found).1
 Reads view IsText bytes (Err stop) = Stops IsText bytes stop
+
+-- why there is none, where reading takes no memory
+abbrev pub stop_of : NoText → Stop
+stop_of no_text.Short = Short
+stop_of no_text.Bad = Bad
+
+-- What such reading gives.
+abbrev pub Takes : {X A : Type 0} → (X → A × List ℕ) → (List ℕ → A → Type 0) → List ℕ → Result X NoText → Type 0
+Takes view IsText bytes (Ok found) = Begins IsText bytes (view found).0 (view found).1
+Takes view IsText bytes (Err given) = Stops IsText bytes (stop_of given)

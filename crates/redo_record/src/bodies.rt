@@ -1,25 +1,26 @@
 // The parts of a record's text. Each reader takes one off the front, and gives the bytes that are left.
 ghost use Rattle.std.specs.Prelude.{Ok};
 ghost use Rattle.model_log.specs.{IsAfterType, IsPlace, IsRecord, IsSpot, IsString, IsWidth};
-ghost use Rattle.redo_record.specs.Reading.{Reads};
+ghost use Rattle.redo_record.specs.Reading.{Reads, Takes};
 
 use crate::fields::{read_body, read_length, read_number32, read_short, read_value};
+use crate::no_text::NoText;
 use crate::stop::Stop;
 use crate::types::{INIT, STRING};
 use model_log::{Place, Rec, Spot};
 use redo_lsn::Bytes;
 use std::alloc::Global;
 
-fn read_place(bytes: &[u8]) -> Result<(Place, &[u8]), Stop>
-    ensures { Reads (λ x. (x.0, x.1.now)) IsPlace bytes.now result }
+fn read_place(bytes: &[u8]) -> Result<(Place, &[u8]), NoText>
+    ensures { Takes (λ x. (x.0, x.1.now)) IsPlace bytes.now result }
 {
     let (space, rest) = read_number32(bytes)?;
     let (page, rest) = read_number32(rest)?;
     Ok((Place { space, page }, rest))
 }
 
-fn read_spot(bytes: &[u8]) -> Result<(Spot, &[u8]), Stop>
-    ensures { Reads (λ x. (x.0, x.1.now)) IsSpot bytes.now result }
+pub(crate) fn read_spot(bytes: &[u8]) -> Result<(Spot, &[u8]), NoText>
+    ensures { Takes (λ x. (x.0, x.1.now)) IsSpot bytes.now result }
 {
     let (place, rest) = read_place(bytes)?;
     let (offset, rest) = read_short(rest)?;
@@ -33,9 +34,9 @@ fn read_string(alloc: Global, bytes: &[u8]) -> Result<(Bytes, &[u8]), Stop>
     read_body(alloc, length, rest)
 }
 
-fn read_num(width: u32, bytes: &[u8]) -> Result<(Rec, &[u8]), Stop>
+pub(crate) fn read_num(width: u32, bytes: &[u8]) -> Result<(Rec, &[u8]), NoText>
     requires { IsWidth width }
-    ensures { Reads (λ x. (x.0, x.1.now)) (IsAfterType width) bytes.now result }
+    ensures { Takes (λ x. (x.0, x.1.now)) (IsAfterType width) bytes.now result }
 {
     let (spot, rest) = read_spot(bytes)?;
     let (value, rest) = read_value(width, rest)?;
@@ -71,8 +72,8 @@ fn read_text(alloc: Global, bytes: &[u8]) -> Result<(Rec, &[u8]), Stop>
     Ok((rec, rest))
 }
 
-fn read_init(bytes: &[u8]) -> Result<(Rec, &[u8]), Stop>
-    ensures { Reads (λ x. (x.0, x.1.now)) (IsAfterType INIT) bytes.now result }
+pub(crate) fn read_init(bytes: &[u8]) -> Result<(Rec, &[u8]), NoText>
+    ensures { Takes (λ x. (x.0, x.1.now)) (IsAfterType INIT) bytes.now result }
 {
     let (Place { space, page }, rest) = read_place(bytes)?;
     Ok((Rec::Init { space, page }, rest))
@@ -82,9 +83,9 @@ fn read_after_type(alloc: Global, kind: u8, bytes: &[u8]) -> Result<(Rec, &[u8])
     ensures { Reads (λ x. (x.0, x.1.now)) (IsAfterType kind) bytes.now result }
 {
     match kind {
-        1 | 2 | 4 | 8 => read_num(u32::from(kind), bytes),
+        1 | 2 | 4 | 8 => Ok(read_num(u32::from(kind), bytes)?),
         STRING => read_text(alloc, bytes),
-        INIT => read_init(bytes),
+        INIT => Ok(read_init(bytes)?),
         _ => Err(Stop::Bad),
     }
 }

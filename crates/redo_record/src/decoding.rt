@@ -65,7 +65,7 @@ fn read_several(alloc: Global, bytes: &[u8]) -> Result<(Group, &[u8]), Stop>
     Ok((Group(recs), &rest[1..]))
 }
 
-fn is_ended(bytes: &[u8]) -> bool
+pub(crate) fn is_ended(bytes: &[u8]) -> bool
     ensures { IsTrue result ↔ (slice_index bytes.now 0 ≡ END_MARK) }
 {
     bytes.first() == Some(&END_MARK)

@@ -1,7 +1,9 @@
 // Why no value was read off the front of some bytes.
 ghost use Rattle.std.specs.Prelude.{◌≡◌};
+ghost use Rattle.redo_record.specs.Reading.{stop_of};
 ghost use Rattle.redo_record.specs.declared.stop.Stop.TheVariants.{Memory};
 
+use crate::no_text::NoText;
 use std::alloc::{AllocError, AllocFailed};
 use thiserror::Error;
 
@@ -32,5 +34,16 @@ impl<T: Drop> From<AllocFailed<T>> for Stop {
 
     fn from(_error: AllocFailed<T>) -> Stop {
         Stop::Memory
+    }
+}
+
+impl From<NoText> for Stop {
+    ghost from_gives = { λ given stop. stop ≡ stop_of given };
+
+    fn from(given: NoText) -> Stop {
+        match given {
+            NoText::Short => Stop::Short,
+            NoText::Bad => Stop::Bad,
+        }
     }
 }
