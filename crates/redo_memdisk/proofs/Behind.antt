@@ -6,6 +6,7 @@ use Rattle.model_device.specs.declared.write.Write.{Write}
 use Rattle.redo_disk.specs.declared.error.DevError.TheVariants.{Failed, NoMemory}
 use Rattle.redo_disk.specs.{Answer, Call, call_changes, changing_calls, device_answer, error_of, failed_calls, failures, Makes, MakesCalls, Reads, Syncs, Writes}
 use Rattle.redo_disk.specs.Seen.{Seen}
+use Rattle.redo_memdisk.specs.Before.{fused-before}
 use Rattle.redo_memdisk.specs.Counted.{CountsCalls, KeepsBehind, Through, after_calls, after_one}
 use Rattle.redo_memdisk.specs.Fuse.{fails_next}
 use Rattle.redo_memdisk.specs.Fused.{CallsThrough, ReadsThrough, SyncsThrough, WritesThrough}
@@ -33,6 +34,7 @@ read-behind : {D : Type 0} (seen : D → Seen) (gives : D → Call → D → Typ
     → fails_next old.fuse ≡ fails → ReadsThrough seen gives old at before answer after new → KeepsBehind seen old (failures (error_of answer)) new
 read-behind seen gives old new at before after answer true is through = record {
   size = ap (λ device. (seen device).size) (through.same_inner is);
+  told = fused-before seen gives old new (Reads at before answer after) through;
   armed = through.same_armed;
   entry = through.same_entry;
   later = omega (arith, ap (λ device. (seen device).faults) (through.same_inner is));
@@ -40,6 +42,7 @@ read-behind seen gives old new at before after answer true is through = record {
 }
 read-behind seen gives old new at before after answer false is through = record {
   size = (through.passed_step is).size;
+  told = fused-before seen gives old new (Reads at before answer after) through;
   armed = through.same_armed;
   entry = through.same_entry;
   later = (through.passed_step is).cause.later;
@@ -53,6 +56,7 @@ write-behind seen gives old new write answer true is through = record {
       (λ later. ap (λ device. (seen device).size) (through.later is later))
       (λ first. (through.first is (omega arith)).2.size)
       (cases_lt 0 old.fuse.own);
+  told = fused-before seen gives old new (Writes write answer) through;
   armed = through.same_armed;
   entry = through.same_entry;
   later = ⊎_elim
@@ -63,6 +67,7 @@ write-behind seen gives old new write answer true is through = record {
 }
 write-behind seen gives old new write answer false is through = record {
   size = (through.passed_step is).size;
+  told = fused-before seen gives old new (Writes write answer) through;
   armed = through.same_armed;
   entry = through.same_entry;
   later = (through.passed_step is).cause.later;
@@ -73,6 +78,7 @@ sync-behind : {D : Type 0} (seen : D → Seen) (gives : D → Call → D → Typ
     → fails_next old.fuse ≡ fails → SyncsThrough seen gives old answer new → KeepsBehind seen old (failures (error_of answer)) new
 sync-behind seen gives old new answer true is through = record {
   size = ap (λ device. (seen device).size) (through.same_inner is);
+  told = fused-before seen gives old new (Syncs answer) through;
   armed = through.same_armed;
   entry = through.same_entry;
   later = omega (arith, ap (λ device. (seen device).faults) (through.same_inner is));
@@ -80,14 +86,15 @@ sync-behind seen gives old new answer true is through = record {
 }
 sync-behind seen gives old new answer false is through = record {
   size = (through.passed_step is).size;
+  told = fused-before seen gives old new (Syncs answer) through;
   armed = through.same_armed;
   entry = through.same_entry;
   later = (through.passed_step is).cause.later;
   cause = λ some. inl ((through.passed_step is).cause.failed (answer-failed answer some));
 }
 
-behind-one : {D : Type 0} (seen : D → Seen) (gives : D → Call → D → Type 0) (old new : Fused D) (call : Call) → CallsThrough seen gives old call new
-    → KeepsBehind seen old (failures (error_of (device_answer call))) new
+pub behind-one : {D : Type 0} (seen : D → Seen) (gives : D → Call → D → Type 0) (old new : Fused D) (call : Call)
+    → CallsThrough seen gives old call new → KeepsBehind seen old (failures (error_of (device_answer call))) new
 behind-one seen gives old new (Reads at before answer after) through = read-behind seen gives old new at before after answer (fails_next old.fuse) refl through
 behind-one seen gives old new (Writes write answer) through = write-behind seen gives old new write answer (fails_next old.fuse) refl through
 behind-one seen gives old new (Syncs answer) through = sync-behind seen gives old new answer (fails_next old.fuse) refl through
@@ -107,6 +114,7 @@ KeepsBehind-then seen old middle new n failed failed' changing first counts seco
       size = second.size ∙ first.size;
       armed = second.armed ∙ first.armed;
       entry = second.entry ∙ first.entry;
+      told = λ now. first.told (second.told now);
       later = omega arith;
       cause = λ some.
           ⊎_elim
@@ -122,7 +130,14 @@ KeepsBehind-then seen old middle new n failed failed' changing first counts seco
     }
 
 KeepsBehind-none : {D : Type 0} (seen : D → Seen) (old : Fused D) → KeepsBehind seen old 0 old
-KeepsBehind-none seen old = record { size = refl; armed = refl; entry = refl; later = omega arith; cause = λ some. absurd (omega arith) }
+KeepsBehind-none seen old = record {
+  size = refl;
+  armed = refl;
+  entry = refl;
+  told = λ now. now;
+  later = omega arith;
+  cause = λ some. absurd (omega arith);
+}
 
 pub counts-calls : {D : Type 0} (seen : D → Seen) (gives : D → Call → D → Type 0) (old new : Fused D) (calls : List Call) → Makes (CallsThrough seen gives) old calls new
     → CountsCalls old.fuse (length calls) (failed_calls calls) (changing_calls calls) new.fuse

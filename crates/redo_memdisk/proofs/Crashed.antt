@@ -26,7 +26,7 @@ pub CrashStep-pending : (cut pick : ℕ) (base : List ℕ) (writes : List Write)
 CrashStep-pending cut pick base writes new before after faults sectors new_is after_is =
     let crashes = Crashes-pending cut pick base writes new sectors new_is in
     record {
-      left = (new, refl, crashes);
+      left = (pending_disk base writes, refl, crashes);
       from = after_is;
       size = ap (λ (disk : Disk). length disk.base) crashes.left ∙ crashes.possible.same_length;
       later = omega arith;

@@ -4,6 +4,7 @@ pub mod Behind
 pub mod Counted
 pub mod Counts
 pub mod Crashed
+pub mod Filed
 pub mod Left
 pub mod Overlay
 pub mod ReadOn

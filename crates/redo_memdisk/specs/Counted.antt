@@ -1,5 +1,5 @@
 -- What a fuse tells after calls through it.
-use Rattle.std.specs.Prelude.{ℕ, zero, suc, ◌≡◌, ◌≤◌, ◌<◌, ◌+◌, ◌⊎◌, List, [], ◌∷◌, length, IsTrue, IfSome}
+use Rattle.std.specs.Prelude.{ℕ, zero, suc, ◌≡◌, ◌≢◌, ◌≤◌, ◌<◌, ◌+◌, ◌⊎◌, List, [], ◌∷◌, length, IsTrue, None, IfSome}
 use Rattle.model_base.specs.{HasRisen}
 use Rattle.redo_io.specs.{saturating_next}
 use Rattle.redo_disk.specs.{Call, changing_calls, failed_calls, Reads, Syncs, Writes}
@@ -68,12 +68,14 @@ pub record CountsCalls (old : Fuse) (calls failed changing : ℕ) (new : Fuse) :
   -- from the arming to the crash each call is passed on, or it fails
   pub some : 0 < while_stopping old.stage calls → 0 < new.passed + new.mid
 
--- What calls through a fuse leave of the device behind it: the size, and what it was at first and at the arming, are the same. Its
--- count of faults never falls, and it has risen where a call failed, or the fuse has passed on all that it was to.
+-- What calls through a fuse leave of the device behind it: the size, and what it was at first and at the arming, are
+-- the same. One that tells now told before. Its count of faults never falls, and it has risen where a call failed, or the
+-- fuse has passed on all that it was to.
 pub record KeepsBehind {D : Type 0} (seen : D → Seen) (old : Fused D) (failed : ℕ) (new : Fused D) : Type 0 where
   pub size : (seen new.inner).size ≡ (seen old.inner).size
   pub armed : armed_at new ≡ armed_at old
   pub entry : entry_of new ≡ entry_of old
+  pub told : (seen new.inner).tells ≢ None → (seen old.inner).tells ≢ None
   pub later : (seen old.inner).faults ≤ (seen new.inner).faults
   pub cause : 0 < failed → HasRisen (seen old.inner).faults (seen new.inner).faults ⊎ IsTrue (fails_next new.fuse)
 

@@ -1,20 +1,32 @@
 -- What a device in a file shows.
-use Rattle.std.specs.Prelude.{List, ℕ, ◌≡◌, None, Ok, Err, length, replicate, take, ◌++◌, ◌-◌}
+use Rattle.std.specs.Prelude.{List, ℕ, ◌≡◌, [], ◌∷◌, ◌++◌, Ok, Err}
 use Rattle.redo_io.specs.{saturating_next}
-use Rattle.redo_disk.specs.{Answer, Call}
+use Rattle.redo_disk.specs.{Answer, Call, Reads, Syncs, Writes}
 use Rattle.redo_disk.specs.Calls.{device_answer}
 use Rattle.redo_disk.specs.declared.error.DevError.TheVariants.{Failed, NoMemory}
 use Rattle.redo_disk.specs.Seen.{Seen}
+use Rattle.redo_memdisk.specs.Notes.{Note, crash_met, filled, note, replay}
 use Rattle.redo_memdisk.specs.declared.file.FileDisk.{FileDisk}
 use Rattle.redo_memdisk.specs.declared.file.TheConstants.{FILE_DISK_LEN}
+use Rattle.redo_memdisk.specs.declared.record.Event.{Event}
+use Rattle.redo_memdisk.specs.declared.record.Event.TheVariants.{Read, Written, Missed, Synced, Crashed, Lost}
 
 -- how often its calls have failed
-abbrev pub file_faults : {R F D : Type 0} → FileDisk R F D → ℕ
+abbrev pub file_faults : {R S F D : Type 0} → FileDisk R S F D → ℕ
 file_faults device = device.faults
 
--- The device, as its readers see it. It tells nothing of what it holds.
-abbrev pub file_seen : {R F D : Type 0} → FileDisk R F D → Seen
-file_seen device = record { size = FILE_DISK_LEN; tells = None; crashed_from = None; faults = device.faults }
+-- its calls, the newest first
+abbrev pub file_notes : {R S F D : Type 0} → FileDisk R S F D → List Note
+file_notes device = device.calls.notes
+
+-- The device, as its readers see it: what a file that held these bytes means after its calls, if it gave what it meant.
+abbrev pub file_seen : {R S F D : Type 0} → List ℕ → FileDisk R S F D → Seen
+file_seen bytes device = record {
+  size = FILE_DISK_LEN;
+  tells = replay (filled FILE_DISK_LEN bytes) device.calls.notes;
+  crashed_from = crash_met (filled FILE_DISK_LEN bytes) device.calls.notes;
+  faults = device.faults;
+}
 
 -- the count of failures after a call that answered so: one more where it failed, which is never for want of memory
 abbrev pub CountsFailure : ℕ → Answer → ℕ → Type 0
@@ -22,14 +34,28 @@ CountsFailure old (Ok done) new = new ≡ old
 CountsFailure old (Err Failed) new = new ≡ saturating_next old
 CountsFailure old (Err NoMemory) new = ⊥
 
+-- what is noted of a call; of a write that failed, that so many of its bytes were taken
+abbrev pub notes_of : ℕ → Call → List Note
+notes_of taken (Reads at before (Ok done) after) = note (Read at) after ∷ []
+notes_of taken (Reads at before (Err error) after) = []
+notes_of taken (Writes write (Ok done)) = note (Written write.at) write.bytes ∷ []
+notes_of taken (Writes write (Err error)) = note (Missed write.at taken) write.bytes ∷ []
+notes_of taken (Syncs (Ok done)) = note Synced [] ∷ []
+notes_of taken (Syncs (Err error)) = []
+
 -- a call
-abbrev pub FileGives : {R F D : Type 0} → FileDisk R F D → Call → FileDisk R F D → Type 0
-FileGives old call new = CountsFailure old.faults (device_answer call) new.faults
+pub record FileGives {R S F D : Type 0} (old : FileDisk R S F D) (call : Call) (new : FileDisk R S F D) : Type 0 where
+  pub counts : CountsFailure old.faults (device_answer call) new.faults
+  pub taken : ℕ
+  pub noted : file_notes new ≡ notes_of taken call ++ file_notes old
 
--- a crash: the device is as it was
-abbrev pub FileCrash : {R F D : Type 0} → FileDisk R F D → ℕ → FileDisk R F D → Type 0
-FileCrash old pick new = new ≡ old
+-- what is noted of a crash whose sync answered so
+abbrev pub crash_event : Answer → Event
+crash_event (Ok done) = Crashed
+crash_event (Err error) = Lost
 
--- the first bytes of these, so many, and zeros where there are fewer
-abbrev pub filled : ℕ → List ℕ → List ℕ
-filled count left = take count left ++ replicate (count - length left) 0
+-- a crash
+pub record FileCrash {R S F D : Type 0} (old : FileDisk R S F D) (pick : ℕ) (new : FileDisk R S F D) : Type 0 where
+  pub synced : Answer
+  pub counts : CountsFailure old.faults synced new.faults
+  pub noted : file_notes new ≡ note (crash_event synced) [] ∷ file_notes old

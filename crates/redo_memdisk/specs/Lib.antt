@@ -1,8 +1,10 @@
+pub mod Before
 pub mod Counted
 pub mod File
 pub mod Fuse
 pub mod Fused
 pub mod Memory
+pub mod Notes
 pub use Rattle.redo_memdisk.specs.Counted.{after_calls, after_crash, before_arming, counted, while_stopping}
 pub use Rattle.redo_memdisk.specs.Fuse.{armed, crashed_with, fails_next, fresh, has_passed_all, is_failed, with_change}
 pub use Rattle.redo_memdisk.specs.Fused.{CallsThrough, CrashesThrough, ReadsThrough, SyncsThrough, WritesThrough, armed_at, armed_from, entry_of, fuse_of, inner_of, seen_through}

@@ -1,24 +1,34 @@
 // A device in a file.
-ghost use Rattle.std.specs.Prelude.{◌≡◌, length, IfSome, OnOk};
+ghost use Rattle.std.specs.Prelude.{◌≡◌, [], length, take, IfSome, OnOk};
+ghost use Rattle.std.specs.Io.KnownBytes.{Appends};
 ghost use Rattle.redo_disk.specs.{HasCause};
-ghost use Rattle.redo_memdisk.specs.File.{CountsFailure, FileCrash, FileGives, file_faults, file_seen, filled};
+ghost use Rattle.redo_memdisk.specs.File.{CountsFailure, FileCrash, FileGives, file_faults, file_notes, file_seen};
+ghost use Rattle.redo_memdisk.specs.Notes.{filled};
 
+use crate::Contents;
 use crate::lock::LockFiles;
+use crate::record::{Event, Record};
 use redo_disk::{DevError, Sectors};
 use std::fs::{File, OpenFile, OpenOptions};
 use std::io;
 use std::io::{ErrorKind, Read, Seek, SeekFrom, Write};
+use std::marker::PhantomData;
 use std::rt::Files;
 
-/// A device in a file of its own, which its first call opens or makes, and locks: while another process holds the file, that
-/// call fails. What stands past the file's end reads as zeros. It doesn't tell what it means, and its crash does nothing: a
-/// real one is the machine's.
+/// A device in a file of its own, which its first call opens or makes, locks and syncs: while another process holds the
+/// file, that call fails. What stands past the file's end reads as zeros. It tells what a file means that held `S`'s
+/// bytes, by the record of its calls, until a read gives other bytes than that. Its crash keeps every write, by a sync:
+/// a real one is the machine's.
 #[derive(Drop)]
-pub struct FileDisk<R: Files> {
+pub struct FileDisk<R: Files, S: Contents> {
     files: R,
     path: String,
     file: Option<R::File>,
+    /// A sync has failed. The system may have dropped what was to be synced, and would answer a later sync with Ok.
+    has_failed_sync: bool,
     faults: u64,
+    calls: Record,
+    start: PhantomData<S>,
 }
 
 /// Bytes of every device in a file, of which the file holds those up to the last that was written.
@@ -33,21 +43,26 @@ fn folder_of(path: &str) -> &str {
     }
 }
 
-impl<R: LockFiles> FileDisk<R> {
+impl<R: LockFiles, S: Contents> FileDisk<R, S> {
     /// The device in the file at this path.
     pub fn new(files: R, path: String) -> Self
-        ensures { file_faults result ≡ 0 }
+        ensures faults { file_faults result ≡ 0 }
+        ensures notes { file_notes result ≡ [] }
     {
         FileDisk {
             files,
             path,
             file: None,
+            has_failed_sync: false,
             faults: 0,
+            calls: Record::new(),
+            start: PhantomData,
         }
     }
 
     fn opened(&mut self) -> io::Result<R::File>
-        ensures { file_faults self.new ≡ file_faults self.old }
+        ensures faults { file_faults self.new ≡ file_faults self.old }
+        ensures notes { file_notes self.new ≡ file_notes self.old }
     {
         match self.file.take() {
             Some(file) => Ok(file),
@@ -55,54 +70,85 @@ impl<R: LockFiles> FileDisk<R> {
         }
     }
 
-    /// Opens the file for this device alone. Where standard input, output or error is closed, the system gives its number
-    /// to the next file, and what is printed would reach the device. A duplicate never gets such a number.
-    fn open(&self) -> io::Result<R::File> {
+    /// Opens the file for this device alone, with what was written before on disk. Where standard input, output or
+    /// error is closed, the system gives its number to the next file, and what is printed would reach the device. A
+    /// duplicate never gets such a number.
+    fn open(&mut self) -> io::Result<R::File>
+        ensures faults { file_faults self.new ≡ file_faults self.old }
+        ensures notes { file_notes self.new ≡ file_notes self.old }
+    {
         let file = self.open_or_make()?.try_clone()?;
         self.files.try_lock(&file)?;
+        self.sync_file(&file)?;
         Ok(file)
     }
 
     /// Opens the file, or makes it, for good: its name stands in the folder when the first call answers.
-    fn open_or_make(&self) -> io::Result<R::File> {
+    fn open_or_make(&mut self) -> io::Result<R::File>
+        ensures faults { file_faults self.new ≡ file_faults self.old }
+        ensures notes { file_notes self.new ≡ file_notes self.old }
+    {
         let mut options = OpenOptions::new();
         options.read(true).write(true);
         match options.open(&self.files, self.path.as_str()) {
             Err(error) if error.kind() == ErrorKind::NotFound => {
+                let folder = File::open(&self.files, folder_of(&self.path))?;
                 let file = options.create(true).open(&self.files, self.path.as_str())?;
-                File::open(&self.files, folder_of(&self.path))?.sync_all()?;
+                self.sync_file(&folder)?;
                 Ok(file)
             }
             answer => answer,
         }
     }
 
-    fn with_file<F: FnOnce(&mut R::File) -> io::Result<()> + Drop>(
-        &mut self,
-        act: F,
-    ) -> Result<(), DevError>
-        requires { F.IsAlwaysCallable act }
-        ensures counts { CountsFailure (file_faults self.old) result (file_faults self.new) }
-        ensures cause { HasCause (file_faults self.old) (file_faults self.new) result }
+    /// Syncs a file or a folder, if no sync has failed.
+    fn sync_file(&mut self, file: &R::File) -> io::Result<()>
+        ensures faults { file_faults self.new ≡ file_faults self.old }
+        ensures notes { file_notes self.new ≡ file_notes self.old }
     {
-        if self.try_with_file(act).is_ok() {
-            return Ok(());
+        if self.has_failed_sync {
+            return Err(io::Error::from(ErrorKind::Other));
         }
-        self.faults = self.faults.saturating_add(1);
-        Err(DevError::Failed)
+        let done = file.sync_all();
+        self.has_failed_sync = done.is_err();
+        done
     }
 
-    fn try_with_file<F: FnOnce(&mut R::File) -> io::Result<()> + Drop>(
+    fn with_file<F: FnOnce(&mut R::File) -> io::Result<()> + Drop>(
         &mut self,
         act: F,
     ) -> io::Result<()>
         requires { F.IsAlwaysCallable act }
-        ensures { file_faults self.new ≡ file_faults self.old }
+        ensures faults { file_faults self.new ≡ file_faults self.old }
+        ensures notes { file_notes self.new ≡ file_notes self.old }
     {
         let mut file = self.opened()?;
         let done = act(&mut file);
         self.file = Some(file);
         done
+    }
+
+    fn try_sync(&mut self) -> io::Result<()>
+        ensures faults { file_faults self.new ≡ file_faults self.old }
+        ensures notes { file_notes self.new ≡ file_notes self.old }
+    {
+        let file = self.opened()?;
+        let done = self.sync_file(&file);
+        self.file = Some(file);
+        done
+    }
+
+    /// What a call answers that came to this, which is counted where it failed.
+    fn answer(&mut self, done: io::Result<()>) -> Result<(), DevError>
+        ensures counts { CountsFailure (file_faults self.old) result (file_faults self.new) }
+        ensures cause { HasCause (file_faults self.old) (file_faults self.new) result }
+        ensures notes { file_notes self.new ≡ file_notes self.old }
+    {
+        if done.is_ok() {
+            return Ok(());
+        }
+        self.faults = self.faults.saturating_add(1);
+        Err(DevError::Failed)
     }
 }
 
@@ -128,20 +174,49 @@ fn fill_from<F: Read>(file: &mut F, out: &mut [u8]) -> io::Result<()>
     Err(io::Error::from(ErrorKind::Interrupted))
 }
 
+/// Writes the bytes, and counts those that the file took, also where it fails.
+fn put_into<F: Write>(file: &mut F, bytes: &[u8], taken: &mut usize) -> io::Result<()>
+    ensures bytes { Appends (F.contents file.old) (F.contents file.new) (take taken.new bytes.now) }
+    ensures all { OnOk result (taken.new ≡ length bytes.now) }
+{
+    *taken = 0;
+    for _ in 0..u64::MAX {
+        if *taken >= bytes.len() {
+            return Ok(());
+        }
+        match file.write(&bytes[*taken..]) {
+            Ok(0) => return Err(io::Error::from(ErrorKind::WriteZero)),
+            Ok(count) => *taken += count,
+            Err(error) if error.kind() == ErrorKind::Interrupted => {}
+            Err(error) => return Err(error),
+        }
+    }
+    Err(io::Error::from(ErrorKind::Interrupted))
+}
+
 fn read_at<F: Read + Seek>(file: &mut F, at: u64, out: &mut [u8]) -> io::Result<()> {
     file.seek(SeekFrom::Start(at))?;
     fill_from(file, out)
 }
 
-fn write_at<F: Write + Seek>(file: &mut F, at: u64, bytes: &[u8]) -> io::Result<()> {
+fn write_at<F: Write + Seek>(
+    file: &mut F,
+    at: u64,
+    bytes: &[u8],
+    taken: &mut usize,
+) -> io::Result<()> {
     file.seek(SeekFrom::Start(at))?;
-    file.write_all(bytes)
+    put_into(file, bytes, taken)
 }
 
-impl<R: LockFiles> Sectors for FileDisk<R> {
-    ghost seen = { file_seen };
+impl<R: LockFiles, S: Contents> Sectors for FileDisk<R, S> {
+    ghost use Rattle.redo_memdisk.specs.Before.{file-before};
+
+    ghost seen = { file_seen S.Contents.bytes };
 
     ghost gives = { FileGives };
+
+    ghost told_before = { file-before S.Contents.bytes };
 
     ghost crash_gives = { FileCrash };
 
@@ -150,16 +225,39 @@ impl<R: LockFiles> Sectors for FileDisk<R> {
     }
 
     fn read(&mut self, at: u64, out: &mut [u8]) -> Result<(), DevError> {
-        self.with_file(|file| read_at(file, at, out))
+        let done = self.with_file(|file| read_at(file, at, out));
+        let answer = self.answer(done);
+        if answer.is_ok() {
+            self.calls.note(Event::Read { at }, out);
+        }
+        answer
     }
 
     fn write(&mut self, at: u64, bytes: &[u8]) -> Result<(), DevError> {
-        self.with_file(|file| write_at(file, at, bytes))
+        let mut taken = 0;
+        let done = self.with_file(|file| write_at(file, at, bytes, &mut taken));
+        let answer = self.answer(done);
+        match answer {
+            Ok(()) => self.calls.note(Event::Written { at }, bytes),
+            Err(_) => self.calls.note(Event::Missed { at, taken }, bytes),
+        }
+        answer
     }
 
     fn sync(&mut self) -> Result<(), DevError> {
-        self.with_file(|file| file.sync_all())
+        let done = self.try_sync();
+        let answer = self.answer(done);
+        if answer.is_ok() {
+            self.calls.note(Event::Synced, &[]);
+        }
+        answer
     }
 
-    fn crash(&mut self, _pick: u64) {}
+    fn crash(&mut self, _pick: u64) {
+        let done = self.try_sync();
+        match self.answer(done) {
+            Ok(()) => self.calls.note(Event::Crashed, &[]),
+            Err(_) => self.calls.note(Event::Lost, &[]),
+        }
+    }
 }

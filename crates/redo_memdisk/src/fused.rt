@@ -80,9 +80,13 @@ impl<D> Fused<D> {
 }
 
 impl<D: Sectors> Sectors for Fused<D> {
+    ghost use Rattle.redo_memdisk.specs.Before.{fused-before};
+
     ghost seen = { seen_through D.seen };
 
     ghost gives = { CallsThrough D.seen D.gives };
+
+    ghost told_before = { fused-before D.seen D.gives };
 
     ghost crash_gives = { CrashesThrough D.seen D.crash_gives };
 

@@ -3,6 +3,7 @@
 #![tactic(auto)]
 
 mod apply;
+mod contents;
 mod cut;
 mod file;
 mod fuse;
@@ -13,13 +14,15 @@ mod lock;
 mod medium;
 mod memory;
 mod plan;
+mod record;
 
 pub use apply::apply_writes;
+pub use contents::{Contents, Unread};
 pub use file::{FILE_DISK_LEN, FileDisk};
 pub use fuse::{Fuse, Stage};
 pub use fused::Fused;
 pub use image::is_image;
-pub use laws::a_fuse_counts_calls;
+pub use laws::{a_file_tells_by_its_calls, a_fuse_counts_calls, a_true_read_is_told};
 pub use lock::LockFiles;
 pub use memory::MemDisk;
 

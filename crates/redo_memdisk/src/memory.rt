@@ -108,9 +108,13 @@ impl MemDisk {
 }
 
 impl Sectors for MemDisk {
+    ghost use Rattle.redo_memdisk.specs.Before.{mem-before};
+
     ghost seen = { mem_seen };
 
     ghost gives = { MemGives };
+
+    ghost told_before = { mem-before };
 
     ghost crash_gives = { CrashesMemory };
 
