@@ -3,7 +3,7 @@ use Rattle.std.proofs.Common.{◌≡◌, ℕ, Option, Some, None, Ok, Err, sym, 
 use Rattle.redo_disk.specs.{Call, EndWith, MakesCalls, MayEndWith, ReadsMayEndWith}
 use Rattle.redo_disk.specs.declared.error.DevError.{DevError}
 use Rattle.redo_disk.specs.declared.error.DevError.TheVariants as device
-use Rattle.redo_disk.proofs.Calls.{MayEndWith-append, MayEndWith-no_memory}
+use Rattle.redo_disk.proofs.Calls.{MayEndWith-append}
 use Rattle.redo_disk.proofs.Made.{joined_calls, may_end, out_of_memory, weaker_calls}
 use Rattle.redo_logdev.specs.Part.{Part as Log}
 use Rattle.redo_open.specs.Opening.{OpenResult, IsStarted, OpensLog, log_device_left, data_device_left, log_error_in, data_error_in}
@@ -98,13 +98,6 @@ reads_end = weaker_calls (λ calls are. are.ends)
 pub opens_log : {D : Type 0} {gives : D → Call → D → Type 0} {old new : D} {size : ℕ} {error : Option DevError}
     → MakesCalls gives old new (ReadsLog size error) → MakesCalls gives old new (OpensLog size error)
 opens_log = weaker_calls (λ calls are. record { ends = are.reads.ends; begun = are.begun })
-
--- and beside which a fault of the pages came
-pub opens_beside : {D : Type 0} {gives : D → Call → D → Type 0} {old new : D} {size : ℕ} (fault : RecFault) → IsPageFault fault
-    → MakesCalls gives old new (ReadsLog size None) → MakesCalls gives old new (OpensLog size (log_error fault))
-opens_beside DataDev own made = opens_log made
-opens_beside NoMemory own made = weaker_calls (λ calls are. record { ends = MayEndWith-no_memory calls are.reads.ends; begun = are.begun }) made
-opens_beside _ own made = absurd own
 
 pub opens_then : {D : Type 0} {gives : D → Call → D → Type 0} {old middle new : D} {size : ℕ} {error : Option DevError}
     → MakesCalls gives old middle (ReadsLog size None) → MakesCalls gives middle new (MayEndWith error) → MakesCalls gives old new (OpensLog size error)

@@ -13,11 +13,11 @@ use Rattle.model_log.specs.declared.layout.Layout.{Layout}
 use Rattle.model_store.specs.{IsFairLog, IsOrderly}
 use Rattle.model_store.specs.Reading.{Reading}
 use Rattle.model_store.specs.declared.tail.Tail.{Tail}
-use Rattle.model_parts.specs.{found_layout, IsCleared, IsClearing, IsFresh, IsMigrated, IsMigrating, IsOpenable, IsPut, IsPutting, IsReady, IsRewritten, IsUnopened, KeepsOpened, next_number, numbers_taken, start_block, start_of}
+use Rattle.model_parts.specs.{found_layout, IsCleared, IsClearing, IsFresh, IsMigrated, IsMigrating, IsPut, IsPutting, IsReady, IsRewritten, IsUnopened, KeepsOpened, next_number, numbers_taken, start_block, start_of}
 use Rattle.model_parts.specs.Opened.{ReadsOpened}
 use Rattle.model_parts.proofs.Clearing.{clearing-header, cleared-clearing, IsTailIn}
 use Rattle.model_parts.proofs.Fresh.{alike-head, marked-fresh, marking-reads}
-use Rattle.model_parts.proofs.Keeping.{clearing-keeps, openable-keeps}
+use Rattle.model_parts.proofs.Keeping.{clearing-keeps}
 use Rattle.model_parts.proofs.Migration.{head-first, migrated-fresh, migrating-reads}
 use Rattle.model_parts.proofs.Pages.{stored-image}
 use Rattle.model_parts.proofs.Reread.{IsLogRead, log-read, same-head_of, same-newest, tail-read}
@@ -36,13 +36,6 @@ pub both : (log data_told : Option Disk) (P Q : Disk → Type 0) (R : Disk → D
 both None data_told P Q R step first second = tt
 both (Some l) None P Q R step first second = tt
 both (Some l) (Some d) P Q R step first second = step l d first second
-
--- before the first step
-pub openable-both : (opened : Reading) (log data_told : Option Disk)
-    → WhereBothTell log data_told (λ l d. IsOpenable opened l d → WhereBothTell log data_told (KeepsOpened opened))
-openable-both opened None data_told = tt
-openable-both opened (Some l) None = tt
-openable-both opened (Some l) (Some d) = λ is. openable-keeps opened l d is
 
 -- THE LOG, cleared or not.
 

@@ -17,7 +17,7 @@ use Rattle.redo_open.proofs.Puts.{puts-append}
 use Rattle.redo_open.proofs.Rows.{length-zeros}
 use Rattle.redo_logdev.specs.Part.{Part as Log}
 use Rattle.redo_open.specs.Formatting.{WritesInside}
-use Rattle.redo_open.specs.Opening.{OpenResult, IsOpenedAs, IsStarted, OpensInside, ReadsThenWrites, log_device_left, data_device_left}
+use Rattle.redo_open.specs.Opening.{OpenResult, IsOpenedAs, IsStarted, OpensInside, ReadsThenWrites, log_device_left, data_device_left, WhereStillTold}
 use Rattle.redo_open.specs.Puts.{ArePuts, PutsWhere}
 use Rattle.redo_recover.specs.{OnContents, ReadsLog}
 use Rattle.redo_recover.specs.declared.fault.RecFault.{RecFault}
@@ -86,11 +86,11 @@ as-read (Some l) (Some d) reading read Q reads holds =
     λ is. subst (λ (one : Reading). Q one.shape) (sym (same_reading one_group l.reads d.reads reading read is reads)) holds
 
 -- the store wasn't opened, and by any shape nothing was written
-pub unopened-inside : {L D : Type 0} (log_gives : L → Call → L → Type 0) (data_gives : D → Call → D → Type 0) (log_told data_told : Option Disk) (log : L) (data_device : D)
+pub unopened-inside : {L D : Type 0} (log_gives : L → Call → L → Type 0) (data_gives : D → Call → D → Type 0) (log_told data_told log_now data_now : Option Disk) (log : L) (data_device : D)
     (error : RecFault × L × D) → ((shape : Shape) → ReadsThenWrites log_gives data_gives shape log error.1 data_device error.2)
-    → OpensInside log_gives data_gives log_told data_told log data_device (Err error)
-unopened-inside log_gives data_gives log_told data_told log data_device error inside = record {
-  read = λ reading. whatever-read log_told data_told reading (λ shape. ReadsThenWrites log_gives data_gives shape log error.1 data_device error.2) (inside reading.shape);
+    → OpensInside log_gives data_gives log_told data_told log_now data_now log data_device (Err error)
+unopened-inside log_gives data_gives log_told data_told log_now data_now log data_device error inside = record {
+  read = λ log_still data_still reading. whatever-read log_told data_told reading (λ shape. ReadsThenWrites log_gives data_gives shape log error.1 data_device error.2) (inside reading.shape);
   opened = tt;
 }
 
@@ -102,11 +102,12 @@ opened-inside log_gives data_gives log data_device (Ok store) read opened inside
 opened-inside log_gives data_gives log data_device (Err error) read opened inside = tt
 
 -- the store was read, and what was written then lies inside by the shape that was read
-pub read-inside : {L D : Type 0} (log_gives : L → Call → L → Type 0) (data_gives : D → Call → D → Type 0) (log_told data_told : Option Disk) (log : L) (data_device : D)
-    (result : OpenResult L D) (read : Reading) → OnContents log_told data_told (λ log_bytes data_bytes. IsReading log_bytes data_bytes read) → IfOk result (IsOpenedAs read)
+pub read-inside : {L D : Type 0} (log_gives : L → Call → L → Type 0) (data_gives : D → Call → D → Type 0) (log_told data_told log_now data_now : Option Disk) (log : L) (data_device : D)
+    (result : OpenResult L D) (read : Reading) → WhereStillTold log_now data_now (OnContents log_told data_told (λ log_bytes data_bytes. IsReading log_bytes data_bytes read)) → IfOk result (IsOpenedAs read)
     → ReadsThenWrites log_gives data_gives read.shape log (log_device_left result) data_device (data_device_left result)
-    → OpensInside log_gives data_gives log_told data_told log data_device result
-read-inside log_gives data_gives log_told data_told log data_device result read reads opened inside = record {
-  read = λ reading. as-read log_told data_told reading read (λ shape. ReadsThenWrites log_gives data_gives shape log (log_device_left result) data_device (data_device_left result)) reads inside;
+    → OpensInside log_gives data_gives log_told data_told log_now data_now log data_device result
+read-inside log_gives data_gives log_told data_told log_now data_now log data_device result read reads opened inside = record {
+  read = λ log_still data_still reading. as-read log_told data_told reading read (λ shape. ReadsThenWrites log_gives data_gives shape log (log_device_left result) data_device (data_device_left result))
+      (reads log_still data_still) inside;
   opened = opened-inside log_gives data_gives log data_device result read opened inside;
 }

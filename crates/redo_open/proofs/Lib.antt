@@ -5,6 +5,7 @@ pub mod Both
 pub mod Causes
 pub mod Clears
 pub mod Endings
+pub mod Entry
 pub mod Erases
 pub mod Formats
 pub mod GatherSteps
@@ -23,6 +24,7 @@ pub mod Recovered
 pub mod Rests
 pub mod Rows
 pub mod Standing
+pub mod Still
 pub mod Stores
 pub mod Told
 pub mod Writings

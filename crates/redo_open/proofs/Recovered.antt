@@ -28,6 +28,7 @@ use Rattle.redo_open.specs.Opening.{IsOpenedAs, IsRunOn, IsStarted, OpenResult, 
 use Rattle.redo_store.specs.{IsRunnable}
 use Rattle.redo_store.specs.declared.opened.Opened.{Opened}
 use Rattle.redo_open.proofs.Both.{both}
+use Rattle.redo_open.proofs.Entry.{keeps-anyway, unmoved-anyway}
 use Rattle.redo_open.proofs.Rests.{settled-rests}
 use Rattle.redo_recover.specs.{AreNotAhead, IsEndOf, reading_of}
 use Rattle.redo_recover.specs.declared.fault.RecFault.{RecFault}
@@ -77,8 +78,9 @@ rests-both opened tail log_old data_old log_bytes data_bytes from =
 pub recovered-none : {L D : Type 0} (log_seen : L → Seen) (data_seen : D → Seen) (opened : Reading) (tail : Option Tail) (log : L) (data_device : D)
     → OpensRecovered log_seen data_seen opened tail (log_seen log) (data_seen data_device) (Err (NoMemory, log, data_device))
 recovered-none log_seen data_seen opened tail log data_device = record {
-  safely = λ log_bytes data_bytes from. record {
-    keeps = rests-both opened tail (log_seen log) (data_seen data_device) log_bytes data_bytes from;
+  safely = λ log_bytes data_bytes from log_entry data_entry. record {
+    keeps = keeps-anyway opened log_entry data_entry (log_seen log).tells (data_seen data_device).tells
+        (rests-both opened tail (log_seen log) (data_seen data_device) log_bytes data_bytes from);
     unmoved = λ other. absurd (other refl);
     ready = tt;
   };
@@ -94,9 +96,10 @@ pub recovered-failed : {L D : Type 0} (log_seen : L → Seen) (data_seen : D →
     → DevicesStep opened tail log_old data_old (Err fault) (log_seen log) (data_seen data_device)
     → OpensRecovered log_seen data_seen opened tail log_old data_old (Err (fault, log, data_device))
 recovered-failed log_seen data_seen opened tail log_old data_old fault log data_device step = record {
-  safely = λ log_bytes data_bytes from. record {
-    keeps = step.keeps log_bytes data_bytes from;
-    unmoved = λ other. step.unmoved log_bytes data_bytes from;
+  safely = λ log_bytes data_bytes from log_entry data_entry. record {
+    keeps = keeps-anyway opened log_entry data_entry (log_seen log).tells (data_seen data_device).tells
+        (step.keeps log_bytes data_bytes from);
+    unmoved = λ other. unmoved-anyway opened log_entry (log_seen log).tells (step.unmoved log_bytes data_bytes from);
     ready = tt;
   };
   opened_as = tt;
@@ -165,10 +168,12 @@ recovered-started log_seen data_seen recovered start log_old data_old log store 
     let log_same : log_seen run.log.dev ≡ log_seen log = ap log_seen log_is in
     let data_same : data_seen run.store.dev ≡ data_seen store.dev = ap data_seen data_is in
     record {
-      safely = λ log_bytes data_bytes from. record {
-        keeps = subst (λ (s : Seen). WhereBothTell s.tells (data_seen run.store.dev).tells (KeepsOpened opened)) (sym log_same)
+      safely = λ log_bytes data_bytes from log_entry data_entry. record {
+        keeps = keeps-anyway opened log_entry data_entry (log_seen run.log.dev).tells (data_seen run.store.dev).tells
+            (subst (λ (s : Seen). WhereBothTell s.tells (data_seen run.store.dev).tells (KeepsOpened opened))
+            (sym log_same)
             (subst (λ (s : Seen). WhereBothTell (log_seen log).tells s.tells (KeepsOpened opened)) (sym data_same)
-            (step.keeps log_bytes data_bytes from));
+            (step.keeps log_bytes data_bytes from)));
         unmoved = tt;
         ready = record {
           opened = run-opened log store recovered start run facts is;
@@ -190,10 +195,11 @@ recovered-started log_seen data_seen recovered start log_old data_old log store 
     let log_same : log_seen error.1 ≡ log_seen log = ap log_seen log_is in
     let data_same : data_seen error.2 ≡ data_seen store.dev = ap data_seen data_is in
     record {
-      safely = λ log_bytes data_bytes from. record {
-        keeps = subst (λ (s : Seen). WhereBothTell s.tells (data_seen error.2).tells (KeepsOpened opened)) (sym log_same)
+      safely = λ log_bytes data_bytes from log_entry data_entry. record {
+        keeps = keeps-anyway opened log_entry data_entry (log_seen error.1).tells (data_seen error.2).tells
+            (subst (λ (s : Seen). WhereBothTell s.tells (data_seen error.2).tells (KeepsOpened opened)) (sym log_same)
             (subst (λ (s : Seen). WhereBothTell (log_seen log).tells s.tells (KeepsOpened opened)) (sym data_same)
-            (step.keeps log_bytes data_bytes from));
+            (step.keeps log_bytes data_bytes from)));
         unmoved = λ other. absurd (other none);
         ready = tt;
       };

@@ -1,12 +1,12 @@
 -- A store that is opened, from what its devices told at first.
-use Rattle.std.proofs.Common.{◌≡◌, ◌≢◌, ◌≤◌, ℕ, List, Option, Some, None, Ok, Err, refl, sym, ap, subst}
+use Rattle.std.proofs.Common.{◌≡◌, ◌∙◌, ◌≤◌, ℕ, List, Option, Some, None, Ok, Err, refl, sym, ap, subst}
 use Rattle.std.specs.Prelude.{IfErr, IfOk, IfSome}
 use Rattle.model_base.specs.{HasRisen}
 use Rattle.model_device.specs.{settled, synced}
 use Rattle.model_device.specs.Disk.{Disk}
-use Rattle.model_parts.specs.{IsOpenable, KeepsOpened}
+use Rattle.model_parts.specs.{KeepsOpened}
 use Rattle.model_log.proofs.Several.{one_group}
-use Rattle.model_store.specs.{IsReading}
+use Rattle.model_store.specs.{IsOrderly, IsReading}
 use Rattle.model_store.specs.Reading.{Reading}
 use Rattle.model_store.specs.declared.refusal.Refusal.{Refusal}
 use Rattle.model_store.proofs.OneAnswer.{read-not_refused}
@@ -15,34 +15,41 @@ use Rattle.redo_disk.specs.Seen.{Seen}
 use Rattle.redo_disk.specs.declared.error.DevError.{DevError}
 use Rattle.redo_disk.specs.declared.error.DevError.TheVariants as device
 use Rattle.redo_open.specs.Devices.{IsNotOpened, IsOpenFault, IsSameDevice, WhereBothTell}
-use Rattle.redo_open.specs.Opening.{OpenResult, HasFaultCause, IsOpenedAs, IsOpeningOf, OpensSafely, WhereRefused, log_device_left, data_device_left}
+use Rattle.redo_open.specs.Opening.{OpenResult, HasFaultCause, IsOpenedAs, IsOpeningOf, OpensSafely, WhereRefused, WhereStillTold, log_device_left, data_device_left}
 use Rattle.redo_disk.proofs.Told.{told-step}
-use Rattle.redo_open.proofs.Both.{openable-both}
+use Rattle.redo_open.proofs.Entry.{keeps-anyway, unmoved-anyway}
 use Rattle.redo_open.proofs.Told.{risen-since}
 use Rattle.redo_recover.specs.{data_fault_of, HasLengthCause, log_fault_of, OnContents, refusal_of}
 use Rattle.redo_recover.specs.Devices.{OnContent}
 use Rattle.redo_recover.specs.declared.fault.RecFault.{RecFault}
 use Rattle.redo_recover.specs.declared.fault.RecFault.TheVariants.{SmallLog, NotFormatted, BadFormat, SmallData, NoCheckpoint, BadRecord, PageLost, PageAhead, LogDev, DataDev, NoMemory}
 
--- WHERE NOTHING WAS WRITTEN.
+-- A STORE THAT ISN'T OPENED, of which it is known that the pages are kept.
 
-pub openable-same : (opened : Reading) (log data_told log_new data_new : Option Disk) → log_new ≡ log → data_new ≡ data_told
-    → WhereBothTell log data_told (λ l d. IsOpenable opened l d → WhereBothTell log_new data_new (KeepsOpened opened))
-openable-same opened log data_told log_new data_new log_same data_same =
-    subst (λ (o : Option Disk). WhereBothTell log data_told (λ l d. IsOpenable opened l d → WhereBothTell o data_new (KeepsOpened opened))) (sym log_same)
-    (subst (λ (o : Option Disk). WhereBothTell log data_told (λ l d. IsOpenable opened l d → WhereBothTell log o (KeepsOpened opened))) (sym data_same)
-    (openable-both opened log data_told))
-
--- a store that isn't opened
-pub err-safely : {L D : Type 0} (log_seen : L → Seen) (data_seen : D → Seen) (opened : Reading) (log data_told : Option Disk) (error : RecFault × L × D)
-    → WhereBothTell log data_told (λ l d. IsOpenable opened l d → WhereBothTell (log_seen error.1).tells (data_seen error.2).tells (KeepsOpened opened))
-    → WhereBothTell log data_told (λ l d. IsOpenable opened l d → error.0 ≢ NoMemory → IfSome (log_seen error.1).tells (IsNotOpened opened))
-    → WhereBothTell log data_told (λ l d. IsOpenable opened l d → OpensSafely log_seen data_seen opened (Err error))
+pub err-safely : {L D : Type 0} (log_seen : L → Seen) (data_seen : D → Seen) (opened : Reading)
+    (log data_told : Option Disk) (error : RecFault × L × D)
+    → WhereBothTell log data_told (λ l d. IsOrderly l.reads d.reads opened
+    → WhereBothTell (log_seen error.1).tells (data_seen error.2).tells (KeepsOpened opened))
+    → WhereBothTell log data_told (λ l d. IsOrderly l.reads d.reads opened
+    → IfSome (log_seen error.1).tells (IsNotOpened opened))
+    → WhereBothTell log data_told (λ l d. IsOrderly l.reads d.reads opened
+    → OpensSafely log_seen data_seen opened l d (Err error))
 err-safely log_seen data_seen opened None data_told error keeps unmoved = tt
 err-safely log_seen data_seen opened (Some l) None error keeps unmoved = tt
-err-safely log_seen data_seen opened (Some l) (Some d) error keeps unmoved = λ is. record { keeps = keeps is; unmoved = unmoved is; ready = tt }
+err-safely log_seen data_seen opened (Some l) (Some d) error keeps unmoved = λ orderly. record {
+  keeps = keeps-anyway opened l d (log_seen error.1).tells (data_seen error.2).tells (keeps orderly);
+  unmoved = λ other. unmoved-anyway opened l (log_seen error.1).tells (unmoved orderly);
+  ready = tt;
+}
 
--- ONCE THE STORE IS READ, and its data device synced.
+-- ONCE THE STORE IS READ, and its devices synced.
+
+pub tells-synced : (told mid : Option Disk) (l : Disk) → told ≡ Some l → OnTold told mid (λ old new. new ≡ synced old)
+    → mid ≡ Some (settled l.reads)
+tells-synced told mid l is synced_as =
+    let there : OnTold (Some l) mid (λ old new. new ≡ synced old) =
+    subst (λ (o : Option Disk). OnTold o mid (λ old new. new ≡ synced old)) is synced_as in
+    there.1 ∙ ap (λ (disk : Disk). Some disk) there.2
 
 pub synced-from : (told mid : Option Disk) (d : Disk) → told ≡ Some d → OnTold told mid (λ old new. new ≡ synced old) → IfSome mid (λ disk. disk ≡ settled d.reads)
 synced-from told mid d is synced_as =
@@ -109,7 +116,8 @@ read-unrefused log data_device P reading reads refusal =
     (λ log_bytes data_bytes read refused. absurd (read-not_refused one_group log_bytes data_bytes reading refusal read refused)) reads
 
 pub opening-cause : {L D : Type 0} (log_seen : L → Seen) (data_seen : D → Seen) (log data_device log_mid data_mid : Seen) (result : OpenResult L D) (reading : Reading)
-    → OnContents log.tells data_device.tells (λ log_bytes data_bytes. IsReading log_bytes data_bytes reading)
+    → WhereStillTold (log_seen (log_device_left result)).tells (data_seen (data_device_left result)).tells
+    (OnContents log.tells data_device.tells (λ log_bytes data_bytes. IsReading log_bytes data_bytes reading))
     → log.faults ≤ log_mid.faults → data_device.faults ≤ data_mid.faults → IfErr result (λ error. IsOpenFault error.0)
     → IfErr result (λ error. error.0 ≡ LogDev → HasRisen log_mid.faults (log_seen error.1).faults)
     → IfErr result (λ error. error.0 ≡ DataDev → HasRisen data_mid.faults (data_seen error.2).faults)
@@ -117,9 +125,9 @@ pub opening-cause : {L D : Type 0} (log_seen : L → Seen) (data_seen : D → Se
     → IfErr result (λ error. HasFaultCause log data_device (log_seen error.1) (data_seen error.2) error.0)
 opening-cause log_seen data_seen log data_device log_mid data_mid (Ok store) reading reads log_later data_later fault log_failed data_failed same = tt
 opening-cause log_seen data_seen log data_device log_mid data_mid (Err error) reading reads log_later data_later fault log_failed data_failed same = record {
-  refused = unrefused error.0 _ fault;
+  refused = λ log_still data_still. unrefused error.0 _ fault;
   lengths = no-length log.size data_device.size error.0 fault;
-  kept = read-unrefused log data_device _ reading reads;
+  kept = λ log_still data_still. read-unrefused log data_device _ reading (reads log_still data_still);
   log_failed = λ failed. risen-since _ _ _ log_later same.0.later (log_failed failed);
   data_failed = λ failed. risen-since _ _ _ data_later same.1.later (data_failed failed);
 }
@@ -132,30 +140,32 @@ both-err log_seen data_seen log data_device (Err error) first second = (first, s
 
 -- the sync of the data device failed
 pub sync-cause : (log data_device log_after data_after : Seen) (error : DevError) (fault : RecFault) (reading : Reading) → fault ≡ data_fault_of error
-    → OnContents log.tells data_device.tells (λ log_bytes data_bytes. IsReading log_bytes data_bytes reading)
+    → WhereStillTold log_after.tells data_after.tells (OnContents log.tells data_device.tells (λ log_bytes data_bytes. IsReading log_bytes data_bytes reading))
     → HasCause {T = Unit {0}} data_device.faults data_after.faults (Err error) → HasFaultCause log data_device log_after data_after fault
 sync-cause log data_device log_after data_after device.Failed fault reading is reads cause =
     subst (HasFaultCause log data_device log_after data_after) (sym is)
-    (record { refused = tt; lengths = tt; kept = read-unrefused log data_device _ reading reads; log_failed = λ other. absurd cc; data_failed = λ same. cause.failed refl })
+    (record { refused = λ log_still data_still. tt; lengths = tt; kept = λ log_still data_still. read-unrefused log data_device _ reading (reads log_still data_still); log_failed = λ other. absurd cc; data_failed = λ same. cause.failed refl })
 sync-cause log data_device log_after data_after device.NoMemory fault reading is reads cause =
     subst (HasFaultCause log data_device log_after data_after) (sym is)
-    (record { refused = tt; lengths = tt; kept = read-unrefused log data_device _ reading reads; log_failed = λ other. absurd cc; data_failed = λ other. absurd cc })
+    (record { refused = λ log_still data_still. tt; lengths = tt; kept = λ log_still data_still. read-unrefused log data_device _ reading (reads log_still data_still); log_failed = λ other. absurd cc; data_failed = λ other. absurd cc })
 
 -- the two header blocks weren't read, or not made alike
 pub heads-cause : (log data_device log_after data_after : Seen) (error : DevError) (fault : RecFault) (reading : Reading) → fault ≡ log_fault_of error
-    → OnContents log.tells data_device.tells (λ log_bytes data_bytes. IsReading log_bytes data_bytes reading)
+    → WhereStillTold log_after.tells data_after.tells (OnContents log.tells data_device.tells (λ log_bytes data_bytes. IsReading log_bytes data_bytes reading))
     → HasCause {T = Unit {0}} log.faults log_after.faults (Err error) → HasFaultCause log data_device log_after data_after fault
 heads-cause log data_device log_after data_after device.Failed fault reading is reads cause =
     subst (HasFaultCause log data_device log_after data_after) (sym is)
-    (record { refused = tt; lengths = tt; kept = read-unrefused log data_device _ reading reads; log_failed = λ same. cause.failed refl; data_failed = λ other. absurd cc })
+    (record { refused = λ log_still data_still. tt; lengths = tt; kept = λ log_still data_still. read-unrefused log data_device _ reading (reads log_still data_still); log_failed = λ same. cause.failed refl; data_failed = λ other. absurd cc })
 heads-cause log data_device log_after data_after device.NoMemory fault reading is reads cause =
     subst (HasFaultCause log data_device log_after data_after) (sym is)
-    (record { refused = tt; lengths = tt; kept = read-unrefused log data_device _ reading reads; log_failed = λ other. absurd cc; data_failed = λ other. absurd cc })
+    (record { refused = λ log_still data_still. tt; lengths = tt; kept = λ log_still data_still. read-unrefused log data_device _ reading (reads log_still data_still); log_failed = λ other. absurd cc; data_failed = λ other. absurd cc })
 
 -- WHAT IS OPENED is what was read.
 
-pub opening-of : {L D : Type 0} (log data_told : Option Disk) (result : OpenResult L D) (reading : Reading) → OnContents log data_told (λ log_bytes data_bytes. IsReading log_bytes data_bytes reading)
-    → IfOk result (IsOpenedAs reading) → IfOk result (λ store. OnContents log data_told (λ log_bytes data_bytes. IsOpeningOf log_bytes data_bytes store))
-opening-of log data_told (Ok store) reading reads opened =
-    on-contents log data_told (λ log_bytes data_bytes is. record { reading = reading; is_read = is; opened = opened }) reads
-opening-of log data_told (Err error) reading reads opened = tt
+pub opening-of : {L D : Type 0} (log data_told : Option Disk) (result : OpenResult L D) (log_seen : L → Seen) (data_seen : D → Seen) (reading : Reading)
+    → WhereStillTold (log_seen (log_device_left result)).tells (data_seen (data_device_left result)).tells (OnContents log data_told (λ log_bytes data_bytes. IsReading log_bytes data_bytes reading))
+    → IfOk result (IsOpenedAs reading)
+    → IfOk result (λ store. WhereStillTold (log_seen store.log.dev).tells (data_seen store.store.dev).tells (OnContents log data_told (λ log_bytes data_bytes. IsOpeningOf log_bytes data_bytes store)))
+opening-of log data_told (Ok store) log_seen data_seen reading reads opened = λ log_still data_still.
+    on-contents log data_told (λ log_bytes data_bytes is. record { reading = reading; is_read = is; opened = opened }) (reads log_still data_still)
+opening-of log data_told (Err error) log_seen data_seen reading reads opened = tt

@@ -3,7 +3,7 @@ use Rattle.std.specs.Prelude.{ℕ, ◌≡◌, ◌≢◌, ◌≤◌, ◌<◌, ◌
 use Rattle.model_base.specs.{HasRisen}
 use Rattle.model_base.specs.declared.limits.TheConstants.{LSN_LIMIT}
 use Rattle.model_base.specs.declared.shape.Shape.{Shape}
-use Rattle.model_parts.specs.{first_marks, first_tails, IsReady, KeepsOpened, numbers_taken, start_of}
+use Rattle.model_parts.specs.{first_marks, first_tails, IsAtRest, IsReady, KeepsOpened, numbers_taken, start_of}
 use Rattle.model_device.specs.Disk.{Disk}
 use Rattle.model_store.specs.{IsReading, Refuses}
 use Rattle.model_store.specs.Reading.{Reading}
@@ -63,12 +63,16 @@ abbrev pub WhereRefused : Seen → Seen → Type 0 → Type 0
 WhereRefused log data_device P = (refusal : Refusal)
     → OnContents log.tells data_device.tells (λ log_bytes data_bytes. Refuses log_bytes data_bytes refusal → P)
 
+-- this is so where both devices still tell
+abbrev pub WhereStillTold : Option Disk → Option Disk → Type 0 → Type 0
+WhereStillTold log data_told P = log ≢ None → data_told ≢ None → P
+
 -- A fault has its cause: the store is refused for it, a device is too short, or that device has failed. A store that is refused
 -- is as it was, whatever is answered.
 pub record HasFaultCause (log data_device log_after data_after : Seen) (fault : RecFault) : Type 0 where
-  pub refused : HasCauseIn log.tells data_device.tells fault
+  pub refused : WhereStillTold log_after.tells data_after.tells (HasCauseIn log.tells data_device.tells fault)
   pub lengths : HasLengthCause log.size data_device.size fault
-  pub kept : WhereRefused log data_device (IsUnchanged log log_after × IsUnchanged data_device data_after)
+  pub kept : WhereStillTold log_after.tells data_after.tells (WhereRefused log data_device (IsUnchanged log log_after × IsUnchanged data_device data_after))
   pub log_failed : fault ≡ LogDev → HasRisen log.faults log_after.faults
   pub data_failed : fault ≡ DataDev → HasRisen data_device.faults data_after.faults
 
@@ -84,17 +88,25 @@ abbrev pub IsStarted : {L D : Type 0} → L → Part D → Recovered → ℕ →
 IsStarted log store recovered start (Ok opened) = IsRunOn log store recovered start opened
 IsStarted log store recovered start (Err error) = (error.0 ≡ NoMemory) × (error.1 ≡ log) × (error.2 ≡ store.dev)
 
--- An orderly store is opened. Whatever a crash leaves is read with the opened pages; after Ok a run can start, and until
--- then what stands on the log device tells that it isn't opened.
-pub record OpensSafely {L D : Type 0} (log_seen : L → Seen) (data_seen : D → Seen) (opened : Reading) (result : OpenResult L D) : Type 0 where
-  pub keeps : WhereBothTell (log_seen (log_device_left result)).tells (data_seen (data_device_left result)).tells (KeepsOpened opened)
-  pub unmoved : IfErr result (λ error. error.0 ≢ NoMemory → IfSome (log_seen error.1).tells (IsNotOpened opened))
+-- the device isn't as it was handed in any more, or nothing was unsynced in it then
+abbrev pub IsSyncedSince : Disk → Disk → Type 0
+IsSyncedSince entry now = now ≡ entry → IsAtRest entry
+
+-- An orderly store is opened, off devices that were handed in like this. Once both are synced, whatever a crash leaves
+-- is read with the opened pages; after Ok a run can start, and until then what stands on the log device tells that it
+-- isn't opened.
+pub record OpensSafely {L D : Type 0} (log_seen : L → Seen) (data_seen : D → Seen) (opened : Reading)
+    (log_entry data_entry : Disk) (result : OpenResult L D) : Type 0 where
+  pub keeps : WhereBothTell (log_seen (log_device_left result)).tells (data_seen (data_device_left result)).tells
+      (λ l d. IsSyncedSince log_entry l → IsSyncedSince data_entry d → KeepsOpened opened l d)
+  pub unmoved : IfErr result (λ error. error.0 ≢ NoMemory → IfSome (log_seen error.1).tells
+      (λ l. IsSyncedSince log_entry l → IsNotOpened opened l))
   pub ready : IfOk result (IsOpenedReady log_seen data_seen opened)
 
--- A store that was recovered as this is opened.
+-- A store that was recovered as this is opened, however its devices were handed in.
 pub record OpensRecovered {L D : Type 0} (log_seen : L → Seen) (data_seen : D → Seen) (opened : Reading) (tail : Option Tail) (log_old data_old : Seen) (result : OpenResult L D) : Type 0 where
   pub safely : (log_bytes data_bytes : List ℕ) → OpensFrom opened tail log_old data_old log_bytes data_bytes
-      → OpensSafely log_seen data_seen opened result
+      → (log_entry data_entry : Disk) → OpensSafely log_seen data_seen opened log_entry data_entry result
   pub opened_as : IfOk result (IsOpenedAs opened)
   pub runnable : IfOk result IsRunnable
   pub fault : IfErr result (λ error. IsOpenFault error.0)
@@ -125,8 +137,8 @@ pub record ReadsThenWrites {L D : Type 0} (log_gives : L → Call → L → Type
   pub inside : WritesInside log_gives data_gives shape log_read log_new data_read data_new
 
 -- NOTHING OUTSIDE THE STORE IS WRITTEN, by the shape with which what reads give is read, and by the one that is opened.
-pub record OpensInside {L D : Type 0} (log_gives : L → Call → L → Type 0) (data_gives : D → Call → D → Type 0) (log_told data_told : Option Disk) (log : L) (data_device : D)
+pub record OpensInside {L D : Type 0} (log_gives : L → Call → L → Type 0) (data_gives : D → Call → D → Type 0) (log_told data_told log_now data_now : Option Disk) (log : L) (data_device : D)
     (result : OpenResult L D) : Type 0 where
-  pub read : (reading : Reading) → OnContents log_told data_told (λ log_bytes data_bytes. IsReading log_bytes data_bytes reading
-      → ReadsThenWrites log_gives data_gives reading.shape log (log_device_left result) data_device (data_device_left result))
+  pub read : WhereStillTold log_now data_now ((reading : Reading) → OnContents log_told data_told (λ log_bytes data_bytes. IsReading log_bytes data_bytes reading
+      → ReadsThenWrites log_gives data_gives reading.shape log (log_device_left result) data_device (data_device_left result)))
   pub opened : IfOk result (λ store. ReadsThenWrites log_gives data_gives store.shape log store.log.dev data_device store.store.dev)

@@ -18,7 +18,7 @@ pub(crate) const HEADS: usize = 1_536;
 /// Reads both header blocks, by one call.
 pub(crate) fn read_heads<L: Sectors>(log: &mut L) -> Result<[u8; HEADS], DevError>
     requires { HEADS ≤ (L.seen log.old).size }
-    ensures content { IfOk result (λ heads. OnContent (L.seen log.old).tells (λ content. heads ≡ part content 0 HEADS)) }
+    ensures content { IfOk result (λ heads. OnContent (L.seen log.new).tells (λ content. heads ≡ part content 0 HEADS)) }
     ensures reads { IsOnlyRead L.seen L.gives log.old (error_of result) log.new }
 {
     let mut heads = [0; HEADS];

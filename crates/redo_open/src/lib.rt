@@ -1,7 +1,7 @@
-//! Formatting and opening a store. Opening reads the store, takes away what stands on the log past
+//! Formatting and opening a store. Opening reads the store, syncs both devices, takes away what stands on the log past
 //! its end, repairs the places of pages that don't pass, writes each page that the log has changed, and moves the
-//! checkpoint. The layer above may rely on this: wherever opening ends, whatever a crash leaves of the two devices is
-//! read with the same pages.
+//! checkpoint. The layer above may rely on this: wherever opening ends after those syncs, whatever a crash leaves of
+//! the two devices is read with the same pages; and before them too, where nothing was unsynced.
 #![tactic(auto)]
 
 mod batch;

@@ -2,13 +2,14 @@
 ghost use Rattle.std.specs.Prelude.{◌≡◌, ◌≤◌, ◌<◌, ◌^◌, IfOk, IfErr, IfSome, None};
 ghost use Rattle.model_base.specs.declared.limits.TheConstants.{FIRST_DATA_LSN, MAX_LOG_BLOCKS, MIN_LOG_BLOCKS};
 ghost use Rattle.model_log.specs.{IsAtDataStart, log_device_length};
-ghost use Rattle.model_parts.specs.{IsOpenable, numbers_taken};
+ghost use Rattle.model_parts.specs.{numbers_taken};
+ghost use Rattle.model_store.specs.{IsOrderly};
 ghost use Rattle.model_store.specs.Reading.{Reading};
 ghost use Rattle.redo_disk.specs.{MayEndWith};
 ghost use Rattle.redo_open.specs.Devices.{AreCalled, WhereBothTell};
 ghost use Rattle.redo_open.specs.Formatting.{WritesInside};
 ghost use Rattle.redo_open.specs.Mend.{IsSettledData};
-ghost use Rattle.redo_open.specs.Opening.{log_device_left, data_device_left, log_error_in, data_error_in, HasFaultCause, IsOpeningOf, IsStarted, OpensInside, OpensLog, OpensSafely, OpensRecovered};
+ghost use Rattle.redo_open.specs.Opening.{log_device_left, data_device_left, log_error_in, data_error_in, HasFaultCause, IsOpeningOf, IsStarted, OpensInside, OpensLog, OpensSafely, OpensRecovered, WhereStillTold};
 ghost use Rattle.redo_store.specs.{IsRunnable};
 ghost use Rattle.redo_recover.specs.{AreFoundOn, IsOfDevices, OnContents, reading_of};
 
@@ -99,26 +100,30 @@ fn open_recovered<L: Sectors, D: Sectors>(
 /// Opens the store on two devices, so that a run can start on it: reads it, makes its two header blocks alike, clears away
 /// what stands on the log past its end, repairs the places of pages that don't pass, writes each page as it was read where
 /// that isn't in its place then, moves the checkpoint, and takes a store of format 1 to format 2. A store that is refused
-/// is as it was. Where it opens, or the devices tell what they hold, nothing is written beyond the lengths that the store's
+/// is as it was. Where it opens, or the devices tell what they hold to the end, nothing is written beyond the lengths that the store's
 /// shape asks for, and nothing is read once the store is.
 ///
-/// Wherever it ends, whatever a crash leaves of the two devices is read with the same pages. The devices of a store that
-/// isn't opened are handed back beside the fault.
+/// What the devices were handed in with unsynced is read like the rest, and may be lost until it is synced: so both
+/// are synced before the first write. From then on, and where nothing was unsynced from the start, whatever a crash
+/// leaves of the two devices is read with the same pages, wherever opening ends. The devices of a store that isn't
+/// opened are handed back beside the fault.
 pub fn open_store<L: Sectors, D: Sectors>(
     alloc: Global,
     mut log: L,
     mut data_device: D,
 ) -> Result<Opened<L, D>, (RecFault, L, D)>
-    ensures safely { (opened : Reading) → WhereBothTell (L.seen log).tells (D.seen data_device).tells (λ log_disk data_disk.
-        IsOpenable opened log_disk data_disk → OpensSafely L.seen D.seen opened result) }
-    ensures read { IfOk result (λ store. OnContents (L.seen log).tells (D.seen data_device).tells
-        (λ log_bytes data_bytes. IsOpeningOf log_bytes data_bytes store)) }
+    ensures safely { (opened : Reading) → WhereStillTold (L.seen (log_device_left result)).tells (D.seen (data_device_left result)).tells
+        (WhereBothTell (L.seen log).tells (D.seen data_device).tells (λ log_disk data_disk.
+        IsOrderly log_disk.reads data_disk.reads opened → OpensSafely L.seen D.seen opened log_disk data_disk result)) }
+    ensures read { IfOk result (λ store. WhereStillTold (L.seen store.log.dev).tells (D.seen store.store.dev).tells
+        (OnContents (L.seen log).tells (D.seen data_device).tells (λ log_bytes data_bytes. IsOpeningOf log_bytes data_bytes store))) }
     ensures runnable { IfOk result (λ store. IsRunnable store) }
     ensures cause { IfErr result (λ error. HasFaultCause (L.seen log) (D.seen data_device)
         (L.seen error.1) (D.seen error.2) error.0) }
     ensures called { AreCalled L.seen D.seen L.gives D.gives (OpensLog (L.seen log).size (log_error_in result)) (MayEndWith (data_error_in result))
         log (log_device_left result) data_device (data_device_left result) }
-    ensures inside { OpensInside L.gives D.gives (L.seen log).tells (D.seen data_device).tells log data_device result }
+    ensures inside { OpensInside L.gives D.gives (L.seen log).tells (D.seen data_device).tells
+        (L.seen (log_device_left result)).tells (D.seen (data_device_left result)).tells log data_device result }
 {
     let recovered = match recover(alloc, &mut log, &mut data_device) {
         Ok(recovered) => recovered,
@@ -128,6 +133,10 @@ pub fn open_store<L: Sectors, D: Sectors>(
         Ok(heads) => heads,
         Err(error) => return Err((log_fault(error), log, data_device)),
     };
+    match log.sync() {
+        Ok(()) => {}
+        Err(error) => return Err((log_fault(error), log, data_device)),
+    }
     match data_device.sync() {
         Ok(()) => {}
         Err(error) => return Err((data_fault(error), log, data_device)),
