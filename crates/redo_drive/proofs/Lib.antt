@@ -22,6 +22,8 @@ pub mod LogPartStarts
 pub mod MayTurn
 pub mod Outcome
 pub mod Played
+pub mod ReadMarks
+pub mod RestMarks
 pub mod RunStarts
 pub mod ScriptRoom
 pub mod Seats

@@ -1,12 +1,14 @@
 -- What every drive owes of its run, from the opened store to the closed one.
 use Rattle.std.specs.Prelude.{IfSome, List, None, Some, ℕ, ◌+◌, ◌<◌, ◌≡◌, ◌≢◌, ◌⊎◌}
 use Rattle.model_device.specs.{synced}
+use Rattle.model_device.specs.Disk.{Disk}
 use Rattle.model_running.specs.{LeavesOpen}
 use Rattle.model_report.specs.{IsLeft}
 use Rattle.model_log.specs.{start_after}
 use Rattle.model_theorem.specs.{IsClosed, IsHeld, IsRun, IsStart, LosesOnlyByFailure, opened_as, Ran}
 use Rattle.model_script.specs.declared.script.ScriptLine.{ScriptLine}
 use Rattle.model_parts.specs.{numbers_taken}
+use Rattle.model_store.specs.{IsReading}
 use Rattle.model_store.specs.Reading.{Reading}
 use Rattle.redo_disk.specs.{Call, failures}
 use Rattle.redo_disk.specs.Seen.{Seen}
@@ -46,13 +48,20 @@ pub record ComesToRun {L D : Type 0} (log_gives : L → Call → L → Type 0) (
   pub log_calls : CallsOn log_gives opened.log.dev None driven.closed.log.dev driven.closed.log.failed
   pub data_calls : CallsOn data_gives opened.store.dev None driven.closed.store.dev driven.closed.store.failed
 
--- WHAT A DRIVE LEAVES, whatever ended it, where the devices tell and the store was ready: both devices hold the run.
-abbrev pub HoldsRun : {L D : Type 0} → (L → Seen) → (D → Seen) → Opened L D → List ScriptLine → Driven L D → Type 0
-HoldsRun log_seen data_seen opened script driven =
+-- This holds of what both devices tell after a run, where they told before it and the store was ready.
+abbrev pub WhereRun : {L D : Type 0} → (L → Seen) → (D → Seen) → Opened L D → List ScriptLine → Closed L D
+    → (Reading → Disk → Disk → Type 0) → Type 0
+WhereRun log_seen data_seen opened script closed Is =
     (reading : Reading) → HasReading reading opened
     → IfSome (log_seen opened.log.dev).tells (λ log_disk. IfSome (data_seen opened.store.dev).tells (λ data_disk.
     IsStart reading script log_disk data_disk
-    → IfSome (log_seen driven.closed.log.dev).tells (λ log_now. IfSome (data_seen driven.closed.store.dev).tells (λ data_now.
+    → IfSome (log_seen closed.log.dev).tells (λ log_now.
+    IfSome (data_seen closed.store.dev).tells (Is reading log_now))))
+
+-- WHAT A DRIVE LEAVES, whatever ended it: both devices hold the run.
+abbrev pub HoldsRun : {L D : Type 0} → (L → Seen) → (D → Seen) → Opened L D → List ScriptLine → Driven L D → Type 0
+HoldsRun log_seen data_seen opened script driven =
+    WhereRun log_seen data_seen opened script driven.closed (λ reading log_now data_now.
     IsHeld (record {
       script = script;
       opened = opened_as reading;
@@ -60,7 +69,16 @@ HoldsRun log_seen data_seen opened script driven =
       run = closed_run opened.start driven.closed;
       log_disk = log_now;
       data_disk = data_now;
-    })))))
+    }))
+
+-- WHAT A DRIVE LEAVES whose actors hold nothing, and no call of which answered an error: by what reads give the log
+-- ends at WRITE, and its newest checkpoint is CKPT.
+abbrev pub ReadsToMarks : {L D : Type 0} → (L → Seen) → (D → Seen) → Opened L D → List ScriptLine → Closed L D → Type 0
+ReadsToMarks log_seen data_seen opened script closed =
+    closed.log.failed ≡ None → closed.store.failed ≡ None
+    → WhereRun log_seen data_seen opened script closed (λ was log_now data_now. (reading : Reading)
+    → IsReading log_now.reads data_now.reads reading
+    → (reading.end ≡ closed.marks.write) × (reading.ckpt ≡ closed.marks.ckpt))
 
 -- WHAT A DRIVE OWES that came to its end and no call of which answered an error, where the devices tell and the store was ready: a
 -- sync of both devices would leave a closed run, whose images are what reads give.

@@ -35,7 +35,7 @@ use Rattle.redo_rule.proofs.Words.{plain_off, swapped}
 use Rattle.atomic_table.proofs.Lists.{set_here}
 use Rattle.model_core.proofs.Hands.{Handles}
 use Rattle.model_core.specs.Hands.{hand, IsFreeToCheck}
-use Rattle.redo_rule.specs.Plays.{behind, gave, list_behind, list_said, ListFits, looked, saw, seized, Stepped, TakesList, taking}
+use Rattle.redo_rule.specs.Plays.{behind, gave, list_behind, list_said, ListFits, looked, saw, seized, Stepped, TakesList, taking, view_behind}
 use Rattle.redo_rule.specs.Ruled.{Knows, Ruled, slot_content}
 use Rattle.redo_rule.specs.declared.law.About.{About}
 use Rattle.redo_rule.specs.declared.law.Keeping.{Keeping}
@@ -68,7 +68,7 @@ module _ {L D : Type 0} (log_seen : L → Seen) (log_gives : L → Call → L �
 
   -- a seat's view after an answer, and what it tells
   abbrev pub viewed : Answer → Option (Slot L D) → Option (Keeping D) → View L D
-  viewed r held stored = record { pages = me.0.pages; seats = behind x r ∷ []; held = held; data_part = stored }
+  viewed r held stored = view_behind me.0 x r held stored
 
   pub of_any : (P : Numbered → Type 0) → P x → (y : Numbered) → me.0.seats ≡ y ∷ [] → P y
   of_any P p y e = subst P (one_head me.0.seats x y one e) p
@@ -81,7 +81,8 @@ module _ {L D : Type 0} (log_seen : L → Seen) (log_gives : L → Call → L �
       let ws : List ℕ = slice_set s.words i (f n) in
       let new : Parts L D = record { words = record { pages = R.parts.words.pages; words = ws }; log = R.parts.log; store = R.parts.store; lists = R.parts.lists } in
       let e : R.parts.words.words ≡ s.words = R.words_are in
-      let known : Knows R.parts R.actors R.seat_of R.keeper R.out id me.0 = kept.known log_seen log_gives data_seen data_gives about s R id me.0 x one at in
+      let known : Knows about R.parts R.actors R.seat_of R.keeper R.out id me.0 =
+      kept.known log_seen log_gives data_seen data_gives about s R id me.0 x one at in
       let sum : HoldsSum o s.words = subst (HoldsSum o) e (subst (λ (p : Op). HoldsSum p R.parts.words.words) is
       (holds_sum (lists_of R.parts.lists) (is_some R.parts.log.failed) 0 0 R.parts.words.words a (kept.fits log_seen log_gives data_seen data_gives about s R id me.0 x one at 0 0).log)) in
       let same : HasSamePages R.parts new = record { words = refl; lists = refl } in
@@ -93,7 +94,8 @@ module _ {L D : Type 0} (log_seen : L → Seen) (log_gives : L → Call → L �
         viewed r me.0.held me.0.data_part,
         keeps,
         tt,
-        kept.kept log_seen log_gives data_seen data_gives about s R id me.0 x one at r new same done (viewed r me.0.held me.0.data_part) R.out refl refl own (λ d h. known.data_part d h)
+        kept.kept log_seen log_gives data_seen data_gives about s R id me.0 x one at r new same done
+            (viewed r me.0.held me.0.data_part) R.out refl refl refl own (λ d h. known.data_part d h)
             (λ j c k ne h hold. same_content R.parts new refl refl k) (λ j u d ne h stored. (R.knows j u h).data_part d stored) s.homes R.lists_are R.log_calls R.data_calls refl R.slots
             (λ k l z. R.home k l (sym (get_or-set_other s.words i (7 + k) (f n) 0 (off k l)) ∙ z) ∙ ap (λ (y : Slot L D). maybe.some (maybe.some y)) (same_content R.parts new refl refl k))
             R.data_home
@@ -150,11 +152,13 @@ module _ {L D : Type 0} (log_seen : L → Seen) (log_gives : L → Call → L �
       → Law (record { words = ws; homes = s.homes; views = slice_set s.views id (viewed answer.Held me.0.held me.0.data_part) }) × Stepped log_seen data_seen x answer.Held me.0.held me.0.data_part me.1 me (viewed answer.Held me.0.held me.0.data_part, me.1)
   finds_held o k is below free held plays s R at busy ws e =
       let new : Parts L D = record { words = record { pages = R.parts.words.pages; words = ws }; log = R.parts.log; store = R.parts.store; lists = R.parts.lists } in
-      let known : Knows R.parts R.actors R.seat_of R.keeper R.out id me.0 = kept.known log_seen log_gives data_seen data_gives about s R id me.0 x one at in
+      let known : Knows about R.parts R.actors R.seat_of R.keeper R.out id me.0 =
+      kept.known log_seen log_gives data_seen data_gives about s R id me.0 x one at in
       let same : HasSamePages R.parts new = record { words = refl; lists = refl } in
       let done : IsPlayed log_seen data_seen R.run (next a) (lent a) R.parts answer.Held new = subst (λ (p : Op). IsPlayed log_seen data_seen R.run p (lent a) R.parts answer.Held new) (sym is) (plays s R new busy (e ∙ sym R.words_are) refl refl refl) in
       let own : (j : ℕ) → hand (took a answer.Held) ≡ Some j → me.0.held ≡ Some (slot_content new j) = λ j h. absurd (cc) in (
-        kept.kept log_seen log_gives data_seen data_gives about s R id me.0 x one at answer.Held new same done (viewed answer.Held me.0.held me.0.data_part) R.out refl refl own (λ d h. known.data_part d h)
+        kept.kept log_seen log_gives data_seen data_gives about s R id me.0 x one at answer.Held new same done
+            (viewed answer.Held me.0.held me.0.data_part) R.out refl refl refl own (λ d h. known.data_part d h)
             (λ j c i ne h hold. same_content R.parts new refl refl i) (λ j u d ne h stored. (R.knows j u h).data_part d stored) s.homes R.lists_are R.log_calls R.data_calls refl R.slots
             (λ i l z. R.home i l (sym (ap (λ (y : List ℕ). slice_index y (7 + i)) e) ∙ z) ∙ ap (λ (y : Slot L D). maybe.some (maybe.some y)) (same_content R.parts new refl refl i))
             R.data_home
@@ -171,14 +175,17 @@ module _ {L D : Type 0} (log_seen : L → Seen) (log_gives : L → Call → L �
       → Law (record { words = new.words.words; homes = slice_set s.homes k maybe.none; views = slice_set s.views id (viewed r (Some (slot_content new k)) me.0.data_part) })
       × Stepped log_seen data_seen x r (Some (slot_content new k)) me.0.data_part ((k, slot_content R.parts k) ∷ me.1) me (viewed r (Some (slot_content new k)) me.0.data_part, (k, slot_content R.parts k) ∷ me.1)
   finds_free o k r is below free_hand gets mine s R new at free words count list_count log_same store_same are others plays =
-      let known : Knows R.parts R.actors R.seat_of R.keeper R.out id me.0 = kept.known log_seen log_gives data_seen data_gives about s R id me.0 x one at in
+      let known : Knows about R.parts R.actors R.seat_of R.keeper R.out id me.0 =
+      kept.known log_seen log_gives data_seen data_gives about s R id me.0 x one at in
       let same : HasSamePages R.parts new = record { words = count; lists = list_count } in
       let done : IsPlayed log_seen data_seen R.run (next a) (lent a) R.parts r new = subst (λ (p : Op). IsPlayed log_seen data_seen R.run p (lent a) R.parts r new) (sym is) plays in
       let own : (j : ℕ) → hand (took a r) ≡ Some j → Some (slot_content new k) ≡ Some (slot_content new j) = λ j h. ap (λ (i : ℕ). Some (slot_content new i)) (sym (mine j h)) in
       -- nobody else holds it, since its word was 0
       let not_held : (n : ℕ) (c : model.Actor) → get_elem? (views_of R.actors) n ≡ maybe.some c → hand c ≡ Some k → ⊥ = λ n c there held.
       let t = (holders.holding log_seen data_seen R.run R.parts R.actors R.runs n c there k held).word_is in let z : slice_index R.parts.words.words (7 + k) ≡ 0 = ap (λ (y : List ℕ). slice_index y (7 + k)) R.words_are ∙ free in omega arith in (
-        kept.kept log_seen log_gives data_seen data_gives about s R id me.0 x one at r new same done (viewed r (Some (slot_content new k)) me.0.data_part) R.out refl refl own (λ d h. let t = known.data_part d h in (t.0, t.1 ∙ sym store_same, t.2))
+        kept.kept log_seen log_gives data_seen data_gives about s R id me.0 x one at r new same done
+            (viewed r (Some (slot_content new k)) me.0.data_part) R.out refl refl refl own
+            (λ d h. let t = known.data_part d h in (t.0, t.1 ∙ sym store_same, t.2))
             (λ n c j ne there hold. others j (λ z. not_held n c there (hold ∙ ap (λ (i : ℕ). Some i) z))) (λ j u d ne h stored. let t = (R.knows j u h).data_part d stored in (t.0, t.1 ∙ sym store_same, t.2))
             (slice_set s.homes k maybe.none) are (subst (λ (z : log.Part L). CallsOn log_gives about.opened.value.log.dev about.opened.value.log.failed z.dev z.failed) (sym log_same) R.log_calls) (subst (λ (z : store.Part D). CallsOn data_gives about.opened.value.store.dev about.opened.value.store.failed z.dev z.failed) (sym store_same) R.data_calls)
             (ap (λ (z : log.Part L). z.shape) log_same) (length-set s.homes k maybe.none ∙ R.slots)
@@ -266,7 +273,8 @@ module _ {L D : Type 0} (log_seen : L → Seen) (log_gives : L → Call → L �
       let r : Answer = answer.Taken None in
       let ws : List ℕ = slice_set s.words (7 + k) 0 in
       let new : Parts L D = record { words = record { pages = R.parts.words.pages; words = ws }; log = R.parts.log; store = R.parts.store; lists = R.parts.lists } in
-      let known : Knows R.parts R.actors R.seat_of R.keeper R.out id me.0 = kept.known log_seen log_gives data_seen data_gives about s R id me.0 x one at in
+      let known : Knows about R.parts R.actors R.seat_of R.keeper R.out id me.0 =
+      kept.known log_seen log_gives data_seen data_gives about s R id me.0 x one at in
       let same : HasSamePages R.parts new = record { words = refl; lists = refl } in
       let done : IsPlayed log_seen data_seen R.run (next a) (lent a) R.parts r new = subst (λ (p : Op). IsPlayed log_seen data_seen R.run p (lent a) R.parts r new) (sym is) (plays s R new (ap (λ (y : List ℕ). slice_set y (7 + k) 0) (sym R.words_are)) refl refl refl) in
       let own : (j : ℕ) → hand (took a r) ≡ Some j → None ≡ Some (slot_content new j) = λ j h. absurd (cc) in
@@ -275,7 +283,8 @@ module _ {L D : Type 0} (log_seen : L → Seen) (log_gives : L → Call → L �
         viewed r None me.0.data_part,
         gives,
         tt,
-        kept.kept log_seen log_gives data_seen data_gives about s R id me.0 x one at r new same done (viewed r None me.0.data_part) R.out refl refl own (λ d h. known.data_part d h)
+        kept.kept log_seen log_gives data_seen data_gives about s R id me.0 x one at r new same done
+            (viewed r None me.0.data_part) R.out refl refl refl own (λ d h. known.data_part d h)
             (λ n c j ne h hold. same_content R.parts new refl refl j) (λ j u d ne h stored. (R.knows j u h).data_part d stored) (put_back s.homes me.1) R.lists_are R.log_calls R.data_calls refl
             (ap length back ∙ length-set s.homes k (maybe.some own_slot) ∙ R.slots)
             (λ j l z. ap (λ (y : List (maybe.Option (Slot L D))). get_elem? y j) back ∙ elim (ℕ_discrete j k) [

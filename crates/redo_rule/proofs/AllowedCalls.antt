@@ -36,7 +36,7 @@ use Rattle.redo_rule.proofs.Kept as kept
 use Rattle.redo_rule.proofs.Retook.{one_head}
 use Rattle.model_core.proofs.Hands.{Handles}
 use Rattle.model_core.specs.Hands.{hand, IsFreeToCheck}
-use Rattle.redo_rule.specs.Plays.{batched, behind, called, reached, Stepped}
+use Rattle.redo_rule.specs.Plays.{batched, called, reached, Stepped, view_behind, view_reaching}
 use Rattle.redo_rule.specs.Ruled.{Knows, Ruled, slot_content}
 use Rattle.redo_rule.specs.declared.law.About.{About}
 use Rattle.redo_rule.specs.declared.law.Keeping.{Keeping}
@@ -83,7 +83,8 @@ module _ {L D : Type 0} (log_seen : L → Seen) (log_gives : L → Call → L �
   allows_called i o p q is calls_log free held carried served calls live s R wide at small =
       let goes : Handles o (hand a) (λ (z : Answer). hand (took a z)) = subst (λ (j : Op). Handles j (hand a) (λ (z : Answer). hand (took a z))) is (handles a free) in
       let mine = hand_of o calls_log (hand a) (λ (z : Answer). hand (took a z)) goes in
-      let known : Knows R.parts R.actors R.seat_of R.keeper R.out id me.0 = kept.known log_seen log_gives data_seen data_gives about s R id me.0 x one at in
+      let known : Knows about R.parts R.actors R.seat_of R.keeper R.out id me.0 =
+      kept.known log_seen log_gives data_seen data_gives about s R id me.0 x one at in
       let was : ◌≡◌ {A = log.Part L} p R.parts.log = kept.same_log p R.parts.log (kept.same_slot (slot.Log p) (slot.Log R.parts.log) (sym held ∙ kept.holds_content log_seen log_gives data_seen data_gives about s R id me.0 x one at 0 mine.0)) in
       let e : slice_set s.words i (slice_index s.words i) ≡ s.words = set-get_or s.words i 0 in
       let new : Parts L D = record { words = record { pages = R.parts.words.pages; words = slice_set s.words i (slice_index s.words i) }; log = q; store = R.parts.store; lists = R.parts.lists } in
@@ -96,10 +97,12 @@ module _ {L D : Type 0} (log_seen : L → Seen) (log_gives : L → Call → L �
       let holder = holders.holding log_seen data_seen R.run R.parts R.actors R.runs x.number a (kept.there log_seen log_gives data_seen data_gives about s R id me.0 x one at) 0 mine.0 in
       let others : (n : ℕ) (c : model.Actor) (k : ℕ) → n ≢ x.number → get_elem? (views_of R.actors) n ≡ maybe.some c → hand c ≡ Some k → ◌≡◌ {A = Slot L D} (slot_content R.parts k) (slot_content new k) = λ n c k ne there hold. by_slot R.parts new refl k
       (λ z. ne (holders.one_holder log_seen data_seen R.run R.parts R.actors R.runs n x.number c a 0 there (kept.there log_seen log_gives data_seen data_gives about s R id me.0 x one at) (hold ∙ ap (λ (j : ℕ). Some j) z) mine.0)) in (
-        record { pages = me.0.pages; seats = behind x r ∷ []; held = Some (slot.Log q); data_part = me.0.data_part },
+        view_behind me.0 x r (Some (slot.Log q)) me.0.data_part,
         keeps,
         tt,
-        kept.kept log_seen log_gives data_seen data_gives about s R id me.0 x one at r new same done (record { pages = me.0.pages; seats = behind x r ∷ []; held = Some (slot.Log q); data_part = me.0.data_part }) R.out refl refl own (λ d h. known.data_part d h)
+        kept.kept log_seen log_gives data_seen data_gives about s R id me.0 x one at r new same done
+            (view_behind me.0 x r (Some (slot.Log q)) me.0.data_part) R.out refl refl refl own
+            (λ d h. known.data_part d h)
             others (λ j u d ne h stored. (R.knows j u h).data_part d stored) s.homes R.lists_are
             (calls_then log_gives about.opened.value.log.dev R.parts.log.dev q.dev about.opened.value.log.failed R.parts.log.failed q.failed R.log_calls
             (subst (λ (z : log.Part L). CallsOn log_gives z.dev z.failed q.dev q.failed) was (record { live = λ none. calls; over = λ some. absurd (some live) })))
@@ -109,11 +112,18 @@ module _ {L D : Type 0} (log_seen : L → Seen) (log_gives : L → Call → L �
             (λ k l z. home_of s R new refl k l holder.word_is (sym (ap (λ (y : List ℕ). slice_index y (7 + k)) e) ∙ z))
             R.data_home
             (λ k l z. inr ((λ u. z (ap (λ (y : List ℕ). slice_index y (7 + k)) e ∙ u)), λ u. mine.1 q.failed (told_by o q.marks.stable) ∙ sym mine.0 ∙ u)),
-        λ y z one_y carries. subst (λ (j : log.Part L). Stepped log_seen data_seen y (call_answer Log j.failed (told_by (next (view_of y.actor)) j.marks.stable)) (Some (slot.Log j)) me.0.data_part me.1 me (record { pages = me.0.pages; seats = behind x r ∷ []; held = Some (slot.Log q); data_part = me.0.data_part }, me.1))
+        λ y z one_y carries. subst (λ (j : log.Part L). Stepped log_seen data_seen y
+            (call_answer Log j.failed (told_by (next (view_of y.actor)) j.marks.stable))
+            (Some (slot.Log j)) me.0.data_part me.1 me (view_behind me.0 x r (Some (slot.Log q)) me.0.data_part, me.1))
             (kept.same_log q z (one_slot 0 (slot.Log q) (slot.Log z) me.1 carried carries))
-            (subst (λ (j : Numbered). Stepped log_seen data_seen j (call_answer Log q.failed (told_by (next (view_of j.actor)) q.marks.stable)) (Some (slot.Log q)) me.0.data_part me.1 me (record { pages = me.0.pages; seats = behind x r ∷ []; held = Some (slot.Log q); data_part = me.0.data_part }, me.1))
+            (subst (λ (j : Numbered). Stepped log_seen data_seen j
+            (call_answer Log q.failed (told_by (next (view_of j.actor)) q.marks.stable))
+            (Some (slot.Log q)) me.0.data_part me.1 me
+            (view_behind me.0 x r (Some (slot.Log q)) me.0.data_part, me.1))
             (one_head me.0.seats x y one one_y)
-            (subst (λ (j : Op). Stepped log_seen data_seen x (call_answer Log q.failed (told_by j q.marks.stable)) (Some (slot.Log q)) me.0.data_part me.1 me (record { pages = me.0.pages; seats = behind x r ∷ []; held = Some (slot.Log q); data_part = me.0.data_part }, me.1)) (sym is)
+            (subst (λ (j : Op). Stepped log_seen data_seen x (call_answer Log q.failed (told_by j q.marks.stable))
+            (Some (slot.Log q)) me.0.data_part me.1 me
+            (view_behind me.0 x r (Some (slot.Log q)) me.0.data_part, me.1)) (sym is)
             (kept.steps log_seen log_gives data_seen data_gives about s R id me.0 x one at r new same done me.1 (Some (slot.Log q)) me.0.data_part me.1 own (λ d h. (known.data_part d h).1)))),
       )
     where
@@ -129,19 +139,23 @@ module _ {L D : Type 0} (log_seen : L → Seen) (log_gives : L → Call → L �
   pub allows_reach : (i : ℕ) (d : store.Part D) → me.0.data_part ≡ Some (record { part = d; out = false }) → Allows Law slots id me i (λ n. n) (reached me)
   allows_reach i d has s R wide at small =
       let e : slice_set s.words i (slice_index s.words i) ≡ s.words = set-get_or s.words i 0 in
-      let K : Knows R.parts R.actors R.seat_of R.keeper R.out id me.0 = kept.known log_seen log_gives data_seen data_gives about s R id me.0 x one at in
+      let K : Knows about R.parts R.actors R.seat_of R.keeper R.out id me.0 =
+      kept.known log_seen log_gives data_seen data_gives about s R id me.0 x one at in
       let mine = K.data_part (record { part = d; out = false }) has in
-      let w : View L D = record { pages = me.0.pages; seats = me.0.seats; held = me.0.held; data_part = Some (record { part = d; out = true }) } in
+      let w : View L D = view_reaching me.0 d in
       let out_is : (f : Keeping D) → Some (record { part = d; out = true }) ≡ Some f → (◌≡◌ {A = store.Part D} d f.part) × (true ≡ f.out) = λ f h.
       (ap (λ (o : Option (Keeping D)). part_or d o) h, ap (λ (o : Option (Keeping D)). is_out o) h) in
-      let here : Knows R.parts R.actors R.seat_of R.keeper true id w = record {
+      let here : Knows about R.parts R.actors R.seat_of R.keeper true id w = record {
+        told = K.told;
         pages = K.pages;
         mine = K.mine;
         free = K.free;
         held = K.held;
         data_part = λ f h. (mine.0, sym (out_is f h).0 ∙ mine.1, (out_is f h).1);
       } in
-      let others : (j : ℕ) (u : View L D) → j ≢ id → get_elem? s.views j ≡ maybe.some u → Knows R.parts R.actors R.seat_of R.keeper true j u = λ j u ne h. let N = R.knows j u h in record {
+      let others : (j : ℕ) (u : View L D) → j ≢ id → get_elem? s.views j ≡ maybe.some u
+      → Knows about R.parts R.actors R.seat_of R.keeper true j u = λ j u ne h. let N = R.knows j u h in record {
+        told = N.told;
         pages = N.pages;
         mine = N.mine;
         free = N.free;
@@ -168,13 +182,17 @@ module _ {L D : Type 0} (log_seen : L → Seen) (log_gives : L → Call → L �
         data_home = λ z. absurd (cc);
         told = R.told;
         taken = R.taken;
-        knows = λ j u h. ⊎_elim (λ t. subst (λ (z : View L D). Knows R.parts R.actors R.seat_of R.keeper true j z) t.1 (subst (λ (n : ℕ). Knows R.parts R.actors R.seat_of R.keeper true n w) (sym t.0) here)) (λ t. others j u t.0 t.1) (at_set s.views id j w u h);
+        knows = λ j u h. ⊎_elim (λ t. subst (λ (z : View L D). Knows about R.parts R.actors R.seat_of R.keeper true j z)
+            t.1 (subst (λ (n : ℕ). Knows about R.parts R.actors R.seat_of R.keeper true n w) (sym t.0) here))
+            (λ t. others j u t.0 t.1) (at_set s.views id j w u h);
       } in (
         w,
         takes 5 (slot.Data d),
         R.data_home mine.2 ∙ ap (λ (z : store.Part D). maybe.some (maybe.some (slot.Data z))) (sym mine.1),
         subst (λ (ws : List ℕ). Law (record { words = ws; homes = slice_set s.homes 5 maybe.none; views = slice_set s.views id w })) (sym e) new,
-        λ f g. ap (λ (z : store.Part D). let m : Me (Slot L D) (View L D) = (record { pages = me.0.pages; seats = me.0.seats; held = me.0.held; data_part = Some (record { part = z; out = true }) }, (5, slot.Data z) ∷ me.1) in m) (ap (λ (o : Option (Keeping D)). part_or d o) (sym has ∙ g)),
+        λ f g. ap (λ (z : store.Part D). let m : Me (Slot L D) (View L D) =
+            (view_reaching me.0 z, (5, slot.Data z) ∷ me.1) in m)
+            (ap (λ (o : Option (Keeping D)). part_or d o) (sym has ∙ g)),
       )
 
   -- and after its call it is back
@@ -183,7 +201,8 @@ module _ {L D : Type 0} (log_seen : L → Seen) (log_gives : L → Call → L �
       → Allows Law slots id me i (λ n. n) (batched log_seen data_seen me)
   allows_batched i d e is free has carried served calls live s R wide at small =
       let goes : Handles op.WriteBatch (hand a) (λ (z : Answer). hand (took a z)) = subst (λ (j : Op). Handles j (hand a) (λ (z : Answer). hand (took a z))) is (handles a free) in
-      let known : Knows R.parts R.actors R.seat_of R.keeper R.out id me.0 = kept.known log_seen log_gives data_seen data_gives about s R id me.0 x one at in
+      let known : Knows about R.parts R.actors R.seat_of R.keeper R.out id me.0 =
+      kept.known log_seen log_gives data_seen data_gives about s R id me.0 x one at in
       let mine = known.data_part (record { part = d; out = true }) has in
       let was : ◌≡◌ {A = store.Part D} d R.parts.store = mine.1 in
       let q : slice_set s.words i (slice_index s.words i) ≡ s.words = set-get_or s.words i 0 in
@@ -193,7 +212,7 @@ module _ {L D : Type 0} (log_seen : L → Seen) (log_gives : L → Call → L �
       let done : IsPlayed log_seen data_seen R.run (next a) (lent a) R.parts r new = subst (λ (j : Op). IsPlayed log_seen data_seen R.run j (lent a) R.parts r new) (sym is)
       (played.batch_played log_seen data_seen R.run (lent a) R.parts op.WriteBatch new r (q ∙ sym R.words_are) refl refl refl (subst (λ (z : store.Part D). DataServed (run_data_side log_seen data_seen R.run) z (lent a) op.WriteBatch (call_code Data e.failed) e) was (served R.run)) refl) in
       let kept_now : Option (Keeping D) = Some (record { part = e; out = false }) in
-      let w : View L D = record { pages = me.0.pages; seats = behind x r ∷ []; held = me.0.held; data_part = kept_now } in
+      let w : View L D = view_behind me.0 x r me.0.held kept_now in
       let own : (k : ℕ) → hand (took a r) ≡ Some k → me.0.held ≡ Some (slot_content new k) = λ k h. let n = goes.1 r in absurd (cc) in
       let left : (z : Keeping D) → kept_now ≡ Some z → (◌≡◌ {A = store.Part D} z.part e) × (false ≡ z.out) = λ z h.
       (sym (ap (λ (o : Option (Keeping D)). part_or e o) h), ap (λ (o : Option (Keeping D)). is_out o) h) in
@@ -201,7 +220,8 @@ module _ {L D : Type 0} (log_seen : L → Seen) (log_gives : L → Call → L �
         w,
         gives,
         tt,
-        kept.kept log_seen log_gives data_seen data_gives about s R id me.0 x one at r new same done w false refl refl own (λ z h. (mine.0, (left z h).0, (left z h).1))
+        kept.kept log_seen log_gives data_seen data_gives about s R id me.0 x one at r new same done w false refl refl
+            refl own (λ z h. (mine.0, (left z h).0, (left z h).1))
             (λ n c k ne h hold. allowed.same_content R.parts new refl refl k) (λ j u z ne h stored. absurd (ne (sym ((R.knows j u h).data_part z stored).0 ∙ mine.0))) (put_back s.homes me.1) R.lists_are
             R.log_calls
             (calls_then data_gives about.opened.value.store.dev R.parts.store.dev e.dev about.opened.value.store.failed R.parts.store.failed e.failed R.data_calls
@@ -213,6 +233,7 @@ module _ {L D : Type 0} (log_seen : L → Seen) (log_gives : L → Call → L �
             (λ k l z. inr ((λ u. z (ap (λ (y : List ℕ). slice_index y (7 + k)) q ∙ u)), λ u. let n = goes.0 in absurd (cc))),
         λ y f one_y carries. subst (λ (j : store.Part D). Stepped log_seen data_seen y (call_answer Data j.failed 0) me.0.held (Some (record { part = j; out = false })) (rest me.1) me (w, rest me.1))
             (kept.same_data e f (one_slot 5 (slot.Data e) (slot.Data f) me.1 carried carries))
-            (subst (λ (j : Numbered). Stepped log_seen data_seen j r me.0.held kept_now (rest me.1) me (record { pages = me.0.pages; seats = behind x r ∷ []; held = me.0.held; data_part = kept_now }, rest me.1)) (one_head me.0.seats x y one one_y)
+            (subst (λ (j : Numbered). Stepped log_seen data_seen j r me.0.held kept_now (rest me.1) me
+            (view_behind me.0 x r me.0.held kept_now, rest me.1)) (one_head me.0.seats x y one one_y)
             (kept.steps log_seen log_gives data_seen data_gives about s R id me.0 x one at r new same done me.1 me.0.held kept_now (rest me.1) own (λ z h. (left z h).0))),
       )

@@ -23,7 +23,7 @@ use Rattle.redo_rule.proofs.Retook.{view_retook}
 use Rattle.redo_rule.proofs.Stepping as stepping
 use Rattle.model_core.specs.Hands.{hand, IsFreeToCheck}
 use Rattle.redo_rule.specs.Mine.{HasPlayed, Mine, number_in, number_of}
-use Rattle.redo_rule.specs.Plays.{batched, behind, Carries, MayGo, reached, Shown, Stepped}
+use Rattle.redo_rule.specs.Plays.{batched, behind, Carries, MayGo, reached, Shown, Stepped, view_reaching}
 use Rattle.redo_rule.specs.Ruled.{Ruled}
 use Rattle.redo_rule.specs.declared.law.About.{About}
 use Rattle.redo_rule.specs.Seating.{HasPart}
@@ -44,7 +44,7 @@ live_of d (lending.Blocks bytes firsts) may = absurd may
 module _ {L D : Type 0} (table : TableId) (seat : Seat (Slot L D) (View L D)) (a : model.Actor) (mine : Mine table seat a) (is : next a ≡ op.WriteBatch) (d : store.Part D) (has : seat.me.0.data_part ≡ Some (record { part = d; out = false })) where
   -- the seat that has reached for the data part
   abbrev pub reaching : Me (Slot L D) (View L D)
-  reaching = (record { pages = seat.me.0.pages; seats = seat.me.0.seats; held = seat.me.0.held; data_part = Some (record { part = d; out = true }) }, (5, slot.Data d) ∷ seat.me.1)
+  reaching = (view_reaching seat.me.0 d, (5, slot.Data d) ∷ seat.me.1)
 
   pub reach_ok : (log_seen : L → Seen) (log_gives : L → Call → L → Type 0) (data_seen : D → Seen) (data_gives : D → Call → D → Type 0) (about : About L D)
       → (seat.table_id ≡ table) × (0 < table.words) × Allows (Ruled log_seen log_gives data_seen data_gives about) table.slots seat.id seat.me 0 (λ n. n) (reached seat.me)
@@ -128,11 +128,25 @@ module _ {L D : Type 0} (table : TableId) (seat : Seat (Slot L D) (View L D)) (a
                     (subst (λ (w : model.Actor). MayGo out.me.0.pages out.me.0.held (Some (record { part = e; out = false })) w) (ap (λ (w : model.Actor). took w r) mine.state ∙ sym b_is) stepped.may);
               }
 
-          pub batched_played : (step : Step) → step ≡ step_of a r → HasPlayed log_seen data_seen a step b
-          batched_played step ends = record { answer = r; number = mine.who.number; shown = subst (λ (w : model.Actor). Shown log_seen data_seen mine.who.number w r) mine.state stepped.shown; is = b_is; ends = ends }
+          pub batched_played : (step : Step) → step ≡ step_of a r
+              → HasPlayed log_seen data_seen seat.me.0.about a step b
+          batched_played step ends = record {
+            answer = r;
+            number = mine.who.number;
+            shown =
+                subst (λ (w : Me (Slot L D) (View L D)). Shown log_seen data_seen w.0.about mine.who.number a r) out_is
+                (subst (λ (w : model.Actor). Shown log_seen data_seen out.me.0.about mine.who.number w r) mine.state
+                stepped.shown);
+            is = b_is;
+            ends = ends;
+          }
 
           pub keeps_part : HasPart after.me.0
           keeps_part = (e, ap (λ (w : Me (Slot L D) (View L D)). w.0.data_part) stepped.is)
+
+          pub keeps_table : after.me.0.about ≡ seat.me.0.about
+          keeps_table = ap (λ (w : Me (Slot L D) (View L D)). w.0.about) stepped.is
+              ∙ ap (λ (w : Me (Slot L D) (View L D)). w.0.about) out_is
 
           pub keeps_number : number_of after.me.0 ≡ number_of seat.me.0
           keeps_number = ap (λ (w : Me (Slot L D) (View L D)). number_of w.0) stepped.is ∙ sym (ap number_in mine.one)

@@ -12,6 +12,7 @@ use Rattle.model_core.specs.declared.ops.Step.{Step}
 use Rattle.redo_disk.specs.Seen.{Seen}
 use Rattle.redo_rule.specs.Mine.{HasPlayed, Mine}
 use Rattle.redo_rule.specs.Seating.{HasPart, IsCleaner, IsSeatOf}
+use Rattle.redo_rule.specs.declared.law.About.{About}
 use Rattle.redo_rule.specs.declared.law.Keeping.{Keeping}
 use Rattle.redo_rule.specs.declared.law.Slot.{Slot}
 use Rattle.redo_rule.specs.declared.law.View.{View}
@@ -20,7 +21,8 @@ was_kind : (a b : model.Actor) → IsSameActor a b → IsCleaner b → IsCleaner
 was_kind (model.Cleaner v) b later is = tt
 was_kind _ b later is = absurd (subst IsCleaner later.1 is)
 
-pub was_cleaner : {L D : Type 0} (log_seen : L → Seen) (data_seen : D → Seen) (a b : model.Actor) (step : Step) → HasPlayed log_seen data_seen a step b → IsCleaner b → IsCleaner a
+pub was_cleaner : {L D : Type 0} (log_seen : L → Seen) (data_seen : D → Seen) {told : Option (About L D)}
+    (a b : model.Actor) (step : Step) → HasPlayed log_seen data_seen told a step b → IsCleaner b → IsCleaner a
 was_cleaner log_seen data_seen a b step h is = was_kind a (took a h.answer) (took_later a h.answer) (subst IsCleaner h.is is)
 
 -- the cleaner alone writes batches

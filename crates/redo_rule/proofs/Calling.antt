@@ -23,7 +23,6 @@ use Rattle.redo_rule.proofs.AllowedCalls.{allows_called, hand_of}
 use Rattle.redo_rule.proofs.Kept as kept
 use Rattle.redo_rule.proofs.Retook.{view_retook}
 use Rattle.redo_rule.proofs.Stepping as stepping
-use Rattle.model_core.proofs.Hands.{Handles}
 use Rattle.model_core.specs.Hands.{hand, IsFreeToCheck}
 use Rattle.redo_rule.specs.Mine.{HasPlayed, KeepsSeat, Mine, number_in, number_of}
 use Rattle.redo_rule.specs.Plays.{behind, called, Carries, MayGo, Shown, Stepped}
@@ -108,8 +107,22 @@ module _ {L D : Type 0} (table : TableId) (seat : Seat (Slot L D) (View L D)) (a
                   (subst (λ (w : model.Actor). MayGo seat.me.0.pages (Some (slot.Log q)) seat.me.0.data_part w) (ap (λ (w : model.Actor). took w r) mine.state ∙ sym b_is) stepped.may);
             }
 
-        pub called_played : (step : Step) → step ≡ step_of a r → HasPlayed log_seen data_seen a step b
-        called_played step ends = record { answer = r; number = mine.who.number; shown = subst (λ (w : model.Actor). Shown log_seen data_seen mine.who.number w r) mine.state stepped.shown; is = b_is; ends = ends }
+        pub called_played : (step : Step) → step ≡ step_of a r → HasPlayed log_seen data_seen seat.me.0.about a step b
+        called_played step ends = record {
+          answer = r;
+          number = mine.who.number;
+          shown =
+              subst (λ (w : model.Actor). Shown log_seen data_seen seat.me.0.about mine.who.number w r) mine.state
+              stepped.shown;
+          is = b_is;
+          ends = ends;
+        }
 
         pub called_part : KeepsSeat seat.me.0 after.me.0
-        called_part = record { number = ap (λ (m : Me (Slot L D) (View L D)). number_of m.0) stepped.is ∙ sym (ap number_in mine.one); data_part = ap (λ (m : Me (Slot L D) (View L D)). m.0.data_part) stepped.is }
+        called_part = record {
+          about = ap (λ (m : Me (Slot L D) (View L D)). m.0.about) stepped.is;
+          number =
+              ap (λ (m : Me (Slot L D) (View L D)). number_of m.0) stepped.is ∙ sym (ap number_in mine.one);
+          data_part =
+              ap (λ (m : Me (Slot L D) (View L D)). m.0.data_part) stepped.is;
+        }

@@ -86,7 +86,14 @@ module _ {L D : Type 0} (log_seen : L → Seen) (log_gives : L → Call → L �
 
   module _ (other : Seat (Slot L D) (View L D)) (T : MayTakeIn table first other) where
     pub join_ok : (first.table_id ≡ table) × (other.table_id ≡ table) × (other.me.1 ≡ []) × (0 < table.words) × Joins (Ruled log_seen log_gives data_seen data_gives about) first.id first.me.0 other.id other.me.0 (taken_in first.me.0 other.me.0) spent
-    join_ok = (F.of, T.of, T.none, some_words, joins_ok log_seen log_gives data_seen data_gives about first.id other.id first.me.0 other.me.0 T.pages F.rest T.rest)
+    join_ok = (
+      F.of,
+      T.of,
+      T.none,
+      some_words,
+      joins_ok log_seen log_gives data_seen data_gives about first.id other.id first.me.0 other.me.0 T.pages T.some
+          F.rest T.rest,
+    )
 
     pub first_joined : (after : Seat (Slot L D) (View L D)) → after.table_id ≡ first.table_id → after.me ≡ (taken_in first.me.0 other.me.0, first.me.1) → IsFirst table after
     first_joined after same me_is = record {

@@ -62,7 +62,7 @@ module _ {L D : Type 0} (log_seen : L → Seen) (log_gives : L → Call → L �
       let s = final.0 in
       let R = final.1.0 in
       let at = final.1.1 in
-      let K : Knows R.parts R.actors R.seat_of R.keeper R.out id v = R.knows id v at in
+      let K : Knows about R.parts R.actors R.seat_of R.keeper R.out id v = R.knows id v at in
       let all : ◌≡◌ {A = List Actor} R.actors actors = same_list R.actors actors (R.count ∙ sym long) (λ i a e.
       ap (get_elem? R.actors) (let z : i ≡ 0 + i = omega arith in z) ∙ (K.mine i (record { number = 0 + i; actor = a }) (ap (λ (l : List Numbered). get_elem? l i) seats ∙ number_there 0 actors i a e)).1) in
       let runs : RunsOn log_seen data_seen R.run R.parts actors = subst (λ (l : List Actor). RunsOn log_seen data_seen R.run R.parts l) all R.runs in

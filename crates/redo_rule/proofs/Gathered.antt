@@ -21,6 +21,8 @@ use Rattle.redo_rule.specs.Plays.{Carries}
 use Rattle.redo_rule.specs.Ruled.{numbered}
 use Rattle.redo_rule.specs.Seating.{HasPart, IsCleaner, IsSeatOf}
 use Rattle.redo_rule.specs.Seats.{cut_left, cut_right, first_numbered, first_some, heads_cleaner, is_cleaner, rest_numbered, taken_in}
+use Rattle.redo_rule.specs.Sharing.{KnowTable}
+use Rattle.redo_rule.specs.declared.law.About.{About}
 use Rattle.redo_rule.specs.declared.law.Keeping.{Keeping}
 use Rattle.redo_rule.specs.declared.law.Numbered.{Numbered}
 use Rattle.redo_rule.specs.declared.law.Slot.{Slot}
@@ -43,6 +45,19 @@ pub there : {A : Type 0} (l : List A) (n : ℕ) → n < length l → (a : A) × 
 there [] n less = absurd (omega arith)
 there (x ∷ xs) zero less = (x, refl)
 there (x ∷ xs) (suc n) less = there xs n (omega arith)
+
+-- what the seats know of their table, where there is none, and where there is one more
+pub none_know : {L D : Type 0} (told : Option (About L D)) (seats : List (Seat (Slot L D) (View L D))) → seats ≡ []
+    → KnowTable told seats
+none_know told seats none i seat e = absurd (maybe.some-ne-none seat (sym e ∙ ap (λ l. get_elem? l i) none))
+
+pub one_knows : {L D : Type 0} (told : Option (About L D)) (seats more : List (Seat (Slot L D) (View L D)))
+    (token : Seat (Slot L D) (View L D)) → more ≡ seats ++ token ∷ [] → KnowTable told seats → token.me.0.about ≡ told
+    → KnowTable told more
+one_knows told seats more token is all one i seat e = ⊎_elim
+    (λ t. all i seat t.1)
+    (λ t. subst (λ (s : Seat _ _). s.me.0.about ≡ told) t.1 one)
+    (at_end seats token seat i (ap (λ l. get_elem? l i) (sym is) ∙ e))
 
 pub none_beyond : {A : Type 0} (l : List A) (i : ℕ) (a : A) → length l ≤ i → get_elem? l i ≡ maybe.some a → ⊥
 none_beyond [] i a le e = maybe.some-ne-none a (sym e)
@@ -160,6 +175,7 @@ module _ {L D : Type 0} (table : TableId) (actors : List Actor) (first : Seat (S
       of = own_seat.mine.of;
       pages = same_count first.me.0.pages seat.me.0.pages (sym A.is_first.words ∙ own_seat.mine.words);
       none = subst (λ (h : Option ℕ). Carries h seat.me) free.no_slot own_seat.mine.carries;
+      some = (who, ap (λ (l : List Numbered). get_elem? l 0) own_seat.mine.one);
       rest = λ i y e. subst (λ (z : Numbered). HoldsNothing (view_of z.actor)) (in_one who i y (sym (ap (λ (l : List Numbered). get_elem? l i) own_seat.mine.one) ∙ e)) (subst HoldsNothing (sym own_seat.mine.state) free);
       home = own_seat.home;
     }

@@ -46,7 +46,7 @@ use Rattle.model_core.proofs.FailedCalls.{gives_hand, has_stored, stores}
 use Rattle.model_core.proofs.Hands.{stays_free}
 use Rattle.redo_rule.proofs.Retook.{at_map, view_retook}
 use Rattle.model_core.specs.Hands.{GivesFailed, hand, IsFreeToCheck}
-use Rattle.redo_rule.specs.Plays.{behind, MayGo, Shown, Stepped}
+use Rattle.redo_rule.specs.Plays.{behind, MayGo, Shown, Stepped, view_behind}
 use Rattle.redo_rule.specs.Ruled.{IsSlotHeld, Knows, Ruled, slot_content}
 use Rattle.redo_rule.specs.declared.law.About.{About}
 use Rattle.redo_rule.specs.declared.law.Keeping.{Keeping}
@@ -135,7 +135,7 @@ module _ {L D : Type 0} (log_seen : L → Seen) (log_gives : L → Call → L �
   abbrev a : model.Actor
   a = view_of x.actor
 
-  pub known : Knows R.parts R.actors R.seat_of R.keeper R.out id v
+  pub known : Knows about R.parts R.actors R.seat_of R.keeper R.out id v
   known = R.knows id v at
 
   first : get_elem? v.seats 0 ≡ maybe.some x
@@ -196,9 +196,12 @@ module _ {L D : Type 0} (log_seen : L → Seen) (log_gives : L → Call → L �
       seated = turn_keeps_seats (run_log_side log_seen data_seen R.run) (run_data_side log_seen data_seen R.run) R.run.setup (core_of log_seen data_seen R.run R.parts R.actors) (core_of log_seen data_seen R.run new after) x.number r (step_of a r) R.runs.seated turn;
     }
 
-    pub shown : Shown log_seen data_seen x.number a r
+    pub shown : Shown log_seen data_seen v.about x.number a r
     shown = record {
+      about = about;
+      about_is = known.told 0 x first;
       run = R.run;
+      is_about = R.is_about;
       old = R.parts;
       actors = R.actors;
       runs = R.runs;
@@ -206,7 +209,7 @@ module _ {L D : Type 0} (log_seen : L → Seen) (log_gives : L → Call → L �
       after = after;
       runs_on = runs_behind;
       at = there;
-      told = λ code gives. R.told x.number x.actor code here gives;
+      has_cause = λ code gives. R.told x.number x.actor code here gives;
       turn = turn;
     }
 
@@ -235,10 +238,12 @@ module _ {L D : Type 0} (log_seen : L → Seen) (log_gives : L → Call → L �
         → MayGo v.pages held stored b
     goes_on held stored with_log with_data = may_go log_seen data_seen R.run new after runs_behind x.number b there_behind v.pages held stored (count ∙ sym same.words) with_log with_data (stays_free a r)
 
-    module _ (w : View L D) (out : Bool) (pages_w : w.pages ≡ v.pages) (seats_w : w.seats ≡ behind x r ∷ []) (own : (k : ℕ) → hand b ≡ Some k → w.held ≡ Some (slot_content new k))
+    module _ (w : View L D) (out : Bool) (about_w : w.about ≡ v.about) (pages_w : w.pages ≡ v.pages)
+        (seats_w : w.seats ≡ behind x r ∷ []) (own : (k : ℕ) → hand b ≡ Some k → w.held ≡ Some (slot_content new k))
         (data_w : (d : Keeping D) → w.data_part ≡ Some d → (R.keeper ≡ id) × ◌≡◌ {A = store.Part D} d.part new.store × (out ≡ d.out)) where
-      knows_w : Knows new after R.seat_of R.keeper out id w
+      knows_w : Knows about new after R.seat_of R.keeper out id w
       knows_w = record {
+        told = λ i y e. about_w ∙ known.told 0 x first;
         pages = λ i y e. pages_w ∙ count ∙ sym same.words;
         mine = λ i y e. subst (λ (z : Numbered). (R.seat_of z.number ≡ id) × (get_elem? after z.number ≡ maybe.some z.actor)) (only w.seats (behind x r) i y seats_w e)
             (seated, set_at R.actors x.number x.actor (retook x.actor r) here);
@@ -249,10 +254,12 @@ module _ {L D : Type 0} (log_seen : L → Seen) (log_gives : L → Call → L �
 
       module _ (others : (n : ℕ) (c : model.Actor) (k : ℕ) → n ≢ x.number → get_elem? (views_of R.actors) n ≡ maybe.some c → hand c ≡ Some k → ◌≡◌ {A = Slot L D} (slot_content R.parts k) (slot_content new k))
           (data_others : (j : ℕ) (u : View L D) (d : Keeping D) → j ≢ id → get_elem? s.views j ≡ maybe.some u → u.data_part ≡ Some d → (R.keeper ≡ j) × ◌≡◌ {A = store.Part D} d.part new.store × (out ≡ d.out)) where
-        knows_others : (j : ℕ) (u : View L D) → j ≢ id → get_elem? s.views j ≡ maybe.some u → Knows new after R.seat_of R.keeper out j u
+        knows_others : (j : ℕ) (u : View L D) → j ≢ id → get_elem? s.views j ≡ maybe.some u
+            → Knows about new after R.seat_of R.keeper out j u
         knows_others j u ne e =
             let K = R.knows j u e in
             let far : (i : ℕ) (y : Numbered) → get_elem? u.seats i ≡ maybe.some y → y.number ≢ x.number = λ i y f z. ne (sym (K.mine i y f).0 ∙ ap R.seat_of z ∙ seated) in record {
+              told = K.told;
               pages = λ i y f. K.pages i y f ∙ sym same.words;
               mine = λ i y f. ((K.mine i y f).0, set_else R.actors x.number y.number (retook x.actor r) (far i y f) ∙ (K.mine i y f).1);
               free = K.free;
@@ -294,12 +301,15 @@ module _ {L D : Type 0} (log_seen : L → Seen) (log_gives : L → Call → L �
           data_home = data_home;
           told = told_behind;
           taken = λ k l busy. ⊎_elim (λ t. holds_behind k t) (λ t. held_still k (R.taken k l t.0) t.1) (turned k l busy);
-          knows = λ j u e. ⊎_elim (λ t. subst (λ (z : View L D). Knows new after R.seat_of R.keeper out j z) t.1 (subst (λ (i : ℕ). Knows new after R.seat_of R.keeper out i w) (sym t.0) knows_w)) (λ t. knows_others j u t.0 t.1) (at_set s.views id j w u e);
+          knows = λ j u e. ⊎_elim (λ t. subst (λ (z : View L D). Knows about new after R.seat_of R.keeper out j z) t.1
+              (subst (λ (i : ℕ). Knows about new after R.seat_of R.keeper out i w) (sym t.0) knows_w))
+              (λ t. knows_others j u t.0 t.1) (at_set s.views id j w u e);
         }
 
     -- what the step tells
     pub steps : (carried : List (ℕ × Slot L D)) (held : Option (Slot L D)) (stored : Option (Keeping D)) (after_carried : List (ℕ × Slot L D)) → ((k : ℕ) → hand b ≡ Some k → held ≡ Some (slot_content new k)) → ((d : Keeping D) → stored ≡ Some d → ◌≡◌ {A = store.Part D} d.part new.store)
-        → Stepped log_seen data_seen x r held stored after_carried (v, carried) (record { pages = v.pages; seats = behind x r ∷ []; held = held; data_part = stored }, after_carried)
+        → Stepped log_seen data_seen x r held stored after_carried (v, carried)
+        (view_behind v x r held stored, after_carried)
     steps carried held stored after_carried own data_is = record {
       fits = answer_fits log_seen data_seen R.run R.parts new a (next a) r refl played (serves log_seen data_seen R.run R.parts R.actors R.runs x.number a there);
       shown = shown;

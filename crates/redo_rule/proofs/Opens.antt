@@ -77,8 +77,9 @@ module _ {L D : Type 0} (log_seen : L → Seen) (log_gives : L → Call → L �
   abbrev there_one : (i : ℕ) (x : Numbered) → get_elem? (first_view about).seats i ≡ maybe.some x → get_elem? start.actors.items x.number ≡ maybe.some x.actor
   there_one i x e = there log_seen data_seen about start B actors i x e
 
-  knows_first : Knows start.parts start.actors.items (λ _. 0) 0 false 0 (first_view about)
+  knows_first : Knows about start.parts start.actors.items (λ _. 0) 0 false 0 (first_view about)
   knows_first = record {
+    told = λ i x e. refl;
     pages = λ i x e. ap (λ (z : Shape). z.pages) (sym B.is_run.shape) ∙ B.runs.its_pages ∙ sym B.runs.word_pages;
     mine = λ i x e. (refl, there_one i x e);
     free = λ i x e _. fresh_one x.number x.actor (there_one i x e);
@@ -86,8 +87,10 @@ module _ {L D : Type 0} (log_seen : L → Seen) (log_gives : L → Call → L �
     data_part = λ d e. (refl, sym (ap (λ (o : Option (Keeping D)). part_or about.opened.value.store o) e) ∙ sym B.data_part, ap (λ (o : Option (Keeping D)). is_out o) e);
   }
 
-  one_view : (j : ℕ) (u : View L D) → get_elem? (first_view about ∷ []) j ≡ maybe.some u → Knows start.parts start.actors.items (λ _. 0) 0 false j u
-  one_view zero u e = subst (λ (z : View L D). Knows start.parts start.actors.items (λ _. 0) 0 false 0 z) (maybe.some-injective (first_view about) u e) knows_first
+  one_view : (j : ℕ) (u : View L D) → get_elem? (first_view about ∷ []) j ≡ maybe.some u
+      → Knows about start.parts start.actors.items (λ _. 0) 0 false j u
+  one_view zero u e = subst (λ (z : View L D). Knows about start.parts start.actors.items (λ _. 0) 0 false 0 z)
+      (maybe.some-injective (first_view about) u e) knows_first
   one_view (suc j) u e = absurd (maybe.some-ne-none u (sym e))
 
   -- no turn word is held

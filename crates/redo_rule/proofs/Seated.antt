@@ -62,14 +62,16 @@ module _ {L D : Type 0} (log_seen : L → Seen) (log_gives : L → Call → L �
       let old_seat : (n : ℕ) → n ≢ x.number → seat_of n ≡ R.seat_of n = λ n ne. ap (λ (t : Bool). cond t fresh (R.seat_of n)) (ne_eqb n x.number ne) in
       let first : get_elem? v.seats 0 ≡ maybe.some x = ap (λ (l : List Numbered). get_elem? l 0) seats in
       let in_right : (i : ℕ) (y : Numbered) → get_elem? (cut_right v).seats i ≡ maybe.some y → ◌≡◌ {A = Numbered} x y = λ i y e. only (cut_right v).seats x i y (ap first_numbered seats) e in
-      let left : Knows R.parts R.actors seat_of keeper R.out id (cut_left v) = record {
+      let left : Knows about R.parts R.actors seat_of keeper R.out id (cut_left v) = record {
+        told = λ i y e. K.told 0 x first;
         pages = λ i y e. K.pages (suc i) y (in_left i y e);
         mine = λ i y e. let far : y.number ≢ x.number = apart i y (sym (ap (λ (l : List Numbered). get_elem? (rest_numbered l) i) seats) ∙ e) in (old_seat y.number far ∙ (K.mine (suc i) y (in_left i y e)).0, (K.mine (suc i) y (in_left i y e)).1);
         free = λ i y e. K.free (suc i) y (in_left i y e);
         held = λ i y k e h. K.held (suc i) y k (in_left i y e) h;
         data_part = λ d e. let t = part_left b v.data_part d e in let m = K.data_part d t.1 in (ap (λ (z : Bool). cond z (cond (R.keeper == id) fresh R.keeper) R.keeper) t.0 ∙ m.0, m.1, m.2);
       } in
-      let right : Knows R.parts R.actors seat_of keeper R.out fresh (cut_right v) = record {
+      let right : Knows about R.parts R.actors seat_of keeper R.out fresh (cut_right v) = record {
+        told = λ i y e. K.told 0 x first;
         pages = λ i y e. K.pages 0 x first;
         mine = λ i y e. subst (λ (z : Numbered). (seat_of z.number ≡ fresh) × (get_elem? R.actors z.number ≡ maybe.some z.actor)) (in_right i y e) (ap (λ (t : Bool). cond t fresh (R.seat_of x.number)) (eq-eqb x.number x.number refl), (K.mine 0 x first).1);
         free = λ i y e. subst (λ (z : Numbered). IsFreeToCheck (view_of z.actor)) (in_right i y e) (K.free 0 x first);
@@ -77,7 +79,9 @@ module _ {L D : Type 0} (log_seen : L → Seen) (log_gives : L → Call → L �
         data_part = λ d e. let t = part_right b v.data_part d e in let m = K.data_part d t.1 in
             (ap (λ (z : Bool). cond z (cond (R.keeper == id) fresh R.keeper) R.keeper) t.0 ∙ ap (λ (z : Bool). cond z fresh R.keeper) (eq-eqb R.keeper id m.0), m.1, m.2);
       } in
-      let others : (j : ℕ) (u : View L D) → j ≢ id → get_elem? s.views j ≡ maybe.some u → Knows R.parts R.actors seat_of keeper R.out j u = λ j u ne e. let N = R.knows j u e in record {
+      let others : (j : ℕ) (u : View L D) → j ≢ id → get_elem? s.views j ≡ maybe.some u
+      → Knows about R.parts R.actors seat_of keeper R.out j u = λ j u ne e. let N = R.knows j u e in record {
+        told = N.told;
         pages = N.pages;
         mine = λ i y f. (old_seat y.number (λ z. ne (sym (N.mine i y f).0 ∙ ap R.seat_of z ∙ (K.mine 0 x first).0)) ∙ (N.mine i y f).0, (N.mine i y f).1);
         free = N.free;
@@ -105,8 +109,12 @@ module _ {L D : Type 0} (log_seen : L → Seen) (log_gives : L → Call → L �
         told = R.told;
         taken = R.taken;
         knows = λ j u e. ⊎_elim
-            (λ t. ⊎_elim (λ q. subst (λ (z : View L D). Knows R.parts R.actors seat_of keeper R.out j z) q.1 (subst (λ (i : ℕ). Knows R.parts R.actors seat_of keeper R.out i (cut_left v)) (sym q.0) left)) (λ q. others j u q.0 q.1) (at_set s.views id j (cut_left v) u t.1))
-            (λ t. subst (λ (z : View L D). Knows R.parts R.actors seat_of keeper R.out j z) t.1 (subst (λ (i : ℕ). Knows R.parts R.actors seat_of keeper R.out i (cut_right v)) (sym (t.0 ∙ length-set s.views id (cut_left v))) right))
+            (λ t. ⊎_elim (λ q. subst (λ (z : View L D). Knows about R.parts R.actors seat_of keeper R.out j z) q.1
+            (subst (λ (i : ℕ). Knows about R.parts R.actors seat_of keeper R.out i (cut_left v)) (sym q.0) left))
+            (λ q. others j u q.0 q.1) (at_set s.views id j (cut_left v) u t.1))
+            (λ t. subst (λ (z : View L D). Knows about R.parts R.actors seat_of keeper R.out j z) t.1
+            (subst (λ (i : ℕ). Knows about R.parts R.actors seat_of keeper R.out i (cut_right v))
+            (sym (t.0 ∙ length-set s.views id (cut_left v))) right))
             (at_end (slice_set s.views id (cut_left v)) (cut_right v) u j e);
       }
     where
@@ -118,8 +126,10 @@ module _ {L D : Type 0} (log_seen : L → Seen) (log_gives : L → Call → L �
   first_is (Some x) p d e = inl e
   first_is None p d e = inr e
 
-  pub joins_ok : (id other : ℕ) (v w : View L D) → v.pages ≡ w.pages → AreAtRest v.seats → AreAtRest w.seats → Joins Law id v other w (taken_in v w) spent
-  joins_ok id other v w same_pages free_v free_w s R at ne at' =
+  pub joins_ok : (id other : ℕ) (v w : View L D) → v.pages ≡ w.pages
+      → (x : Numbered) × (get_elem? w.seats 0 ≡ maybe.some x) → AreAtRest v.seats → AreAtRest w.seats
+      → Joins Law id v other w (taken_in v w) spent
+  joins_ok id other v w same_pages some free_v free_w s R at ne at' =
       let both : View L D = taken_in v w in
       let there : get_elem? s.views other ≡ maybe.some w = ⊎_elim (λ t. absurd (ne t.0)) (λ t. t.1) (at_set s.views id other both w at') in
       let K = R.knows id v at in
@@ -128,7 +138,8 @@ module _ {L D : Type 0} (log_seen : L → Seen) (log_gives : L → Call → L �
       let keeper : ℕ = cond (R.keeper == other) id R.keeper in
       let moved : (n : ℕ) → n ≡ other → cond (n == other) id n ≡ id = λ n e. ap (λ (t : Bool). cond t id n) (eq-eqb n other e) in
       let stays : (n : ℕ) → n ≢ other → cond (n == other) id n ≡ n = λ n far. ap (λ (t : Bool). cond t id n) (ne_eqb n other far) in
-      let here : Knows R.parts R.actors seat_of keeper R.out id both = record {
+      let here : Knows about R.parts R.actors seat_of keeper R.out id both = record {
+        told = λ i y e. N.told 0 some.0 some.1;
         pages = λ i y e. ⊎_elim (λ t. same_pages ∙ N.pages t.0 y t.1) (λ t. K.pages t.0 y t.1) (in_both w.seats v.seats i y e);
         mine = λ i y e. ⊎_elim
             (λ t. let m = N.mine t.0 y t.1 in (moved (R.seat_of y.number) m.0, m.1))
@@ -139,14 +150,17 @@ module _ {L D : Type 0} (log_seen : L → Seen) (log_gives : L → Call → L �
             (λ t. let m = K.data_part d t in (stays R.keeper (λ z. ne (sym z ∙ m.0)) ∙ m.0, m.1, m.2))
             (λ t. let m = N.data_part d t in (moved R.keeper m.0, m.1, m.2)) (first_is v.data_part w.data_part d e);
       } in
-      let gone : Knows R.parts R.actors seat_of keeper R.out other spent = record {
+      let gone : Knows about R.parts R.actors seat_of keeper R.out other spent = record {
+        told = λ i y e. absurd (maybe.some-ne-none y (sym e));
         pages = λ i y e. absurd (maybe.some-ne-none y (sym e));
         mine = λ i y e. absurd (maybe.some-ne-none y (sym e));
         free = λ i y e. absurd (maybe.some-ne-none y (sym e));
         held = λ i y k e h. absurd (maybe.some-ne-none y (sym e));
         data_part = λ d e. absurd (cc);
       } in
-      let others : (j : ℕ) (u : View L D) → j ≢ other → get_elem? s.views j ≡ maybe.some u → Knows R.parts R.actors seat_of keeper R.out j u = λ j u far e. let M = R.knows j u e in record {
+      let others : (j : ℕ) (u : View L D) → j ≢ other → get_elem? s.views j ≡ maybe.some u
+      → Knows about R.parts R.actors seat_of keeper R.out j u = λ j u far e. let M = R.knows j u e in record {
+        told = M.told;
         pages = M.pages;
         mine = λ i y f. let m = M.mine i y f in (stays (R.seat_of y.number) (λ z. far (sym m.0 ∙ z)) ∙ m.0, m.1);
         free = M.free;
@@ -174,7 +188,10 @@ module _ {L D : Type 0} (log_seen : L → Seen) (log_gives : L → Call → L �
         told = R.told;
         taken = R.taken;
         knows = λ j u e. ⊎_elim
-            (λ t. subst (λ (z : View L D). Knows R.parts R.actors seat_of keeper R.out j z) t.1 (subst (λ (i : ℕ). Knows R.parts R.actors seat_of keeper R.out i spent) (sym t.0) gone))
-            (λ t. ⊎_elim (λ q. subst (λ (z : View L D). Knows R.parts R.actors seat_of keeper R.out j z) q.1 (subst (λ (i : ℕ). Knows R.parts R.actors seat_of keeper R.out i both) (sym q.0) here)) (λ q. others j u t.0 q.1) (at_set s.views id j both u t.1))
+            (λ t. subst (λ (z : View L D). Knows about R.parts R.actors seat_of keeper R.out j z) t.1
+            (subst (λ (i : ℕ). Knows about R.parts R.actors seat_of keeper R.out i spent) (sym t.0) gone))
+            (λ t. ⊎_elim (λ q. subst (λ (z : View L D). Knows about R.parts R.actors seat_of keeper R.out j z) q.1
+            (subst (λ (i : ℕ). Knows about R.parts R.actors seat_of keeper R.out i both) (sym q.0) here))
+            (λ q. others j u t.0 q.1) (at_set s.views id j both u t.1))
             (at_set (slice_set s.views id both) other j spent u e);
       }

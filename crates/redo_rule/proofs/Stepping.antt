@@ -27,7 +27,7 @@ use Rattle.model_core.specs.Hands.{hand, IsFreeToCheck}
 use Rattle.redo_rule.specs.Ruled.{Ruled}
 use Rattle.redo_rule.specs.declared.law.About.{About}
 use Rattle.redo_rule.specs.Mine.{HasPlayed, KeepsSeat, Mine, number_in, number_of}
-use Rattle.redo_rule.specs.Plays.{behind, Carries, gave, list_behind, list_said, ListFits, MayGo, saw, seized, seized_list, Shown, Stepped, TakesList, taking}
+use Rattle.redo_rule.specs.Plays.{behind, Carries, gave, list_behind, list_said, ListFits, MayGo, saw, seized, seized_list, Shown, Stepped, TakesList, taking, view_behind}
 use Rattle.redo_rule.specs.declared.law.Keeping.{Keeping}
 use Rattle.redo_rule.specs.declared.law.Slot.{Slot}
 use Rattle.redo_rule.specs.declared.law.Slot.TheVariants as slot
@@ -73,9 +73,17 @@ module _ {L D : Type 0} (table : TableId) (seat : Seat (Slot L D) (View L D)) (a
   listed o e log_seen data_seen k m' t = subst (λ (p : Op). (l : Listing) × ListFits p l × Stepped log_seen data_seen mine.who (answer.Taken (list_said p l)) (Some (slot.Pages (list_behind p l))) seat.me.0.data_part ((k, slot.Pages l) ∷ seat.me.1) seat.me m') (asks o e) t
 
   -- a step on a word leaves what is carried
-  pub word_carries : (o : Op) → next a ≡ o → OnWord o → (n : ℕ) → Carries (hand (took a (answer.Old n))) (record { pages = seat.me.0.pages; seats = behind mine.who (answer.Old n) ∷ []; held = seat.me.0.held; data_part = seat.me.0.data_part }, seat.me.1)
-  word_carries o e on n = subst (λ (h : Option ℕ). Carries h (record { pages = seat.me.0.pages; seats = behind mine.who (answer.Old n) ∷ []; held = seat.me.0.held; data_part = seat.me.0.data_part }, seat.me.1))
-      (sym (word_hand o on (hand a) (λ r. hand (took a r)) (goes o e) n)) (carries_same (hand a) seat.me (record { pages = seat.me.0.pages; seats = behind mine.who (answer.Old n) ∷ []; held = seat.me.0.held; data_part = seat.me.0.data_part }, seat.me.1) refl refl mine.carries)
+  pub word_carries : (o : Op) → next a ≡ o → OnWord o → (n : ℕ)
+      → Carries (hand (took a (answer.Old n)))
+      (view_behind seat.me.0 mine.who (answer.Old n) seat.me.0.held seat.me.0.data_part, seat.me.1)
+  word_carries o e on n = subst (λ (h : Option ℕ). Carries h
+      (view_behind seat.me.0 mine.who (answer.Old n) seat.me.0.held seat.me.0.data_part, seat.me.1))
+      (sym (word_hand o on (hand a) (λ r. hand (took a r)) (goes o e) n))
+      (carries_same (hand a) seat.me (
+        view_behind seat.me.0 mine.who
+            (answer.Old n) seat.me.0.held seat.me.0.data_part,
+        seat.me.1,
+      ) refl refl mine.carries)
 
   -- the slot that it carries
   pub carried_log : (o : Op) → next a ≡ o → hand a ≡ Some 0 → Carries (Some 0) seat.me
@@ -88,18 +96,33 @@ module _ {L D : Type 0} (table : TableId) (seat : Seat (Slot L D) (View L D)) (a
   log_is h y e = let c = carried_log (next a) refl h in sym (ap (λ (z : List (ℕ × Slot L D)). (get_or z 0 (0, y)).1) e) ∙ ap (λ (z : List (ℕ × Slot L D)). (get_or z 0 (0, y)).1) c.1
 
   -- nothing is carried after a giving
-  pub gave_carries : (o : Op) (k : ℕ) (y : Slot L D) → hand (took a (answer.Taken None)) ≡ None → seat.me.1 ≡ (k, y) ∷ [] → Carries (hand (took a (answer.Taken None))) (record { pages = seat.me.0.pages; seats = behind mine.who (answer.Taken None) ∷ []; held = None; data_part = seat.me.0.data_part }, rest seat.me.1)
-  gave_carries o k y none carried = subst (λ (z : Option ℕ). Carries z (record { pages = seat.me.0.pages; seats = behind mine.who (answer.Taken None) ∷ []; held = None; data_part = seat.me.0.data_part }, rest seat.me.1)) (sym none) (ap rest carried)
+  pub gave_carries : (o : Op) (k : ℕ) (y : Slot L D) → hand (took a (answer.Taken None)) ≡ None
+      → seat.me.1 ≡ (k, y) ∷ [] → Carries (hand (took a (answer.Taken None)))
+      (view_behind seat.me.0 mine.who (answer.Taken None) None seat.me.0.data_part, rest seat.me.1)
+  gave_carries o k y none carried = subst (λ (z : Option ℕ). Carries z
+      (view_behind seat.me.0 mine.who (answer.Taken None) None seat.me.0.data_part, rest seat.me.1)) (sym none)
+      (ap rest carried)
 
-  pub gave_device_carries : next a ≡ op.GiveDevice → Carries (hand (took a (answer.Taken None))) (record { pages = seat.me.0.pages; seats = behind mine.who (answer.Taken None) ∷ []; held = None; data_part = seat.me.0.data_part }, rest seat.me.1)
+  pub gave_device_carries : next a ≡ op.GiveDevice
+      → Carries (hand (took a (answer.Taken None)))
+      (view_behind seat.me.0 mine.who (answer.Taken None) None seat.me.0.data_part, rest seat.me.1)
   gave_device_carries is = let h = goes op.GiveDevice is in let c = carried_log op.GiveDevice is h.0 in gave_carries op.GiveDevice 0 (slot.Log c.0) h.1 c.1
 
-  pub gave_list_carries : (i : ℕ) → next a ≡ op.GiveList i → Carries (hand (took a (answer.Taken None))) (record { pages = seat.me.0.pages; seats = behind mine.who (answer.Taken None) ∷ []; held = None; data_part = seat.me.0.data_part }, rest seat.me.1)
+  pub gave_list_carries : (i : ℕ) → next a ≡ op.GiveList i
+      → Carries (hand (took a (answer.Taken None)))
+      (view_behind seat.me.0 mine.who (answer.Taken None) None seat.me.0.data_part, rest seat.me.1)
   gave_list_carries i is = let h = goes (op.GiveList i) is in let c : Carries (Some (suc i)) seat.me = subst (λ (z : Option ℕ). Carries z seat.me) h.0 mine.carries in gave_carries (op.GiveList i) (suc i) (slot.Pages c.0) h.1 c.1
 
   -- nor where a turn word was held
-  pub held_carries : hand a ≡ None → hand (took a answer.Held) ≡ None → Carries (hand (took a answer.Held)) (record { pages = seat.me.0.pages; seats = behind mine.who answer.Held ∷ []; held = seat.me.0.held; data_part = seat.me.0.data_part }, seat.me.1)
-  held_carries before after = subst (λ (z : Option ℕ). Carries z (record { pages = seat.me.0.pages; seats = behind mine.who answer.Held ∷ []; held = seat.me.0.held; data_part = seat.me.0.data_part }, seat.me.1)) (sym after) (subst (λ (z : Option ℕ). Carries z seat.me) before mine.carries)
+  pub held_carries : hand a ≡ None → hand (took a answer.Held) ≡ None
+      → Carries (hand (took a answer.Held)) (
+        view_behind seat.me.0 mine.who answer.Held seat.me.0.held
+            seat.me.0.data_part,
+        seat.me.1,
+      )
+  held_carries before after = subst (λ (z : Option ℕ). Carries z
+      (view_behind seat.me.0 mine.who answer.Held seat.me.0.held seat.me.0.data_part, seat.me.1)) (sym after)
+      (subst (λ (z : Option ℕ). Carries z seat.me) before mine.carries)
 
   module _ (log_seen : L → Seen) (log_gives : L → Call → L → Type 0) (data_seen : D → Seen) (data_gives : D → Call → D → Type 0) (about : About L D) where
     abbrev pub Asks : ℕ → (ℕ → ℕ) → (ℕ → Me (Slot L D) (View L D) → Type 0) → Type 0
@@ -169,7 +192,7 @@ module _ {L D : Type 0} (table : TableId) (seat : Seat (Slot L D) (View L D)) (a
   module _ (log_seen : L → Seen) (data_seen : D → Seen) (after : Seat (Slot L D) (View L D)) (r : Answer) (held : Option (Slot L D)) (stored : Option (Keeping D)) (carried : List (ℕ × Slot L D)) (b : model.Actor) (same : after.table_id ≡ seat.table_id)
       (stepped : Stepped log_seen data_seen mine.who r held stored carried seat.me after.me) (is : b ≡ took a r) where
     abbrev me' : Me (Slot L D) (View L D)
-    me' = (record { pages = seat.me.0.pages; seats = behind mine.who r ∷ []; held = held; data_part = stored }, carried)
+    me' = (view_behind seat.me.0 mine.who r held stored, carried)
 
     -- it is its actor's seat
     pub stays_mine : Carries (hand (took a r)) me' → Mine table after b
@@ -186,9 +209,23 @@ module _ {L D : Type 0} (table : TableId) (seat : Seat (Slot L D) (View L D)) (a
     }
 
     -- and the actor has had a turn
-    pub has_played : (step : Step) → step ≡ step_of a r → HasPlayed log_seen data_seen a step b
-    has_played step ends = record { answer = r; number = mine.who.number; shown = subst (λ (z : model.Actor). Shown log_seen data_seen mine.who.number z r) mine.state stepped.shown; is = is; ends = ends }
+    pub has_played : (step : Step) → step ≡ step_of a r → HasPlayed log_seen data_seen seat.me.0.about a step b
+    has_played step ends = record {
+      answer = r;
+      number = mine.who.number;
+      shown =
+          subst (λ (z : model.Actor). Shown log_seen data_seen seat.me.0.about mine.who.number z r) mine.state
+          stepped.shown;
+      is = is;
+      ends = ends;
+    }
 
     -- the view keeps the data part
     pub keeps_part : stored ≡ seat.me.0.data_part → KeepsSeat seat.me.0 after.me.0
-    keeps_part e = record { number = ap (λ (m : Me (Slot L D) (View L D)). number_of m.0) stepped.is ∙ sym (ap number_in mine.one); data_part = ap (λ (m : Me (Slot L D) (View L D)). m.0.data_part) stepped.is ∙ e }
+    keeps_part e = record {
+      about = ap (λ (m : Me (Slot L D) (View L D)). m.0.about) stepped.is;
+      number =
+          ap (λ (m : Me (Slot L D) (View L D)). number_of m.0) stepped.is ∙ sym (ap number_in mine.one);
+      data_part =
+          ap (λ (m : Me (Slot L D) (View L D)). m.0.data_part) stepped.is ∙ e;
+    }

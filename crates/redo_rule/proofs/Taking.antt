@@ -55,8 +55,23 @@ module _ {L D : Type 0} (table : TableId) (seat : Seat (Slot L D) (View L D)) (a
             (subst (λ (y : model.Actor). MayGo seat.me.0.pages (Some z) seat.me.0.data_part y) (ap (λ (y : model.Actor). took y r) mine.state ∙ sym b_is) stepped.may);
       }
 
-  pub taken_played : (b : model.Actor) → b ≡ took a r → (step : Step) → step ≡ step_of a r → HasPlayed log_seen data_seen a step b
-  taken_played b b_is step ends = record { answer = r; number = mine.who.number; shown = subst (λ (y : model.Actor). Shown log_seen data_seen mine.who.number y r) mine.state stepped.shown; is = b_is; ends = ends }
+  pub taken_played : (b : model.Actor) → b ≡ took a r → (step : Step) → step ≡ step_of a r
+      → HasPlayed log_seen data_seen seat.me.0.about a step b
+  taken_played b b_is step ends = record {
+    answer = r;
+    number = mine.who.number;
+    shown =
+        subst (λ (y : model.Actor). Shown log_seen data_seen seat.me.0.about mine.who.number y r) mine.state
+        stepped.shown;
+    is = b_is;
+    ends = ends;
+  }
 
   pub taken_part : KeepsSeat seat.me.0 after.me.0
-  taken_part = record { number = ap (λ (m : Me (Slot L D) (View L D)). number_of m.0) stepped.is ∙ sym (ap number_in mine.one); data_part = ap (λ (m : Me (Slot L D) (View L D)). m.0.data_part) stepped.is }
+  taken_part = record {
+    about = ap (λ (m : Me (Slot L D) (View L D)). m.0.about) stepped.is;
+    number =
+        ap (λ (m : Me (Slot L D) (View L D)). number_of m.0) stepped.is ∙ sym (ap number_in mine.one);
+    data_part =
+        ap (λ (m : Me (Slot L D) (View L D)). m.0.data_part) stepped.is;
+  }

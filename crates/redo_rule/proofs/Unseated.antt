@@ -1,5 +1,5 @@
 -- A store that is shared as its run begins: no actor has a seat, and the first seat knows them all.
-use Rattle.std.proofs.Common.{Bool, List, Option, [], ap, length, refl, subst, sym, true, ℕ, ◌∙◌, ◌≡◌, ◌≤◌}
+use Rattle.std.proofs.Common.{Bool, List, Option, Some, [], ap, length, refl, subst, sym, true, ℕ, ◌∙◌, ◌≡◌, ◌≤◌}
 use Rattle.std.specs.Prelude.{IfSome, IsSome, vec_capacity}
 use lib.ListN.{get_elem?}
 use mathlib.Core.Option as maybe
@@ -85,6 +85,7 @@ module _ {L D : Type 0} (log_seen : L → Seen) (data_seen : D → Seen) (about 
       one_cleaner = λ i j a b at bt is jt. starts i a at is ∙ sym (starts j b bt jt);
       no_cleaner = λ alone i a at is. none_there B.run.setup start.actors.items B.runs.seated (B.is_run.log_only_is ∙ sym (ap (λ (z : About L D). z.log_only) key) ∙ alone) i a at is;
       first = first_is;
+      told = ap (λ (v : View L D). v.about) view ∙ ap Some (sym key);
       all = known;
       part = (about.opened.value.store, ap (λ (v : View L D). v.data_part) view);
       has_room = has_room;

@@ -1,10 +1,11 @@
 -- Why an answer of `play` came.
-use Rattle.std.specs.Prelude.{false, length, true, ℕ, ◌≡◌, ◌⊎◌}
+use Rattle.std.specs.Prelude.{Option, false, length, true, ℕ, ◌↔◌, ◌≡◌, ◌⊎◌}
 use Rattle.model_core.specs.{is_checking, next}
 use Rattle.model_core.specs.Actors as model
 use Rattle.model_core.specs.Waiting.{ending, waits}
 use Rattle.model_core.specs.declared.ops.Answer.{Answer}
 use Rattle.model_core.specs.declared.ops.Op.TheVariants as op
+use Rattle.model_core.specs.declared.ops.Step.{Step}
 use Rattle.model_core.specs.declared.ops.Step.TheVariants as step
 use Rattle.model_core.specs.declared.steps.UserStep.TheVariants as user_step
 use Rattle.model_core.specs.declared.words.Word.TheVariants as word
@@ -13,6 +14,7 @@ use Rattle.redo_drive.specs.Turning.{code_in}
 use Rattle.model_core.specs.Hands.{GivesFailed, StoresFailed}
 use Rattle.redo_rule.specs.Failing.{CodeHasCause}
 use Rattle.redo_rule.specs.Plays.{Shown}
+use Rattle.redo_rule.specs.declared.law.About.{About}
 
 -- it is a user that has ended: the commit of its last line is answered
 abbrev pub IsFinishedUser : model.Actor → Type 0
@@ -23,12 +25,12 @@ IsFinishedUser _ = ⊥
 abbrev pub HasEndedBy : model.Actor → ℕ → Type 0
 HasEndedBy a code = (next a ≡ op.Rest) × (ending a ≡ step.Failed code)
 
-module _ {L D : Type 0} (log_seen : L → Seen) (data_seen : D → Seen) where
+module _ {L D : Type 0} (log_seen : L → Seen) (data_seen : D → Seen) (told : Option (About L D)) where
   -- at that moment the condition of its step didn't hold yet
   pub record HasWaited (a : model.Actor) : Type 0 where
     pub number : ℕ
     pub answer : Answer
-    pub shown : Shown log_seen data_seen number a answer
+    pub shown : Shown log_seen data_seen told number a answer
     pub goes_on : is_checking a ≡ false
     pub waits : waits a answer ≡ true
 
@@ -38,6 +40,13 @@ module _ {L D : Type 0} (log_seen : L → Seen) (data_seen : D → Seen) where
   pub record HasFailureCode (a : model.Actor) (code : ℕ) : Type 0 where
     pub number : ℕ
     pub answer : Answer
-    pub shown : Shown log_seen data_seen number a answer
+    pub shown : Shown log_seen data_seen told number a answer
     pub way : ((next a ≡ op.Load word.Failed) × (code ≡ code_in shown.old)) ⊎ (GivesFailed a code ⊎ StoresFailed a code)
     pub cause : CodeHasCause log_seen data_seen code shown.run.first_log shown.old.log shown.run.first_data shown.old.store
+
+  -- WHY A STEP ENDED SO: idle where its condition didn't hold yet, ended just where it ends a user, failed with a code
+  -- that tells how. The actor was the one and is the other.
+  pub record EndsSo (a : model.Actor) (ends : Step) (b : model.Actor) : Type 0 where
+    pub idle : ends ≡ step.Idle → HasWaited a
+    pub ended : (ends ≡ step.Ended) ↔ IsFinishedUser b
+    pub failed : (code : ℕ) → ends ≡ step.Failed code → HasEndedBy a code ⊎ HasFailureCode a code

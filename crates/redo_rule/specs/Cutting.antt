@@ -54,5 +54,6 @@ module _ {L D : Type 0} where
     pub of : other.table_id ≡ table
     pub pages : first.me.0.pages ≡ other.me.0.pages
     pub none : other.me.1 ≡ []
+    pub some : (x : Numbered) × (get_elem? other.me.0.seats 0 ≡ some x)
     pub rest : AreAtRest other.me.0.seats
     pub home : IsHome other.me.0

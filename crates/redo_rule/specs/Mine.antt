@@ -1,5 +1,5 @@
 -- A seat of this table, whose view is the actor's state.
-use Rattle.std.specs.Prelude.{List, [], ℕ, ◌∷◌, ◌≡◌, ◌⊎◌}
+use Rattle.std.specs.Prelude.{List, Option, [], ℕ, ◌∷◌, ◌≡◌, ◌⊎◌}
 use Rattle.atomic_table.specs.Seated.{TableId}
 use Rattle.atomic_table.specs.declared.shared.Seat.{Seat}
 use Rattle.model_core.specs.Actors as model
@@ -12,6 +12,7 @@ use Rattle.redo_disk.specs.Seen.{Seen}
 use Rattle.redo_drive.specs.Views.{view_of}
 use Rattle.model_core.specs.Hands.{hand}
 use Rattle.redo_rule.specs.Plays.{Carries, MayGo, Shown}
+use Rattle.redo_rule.specs.declared.law.About.{About}
 use Rattle.redo_rule.specs.declared.law.Numbered.{Numbered}
 use Rattle.redo_rule.specs.declared.law.Slot.{Slot}
 use Rattle.redo_rule.specs.declared.law.View.{View}
@@ -24,8 +25,9 @@ number_in (x ∷ xs) = x.number
 abbrev pub number_of : {L D : Type 0} → View L D → ℕ
 number_of v = number_in v.seats
 
--- a seat keeps its number, and what it knows of the data part
+-- a seat keeps its number, and what it knows of its table and of the data part
 pub record KeepsSeat {L D : Type 0} (v w : View L D) : Type 0 where
+  pub about : w.about ≡ v.about
   pub number : number_of w ≡ number_of v
   pub data_part : w.data_part ≡ v.data_part
 
@@ -40,14 +42,18 @@ pub record Mine {L D : Type 0} (table : TableId) (seat : Seat (Slot L D) (View L
   pub carries : Carries (hand a) seat.me
   pub may : MayGo seat.me.0.pages seat.me.0.held seat.me.0.data_part a
 
--- the actor has had a turn of the definition, with some answer, and its step ended so
-pub record HasPlayed {L D : Type 0} (log_seen : L → Seen) (data_seen : D → Seen) (a : model.Actor) (step : Step) (b : model.Actor) : Type 0 where
+-- the actor has had a turn of the definition, with some answer, in the run that its table is about, as its seat was
+-- told; and its step ended so
+pub record HasPlayed {L D : Type 0} (log_seen : L → Seen) (data_seen : D → Seen) (told : Option (About L D))
+    (a : model.Actor) (step : Step) (b : model.Actor) : Type 0 where
   pub answer : Answer
   pub number : ℕ
-  pub shown : Shown log_seen data_seen number a answer
+  pub shown : Shown log_seen data_seen told number a answer
   pub is : b ≡ took a answer
   pub ends : step ≡ step_of a answer
 
 -- an actor that has ended rests; any other has had its turn
-abbrev pub HasGone : {L D : Type 0} (log_seen : L → Seen) (data_seen : D → Seen) (a : model.Actor) (step : Step) (b : model.Actor) → Type 0
-HasGone log_seen data_seen a step b = ((next a ≡ op.Rest) × (b ≡ a) × (step ≡ step_of a answer.Rested)) ⊎ HasPlayed log_seen data_seen a step b
+abbrev pub HasGone : {L D : Type 0} (log_seen : L → Seen) (data_seen : D → Seen) (told : Option (About L D))
+    (a : model.Actor) (step : Step) (b : model.Actor) → Type 0
+HasGone log_seen data_seen told a step b = ((next a ≡ op.Rest) × (b ≡ a) × (step ≡ step_of a answer.Rested))
+    ⊎ HasPlayed log_seen data_seen told a step b

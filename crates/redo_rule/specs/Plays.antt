@@ -27,6 +27,8 @@ use Rattle.redo_drive.specs.declared.actor.Actor.{Actor}
 use Rattle.redo_drive.specs.declared.device.Device.TheVariants.{Data, Log}
 use Rattle.redo_drive.specs.declared.parts.Parts.{Parts}
 use Rattle.model_core.specs.Hands.{GivesFailed, hand, IsFreeToCheck}
+use Rattle.redo_rule.specs.Ruled.{IsRunAbout}
+use Rattle.redo_rule.specs.declared.law.About.{About}
 use Rattle.redo_rule.specs.declared.law.Keeping.{Keeping}
 use Rattle.redo_rule.specs.declared.law.Numbered.{Numbered}
 use Rattle.redo_rule.specs.declared.law.Slot.{Slot}
@@ -71,6 +73,25 @@ ListFits (op.TakeRemove p) l = 0 < oldest_of p (map listed_of l.entries)
 ListFits _ l = Unit {0}
 
 module _ {L D : Type 0} where
+  -- what a seat knows once its actor took an answer, and once the data part is taken out of its slot
+  abbrev pub view_behind : View L D → Numbered → Answer → Option (Slot L D) → Option (Keeping D) → View L D
+  view_behind v x r held stored = record {
+    about = v.about;
+    pages = v.pages;
+    seats = behind x r ∷ [];
+    held = held;
+    data_part = stored;
+  }
+
+  abbrev pub view_reaching : View L D → store.Part D → View L D
+  view_reaching v d = record {
+    about = v.about;
+    pages = v.pages;
+    seats = v.seats;
+    held = v.held;
+    data_part = Some (record { part = d; out = true });
+  }
+
   -- what an actor may do next, with what its seat has
   pub record MayGo (pages : ℕ) (held : Option (Slot L D)) (stored : Option (Keeping D)) (a : model.Actor) : Type 0 where
     pub there : OpWords pages (next a)
@@ -91,12 +112,16 @@ module _ {L D : Type 0} where
   -- the data part is taken out of its slot, and nothing else changes
   abbrev pub reached : Me (Slot L D) (View L D) → ℕ → Me (Slot L D) (View L D) → Type 0
   reached m n m' = (d : store.Part D) → m.0.data_part ≡ Some (record { part = d; out = false })
-      → m' ≡ (record { pages = m.0.pages; seats = m.0.seats; held = m.0.held; data_part = Some (record { part = d; out = true }) }, (5, slot.Data d) ∷ m.1)
+      → m' ≡ (view_reaching m.0 d, (5, slot.Data d) ∷ m.1)
 
 module _ {L D : Type 0} (log_seen : L → Seen) (data_seen : D → Seen) where
-  -- THERE WAS A MOMENT at which the invariant held, and one turn of the definition was this actor's, with this answer
-  pub record Shown (number : ℕ) (a : model.Actor) (r : Answer) : Type 0 where
+  -- THERE WAS A MOMENT in the run that the table is about, as its seat was told, at which the invariant held, and one
+  -- turn of the definition was this actor's, with this answer
+  pub record Shown (told : Option (About L D)) (number : ℕ) (a : model.Actor) (r : Answer) : Type 0 where
+    pub about : About L D
+    pub about_is : told ≡ Some about
     pub run : RunOf L D
+    pub is_about : IsRunAbout log_seen data_seen about run
     pub old : Parts L D
     pub actors : List Actor
     pub runs : RunsOn log_seen data_seen run old actors
@@ -105,14 +130,14 @@ module _ {L D : Type 0} (log_seen : L → Seen) (data_seen : D → Seen) where
     pub runs_on : RunsOn log_seen data_seen run new after
     pub at : get_elem? (views_of actors) number ≡ some a
     -- where it gives the log part back after a failed call, its code is one that the part has
-    pub told : (code : ℕ) → GivesFailed a code → (run_log_side log_seen data_seen run).Cause old.log code
+    pub has_cause : (code : ℕ) → GivesFailed a code → (run_log_side log_seen data_seen run).Cause old.log code
     pub turn : Turn (run_log_side log_seen data_seen run) (run_data_side log_seen data_seen run) (core_of log_seen data_seen run old actors) number r (step_of a r) (core_of log_seen data_seen run new after)
 
   -- the seat's actor took an answer
   pub record Stepped (x : Numbered) (r : Answer) (held : Option (Slot L D)) (stored : Option (Keeping D)) (carried : List (ℕ × Slot L D)) (m m' : Me (Slot L D) (View L D)) : Type 0 where
     pub fits : AnswerFits (view_of x.actor) r
-    pub shown : Shown x.number (view_of x.actor) r
-    pub is : m' ≡ (record { pages = m.0.pages; seats = behind x r ∷ []; held = held; data_part = stored }, carried)
+    pub shown : Shown m.0.about x.number (view_of x.actor) r
+    pub is : m' ≡ (view_behind m.0 x r held stored, carried)
     pub may : MayGo m.0.pages held stored (took (view_of x.actor) r)
 
   -- a step on a word: the number found is the answer

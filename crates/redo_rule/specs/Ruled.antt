@@ -43,15 +43,18 @@ module _ {L D : Type 0} where
   -- the first seat has all actors and the data part
   abbrev pub first_view : About L D → View L D
   first_view about = record {
+    about = Some about;
     pages = about.opened.value.shape.pages;
     seats = numbered 0 about.actors.value.items;
     held = None;
     data_part = Some (record { part = about.opened.value.store; out = false });
   }
 
-  -- What a seat knows of a run with these parts and actors. `seat_of` gives the seat of an actor, `keeper` that of the data
-  -- part, and `out` tells whether that is out of its slot.
-  pub record Knows (parts : Parts L D) (actors : List Actor) (seat_of : ℕ → ℕ) (keeper : ℕ) (out : Bool) (id : ℕ) (v : View L D) : Type 0 where
+  -- What a seat knows of its table, and of a run with these parts and actors. `seat_of` gives the seat of an actor,
+  -- `keeper` that of the data part, and `out` tells whether that is out of its slot.
+  pub record Knows (about : About L D) (parts : Parts L D) (actors : List Actor) (seat_of : ℕ → ℕ) (keeper : ℕ)
+      (out : Bool) (id : ℕ) (v : View L D) : Type 0 where
+    pub told : (i : ℕ) (x : Numbered) → get_elem? v.seats i ≡ some x → v.about ≡ Some about
     pub pages : (i : ℕ) (x : Numbered) → get_elem? v.seats i ≡ some x → v.pages ≡ parts.words.pages
     pub mine : (i : ℕ) (x : Numbered) → get_elem? v.seats i ≡ some x → (seat_of x.number ≡ id) × (get_elem? actors x.number ≡ some x.actor)
     pub free : (i : ℕ) (x : Numbered) → get_elem? v.seats i ≡ some x → IsFreeToCheck (view_of x.actor)
@@ -91,4 +94,4 @@ pub record Ruled {L D : Type 0} (log_seen : L → Seen) (log_gives : L → Call 
   pub keeper : ℕ
   pub out : Bool
   pub data_home : out ≡ false → get_elem? s.homes 5 ≡ some (some (slot.Data parts.store))
-  pub knows : (id : ℕ) (v : View L D) → get_elem? s.views id ≡ some v → Knows parts actors seat_of keeper out id v
+  pub knows : (id : ℕ) (v : View L D) → get_elem? s.views id ≡ some v → Knows about parts actors seat_of keeper out id v

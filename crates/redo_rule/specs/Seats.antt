@@ -29,14 +29,35 @@ first_some None other = other
 module _ {L D : Type 0} where
   -- the first of its actors gets a seat of its own
   abbrev pub cut_left : View L D → View L D
-  cut_left v = record { pages = v.pages; seats = rest_numbered v.seats; held = v.held; data_part = cond (heads_cleaner v.seats) None v.data_part }
+  cut_left v = record {
+    about = v.about;
+    pages = v.pages;
+    seats = rest_numbered v.seats;
+    held = v.held;
+    data_part =
+        cond (heads_cleaner v.seats) None v.data_part;
+  }
 
   abbrev pub cut_right : View L D → View L D
-  cut_right v = record { pages = v.pages; seats = first_numbered v.seats; held = None; data_part = cond (heads_cleaner v.seats) v.data_part None }
+  cut_right v = record {
+    about = v.about;
+    pages = v.pages;
+    seats = first_numbered v.seats;
+    held = None;
+    data_part =
+        cond (heads_cleaner v.seats) v.data_part None;
+  }
 
   -- what the other has comes before
   abbrev pub taken_in : View L D → View L D → View L D
-  taken_in v w = record { pages = v.pages; seats = w.seats ++ v.seats; held = None; data_part = first_some v.data_part w.data_part }
+  taken_in v w = record {
+    about = w.about;
+    pages = v.pages;
+    seats = w.seats ++ v.seats;
+    held = None;
+    data_part =
+        first_some v.data_part w.data_part;
+  }
 
   abbrev pub spent : View L D
-  spent = record { pages = 0; seats = []; held = None; data_part = None }
+  spent = record { about = None; pages = 0; seats = []; held = None; data_part = None }

@@ -1,5 +1,5 @@
 -- A store that its actors share, as its run begins, and with all its seats given.
-use Rattle.std.specs.Prelude.{Bool, IfSome, IsSome, List, [], length, true, vec_capacity, ℕ, ◌∷◌, ◌≡◌, ◌≤◌}
+use Rattle.std.specs.Prelude.{Bool, IfSome, IsSome, List, Option, Some, [], length, true, vec_capacity, ℕ, ◌∷◌, ◌≡◌, ◌≤◌}
 use lib.ListN.{get_elem?}
 use mathlib.Core.Option.{some}
 use Rattle.atomic_table.specs.Seated.{TableId}
@@ -16,6 +16,7 @@ use Rattle.redo_rule.specs.Gathering.{HasOneCleaner}
 use Rattle.redo_rule.specs.Mine.{number_of}
 use Rattle.redo_rule.specs.Ruled.{numbered}
 use Rattle.redo_rule.specs.Seating.{HasPart, IsCleaner, IsSeatOf}
+use Rattle.redo_rule.specs.declared.law.About.{About}
 use Rattle.redo_rule.specs.declared.law.Slot.{Slot}
 use Rattle.redo_rule.specs.declared.law.Slot.TheVariants as slot
 use Rattle.redo_rule.specs.declared.law.View.{View}
@@ -49,6 +50,11 @@ module _ {L D : Type 0} where
     pub count : length seats ≡ length actors
     pub each : (i : ℕ) (seat : Seat (Slot L D) (View L D)) (a : Actor) → get_elem? seats i ≡ some seat → get_elem? actors i ≡ some a → IsSeatOf table seat (view_of a) × (number_of seat.me.0 ≡ i)
 
+  -- each of these seats knows this of its table
+  abbrev pub KnowTable : Option (About L D) → List (Seat (Slot L D) (View L D)) → Type 0
+  KnowTable told seats = (i : ℕ) (seat : Seat (Slot L D) (View L D)) → get_elem? seats i ≡ some seat
+      → seat.me.0.about ≡ told
+
   -- There is room for the history, and the run may begin.
   pub record HasRoomToBegin (shared : Shared L D) : Type 0 where
     pub may : MayBegin (opened_of shared) (shared_script shared) shared.board.shared.key.log_only
@@ -62,6 +68,7 @@ module _ {L D : Type 0} where
     pub one_cleaner : HasOneCleaner actors
     pub no_cleaner : shared.board.shared.key.log_only ≡ true → (i : ℕ) (a : Actor) → get_elem? actors i ≡ some a → IsCleaner (view_of a) → ⊥
     pub first : IsFirst (table_of shared) shared.first
+    pub told : shared.first.me.0.about ≡ Some shared.board.shared.key
     pub all : shared.first.me.0.seats ≡ numbered 0 actors
     pub part : HasPart shared.first.me.0
     pub has_room : IsSome shared.room

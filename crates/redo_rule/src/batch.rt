@@ -26,8 +26,9 @@ pub(crate) fn write_batch<L: Sectors, D: Sectors>(
     requires asks { next (view_of actor.old) ≡ op.WriteBatch }
     requires part { HasPart token.old.me.0 }
     ensures mine { Mine table.now.table_id token.new (view_of actor.new) }
-    ensures played { HasPlayed L.seen D.seen (view_of actor.old) result (view_of actor.new) }
+    ensures played { HasPlayed L.seen D.seen token.old.me.0.about (view_of actor.old) result (view_of actor.new) }
     ensures part { HasPart token.new.me.0 }
+    ensures knows { token.new.me.0.about ≡ token.old.me.0.about }
     ensures number { number_of token.new.me.0 ≡ number_of token.old.me.0 }
 {
     table.load::<Reached>(token, 0);

@@ -26,7 +26,7 @@ pub(crate) fn take_device<L: Sectors, D: Sectors>(
     requires mine { Mine table.now.table_id token.old (view_of actor.old) }
     requires asks { next (view_of actor.old) ≡ op.TakeDevice }
     ensures mine { Mine table.now.table_id token.new (view_of actor.new) }
-    ensures played { HasPlayed L.seen D.seen (view_of actor.old) result (view_of actor.new) }
+    ensures played { HasPlayed L.seen D.seen token.old.me.0.about (view_of actor.old) result (view_of actor.new) }
     ensures seat { token.new.id ≡ token.old.id }
     ensures stays { KeepsSeat token.old.me.0 token.new.me.0 }
 {
@@ -46,7 +46,7 @@ pub(crate) fn give_device<L: Sectors, D: Sectors>(
     requires mine { Mine table.now.table_id token.old (view_of actor.old) }
     requires asks { next (view_of actor.old) ≡ op.GiveDevice }
     ensures mine { Mine table.now.table_id token.new (view_of actor.new) }
-    ensures played { HasPlayed L.seen D.seen (view_of actor.old) result (view_of actor.new) }
+    ensures played { HasPlayed L.seen D.seen token.old.me.0.about (view_of actor.old) result (view_of actor.new) }
     ensures seat { token.new.id ≡ token.old.id }
     ensures stays { KeepsSeat token.old.me.0 token.new.me.0 }
 {
@@ -64,7 +64,7 @@ pub(crate) fn write_to<L: Sectors, D: Sectors>(
     requires mine { Mine table.now.table_id token.old (view_of actor.old) }
     requires asks { next (view_of actor.old) ≡ op.WriteTo mark }
     ensures mine { Mine table.now.table_id token.new (view_of actor.new) }
-    ensures played { HasPlayed L.seen D.seen (view_of actor.old) result (view_of actor.new) }
+    ensures played { HasPlayed L.seen D.seen token.old.me.0.about (view_of actor.old) result (view_of actor.new) }
     ensures seat { token.new.id ≡ token.old.id }
     ensures stays { KeepsSeat token.old.me.0 token.new.me.0 }
 {
@@ -82,7 +82,7 @@ pub(crate) fn sync<L: Sectors, D: Sectors>(
     requires mine { Mine table.now.table_id token.old (view_of actor.old) }
     requires asks { next (view_of actor.old) ≡ op.Sync }
     ensures mine { Mine table.now.table_id token.new (view_of actor.new) }
-    ensures played { HasPlayed L.seen D.seen (view_of actor.old) result (view_of actor.new) }
+    ensures played { HasPlayed L.seen D.seen token.old.me.0.about (view_of actor.old) result (view_of actor.new) }
     ensures seat { token.new.id ≡ token.old.id }
     ensures stays { KeepsSeat token.old.me.0 token.new.me.0 }
 {
@@ -101,7 +101,7 @@ pub(crate) fn checkpoint<L: Sectors, D: Sectors>(
     requires mine { Mine table.now.table_id token.old (view_of actor.old) }
     requires asks { next (view_of actor.old) ≡ op.Checkpoint lsn }
     ensures mine { Mine table.now.table_id token.new (view_of actor.new) }
-    ensures played { HasPlayed L.seen D.seen (view_of actor.old) result (view_of actor.new) }
+    ensures played { HasPlayed L.seen D.seen token.old.me.0.about (view_of actor.old) result (view_of actor.new) }
     ensures seat { token.new.id ≡ token.old.id }
     ensures stays { KeepsSeat token.old.me.0 token.new.me.0 }
 {

@@ -31,10 +31,11 @@ pub struct Keeping<D: Sectors> {
     pub out: bool,
 }
 
-/// What a seat knows: how many pages there are, the states of its actors, what it holds, and the data part. No value of it
-/// is made.
+/// What a seat knows: what its table was told, how many pages there are, the states of its actors, what it holds, and
+/// the data part. No value of it is made.
 #[derive(Drop)]
 pub struct View<L: Sectors, D: Sectors> {
+    pub about: Option<About<L, D>>,
     pub pages: u32,
     pub seats: LinkedList<Numbered>,
     pub held: Option<Slot<L, D>>,

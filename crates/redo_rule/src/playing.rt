@@ -1,8 +1,8 @@
 // One Op of one actor, on the shared table.
-ghost use Rattle.std.specs.Prelude.{ℕ, ◌≡◌, ◌⊎◌};
+ghost use Rattle.std.specs.Prelude.{◌≡◌};
 ghost use Rattle.model_core.specs.{next};
 ghost use Rattle.redo_drive.specs.Views.{view_of};
-ghost use Rattle.redo_rule.specs.Causes.{HasEndedBy, HasFailureCode, HasWaited, IsFinishedUser};
+ghost use Rattle.redo_rule.specs.Causes.{EndsSo};
 ghost use Rattle.redo_rule.specs.Mine.{HasGone, HasPlayed, KeepsSeat, Mine, number_of};
 ghost use Rattle.redo_rule.specs.Seating.{IsBare, IsSeatOf};
 
@@ -26,7 +26,7 @@ fn play_token<L: Sectors, D: Sectors>(
     requires asks { next (view_of actor.old) ≡ op }
     requires bare { IsBare op }
     ensures mine { Mine table.now.table_id token.new (view_of actor.new) }
-    ensures played { HasPlayed L.seen D.seen (view_of actor.old) result (view_of actor.new) }
+    ensures played { HasPlayed L.seen D.seen token.old.me.0.about (view_of actor.old) result (view_of actor.new) }
     ensures stays { KeepsSeat token.old.me.0 token.new.me.0 }
 {
     match op {
@@ -56,7 +56,8 @@ fn play_next<L: Sectors, D: Sectors>(
     requires { IsSeatOf table.now.table_id seat.old (view_of actor.old) }
     ensures seat { IsSeatOf table.now.table_id seat.new (view_of actor.new) }
     ensures number { number_of seat.new.me.0 ≡ number_of seat.old.me.0 }
-    ensures played { HasGone L.seen D.seen (view_of actor.old) result (view_of actor.new) }
+    ensures knows { seat.new.me.0.about ≡ seat.old.me.0.about }
+    ensures played { HasGone L.seen D.seen seat.old.me.0.about (view_of actor.old) result (view_of actor.new) }
 {
     let op = actor.next();
     match op {
@@ -76,10 +77,9 @@ pub fn play<L: Sectors, D: Sectors>(
     requires { IsSeatOf table.now.table_id seat.old (view_of actor.old) }
     ensures seat { IsSeatOf table.now.table_id seat.new (view_of actor.new) }
     ensures number { number_of seat.new.me.0 ≡ number_of seat.old.me.0 }
-    ensures played { HasGone L.seen D.seen (view_of actor.old) result (view_of actor.new) }
-    ensures idle { result ≡ Step.Idle → HasWaited L.seen D.seen (view_of actor.old) }
-    ensures ended { (result ≡ Step.Ended → IsFinishedUser (view_of actor.new)) × (IsFinishedUser (view_of actor.new) → result ≡ Step.Ended) }
-    ensures failed { (code : ℕ) → result ≡ Step.Failed code → HasEndedBy (view_of actor.old) code ⊎ HasFailureCode L.seen D.seen (view_of actor.old) code }
+    ensures knows { seat.new.me.0.about ≡ seat.old.me.0.about }
+    ensures played { HasGone L.seen D.seen seat.old.me.0.about (view_of actor.old) result (view_of actor.new) }
+    ensures ends { EndsSo L.seen D.seen seat.old.me.0.about (view_of actor.old) result (view_of actor.new) }
 {
     play_next(table, seat, actor)
 }

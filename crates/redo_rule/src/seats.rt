@@ -1,5 +1,5 @@
 // One seat for each actor, and all seats taken in again.
-ghost use Rattle.std.specs.Prelude.{[], ◌≡◌, ◌≤◌, ◌<◌, length, vec_capacity, ℕ};
+ghost use Rattle.std.specs.Prelude.{[], Some, ◌≡◌, ◌≤◌, ◌<◌, length, vec_capacity, ℕ};
 ghost use lib.ListN.{get_elem?};
 ghost use mathlib.Core.Option.{some};
 ghost use Rattle.redo_drive.specs.Views.{view_of};
@@ -7,7 +7,7 @@ ghost use Rattle.redo_rule.specs.Cutting.{HoldNothing, IsFirst};
 ghost use Rattle.redo_rule.specs.Gathering.{AreHandedOut, HasOneCleaner, PartIsKept};
 ghost use Rattle.redo_rule.specs.Ruled.{numbered};
 ghost use Rattle.redo_rule.specs.Seating.{HasPart, IsCleaner};
-ghost use Rattle.redo_rule.specs.Sharing.{AreSeatsOf, IsSeated, IsUnseated, table_of};
+ghost use Rattle.redo_rule.specs.Sharing.{AreSeatsOf, IsSeated, IsUnseated, KnowTable, table_of};
 ghost use Rattle.redo_rule.specs.declared.law.Numbered.{Numbered};
 ghost use Rattle.redo_drive.specs.declared.actor.Actor.{Actor as TheActor};
 
@@ -32,6 +32,7 @@ fn cut_all<L: Sectors, D: Sectors>(
     ensures apart { AreHandedOut table.now.table_id actors.now first.new result.items }
     ensures all { length result.items ≡ length actors.now }
     ensures part { PartIsKept (length actors.now) actors.now first.new }
+    ensures told { KnowTable first.old.me.0.about result.items }
 {
     while seats.len() < actors.len() {
         let seat = cut_off(table, first);
@@ -67,6 +68,7 @@ impl<L: Sectors, D: Sectors> Shared<L, D> {
         ensures seated { IsSeated self.new }
         ensures same { self.new.board ≡ self.old.board }
         ensures seats { AreSeatsOf (table_of self.new) result.items actors.now }
+        ensures told { KnowTable (Some self.new.board.shared.key) result.items }
     {
         let Some(room) = self.room.take() else {
             unreachable!()

@@ -3,7 +3,7 @@ use Rattle.redo_disk.specs.declared.error.DevError.{DevError}
 use Rattle.redo_drive.specs.Devices.{call_answer}
 use Rattle.redo_drive.specs.Views.{view_of}
 use Rattle.redo_drive.specs.declared.device.Device.TheVariants.{Data}
-use Rattle.redo_rule.proofs.Batching.{batched_mine, batched_ok, batched_played, keeps_number, keeps_part, lends_part, may_call, reach_ok}
+use Rattle.redo_rule.proofs.Batching.{batched_mine, batched_ok, batched_played, keeps_number, keeps_part, keeps_table, lends_part, may_call, reach_ok}
 use Rattle.redo_rule.proofs.batch.write_batch.Goals as goal
 
 pub load-requires : goal.load-requires
@@ -26,6 +26,16 @@ returns-clause-played g c = let e = c.batch_slot-ended.ensures in batched_played
 
 pub returns-clause-part : goal.returns-clause-part
 returns-clause-part g c = let e = c.batch_slot-ended.ensures in keeps_part c.args.table.now.table_id c.args.token.now (view_of c.args.actor.now) c.requires.mine c.requires.asks c.requires.part.0 c.requires.part.1 c.load.new.seat c.load.ensures.0 c.load.result c.load.ensures.2 c.slot_mut.result.now c.slot_mut.ensures.value c.batch_slot-ended.new.slot e.was e.now e.old_is e.new_is g.L.Sectors.seen g.D.Sectors.seen c.load-2.new.seat c.load-2.ensures.0 c.load-2.result c.load-2.ensures.2 c.answer_of.result (c.answer_of.ensures ∙ ap (λ (met : Option DevError). call_answer Data met 0) (sym e.told)) (view_of c.took.new.self) c.took.ensures.state
+
+pub returns-clause-knows : goal.returns-clause-knows
+returns-clause-knows g c = let e = c.batch_slot-ended.ensures in
+    keeps_table c.args.table.now.table_id c.args.token.now
+    (view_of c.args.actor.now) c.requires.mine c.requires.asks c.requires.part.0 c.requires.part.1 c.load.new.seat
+    c.load.ensures.0 c.load.result c.load.ensures.2 c.slot_mut.result.now c.slot_mut.ensures.value
+    c.batch_slot-ended.new.slot e.was e.now e.old_is e.new_is g.L.Sectors.seen g.D.Sectors.seen c.load-2.new.seat
+    c.load-2.ensures.0 c.load-2.result c.load-2.ensures.2 c.answer_of.result
+    (c.answer_of.ensures ∙ ap (λ (met : Option DevError). call_answer Data met 0) (sym e.told))
+    (view_of c.took.new.self) c.took.ensures.state
 
 pub returns-clause-number : goal.returns-clause-number
 returns-clause-number g c = let e = c.batch_slot-ended.ensures in keeps_number c.args.table.now.table_id c.args.token.now (view_of c.args.actor.now) c.requires.mine c.requires.asks c.requires.part.0 c.requires.part.1 c.load.new.seat c.load.ensures.0 c.load.result c.load.ensures.2 c.slot_mut.result.now c.slot_mut.ensures.value c.batch_slot-ended.new.slot e.was e.now e.old_is e.new_is g.L.Sectors.seen g.D.Sectors.seen c.load-2.new.seat c.load-2.ensures.0 c.load-2.result c.load-2.ensures.2 c.answer_of.result (c.answer_of.ensures ∙ ap (λ (met : Option DevError). call_answer Data met 0) (sym e.told)) (view_of c.took.new.self) c.took.ensures.state

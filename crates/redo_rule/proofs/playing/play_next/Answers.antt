@@ -25,6 +25,7 @@ returns-in_default g c = record {
   seat = seat_behind c.args.table.now.table_id c.args.seat.now _ (view_of c.args.actor.now) (view_of c.play_token.new.actor) c.requires c.play_token.ensures.mine c.play_token.ensures.stays.data_part
       (was_cleaner g.L.Sectors.seen g.D.Sectors.seen (view_of c.args.actor.now) (view_of c.play_token.new.actor) c.play_token.result c.play_token.ensures.played);
   number = c.play_token.ensures.stays.number;
+  knows = c.play_token.ensures.stays.about;
   played = inr c.play_token.ensures.played;
 }
 

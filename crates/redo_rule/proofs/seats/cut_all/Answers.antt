@@ -1,13 +1,20 @@
-use Rattle.std.proofs.Common.{List, arith, inl, length, subst, sym, ℕ, ◌≡◌}
+use Rattle.std.proofs.Common.{List, ap, arith, inl, length, refl, subst, sym, ℕ, ◌∙◌, ◌≡◌}
 use Rattle.atomic_table.specs.declared.shared.Seat.{Seat}
-use Rattle.redo_rule.proofs.Gathered.{cut_next, cut_part, may_cut}
+use Rattle.redo_rule.proofs.Gathered.{cut_next, cut_part, may_cut, none_know, one_knows}
 use Rattle.redo_rule.specs.Gathering.{AreHandedOut, PartIsKept}
 use Rattle.redo_rule.specs.declared.law.Slot.{Slot}
 use Rattle.redo_rule.specs.declared.law.View.{View}
 use Rattle.redo_rule.proofs.seats.cut_all.Goals as goal
 
 pub loop-first-init : goal.loop-first-init
-loop-first-init g c = record { apart = c.requires.apart; part = inl c.requires.part; room = c.requires.room }
+loop-first-init g c = record {
+  apart = c.requires.apart;
+  part = inl c.requires.part;
+  room = c.requires.room;
+  same =
+      refl;
+  told = none_know _ _ c.requires.none;
+}
 
 pub cut_off-seat-requires-clause-head : goal.cut_off-seat-requires-clause-head
 cut_off-seat-requires-clause-head g c = may_cut c.args.table.now.table_id c.args.actors.now c.loop-first.first c.loop-first.seats.items c.loop-first.invariant.apart (let t = c.loop-first-test.true in omega arith)
@@ -21,6 +28,10 @@ loop-first-preserved g c =
       part = subst (λ (l : List (Seat (Slot _ _) (View _ _))). PartIsKept (length l) c.args.actors.now c.cut_off-seat.new.first) (sym c.push_reserved.ensures.items)
           (cut_part c.args.table.now.table_id c.args.actors.now c.loop-first.first c.loop-first.seats.items c.loop-first.invariant.apart (let t = c.loop-first-test.true in omega arith) c.cut_off-seat.new.first c.cut_off-seat.result e.first e.left e.right e.mine c.requires.cleaner c.loop-first.invariant.part);
       room = (let n = c.loop-first.invariant.room in let m = c.push_reserved.ensures.capacity in omega arith);
+      same = ap (λ (v : View _ _). v.about) e.left ∙ c.loop-first.invariant.same;
+      told = one_knows _ c.loop-first.seats.items _ c.cut_off-seat.result c.push_reserved.ensures.items
+          c.loop-first.invariant.told
+          (ap (λ (v : View _ _). v.about) e.right ∙ c.loop-first.invariant.same);
     }
 
 pub returns-clause-all : goal.returns-clause-all

@@ -1,4 +1,4 @@
-use Rattle.std.proofs.Common.{rules}
+use Rattle.std.proofs.Common.{rules, ◌∙◌}
 use Rattle.redo_rule.proofs.Gathered.{all_in_first, none_in_first, part_alone}
 use Rattle.redo_rule.proofs.shared.Shared.seats.Goals as goal
 
@@ -12,6 +12,9 @@ returns-clause-seated g c = record {
   none = none_in_first c.args.self.now.board.shared.table_id c.args.actors.now c.cut_all.new.first c.cut_all.result.items c.cut_all.ensures.apart c.cut_all.ensures.all;
   alone = λ alone. part_alone c.args.self.now.board.shared.table_id c.args.actors.now c.cut_all.new.first c.cut_all.result.items c.cut_all.ensures.part (c.requires.no_cleaner alone);
 }
+
+pub returns-clause-told : goal.returns-clause-told
+returns-clause-told g c i seat at = c.cut_all.ensures.told i seat at ∙ c.requires.told
 
 pub returns-clause-seats : goal.returns-clause-seats
 returns-clause-seats g c = record { count = c.cut_all.ensures.all; each = c.cut_all.ensures.apart.each }
