@@ -4,7 +4,7 @@ use Rattle.model_running.specs.Schedule.{HaveEnded}
 use Rattle.model_script.specs.declared.script.ScriptLine.{ScriptLine}
 use Rattle.redo_disk.specs.{Call}
 use Rattle.redo_disk.specs.Seen.{Seen}
-use Rattle.redo_drive.specs.Drive.{Owes}
+use Rattle.redo_drive.specs.Drive.{Owes, ReadsToMarks}
 use Rattle.redo_drive.specs.Leaving.{LeavesRun}
 use Rattle.redo_drive.specs.Views.{views_of}
 use Rattle.redo_drive.specs.declared.actor.Actor.{Actor}
@@ -22,6 +22,11 @@ module _ {L D : Type 0} (log_seen : L → Seen) (log_gives : L → Call → L �
   owes ended owed = subst (λ (o : Opened L D). Owes log_seen log_gives data_seen data_gives o script (done_with closed)) opened_is
       (subst (λ (s : List ScriptLine). Owes log_seen log_gives data_seen data_gives known s (done_with closed)) script_is
       (record { comes_to = owed.comes_to ended; holds = owed.holds; owed_synced = owed.owed_synced ended }))
+
+  pub reads_so : ReadsToMarks log_seen data_seen known lines closed
+      → ReadsToMarks log_seen data_seen opened script closed
+  reads_so reads = subst (λ (o : Opened L D). ReadsToMarks log_seen data_seen o script closed) opened_is
+      (subst (λ (s : List ScriptLine). ReadsToMarks log_seen data_seen known s closed) script_is reads)
 
   pub has_cause : CodeHasCause log_seen data_seen closed.code known.log closed.log known.store closed.store
       → CodeHasCause log_seen data_seen closed.code opened.log closed.log opened.store closed.store

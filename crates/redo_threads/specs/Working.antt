@@ -1,6 +1,6 @@
 -- Actors in their seats, and how they go on to their ends.
-use Rattle.std.specs.Prelude.{List, vec_capacity, ℕ, ◌≡◌, ◌≤◌}
-use Rattle.std.specs.List.{AllZip}
+use Rattle.std.specs.Prelude.{List, length, slice_index_or, vec_capacity, ℕ, ◌<◌, ◌≡◌, ◌≤◌}
+use Rattle.std.specs.List.{AllZip, insert, remove}
 use lib.ListN.{get_elem?}
 use mathlib.Core.Option.{some}
 use Rattle.atomic_table.specs.Seated.{TableId}
@@ -17,6 +17,7 @@ use Rattle.redo_rule.specs.declared.law.Slot.{Slot}
 use Rattle.redo_rule.specs.declared.law.View.{View}
 use Rattle.model_core.specs.Later.{IsSameActor}
 use Rattle.redo_threads.specs.declared.crew.Crew.{Crew}
+use Rattle.redo_threads.specs.declared.crew.Worker.{Worker}
 
 -- a user has ended
 abbrev pub IsOver : model.Actor → Type 0
@@ -44,3 +45,42 @@ module _ {L D : Type 0} where
     pub actors : AllZip (λ (a b : Actor). IsSameActor (view_of a) (view_of b)) old.actors.items new.actors.items
     pub seats_fit : vec_capacity old.seats ≤ vec_capacity new.seats
     pub actors_fit : vec_capacity old.actors ≤ vec_capacity new.actors
+
+  -- each of these actors has one of these seats, whatever the seat's number
+  abbrev pub AreSeated : TableId → List (Seat (Slot L D) (View L D)) → List Actor → Type 0
+  AreSeated table = AllZip (λ (s : Seat (Slot L D) (View L D)) (a : Actor). IsSeatOf table s (view_of a))
+
+  -- the same actors, later, each in the seat that it had, with room for as many as they were
+  pub record KeepOn (table : TableId) (old new : Crew L D) : Type 0 where
+    pub seated : AreSeated table new.seats.items new.actors.items
+    pub seats : AllZip (λ (s t : Seat (Slot L D) (View L D)). number_of t.me.0 ≡ number_of s.me.0)
+        old.seats.items new.seats.items
+    pub actors : AllZip (λ (a b : Actor). IsSameActor (view_of a) (view_of b)) old.actors.items new.actors.items
+    pub seats_fit : vec_capacity old.seats ≤ vec_capacity new.seats
+    pub actors_fit : vec_capacity old.actors ≤ vec_capacity new.actors
+
+  -- the worker at this place was taken out, and there is room for it
+  pub record IsTakenOut (old : Crew L D) (place : ℕ) (worker : Worker L D) (new : Crew L D) : Type 0 where
+    pub there : place < length old.actors.items
+    pub seat : worker.seat ≡ slice_index_or old.seats.items place worker.seat
+    pub actor : worker.actor ≡ slice_index_or old.actors.items place worker.actor
+    pub seats : new.seats.items ≡ remove old.seats.items place
+    pub actors : new.actors.items ≡ remove old.actors.items place
+    pub seats_fit : vec_capacity new.seats ≡ vec_capacity old.seats
+    pub actors_fit : vec_capacity new.actors ≡ vec_capacity old.actors
+    pub seats_room : length new.seats.items < vec_capacity new.seats
+    pub actors_room : length new.actors.items < vec_capacity new.actors
+
+  -- a worker has room at this place
+  pub record HasPlace (crew : Crew L D) (place : ℕ) : Type 0 where
+    pub seats : place ≤ length crew.seats.items
+    pub actors : place ≤ length crew.actors.items
+    pub seats_room : length crew.seats.items < vec_capacity crew.seats
+    pub actors_room : length crew.actors.items < vec_capacity crew.actors
+
+  -- a worker was put in at this place
+  pub record IsPutBack (old : Crew L D) (place : ℕ) (worker : Worker L D) (new : Crew L D) : Type 0 where
+    pub seats : new.seats.items ≡ insert old.seats.items place worker.seat
+    pub actors : new.actors.items ≡ insert old.actors.items place worker.actor
+    pub seats_fit : vec_capacity new.seats ≡ vec_capacity old.seats
+    pub actors_fit : vec_capacity new.actors ≡ vec_capacity old.actors

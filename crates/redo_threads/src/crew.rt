@@ -1,15 +1,13 @@
 // Actors with their seats, in their order.
-ghost use Rattle.std.specs.Prelude.{MatchOption, [], length, vec_capacity, vec_len, ◌++◌, ◌<◌, ◌∷◌, ◌≡◌};
-ghost use Rattle.redo_rule.specs.Sharing.{AreSeatsOf};
-ghost use Rattle.redo_threads.specs.Working.{AreAtEnd, GoOn};
+ghost use Rattle.std.specs.Prelude.{length, ◌<◌, ◌≡◌};
+ghost use Rattle.redo_threads.specs.Working.{AreAtEnd, AreSeated, HasPlace, IsPutBack, IsTakenOut, KeepOn};
 
 use crate::gate::Gate;
 use crate::pace::Pace;
-use crate::work::{turn_if_open, work};
+use crate::work::{stint, work};
 use redo_disk::Sectors;
 use redo_drive::Actor;
 use redo_rule::{Ring, Seat};
-use redo_words::Step;
 use std::sync::Wait;
 use std::sync::atomic::AtomicU64;
 
@@ -28,59 +26,56 @@ pub(crate) struct Crew<L: Sectors, D: Sectors> {
 }
 
 impl<L: Sectors, D: Sectors> Crew<L, D> {
-    /// Takes the last actor off, in its seat.
-    pub(crate) fn pop(&mut self) -> Option<Worker<L, D>>
-        requires { length self.old.seats.items ≡ length self.old.actors.items }
-        ensures actors { MatchOption result (self.new.actors.items ≡ self.old.actors.items) (λ worker. self.old.actors.items ≡ self.new.actors.items ++ worker.actor ∷ []) }
-        ensures seats { MatchOption result (self.new.seats.items ≡ self.old.seats.items) (λ worker. self.old.seats.items ≡ self.new.seats.items ++ worker.seat ∷ []) }
-        ensures room { (vec_capacity self.new.seats ≡ vec_capacity self.old.seats) × (vec_capacity self.new.actors ≡ vec_capacity self.old.actors) }
+    /// Takes out the actor at a place, in its seat.
+    pub(crate) fn take_out(&mut self, at: usize) -> Worker<L, D>
+        requires seated { length self.old.seats.items ≡ length self.old.actors.items }
+        requires there { at < length self.old.actors.items }
+        ensures { IsTakenOut self.old at result self.new }
     {
-        let actor = self.actors.pop()?;
-        let Some(seat) = self.seats.pop() else {
-            unreachable!()
-        };
-        Some(Worker { seat, actor })
+        let actor = self.actors.remove(at);
+        let seat = self.seats.remove(at);
+        Worker { seat, actor }
     }
 
-    /// Puts an actor in its seat after the others.
-    pub(crate) fn push(&mut self, worker: Worker<L, D>)
-        requires room { (vec_len self.old.seats < vec_capacity self.old.seats) × (vec_len self.old.actors < vec_capacity self.old.actors) }
-        ensures actors { self.new.actors.items ≡ self.old.actors.items ++ worker.actor ∷ [] }
-        ensures seats { self.new.seats.items ≡ self.old.seats.items ++ worker.seat ∷ [] }
-        ensures room { (vec_capacity self.new.seats ≡ vec_capacity self.old.seats) × (vec_capacity self.new.actors ≡ vec_capacity self.old.actors) }
+    /// Puts an actor in its seat back at its place.
+    pub(crate) fn put_back(&mut self, at: usize, worker: Worker<L, D>)
+        requires { HasPlace self.old at }
+        ensures { IsPutBack self.old at worker self.new }
     {
         let Worker { seat, actor } = worker;
-        self.seats.push_reserved(seat);
-        self.actors.push_reserved(actor);
+        let (Ok(()), Ok(())) = (self.seats.insert(at, seat), self.actors.insert(at, actor)) else {
+            unreachable!()
+        };
     }
 }
 
-/// One Op of each of the actors that haven't come to their end. `None` where there are none; else whether all of them moved.
+/// Plays each of the actors that haven't come to their end until it waits. `None` where there are none; else whether
+/// one of them has gone on.
 fn round<L: Sectors, D: Sectors, G: Gate>(
     table: &Ring<L, D>,
     running: &AtomicU64,
     gate: &G,
     crew: &mut Crew<L, D>,
 ) -> Option<bool>
-    requires { AreSeatsOf table.now.table_id crew.old.seats.items crew.old.actors.items }
-    ensures { GoOn table.now.table_id crew.old crew.new }
+    requires { AreSeated table.now.table_id crew.old.seats.items crew.old.actors.items }
+    ensures { KeepOn table.now.table_id crew.old crew.new }
 {
     let mut open = None;
     for k in 0..crew.actors.len() {
-        if let Some(step) = turn_if_open(
+        if let Some(went_on) = stint(
             table,
             running,
             gate,
             &mut crew.seats[k],
             &mut crew.actors[k],
         ) {
-            open = Some(step == Step::Moved && open != Some(false));
+            open = Some(went_on || open == Some(true));
         }
     }
     open
 }
 
-/// Plays actors up to their ends, one Op of each in turn.
+/// Plays actors up to their ends, each until it waits, in turn. It waits itself only where none of them has gone on.
 pub(crate) fn play_here<R: Wait, L: Sectors, D: Sectors, G: Gate>(
     rt: &R,
     table: &Ring<L, D>,
@@ -88,8 +83,8 @@ pub(crate) fn play_here<R: Wait, L: Sectors, D: Sectors, G: Gate>(
     gate: &G,
     crew: &mut Crew<L, D>,
 )
-    requires { AreSeatsOf table.now.table_id crew.old.seats.items crew.old.actors.items }
-    ensures { GoOn table.now.table_id crew.old crew.new }
+    requires { AreSeated table.now.table_id crew.old.seats.items crew.old.actors.items }
+    ensures { KeepOn table.now.table_id crew.old crew.new }
 {
     let mut pace = Pace::new();
     for _ in rt.forever() {
@@ -110,8 +105,8 @@ pub(crate) fn to_ends<R: Wait, L: Sectors, D: Sectors, G: Gate>(
     gate: &G,
     crew: &mut Crew<L, D>,
 )
-    requires { AreSeatsOf table.now.table_id crew.old.seats.items crew.old.actors.items }
-    ensures goes_on { GoOn table.now.table_id crew.old crew.new }
+    requires { AreSeated table.now.table_id crew.old.seats.items crew.old.actors.items }
+    ensures goes_on { KeepOn table.now.table_id crew.old crew.new }
     ensures at_end { AreAtEnd crew.new.actors.items }
 {
     for number in 0..crew.actors.len() {

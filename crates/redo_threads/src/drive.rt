@@ -1,7 +1,7 @@
 // The drive in threads.
 ghost use Rattle.std.specs.Prelude.{IfErr, IfOk, ◌≡◌};
 ghost use Rattle.redo_drive.specs.Startable.{MayBegin};
-ghost use Rattle.redo_drive.specs.Drive.{Owes};
+ghost use Rattle.redo_drive.specs.Drive.{Owes, ReadsToMarks};
 ghost use Rattle.redo_rule.specs.Failing.{CodeHasCause};
 ghost use Rattle.redo_threads.specs.InThreads.{RunsInThreads};
 
@@ -31,6 +31,7 @@ pub fn drive_in_threads<R: Threads + Wait + Sync, L: Sectors + Send, D: Sectors 
     ensures err { IfErr result (λ error. (error.1 ≡ opened.log.dev) × (error.2 ≡ opened.store.dev)) }
     ensures owed { IfOk result (Owes L.seen L.gives D.seen D.gives opened script.now) }
     ensures says { IfOk result (RunsInThreads opened script.now log_only) }
+    ensures reads { IfOk result (λ driven. ReadsToMarks L.seen D.seen opened script.now driven.closed) }
     ensures cause { IfOk result (λ driven. CodeHasCause L.seen D.seen driven.closed.code opened.log driven.closed.log opened.store driven.closed.store) }
 {
     let (shared, actors) = Shared::new(alloc, opened, script, log_only)?;

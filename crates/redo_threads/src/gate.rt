@@ -1,4 +1,4 @@
-// Where a test may hold a user.
+// Where a test may hold a user, and refuse an actor its thread.
 use redo_words::{Op, Word};
 
 /// A point in each group of a user, right after the step that it is named for.
@@ -10,12 +10,17 @@ pub enum Point {
     Closed,
 }
 
-/// What a user's thread calls at each point.
+/// What a user's thread calls at each point, and the caller before it starts a thread.
 pub trait Gate: Sync {
     fn pass(&self, who: u32, point: Point);
+
+    /// Whether the actor with this number gets no thread.
+    fn refuses(&self, _number: usize) -> bool {
+        false
+    }
 }
 
-/// Holds nobody.
+/// Holds and refuses nobody.
 #[derive(Clone, Copy, Debug)]
 pub struct NoGate;
 

@@ -1,7 +1,8 @@
 //! The drive of a run in threads: one for each actor, over the table that they share.
 //!
-//! `run_threads` gives each actor its seat, and plays each in a thread of its own until all users have ended and no other actor
-//! holds a turn or a tail. Where a thread can't be started, the caller plays its actor. A test may hold users at a gate.
+//! `run_threads` gives each actor its seat, and plays each in a thread of its own until all users have ended and no
+//! other actor holds a turn or a tail. Where a thread can't be started, the caller plays its actor. A test may hold
+//! users at a gate, and refuse threads there.
 #![tactic(auto)]
 
 mod crew;

@@ -1,5 +1,6 @@
 // A run of all actors, and what is left at its end.
 ghost use Rattle.std.specs.Prelude.{◌≡◌};
+ghost use Rattle.redo_drive.specs.Drive.{ReadsToMarks};
 ghost use Rattle.redo_drive.specs.Leaving.{LeavesRun};
 ghost use Rattle.redo_rule.specs.Closing.{IsOwedRun};
 ghost use Rattle.redo_rule.specs.Failing.{CodeHasCause};
@@ -42,6 +43,7 @@ pub fn run_threads<R: Threads + Wait + Sync, L: Sectors + Send, D: Sectors + Sen
     ensures run { HaveRun actors.items result.1.items result.0 }
     ensures leaves { LeavesRun L.seen L.gives D.seen D.gives (opened_of shared) (shared_script shared) shared.board.shared.key.log_only result.1.items result.0 }
     ensures owed { IsOwedRun L.seen L.gives D.seen D.gives (opened_of shared) (shared_script shared) result.1.items result.0 }
+    ensures reads { ReadsToMarks L.seen D.seen (opened_of shared) (shared_script shared) result.0 }
     ensures reaches { ReachesAll result.1.items result.0 }
     ensures cause { CodeHasCause L.seen D.seen result.0.code (opened_of shared).log result.0.log (opened_of shared).store result.0.store }
 {

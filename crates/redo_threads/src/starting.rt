@@ -1,9 +1,9 @@
 // A thread for each actor, where one can be started.
-ghost use Rattle.std.specs.Prelude.{◌≡◌};
+ghost use Rattle.std.specs.Prelude.{IfErr, IfOk, length, ◌≡◌, ◌≤◌};
 ghost use Rattle.redo_drive.specs.Views.{view_of};
 ghost use Rattle.redo_rule.specs.Seating.{IsSeatOf};
 ghost use Rattle.redo_rule.specs.Sharing.{AreSeatsOf};
-ghost use Rattle.redo_threads.specs.Working.{AreAtEnd, GoOn, GoesOn};
+ghost use Rattle.redo_threads.specs.Working.{AreAtEnd, AreSeated, GoOn, GoesOn, KeepOn};
 
 use crate::crew::{Crew, Worker, play_here, to_ends};
 use crate::gate::Gate;
@@ -13,7 +13,10 @@ use redo_rule::Ring;
 use std::snapshot::Snapshot;
 use std::sync::Wait;
 use std::sync::atomic::{AtomicU64, Ordering};
-use std::thread::{Promise, Scope, Threads, scope, scope_env};
+use std::thread::{Promise, PromisedHandle, Scope, Threads, scope, scope_env};
+
+/// No actor's number.
+const NOBODY: u64 = u64::MAX;
 
 /// The promise of an actor's thread: what it gives back has gone on from what it was given.
 #[derive(Drop)]
@@ -52,24 +55,26 @@ fn work_or_return<R: Wait, L: Sectors, D: Sectors, G: Gate>(
     worker
 }
 
-/// Starts a thread for each of the actors, the last one first, and joins them. Where one can't be started, it plays that actor
-/// and those before it itself.
-fn start<'s, E, R: Threads + Wait + Sync, L: Sectors + Send, D: Sectors + Send, G: Gate>(
+/// Starts a thread for the actor with this number. Where it can't be started, or the gate refuses it, the actor comes
+/// back.
+fn start_one<'s, E, R: Threads + Wait + Sync, L: Sectors + Send, D: Sectors + Send, G: Gate>(
     scope: &'s Scope<'s, E>,
     rt: &'s R,
     table: &'s Ring<L, D>,
     running: &'s AtomicU64,
     refused: &'s AtomicU64,
     gate: &'s G,
-    mut crew: Crew<L, D>,
-) -> Crew<L, D>
-    requires { AreSeatsOf table.now.table_id crew.seats.items crew.actors.items }
-    ensures { GoOn table.now.table_id crew result }
+    number: usize,
+    worker: Worker<L, D>,
+) -> Result<PromisedHandle<Worker<L, D>, FromWorker<L, D>>, Worker<L, D>>
+    requires { IsSeatOf table.now.table_id worker.seat (view_of worker.actor) }
+    ensures ok { IfOk result (λ handle. handle.promise.0.value ≡ worker) }
+    ensures err { IfErr result (λ back. GoesOn table.now.table_id worker.seat worker.actor back.seat back.actor) }
 {
-    let number = crew.actors.len() as u64;
-    let Some(worker) = crew.pop() else {
-        return crew;
-    };
+    if gate.refuses(number) {
+        return Err(worker);
+    }
+    let number = number as u64;
     let promise = FromWorker(Snapshot::of(&worker));
     match scope.spawn_with(
         promise,
@@ -78,16 +83,45 @@ fn start<'s, E, R: Threads + Wait + Sync, L: Sectors + Send, D: Sectors + Send, 
             ensures { GoesOn table.entry.now.table_id worker.seat worker.actor result.seat result.actor }
         { work_or_return(rt, table, running, refused, gate, number, worker) },
     ) {
-        Ok(handle) => {
-            let mut crew = start(scope, rt, table, running, refused, gate, crew);
-            crew.push(handle.join(rt));
-            crew
-        }
+        Ok(handle) => Ok(handle),
         Err(error) => {
             refused.store(number, Ordering::SeqCst);
-            crew.push((error.value)());
-            play_here(rt, table, running, gate, &mut crew);
+            Err((error.value)())
+        }
+    }
+}
+
+/// Starts threads for the first actors, as many as are left, the last of them first, and joins them. Who gets no
+/// thread stays behind those that are left: it plays these itself, once each of the others has been tried.
+fn start<'s, E, R: Threads + Wait + Sync, L: Sectors + Send, D: Sectors + Send, G: Gate>(
+    scope: &'s Scope<'s, E>,
+    rt: &'s R,
+    table: &'s Ring<L, D>,
+    running: &'s AtomicU64,
+    refused: &'s AtomicU64,
+    gate: &'s G,
+    left: usize,
+    mut crew: Crew<L, D>,
+) -> Crew<L, D>
+    requires seated { AreSeated table.now.table_id crew.seats.items crew.actors.items }
+    requires left { left ≤ length crew.actors.items }
+    ensures { KeepOn table.now.table_id crew result }
+{
+    if left == 0 {
+        play_here(rt, table, running, gate, &mut crew);
+        return crew;
+    }
+    let number = left - 1;
+    let worker = crew.take_out(number);
+    match start_one(scope, rt, table, running, refused, gate, number, worker) {
+        Ok(handle) => {
+            let mut crew = start(scope, rt, table, running, refused, gate, number, crew);
+            crew.put_back(number, handle.join(rt));
             crew
+        }
+        Err(worker) => {
+            crew.put_back(number, worker);
+            start(scope, rt, table, running, refused, gate, number, crew)
         }
     }
 }
@@ -104,15 +138,18 @@ pub(crate) fn play_all<R: Threads + Wait + Sync, L: Sectors + Send, D: Sectors +
     ensures goes_on { GoOn table.now.table_id crew result }
     ensures at_end { AreAtEnd result.actors.items }
 {
-    let refused = AtomicU64::new(0);
+    let refused = AtomicU64::new(NOBODY);
     let refused_at = &refused;
     let mut played = scope(
         scope_env(),
         rt,
         |all| -> Crew<L, D>
             requires { AreSeatsOf table.now.table_id crew.seats.items crew.actors.items }
-            ensures { GoOn table.entry.now.table_id crew result }
-        { start(all, rt, table, running, refused_at, gate, crew) },
+            ensures { KeepOn table.entry.now.table_id crew result }
+        {
+            let left = crew.actors.len();
+            start(all, rt, table, running, refused_at, gate, left, crew)
+        },
     );
     to_ends(rt, table, running, gate, &mut played);
     played

@@ -16,6 +16,10 @@ use redo_words::{Op, Step};
 use std::sync::Wait;
 use std::sync::atomic::{AtomicU64, Ordering};
 
+/// How many Ops of an actor the caller plays at most before it turns to the next one. An actor that threads keep busy
+/// may never wait, and the next one would never have its turn. It is more than any actor plays in vain.
+const STINT: u64 = 1_024;
+
 /// Whether a user has ended.
 pub(crate) fn is_over(user: &UserActor) -> bool
     ensures { result ≡ true → HasEnded user.now }
@@ -74,21 +78,30 @@ fn turn<L: Sectors, D: Sectors, G: Gate>(
     step
 }
 
-/// One Op of an actor, unless it has come to its end: how the Op ended.
-pub(crate) fn turn_if_open<L: Sectors, D: Sectors, G: Gate>(
+/// Plays an actor until it waits or has come to its end, or for a stint. `None` where it is at its end already; else
+/// whether it has gone on, and not only looked in vain.
+pub(crate) fn stint<L: Sectors, D: Sectors, G: Gate>(
     table: &Ring<L, D>,
     running: &AtomicU64,
     gate: &G,
     seat: &mut Seat<L, D>,
     actor: &mut Actor,
-) -> Option<Step>
+) -> Option<bool>
     requires { IsSeatOf table.now.table_id seat.old (view_of actor.old) }
     ensures { GoesOn table.now.table_id seat.old actor.old seat.new actor.new }
 {
     if is_at_end(actor, running) {
         return None;
     }
-    Some(turn(table, running, gate, seat, actor))
+    let in_vain = actor.steps_in_vain();
+    for steps in 0..STINT {
+        match turn(table, running, gate, seat, actor) {
+            Step::Moved => {}
+            Step::Idle => return Some(steps > in_vain),
+            Step::Ended | Step::Failed(_) => return Some(true),
+        }
+    }
+    Some(true)
 }
 
 /// Plays an actor up to its end.

@@ -1,14 +1,17 @@
-use Rattle.redo_threads.proofs.Going.{go_refl, go_trans}
+use Rattle.redo_threads.proofs.Keeping.{keep_refl, keep_trans}
 use Rattle.redo_threads.proofs.crew.play_here.Goals as goal
 
 pub loop-init : goal.loop-init
-loop-init g c = go_refl c.args.table.now.table_id c.args.crew.now c.requires
+loop-init g c = keep_refl c.args.table.now.table_id c.args.crew.now c.requires
 
 pub returns-in-None-round : goal.returns-in-None-round
-returns-in-None-round g c = go_trans c.args.table.now.table_id c.args.crew.now c.loop.crew c.round.new.crew c.loop.invariant c.round.ensures
+returns-in-None-round g c = keep_trans c.args.table.now.table_id c.args.crew.now c.loop.crew c.round.new.crew
+    c.loop.invariant c.round.ensures
 
 pub loop-preserved-in-Some-true : goal.loop-preserved-in-Some-true
-loop-preserved-in-Some-true g c = go_trans c.args.table.now.table_id c.args.crew.now c.loop.crew c.round.new.crew c.loop.invariant c.round.ensures
+loop-preserved-in-Some-true g c = keep_trans c.args.table.now.table_id c.args.crew.now c.loop.crew c.round.new.crew
+    c.loop.invariant c.round.ensures
 
 pub loop-preserved : goal.loop-preserved
-loop-preserved g c = go_trans c.args.table.now.table_id c.args.crew.now c.loop.crew c.round.new.crew c.loop.invariant c.round.ensures
+loop-preserved g c = keep_trans c.args.table.now.table_id c.args.crew.now c.loop.crew c.round.new.crew
+    c.loop.invariant c.round.ensures

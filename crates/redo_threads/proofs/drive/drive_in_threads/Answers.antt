@@ -1,5 +1,5 @@
 use Rattle.redo_rule.specs.Sharing.{opened_of, shared_script}
-use Rattle.redo_threads.proofs.Driving.{has_cause, owes, runs_in_threads}
+use Rattle.redo_threads.proofs.Driving.{has_cause, owes, reads_so, runs_in_threads}
 use Rattle.redo_threads.proofs.drive.drive_in_threads.Goals as goal
 
 pub returns-clause-owed : goal.returns-clause-owed
@@ -14,6 +14,14 @@ returns-clause-says g c =
     runs_in_threads g.L.Sectors.seen g.L.Sectors.gives g.D.Sectors.seen g.D.Sectors.gives (opened_of c.in_ok-shared.shared) c.args.opened (shared_script c.in_ok-shared.shared) c.args.script.now
     c.run_threads-closed.result.1.items c.run_threads-closed.result.0 new.opened_is new.script_is c.in_ok-shared.shared.board.shared.key.log_only c.args.log_only new.log_only_is c.in_ok-shared.actors.items
     c.run_threads-closed.ensures.leaves c.run_threads-closed.ensures.run
+
+pub returns-clause-reads : goal.returns-clause-reads
+returns-clause-reads g c =
+    let new = c.in_ok-shared.ensures.new in
+    reads_so g.L.Sectors.seen g.L.Sectors.gives g.D.Sectors.seen g.D.Sectors.gives
+    (opened_of c.in_ok-shared.shared) c.args.opened (shared_script c.in_ok-shared.shared) c.args.script.now
+    c.run_threads-closed.result.1.items c.run_threads-closed.result.0 new.opened_is new.script_is
+    c.run_threads-closed.ensures.reads
 
 pub returns-clause-cause : goal.returns-clause-cause
 returns-clause-cause g c =
