@@ -1,4 +1,5 @@
 -- A command that called no device: its script wasn't read, or it has none to run.
+use Rattle.redo_disk.proofs.Told.{still-same}
 use Rattle.std.proofs.Common.{ℕ, [], ◌⊎◌, ◌+◌, ◌≡◌, ◌≢◌, ◌<◌, Bool, true, false, List, length, Option, Some, None, Result, Ok, Err, IfOk, refl, sym, ap, ◌∙◌, inl, arith}
 use Rattle.std.proofs.lemmas.Bool.{false≢true}
 use Rattle.model_base.specs.{HasRisen}
@@ -19,7 +20,7 @@ use Rattle.redo_lab.specs.declared.outcome.Outcome.TheVariants as outcome
 use Rattle.redo_lab.proofs.Ends.{AreTelling, at-some, leaves-unprepared}
 use Rattle.redo_lab.specs.Asked.{command_of, IsBadLine, IsLongScript, IsScriptFault, leaves_devices, reads_script}
 use Rattle.redo_lab.specs.Call.{BothDevices, Guarded, IsUnfailed, IsUnwritten, LabCall, guarded}
-use Rattle.redo_lab.specs.Cause.{CanRun, IsCauseOf, IsPossible, IsUnprepared, MayKeepFrom}
+use Rattle.redo_lab.specs.Cause.{CanRun, IsCauseOf, IsPossible, IsUnprepared, LeavesFailed, MayKeepFrom}
 use Rattle.redo_lab.specs.Laws.{Laws}
 use Rattle.redo_lab.specs.Runs.{command_with, outcome_of}
 use Rattle.redo_lab.specs.Told.{LeavesStore}
@@ -39,15 +40,15 @@ alone-behind seen device old new inner fuse same = record {
   fuse = ap (λ (fused : Fused _). fused.fuse) same ∙ fuse;
 }
 
-still-tells : (device : Guarded) → IsLeftAlone device → device.entry.tells ≢ None → device.now.tells ≢ None
-still-tells device alone tells none = tells (ap (λ (seen : Seen). seen.tells) (sym alone.seen) ∙ none)
+still-tells : (device : Guarded) → IsLeftAlone device → device.now.tells ≢ None → device.entry.tells ≢ None
+still-tells device alone tells none = tells (ap (λ (seen : Seen). seen.tells) alone.seen ∙ none)
 
 unfailed-fresh : (device : Guarded) → IsLeftAlone device → IsUnfailed device
 unfailed-fresh device alone =
     (ap (λ (fuse : Fuse). fuse.early) alone.fuse, ap (λ (fuse : Fuse). fuse.mid) alone.fuse, ap (λ (fuse : Fuse). fuse.late) alone.fuse)
 
 unwritten-fresh : (device : Guarded) → IsLeftAlone device → IsUnwritten device
-unwritten-fresh device alone = (ap (λ (seen : Seen). seen.tells) alone.seen, ap (λ (fuse : Fuse). fuse.changes) alone.fuse)
+unwritten-fresh device alone = (still-same _ _ (ap (λ (seen : Seen). seen.tells) alone.seen), ap (λ (fuse : Fuse). fuse.changes) alone.fuse)
 
 module _ (call : LabCall) (alone : BothDevices IsLeftAlone call) where
   pub tells-alone : AreTelling call
@@ -62,7 +63,7 @@ module _ (call : LabCall) (alone : BothDevices IsLeftAlone call) where
   pub unprepared-alone : IsUnprepared call
   unprepared-alone = (
     (ap (λ (fuse : Fuse). fuse.stage) alone.0.fuse, ap (λ (fuse : Fuse). fuse.stage) alone.1.fuse),
-    inl (λ log data_disk log_is data_is. ((unwritten-fresh call.log alone.0).0, (unwritten-fresh call.store alone.1).0)),
+    inl (λ log data_disk log_is data_is log_on data_on. (ap (λ (seen : Seen). seen.tells) alone.0.seen, ap (λ (seen : Seen). seen.tells) alone.1.seen)),
   )
 
   pub leaves-alone : Laws → LeavesStore call
@@ -82,7 +83,7 @@ no-long-script call log_only misfit can long =
 
 -- A COMMAND THAT READS A SCRIPT, which wasn't read
 module _ (call : LabCall) (command : Command) (log_only : Bool) (alone : BothDevices IsLeftAlone call) (laws : Laws) (reads : reads_script command ≡ true)
-    (writes : leaves_devices command ≡ true → ⊥) (can : IsPossible call command → CanRun call log_only) where
+    (leaves : LeavesFailed call command) (writes : leaves_devices command ≡ true → ⊥) (can : IsPossible call command → CanRun call log_only) where
   unscripted : (f : Fault) → IsCauseOf call command f → (CanRun call log_only → (HasRisen call.source.faults call.source_now.faults → ⊥) → MayKeepFrom command f)
       → EndsWith call command (outcome.Fault f)
   unscripted f cause kept = record {
@@ -95,7 +96,7 @@ module _ (call : LabCall) (command : Command) (log_only : Bool) (alone : BothDev
   }
 
   script-fails : (f : Fault) → IsScriptFault call.source call.source_now f → EndsWith call command (outcome.Fault f)
-  script-fails fault.Memory cause = unscripted fault.Memory (λ runs. inl (unprepared-alone call alone)) (λ can source. tt)
+  script-fails fault.Memory cause = unscripted fault.Memory leaves (λ can source. tt)
   script-fails (fault.Script n) cause = unscripted (fault.Script n) (reads, cause, unwritten-alone call alone) (λ can source. absurd (no-bad-line call log_only n can cause))
   script-fails fault.Source cause = unscripted fault.Source (reads, cause, unwritten-alone call alone) (λ can source. absurd (source cause))
   script-fails (fault.Fit misfit) cause = unscripted (fault.Fit misfit) (inl (reads, cause, unwritten-alone call alone))
@@ -105,9 +106,10 @@ module _ (call : LabCall) (command : Command) (log_only : Bool) (alone : BothDev
 pub scripted-unscripted : (call : LabCall) (drive : Drive) (crash : Option Crashing) (f : Fault) → BothDevices IsLeftAlone call → IsScriptFault call.source call.source_now f → Laws
     → EndsWith call (command_with drive crash) (outcome.Fault f)
 scripted-unscripted call drive None f alone cause laws =
-    script-fails call (Run drive) drive.log_only alone laws refl (λ leaves. false≢true leaves) (λ possible. possible) f cause
+    script-fails call (Run drive) drive.log_only alone laws refl (λ runs. inl (unprepared-alone call alone)) (λ leaves. false≢true leaves) (λ possible. possible) f cause
 scripted-unscripted call drive (Some crash) f alone cause laws =
-    script-fails call (Crash drive crash.stops.log crash.stops.store crash.pick crash.workers) drive.log_only alone laws refl (λ leaves. false≢true leaves) (λ possible. possible) f cause
+    script-fails call (Crash drive crash.stops.log crash.stops.store crash.pick crash.workers) drive.log_only alone laws refl
+    (λ runs. inl (unprepared-alone call alone)) (λ leaves. false≢true leaves) (λ possible. possible) f cause
 
 -- GEN, and where memory ran out over the script that it runs
 pub gen-ends : {E : Type 0} (call : LabCall) (seed users groups max : ℕ) (r : Result (List ℕ) E) → BothDevices IsLeftAlone call → call.source_now ≡ call.source

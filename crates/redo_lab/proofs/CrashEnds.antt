@@ -1,5 +1,5 @@
 -- What a crash comes to: a report, with the crash theorem, or why there is none.
-use Rattle.std.proofs.Common.{ℕ, ◌≡◌, ◌+◌, List, Option, Some, None, IfSome, refl, sym, subst, ◌∙◌, inr, arith}
+use Rattle.std.proofs.Common.{ℕ, ◌≡◌, ◌+◌, List, Option, Some, None, IfSome, refl, sym, subst, ◌∙◌, inr, arith, ◌≢◌}
 use Rattle.std.proofs.lemmas.Bool.{false≢true}
 use Rattle.model_device.proofs.Images.{settled_images}
 use Rattle.model_device.specs.{Crashes, IsImage}
@@ -21,14 +21,17 @@ use Rattle.redo_drive.specs.declared.drive.RunEnd.TheVariants.{Done}
 use Rattle.redo_lab.specs.declared.outcome.Outcome.{Outcome}
 use Rattle.redo_lab.specs.declared.outcome.Outcome.TheVariants as outcome
 use Rattle.redo_lab.specs.declared.playing.Stops.{Stops}
+use Rattle.redo_disk.proofs.Told.{still-same}
+use Rattle.redo_lab.proofs.ByDrive.{Drives, DrivesLater}
 use Rattle.redo_lab.proofs.CrashTold.{HasTold, armed-first, crashes-told, device_of, has-told, is-crashed, is-device, stopped-as, whole-script}
 use Rattle.redo_lab.proofs.Ends.{ends-with, legal-on, opens-stored}
-use Rattle.redo_lab.proofs.Found.{one-opened, told-still}
+use Rattle.redo_lab.proofs.Found.{one-opened}
+use Rattle.redo_lab.proofs.Told.{some-tells, some-told}
 use Rattle.redo_lab.proofs.Rereading.{IsCrashedSince, ReadsTo, Was, before, prepared-later}
 use Rattle.redo_lab.specs.Answer.{AreCrashedAs, IsCrashText}
 use Rattle.redo_lab.specs.Asked.{IsScriptRead}
 use Rattle.redo_lab.specs.Call.{BothDevices, IsLeftFair, IsUnfailedAside, LabCall, WhereOpened, WhereToldNow}
-use Rattle.redo_lab.specs.Cause.{AreOfRun, CanPlay, LeavesFailedRun}
+use Rattle.redo_lab.specs.Cause.{AreOfRun, CanPlay, LeavesFailed}
 use Rattle.redo_lab.specs.Laws.{Laws}
 use Rattle.redo_lab.specs.Runs.{HasFailed, IsLeftBy, IsReportOf, LosesByFailure}
 use Rattle.redo_lab.specs.Store.{AreReadAsPrefix, AreRefused}
@@ -42,57 +45,52 @@ lost-stopped call script fault.DataDevice some left left_is =
     let more = some.0 in record { lost = λ i entry at lost. omega arith; left = λ more. omega arith; stopped = λ none. omega arith }
 lost-stopped call script f some left left_is = absurd some
 
-module _ (call : LabCall) (drive : Drive) (stops : Stops) (pick workers : ℕ) (script : List ScriptLine) (run : Option Ran) (log_was data_was : Was) (laws : Laws)
+module _ (call : LabCall) (drives : Drives) (later : DrivesLater drives call.drives) (drive : Drive) (stops : Stops)
+    (pick workers : ℕ) (script : List ScriptLine) (run : Option Ran) (log_was data_was : Was) (laws : Laws)
     (read : IsScriptRead call.source call.source_now script)
-    (left_by : IsLeftBy (before call log_was data_was) (Crash drive stops.log stops.store pick workers) drive stops script run Done)
-    (loses : LosesByFailure (before call log_was data_was) script run) where
+    (left_by : IsLeftBy (before call drives log_was data_was) (Crash drive stops.log stops.store pick workers) drive stops script run Done)
+    (loses : LosesByFailure (before call drives log_was data_was) script run) where
   abbrev asked : Command
   asked = Crash drive stops.log stops.store pick workers
 
   abbrev Since : ℕ → ℕ → Type 0
   Since log_failed data_failed = IsCrashedSince stops.log pick log_failed log_was call.log × IsCrashedSince stops.store pick data_failed data_was call.store
 
-  log-met : (log : Disk) → call.log.entry.tells ≡ Some log → (disk : Disk) × (log_was.now.tells ≡ Some disk)
-  log-met log log_is = told-still call.log.entry.tells log_was.now.tells log left_by.armed.log_device.same.tells log_is
-
-  data-met : (data_disk : Disk) → call.store.entry.tells ≡ Some data_disk → (disk : Disk) × (data_was.now.tells ≡ Some disk)
-  data-met data_disk data_is = told-still call.store.entry.tells data_was.now.tells data_disk left_by.armed.data_device.same.tells data_is
-
   module _ {log_failed data_failed : ℕ} (since : Since log_failed data_failed) where
     -- OPENING CAME TO ITS END just where a run took place.
     crash-first : IsOpenedFirst call call.log.now.crashed_from run
-    crash-first opened log data_disk log_is data_is log_fresh data_fresh opens armed_from disk armed_is met_is =
-        left_by.opened_first opened log data_disk log_is data_is log_fresh data_fresh opens armed_from disk (sym since.0.arming.told ∙ armed_is) (sym since.0.from ∙ met_is)
+    crash-first opened log data_disk log_is data_is log_on data_on log_fresh data_fresh opens armed_from disk armed_is met_is =
+        left_by.opened_first opened log data_disk log_is data_is (since.0.arming.back log_on) (since.1.arming.back data_on) log_fresh data_fresh opens armed_from disk (sym since.0.arming.told ∙ armed_is) (sym since.0.from ∙ met_is)
 
     -- WHAT IT LEFT is read as a prefix of the run, where both devices' images are fair.
     left-reads : (opened : Opened) → WhereOpened call opened (IsLeftFair call opened → WhereToldNow call (λ log store. ReadsPrefix script opened run log.reads store.reads))
-    left-reads opened log data_disk log_is data_is log_fresh data_fresh opens fair log_now data_now log_now_is data_now_is =
-        let log_at = log-met log log_is in
-        let data_at = data-met data_disk data_is in
-        left_by.reads opened log data_disk log_is data_is log_fresh data_fresh opens log_at.0 data_at.0 log_at.1 data_at.1 log_now.reads data_now.reads
+    left-reads opened log data_disk log_is data_is log_on data_on log_fresh data_fresh opens fair log_now data_now log_now_is data_now_is =
+        let log_at = some-told log_was.now.tells (since.0.arming.back log_on) in
+        let data_at = some-told data_was.now.tells (since.1.arming.back data_on) in
+        left_by.reads opened log data_disk log_is data_is (since.0.arming.back log_on) (since.1.arming.back data_on) log_fresh data_fresh opens log_at.0 data_at.0 log_at.1 data_at.1 log_now.reads data_now.reads
         (fair.log pick log_at.0 log_now since.0.pick_is (since.0.from ∙ log_at.1) log_now_is)
         (fair.store pick data_at.0 data_now since.1.pick_is (since.1.from ∙ data_at.1) data_now_is)
 
     -- EACH IMAGE of it is read so: of each device there is one.
     images-read : (opened : Opened) → WhereOpened call opened (IsLeftFair call opened → WhereToldNow call (AreReadAsPrefix script opened run))
-    images-read opened log data_disk log_is data_is log_fresh data_fresh opens fair log_now data_now log_now_is data_now_is log_bytes data_bytes image is_fair =
-        let log_at = log-met log log_is in
-        let data_at = data-met data_disk data_is in
+    images-read opened log data_disk log_is data_is log_on data_on log_fresh data_fresh opens fair log_now data_now log_now_is data_now_is log_bytes data_bytes image is_fair =
+        let log_at = some-told log_was.now.tells (since.0.arming.back log_on) in
+        let data_at = some-told data_was.now.tells (since.1.arming.back data_on) in
         let log_same : log_bytes ≡ log_now.reads =
         one-image log_at.0 log_now (crashes-told log_was.now.tells call.log.now.tells log_at.0 log_now since.0.left log_at.1 log_now_is) log_bytes image.possible in
         let data_same : data_bytes ≡ data_now.reads =
         one-image data_at.0 data_now (crashes-told data_was.now.tells call.store.now.tells data_at.0 data_now since.1.left data_at.1 data_now_is) data_bytes is_fair.possible in
         subst (λ (bytes : List ℕ). ReadsPrefix script opened run log_bytes bytes) (sym data_same)
         (subst (λ (bytes : List ℕ). ReadsPrefix script opened run bytes data_now.reads) (sym log_same)
-        (left-reads opened log data_disk log_is data_is log_fresh data_fresh opens fair log_now data_now log_now_is data_now_is))
+        (left-reads opened log data_disk log_is data_is log_on data_on log_fresh data_fresh opens fair log_now data_now log_now_is data_now_is))
       where
         one-image : (met left : Disk) → Crashes met left → (bytes : List ℕ) → IsImage left bytes → bytes ≡ left.reads
         one-image met left crashes = subst (λ (d : Disk). (bytes : List ℕ) → IsImage d bytes → bytes ≡ d.reads) (sym crashes.left) (settled_images crashes.image).1
 
     -- and is accepted
     crash-leaves : LeavesStore call
-    crash-leaves opened log data_disk log_is data_is log_fresh data_fresh stored fair log_now data_now log_now_is data_now_is log_bytes data_bytes image is_fair =
-        let read = images-read opened log data_disk log_is data_is log_fresh data_fresh (opens-stored call opened log data_disk stored) fair
+    crash-leaves opened log data_disk log_is data_is log_on data_on log_fresh data_fresh stored fair log_now data_now log_now_is data_now_is log_bytes data_bytes image is_fair =
+        let read = images-read opened log data_disk log_is data_is log_on data_on log_fresh data_fresh (opens-stored call opened log data_disk stored) fair
         log_now data_now log_now_is data_now_is log_bytes data_bytes image is_fair in
         (read.reading, read.is_read, read.old_copies)
 
@@ -102,16 +100,16 @@ module _ (call : LabCall) (drive : Drive) (stops : Stops) (pick workers : ℕ) (
       record { limit_is = since.1.armed.limit_is; pick_is = since.1.pick_is; unchanged_since = since.1.armed.late_changes },
     )
 
-    left-crashed : LeavesFailedRun call asked
+    left-crashed : LeavesFailed call asked
     left-crashed runs =
         let is : AreOfRun call asked = record {
           script = script;
           run = run;
           is_script = read;
           in_run = inr crashed-as;
-          reads = λ store log data_disk log_is data_is log_fresh data_fresh opens fair log_now data_now log_now_is data_now_is. (
-            legal-on (before call log_was data_was) asked drive left_by.opened script run Done _ _ laws left_by.ran store log data_disk log_is data_is log_fresh data_fresh opens,
-            images-read store log data_disk log_is data_is log_fresh data_fresh opens fair log_now data_now log_now_is data_now_is,
+          reads = λ store log data_disk log_is data_is log_on data_on log_fresh data_fresh opens fair log_now data_now log_now_is data_now_is. (
+            legal-on (before call drives log_was data_was) asked drive left_by.opened script run Done _ _ laws left_by.ran store log data_disk log_is data_is (since.0.arming.back log_on) (since.1.arming.back data_on) log_fresh data_fresh opens,
+            images-read store log data_disk log_is data_is log_on data_on log_fresh data_fresh opens fair log_now data_now log_now_is data_now_is,
           );
         } in
         inr is
@@ -127,16 +125,15 @@ module _ (call : LabCall) (drive : Drive) (stops : Stops) (pick workers : ℕ) (
     as-met log_is store_is = met-on run _ _ log_is store_is left_by.ran
       where
         met-on : (run : Option Ran) (log_met store_met : Option Disk) → log_met ≡ log_was.now.tells → store_met ≡ data_was.now.tells
-            → IfSome run (λ run. HasRunScript (before call log_was data_was) asked drive left_by.opened script run Done log_was.now.tells data_was.now.tells)
+            → IfSome run (λ run. HasRunScript (before call drives log_was data_was) asked drive left_by.opened script run Done log_was.now.tells data_was.now.tells)
             → IfSome run (λ run. HasRunScript call asked drive left_by.opened script run Done log_met store_met)
         met-on None log_met store_met log_is store_is took = tt
         met-on (Some run) log_met store_met log_is store_is took = record {
           is_script = read;
-          opens = took.opens;
+          opens = λ log data_disk log_is data_is log_on data_on. took.opens log data_disk log_is data_is (since.0.arming.back log_on) (since.1.arming.back data_on);
           fits = took.fits;
           in_lsn_order = took.in_lsn_order;
-          driven = subst (λ (met : Option Disk). call.drives drive left_by.opened script run Done log_met met) (sym store_is)
-              (subst (λ (met : Option Disk). call.drives drive left_by.opened script run Done met data_was.now.tells) (sym log_is) took.driven);
+          driven = later drive left_by.opened script run Done _ _ _ _ (still-same _ _ log_is) (still-same _ _ store_is) took.driven;
         }
 
     lost-by : (left : List (ℕ × ℕ)) → IsLeft script (entries_of run) left → LosesOnlyByFailure (call.log.fuse.mid + call.store.fuse.mid) run left
@@ -169,7 +166,7 @@ module _ (call : LabCall) (drive : Drive) (stops : Stops) (pick workers : ℕ) (
     crash-safe log_told data_told opened premises =
         let log = log_told.at_entry in
         let data_disk = data_told.at_entry in
-        let reads = left_by.reads opened log data_disk log_told.entry_is data_told.entry_is premises.log_fresh premises.data_fresh premises.opens
+        let reads = left_by.reads opened log data_disk log_told.entry_is data_told.entry_is (some-tells _ _ log_told.crashed_is) (some-tells _ _ data_told.crashed_is) premises.log_fresh premises.data_fresh premises.opens
         log_told.crashed_from data_told.crashed_from log_told.crashed_is data_told.crashed_is in
         let now = is_read log_told.left data_told.left log_told.left_is data_told.left_is in
         let log_crashed = is-crashed log_was call.log since.0 log_told in
@@ -179,7 +176,7 @@ module _ (call : LabCall) (drive : Drive) (stops : Stops) (pick workers : ℕ) (
         (record {
           every_script = record {
             whole = whole-script call script read;
-            fits = fits-on run log data_disk log_told.entry_is data_told.entry_is premises.opens left_by.ran;
+            fits = fits-on run log data_disk log_told.entry_is data_told.entry_is (some-tells _ _ log_told.crashed_is) (some-tells _ _ data_told.crashed_is) premises.opens left_by.ran;
           };
           any_stops = record {
             log_device = stopped-as log_was call.log since.0 log_told;
@@ -197,23 +194,24 @@ module _ (call : LabCall) (drive : Drive) (stops : Stops) (pick workers : ℕ) (
           log_fair = premises.log_fair;
           data_fair = premises.data_fair;
         })
-        (left_by.opened_first opened log data_disk log_told.entry_is data_told.entry_is premises.log_fresh premises.data_fresh premises.opens
+        (left_by.opened_first opened log data_disk log_told.entry_is data_told.entry_is (some-tells _ _ log_told.crashed_is) (some-tells _ _ data_told.crashed_is) premises.log_fresh premises.data_fresh premises.opens
         log_told.armed_from log_told.crashed_from (sym since.0.arming.told ∙ log_told.armed_is) log_told.crashed_is)
         (record {
-          in_lsn_order = legal-on (before call log_was data_was) asked drive left_by.opened script run Done _ _ laws left_by.ran opened
-              log data_disk log_told.entry_is data_told.entry_is premises.log_fresh premises.data_fresh premises.opens;
+          in_lsn_order = legal-on (before call drives log_was data_was) asked drive left_by.opened script run Done _ _ laws left_by.ran opened
+              log data_disk log_told.entry_is data_told.entry_is (some-tells _ _ log_told.crashed_is) (some-tells _ _ data_told.crashed_is) premises.log_fresh premises.data_fresh premises.opens;
           left_is = report.left_is;
           every_image = reads;
           lost_only_by_failure = lost-by since report.left report.left_is;
         })
       where
         fits-on : (run : Option Ran) (log data_disk : Disk) → call.log.entry.tells ≡ Some log → call.store.entry.tells ≡ Some data_disk
+            → log_was.now.tells ≢ None → data_was.now.tells ≢ None
             → Opens log.reads data_disk.reads opened.shape opened.pages opened.end
-            → IfSome run (λ run. HasRunScript (before call log_was data_was) asked drive left_by.opened script run Done log_was.now.tells data_was.now.tells)
+            → IfSome run (λ run. HasRunScript (before call drives log_was data_was) asked drive left_by.opened script run Done log_was.now.tells data_was.now.tells)
             → IfSome run (λ run. FitsOpened drive.log_only opened script)
-        fits-on None log data_disk log_is data_is opens took = tt
-        fits-on (Some run) log data_disk log_is data_is opens took =
-            subst (λ (o : Opened). FitsOpened drive.log_only o script) (one-opened laws log data_disk left_by.opened opened (took.opens log data_disk log_is data_is) opens) took.fits
+        fits-on None log data_disk log_is data_is log_on data_on opens took = tt
+        fits-on (Some run) log data_disk log_is data_is log_on data_on opens took =
+            subst (λ (o : Opened). FitsOpened drive.log_only o script) (one-opened laws log data_disk left_by.opened opened (took.opens log data_disk log_is data_is log_on data_on) opens) took.fits
 
     crash-text : IsCrashText call drive stops.log stops.store pick workers text
     crash-text = record {
@@ -231,8 +229,8 @@ module _ (call : LabCall) (drive : Drive) (stops : Stops) (pick workers : ℕ) (
       crashed = crashed-as since;
       is_read = is_read;
       safe = λ log_tells data_tells.
-          (let log_told = has-told log_was call.log since.0 left_by.armed.log_device.same.tells log_tells in
-          let data_told = has-told data_was call.store since.1 left_by.armed.data_device.same.tells data_tells in (
+          (let log_told = has-told log_was call.log since.0 log_tells in
+          let data_told = has-told data_was call.store since.1 data_tells in (
             crash_with log_told data_told,
             record {
               options_are = refl;
@@ -249,9 +247,9 @@ module _ (call : LabCall) (drive : Drive) (stops : Stops) (pick workers : ℕ) (
   -- A STORE THAT CAN BE RUN ON is not refused after the crash.
   possible-read-back : {log_failed data_failed : ℕ} (cause : Refusal) → Since log_failed data_failed → WhereToldNow call (AreRefused cause) → CanPlay call drive.log_only script → ⊥
   possible-read-back cause since refused can =
-      let log_left = told-still call.log.entry.tells call.log.now.tells can.log since.0.armed.same.tells can.log_tells in
-      let data_left = told-still call.store.entry.tells call.store.now.tells can.store since.1.armed.same.tells can.store_tells in
-      let kept = left-reads since can.opened can.log can.store can.log_tells can.store_tells can.log_fresh can.store_fresh can.opens can.fair
+      let log_left = some-told call.log.now.tells can.log_still in
+      let data_left = some-told call.store.now.tells can.store_still in
+      let kept = left-reads since can.opened can.log can.store can.log_tells can.store_tells can.log_still can.store_still can.log_fresh can.store_fresh can.opens can.fair
       log_left.0 data_left.0 log_left.1 data_left.1 in
       laws.one_answer log_left.0.reads data_left.0.reads kept.reading cause kept.is_read (refused log_left.0 data_left.0 log_left.1 data_left.1)
 

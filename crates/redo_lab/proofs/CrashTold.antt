@@ -4,7 +4,8 @@ use Rattle.model_device.specs.{Crashes, IsImage, settled}
 use Rattle.model_device.specs.Disk.{Disk}
 use Rattle.model_theorem.specs.{AreArmedFirst, Device, IsCrashed, IsStoppedAsAsked, IsWholeScript}
 use Rattle.model_script.specs.declared.script.ScriptLine.{ScriptLine}
-use Rattle.redo_disk.specs.{OnTold}
+use Rattle.redo_disk.specs.{WhereTold}
+use Rattle.redo_lab.proofs.Told.{some-tells, some-told}
 use Rattle.redo_lab.proofs.Found.{unopened-as}
 use Rattle.redo_lab.proofs.Rereading.{IsCrashedSince, Was}
 use Rattle.redo_lab.specs.Answer.{IsDevice, stop_of}
@@ -14,13 +15,13 @@ use Rattle.redo_lab.specs.Devices.{ArePrepared}
 use Rattle.redo_lab.specs.Laws.{Laws}
 
 -- the crash of a device that tells
-pub crashes-told : (old new : Option Disk) (before after : Disk) → OnTold old new Crashes → old ≡ Some before → new ≡ Some after → Crashes before after
-crashes-told None new before after told old_is new_is = absurd (cc)
-crashes-told (Some disk) new before after told old_is new_is =
-    let same_before : disk ≡ before = cc in
-    let next_is : new ≡ Some told.0 = told.1 in
-    let same_after : told.0 ≡ after = cc in
-    subst (λ (d : Disk). Crashes before d) same_after (subst (λ (d : Disk). Crashes d told.0) same_before told.2)
+pub crashes-told : (old new : Option Disk) (before after : Disk) → WhereTold old new Crashes → old ≡ Some before → new ≡ Some after → Crashes before after
+crashes-told old None before after told old_is new_is = absurd (cc)
+crashes-told old (Some disk) before after told old_is new_is =
+    let was_is : old ≡ Some told.0 = told.1 in
+    let same_before : told.0 ≡ before = cc in
+    let same_after : disk ≡ after = cc in
+    subst (λ (d : Disk). Crashes before d) same_after (subst (λ (d : Disk). Crashes d disk) same_before told.2)
 
 left-image : (before after : Disk) → Crashes before after → IsImage before after.reads
 left-image before after crashes = subst (IsImage before) (sym (ap (λ (d : Disk). d.reads) crashes.left)) crashes.possible
@@ -53,12 +54,12 @@ device_of device told = record {
 }
 
 module _ {limit : Option ℕ} {pick failed : ℕ} (was : Was) (device : Guarded) where
-  pub has-told : IsCrashedSince limit pick failed was device → (device.entry.tells ≢ None → was.now.tells ≢ None) → device.entry.tells ≢ None → HasTold was device
-  has-told since was_tells tells =
-      let at_entry = told-some device.entry.tells tells in
-      let armed = told-some device.armed_from (since.armed.told tells) in
-      let crashed = told-some was.now.tells (was_tells tells) in
-      let left = told-some device.now.tells (since.armed.same.tells tells) in
+  pub has-told : IsCrashedSince limit pick failed was device → device.now.tells ≢ None → HasTold was device
+  has-told since tells =
+      let at_entry = some-told device.entry.tells (since.armed.same.tells tells) in
+      let armed = some-told device.armed_from (since.armed.told tells) in
+      let crashed = some-told was.now.tells (since.arming.back tells) in
+      let left = some-told device.now.tells tells in
       record {
         at_entry = at_entry.0;
         armed_from = armed.0;
@@ -69,10 +70,6 @@ module _ {limit : Option ℕ} {pick failed : ℕ} (was : Was) (device : Guarded)
         crashed_is = crashed.1;
         left_is = left.1;
       }
-    where
-      told-some : (o : Option Disk) → o ≢ None → (disk : Disk) × (o ≡ Some disk)
-      told-some None tells = absurd (tells refl)
-      told-some (Some disk) tells = (disk, refl)
 
   pub is-device : IsCrashedSince limit pick failed was device → (told : HasTold was device) → IsDevice device (device_of device told)
   is-device since told = record {
@@ -111,13 +108,15 @@ pub armed-first : (call : LabCall) (log_was data_was : Was) → Laws → ArePrep
 armed-first call log_was data_was laws prepared counted log_told data_told = record {
   opening_counted = counted;
   unopened = unopened-as call log_told.at_entry data_told.at_entry log_told.armed_from data_told.armed_from laws prepared
-      log_told.entry_is data_told.entry_is log_told.armed_is data_told.armed_is;
+      log_told.entry_is data_told.entry_is log_told.armed_is data_told.armed_is (some-tells _ _ log_told.left_is) (some-tells _ _ data_told.left_is);
   log_calls = λ used. ⊎_elim
-      (λ formatted. absurd (used (formatted.unused log_told.at_entry data_told.at_entry log_told.entry_is data_told.entry_is)))
+      (λ formatted. absurd (used (formatted.unused log_told.at_entry data_told.at_entry log_told.entry_is data_told.entry_is
+      (some-tells _ _ log_told.left_is) (some-tells _ _ data_told.left_is))))
       (λ in_use. in_use.log_calls)
       prepared.which;
   data_calls = λ used. ⊎_elim
-      (λ formatted. absurd (used (formatted.unused log_told.at_entry data_told.at_entry log_told.entry_is data_told.entry_is)))
+      (λ formatted. absurd (used (formatted.unused log_told.at_entry data_told.at_entry log_told.entry_is data_told.entry_is
+      (some-tells _ _ log_told.left_is) (some-tells _ _ data_told.left_is))))
       (λ in_use. in_use.data_calls)
       prepared.which;
 }

@@ -1,5 +1,5 @@
 -- The run of a script on a store that stands opened, by a drive, and what it leaves.
-use Rattle.std.proofs.Common.{ℕ, ◌≡◌, ◌+◌, List, Option, Some, None, refl, sym, ap, subst, ◌∙◌, inl, ⊎_elim, arith}
+use Rattle.std.proofs.Common.{ℕ, ◌≡◌, ◌+◌, List, Option, Some, None, refl, sym, ap, subst, ◌∙◌, inl, ⊎_elim, arith, ◌≢◌}
 use Rattle.std.specs.List.{AllByRecursion}
 use Rattle.model_base.specs.declared.shape.Shape.{Shape}
 use Rattle.model_device.specs.{synced}
@@ -24,20 +24,22 @@ use Rattle.redo_drive.specs.declared.drive.Driven.{Driven}
 use Rattle.redo_drive.specs.declared.drive.RunEnd.{RunEnd}
 use Rattle.redo_drive.specs.declared.drive.RunEnd.TheVariants.{Done, Spent}
 use Rattle.redo_io.specs.{SourceSeen}
-use Rattle.redo_memdisk.proofs.Behind.{counts-calls}
+use Rattle.redo_memdisk.proofs.Behind.{counts-calls, keeps-behind}
 use Rattle.redo_memdisk.specs.{CallsThrough, seen_through}
 use Rattle.redo_memdisk.specs.declared.fused.Fused.{Fused}
 use Rattle.redo_open.specs.{WhereBothTell}
 use Rattle.redo_store.specs.declared.opened.Opened as store
 use Rattle.redo_lab.specs.declared.playing.Played.{Played}
 use Rattle.redo_lab.specs.declared.playing.Stops.{Stops}
+use Rattle.redo_lab.proofs.Behind.{calls-same, same-fused}
 use Rattle.redo_lab.proofs.Ends.{SpendsTurns, left-memory, left-spent}
-use Rattle.redo_lab.proofs.Found.{WasFound, found-armed, held-older, told-still}
+use Rattle.redo_lab.proofs.Found.{WasFound, found-armed, held-older}
 use Rattle.redo_lab.proofs.Fuses.{armed-calls}
 use Rattle.redo_lab.proofs.Opened.{armed-after}
 use Rattle.redo_lab.proofs.Rereading.{armed-as}
 use Rattle.redo_lab.proofs.SomeLeft.{some-left}
-use Rattle.redo_lab.proofs.Told.{both-told}
+use Rattle.redo_disk.proofs.Told.{still-same}
+use Rattle.redo_lab.proofs.Told.{both-told, some-told}
 use Rattle.redo_lab.specs.Call.{LabCall, WhereOpened, WhereToldNow}
 use Rattle.redo_lab.specs.Handed.{TellsOf, call_on}
 use Rattle.redo_lab.specs.Laws.{Laws}
@@ -77,6 +79,12 @@ module _ {L D : Type 0} (log_seen : L → Seen) (log_gives : L → Call → L �
   abbrev data-made : MakesCalls (CallsThrough data_seen data_gives) given.store.dev driven.closed.store.dev (MayEndWith driven.closed.store.failed)
   data-made = may_end (owes.comes_to.data_calls.live refl)
 
+  log-before : call.log.now.tells ≢ None → opening.log.now.tells ≢ None
+  log-before = (keeps-behind log_seen log_gives given.log.dev driven.closed.log.dev log-made.calls log-made.made).told
+
+  data-before : call.store.now.tells ≢ None → opening.store.now.tells ≢ None
+  data-before = (keeps-behind data_seen data_gives given.store.dev driven.closed.store.dev data-made.calls data-made.made).told
+
   log-none : given.log.dev.fuse.mid ≡ 0
   log-none = omega (arith, ready.unfailed)
 
@@ -95,11 +103,11 @@ module _ {L D : Type 0} (log_seen : L → Seen) (log_gives : L → Call → L �
       IsStart reading script log_disk data_disk
       → WhereBothTell (log_seen driven.closed.log.dev.inner).tells (data_seen driven.closed.store.dev.inner).tells (P reading)))
       → (opened : Opened) → WhereOpened call opened ((found : WasFound opening opened) × WhereToldNow call (P found.reading))
-  run-found P owed opened log_entry data_entry log_is data_is log_fresh data_fresh opens =
-      let found = found-armed opening laws ready.armed opened log_entry data_entry log_is data_is log_fresh data_fresh opens in
-      let is = ready.ready found.reading found.log found.data_disk found.log_is found.data_is found.openable in
-      let log_there = told-still opening.log.entry.tells opening.log.now.tells log_entry ready.armed.log_device.same.tells log_is in
-      let data_there = told-still opening.store.entry.tells opening.store.now.tells data_entry ready.armed.data_device.same.tells data_is in
+  run-found P owed opened log_entry data_entry log_is data_is log_on data_on log_fresh data_fresh opens =
+      let found = found-armed opening laws ready.armed opened log_entry data_entry log_is data_is (log-before log_on) (data-before data_on) log_fresh data_fresh opens in
+      let is = ready.ready found.reading found.log found.data_disk found.log_is found.data_is (log-before log_on) (data-before data_on) found.openable in
+      let log_there = some-told opening.log.now.tells (log-before log_on) in
+      let data_there = some-told opening.store.now.tells (data-before data_on) in
       let start : IsStart found.reading script log_there.0 data_there.0 = record {
         log_bytes = found.log.reads;
         data_bytes = found.data_disk.reads;
@@ -126,18 +134,17 @@ module _ {L D : Type 0} (log_seen : L → Seen) (log_gives : L → Call → L �
 
   -- EVERY IMAGE of both devices is read as a prefix of the run.
   run-reads : AreLeftRead call script (Some run)
-  run-reads opened log_entry data_entry log_is data_is log_fresh data_fresh opens log_now data_now log_now_is data_now_is =
-      let held = run-found Holds owes.holds opened log_entry data_entry log_is data_is log_fresh data_fresh opens in
+  run-reads opened log_entry data_entry log_is data_is log_on data_on log_fresh data_fresh opens log_now data_now log_now_is data_now_is =
+      let held = run-found Holds owes.holds opened log_entry data_entry log_is data_is log_on data_on log_fresh data_fresh opens in
       subst (λ (o : Opened). AreReadAsPrefix script o (Some run) log_now data_now) (sym held.0.same)
       (λ log_bytes data_bytes. laws.held_reads _ log_bytes data_bytes (held.1 log_now data_now log_now_is data_now_is))
 
   -- OPENING CAME TO ITS END before it.
   run-first : IsOpenedFirst call call.log.now.tells (Some run)
-  run-first opened log_entry data_entry log_is data_is log_fresh data_fresh opens armed_from disk armed_is now_is =
-      let held = run-found Holds owes.holds opened log_entry data_entry log_is data_is log_fresh data_fresh opens in
+  run-first opened log_entry data_entry log_is data_is log_on data_on log_fresh data_fresh opens armed_from disk armed_is now_is =
+      let held = run-found Holds owes.holds opened log_entry data_entry log_is data_is log_on data_on log_fresh data_fresh opens in
       let found = held.0 in
-      let data_now = told-still opening.store.entry.tells call.store.now.tells data_entry
-      (armed-after words source source_now log data_device ready.armed log-none data-none log-made data-made).data_device.same.tells data_is in
+      let data_now = some-told call.store.now.tells data_on in
       let armed = (armed-as log ready.armed.log_device.stage_is log-made).told in
       let same_log : found.log ≡ armed_from = (let found_is = found.log_is in cc) in
       subst (λ (armed_from : Disk). IsOpenedBefore opened.shape armed_from disk (Some run)) same_log
@@ -156,18 +163,20 @@ module _ {L D : Type 0} (log_seen : L → Seen) (log_gives : L → Call → L �
         opened = ready.opened;
         ran = record {
           is_script = running.is_script;
-          opens = ready.opens;
+          opens = λ log_disk data_disk log_is data_is log_on data_on. ready.opens log_disk data_disk log_is data_is (log-before log_on) (data-before data_on);
           fits = ready.fits;
           in_lsn_order = subst (λ (o : Opened). IsRun script o run) same (owes.comes_to.is_run ready.opened.end is.start);
           driven = record {
             store = given;
             is_opened = is;
+            opened_on = (calls-same log-made, calls-same data-made);
             driven = driven;
+            driven_on = (same-fused driven.closed.log.dev, same-fused driven.closed.store.dev);
             told = told;
             ends = ends;
             run_is = refl;
-            log_is = refl;
-            store_is = refl;
+            log_is = still-same _ _ refl;
+            store_is = still-same _ _ refl;
           };
         };
         opened_first = run-first;
@@ -183,7 +192,7 @@ module _ {L D : Type 0} (log_seen : L → Seen) (log_gives : L → Call → L �
   -- and where no call answered an error, what reads give is read
   read-now : driven.ended ≡ Done → HasMemory driven.closed → driven.closed.log.failed ≡ None → driven.closed.store.failed ≡ None
       → (opened : Opened) → WhereOpened call opened (WhereToldNow call (λ log_disk data_disk. (reading : Reading) × IsReading log_disk.reads data_disk.reads reading))
-  read-now done memory log_none data_none opened log_entry data_entry log_is data_is log_fresh data_fresh opens log_now data_now log_now_is data_now_is =
+  read-now done memory log_none data_none opened log_entry data_entry log_is data_is log_on data_on log_fresh data_fresh opens log_now data_now log_now_is data_now_is =
       let left = some-left script driven.closed.history in
       let Closes : Reading → Disk → Disk → Type 0 = λ reading log_disk data_disk. IsClosed (failed_in driven.closed) (record {
         script = script;
@@ -195,7 +204,7 @@ module _ {L D : Type 0} (log_seen : L → Seen) (log_gives : L → Call → L �
         data_disk = synced data_disk;
       }) in
       let closed = run-found Closes (λ reading started. owes.owed_synced log_none data_none reading left.0 done memory started left.1)
-      opened log_entry data_entry log_is data_is log_fresh data_fresh opens in
+      opened log_entry data_entry log_is data_is log_on data_on log_fresh data_fresh opens in
       let read = laws.held_reads _ log_now.reads data_now.reads (closed.1 log_now data_now log_now_is data_now_is).holds
       (synced-fair log_now) (laws.base_fair closed.0.reading.shape (synced data_now)) in
       (read.reading, read.is_read)

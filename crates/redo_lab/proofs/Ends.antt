@@ -1,5 +1,5 @@
 -- A command that runs a script: what it comes to, by what is left of both devices.
-use Rattle.std.proofs.Common.{ℕ, ◌≡◌, ◌≢◌, ◌<◌, Bool, true, false, List, [], Option, Some, None, IfSome, refl, sym, ap, subst, inl, inr, ⊎_elim, arith, ◌∙◌}
+use Rattle.std.proofs.Common.{ℕ, ◌≡◌, ◌≢◌, ◌<◌, Bool, true, false, List, [], Option, Some, None, IfSome, refl, sym, ap, subst, ◌⊎◌, inl, inr, ⊎_elim, arith, ◌∙◌}
 use Rattle.std.proofs.lemmas.Bool.{false≢true}
 use Rattle.model_base.specs.{HasRisen}
 use Rattle.model_base.specs.declared.shape.Shape.{Shape}
@@ -9,7 +9,7 @@ use Rattle.model_report.specs.declared.fault.Fault.{Fault}
 use Rattle.model_report.specs.declared.fault.Fault.TheVariants as fault
 use Rattle.model_script.specs.{script_of}
 use Rattle.model_script.specs.declared.asked.Command.{Command}
-use Rattle.model_script.specs.declared.asked.Command.TheVariants.{Run, Crash, Gen}
+use Rattle.model_script.specs.declared.asked.Command.TheVariants.{Format, Run, Crash, Recover, Dump, Gen}
 use Rattle.model_script.specs.declared.asked.Drive.{Drive}
 use Rattle.model_script.specs.declared.script.ScriptLine.{ScriptLine}
 use Rattle.model_store.specs.{IsFair, Opens}
@@ -27,7 +27,7 @@ use Rattle.redo_lab.proofs.ByDrive.{in-threads}
 use Rattle.redo_lab.proofs.Found.{one-opened, openable-fresh, same-told, unused-unread}
 use Rattle.redo_lab.specs.Asked.{IsScriptRead, leaves_devices, runs_script}
 use Rattle.redo_lab.specs.Call.{AreUnfailedFor, BothDevices, Guarded, IsInRun, IsUnfailed, IsUnfailedAside, LabCall, WhereOpened}
-use Rattle.redo_lab.specs.Cause.{AreInRunOrCrashed, AreOfRun, CanPlay, CanRun, IsDeviceFault, IsPastSource, IsPossible, IsRefused, IsRefusedAtEntry, IsUnbegun, IsUnprepared, LeavesFailedRun}
+use Rattle.redo_lab.specs.Cause.{AreInRunOrCrashed, AreOfRun, CanPlay, CanRun, IsDeviceFault, IsPastSource, IsPossible, IsRefused, IsRefusedAtEntry, IsUnbegun, IsUnprepared, LeavesFailed}
 use Rattle.redo_lab.specs.Devices.{AreArmed}
 use Rattle.redo_lab.specs.Laws.{Laws}
 use Rattle.redo_lab.specs.Runs.{CommandRuns, HasFailed, IsLeftBy, command_with}
@@ -121,15 +121,15 @@ opens-stored call opened log data_disk stored = ⊎_elim (λ orderly. inr orderl
 
 -- by devices that weren't prepared
 pub leaves-unprepared : (call : LabCall) → Laws → IsUnprepared call → LeavesStore call
-leaves-unprepared call laws unprepared opened log data_disk log_is data_is log_fresh data_fresh stored fair log_now data_now log_now_is data_now_is = ⊎_elim
+leaves-unprepared call laws unprepared opened log data_disk log_is data_is log_on data_on log_fresh data_fresh stored fair log_now data_now log_now_is data_now_is = ⊎_elim
     (λ orderly. ⊎_elim
     (λ kept.
-    let both = kept log data_disk log_is data_is in
+    let both = kept log data_disk log_is data_is log_on data_on in
     subst (λ (d : Disk). AreAccepted opened log_now d) (same-told _ _ data_disk data_now both.1 data_is data_now_is)
     (subst (λ (d : Disk). AreAccepted opened d data_disk) (same-told _ _ log log_now both.0 log_is log_now_is)
     (accepts opened orderly.reading log data_disk orderly.shape_is (laws.openable orderly.reading log data_disk
     (openable-fresh log data_disk call.log.entry.faults call.store.entry.faults opened log_fresh data_fresh orderly)))))
-    (λ were. absurd (unused-unread laws log.reads data_disk.reads orderly.reading (were log data_disk log_is data_is).0 orderly.orderly.reads))
+    (λ were. absurd (unused-unread laws log.reads data_disk.reads orderly.reading (were log data_disk log_is data_is log_on data_on).0 orderly.orderly.reads))
     unprepared.1)
     (λ unused. absurd (unused.1 unprepared.0.0))
     stored
@@ -142,14 +142,14 @@ leaves-unprepared call laws unprepared opened log data_disk log_is data_is log_f
 
 -- by a run, or none, of which every image is read as a prefix
 pub leaves-read : (call : LabCall) (script : List ScriptLine) (run : Option Ran) → AreLeftRead call script run → LeavesStore call
-leaves-read call script run reads opened log data_disk log_is data_is log_fresh data_fresh stored fair log_now data_now log_now_is data_now_is log_bytes data_bytes image is_fair =
-    let read = reads opened log data_disk log_is data_is log_fresh data_fresh (opens-stored call opened log data_disk stored)
+leaves-read call script run reads opened log data_disk log_is data_is log_on data_on log_fresh data_fresh stored fair log_now data_now log_now_is data_now_is log_bytes data_bytes image is_fair =
+    let read = reads opened log data_disk log_is data_is log_on data_on log_fresh data_fresh (opens-stored call opened log data_disk stored)
     log_now data_now log_now_is data_now_is log_bytes data_bytes image is_fair in
     (read.reading, read.is_read, read.old_copies)
 
--- both devices go on telling
+-- both devices told, if they tell now
 abbrev pub AreTelling : LabCall → Type 0
-AreTelling call = BothDevices (λ device. device.entry.tells ≢ None → device.now.tells ≢ None) call
+AreTelling call = BothDevices (λ device. device.now.tells ≢ None → device.entry.tells ≢ None) call
 
 pub tells-armed : {call : LabCall} {stops : Stops} → AreArmed call stops → AreTelling call
 tells-armed armed = (armed.log_device.same.tells, armed.data_device.same.tells)
@@ -168,9 +168,19 @@ unfailed-armed armed log_none data_none =
 pub legal-on : (call : LabCall) (command : Command) (drive : Drive) (opened : Opened) (script : List ScriptLine) (run : Option Ran) (end : RunEnd) (log_met store_met : Option Disk)
     → Laws → IfSome run (λ run. HasRunScript call command drive opened script run end log_met store_met)
     → (store : Opened) → WhereOpened call store (IfSome run (IsRun script store))
-legal-on call command drive opened script None end log_met store_met laws took store log data_disk log_is data_is log_fresh data_fresh opens = tt
-legal-on call command drive opened script (Some run) end log_met store_met laws took store log data_disk log_is data_is log_fresh data_fresh opens =
-    subst (λ (o : Opened). IsRun script o run) (one-opened laws log data_disk opened store (took.opens log data_disk log_is data_is) opens) took.in_lsn_order
+legal-on call command drive opened script None end log_met store_met laws took store log data_disk log_is data_is log_on data_on log_fresh data_fresh opens = tt
+legal-on call command drive opened script (Some run) end log_met store_met laws took store log data_disk log_is data_is log_on data_on log_fresh data_fresh opens =
+    subst (λ (o : Opened). IsRun script o run) (one-opened laws log data_disk opened store (took.opens log data_disk log_is data_is log_on data_on) opens) took.in_lsn_order
+
+-- what is left of a command that runs a script
+pub leaves-run : (call : LabCall) (command : Command) → runs_script command ≡ true → IsUnprepared call ⊎ AreOfRun call command
+    → LeavesFailed call command
+leaves-run call (Format pages space log_blocks) runs left = absurd (false≢true runs)
+leaves-run call (Run drive) runs left = λ _. left
+leaves-run call (Crash drive stop_log stop_data pick workers) runs left = λ _. left
+leaves-run call (Recover workers) runs left = λ _. left
+leaves-run call (Dump why) runs left = λ _. left
+leaves-run call (Gen seed users groups run max) runs left = λ _. left
 
 -- turns are spent by a drive that isn't in threads
 abbrev pub SpendsTurns : LabCall → Drive → Type 0
@@ -195,19 +205,22 @@ module _ (call : LabCall) (command : Command) (drive : Drive) (script : List Scr
   }
 
   -- THE DEVICES WEREN'T PREPARED.
+  leaves-unrun : IsUnprepared call → LeavesFailed call command
+  leaves-unrun left = leaves-run call command its.runs (inl left)
+
   pub unprepared-memory : AreTelling call → IsUnprepared call → EndsWith call command (outcome.Fault fault.Memory)
-  unprepared-memory tells left = ends-with (outcome.Fault fault.Memory) tells (leaves-unprepared call laws left) (λ runs. inl left) (λ can unfailed. tt)
+  unprepared-memory tells left = ends-with (outcome.Fault fault.Memory) tells (leaves-unprepared call laws left) (leaves-unrun left) (λ can unfailed. tt)
 
   pub unprepared-log : AreTelling call → IsUnprepared call → HasRisen call.log.entry.faults call.log.now.faults → 0 < call.log.fuse.early
       → EndsWith call command (outcome.Fault fault.LogDevice)
   unprepared-log tells left risen some = ends-with (outcome.Fault fault.LogDevice) tells (leaves-unprepared call laws left)
-      (its.past, its.fails_early call.log risen some, its.unbegun left, λ runs. inl left)
+      (its.past, its.fails_early call.log risen some, its.unbegun left, leaves-unrun left)
       (λ can unfailed. absurd (omega (arith, some, (its.aside unfailed).0.0)))
 
   pub unprepared-data : AreTelling call → IsUnprepared call → HasRisen call.store.entry.faults call.store.now.faults → 0 < call.store.fuse.early
       → EndsWith call command (outcome.Fault fault.DataDevice)
   unprepared-data tells left risen some = ends-with (outcome.Fault fault.DataDevice) tells (leaves-unprepared call laws left)
-      (its.past, its.fails_early call.store risen some, its.unbegun left, λ runs. inl left)
+      (its.past, its.fails_early call.store risen some, its.unbegun left, leaves-unrun left)
       (λ can unfailed. absurd (omega (arith, some, (its.aside unfailed).1.0)))
 
   -- THE STORE IS REFUSED at entry.
@@ -224,15 +237,15 @@ module _ (call : LabCall) (command : Command) (drive : Drive) (script : List Scr
     run = run;
     is_script = running.is_script;
     in_run = its.in_run armed;
-    reads = λ store log data_disk log_is data_is log_fresh data_fresh opens fair log_now data_now log_now_is data_now_is. (
-      legal store log data_disk log_is data_is log_fresh data_fresh opens,
-      reads store log data_disk log_is data_is log_fresh data_fresh opens log_now data_now log_now_is data_now_is,
+    reads = λ store log data_disk log_is data_is log_on data_on log_fresh data_fresh opens fair log_now data_now log_now_is data_now_is. (
+      legal store log data_disk log_is data_is log_on data_on log_fresh data_fresh opens,
+      reads store log data_disk log_is data_is log_on data_on log_fresh data_fresh opens log_now data_now log_now_is data_now_is,
     );
   }
 
   module _ {stops : Stops} {run : Option Ran} {end : RunEnd} (is : IsLeftBy call command drive stops script run end) where
-    pub left-by : LeavesFailedRun call command
-    left-by runs = inr (left-read run (in-run is.armed) (legal-on call command drive is.opened script run end _ _ laws is.ran) is.reads)
+    pub left-by : LeavesFailed call command
+    left-by = leaves-run call command its.runs (inr (left-read run (in-run is.armed) (legal-on call command drive is.opened script run end _ _ laws is.ran) is.reads))
 
     pub ends-left : (o : Outcome) → IsOutcome call command o
         → (CanPlay call drive.log_only script → AreUnfailedFor command call → IsDoneOrKeptFrom command o) → EndsWith call command o

@@ -5,20 +5,20 @@ use Rattle.redo_disk.specs.{Call, MakesCalls}
 use Rattle.redo_disk.specs.Seen.{Seen}
 use Rattle.redo_memdisk.specs.{CallsThrough, entry_of}
 use Rattle.redo_memdisk.specs.declared.fused.Fused.{Fused}
-use Rattle.redo_memdisk.proofs.Behind.{keeps-behind}
 use Rattle.redo_open.specs.{FormatCalls}
 use Rattle.redo_store.specs.declared.opened.Opened.{Opened}
 use Rattle.redo_recover.specs.declared.fault.RecFault.{RecFault}
 use Rattle.redo_recover.specs.declared.fault.RecFault.TheVariants.{LogDev, DataDev, NoMemory}
 use Rattle.redo_drive.specs.{Owes}
 use Rattle.redo_drive.specs.declared.drive.Driven.{Driven}
+use Rattle.redo_lab.proofs.Behind.{calls-same}
 use Rattle.redo_lab.specs.declared.playing.Ran.{Ran}
 use Rattle.redo_lab.specs.Handed.{AreOf}
 use Rattle.redo_lab.specs.Runs.{AreEntered}
 
 pub calls-entry : {D : Type 0} {seen : D → Seen} {gives : D → Call → D → Type 0} {old new : Fused D} {Are : List Call → Type 0}
     → MakesCalls (CallsThrough seen gives) old new Are → entry_of new ≡ entry_of old
-calls-entry {seen = seen} {gives = gives} {old = old} {new = new} made = (keeps-behind seen gives old new made.calls made.made).entry
+calls-entry made = (calls-same made).entry
 
 same-entry : {D : Type 0} {old new : Fused D} → new ≡ old → entry_of new ≡ entry_of old
 same-entry same = ap entry_of same

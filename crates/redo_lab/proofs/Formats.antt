@@ -31,7 +31,7 @@ use Rattle.redo_lab.proofs.Fuses.{unarmed-calls}
 use Rattle.redo_lab.proofs.Told.{both-told}
 use Rattle.redo_lab.specs.Answer.{asked_shape}
 use Rattle.redo_lab.specs.Call.{BothDevices, Guarded, IsUnfailed, LabCall, guarded}
-use Rattle.redo_lab.specs.Cause.{AreLongEnough, IsPastSource}
+use Rattle.redo_lab.specs.Cause.{AreLongEnough, IsPastSource, LeavesFailed}
 use Rattle.redo_lab.specs.Devices.{IsUnarmed}
 use Rattle.redo_lab.specs.Laws.{Laws}
 use Rattle.redo_lab.specs.Runs.{fault_of, outcome_of}
@@ -88,7 +88,8 @@ module _ {L D : Type 0} (log_seen : L → Seen) (log_gives : L → Call → L �
   format-fails to (PageAhead p lsn) calls cause = absurd cause
 
 -- THE COMMAND.
-module _ (call : LabCall) (pages space log_blocks : ℕ) (unread : call.source_now ≡ call.source) where
+module _ (call : LabCall) (pages space log_blocks : ℕ) (unread : call.source_now ≡ call.source)
+    (kept : LeavesFailed call (Format pages space log_blocks)) where
   abbrev asked : Command
   asked = Format pages space log_blocks
 
@@ -129,7 +130,7 @@ module _ (call : LabCall) (pages space log_blocks : ℕ) (unread : call.source_n
   )
       (λ long unfailed. tt)
   format-ends (Err e) since limits laws formatted is =
-      format-end (outcome.Fault fault.Memory) (since.0.same.tells, since.1.same.tells) (λ runs. absurd (false≢true runs)) (λ long unfailed. tt)
+      format-end (outcome.Fault fault.Memory) (since.0.same.tells, since.1.same.tells) kept (λ long unfailed. tt)
 
   not-long : (cause : Refusal) → IsTooShort shape call.log.entry.size call.store.entry.size cause → AreLongEnough shape call.log.entry.size call.store.entry.size → ⊥
   not-long (refusal.SmallLog n) short long = absurd (omega (arith, long.log_long, short.0))
@@ -142,10 +143,10 @@ module _ (call : LabCall) (pages space log_blocks : ℕ) (unread : call.source_n
     short = λ cause short same. format-end (outcome.Fault (fault.Store cause)) (tells-alone call (alone same))
         (past, unfailed-alone call (alone same), (short, unwritten-alone call (alone same))) (λ long unfailed. absurd (not-long cause short long));
     log_fails = λ since. format-end (outcome.Fault fault.LogDevice) (since.0.same.tells, since.1.same.tells)
-        (past, (since.0.risen (omega arith), omega (arith, since.0.early)), tt, λ runs. absurd (false≢true runs))
+        (past, (since.0.risen (omega arith), omega (arith, since.0.early)), tt, kept)
         (λ long unfailed. absurd (omega (arith, since.0.early, unfailed.0.0)));
     data_fails = λ since. format-end (outcome.Fault fault.DataDevice) (since.0.same.tells, since.1.same.tells)
-        (past, (since.1.risen (omega arith), omega (arith, since.1.early)), tt, λ runs. absurd (false≢true runs))
+        (past, (since.1.risen (omega arith), omega (arith, since.1.early)), tt, kept)
         (λ long unfailed. absurd (omega (arith, since.1.early, unfailed.1.0)));
-    memory = λ since. format-end (outcome.Fault fault.Memory) (since.0.same.tells, since.1.same.tells) (λ runs. absurd (false≢true runs)) (λ long unfailed. tt);
+    memory = λ since. format-end (outcome.Fault fault.Memory) (since.0.same.tells, since.1.same.tells) kept (λ long unfailed. tt);
   }

@@ -18,16 +18,13 @@ use Rattle.model_store.specs.declared.refusal.Refusal.TheVariants.{NotFormatted}
 use Rattle.model_theorem.specs.{AreUnopened, HasCheckpoint, HeldOlder, IsOpenedBefore, IsSettledAtEntry, Opened, opened_as, ReadsPrefix}
 use Rattle.redo_open.specs.{IsNotOpened}
 use Rattle.redo_lab.specs.declared.playing.Stops.{Stops}
+use Rattle.redo_lab.proofs.Told.{some-told}
 use Rattle.redo_lab.specs.Call.{LabCall, WhereOpened}
 use Rattle.redo_lab.specs.Devices.{AreArmed, ArePrepared}
 use Rattle.redo_lab.specs.Laws.{Laws}
 use Rattle.redo_lab.specs.Store.{DevicesOpenAs}
 
 -- a device that told goes on telling
-pub told-still : (old new : Option Disk) (disk : Disk) → (old ≢ None → new ≢ None) → old ≡ Some disk → (now : Disk) × (new ≡ Some now)
-told-still old None disk goes is = absurd (goes (λ none. cc) refl)
-told-still old (Some now) disk goes is = (now, refl)
-
 -- what two equal devices tell is the same
 pub same-told : (old new : Option Disk) (before now : Disk) → new ≡ old → old ≡ Some before → new ≡ Some now → before ≡ now
 same-told old new before now same before_is now_is = cc
@@ -82,21 +79,22 @@ one-opened laws log data_disk a b opens_a opens_b = ⊎_elim
 
 -- BEFORE OPENING both devices were as they were handed in, or as formatting leaves them.
 pub unopened-as : (call : LabCall) (log data_disk log_armed data_armed : Disk) → Laws → ArePrepared call → call.log.entry.tells ≡ Some log → call.store.entry.tells ≡ Some data_disk
-    → call.log.armed_from ≡ Some log_armed → call.store.armed_from ≡ Some data_armed → AreUnopened log data_disk log_armed data_armed
-unopened-as call log data_disk log_armed data_armed laws prepared log_is data_is log_armed_is data_armed_is = record {
+    → call.log.armed_from ≡ Some log_armed → call.store.armed_from ≡ Some data_armed → call.log.now.tells ≢ None → call.store.now.tells ≢ None
+    → AreUnopened log data_disk log_armed data_armed
+unopened-as call log data_disk log_armed data_armed laws prepared log_is data_is log_armed_is data_armed_is log_on data_on = record {
   unused = λ unused. ⊎_elim
       (λ formatted.
       let openable = laws.formatted default_shape log_armed data_armed default_within (formatted.formatted log_armed data_armed log_armed_is data_armed_is) in
       record { log_rests = openable.log_rests.one_image; data_rests = openable.data_rests.one_image; orderly = openable.orderly })
-      (λ in_use. absurd (in_use.used log data_disk log_is data_is unused))
+      (λ in_use. absurd (in_use.used log data_disk log_is data_is log_on data_on unused))
       prepared.which;
   log_in_use = λ used. ⊎_elim
-      (λ formatted. absurd (used (formatted.unused log data_disk log_is data_is)))
-      (λ in_use. sym (same-told _ _ log log_armed in_use.kept.0 log_is log_armed_is))
+      (λ formatted. absurd (used (formatted.unused log data_disk log_is data_is log_on data_on)))
+      (λ in_use. sym (same-told _ _ log log_armed (in_use.kept.0 log_on) log_is log_armed_is))
       prepared.which;
   data_in_use = λ used. ⊎_elim
-      (λ formatted. absurd (used (formatted.unused log data_disk log_is data_is)))
-      (λ in_use. sym (same-told _ _ data_disk data_armed in_use.kept.1 data_is data_armed_is))
+      (λ formatted. absurd (used (formatted.unused log data_disk log_is data_is log_on data_on)))
+      (λ in_use. sym (same-told _ _ data_disk data_armed (in_use.kept.1 data_on) data_is data_armed_is))
       prepared.which;
 }
 
@@ -111,11 +109,11 @@ pub record WasFound (call : LabCall) (opened : Opened) : Type 0 where
   pub openable : IsOpenable reading log data_disk
 
 pub was-found : (call : LabCall) → Laws → ArePrepared call
-    → (call.log.entry.tells ≢ None → call.log.armed_from ≢ None) → (call.store.entry.tells ≢ None → call.store.armed_from ≢ None)
+    → (call.log.now.tells ≢ None → call.log.armed_from ≢ None) → (call.store.now.tells ≢ None → call.store.armed_from ≢ None)
     → (opened : Opened) → WhereOpened call opened (WasFound call opened)
-was-found call laws prepared log_tells data_tells opened log data_disk log_is data_is log_fresh data_fresh opens =
-    let log_told = told-still call.log.entry.tells call.log.armed_from log log_tells log_is in
-    let data_told = told-still call.store.entry.tells call.store.armed_from data_disk data_tells data_is in
+was-found call laws prepared log_tells data_tells opened log data_disk log_is data_is log_on data_on log_fresh data_fresh opens =
+    let log_told = some-told call.log.armed_from (log_tells log_on) in
+    let data_told = some-told call.store.armed_from (data_tells data_on) in
     ⊎_elim
     (λ unused. ⊎_elim
     (λ formatted. record {
@@ -127,17 +125,17 @@ was-found call laws prepared log_tells data_tells opened log data_disk log_is da
       data_is = data_told.1;
       openable = laws.formatted default_shape log_told.0 data_told.0 default_within (formatted.formatted log_told.0 data_told.0 log_told.1 data_told.1);
     })
-    (λ in_use. absurd (in_use.used log data_disk log_is data_is unused.unused))
+    (λ in_use. absurd (in_use.used log data_disk log_is data_is log_on data_on unused.unused))
     prepared.which)
     (λ orderly. ⊎_elim
-    (λ formatted. absurd (unused-unread laws log.reads data_disk.reads orderly.reading (formatted.unused log data_disk log_is data_is) orderly.orderly.reads))
+    (λ formatted. absurd (unused-unread laws log.reads data_disk.reads orderly.reading (formatted.unused log data_disk log_is data_is log_on data_on) orderly.orderly.reads))
     (λ in_use. record {
       reading = orderly.reading;
       same = same-opened opened (opened_as orderly.reading) orderly.shape_is orderly.pages_are orderly.end_is;
       log = log;
       data_disk = data_disk;
-      log_is = in_use.kept.0 ∙ log_is;
-      data_is = in_use.kept.1 ∙ data_is;
+      log_is = in_use.kept.0 log_on ∙ log_is;
+      data_is = in_use.kept.1 data_on ∙ data_is;
       openable = openable-fresh log data_disk call.log.entry.faults call.store.entry.faults opened log_fresh data_fresh orderly;
     })
     prepared.which)

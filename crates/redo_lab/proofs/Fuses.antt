@@ -18,7 +18,7 @@ use Rattle.redo_memdisk.specs.declared.fuse.Stage.TheVariants.{Before, Stopping,
 use Rattle.redo_memdisk.specs.declared.fused.Fused.{Fused}
 use borrow.Author.Tests.{leb-true}
 use Rattle.redo_lab.proofs.Printed.{risen-later}
-use Rattle.redo_lab.proofs.Telling.{calls-go_on, told-goes_on}
+use Rattle.redo_lab.proofs.Told.{where-back}
 use Rattle.redo_lab.specs.Call.{guarded}
 use Rattle.redo_lab.specs.Devices.{IsArmed, IsSame, IsUnarmed}
 
@@ -29,7 +29,7 @@ unarmed-fresh seen device fused inner fuse = record {
   same = record {
     size = ap (λ d. (seen d).size) inner;
     later = omega (arith, ap (λ d. (seen d).faults) inner);
-    tells = λ tells none. tells (ap (λ d. (seen d).tells) (sym inner) ∙ none);
+    tells = λ tells none. tells (ap (λ d. (seen d).tells) inner ∙ none);
   };
   stage = ap (λ (fuse : Fuse). fuse.stage) fuse;
   passed = ap (λ (fuse : Fuse). fuse.passed) fuse;
@@ -120,7 +120,7 @@ same-calls seen gives device old new calls same made =
     record {
       size = kept.size ∙ same.size;
       later = omega (arith, kept.later, same.later);
-      tells = λ told. calls-go_on seen gives old new calls made (same.tells told);
+      tells = λ told. same.tells (kept.told told);
     }
 
 -- THE ARMING.
@@ -130,7 +130,7 @@ armed-now seen device old new limit was inner fuse found = record {
   same = record {
     size = ap (λ d. (seen d).size) inner ∙ was.same.size;
     later = omega (arith, ap (λ d. (seen d).faults) inner, was.same.later);
-    tells = λ told none. was.same.tells told (ap (λ d. (seen d).tells) (sym inner) ∙ none);
+    tells = λ told. was.same.tells (λ gone. told (ap (λ d. (seen d).tells) inner ∙ gone));
   };
   stage_is = ap (λ (fuse : Fuse). fuse.stage) fuse;
   limit_is = ap (λ (fuse : Fuse). fuse.limit) fuse;
@@ -140,7 +140,7 @@ armed-now seen device old new limit was inner fuse found = record {
   late_changes = ap (λ (fuse : Fuse). fuse.late_changes) fuse ∙ was.late_changes;
   cause = λ some. absurd (omega (arith, ap (λ (fuse : Fuse). fuse.mid) fuse, was.mid));
   risen = λ some. absurd (omega arith);
-  told = λ told none. was.same.tells told (sym found ∙ none);
+  told = λ told none. told (ap (λ d. (seen d).tells) inner ∙ sym found ∙ none);
 }
 
 -- what such calls leave of the calls before
@@ -199,7 +199,7 @@ module _ {D : Type 0} {seen : D → Seen} {gives : D → Call → D → Type 0} 
               (λ fails. inr (has-passed limit new.fuse.stage new.fuse.limit new.fuse.passed (counts.stage ∙ was.stage_is) (counts.limit ∙ was.limit_is) fails))
               (kept.cause (omega (arith, failed, mid)));
           risen = λ some. absurd (omega arith);
-          told = λ told none. was.told told (sym (armed-kept seen old new kept.armed) ∙ none);
+          told = λ told none. was.told (kept.told told) (sym (armed-kept seen old new kept.armed) ∙ none);
         },
         mid,
       )
@@ -233,7 +233,7 @@ module _ {D : Type 0} {seen : D → Seen} {gives : D → Call → D → Type 0} 
             (λ risen. risen-later (seen device).faults (seen old.inner).faults (seen new.inner).faults was.same.later kept.later risen)
             (λ fails. absurd (crashed-passes new.fuse (counts.stage ∙ stage) fails))
             (kept.cause (omega (arith, failed)));
-        told = λ told none. was.told told (sym (armed-kept seen old new kept.armed) ∙ none);
+        told = λ told none. was.told (kept.told told) (sym (armed-kept seen old new kept.armed) ∙ none);
       }
 
 -- THE CRASH.
@@ -247,7 +247,7 @@ crashed-now {seen = seen} {device = device} {old = old} {new = new} {limit = lim
       same = record {
         size = crash.passed_step.size ∙ was.same.size;
         later = omega (arith, crash.passed_step.later, was.same.later);
-        tells = λ told. told-goes_on _ _ _ crash.passed_step.left (was.same.tells told);
+        tells = λ told. was.same.tells (where-back _ _ _ crash.passed_step.left told);
       };
       stage_is = ap (λ (fuse : Fuse). fuse.stage) notes;
       limit_is = ap (λ (fuse : Fuse). fuse.limit) notes ∙ was.limit_is;
@@ -260,5 +260,5 @@ crashed-now {seen = seen} {device = device} {old = old} {new = new} {limit = lim
           (λ all. inr (subst (HasPassedAll limit) (sym passed) all))
           (was.cause (omega (arith, ap (λ (fuse : Fuse). fuse.mid) notes, some)));
       risen = λ some. absurd (omega arith);
-      told = λ told none. was.told told (sym (armed-kept seen old new crash.same_armed) ∙ none);
+      told = λ told none. was.told (where-back _ _ _ crash.passed_step.left told) (sym (armed-kept seen old new crash.same_armed) ∙ none);
     }

@@ -1,5 +1,7 @@
 pub mod Alone
 pub mod AskedLimits
+pub mod AtRest
+pub mod Behind
 pub mod ByDrive
 pub mod Contents
 pub mod CrashEnds

@@ -10,7 +10,7 @@ use Rattle.model_script.specs.declared.asked.Command.{Command}
 use Rattle.model_script.specs.declared.asked.Drive.{Drive}
 use Rattle.model_script.specs.declared.misfit.Misfit.{Misfit}
 use Rattle.model_script.specs.declared.script.ScriptLine.{ScriptLine}
-use Rattle.model_store.specs.{Refuses}
+use Rattle.model_store.specs.{IsOrderly, Refuses}
 use Rattle.model_store.specs.Reading.{Reading}
 use Rattle.model_store.specs.declared.refusal.Refusal.{Refusal}
 use Rattle.model_store.specs.declared.refusal.Refusal.TheVariants as refusal
@@ -25,8 +25,9 @@ use Rattle.redo_io.specs.{SourceSeen}
 use Rattle.redo_memdisk.proofs.Behind.{counts-calls}
 use Rattle.redo_memdisk.specs.{CallsThrough, seen_through, while_stopping}
 use Rattle.redo_memdisk.specs.declared.fused.Fused.{Fused}
+use Rattle.redo_open.proofs.Entry.{rests-keeps, rests-unmoved}
 use Rattle.redo_open.specs.{HasFaultCause, IsNotOpened, IsOpenedReady, IsOpeningOf, OpensLog, OpensSafely, WhereBothTell}
-use Rattle.redo_open.specs.Opening.{OpenResult, data_device_left, log_device_left}
+use Rattle.redo_open.specs.Opening.{OpenResult, WhereStillTold, data_device_left, log_device_left}
 use Rattle.redo_store.specs.{IsRunnable}
 use Rattle.redo_store.specs.declared.opened.Opened as store
 use Rattle.redo_recover.specs.{data_error, log_error, OnContents}
@@ -37,7 +38,7 @@ use Rattle.redo_lab.specs.declared.playing.Stops.{Stops}
 use Rattle.redo_lab.proofs.Fuses.{armed-calls}
 use Rattle.redo_lab.proofs.Opening.{HasEnd, has-end, opened-reads, opened_at, opens-as, refused-at, refused-kept, stopped-first, unplayed-memory, unplayed-misfit, unplayed-refused}
 use Rattle.redo_lab.proofs.Rereading.{armed-as, prepared-later, was_of}
-use Rattle.redo_lab.proofs.Told.{both-told, weaker-both}
+use Rattle.redo_lab.proofs.Told.{both-told, moved, still-equal, still-keeps, still-moves, weaker-both}
 use Rattle.redo_lab.specs.Call.{LabCall}
 use Rattle.redo_lab.specs.Devices.{AreArmed, AreAsArmed}
 use Rattle.redo_lab.specs.Handed.{call_on}
@@ -92,29 +93,41 @@ is-opening {log_seen = log_seen} {log_gives = log_gives} words source source_now
 
 -- WHAT OPENING SAYS of each store that it may have found
 module _ {L D : Type 0} (log_seen : L → Seen) (data_seen : D → Seen) (log data_told : Option Disk) where
+  -- of devices that it was handed like this
+  abbrev Safely : OpenResult L D → Reading → Disk → Disk → Type 0
+  Safely result reading log_disk data_disk =
+      IsOrderly log_disk.reads data_disk.reads reading → OpensSafely log_seen data_seen reading log_disk data_disk result
+
   pub opens-keeps : (result : OpenResult L D)
-      → ((reading : Reading) → WhereBothTell log data_told (λ log_disk data_disk. IsOpenable reading log_disk data_disk → OpensSafely log_seen data_seen reading result))
+      → ((reading : Reading) → WhereStillTold (log_seen (log_device_left result)).tells (data_seen (data_device_left result)).tells
+      (WhereBothTell log data_told (Safely result reading)))
       → (reading : Reading) → WhereBothTell log data_told (λ log_disk data_disk. IsOpenable reading log_disk data_disk
       → WhereBothTell (log_seen (log_device_left result)).tells (data_seen (data_device_left result)).tells (KeepsOpened reading))
-  opens-keeps result safely reading = weaker-both {Q = λ log_disk data_disk. IsOpenable reading log_disk data_disk
+  opens-keeps result safely reading = still-keeps log data_told (log_seen (log_device_left result)).tells (data_seen (data_device_left result)).tells (IsOpenable reading) (KeepsOpened reading)
+      (λ log_on data_on. weaker-both {Q = λ log_disk data_disk. IsOpenable reading log_disk data_disk
       → WhereBothTell (log_seen (log_device_left result)).tells (data_seen (data_device_left result)).tells (KeepsOpened reading)} log data_told
-      (λ log_disk data_disk opens openable. (opens openable).keeps) (safely reading)
+      (λ log_disk data_disk opens openable. rests-keeps log_seen data_seen reading log_disk data_disk result openable (opens openable.orderly))
+      (safely reading log_on data_on))
 
   pub opens-unmoved : (error : RecFault × L × D)
-      → ((reading : Reading) → WhereBothTell log data_told (λ log_disk data_disk. IsOpenable reading log_disk data_disk → OpensSafely log_seen data_seen reading (Err error)))
+      → ((reading : Reading) → WhereStillTold (log_seen error.1).tells (data_seen error.2).tells
+      (WhereBothTell log data_told (Safely (Err error) reading)))
       → (reading : Reading) → WhereBothTell log data_told (λ log_disk data_disk. IsOpenable reading log_disk data_disk
-      → error.0 ≢ NoMemory → IfSome (log_seen error.1).tells (IsNotOpened reading))
-  opens-unmoved error safely reading = weaker-both {Q = λ log_disk data_disk. IsOpenable reading log_disk data_disk
+      → error.0 ≢ NoMemory → (data_seen error.2).tells ≢ None → IfSome (log_seen error.1).tells (IsNotOpened reading))
+  opens-unmoved error safely reading = still-moves log data_told (log_seen error.1).tells (data_seen error.2).tells (IsOpenable reading) (error.0 ≢ NoMemory) (IsNotOpened reading)
+      (λ log_on data_on. weaker-both {Q = λ log_disk data_disk. IsOpenable reading log_disk data_disk
       → error.0 ≢ NoMemory → IfSome (log_seen error.1).tells (IsNotOpened reading)} log data_told
-      (λ log_disk data_disk opens openable. (opens openable).unmoved) (safely reading)
+      (λ log_disk data_disk opens openable. rests-unmoved log_seen data_seen reading log_disk data_disk error openable (opens openable.orderly))
+      (safely reading log_on data_on))
 
   pub opens-ready : (given : store.Opened L D)
-      → ((reading : Reading) → WhereBothTell log data_told (λ log_disk data_disk. IsOpenable reading log_disk data_disk → OpensSafely log_seen data_seen reading (Ok given)))
-      → (reading : Reading) → WhereBothTell log data_told (λ log_disk data_disk. IsOpenable reading log_disk data_disk
-      → IsOpenedReady log_seen data_seen reading given)
-  opens-ready given safely reading = weaker-both {Q = λ log_disk data_disk. IsOpenable reading log_disk data_disk
+      → ((reading : Reading) → WhereStillTold (log_seen given.log.dev).tells (data_seen given.store.dev).tells
+      (WhereBothTell log data_told (Safely (Ok given) reading)))
+      → (reading : Reading) → WhereStillTold (log_seen given.log.dev).tells (data_seen given.store.dev).tells
+      (WhereBothTell log data_told (λ log_disk data_disk. IsOpenable reading log_disk data_disk → IsOpenedReady log_seen data_seen reading given))
+  opens-ready given safely reading log_on data_on = weaker-both {Q = λ log_disk data_disk. IsOpenable reading log_disk data_disk
       → IsOpenedReady log_seen data_seen reading given} log data_told
-      (λ log_disk data_disk opens openable. (opens openable).ready) (safely reading)
+      (λ log_disk data_disk opens openable. (opens openable.orderly).ready) (safely reading log_on data_on)
 
 -- WHAT A RUN COMES TO whose store wasn't opened
 module _ (call : LabCall) (command : Command) (drive : Drive) (stops : Stops) (script : List ScriptLine)
@@ -124,7 +137,7 @@ module _ (call : LabCall) (command : Command) (drive : Drive) (stops : Stops) (s
   -- a device failed
   stopped-by : {log_failed data_failed : ℕ} → IsOpening log_failed data_failed log.tells data_device.tells call stops
       → ((reading : Reading) → WhereBothTell log.tells data_device.tells (λ log_disk data_disk. IsOpenable reading log_disk data_disk
-      → IfSome call.log.now.tells (IsNotOpened reading))) → IsLeftBy call command drive stops script None Done
+      → call.store.now.tells ≢ None → IfSome call.log.now.tells (IsNotOpened reading))) → IsLeftBy call command drive stops script None Done
   stopped-by is unmoved = record {
     armed = is.armed;
     counted = is.counted;
@@ -137,28 +150,31 @@ module _ (call : LabCall) (command : Command) (drive : Drive) (stops : Stops) (s
   -- the store is refused
   refused-by : (f : RecFault) (cause : Refusal) (log_after data_after : Seen) → log_after.tells ≡ call.log.now.tells → data_after.tells ≡ call.store.now.tells
       → IsOpening 0 0 log.tells data_device.tells call stops → HasFaultCause log data_device log_after data_after f
-      → OnContents log.tells data_device.tells (λ log_bytes data_bytes. Refuses log_bytes data_bytes cause) → EndsWith call command (outcome.Fault (fault.Store cause))
+      → WhereStillTold log_after.tells data_after.tells (OnContents log.tells data_device.tells (λ log_bytes data_bytes. Refuses log_bytes data_bytes cause)) → EndsWith call command (outcome.Fault (fault.Store cause))
   refused-by f cause log_after data_after log_is data_is is has refused =
       unplayed-refused call command drive stops script running laws is.armed (opened-reads call stops is.armed laws log.tells data_device.tells is.log_as is.data_as keeps script)
-      cause is.log_mid is.data_mid (refused-at call stops is.armed laws log.tells data_device.tells is.log_as is.data_as cause refused)
-      (refused-kept call stops is.armed laws log.tells data_device.tells is.log_as is.data_as cause refused
-      (weaker-both log.tells data_device.tells
-      (λ log_disk data_disk unchanged refuses. let same = unchanged refuses in
-      (sym log_is ∙ same.0.tells ∙ sym is.log_as, sym data_is ∙ same.1.tells ∙ sym is.data_as))
-      (has.kept cause)))
+      cause is.log_mid is.data_mid
+      (refused-at call stops is.armed laws log.tells data_device.tells is.log_as is.data_as cause (λ log_on data_on. refused (moved log_is log_on) (moved data_is data_on)))
+      (refused-kept call stops is.armed laws log.tells data_device.tells is.log_as is.data_as cause (λ log_on data_on. refused (moved log_is log_on) (moved data_is data_on))
+      (λ log_on data_on. weaker-both log.tells data_device.tells
+      (λ log_disk data_disk unchanged refuses. let same = unchanged refuses in (
+        sym log_is ∙ still-equal _ _ same.0.tells (moved log_is log_on) ∙ sym is.log_as,
+        sym data_is ∙ still-equal _ _ same.1.tells (moved data_is data_on) ∙ sym is.data_as,
+      ))
+      (has.kept (moved log_is log_on) (moved data_is data_on) cause)))
 
   pub unopened-comes : (f : RecFault) (log_after data_after : Seen) → log_after.tells ≡ call.log.now.tells → data_after.tells ≡ call.store.now.tells
       → IsOpening (failures (log_error f)) (failures (data_error f)) log.tells data_device.tells call stops
       → ((reading : Reading) → WhereBothTell log.tells data_device.tells (λ log_disk data_disk. IsOpenable reading log_disk data_disk
-      → f ≢ NoMemory → IfSome call.log.now.tells (IsNotOpened reading)))
+      → f ≢ NoMemory → call.store.now.tells ≢ None → IfSome call.log.now.tells (IsNotOpened reading)))
       → HasFaultCause log data_device log_after data_after f → ComesTo call command drive stops script (unopened f)
   unopened-comes LogDev log_after data_after log_is data_is is unmoved has = (
-    stopped-by is (λ reading. weaker-both {Q = λ log_disk data_disk. IsOpenable reading log_disk data_disk → IfSome call.log.now.tells (IsNotOpened reading)} log.tells data_device.tells
+    stopped-by is (λ reading. weaker-both {Q = λ log_disk data_disk. IsOpenable reading log_disk data_disk → call.store.now.tells ≢ None → IfSome call.log.now.tells (IsNotOpened reading)} log.tells data_device.tells
         (λ log_disk data_disk kept openable. kept openable (λ same. cc)) (unmoved reading)),
     omega (arith, is.log_mid),
   )
   unopened-comes DataDev log_after data_after log_is data_is is unmoved has = (
-    stopped-by is (λ reading. weaker-both {Q = λ log_disk data_disk. IsOpenable reading log_disk data_disk → IfSome call.log.now.tells (IsNotOpened reading)} log.tells data_device.tells
+    stopped-by is (λ reading. weaker-both {Q = λ log_disk data_disk. IsOpenable reading log_disk data_disk → call.store.now.tells ≢ None → IfSome call.log.now.tells (IsNotOpened reading)} log.tells data_device.tells
         (λ log_disk data_disk kept openable. kept openable (λ same. cc)) (unmoved reading)),
     (omega (arith, is.data_mid), is.log_mid),
   )
@@ -179,13 +195,13 @@ module _ {L D : Type 0} (log_seen : L → Seen) (data_seen : D → Seen) (call :
     (is : IsOpening 0 0 log data_told call stops)
     (keeps : (reading : Reading) → WhereBothTell log data_told (λ log_disk data_disk. IsOpenable reading log_disk data_disk
     → WhereBothTell call.log.now.tells call.store.now.tells (KeepsOpened reading)))
-    (runnable : IsRunnable given) (read : OnContents log data_told (λ log_bytes data_bytes. IsOpeningOf log_bytes data_bytes given)) where
-  abbrev ends : HasEnd log data_told given
-  ends = has-end log data_told given runnable read
+    (runnable : IsRunnable given) (read : WhereStillTold call.log.now.tells call.store.now.tells (OnContents log data_told (λ log_bytes data_bytes. IsOpeningOf log_bytes data_bytes given))) where
+  abbrev ends : HasEnd log data_told call.log.now.tells call.store.now.tells given
+  ends = has-end log data_told call.log.now.tells call.store.now.tells given runnable read
 
   -- for a script that fits it
-  pub stands-ready : ((reading : Reading) → WhereBothTell log data_told (λ log_disk data_disk. IsOpenable reading log_disk data_disk
-      → IsOpenedReady (seen_through log_seen) (seen_through data_seen) reading given))
+  pub stands-ready : ((reading : Reading) → WhereStillTold call.log.now.tells call.store.now.tells (WhereBothTell log data_told (λ log_disk data_disk. IsOpenable reading log_disk data_disk
+      → IsOpenedReady (seen_through log_seen) (seen_through data_seen) reading given)))
       → ScriptFits given.shape given.start (room_from drive.log_only given.shape given.start) script
       → StandsReady log_seen data_seen call drive stops script given
   stands-ready ready fits = record {
@@ -197,9 +213,9 @@ module _ {L D : Type 0} (log_seen : L → Seen) (data_seen : D → Seen) (call :
     opens = opens-as call stops is.armed laws log data_told is.log_as is.data_as given ends;
     fits = subst (λ start. ScriptFits given.shape start (room_from drive.log_only given.shape start) script) ends.start fits;
     reads = opened-reads call stops is.armed laws log data_told is.log_as is.data_as keeps script;
-    ready = λ reading log_disk data_disk log_is data_is. both-told log data_told
+    ready = λ reading log_disk data_disk log_is data_is log_on data_on. both-told log data_told
         (λ log_disk data_disk. IsOpenable reading log_disk data_disk → IsOpenedReady (seen_through log_seen) (seen_through data_seen) reading given)
-        (ready reading) log_disk data_disk (sym is.log_as ∙ log_is) (sym is.data_as ∙ data_is);
+        (ready reading log_on data_on) log_disk data_disk (sym is.log_as ∙ log_is) (sym is.data_as ∙ data_is);
   }
 
   -- for one that doesn't

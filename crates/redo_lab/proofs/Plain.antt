@@ -1,4 +1,7 @@
 -- What the commands come to that read both devices and run nothing.
+use Rattle.model_store.specs.{IsReading}
+use Rattle.model_device.specs.Disk.{Disk}
+use Rattle.redo_lab.proofs.Told.{still-equal}
 use Rattle.std.proofs.Common.{ℕ, ◌≡◌, ◌<◌, Bool, true, if◌then◌else◌, List, Some, None, Option, Result, Ok, Err, IfOk, ap, subst, ◌∙◌, arith}
 use Rattle.std.proofs.lemmas.Bool.{false≢true}
 use Rattle.model_base.specs.{HasRisen}
@@ -10,7 +13,7 @@ use Rattle.model_script.specs.declared.asked.Command.{Command}
 use Rattle.model_script.specs.declared.asked.Command.TheVariants.{Recover, Dump}
 use Rattle.model_store.specs.Reading.{Reading}
 use Rattle.model_store.specs.declared.refusal.Refusal.{Refusal}
-use Rattle.redo_disk.specs.{Call, failures, MakesCalls, ReadsMayEndWith}
+use Rattle.redo_disk.specs.{Call, failures, MakesCalls, ReadsMayEndWith, StillTells}
 use Rattle.redo_disk.specs.Seen.{Seen}
 use Rattle.redo_disk.specs.declared.error.DevError.{DevError}
 use Rattle.redo_disk.proofs.Calls.{changing_calls-reads}
@@ -28,7 +31,7 @@ use Rattle.redo_lab.proofs.Telling.{reads-keep}
 use Rattle.redo_lab.specs.Answer.{IsListing, IsReadOff}
 use Rattle.redo_lab.specs.Asked.{runs_script}
 use Rattle.redo_lab.specs.Call.{AreUnfailedFor, BothDevices, Guarded, IsUnfailed, IsUnwritten, LabCall, WhereToldAtEntry, guarded}
-use Rattle.redo_lab.specs.Cause.{CanRead, IsDeviceFault, IsPastSource, IsPossible, IsUnbegun}
+use Rattle.redo_lab.specs.Cause.{CanRead, IsDeviceFault, IsPastSource, IsPossible, IsUnbegun, LeavesFailed}
 use Rattle.redo_lab.specs.Devices.{IsUnarmed}
 use Rattle.redo_lab.specs.Laws.{Laws}
 use Rattle.redo_lab.specs.Store.{AreRefused}
@@ -45,7 +48,7 @@ only-read {seen = seen} {gives = gives} {device = device} {old = old} {new = new
     let counts = counts-calls seen gives old new made.calls made.made in (
       unarmed-calls (unarmed-fresh seen device old inner fuse) (weaker_calls (λ calls reads. reads.ends) made),
       (
-        (reads-keep seen gives old new made.calls made.are.reads made.made).tells ∙ ap (λ d. (seen d).tells) inner,
+        subst (λ d. StillTells (seen d).tells (seen new.inner).tells) inner (reads-keep seen gives old new made.calls made.are.reads made.made).tells,
         counts.changes ∙ ap (λ n. counted n old.fuse.changes) (changing_calls-reads made.calls made.are.reads) ∙ ap (λ (fuse : Fuse). fuse.changes) fuse,
       ),
     )
@@ -58,6 +61,7 @@ pub record ReadsOff (call : LabCall) (command : Command) (IsTextOf : Reading →
   pub answer : (text : List ℕ) → BothDevices IsUnfailed call → IsReadOff call IsTextOf text → IsOutcome call command (outcome.Text text)
   pub fails : (device : Guarded) → HasRisen device.entry.faults device.now.faults → 0 < device.fuse.early → IsDeviceFault command device
   pub unbegun : IsUnbegun call command
+  pub leaves : LeavesFailed call command
   pub refused : (refusal : Refusal) → BothDevices IsUnfailed call → WhereToldAtEntry call (AreRefused refusal) → IsOutcome call command (outcome.Fault (fault.Store refusal))
   pub unfailed : AreUnfailedFor command call → BothDevices IsUnfailed call
   pub reads : IsPossible call command → CanRead call
@@ -70,6 +74,7 @@ recovers-off call workers unread = record {
   answer = λ text unfailed answer. (unfailed, answer);
   fails = λ device risen some. (risen, omega (arith, some));
   unbegun = tt;
+  leaves = λ runs. absurd (false≢true runs);
   refused = λ refusal unfailed refused. ((λ reads. absurd (false≢true reads)), unfailed, refused);
   unfailed = λ none. none;
   reads = λ possible. possible;
@@ -83,6 +88,7 @@ dumps-off call why unread = record {
   answer = λ text unfailed answer. (unfailed, answer);
   fails = λ device risen some. (risen, omega (arith, some));
   unbegun = tt;
+  leaves = λ runs. absurd (false≢true runs);
   refused = λ refusal unfailed refused. ((λ reads. absurd (false≢true reads)), unfailed, refused);
   unfailed = λ none. none;
   reads = λ possible. possible;
@@ -90,14 +96,14 @@ dumps-off call why unread = record {
 
 -- the listing that was made of what was recovered
 pub listed : {E : Type 0} (call : LabCall) (why : Bool) (reading : Reading) (stop : ℕ × Cause) (r : Result (List ℕ) E)
-    → OnContent call.log.entry.tells (IsStop (layout_of reading.format reading.shape) reading.ckpt reading.views stop)
+    → StillTells call.log.entry.tells call.log.now.tells → OnContent call.log.now.tells (IsStop (layout_of reading.format reading.shape) reading.ckpt reading.views stop)
     → IfOk r (λ text. text ≡ dump_text (if why then Some stop else None) reading) → IfOk r (IsListing call why reading)
-listed call why reading stop (Ok text) stops is = record {
+listed call why reading stop (Ok text) still stops is = record {
   stop = stop;
-  is_stop = λ log log_is. subst (λ told. OnContent told (IsStop (layout_of reading.format reading.shape) reading.ckpt reading.views stop)) log_is stops;
+  is_stop = λ log log_is log_on. subst (λ told. OnContent told (IsStop (layout_of reading.format reading.shape) reading.ckpt reading.views stop)) (still-equal _ _ still log_on ∙ log_is) stops;
   text_is = is;
 }
-listed call why reading stop (Err error) stops is = tt
+listed call why reading stop (Err error) still stops is = tt
 
 module _ {call : LabCall} {command : Command} {IsTextOf : Reading → List ℕ → Type 0} (off : ReadsOff call command IsTextOf) (laws : Laws) where
   abbrev Since : ℕ → ℕ → Type 0
@@ -118,17 +124,23 @@ module _ {call : LabCall} {command : Command} {IsTextOf : Reading → List ℕ �
   }
 
   -- WHAT READING THE STORE COMES TO.
-  pub plain-reads : ReadsTo Since call.log.entry.tells call.store.entry.tells IsTextOf (EndsWith call command)
+  -- what reads gave is what they gave at entry, where both devices still tell
+  at-entry : {log_failed data_failed : ℕ} (P : Disk → Disk → Type 0) → Since log_failed data_failed
+      → ((log_disk data_disk : Disk) → call.log.now.tells ≡ Some log_disk → call.store.now.tells ≡ Some data_disk → P log_disk data_disk) → WhereToldAtEntry call P
+  at-entry P since holds log data_disk log_is data_is log_on data_on =
+      holds log data_disk (still-equal _ _ since.0.1.0 log_on ∙ log_is) (still-equal _ _ since.1.1.0 data_on ∙ data_is)
+
+  pub plain-reads : ReadsTo Since call.log.now.tells call.store.now.tells IsTextOf (EndsWith call command)
   plain-reads = record {
     read = λ reading text since is_read text_is. reads-end (outcome.Text text) since
-        (off.answer text (unfailed-reads since) (record { reading = reading; is_read = is_read; text_is = text_is })) (λ can unfailed. tt);
-    refused = λ cause since refused. reads-end (outcome.Fault (fault.Store cause)) since (off.refused cause (unfailed-reads since) refused)
-        (λ can unfailed. absurd (laws.one_answer can.log.reads can.store.reads can.reading cause can.is_read (refused can.log can.store can.log_tells can.store_tells)));
-    memory = λ since. reads-end (outcome.Fault fault.Memory) since (λ runs. absurd (off.runs runs)) (λ can unfailed. tt);
+        (off.answer text (unfailed-reads since) (record { reading = reading; is_read = at-entry (λ log store. IsReading log.reads store.reads reading) since is_read; text_is = text_is })) (λ can unfailed. tt);
+    refused = λ cause since refused. reads-end (outcome.Fault (fault.Store cause)) since (off.refused cause (unfailed-reads since) (at-entry (AreRefused cause) since refused))
+        (λ can unfailed. absurd (laws.one_answer can.log.reads can.store.reads can.reading cause can.is_read (at-entry (AreRefused cause) since refused can.log can.store can.log_tells can.store_tells can.log_still can.store_still)));
+    memory = λ since. reads-end (outcome.Fault fault.Memory) since off.leaves (λ can unfailed. tt);
     log_fails = λ since. reads-end (outcome.Fault fault.LogDevice) since
-        (off.past, off.fails call.log (since.0.0.risen (omega arith)) (omega (arith, since.0.0.early)), off.unbegun, λ runs. absurd (off.runs runs))
+        (off.past, off.fails call.log (since.0.0.risen (omega arith)) (omega (arith, since.0.0.early)), off.unbegun, off.leaves)
         (λ can unfailed. absurd (omega (arith, since.0.0.early, unfailed.0.0)));
     data_fails = λ since. reads-end (outcome.Fault fault.DataDevice) since
-        (off.past, off.fails call.store (since.1.0.risen (omega arith)) (omega (arith, since.1.0.early)), off.unbegun, λ runs. absurd (off.runs runs))
+        (off.past, off.fails call.store (since.1.0.risen (omega arith)) (omega (arith, since.1.0.early)), off.unbegun, off.leaves)
         (λ can unfailed. absurd (omega (arith, since.1.0.early, unfailed.1.0)));
   }

@@ -1,7 +1,8 @@
 -- The two devices while a run prepares them.
-use Rattle.std.proofs.Common.{ℕ, ◌≡◌, ◌≤◌, ◌<◌, ◌↔◌, Bool, List, true, false, IsTrue, length, Option, Some, Ok, IfSome, refl, ap, ◌∙◌, inl, inr, ⊎_elim, arith}
+use Rattle.std.proofs.Common.{ℕ, ◌≡◌, ◌≤◌, ◌<◌, ◌↔◌, Bool, List, true, false, IsTrue, length, Option, Some, Ok, IfSome, refl, ap, ◌∙◌, inl, inr, ⊎_elim, arith, ◌≢◌, None}
 use Rattle.std.proofs.lemmas.Bool.{cases_lt, false≢true}
 use Rattle.model_base.specs.{default_shape}
+use Rattle.model_base.specs.declared.shape.Shape.{Shape}
 use Rattle.model_device.specs.Disk.{Disk}
 use Rattle.model_log.specs.{log_device_length}
 use Rattle.model_log.specs.declared.layout.TheConstants.{HEADER_BYTES}
@@ -32,7 +33,9 @@ use Rattle.redo_lab.proofs.Ends.{AreTelling, at-some, ends-refused, leaves-unpre
 use Rattle.redo_lab.proofs.Formats.{BothUnarmed, FormatsTo}
 use Rattle.redo_lab.proofs.Fuses.{unarmed-calls, unarmed-fresh}
 use Rattle.redo_lab.proofs.Telling.{reads-keep}
-use Rattle.redo_lab.proofs.Told.{both-told}
+use Rattle.redo_disk.specs.{StillTells}
+use Rattle.redo_disk.proofs.Told.{still-same}
+use Rattle.redo_lab.proofs.Told.{both-told, still-equal}
 use Rattle.redo_lab.specs.Call.{BothDevices, Guarded, HaveSameContents, LabCall, WhereToldAtEntry, WhereToldNow, guarded}
 use Rattle.redo_lab.specs.Cause.{AreLongEnough, CanPlay, IsUnprepared}
 use Rattle.redo_lab.specs.Devices.{ArePrepared, IsFirstRead, IsUnarmed, to_be_armed}
@@ -44,8 +47,8 @@ use Rattle.redo_lab.specs.Ending.{EndsWith}
 -- The log device after its first read, which answered this; and the data device, of which no call was made.
 pub record IsReadFirst (failed : ℕ) (log store : Guarded) : Type 0 where
   pub unarmed : BothUnarmed log store failed 0
-  pub log_kept : log.now.tells ≡ log.entry.tells
-  pub data_kept : store.now.tells ≡ store.entry.tells
+  pub log_kept : StillTells log.entry.tells log.now.tells
+  pub data_kept : StillTells store.entry.tells store.now.tells
   pub log_calls : log.fuse.early_calls ≡ 1
   pub data_calls : store.fuse.early_calls ≡ 0
 
@@ -60,7 +63,7 @@ read-first {log_seen = log_seen} {gives = gives} data_seen {log_old = log_old} {
         unarmed-fresh data_seen (inner_of store) store refl data_fresh,
       );
       log_kept = (reads-keep log_seen gives log_old log made.calls made.are.reads.reads made.made).tells;
-      data_kept = refl;
+      data_kept = still-same _ _ refl;
       log_calls = counts.early_calls
           ∙ ap (λ stage. counted (before_arming stage (length made.calls)) log_old.fuse.early_calls) (ap (λ (fuse : Fuse). fuse.stage) log_fresh)
           ∙ ap (λ n. counted n log_old.fuse.early_calls) made.are.one ∙ ap (counted 1) (ap (λ (fuse : Fuse). fuse.early_calls) log_fresh);
@@ -69,24 +72,25 @@ read-first {log_seen = log_seen} {gives = gives} data_seen {log_old = log_old} {
 
 -- THE LOG DEVICE IS IN USE.
 pub prepared-in-use : (call : LabCall) → HEADER_BYTES ≤ call.log.entry.size → IsReadFirst 0 call.log call.store
-    → IfSome call.log.entry.tells (λ disk. IsTrue false ↔ IsUnused disk.reads) → BothDevices (IsUnarmed 0) call × ArePrepared (to_be_armed call)
+    → IfSome call.log.now.tells (λ disk. IsTrue false ↔ IsUnused disk.reads) → BothDevices (IsUnarmed 0) call × ArePrepared (to_be_armed call)
 prepared-in-use call header first used = (
   first.unarmed,
   record {
     header = header;
     which = inr (record {
-      used = λ log_disk data_disk log_is data_is unused.
-          false≢true ((at-some call.log.entry.tells (λ disk. IsTrue false ↔ IsUnused disk.reads) log_disk used log_is).1 unused);
-      kept = (first.log_kept, first.data_kept);
+      used = λ log_disk data_disk log_is data_is log_on data_on unused.
+          false≢true ((at-some call.log.now.tells (λ disk. IsTrue false ↔ IsUnused disk.reads) log_disk used (still-equal _ _ first.log_kept log_on ∙ log_is)).1 unused);
+      kept = (still-equal _ _ first.log_kept, still-equal _ _ first.data_kept);
       log_calls = omega (arith, first.log_calls);
       data_calls = first.data_calls;
     });
   },
 )
 
-was-unused : (call : LabCall) → IfSome call.log.entry.tells (λ disk. IsTrue true ↔ IsUnused disk.reads) → WhereToldAtEntry call (λ log store. IsUnused log.reads)
-was-unused call unused log_disk data_disk log_is data_is =
-    (at-some call.log.entry.tells (λ disk. IsTrue true ↔ IsUnused disk.reads) log_disk unused log_is).0 refl
+was-unused : (call : LabCall) (met : Option Disk) → (call.log.now.tells ≢ None → met ≡ call.log.entry.tells) → IfSome met (λ disk. IsTrue true ↔ IsUnused disk.reads)
+    → WhereToldAtEntry call (λ log store. IsUnused log.reads)
+was-unused call met same unused log_disk data_disk log_is data_is log_on data_on =
+    (at-some met (λ disk. IsTrue true ↔ IsUnused disk.reads) log_disk unused (same log_on ∙ log_is)).0 refl
 
 judged-long : (log store : Guarded) (done : Unit {0}) → BothUnarmed log store 0 0 → JudgesLengths default_shape log.now.size store.now.size (Ok done)
     → AreLongEnough default_shape log.entry.size store.entry.size
@@ -101,17 +105,17 @@ judged-long log store done was judged =
 
 -- BOTH WERE FORMATTED, after that read.
 pub prepared-formatted : (call : LabCall) (log store : Guarded) (done : Unit {0}) → HEADER_BYTES ≤ call.log.entry.size → BothUnarmed log store 0 0
-    → log.entry.size ≡ call.log.entry.size → store.entry.size ≡ call.store.entry.size
-    → IfSome call.log.entry.tells (λ disk. IsTrue true ↔ IsUnused disk.reads) → BothUnarmed call.log call.store 0 0
+    → log.entry.size ≡ call.log.entry.size → store.entry.size ≡ call.store.entry.size → (call.log.now.tells ≢ None → log.now.tells ≡ call.log.entry.tells)
+    → IfSome log.now.tells (λ disk. IsTrue true ↔ IsUnused disk.reads) → BothUnarmed call.log call.store 0 0
     → JudgesLengths default_shape log.now.size store.now.size (Ok done) → WhereBothTell call.log.now.tells call.store.now.tells (IsFormatted default_shape)
     → BothDevices (IsUnarmed 0) call × ArePrepared (to_be_armed call)
-prepared-formatted call log store done header was log_same data_same unused now judged formatted =
+prepared-formatted call log store done header was log_same data_same same unused now judged formatted =
     let long = judged-long log store done was judged in (
       now,
       record {
         header = header;
         which = inl (record {
-          unused = was-unused call unused;
+          unused = was-unused call log.now.tells same unused;
           long = record { log_long = omega (arith, long.log_long); data_long = omega (arith, long.data_long) };
           formatted = both-told call.log.now.tells call.store.now.tells (IsFormatted default_shape) formatted;
         });
@@ -136,11 +140,14 @@ has-header {call = call} can sized = ⊎_elim
     can.opens
 
 -- what formatting keeps of devices that were read before
-pub kept-no-store : (call : LabCall) (log_met data_met : Option Disk) → log_met ≡ call.log.entry.tells → data_met ≡ call.store.entry.tells
-    → WhereBothTell log_met data_met (λ log store. WhereBothTell call.log.now.tells call.store.now.tells (KeepsNoStore default_shape log store))
-    → WhereToldAtEntry call (λ log store. WhereToldNow call (KeepsNoStore default_shape log store))
-kept-no-store call log_met data_met log_same data_same keeps log data_disk log_is data_is = both-told call.log.now.tells call.store.now.tells (KeepsNoStore default_shape log data_disk)
-    (both-told log_met data_met (λ log store. WhereBothTell call.log.now.tells call.store.now.tells (KeepsNoStore default_shape log store)) keeps log data_disk (log_same ∙ log_is) (data_same ∙ data_is))
+pub kept-no-store : (call : LabCall) (shape : Shape) (log_met data_met : Option Disk)
+    → (call.log.now.tells ≢ None → log_met ≡ call.log.entry.tells) → (call.store.now.tells ≢ None → data_met ≡ call.store.entry.tells)
+    → WhereBothTell log_met data_met (λ log store. WhereBothTell call.log.now.tells call.store.now.tells (KeepsNoStore shape log store))
+    → WhereToldAtEntry call (λ log store. WhereToldNow call (KeepsNoStore shape log store))
+kept-no-store call shape log_met data_met log_same data_same keeps log data_disk log_is data_is log_on data_on =
+    both-told call.log.now.tells call.store.now.tells (KeepsNoStore shape log data_disk)
+    (both-told log_met data_met (λ log store. WhereBothTell call.log.now.tells call.store.now.tells (KeepsNoStore shape log store)) keeps
+    log data_disk (log_same log_on ∙ log_is) (data_same data_on ∙ data_is))
 
 -- THEY WEREN'T PREPARED.
 module _ (call : LabCall) (command : Command) (drive : Drive) (script : List ScriptLine)
@@ -150,11 +157,11 @@ module _ (call : LabCall) (command : Command) (drive : Drive) (script : List Scr
       → EndsWith call command (outcome.Fault (fault.Store (refusal.SmallLog HEADER_BYTES)))
   unprepared-small alone small sized = ends-refused call command drive script running laws (refusal.SmallLog HEADER_BYTES) (tells-alone call alone) (leaves-alone call alone laws)
       (unfailed-alone call alone)
-      (inl (small, refl), λ log data_disk log_is data_is. (ap (λ (seen : Seen). seen.tells) alone.0.seen, ap (λ (seen : Seen). seen.tells) alone.1.seen))
+      (inl (small, refl), λ log data_disk log_is data_is log_on data_on. (ap (λ (seen : Seen). seen.tells) alone.0.seen, ap (λ (seen : Seen). seen.tells) alone.1.seen))
       (λ can. let header = has-header can sized in omega arith)
 
   kept-first : {failed : ℕ} → IsReadFirst failed call.log call.store → HaveSameContents call
-  kept-first first log data_disk log_is data_is = (first.log_kept, first.data_kept)
+  kept-first first log data_disk log_is data_is log_on data_on = (still-equal _ _ first.log_kept log_on, still-equal _ _ first.data_kept data_on)
 
   unprepared-first : {failed : ℕ} → IsReadFirst failed call.log call.store → IsUnprepared call
   unprepared-first first = ((first.unarmed.0.stage, first.unarmed.1.stage), inl (kept-first first))
@@ -168,24 +175,25 @@ module _ (call : LabCall) (command : Command) (drive : Drive) (script : List Scr
       (first.unarmed.0.risen (omega arith)) (omega (arith, first.unarmed.0.early))
   unprepared-read device.NoMemory first = unprepared-memory call command drive script running laws (telling first.unarmed) (unprepared-first first)
 
-  unprepared-after : {log_failed data_failed : ℕ} → IfSome call.log.entry.tells (λ disk. IsTrue true ↔ IsUnused disk.reads)
+  unprepared-after : {log_failed data_failed : ℕ} (met : Option Disk) → (call.log.now.tells ≢ None → met ≡ call.log.entry.tells) → IfSome met (λ disk. IsTrue true ↔ IsUnused disk.reads)
       → WhereToldAtEntry call (λ log store. WhereToldNow call (KeepsNoStore default_shape log store)) → BothUnarmed call.log call.store log_failed data_failed → IsUnprepared call
-  unprepared-after unused keeps was =
-      ((was.0.stage, was.1.stage), inr (λ log data_disk log_is data_is. (was-unused call unused log data_disk log_is data_is, keeps log data_disk log_is data_is)))
+  unprepared-after met same unused keeps was =
+      ((was.0.stage, was.1.stage), inr (λ log data_disk log_is data_is log_on data_on. (was-unused call met same unused log data_disk log_is data_is log_on data_on, keeps log data_disk log_is data_is log_on data_on)))
 
   -- formatting ended early
   pub unprepared-formatted : {Same : Type 0} → HEADER_BYTES ≤ call.log.entry.size → (Same → IsReadFirst 0 call.log call.store)
-      → IfSome call.log.entry.tells (λ disk. IsTrue true ↔ IsUnused disk.reads) → WhereToldAtEntry call (λ log store. WhereToldNow call (KeepsNoStore default_shape log store))
+      → (met : Option Disk) → (call.log.now.tells ≢ None → met ≡ call.log.entry.tells) → IfSome met (λ disk. IsTrue true ↔ IsUnused disk.reads)
+      → WhereToldAtEntry call (λ log store. WhereToldNow call (KeepsNoStore default_shape log store))
       → FormatsTo default_shape call.log.entry.size call.store.entry.size Same (BothUnarmed call.log call.store) (λ f. EndsWith call command (outcome.Fault f))
-  unprepared-formatted header first unused keeps =
+  unprepared-formatted header first met met_same unused keeps =
       record {
         short = λ cause short same.
             (let was = first same in
             ends-refused call command drive script running laws cause (telling was.unarmed) (leaves-unprepared call laws (unprepared-first was))
             ((was.unarmed.0.early, was.unarmed.0.mid, was.unarmed.0.late), (was.unarmed.1.early, was.unarmed.1.mid, was.unarmed.1.late))
-            (inr (header, λ log data_disk log_is data_is. inl (was-unused call unused log data_disk log_is data_is, short)), kept-first was)
-            (λ can. long-not-short call.log.entry.size call.store.entry.size cause (can.long (was-unused call unused can.log can.store can.log_tells can.store_tells)) short));
-        log_fails = λ was. unprepared-log call command drive script running laws (telling was) (unprepared-after unused keeps was) (was.0.risen (omega arith)) (omega (arith, was.0.early));
-        data_fails = λ was. unprepared-data call command drive script running laws (telling was) (unprepared-after unused keeps was) (was.1.risen (omega arith)) (omega (arith, was.1.early));
-        memory = λ was. unprepared-memory call command drive script running laws (telling was) (unprepared-after unused keeps was);
+            (inr (header, λ log data_disk log_is data_is log_on data_on. inl (was-unused call met met_same unused log data_disk log_is data_is log_on data_on, short)), kept-first was)
+            (λ can. long-not-short call.log.entry.size call.store.entry.size cause (can.long (was-unused call met met_same unused can.log can.store can.log_tells can.store_tells can.log_still can.store_still)) short));
+        log_fails = λ was. unprepared-log call command drive script running laws (telling was) (unprepared-after met met_same unused keeps was) (was.0.risen (omega arith)) (omega (arith, was.0.early));
+        data_fails = λ was. unprepared-data call command drive script running laws (telling was) (unprepared-after met met_same unused keeps was) (was.1.risen (omega arith)) (omega (arith, was.1.early));
+        memory = λ was. unprepared-memory call command drive script running laws (telling was) (unprepared-after met met_same unused keeps was);
       }

@@ -1,5 +1,5 @@
 -- Two devices that are read by recovery after a run, with a crash of both between or without one.
-use Rattle.std.proofs.Common.{ℕ, ◌≡◌, ◌<◌, List, Option, Some, None, Result, Ok, Err, IfOk, sym, ap, subst, ◌∙◌, inl, inr, ⊎_elim, arith, length}
+use Rattle.std.proofs.Common.{ℕ, ◌≡◌, ◌≢◌, ◌<◌, List, Option, Some, None, Result, Ok, Err, IfOk, sym, ap, subst, ◌∙◌, inl, inr, ⊎_elim, arith, length}
 use Rattle.model_device.specs.{Crashes}
 use Rattle.model_device.specs.Disk.{Disk}
 use Rattle.model_report.specs.declared.fault.Fault.TheVariants as fault
@@ -7,7 +7,7 @@ use Rattle.model_store.specs.{IsReading, Refuses}
 use Rattle.model_store.specs.Reading.{Reading}
 use Rattle.model_store.specs.declared.refusal.Refusal.{Refusal}
 use Rattle.model_store.specs.declared.refusal.Refusal.TheVariants as refusal
-use Rattle.redo_disk.specs.{Call, failed_calls, failures, MakesCalls, OnTold, ReadsMayEndWith}
+use Rattle.redo_disk.specs.{Call, failed_calls, failures, MakesCalls, ReadsMayEndWith, StillTells, WhereTold}
 use Rattle.redo_disk.specs.Seen.{Seen}
 use Rattle.redo_disk.specs.declared.error.DevError.{DevError}
 use Rattle.redo_disk.proofs.Made.{weaker_calls}
@@ -21,9 +21,10 @@ use Rattle.redo_recover.specs.declared.fault.RecFault.{RecFault}
 use Rattle.redo_recover.specs.declared.fault.RecFault.TheVariants.{SmallLog, NotFormatted, BadFormat, SmallData, NoCheckpoint, BadRecord, PageLost, PageAhead, LogDev, DataDev, NoMemory}
 use Rattle.redo_lab.specs.declared.outcome.Outcome.{Outcome}
 use Rattle.redo_lab.specs.declared.outcome.Outcome.TheVariants as outcome
+use Rattle.redo_lab.proofs.ByDrive.{Drives}
 use Rattle.redo_lab.proofs.Fuses.{after-crashed, armed-calls, armed-kept, crashed-now, crashed-reads, early-kept}
 use Rattle.redo_lab.proofs.Telling.{reads-keep}
-use Rattle.redo_lab.proofs.Told.{on-contents}
+use Rattle.redo_lab.proofs.Told.{on-contents, where-after, where-back}
 use Rattle.redo_lab.specs.Call.{Guarded, LabCall, guarded}
 use Rattle.redo_lab.specs.Devices.{ArePrepared, IsArmed}
 use Rattle.redo_lab.specs.Runs.{fault_of, outcome_of}
@@ -38,30 +39,34 @@ pub record Was : Type 0 where
 abbrev pub was_of : {D : Type 0} → (D → Seen) → Fused D → Was
 was_of seen fused = record { now = seen (inner_of fused); fuse = fuse_of fused; armed_from = armed_from seen fused }
 
--- the call as it was then
-abbrev pub before : LabCall → Was → Was → LabCall
-before call log store = record call {
+-- the call as it was then, and what it said of drives
+abbrev pub before : LabCall → Drives → Was → Was → LabCall
+before call drives log store = record call {
   log = record call.log { now = log.now; fuse = log.fuse; armed_from = log.armed_from };
   store = record call.store { now = store.now; fuse = store.fuse; armed_from = store.armed_from };
+  drives = drives;
 }
 
 -- the same was told of its arming
 pub record IsArmedAs (was : Was) (device : Guarded) : Type 0 where
   pub told : device.armed_from ≡ was.armed_from
   pub early_calls : device.fuse.early_calls ≡ was.fuse.early_calls
+  -- one that tells now told then
+  pub back : device.now.tells ≢ None → was.now.tells ≢ None
 
-pub prepared-later : (call : LabCall) (log store : Was) → IsArmedAs log call.log → IsArmedAs store call.store → ArePrepared (before call log store) → ArePrepared call
+pub prepared-later : (call : LabCall) {drives : Drives} (log store : Was) → IsArmedAs log call.log → IsArmedAs store call.store
+    → ArePrepared (before call drives log store) → ArePrepared call
 prepared-later call log store log_as store_as prepared = record {
   header = prepared.header;
   which = ⊎_elim
       (λ were. inl (record {
-        unused = were.unused;
+        unused = λ log_disk data_disk log_is data_is log_on data_on. were.unused log_disk data_disk log_is data_is (log_as.back log_on) (store_as.back data_on);
         long = were.long;
         formatted = λ log_disk data_disk log_is data_is. were.formatted log_disk data_disk (sym log_as.told ∙ log_is) (sym store_as.told ∙ data_is);
       }))
       (λ were. inr (record {
-        used = were.used;
-        kept = (log_as.told ∙ were.kept.0, store_as.told ∙ were.kept.1);
+        used = λ log_disk data_disk log_is data_is log_on data_on. were.used log_disk data_disk log_is data_is (log_as.back log_on) (store_as.back data_on);
+        kept = (λ on. log_as.told ∙ were.kept.0 (log_as.back on), λ on. store_as.told ∙ were.kept.1 (store_as.back on));
         log_calls = omega (arith, log_as.early_calls, were.log_calls);
         data_calls = store_as.early_calls ∙ were.data_calls;
       }))
@@ -73,13 +78,14 @@ pub armed-as : {D : Type 0} {seen : D → Seen} {gives : D → Call → D → Ty
 armed-as {seen = seen} {gives = gives} device {old = old} {new = new} stage made = record {
   told = armed-kept seen old new (keeps-behind seen gives old new made.calls made.made).armed;
   early_calls = early-kept stage made;
+  back = (keeps-behind seen gives old new made.calls made.made).told;
 }
 
 -- THE DEVICE WAS CRASHED with this pick, and so many calls failed since, all of them reads.
 pub record IsCrashedSince (limit : Option ℕ) (pick failed : ℕ) (was : Was) (device : Guarded) : Type 0 where
   pub armed : IsArmed limit Crashed failed device
   pub arming : IsArmedAs was device
-  pub left : OnTold was.now.tells device.now.tells Crashes
+  pub left : WhereTold was.now.tells device.now.tells Crashes
   pub from : device.now.crashed_from ≡ was.now.tells
   pub passed : device.fuse.passed ≡ was.fuse.passed
   pub mid : device.fuse.mid ≡ was.fuse.mid
@@ -98,8 +104,9 @@ crashed-since {seen = seen} {gives = gives} {pick = pick} {old = old} {met = met
       arming = record {
         told = armed-kept seen met new (keeps-behind seen gives met new made.calls made.made).armed ∙ armed-kept seen old met crash.same_armed;
         early_calls = counts.early_calls ∙ ap (λ stage. counted (before_arming stage (length made.calls)) met.fuse.early_calls) stage ∙ ap (λ (fuse : Fuse). fuse.early_calls) notes;
+        back = λ on. where-back _ _ _ crash.passed_step.left ((keeps-behind seen gives met new made.calls made.made).told on);
       };
-      left = subst (λ (told : Option Disk). OnTold (seen old.inner).tells told Crashes) (sym kept.tells) crash.passed_step.left;
+      left = where-after _ _ _ Crashes crash.passed_step.left kept.tells;
       from = kept.crashed_from ∙ crash.passed_step.from;
       passed = after-crashed seen gives met new made.calls stage made.made ∙ ap (λ (fuse : Fuse). fuse.passed) notes;
       mid = counts.mid ∙ ap (λ stage. counted (while_stopping stage (failed_calls made.calls)) met.fuse.mid) stage ∙ ap (λ (fuse : Fuse). fuse.mid) notes;
@@ -110,7 +117,7 @@ crashed-since {seen = seen} {gives = gives} {pick = pick} {old = old} {met = met
 pub record IsReadSince (failed : ℕ) (was : Was) (device : Guarded) : Type 0 where
   pub armed : IsArmed None Stopping 0 device
   pub arming : IsArmedAs was device
-  pub tells : device.now.tells ≡ was.now.tells
+  pub tells : StillTells was.now.tells device.now.tells
   pub mid : device.fuse.mid ≡ failed
   pub passed : 0 < was.fuse.passed → 0 < device.fuse.passed
 

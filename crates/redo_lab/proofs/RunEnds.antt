@@ -18,7 +18,9 @@ use Rattle.redo_lab.specs.declared.outcome.Outcome.TheVariants as outcome
 use Rattle.redo_lab.specs.declared.playing.Course.TheVariants.{Played, Stopped}
 use Rattle.redo_lab.specs.declared.playing.Played as declared
 use Rattle.redo_lab.proofs.Ends.{IsUncrashing, aside-armed, ends-failed, ends-left, in-run, left-memory, no_stops, runs-script, runs-scripted, uncrashing-gen, unfailed-armed}
-use Rattle.redo_lab.proofs.Found.{prefix-none, told-still}
+use Rattle.redo_lab.proofs.Found.{prefix-none}
+use Rattle.redo_lab.proofs.Told.{some-told, still-at}
+use Rattle.redo_lab.proofs.ByDrive.{Drives, DrivesLater}
 use Rattle.redo_lab.proofs.Rereading.{IsReadSince, ReadsTo, Was, before, prepared-later}
 use Rattle.redo_lab.proofs.SomeLeft.{some-left}
 use Rattle.redo_lab.specs.Asked.{IsScriptFor, IsScriptRead, drive_of_seed}
@@ -37,9 +39,9 @@ pub ends-stopped : (call : LabCall) (command : Command) (drive : Drive) (script 
 ends-stopped call command drive script running laws uncrashing f is = ends-failed call command drive script running laws uncrashing f is.0
     (uncrashing.unbegun (
       is.0.opened_first,
-      λ opened log data_disk log_is data_is log_fresh data_fresh opens log_now data_now log_now_is data_now_is log_bytes data_bytes image fair.
+      λ opened log data_disk log_is data_is log_on data_on log_fresh data_fresh opens log_now data_now log_now_is data_now_is log_bytes data_bytes image fair.
           prefix-none script [] opened log_bytes data_bytes
-          (is.0.reads opened log data_disk log_is data_is log_fresh data_fresh opens log_now data_now log_now_is data_now_is log_bytes data_bytes image fair),
+          (is.0.reads opened log data_disk log_is data_is log_on data_on log_fresh data_fresh opens log_now data_now log_now_is data_now_is log_bytes data_bytes image fair),
     ))
     is.1
 
@@ -90,10 +92,12 @@ module _ (call : LabCall) (drive : Drive) (script : List ScriptLine) (played : d
   run-played f (outcome.Fault fault) was printed = subst (λ (fault : Fault). EndsWith call (Run drive) (outcome.Fault fault)) (sym printed)
       (left-memory call (Run drive) drive script (runs-scripted drive None read) laws was.0)
 
-module _ (call : LabCall) (seed users groups max : ℕ) (script : List ScriptLine) (run : Ran) (log_was data_was : Was) (laws : Laws)
+module _ (call : LabCall) (drives : Drives) (later : DrivesLater drives call.drives) (seed users groups max : ℕ)
+    (script : List ScriptLine) (run : Ran) (log_was data_was : Was) (laws : Laws)
     (running : CommandRuns call.source call.source_now (Gen seed users groups true max) (drive_of_seed seed max) script)
-    (left_by : IsLeftBy (before call log_was data_was) (Gen seed users groups true max) (drive_of_seed seed max) no_stops script (Some run) Done)
-    (loses : LosesByFailure (before call log_was data_was) script (Some run)) (played : IsPlayedTo (before call log_was data_was) None) where
+    (left_by : IsLeftBy (before call drives log_was data_was) (Gen seed users groups true max) (drive_of_seed seed max) no_stops script (Some run) Done)
+    (loses : LosesByFailure (before call drives log_was data_was) script (Some run))
+    (played : IsPlayedTo (before call drives log_was data_was) None) where
   abbrev asked : Command
   asked = Gen seed users groups true max
 
@@ -117,17 +121,17 @@ module _ (call : LabCall) (seed users groups max : ℕ) (script : List ScriptLin
         opened = left_by.opened;
         ran = record {
           is_script = running.is_script;
-          opens = left_by.ran.opens;
+          opens = λ log data_disk log_is data_is log_on data_on. left_by.ran.opens log data_disk log_is data_is (since.0.arming.back log_on) (since.1.arming.back data_on);
           fits = left_by.ran.fits;
           in_lsn_order = left_by.ran.in_lsn_order;
-          driven = subst (λ (met : Option Disk). call.drives drive left_by.opened script run Done call.log.now.tells met) (sym since.1.tells)
-              (subst (λ (met : Option Disk). call.drives drive left_by.opened script run Done met data_was.now.tells) (sym since.0.tells) driven);
+          driven = later drive left_by.opened script run Done _ _ _ _ since.0.tells since.1.tells driven;
         };
-        opened_first = λ opened log data_disk log_is data_is log_fresh data_fresh opens armed_from disk armed_is now_is.
-            left_by.opened_first opened log data_disk log_is data_is log_fresh data_fresh opens armed_from disk
-            (sym since.0.arming.told ∙ armed_is) (sym since.0.tells ∙ now_is);
-        reads = λ opened log data_disk log_is data_is log_fresh data_fresh opens log_now data_now log_now_is data_now_is.
-            left_by.reads opened log data_disk log_is data_is log_fresh data_fresh opens log_now data_now (sym since.0.tells ∙ log_now_is) (sym since.1.tells ∙ data_now_is);
+        opened_first = λ opened log data_disk log_is data_is log_on data_on log_fresh data_fresh opens armed_from disk armed_is now_is.
+            left_by.opened_first opened log data_disk log_is data_is (since.0.arming.back log_on) (since.1.arming.back data_on) log_fresh data_fresh opens armed_from disk
+            (sym since.0.arming.told ∙ armed_is) (still-at _ _ disk since.0.tells now_is);
+        reads = λ opened log data_disk log_is data_is log_on data_on log_fresh data_fresh opens log_now data_now log_now_is data_now_is.
+            left_by.reads opened log data_disk log_is data_is (since.0.arming.back log_on) (since.1.arming.back data_on) log_fresh data_fresh opens log_now data_now
+            (still-at _ _ log_now since.0.tells log_now_is) (still-at _ _ data_now since.1.tells data_now_is);
       }
 
   loses-still : Since 0 0 → LosesByFailure call script (Some run)
@@ -138,10 +142,10 @@ module _ (call : LabCall) (seed users groups max : ℕ) (script : List ScriptLin
   -- A STORE THAT CAN BE RUN ON is not refused after the run.
   possible-read-after : (cause : Refusal) → Since 0 0 → WhereToldNow call (AreRefused cause) → CanPlay call false script → ⊥
   possible-read-after cause since refused can =
-      let log_left = told-still call.log.entry.tells call.log.now.tells can.log since.0.armed.same.tells can.log_tells in
-      let data_left = told-still call.store.entry.tells call.store.now.tells can.store since.1.armed.same.tells can.store_tells in
-      let read = played.1 can.opened can.log can.store can.log_tells can.store_tells can.log_fresh can.store_fresh can.opens
-      log_left.0 data_left.0 (sym since.0.tells ∙ log_left.1) (sym since.1.tells ∙ data_left.1) in
+      let log_left = some-told call.log.now.tells can.log_still in
+      let data_left = some-told call.store.now.tells can.store_still in
+      let read = played.1 can.opened can.log can.store can.log_tells can.store_tells (since.0.arming.back can.log_still) (since.1.arming.back can.store_still) can.log_fresh can.store_fresh can.opens
+      log_left.0 data_left.0 (still-at _ _ log_left.0 since.0.tells log_left.1) (still-at _ _ data_left.0 since.1.tells data_left.1) in
       laws.one_answer log_left.0.reads data_left.0.reads read.0 cause read.1 (refused log_left.0 data_left.0 log_left.1 data_left.1)
 
   -- WHAT IT COMES TO, by what is read after it.

@@ -39,7 +39,7 @@ pub record IsReadOff (call : LabCall) (IsTextOf : Reading → List ℕ → Type 
 -- its listing, and where that is asked why no block is read after these of the log's content
 pub record IsListing (call : LabCall) (why : Bool) (reading : Reading) (text : List ℕ) : Type 0 where
   pub stop : ℕ × Cause
-  pub is_stop : (log : Disk) → call.log.entry.tells ≡ Some log → IsStop (layout_of reading.format reading.shape) reading.ckpt reading.views stop log.reads
+  pub is_stop : (log : Disk) → call.log.entry.tells ≡ Some log → call.log.now.tells ≢ None → IsStop (layout_of reading.format reading.shape) reading.ckpt reading.views stop log.reads
   pub text_is : text ≡ dump_text (if why then Some stop else None) reading
 
 -- what a fuse tells
@@ -96,7 +96,7 @@ pub record IsCrashText (call : LabCall) (drive : Drive) (stop_log stop_data : Op
       (Some (account.reading.end, account.reading.pages))
   pub crashed : AreCrashedAs stop_log stop_data pick call
   pub is_read : WhereToldNow call (λ log store. IsReading log.reads store.reads account.reading)
-  pub safe : call.log.entry.tells ≢ None → call.store.entry.tells ≢ None
+  pub safe : call.log.now.tells ≢ None → call.store.now.tells ≢ None
       → (crash : values.Crash)
       × IsCrashCall call (record { log_only = drive.log_only; stop_log = stop_log; stop_data = stop_data; pick = pick }) crash
       × ((store : Opened) → Premises crash store → CrashSafe crash store account)

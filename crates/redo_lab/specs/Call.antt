@@ -1,5 +1,5 @@
 -- A call of `lab`, as it is seen from outside.
-use Rattle.std.specs.Prelude.{ℕ, ◌≡◌, ◌+◌, List, Option, Some}
+use Rattle.std.specs.Prelude.{ℕ, ◌≡◌, ◌≢◌, ◌+◌, List, Option, Some, None}
 use Rattle.model_script.specs.declared.asked.Command.{Command}
 use Rattle.model_script.specs.declared.asked.Command.TheVariants.{Crash}
 use Rattle.model_script.specs.declared.asked.Drive.{Drive}
@@ -8,7 +8,7 @@ use Rattle.model_script.specs.declared.script.ScriptLine.{ScriptLine}
 use Rattle.model_store.specs.{IsFair, IsFairLog, Opens}
 use Rattle.model_theorem.specs.{IsSettledAtEntry, Opened, Ran}
 use Rattle.redo_drive.specs.declared.drive.RunEnd.{RunEnd}
-use Rattle.redo_disk.specs.Seen.{Seen}
+use Rattle.redo_disk.specs.Seen.{Seen, StillTells}
 use Rattle.redo_io.specs.{SourceSeen}
 use Rattle.redo_memdisk.specs.{armed_from, fuse_of, inner_of}
 use Rattle.redo_memdisk.specs.declared.fuse.Fuse.{Fuse}
@@ -37,9 +37,10 @@ pub record LabCall : Type 1 where
   pub store : Guarded
   pub drives : Drive → Opened → List ScriptLine → Ran → RunEnd → Option Disk → Option Disk → Type 0
 
--- where both devices told what they mean when they were handed in, this holds of the two
+-- where both devices told what they mean when they were handed in, and tell to the end, this holds of the two
 abbrev pub WhereToldAtEntry : LabCall → (Disk → Disk → Type 0) → Type 0
-WhereToldAtEntry call P = (log store : Disk) → call.log.entry.tells ≡ Some log → call.store.entry.tells ≡ Some store → P log store
+WhereToldAtEntry call P = (log store : Disk) → call.log.entry.tells ≡ Some log → call.store.entry.tells ≡ Some store
+    → call.log.now.tells ≢ None → call.store.now.tells ≢ None → P log store
 
 -- and where they tell what they mean now
 abbrev pub WhereToldNow : LabCall → (Disk → Disk → Type 0) → Type 0
@@ -81,9 +82,9 @@ AreUnfailedFor command call = BothDevices IsUnfailed call
 abbrev pub mids : LabCall → ℕ
 mids call = call.log.fuse.mid + call.store.fuse.mid
 
--- the device means what it meant, and nothing was written or synced
+-- the device means what it meant, if it still tells, and nothing was written or synced
 abbrev pub IsUnwritten : Guarded → Type 0
-IsUnwritten device = (device.now.tells ≡ device.entry.tells) × (device.fuse.changes ≡ 0)
+IsUnwritten device = StillTells device.entry.tells device.now.tells × (device.fuse.changes ≡ 0)
 
 -- both devices mean what they meant, where both told
 abbrev pub HaveSameContents : LabCall → Type 0

@@ -1,7 +1,7 @@
 -- Why a call ends without the text that it was asked for. The first cause that holds decides: the words, the source and its
 -- script, formatting or opening, the fit, the run, the crash and the reading after it. Want of memory decides where it is met.
 -- And what is owed of a call on devices that don't fail: it does what it is asked, or memory ran out, or turns were spent.
-use Rattle.std.specs.Prelude.{ℕ, ◌≡◌, ◌≤◌, ◌<◌, ◌+◌, ◌⊎◌, true, false, List, [], Option, Some, None, IfSome, ⊤, Bool, length, Ok}
+use Rattle.std.specs.Prelude.{ℕ, ◌≡◌, ◌≢◌, ◌≤◌, ◌<◌, ◌+◌, ◌⊎◌, true, false, List, [], Option, Some, None, IfSome, ⊤, Bool, length, Ok}
 use Rattle.model_base.specs.{default_shape, HasRisen}
 use Rattle.model_script.specs.declared.asked.Command.{Command}
 use Rattle.model_script.specs.declared.asked.Command.TheVariants.{Format, Run, Crash, Recover, Dump, Gen}
@@ -70,9 +70,11 @@ pub record AreOfRun (call : LabCall) (command : Command) : Type 0 where
   pub reads : (store : Opened) → WhereOpened call store (IsLeftFair call store → WhereToldNow call (λ log_disk data_disk.
       IfSome run (IsRun script store) × AreReadAsPrefix script store run log_disk data_disk))
 
--- what a command that runs a script leaves where memory ran out or a device failed
-abbrev pub LeavesFailedRun : LabCall → Command → Type 0
-LeavesFailedRun call command = runs_script command ≡ true → IsUnprepared call ⊎ AreOfRun call command
+-- What a command leaves where memory ran out or a device failed: `format` what was there, no store, or the new one.
+abbrev pub LeavesFailed : LabCall → Command → Type 0
+LeavesFailed call (Format pages space log_blocks) =
+    WhereToldAtEntry call (λ log store. WhereToldNow call (KeepsNoStore (asked_shape pages space log_blocks) log store))
+LeavesFailed call command = runs_script command ≡ true → IsUnprepared call ⊎ AreOfRun call command
 
 -- The store that a run was to open is refused: the log device is too short for a header; or it is unused, and one is too short for
 -- a new store; or it is in use, and what reads gave at entry is refused. Both devices are as they were.
@@ -128,13 +130,13 @@ IsUnscripted call command Cause = (reads_script command ≡ true) × Cause × Bo
 
 -- why the command isn't done
 abbrev pub IsCauseOf : LabCall → Command → Fault → Type 0
-IsCauseOf call command Memory = LeavesFailedRun call command
+IsCauseOf call command Memory = LeavesFailed call command
 IsCauseOf call command (Script n) = IsUnscripted call command (IsBadLine call.source call.source_now n)
 IsCauseOf call command Source = IsUnscripted call command (HasRisen call.source.faults call.source_now.faults)
 IsCauseOf call command LogDevice =
-    IsPastSource call command × IsDeviceFault command call.log × IsUnbegun call command × LeavesFailedRun call command
+    IsPastSource call command × IsDeviceFault command call.log × IsUnbegun call command × LeavesFailed call command
 IsCauseOf call command DataDevice =
-    IsPastSource call command × IsDeviceFault command call.store × IsUnbegun call command × LeavesFailedRun call command
+    IsPastSource call command × IsDeviceFault command call.store × IsUnbegun call command × LeavesFailed call command
 IsCauseOf call command (Store refusal) = IsPastSource call command × AreUnfailedFor command call × IsRefused call command refusal
 IsCauseOf call command (Turns turns user) = AreTurnsSpent call command turns user
 IsCauseOf call command (Fit misfit) =
@@ -153,6 +155,8 @@ pub record CanPlay (call : LabCall) (log_only : Bool) (script : List ScriptLine)
   pub opened : Opened
   pub log_tells : call.log.entry.tells ≡ Some log
   pub store_tells : call.store.entry.tells ≡ Some store
+  pub log_still : call.log.now.tells ≢ None
+  pub store_still : call.store.now.tells ≢ None
   pub log_fresh : IsSettledAtEntry log call.log.entry.faults
   pub store_fresh : IsSettledAtEntry store call.store.entry.faults
   pub opens : Opens log.reads store.reads opened.shape opened.pages opened.end
@@ -176,6 +180,8 @@ pub record CanRead (call : LabCall) : Type 0 where
   pub reading : Reading
   pub log_tells : call.log.entry.tells ≡ Some log
   pub store_tells : call.store.entry.tells ≡ Some store
+  pub log_still : call.log.now.tells ≢ None
+  pub store_still : call.store.now.tells ≢ None
   pub is_read : IsReading log.reads store.reads reading
 
 -- the command can be done

@@ -14,11 +14,11 @@ use Rattle.redo_lab.specs.declared.playing.Stops.{Stops}
 use Rattle.redo_lab.specs.Call.{BothDevices, Guarded, LabCall, WhereToldAtEntry}
 use Rattle.redo_lab.specs.Cause.{AreLongEnough}
 
--- the device has its size, its count of faults hasn't fallen, and one that told goes on telling
+-- the device has its size, its count of faults hasn't fallen, and one that tells now told at entry
 pub record IsSame (device : Guarded) : Type 0 where
   pub size : device.now.size ≡ device.entry.size
   pub later : device.entry.faults ≤ device.now.faults
-  pub tells : device.entry.tells ≢ None → device.now.tells ≢ None
+  pub tells : device.now.tells ≢ None → device.entry.tells ≢ None
 
 -- The fuse isn't armed, and so many calls failed.
 pub record IsUnarmed (failed : ℕ) (device : Guarded) : Type 0 where
@@ -43,7 +43,7 @@ pub record IsArmed (limit : Option ℕ) (stage : Stage) (failed_since : ℕ) (de
   pub late_changes : device.fuse.late_changes ≡ 0
   pub cause : 0 < device.fuse.mid → HasRisen device.entry.faults device.now.faults ⊎ HasPassedAll limit device.fuse.passed
   pub risen : 0 < failed_since → HasRisen device.entry.faults device.now.faults
-  pub told : device.entry.tells ≢ None → device.armed_from ≢ None
+  pub told : device.now.tells ≢ None → device.armed_from ≢ None
 
 -- the calls are one read, which ended so
 pub record IsFirstRead (error : Option DevError) (calls : List Call) : Type 0 where
@@ -61,7 +61,7 @@ pub record WereFormatted (call : LabCall) : Type 0 where
 -- called once at the most, and the data device wasn't.
 pub record WereInUse (call : LabCall) : Type 0 where
   pub used : WhereToldAtEntry call (λ log store. IsUnused log.reads → ⊥)
-  pub kept : BothDevices (λ device. device.armed_from ≡ device.entry.tells) call
+  pub kept : BothDevices (λ device. device.now.tells ≢ None → device.armed_from ≡ device.entry.tells) call
   pub log_calls : call.log.fuse.early_calls ≤ 1
   pub data_calls : call.store.fuse.early_calls ≡ 0
 

@@ -68,14 +68,14 @@ IsDoneOrKeptFrom command (outcome.Report text fault) = ⊥
 IsDoneOrKeptFrom command (outcome.Fault fault) = MayKeepFrom command fault
 
 -- WHAT THE OUTCOME SAYS of its call. Whatever it is, what is left of the store is accepted where the command runs a script, and a
--- device that told goes on telling. A command that can be done is done where nothing failed, or want of
+-- device that tells in the end told at entry. A command that can be done is done where nothing failed, or want of
 -- memory or spent turns kept it from that.
 pub record EndsWith (call : LabCall) (command : Command) (outcome : Outcome) : Type 0 where
   pub means : IsOutcome call command outcome
   pub unread : reads_script command ≡ false → call.source_now ≡ call.source
   pub unwritten : leaves_devices command ≡ true → BothDevices IsUnwritten call
   pub left : runs_script command ≡ true → LeavesStore call
-  pub tells : BothDevices (λ device. device.entry.tells ≢ None → device.now.tells ≢ None) call
+  pub tells : BothDevices (λ device. device.now.tells ≢ None → device.entry.tells ≢ None) call
   pub complete : IsPossible call command → (HasRisen call.source.faults call.source_now.faults → ⊥) → AreUnfailedFor command call
       → IsDoneOrKeptFrom command outcome
 

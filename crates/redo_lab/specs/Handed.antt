@@ -1,9 +1,9 @@
 -- A call, by what it was handed and what it gave back; and what is told of a run by its drive: a new drive is one more case of `TellsOf`.
 use Rattle.std.specs.Prelude.{ℕ, ◌≡◌, List, Bool, true, false, Option}
 use Rattle.redo_disk.specs as device
-use Rattle.redo_disk.specs.Seen.{Seen}
+use Rattle.redo_disk.specs.Seen.{Seen, StillTells}
 use Rattle.redo_io.specs.{SourceSeen}
-use Rattle.redo_memdisk.specs.{entry_of, CallsThrough, seen_through}
+use Rattle.redo_memdisk.specs.{armed_at, entry_of, fuse_of, CallsThrough, seen_through}
 use Rattle.redo_memdisk.specs.declared.fused.Fused.{Fused}
 use Rattle.redo_lab.specs.Call.{LabCall, guarded}
 use Rattle.model_script.specs.declared.asked.Drive.{Drive}
@@ -36,17 +36,26 @@ TellsOf false log_seen log_gives data_seen data_gives drive store script driven 
     store script (turns_of drive) driven
 TellsOf true log_seen log_gives data_seen data_gives drive store script driven = RunsInThreads store script drive.log_only driven
 
--- The drive led from the opened store to this end; the run is what it left, and both devices meant this then.
+-- It is one device behind one fuse: handed in once, and armed once, with this limit.
+pub record IsSameFused {D : Type 0} (was now : Fused D) : Type 0 where
+  pub entry : entry_of now ≡ entry_of was
+  pub armed : armed_at now ≡ armed_at was
+  pub limit : (fuse_of now).limit ≡ (fuse_of was).limit
+
+-- On the devices given back, which meant this then, the drive led from the opened store to this end, and left this run.
 pub record IsDriven {L D : Type 0} (log_seen : L → Seen) (log_gives : L → device.Call → L → Type 0) (data_seen : D → Seen) (data_gives : D → device.Call → D → Type 0)
-    (drive : Drive) (opened : values.Opened) (script : List ScriptLine) (run : Ran) (end : RunEnd) (log_met store_met : Option Disk) : Type 0 where
+    (log_now : Fused L) (data_now : Fused D) (drive : Drive) (opened : values.Opened) (script : List ScriptLine)
+    (run : Ran) (end : RunEnd) (log_met store_met : Option Disk) : Type 0 where
   pub store : Opened (Fused L) (Fused D)
   pub is_opened : IsOpenedAt opened store
+  pub opened_on : IsSameFused store.log.dev log_now × IsSameFused store.store.dev data_now
   pub driven : Driven (Fused L) (Fused D)
+  pub driven_on : IsSameFused driven.closed.log.dev log_now × IsSameFused driven.closed.store.dev data_now
   pub told : TellsOf drive.threads log_seen log_gives data_seen data_gives drive store script driven
   pub ends : driven.ended ≡ end
   pub run_is : run ≡ record { start = store.start; entries = driven.closed.history; marks = driven.closed.marks }
-  pub log_is : log_met ≡ (log_seen driven.closed.log.dev.inner).tells
-  pub store_is : store_met ≡ (data_seen driven.closed.store.dev.inner).tells
+  pub log_is : StillTells (log_seen driven.closed.log.dev.inner).tells log_met
+  pub store_is : StillTells (data_seen driven.closed.store.dev.inner).tells store_met
 
 -- the devices behind the two fuses are those that were handed in, with these fuses all along
 pub record AreOf {L D : Type 0} (log : L) (store : D) (log_now : Fused L) (data_now : Fused D) : Type 0 where
@@ -62,5 +71,5 @@ call_on log_seen log_gives data_seen data_gives words source source_now log stor
   source_now = source_now;
   log = guarded log_seen log log_now;
   store = guarded data_seen store data_now;
-  drives = IsDriven log_seen log_gives data_seen data_gives;
+  drives = IsDriven log_seen log_gives data_seen data_gives log_now data_now;
 }

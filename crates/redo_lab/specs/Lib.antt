@@ -4,6 +4,7 @@ pub mod Call
 pub mod Cause
 pub mod Devices
 pub mod Ending
+pub mod Files
 pub mod Handed
 pub mod Laws
 pub mod Runs

@@ -1,5 +1,5 @@
 -- A command that runs a script: how far its run came, and what that leaves of the two devices.
-use Rattle.std.specs.Prelude.{ℕ, ◌≡◌, ◌<◌, ◌+◌, false, List, Option, Some, None, IfSome, Result, Ok, Err, length}
+use Rattle.std.specs.Prelude.{ℕ, ◌≡◌, ◌≢◌, ◌<◌, ◌+◌, false, List, Option, Some, None, IfSome, Result, Ok, Err, length}
 use Rattle.std.specs.Borrow.{Bor}
 use Rattle.model_device.specs.Disk.{Disk}
 use Rattle.model_page.specs.declared.content.Content.{Content}
@@ -133,7 +133,7 @@ pub record StandsReady {L D : Type 0} (log_seen : L → Seen) (data_seen : D →
   pub fits : FitsOpened drive.log_only opened script
   pub reads : AreLeftRead call script None
   pub ready : (reading : Reading) (log store : Disk) → call.log.armed_from ≡ Some log → call.store.armed_from ≡ Some store
-      → IsOpenable reading log store → IsOpenedReady (seen_through log_seen) (seen_through data_seen) reading given
+      → call.log.now.tells ≢ None → call.store.now.tells ≢ None → IsOpenable reading log store → IsOpenedReady (seen_through log_seen) (seen_through data_seen) reading given
 
 -- the store stands ready for the drive that is asked for, or this came of it
 abbrev pub AreReady : {L D : Type 0} → (L → Seen) → (D → Seen) → (Fused L → Fused D → LabCall) → Command → Drive → Stops → List ScriptLine

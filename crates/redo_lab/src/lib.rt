@@ -8,6 +8,7 @@ mod crash_command;
 mod ended;
 mod faults;
 mod gen_command;
+mod in_files;
 mod lab_call;
 mod laws;
 mod outcome;
@@ -22,6 +23,7 @@ mod shapes;
 mod simple;
 
 pub use ended::Ended;
+pub use in_files::lab_in_files;
 pub use lab_call::{lab, lab_turns};
 pub use printing::print_fault;
 pub use shapes::{LOG_LENGTH, STORE_LENGTH};

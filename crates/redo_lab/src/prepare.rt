@@ -39,7 +39,7 @@ fn are_blank(blocks: &[u8; HEADS]) -> bool
 /// Whether the log device is unused: its two header blocks are all zero. One read gives both.
 fn is_unused<L: Sectors>(log: &mut L) -> Result<bool, DevError>
     requires { HEADER_BYTES ≤ (L.seen log.old).size }
-    ensures unused { IfOk result (λ unused. IfSome (L.seen log.old).tells (λ disk. IsTrue unused ↔ IsUnused disk.reads)) }
+    ensures unused { IfOk result (λ unused. IfSome (L.seen log.new).tells (λ disk. IsTrue unused ↔ IsUnused disk.reads)) }
     ensures calls { MakesCalls L.gives log.old log.new (IsFirstRead (error_of result)) }
 {
     let mut blocks = [0; HEADS];

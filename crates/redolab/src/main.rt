@@ -7,14 +7,14 @@ ghost use Rattle.model_script.specs.{asked_of};
 ghost use Rattle.model_script.specs.declared.asked.Asked.{Asked};
 ghost use Rattle.model_report.specs.declared.fault.Fault.TheVariants.{Memory};
 ghost use Rattle.redo_memdisk.specs.Memory.{new_memory};
+ghost use Rattle.redo_lab.specs.Files.{IsUncalled};
 ghost use Rattle.redo_lab.specs.declared.shapes.TheConstants.{LOG_LENGTH, STORE_LENGTH};
 
 use model_report::Fault;
 use redo_command::{WordsFault, read_words};
-use redo_disk::Sectors;
 use redo_io::{ReaderSource, WriterSink};
-use redo_lab::{LOG_LENGTH, STORE_LENGTH, lab, print_fault};
-use redo_memdisk::{FileDisk, MemDisk};
+use redo_lab::{LOG_LENGTH, STORE_LENGTH, lab, lab_in_files, print_fault};
+use redo_memdisk::{Contents, FileDisk, MemDisk, Unread};
 use redo_threads::NoGate;
 use std::alloc::{AllocError, Global};
 use std::io::ErrorKind;
@@ -63,27 +63,22 @@ fn in_memory(alloc: Global) -> Result<(MemDisk, MemDisk), AllocError>
 }
 
 /// The device in the file of this name in the current folder. Its first call opens or makes the file.
-fn in_file<'a>(rt: &'a HostRuntime, name: &str) -> Result<FileDisk<&'a HostRuntime>, AllocError> {
+fn in_file<'a, S: Contents>(
+    rt: &'a HostRuntime,
+    name: &str,
+) -> Result<FileDisk<&'a HostRuntime, S>, AllocError>
+    ensures { IfOk result (λ device. IsUncalled device) }
+{
     Ok(FileDisk::new(rt, name.to_string(rt.alloc())?))
 }
 
-/// A log device and a data device in files.
-fn in_files(
-    rt: &HostRuntime,
-) -> Result<(FileDisk<&HostRuntime>, FileDisk<&HostRuntime>), AllocError> {
-    Ok((in_file(rt, LOG_FILE)?, in_file(rt, DATA_FILE)?))
-}
-
-/// Runs the command on these devices, and says its status.
-fn run_on<L: Sectors + Send + Drop, D: Sectors + Send + Drop>(
+/// Runs the command on two devices in memory, and says its status.
+fn run_in_memory(
     rt: &HostRuntime,
     threads: &(impl Threads + Wait + Sync),
     words: &[String],
-    devices: Result<(L, D), AllocError>,
-) -> Result<u8, Fault> {
-    let Ok((log, store)) = devices else {
-        return Err(Fault::Memory);
-    };
+) -> Result<u8, AllocError> {
+    let (log, store) = in_memory(rt.alloc())?;
     let mut source = ReaderSource::new(rt.stdin());
     let mut sink = WriterSink::new(io::writer(rt));
     let ended = lab(
@@ -99,14 +94,38 @@ fn run_on<L: Sectors + Send + Drop, D: Sectors + Send + Drop>(
     Ok(ended.status)
 }
 
+/// Runs the command on two files, whatever they hold, and says its status.
+fn run_in_files<H: Contents + Send, K: Contents + Send>(
+    rt: &HostRuntime,
+    threads: &(impl Threads + Wait + Sync),
+    words: &[String],
+) -> Result<u8, AllocError> {
+    let log = in_file::<H>(rt, LOG_FILE)?;
+    let store = in_file::<K>(rt, DATA_FILE)?;
+    let mut source = ReaderSource::new(rt.stdin());
+    let mut sink = WriterSink::new(io::writer(rt));
+    let ended = lab_in_files(
+        threads,
+        rt.alloc(),
+        words,
+        &mut source,
+        &mut sink,
+        log,
+        store,
+        &NoGate,
+    );
+    Ok(ended.status)
+}
+
 /// Runs the command, and says its status.
 fn run(rt: &HostRuntime, threads: &(impl Threads + Wait + Sync)) -> Result<u8, Fault> {
     let words = words(rt)?;
-    if asks_for_files(rt.alloc(), &words)? {
-        run_on(rt, threads, &words, in_files(rt))
+    let ended = if asks_for_files(rt.alloc(), &words)? {
+        run_in_files::<Unread, Unread>(rt, threads, &words)
     } else {
-        run_on(rt, threads, &words, in_memory(rt.alloc()))
-    }
+        run_in_memory(rt, threads, &words)
+    };
+    ended.map_err(|_| Fault::Memory)
 }
 
 fn main(rt: HostRuntime) -> ExitCode {

@@ -33,12 +33,12 @@ fn call(
     data_file: &str,
 ) -> Result<(u8, MemSink), AllocError> {
     let alloc = rt.alloc();
-    let log = in_file(rt, log_file)?;
-    let store = in_file(rt, data_file)?;
+    let log = in_file::<Unread>(rt, log_file)?;
+    let store = in_file::<Unread>(rt, data_file)?;
     let mut source = MemSource::new(LINE.as_bytes().to_vec(alloc)?);
     let mut sink = MemSink::new(alloc);
     let words = words_of(alloc, text)?;
-    let ended = lab(
+    let ended = lab_in_files(
         threads,
         alloc,
         &words,

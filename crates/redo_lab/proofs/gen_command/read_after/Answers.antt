@@ -1,5 +1,7 @@
-use Rattle.std.proofs.Common.{arith}
+use Rattle.std.proofs.Common.{arith, refl}
 use Rattle.redo_recover.specs.{reading_of}
+use Rattle.redo_lab.proofs.Behind.{calls-same}
+use Rattle.redo_lab.proofs.ByDrive.{driven-later}
 use Rattle.redo_lab.proofs.Entered.{both-entries}
 use Rattle.redo_lab.proofs.Rereading.{failure-ends, log-reads, read-since, reading-ends, was_of}
 use Rattle.redo_lab.proofs.RunEnds.{gen-reads}
@@ -10,8 +12,11 @@ pub returns-in-Ok-clause-ends : goal.returns-in-Ok-clause-ends
 returns-in-Ok-clause-ends g c = λ words source log_entry data_entry seed users groups max script running was.
     let now = c.in-Ok.ensures in
     rw c.of_text.ensures (reading-ends
-    (gen-reads _ seed users groups max script (ran_of c.args.played.now) (was_of g.L.Sectors.seen c.args.log.now) (was_of g.D.Sectors.seen c.args.store.now) c.laws.ensures running was.0 was.1 was.2)
-    _ _ now.log.unchanged.tells now.data_device.unchanged.tells (reading_of c.in-Ok.recovered) _
+    (gen-reads _ _ (driven-later g.L.Sectors.seen g.L.Sectors.gives g.D.Sectors.seen g.D.Sectors.gives
+    (calls-same now.log.calls) (calls-same now.data_device.calls))
+    seed users groups max script (ran_of c.args.played.now)
+    (was_of g.L.Sectors.seen c.args.log.now) (was_of g.D.Sectors.seen c.args.store.now) c.laws.ensures running was.0 was.1 was.2)
+    _ _ refl refl (reading_of c.in-Ok.recovered) _
     (read-since was.0.armed.log_device (omega (arith, was.2.0)) (log-reads now.log.calls), read-since was.0.armed.data_device (omega (arith, was.2.0)) now.data_device.calls)
     now.recovered.read c.summarize.ensures)
 
@@ -19,8 +24,11 @@ pub returns-in-Err-clause-ends : goal.returns-in-Err-clause-ends
 returns-in-Err-clause-ends g c = λ words source log_entry data_entry seed users groups max script running was.
     let now = c.in-Err.ensures in
     rw c.fault_of.ensures (failure-ends
-    (gen-reads _ seed users groups max script (ran_of c.args.played.now) (was_of g.L.Sectors.seen c.args.log.now) (was_of g.D.Sectors.seen c.args.store.now) c.laws.ensures running was.0 was.1 was.2)
-    _ _ now.log.unchanged.tells now.data_device.unchanged.tells c.in-Err.fault
+    (gen-reads _ _ (driven-later g.L.Sectors.seen g.L.Sectors.gives g.D.Sectors.seen g.D.Sectors.gives
+    (calls-same now.log.calls) (calls-same now.data_device.calls))
+    seed users groups max script (ran_of c.args.played.now)
+    (was_of g.L.Sectors.seen c.args.log.now) (was_of g.D.Sectors.seen c.args.store.now) c.laws.ensures running was.0 was.1 was.2)
+    _ _ refl refl c.in-Err.fault
     (read-since was.0.armed.log_device (omega (arith, was.2.0)) (log-reads now.log.calls), read-since was.0.armed.data_device (omega (arith, was.2.0)) now.data_device.calls)
     now.caused.cause)
 

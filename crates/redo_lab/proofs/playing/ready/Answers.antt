@@ -35,8 +35,16 @@ returns-clause-ready g c = λ words source source_now command asked running same
       prepared = prepared-later _
           (record { now = g.L.Sectors.seen c.prepare.new.log.inner; fuse = c.prepare.new.log.fuse; armed_from = (g.L.Sectors.seen c.prepare.new.log.inner).tells })
           (record { now = g.D.Sectors.seen c.prepare.new.store.inner; fuse = c.prepare.new.store.fuse; armed_from = (g.D.Sectors.seen c.prepare.new.store.inner).tells })
-          (record { told = log_told; early_calls = ap (λ (fuse : Fuse). fuse.early_calls) c.arm.ensures.fuse })
-          (record { told = data_told; early_calls = ap (λ (fuse : Fuse). fuse.early_calls) c.arm-2.ensures.fuse })
+          (record {
+            told = log_told;
+            early_calls = ap (λ (fuse : Fuse). fuse.early_calls) c.arm.ensures.fuse;
+            back = λ on none. on (ap (λ d. (g.L.Sectors.seen d).tells) c.arm.ensures.inner ∙ none);
+          })
+          (record {
+            told = data_told;
+            early_calls = ap (λ (fuse : Fuse). fuse.early_calls) c.arm-2.ensures.fuse;
+            back = λ on none. on (ap (λ d. (g.D.Sectors.seen d).tells) c.arm-2.ensures.inner ∙ none);
+          })
           prepared.1;
       log_device = armed-now g.L.Sectors.seen c.args.log c.prepare.new.log c.arm.new.self c.args.stops.log prepared.0.0 c.arm.ensures.inner c.arm.ensures.fuse log_told;
       data_device = armed-now g.D.Sectors.seen c.args.store c.prepare.new.store c.arm-2.new.self c.args.stops.store prepared.0.1 c.arm-2.ensures.inner c.arm-2.ensures.fuse data_told;

@@ -1,5 +1,7 @@
 -- Both devices are prepared for a run.
-use Rattle.std.proofs.Common.{◌≤◌, Err, refl, ◌∙◌, arith}
+use Rattle.redo_memdisk.proofs.Behind.{keeps-behind}
+use Rattle.redo_lab.proofs.Told.{still-equal}
+use Rattle.std.proofs.Common.{◌≤◌, Err, refl, ◌∙◌, arith, ◌≢◌, ◌≡◌, None}
 use Rattle.model_log.specs.declared.layout.TheConstants.{HEADER_BYTES}
 use Rattle.redo_lab.proofs.Alone.{alone-behind}
 use Rattle.redo_lab.proofs.Entered.{calls-entry, format-entries}
@@ -14,7 +16,9 @@ returns-in-Ok-clause-prepares g c = λ words source source_now.
     let header : HEADER_BYTES ≤ (g.L.Sectors.seen c.args.log.now.inner).size = omega (arith, c.len.ensures.size, c.if-len-lt-HEADER_BYTES.false) in
     let first = read-first g.D.Sectors.seen c.args.store.now c.requires.log_fresh c.requires.data_fresh c.in-Ok-true.ensures.calls in
     prepared-formatted _ (guarded g.L.Sectors.seen c.args.log.now.inner c.is_unused.new.log) (guarded g.D.Sectors.seen c.args.store.now.inner c.args.store.now) c.in-Ok.field-0 header
-    first.unarmed refl refl (rw c.in-Ok-true.field-0-test at c.in-Ok-true.ensures.unused)
+    first.unarmed refl refl (λ on. still-equal _ _ first.log_kept
+    ((keeps-behind g.L.Sectors.seen g.L.Sectors.gives c.is_unused.new.log c.format.new.log c.in-Ok.ensures.calls.log.calls c.in-Ok.ensures.calls.log.made).told on))
+    (rw c.in-Ok-true.field-0-test at c.in-Ok-true.ensures.unused)
     (formats-both g.L.Sectors.seen g.L.Sectors.gives g.D.Sectors.seen g.D.Sectors.gives c.args.log.now.inner c.args.store.now.inner first.unarmed c.in-Ok.field-0 c.in-Ok.ensures.calls)
     (rw c.default_shape.ensures.shape at c.in-Ok.ensures.lengths) (rw c.default_shape.ensures.shape at c.in-Ok.ensures.formatted)
 
@@ -22,10 +26,16 @@ pub returns-in-Err-format-clause-prepares : goal.returns-in-Err-format-clause-pr
 returns-in-Err-format-clause-prepares g c = λ words source source_now command asked script running.
     let header : HEADER_BYTES ≤ (g.L.Sectors.seen c.args.log.now.inner).size = omega (arith, c.len.ensures.size, c.if-len-lt-HEADER_BYTES.false) in
     let first = read-first g.D.Sectors.seen c.args.store.now c.requires.log_fresh c.requires.data_fresh c.in-Ok-true.ensures.calls in
+    let log_calls = c.in-Err-format.ensures.called.log_calls in
+    let data_calls = c.in-Err-format.ensures.called.data_calls in
+    let log_same : (g.L.Sectors.seen c.format.new.log.inner).tells ≢ None → (g.L.Sectors.seen c.is_unused.new.log.inner).tells ≡ (g.L.Sectors.seen c.args.log.now.inner).tells =
+    λ on. still-equal _ _ first.log_kept ((keeps-behind g.L.Sectors.seen g.L.Sectors.gives c.is_unused.new.log c.format.new.log log_calls.calls log_calls.made).told on) in
+    let data_same : (g.D.Sectors.seen c.format.new.data_device.inner).tells ≢ None → (g.D.Sectors.seen c.args.store.now.inner).tells ≡ (g.D.Sectors.seen c.args.store.now.inner).tells =
+    λ on. refl in
     format-fails g.L.Sectors.seen g.L.Sectors.gives g.D.Sectors.seen g.D.Sectors.gives c.args.log.now.inner c.args.store.now.inner first.unarmed
-    (unprepared-formatted _ command asked script running c.laws.ensures header (λ same. rw (same.0, same.1) first) (rw c.in-Ok-true.field-0-test at c.in-Ok-true.ensures.unused)
+    (unprepared-formatted _ command asked script running c.laws.ensures header (λ same. rw (same.0, same.1) first) _ log_same (rw c.in-Ok-true.field-0-test at c.in-Ok-true.ensures.unused)
     (kept-no-store (call_on g.L.Sectors.seen g.L.Sectors.gives g.D.Sectors.seen g.D.Sectors.gives words source source_now c.args.log.now.inner c.args.store.now.inner c.format.new.log c.format.new.data_device)
-    _ _ first.log_kept first.data_kept (rw c.default_shape.ensures.shape at c.in-Err-format.ensures.keeps)))
+    _ _ _ log_same data_same (rw c.default_shape.ensures.shape at c.in-Err-format.ensures.keeps)))
     c.in-Err-format.fault c.in-Err-format.ensures.calls (rw c.default_shape.ensures.shape at c.in-Err-format.ensures.cause)
 
 pub returns-in-Ok-false-clause-prepares : goal.returns-in-Ok-false-clause-prepares

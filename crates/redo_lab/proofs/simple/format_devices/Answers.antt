@@ -1,15 +1,23 @@
-use Rattle.std.proofs.Common.{refl, Ok, Err}
+use Rattle.std.proofs.Common.{ap, refl, Ok, Err}
 use Rattle.redo_lab.proofs.Alone.{alone-behind}
 use Rattle.redo_lab.proofs.Entered.{entries-then, format-entries}
 use Rattle.redo_lab.proofs.Formats.{format-ends, format-fails, format-to, formats-both}
 use Rattle.redo_lab.proofs.Fuses.{unarmed-fresh}
+use Rattle.redo_lab.proofs.Prepared.{kept-no-store}
+use Rattle.redo_lab.specs.Answer.{asked_shape}
+use Rattle.redo_lab.specs.Handed.{call_on}
 use Rattle.redo_lab.proofs.simple.format_devices.Goals as goal
 use Rattle.redo_lab.proofs.simple.format_devices.Goals.{in-Ok, in-Err}
 
 pub returns-clause-ends : goal.returns-clause-ends
 returns-clause-ends g c = λ words source.
+    let call = call_on g.L.Sectors.seen g.L.Sectors.gives g.D.Sectors.seen g.D.Sectors.gives words source source
+    c.args.log c.args.store c.format.new.log c.format.new.data_device in
+    let shape = asked_shape c.args.pages c.args.space c.args.log_blocks in
     elim c.match-format.branch [
-      | in-Ok w ↦ rw (w.outcome-is, w.of_text-outcome.ensures) (format-ends _ c.args.pages c.args.space c.args.log_blocks refl _
+      | in-Ok w ↦ rw (w.outcome-is, w.of_text-outcome.ensures) (format-ends call c.args.pages c.args.space c.args.log_blocks refl
+          (kept-no-store call shape _ _ (λ on. ap (λ d. (g.L.Sectors.seen d).tells) c.plain-log.ensures.inner) (λ on. ap (λ d. (g.D.Sectors.seen d).tells) c.plain-store.ensures.inner)
+          (rw c.shape_of.ensures at w.in-Ok.ensures.keeps)) _
           (formats-both g.L.Sectors.seen g.L.Sectors.gives g.D.Sectors.seen g.D.Sectors.gives c.args.log c.args.store (
             unarmed-fresh g.L.Sectors.seen c.args.log c.plain-log.result c.plain-log.ensures.inner c.plain-log.ensures.fuse,
             unarmed-fresh g.D.Sectors.seen c.args.store c.plain-store.result c.plain-store.ensures.inner c.plain-store.ensures.fuse,
@@ -20,7 +28,9 @@ returns-clause-ends g c = λ words source.
             unarmed-fresh g.L.Sectors.seen c.args.log c.plain-log.result c.plain-log.ensures.inner c.plain-log.ensures.fuse,
             unarmed-fresh g.D.Sectors.seen c.args.store c.plain-store.result c.plain-store.ensures.inner c.plain-store.ensures.fuse,
           )
-          (format-to _ c.args.pages c.args.space c.args.log_blocks refl (λ same. (
+          (format-to call c.args.pages c.args.space c.args.log_blocks refl
+          (kept-no-store call shape _ _ (λ on. ap (λ d. (g.L.Sectors.seen d).tells) c.plain-log.ensures.inner) (λ on. ap (λ d. (g.D.Sectors.seen d).tells) c.plain-store.ensures.inner)
+          (rw c.shape_of.ensures at w.in-Err.ensures.keeps)) (λ same. (
             alone-behind g.L.Sectors.seen c.args.log c.plain-log.result c.format.new.log c.plain-log.ensures.inner c.plain-log.ensures.fuse same.0,
             alone-behind g.D.Sectors.seen c.args.store c.plain-store.result c.format.new.data_device c.plain-store.ensures.inner c.plain-store.ensures.fuse same.1,
           )))

@@ -8,15 +8,14 @@ use Rattle.redo_lab.proofs.simple.print_store.Goals.{in-Ok, in-Err}
 
 pub returns-clause-ends : goal.returns-clause-ends
 returns-clause-ends g c = λ words source.
-    let log_same = ap (λ d. (g.L.Sectors.seen d).tells) (sym c.plain-log.ensures.inner) in
-    let data_same = ap (λ d. (g.D.Sectors.seen d).tells) (sym c.plain-store.ensures.inner) in
     elim c.match-recover.branch [
-      | in-Ok w ↦ rw (w.outcome-is, w.of_text-outcome.ensures) (reading-ends (plain-reads (dumps-off _ c.args.why refl) c.laws.ensures) _ _ log_same data_same (reading_of w.in-Ok.recovered) _ (
+      | in-Ok w ↦ rw (w.outcome-is, w.of_text-outcome.ensures) (reading-ends (plain-reads (dumps-off _ c.args.why refl) c.laws.ensures) _ _ refl refl (reading_of w.in-Ok.recovered) _ (
         only-read c.plain-log.ensures.inner c.plain-log.ensures.fuse (log-reads w.in-Ok.ensures.log.calls),
         only-read c.plain-store.ensures.inner c.plain-store.ensures.fuse w.in-Ok.ensures.data_device.calls,
       )
-          w.in-Ok.ensures.recovered.read (listed _ c.args.why (reading_of w.in-Ok.recovered) w.in-Ok.recovered.stop w.listing_of.result (rw c.plain-log.ensures.inner at w.in-Ok.ensures.recovered.stop) w.listing_of.ensures))
-      | in-Err w ↦ rw (w.outcome-is, w.fault_of.ensures) (failure-ends (plain-reads (dumps-off _ c.args.why refl) c.laws.ensures) _ _ log_same data_same w.in-Err.fault (
+          w.in-Ok.ensures.recovered.read (listed _ c.args.why (reading_of w.in-Ok.recovered) w.in-Ok.recovered.stop w.listing_of.result
+          (only-read c.plain-log.ensures.inner c.plain-log.ensures.fuse (log-reads w.in-Ok.ensures.log.calls)).1.0 w.in-Ok.ensures.recovered.stop w.listing_of.ensures))
+      | in-Err w ↦ rw (w.outcome-is, w.fault_of.ensures) (failure-ends (plain-reads (dumps-off _ c.args.why refl) c.laws.ensures) _ _ refl refl w.in-Err.fault (
         only-read c.plain-log.ensures.inner c.plain-log.ensures.fuse (log-reads w.in-Err.ensures.log.calls),
         only-read c.plain-store.ensures.inner c.plain-store.ensures.fuse w.in-Err.ensures.data_device.calls,
       )

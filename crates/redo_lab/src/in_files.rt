@@ -1,0 +1,46 @@
+// The top call on two files.
+ghost use Rattle.std.specs.Prelude.{map};
+ghost use Rattle.std.specs.String.{string_bytes};
+ghost use Rattle.redo_memdisk.specs.File.{FileGives, file_seen};
+ghost use Rattle.redo_lab.specs.Ending.{IsCallOf};
+ghost use Rattle.redo_lab.specs.Files.{IsAtRestWith, IsUncalled};
+ghost use Rattle.redo_lab.specs.Handed.{AreOf, call_on};
+
+use crate::ended::Ended;
+use crate::lab_call::lab;
+use redo_io::{Sink, Source};
+use redo_memdisk::{Contents, FileDisk};
+use redo_threads::Gate;
+use std::alloc::Global;
+use std::sync::Wait;
+use std::thread::Threads;
+
+/// `lab` on two files that no call has reached, whatever they hold: `H` and `K` name their bytes, which no code reads. Where
+/// each read of the call gives what these bytes and the call's own writes come to, both files tell to its end.
+pub fn lab_in_files<
+    'a,
+    S: Source,
+    O: Sink,
+    H: Contents + Send,
+    K: Contents + Send,
+    G: Gate,
+    R: Threads + Wait + Sync,
+>(
+    rt: &R,
+    alloc: Global,
+    words: &[String],
+    src: &mut S,
+    out: &mut O,
+    log: FileDisk<&'a HostRuntime, H>,
+    store: FileDisk<&'a HostRuntime, K>,
+    gate: &G,
+) -> Ended<FileDisk<&'a HostRuntime, H>, FileDisk<&'a HostRuntime, K>>
+    requires log_uncalled { IsUncalled log }
+    requires data_uncalled { IsUncalled store }
+    ensures call { IsCallOf (call_on (file_seen H.Contents.bytes) FileGives (file_seen K.Contents.bytes) FileGives
+        (map (λ word. string_bytes word) words.now) (S.seen src.old) (S.seen src.new) log.entry store.entry result.log result.store) (O.seen out.old) (O.seen out.new) result.status }
+    ensures entered { AreOf log.entry store.entry result.log result.store }
+    ensures at_entry { IsAtRestWith H.Contents.bytes log.entry × IsAtRestWith K.Contents.bytes store.entry }
+{
+    lab(rt, alloc, words, src, out, log, store, gate)
+}
