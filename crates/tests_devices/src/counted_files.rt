@@ -1,4 +1,4 @@
-// Files of which only the calls are counted.
+// Files of which only the calls are told.
 use redo_memdisk::LockFiles;
 use std::alloc::Allocator;
 use std::cell::Cell;
@@ -7,28 +7,68 @@ use std::io;
 use std::io::{ErrorKind, Read, Seek, SeekFrom, Write};
 use std::rc::Rc;
 
-/// What was asked of the files: how many calls, of which the one with this number, counted from 0, fails, and how many syncs.
+/// What the file system is asked for.
+#[derive(Clone, Copy, Debug, PartialEq, Eq)]
+pub enum Ask {
+    Open,
+    Make,
+    OpenFolder,
+    SyncFolder,
+    Clone,
+    Lock,
+    Sync,
+    Seek,
+    Read,
+    Write,
+}
+
+/// How many calls are told.
+const ROOM: usize = 24;
+
+/// What was asked of a file system with one file: the calls, of which those with these numbers fail, counted from 0.
 #[derive(Debug, Drop)]
 pub struct Calls {
-    pub made: Cell<u64>,
-    pub failing: u64,
-    pub syncs: Cell<u64>,
+    made: Cell<usize>,
+    asked: Cell<[Ask; ROOM]>,
+    failing: (usize, usize),
+    is_there: Cell<bool>,
 }
 
 impl Calls {
-    /// No calls yet.
-    pub fn new(failing: u64) -> Self {
+    /// No calls yet. Those from the first of these numbers on fail, up to the second.
+    pub fn new(is_there: bool, failing: (usize, usize)) -> Self {
         Calls {
             made: Cell::new(0),
+            asked: Cell::new([Ask::Open; ROOM]),
             failing,
-            syncs: Cell::new(0),
+            is_there: Cell::new(is_there),
         }
     }
 
-    fn count(&self) -> io::Result<()> {
+    /// Whether these are the calls so far.
+    pub fn are(&self, want: &[Ask]) -> bool {
+        let asked = self.asked.get();
+        &asked[..self.made.get().min(ROOM)] == want
+    }
+
+    /// How often this was asked for.
+    pub fn count_of(&self, ask: Ask) -> usize {
+        let asked = self.asked.get();
+        asked[..self.made.get().min(ROOM)]
+            .iter()
+            .filter(|one| **one == ask)
+            .count()
+    }
+
+    fn count(&self, ask: Ask) -> io::Result<()> {
         let number = self.made.get();
+        let mut asked = self.asked.get();
+        if number < ROOM {
+            asked[number] = ask;
+        }
+        self.asked.set(asked);
         self.made.set(number.saturating_add(1));
-        if number == self.failing {
+        if self.failing.0 <= number && number < self.failing.1 {
             Err(io::Error::from(ErrorKind::Other))
         } else {
             Ok(())
@@ -36,41 +76,41 @@ impl Calls {
     }
 }
 
-/// A file system whose calls are counted.
+/// A file system whose calls are told. The folder of its file is the current one.
 #[derive(Drop)]
 pub struct CountedFiles {
     pub calls: Rc<Calls>,
 }
 
-/// A file that takes each write and holds nothing.
+/// A file that takes each write and holds nothing, or the folder.
 #[derive(Drop)]
 pub struct CountedFile {
     calls: Rc<Calls>,
+    is_folder: bool,
 }
 
 fn unsupported() -> io::Error {
     io::Error::from(ErrorKind::Unsupported)
 }
 
-/// A file whose calls are counted here, where memory lasts.
-fn counted(calls: &Rc<Calls>) -> io::Result<CountedFile> {
-    calls.count()?;
+/// A file whose calls are told here, where memory lasts.
+fn counted(calls: &Rc<Calls>, is_folder: bool) -> io::Result<CountedFile> {
     let Ok(calls) = calls.clone() else {
         return Err(unsupported());
     };
-    Ok(CountedFile { calls })
+    Ok(CountedFile { calls, is_folder })
 }
 
 impl Read for CountedFile {
     fn read(&mut self, _out: &mut [u8]) -> io::Result<usize> {
-        self.calls.count()?;
+        self.calls.count(Ask::Read)?;
         Ok(0)
     }
 }
 
 impl Write for CountedFile {
     fn write(&mut self, bytes: &[u8]) -> io::Result<usize> {
-        self.calls.count()?;
+        self.calls.count(Ask::Write)?;
         Ok(bytes.len())
     }
 
@@ -81,7 +121,7 @@ impl Write for CountedFile {
 
 impl Seek for CountedFile {
     fn seek(&mut self, _to: SeekFrom) -> io::Result<u64> {
-        self.calls.count()?;
+        self.calls.count(Ask::Seek)?;
         Ok(0)
     }
 }
@@ -96,10 +136,11 @@ impl OpenFile for CountedFile {
     }
 
     fn sync_all(&self) -> io::Result<()> {
-        self.calls.count()?;
-        let syncs = self.calls.syncs.get();
-        self.calls.syncs.set(syncs.saturating_add(1));
-        Ok(())
+        self.calls.count(if self.is_folder {
+            Ask::SyncFolder
+        } else {
+            Ask::Sync
+        })
     }
 
     fn sync_data(&self) -> io::Result<()> {
@@ -107,7 +148,8 @@ impl OpenFile for CountedFile {
     }
 
     fn try_clone(&self) -> io::Result<CountedFile> {
-        counted(&self.calls)
+        self.calls.count(Ask::Clone)?;
+        counted(&self.calls, self.is_folder)
     }
 }
 
@@ -116,8 +158,21 @@ impl Files for CountedFiles {
 
     type Dir = CountedFile;
 
-    fn open_file(&self, _how: &OpenOptions, _path: &str) -> io::Result<CountedFile> {
-        counted(&self.calls)
+    fn open_file(&self, how: &OpenOptions, path: &str) -> io::Result<CountedFile> {
+        if path == "." {
+            self.calls.count(Ask::OpenFolder)?;
+            return counted(&self.calls, true);
+        }
+        if how.asks_create() {
+            self.calls.count(Ask::Make)?;
+            self.calls.is_there.set(true);
+        } else {
+            self.calls.count(Ask::Open)?;
+        }
+        if !self.calls.is_there.get() {
+            return Err(io::Error::from(ErrorKind::NotFound));
+        }
+        counted(&self.calls, false)
     }
 
     fn open_dir(&self, _path: &str) -> io::Result<CountedFile> {
@@ -159,6 +214,6 @@ impl Files for CountedFiles {
 
 impl LockFiles for CountedFiles {
     fn try_lock(&self, _file: &CountedFile) -> io::Result<()> {
-        self.calls.count()
+        self.calls.count(Ask::Lock)
     }
 }

@@ -1,10 +1,10 @@
 // Devices in files.
 ghost use Rattle.std.specs.Prelude.{◌+◌, ◌*◌, ◌≤◌};
 
-use crate::counted_files::{Calls, CountedFiles};
+use crate::counted_files::{Ask, Calls, CountedFiles};
 use crate::memdisk::{fill, first_byte};
 use redo_disk::{DevError, Sectors};
-use redo_memdisk::{FileDisk, LockFiles};
+use redo_memdisk::{FileDisk, LockFiles, Unread};
 use std::alloc::{AllocError, Global};
 use std::fs;
 use std::rc::Rc;
@@ -15,7 +15,7 @@ fn device_at<R: LockFiles + Drop>(
     files: R,
     alloc: Global,
     path: &str,
-) -> Result<FileDisk<R>, AllocError> {
+) -> Result<FileDisk<R, Unread>, AllocError> {
     Ok(FileDisk::new(files, String::from_str(alloc, path)?))
 }
 
@@ -49,48 +49,123 @@ fn a_file_keeps_what_was_written(rt: HostRuntime) -> Result<(), Fail> {
     Ok(())
 }
 
-/// How many syncs had reached the files after a write, after a sync, and after a crash and one more sync.
-fn syncs_of_three<D: Sectors>(device: &mut D, calls: &Calls) -> Result<[u64; 3], DevError>
-    requires { 512 ≤ (D.seen device.old).size }
-{
-    fill(device, 0, 1)?;
-    let written = calls.syncs.get();
-    device.sync()?;
-    let synced = calls.syncs.get();
-    device.crash(0);
-    device.sync()?;
-    Ok([written, synced, calls.syncs.get()])
-}
-
-#[test]
-fn a_sync_reaches_the_file(rt: HostRuntime) -> Result<(), Fail> {
-    let calls = Rc::new(rt.alloc(), Calls::new(u64::MAX))?;
+/// The device in a file whose calls are told: all of those with these numbers fail.
+fn told_device(
+    alloc: Global,
+    is_there: bool,
+    failing: (usize, usize),
+) -> Result<(FileDisk<CountedFiles, Unread>, Rc<Calls>), AllocError> {
+    let calls = Rc::new(alloc, Calls::new(is_there, failing))?;
     let files = CountedFiles {
         calls: calls.clone()?,
     };
-    let mut device = device_at(files, rt.alloc(), "counted")?;
-    assert!(rt; syncs_of_three(&mut device, &calls)? == [0, 1, 2]);
+    Ok((device_at(files, alloc, "told")?, calls))
+}
+
+/// Writes, reads, syncs and crashes.
+fn call_each<D: Sectors>(device: &mut D) -> Result<(), DevError>
+    requires { 512 ≤ (D.seen device.old).size }
+{
+    fill(device, 0, 1)?;
+    first_byte(device, 0)?;
+    device.sync()?;
+    device.crash(0);
     Ok(())
 }
 
-/// Whether a write, a sync and a read succeed on a device whose file fails its call of this number.
-fn answers_failing(alloc: Global, failing: u64) -> Result<[bool; 3], AllocError> {
-    let calls = Rc::new(alloc, Calls::new(failing))?;
-    let mut device = device_at(CountedFiles { calls }, alloc, "failing")?;
-    Ok([
-        fill(&mut device, 0, 1).is_ok(),
+// The first call syncs the file before its own write, and of a new file the folder too; nothing else syncs the folder.
+#[test]
+fn a_file_is_synced_as_it_is_opened(rt: HostRuntime) -> Result<(), Fail> {
+    let made = [Ask::OpenFolder, Ask::Make, Ask::SyncFolder];
+    let opened = [Ask::Clone, Ask::Lock, Ask::Sync];
+    let called = [
+        Ask::Seek,
+        Ask::Write,
+        Ask::Seek,
+        Ask::Read,
+        Ask::Sync,
+        Ask::Sync,
+    ];
+    for (is_there, made) in [(true, &made[..0]), (false, &made[..])] {
+        let (mut device, calls) = told_device(rt.alloc(), is_there, (0, 0))?;
+        call_each(&mut device)?;
+        let mut want = vec![in rt.alloc(); Ask::Open]?;
+        for some in [made, &opened, &called] {
+            want.extend_from_slice(some)?;
+        }
+        assert!(rt; calls.are(&want), "where the file is there: {is_there}");
+    }
+    Ok(())
+}
+
+/// Whether a write, a sync, a read and another sync succeed.
+fn answers_of<D: Sectors>(device: &mut D) -> [bool; 4]
+    requires { 512 ≤ (D.seen device.old).size }
+{
+    [
+        fill(device, 0, 1).is_ok(),
         device.sync().is_ok(),
-        first_byte(&mut device, 0).is_ok(),
-    ])
+        first_byte(device, 0).is_ok(),
+        device.sync().is_ok(),
+    ]
 }
 
 #[test]
-fn a_file_that_fails_is_told_at_once(rt: HostRuntime) -> Result<(), Fail> {
-    for failing in 0..9 {
-        // the write opens the file, duplicates its number and locks it, and then seeks and writes; the read seeks and reads
-        let want = [failing > 4, failing != 5, failing != 6 && failing != 7];
-        let found = answers_failing(rt.alloc(), failing)?;
+fn nothing_is_done_once_all_calls_fail(rt: HostRuntime) -> Result<(), Fail> {
+    for failing in 0..14 {
+        let (mut device, _) = told_device(rt.alloc(), false, (failing, usize::MAX))?;
+        // a new file's first write makes nine calls, each sync one and the read two
+        let want = [9, 10, 12, 13].map(|calls| calls <= failing);
+        let found = answers_of(&mut device);
+        assert!(rt; found == want, "from the call {failing} on");
+    }
+    Ok(())
+}
+
+// Where a call fails once, the next one tries again, but for syncs: after one that failed none is made.
+#[test]
+fn a_sync_that_failed_is_the_last(rt: HostRuntime) -> Result<(), Fail> {
+    for failing in 0..14 {
+        let (mut device, calls) = told_device(rt.alloc(), false, (failing, failing + 1))?;
+        let (want, syncs) = match failing {
+            3 => ([false; 4], 0),
+            6 => ([false; 4], 1),
+            0..=8 => ([false, true, true, true], 3),
+            9 => ([true, false, true, false], 2),
+            10..=11 => ([true, true, false, true], 3),
+            12 => ([true, true, true, false], 3),
+            _ => ([true; 4], 3),
+        };
+        let found = answers_of(&mut device);
         assert!(rt; found == want, "at the call {failing}");
+        assert!(rt; calls.count_of(Ask::Sync) == syncs, "at the call {failing}");
+        assert!(rt;
+            calls.count_of(Ask::SyncFolder) == 1,
+            "at the call {failing}"
+        );
+    }
+    Ok(())
+}
+
+/// Whether a sync succeeds after a write and a crash.
+fn syncs_after_crash<D: Sectors>(device: &mut D) -> Result<bool, DevError>
+    requires { 512 ≤ (D.seen device.old).size }
+{
+    fill(device, 0, 1)?;
+    device.crash(0);
+    Ok(device.sync().is_ok())
+}
+
+// The call of number 6 is the crash's sync.
+#[test]
+fn a_crash_whose_sync_failed_ends_all_syncs(rt: HostRuntime) -> Result<(), Fail> {
+    for (failing, want, syncs) in [(6, false, 2), (7, false, 3), (8, true, 3)] {
+        let (mut device, calls) = told_device(rt.alloc(), true, (failing, failing + 1))?;
+        let found = syncs_after_crash(&mut device)?;
+        assert!(rt;
+            found == want && calls.count_of(Ask::Sync) == syncs,
+            "at the call {failing}"
+        );
     }
     Ok(())
 }

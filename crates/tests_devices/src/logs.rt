@@ -5,7 +5,7 @@ ghost use Rattle.model_log.specs.{block_of, lsn_of, sn_of};
 ghost use Rattle.model_log.specs.declared.layout.TheConstants.{BLOCK_DATA, BLOCK_HEADER};
 
 use crate::parts::{DATA, START, blank};
-use model_base::{BLOCK_SIZE, LSN_LIMIT, Shape};
+use model_base::{BLOCK_SIZE, LSN_LIMIT, START_LSN, Shape};
 use model_log::{BLOCK_DATA, BLOCK_HEADER, Format};
 use redo_disk::{DevError, Sectors};
 use redo_header::{fill_ckpt, fill_head, place_of};
@@ -180,6 +180,16 @@ impl<L: Sectors + Drop> Run<L> {
         self.part.sync()
     }
 
+    /// The first bytes of the run's block at this lsn, up to where it names a checkpoint or a turn.
+    fn read(&mut self, rt: &impl Abort, lsn: u64) -> Result<[u8; 12], DevError> {
+        assert!(rt; self.part.failed().is_none() && lsn % BLOCK_SIZE == 0 && START_LSN <= lsn);
+        let mut block = [0; 512];
+        self.part.read_block(lsn, &mut block)?;
+        let mut front = [0; 12];
+        front.copy_from_slice(&block[..12]);
+        Ok(front)
+    }
+
     /// The device.
     fn end(self) -> L {
         let Run { part, .. } = self;
@@ -215,6 +225,20 @@ fn a_full_block_goes_to_its_place(rt: HostRuntime) -> Result<(), Fail> {
     assert_eq!(rt; front_of(&rt, &mut device, 5)?, [0; 12]);
     assert_eq!(rt; front_of(&rt, &mut device, 6)?, front(17, 512, 1));
     assert_eq!(rt; read_back(&rt, alloc, &mut device), (1, 8_716));
+    Ok(())
+}
+
+/// A full block is read from its place, and one that isn't full from the tail block that was written last.
+#[test]
+fn blocks_are_read(rt: HostRuntime) -> Result<(), Fail> {
+    let alloc = rt.alloc();
+    let mut run = Run::start(&rt, alloc, blank(alloc, LOG)?, 1, START)?;
+    run.write(&rt, &full_group())?;
+    run.write(&rt, &GROUPS[..6])?;
+    run.sync(&rt)?;
+    run.write(&rt, &GROUPS[..12])?;
+    assert_eq!(rt; run.read(&rt, 8_192)?, front(17, 512, 1));
+    assert_eq!(rt; run.read(&rt, 8_704)?, front(18, 24, 0));
     Ok(())
 }
 

@@ -5,7 +5,7 @@ use model_base::MAX_GROUP;
 use model_log::Group;
 use redo_lsn::Shape;
 use redo_num::Got;
-use redo_record::{Fits, Length, decode, encode, has_text};
+use redo_record::{Fits, Length, decode, encode, has_text, span};
 use std::alloc::Global;
 
 // A group, and its text.
@@ -112,6 +112,15 @@ fn short_and_bad_bytes(rt: HostRuntime) {
     for row in FRONTS.lines() {
         assert!(rt; is_short_or_bad(rt.alloc(), row) == Some(true), "{row}");
     }
+}
+
+#[test]
+fn spans(rt: HostRuntime) {
+    assert!(rt; span(b"\x81\x01\x03\0\x64\x07\x81") == Got::Value(6, 6));
+    let two = b"\x01\x01\x03\0\x64\x07\x01\x01\x04\0\x64\x08\x1F";
+    assert!(rt; span(two) == Got::Value(13, 13));
+    assert!(rt; span(&two[..12]) == Got::Short);
+    assert!(rt; span(b"\x1F") == Got::Bad);
 }
 
 // A group, and whether it fits a store of the default shape.

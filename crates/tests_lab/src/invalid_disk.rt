@@ -29,26 +29,17 @@ pub(crate) struct InvalidDisk {
 }
 
 impl Model for InvalidDisk {
-    ghost use Rattle.std.specs.Prelude.{◌≡◌, length, Some};
+    ghost use Rattle.std.specs.Prelude.{◌≡◌, length, Option};
     ghost use Rattle.std.specs.Option.{option_map};
-    ghost use Rattle.redo_disk.specs.Seen.{Seen};
+    ghost use Rattle.model_device.specs.Disk.{Disk};
 
-    ghost Value = { Seen };
+    // what it means, and what it meant just before its last crash
+    ghost Value = { Disk × Option Disk };
 
-    ghost view = { λ disk. record {
-      size = length disk.held.reads.items;
-      tells = Some (record {
-        base = disk.held.base.items;
-        writes = disk.held.writes.items;
-        reads = disk.held.reads.items;
-      });
-      crashed_from = option_map (λ found. record {
-        base = found.value.base.items;
-        writes = found.value.writes.items;
-        reads = found.value.reads.items;
-      }) disk.crashed_from;
-      faults = 0;
-    } };
+    ghost view = { λ disk. (
+      record { base = disk.held.base.items; writes = disk.held.writes.items; reads = disk.held.reads.items },
+      option_map (λ found. record { base = found.value.base.items; writes = found.value.writes.items; reads = found.value.reads.items }) disk.crashed_from,
+    ) };
 
     ghost invariant = { λ disk. length disk.held.base.items ≡ length disk.held.reads.items };
 }
@@ -89,7 +80,13 @@ fn put(row: &mut [u8], at: usize, bytes: &[u8])
 }
 
 impl Sectors for InvalidDisk {
-    ghost seen = { λ disk. disk };
+    ghost use Rattle.std.specs.Prelude.{length, Some};
+    ghost use Rattle.std.proofs.Common.{sym};
+    ghost use Rattle.std.proofs.lemmas.Option.{none-some};
+
+    ghost seen = { λ disk. record { size = length disk.0.reads; tells = Some disk.0; crashed_from = disk.1; faults = 0 } };
+
+    ghost told_before = { λ old new call given told none. none-some old.0 (sym none) };
 
     fn len(&self) -> u64 {
         self.held.reads.len() as u64

@@ -18,8 +18,8 @@ use std::test::Fail;
 use std::thread::Threads;
 
 /// All premises hold: on new devices, on a store in use, and there also where the log device stops. The first run ends at 8210
-/// and the second at 8722, so the next ones start in the blocks after those, at 8704 + 12 and 9216 + 12. The third opening makes 27
-/// calls of the log device: four reads; a write of zeros over the tail block that has no block of the log, and a sync; 16 writes of
+/// and the second at 8722, so the next ones start in the blocks after those, at 8704 + 12 and 9216 + 12. The third opening makes 28
+/// calls of the log device: four reads and a sync; a write of zeros over the tail block that has no block of the log, and a sync; 16 writes of
 /// zeros up to the ring's end, one at its front, and one over the place of the block that the other tail block has, and a sync; and
 /// the checkpoint with its sync. After those the block is written, and its sync is stopped.
 #[test]
@@ -29,7 +29,7 @@ fn a_store_in_order_is_crashed(rt: HostRuntime) -> Result<(), Fail> {
         "
 new  | crash               | 1 f b1 3 100 7 | 0 | open 8204 / g 8204 8210 1 0 flushed / marks 8210 8210 8210 8192 / recovered 1 8210 / p 3 8210 (00*62)07
 same | crash               | 2 f b1 3 101 8 | 0 | open 8716 / g 8716 8722 2 0 flushed / marks 8722 8722 8722 8704 / recovered 1 8722 / p 3 8722 (00*62)0708
-same | crash --stop-log 28 | 3 f b1 3 102 9 | 0 | open 9228 / g 9228 9234 3 0 lost / marks 9234 9234 9228 9216 / recovered 0 9228 / p 3 8722 (00*62)0708
+same | crash --stop-log 29 | 3 f b1 3 102 9 | 0 | open 9228 / g 9228 9234 3 0 lost / marks 9234 9234 9228 9216 / recovered 0 9228 / p 3 8722 (00*62)0708
 ",
     )
 }
@@ -274,18 +274,17 @@ fn parts_of_sectors_change_nothing(rt: HostRuntime) -> Result<(), Fail> {
 }
 
 /// The tail block of the log's only group, which no page has, reads as it was written, but at the last sync it was zeros, and no
-/// write since is told: what reads give is no image. Opening reads the group. It makes four reads of the log device, and a write of
-/// zeros over the other tail block with a sync. Where that sync is stopped the crash leaves the zeros, and what was flushed is lost.
-/// After the sync the group is there.
+/// write since is told: what reads give is no image. Opening reads the group by four reads of the log device, and syncs that. Where
+/// the sync is stopped the crash leaves the zeros, and what was flushed is lost. After the sync the group is there.
 #[test]
 fn reads_that_are_no_image_are_lost(rt: HostRuntime) -> Result<(), Fail> {
     for (words, outcome) in [
         (
-            "crash --stop-log 5",
+            "crash --stop-log 4",
             "0 | open none / left 2 1 / recovered 0 8204",
         ),
         (
-            "crash --stop-log 6",
+            "crash --stop-log 5",
             "0 | open none / left 2 1 / recovered 0 8210 / p 3 8210 (00*62)07",
         ),
         (

@@ -29,12 +29,11 @@ pub(crate) struct SilentDisk {
 }
 
 impl Model for SilentDisk {
-    ghost use Rattle.std.specs.Prelude.{◌≡◌, length, None};
-    ghost use Rattle.redo_disk.specs.Seen.{Seen};
+    ghost use Rattle.std.specs.Prelude.{◌≡◌, ℕ, length};
 
-    ghost Value = { Seen };
+    ghost Value = { ℕ };
 
-    ghost view = { λ disk. record { size = length disk.reads.items; tells = None; crashed_from = None; faults = 0 } };
+    ghost view = { λ disk. length disk.reads.items };
 
     ghost invariant = { λ disk. length disk.synced.items ≡ length disk.reads.items };
 }
@@ -67,7 +66,11 @@ pub(crate) fn zero_sector(bytes: &mut [u8], at: usize) {
 }
 
 impl Sectors for SilentDisk {
-    ghost seen = { λ disk. disk };
+    ghost use Rattle.std.specs.Prelude.{None};
+
+    ghost seen = { λ size. record { size = size; tells = None; crashed_from = None; faults = 0 } };
+
+    ghost told_before = { λ old new call given told. told };
 
     fn len(&self) -> u64 {
         self.reads.len() as u64

@@ -13,7 +13,12 @@ pub(crate) struct WornDisk {
 }
 
 impl Sectors for WornDisk {
+    ghost use Rattle.std.proofs.Common.{sym};
+    ghost use Rattle.std.proofs.lemmas.Option.{none-some};
+
     ghost seen = { λ disk. record (mem_seen disk.inner) { faults = last_count } };
+
+    ghost told_before = { λ old new call given told none. none-some old.inner.disk (sym none) };
 
     fn len(&self) -> u64 {
         self.inner.len()

@@ -153,9 +153,9 @@ fn a_formatted_store_is_blank(rt: HostRuntime) -> Result<(), Fail> {
     Ok(())
 }
 
-/// How many calls of the log device it takes to open the formatted store: four of reading, two writes of tail blocks and a
-/// sync, eight writes of 128 blocks at the most and a sync, and two for the checkpoint.
-const CALLS: u64 = 4 + (2 + 1) + (8 + 1) + 2;
+/// How many calls of the log device it takes to open the formatted store: four of reading, a sync, two writes of tail
+/// blocks and a sync, eight writes of 128 blocks at the most and a sync, and two for the checkpoint.
+const CALLS: u64 = 4 + 1 + (2 + 1) + (8 + 1) + 2;
 
 /// Of three groups a crash loses the second, and the third stands after the log's end. Opening takes it away: a new group
 /// where the second stood is read alone.

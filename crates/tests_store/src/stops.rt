@@ -13,10 +13,10 @@ use std::process::Abort;
 use std::test::Fail;
 
 /// Which sector writes since the last good sync a crash keeps: none, all, and every other one.
-const PICKS: [u64; 4] = [0, u64::MAX, 0x5555_5555_5555_5555, 0xAAAA_AAAA_AAAA_AAAA];
+pub const PICKS: [u64; 4] = [0, u64::MAX, 0x5555_5555_5555_5555, 0xAAAA_AAAA_AAAA_AAAA];
 
 /// How many first bytes of a sector a crash leaves that loses the rest.
-const CUT: usize = 100;
+pub const CUT: usize = 100;
 
 /// What is to be read of a store at each stop, and once it is opened.
 #[derive(Clone, Copy)]
@@ -28,7 +28,7 @@ struct Kept<'a> {
 }
 
 /// Opens a store on devices that pass so many calls, and crashes both. Gives the fault that opening ended with.
-fn open_and_crash(
+pub fn open_and_crash(
     alloc: Global,
     (log, data): (MemDisk, MemDisk),
     (log_limit, data_limit): (Option<u64>, Option<u64>),
@@ -106,10 +106,10 @@ fn torn_kept(format: Format) -> Kept<'static> {
 }
 
 /// The calls of the log device for the torn store of format 2: the header is read, two stretches of blocks, of which one
-/// goes to the log's end, and the tail blocks; then the header blocks, which are alike. One tail block is cleared, and
-/// synced; then 1,020 blocks by writes of 128 at the most, the place of the block in the other tail block, and that one, and
-/// synced; and the checkpoint is written and synced.
-const TORN_CALLS: u64 = (1 + 2 + 1) + 1 + (1 + 1) + (8 + 2 + 1) + 2;
+/// goes to the log's end, and the tail blocks; then the header blocks, which are alike, and a sync comes before the
+/// first write. One tail block is cleared, and synced; then 1,020 blocks by writes of 128 at the most, the place of the
+/// block in the other tail block, and that one, and synced; and the checkpoint is written and synced.
+const TORN_CALLS: u64 = (1 + 2 + 1) + 1 + 1 + (1 + 1) + (8 + 2 + 1) + 2;
 
 /// The calls for a store of format 1 after that of the blocks, of which 1,022 or 1,023 are cleared: the first checkpoint is
 /// written and synced; all 1,024 blocks are cleared by writes of 128, and synced; and the second checkpoint and the header
@@ -117,7 +117,7 @@ const TORN_CALLS: u64 = (1 + 2 + 1) + 1 + (1 + 1) + (8 + 2 + 1) + 2;
 const MIGRATION_CALLS: u64 = 2 + (8 + 1) + 3 * 2;
 
 /// Those for the torn store of format 1, of which no header stands in block 2.
-const OLD_CALLS: u64 = (1 + 2) + 1 + 2 + (8 + 1) + MIGRATION_CALLS;
+const OLD_CALLS: u64 = (1 + 2) + 1 + 1 + 2 + (8 + 1) + MIGRATION_CALLS;
 
 /// The calls of the data device: the slots and three places are read; after a sync one place is repaired, by a write and a
 /// sync, and two pages are written by five calls.
@@ -164,7 +164,7 @@ fn a_stop_shows_no_shorter_tail_block(rt: HostRuntime) -> Result<(), Fail> {
         pages: "",
         start: 8204,
     };
-    let calls = (1 + 1 + 1) + 1 + (1 + 1) + (8 + 2 + 1) + 2;
+    let calls = (1 + 1 + 1) + 1 + 1 + (1 + 1) + (8 + 2 + 1) + 2;
     see_log_stops(&rt, &store, calls, kept)
 }
 
@@ -179,6 +179,6 @@ fn a_stop_leaves_a_header(rt: HostRuntime) -> Result<(), Fail> {
         pages: "3 8210 7;",
         start: 8716,
     };
-    let calls = (1 + 1) + 1 + 2 + (8 + 1) + MIGRATION_CALLS;
+    let calls = (1 + 1) + 1 + 1 + 2 + (8 + 1) + MIGRATION_CALLS;
     see_log_stops(&rt, &store, calls, kept)
 }

@@ -6,3 +6,4 @@ mod ring;
 mod runs;
 mod store;
 mod tails;
+mod unsynced;

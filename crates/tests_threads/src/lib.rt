@@ -3,10 +3,12 @@
 #![tactic(auto, using(model_base::proofs::ShapeLimits::default_page_size))]
 
 #[cfg(test)]
-mod gates;
-#[cfg(test)]
 mod runs;
 #[cfg(test)]
 mod seats;
 #[cfg(test)]
 mod store;
+#[cfg(test)]
+mod text;
+#[cfg(test)]
+mod watch;

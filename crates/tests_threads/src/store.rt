@@ -1,24 +1,20 @@
-// Stores that were just formatted, over devices in memory that may stop, and runs of them in threads.
+// Stores that were just formatted, over devices in memory that may stop, each with a script that fits it.
 ghost use Rattle.std.specs.Prelude.{IfOk, ◌<◌, ◌^◌, ◌≡◌, ◌≤◌};
 ghost use Rattle.model_base.specs.{IsWithinLimits};
 ghost use Rattle.model_log.specs.declared.layout.TheConstants.{BLOCK_HEADER};
-ghost use Rattle.redo_drive.specs.Startable.{room_from};
+ghost use Rattle.redo_drive.specs.Startable.{MayBegin, room_from};
 ghost use Rattle.redo_store.specs.{IsRunnable};
 
 use model_base::{BLOCK_SIZE, Shape};
 use model_log::{BLOCK_HEADER, TAIL_BLOCKS};
 use model_script::{Script, fitting_script, read_lines_are_ranged};
-use redo_drive::{Closed, Driven, RunEnd};
 use redo_memdisk::{Fused, MemDisk};
 use redo_open::{format, open_store};
 use redo_script::{judge, parse};
 use redo_store::Opened;
-use redo_threads::{Gate, drive_in_threads};
 use std::alloc::Global;
 use std::process::Abort;
-use std::sync::Wait;
 use std::test::Fail;
-use std::thread::Threads;
 
 /// A device of the tests.
 pub type Device = Fused<MemDisk>;
@@ -27,27 +23,54 @@ pub type Device = Fused<MemDisk>;
 const LOG: u64 = 1_050_624;
 
 /// How many calls of the log device the opening of a new store makes: the header blocks are read, the tail blocks, and the one
-/// stretch of blocks at which the log ends, and then the two blocks of the header once more; the tail blocks are cleared by a
-/// write each, and synced; 2,046 blocks are cleared by writes of 128, and synced; the checkpoint is written and synced.
-pub const LOG_CALLS: u64 = 4 + (2 + 1) + (16 + 1) + 2;
+/// stretch of blocks at which the log ends, and then the two blocks of the header once more; the device is synced; the tail
+/// blocks are cleared by a write each, and synced; 2,046 blocks are cleared by writes of 128, and synced; the checkpoint is
+/// written and synced.
+pub const LOG_CALLS: u64 = 4 + 1 + (2 + 1) + (16 + 1) + 2;
 
 /// Bytes of the data device: the slots, and the places of eight pages.
 const DATA: u64 = 65_536;
 
-/// A store that was formatted, and opened on devices that pass so many calls.
-pub fn opened(
-    rt: &impl Abort,
-    alloc: Global,
-    log_calls: Option<u64>,
-    data_calls: Option<u64>,
-) -> Result<Opened<Device, Device>, Fail>
+/// How many calls of the data device it makes: the slots and eight places are read, and there is a sync.
+pub const DATA_CALLS: u64 = (1 + 8) + 1;
+
+/// How a store is run: with the log alone or with the pages, on devices that pass so many calls from the first of
+/// opening on.
+#[derive(Clone, Copy)]
+pub struct Way {
+    pub log_only: bool,
+    pub log_calls: Option<u64>,
+    pub data_calls: Option<u64>,
+}
+
+/// With the pages, on devices that pass all calls.
+pub const PAGES: Way = Way {
+    log_only: false,
+    log_calls: None,
+    data_calls: None,
+};
+
+/// With the log alone, on such devices.
+pub const LOG_ALONE: Way = Way {
+    log_only: true,
+    ..PAGES
+};
+
+/// A store on which the run of a script may begin.
+pub struct Ready {
+    pub opened: Opened<Device, Device>,
+    pub script: Script,
+}
+
+/// A store that was formatted, and opened on these devices.
+fn opened(rt: &impl Abort, alloc: Global, way: Way) -> Result<Opened<Device, Device>, Fail>
     ensures { IfOk result IsRunnable }
 {
     let mut log = MemDisk::new(alloc, LOG)?;
     let mut store = MemDisk::new(alloc, DATA)?;
     format(&mut log, &mut store, &Shape::default_shape())?;
-    let log = Fused::new(log, log_calls);
-    let store = Fused::new(store, data_calls);
+    let log = Fused::new(log, way.log_calls);
+    let store = Fused::new(store, way.data_calls);
     match open_store(alloc, log, store) {
         Ok(opened) => Ok(opened),
         Err((fault, _, _)) => panic!(rt; "{fault}"),
@@ -55,7 +78,7 @@ pub fn opened(
 }
 
 /// How far the log has room where it runs alone: one round from the checkpoint on, which stands where a run begins.
-pub fn room_end(log_only: bool, shape: &Shape, start: u64) -> Option<u64>
+fn room_end(log_only: bool, shape: &Shape, start: u64) -> Option<u64>
     requires limits { IsWithinLimits shape.now }
     requires header { BLOCK_HEADER ≤ start }
     requires small { start < 2 ^ 61 }
@@ -69,31 +92,19 @@ pub fn room_end(log_only: bool, shape: &Shape, start: u64) -> Option<u64>
     }
 }
 
-/// What a run in threads of the script of a text leaves, with the log alone or with the pages. The log device passes so many
-/// calls, from the first call of opening on.
-pub fn left_by<R: Abort + Threads + Wait + Sync, G: Gate>(
-    rt: &R,
-    alloc: Global,
-    text: &[u8],
-    log_only: bool,
-    calls: Option<u64>,
-    gate: &G,
-) -> Result<Closed<Device, Device>, Fail> {
-    let opened = opened(rt, alloc, calls, None)?;
+/// A new store with the script of a text, which has to fit it.
+pub fn make_ready(rt: &impl Abort, alloc: Global, text: &[u8], way: Way) -> Result<Ready, Fail>
+    ensures { IfOk result (λ ready. MayBegin ready.opened ready.script way.log_only) }
+{
+    let opened = opened(rt, alloc, way)?;
     fitting_script();
     read_lines_are_ranged();
     let Ok(script) = parse(alloc, text) else {
         panic!(rt; "no script");
     };
-    let end = room_end(log_only, &opened.shape, opened.start);
+    let end = room_end(way.log_only, &opened.shape, opened.start);
     let Ok(()) = judge(alloc, &opened.shape, opened.start, end, &script) else {
         panic!(rt; "no fit");
     };
-    match drive_in_threads(rt, alloc, opened, &script, log_only, gate) {
-        Ok(Driven { ended, closed }) => {
-            assert_eq!(rt; ended, RunEnd::Done);
-            Ok(closed)
-        }
-        Err(_) => panic!(rt; "no memory"),
-    }
+    Ok(Ready { opened, script })
 }

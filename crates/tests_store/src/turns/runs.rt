@@ -65,7 +65,7 @@ impl Outcome {
 }
 
 /// Gives the actor at a seat turns until one doesn't move it on, at most so many. Answers how many, and how the last ends.
-fn take_turns<L: Sectors, D: Sectors>(
+pub fn take_turns<L: Sectors, D: Sectors>(
     rt: &impl Abort,
     machine: &mut Machine<L, D>,
     seat: usize,

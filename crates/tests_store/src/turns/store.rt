@@ -1,5 +1,5 @@
 // Machines on stores that were just formatted, over devices in memory that may stop.
-ghost use Rattle.std.specs.Prelude.{IfOk};
+ghost use Rattle.std.specs.Prelude.{◌<◌, IfOk};
 ghost use Rattle.redo_drive.specs.Running.{IsOnRun};
 ghost use Rattle.redo_store.specs.{IsRunnable};
 
@@ -34,8 +34,20 @@ const DATA: u64 = 65_536;
 pub fn opened(rt: &impl Abort, alloc: Global) -> Result<Opened<MemDisk, MemDisk>, Fail>
     ensures { IfOk result IsRunnable }
 {
-    let mut log = MemDisk::new(alloc, LOG)?;
-    let mut store = MemDisk::new(alloc, DATA)?;
+    opened_tearing(rt, alloc, 0)
+}
+
+/// The same on devices that tear the sectors that a crash loses: so many of the first bytes stay.
+pub fn opened_tearing(
+    rt: &impl Abort,
+    alloc: Global,
+    cut: usize,
+) -> Result<Opened<MemDisk, MemDisk>, Fail>
+    requires { cut < 512 }
+    ensures { IfOk result IsRunnable }
+{
+    let mut log = MemDisk::tearing(alloc, LOG, cut)?;
+    let mut store = MemDisk::tearing(alloc, DATA, cut)?;
     format(&mut log, &mut store, &SHAPE)?;
     match open_store(alloc, log, store) {
         Ok(opened) => Ok(opened),

@@ -1,9 +1,9 @@
 // Runs of seats that one thread plays in turn.
 ghost use Rattle.std.specs.Prelude.{◌≤◌};
 
-use super::store::{DATA_CALLS, SOUND, Way};
 use super::turns::left_by;
-use crate::store::{Device, LOG_CALLS};
+use crate::store::{DATA_CALLS, Device, LOG_ALONE, LOG_CALLS, PAGES, Way};
+use crate::text::{add_lines, lines_of};
 use model_base::{PAGE_SIZE, SLOTS};
 use model_report::Marks;
 use model_report::State::{Flushed, Lost, Written};
@@ -50,20 +50,9 @@ fn a_link_comes_six_calls_from_the_reservation(rt: HostRuntime) -> Result<(), Fa
         (writer, 21, Idle),
         (user, 11, Ended),
     ];
-    let closed = left_by(&rt, rt.alloc(), ONE_LINE, SOUND, &turns, 0)?;
+    let closed = left_by(&rt, rt.alloc(), ONE_LINE, PAGES, &turns, 0)?;
     assert_eq!(rt; (closed.marks.wtail, closed.code), (8210, 0));
     Ok(())
-}
-
-/// A line of a text of 489 bytes, whose group of 496 fills the data of a block.
-fn long_line(alloc: Global) -> Result<Vec<u8>, Fail> {
-    let mut text = Vec::new(alloc);
-    text.extend_from_slice(b"1 n s 3 38 ")?;
-    for _ in 0..489 {
-        text.extend_from_slice(b"07")?;
-    }
-    text.push(b'\n')?;
-    Ok(text)
 }
 
 /// A group of 496 bytes from 8204 on ends in the next block. Its bytes fill 63 words, those of lsns 8200 to 8703, and the end's
@@ -78,8 +67,8 @@ fn a_long_link_comes_68_calls_from_the_reservation(rt: HostRuntime) -> Result<()
         (user, 1, Moved),
         (writer, 7, Moved),
     ];
-    let line = long_line(rt.alloc())?;
-    let closed = left_by(&rt, rt.alloc(), line.as_slice(), SOUND, &turns, 0)?;
+    let line = lines_of(rt.alloc(), 1, 'n', 1, 496)?;
+    let closed = left_by(&rt, rt.alloc(), line.as_bytes(), PAGES, &turns, 0)?;
     assert_eq!(rt; closed.history.0.len(), 1);
     for entry in closed.history.0.iter() {
         assert_eq!(rt; (entry.start, entry.end), (8204, 8716));
@@ -101,7 +90,7 @@ fn second_links_first(rt: HostRuntime) -> Result<(), Fail> {
         (first, 11, Ended),
         (second, 11, Ended),
     ];
-    let closed = left_by(&rt, rt.alloc(), TWO_USERS, SOUND, &turns, 0)?;
+    let closed = left_by(&rt, rt.alloc(), TWO_USERS, PAGES, &turns, 0)?;
     let marks = Marks {
         wtail: 8216,
         write: 8216,
@@ -136,7 +125,7 @@ fn two_seats_write_one_page(rt: HostRuntime) -> Result<(), Fail> {
         (flusher, 5, Moved),
         (cleaner, 528, Moved),
     ];
-    let closed = left_by(&rt, rt.alloc(), ONE_PAGE, SOUND, &turns, 0)?;
+    let closed = left_by(&rt, rt.alloc(), ONE_PAGE, PAGES, &turns, 0)?;
     assert_eq!(rt; closed.code, 0);
     let mut store = closed.store.into_dev();
     assert_eq!(rt; byte_in_place(&rt, &mut store, 3, 100)?, 7);
@@ -155,7 +144,7 @@ fn log_passes(calls: u64) -> Way
 {
     Way {
         log_calls: Some(LOG_CALLS + calls),
-        ..SOUND
+        ..PAGES
     }
 }
 
@@ -165,7 +154,7 @@ fn data_passes(calls: u64) -> Way
 {
     Way {
         data_calls: Some(DATA_CALLS + calls),
-        ..SOUND
+        ..PAGES
     }
 }
 
@@ -211,15 +200,6 @@ fn a_closer_frees_its_tail_before_it_ends(rt: HostRuntime) -> Result<(), Fail> {
     Ok(())
 }
 
-/// The lines of a user, each of a group of ten bytes.
-fn add_short_lines(alloc: Global, text: &mut String, user: u32, count: u32) -> Result<(), Fail> {
-    let line = format!(in alloc; "{user} n s 3 38 010203\n")?;
-    for _ in 0..count {
-        text.push_str(line.as_str())?;
-    }
-    Ok(())
-}
-
 /// Sixteen users with groups of ten bytes go on without the writer until each waits for it: the group that it has reserved would
 /// end at 73,728 or above, 65,536 lsns past the block of WRITE. The first one has moved WTAIL once, to 40,978, where its 3,176th
 /// group starts.
@@ -229,19 +209,16 @@ fn add_short_lines(alloc: Global, text: &mut String, user: u32, count: u32) -> R
 #[test]
 fn a_writer_keeps_what_the_ring_holds(rt: HostRuntime) -> Result<(), Fail> {
     let mut text = String::new(rt.alloc());
-    add_short_lines(rt.alloc(), &mut text, 1, 6349)?;
+    add_lines(rt.alloc(), &mut text, 1, 'n', 6349, 10)?;
     let writer = 16;
     let mut turns = vec![in rt.alloc(); (0, 63_720, Idle)]?;
     for user in 1..writer {
-        add_short_lines(rt.alloc(), &mut text, 1 + user as u32, 1)?;
+        add_lines(rt.alloc(), &mut text, 1 + user as u32, 'n', 1, 10)?;
         turns.push((user, 5, Idle))?;
     }
     turns.push((writer, 22_736, Moved))?;
-    let way = Way {
-        log_only: true,
-        ..SOUND
-    };
-    let closed = left_by(&rt, rt.alloc(), text.as_bytes(), way, turns.as_slice(), 0)?;
+    let turns = turns.as_slice();
+    let closed = left_by(&rt, rt.alloc(), text.as_bytes(), LOG_ALONE, turns, 0)?;
     let marks = Marks {
         wtail: 73_716,
         write: 73_716,

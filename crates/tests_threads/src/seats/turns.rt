@@ -2,8 +2,8 @@
 ghost use Rattle.std.specs.Prelude.{length, ◌<◌, ◌≡◌};
 ghost use Rattle.redo_rule.specs.Sharing.{AreSeatsOf, IsSeated, starts_of, table_of};
 
-use super::store::{Playing, Way, begin};
-use crate::store::Device;
+use super::store::{Playing, begin};
+use crate::store::{Device, Way};
 use redo_disk::Sectors;
 use redo_drive::{Actor, Closed};
 use redo_rule::{Ring, Seat, all_hold_nothing, play};
