@@ -8,9 +8,11 @@ use crate::listing::read_of;
 use crate::lsn::start_after;
 use crate::making::{draw_full_script, draw_script, spoil_fit, spoil_text, text_of};
 use crate::options::Options;
+use crate::places::Place;
 use crate::program::{Call, Program, words_of};
 use crate::report::Report;
 use crate::script::{Line, misfit};
+use crate::times::Times;
 use std::path::Path;
 
 /// What was run.
@@ -20,8 +22,10 @@ pub struct Tally {
     pub groups: u64,
     pub crashes: u64,
     pub stops: u64,
-    /// Runs in threads.
+    /// Runs in threads, those on some processors alone, and those of which a thread is refused.
     pub threads: u64,
+    pub narrow: u64,
+    pub refusing: u64,
     pub chains: u64,
     /// How often a log has gone round.
     pub rounds: u64,
@@ -35,6 +39,8 @@ impl Tally {
         self.crashes += other.crashes;
         self.stops += other.stops;
         self.threads += other.threads;
+        self.narrow += other.narrow;
+        self.refusing += other.refusing;
         self.chains += other.chains;
         self.rounds += other.rounds;
         self.refused += other.refused;
@@ -44,11 +50,15 @@ impl Tally {
 /// A seed at work.
 pub struct Case<'a> {
     pub program: &'a Program,
+    /// The library that `threads.c` makes.
+    pub refusing: &'a Path,
     pub folder: &'a Path,
+    pub seed: u64,
     /// Whether each run is one in threads, of all users.
     pub all_threads: bool,
     pub draws: Draws,
     pub tally: Tally,
+    pub times: Times,
     /// The calls so far.
     pub calls: Vec<Call>,
 }
@@ -82,10 +92,37 @@ impl Case<'_> {
     }
 
     pub fn call(&mut self, words: &[String], script: &str) -> Result<Call, String> {
-        let call = self.program.call(self.folder, words, script)?;
+        let kind = words.first().map_or("", |word| word).to_string();
+        self.call_with(words, script, Vec::new(), kind)
+    }
+
+    fn call_with(
+        &mut self,
+        words: &[String],
+        script: &str,
+        variables: Vec<(&'static str, String)>,
+        kind: String,
+    ) -> Result<Call, String> {
+        let call = self.program.call(self.folder, words, script, &variables)?;
         self.tally.calls += 1;
+        self.times.note(kind, call.took, self.seed);
         self.calls.push(call.clone());
         Ok(call)
+    }
+
+    /// The call of a run: in threads at a drawn place.
+    fn call_run(&mut self, options: &Options, text: &str, is_wide: bool) -> Result<Call, String> {
+        let place = options.threads.then(|| Place::draw(&mut self.draws));
+        let mut variables = Vec::new();
+        let mut kind = options.kind(is_wide);
+        if let Some(place) = place {
+            variables = place.variables();
+            variables.push(("LD_PRELOAD", self.refusing.display().to_string()));
+            kind = format!("{kind} {}", place.kind());
+            self.tally.narrow += u64::from(place.is_narrow());
+            self.tally.refusing += u64::from(place.refuses());
+        }
+        self.call_with(&options.words(), text, variables, kind)
     }
 
     /// Draws a script, and runs it on this store.
@@ -114,7 +151,7 @@ impl Case<'_> {
             call.answers(3, &format!("fault script line {line}\n"))?;
             return Ok(Left::Unread);
         }
-        let call = self.call(&options.words(), &text)?;
+        let call = self.call_run(&options, &text, is_wide)?;
         let left = self.check_call(store, &script, &options, &call)?;
         if !files && !threads && self.draws.once_in(50) {
             // the turns are those of the seed, so the same call prints the same
@@ -190,7 +227,7 @@ impl Case<'_> {
         if is_summed {
             options = Options::of_generated(seed);
         }
-        let call = self.call(&options.words(), &text)?;
+        let call = self.call_run(&options, &text, false)?;
         self.check_call(&Store::default_sizes(), &script, &options, &call)?;
         if is_summed {
             self.check_summary(&words, &call)

@@ -232,8 +232,8 @@ fn check_marks(asked: Asked, report: &Report, start: u64, marks: &Marks) -> Resu
     ensure(marks.written <= marks.copied, || {
         "written above copied".to_string()
     })?;
-    ensure(marks.flushed <= marks.copied, || {
-        "flushed above copied".to_string()
+    ensure(marks.flushed <= marks.written, || {
+        "flushed above written".to_string()
     })?;
     let checkpoint = marks.checkpoint;
     let first = start - BLOCK_HEADER;

@@ -1,5 +1,6 @@
 //! The calls that a program made on its two files, as `writes.c` tells of them.
 
+use crate::layout::Block;
 use std::ops::Range;
 
 pub const LOG: usize = 0;
@@ -10,6 +11,7 @@ pub const DEVICES: [usize; 2] = [LOG, DATA];
 const HEADER: usize = 24;
 
 /// A write, with its place and its bytes.
+#[derive(PartialEq)]
 pub struct Write {
     pub at: usize,
     pub bytes: Vec<u8>,
@@ -25,6 +27,7 @@ impl Write {
     }
 }
 
+#[derive(PartialEq)]
 pub enum What {
     Seek,
     Write(Write),
@@ -32,6 +35,7 @@ pub enum What {
     Sync,
 }
 
+#[derive(PartialEq)]
 pub struct Event {
     pub device: usize,
     pub what: What,
@@ -90,4 +94,24 @@ pub fn writes_of(events: &[Event], device: usize) -> impl Iterator<Item = &Write
 pub fn synced(events: &[Event], device: usize) -> usize {
     let is_sync = |event: &Event| event.device == device && matches!(event.what, What::Sync);
     events.iter().rposition(is_sync).map_or(0, |last| last + 1)
+}
+
+/// The log blocks that an event writes.
+pub fn blocks_of(event: &Event) -> impl Iterator<Item = Block> {
+    let bytes = match &event.what {
+        What::Write(write) if event.device == LOG && write.at >= 2_048 => &write.bytes[..],
+        _ => &[],
+    };
+    bytes.chunks_exact(512).filter_map(Block::of)
+}
+
+/// Whether it writes a log block of a run.
+pub fn is_block(event: &Event) -> bool {
+    blocks_of(event).next().is_some()
+}
+
+/// Where the last of the log blocks ends that the events write.
+pub fn blocks_end(events: &[Event]) -> u64 {
+    let ends = events.iter().flat_map(blocks_of).map(|block| block.end());
+    ends.max().unwrap_or(0)
 }

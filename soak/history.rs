@@ -1,94 +1,46 @@
-//! Runs upon runs on one store in files, with a power cut after each.
+//! Calls upon calls on one store in files, and power cuts after or within some of them.
 
-use crate::checking::{Asked, Store, check, check_read};
-use crate::crc::{SECTOR, fits_sector};
-use crate::cuts::{Given, check_cut};
+use crate::checking::{Asked, Store, check, check_read, ensure};
+use crate::crc::SECTOR;
 use crate::draws::Draws;
-use crate::events::{DATA, DEVICES, Event, LOG, What, calls_of, events_of, synced, writes_of};
-use crate::layout::{Block, HEADS, Head, in_format_1, is_unused};
+use crate::events::{DATA, DEVICES, Event, LOG, What, calls_of};
+use crate::files::{Asking, Files, Kill, On};
+use crate::layout::{HEADS, in_format_1, is_unused};
 use crate::listing::{check_dump, check_recover, read_of};
 use crate::lsn::start_after;
 use crate::making::{draw_full_script, draw_script, text_of};
+use crate::moments::{
+    Stage, after_last_write, draw_moment, draw_moment_before_sync, draw_moment_of_run, opened,
+    stage_of,
+};
 use crate::options::{Options, draw_turns};
-use crate::program::{Call, Program, words_of};
+use crate::program::{Call, words_of};
 use crate::report::Report;
 use crate::script::{DEFAULT_SHAPE, Line, MOST_BYTES, Shape, group_length, misfit};
+use crate::since::{Run, Since};
+use crate::tally::Tally;
 use crate::tears::{Cut, draw_junk};
-use std::fs;
-use std::path::{Path, PathBuf};
 
-const FILES: [&str; 2] = ["redo.log", "redo.data"];
-/// The files that `writes.c` writes, and that tell of a call that fails a check.
-const EVENTS: &str = "events";
-const SCRIPT: &str = "script";
+/// The files as the last cut left them.
 const BEFORE: [&str; 2] = ["before.log", "before.data"];
 const UNFORMATTED: &str = "fault store unformatted\n";
+const FAULTS: [&str; 2] = ["fault log device\n", "fault data device\n"];
 /// So many runs a store has in the mean, and so many more or fewer at the most.
 pub const RUNS_OF_A_STORE: u64 = 110;
 const SPREAD: u64 = 90;
-/// So many of the newest calls are shown.
-const SHOWN: usize = 5;
-
-/// What was run.
-#[derive(Clone, Copy, Default)]
-pub struct Tally {
-    pub stores: u64,
-    pub runs: u64,
-    pub calls: u64,
-    pub groups: u64,
-    /// Groups that a run reserved and a cut took.
-    pub dropped: u64,
-    pub threads: u64,
-    /// Cuts at the end of a call, and within one.
-    pub ends: u64,
-    pub withins: u64,
-    /// Stops of a device that show in the report.
-    pub stops: u64,
-    /// Cuts and stops in formatting, in opening, and there in the migration of a store.
-    pub formattings: u64,
-    pub openings: u64,
-    pub in_migrations: u64,
-    pub migrations: u64,
-    /// Sectors that were left with bytes that no write had put there.
-    pub torn: u64,
-    pub wraps: u64,
-}
-
-impl Tally {
-    pub fn add(&mut self, other: Tally) {
-        self.stores += other.stores;
-        self.runs += other.runs;
-        self.calls += other.calls;
-        self.groups += other.groups;
-        self.dropped += other.dropped;
-        self.threads += other.threads;
-        self.ends += other.ends;
-        self.withins += other.withins;
-        self.stops += other.stops;
-        self.formattings += other.formattings;
-        self.openings += other.openings;
-        self.in_migrations += other.in_migrations;
-        self.migrations += other.migrations;
-        self.torn += other.torn;
-        self.wraps += other.wraps;
-    }
-}
+/// After so many calls without a cut there is one.
+const MOST_STEPS: usize = 6;
 
 /// A store at work.
 pub struct History<'a> {
-    pub program: &'a Program,
-    pub folder: &'a Path,
-    /// The library that `writes.c` makes.
-    pub watching: &'a Path,
-    /// Whether sectors stay whole.
-    pub is_whole: bool,
-    pub draws: Draws,
+    pub files: Files<'a>,
     pub tally: Tally,
-    /// The newest calls.
-    pub calls: Vec<Call>,
-    files: [Vec<u8>; 2],
+    /// Whether sectors stay whole.
+    is_whole: bool,
+    draws: Draws,
     /// Nothing where the log device holds no store.
     store: Option<Store>,
+    since: Since,
     /// Whether half of its scripts are long ones, which bring a small log round.
     is_wide: bool,
     /// Whether some of its runs are in threads; else the seed says all that comes.
@@ -97,46 +49,46 @@ pub struct History<'a> {
     opening: [u64; 2],
 }
 
-/// How a run comes to its end.
+/// What becomes of a call.
 #[derive(Clone, Copy, PartialEq)]
-enum Ending {
-    /// The power is cut at its end, whether devices stop before that or not.
-    Whole,
-    /// One write or sync fails, and later the power is cut.
-    Failing,
+enum Fate {
+    /// The power is cut at its end.
+    Ends,
+    /// It ends, and what it wrote stays as it is.
+    Stays,
     /// The power is cut somewhere in it.
     Within,
+    /// The program is killed somewhere in it, and what it wrote stays as it is.
+    Killed,
 }
 
-/// How far a call came.
-#[derive(Clone, Copy, PartialEq)]
-enum Stage {
-    Opening,
-    Migrating,
-    Running,
+#[derive(Clone, Copy)]
+struct Plan {
+    fate: Fate,
+    /// One write or sync fails.
+    fails: bool,
+    /// Devices stop.
+    stops: bool,
+    crashes: bool,
+}
+
+struct RunScript {
+    lines: Vec<Line>,
+    threads: bool,
 }
 
 impl<'a> History<'a> {
-    pub fn new(
-        program: &'a Program,
-        folder: &'a Path,
-        watching: &'a Path,
-        is_whole: bool,
-        seed: u64,
-    ) -> History<'a> {
+    pub fn new(files: Files<'a>, is_whole: bool, seed: u64) -> History<'a> {
         let mut draws = Draws::new(seed);
         let is_wide = draws.once_in(2);
         let has_threads = draws.once_in(4);
         History {
-            program,
-            folder,
-            watching,
+            files,
+            tally: Tally::default(),
             is_whole,
             draws,
-            tally: Tally::default(),
-            calls: Vec::new(),
-            files: [Vec::new(), Vec::new()],
             store: None,
+            since: Since::new(None, [Vec::new(), Vec::new()]),
             is_wide,
             has_threads,
             opening: [20, 4],
@@ -144,9 +96,7 @@ impl<'a> History<'a> {
     }
 
     pub fn run(&mut self) -> Result<(), String> {
-        for file in FILES {
-            let _ = fs::remove_file(self.path(file));
-        }
+        self.files.clear()?;
         self.tally.stores += 1;
         let runs = self
             .draws
@@ -157,144 +107,61 @@ impl<'a> History<'a> {
         Ok(())
     }
 
-    fn path(&self, file: &str) -> PathBuf {
-        self.folder.join(file)
-    }
-
     fn step(&mut self) -> Result<(), String> {
         let Some(store) = self.store.clone() else {
             return self.begin();
         };
-        let format = self.head()?.format;
-        if format == 2 && self.draws.once_in(10) {
+        let format = self.files.head()?.format;
+        // what is put into the files stands there for good, so nothing may be pending
+        if format == 2 && self.since.is_empty() && self.draws.once_in(10) {
             self.make_older(store.clone())?;
         }
-        if format == 2 && self.draws.once_in(30) {
+        if format == 2 && self.since.is_empty() && self.draws.once_in(30) {
             self.break_head(store.clone())?;
         }
-        if self.draws.once_in(40) {
-            return self.format(Some(store));
+        // a store that a killed call has formatted isn't formatted again before a cut
+        if !self.since.may_have_head() && self.draws.once_in(30) {
+            return self.format();
         }
         self.run_on(Some(store))
     }
 
     /// Makes a store where there is none.
     fn begin(&mut self) -> Result<(), String> {
-        if !is_unused(&self.files[LOG]) {
+        if !is_unused(&self.files.contents[LOG]) {
             if self.draws.once_in(2) {
-                let call = self.call("run --files", "1 f i 3\n")?;
+                self.files.copy()?;
+                let call = self.files.call_on_copies("run --files")?;
                 call.answers(8, UNFORMATTED)?;
-                self.files_are_unchanged()?;
+                self.files.copies_are_unchanged()?;
             }
-            return self.format(None);
+            return self.format();
         }
         if self.is_wide || self.draws.once_in(2) {
-            self.format(None)
+            self.format()
         } else {
             self.run_on(None)
         }
     }
 
-    fn head(&self) -> Result<Head, String> {
-        Head::of_log(&self.files[LOG]).ok_or("the store has no head".to_string())
-    }
-
-    fn call(&mut self, words: &str, script: &str) -> Result<Call, String> {
-        let call = self.program.call(self.folder, &words_of(words), script)?;
-        Ok(self.keep(call))
-    }
-
-    fn keep(&mut self, call: Call) -> Call {
-        self.tally.calls += 1;
-        if self.calls.len() == SHOWN {
-            self.calls.remove(0);
-        }
-        self.calls.push(call.clone());
-        call
-    }
-
-    /// A call of which each write is told. The files stand as it left them.
-    fn watched(
-        &mut self,
-        words: &[String],
-        script: &str,
-        fails: Option<String>,
-    ) -> Result<(Call, Vec<Event>), String> {
-        let path = self.path(EVENTS);
-        fs::write(&path, "").map_err(|error| error.to_string())?;
-        let mut variables = vec![
-            ("LD_PRELOAD", self.watching.display().to_string()),
-            ("EVENTS", path.display().to_string()),
-        ];
-        variables.extend(fails.map(|fails| ("FAILS", fails)));
-        let call = self
-            .program
-            .call_with(self.folder, words, script, &variables)?;
-        let call = self.keep(call);
-        let events = events_of(&fs::read(&path).map_err(|error| error.to_string())?)?;
-        for device in DEVICES {
-            let mut content = self.files[device].clone();
-            for write in writes_of(&events, device) {
-                write.put(&mut content);
-            }
-            if content != self.read(device) {
-                return Err(format!("{} holds what wasn't told", FILES[device]));
-            }
-        }
-        Ok((call, events))
-    }
-
-    fn read(&self, device: usize) -> Vec<u8> {
-        fs::read(self.path(FILES[device])).unwrap_or_default()
-    }
-
-    fn files_are_unchanged(&self) -> Result<(), String> {
-        let is_same = |device: &usize| self.read(*device) == self.files[*device];
-        if DEVICES.iter().all(is_same) {
-            Ok(())
-        } else {
-            Err("a command that only reads has written".to_string())
-        }
-    }
-
-    /// Puts the files as a power cut after these events leaves them.
-    fn cut(&mut self, events: &[Event]) -> Result<(), String> {
-        for device in DEVICES {
-            let cut = Cut::after(&self.files[device], events, device);
-            let (mut content, torn) = cut.torn(&mut self.draws, self.is_whole);
-            self.tally.torn += torn;
-            let length = self.read(device).len().max(content.len());
-            content.resize(length, 0);
-            self.put(device, content)?;
-        }
-        Ok(())
-    }
-
-    fn put(&mut self, device: usize, content: Vec<u8>) -> Result<(), String> {
-        let path = self.path(FILES[device]);
-        if path.exists() || !content.is_empty() {
-            fs::write(path, &content).map_err(|error| error.to_string())?;
-        }
-        self.files[device] = content;
-        Ok(())
-    }
-
-    /// What `recover` prints, twice the same, with no byte changed.
+    /// What `recover` prints of copies of the files, twice the same, with no byte changed.
     fn look(&mut self) -> Result<Call, String> {
-        let call = self.call("recover --files", "")?;
+        self.files.copy()?;
+        let call = self.files.call_on_copies("recover --files")?;
         let workers = self.draws.within(1, 16);
-        let again = self.call(&format!("recover --files --workers {workers}"), "")?;
+        let again = format!("recover --files --workers {workers}");
+        let again = self.files.call_on_copies(&again)?;
         again.answers(call.status, &call.printed)?;
-        self.files_are_unchanged()?;
+        self.files.copies_are_unchanged()?;
         Ok(call)
     }
 
     /// Checks the listing of the store that `recover` has read, and takes it as known.
     fn take(&mut self, mut known: Store, recovered: &Call) -> Result<(), String> {
-        let format = self.head()?.format;
-        let dump = self.call("dump --files", "")?;
+        let format = self.files.head()?.format;
+        let dump = self.files.call_on_copies("dump --files")?;
         dump.has_succeeded()?;
-        self.files_are_unchanged()?;
+        self.files.copies_are_unchanged()?;
         let groups = check_dump(&mut known, format, &dump.printed)?;
         check_recover(&known, &read_of(&recovered.printed)?, groups)?;
         // what no reader meets again
@@ -305,18 +172,131 @@ impl<'a> History<'a> {
         Ok(())
     }
 
+    /// The power is cut when the last call has come to a moment; its events are those from the first on.
+    fn cut(&mut self, first: usize, moment: usize) -> Result<(), String> {
+        let last = self.since.events.len() - first;
+        self.files.told.push(format!(
+            "the power is cut after {moment} of the last call's {last} events, before which {first} came since the last cut"
+        ));
+        self.since.truncate(first + moment);
+        let is_pending = |device: &usize| self.since.is_pending(*device, first);
+        self.tally.pendings += u64::from(DEVICES.iter().any(is_pending));
+        for device in DEVICES {
+            let cut = Cut::after(self.since.file(device), &self.since.events, device);
+            let (mut content, torn) = cut.torn(&mut self.draws, self.is_whole);
+            self.tally.torn += torn;
+            let length = self.files.contents[device].len().max(content.len());
+            content.resize(length, 0);
+            self.files.put(device, content)?;
+        }
+        let call = self.look()?;
+        match self.settled(&call)? {
+            Some(known) => self.take(known, &call)?,
+            None => self.store = None,
+        }
+        self.begin_anew()
+    }
+
+    /// The store that `recover` has read, if it is one that may be there.
+    fn settled(&self, recovered: &Call) -> Result<Option<Store>, String> {
+        if recovered.answers(8, UNFORMATTED).is_ok() {
+            return self.since.allow_none().map(|()| None);
+        }
+        recovered.has_succeeded()?;
+        let read = read_of(&recovered.printed)?;
+        let shape = self.files.head()?.shape;
+        let known = self.since.settled(shape, read.end, read.pages)?;
+        Ok(Some(known))
+    }
+
+    /// Nothing came since the last cut.
+    fn begin_anew(&mut self) -> Result<(), String> {
+        self.since = Since::new(self.store.clone(), self.files.contents.clone());
+        self.files.told.clear();
+        let keep = |device: usize| {
+            let content = &self.files.contents[device];
+            self.files.keep(BEFORE[device], content)
+        };
+        DEVICES.into_iter().try_for_each(keep)
+    }
+
+    /// Checks what is seen of the store after a call without a cut: after a run that came to its end, by its report.
+    fn see(&mut self, ended: Option<(&Store, Asked, &Report)>) -> Result<(), String> {
+        let call = self.look()?;
+        let Some(mut known) = self.settled(&call)? else {
+            self.store = None;
+            return Ok(());
+        };
+        if let Some((store, asked, report)) = ended {
+            let read = read_of(&call.printed)?;
+            known = check_read(store, asked, report, read.end, read.pages)?;
+        }
+        self.take(known, &call)?;
+        if !self.since.may_have_head() {
+            self.since.forget_formatting();
+        }
+        if self.draws.once_in(4) {
+            self.read_in_place()?;
+        }
+        Ok(())
+    }
+
+    /// One of both commands that only read, on the store itself. If it syncs the files, nothing is pending after it.
+    fn read_in_place(&mut self) -> Result<(), String> {
+        let words = self.draws.one_of(&["recover --files", "dump --files"]);
+        let wanted = self.files.call_on_copies(words)?;
+        let asking = Asking {
+            words: &words_of(words),
+            script: "",
+            variable: None,
+        };
+        let (call, events) = self.files.watched(On::Files, asking)?;
+        call.answers(wanted.status, &wanted.printed)?;
+        only_reads(&events)?;
+        self.since.events.extend(events);
+        Ok(())
+    }
+
+    /// Kills a call that was made on copies with these events, and says which of them it came to. In threads the order
+    /// isn't the same again: so the events up to there are taken for those of the call that is killed.
+    fn kill(
+        &mut self,
+        asking: Asking,
+        is_by_turns: bool,
+        mut events: Vec<Event>,
+        moment: usize,
+    ) -> Result<Vec<Event>, String> {
+        let Some(kill) = Kill::draw(&mut self.draws, &mut events, moment) else {
+            // it writes nothing, so it might as well not have come
+            return Ok(Vec::new());
+        };
+        self.tally.kills += 1;
+        if is_by_turns {
+            self.files.kill(asking, &kill, &events)?;
+        } else {
+            self.files.put_killed(&events)?;
+        }
+        Ok(events)
+    }
+
     /// Makes the store one of format 1, which the next run brings to format 2.
     fn make_older(&mut self, store: Store) -> Result<(), String> {
-        let made = in_format_1(&mut self.draws, &self.files[LOG])?;
-        self.put(LOG, made)?;
+        let made = in_format_1(&mut self.draws, &self.files.contents[LOG])?;
+        self.files.put(LOG, made)?;
+        self.take_made(store)
+    }
+
+    /// Takes the store whose files were changed, and that reads as before.
+    fn take_made(&mut self, store: Store) -> Result<(), String> {
         let call = self.look()?;
         call.has_succeeded()?;
-        self.take(store, &call)
+        self.take(store, &call)?;
+        self.begin_anew()
     }
 
     /// Puts junk in the place of one head, whose other copy still stands.
     fn break_head(&mut self, store: Store) -> Result<(), String> {
-        let mut log = self.files[LOG].clone();
+        let mut log = self.files.contents[LOG].clone();
         let [first, second] = HEADS.map(|number| number * SECTOR..(number + 1) * SECTOR);
         if log[first.clone()] != log[second.clone()] {
             return Ok(());
@@ -324,10 +304,8 @@ impl<'a> History<'a> {
         let broken = if self.draws.once_in(2) { first } else { second };
         let junk = draw_junk(&mut self.draws, &log[broken.clone()]);
         log[broken].copy_from_slice(&junk);
-        self.put(LOG, log)?;
-        let call = self.look()?;
-        call.has_succeeded()?;
-        self.take(store, &call)
+        self.files.put(LOG, log)?;
+        self.take_made(store)
     }
 
     fn draw_shape(&mut self) -> Shape {
@@ -344,7 +322,7 @@ impl<'a> History<'a> {
     }
 
     /// Formats the devices, over a store or not, and mostly cuts the power in between.
-    fn format(&mut self, old: Option<Store>) -> Result<(), String> {
+    fn format(&mut self) -> Result<(), String> {
         let shape = self.draw_shape();
         let Shape {
             pages,
@@ -353,124 +331,202 @@ impl<'a> History<'a> {
         } = shape;
         let words =
             format!("format --files --pages {pages} --space {space} --log-blocks {log_blocks}");
-        let before = self.files.clone();
-        let (call, events) = self.watched(&words_of(&words), "", None)?;
-        call.answers(0, "formatted 8192\n")?;
-        self.keep_before(&before)?;
-        let until = if self.draws.once_in(3) {
-            events.len()
-        } else {
-            self.tally.formattings += 1;
-            draw_moment(&mut self.draws, &events)
+        let words = words_of(&words);
+        let asking = || Asking {
+            words: &words,
+            script: "",
+            variable: None,
         };
-        let events = &events[..until];
-        self.cut(events)?;
-        let call = self.look()?;
-        let heads = Heads::of(events, &before[LOG]);
-        if call.status == 8 {
-            call.answers(8, UNFORMATTED)?;
-            self.store = None;
-            return heads.allow_none(old.is_some());
-        }
-        call.has_succeeded()?;
-        let (end, found) = (read_of(&call.printed)?.end, self.head()?.shape);
-        match old {
-            Some(old) if old.end == end && old.shape == found && !heads.is_new => {
-                self.take(old, &call)
-            }
-            _ => {
-                heads.allow_new()?;
-                self.take(Store::new(shape), &call)
+        let fate = match self.draws.below(6) {
+            0 if self.may_go_on() => Fate::Killed,
+            1 if self.may_go_on() => Fate::Stays,
+            2 => Fate::Ends,
+            _ => Fate::Within,
+        };
+        self.count(fate);
+        let head = self.files.first_block();
+        let (call, events) = self.files.watched(on(fate), asking())?;
+        call.answers(0, "formatted 8192\n")?;
+        self.since.begin_formatting(shape, head);
+        let first = self.since.events.len();
+        let moment = draw_moment(&mut self.draws, &events);
+        self.tally.formattings += u64::from(!fate.is_told());
+        let events = match fate {
+            Fate::Killed => self.kill(asking(), true, events, moment)?,
+            _ => events,
+        };
+        self.since.events.extend(events);
+        match fate {
+            Fate::Killed => self.see(None),
+            Fate::Within => self.cut(first, moment),
+            Fate::Ends | Fate::Stays => {
+                self.since.end_formatting(Store::new(shape));
+                if fate == Fate::Stays {
+                    return self.see(None);
+                }
+                self.cut(self.since.events.len(), 0)
             }
         }
     }
 
-    /// Keeps the files as they stood before a call, to be shown where it fails a check.
-    fn keep_before(&self, before: &[Vec<u8>; 2]) -> Result<(), String> {
-        for device in DEVICES {
-            fs::write(self.path(BEFORE[device]), &before[device])
-                .map_err(|error| error.to_string())?;
-        }
-        Ok(())
+    /// Whether one more call may come before the next cut.
+    fn may_go_on(&self) -> bool {
+        self.since.count() < MOST_STEPS
     }
 
-    /// One run with its power cut. Without a store it formats the devices first.
+    fn count(&mut self, fate: Fate) {
+        match fate {
+            Fate::Ends => self.tally.ends += 1,
+            Fate::Stays => self.tally.stays += 1,
+            Fate::Within => self.tally.withins += 1,
+            // counted where something is written
+            Fate::Killed => {}
+        }
+    }
+
+    /// The devices on which a cut that came now would find a write.
+    fn pending(&self) -> Vec<usize> {
+        let whole = self.since.events.len();
+        let is_pending = |device: &usize| self.since.is_pending(*device, whole);
+        DEVICES.into_iter().filter(is_pending).collect()
+    }
+
+    fn draw_plan(&mut self, has_store: bool) -> Plan {
+        // a cut soon may take what an earlier call has written
+        let most = if self.pending().is_empty() { 20 } else { 30 };
+        let fate = match self.draws.below(most) {
+            0..=6 => Fate::Ends,
+            7..=10 if self.may_go_on() => Fate::Stays,
+            11..=14 if self.may_go_on() => Fate::Killed,
+            _ => Fate::Within,
+        };
+        // a device that fails while it is formatted ends the command
+        let fails = has_store && fate != Fate::Killed && self.draws.once_in(8);
+        let stops = !fails && self.draws.once_in(if fate == Fate::Ends { 2 } else { 4 });
+        let crashes = fails || stops || self.draws.once_in(4);
+        Plan {
+            fate,
+            fails,
+            stops,
+            crashes,
+        }
+    }
+
+    /// A moment at which a run is cut or killed: at times before the first sync of a device on which an earlier call's
+    /// writes are pending, or after the last write of a run that a device's failure has ended.
+    fn draw_moment(&mut self, events: &[Event], is_older: bool, has_failed: bool) -> usize {
+        let pending = self.pending();
+        if !pending.is_empty() && !self.draws.once_in(3) {
+            // the log first, if both have some
+            let place = (pending.len() - 1) * usize::from(self.draws.once_in(4));
+            return draw_moment_before_sync(&mut self.draws, events, pending[place]);
+        }
+        if has_failed && self.draws.once_in(2) {
+            return after_last_write(events);
+        }
+        draw_moment_of_run(&mut self.draws, events, is_older)
+    }
+
+    /// One run, or a part of one. Without a store it formats the devices first.
     fn run_on(&mut self, old: Option<Store>) -> Result<(), String> {
         let store = old.clone().unwrap_or(Store::default_sizes());
-        let format = old.as_ref().map(|_| self.head()).transpose()?;
+        let format = old.as_ref().map(|_| self.files.head()).transpose()?;
         let is_older = format.is_some_and(|head| head.format == 1);
         let script = self.draw_run_script(&store);
         let text = text_of(&mut self.draws, &script.lines);
-        let ending = match self.draws.below(10) {
-            // a device that fails while it is formatted ends the command
-            0 if old.is_some() => Ending::Failing,
-            0..=5 => Ending::Whole,
-            _ => Ending::Within,
+        let plan = self.draw_plan(old.is_some());
+        let Plan { fate, fails, .. } = plan;
+        let options = self.draw_options(&store, &script, plan, is_older);
+        let words = options.words();
+        let failing = fails.then(|| self.draw_failing());
+        let asking = || Asking {
+            words: &words,
+            script: &text,
+            variable: failing.as_ref().map(|(_, fails)| ("FAILS", fails.clone())),
         };
-        let options = self.draw_options(&store, &script, ending, is_older);
-        let fails = (ending == Ending::Failing).then(|| self.draw_failing());
-        fs::write(self.path(SCRIPT), &text).map_err(|error| error.to_string())?;
-        let before = self.files.clone();
-        self.keep_before(&before)?;
-        let (call, events) = self.watched(&options.words(), &text, fails)?;
+        let head = self.files.first_block();
+        let (call, events) = self.files.watched(on(fate), asking())?;
         self.tally.runs += 1;
+        if let Some((device, _)) = &failing
+            && call.status != 0
+        {
+            return self.take_unopened(&call, events, *device);
+        }
         call.has_succeeded()?;
         let report = Report::of(&call.printed)?;
         let asked = Asked {
             script: &script.lines,
-            stops: options.stops() || ending == Ending::Failing,
+            stops: options.stops() || fails,
             log_only: options.log_only,
             keeps_all: true,
         };
         // as printed it was read from files that lost nothing
         check(&store, asked, &report)?;
-        let until = if ending == Ending::Within {
-            self.draw_moment_of_run(&events, is_older)
-        } else {
-            events.len()
-        };
-        let cut = &events[..until];
-        let stage = stage_of(cut, is_older);
         self.learn(&events);
+        let moment = if fate.is_told() {
+            events.len()
+        } else {
+            self.draw_moment(&events, is_older, report.tells_failure())
+        };
+        let events = match fate {
+            Fate::Killed => self.kill(asking(), !options.threads, events, moment)?,
+            _ => events,
+        };
+        self.count(fate);
+        self.count_run(&report, &options);
+        let stage = stage_of(&events[..moment.min(events.len())], is_older);
+        self.tally.openings += u64::from(stage != Stage::Running);
+        self.tally.in_migrations += u64::from(stage == Stage::Migrating);
+        if old.is_none() {
+            self.since.begin_formatting(DEFAULT_SHAPE, head);
+        }
+        let first = self.since.events.len();
+        self.since.events.extend(events);
+        self.since.add_run(Run {
+            store: store.clone(),
+            lines: script.lines.clone(),
+            report: report.clone(),
+            is_told: fate.is_told(),
+            events: first..self.since.events.len(),
+        });
+        match fate {
+            Fate::Stays => self.see(Some((&store, asked, &report)))?,
+            Fate::Killed => self.see(None)?,
+            Fate::Ends | Fate::Within => self.cut(first, moment)?,
+        }
+        let Some(known) = &self.store else {
+            self.tally.formattings += 1;
+            return Ok(());
+        };
+        ensure(
+            fate != Fate::Killed || old.is_none() || store.end <= known.end,
+            || "a killed call has taken what was there before".to_string(),
+        )?;
+        let dropped = report.entries.iter().filter(|entry| known.end < entry.end);
+        self.tally.dropped += dropped.count() as u64;
+        let ring = store.shape.ring();
+        self.tally.wraps += u64::from(known.end / ring > store.end / ring);
+        self.tally.migrations += u64::from(is_older && self.files.head()?.format == 2);
+        Ok(())
+    }
+
+    fn count_run(&mut self, report: &Report, options: &Options) {
         self.tally.groups += report.entries.len() as u64;
         self.tally.threads += u64::from(options.threads);
         self.tally.stops += u64::from(report.tells_failure());
-        self.tally.ends += u64::from(ending != Ending::Within);
-        self.tally.withins += u64::from(ending == Ending::Within);
-        self.tally.openings += u64::from(stage != Stage::Running);
-        self.tally.in_migrations += u64::from(stage == Stage::Migrating);
-        self.cut(cut)?;
-        let call = self.look()?;
-        if old.is_none() {
-            let heads = Heads::of(cut, &before[LOG]);
-            if call.status == 8 {
-                self.tally.formattings += 1;
-                call.answers(8, UNFORMATTED)?;
-                self.store = None;
-                return heads.allow_none(false);
-            }
-            heads.allow_new()?;
-        }
-        call.has_succeeded()?;
-        let read = read_of(&call.printed)?;
-        let given = given_of(cut);
-        let known = if ending == Ending::Within {
-            check_cut(&store, asked.script, &report, given, read.end, read.pages)?
-        } else {
-            let asked = Asked {
-                keeps_all: false,
-                ..asked
-            };
-            let known = check_read(&store, asked, &report, read.end, read.pages)?;
-            given.check(&report, start_after(store.end), read.end)?;
-            known
-        };
-        let dropped = report.entries.iter().filter(|entry| known.end < entry.end);
-        self.tally.dropped += dropped.count() as u64;
-        self.tally.migrations += u64::from(is_older && self.head()?.format == 2);
-        let ring = store.shape.ring();
-        self.tally.wraps += u64::from(known.end / ring > store.end / ring);
-        self.take(known, &call)
+    }
+
+    /// A device failed before the run, when its file was opened: nothing came of the call.
+    fn take_unopened(
+        &mut self,
+        call: &Call,
+        events: Vec<Event>,
+        device: usize,
+    ) -> Result<(), String> {
+        call.answers(6 + device as i32, FAULTS[device])?;
+        only_reads(&events)?;
+        self.since.events.extend(events);
+        Ok(())
     }
 
     fn draw_run_script(&mut self, store: &Store) -> RunScript {
@@ -494,12 +550,9 @@ impl<'a> History<'a> {
         &mut self,
         store: &Store,
         script: &RunScript,
-        ending: Ending,
+        Plan { crashes, stops, .. }: Plan,
         is_older: bool,
     ) -> Options {
-        let crashes =
-            ending == Ending::Failing || ending == Ending::Whole && !self.draws.once_in(4);
-        let stops = crashes && ending == Ending::Whole && !self.draws.once_in(6);
         let which = if is_older { 1 } else { self.draws.below(4) };
         let start = start_after(store.end);
         Options {
@@ -531,150 +584,41 @@ impl<'a> History<'a> {
         }
     }
 
-    /// One write or sync, which fails while all others succeed.
-    fn draw_failing(&mut self) -> String {
+    /// One write or sync of a device, which fails while all others succeed.
+    fn draw_failing(&mut self) -> (usize, String) {
         let draws = &mut self.draws;
         let device = draws.one_of(&[LOG, LOG, DATA]);
         let most = 2 << draws.below(7);
-        format!("{device} {} {}", draws.below(most), draws.below(2))
-    }
-
-    /// A moment of the run: in half of the draws one of opening, where a store of format 1 is migrated too.
-    fn draw_moment_of_run(&mut self, events: &[Event], is_older: bool) -> usize {
-        let opened = (0..events.len())
-            .find(|until| is_block(&events[*until]))
-            .unwrap_or(events.len());
-        if !is_older && self.draws.once_in(2) {
-            return draw_moment(&mut self.draws, events);
-        }
-        let begun = if is_older && !self.draws.once_in(4) {
-            first_checkpoint(events).unwrap_or(0)
-        } else {
-            0
-        };
-        begun + draw_moment(&mut self.draws, &events[begun..opened])
+        let fails = format!("{device} {} {}", draws.below(most), draws.below(2));
+        (device, fails)
     }
 
     /// How many calls opening took, where blocks were written after it.
     fn learn(&mut self, events: &[Event]) {
-        if let Some(opened) = (0..events.len()).find(|until| is_block(&events[*until])) {
+        if let Some(opened) = opened(events) {
             self.opening = DEVICES.map(|device| calls_of(&events[..opened], device));
         }
     }
 }
 
-struct RunScript {
-    lines: Vec<Line>,
-    threads: bool,
-}
-
-/// A moment between events, mostly drawn so that stretches without a sync count alike, however long they are.
-fn draw_moment(draws: &mut Draws, events: &[Event]) -> usize {
-    if draws.once_in(3) {
-        return draws.below(events.len() as u64 + 1) as usize;
-    }
-    let is_sync = |place: &usize| matches!(events[*place].what, What::Sync);
-    let mut ends: Vec<usize> = (0..events.len()).filter(is_sync).collect();
-    ends.push(events.len());
-    let stretch = draws.below(ends.len() as u64) as usize;
-    let first = stretch.checked_sub(1).map_or(0, |last| ends[last] + 1);
-    draws.within(first.min(ends[stretch]) as u64, ends[stretch] as u64) as usize
-}
-
-/// Whether it writes a log block of a run.
-fn is_block(event: &Event) -> bool {
-    blocks_of(event).next().is_some()
-}
-
-/// The log blocks that an event writes.
-fn blocks_of(event: &Event) -> impl Iterator<Item = Block> {
-    let bytes = match &event.what {
-        What::Write(write) if event.device == LOG && write.at >= 2_048 => &write.bytes[..],
-        _ => &[],
-    };
-    bytes.chunks_exact(512).filter_map(Block::of)
-}
-
-/// What the events have given to the log device, and made stay.
-fn given_of(events: &[Event]) -> Given {
-    let end_of = |events: &[Event]| {
-        let ends = events.iter().flat_map(blocks_of).map(|block| block.end());
-        ends.max().unwrap_or(0)
-    };
-    Given {
-        synced: end_of(&events[..synced(events, LOG)]),
-        given: end_of(events),
+impl Fate {
+    /// Whether the call comes to its end, and prints its report.
+    fn is_told(self) -> bool {
+        matches!(self, Fate::Ends | Fate::Stays)
     }
 }
 
-/// The place of the first write of a checkpoint.
-fn first_checkpoint(events: &[Event]) -> Option<usize> {
-    events.iter().position(|event| match &event.what {
-        What::Write(write) => event.device == LOG && [512, 1_536].contains(&write.at),
-        _ => false,
+/// A call that is killed is made on copies before, to learn what it does.
+fn on(fate: Fate) -> On {
+    match fate {
+        Fate::Killed => On::Copies,
+        _ => On::Files,
+    }
+}
+
+fn only_reads(events: &[Event]) -> Result<(), String> {
+    let is_write = |event: &Event| matches!(event.what, What::Write(_));
+    ensure(!events.iter().any(is_write), || {
+        "a call that should only read has written".to_string()
     })
-}
-
-fn stage_of(events: &[Event], is_older: bool) -> Stage {
-    if events.iter().any(is_block) {
-        return Stage::Running;
-    }
-    let Some(begun) = first_checkpoint(events) else {
-        return Stage::Opening;
-    };
-    let rest = &events[begun..];
-    let synced = synced(rest, LOG);
-    match (is_older, synced > 0) {
-        (false, false) => Stage::Opening,
-        (false, true) => Stage::Running,
-        (true, _) if writes_of(&rest[..synced], LOG).any(|write| write.at == 0) => Stage::Running,
-        (true, _) => Stage::Migrating,
-    }
-}
-
-/// What formatting has done to the heads.
-struct Heads {
-    /// The new head may stand in the first block.
-    may_be_new: bool,
-    /// The new head stands there for good.
-    is_new: bool,
-    /// The head that stood there before stands there still.
-    is_old: bool,
-}
-
-impl Heads {
-    fn of(events: &[Event], before: &[u8]) -> Heads {
-        let is_head = |event: &Event| match &event.what {
-            What::Write(write) => {
-                event.device == LOG
-                    && write.at == 0
-                    && write.bytes[..512].iter().any(|byte| *byte != 0)
-            }
-            _ => false,
-        };
-        let first = before.get(..512);
-        Heads {
-            may_be_new: events.iter().any(is_head),
-            is_new: events[..synced(events, LOG)].iter().any(is_head),
-            is_old: first.is_some_and(fits_sector)
-                && !writes_of(events, LOG).any(|write| write.at == 0),
-        }
-    }
-
-    /// There is no store, over which a store was, or not.
-    fn allow_none(&self, was_store: bool) -> Result<(), String> {
-        if self.is_new || was_store && self.is_old {
-            Err("the store is gone".to_string())
-        } else {
-            Ok(())
-        }
-    }
-
-    fn allow_new(&self) -> Result<(), String> {
-        if self.may_be_new {
-            Ok(())
-        } else {
-            Err("a store that isn't there yet".to_string())
-        }
-    }
 }

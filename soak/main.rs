@@ -10,9 +10,11 @@ mod lsn;
 mod making;
 mod options;
 mod pages;
+mod places;
 mod program;
 mod report;
 mod script;
+mod times;
 
 use case::{Case, Tally};
 use draws::Draws;
@@ -22,31 +24,38 @@ use std::sync::Mutex;
 use std::sync::atomic::{AtomicU64, Ordering};
 use std::time::Instant;
 use std::{env, fs, process, thread};
+use times::Times;
 
 /// So many failures end it.
 const MOST_FAILURES: u64 = 10;
 
 struct Soak {
     program: Program,
+    refusing: PathBuf,
     all_threads: bool,
     next: AtomicU64,
     last: u64,
     failures: AtomicU64,
     tally: Mutex<Tally>,
+    times: Mutex<Times>,
 }
 
 impl Soak {
     fn run_seed(&self, seed: u64, folder: &Path) {
         let mut case = Case {
             program: &self.program,
+            refusing: &self.refusing,
             folder,
+            seed,
             all_threads: self.all_threads,
             draws: Draws::new(seed),
             tally: Tally::default(),
+            times: Times::default(),
             calls: Vec::new(),
         };
         let outcome = case.run();
         self.tally.lock().unwrap().add(case.tally);
+        self.times.lock().unwrap().add(case.times);
         if let Err(message) = outcome {
             self.failures.fetch_add(1, Ordering::Relaxed);
             let calls: Vec<String> = case.calls.iter().map(|call| call.shown()).collect();
@@ -78,28 +87,31 @@ fn number(word: Option<String>, default: u64) -> u64 {
     })
 }
 
+/// What an environment variable names.
+fn named(variable: &str) -> PathBuf {
+    let path = env::var_os(variable).map(PathBuf::from);
+    let found = path.and_then(|path| path.canonicalize().ok());
+    found.unwrap_or_else(|| {
+        eprintln!("{variable} names no file; `rt run` in crates/redolab leaves the program");
+        process::exit(2)
+    })
+}
+
 fn main() {
     let mut words = env::args().skip(1).peekable();
     let all_threads = words.next_if_eq("--threads").is_some();
     let first = number(words.next(), 1);
     let runs = number(words.next(), 1_000);
-    let program =
-        env::var_os("REDOLAB").map_or(PathBuf::from("crates/redolab/out/redolab"), PathBuf::from);
-    let Ok(program) = program.canonicalize() else {
-        eprintln!(
-            "{}: no such program; `rt run` in crates/redolab leaves it, or name another by REDOLAB",
-            program.display()
-        );
-        process::exit(2);
-    };
     let start = Instant::now();
     let soak = Soak {
-        program: Program::new(program),
+        program: Program::new(named("REDOLAB")),
+        refusing: named("REFUSING"),
         all_threads,
         next: AtomicU64::new(first),
         last: first.saturating_add(runs),
         failures: AtomicU64::new(0),
         tally: Mutex::new(Tally::default()),
+        times: Mutex::new(Times::default()),
     };
     let shared = Path::new("/dev/shm");
     let top = if shared.is_dir() {
@@ -118,14 +130,19 @@ fn main() {
     });
     let _ = fs::remove_dir_all(&top);
     let failures = soak.failures.load(Ordering::Relaxed);
+    for line in soak.times.lock().unwrap().slow() {
+        println!("{line}");
+    }
     let tally = soak.tally.lock().unwrap();
     println!(
-        "{runs} runs, {} calls, {} groups, {} crashes, {} stops that hit, {} runs in threads, {} chains, {} rounds of a log, {} refused, {failures} failures, {} seconds",
+        "{runs} runs, {} calls, {} groups, {} crashes, {} stops that hit, {} runs in threads, {} of them on one or two processors and {} with refused threads, {} chains, {} rounds of a log, {} refused, {failures} failures, {} seconds",
         tally.calls,
         tally.groups,
         tally.crashes,
         tally.stops,
         tally.threads,
+        tally.narrow,
+        tally.refusing,
         tally.chains,
         tally.rounds,
         tally.refused,

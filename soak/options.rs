@@ -60,6 +60,21 @@ impl Options {
         self.files || self.pick == Some(u64::MAX)
     }
 
+    /// What it has in common with runs that should take about as long.
+    pub fn kind(&self, is_wide: bool) -> String {
+        let command = if self.crashes { "crash" } else { "run" };
+        let named = [
+            (self.files, " --files"),
+            (self.log_only, " --log-only"),
+            (self.threads, " --threads"),
+            (is_wide, " of long groups"),
+            (self.stops(), " with stops"),
+        ];
+        let named = named.iter().filter(|(is, _)| *is);
+        let named: String = named.map(|(_, name)| *name).collect();
+        format!("{command}{named}")
+    }
+
     pub fn words(&self) -> Vec<String> {
         let mut words = vec![if self.crashes { "crash" } else { "run" }.to_string()];
         let numbers = [

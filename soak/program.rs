@@ -5,7 +5,7 @@ use std::path::{Path, PathBuf};
 use std::process::{Child, Command, Stdio};
 use std::sync::mpsc;
 use std::thread;
-use std::time::Duration;
+use std::time::{Duration, Instant};
 
 /// A call that takes longer hangs.
 const LONGEST: Duration = Duration::from_secs(60);
@@ -17,17 +17,23 @@ pub struct Program {
 /// A call with what it read, how it ended and what it printed, to be shown where it fails a check.
 #[derive(Clone)]
 pub struct Call {
+    pub variables: Vec<(&'static str, String)>,
     pub words: Vec<String>,
     pub script: String,
     pub status: i32,
     pub printed: String,
+    pub took: Duration,
 }
 
 impl Call {
     pub fn shown(&self) -> String {
         let words = self.words.join(" ");
+        let variables = self.variables.iter();
+        let variables: String = variables
+            .map(|(name, value)| format!("{name}='{value}' "))
+            .collect();
         format!(
-            "$ redolab {words}\n--- script\n{}\n--- status {}, printed\n{}",
+            "$ {variables}redolab {words}\n--- script\n{}\n--- status {}, printed\n{}",
             self.script, self.status, self.printed
         )
     }
@@ -36,7 +42,8 @@ impl Call {
         if self.status == 0 {
             Ok(())
         } else {
-            Err(format!("status {}", self.status))
+            let first = self.printed.lines().next().unwrap_or_default();
+            Err(format!("status {}, {first}", self.status))
         }
     }
 
@@ -59,19 +66,15 @@ impl Program {
         Program { path }
     }
 
-    /// Calls the program in this folder.
-    pub fn call(&self, folder: &Path, words: &[String], script: &str) -> Result<Call, String> {
-        self.call_with(folder, words, script, &[])
-    }
-
     /// Calls the program in this folder, with these variables of the environment.
-    pub fn call_with(
+    pub fn call(
         &self,
         folder: &Path,
         words: &[String],
         script: &str,
-        variables: &[(&str, String)],
+        variables: &[(&'static str, String)],
     ) -> Result<Call, String> {
+        let start = Instant::now();
         let mut child = Command::new(&self.path)
             .args(words)
             .envs(variables.iter().map(|(name, value)| (name, value)))
@@ -93,10 +96,12 @@ impl Program {
         let printed = read_all(&mut child)?;
         let status = child.wait().map_err(|error| error.to_string())?;
         Ok(Call {
+            variables: variables.to_vec(),
             words: words.to_vec(),
             script: script.to_string(),
             status: status.code().unwrap_or(-1),
             printed: String::from_utf8_lossy(&printed).into_owned(),
+            took: start.elapsed(),
         })
     }
 }

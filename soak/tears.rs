@@ -106,10 +106,16 @@ impl<'a> Cut<'a> {
         for write in &self.writes[..firsts] {
             write.put(&mut content);
         }
+        let lasts = self.draw_lasts(draws);
         let mood = Mood::draw(draws, is_whole);
         let mut torn = 0;
         for (number, writers) in self.written(firsts) {
-            let bytes = self.draw_sector(draws, &content, number, &writers, mood);
+            let newest = writers[writers.len() - 1];
+            let bytes = if newest < lasts {
+                self.draw_sector(draws, &content, number, &writers, mood)
+            } else {
+                self.version(number, newest).to_vec()
+            };
             torn += u64::from(!self.is_version(number, &bytes));
             content[number * SECTOR..(number + 1) * SECTOR].copy_from_slice(&bytes);
         }
@@ -127,6 +133,16 @@ impl<'a> Cut<'a> {
             1 => draws.below(count as u64 + 1) as usize,
             _ => 0,
         }
+    }
+
+    /// The writes from this one on stand whole, whatever becomes of those before them.
+    fn draw_lasts(&self, draws: &mut Draws) -> usize {
+        let lasts = if draws.once_in(3) {
+            draws.within(1, 3) as usize
+        } else {
+            0
+        };
+        self.writes.len().saturating_sub(lasts)
     }
 
     /// Each sector that a write from this one on covers, with the numbers of those writes.

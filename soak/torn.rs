@@ -1,10 +1,14 @@
 //! Makes runs upon runs on stores in files, cuts the power in them so that sectors tear, and checks what each cut leaves.
 
 mod crc;
-mod cuts;
 mod events;
+mod files;
+mod heads;
 mod history;
 mod layout;
+mod moments;
+mod since;
+mod tally;
 mod tears;
 
 mod checking;
@@ -20,13 +24,15 @@ mod program;
 mod report;
 mod script;
 
-use history::{History, RUNS_OF_A_STORE, Tally};
+use files::Files;
+use history::{History, RUNS_OF_A_STORE};
 use program::Program;
 use std::path::{Path, PathBuf};
 use std::sync::Mutex;
 use std::sync::atomic::{AtomicU64, Ordering};
 use std::time::Instant;
 use std::{env, fs, process, thread};
+use tally::Tally;
 
 /// So many failures end it.
 const MOST_FAILURES: u64 = 10;
@@ -43,19 +49,20 @@ struct Soak {
 
 impl Soak {
     fn run_seed(&self, seed: u64, folder: &Path) {
-        let mut history = History::new(&self.program, folder, &self.watching, self.is_whole, seed);
+        let files = Files::new(&self.program, folder, &self.watching);
+        let mut history = History::new(files, self.is_whole, seed);
         let outcome = history.run();
+        history.tally.calls = history.files.calls;
         self.tally.lock().unwrap().add(history.tally);
         if let Err(message) = outcome {
             self.failures.fetch_add(1, Ordering::Relaxed);
             let kept = keep(folder, seed);
-            let calls: Vec<String> = history.calls.iter().map(shown).collect();
             let whole = if self.is_whole { "--whole " } else { "" };
             println!(
                 "soak/torn {whole}{seed} 1\n{message}\nrun {} of the store; its files are in {}\n{}",
                 history.tally.runs,
                 kept.display(),
-                calls.join("\n")
+                history.files.told.join("\n")
             );
         }
     }
@@ -70,12 +77,6 @@ impl Soak {
             self.run_seed(seed, folder);
         }
     }
-}
-
-/// A call without the ends of long texts.
-fn shown(call: &program::Call) -> String {
-    let cut = |line: &str| line.chars().take(160).collect::<String>();
-    call.shown().lines().map(cut).collect::<Vec<_>>().join("\n")
 }
 
 /// Keeps the files of a store that fails a check.
@@ -142,7 +143,7 @@ fn main() {
     let failures = soak.failures.load(Ordering::Relaxed);
     let tally = soak.tally.lock().unwrap();
     println!(
-        "{} runs on {} stores, {} calls, {} groups, {} of them dropped; {} in threads; {} cuts after a run, {} within one; {} stops that hit; cuts and stops: {} in formatting, {} in opening, {} of them in a migration; {} migrations; {} torn sectors; {} wraps of the ring; {failures} failures; {} seconds",
+        "{} runs on {} stores, {} calls, {} groups, {} of them dropped; {} in threads; {} cuts after a run, {} within one, {} of them with writes of an earlier call pending; {} calls without a cut, {} killed; {} stops that hit; cuts and stops: {} in formatting, {} in opening, {} of them in a migration; {} migrations; {} torn sectors; {} wraps of the ring; {failures} failures; {} seconds",
         tally.runs,
         tally.stores,
         tally.calls,
@@ -151,6 +152,9 @@ fn main() {
         tally.threads,
         tally.ends,
         tally.withins,
+        tally.pendings,
+        tally.stays,
+        tally.kills,
         tally.stops,
         tally.formattings,
         tally.openings,

@@ -1,11 +1,14 @@
 // Tells of the calls that a program makes on the files `redo.log` and `redo.data`: each seek, each write with its bytes, each
-// good sync, in their order, whichever thread makes them. It is loaded in front of the C library. EVENTS names the file that
-// takes them. FAILS may hold a device (0 or 1), a number and 0 or 1: that write or sync of the device, counted from 0, then
-// fails, and such a write is made all the same where the last number is 1.
+// good sync, in their order, whichever thread makes them: those of one device follow each other, and those of both run side
+// by side as the program has them. It is loaded in front of the C library. EVENTS names the file that takes them. FAILS may
+// hold a device (0 or 1), a number and 0 or 1: that write or sync of the device, counted from 0, then fails, and such a write
+// is made all the same where the last number is 1. KILLS may hold a device and two numbers: of that write of the device,
+// counted from 0, so many of the first sectors are made, and then the process is killed.
 #define _GNU_SOURCE
 #include <errno.h>
 #include <fcntl.h>
 #include <pthread.h>
+#include <signal.h>
 #include <stdint.h>
 #include <stdio.h>
 #include <stdlib.h>
@@ -15,7 +18,7 @@
 #include <unistd.h>
 
 enum { UNKNOWN, OTHER, LOG, DATA };
-enum { FILES = 1024, FIRST_FREE = 500 };
+enum { FILES = 1024, FIRST_FREE = 500, SECTOR = 512 };
 
 struct event {
     uint8_t kind, device, zeros, unused[5];
@@ -25,10 +28,12 @@ struct event {
 static uint8_t names[FILES];
 static int events = -1;
 static long fails_device = -1, fails_number, fails_is_made, changes[2];
-static pthread_mutex_t turn = PTHREAD_MUTEX_INITIALIZER;
+static long kills_device = -1, kills_number, kills_sectors, writes[2];
+// a lock for each device: an event is told before the next call of its device, and no later than the call returns
+static pthread_mutex_t turns[2] = {PTHREAD_MUTEX_INITIALIZER, PTHREAD_MUTEX_INITIALIZER};
 
 __attribute__((constructor)) static void begin(void) {
-    const char *path = getenv("EVENTS"), *fails = getenv("FAILS");
+    const char *path = getenv("EVENTS"), *fails = getenv("FAILS"), *kills = getenv("KILLS");
     if (!path) return;
     // the program's own files get the numbers that they have without this
     int opened = syscall(SYS_openat, AT_FDCWD, path, O_WRONLY | O_APPEND | O_CLOEXEC, 0);
@@ -36,22 +41,27 @@ __attribute__((constructor)) static void begin(void) {
     events = syscall(SYS_fcntl, opened, F_DUPFD_CLOEXEC, FIRST_FREE);
     syscall(SYS_close, opened);
     if (fails && sscanf(fails, "%ld %ld %ld", &fails_device, &fails_number, &fails_is_made) != 3) abort();
+    if (kills && sscanf(kills, "%ld %ld %ld", &kills_device, &kills_number, &kills_sectors) != 3) abort();
 }
+
+static void set_name(int file, int name) { __atomic_store_n(&names[file], name, __ATOMIC_RELAXED); }
 
 static int name_of(int file) {
     char link[64], path[4096];
     if (events < 0 || file < 0 || file >= FILES) return OTHER;
-    if (names[file] != UNKNOWN) return names[file];
+    int known = __atomic_load_n(&names[file], __ATOMIC_RELAXED);
+    if (known != UNKNOWN) return known;
     snprintf(link, sizeof link, "/proc/self/fd/%d", file);
     long length = syscall(SYS_readlink, link, path, sizeof path - 1);
     if (length < 0) return OTHER;
     path[length] = 0;
     const char *name = strrchr(path, '/');
-    names[file] = !name                           ? OTHER
-                  : !strcmp(name + 1, "redo.log")  ? LOG
-                  : !strcmp(name + 1, "redo.data") ? DATA
-                                                   : OTHER;
-    return names[file];
+    int found = !name                           ? OTHER
+                : !strcmp(name + 1, "redo.log")  ? LOG
+                : !strcmp(name + 1, "redo.data") ? DATA
+                                                 : OTHER;
+    set_name(file, found);
+    return found;
 }
 
 static int are_zeros(const char *bytes, size_t length) {
@@ -66,6 +76,14 @@ static void tell(char kind, int name, uint64_t at, const void *bytes, size_t len
     if (syscall(SYS_writev, events, parts, 2) != whole) abort();
 }
 
+static void write_and_die(int name, int file, const void *bytes, size_t length) {
+    size_t part = (size_t)kills_sectors * SECTOR < length ? (size_t)kills_sectors * SECTOR : length;
+    off_t at = syscall(SYS_lseek, file, 0, SEEK_CUR);
+    ssize_t written = part ? syscall(SYS_write, file, bytes, part) : 0;
+    if (written > 0) tell('w', name, at, bytes, written);
+    for (;;) kill(getpid(), SIGKILL);
+}
+
 // Whether the next write or sync of the device is to fail.
 static int is_failing(int name) {
     return name - LOG == fails_device && changes[name - LOG]++ == fails_number;
@@ -74,10 +92,10 @@ static int is_failing(int name) {
 off_t lseek(int file, off_t at, int from) {
     int name = name_of(file);
     if (name == OTHER) return syscall(SYS_lseek, file, at, from);
-    pthread_mutex_lock(&turn);
+    pthread_mutex_lock(&turns[name - LOG]);
     off_t reached = syscall(SYS_lseek, file, at, from);
     tell('s', name, reached, "", 0);
-    pthread_mutex_unlock(&turn);
+    pthread_mutex_unlock(&turns[name - LOG]);
     return reached;
 }
 
@@ -86,13 +104,14 @@ off_t lseek64(int file, off_t at, int from) { return lseek(file, at, from); }
 ssize_t write(int file, const void *bytes, size_t length) {
     int name = name_of(file);
     if (name == OTHER) return syscall(SYS_write, file, bytes, length);
-    pthread_mutex_lock(&turn);
+    pthread_mutex_lock(&turns[name - LOG]);
+    if (name - LOG == kills_device && writes[name - LOG]++ == kills_number) write_and_die(name, file, bytes, length);
     int fails = is_failing(name);
     off_t at = syscall(SYS_lseek, file, 0, SEEK_CUR);
     ssize_t written = fails && !fails_is_made ? 0 : syscall(SYS_write, file, bytes, length);
     int error = errno;
     if (written > 0) tell('w', name, at, bytes, written);
-    pthread_mutex_unlock(&turn);
+    pthread_mutex_unlock(&turns[name - LOG]);
     errno = fails ? EIO : error;
     return fails ? -1 : written;
 }
@@ -100,12 +119,12 @@ ssize_t write(int file, const void *bytes, size_t length) {
 static int sync_by(long call, int file) {
     int name = name_of(file);
     if (name == OTHER) return syscall(call, file);
-    pthread_mutex_lock(&turn);
+    pthread_mutex_lock(&turns[name - LOG]);
     int fails = is_failing(name);
     int answer = fails ? -1 : syscall(call, file);
     int error = errno;
     if (answer == 0) tell('f', name, 0, "", 0);
-    pthread_mutex_unlock(&turn);
+    pthread_mutex_unlock(&turns[name - LOG]);
     errno = fails ? EIO : error;
     return answer;
 }
@@ -115,6 +134,6 @@ int fsync(int file) { return sync_by(SYS_fsync, file); }
 int fdatasync(int file) { return sync_by(SYS_fdatasync, file); }
 
 int close(int file) {
-    if (file >= 0 && file < FILES) names[file] = UNKNOWN;
+    if (file >= 0 && file < FILES) set_name(file, UNKNOWN);
     return syscall(SYS_close, file);
 }
