@@ -30,12 +30,12 @@ stop() {
 stop one_line 1 20 'what was written and not synced may survive a crash.' \
     "The log device stops at the sync of the only group. So the group is lost: its commit wasn't answered.
 Yet it is recovered, with its byte 07. Bit 0 of the pick keeps its block; --pick 0 would drop it." \
-    crash --stop-log 27 --pick 1
+    crash --stop-log 28 --pick 1
 
 stop two_users_one_page 1 20 'which commits a crash may take, by their modes.' \
     "The first group waited for the flush, and is the only one recovered. The second waited for the write,
 the fourth for nothing: both were answered and are gone. The third was never answered." \
-    crash --turns 30 --stop-log 29
+    crash --turns 30 --stop-log 30
 
 stop three_lines 1 20 'opening itself is stopped.' \
     "There was no run (open none), so all lines are left, and no page comes back. A store that is in use
@@ -51,4 +51,4 @@ stop log_wraps 32 9 'the log goes round, and a group across its end is lost whol
     "The script is repeated 32 times. Its 124th group begins at 1047567 and lies across the ring's end,
 at 1055744. All of its writes came through, and their sync failed. The pick keeps its first two blocks.
 In the places of the others an older round stands, so the group is not recovered." \
-    crash --stop-log 407 --pick 3
+    crash --stop-log 408 --pick 3
