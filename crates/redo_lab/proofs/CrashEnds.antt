@@ -30,26 +30,33 @@ use Rattle.redo_lab.proofs.Told.{some-tells, some-told}
 use Rattle.redo_lab.proofs.Rereading.{IsCrashedSince, ReadsTo, Was, before, prepared-later}
 use Rattle.redo_lab.specs.Answer.{AreCrashedAs, IsCrashText}
 use Rattle.redo_lab.specs.Asked.{IsScriptRead}
-use Rattle.redo_lab.specs.Call.{BothDevices, IsLeftFair, IsUnfailedAside, LabCall, WhereOpened, WhereToldNow}
+use Rattle.redo_lab.specs.Call.{BothDevices, IsLeftFair, IsUnfailedAside, LabCall, WhereOpened, WhereToldNow, mids}
 use Rattle.redo_lab.specs.Cause.{AreOfRun, CanPlay, LeavesFailed}
 use Rattle.redo_lab.specs.Laws.{Laws}
-use Rattle.redo_lab.specs.Runs.{HasFailed, IsLeftBy, IsReportOf, LosesByFailure}
+use Rattle.redo_lab.specs.Runs.{HasFailed, IsLeftBy, IsReportOf, IsToldRightly}
 use Rattle.redo_lab.specs.Store.{AreReadAsPrefix, AreRefused}
-use Rattle.redo_lab.specs.Told.{HasRunScript, IsOpenedFirst, LeavesStore}
+use Rattle.redo_lab.specs.Told.{AreMarksRead, HasRunScript, IsOpenedFirst, LeavesStore}
 use Rattle.redo_lab.specs.Ending.{EndsWith, IsDoneOrKeptFrom, IsOutcome}
 
 -- of an opening that a device stopped something is lost only by that
-pub lost-stopped : (call : LabCall) (script : List ScriptLine) (f : Fault) → HasFailed call f → LosesByFailure call script None
-lost-stopped call script fault.LogDevice some left left_is = record { lost = λ i entry at lost. omega arith; left = λ more. omega arith; stopped = λ none. omega arith }
-lost-stopped call script fault.DataDevice some left left_is =
-    let more = some.0 in record { lost = λ i entry at lost. omega arith; left = λ more. omega arith; stopped = λ none. omega arith }
-lost-stopped call script f some left left_is = absurd some
+lost-stopped : (call : LabCall) (f : Fault) (left : List (ℕ × ℕ)) → HasFailed call f
+    → LosesOnlyByFailure (mids call) None left
+lost-stopped call fault.LogDevice left some =
+    record { lost = λ i entry at lost. omega arith; left = λ more. omega arith; stopped = λ none. omega arith }
+lost-stopped call fault.DataDevice left some =
+    let more = some.0 in
+    record { lost = λ i entry at lost. omega arith; left = λ more. omega arith; stopped = λ none. omega arith }
+lost-stopped call f left some = absurd some
+
+pub told-stopped : (call : LabCall) (drive : Drive) (script : List ScriptLine) (f : Fault) → HasFailed call f
+    → IsToldRightly call drive script None
+told-stopped call drive script f some = record { loses = λ left left_is. lost-stopped call f left some; marks = tt }
 
 module _ (call : LabCall) (drives : Drives) (later : DrivesLater drives call.drives) (drive : Drive) (stops : Stops)
     (pick workers : ℕ) (script : List ScriptLine) (run : Option Ran) (log_was data_was : Was) (laws : Laws)
     (read : IsScriptRead call.source call.source_now script)
     (left_by : IsLeftBy (before call drives log_was data_was) (Crash drive stops.log stops.store pick workers) drive stops script run Done)
-    (loses : LosesByFailure (before call drives log_was data_was) script run) where
+    (told : IsToldRightly (before call drives log_was data_was) drive script run) where
   abbrev asked : Command
   asked = Crash drive stops.log stops.store pick workers
 
@@ -136,10 +143,26 @@ module _ (call : LabCall) (drives : Drives) (later : DrivesLater drives call.dri
           driven = later drive left_by.opened script run Done _ _ _ _ (still-same _ _ log_is) (still-same _ _ store_is) took.driven;
         }
 
+    -- and its marks, which were read then
+    marks-met : {log_met store_met : Option Disk} → log_met ≡ log_was.now.tells → store_met ≡ data_was.now.tells
+        → AreMarksRead call drive run log_met store_met
+    marks-met log_is store_is = met-on run _ _ log_is store_is told.marks
+      where
+        met-on : (run : Option Ran) (log_met store_met : Option Disk)
+            → log_met ≡ log_was.now.tells → store_met ≡ data_was.now.tells
+            → AreMarksRead (before call drives log_was data_was) drive run log_was.now.tells data_was.now.tells
+            → AreMarksRead call drive run log_met store_met
+        met-on None log_met store_met log_same store_same read = tt
+        met-on (Some run) log_met store_met log_same store_same read =
+            λ threads unfailed opened log data_disk log_is data_is log_on data_on log_fresh data_fresh opens
+            log_at data_at log_at_is data_at_is. read threads (omega (arith, unfailed, since.0.mid, since.1.mid))
+            opened log data_disk log_is data_is (since.0.arming.back log_on) (since.1.arming.back data_on)
+            log_fresh data_fresh opens log_at data_at (sym log_same ∙ log_at_is) (sym store_same ∙ data_at_is)
+
     lost-by : (left : List (ℕ × ℕ)) → IsLeft script (entries_of run) left → LosesOnlyByFailure (call.log.fuse.mid + call.store.fuse.mid) run left
     lost-by left left_is =
         let counted : log_was.fuse.mid + data_was.fuse.mid ≡ call.log.fuse.mid + call.store.fuse.mid = omega (arith, since.0.mid, since.1.mid) in
-        subst (λ (n : ℕ). LosesOnlyByFailure n run left) counted (loses left left_is)
+        subst (λ (n : ℕ). LosesOnlyByFailure n run left) counted (told.loses left left_is)
 
   unfailed-aside : Since 0 0 → BothDevices IsUnfailedAside call
   unfailed-aside since = ((since.0.armed.early, since.0.armed.late), (since.1.armed.early, since.1.armed.late))
@@ -222,6 +245,7 @@ module _ (call : LabCall) (drives : Drives) (later : DrivesLater drives call.dri
         ran = as-met since since.0.from since.1.from;
         left_is = report.left_is;
         loses = lost-by since report.left report.left_is;
+        marks = marks-met since since.0.from since.1.from;
         opened_first = crash-first since;
       };
       text_is = refl;

@@ -1,10 +1,11 @@
 -- The run of a script on a store that stands opened, by a drive, and what it leaves.
-use Rattle.std.proofs.Common.{ℕ, ◌≡◌, ◌+◌, List, Option, Some, None, refl, sym, ap, subst, ◌∙◌, inl, ⊎_elim, arith, ◌≢◌}
+use Rattle.std.proofs.Common.{ℕ, ◌≡◌, ◌+◌, ◌<◌, true, List, Option, Some, None, refl, sym, ap, subst, ◌∙◌, inl, ⊎_elim, arith, ◌≢◌}
 use Rattle.std.specs.List.{AllByRecursion}
 use Rattle.model_base.specs.declared.shape.Shape.{Shape}
 use Rattle.model_device.specs.{synced}
 use Rattle.model_device.specs.Disk.{Disk}
 use Rattle.model_parts.specs.{IsReady, numbers_taken}
+use Rattle.model_report.specs.{IsLeft}
 use Rattle.model_script.specs.{LineFits}
 use Rattle.model_script.specs.declared.asked.Command.{Command}
 use Rattle.model_script.specs.declared.asked.Drive.{Drive}
@@ -19,7 +20,7 @@ use Rattle.redo_disk.specs.declared.error.DevError.TheVariants as device
 use Rattle.redo_disk.proofs.Made.{may_end}
 use Rattle.redo_drive.specs.{HasMemory, Owes}
 use Rattle.redo_drive.specs.Startable.{HasReading}
-use Rattle.redo_drive.specs.Drive.{failed_in}
+use Rattle.redo_drive.specs.Drive.{ReadsToMarks, failed_in}
 use Rattle.redo_drive.specs.declared.drive.Driven.{Driven}
 use Rattle.redo_drive.specs.declared.drive.RunEnd.{RunEnd}
 use Rattle.redo_drive.specs.declared.drive.RunEnd.TheVariants.{Done, Spent}
@@ -40,12 +41,12 @@ use Rattle.redo_lab.proofs.Rereading.{armed-as}
 use Rattle.redo_lab.proofs.SomeLeft.{some-left}
 use Rattle.redo_disk.proofs.Told.{still-same}
 use Rattle.redo_lab.proofs.Told.{both-told, some-told}
-use Rattle.redo_lab.specs.Call.{LabCall, WhereOpened, WhereToldNow}
+use Rattle.redo_lab.specs.Call.{LabCall, WhereOpened, WhereToldNow, mids}
 use Rattle.redo_lab.specs.Handed.{TellsOf, call_on}
 use Rattle.redo_lab.specs.Laws.{Laws}
-use Rattle.redo_lab.specs.Runs.{ComesTo, CommandRuns, IsLeftBy, LosesByFailure, StandsReady, course_done, course_of, ended_by, played_of, ran_of}
+use Rattle.redo_lab.specs.Runs.{ComesTo, CommandRuns, IsLeftBy, IsToldRightly, StandsReady, course_done, course_of, ended_by, played_of, ran_of}
 use Rattle.redo_lab.specs.Store.{AreReadAsPrefix}
-use Rattle.redo_lab.specs.Told.{AreLeftRead, IsOpenedFirst}
+use Rattle.redo_lab.specs.Told.{AreLeftRead, AreMarksRead, IsOpenedFirst}
 
 -- what reads give of a log device that was synced is fair
 synced-fair : (disk : Disk) → IsFairLog (synced disk) disk.reads
@@ -60,6 +61,8 @@ module _ {L D : Type 0} (log_seen : L → Seen) (log_gives : L → Call → L �
     (ready : StandsReady log_seen data_seen (call_on log_seen log_gives data_seen data_gives words source source_now log data_device given.log.dev given.store.dev) drive stops script given)
     (told : TellsOf drive.threads log_seen log_gives data_seen data_gives drive given script driven)
     (owes : Owes (seen_through log_seen) (CallsThrough log_seen log_gives) (seen_through data_seen) (CallsThrough data_seen data_gives) given script driven)
+    (reads : drive.threads ≡ true
+    → ReadsToMarks (seen_through log_seen) (seen_through data_seen) given script driven.closed)
     (spends : SpendsTurns (call_on log_seen log_gives data_seen data_gives words source source_now log data_device driven.closed.log.dev driven.closed.store.dev) drive) where
   abbrev opening : LabCall
   opening = call_on log_seen log_gives data_seen data_gives words source source_now log data_device given.log.dev given.store.dev
@@ -184,9 +187,10 @@ module _ {L D : Type 0} (log_seen : L → Seen) (log_gives : L → Call → L �
       }
 
   -- ALL USERS ENDED: something is lost only where a device failed.
-  loses-so : driven.ended ≡ Done → HasMemory driven.closed → LosesByFailure call script (Some run)
+  loses-so : driven.ended ≡ Done → HasMemory driven.closed → (left : List (ℕ × ℕ)) → IsLeft script run.entries left
+      → LosesOnlyByFailure (mids call) (Some run) left
   loses-so done memory left left_is =
-      let counted : failed_in driven.closed ≡ call.log.fuse.mid + call.store.fuse.mid = omega (arith, log-mid, data-mid) in
+      let counted : failed_in driven.closed ≡ mids call = omega (arith, log-mid, data-mid) in
       subst (λ (n : ℕ). LosesOnlyByFailure n (Some run) left) counted (owes.comes_to.loses left done memory left_is)
 
   -- and where no call answered an error, what reads give is read
@@ -209,25 +213,61 @@ module _ {L D : Type 0} (log_seen : L → Seen) (log_gives : L → Call → L �
       (synced-fair log_now) (laws.base_fair closed.0.reading.shape (synced data_now)) in
       (read.reading, read.is_read)
 
+  -- in threads with the marks that are told
+  marks-read : driven.ended ≡ Done → HasMemory driven.closed
+      → driven.closed.log.failed ≡ None → driven.closed.store.failed ≡ None
+      → AreMarksRead call drive (Some run) call.log.now.tells call.store.now.tells
+  marks-read done memory log_none data_none threads unfailed opened log_entry data_entry log_is data_is log_on data_on
+      log_fresh data_fresh opens log_now data_now log_now_is data_now_is =
+      let AtMarks : Reading → Disk → Disk → Type 0 = λ was log_disk data_disk. (reading : Reading)
+      → IsReading log_disk.reads data_disk.reads reading
+      → (reading.end ≡ driven.closed.marks.write) × (reading.ckpt ≡ driven.closed.marks.ckpt) in
+      let read = read-now done memory log_none data_none opened log_entry data_entry log_is data_is log_on data_on
+      log_fresh data_fresh opens log_now data_now log_now_is data_now_is in
+      let found = run-found AtMarks (reads threads log_none data_none)
+      opened log_entry data_entry log_is data_is log_on data_on log_fresh data_fresh opens in
+      let marks = found.1 log_now data_now log_now_is data_now_is read.0 read.1 in
+      (read.0, read.1, marks.0, marks.1)
+
+  -- what is told of the run is so, whether a device failed or none
+  told-failed : driven.ended ≡ Done → HasMemory driven.closed → 0 < mids call
+      → IsToldRightly call drive script (Some run)
+  told-failed done memory some = record {
+    loses = loses-so done memory;
+    marks = λ threads none. absurd (omega (arith, some, none));
+  }
+
+  told-unfailed : driven.ended ≡ Done → HasMemory driven.closed
+      → driven.closed.log.failed ≡ None → driven.closed.store.failed ≡ None
+      → IsToldRightly call drive script (Some run)
+  told-unfailed done memory log_none data_none = record {
+    loses = loses-so done memory;
+    marks = marks-read done memory log_none data_none;
+  }
+
   -- by what a call of each device answered that failed
   done-by : (log_error data_error : Option DevError) → driven.closed.log.failed ≡ log_error → driven.closed.store.failed ≡ data_error → driven.ended ≡ Done
       → ComesTo call command drive stops script (course_done played (ended_by log_error data_error))
   done-by None None log_is data_is done =
       let memory : HasMemory driven.closed = λ lacks. ⊎_elim (λ log. let e = sym log_is ∙ log in absurd (cc)) (λ store. let e = sym data_is ∙ store in absurd (cc)) lacks in (
         left-so Done done,
-        loses-so done memory,
+        told-unfailed done memory log_is data_is,
         (omega (arith, log-mid, data-mid, ap failures log_is, ap failures data_is), read-now done memory log_is data_is),
       )
   done-by (Some device.Failed) data_error log_is data_is done =
-      let some = ap failures log_is in (left-so Done done, loses-so done (λ lacks. omega (arith, some)), omega (arith, log-mid, some))
+      let some = ap failures log_is in
+      let failed = told-failed done (λ lacks. omega (arith, some)) (omega (arith, log-mid, some)) in
+      (left-so Done done, failed, omega (arith, log-mid, some))
   done-by None (Some device.Failed) log_is data_is done =
       let none = ap failures log_is in
       let some = ap failures data_is in
-      (left-so Done done, loses-so done (λ lacks. omega (arith, some)), (omega (arith, data-mid, some), omega (arith, log-mid, none)))
+      let failed = told-failed done (λ lacks. omega (arith, some)) (omega (arith, data-mid, some)) in
+      (left-so Done done, failed, (omega (arith, data-mid, some), omega (arith, log-mid, none)))
   done-by (Some device.NoMemory) (Some device.Failed) log_is data_is done =
       let none = ap failures log_is in
       let some = ap failures data_is in
-      (left-so Done done, loses-so done (λ lacks. omega (arith, some)), (omega (arith, data-mid, some), omega (arith, log-mid, none)))
+      let failed = told-failed done (λ lacks. omega (arith, some)) (omega (arith, data-mid, some)) in
+      (left-so Done done, failed, (omega (arith, data-mid, some), omega (arith, log-mid, none)))
   done-by (Some device.NoMemory) None log_is data_is done = left-memory call command drive script running laws (left-so Done done)
   done-by (Some device.NoMemory) (Some device.NoMemory) log_is data_is done = left-memory call command drive script running laws (left-so Done done)
   done-by None (Some device.NoMemory) log_is data_is done = left-memory call command drive script running laws (left-so Done done)

@@ -1,7 +1,7 @@
 -- What `run` and `gen --run` come to whose run a device stopped in opening, or whose lines were run.
 use Rattle.std.proofs.Common.{ℕ, ◌≡◌, ◌<◌, ◌+◌, true, false, List, [], Option, Some, None, sym, subst, ◌∙◌, inr, ⊎_elim, arith}
+use Rattle.std.proofs.lemmas.Bool.{false≢true}
 use Rattle.model_base.specs.{HasRisen}
-use Rattle.model_device.specs.Disk.{Disk}
 use Rattle.model_report.specs.{IsLeft}
 use Rattle.model_report.specs.declared.fault.Fault.{Fault}
 use Rattle.model_report.specs.declared.fault.Fault.TheVariants as fault
@@ -24,11 +24,11 @@ use Rattle.redo_lab.proofs.ByDrive.{Drives, DrivesLater}
 use Rattle.redo_lab.proofs.Rereading.{IsReadSince, ReadsTo, Was, before, prepared-later}
 use Rattle.redo_lab.proofs.SomeLeft.{some-left}
 use Rattle.redo_lab.specs.Asked.{IsScriptFor, IsScriptRead, drive_of_seed}
-use Rattle.redo_lab.specs.Call.{Guarded, LabCall, WhereToldNow}
+use Rattle.redo_lab.specs.Call.{Guarded, LabCall, WhereToldNow, mids}
 use Rattle.redo_lab.specs.Cause.{CanPlay}
 use Rattle.redo_lab.specs.Devices.{IsArmed}
 use Rattle.redo_lab.specs.Laws.{Laws}
-use Rattle.redo_lab.specs.Runs.{ComesTo, CommandRuns, IsLeftBy, IsPlayedTo, IsReportOf, IsRunPrinted, LosesByFailure, ran_of, summary_of}
+use Rattle.redo_lab.specs.Runs.{ComesTo, CommandRuns, IsLeftBy, IsPlayedTo, IsReportOf, IsRunPrinted, IsToldRightly, ran_of, summary_of}
 use Rattle.redo_lab.specs.Store.{AreRefused}
 use Rattle.redo_lab.specs.Told.{IsReportText, IsRunText, IsSummaryText}
 use Rattle.redo_lab.specs.Ending.{EndsWith}
@@ -48,14 +48,21 @@ ends-stopped call command drive script running laws uncrashing f is = ends-faile
 -- A TEXT OF A RUN
 run-text : (call : LabCall) (command : Command) (drive : Drive) (script : List ScriptLine) (run : Ran) (left : List (ℕ × ℕ))
     (IsTextOf : List ScriptLine → Ran → List (ℕ × ℕ) → List ℕ → Type 0) (text : List ℕ) → IsScriptFor command call.source call.source_now script
-    → IsLeftBy call command drive no_stops script (Some run) Done → LosesByFailure call script (Some run) → IsLeft script run.entries left
-    → IsTextOf script run left text → IsRunText call command drive IsTextOf text
-run-text call command drive script run left IsTextOf text is_script is loses left_is text_is = record {
+    → IsLeftBy call command drive no_stops script (Some run) Done → IsToldRightly call drive script (Some run)
+    → IsLeft script run.entries left → IsTextOf script run left text → IsRunText call command drive IsTextOf text
+run-text call command drive script run left IsTextOf text is_script is told left_is text_is = record {
   opened = is.opened;
   script = script;
   run = run;
   left = left;
-  account = record { is_script = is_script; ran = is.ran; left_is = left_is; loses = loses left left_is; opened_first = is.opened_first };
+  account = record {
+    is_script = is_script;
+    ran = is.ran;
+    left_is = left_is;
+    loses = told.loses left left_is;
+    marks = told.marks;
+    opened_first = is.opened_first;
+  };
   in_run = in-run is.armed;
   reads = is.reads;
   text_is = text_is;
@@ -96,7 +103,7 @@ module _ (call : LabCall) (drives : Drives) (later : DrivesLater drives call.dri
     (script : List ScriptLine) (run : Ran) (log_was data_was : Was) (laws : Laws)
     (running : CommandRuns call.source call.source_now (Gen seed users groups true max) (drive_of_seed seed max) script)
     (left_by : IsLeftBy (before call drives log_was data_was) (Gen seed users groups true max) (drive_of_seed seed max) no_stops script (Some run) Done)
-    (loses : LosesByFailure (before call drives log_was data_was) script (Some run))
+    (told : IsToldRightly (before call drives log_was data_was) (drive_of_seed seed max) script (Some run))
     (played : IsPlayedTo (before call drives log_was data_was) None) where
   abbrev asked : Command
   asked = Gen seed users groups true max
@@ -134,10 +141,13 @@ module _ (call : LabCall) (drives : Drives) (later : DrivesLater drives call.dri
             (still-at _ _ log_now since.0.tells log_now_is) (still-at _ _ data_now since.1.tells data_now_is);
       }
 
-  loses-still : Since 0 0 → LosesByFailure call script (Some run)
-  loses-still since left left_is =
-      let counted : log_was.fuse.mid + data_was.fuse.mid ≡ call.log.fuse.mid + call.store.fuse.mid = omega (arith, played.0, since.0.mid, since.1.mid) in
-      subst (λ (n : ℕ). LosesOnlyByFailure n (Some run) left) counted (loses left left_is)
+  told-still : Since 0 0 → IsToldRightly call drive script (Some run)
+  told-still since = record {
+    loses = λ left left_is. (let counted : log_was.fuse.mid + data_was.fuse.mid ≡ mids call =
+        omega (arith, played.0, since.0.mid, since.1.mid) in
+        subst (λ (n : ℕ). LosesOnlyByFailure n (Some run) left) counted (told.loses left left_is));
+    marks = λ threads. absurd (false≢true threads);
+  }
 
   -- A STORE THAT CAN BE RUN ON is not refused after the run.
   possible-read-after : (cause : Refusal) → Since 0 0 → WhereToldNow call (AreRefused cause) → CanPlay call false script → ⊥
@@ -155,7 +165,8 @@ module _ (call : LabCall) (drives : Drives) (later : DrivesLater drives call.dri
       record {
         read = λ reading text since is_read text_is. ends-left call asked drive script running laws (read-left since) (outcome.Text text) (
           unfailed-armed (read-left since).armed since.0.mid since.1.mid,
-          run-text call asked drive script run left.0 (IsSummaryText call) text running.is_script (read-left since) (loses-still since) left.1 (reading, is_read, text_is),
+          run-text call asked drive script run left.0 (IsSummaryText call) text running.is_script
+              (read-left since) (told-still since) left.1 (reading, is_read, text_is),
         )
             (λ can unfailed. tt);
         refused = λ cause since refused. ends-left call asked drive script running laws (read-left since) (outcome.Fault (fault.Store cause)) (

@@ -43,7 +43,7 @@ use Rattle.redo_lab.specs.Devices.{AreArmed, ArePrepared, IsUnarmed, to_be_armed
 use Rattle.redo_lab.specs.Handed.{AreOf, IsOpenedAt}
 use Rattle.redo_lab.specs.Ending.{EndsWith}
 use Rattle.redo_lab.specs.Store.{DevicesOpenAs}
-use Rattle.redo_lab.specs.Told.{AreLeftRead, HasRunScript, IsOpenedFirst}
+use Rattle.redo_lab.specs.Told.{AreLeftRead, AreMarksRead, HasRunScript, IsOpenedFirst}
 
 -- the fault of a call whose store isn't formatted, read or opened
 abbrev pub fault_of : RecFault → Fault
@@ -88,9 +88,10 @@ pub record IsLeftBy (call : LabCall) (command : Command) (drive : Drive) (stops 
   pub opened_first : IsOpenedFirst call call.log.now.tells run
   pub reads : AreLeftRead call script run
 
--- something is lost of it only where a device failed
-abbrev pub LosesByFailure : LabCall → List ScriptLine → Option Ran → Type 0
-LosesByFailure call script run = (left : List (ℕ × ℕ)) → IsLeft script (entries_of run) left → LosesOnlyByFailure (mids call) run left
+-- What is told of it is so: something is lost only where a device failed, and its marks are read.
+pub record IsToldRightly (call : LabCall) (drive : Drive) (script : List ScriptLine) (run : Option Ran) : Type 0 where
+  pub loses : (left : List (ℕ × ℕ)) → IsLeft script (entries_of run) left → LosesOnlyByFailure (mids call) run left
+  pub marks : AreMarksRead call drive run call.log.now.tells call.store.now.tells
 
 -- this device failed since its fuse was armed: the log device where both did
 abbrev pub HasFailed : LabCall → Fault → Type 0
@@ -115,7 +116,7 @@ ComesTo call command drive stops script (course.Stopped fault) =
     IsLeftBy call command drive stops script None ended.Done × HasFailed call fault
 ComesTo call command drive stops script (course.Played played fault) =
     IsLeftBy call command drive stops script (Some (ran_of played)) ended.Done
-    × LosesByFailure call script (Some (ran_of played)) × IsPlayedTo call fault
+    × IsToldRightly call drive script (Some (ran_of played)) × IsPlayedTo call fault
 
 -- the same of the devices that are given back, with which the call is this
 abbrev pub IsRanBy : {L D : Type 0} → (Fused L → Fused D → LabCall) → Command → Drive → Stops → List ScriptLine → declared.Ran L D → Type 0

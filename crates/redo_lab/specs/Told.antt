@@ -1,6 +1,6 @@
 -- WHAT IS TOLD OF A RUN, by a report, a summary or spent turns, always of one run, which is the drive's; and what is left of the store,
 -- whatever the status.
-use Rattle.std.specs.Prelude.{ℕ, ◌≡◌, List, length, Option, Some, None, IfSome, ◌≢◌, ◌⊎◌}
+use Rattle.std.specs.Prelude.{ℕ, ◌≡◌, true, List, length, Option, Some, None, IfSome, ◌≢◌, ◌⊎◌}
 use Rattle.model_script.specs.declared.asked.Command.{Command}
 use Rattle.model_script.specs.declared.asked.Drive.{Drive}
 use Rattle.model_device.specs.Disk.{Disk}
@@ -30,6 +30,14 @@ abbrev pub IsOpenedFirst : LabCall → Option Disk → Option Ran → Type 0
 IsOpenedFirst call log_met run = (store : Opened) → WhereOpened call store
     ((armed_from disk : Disk) → call.log.armed_from ≡ Some armed_from → log_met ≡ Some disk → IsOpenedBefore store.shape armed_from disk run)
 
+-- The marks of a run in threads are read, where both told and open a store and no call failed: what reads give of the
+-- devices that it left is a store whose log ends at WRITE, and whose newest checkpoint is CKPT.
+abbrev pub AreMarksRead : LabCall → Drive → Option Ran → (log_met store_met : Option Disk) → Type 0
+AreMarksRead call drive run log_met store_met = IfSome run (λ run. drive.threads ≡ true → mids call ≡ 0
+    → (opened : Opened) → WhereOpened call opened ((log store : Disk) → log_met ≡ Some log → store_met ≡ Some store
+    → (reading : Reading) × IsReading log.reads store.reads reading
+    × (reading.end ≡ run.marks.write) × (reading.ckpt ≡ run.marks.ckpt)))
+
 -- The run, if opening wasn't stopped, and what is left of the script. Something is lost only where a device failed since its fuse
 -- was armed.
 pub record IsAccount (call : LabCall) (command : Command) (drive : Drive) (opened : Opened) (script : List ScriptLine) (run : Option Ran)
@@ -38,6 +46,7 @@ pub record IsAccount (call : LabCall) (command : Command) (drive : Drive) (opene
   pub ran : IfSome run (λ run. HasRunScript call command drive opened script run Done log_met store_met)
   pub left_is : IsLeft script (entries_of run) left
   pub loses : LosesOnlyByFailure (mids call) run left
+  pub marks : AreMarksRead call drive run log_met store_met
   pub opened_first : IsOpenedFirst call log_met run
 
 -- Every fair image of the two devices that are left is read as a prefix of this run, or of none, where both told and open a store.

@@ -9,7 +9,7 @@ ghost use Rattle.redo_memdisk.specs.{entry_of};
 ghost use Rattle.redo_lab.specs.Asked.{IsScriptRead};
 ghost use Rattle.redo_lab.specs.Handed.{AreOf, call_on};
 ghost use Rattle.redo_lab.specs.Ending.{EndsWith};
-ghost use Rattle.redo_lab.specs.Runs.{IsLeftBy, IsRanBy, IsReportOf, LosesByFailure, command_with, played_run};
+ghost use Rattle.redo_lab.specs.Runs.{IsLeftBy, IsRanBy, IsReportOf, IsToldRightly, command_with, played_run};
 
 use crate::faults::fault_of;
 use crate::laws::laws;
@@ -69,7 +69,8 @@ fn crash_and_read<R: Threads + Sync, L: Sectors, D: Sectors>(
         → IsScriptRead source source_now script.now
         → IsLeftBy (call_on L.seen L.gives D.seen D.gives words source source_now log_entry data_entry log.old store.old) (command_with asked (Some crash)) asked crash.stops
         script.now (played_run played.entry) ended.Done
-        → LosesByFailure (call_on L.seen L.gives D.seen D.gives words source source_now log_entry data_entry log.old store.old) script.now (played_run played.entry)
+        → IsToldRightly (call_on L.seen L.gives D.seen D.gives words source source_now log_entry data_entry log.old store.old) asked
+        script.now (played_run played.entry)
         → EndsWith (call_on L.seen L.gives D.seen D.gives words source source_now log_entry data_entry log.new store.new) (command_with asked (Some crash)) result }
     ensures entered { AreOf (entry_of log.old) (entry_of store.old) log.new store.new }
 {

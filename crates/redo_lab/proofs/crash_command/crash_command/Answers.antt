@@ -1,4 +1,4 @@
-use Rattle.redo_lab.proofs.CrashEnds.{lost-stopped}
+use Rattle.redo_lab.proofs.CrashEnds.{told-stopped}
 use Rattle.redo_lab.proofs.Entered.{entries-then}
 use Rattle.redo_lab.specs.Handed.{call_on}
 use Rattle.redo_lab.proofs.crash_command.crash_command.Goals as goal
@@ -10,7 +10,9 @@ returns-clause-ends g c = λ asked words source source_now log store ran read.
       | in-Ended w ↦ rw (w.outcome-is, w.log-is, w.store-is) (rw w.in-Ended.is at ran)
       | in-Stopped w ↦ rw (w.outcome-is, w.log-is, w.store-is)
           (let stopped = rw w.in-Stopped.is at ran in
-          w.crash_and_read-outcome.ensures.ends asked words source source_now log store read stopped.0 (lost-stopped (call_on g.L.Sectors.seen g.L.Sectors.gives g.D.Sectors.seen g.D.Sectors.gives words source source_now log store c.args.ran.log c.args.ran.store) c.args.script.now w.in-Stopped.field-0 stopped.1))
+          w.crash_and_read-outcome.ensures.ends asked words source source_now log store read stopped.0
+          (told-stopped (call_on g.L.Sectors.seen g.L.Sectors.gives g.D.Sectors.seen g.D.Sectors.gives words source source_now
+          log store c.args.ran.log c.args.ran.store) asked c.args.script.now w.in-Stopped.field-0 stopped.1))
       | in-Played w ↦ rw (w.outcome-is, w.log-is, w.store-is)
           (let played = rw w.in-Played.is at ran in
           w.crash_and_read-outcome-in-Played.ensures.ends asked words source source_now log store read played.0 played.1)

@@ -1,4 +1,5 @@
-use Rattle.std.proofs.Common.{ap}
+use Rattle.std.proofs.Common.{ap, sym, ◌∙◌}
+use Rattle.std.proofs.lemmas.Bool.{false≢true}
 use Rattle.redo_machine.specs.declared.drive.Turns.{Turns}
 use Rattle.redo_lab.proofs.ByDrive.{spends-turns, tells-turns}
 use Rattle.redo_lab.proofs.Driving.{driven-comes}
@@ -21,7 +22,8 @@ returns-in-Ok-run_by_turns-clause-comes_to g c = λ words source source_now comm
     (c.in-Ok.ensures.ready words source source_now command asked running (ap (λ (turns : Turns). turns.log_only) same))
     (tells-turns g.L.Sectors.seen g.L.Sectors.gives g.D.Sectors.seen g.D.Sectors.gives asked c.args.turns.now c.in-Ok.opened c.args.script.now c.in-Ok-run_by_turns.driven same is
     c.in-Ok-run_by_turns.ensures.turns)
-    c.in-Ok-run_by_turns.ensures.owed (spends-turns g.L.Sectors.seen g.L.Sectors.gives g.D.Sectors.seen g.D.Sectors.gives _ _ asked))
+    c.in-Ok-run_by_turns.ensures.owed (λ threads. absurd (false≢true (sym is ∙ threads)))
+    (spends-turns g.L.Sectors.seen g.L.Sectors.gives g.D.Sectors.seen g.D.Sectors.gives _ _ asked))
 
 pub returns-in-Err-run_by_turns-clause-comes_to : goal.returns-in-Err-run_by_turns-clause-comes_to
 returns-in-Err-run_by_turns-clause-comes_to g c = λ words source source_now command asked running same is.

@@ -19,7 +19,8 @@ returns-in-Ok-drive_in_threads-clause-comes_to g c = λ words source source_now 
     (c.in-Ok.ensures.ready words source source_now command asked running same)
     (tells-threads g.L.Sectors.seen g.L.Sectors.gives g.D.Sectors.seen g.D.Sectors.gives asked c.args.log_only c.in-Ok.opened c.args.script.now c.in-Ok-drive_in_threads.driven same is
     c.in-Ok-drive_in_threads.ensures.says)
-    c.in-Ok-drive_in_threads.ensures.owed (spends-turns g.L.Sectors.seen g.L.Sectors.gives g.D.Sectors.seen g.D.Sectors.gives _ _ asked))
+    c.in-Ok-drive_in_threads.ensures.owed (λ threads. c.in-Ok-drive_in_threads.ensures.reads)
+    (spends-turns g.L.Sectors.seen g.L.Sectors.gives g.D.Sectors.seen g.D.Sectors.gives _ _ asked))
 
 pub returns-in-Err-drive_in_threads-clause-comes_to : goal.returns-in-Err-drive_in_threads-clause-comes_to
 returns-in-Err-drive_in_threads-clause-comes_to g c = λ words source source_now command asked running same is.
