@@ -107,7 +107,7 @@ impl<'a> History<'a> {
         Ok(())
     }
 
-    fn step(&mut self) -> Result<(), String> {
+    pub fn step(&mut self) -> Result<(), String> {
         let Some(store) = self.store.clone() else {
             return self.begin();
         };

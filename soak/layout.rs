@@ -79,6 +79,12 @@ pub fn is_unused(log: &[u8]) -> bool {
     heads.all(|byte| *byte == 0)
 }
 
+/// Whether both heads hold the same.
+pub fn are_heads_alike(log: &[u8]) -> bool {
+    let [first, second] = HEADS.map(|number| sector(log, number));
+    first == second
+}
+
 /// A log block that fits at some lsn.
 #[derive(Clone, Copy)]
 pub struct Block {

@@ -5,6 +5,7 @@ mod events;
 mod files;
 mod heads;
 mod history;
+#[allow(dead_code)]
 mod layout;
 mod moments;
 mod since;
@@ -20,6 +21,7 @@ mod making;
 #[allow(dead_code)]
 mod options;
 mod pages;
+#[allow(dead_code)]
 mod program;
 mod report;
 mod script;
