@@ -1,6 +1,7 @@
 -- What the Op that an actor asks for tells of it: that it holds nothing, that it is the cleaner, that it is a user.
 use Rattle.std.proofs.Common.{Bool, None, cond, false, inl, inr, refl, true, ◌≡◌, ◌⊎◌}
 use Rattle.model_core.specs.{Actor, Advance, checkpointer_op, CheckpointerState, cleaner_op, CleanerState, closer_op, CloserState, flusher_op, FlusherState, next, user_op, UserState, writer_op, WriterState}
+use Rattle.model_core.specs.{reader_op, ReaderState}
 use Rattle.model_core.specs.Actors as actor
 use Rattle.model_core.specs.Advancing.{advance_holds, advance_op}
 use Rattle.model_core.specs.Holding.{closer_holds_tail, user_holds_tail, writer_holds_tail}
@@ -16,7 +17,9 @@ use Rattle.model_core.specs.declared.steps.CleanerStep.TheVariants as cleaner_st
 use Rattle.model_core.specs.declared.steps.CloserStep.{CloserStep}
 use Rattle.model_core.specs.declared.steps.CloserStep.TheVariants as closer_step
 use Rattle.model_core.specs.declared.steps.FlusherStep.{FlusherStep}
+use Rattle.model_core.specs.declared.steps.ReaderStep.{ReaderStep}
 use Rattle.model_core.specs.declared.steps.FlusherStep.TheVariants as flusher_step
+use Rattle.model_core.specs.declared.steps.ReaderStep.TheVariants as reader_step
 use Rattle.model_core.specs.declared.steps.UserStep.{UserStep}
 use Rattle.model_core.specs.declared.steps.UserStep.TheVariants as user_step
 use Rattle.model_core.specs.declared.steps.WriterStep.{WriterStep}
@@ -25,6 +28,7 @@ use Rattle.model_core.specs.declared.words.LinkBuffer.{LinkBuffer}
 use Rattle.model_core.specs.declared.words.LinkBuffer.TheVariants as link_buffer
 use Rattle.model_core.proofs.TurnWords.{advance_asks}
 use Rattle.model_core.specs.Hands.{HoldsNothing, IsFreeOp, IsFreeToCheck, checkpointer_hand, cleaner_hand, flusher_hand, user_hand, writer_hand}
+use Rattle.model_core.specs.Hands.{reader_hand}
 
 -- whoever asks for such an Op holds no slot
 user_frees : (u : UserState) (f : UserStep) → IsFreeOp (user_op u f) → user_hand u f ≡ None
@@ -49,6 +53,15 @@ flusher_frees t flusher_step.GiveDevice is = absurd is
 flusher_frees t flusher_step.StoreFailed is = absurd is
 flusher_frees t flusher_step.GiveFailed is = absurd is
 flusher_frees t _ is = refl
+
+reader_frees : (t : ReaderState) (f : ReaderStep) → IsFreeOp (reader_op t f) → reader_hand f ≡ None
+reader_frees t reader_step.GiveBroken is = absurd is
+reader_frees t reader_step.ReadBlock is = absurd is
+reader_frees t reader_step.StorePlace is = absurd is
+reader_frees t reader_step.GiveDevice is = absurd is
+reader_frees t reader_step.StoreFailed is = absurd is
+reader_frees t reader_step.GiveFailed is = absurd is
+reader_frees t _ is = refl
 
 cleaner_frees : (v : CleanerState) (f : CleanerStep) → IsFreeOp (cleaner_op v f) → cleaner_hand v f ≡ None
 cleaner_frees v cleaner_step.ClearOldest is = absurd is
@@ -98,6 +111,7 @@ pub frees : (a : Actor) → IsFreeToCheck a → IsFreeOp (next a) → HoldsNothi
 frees (actor.User u) free is = free_by u.checks (user_op u u.step) (actor.User u) free (λ o. record { no_slot = user_frees u u.step o; no_tail = user_loose u u.step o }) is
 frees (actor.Writer s) free is = free_by s.checks (writer_op s s.step) (actor.Writer s) free (λ o. record { no_slot = writer_frees s s.step o; no_tail = writer_loose s s.step o }) is
 frees (actor.Flusher t) free is = free_by t.checks (flusher_op t t.step) (actor.Flusher t) free (λ o. record { no_slot = flusher_frees t t.step o; no_tail = λ b. refl }) is
+frees (actor.Reader t) free is = free_by t.checks (reader_op t t.step) (actor.Reader t) free (λ o. record { no_slot = reader_frees t t.step o; no_tail = λ b. refl }) is
 frees (actor.Closer t) free is = free_by t.checks (closer_op t t.step) (actor.Closer t) free (λ o. record { no_slot = refl; no_tail = closer_loose t t.step o }) is
 frees (actor.Cleaner v) free is = free_by v.checks (cleaner_op v v.step) (actor.Cleaner v) free (λ o. record { no_slot = cleaner_frees v v.step o; no_tail = λ b. refl }) is
 frees (actor.Checkpointer t) free is = free_by t.checks (checkpointer_op t t.step) (actor.Checkpointer t) free (λ o. record { no_slot = checkpointer_frees t t.step o; no_tail = λ b. refl }) is
@@ -117,6 +131,10 @@ flusher_batch : (t : FlusherState) (f : FlusherStep) → flusher_op t f ≡ op.W
 flusher_batch t flusher_step.LoadWrite e = absurd (cc)
 flusher_batch t _ e = absurd (cc)
 
+reader_batch : (t : ReaderState) (f : ReaderStep) → reader_op t f ≡ op.WriteBatch → ⊥
+reader_batch t reader_step.LoadFlushed e = absurd (cc)
+reader_batch t _ e = absurd (cc)
+
 closer_batch : (t : CloserState) (f : CloserStep) → closer_op t f ≡ op.WriteBatch → ⊥
 closer_batch t (closer_step.Advance v) e = advance_asks link_buffer.Closed t.advance v op.WriteBatch e
 closer_batch t closer_step.Failed e = absurd (cc)
@@ -133,6 +151,7 @@ pub batch_writer : (a : Actor) → next a ≡ op.WriteBatch → (v : CleanerStat
 batch_writer (actor.User u) e = absurd (user_batch u u.step (own_batch u.checks (user_op u u.step) e))
 batch_writer (actor.Writer s) e = absurd (writer_batch s s.step (own_batch s.checks (writer_op s s.step) e))
 batch_writer (actor.Flusher t) e = absurd (flusher_batch t t.step (own_batch t.checks (flusher_op t t.step) e))
+batch_writer (actor.Reader t) e = absurd (reader_batch t t.step (own_batch t.checks (reader_op t t.step) e))
 batch_writer (actor.Closer t) e = absurd (closer_batch t t.step (own_batch t.checks (closer_op t t.step) e))
 batch_writer (actor.Cleaner v) e = (v, refl)
 batch_writer (actor.Checkpointer t) e = absurd (checkpointer_batch t t.step (own_batch t.checks (checkpointer_op t t.step) e))
@@ -150,6 +169,10 @@ writer_adds_not s _ = tt
 flusher_adds_not : (t : FlusherState) (f : FlusherStep) → IsNoAddition (flusher_op t f)
 flusher_adds_not t flusher_step.LoadWrite = tt
 flusher_adds_not t _ = tt
+
+reader_adds_not : (t : ReaderState) (f : ReaderStep) → IsNoAddition (reader_op t f)
+reader_adds_not t reader_step.LoadFlushed = tt
+reader_adds_not t _ = tt
 
 closer_adds_not : (t : CloserState) (f : CloserStep) → IsNoAddition (closer_op t f)
 closer_adds_not t (closer_step.Advance advance_step.LoadTail) = tt
@@ -171,6 +194,7 @@ pub user_or_no_addition : (a : Actor) → ((u : UserState) × (a ≡ actor.User 
 user_or_no_addition (actor.User u) = inl (u, refl)
 user_or_no_addition (actor.Writer s) = inr (checking_adds_not s.checks (writer_op s s.step) (writer_adds_not s s.step))
 user_or_no_addition (actor.Flusher t) = inr (checking_adds_not t.checks (flusher_op t t.step) (flusher_adds_not t t.step))
+user_or_no_addition (actor.Reader t) = inr (checking_adds_not t.checks (reader_op t t.step) (reader_adds_not t t.step))
 user_or_no_addition (actor.Closer t) = inr (checking_adds_not t.checks (closer_op t t.step) (closer_adds_not t t.step))
 user_or_no_addition (actor.Cleaner v) = inr (checking_adds_not v.checks (cleaner_op v v.step) (cleaner_adds_not v v.step))
 user_or_no_addition (actor.Checkpointer t) = inr (checking_adds_not t.checks (checkpointer_op t t.step) (checkpointer_adds_not t t.step))

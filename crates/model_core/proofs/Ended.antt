@@ -6,8 +6,10 @@ use Rattle.model_core.specs.CheckpointerProgram.{checkpointer_ending, checkpoint
 use Rattle.model_core.specs.CleanerProgram.{cleaner_ending, cleaner_op, cleaner_took}
 use Rattle.model_core.specs.CloserProgram.{closer_ending, closer_op, closer_took}
 use Rattle.model_core.specs.FlusherProgram.{flusher_ending, flusher_op, flusher_took}
+use Rattle.model_core.specs.ReaderProgram.{reader_ending, reader_op, reader_took}
 use Rattle.model_core.specs.Program.{own_op, own_took}
 use Rattle.model_core.specs.States.{CheckpointerState, CleanerState, CloserState, FlusherState, UserState, WriterState}
+use Rattle.model_core.specs.States.{ReaderState}
 use Rattle.model_core.specs.UserProgram.{user_ending, user_op, user_took}
 use Rattle.model_core.specs.Waiting.{HasStopped}
 use Rattle.model_core.specs.WriterProgram.{writer_ending, writer_op, writer_took}
@@ -17,6 +19,7 @@ use Rattle.model_core.specs.declared.steps.CheckpointerStep.{CheckpointerStep}
 use Rattle.model_core.specs.declared.steps.CleanerStep.{CleanerStep}
 use Rattle.model_core.specs.declared.steps.CloserStep.{CloserStep}
 use Rattle.model_core.specs.declared.steps.FlusherStep.{FlusherStep}
+use Rattle.model_core.specs.declared.steps.ReaderStep.{ReaderStep}
 use Rattle.model_core.specs.declared.steps.UserStep.{UserStep}
 use Rattle.model_core.specs.declared.steps.WriterStep.{WriterStep}
 use Rattle.model_core.specs.Actors as actor
@@ -26,6 +29,7 @@ use Rattle.model_core.specs.declared.steps.CheckpointerStep.TheVariants as check
 use Rattle.model_core.specs.declared.steps.CleanerStep.TheVariants as cleaner_step
 use Rattle.model_core.specs.declared.steps.CloserStep.TheVariants as closer_step
 use Rattle.model_core.specs.declared.steps.FlusherStep.TheVariants as flusher_step
+use Rattle.model_core.specs.declared.steps.ReaderStep.TheVariants as reader_step
 use Rattle.model_core.specs.declared.steps.UserStep.TheVariants as user_step
 use Rattle.model_core.specs.declared.steps.WriterStep.TheVariants as writer_step
 
@@ -41,6 +45,10 @@ writer_rests s a code _ e = absurd (e refl)
 flusher_rests : (f : FlusherState) (a : Answer) (code : ℕ) (s : FlusherStep) → (flusher_ending code s ≡ step.Moved → ⊥) → (◌≡◌ {A = Op} (flusher_op f s) op.Rest) × ◌≡◌ {A = FlusherState} (flusher_took f a s) f
 flusher_rests f a code flusher_step.Failed e = (refl, refl)
 flusher_rests f a code _ e = absurd (e refl)
+
+reader_rests : (f : ReaderState) (a : Answer) (code : ℕ) (s : ReaderStep) → (reader_ending code s ≡ step.Moved → ⊥) → (◌≡◌ {A = Op} (reader_op f s) op.Rest) × ◌≡◌ {A = ReaderState} (reader_took f a s) f
+reader_rests f a code reader_step.Failed e = (refl, refl)
+reader_rests f a code _ e = absurd (e refl)
 
 closer_rests : (t : CloserState) (a : Answer) (code : ℕ) (s : CloserStep) → (closer_ending code s ≡ step.Moved → ⊥) → (◌≡◌ {A = Op} (closer_op t s) op.Rest) × ◌≡◌ {A = CloserState} (closer_took t a s) t
 closer_rests t a code closer_step.Failed e = (refl, refl)
@@ -58,6 +66,7 @@ pub ended_rests : (a : Actor) (r : Answer) → HasStopped a → (◌≡◌ {A = 
 ended_rests (actor.User u) r e = let k = user_rests u (heard r) u.code u.step e in (k.0, ap actor.User k.1)
 ended_rests (actor.Writer s) r e = let k = writer_rests s r s.code s.step e in (k.0, ap actor.Writer k.1)
 ended_rests (actor.Flusher f) r e = let k = flusher_rests f r f.code f.step e in (k.0, ap actor.Flusher k.1)
+ended_rests (actor.Reader f) r e = let k = reader_rests f r f.code f.step e in (k.0, ap actor.Reader k.1)
 ended_rests (actor.Closer t) r e = let k = closer_rests t r t.code t.step e in (k.0, ap actor.Closer k.1)
 ended_rests (actor.Cleaner v) r e = let k = cleaner_rests v r v.code v.step e in (k.0, ap actor.Cleaner k.1)
 ended_rests (actor.Checkpointer t) r e = let k = checkpointer_rests t r t.code t.step e in (k.0, ap actor.Checkpointer k.1)

@@ -8,6 +8,7 @@ use Rattle.model_core.specs.Actors as model
 use Rattle.model_core.specs.Groups.{Entry}
 use Rattle.model_core.specs.Later.{IsSameActor}
 use Rattle.model_core.specs.{checkpointer_ending, cleaner_ending, closer_ending, flusher_ending, user_ending, user_waits, writer_ending}
+use Rattle.model_core.specs.{reader_ending}
 use Rattle.model_core.specs.Waiting.{ending, waits}
 use Rattle.model_core.specs.declared.ops.Answer.{Answer}
 use Rattle.model_core.specs.declared.ops.Answer.TheVariants as answer
@@ -22,7 +23,9 @@ use Rattle.model_core.specs.declared.steps.CleanerStep.TheVariants as cleaner_st
 use Rattle.model_core.specs.declared.steps.CloserStep.{CloserStep}
 use Rattle.model_core.specs.declared.steps.CloserStep.TheVariants as closer_step
 use Rattle.model_core.specs.declared.steps.FlusherStep.{FlusherStep}
+use Rattle.model_core.specs.declared.steps.ReaderStep.{ReaderStep}
 use Rattle.model_core.specs.declared.steps.FlusherStep.TheVariants as flusher_step
+use Rattle.model_core.specs.declared.steps.ReaderStep.TheVariants as reader_step
 use Rattle.model_core.specs.declared.steps.UserStep.{UserStep}
 use Rattle.model_core.specs.declared.steps.UserStep.TheVariants as user_step
 use Rattle.model_core.specs.declared.steps.WriterStep.{WriterStep}
@@ -40,6 +43,10 @@ writer_end n _ = inr refl
 pub flusher_end : (n : ℕ) (f : FlusherStep) → EndsAt (flusher_ending n) flusher_step.Failed n f
 flusher_end n flusher_step.Failed = inl (refl, refl)
 flusher_end n _ = inr refl
+
+pub reader_end : (n : ℕ) (f : ReaderStep) → EndsAt (reader_ending n) reader_step.Failed n f
+reader_end n reader_step.Failed = inl (refl, refl)
+reader_end n _ = inr refl
 
 pub closer_end : (n : ℕ) (f : CloserStep) → EndsAt (closer_ending n) closer_step.Failed n f
 closer_end n closer_step.Failed = inl (refl, refl)
@@ -89,6 +96,7 @@ not_idle : (a : model.Actor) → ending a ≡ step.Idle → ⊥
 not_idle (model.User u) e = user_never u.code u.step e
 not_idle (model.Writer s) e = no_wait (writer_ending s.code) writer_step.Failed s.code s.step (writer_end s.code s.step) e
 not_idle (model.Flusher t) e = no_wait (flusher_ending t.code) flusher_step.Failed t.code t.step (flusher_end t.code t.step) e
+not_idle (model.Reader t) e = no_wait (reader_ending t.code) reader_step.Failed t.code t.step (reader_end t.code t.step) e
 not_idle (model.Closer t) e = no_wait (closer_ending t.code) closer_step.Failed t.code t.step (closer_end t.code t.step) e
 not_idle (model.Cleaner v) e = no_wait (cleaner_ending v.code) cleaner_step.Failed v.code v.step (cleaner_end v.code v.step) e
 not_idle (model.Checkpointer t) e = no_wait (checkpointer_ending t.code) checkpointer_step.Failed t.code t.step (checkpointer_end t.code t.step) e
@@ -119,6 +127,7 @@ pub ended_well : (a : model.Actor) → ending a ≡ step.Ended → ((u : UserSta
 ended_well (model.User u) e = inl (u, refl, user_done u.code u.step e)
 ended_well (model.Writer s) e = absurd (no_good_end (writer_ending s.code) writer_step.Failed s.code s.step (writer_end s.code s.step) e)
 ended_well (model.Flusher t) e = absurd (no_good_end (flusher_ending t.code) flusher_step.Failed t.code t.step (flusher_end t.code t.step) e)
+ended_well (model.Reader t) e = absurd (no_good_end (reader_ending t.code) reader_step.Failed t.code t.step (reader_end t.code t.step) e)
 ended_well (model.Closer t) e = absurd (no_good_end (closer_ending t.code) closer_step.Failed t.code t.step (closer_end t.code t.step) e)
 ended_well (model.Cleaner v) e = absurd (no_good_end (cleaner_ending v.code) cleaner_step.Failed v.code v.step (cleaner_end v.code v.step) e)
 ended_well (model.Checkpointer t) e = absurd (no_good_end (checkpointer_ending t.code) checkpointer_step.Failed t.code t.step (checkpointer_end t.code t.step) e)

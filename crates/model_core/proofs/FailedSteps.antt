@@ -2,12 +2,14 @@
 use Rattle.std.proofs.Common.{Bool, List, [], ap, cond, false, inl, inr, length, refl, sym, true, ℕ, ⊎_elim, ◌*◌, ◌++◌, ◌+◌, ◌-◌, ◌/◌, ◌==◌, ◌∙◌, ◌∷◌, ◌≡◌, ◌⊎◌}
 use Rattle.std.specs.Prelude.{nat_le, nat_lt}
 use Rattle.model_core.specs.FlusherProgram.{flusher_ending}
+use Rattle.model_core.specs.ReaderProgram.{archived, archives, followed, has_all, is_none, reader_ending}
 use Rattle.model_core.specs.CloserProgram.{closer_ending}
 use Rattle.model_core.specs.CleanerProgram.{cleaner_ending}
 use Rattle.model_core.specs.CheckpointerProgram.{checkpointer_ending}
 use Rattle.model_core.specs.Answers.{on_call, on_take}
 use Rattle.model_core.specs.Groups.{CellWrite}
 use Rattle.model_core.specs.{after_link, answered, can_close, can_link, candidate, cells_of, change_at, changes, checkpointer_op, checkpointer_took, CheckpointerState, cleaner_op, cleaner_took, CleanerState, closer_op, closer_took, CloserState, end_round, flusher_op, flusher_took, FlusherState, frame_count, group_bytes, group_end, has_log_space, has_passed, has_room, has_space, has_taken, has_whole_word, heard, is_above, is_checking, is_whole, lane_of, lanes, left_in_word, lowered, lsn, mode, next_count, next_in_round, old_of, oldest_in, page_loaded, read_place, stands_outside, step_of, to_next_page, user_op, user_took, UserState, with_mark, word_end, word_step, writer_op, writer_took, WriterState}
+use Rattle.model_core.specs.{reader_op, reader_took, ReaderState}
 use Rattle.model_core.specs.{own_op, own_took}
 use Rattle.model_core.specs.Actors as actor
 use Rattle.model_core.specs.Advancing.{advance_next, ends, frees, stays_put}
@@ -30,7 +32,9 @@ use Rattle.model_core.specs.declared.steps.CleanerStep.TheVariants as cleaner_st
 use Rattle.model_core.specs.declared.steps.CloserStep.{CloserStep}
 use Rattle.model_core.specs.declared.steps.CloserStep.TheVariants as closer_step
 use Rattle.model_core.specs.declared.steps.FlusherStep.{FlusherStep}
+use Rattle.model_core.specs.declared.steps.ReaderStep.{ReaderStep}
 use Rattle.model_core.specs.declared.steps.FlusherStep.TheVariants as flusher_step
+use Rattle.model_core.specs.declared.steps.ReaderStep.TheVariants as reader_step
 use Rattle.model_core.specs.declared.steps.UserStep.{UserStep}
 use Rattle.model_core.specs.declared.steps.UserStep.TheVariants as user_step
 use Rattle.model_core.specs.declared.steps.WriterStep.{WriterStep}
@@ -82,8 +86,16 @@ flusher_quiet flusher_step.GiveFailed = ⊥
 flusher_quiet flusher_step.Failed = ⊥
 flusher_quiet _ = Unit {0}
 
+abbrev pub reader_quiet : ReaderStep → Type 0
+reader_quiet reader_step.GiveFailed = ⊥
+reader_quiet reader_step.Failed = ⊥
+reader_quiet _ = Unit {0}
+
 abbrev pub quiet_flusher : FlusherState → Type 0
 quiet_flusher t = flusher_quiet t.step
+
+abbrev pub quiet_reader : ReaderState → Type 0
+quiet_reader t = reader_quiet t.step
 
 abbrev cleaner_quiet : CleanerStep → Type 0
 cleaner_quiet cleaner_step.Failed = ⊥
@@ -117,6 +129,12 @@ flusher_near flusher_step.StoreFailed = ⊥
 flusher_near flusher_step.GiveFailed = ⊥
 flusher_near flusher_step.Failed = ⊥
 flusher_near _ = Unit {0}
+
+abbrev pub reader_near : ReaderStep → Type 0
+reader_near reader_step.StoreFailed = ⊥
+reader_near reader_step.GiveFailed = ⊥
+reader_near reader_step.Failed = ⊥
+reader_near _ = Unit {0}
 
 abbrev cleaner_near : CleanerStep → Type 0
 cleaner_near cleaner_step.StoreFailed = ⊥
@@ -210,6 +228,17 @@ flusher_on t r flusher_step.StoreFailed near = absurd near
 flusher_on t r flusher_step.GiveFailed near = absurd near
 flusher_on t r flusher_step.Failed near = absurd near
 
+pub reader_on : (t : ReaderState) (r : Answer) (f : ReaderStep) → reader_near f → quiet_reader (reader_took t r f)
+reader_on t r reader_step.LoadFlushed near = either_one quiet_reader (has_all t (old_of r)) (record t { mark = old_of r; checks = true; step = reader_step.LoadFlushed }) (record t { mark = old_of r; step = reader_step.TakeDevice }) tt tt
+reader_on t r reader_step.TakeDevice near = on_take_one reader_quiet r reader_step.ReadBlock reader_step.GiveBroken reader_step.TakeDevice tt tt tt
+reader_on t r reader_step.GiveBroken near = tt
+reader_on t r reader_step.ReadBlock near = on_call_one reader_quiet r reader_step.GiveDevice reader_step.StoreFailed tt tt
+reader_on t r reader_step.StorePlace near = tt
+reader_on t r reader_step.GiveDevice near = either_one quiet_reader (archives t) (archived t) (followed t) tt (either_one reader_quiet (is_none t.texts) reader_step.LoadFlushed reader_step.StorePlace tt tt)
+reader_on t r reader_step.StoreFailed near = absurd near
+reader_on t r reader_step.GiveFailed near = absurd near
+reader_on t r reader_step.Failed near = absurd near
+
 round_on : (v : CleanerState) → quiet_cleaner (next_in_round v)
 round_on v =
     let x : CleanerState = record v { page = cond (v.page + 1 == v.pages) 0 (v.page + 1); left = v.left - 1; kept = [] } in
@@ -232,7 +261,8 @@ cleaner_on v r cleaner_step.StoreFailed near = absurd near
 cleaner_on v r cleaner_step.Failed near = absurd near
 
 pub checkpointer_on : (t : CheckpointerState) (r : Answer) (f : CheckpointerStep) → checkpointer_near f → quiet_checkpointer (checkpointer_took t r f)
-checkpointer_on t r checkpointer_step.LoadCtail near = tt
+checkpointer_on t r checkpointer_step.LoadCtail near = either_one checkpointer_quiet (t.first == t.last) checkpointer_step.ReadList checkpointer_step.LoadPlace tt tt
+checkpointer_on t r checkpointer_step.LoadPlace near = either_one checkpointer_quiet (t.reader + 1 == t.last) checkpointer_step.ReadList checkpointer_step.LoadPlace tt tt
 checkpointer_on t r checkpointer_step.ReadList near = either_one quiet_checkpointer (has_taken r) (record t { to = lowered t.to (oldest_in r); step = checkpointer_step.GiveList }) (record t { checks = true; step = checkpointer_step.ReadList }) tt tt
 checkpointer_on t r checkpointer_step.GiveList near = either_one checkpointer_quiet (t.list + 1 == 4) checkpointer_step.LoadFlushed checkpointer_step.ReadList tt tt
 checkpointer_on t r checkpointer_step.LoadFlushed near = either_one quiet_checkpointer (is_above t (old_of r)) (record t { flushed = old_of r; to = candidate t (old_of r); step = checkpointer_step.TakeDevice }) (record t { flushed = old_of r; checks = true; step = checkpointer_step.LoadCtail }) tt tt
@@ -271,6 +301,10 @@ flusher_never : (n code : ℕ) (f : FlusherStep) → flusher_quiet f → flusher
 flusher_never n code flusher_step.Failed quiet e = absurd quiet
 flusher_never n code _ quiet e = absurd (cc)
 
+reader_never : (n code : ℕ) (f : ReaderStep) → reader_quiet f → reader_ending n f ≡ step.Failed code → ⊥
+reader_never n code reader_step.Failed quiet e = absurd quiet
+reader_never n code _ quiet e = absurd (cc)
+
 cleaner_never : (n code : ℕ) (f : CleanerStep) → cleaner_quiet f → cleaner_ending n f ≡ step.Failed code → ⊥
 cleaner_never n code cleaner_step.Failed quiet e = absurd quiet
 cleaner_never n code _ quiet e = absurd (cc)
@@ -295,6 +329,12 @@ flusher_near_or flusher_step.StoreFailed = inr (inl refl)
 flusher_near_or flusher_step.GiveFailed = inr (inr (inl refl))
 flusher_near_or flusher_step.Failed = inr (inr (inr refl))
 flusher_near_or _ = inl tt
+
+pub reader_near_or : (f : ReaderStep) → reader_near f ⊎ ((f ≡ reader_step.StoreFailed) ⊎ ((f ≡ reader_step.GiveFailed) ⊎ (f ≡ reader_step.Failed)))
+reader_near_or reader_step.StoreFailed = inr (inl refl)
+reader_near_or reader_step.GiveFailed = inr (inr (inl refl))
+reader_near_or reader_step.Failed = inr (inr (inr refl))
+reader_near_or _ = inl tt
 
 closer_near_or : (t : CloserState) (r : Answer) (code : ℕ) (f : CloserStep) → closer_ending (closer_took t r f).code (closer_took t r f).step ≡ step.Failed code → f ≡ closer_step.Failed
 closer_near_or t r code closer_step.Failed e = refl
@@ -353,6 +393,18 @@ own_fails (actor.Flusher s) r code e =
     u)
     t)
     (flusher_near_or s.step)
+own_fails (actor.Reader s) r code e =
+    let W : ReaderStep → Step = λ f. reader_ending (reader_took s r f).code (reader_took s r f).step in
+    ⊎_elim
+    (λ near. absurd (reader_never (reader_took s r s.step).code code (reader_took s r s.step).step (reader_on s r s.step near) e))
+    (λ t. ⊎_elim
+    (λ q. absurd (moved_not code (sym (ap W q) ∙ e)))
+    (λ u. ⊎_elim
+    (λ q. inl (q, same_code s.code code (sym (ap W q) ∙ e)))
+    (λ q. inr (inr (ap (reader_op s) q, sym (ap W q) ∙ e)))
+    u)
+    t)
+    (reader_near_or s.step)
 own_fails (actor.Closer t) r code e =
     let W : CloserStep → Step = λ f. closer_ending (closer_took t r f).code (closer_took t r f).step in
     let q = closer_near_or t r code t.step e in

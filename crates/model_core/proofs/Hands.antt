@@ -1,10 +1,12 @@
 -- What each Op does with what its actor holds.
 use Rattle.std.proofs.Common.{Bool, List, None, Option, Some, suc, ◌%◌, [], cond, drop, false, inl, inr, length, refl, sym, true, ℕ, ⊎_elim, ◌*◌, ◌++◌, ◌+◌, ◌-◌, ◌/◌, ◌==◌, ◌∙◌, ◌∷◌, ◌≡◌, ◌⊎◌}
-use Rattle.std.specs.Prelude.{nat_le, nat_lt}
+use Rattle.std.specs.Prelude.{min, nat_le, nat_lt}
 use Rattle.model_core.specs.Answers.{on_take}
 use Rattle.model_core.specs.declared.limits.TheConstants.{FLUSH_LISTS, WORD_LANES}
 use Rattle.model_core.specs.Groups.{CellWrite}
 use Rattle.model_core.specs.{Actor, Advance, after_link, answered, can_close, can_link, cells_of, change_at, changes, checkpointer_op, checkpointer_took, CheckpointerState, cleaner_op, cleaner_took, CleanerState, closer_op, closer_took, CloserState, candidate, end_round, flusher_op, flusher_took, FlusherState, group_bytes, group_end, frame_count, has_log_space, has_passed, has_room, has_space, has_taken, has_whole_word, is_whole, lane_of, lanes, left_in_word, next_count, word_end, word_step, heard, is_above, is_checking, lowered, lsn, mode, next, next_in_round, old_of, oldest_in, page_loaded, read_place, stands_outside, to_next_page, took, user_op, user_took, UserState, with_mark, writer_op, writer_took, WriterState}
+use Rattle.model_core.specs.ReaderProgram.{archived, archives, followed, has_all, is_none}
+use Rattle.model_core.specs.{reader_op, reader_took, ReaderState}
 use Rattle.model_core.specs.Actors as actor
 use Rattle.model_core.proofs.TailsFree.{took_free}
 use Rattle.model_core.specs.Advancing.{advance_next, advance_op, ends, frees, stays_put}
@@ -25,7 +27,9 @@ use Rattle.model_core.specs.declared.steps.CleanerStep.TheVariants as cleaner_st
 use Rattle.model_core.specs.declared.steps.CloserStep.{CloserStep}
 use Rattle.model_core.specs.declared.steps.CloserStep.TheVariants as closer_step
 use Rattle.model_core.specs.declared.steps.FlusherStep.{FlusherStep}
+use Rattle.model_core.specs.declared.steps.ReaderStep.{ReaderStep}
 use Rattle.model_core.specs.declared.steps.FlusherStep.TheVariants as flusher_step
+use Rattle.model_core.specs.declared.steps.ReaderStep.TheVariants as reader_step
 use Rattle.model_core.specs.declared.steps.UserStep.{UserStep}
 use Rattle.model_core.specs.declared.steps.UserStep.TheVariants as user_step
 use Rattle.model_core.specs.declared.steps.WriterStep.{WriterStep}
@@ -34,6 +38,7 @@ use Rattle.model_core.specs.declared.words.LinkBuffer.{LinkBuffer}
 use Rattle.model_core.specs.declared.words.LinkBuffer.TheVariants as link_buffer
 use Rattle.model_log.specs.declared.layout.TheConstants.{BLOCK_DATA}
 use Rattle.model_core.specs.Hands.{IsFreeToCheck, checkpointer_hand, cleaner_hand, flusher_hand, hand, user_hand, writer_hand}
+use Rattle.model_core.specs.Hands.{reader_hand}
 
 -- what an Op does with what its actor holds, which is `before`, and after an answer `behind` of it
 abbrev pub Handles : Op → Option ℕ → (Answer → Option ℕ) → Type 0
@@ -44,6 +49,7 @@ Handles (op.TakeRemove p) before behind = (before ≡ None) × ((n : Option ℕ)
 Handles (op.TakeOldest i) before behind = (before ≡ None) × ((n : Option ℕ) → behind (answer.Taken n) ≡ Some (suc i)) × (behind answer.Held ≡ None)
 Handles (op.GiveList i) before behind = (before ≡ Some (suc i)) × (behind (answer.Taken None) ≡ None)
 Handles (op.WriteTo t) before behind = (before ≡ Some 0) × ((n : ℕ) → behind (answer.Called n) ≡ Some 0) × ((c : ℕ) → behind (answer.Failed c) ≡ Some 0)
+Handles (op.ReadBlock b) before behind = (before ≡ Some 0) × ((n : ℕ) → behind (answer.Called n) ≡ Some 0) × ((c : ℕ) → behind (answer.Failed c) ≡ Some 0)
 Handles op.Sync before behind = (before ≡ Some 0) × ((n : ℕ) → behind (answer.Called n) ≡ Some 0) × ((c : ℕ) → behind (answer.Failed c) ≡ Some 0)
 Handles (op.Checkpoint x) before behind = (before ≡ Some 0) × ((n : ℕ) → behind (answer.Called n) ≡ Some 0) × ((c : ℕ) → behind (answer.Failed c) ≡ Some 0)
 Handles op.WriteBatch before behind = (before ≡ None) × ((r : Answer) → behind r ≡ None)
@@ -165,6 +171,17 @@ flusher_own t flusher_step.StoreFailed = λ n. refl
 flusher_own t flusher_step.GiveFailed = (refl, refl)
 flusher_own t flusher_step.Failed = tt
 
+reader_own : (t : ReaderState) (f : ReaderStep) → Handles (reader_op t f) (reader_hand f) (λ r. reader_hand (reader_took t r f).step)
+reader_own t reader_step.LoadFlushed = λ n. pick (λ (z : ReaderState). reader_hand z.step) None (has_all t n) (record t { mark = n; checks = true; step = reader_step.LoadFlushed }) (record t { mark = n; step = reader_step.TakeDevice }) refl refl
+reader_own t reader_step.TakeDevice = (refl, λ n. refl, refl, refl)
+reader_own t reader_step.GiveBroken = (refl, refl)
+reader_own t reader_step.ReadBlock = (refl, λ n. refl, λ c. refl)
+reader_own t reader_step.StorePlace = λ n. refl
+reader_own t reader_step.GiveDevice = (refl, pick (λ (z : ReaderState). reader_hand z.step) None (archives t) (archived t) (followed t) refl (pick reader_hand None (is_none t.texts) reader_step.LoadFlushed reader_step.StorePlace refl refl))
+reader_own t reader_step.StoreFailed = λ n. refl
+reader_own t reader_step.GiveFailed = (refl, refl)
+reader_own t reader_step.Failed = tt
+
 closer_own : (t : CloserState) (f : CloserStep) → Handles (closer_op t f) None (λ r. None)
 closer_own t (closer_step.Advance v) = plain_advance link_buffer.Closed t.advance v None (λ r. None) (λ n. refl)
 closer_own t closer_step.Failed = tt
@@ -200,7 +217,8 @@ cleaner_own v cleaner_step.StoreFailed = λ n. refl
 cleaner_own v cleaner_step.Failed = tt
 
 checkpointer_own : (t : CheckpointerState) (f : CheckpointerStep) → Handles (checkpointer_op t f) (checkpointer_hand t f) (λ r. of_checkpointer (checkpointer_took t r f))
-checkpointer_own t checkpointer_step.LoadCtail = λ n. refl
+checkpointer_own t checkpointer_step.LoadCtail = λ n. pick (checkpointer_hand (record t { ctail = tail_of n; to = tail_of n; list = 0; reader = t.first })) None (t.first == t.last) checkpointer_step.ReadList checkpointer_step.LoadPlace refl refl
+checkpointer_own t checkpointer_step.LoadPlace = λ n. pick (checkpointer_hand (record t { to = min t.to n; reader = t.reader + 1 })) None (t.reader + 1 == t.last) checkpointer_step.ReadList checkpointer_step.LoadPlace refl refl
 checkpointer_own t checkpointer_step.ReadList = (refl, λ n. refl, refl)
 checkpointer_own t checkpointer_step.GiveList = (refl, pick (checkpointer_hand (record t { list = t.list + 1 })) None (t.list + 1 == 4) checkpointer_step.LoadFlushed checkpointer_step.ReadList refl refl)
 checkpointer_own t checkpointer_step.LoadFlushed = λ n. pick of_checkpointer None (is_above t n) (record t { flushed = n; to = candidate t n; step = checkpointer_step.TakeDevice }) (record t { flushed = n; checks = true; step = checkpointer_step.LoadCtail }) refl refl
@@ -239,6 +257,7 @@ pub handles : (a : Actor) → IsFreeToCheck a → Handles (next a) (hand a) (λ 
 handles (actor.User u) free = by_check actor.User (user_op u u.step) (record u { checks = false }) (λ n. record u { checks = false; code = n; step = user_step.Failed }) (λ r. user_took u (heard r) u.step) u.checks (user_hand u u.step) (λ c. (free c).no_slot) (user_same u u.step) (λ n. refl) (user_own u u.step)
 handles (actor.Writer s) free = by_check actor.Writer (writer_op s s.step) (record s { checks = false }) (λ n. record s { checks = false; code = n; step = writer_step.Failed }) (λ r. writer_took s r s.step) s.checks (writer_hand s.step) (λ c. (free c).no_slot) refl (λ n. refl) (writer_own s s.step)
 handles (actor.Flusher t) free = by_check actor.Flusher (flusher_op t t.step) (record t { checks = false }) (λ n. record t { checks = false; code = n; step = flusher_step.Failed }) (λ r. flusher_took t r t.step) t.checks (flusher_hand t.step) (λ c. (free c).no_slot) refl (λ n. refl) (flusher_own t t.step)
+handles (actor.Reader t) free = by_check actor.Reader (reader_op t t.step) (record t { checks = false }) (λ n. record t { checks = false; code = n; step = reader_step.Failed }) (λ r. reader_took t r t.step) t.checks (reader_hand t.step) (λ c. (free c).no_slot) refl (λ n. refl) (reader_own t t.step)
 handles (actor.Closer t) free = by_check actor.Closer (closer_op t t.step) (record t { checks = false }) (λ n. record t { checks = false; code = n; step = closer_step.Failed }) (λ r. closer_took t r t.step) t.checks None (λ c. (free c).no_slot) refl (λ n. refl) (closer_own t t.step)
 handles (actor.Cleaner v) free = by_check actor.Cleaner (cleaner_op v v.step) (record v { checks = false }) (λ n. record v { checks = false; code = n; step = cleaner_step.Failed }) (λ r. cleaner_took v r v.step) v.checks (cleaner_hand v v.step) (λ c. (free c).no_slot) (cleaner_same v v.step) (λ n. refl) (cleaner_own v v.step)
 handles (actor.Checkpointer t) free = by_check actor.Checkpointer (checkpointer_op t t.step) (record t { checks = false }) (λ n. record t { checks = false; code = n; step = checkpointer_step.Failed }) (λ r. checkpointer_took t r t.step) t.checks (checkpointer_hand t t.step) (λ c. (free c).no_slot) (checkpointer_same t t.step) (λ n. refl) (checkpointer_own t t.step)
@@ -300,6 +319,13 @@ flusher_free t quiet r flusher_step.TakeDevice = on_take_free r (λ z. flusher_h
 flusher_free t quiet r flusher_step.GiveBroken = inr refl
 flusher_free t quiet r _ = inl quiet
 
+reader_free : (t : ReaderState) → t.checks ≡ false → (r : Answer) (f : ReaderStep) → IsFree (reader_took t r f).checks (reader_hand (reader_took t r f).step)
+reader_free t quiet r reader_step.LoadFlushed = choose (λ (z : ReaderState). z.checks) (λ (z : ReaderState). reader_hand z.step) (has_all t (old_of r)) (record t { mark = old_of r; checks = true; step = reader_step.LoadFlushed }) (record t { mark = old_of r; step = reader_step.TakeDevice }) (inr refl) (inr refl)
+reader_free t quiet r reader_step.TakeDevice = on_take_free r (λ z. reader_hand (on_take z reader_step.ReadBlock reader_step.GiveBroken reader_step.TakeDevice)) refl (λ n. refl) (λ n. refl) (λ n. refl) refl
+reader_free t quiet r reader_step.GiveBroken = inr refl
+reader_free t quiet r reader_step.GiveDevice = choose (λ (z : ReaderState). z.checks) (λ (z : ReaderState). reader_hand z.step) (archives t) (archived t) (followed t) (inl quiet) (inl quiet)
+reader_free t quiet r _ = inl quiet
+
 cleaner_free : (v : CleanerState) → v.checks ≡ false → (r : Answer) (f : CleanerStep) → IsFree (cleaner_took v r f).checks (of_cleaner (cleaner_took v r f))
 cleaner_free v quiet r cleaner_step.LoadOldest = choose (λ (z : CleanerState). z.checks) of_cleaner (old_of r == 0) (next_in_round v) (record v { step = cleaner_step.TakeLatch }) (inr (round_none v)) (inl quiet)
 cleaner_free v quiet r cleaner_step.TakeLatch = choose (λ (z : CleanerState). z.checks) of_cleaner (old_of r == 0) (record v { step = cleaner_step.LoadNewest }) (next_in_round v) (inl quiet) (inr (round_none v))
@@ -330,6 +356,7 @@ stays_empty : (a : Actor) (r : Answer) → ChecksWithoutSlot (took a r)
 stays_empty (actor.User u) r = by_free actor.User (λ (z : UserState). z.checks) (record u { checks = false }) (record u { checks = false; code = old_of r; step = user_step.Failed }) (user_took u (heard r) u.step) (λ z. refl) u.checks (old_of r == 0) refl refl (λ quiet. user_free u quiet (heard r) u.step)
 stays_empty (actor.Writer s) r = by_free actor.Writer (λ (z : WriterState). z.checks) (record s { checks = false }) (record s { checks = false; code = old_of r; step = writer_step.Failed }) (writer_took s r s.step) (λ z. refl) s.checks (old_of r == 0) refl refl (λ quiet. writer_free s quiet r s.step)
 stays_empty (actor.Flusher t) r = by_free actor.Flusher (λ (z : FlusherState). z.checks) (record t { checks = false }) (record t { checks = false; code = old_of r; step = flusher_step.Failed }) (flusher_took t r t.step) (λ z. refl) t.checks (old_of r == 0) refl refl (λ quiet. flusher_free t quiet r t.step)
+stays_empty (actor.Reader t) r = by_free actor.Reader (λ (z : ReaderState). z.checks) (record t { checks = false }) (record t { checks = false; code = old_of r; step = reader_step.Failed }) (reader_took t r t.step) (λ z. refl) t.checks (old_of r == 0) refl refl (λ quiet. reader_free t quiet r t.step)
 stays_empty (actor.Closer t) r = by_free actor.Closer (λ (z : CloserState). z.checks) (record t { checks = false }) (record t { checks = false; code = old_of r; step = closer_step.Failed }) (closer_took t r t.step) (λ z. refl) t.checks (old_of r == 0) refl refl (λ quiet. inr refl)
 stays_empty (actor.Cleaner v) r = by_free actor.Cleaner (λ (z : CleanerState). z.checks) (record v { checks = false }) (record v { checks = false; code = old_of r; step = cleaner_step.Failed }) (cleaner_took v r v.step) (λ z. refl) v.checks (old_of r == 0) refl refl (λ quiet. cleaner_free v quiet r v.step)
 stays_empty (actor.Checkpointer t) r = by_free actor.Checkpointer (λ (z : CheckpointerState). z.checks) (record t { checks = false }) (record t { checks = false; code = old_of r; step = checkpointer_step.Failed }) (checkpointer_took t r t.step) (λ z. refl) t.checks (old_of r == 0) refl refl (λ quiet. checkpointer_free t quiet r t.step)

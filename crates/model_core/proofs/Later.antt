@@ -1,6 +1,7 @@
 -- The same actor, later: what every Op keeps.
 use Rattle.std.proofs.Common.{Bool, cond, false, length, refl, subst, true, ℕ, ◌+◌, ◌==◌, ◌∙◌, ◌≡◌}
 use Rattle.model_core.specs.{after_link, answered, can_close, can_link, changes, checked_of, checkpointer_program, checkpointer_took, cleaner_program, cleaner_took, closer_program, closer_took, flusher_program, flusher_took, has_passed, has_room, has_space, heard, mode, old_of, tail_of, to_next_page, took, user_program, user_took, UserState, with_mark, writer_program, writer_took}
+use Rattle.model_core.specs.{reader_program, reader_took}
 use Rattle.model_core.specs.Actors as model
 use Rattle.model_core.specs.Actors.{Actor}
 use Rattle.model_core.specs.UserProgram.{with_close_room, with_link_room, without_close_room, without_link_room}
@@ -14,6 +15,7 @@ pub later_refl : (a : Actor) → IsSameActor a a
 later_refl (model.User u) = (u, refl, refl, refl)
 later_refl (model.Writer s) = (s, refl)
 later_refl (model.Flusher s) = (s, refl)
+later_refl (model.Reader s) = (s, refl)
 later_refl (model.Closer s) = (s, refl)
 later_refl (model.Cleaner s) = (s, refl)
 later_refl (model.Checkpointer s) = (s, refl)
@@ -23,6 +25,7 @@ pub later_trans : (a b c : Actor) → IsSameActor a b → IsSameActor b c → Is
 later_trans (model.User u) b c h k = let m = subst (λ (x : Actor). IsSameActor x c) h.1 k in (m.0, m.1, m.2 ∙ h.2, m.3 ∙ h.3)
 later_trans (model.Writer s) b c h k = subst (λ (x : Actor). IsSameActor x c) h.1 k
 later_trans (model.Flusher s) b c h k = subst (λ (x : Actor). IsSameActor x c) h.1 k
+later_trans (model.Reader s) b c h k = subst (λ (x : Actor). IsSameActor x c) h.1 k
 later_trans (model.Closer s) b c h k = subst (λ (x : Actor). IsSameActor x c) h.1 k
 later_trans (model.Cleaner s) b c h k = subst (λ (x : Actor). IsSameActor x c) h.1 k
 later_trans (model.Checkpointer s) b c h k = subst (λ (x : Actor). IsSameActor x c) h.1 k
@@ -67,6 +70,7 @@ pub took_later : (a : Actor) (r : Answer) → IsSameActor a (took a r)
 took_later (model.User u) r = later_by (model.User u) (model.User (checked_of user_program u (old_of r))) (model.User (user_took u (heard r) u.step)) u.checks (user_later u (checked_of user_program u (old_of r)) (checked_keeps u (old_of r))) (user_later u (user_took u (heard r) u.step) (took_keeps u (heard r) u.step))
 took_later (model.Writer s) r = later_by (model.Writer s) (model.Writer (checked_of writer_program s (old_of r))) (model.Writer (writer_took s r s.step)) s.checks (checked_of writer_program s (old_of r), refl) (writer_took s r s.step, refl)
 took_later (model.Flusher t) r = later_by (model.Flusher t) (model.Flusher (checked_of flusher_program t (old_of r))) (model.Flusher (flusher_took t r t.step)) t.checks (checked_of flusher_program t (old_of r), refl) (flusher_took t r t.step, refl)
+took_later (model.Reader t) r = later_by (model.Reader t) (model.Reader (checked_of reader_program t (old_of r))) (model.Reader (reader_took t r t.step)) t.checks (checked_of reader_program t (old_of r), refl) (reader_took t r t.step, refl)
 took_later (model.Closer t) r = later_by (model.Closer t) (model.Closer (checked_of closer_program t (old_of r))) (model.Closer (closer_took t r t.step)) t.checks (checked_of closer_program t (old_of r), refl) (closer_took t r t.step, refl)
 took_later (model.Cleaner v) r = later_by (model.Cleaner v) (model.Cleaner (checked_of cleaner_program v (old_of r))) (model.Cleaner (cleaner_took v r v.step)) v.checks (checked_of cleaner_program v (old_of r), refl) (cleaner_took v r v.step, refl)
 took_later (model.Checkpointer t) r = later_by (model.Checkpointer t) (model.Checkpointer (checked_of checkpointer_program t (old_of r))) (model.Checkpointer (checkpointer_took t r t.step)) t.checks (checked_of checkpointer_program t (old_of r), refl) (checkpointer_took t r t.step, refl)

@@ -1,6 +1,7 @@
 -- An actor that asks for nothing stays as it is.
 use Rattle.std.proofs.Common.{Bool, ap, cond, false, refl, true, ℕ, ◌≡◌}
 use Rattle.model_core.specs.{Actor, checked_of, checkpointer_op, checkpointer_program, checkpointer_took, CheckpointerState, cleaner_op, cleaner_program, cleaner_took, CleanerState, closer_op, closer_program, closer_took, CloserState, flusher_op, flusher_program, flusher_took, FlusherState, heard, next, old_of, took, user_op, user_program, user_took, UserState, writer_op, writer_program, writer_took, WriterState}
+use Rattle.model_core.specs.{reader_op, reader_program, reader_took, ReaderState}
 use Rattle.model_core.specs.Actors as actor
 use Rattle.model_core.specs.declared.ops.Answer.{Answer}
 use Rattle.model_core.specs.declared.ops.Op.{Op}
@@ -13,7 +14,9 @@ use Rattle.model_core.specs.declared.steps.CleanerStep.TheVariants as cleaner_st
 use Rattle.model_core.specs.declared.steps.CloserStep.{CloserStep}
 use Rattle.model_core.specs.declared.steps.CloserStep.TheVariants as closer_step
 use Rattle.model_core.specs.declared.steps.FlusherStep.{FlusherStep}
+use Rattle.model_core.specs.declared.steps.ReaderStep.{ReaderStep}
 use Rattle.model_core.specs.declared.steps.FlusherStep.TheVariants as flusher_step
+use Rattle.model_core.specs.declared.steps.ReaderStep.TheVariants as reader_step
 use Rattle.model_core.specs.declared.steps.UserStep.{UserStep}
 use Rattle.model_core.specs.declared.steps.UserStep.TheVariants as user_step
 use Rattle.model_core.specs.declared.steps.WriterStep.{WriterStep}
@@ -38,6 +41,10 @@ flusher_rests : (t : FlusherState) (r : Answer) (f : FlusherStep) → flusher_op
 flusher_rests t r flusher_step.Failed rest = refl
 flusher_rests t r _ rest = absurd (cc)
 
+reader_rests : (t : ReaderState) (r : Answer) (f : ReaderStep) → reader_op t f ≡ op.Rest → ◌≡◌ {A = ReaderState} (reader_took t r f) t
+reader_rests t r reader_step.Failed rest = refl
+reader_rests t r _ rest = absurd (cc)
+
 closer_rests : (t : CloserState) (r : Answer) (f : CloserStep) → closer_op t f ≡ op.Rest → ◌≡◌ {A = CloserState} (closer_took t r f) t
 closer_rests t r (closer_step.Advance v) rest = absurd (advance_asks link_buffer.Closed t.advance v op.Rest rest)
 closer_rests t r closer_step.Failed rest = refl
@@ -58,6 +65,7 @@ pub rests : (a : Actor) → next a ≡ op.Rest → (r : Answer) → ◌≡◌ {A
 rests (actor.User u) rest r = by_rest actor.User (user_op u u.step) u (checked_of user_program u (old_of r)) (user_took u (heard r) u.step) u.checks rest (user_rests u (heard r) u.step)
 rests (actor.Writer s) rest r = by_rest actor.Writer (writer_op s s.step) s (checked_of writer_program s (old_of r)) (writer_took s r s.step) s.checks rest (writer_rests s r s.step)
 rests (actor.Flusher t) rest r = by_rest actor.Flusher (flusher_op t t.step) t (checked_of flusher_program t (old_of r)) (flusher_took t r t.step) t.checks rest (flusher_rests t r t.step)
+rests (actor.Reader t) rest r = by_rest actor.Reader (reader_op t t.step) t (checked_of reader_program t (old_of r)) (reader_took t r t.step) t.checks rest (reader_rests t r t.step)
 rests (actor.Closer t) rest r = by_rest actor.Closer (closer_op t t.step) t (checked_of closer_program t (old_of r)) (closer_took t r t.step) t.checks rest (closer_rests t r t.step)
 rests (actor.Cleaner v) rest r = by_rest actor.Cleaner (cleaner_op v v.step) v (checked_of cleaner_program v (old_of r)) (cleaner_took v r v.step) v.checks rest (cleaner_rests v r v.step)
 rests (actor.Checkpointer t) rest r = by_rest actor.Checkpointer (checkpointer_op t t.step) t (checked_of checkpointer_program t (old_of r)) (checkpointer_took t r t.step) t.checks rest (checkpointer_rests t r t.step)

@@ -12,11 +12,13 @@ use Rattle.model_core.specs.CleanerProgram.{cleaner_op}
 use Rattle.model_core.specs.CloserProgram.{closer_op, closer_took}
 use Rattle.model_core.specs.FlushLists.{Listed}
 use Rattle.model_core.specs.FlusherProgram.{flusher_op}
+use Rattle.model_core.specs.ReaderProgram.{reader_op}
 use Rattle.model_core.specs.Holding.{HasHolder, closer_holds_tail, holds_tail, user_holds_tail, writer_holds_tail}
 use Rattle.model_core.specs.Layout.{SharedWords}
 use Rattle.model_core.specs.NamedWords.{read, wrote}
 use Rattle.model_core.specs.Program.{checked, is_checking, next, own_op, own_took, took}
 use Rattle.model_core.specs.States.{Advance, CheckpointerState, CleanerState, CloserState, FlusherState, UserState, WriterState}
+use Rattle.model_core.specs.States.{ReaderState}
 use Rattle.model_core.specs.Tails.{tail_word}
 use Rattle.model_core.specs.UserProgram.{user_op, user_took}
 use Rattle.model_core.specs.Holding.{ChecksWithoutTail}
@@ -29,6 +31,7 @@ use Rattle.model_core.specs.declared.steps.CheckpointerStep.{CheckpointerStep}
 use Rattle.model_core.specs.declared.steps.CleanerStep.{CleanerStep}
 use Rattle.model_core.specs.declared.steps.CloserStep.{CloserStep}
 use Rattle.model_core.specs.declared.steps.FlusherStep.{FlusherStep}
+use Rattle.model_core.specs.declared.steps.ReaderStep.{ReaderStep}
 use Rattle.model_core.specs.declared.steps.UserStep.{UserStep}
 use Rattle.model_core.specs.declared.steps.WriterStep.{WriterStep}
 use Rattle.model_core.specs.declared.words.LinkBuffer.{LinkBuffer}
@@ -42,6 +45,7 @@ use Rattle.model_core.specs.declared.steps.CheckpointerStep.TheVariants as check
 use Rattle.model_core.specs.declared.steps.CleanerStep.TheVariants as cleaner_step
 use Rattle.model_core.specs.declared.steps.CloserStep.TheVariants as closer_step
 use Rattle.model_core.specs.declared.steps.FlusherStep.TheVariants as flusher_step
+use Rattle.model_core.specs.declared.steps.ReaderStep.TheVariants as reader_step
 use Rattle.model_core.specs.declared.steps.UserStep.TheVariants as user_step
 use Rattle.model_core.specs.declared.steps.WriterStep.TheVariants as writer_step
 use Rattle.model_core.specs.declared.words.LinkBuffer.TheVariants as link_buffer
@@ -219,6 +223,12 @@ module _ (m : SharedWords) where
     flusher_spares link_buffer.Closed f flusher_step.LoadWrite = refl
     flusher_spares link_buffer.Closed f _ = refl
 
+    reader_spares : (b : LinkBuffer) (f : ReaderState) (s : ReaderStep) → spares b (reader_op f s) ≡ true
+    reader_spares link_buffer.Written f reader_step.LoadFlushed = refl
+    reader_spares link_buffer.Written f _ = refl
+    reader_spares link_buffer.Closed f reader_step.LoadFlushed = refl
+    reader_spares link_buffer.Closed f _ = refl
+
     cleaner_spares : (b : LinkBuffer) (v : CleanerState) (s : CleanerStep) → spares b (cleaner_op v s) ≡ true
     cleaner_spares link_buffer.Written v cleaner_step.LoadFlushed = refl
     cleaner_spares link_buffer.Written v _ = refl
@@ -235,6 +245,7 @@ module _ (m : SharedWords) where
     own_holder b (actor.User u) rests h = user_holder u b u.step rests h
     own_holder b (actor.Writer s) rests h = writer_holder s b s.step rests h
     own_holder b (actor.Flusher f) rests h = beside b (flusher_op f f.step) (flusher_spares b f f.step) h
+    own_holder b (actor.Reader f) rests h = beside b (reader_op f f.step) (reader_spares b f f.step) h
     own_holder b (actor.Closer t) rests h = closer_holder t b t.step rests h
     own_holder b (actor.Cleaner v) rests h = beside b (cleaner_op v v.step) (cleaner_spares b v v.step) h
     own_holder b (actor.Checkpointer t) rests h = beside b (checkpointer_op t t.step) (checkpointer_spares b t t.step) h

@@ -7,6 +7,7 @@ use Rattle.model_core.specs.Answers.{heard, old_of, on_call, on_take}
 use Rattle.model_core.specs.CheckpointerProgram.{checkpointer_program}
 use Rattle.model_core.specs.CleanerProgram.{cleaner_program}
 use Rattle.model_core.specs.FlusherProgram.{flusher_program}
+use Rattle.model_core.specs.ReaderProgram.{reader_program}
 use Rattle.model_core.specs.CloserProgram.{closer_ending, closer_program, closer_took}
 use Rattle.model_core.specs.Holding.{ChecksWithoutTail, closer_holds_tail, holds_tail, user_holds_tail, writer_holds_tail}
 use Rattle.model_core.specs.Program.{checked, is_checking, own_took, took}
@@ -192,6 +193,7 @@ checked_free : (a : Actor) (n : ℕ) → is_checking a ≡ true → is_checking 
 checked_free (actor.User u) n e = checks_no_more user_program u n refl refl
 checked_free (actor.Writer s) n e = checks_no_more writer_program s n refl refl
 checked_free (actor.Flusher f) n e = checks_no_more flusher_program f n refl refl
+checked_free (actor.Reader f) n e = checks_no_more reader_program f n refl refl
 checked_free (actor.Closer t) n e = checks_no_more closer_program t n refl refl
 checked_free (actor.Cleaner v) n e = checks_no_more cleaner_program v n refl refl
 checked_free (actor.Checkpointer t) n e = checks_no_more checkpointer_program t n refl refl

@@ -1,6 +1,7 @@
 -- The words that Ops name: none that is loaded, stored, added to or swapped is a turn word.
 use Rattle.std.proofs.Common.{Bool, cond, false, subst, true, ◌==◌, ◌≡◌}
 use Rattle.model_core.specs.{Advance, checkpointer_op, CheckpointerState, cleaner_op, CleanerState, closer_op, CloserState, flusher_op, FlusherState, mode, next, user_op, UserState, writer_op, WriterState}
+use Rattle.model_core.specs.{reader_op, ReaderState}
 use Rattle.model_core.specs.Actors as model
 use Rattle.model_core.specs.Advancing.{advance_op}
 use Rattle.model_core.specs.declared.ops.Op.{Op}
@@ -14,7 +15,9 @@ use Rattle.model_core.specs.declared.steps.CleanerStep.TheVariants as cleaner_st
 use Rattle.model_core.specs.declared.steps.CloserStep.{CloserStep}
 use Rattle.model_core.specs.declared.steps.CloserStep.TheVariants as closer_step
 use Rattle.model_core.specs.declared.steps.FlusherStep.{FlusherStep}
+use Rattle.model_core.specs.declared.steps.ReaderStep.{ReaderStep}
 use Rattle.model_core.specs.declared.steps.FlusherStep.TheVariants as flusher_step
+use Rattle.model_core.specs.declared.steps.ReaderStep.TheVariants as reader_step
 use Rattle.model_core.specs.declared.steps.UserStep.{UserStep}
 use Rattle.model_core.specs.declared.steps.UserStep.TheVariants as user_step
 use Rattle.model_core.specs.declared.steps.WriterStep.{WriterStep}
@@ -77,6 +80,10 @@ flusher_off : (t : FlusherState) (f : FlusherStep) → IsOffTurns (flusher_op t 
 flusher_off t flusher_step.LoadWrite = tt
 flusher_off t _ = tt
 
+reader_off : (t : ReaderState) (f : ReaderStep) → IsOffTurns (reader_op t f)
+reader_off t reader_step.LoadFlushed = tt
+reader_off t _ = tt
+
 closer_off : (t : CloserState) (f : CloserStep) → IsOffTurns (closer_op t f)
 closer_off t (closer_step.Advance v) = word_off (advance_op link_buffer.Closed t.advance v) (advance_plain link_buffer.Closed t.advance v)
 closer_off t closer_step.Failed = tt
@@ -97,6 +104,7 @@ pub next_off : (a : model.Actor) → IsOffTurns (next a)
 next_off (model.User u) = checking u.checks (user_op u u.step) (user_off u u.step)
 next_off (model.Writer s) = checking s.checks (writer_op s s.step) (writer_off s s.step)
 next_off (model.Flusher t) = checking t.checks (flusher_op t t.step) (flusher_off t t.step)
+next_off (model.Reader t) = checking t.checks (reader_op t t.step) (reader_off t t.step)
 next_off (model.Closer t) = checking t.checks (closer_op t t.step) (closer_off t t.step)
 next_off (model.Cleaner v) = checking v.checks (cleaner_op v v.step) (cleaner_off v v.step)
 next_off (model.Checkpointer t) = checking t.checks (checkpointer_op t t.step) (checkpointer_off t t.step)

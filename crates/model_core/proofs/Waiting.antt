@@ -8,8 +8,10 @@ use Rattle.model_core.specs.CheckpointerProgram.{checkpointer_took, checkpointer
 use Rattle.model_core.specs.CleanerProgram.{cleaner_took, cleaner_waits, finds_none, next_in_round}
 use Rattle.model_core.specs.CloserProgram.{closer_took, closer_waits}
 use Rattle.model_core.specs.FlusherProgram.{flusher_took, flusher_waits}
+use Rattle.model_core.specs.ReaderProgram.{has_all, reader_took, reader_waits}
 use Rattle.model_core.specs.Program.{is_checking, own_took}
 use Rattle.model_core.specs.States.{Advance, CheckpointerState, CleanerState, CloserState, FlusherState, UserState, WriterState}
+use Rattle.model_core.specs.States.{ReaderState}
 use Rattle.model_core.specs.Tails.{tail_of}
 use Rattle.model_core.specs.UserProgram.{can_close, can_link, has_passed, has_room, has_space, user_took, user_waits}
 use Rattle.model_core.specs.Waiting.{waits}
@@ -21,6 +23,7 @@ use Rattle.model_core.specs.declared.steps.CheckpointerStep.{CheckpointerStep}
 use Rattle.model_core.specs.declared.steps.CleanerStep.{CleanerStep}
 use Rattle.model_core.specs.declared.steps.CloserStep.{CloserStep}
 use Rattle.model_core.specs.declared.steps.FlusherStep.{FlusherStep}
+use Rattle.model_core.specs.declared.steps.ReaderStep.{ReaderStep}
 use Rattle.model_core.specs.declared.steps.UserStep.{UserStep}
 use Rattle.model_core.specs.declared.steps.WriterStep.{WriterStep}
 use Rattle.model_core.specs.Actors as actor
@@ -30,6 +33,7 @@ use Rattle.model_core.specs.declared.steps.CheckpointerStep.TheVariants as check
 use Rattle.model_core.specs.declared.steps.CleanerStep.TheVariants as cleaner_step
 use Rattle.model_core.specs.declared.steps.CloserStep.TheVariants as closer_step
 use Rattle.model_core.specs.declared.steps.FlusherStep.TheVariants as flusher_step
+use Rattle.model_core.specs.declared.steps.ReaderStep.TheVariants as reader_step
 use Rattle.model_core.specs.declared.steps.UserStep.TheVariants as user_step
 use Rattle.model_core.specs.declared.steps.WriterStep.TheVariants as writer_step
 
@@ -114,6 +118,9 @@ writer_wait s a _ e = absurd (cc)
 abbrev FlusherIs : FlusherState → FlusherStep → Type 0
 FlusherIs f s = (f.checks ≡ true) × (f.step ≡ s)
 
+abbrev ReaderIs : ReaderState → ReaderStep → Type 0
+ReaderIs f s = (f.checks ≡ true) × (f.step ≡ s)
+
 pub flusher_wait : (f : FlusherState) (a : Answer) (s : FlusherStep) → flusher_waits f a s ≡ true → FlusherIs (flusher_took f a s) s
 flusher_wait f a flusher_step.LoadWrite e = by (eqb (old_of a) f.last) e
   where
@@ -127,6 +134,20 @@ flusher_wait f a flusher_step.TakeDevice e = by a e
     by answer.Broken e = absurd (cc)
     by _ e = (refl, refl)
 flusher_wait f a _ e = absurd (cc)
+
+pub reader_wait : (f : ReaderState) (a : Answer) (s : ReaderStep) → reader_waits f a s ≡ true → ReaderIs (reader_took f a s) s
+reader_wait f a reader_step.LoadFlushed e = by (has_all f (old_of a)) e
+  where
+    by : (b : Bool) → b ≡ true → ReaderIs (cond b (record f { mark = old_of a; checks = true; step = reader_step.LoadFlushed }) (record f { mark = old_of a; step = reader_step.TakeDevice })) reader_step.LoadFlushed
+    by true e = (refl, refl)
+    by false e = absurd (cc)
+reader_wait f a reader_step.TakeDevice e = by a e
+  where
+    by : (r : Answer) → on_take r false false true ≡ true → ReaderIs (record f { checks = on_take r false false true; step = on_take r reader_step.ReadBlock reader_step.GiveBroken reader_step.TakeDevice }) reader_step.TakeDevice
+    by (answer.Taken n) e = absurd (cc)
+    by answer.Broken e = absurd (cc)
+    by _ e = (refl, refl)
+reader_wait f a _ e = absurd (cc)
 
 abbrev CloserIs : CloserState → CloserStep → Type 0
 CloserIs t s = (t.checks ≡ true) × (t.step ≡ s)
@@ -197,6 +218,7 @@ pub wait_checks : (a : Actor) (r : Answer) → waits a r ≡ true → is_checkin
 wait_checks (actor.User u) r e = (user_wait u (heard r) u.step e).0
 wait_checks (actor.Writer s) r e = (writer_wait s r s.step e).0
 wait_checks (actor.Flusher f) r e = (flusher_wait f r f.step e).0
+wait_checks (actor.Reader f) r e = (reader_wait f r f.step e).0
 wait_checks (actor.Closer t) r e = (closer_wait t r t.step e).0
 wait_checks (actor.Cleaner v) r e = (cleaner_wait v r v.step e).0
 wait_checks (actor.Checkpointer t) r e = (checkpointer_wait t r t.step e).0

@@ -11,9 +11,11 @@ use Rattle.model_core.specs.CleanerProgram.{cleaner_op, cleaner_waits, finds_non
 use Rattle.model_core.specs.CloserProgram.{closer_op, closer_waits}
 use Rattle.model_core.specs.FlushLists.{Listed, oldest_end}
 use Rattle.model_core.specs.FlusherProgram.{flusher_op, flusher_waits}
+use Rattle.model_core.specs.ReaderProgram.{reader_op, reader_waits}
 use Rattle.model_core.specs.Layout.{device_at, index, lists_at}
 use Rattle.model_core.specs.Program.{own_op}
 use Rattle.model_core.specs.States.{Advance, CheckpointerState, CleanerState, CloserState, FlusherState, UserState, WriterState}
+use Rattle.model_core.specs.States.{ReaderState}
 use Rattle.model_core.specs.Tails.{tail_word}
 use Rattle.model_core.specs.UserProgram.{current_page, user_op, user_waits}
 use Rattle.model_core.specs.Waiting.{IsFreeing, waits}
@@ -25,6 +27,7 @@ use Rattle.model_core.specs.declared.steps.CheckpointerStep.{CheckpointerStep}
 use Rattle.model_core.specs.declared.steps.CleanerStep.{CleanerStep}
 use Rattle.model_core.specs.declared.steps.CloserStep.{CloserStep}
 use Rattle.model_core.specs.declared.steps.FlusherStep.{FlusherStep}
+use Rattle.model_core.specs.declared.steps.ReaderStep.{ReaderStep}
 use Rattle.model_core.specs.declared.steps.UserStep.{UserStep}
 use Rattle.model_core.specs.declared.steps.WriterStep.{WriterStep}
 use Rattle.model_core.specs.declared.words.LinkBuffer.{LinkBuffer}
@@ -37,6 +40,7 @@ use Rattle.model_core.specs.declared.steps.CheckpointerStep.TheVariants as check
 use Rattle.model_core.specs.declared.steps.CleanerStep.TheVariants as cleaner_step
 use Rattle.model_core.specs.declared.steps.CloserStep.TheVariants as closer_step
 use Rattle.model_core.specs.declared.steps.FlusherStep.TheVariants as flusher_step
+use Rattle.model_core.specs.declared.steps.ReaderStep.TheVariants as reader_step
 use Rattle.model_core.specs.declared.steps.UserStep.TheVariants as user_step
 use Rattle.model_core.specs.declared.steps.WriterStep.TheVariants as writer_step
 
@@ -129,6 +133,11 @@ module _ (ls : ℕ → List Listed) (broken : Bool) (code mark : ℕ) (ws : List
   flusher_words f flusher_step.TakeDevice e = held_device (eqb (slice_index ws device_at) 0) e
   flusher_words f _ e = absurd (cc)
 
+  reader_words : (f : ReaderState) (s : ReaderStep) → reader_waits f (answer_of ls broken code mark ws (reader_op f s)) s ≡ true → ◌≡◌ {A = List ℕ} (words_left ws (reader_op f s)) ws
+  reader_words f reader_step.LoadFlushed e = refl
+  reader_words f reader_step.TakeDevice e = held_device (eqb (slice_index ws device_at) 0) e
+  reader_words f _ e = absurd (cc)
+
   closer_words : (t : CloserState) (s : CloserStep) → closer_waits t (answer_of ls broken code mark ws (closer_op t s)) s ≡ true → (◌≡◌ {A = List ℕ} (words_left ws (closer_op t s)) ws) ⊎ ((s ≡ closer_step.Advance advance_step.FreeTail) × (t.advance.place ≡ t.advance.tail))
   closer_words t (closer_step.Advance v) e = ⊎_map (λ same. same) (λ freed. (ap closer_step.Advance freed.0, freed.1))
       (advance_words link_buffer.Closed t.advance v (subst (λ a. stays_put t.advance (old_of a) v ≡ true) (told link_buffer.Closed t.advance v) e))
@@ -159,6 +168,7 @@ module _ (ls : ℕ → List Listed) (broken : Bool) (code mark : ℕ) (ws : List
   wait_words (actor.User u) e = user_words u u.step e
   wait_words (actor.Writer s) e = writer_words s s.step e
   wait_words (actor.Flusher f) e = inl (flusher_words f f.step e)
+  wait_words (actor.Reader f) e = inl (reader_words f f.step e)
   wait_words (actor.Closer t) e = closer_words t t.step e
   wait_words (actor.Cleaner v) e = cleaner_words v v.step e
   wait_words (actor.Checkpointer t) e = inl (checkpointer_words t t.step e)

@@ -19,6 +19,7 @@ index_below pages (word.Wlink i) h = omega arith
 index_below pages (word.Clink i) h = omega arith
 index_below pages (word.Cell i) h = omega arith
 index_below pages (word.First i) h = omega arith
+index_below pages (word.Place i) h = omega arith
 index_below pages (word.Latch p) h = omega arith
 index_below pages (word.Newest p) h = omega arith
 index_below pages (word.Oldest p) h = omega arith

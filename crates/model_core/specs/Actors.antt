@@ -11,10 +11,13 @@ pub data Actor : Type 0 where
   Closer : models.CloserState → Actor
   Cleaner : models.CleanerState → Actor
   Checkpointer : models.CheckpointerState → Actor
+  Reader : models.ReaderState → Actor
   Joined : List Entry → Actor
 
--- what a device call takes beside its numbers: the log's bytes with their blocks' first offsets, or a batch of pages
+-- what a device call takes beside its numbers: the log's bytes with their blocks' first offsets, or a batch of pages,
+-- or room for a block, with the bytes that the call puts there
 pub data Lent : Type 0 where
   Nothing : Lent
   Blocks : List ℕ → List ℕ → Lent
   Batch : List models.BatchPage → Lent
+  Room : List ℕ → Lent

@@ -17,6 +17,7 @@ use Rattle.model_core.specs.declared.limits.TheConstants.{CLOSED_LINKS, FLUSH_LI
 
 abbrev pub checkpointer_op : CheckpointerState → CheckpointerStep → Op
 checkpointer_op t checkpointer_step.LoadCtail = op.Load word.Ctail
+checkpointer_op t checkpointer_step.LoadPlace = op.Load (word.Place t.reader)
 checkpointer_op t checkpointer_step.ReadList = op.TakeOldest t.list
 checkpointer_op t checkpointer_step.GiveList = op.GiveList t.list
 checkpointer_op t checkpointer_step.LoadFlushed = op.Load word.Flushed
@@ -42,7 +43,8 @@ abbrev pub is_above : CheckpointerState → ℕ → Bool
 is_above t n = nat_lt t.own (candidate t n)
 
 abbrev pub checkpointer_took : CheckpointerState → Answer → CheckpointerStep → CheckpointerState
-checkpointer_took t a checkpointer_step.LoadCtail = record t { ctail = tail_of (old_of a); to = tail_of (old_of a); list = 0; step = checkpointer_step.ReadList }
+checkpointer_took t a checkpointer_step.LoadCtail = record t { ctail = tail_of (old_of a); to = tail_of (old_of a); list = 0; reader = t.first; step = cond (t.first == t.last) checkpointer_step.ReadList checkpointer_step.LoadPlace }
+checkpointer_took t a checkpointer_step.LoadPlace = record t { to = min t.to (old_of a); reader = t.reader + 1; step = cond (t.reader + 1 == t.last) checkpointer_step.ReadList checkpointer_step.LoadPlace }
 checkpointer_took t a checkpointer_step.ReadList = cond (has_taken a) (record t { to = lowered t.to (oldest_in a); step = checkpointer_step.GiveList }) (record t { checks = true; step = checkpointer_step.ReadList })
 checkpointer_took t a checkpointer_step.GiveList = record t { list = t.list + 1; step = cond (t.list + 1 == FLUSH_LISTS) checkpointer_step.LoadFlushed checkpointer_step.ReadList }
 checkpointer_took t a checkpointer_step.LoadFlushed = cond (is_above t (old_of a)) (record t { flushed = old_of a; to = candidate t (old_of a); step = checkpointer_step.TakeDevice }) (record t { flushed = old_of a; checks = true; step = checkpointer_step.LoadCtail })

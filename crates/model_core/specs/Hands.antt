@@ -16,6 +16,8 @@ use Rattle.model_core.specs.declared.steps.CleanerStep.{CleanerStep}
 use Rattle.model_core.specs.declared.steps.CleanerStep.TheVariants as cleaner_step
 use Rattle.model_core.specs.declared.steps.FlusherStep.{FlusherStep}
 use Rattle.model_core.specs.declared.steps.FlusherStep.TheVariants as flusher_step
+use Rattle.model_core.specs.declared.steps.ReaderStep.{ReaderStep}
+use Rattle.model_core.specs.declared.steps.ReaderStep.TheVariants as reader_step
 use Rattle.model_core.specs.declared.steps.UserStep.{UserStep}
 use Rattle.model_core.specs.declared.steps.UserStep.TheVariants as user_step
 use Rattle.model_core.specs.declared.steps.WriterStep.{WriterStep}
@@ -61,6 +63,14 @@ checkpointer_hand t checkpointer_step.StoreFailed = Some 0
 checkpointer_hand t checkpointer_step.GiveFailed = Some 0
 checkpointer_hand t _ = None
 
+abbrev pub reader_hand : ReaderStep → Option ℕ
+reader_hand reader_step.GiveBroken = Some 0
+reader_hand reader_step.ReadBlock = Some 0
+reader_hand reader_step.GiveDevice = Some 0
+reader_hand reader_step.StoreFailed = Some 0
+reader_hand reader_step.GiveFailed = Some 0
+reader_hand _ = None
+
 -- the slot that an actor holds
 abbrev pub hand : Actor → Option ℕ
 hand (actor.User u) = user_hand u u.step
@@ -69,6 +79,7 @@ hand (actor.Flusher f) = flusher_hand f.step
 hand (actor.Closer t) = None
 hand (actor.Cleaner v) = cleaner_hand v v.step
 hand (actor.Checkpointer t) = checkpointer_hand t t.step
+hand (actor.Reader r) = reader_hand r.step
 hand (actor.Joined es) = None
 
 -- an actor holds no slot, and the tail of no link buffer
@@ -92,6 +103,7 @@ IsFreeOp (op.GiveList i) = ⊥
 IsFreeOp (op.WriteTo t) = ⊥
 IsFreeOp op.Sync = ⊥
 IsFreeOp (op.Checkpoint x) = ⊥
+IsFreeOp (op.ReadBlock b) = ⊥
 IsFreeOp _ = Unit {0}
 
 -- its call of the log device has failed with this code, it has stored that in FAILED, and gives the log part back
@@ -99,6 +111,7 @@ abbrev pub GivesFailed : Actor → ℕ → Type 0
 GivesFailed (actor.Writer s) code = (s.step ≡ writer_step.GiveFailed) × (s.code ≡ code)
 GivesFailed (actor.Flusher f) code = (f.step ≡ flusher_step.GiveFailed) × (f.code ≡ code)
 GivesFailed (actor.Checkpointer t) code = (t.step ≡ checkpointer_step.GiveFailed) × (t.code ≡ code)
+GivesFailed (actor.Reader r) code = (r.step ≡ reader_step.GiveFailed) × (r.code ≡ code)
 GivesFailed _ code = ⊥
 
 -- its call of the data device has failed with this code, and it stores that in FAILED

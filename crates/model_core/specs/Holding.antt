@@ -9,6 +9,8 @@ use Rattle.model_core.specs.States.{Advance, no_advance}
 use Rattle.model_core.specs.declared.steps.CheckpointerStep.{CheckpointerStep}
 use Rattle.model_core.specs.declared.steps.CloserStep.{CloserStep}
 use Rattle.model_core.specs.declared.steps.UserStep.{UserStep}
+use Rattle.model_core.specs.declared.steps.ReaderStep.{ReaderStep}
+use Rattle.model_core.specs.declared.steps.ReaderStep.TheVariants as reader_step
 use Rattle.model_core.specs.declared.steps.WriterStep.{WriterStep}
 use Rattle.model_core.specs.declared.words.LinkBuffer.{LinkBuffer}
 use Rattle.model_core.specs.declared.steps.FlusherStep.{FlusherStep}
@@ -47,11 +49,20 @@ checkpointer_holds checkpointer_step.StoreFailed = true
 checkpointer_holds checkpointer_step.GiveFailed = true
 checkpointer_holds _ = false
 
+abbrev pub reader_holds : ReaderStep → Bool
+reader_holds reader_step.GiveBroken = true
+reader_holds reader_step.ReadBlock = true
+reader_holds reader_step.GiveDevice = true
+reader_holds reader_step.StoreFailed = true
+reader_holds reader_step.GiveFailed = true
+reader_holds _ = false
+
 -- whether an actor holds the log part
 abbrev pub holds : Actor → Bool
 holds (actor.Writer s) = writer_holds s.step
 holds (actor.Flusher f) = flusher_holds f.step
 holds (actor.Checkpointer t) = checkpointer_holds t.step
+holds (actor.Reader r) = reader_holds r.step
 holds _ = false
 
 -- whether an actor holds the tail of a link buffer: only while it advances it

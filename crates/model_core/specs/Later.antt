@@ -2,7 +2,7 @@
 use Rattle.std.specs.Prelude.{List, ◌≡◌}
 use Rattle.model_core.specs.Actors as model
 use Rattle.model_core.specs.Groups.{Entry}
-use Rattle.model_core.specs.States.{CheckpointerState, CleanerState, CloserState, FlusherState, UserState, WriterState}
+use Rattle.model_core.specs.States.{CheckpointerState, CleanerState, CloserState, FlusherState, ReaderState, UserState, WriterState}
 
 -- a user keeps its number and its lines, and any other actor its kind
 abbrev pub IsSameActor : model.Actor → model.Actor → Type 0
@@ -12,4 +12,5 @@ IsSameActor (model.Flusher s) b = (t : FlusherState) × (b ≡ model.Flusher t)
 IsSameActor (model.Closer s) b = (t : CloserState) × (b ≡ model.Closer t)
 IsSameActor (model.Cleaner s) b = (t : CleanerState) × (b ≡ model.Cleaner t)
 IsSameActor (model.Checkpointer s) b = (t : CheckpointerState) × (b ≡ model.Checkpointer t)
+IsSameActor (model.Reader s) b = (t : ReaderState) × (b ≡ model.Reader t)
 IsSameActor (model.Joined es) b = (fs : List Entry) × (b ≡ model.Joined fs)

@@ -3,7 +3,7 @@ use Rattle.std.specs.Prelude.{Bool, List, [], get_or, length, ℕ, ◌*◌, ◌+
 use Rattle.model_core.specs.Tails.{tail_word}
 use Rattle.model_core.specs.declared.words.Word.{Word}
 use Rattle.model_core.specs.declared.words.Word.TheVariants as word
-use Rattle.model_core.specs.declared.limits.TheConstants.{BUFFER_BLOCKS, BUFFER_WORDS, WRITTEN_LINKS, CLOSED_LINKS, FLUSH_LISTS, FRAME_WORDS}
+use Rattle.model_core.specs.declared.limits.TheConstants.{BUFFER_BLOCKS, BUFFER_WORDS, WRITTEN_LINKS, CLOSED_LINKS, FLUSH_LISTS, FRAME_WORDS, READERS}
 
 -- where each kind of word begins
 abbrev pub device_at : ℕ
@@ -24,8 +24,11 @@ cells_at = closed_links_at + CLOSED_LINKS
 abbrev pub firsts_at : ℕ
 firsts_at = cells_at + BUFFER_WORDS
 
+abbrev pub places_at : ℕ
+places_at = firsts_at + BUFFER_BLOCKS
+
 abbrev pub pages_at : ℕ
-pages_at = firsts_at + BUFFER_BLOCKS
+pages_at = places_at + READERS
 
 -- among a page's words, where its frame begins; and how many words a page has
 abbrev pub frame_at : ℕ
@@ -48,6 +51,7 @@ index (word.Wlink i) = written_links_at + i
 index (word.Clink i) = closed_links_at + i
 index (word.Cell i) = cells_at + i
 index (word.First i) = firsts_at + i
+index (word.Place i) = places_at + i
 index (word.Latch p) = pages_at + p * page_stride
 index (word.Newest p) = pages_at + (p * page_stride + 1)
 index (word.Oldest p) = pages_at + (p * page_stride + 2)
@@ -88,6 +92,7 @@ pub record SharedWords : Type 0 where
   pub clinks : List ℕ
   pub cells : List ℕ
   pub firsts : List ℕ
+  pub places : List ℕ
   pub page_words : List PageWords
 
 pub record IsSized (pages : ℕ) (m : SharedWords) : Type 0 where
@@ -96,11 +101,12 @@ pub record IsSized (pages : ℕ) (m : SharedWords) : Type 0 where
   pub clinks : length m.clinks ≡ CLOSED_LINKS
   pub cells : length m.cells ≡ BUFFER_WORDS
   pub firsts : length m.firsts ≡ BUFFER_BLOCKS
+  pub places : length m.places ≡ READERS
   pub page_words : length m.page_words ≡ pages
   pub frames : (p : ℕ) → p < pages → length (page_words_at m.page_words p).frame ≡ FRAME_WORDS
 
 abbrev pub rows : SharedWords → List ℕ
-rows m = m.lists ++ (m.wlinks ++ (m.clinks ++ (m.cells ++ (m.firsts ++ flat_page_words m.page_words))))
+rows m = m.lists ++ (m.wlinks ++ (m.clinks ++ (m.cells ++ (m.firsts ++ (m.places ++ flat_page_words m.page_words)))))
 
 abbrev pub flat : SharedWords → List ℕ
 flat m = m.sn ∷ m.write ∷ tail_word m.wtail m.wheld ∷ m.flushed ∷ m.ckpt ∷ tail_word m.ctail m.cheld ∷ m.failed ∷ m.device ∷ rows m

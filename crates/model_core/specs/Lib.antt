@@ -24,6 +24,7 @@ pub mod NamedTurn
 pub mod NamedWords
 pub mod NewActors
 pub mod Program
+pub mod ReaderProgram
 pub mod Setup
 pub mod StartWords
 pub mod States
@@ -35,7 +36,7 @@ pub mod Waiting
 pub mod WordTurn
 pub mod WriterProgram
 pub use Rattle.model_core.specs.ActorProgram.{after_of, checked_of}
-pub use Rattle.model_core.specs.Actors.{Actor, Batch, Blocks, Lent, Nothing}
+pub use Rattle.model_core.specs.Actors.{Actor, Batch, Blocks, Lent, Nothing, Room}
 pub use Rattle.model_core.specs.Advancing.{advance_holds, advance_next, advance_op, advance_took, ends, frees, loaded_tail, slot_at, stays_put, tail_at}
 pub use Rattle.model_core.specs.AnswerFits.{PageFitting, cleaner_fits, closer_fits, user_page_fits}
 pub use Rattle.model_core.specs.Answers.{code_of, has_taken, heard, old_of, oldest_in}
@@ -50,17 +51,18 @@ pub use Rattle.model_core.specs.FlushLists.{Each, Listed, Relaxed, appended, old
 pub use Rattle.model_core.specs.FlusherProgram.{flusher_ending, flusher_op, flusher_program, flusher_took, flusher_waits}
 pub use Rattle.model_core.specs.Groups.{CellWrite, Entry, KeptPage, PageChange, end_of}
 pub use Rattle.model_core.specs.Stream.{IsBound, IsLent, Tiles, byte_at, crosses, crossing, first_of, stream, sum_of}
-pub use Rattle.model_core.specs.Holding.{ChecksWithoutTail, HasHolder, advance_of, checkpointer_holds, flusher_holds, holds, holds_tail, writer_holds}
+pub use Rattle.model_core.specs.Holding.{ChecksWithoutTail, HasHolder, advance_of, checkpointer_holds, flusher_holds, holds, reader_holds, holds_tail, writer_holds}
 pub use Rattle.model_core.specs.Lanes.{byte_in, cell_of, frame_bytes, framed_page, lane_of, left_in_word}
 unfoldable pub use Rattle.model_core.specs.Lanes.{lane, lanes, packed}
 pub use Rattle.model_core.specs.Layout.{IsSized, PageWords, SharedWords, blank_words, cells_at, closed_links_at, firsts_at, flat, flat_page_words, index, page_stride, page_words_at, pages_at, rows}
 pub use Rattle.model_core.specs.NamedWords.{IsWord, read, with_page_words, word_count, wrote}
 pub use Rattle.model_core.specs.Lsn.{ceiling, floor}
 unfoldable pub use Rattle.model_core.specs.Lsn.{lsn}
-pub use Rattle.model_core.specs.NewActors.{new_checkpointer, new_cleaner, new_closer, new_flusher, new_user, new_writer}
-pub use Rattle.model_core.specs.Program.{checked, entries, entries_from, entry, is_checking, lent, log_left, next, own_op, own_took, phase_log, took}
+pub use Rattle.model_core.specs.NewActors.{new_checkpointer, new_cleaner, new_closer, new_flusher, new_reader, new_user, new_writer}
+pub use Rattle.model_core.specs.Program.{checked, entries, entries_from, entry, filled, Fills, is_checking, lent, log_left, next, own_op, own_took, phase_log, took}
+pub use Rattle.model_core.specs.ReaderProgram.{AreInFront, archived, archives, block_end, Filling, followed, has_all, is_none, IsText, joined_texts, next_block, next_piece, pending, placed_at, read_to, reader_ending, reader_op, reader_program, reader_took, reader_waits}
 pub use Rattle.model_core.specs.Setup.{IsScripted}
-pub use Rattle.model_core.specs.States.{Advance, BatchPage, CheckpointerState, CleanerState, CloserState, FlusherState, Line, LoadedMarks, UserState, WriterState, no_advance, none_loaded}
+pub use Rattle.model_core.specs.States.{Advance, BatchPage, CheckpointerState, CleanerState, CloserState, FlusherState, Given, Line, LoadedMarks, ReaderState, UserState, WriterState, no_advance, none_loaded}
 pub use Rattle.model_core.specs.Tails.{is_held, tail_of, tail_word}
 pub use Rattle.model_core.specs.Turn.{Core, DataServed, LogServed, list_word}
 pub use Rattle.model_core.specs.UserProgram.{after_link, answered, can_close, can_link, cells_of, change_at, changes, copy_place, current_page, frame_count, frame_word, group_bytes, group_end, has_passed, has_room, has_space, is_whole, line, line_at, mode, next_bytes, next_count, next_puts, put_lanes, put_of, same_word, stored_word, to_next_page, user_advanced, user_ending, user_op, user_program, user_took, user_waits, with_close_room, with_link_room, with_mark, without_close_room, without_link_room, word_step}

@@ -22,3 +22,7 @@ pub record LogSide : Type 1 where
   pub Synced : ℕ → Part → Part → Type 0
   -- a checkpoint at an lsn
   pub Checkpointed : ℕ → ℕ → Part → Part → Type 0
+  -- a read of the block at an lsn, that gave these bytes
+  pub Read : ℕ → List ℕ → ℕ → Part → Part → Type 0
+  -- the part's device tells what it means, and held what it should as the run began
+  pub Tells : Part → Type 0

@@ -1,9 +1,9 @@
 -- Which words a store has, and one of them read and written by name.
-use Rattle.std.specs.Prelude.{List, slice_index, slice_set, ℕ, ◌*◌, ◌+◌, ◌<◌}
+use Rattle.std.specs.Prelude.{slice_index, slice_set, ℕ, ◌*◌, ◌+◌, ◌<◌}
 use Rattle.model_core.specs.Tails.{is_held, tail_of, tail_word}
 use Rattle.model_core.specs.declared.words.Word.{Word}
 use Rattle.model_core.specs.declared.words.Word.TheVariants as word
-use Rattle.model_core.specs.declared.limits.TheConstants.{BUFFER_BLOCKS, BUFFER_WORDS, WRITTEN_LINKS, CLOSED_LINKS, FLUSH_LISTS, FRAME_WORDS}
+use Rattle.model_core.specs.declared.limits.TheConstants.{BUFFER_BLOCKS, BUFFER_WORDS, WRITTEN_LINKS, CLOSED_LINKS, FLUSH_LISTS, FRAME_WORDS, READERS}
 use Rattle.model_core.specs.Layout.{page_stride, page_words_at, pages_at, PageWords, SharedWords}
 
 -- how many words a store of so many pages has
@@ -17,6 +17,7 @@ IsWord pages (word.Wlink i) = i < WRITTEN_LINKS
 IsWord pages (word.Clink i) = i < CLOSED_LINKS
 IsWord pages (word.Cell i) = i < BUFFER_WORDS
 IsWord pages (word.First i) = i < BUFFER_BLOCKS
+IsWord pages (word.Place i) = i < READERS
 IsWord pages (word.Latch p) = p < pages
 IsWord pages (word.Newest p) = p < pages
 IsWord pages (word.Oldest p) = p < pages
@@ -37,6 +38,7 @@ read m (word.Wlink i) = slice_index m.wlinks i
 read m (word.Clink i) = slice_index m.clinks i
 read m (word.Cell i) = slice_index m.cells i
 read m (word.First i) = slice_index m.firsts i
+read m (word.Place i) = slice_index m.places i
 read m (word.Latch p) = (page_words_at m.page_words p).latch
 read m (word.Newest p) = (page_words_at m.page_words p).newest
 read m (word.Oldest p) = (page_words_at m.page_words p).oldest
@@ -59,6 +61,7 @@ wrote m (word.Wlink i) x = record m { wlinks = slice_set m.wlinks i x }
 wrote m (word.Clink i) x = record m { clinks = slice_set m.clinks i x }
 wrote m (word.Cell i) x = record m { cells = slice_set m.cells i x }
 wrote m (word.First i) x = record m { firsts = slice_set m.firsts i x }
+wrote m (word.Place i) x = record m { places = slice_set m.places i x }
 wrote m (word.Latch p) x = with_page_words m p (record (page_words_at m.page_words p) { latch = x })
 wrote m (word.Newest p) x = with_page_words m p (record (page_words_at m.page_words p) { newest = x })
 wrote m (word.Oldest p) x = with_page_words m p (record (page_words_at m.page_words p) { oldest = x })

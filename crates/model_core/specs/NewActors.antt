@@ -1,12 +1,13 @@
 -- The actors as a run begins, with nothing done. The run starts at an lsn that is the place of a block's first data byte.
-use Rattle.std.specs.Prelude.{List, [], cond, false, length, true, ℕ, ◌*◌, ◌-◌, ◌/◌, ◌==◌}
+use Rattle.std.specs.Prelude.{List, [], cond, false, length, replicate, true, ℕ, ◌*◌, ◌-◌, ◌/◌, ◌==◌}
 use Rattle.model_base.specs.declared.limits.TheConstants.{BLOCK_SIZE}
-use Rattle.model_core.specs.States.{CheckpointerState, CleanerState, CloserState, FlusherState, Line, UserState, WriterState, no_advance, none_loaded}
+use Rattle.model_core.specs.States.{CheckpointerState, CleanerState, CloserState, FlusherState, Line, ReaderState, UserState, WriterState, no_advance, none_loaded}
 use Rattle.model_core.specs.declared.steps.AdvanceStep.TheVariants as advance_step
 use Rattle.model_core.specs.declared.steps.CheckpointerStep.TheVariants as checkpointer_step
 use Rattle.model_core.specs.declared.steps.CleanerStep.TheVariants as cleaner_step
 use Rattle.model_core.specs.declared.steps.CloserStep.TheVariants as closer_step
 use Rattle.model_core.specs.declared.steps.FlusherStep.TheVariants as flusher_step
+use Rattle.model_core.specs.declared.steps.ReaderStep.TheVariants as reader_step
 use Rattle.model_core.specs.declared.steps.UserStep.TheVariants as user_step
 use Rattle.model_core.specs.declared.steps.WriterStep.TheVariants as writer_step
 use Rattle.model_log.specs.declared.layout.TheConstants.{BLOCK_DATA, BLOCK_HEADER}
@@ -70,15 +71,34 @@ new_cleaner pages page_size = record {
   step = cleaner_step.LoadFlushed;
 }
 
--- the newest checkpoint stands at the start's block
-abbrev pub new_checkpointer : ℕ → CheckpointerState
-new_checkpointer start = record {
+-- the newest checkpoint stands at the start's block; the readers of the log have these numbers
+abbrev pub new_checkpointer : ℕ → ℕ → ℕ → CheckpointerState
+new_checkpointer start first last = record {
   own = start - BLOCK_HEADER;
   ctail = 0;
   flushed = 0;
   to = 0;
   list = 0;
+  first = first;
+  last = last;
+  reader = 0;
   code = 0;
   checks = false;
   step = checkpointer_step.LoadCtail;
+}
+
+-- a reader has the log below the start: the archiver below its block
+abbrev pub new_reader : ℕ → ℕ → ReaderState
+new_reader number start = record {
+  number = number;
+  own = cond (number == 0) (start - BLOCK_HEADER) start;
+  place = cond (number == 0) (start - BLOCK_HEADER) start;
+  mark = 0;
+  block = replicate BLOCK_SIZE 0;
+  at = start / BLOCK_SIZE * BLOCK_DATA;
+  kept = [];
+  texts = [];
+  code = 0;
+  checks = false;
+  step = reader_step.LoadFlushed;
 }

@@ -1,13 +1,14 @@
 -- The actors with their programs: what each has, and its next Op.
 use Rattle.std.specs.Prelude.{Bool, List, [], cond, false, ℕ, ◌++◌, ◌+◌, ◌∷◌}
 use Rattle.model_core.specs.ActorProgram.{ActorProgram, checked_of}
-use Rattle.model_core.specs.Actors.{Actor, Batch, Blocks, Lent, Nothing}
+use Rattle.model_core.specs.Actors.{Actor, Batch, Blocks, Lent, Nothing, Room}
 use Rattle.model_core.specs.Answers.{old_of}
 use Rattle.model_core.specs.CheckpointerProgram.{checkpointer_program}
 use Rattle.model_core.specs.CleanerProgram.{cleaner_program}
 use Rattle.model_core.specs.CloserProgram.{closer_program}
 use Rattle.model_core.specs.FlusherProgram.{flusher_program}
 use Rattle.model_core.specs.Groups.{Entry}
+use Rattle.model_core.specs.ReaderProgram.{Filling, reader_filled, reader_fills, reader_program}
 use Rattle.model_core.specs.States.{Line, UserState}
 use Rattle.model_core.specs.UserProgram.{line, line_at, user_program}
 use Rattle.model_core.specs.WriterProgram.{writer_program}
@@ -28,6 +29,7 @@ by_program f g (actor.Flusher t) = f _ actor.Flusher flusher_program t
 by_program f g (actor.Closer t) = f _ actor.Closer closer_program t
 by_program f g (actor.Cleaner v) = f _ actor.Cleaner cleaner_program v
 by_program f g (actor.Checkpointer t) = f _ actor.Checkpointer checkpointer_program t
+by_program f g (actor.Reader r) = f _ actor.Reader reader_program r
 by_program f g (actor.Joined es) = g es
 
 -- its next Op is a load of FAILED
@@ -55,6 +57,7 @@ took a r = cond (is_checking a) (checked a (old_of r)) (own_took a r)
 abbrev pub lent : Actor → Lent
 lent (actor.Writer s) = Blocks s.kept s.firsts
 lent (actor.Cleaner v) = Batch v.batch
+lent (actor.Reader r) = Room r.block
 lent _ = Nothing
 
 -- the groups that an actor has reserved
@@ -78,3 +81,12 @@ phase_log log sn u _ = log
 abbrev pub log_left : List Entry → ℕ → Actor → List Entry
 log_left log sn (actor.User u) = cond u.checks log (phase_log log sn u u.step)
 log_left log sn _ = log
+
+-- an actor with what a turn puts into it before its Op is answered, and whether that is what it may be
+abbrev pub filled : Actor → Filling → Actor
+filled (actor.Reader r) f = actor.Reader (reader_filled r f r.step)
+filled a _ = a
+
+abbrev pub Fills : Actor → Filling → Type 0
+Fills (actor.Reader r) f = reader_fills r f r.step
+Fills _ f = Unit {0}

@@ -4,7 +4,7 @@ use Rattle.model_core.specs.Lanes.{framed_page}
 use Rattle.model_core.specs.Layout.{IsSized, page_words_at, PageWords, SharedWords}
 use Rattle.model_core.specs.Lsn.{lsn}
 use Rattle.model_core.specs.Setup.{Setup}
-use Rattle.model_core.specs.declared.limits.TheConstants.{BUFFER_BLOCKS}
+use Rattle.model_core.specs.declared.limits.TheConstants.{BUFFER_BLOCKS, READERS}
 use Rattle.model_log.specs.declared.layout.TheConstants.{BLOCK_DATA, BLOCK_HEADER}
 
 -- the newest checkpoint stands a block's header below the run's start
@@ -26,6 +26,7 @@ pub record StartWords (c : Setup) (m : SharedWords) : Type 0 where
   pub lists : (i : ℕ) → slice_index m.lists i ≡ 0
   pub wlinks : (i : ℕ) → slice_index m.wlinks i ≡ 0
   pub cells : (i : ℕ) → slice_index m.cells i ≡ 0
+  pub places : (i : ℕ) → i < READERS → slice_index m.places i ≡ cond (i == 0) (start_checkpoint c) (lsn c.base)
   pub firsts : (q : ℕ) → c.base / BLOCK_DATA ≤ q → q < c.base / BLOCK_DATA + BUFFER_BLOCKS → slice_index m.firsts (q % BUFFER_BLOCKS) ≡ cond (q == c.base / BLOCK_DATA) BLOCK_HEADER 0
 
 -- the words of the pages: each page is free, unlisted, and as it was opened

@@ -7,6 +7,7 @@ use Rattle.model_core.specs.declared.steps.UserStep.{UserStep}
 use Rattle.model_core.specs.declared.steps.CheckpointerStep.{CheckpointerStep}
 use Rattle.model_core.specs.declared.steps.WriterStep.{WriterStep}
 use Rattle.model_core.specs.declared.steps.FlusherStep.{FlusherStep}
+use Rattle.model_core.specs.declared.steps.ReaderStep.{ReaderStep}
 
 -- An advance of a tail: the tail that it has loaded, the place to which it has followed links, and the link that it has found
 -- there.
@@ -113,14 +114,42 @@ pub record CleanerState : Type 0 where
   pub checks : Bool
   pub step : CleanerStep
 
--- The checkpointer. `own` is its last stored checkpoint, `to` its candidate so far, `list` the list that it reads; `ctail` and
--- `flushed` are the marks that it has loaded last.
+-- The checkpointer. `own` is its last stored checkpoint, `to` its candidate so far, `list` the list that it reads;
+-- `ctail` and `flushed` are the marks that it has loaded last. The readers of the log have the numbers from `first` to
+-- below `last`, and `reader` is the one whose place it loads next.
 pub record CheckpointerState : Type 0 where
   pub own : ℕ
   pub ctail : ℕ
   pub flushed : ℕ
   pub to : ℕ
   pub list : ℕ
+  pub first : ℕ
+  pub last : ℕ
+  pub reader : ℕ
   pub code : ℕ
   pub checks : Bool
   pub step : CheckpointerStep
+
+-- a group that a follower hands on: its start, its end, its text
+pub record Given : Type 0 where
+  pub start : ℕ
+  pub end : ℕ
+  pub text : List ℕ
+
+-- A reader of the log. `number` is that of its place word: 0 is the archiver, the others are followers. `place` is up
+-- to where it has the log, as an lsn, and `own` the place that it has stored last; `mark` is the FLUSHED that it has
+-- loaded last, and `block` the 512 bytes that it has read last. Of a follower, `at` is its place as an sn, `kept` are
+-- the stream's bytes from there up to its read place, and `texts` the whole groups in front of what it has, while a
+-- turn hands them on.
+pub record ReaderState : Type 0 where
+  pub number : ℕ
+  pub own : ℕ
+  pub place : ℕ
+  pub mark : ℕ
+  pub block : List ℕ
+  pub at : ℕ
+  pub kept : List ℕ
+  pub texts : List (List ℕ)
+  pub code : ℕ
+  pub checks : Bool
+  pub step : ReaderStep

@@ -2,11 +2,12 @@
 use Rattle.std.specs.Prelude.{List, slice_index, slice_set, ℕ, ◌+◌, ◌≡◌}
 use lib.ListN.{get_elem?}
 use mathlib.Core.Option.{some}
-use Rattle.model_core.specs.Actors.{Actor, Batch, Blocks, Lent}
+use Rattle.model_core.specs.Actors.{Actor, Batch, Blocks, Lent, Room}
 use Rattle.model_core.specs.DataSide.{DataSide}
 use Rattle.model_core.specs.FlushLists.{Listed}
 use Rattle.model_core.specs.LogSide.{LogSide}
-use Rattle.model_core.specs.Program.{lent, next, took}
+use Rattle.model_core.specs.Program.{filled, Fills, lent, next, took}
+use Rattle.model_core.specs.ReaderProgram.{Filling}
 use Rattle.model_core.specs.WordTurn.{answer_of, lists_left, words_left}
 use Rattle.model_core.specs.declared.ops.Answer.{Answer}
 use Rattle.model_core.specs.declared.ops.Op.{Op}
@@ -20,11 +21,16 @@ module _ (D : LogSide) (p : D.Part) where
   WroteBy (Blocks bytes firsts) t code q = D.Wrote t bytes firsts code p q
   WroteBy _ t code q = ⊥
 
+  abbrev pub ReadBy : Lent → ℕ → ℕ → D.Part → Type 0
+  ReadBy (Room bytes) b code q = D.Read b bytes code p q
+  ReadBy _ b code q = ⊥
+
   -- what a call of the part may leave; the code is 0 for Ok. Any other Op leaves the part
   abbrev pub LogServed : Lent → Op → ℕ → D.Part → Type 0
   LogServed l (op.WriteTo t) code q = WroteBy l t code q
   LogServed l op.Sync code q = D.Synced code p q
   LogServed l (op.Checkpoint x) code q = D.Checkpointed x code p q
+  LogServed l (op.ReadBlock b) code q = ReadBy l b code q
   LogServed l o code q = ◌≡◌ {A = D.Part} q p
 
 -- what a call of the data part may leave; any other Op leaves the part
@@ -45,16 +51,19 @@ abbrev pub list_word : List ℕ → ℕ → ℕ
 list_word words i = slice_index words (lists_at + i)
 
 -- One turn of the actor at a seat, with the answer that its Op is given and with how its step ends. The Op changes one
--- word, or one turn word and what it guards, or calls one part, with a code that is 0 for Ok; and this actor's state changes
--- by the answer. Nothing else changes. An actor that has ended asks for nothing, and its turn changes nothing.
+-- word, or one turn word and what it guards, or calls one part, with a code that is 0 for Ok; and this actor's state
+-- changes by the answer, once it has what the turn puts into it. Nothing else changes. An actor that has ended asks for
+-- nothing, and its turn changes nothing.
 pub record Turn (D : LogSide) (E : DataSide) (old : Core D E) (seat : ℕ) (answer : Answer) (step : Step) (new : Core D E) : Type 0 where
   pub who : Actor
   pub who_is : get_elem? old.actors seat ≡ some who
+  pub filling : Filling
+  pub fills : Fills who filling
   pub code : ℕ
-  pub log_served : LogServed D old.log_part (lent who) (next who) code new.log_part
-  pub data_served : DataServed E old.data_part (lent who) (next who) code new.data_part
+  pub log_served : LogServed D old.log_part (lent (filled who filling)) (next who) code new.log_part
+  pub data_served : DataServed E old.data_part (lent (filled who filling)) (next who) code new.data_part
   pub words : new.words ≡ words_left old.words (next who)
   pub lists : new.lists ≡ lists_left old.lists (list_word old.words) (next who)
   pub answered : answer ≡ answer_of old.lists (D.failed old.log_part) code (D.stable new.log_part) old.words (next who)
-  pub actors : new.actors ≡ slice_set old.actors seat (took who answer)
-  pub ends : step ≡ step_of who answer
+  pub actors : new.actors ≡ slice_set old.actors seat (took (filled who filling) answer)
+  pub ends : step ≡ step_of (filled who filling) answer

@@ -51,6 +51,7 @@ answer_of ls broken code mark ws (op.TakeRemove p) = list_answer (slice_index ws
 answer_of ls broken code mark ws (op.TakeOldest i) = list_answer (slice_index ws (lists_at + i)) (oldest_end (ls i))
 answer_of ls broken code mark ws (op.GiveList i) = answer.Taken None
 answer_of ls broken code mark ws (op.Checkpoint x) = cond (code == 0) (answer.Called 0) (answer.Failed code)
+answer_of ls broken code mark ws (op.ReadBlock b) = cond (code == 0) (answer.Called 0) (answer.Failed code)
 answer_of ls broken code mark ws op.WriteBatch = cond (code == 0) (answer.Called 0) (answer.Failed code)
 answer_of ls broken code mark ws (op.WriteTo t) = cond (code == 0) (answer.Called 0) (answer.Failed code)
 answer_of ls broken code mark ws op.Sync = cond (code == 0) (answer.Called mark) (answer.Failed code)

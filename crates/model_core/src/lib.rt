@@ -17,10 +17,11 @@ pub use laws::{
 };
 pub use limits::{
     ADVANCE_PLACES, BATCH_PAGES, BUFFER_BLOCKS, BUFFER_WORDS, CLOSED_LINKS, FLUSH_LISTS,
-    FRAME_CELLS, FRAME_WORDS, FREE_MARGIN, LOG_BUFFER, WORD_LANES, WRITTEN_LINKS,
+    FRAME_CELLS, FRAME_WORDS, FREE_MARGIN, LOG_BUFFER, READERS, WORD_LANES, WRITTEN_LINKS,
 };
 pub use ops::{Answer, Op, Step};
 pub use steps::{
-    AdvanceStep, CheckpointerStep, CleanerStep, CloserStep, FlusherStep, UserStep, WriterStep,
+    AdvanceStep, CheckpointerStep, CleanerStep, CloserStep, FlusherStep, ReaderStep, UserStep,
+    WriterStep,
 };
 pub use words::{Layout, LinkBuffer, Word};

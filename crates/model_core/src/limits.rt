@@ -23,5 +23,7 @@ pub const FLUSH_LISTS: u64 = 4;
 pub const FRAME_CELLS: u64 = 4_096;
 /// Words of a page's frame.
 pub const FRAME_WORDS: u64 = FRAME_CELLS / WORD_LANES;
+/// Readers of the log there may be: the archiver, and four followers.
+pub const READERS: u64 = 5;
 /// The most pages that the cleaner writes at once.
 pub const BATCH_PAGES: u64 = 8;

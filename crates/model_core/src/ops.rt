@@ -30,6 +30,8 @@ pub enum Op {
     Sync,
     /// Writes a checkpoint at an lsn.
     Checkpoint(u64),
+    /// Reads the log's block at an lsn.
+    ReadBlock(u64),
     /// Writes the cleaner's batch of pages.
     WriteBatch,
     /// Does nothing: the Op of an actor that has ended.

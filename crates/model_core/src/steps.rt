@@ -174,6 +174,8 @@ pub enum CleanerStep {
 pub enum CheckpointerStep {
     /// A round begins with the first bound.
     LoadCtail,
+    /// The place of the next reader of the log.
+    LoadPlace,
     /// The oldest modification of the next flush list.
     ReadList,
     /// That list, back.
@@ -191,6 +193,29 @@ pub enum CheckpointerStep {
     /// After a checkpoint.
     GiveDevice,
     /// After a checkpoint that failed.
+    StoreFailed,
+    /// The log part, after that.
+    GiveFailed,
+    /// It has ended by a failure.
+    Failed,
+}
+
+/// A reader's of the log: the archiver's or a follower's.
+#[derive(Clone, Copy, Debug, PartialEq, Eq)]
+pub enum ReaderStep {
+    /// Waits for something flushed that it hasn't got.
+    LoadFlushed,
+    /// To read.
+    TakeDevice,
+    /// The log part, which has failed.
+    GiveBroken,
+    /// The next block that it needs.
+    ReadBlock,
+    /// After a read; then it has what the block holds for it.
+    GiveDevice,
+    /// Where its place has moved.
+    StorePlace,
+    /// After a read that failed.
     StoreFailed,
     /// The log part, after that.
     GiveFailed,

@@ -30,6 +30,8 @@ pub enum Word {
     Cell(u32),
     /// The first offset of a block in the log buffer, or 0.
     First(u32),
+    /// The place of a reader of the log: 0 is the archiver's, and 1 to 4 are the followers'.
+    Place(u32),
     /// A page's latch: 1 while it is held.
     Latch(u32),
     /// The end of the newest group on a page.

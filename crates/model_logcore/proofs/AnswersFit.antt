@@ -1,5 +1,6 @@
 -- The answer to an actor's Op is one that it can take: no number of its own wraps, no byte is lost, and no list outgrows its
 -- room.
+use Rattle.model_core.specs.ReaderProgram.{reader_op}
 use Rattle.std.proofs.Common.{Bool, List, [], ap, arith, cond, drop, false, leb-false, length, refl, subst, suc, sym, true, zero, ℕ, ⊎_elim, ◌%◌, ◌*◌, ◌+◌, ◌-◌, ◌/◌, ◌<◌, ◌∙◌, ◌∷◌, ◌≡◌, ◌≤◌}
 use Rattle.std.specs.Prelude.{slice_index}
 use lib.ListN.{get_elem?}
@@ -145,4 +146,5 @@ module _ (D : LogSide) (c : Setup) (spare : ℕ) (m : SharedWords) (g : LogGhost
   can_take (actor.Closer t) at ls broken code mark = checking_fits t.checks (closer_op t t.step) (λ n. Unit {0}) ls broken code mark tt
   can_take (actor.Cleaner v) at ls broken code mark = checking_fits v.checks (cleaner_op v v.step) (λ n. Unit {0}) ls broken code mark tt
   can_take (actor.Checkpointer t) at ls broken code mark = checking_fits t.checks (checkpointer_op t t.step) (λ n. Unit {0}) ls broken code mark tt
+  can_take (actor.Reader f) at ls broken code mark = checking_fits f.checks (reader_op f f.step) (λ n. Unit {0}) ls broken code mark tt
   can_take (actor.Joined es) at ls broken code mark = tt

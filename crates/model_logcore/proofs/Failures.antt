@@ -1,8 +1,10 @@
 -- An actor that fails: its state tells that it has met a failure, and its code that the log part has a cause.
 use Rattle.std.proofs.Common.{Bool, cond, false, inr, refl, subst, true, ℕ, ◌==◌, ◌≡◌}
 use Rattle.model_core.proofs.Endings.{checkpointer_end, cleaner_end, closer_end, failed_last, flusher_end, user_failed, writer_end}
+use Rattle.model_core.proofs.Endings.{reader_end}
 use Rattle.model_core.proofs.FailedCalls.{HasStored}
 use Rattle.model_core.specs.{Actor, checkpointer_ending, checkpointer_took, checkpointer_waits, cleaner_ending, cleaner_took, cleaner_waits, closer_ending, closer_took, closer_waits, flusher_ending, flusher_took, flusher_waits, heard, old_of, SharedWords, step_of, took, user_ending, user_took, user_waits, writer_ending, writer_took, writer_waits}
+use Rattle.model_core.specs.{reader_ending, reader_took, reader_waits}
 use Rattle.model_core.specs.Actors as actor
 use Rattle.model_core.specs.LogSide.{LogSide}
 use Rattle.model_core.specs.Setup.{Setup}
@@ -13,9 +15,11 @@ use Rattle.model_core.specs.declared.steps.CheckpointerStep.TheVariants as check
 use Rattle.model_core.specs.declared.steps.CleanerStep.TheVariants as cleaner_step
 use Rattle.model_core.specs.declared.steps.CloserStep.TheVariants as closer_step
 use Rattle.model_core.specs.declared.steps.FlusherStep.TheVariants as flusher_step
+use Rattle.model_core.specs.declared.steps.ReaderStep.TheVariants as reader_step
 use Rattle.model_core.specs.declared.steps.UserStep.TheVariants as user_step
 use Rattle.model_core.specs.declared.steps.WriterStep.TheVariants as writer_step
 use Rattle.model_logcore.specs.{CheckpointerAt, FlusherAt, LogGhost, WriterAt}
+use Rattle.model_logcore.specs.{ReaderAt}
 use Rattle.model_logcore.specs.LogFits.{LogFits}
 use Rattle.model_logcore.specs.Watermarks.{HasMetFailure}
 
@@ -38,6 +42,9 @@ met (actor.Writer s) r code e =
 met (actor.Flusher f) r code e =
     let own = flusher_took f r f.step in
     after actor.Flusher f.checks (old_of r == 0) (flusher_waits f r f.step) (old_of r) code (flusher_ending own.code own.step) (record f { checks = false }) (record f { checks = false; code = old_of r; step = flusher_step.Failed }) own (inr refl) (λ x. inr (failed_last (flusher_ending own.code) flusher_step.Failed own.code own.step (flusher_end own.code own.step) code x)) e
+met (actor.Reader f) r code e =
+    let own = reader_took f r f.step in
+    after actor.Reader f.checks (old_of r == 0) (reader_waits f r f.step) (old_of r) code (reader_ending own.code own.step) (record f { checks = false }) (record f { checks = false; code = old_of r; step = reader_step.Failed }) own (inr refl) (λ x. inr (failed_last (reader_ending own.code) reader_step.Failed own.code own.step (reader_end own.code own.step) code x)) e
 met (actor.Closer t) r code e =
     let own = closer_took t r t.step in
     after actor.Closer t.checks (old_of r == 0) (closer_waits t r t.step) (old_of r) code (closer_ending own.code own.step) (record t { checks = false }) (record t { checks = false; code = old_of r; step = closer_step.Failed }) own refl (failed_last (closer_ending own.code) closer_step.Failed own.code own.step (closer_end own.code own.step) code) e
@@ -53,6 +60,7 @@ met (actor.Joined es) r code e = absurd (cc)
 pub stored_cause : (E : LogSide) (c : Setup) (m : SharedWords) (g : LogGhost) (p : E.Part) (n : ℕ) (a : actor.Actor) (code : ℕ) → HasStored a code → LogFits E c m g p n a → E.Cause p code
 stored_cause E c m g p n (actor.Writer s) code h fits = subst (E.Cause p) h.1 (subst (WriterAt E c m g p n s) h.0 fits.step).1
 stored_cause E c m g p n (actor.Flusher f) code h fits = subst (E.Cause p) h.1 (subst (FlusherAt E c m g p f) h.0 fits.step).1
+stored_cause E c m g p n (actor.Reader f) code h fits = subst (E.Cause p) h.1 (subst (ReaderAt E c m g p f) h.0 fits.step).1
 stored_cause E c m g p n (actor.Checkpointer t) code h fits = subst (E.Cause p) h.1 (subst (CheckpointerAt E c m g p t) h.0 fits.step).1
 stored_cause E c m g p n (actor.User u) code h fits = absurd h
 stored_cause E c m g p n (actor.Closer t) code h fits = absurd h

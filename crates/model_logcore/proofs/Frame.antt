@@ -1,4 +1,9 @@
 -- What stays of the invariant when one actor moves.
+use Rattle.model_core.specs.declared.steps.ReaderStep.{ReaderStep}
+use Rattle.model_core.specs.declared.steps.ReaderStep.TheVariants as reader_step
+use Rattle.model_core.specs.States.{ReaderState}
+use Rattle.model_core.specs.Holding.{reader_holds}
+use Rattle.model_logcore.specs.LogFits.{ReaderAt, ReaderFits}
 use Rattle.std.proofs.Common.{Bool, List, [], ap, arith, length, refl, set, subst, suc, sym, true, zero, ℕ, ⊎_elim, ◌%◌, ◌*◌, ◌+◌, ◌/◌, ◌<◌, ◌∙◌, ◌∷◌, ◌≡◌, ◌≢◌, ◌≤◌, inl, inr}
 use Rattle.std.specs.Prelude.{slice_index}
 use lib.ListN.{get_elem?}
@@ -315,6 +320,21 @@ module _ (D : LogSide) (c : Setup) where
     pub flusher_later : (j : ℕ) (f : FlusherState) → m.write ≤ m'.write → Same → (flusher_holds f.step ≡ true → ◌≡◌ {A = D.Part} p' p) → FlusherFits D c m g p j f → FlusherFits D c m' g' p' j f
     flusher_later j f wr same part h = flusher_later_by j f wr same.writer same.flushed same.failed part h
 
+    -- what a step of another actor leaves to a reader
+    reader_at_later : (r : ReaderState) → (0 < m.failed → 0 < m'.failed) → (st : ReaderStep) → (reader_holds st ≡ true → ◌≡◌ {A = D.Part} p' p) → ReaderAt D c m g p r st → ReaderAt D c m' g' p' r st
+    reader_at_later r same reader_step.LoadFlushed part h = tt
+    reader_at_later r same reader_step.TakeDevice part h = tt
+    reader_at_later r same reader_step.GiveBroken part h = tt
+    reader_at_later r same reader_step.ReadBlock part h = ap D.failed (part refl) ∙ h
+    reader_at_later r same reader_step.GiveDevice part h = tt
+    reader_at_later r same reader_step.StorePlace part h = tt
+    reader_at_later r same reader_step.StoreFailed part h = (h.0, subst (λ (q : D.Part). D.Cause q r.code) (sym (part refl)) h.1)
+    reader_at_later r same reader_step.GiveFailed part h = same h
+    reader_at_later r same reader_step.Failed part h = same h
+
+    pub reader_later : (j : ℕ) (r : ReaderState) → (0 < m.failed → 0 < m'.failed) → (reader_holds r.step ≡ true → ◌≡◌ {A = D.Part} p' p) → ReaderFits D c m g p j r → ReaderFits D c m' g' p' j r
+    reader_later j r fa part h = record { no_device_while_checking = h.no_device_while_checking; step = reader_at_later r fa r.step part h.step }
+
     -- what a step leaves to the cleaner and to the checkpointer
     pub record Rest : Type 0 where
       pub ckpt_word : m'.ckpt ≡ m.ckpt
@@ -326,6 +346,7 @@ module _ (D : LogSide) (c : Setup) where
 
     checkpointer_at_later : (t : CheckpointerState) → Rest → (st : CheckpointerStep) → (checkpointer_holds st ≡ true → ◌≡◌ {A = D.Part} p' p) → CheckpointerAt D c m g p t st → CheckpointerAt D c m' g' p' t st
     checkpointer_at_later t rest checkpointer_step.LoadCtail part h = rest.ckpt ∙ h
+    checkpointer_at_later t rest checkpointer_step.LoadPlace part h = rest.ckpt ∙ h
     checkpointer_at_later t rest checkpointer_step.ReadList part h = rest.ckpt ∙ h
     checkpointer_at_later t rest checkpointer_step.GiveList part h = rest.ckpt ∙ h
     checkpointer_at_later t rest checkpointer_step.LoadFlushed part h = rest.ckpt ∙ h
@@ -349,6 +370,7 @@ module _ (D : LogSide) (c : Setup) where
     others_later seat G later still same j (actor.Closer t) ne part h = λ z. same.failed (h z)
     others_later seat G later still same j (actor.Cleaner v) ne part h = cleaner_told_later v (record { ckpt_word = same.ckpt_word; failed = same.failed; ckpt = same.point }) h
     others_later seat G later still same j (actor.Checkpointer t) ne part h = checkpointer_fits_later j t (record { ckpt_word = same.ckpt_word; failed = same.failed; ckpt = same.point }) part h
+    others_later seat G later still same j (actor.Reader r) ne part h = reader_later j r same.failed part h
     others_later seat G later still same j (actor.Joined es) ne part h = tt
 
     -- the same where the writer moves, which is alone
@@ -359,6 +381,7 @@ module _ (D : LogSide) (c : Setup) where
     others_writer seat is G later same j (actor.Closer t) ne part h = λ z. same.failed (h z)
     others_writer seat is G later same j (actor.Cleaner v) ne part h = cleaner_told_later v (record { ckpt_word = same.ckpt_word; failed = same.failed; ckpt = same.point }) h
     others_writer seat is G later same j (actor.Checkpointer t) ne part h = checkpointer_fits_later j t (record { ckpt_word = same.ckpt_word; failed = same.failed; ckpt = same.point }) part h
+    others_writer seat is G later same j (actor.Reader r) ne part h = reader_later j r same.failed part h
     others_writer seat is G later same j (actor.Joined es) ne part h = tt
 
     -- the same where the flusher moves, which is alone
@@ -369,6 +392,7 @@ module _ (D : LogSide) (c : Setup) where
     others_flusher seat is G later still rest j (actor.Closer t) ne part h = λ z. rest.failed (h z)
     others_flusher seat is G later still rest j (actor.Cleaner v) ne part h = cleaner_told_later v rest h
     others_flusher seat is G later still rest j (actor.Checkpointer t) ne part h = checkpointer_fits_later j t rest part h
+    others_flusher seat is G later still rest j (actor.Reader r) ne part h = reader_later j r rest.failed part h
     others_flusher seat is G later still rest j (actor.Joined es) ne part h = tt
 
     -- the same where the checkpointer moves, which is alone, and the newest checkpoint may change
@@ -379,4 +403,5 @@ module _ (D : LogSide) (c : Setup) where
     others_pointer seat is G later still fl j (actor.Closer t) ne part h = λ z. later.failed (h z)
     others_pointer seat is G later still fl j (actor.Cleaner v) ne part h = ((λ z. later.failed (h.0 z)), h.1)
     others_pointer seat is G later still fl j (actor.Checkpointer t) ne part h = absurd (ne (h.alone ∙ sym is))
+    others_pointer seat is G later still fl j (actor.Reader r) ne part h = reader_later j r later.failed part h
     others_pointer seat is G later still fl j (actor.Joined es) ne part h = tt

@@ -13,7 +13,8 @@ pub mod LogKeeps
 pub mod NewUser
 pub mod NewUsers
 pub mod Ready
-pub mod ReserveSteps
+pub mod ReaderSteps
+mod ReserveSteps
 pub mod RingSteps
 pub mod Same
 pub mod StartEmpty

@@ -23,6 +23,15 @@ use Rattle.model_core.specs.declared.limits.TheConstants.{ADVANCE_PLACES, CLOSED
 use Rattle.model_logcore.proofs.LogAside.{page_aside, points_by}
 use Rattle.model_logcore.proofs.DeviceSteps.{can_write, gives, stays, takes, writes_by}
 use Rattle.model_logcore.proofs.FlusherSteps.{flusher_checked, keeps_fault, keeps_flushed, keeps_watch, syncs_by}
+use Rattle.model_logcore.proofs.ReaderSteps.{keeps_code, keeps_place, reader_checked, reads_by, reads_on}
+use Rattle.model_core.specs.ReaderProgram.{archived, archives, has_all, is_none, joined_texts, next_block, pending, reader_op, reader_took}
+use Rattle.model_core.specs.States.{ReaderState}
+use Rattle.model_core.specs.Lsn.{lsn}
+use Rattle.model_core.specs.Holding.{reader_holds}
+use Rattle.model_core.specs.Actors.{Room}
+use Rattle.model_core.specs.declared.steps.ReaderStep.{ReaderStep}
+use Rattle.model_core.specs.declared.steps.ReaderStep.TheVariants as reader_step
+use Rattle.model_logcore.specs.LogFits.{ReaderAt, ReaderFits}
 use Rattle.model_logcore.proofs.Same.{clinks_sized, lists_sized, numbers_sized, page_sized}
 use Rattle.model_logcore.proofs.UserSteps.{user_give, user_keeps, user_list, user_checked}
 use Rattle.model_logcore.proofs.WriterAdvances.{keeps_clear_link, keeps_free_tail, keeps_load_link, keeps_load_tail, keeps_take_tail}
@@ -331,7 +340,16 @@ module _ (D : LogSide) (L : LogLaws D) (c : Setup) (spare : ℕ) (m : SharedWord
     gives_back y had free f v = same _ _ v (gives D c spare m g p actors seat (actor.Checkpointer t) before at (actor.Checkpointer y) had free f refl (omega arith))
 
     checkpointer_own : (f : CheckpointerStep) → t.step ≡ f → CheckpointerAt D c m g p t f → LogServed D p Nothing (checkpointer_op t f) code q → LeftSo (checkpointer_op t f) (λ r. actor.Checkpointer (checkpointer_took t r f))
-    checkpointer_own checkpointer_step.LoadCtail is h v = easy (record t { ctail = tail_of (tail_word m.ctail m.cheld); to = tail_of (tail_word m.ctail m.cheld); list = 0; step = checkpointer_step.ReadList }) (record { alone = its.alone; own = its.own; no_device_while_checking = λ _. refl; step = h }) (sym (ap checkpointer_holds is)) v
+    checkpointer_own checkpointer_step.LoadCtail is h v = by (eqb t.first t.last)
+      where
+        by : (b : Bool) → CheckpointerDone m (record t { ctail = tail_of (tail_word m.ctail m.cheld); to = tail_of (tail_word m.ctail m.cheld); list = 0; reader = t.first; step = cond b checkpointer_step.ReadList checkpointer_step.LoadPlace })
+        by true = easy (record t { ctail = tail_of (tail_word m.ctail m.cheld); to = tail_of (tail_word m.ctail m.cheld); list = 0; reader = t.first; step = checkpointer_step.ReadList }) (record { alone = its.alone; own = its.own; no_device_while_checking = λ _. refl; step = h }) (sym (ap checkpointer_holds is)) v
+        by false = easy (record t { ctail = tail_of (tail_word m.ctail m.cheld); to = tail_of (tail_word m.ctail m.cheld); list = 0; reader = t.first; step = checkpointer_step.LoadPlace }) (record { alone = its.alone; own = its.own; no_device_while_checking = λ _. refl; step = h }) (sym (ap checkpointer_holds is)) v
+    checkpointer_own checkpointer_step.LoadPlace is h v = by (eqb (t.reader + 1) t.last)
+      where
+        by : (b : Bool) → CheckpointerDone m (record t { to = min t.to (slice_index m.places t.reader); reader = t.reader + 1; step = cond b checkpointer_step.ReadList checkpointer_step.LoadPlace })
+        by true = easy (record t { to = min t.to (slice_index m.places t.reader); reader = t.reader + 1; step = checkpointer_step.ReadList }) (record { alone = its.alone; own = its.own; no_device_while_checking = λ _. refl; step = h }) (sym (ap checkpointer_holds is)) v
+        by false = easy (record t { to = min t.to (slice_index m.places t.reader); reader = t.reader + 1; step = checkpointer_step.LoadPlace }) (record { alone = its.alone; own = its.own; no_device_while_checking = λ _. refl; step = h }) (sym (ap checkpointer_holds is)) v
     checkpointer_own checkpointer_step.ReadList is h v = by (eqb (slice_index m.lists t.list) 0)
       where
         by : (b : Bool) → CheckpointerDone (cond b (record m { lists = slice_set m.lists t.list 1 }) m) (checkpointer_took t (cond b (answer.Taken (oldest_end (ls t.list))) answer.Held) checkpointer_step.ReadList)
@@ -371,6 +389,55 @@ module _ (D : LogSide) (L : LogLaws D) (c : Setup) (spare : ℕ) (m : SharedWord
         by false e = let pos : 0 < m.failed = (let k = eqb-false m.failed 0 e in omega arith) in easy (record t { checks = false; code = m.failed; step = checkpointer_step.Failed }) (record { alone = its.alone; own = its.own; no_device_while_checking = λ _. refl; step = pos }) (sym (its.no_device_while_checking checks)) v
     checkpointer_any false checks v = checkpointer_own t.step refl its.step v
 
+  module _ (r : ReaderState) (at : get_elem? actors seat ≡ maybe.some (actor.Reader r)) where
+    theirs : ReaderFits D c m g p seat r
+    theirs = before.each seat (actor.Reader r) at
+
+    abbrev ReaderDone : SharedWords → ReaderState → Type 0
+    ReaderDone m' w = (h : LogGhost) × Kept D c spare m' h q (set actors seat (actor.Reader w)) × (◌≡◌ {A = List Entry} (h.log) g.log)
+
+    -- it goes on with what it has
+    goes : (w : ReaderState) → reader_holds w.step ≡ reader_holds r.step → ReaderFits D c m g p seat w → ◌≡◌ {A = D.Part} q p → ReaderDone m w
+    goes w keep fit v = same _ _ v (g, reads_on D c spare m g p actors seat r before at w keep fit, refl)
+
+    hands_back : (w : ReaderState) → reader_holds r.step ≡ true → reader_holds w.step ≡ false → ReaderFits D c m g p seat w → ◌≡◌ {A = D.Part} q p → ReaderDone (record m { device = 0 }) w
+    hands_back w had free f v = same _ _ v (gives D c spare m g p actors seat (actor.Reader r) before at (actor.Reader w) had free f refl (omega arith))
+
+    reader_own : (f : ReaderStep) → r.step ≡ f → ReaderAt D c m g p r f → LogServed D p (Room r.block) (reader_op r f) code q → LeftSo (reader_op r f) (λ z. actor.Reader (reader_took r z f))
+    reader_own reader_step.LoadFlushed is h v = by (has_all r m.flushed)
+      where
+        by : (b : Bool) → ReaderDone m (cond b (record r { mark = m.flushed; checks = true; step = reader_step.LoadFlushed }) (record r { mark = m.flushed; step = reader_step.TakeDevice }))
+        by true = goes (record r { mark = m.flushed; checks = true; step = reader_step.LoadFlushed }) (sym (ap reader_holds is)) (record { no_device_while_checking = λ _. refl; step = tt }) v
+        by false = goes (record r { mark = m.flushed; step = reader_step.TakeDevice }) (sym (ap reader_holds is)) (record { no_device_while_checking = λ _. refl; step = tt }) v
+    reader_own reader_step.TakeDevice is h v = by (eqb m.device 0) (D.failed p) refl refl
+      where
+        by : (b d : Bool) → eqb m.device 0 ≡ b → D.failed p ≡ d → ReaderDone (cond b (record m { device = 1 }) m) (reader_took r (cond b (cond d answer.Broken (answer.Taken None)) answer.Held) reader_step.TakeDevice)
+        by true true e f = same _ _ v (takes D c spare m g p actors seat (actor.Reader r) before at (actor.Reader (record r { checks = false; step = reader_step.GiveBroken })) (eqb-true m.device 0 e) refl (record { no_device_while_checking = λ z. absurd (cc); step = tt }) refl (omega arith))
+        by true false e f = same _ _ v (takes D c spare m g p actors seat (actor.Reader r) before at (actor.Reader (record r { checks = false; step = reader_step.ReadBlock })) (eqb-true m.device 0 e) refl (record { no_device_while_checking = λ z. absurd (cc); step = f }) refl (omega arith))
+        by false d e f = goes (record r { checks = true; step = reader_step.TakeDevice }) (sym (ap reader_holds is)) (record { no_device_while_checking = λ _. refl; step = tt }) v
+    reader_own reader_step.GiveBroken is h v = hands_back (record r { checks = true; step = reader_step.TakeDevice }) (ap reader_holds is) refl (record { no_device_while_checking = λ _. refl; step = tt }) v
+    reader_own reader_step.ReadBlock is h v = (g, reads_by D c spare m g p actors seat r before at q code (eqb code 0) refl is (L.reads c.blocks c.base g.log (next_block r) code r.block p q before.global.part.holds h v), refl)
+    reader_own reader_step.GiveDevice is h v = by (archives r) (is_none r.texts)
+      where
+        by : (b d : Bool) → ReaderDone (record m { device = 0 }) (cond b (archived r) (record r {
+          at = r.at + length (joined_texts r.texts);
+          place = lsn (r.at + length (joined_texts r.texts));
+          kept = drop (length (joined_texts r.texts)) (pending r);
+          texts = [];
+          step = cond d reader_step.LoadFlushed reader_step.StorePlace;
+        }))
+        by true d = hands_back (archived r) (ap reader_holds is) refl (record { no_device_while_checking = λ _. refl; step = tt }) v
+        by false true = hands_back _ (ap reader_holds is) refl (record { no_device_while_checking = λ _. refl; step = tt }) v
+        by false false = hands_back _ (ap reader_holds is) refl (record { no_device_while_checking = λ _. refl; step = tt }) v
+    reader_own reader_step.StorePlace is h v = same _ _ v (g, keeps_place D c spare m g p actors seat r before at is, refl)
+    reader_own reader_step.StoreFailed is h v = same _ _ v (g, keeps_code D c spare m g p actors seat r before at is h, refl)
+    reader_own reader_step.GiveFailed is h v = hands_back (record r { step = reader_step.Failed }) (ap reader_holds is) refl (record { no_device_while_checking = λ _. refl; step = h }) v
+    reader_own reader_step.Failed is h v = rested (actor.Reader r) at v
+
+    reader_any : (b : Bool) → r.checks ≡ b → LogServed D p (Room r.block) (cond b (op.Load word.Failed) (reader_op r r.step)) code q → LeftSo (cond b (op.Load word.Failed) (reader_op r r.step)) (λ z. cond b (checked (actor.Reader r) (old_of z)) (own_took (actor.Reader r) z))
+    reader_any true checks v = same _ _ v (g, reader_checked D c spare m g p actors seat r before at checks, refl)
+    reader_any false checks v = reader_own r.step refl theirs.step v
+
   left : (a : Actor) → get_elem? actors seat ≡ maybe.some a → LogServed D p (lent a) (next a) code q → LeftTo (log_left g.log m.sn a) (next a) (took a)
   left (actor.User u) at v = user_any u at u.checks refl v
   left (actor.Writer s) at v = writer_any s at s.checks refl v
@@ -378,6 +445,7 @@ module _ (D : LogSide) (L : LogLaws D) (c : Setup) (spare : ℕ) (m : SharedWord
   left (actor.Closer t) at v = closer_any t at t.checks v
   left (actor.Cleaner x) at v = cleaner_any x at x.checks v
   left (actor.Checkpointer t) at v = checkpointer_any t at t.checks refl v
+  left (actor.Reader r) at v = reader_any r at r.checks refl v
   left (actor.Joined es) at v = rested (actor.Joined es) at v
 
   abbrev pub KeptTo : List Entry → Op → (Answer → Actor) → Type 0

@@ -81,6 +81,7 @@ half_seats_user D c spare m g p actors u S k other none =
     others D c m g p user n j (actor.Closer t) ne h = h
     others D c m g p user n j (actor.Cleaner v) ne h = h
     others D c m g p user n j (actor.Checkpointer t) ne h = record { alone = h.alone; own = h.own; no_device_while_checking = h.no_device_while_checking; step = h.step }
+    others D c m g p user n j (actor.Reader r) ne h = record { no_device_while_checking = h.no_device_while_checking; step = h.step }
     others D c m g p user n j (actor.Joined es) ne h = tt
 
     new_fits : (D : LogSide) (c : Setup) (m : SharedWords) (g : LogGhost) (p : D.Part) (u : UserState) → StartUser c u → count_of u.user g.log ≡ 0 → (n : ℕ) → UserFits D c m (with_user g u.user n) p n u

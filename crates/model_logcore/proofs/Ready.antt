@@ -2,6 +2,7 @@
 use Rattle.std.proofs.Common.{Bool, List, ap, cond, false, refl, true, ℕ, ◌≡◌}
 use lib.ListN.{get_elem?}
 use Rattle.model_core.specs.{Actor, Advance, advance_op, checkpointer_holds, checkpointer_op, CheckpointerState, cleaner_op, CleanerState, closer_op, CloserState, flusher_holds, flusher_op, FlusherState, next, SharedWords, user_op, UserState, writer_holds, writer_op, WriterState}
+use Rattle.model_core.specs.{reader_holds, reader_op, ReaderState}
 use Rattle.model_core.specs.LogSide.{LogSide}
 use Rattle.model_core.specs.Setup.{Setup}
 use Rattle.model_core.specs.declared.ops.Op.{Op}
@@ -11,11 +12,13 @@ use Rattle.model_core.specs.declared.steps.CheckpointerStep.{CheckpointerStep}
 use Rattle.model_core.specs.declared.steps.CleanerStep.{CleanerStep}
 use Rattle.model_core.specs.declared.steps.CloserStep.{CloserStep}
 use Rattle.model_core.specs.declared.steps.FlusherStep.{FlusherStep}
+use Rattle.model_core.specs.declared.steps.ReaderStep.{ReaderStep}
 use Rattle.model_core.specs.declared.steps.UserStep.{UserStep}
 use Rattle.model_core.specs.declared.steps.WriterStep.{WriterStep}
 use Rattle.model_logcore.proofs.DeviceSteps.{can_write}
 use Rattle.model_logcore.specs.LogFacts.{LogGhost}
 use Rattle.model_logcore.specs.LogFits.{FlusherAt, FlusherFits, WriterAt, WriterFits}
+use Rattle.model_logcore.specs.LogFits.{ReaderAt, ReaderFits}
 use Rattle.model_logcore.specs.LogHalf.{LogHalf}
 use Rattle.model_logcore.specs.LogLaws.{CanCheckpoint, LogLaws}
 use Rattle.model_logcore.specs.Ready.{Ready}
@@ -26,6 +29,7 @@ use Rattle.model_core.specs.declared.words.LinkBuffer.TheVariants as link_buffer
 use Rattle.model_core.specs.declared.steps.UserStep.TheVariants as user_step
 use Rattle.model_core.specs.declared.steps.WriterStep.TheVariants as writer_step
 use Rattle.model_core.specs.declared.steps.FlusherStep.TheVariants as flusher_step
+use Rattle.model_core.specs.declared.steps.ReaderStep.TheVariants as reader_step
 use Rattle.model_core.specs.declared.steps.CloserStep.TheVariants as closer_step
 use Rattle.model_core.specs.declared.steps.CleanerStep.TheVariants as cleaner_step
 use Rattle.model_core.specs.declared.steps.CheckpointerStep.TheVariants as checkpointer_step
@@ -60,6 +64,14 @@ module _ (D : LogSide) (L : LogLaws D) (c : Setup) (spare : ℕ) (m : SharedWord
   flusher_ready f flusher_step.GiveFailed is h = ap flusher_holds is
   flusher_ready f _ is h = tt
 
+  reader_ready : (f : ReaderState) (w : ReaderStep) → f.step ≡ w → ReaderAt D c m g p f w → Ready D c g p (actor.Reader f) (reader_op f w)
+  reader_ready f reader_step.TakeDevice is h = ap reader_holds is
+  reader_ready f reader_step.GiveBroken is h = ap reader_holds is
+  reader_ready f reader_step.ReadBlock is h = (ap reader_holds is, h)
+  reader_ready f reader_step.GiveDevice is h = ap reader_holds is
+  reader_ready f reader_step.GiveFailed is h = ap reader_holds is
+  reader_ready f _ is h = tt
+
   closer_ready : (t : CloserState) (f : CloserStep) → Ready D c g p (actor.Closer t) (closer_op t f)
   closer_ready t (closer_step.Advance v) = advance_ready (actor.Closer t) link_buffer.Closed t.advance v
   closer_ready t closer_step.Failed = tt
@@ -85,6 +97,7 @@ module _ (D : LogSide) (L : LogLaws D) (c : Setup) (spare : ℕ) (m : SharedWord
   ready (actor.User u) at can = checking_ready (actor.User u) u.checks (user_op u u.step) (user_ready u u.step)
   ready (actor.Writer s) at can = let h : WriterFits D c m g p seat s = before.each seat (actor.Writer s) at in checking_ready (actor.Writer s) s.checks (writer_op s s.step) (writer_ready s at s.step refl h.step)
   ready (actor.Flusher f) at can = let h : FlusherFits D c m g p seat f = before.each seat (actor.Flusher f) at in checking_ready (actor.Flusher f) f.checks (flusher_op f f.step) (flusher_ready f f.step refl h.step)
+  ready (actor.Reader f) at can = let h : ReaderFits D c m g p seat f = before.each seat (actor.Reader f) at in checking_ready (actor.Reader f) f.checks (reader_op f f.step) (reader_ready f f.step refl h.step)
   ready (actor.Closer t) at can = checking_ready (actor.Closer t) t.checks (closer_op t t.step) (closer_ready t t.step)
   ready (actor.Cleaner v) at can = checking_ready (actor.Cleaner v) v.checks (cleaner_op v v.step) (cleaner_ready v v.step)
   ready (actor.Checkpointer t) at can = checking_ready (actor.Checkpointer t) t.checks (checkpointer_op t t.step) (checkpointer_ready t t.step refl (can t refl))

@@ -20,29 +20,32 @@ pub stored_else : (l : List ℕ) (i v j : ℕ) → j ≢ i → slice_index (slic
 stored_else l i v j n = rw get_or-set_other refl
 
 -- numbers change, and lists to lists as long as before
-pub sized_same : {pages : ℕ} {m : SharedWords} {sn write wtail flushed ckpt ctail failed device : ℕ} {wheld cheld : Bool} {lists wlinks clinks cells firsts : List ℕ}
-    → length lists ≡ length m.lists → length wlinks ≡ length m.wlinks → length clinks ≡ length m.clinks → length cells ≡ length m.cells → length firsts ≡ length m.firsts → IsSized pages m
-    → IsSized pages (record { sn = sn; write = write; wtail = wtail; wheld = wheld; flushed = flushed; ckpt = ckpt; ctail = ctail; cheld = cheld; failed = failed; device = device; lists = lists; wlinks = wlinks; clinks = clinks; cells = cells; firsts = firsts; page_words = m.page_words })
-sized_same a b d e f z = record { lists = a ∙ z.lists; wlinks = b ∙ z.wlinks; clinks = d ∙ z.clinks; cells = e ∙ z.cells; firsts = f ∙ z.firsts; page_words = z.page_words; frames = z.frames }
+pub sized_same : {pages : ℕ} {m : SharedWords} {sn write wtail flushed ckpt ctail failed device : ℕ} {wheld cheld : Bool} {lists wlinks clinks cells firsts places : List ℕ}
+    → length lists ≡ length m.lists → length wlinks ≡ length m.wlinks → length clinks ≡ length m.clinks → length cells ≡ length m.cells → length firsts ≡ length m.firsts → length places ≡ length m.places → IsSized pages m
+    → IsSized pages (record { sn = sn; write = write; wtail = wtail; wheld = wheld; flushed = flushed; ckpt = ckpt; ctail = ctail; cheld = cheld; failed = failed; device = device; lists = lists; wlinks = wlinks; clinks = clinks; cells = cells; firsts = firsts; places = places; page_words = m.page_words })
+sized_same a b d e f h z = record { lists = a ∙ z.lists; wlinks = b ∙ z.wlinks; clinks = d ∙ z.clinks; cells = e ∙ z.cells; firsts = f ∙ z.firsts; places = h ∙ z.places; page_words = z.page_words; frames = z.frames }
 
 pub numbers_sized : {pages : ℕ} {m : SharedWords} {sn write wtail flushed ckpt ctail failed device : ℕ} {wheld cheld : Bool} → IsSized pages m
     → IsSized pages (record m { sn = sn; write = write; wtail = wtail; wheld = wheld; flushed = flushed; ckpt = ckpt; ctail = ctail; cheld = cheld; failed = failed; device = device })
-numbers_sized z = sized_same refl refl refl refl refl z
+numbers_sized z = sized_same refl refl refl refl refl refl z
 
 pub lists_sized : {pages : ℕ} {m : SharedWords} (i x : ℕ) → IsSized pages m → IsSized pages (record m { lists = slice_set m.lists i x })
-lists_sized {m = m} i x z = sized_same (length-set m.lists i x) refl refl refl refl z
+lists_sized {m = m} i x z = sized_same (length-set m.lists i x) refl refl refl refl refl z
 
 pub wlinks_sized : {pages : ℕ} {m : SharedWords} (i x : ℕ) → IsSized pages m → IsSized pages (record m { wlinks = slice_set m.wlinks i x })
-wlinks_sized {m = m} i x z = sized_same refl (length-set m.wlinks i x) refl refl refl z
+wlinks_sized {m = m} i x z = sized_same refl (length-set m.wlinks i x) refl refl refl refl z
 
 pub clinks_sized : {pages : ℕ} {m : SharedWords} (i x : ℕ) → IsSized pages m → IsSized pages (record m { clinks = slice_set m.clinks i x })
-clinks_sized {m = m} i x z = sized_same refl refl (length-set m.clinks i x) refl refl z
+clinks_sized {m = m} i x z = sized_same refl refl (length-set m.clinks i x) refl refl refl z
 
 pub cells_sized : {pages : ℕ} {m : SharedWords} (i x : ℕ) → IsSized pages m → IsSized pages (record m { cells = slice_set m.cells i x })
-cells_sized {m = m} i x z = sized_same refl refl refl (length-set m.cells i x) refl z
+cells_sized {m = m} i x z = sized_same refl refl refl (length-set m.cells i x) refl refl z
 
 pub firsts_sized : {pages : ℕ} {m : SharedWords} (i x : ℕ) → IsSized pages m → IsSized pages (record m { firsts = slice_set m.firsts i x })
-firsts_sized {m = m} i x z = sized_same refl refl refl refl (length-set m.firsts i x) z
+firsts_sized {m = m} i x z = sized_same refl refl refl refl (length-set m.firsts i x) refl z
+
+pub places_sized : {pages : ℕ} {m : SharedWords} (i x : ℕ) → IsSized pages m → IsSized pages (record m { places = slice_set m.places i x })
+places_sized {m = m} i x z = sized_same refl refl refl refl refl (length-set m.places i x) z
 
 -- the words of a page change, and its frame to one as long as before
 pub page_sized : {pages : ℕ} {m : SharedWords} (p : ℕ) (w : PageWords) → length w.frame ≡ length (page_words_at m.page_words p).frame → IsSized pages m → IsSized pages (with_page_words m p w)
@@ -52,6 +55,7 @@ page_sized {m = m} p w e z = record {
   clinks = z.clinks;
   cells = z.cells;
   firsts = z.firsts;
+  places = z.places;
   page_words = length-set m.page_words p w ∙ z.page_words;
   frames = λ q l. elim (ℕ_discrete q p) [
     | yes y ↦ subst (λ (r : ℕ). length (page_words_at (set m.page_words p w) r).frame ≡ FRAME_WORDS) (sym y) (ap (λ (x : PageWords). length x.frame) (get_or-set_same m.page_words p w blank_words (let k = z.page_words in omega arith)) ∙ e ∙ ap (λ (r : ℕ). length (page_words_at m.page_words r).frame) (sym y) ∙ z.frames q l)
@@ -133,8 +137,8 @@ module _ (D : LogSide) (c : Setup) (m : SharedWords) (g : LogGhost) (p : D.Part)
   }
 
   -- the words that only the part's facts speak of change, or the part itself
-  pub facts_same : {ckpt ctail failed device holder : ℕ} {cheld : Bool} {lists clinks : List ℕ} {page_words : List PageWords} {q : D.Part} → LogPartFacts D c m.write m.wtail m.flushed ckpt device g.log q → LogFacts D c m g p
-      → LogFacts D c (record m { ckpt = ckpt; ctail = ctail; cheld = cheld; failed = failed; device = device; lists = lists; clinks = clinks; page_words = page_words }) (record g { holder = holder }) q
+  pub facts_same : {ckpt ctail failed device holder : ℕ} {cheld : Bool} {lists clinks places : List ℕ} {page_words : List PageWords} {q : D.Part} → LogPartFacts D c m.write m.wtail m.flushed ckpt device g.log q → LogFacts D c m g p
+      → LogFacts D c (record m { ckpt = ckpt; ctail = ctail; cheld = cheld; failed = failed; device = device; lists = lists; clinks = clinks; places = places; page_words = page_words }) (record g { holder = holder }) q
   facts_same part G = record { tiled = G.tiled; order = G.order; ring_cells = G.ring_cells; first_offsets = G.first_offsets; written_links = G.written_links; commits = G.commits; part = part }
 
   -- the marks go on
@@ -144,8 +148,8 @@ module _ (D : LogSide) (c : Setup) (m : SharedWords) (g : LogGhost) (p : D.Part)
   later_marks a b d f e h = record { write = a; wtail = b; ckpt = d; flushed = f; failed = e; logs = λ _ _ z. z; places = λ _ _ _. refl; states = λ _ _ _. refl; linked = λ _ _ two. two; firsts = λ _ z. z; bare = λ _ _ _ _ _ z. z; seats = λ _. refl; counts = λ _ _. refl; answers = λ _ _. refl; holder = h }
 
   -- the words that the writer doesn't read change
-  pub still_same : {wtail flushed ckpt ctail failed device gwtail gflushed tail advancer holder : ℕ} {wheld cheld : Bool} {lists wlinks clinks : List ℕ} {page_words : List PageWords} {q : D.Part} → m.ckpt ≤ ckpt → (0 < m.failed → 0 < failed) → D.written q ≡ D.written p
-      → Still D c m (record m { wtail = wtail; wheld = wheld; flushed = flushed; ckpt = ckpt; ctail = ctail; cheld = cheld; failed = failed; device = device; lists = lists; wlinks = wlinks; clinks = clinks; page_words = page_words }) g (record g { wtail = gwtail; flushed = gflushed; tail = tail; advancer = advancer; holder = holder }) p q
+  pub still_same : {wtail flushed ckpt ctail failed device gwtail gflushed tail advancer holder : ℕ} {wheld cheld : Bool} {lists wlinks clinks places : List ℕ} {page_words : List PageWords} {q : D.Part} → m.ckpt ≤ ckpt → (0 < m.failed → 0 < failed) → D.written q ≡ D.written p
+      → Still D c m (record m { wtail = wtail; wheld = wheld; flushed = flushed; ckpt = ckpt; ctail = ctail; cheld = cheld; failed = failed; device = device; lists = lists; wlinks = wlinks; clinks = clinks; places = places; page_words = page_words }) g (record g { wtail = gwtail; flushed = gflushed; tail = tail; advancer = advancer; holder = holder }) p q
   still_same up fails written = record { writer = refl; gwrite = refl; target = refl; read = refl; entered = refl; write = refl; ckpt = up; failed = fails; bytes = λ _ _ _. refl; firsts = λ _ _. refl; written = written }
 
   -- of the writer's own state what it has gathered stays

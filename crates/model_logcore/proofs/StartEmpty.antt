@@ -1,4 +1,6 @@
 -- An actor that has done nothing holds no slot and no tail.
+use Rattle.model_core.specs.States.{ReaderState}
+use Rattle.model_core.specs.Hands.{reader_hand}
 use Rattle.std.proofs.Common.{Bool, None, ap, cond, false, length, refl, true, ℕ, ◌==◌, ◌∙◌, ◌≡◌}
 use Rattle.model_core.specs.{CheckpointerState, CleanerState, CloserState, FlusherState, holds_tail, new_user, UserState, WriterState}
 use Rattle.model_core.specs.Actors as model
@@ -25,6 +27,7 @@ start_hand c seat_of writer n (model.Flusher t) is = ap (λ (z : FlusherState). 
 start_hand c seat_of writer n (model.Closer t) is = refl
 start_hand c seat_of writer n (model.Cleaner v) is = ap (λ (z : CleanerState). cleaner_hand z z.step) is.1
 start_hand c seat_of writer n (model.Checkpointer t) is = ap (λ (z : CheckpointerState). checkpointer_hand z z.step) is.1
+start_hand c seat_of writer n (model.Reader t) is = ap (λ (z : ReaderState). reader_hand z.step) is.3
 start_hand c seat_of writer n (model.Joined es) is = refl
 
 user_free : (b : Bool) (l : LinkBuffer) → user_holds_tail l (cond b user_step.Done user_step.LoadCheckpoint) ≡ false
@@ -48,6 +51,7 @@ start_tail c seat_of writer n (model.Closer t) is l = ap (λ (z : CloserState). 
 start_tail c seat_of writer n (model.Flusher t) is l = refl
 start_tail c seat_of writer n (model.Cleaner v) is l = refl
 start_tail c seat_of writer n (model.Checkpointer t) is l = refl
+start_tail c seat_of writer n (model.Reader t) is l = refl
 start_tail c seat_of writer n (model.Joined es) is l = refl
 
 pub start_empty : (c : Setup) (seat_of : ℕ → ℕ) (writer n : ℕ) (a : model.Actor) → StartActor c seat_of writer n a → HoldsNothing a

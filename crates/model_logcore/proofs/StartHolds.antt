@@ -1,4 +1,6 @@
 -- The log half holds at the start of a run, with a user that gets a seat later, and where one seat takes in another's groups.
+use Rattle.model_core.specs.States.{ReaderState}
+use Rattle.model_logcore.specs.LogFits.{ReaderAt}
 use Rattle.std.proofs.Common.{Bool, List, [], ap, arith, cond, eq-eqb, eqb, false, length, ne_eqb, refl, subst, suc, sym, true, ℕ, ◌+◌, ◌/◌, ◌<◌, ◌∙◌, ◌∷◌, ◌≡◌, ◌*◌}
 use lib.ListN.{get_elem?}
 use native.Mathlib.Decide.{ℕ_discrete}
@@ -149,12 +151,17 @@ module _ (D : LogSide) (c : Setup) (m : SharedWords) (p : D.Part) (seat_of : ℕ
   start_fits seat (actor.Cleaner v) h = let s : v.step ≡ cleaner_step.LoadFlushed = ap (λ (y : CleanerState). y.step) h.1 in
       ((λ e. let z : cleaner_step.LoadFlushed ≡ cleaner_step.Failed = sym s ∙ e in absurd (cc)), (λ e. let z : cleaner_step.LoadFlushed ≡ cleaner_step.StoreFailed = sym s ∙ e in absurd (cc)))
   start_fits seat (actor.Checkpointer t) h = subst (λ (z : CheckpointerState). CheckpointerFits D c m start p seat z) (sym h.1) (record { alone = h.0; own = sym W.ckpt; no_device_while_checking = λ z. refl; step = P.ckpt })
+  start_fits seat (actor.Reader r) h = record {
+    no_device_while_checking = λ z. absurd (let e : r.checks ≡ false = ap (λ (y : ReaderState). y.checks) h.3 in cc);
+    step = subst (ReaderAt D c m start p r) (sym (ap (λ (y : ReaderState). y.step) h.3)) tt;
+  }
   start_fits seat (actor.Joined es) h = tt
 
   start_holds : (seat : ℕ) (a : Actor) → StartActor c seat_of writer seat a → holds a ≡ false
   start_holds seat (actor.Writer s) h = ap (λ (z : WriterState). holds (actor.Writer z)) h.1
   start_holds seat (actor.Flusher f) h = ap (λ (z : FlusherState). holds (actor.Flusher z)) h.1
   start_holds seat (actor.Checkpointer t) h = ap (λ (z : CheckpointerState). holds (actor.Checkpointer z)) h.1
+  start_holds seat (actor.Reader r) h = ap (λ (z : ReaderState). holds (actor.Reader z)) h.3
   start_holds seat _ h = refl
 
   start_entries : (seat : ℕ) (a : Actor) → StartActor c seat_of writer seat a → entries a ≡ []

@@ -1,4 +1,6 @@
 -- The log half of the invariant gives the watermarks.
+use Rattle.model_core.specs.declared.steps.ReaderStep.TheVariants as reader_step
+use Rattle.model_logcore.specs.LogFits.{ReaderAt, ReaderFits}
 use Rattle.std.proofs.Common.{Bool, List, ap, arith, cond, eqb, eqb-true, false, inl, inr, length, refl, subst, sym, true, ℕ, ⊎_elim, ◌%◌, ◌+◌, ◌/◌, ◌<◌, ◌∙◌, ◌≡◌, ◌≢◌, ◌≤◌}
 use Rattle.std.proofs.lemmas.Bool.{eqb-false}
 use lib.ListN.{get_elem?}
@@ -43,6 +45,7 @@ module _ (D : LogSide) (c : Setup) (spare : ℕ) (m : SharedWords) (g : LogGhost
   loaded_below seat (actor.Closer t) at = tt
   loaded_below seat (actor.Cleaner v) at = tt
   loaded_below seat (actor.Checkpointer t) at = tt
+  loaded_below seat (actor.Reader r) at = tt
   loaded_below seat (actor.Joined es) at = tt
 
   own_mark : (seat : ℕ) (a : Actor) → get_elem? actors seat ≡ maybe.some a → OwnMarkIs m a
@@ -52,6 +55,7 @@ module _ (D : LogSide) (c : Setup) (spare : ℕ) (m : SharedWords) (g : LogGhost
   own_mark seat (actor.Closer t) at = tt
   own_mark seat (actor.Cleaner v) at = tt
   own_mark seat (actor.Checkpointer t) at = let f : CheckpointerFits D c m g p seat t = half.each seat (actor.Checkpointer t) at in f.own
+  own_mark seat (actor.Reader r) at = tt
   own_mark seat (actor.Joined es) at = tt
 
   pub failures_show : (seat : ℕ) (a : Actor) → get_elem? actors seat ≡ maybe.some a → HasMetFailure a → 0 < m.failed
@@ -68,6 +72,9 @@ module _ (D : LogSide) (c : Setup) (spare : ℕ) (m : SharedWords) (g : LogGhost
   failures_show seat (actor.Checkpointer t) at met = let f : CheckpointerFits D c m g p seat t = half.each seat (actor.Checkpointer t) at in
       ⊎_elim (λ e. let z : CheckpointerAt D c m g p t checkpointer_step.GiveFailed = subst (CheckpointerAt D c m g p t) e f.step in z)
       (λ e. let z : CheckpointerAt D c m g p t checkpointer_step.Failed = subst (CheckpointerAt D c m g p t) e f.step in z) met
+  failures_show seat (actor.Reader t) at met = let f : ReaderFits D c m g p seat t = half.each seat (actor.Reader t) at in
+      ⊎_elim (λ e. let z : ReaderAt D c m g p t reader_step.GiveFailed = subst (ReaderAt D c m g p t) e f.step in z)
+      (λ e. let z : ReaderAt D c m g p t reader_step.Failed = subst (ReaderAt D c m g p t) e f.step in z) met
   failures_show seat (actor.Joined es) at met = absurd met
 
   -- a group of which so many bytes are copied isn't linked
@@ -205,6 +212,7 @@ module _ (D : LogSide) (c : Setup) (spare : ℕ) (m : SharedWords) (g : LogGhost
       closer_off closer_step.Failed = refl
   holder_is seat (actor.Cleaner v) at holds = absurd (cc)
   holder_is seat (actor.Checkpointer t) at holds = absurd (cc)
+  holder_is seat (actor.Reader t) at holds = absurd (cc)
   holder_is seat (actor.Joined es) at holds = absurd (cc)
 
   tail_word_is : TailWordIs link_buffer.Written m.wtail m.wheld (lsn g.tail) actors

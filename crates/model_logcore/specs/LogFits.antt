@@ -2,7 +2,7 @@
 use Rattle.std.specs.Prelude.{Bool, false, length, slice_index, true, ℕ, ◌%◌, ◌*◌, ◌+◌, ◌/◌, ◌<◌, ◌≡◌, ◌≢◌, ◌≤◌, ◌⊎◌}
 use lib.ListN.{get_elem?}
 use mathlib.Core.Option.{some}
-use Rattle.model_core.specs.{Actor, Advance, byte_at, ceiling, checkpointer_holds, CheckpointerState, CleanerState, entry, first_of, floor, flusher_holds, FlusherState, group_bytes, group_end, lane_of, left_in_word, line, line_at, LoadedMarks, lsn, mode, read_place, SharedWords, UserState, word_end, writer_holds, WriterState}
+use Rattle.model_core.specs.{Actor, Advance, byte_at, ceiling, checkpointer_holds, CheckpointerState, CleanerState, entry, first_of, floor, flusher_holds, FlusherState, reader_holds, ReaderState, group_bytes, group_end, lane_of, left_in_word, line, line_at, LoadedMarks, lsn, mode, read_place, SharedWords, UserState, word_end, writer_holds, WriterState}
 unfoldable use Rattle.model_core.specs.{lane}
 use Rattle.model_core.specs.LogSide.{LogSide}
 use Rattle.model_core.specs.Setup.{Setup}
@@ -11,6 +11,8 @@ use Rattle.model_core.specs.declared.steps.UserStep.{UserStep}
 use Rattle.model_core.specs.declared.steps.CheckpointerStep.{CheckpointerStep}
 use Rattle.model_core.specs.declared.steps.WriterStep.{WriterStep}
 use Rattle.model_core.specs.declared.steps.FlusherStep.{FlusherStep}
+use Rattle.model_core.specs.declared.steps.ReaderStep.{ReaderStep}
+use Rattle.model_core.specs.declared.steps.ReaderStep.TheVariants as reader_step
 use Rattle.model_logcore.specs.LogFacts.{LogGhost, InHand, count_of}
 use Rattle.model_core.specs.declared.steps.AdvanceStep.TheVariants as advance_step
 use Rattle.model_core.specs.declared.steps.UserStep.TheVariants as user_step
@@ -184,6 +186,18 @@ module _ (D : LogSide) (c : Setup) (m : SharedWords) (g : LogGhost) (p : D.Part)
     pub no_device_while_checking : f.checks ≡ true → flusher_holds f.step ≡ false
     pub step : FlusherAt f f.step
 
+  -- what the log half knows of a reader: of the log part, where it holds that
+  abbrev pub ReaderAt : ReaderState → ReaderStep → Type 0
+  ReaderAt r reader_step.ReadBlock = D.failed p ≡ false
+  ReaderAt r reader_step.StoreFailed = (0 < r.code) × D.Cause p r.code
+  ReaderAt r reader_step.GiveFailed = 0 < m.failed
+  ReaderAt r reader_step.Failed = 0 < m.failed
+  ReaderAt r _ = Unit {0}
+
+  pub record ReaderFits (seat : ℕ) (r : ReaderState) : Type 0 where
+    pub no_device_while_checking : r.checks ≡ true → reader_holds r.step ≡ false
+    pub step : ReaderAt r r.step
+
   -- of the page actors the log half says when they end, and what the checkpointer knows of the log part
   abbrev pub CleanerTold : CleanerState → Type 0
   CleanerTold v = (v.step ≡ cleaner_step.Failed → 0 < m.failed) × (v.step ≡ cleaner_step.StoreFailed → 0 < v.code)
@@ -209,4 +223,5 @@ module _ (D : LogSide) (c : Setup) (m : SharedWords) (g : LogGhost) (p : D.Part)
   LogFits seat (actor.Closer t) = t.step ≡ closer_step.Failed → 0 < m.failed
   LogFits seat (actor.Cleaner v) = CleanerTold v
   LogFits seat (actor.Checkpointer t) = CheckpointerFits seat t
+  LogFits seat (actor.Reader r) = ReaderFits seat r
   LogFits seat (actor.Joined es) = Unit {0}

@@ -1,12 +1,14 @@
 -- The laws of the log part: the conditions of its calls, and what they leave.
-use Rattle.std.specs.Prelude.{List, [], cond, false, length, true, ℕ, ◌%◌, ◌*◌, ◌++◌, ◌+◌, ◌<◌, ◌==◌, ◌∷◌, ◌≡◌, ◌≤◌}
+use Rattle.std.specs.Prelude.{List, [], cond, drop, false, length, take, true, ℕ, ◌%◌, ◌*◌, ◌++◌, ◌+◌, ◌-◌, ◌<◌, ◌==◌, ◌∷◌, ◌≡◌, ◌≤◌}
+use Rattle.std.specs.List.{AllByRecursion}
 use lib.ListN.{get_elem?}
 use mathlib.Core.Option.{some}
-use Rattle.model_core.specs.{ceiling, end_of, Entry, floor, IsBound, IsLent, IsLogCode, lsn, Tiles}
+use Rattle.model_core.specs.{ceiling, end_of, Entry, floor, IsBound, IsLent, IsLogCode, IsText, lsn, stream, Tiles}
 use Rattle.model_core.specs.LogSide.{LogSide}
 use Rattle.model_base.specs.declared.limits.TheConstants.{BLOCK_SIZE, LSN_LIMIT}
 use Rattle.model_core.specs.declared.limits.TheConstants.{LOG_BUFFER}
-use Rattle.model_log.specs.declared.layout.TheConstants.{BLOCK_DATA}
+use Rattle.model_log.specs.Block.{block_view, data_of, is_block_at}
+use Rattle.model_log.specs.declared.layout.TheConstants.{BLOCK_DATA, BLOCK_HEADER}
 
 module _ (D : LogSide) (blocks base : ℕ) (log : List Entry) where
   -- the conditions of write_to
@@ -37,6 +39,7 @@ module _ (D : LogSide) (blocks base : ℕ) (log : List Entry) where
     pub sound : code ≡ 0 → D.failed q ≡ false
     pub causes : (c : ℕ) → D.Cause p c → D.Cause q c
     pub cause : 0 < code → D.Cause q code
+    pub told : D.Tells q → D.Tells p
 
   pub record AfterSync (code : ℕ) (p q : D.Part) : Type 0 where
     pub holds : D.Holds blocks base log q
@@ -48,6 +51,7 @@ module _ (D : LogSide) (blocks base : ℕ) (log : List Entry) where
     pub sound : code ≡ 0 → D.failed q ≡ false
     pub causes : (c : ℕ) → D.Cause p c → D.Cause q c
     pub cause : 0 < code → D.Cause q code
+    pub told : D.Tells q → D.Tells p
 
   -- every group that starts below the lsn x ends at or below the stable mark
   pub record CanCheckpoint (x : ℕ) (p : D.Part) : Type 0 where
@@ -68,6 +72,40 @@ module _ (D : LogSide) (blocks base : ℕ) (log : List Entry) where
     pub sound : code ≡ 0 → D.failed q ≡ false
     pub causes : (c : ℕ) → D.Cause p c → D.Cause q c
     pub cause : 0 < code → D.Cause q code
+    pub told : D.Tells q → D.Tells p
+
+  -- the block at the lsn x may be read: it stands from the newest checkpoint's on and has a byte below the stable mark
+  pub record CanRead (x : ℕ) (p : D.Part) : Type 0 where
+    pub sound : D.failed p ≡ false
+    pub even : x % BLOCK_SIZE ≡ 0
+    pub base_even : base % BLOCK_DATA ≡ 0
+    pub end : ℕ
+    pub tiles : Tiles base log end
+    -- each group is the text of one
+    pub texts : AllByRecursion (λ (e : Entry). IsText e.bytes) log
+    pub from : D.ckpt p < x + BLOCK_SIZE
+    pub some : x + BLOCK_HEADER < D.stable p
+
+  -- The 512 bytes are the block at the lsn x, as far as it holds bytes below the sn `top`: they are read as a block,
+  -- and from any place of the stream in it on its data in use are the stream's.
+  pub record HasBlock (top x : ℕ) (bytes : List ℕ) : Type 0 where
+    pub long : length bytes ≡ BLOCK_SIZE
+    pub fits : is_block_at x bytes ≡ true
+    pub bytes_are : (y n : ℕ) → base ≤ y → y % BLOCK_DATA + n ≤ BLOCK_DATA → y + n ≤ top → floor (lsn y) ≡ x
+        → take n (drop (y % BLOCK_DATA) (data_of (block_view bytes) bytes)) ≡ take n (drop (y - base) (stream log))
+
+  -- a read changes nothing, but that the part has failed where it did
+  pub record AfterRead (code : ℕ) (p q : D.Part) : Type 0 where
+    pub holds : D.Holds blocks base log q
+    pub written : D.written q ≡ D.written p
+    pub stable : D.stable q ≡ D.stable p
+    pub given : D.given q ≡ D.given p
+    pub ckpt : D.ckpt q ≡ D.ckpt p
+    pub asked : D.asked q ≡ D.asked p
+    pub sound : code ≡ 0 → D.failed q ≡ false
+    pub causes : (c : ℕ) → D.Cause p c → D.Cause q c
+    pub cause : 0 < code → D.Cause q code
+    pub told : D.Tells q → D.Tells p
 
 -- what a drive shows of its part
 pub record LogLaws (D : LogSide) : Type 0 where
@@ -81,3 +119,8 @@ pub record LogLaws (D : LogSide) : Type 0 where
       → D.Holds blocks base log p → D.failed p ≡ false → D.Synced code p q → AfterSync D blocks base log code p q
   pub checkpoints : (blocks base : ℕ) (log : List Entry) (x code : ℕ) (p q : D.Part)
       → D.Holds blocks base log p → CanCheckpoint D blocks base log x p → D.Checkpointed x code p q → AfterCheckpoint D blocks base log x code p q
+  pub reads : (blocks base : ℕ) (log : List Entry) (x code : ℕ) (bytes : List ℕ) (p q : D.Part)
+      → D.Holds blocks base log p → D.failed p ≡ false → D.Read x bytes code p q → AfterRead D blocks base log code p q
+  pub gets : (blocks base : ℕ) (log : List Entry) (x : ℕ) (bytes : List ℕ) (p q : D.Part)
+      → D.Holds blocks base log p → CanRead D blocks base log x p → D.Read x bytes 0 p q → D.Tells q
+      → (top : ℕ) → D.stable p ≡ lsn top → HasBlock D blocks base log top x bytes

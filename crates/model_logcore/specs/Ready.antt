@@ -18,6 +18,7 @@ module _ (D : LogSide) (c : Setup) (g : LogGhost) (p : D.Part) (a : Actor) where
   Ready (op.WriteTo t) = (holds a ≡ true) × CanLend (lent a) t
   Ready op.Sync = (holds a ≡ true) × (D.failed p ≡ false)
   Ready (op.Checkpoint x) = (holds a ≡ true) × CanCheckpoint D c.blocks c.base g.log x p
+  Ready (op.ReadBlock x) = (holds a ≡ true) × (D.failed p ≡ false)
   Ready op.GiveDevice = holds a ≡ true
   Ready op.TakeDevice = holds a ≡ false
   Ready _ = Unit {0}

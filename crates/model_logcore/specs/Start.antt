@@ -1,7 +1,7 @@
 -- What stands at the start of a run, from which the invariant holds.
 use Rattle.std.specs.Prelude.{[], length, slice_index, ℕ, ◌+◌, ◌<◌, ◌≡◌, ◌≤◌}
 use Rattle.model_base.specs.declared.limits.TheConstants.{MAX_GROUP}
-use Rattle.model_core.specs.{Actor, CheckpointerState, CleanerState, CloserState, FlusherState, line_at, lsn, new_checkpointer, new_cleaner, new_closer, new_flusher, new_user, new_writer, UserState, WriterState}
+use Rattle.model_core.specs.{Actor, CheckpointerState, CleanerState, CloserState, FlusherState, line_at, lsn, ReaderState, new_checkpointer, new_cleaner, new_closer, new_flusher, new_reader, new_user, new_writer, UserState, WriterState}
 use Rattle.model_core.specs.LogSide.{LogSide}
 use Rattle.model_core.specs.Setup.{Setup}
 use Rattle.model_core.specs.StartWords.{start_checkpoint}
@@ -20,7 +20,10 @@ abbrev pub cleaner_start : Setup → CleanerState
 cleaner_start c = new_cleaner c.pages c.page_size
 
 abbrev pub checkpointer_start : Setup → CheckpointerState
-checkpointer_start c = new_checkpointer (lsn c.base)
+checkpointer_start c = new_checkpointer (lsn c.base) c.first_reader c.last_reader
+
+abbrev pub reader_start : Setup → ℕ → ReaderState
+reader_start c number = new_reader number (lsn c.base)
 
 -- a user that has lines, each with a group of bytes and a mode, and has done nothing
 pub record StartUser (c : Setup) (u : UserState) : Type 0 where
@@ -37,6 +40,7 @@ StartActor c seat_of writer seat (actor.Flusher f) = (seat ≡ writer + 1) × (f
 StartActor c seat_of writer seat (actor.Closer t) = (seat ≡ c.closer) × ◌≡◌ {A = CloserState} t (closer_start c)
 StartActor c seat_of writer seat (actor.Cleaner v) = (seat ≡ c.cleaner) × ◌≡◌ {A = CleanerState} v (cleaner_start c)
 StartActor c seat_of writer seat (actor.Checkpointer t) = (seat ≡ c.checkpointer) × ◌≡◌ {A = CheckpointerState} t (checkpointer_start c)
+StartActor c seat_of writer seat (actor.Reader r) = (seat ≡ c.reader_at r.number) × (c.first_reader ≤ r.number) × (r.number < c.last_reader) × ◌≡◌ {A = ReaderState} r (reader_start c r.number)
 StartActor c seat_of writer seat (actor.Joined es) = es ≡ []
 
 pub record StartPart (D : LogSide) (c : Setup) (p : D.Part) : Type 0 where

@@ -18,6 +18,7 @@ use Rattle.model_core.specs.declared.steps.UserStep.TheVariants as user_step
 use Rattle.model_core.specs.declared.words.LinkBuffer.TheVariants as link_buffer
 use Rattle.model_core.specs.declared.steps.WriterStep.TheVariants as writer_step
 use Rattle.model_core.specs.declared.steps.FlusherStep.TheVariants as flusher_step
+use Rattle.model_core.specs.declared.steps.ReaderStep.TheVariants as reader_step
 use Rattle.model_core.specs.declared.steps.CloserStep.TheVariants as closer_step
 use Rattle.model_core.specs.declared.steps.CleanerStep.TheVariants as cleaner_step
 use Rattle.model_core.specs.declared.steps.CheckpointerStep.TheVariants as checkpointer_step
@@ -180,6 +181,7 @@ HasMetFailure (actor.Flusher f) = (f.step ≡ flusher_step.GiveFailed) ⊎ (f.st
 HasMetFailure (actor.Closer t) = t.step ≡ closer_step.Failed
 HasMetFailure (actor.Cleaner v) = v.step ≡ cleaner_step.Failed
 HasMetFailure (actor.Checkpointer t) = (t.step ≡ checkpointer_step.GiveFailed) ⊎ (t.step ≡ checkpointer_step.Failed)
+HasMetFailure (actor.Reader r) = (r.step ≡ reader_step.GiveFailed) ⊎ (r.step ≡ reader_step.Failed)
 HasMetFailure (actor.Joined es) = ⊥
 
 -- A FAILURE SHOWS: an actor has loaded or stored a nonzero code only where FAILED has one

@@ -6,7 +6,7 @@ use lib.ListN.{get_elem?}
 use mathlib.Core.Option.{some, some-ne-none}
 use Rattle.model_core.proofs.Groups.{some_same}
 use Rattle.model_core.proofs.Tails.{tail_in}
-use Rattle.model_core.specs.{Actor, BatchPage, checkpointer_took, CheckpointerState, cleaner_took, CleanerState, Entry, first_of_batch, floor, framed_page, Listed, lsn, no_page, page_words_at, PageWords, SharedWords, tail_word, UserState, with_page_words}
+use Rattle.model_core.specs.{Actor, BatchPage, checkpointer_took, CheckpointerState, cleaner_took, CleanerState, Entry, first_of_batch, floor, framed_page, Listed, lsn, no_page, page_words_at, PageWords, SharedWords, tail_of, tail_word, UserState, with_page_words}
 use Rattle.model_core.specs.DataSide.{DataSide}
 use Rattle.model_core.specs.Setup.{Setup}
 use Rattle.model_core.specs.declared.steps.CleanerStep.{CleanerStep}
@@ -160,8 +160,23 @@ module _ (E : DataSide) (c : Setup) (seat_of : ℕ → ℕ) (m : SharedWords) (l
 
     -- it loads CTAIL
     pub keeps_begin : t.step ≡ checkpointer_step.LoadCtail → Then m h (checkpointer_took t (answer.Old (tail_word m.ctail m.cheld)) checkpointer_step.LoadCtail)
-    keeps_begin ph = let low = tail_in m.ctail m.cheld in
-        mild (checkpointer_took t (answer.Old (tail_word m.ctail m.cheld)) checkpointer_step.LoadCtail) (record { alone = his.alone; with_pages = his.with_pages; loaded = ((omega arith), his.loaded.1); given = λ _. his.given (ap rests ph); step = ((omega arith), (λ q _ l. absurd (omega arith)), (omega arith)) })
+    keeps_begin ph = by (eqb t.first t.last)
+      where
+        by : (b : Bool) → Then m h (record t { ctail = tail_of (tail_word m.ctail m.cheld); to = tail_of (tail_word m.ctail m.cheld); list = 0; reader = t.first; step = cond b checkpointer_step.ReadList checkpointer_step.LoadPlace })
+        by true = let low = tail_in m.ctail m.cheld in mild (record t { ctail = tail_of (tail_word m.ctail m.cheld); to = tail_of (tail_word m.ctail m.cheld); list = 0; reader = t.first; step = checkpointer_step.ReadList })
+            (record { alone = his.alone; with_pages = his.with_pages; loaded = ((omega arith), his.loaded.1); given = λ _. his.given (ap rests ph); step = ((omega arith), (λ q _ l. absurd (omega arith)), (omega arith)) })
+        by false = let low = tail_in m.ctail m.cheld in mild (record t { ctail = tail_of (tail_word m.ctail m.cheld); to = tail_of (tail_word m.ctail m.cheld); list = 0; reader = t.first; step = checkpointer_step.LoadPlace })
+            (record { alone = his.alone; with_pages = his.with_pages; loaded = ((omega arith), his.loaded.1); given = λ _. his.given (ap rests ph); step = ((omega arith), refl) })
+
+    -- it loads the place of a reader, whatever that is
+    pub keeps_place_bound : t.step ≡ checkpointer_step.LoadPlace → (n : ℕ) → Then m h (checkpointer_took t (answer.Old n) checkpointer_step.LoadPlace)
+    keeps_place_bound ph n = by (eqb (t.reader + 1) t.last) (subst (CheckpointerPagesAt E c m log h ls d seat t) ph his.step)
+      where
+        by : (b : Bool) → CheckpointerPagesAt E c m log h ls d seat t checkpointer_step.LoadPlace → Then m h (record t { to = min t.to n; reader = t.reader + 1; step = cond b checkpointer_step.ReadList checkpointer_step.LoadPlace })
+        by true o = let o0 = o.0 in let o1 = o.1 in mild (record t { to = min t.to n; reader = t.reader + 1; step = checkpointer_step.ReadList })
+            (record { alone = his.alone; with_pages = his.with_pages; loaded = his.loaded; given = λ _. his.given (ap rests ph); step = ((omega arith), (λ q _ l. absurd (omega arith)), (omega arith)) })
+        by false o = let o0 = o.0 in let o1 = o.1 in mild (record t { to = min t.to n; reader = t.reader + 1; step = checkpointer_step.LoadPlace })
+            (record { alone = his.alone; with_pages = his.with_pages; loaded = his.loaded; given = λ _. his.given (ap rests ph); step = ((omega arith), o1) })
 
     -- it gives a list back
     pub keeps_next_list : length m.lists ≡ 4 → t.step ≡ checkpointer_step.GiveList → Then (record m { lists = slice_set m.lists t.list 0 }) h (checkpointer_took t (answer.Taken None) checkpointer_step.GiveList)

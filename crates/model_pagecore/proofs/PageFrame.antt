@@ -317,6 +317,7 @@ module _ (E : DataSide) (c : Setup) (seat_of : ℕ → ℕ) (m m' : SharedWords)
 
     checkpointer_at_later : (t : CheckpointerState) → StillCheckpointer → (f : CheckpointerStep) → CheckpointerPagesAt E c m log h ls d j t f → CheckpointerPagesAt E c m' log' h' ls' d' j t f
     checkpointer_at_later t still checkpointer_step.LoadCtail o = tt
+    checkpointer_at_later t still checkpointer_step.LoadPlace o = ((let a = o.0 in let b = later.ctail in omega arith), o.1)
     checkpointer_at_later t still checkpointer_step.ReadList o = ((let a = o.0 in let b = later.ctail in omega arith), read_later t.to t.list still o.0 o.1, o.2)
     checkpointer_at_later t still checkpointer_step.GiveList o = ((let a = o.0 in let b = later.ctail in omega arith), read_later t.to (t.list + 1) still o.0 o.1, o.2, list_later t.list o.3)
     checkpointer_at_later t still checkpointer_step.LoadFlushed o = ((let a = o.0 in let b = later.ctail in omega arith), read_later t.to 4 still o.0 o.1)
@@ -341,6 +342,7 @@ module _ (E : DataSide) (c : Setup) (seat_of : ℕ → ℕ) (m m' : SharedWords)
     page_others ca po (actor.Closer t) own_seat o = closer_later t o
     page_others ca po (actor.Cleaner v) own_seat o = cleaner_later v (ca (λ z. ne (o.alone ∙ sym z))) o
     page_others ca po (actor.Checkpointer t) own_seat o = checkpointer_later t (po (λ z. ne (o.alone ∙ sym z))) o
+    page_others ca po (actor.Reader r) own_seat o = tt
     page_others ca po (actor.Joined es) own_seat o = tt
 
 -- no page's words and no list change, and the history doesn't

@@ -239,6 +239,7 @@ module _ (E : DataSide) (c : Setup) (m : SharedWords) (log : List Entry) (h : Pa
   CanGive t = ReadBelow t.to FLUSH_LISTS × (t.to ≤ m.ctail) × (t.to ≤ m.flushed) × (t.to % BLOCK_SIZE ≡ 0) × (t.own < t.to)
 
   abbrev pub CheckpointerPagesAt : ℕ → CheckpointerState → CheckpointerStep → Type 0
+  CheckpointerPagesAt seat t checkpointer_step.LoadPlace = (t.to ≤ m.ctail) × (t.list ≡ 0)
   CheckpointerPagesAt seat t checkpointer_step.ReadList = (t.to ≤ m.ctail) × ReadBelow t.to t.list × (t.list < FLUSH_LISTS)
   CheckpointerPagesAt seat t checkpointer_step.GiveList = (t.to ≤ m.ctail) × ReadBelow t.to (t.list + 1) × (t.list < FLUSH_LISTS) × HasList seat t.list
   CheckpointerPagesAt seat t checkpointer_step.LoadFlushed = (t.to ≤ m.ctail) × ReadBelow t.to FLUSH_LISTS

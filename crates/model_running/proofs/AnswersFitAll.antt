@@ -8,6 +8,7 @@ use Rattle.model_base.specs.declared.limits.TheConstants.{LSN_LIMIT}
 use Rattle.model_core.proofs.Groups.{tiles_at}
 use Rattle.model_core.proofs.Lsns.{lsn_le}
 use Rattle.model_core.specs.{Actor, checkpointer_op, cleaner_fits, cleaner_op, CleanerState, closer_fits, closer_op, CloserState, end_of, flusher_op, is_checking, Listed, lsn, next, old_of, own_op, PageFitting, shared_answer, SharedWords, user_op, writer_op, Advance, advance_op, user_page_fits, UserState}
+use Rattle.model_core.specs.{reader_op}
 use Rattle.model_core.specs.AnswerFits.{AnswerFits}
 use Rattle.model_core.specs.DataSide.{DataSide}
 use Rattle.model_core.specs.LogSide.{LogSide}
@@ -71,6 +72,7 @@ module _ (D : LogSide) (E : DataSide) (c : Setup) (spare : ℕ) (m : SharedWords
   pages_can (actor.User u) at = let f : UserPageFits E c m g.log h ls d seat u = both.paged.each seat (actor.User u) at in checking_fits u.checks (user_op u u.step) (λ n. user_page_fits u n u.step) (user_can u u.step f.closing)
   pages_can (actor.Writer s) at = checking_fits s.checks (writer_op s s.step) (λ n. Unit {0}) tt
   pages_can (actor.Flusher t) at = checking_fits t.checks (flusher_op t t.step) (λ n. Unit {0}) tt
+  pages_can (actor.Reader t) at = checking_fits t.checks (reader_op t t.step) (λ n. Unit {0}) tt
   pages_can (actor.Closer t) at = let f : CloserFits E c m g.log h ls d seat t = both.paged.each seat (actor.Closer t) at in checking_fits t.checks (closer_op t t.step) (λ n. closer_fits t n t.step) (closer_can t t.step f.step)
   pages_can (actor.Cleaner v) at = let f : CleanerFits E c m g.log h ls d seat v = both.paged.each seat (actor.Cleaner v) at in checking_fits v.checks (cleaner_op v v.step) (λ n. cleaner_fits n v.step) (cleaner_can v v.step f.step)
   pages_can (actor.Checkpointer t) at = checking_fits t.checks (checkpointer_op t t.step) (λ n. Unit {0}) tt

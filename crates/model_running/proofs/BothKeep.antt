@@ -1,10 +1,15 @@
 -- Whatever an actor's next Op is, its turn keeps the page half.
-use Rattle.std.proofs.Common.{Bool, List, arith, cond, false, refl, set, subst, sym, true, ℕ, ◌≡◌}
+use Rattle.model_running.proofs.ReadStays.{given_to, IsFilled, read_kept}
+use Rattle.model_running.specs.ReadHalf.{ReadHalf, StaysInRun}
+use Rattle.model_core.specs.Actors.{Room}
+use Rattle.std.proofs.Common.{Bool, List, arith, cond, false, refl, set, subst, sym, true, ℕ, ◌≡◌, ⊎_elim}
 use Rattle.std.specs.Prelude.{slice_index}
 use lib.ListN.{get_elem?}
 use mathlib.Core.Option.{some}
 use Rattle.model_core.specs.{Actor, Blocks, checked, DataServed, Entry, flusher_op, lent, Listed, lists_left, log_left, LogServed, next, Nothing, old_of, own_took, shared_answer, shared_left, SharedWords, took, writer_op}
+use Rattle.model_core.specs.{reader_op}
 use Rattle.model_core.specs.DataSide.{DataSide}
+use Rattle.model_core.specs.declared.ops.Answer.{Answer}
 use Rattle.model_core.specs.LogSide.{LogSide}
 use Rattle.model_core.specs.Setup.{Setup}
 use Rattle.model_core.proofs.TailHolders.{holder_stays}
@@ -21,7 +26,7 @@ use Rattle.model_core.specs.declared.words.LinkBuffer.TheVariants as link_buffer
 use Rattle.model_core.specs.Actors as actor
 use Rattle.model_core.specs.declared.words.Word.TheVariants as word
 use Rattle.model_core.specs.declared.ops.Op.TheVariants as op
-use Rattle.model_running.proofs.AskedBound.{asked_bound}
+use Rattle.model_running.proofs.LogCalls.{asked_bound, told_before}
 use Rattle.model_running.proofs.CallConditions.{can_checkpoint}
 use Rattle.model_running.proofs.Causes.{caused}
 use Rattle.model_running.proofs.CheckpointStays.{checkpoint_stays}
@@ -30,8 +35,19 @@ use Rattle.model_running.proofs.CleanerTurns.{cleaner_turn}
 use Rattle.model_running.proofs.ClosedKeep.{users_closed}
 use Rattle.model_running.proofs.LatchesKeep.{latches_kept}
 use Rattle.model_running.proofs.LogTurns.{closer_turn, flusher_turn, writer_turn}
+use Rattle.model_running.proofs.LogTurns.{reader_turn}
 use Rattle.model_running.proofs.PageTurn.{PageDone, as_is, rested}
+use Rattle.model_core.proofs.Lists.{at_set}
+use Rattle.model_running.proofs.InRun.{stays_in_run}
 use Rattle.model_running.proofs.UserTurns.{user_turn}
+
+-- both halves, over a log
+pub record BothLeft (D : LogSide) (E : DataSide) (c : Setup) (spare : ℕ) (m : SharedWords) (ls : ℕ → List Listed)
+    (p : D.Part) (d : E.Part) (actors : List Actor) (log : List Entry) : Type 0 where
+  pub log_ghost : LogGhost
+  pub page_ghost : PageGhost
+  pub both : BothHalves D E c spare m log_ghost page_ghost ls p d actors
+  pub log_is : log_ghost.log ≡ log
 
 module _ (D : LogSide) (L : LogLaws D) (E : DataSide) (EL : DataLaws E) (c : Setup) (spare : ℕ) (m : SharedWords) (g : LogGhost) (h : PageGhost) (ls : ℕ → List Listed) (p : D.Part) (d : E.Part) (actors : List Actor) (seat : ℕ) (both : BothHalves D E c spare m g h ls p d actors) (code : ℕ) (q : D.Part) (e : E.Part) where
   -- the page half of a turn, given the log half's
@@ -53,15 +69,60 @@ module _ (D : LogSide) (L : LogLaws D) (E : DataSide) (EL : DataLaws E) (c : Set
           → PageDone D E c m h actors seat q e (shared_left m (cond b (op.Load word.Failed) (flusher_op t t.step))) g.log (lists_left ls (λ i. slice_index m.lists i) (cond b (op.Load word.Failed) (flusher_op t t.step))) (cond b (checked (actor.Flusher t) (old_of (shared_answer ls (D.failed p) code (D.stable q) m (cond b (op.Load word.Failed) (flusher_op t t.step))))) (own_took (actor.Flusher t) (shared_answer ls (D.failed p) code (D.stable q) m (cond b (op.Load word.Failed) (flusher_op t t.step)))))
       flusher_by true k after w v = flusher_turn D L E c spare m g h ls p d actors seat both code q e t at true _ k after w v
       flusher_by false k after w v = flusher_turn D L E c spare m g h ls p d actors seat both code q e t at false _ k after w v
+  page_turn (actor.Reader t) at w v k after = reader_by t.checks k after w v
+    where
+      reader_by : (b : Bool) (k : LogGhost) → LogHalf D c spare (shared_left m (cond b (op.Load word.Failed) (reader_op t t.step))) k q (set actors seat (cond b (checked (actor.Reader t) (old_of (shared_answer ls (D.failed p) code (D.stable q) m (cond b (op.Load word.Failed) (reader_op t t.step))))) (own_took (actor.Reader t) (shared_answer ls (D.failed p) code (D.stable q) m (cond b (op.Load word.Failed) (reader_op t t.step))))))
+          → LogServed D p (Room t.block) (cond b (op.Load word.Failed) (reader_op t t.step)) code q → DataServed E d (Room t.block) (cond b (op.Load word.Failed) (reader_op t t.step)) code e
+          → PageDone D E c m h actors seat q e (shared_left m (cond b (op.Load word.Failed) (reader_op t t.step))) g.log (lists_left ls (λ i. slice_index m.lists i) (cond b (op.Load word.Failed) (reader_op t t.step))) (cond b (checked (actor.Reader t) (old_of (shared_answer ls (D.failed p) code (D.stable q) m (cond b (op.Load word.Failed) (reader_op t t.step))))) (own_took (actor.Reader t) (shared_answer ls (D.failed p) code (D.stable q) m (cond b (op.Load word.Failed) (reader_op t t.step)))))
+      reader_by true k after w v = reader_turn D L E c spare m g h ls p d actors seat both code q e t at true _ k after w v
+      reader_by false k after w v = reader_turn D L E c spare m g h ls p d actors seat both code q e t at false _ k after w v
   page_turn (actor.Closer t) at w v k after = closer_turn D L E c spare m g h ls p d actors seat both code q e t at t.checks w v
   page_turn (actor.Cleaner x) at w v k after = cleaner_turn D L E EL c spare m g h ls p d actors seat both code q e x at x.checks w v
   page_turn (actor.Checkpointer t) at w v k after = checkpointer_turn D L E EL c spare m g h ls p d actors seat both code q e t at t.checks w v k after
   page_turn (actor.Joined es) at w v k after = as_is D E c m h actors seat p q d e _ w v (rested both seat (actor.Joined es) at)
 
-  -- THE step lemma over the words by name: whatever the actor's next Op is, its turn keeps both halves
-  pub keeps_both : (a : Actor) → get_elem? actors seat ≡ some a → LogServed D p (lent a) (next a) code q → DataServed E d (lent a) (next a) code e
-      → (k : LogGhost) × (n : PageGhost) × BothHalves D E c spare (shared_left m (next a)) k n (lists_left ls (λ i. slice_index m.lists i) (next a)) q e (set actors seat (took a (shared_answer ls (D.failed p) code (D.stable q) m (next a))))
-  keeps_both a at w v =
-      let r = keeps D L c spare m g p actors seat both.logged code q ls (can_checkpoint D L E EL c spare m g h ls p d actors seat both) a at w in
+  -- THE step lemma over the words by name: whatever the actor's next Op is, its turn keeps both halves, over the log
+  -- that the Op leaves
+  pub keeps_both : (a : Actor) → get_elem? actors seat ≡ some a → IsFilled a → LogServed D p (lent a) (next a) code q
+      → DataServed E d (lent a) (next a) code e
+      → BothLeft D E c spare (shared_left m (next a)) (lists_left ls (λ i. slice_index m.lists i) (next a)) q e
+      (set actors seat (took a (shared_answer ls (D.failed p) code (D.stable q) m (next a)))) (log_left g.log m.sn a)
+  keeps_both a at full w v =
+      let words : SharedWords = shared_left m (next a) in
+      let lists : ℕ → List Listed = lists_left ls (λ i. slice_index m.lists i) (next a) in
+      let said : Answer = shared_answer ls (D.failed p) code (D.stable q) m (next a) in
+      let now : List Actor = set actors seat (took a said) in
+      let checks = can_checkpoint D L E EL c spare m g h ls p d actors seat both in
+      let asks = given_to D E c spare m g h ls p d actors seat both in
+      let r = keeps D L c spare m g p actors seat both.logged code q ls checks a at w in
       let b = page_turn a at w v r.0 r.1 in
-      (r.0, b.0, record { script = both.script; closed = subst (λ (l : List Entry). UsersClosed l b.0.closed (set actors seat (took a (shared_answer ls (D.failed p) code (D.stable q) m (next a))))) (sym r.2) (users_closed D E c spare m g h ls p d actors seat both b.0 b.2 a at (shared_answer ls (D.failed p) code (D.stable q) m (next a)) b.1.paged.closed_links); asked = (let up = b.2.given in let z = asked_bound D L E EL c spare m g h ls p d actors seat both code q a at w in omega arith); advanced = holder_stays m ls (D.failed p) code (D.stable q) link_buffer.Closed actors seat a at (both.logged.without_tail seat a at) both.advanced; latches = latches_kept D E c spare m g h ls p d actors seat both (D.failed p) code (D.stable q) (log_left g.log m.sn a) (D.stable q) b.0 (lists_left ls (λ i. slice_index m.lists i) (next a)) e b.2 a at b.1; stays = λ alone. checkpoint_stays D E c spare m g h ls p d actors seat both alone a at; cause = caused D L E EL c spare m g h ls p d actors seat both code q e a at w v; logged = r.1; paged = subst (λ (l : List Entry). PageHalf E c (shared_left m (next a)) l (D.stable q) b.0 (lists_left ls (λ i. slice_index m.lists i) (next a)) e (set actors seat (took a (shared_answer ls (D.failed p) code (D.stable q) m (next a))))) (sym r.2) b.1 })
+      let page = b.0 in
+      let same : ◌≡◌ {A = List Entry} (log_left g.log m.sn a) r.0.log = sym r.2 in
+      let up = b.2.given in
+      let within = asked_bound D L E EL c spare m g h ls p d actors seat both code q h.given both.asked asks a at w in
+      record {
+        log_ghost = r.0;
+        page_ghost = page;
+        log_is = r.2;
+        both = record {
+          script = both.script;
+          closed = subst (λ (l : List Entry). UsersClosed l page.closed now) same
+              (users_closed D E c spare m g h ls p d actors seat both page b.2 a at said b.1.paged.closed_links);
+          asked = omega arith;
+          advanced = holder_stays m ls (D.failed p) code (D.stable q) link_buffer.Closed actors seat a at
+              (both.logged.without_tail seat a at) both.advanced;
+          latches = latches_kept D E c spare m g h ls p d actors seat both (D.failed p) code (D.stable q)
+              (log_left g.log m.sn a) (D.stable q) page lists e b.2 a at b.1;
+          stays = λ alone. checkpoint_stays D E c spare m g h ls p d actors seat both alone a at;
+          cause = caused D L E EL c spare m g h ls p d actors seat both code q e a at w v;
+          logged = r.1;
+          in_run = λ j x there. ⊎_elim
+              (λ t. subst (StaysInRun c) t.1 (stays_in_run c both.script.readers a said (both.in_run seat a at)))
+              (λ t. both.in_run j x t.1) (at_set actors seat j (took a said) x there);
+          reading = λ told.
+              let before = told_before D L E EL c spare m g h ls p d actors seat both code q told a at w in
+              subst (λ (l : List Entry). ReadHalf D c words l q now) same
+              (read_kept D L E EL c spare m g h ls p d actors seat both code q told before a at full w);
+          paged = subst (λ (l : List Entry). PageHalf E c words l (D.stable q) page lists e now) same b.1;
+        };
+      }

@@ -1,8 +1,10 @@
 -- The conditions of each call of both parts, where an actor asks for it.
+use Rattle.model_core.specs.Actors.{Room}
 use Rattle.std.proofs.Common.{Bool, List, ap, cond, false, refl, true, ℕ, ◌∙◌, ◌≡◌}
 use lib.ListN.{get_elem?}
 use mathlib.Core.Option.{some}
 use Rattle.model_core.specs.{Actor, Batch, Blocks, checkpointer_op, CheckpointerState, cleaner_op, CleanerState, closer_op, CloserState, flusher_op, FlusherState, Lent, lent, Listed, next, Nothing, SharedWords, user_op, UserState, writer_op, WriterState}
+use Rattle.model_core.specs.{reader_op, ReaderState}
 use Rattle.model_core.specs.DataSide.{DataSide}
 use Rattle.model_core.specs.LogSide.{LogSide}
 use Rattle.model_core.specs.Setup.{Setup}
@@ -11,6 +13,7 @@ use Rattle.model_core.specs.declared.steps.CheckpointerStep.{CheckpointerStep}
 use Rattle.model_core.specs.declared.steps.CleanerStep.{CleanerStep}
 use Rattle.model_core.specs.declared.steps.CloserStep.{CloserStep}
 use Rattle.model_core.specs.declared.steps.FlusherStep.{FlusherStep}
+use Rattle.model_core.specs.declared.steps.ReaderStep.{ReaderStep}
 use Rattle.model_core.specs.declared.steps.UserStep.{UserStep}
 use Rattle.model_core.specs.declared.steps.WriterStep.{WriterStep}
 use Rattle.model_logcore.proofs.Ready.{ready}
@@ -27,6 +30,7 @@ use Rattle.model_core.specs.declared.ops.Op.TheVariants as op
 use Rattle.model_core.specs.declared.steps.UserStep.TheVariants as user_step
 use Rattle.model_core.specs.declared.steps.WriterStep.TheVariants as writer_step
 use Rattle.model_core.specs.declared.steps.FlusherStep.TheVariants as flusher_step
+use Rattle.model_core.specs.declared.steps.ReaderStep.TheVariants as reader_step
 use Rattle.model_core.specs.declared.steps.CloserStep.TheVariants as closer_step
 use Rattle.model_core.specs.declared.steps.CleanerStep.TheVariants as cleaner_step
 use Rattle.model_core.specs.declared.steps.CheckpointerStep.TheVariants as checkpointer_step
@@ -61,6 +65,10 @@ module _ (D : LogSide) (L : LogLaws D) (E : DataSide) (EL : DataLaws E) (c : Set
   flusher_data l t flusher_step.LoadWrite = tt
   flusher_data l t _ = tt
 
+  reader_data : (l : Lent) (t : ReaderState) (f : ReaderStep) → BatchReady E c h.kept_page l d (reader_op t f)
+  reader_data l t reader_step.LoadFlushed = tt
+  reader_data l t _ = tt
+
   closer_data : (l : Lent) (t : CloserState) (f : CloserStep) → BatchReady E c h.kept_page l d (closer_op t f)
   closer_data l t (closer_step.Advance advance_step.LoadTail) = tt
   closer_data l t _ = tt
@@ -73,6 +81,7 @@ module _ (D : LogSide) (L : LogLaws D) (E : DataSide) (EL : DataLaws E) (c : Set
   data_ready (actor.User u) at = checking Nothing u.checks (user_op u u.step) (user_data Nothing u u.step)
   data_ready (actor.Writer s) at = checking (Blocks s.kept s.firsts) s.checks (writer_op s s.step) (writer_data (Blocks s.kept s.firsts) s s.step)
   data_ready (actor.Flusher t) at = checking Nothing t.checks (flusher_op t t.step) (flusher_data Nothing t t.step)
+  data_ready (actor.Reader t) at = checking (Room t.block) t.checks (reader_op t t.step) (reader_data (Room t.block) t t.step)
   data_ready (actor.Closer t) at = checking Nothing t.checks (closer_op t t.step) (closer_data Nothing t t.step)
   data_ready (actor.Cleaner v) at = checking (Batch v.batch) v.checks (cleaner_op v v.step) (cleaner_ready v at v.step refl)
   data_ready (actor.Checkpointer t) at = checking Nothing t.checks (checkpointer_op t t.step) (checkpointer_data Nothing t t.step)

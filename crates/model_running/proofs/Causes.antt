@@ -1,9 +1,12 @@
 -- FAILED has a cause: it is stored only by an actor whose device call failed, and no later step takes a cause back.
+use Rattle.model_core.specs.ReaderProgram.{next_block}
+use Rattle.model_core.specs.Actors.{Room}
 use Rattle.std.proofs.Common.{Bool, List, cond, eqb, false, inl, inr, refl, subst, sym, true, ℕ, ◌+◌, ◌%◌, ◌<◌, ◌≡◌, ◌⊎◌, ⊎_elim}
 use Rattle.std.specs.Prelude.{slice_index, slice_set}
 use lib.ListN.{get_elem?}
 use mathlib.Core.Option.{some}
 use Rattle.model_core.specs.{Actor, Batch, Blocks, checkpointer_op, CheckpointerState, cleaner_op, CleanerState, closer_op, CloserState, DataServed, flusher_op, FlusherState, lent, Listed, LogServed, next, Nothing, read, shared_left, SharedWords, user_op, UserState, writer_op, WriterState, wrote}
+use Rattle.model_core.specs.{reader_op, ReaderState}
 use Rattle.model_core.specs.DataSide.{DataSide}
 use Rattle.model_core.specs.LogSide.{LogSide}
 use Rattle.model_core.specs.Setup.{Setup}
@@ -13,6 +16,7 @@ use Rattle.model_core.specs.declared.steps.UserStep.{UserStep}
 use Rattle.model_core.specs.declared.steps.CheckpointerStep.{CheckpointerStep}
 use Rattle.model_core.specs.declared.steps.WriterStep.{WriterStep}
 use Rattle.model_core.specs.declared.steps.FlusherStep.{FlusherStep}
+use Rattle.model_core.specs.declared.steps.ReaderStep.{ReaderStep}
 use Rattle.model_logcore.proofs.DeviceSteps.{can_write}
 use Rattle.model_logcore.specs.{LogGhost}
 use Rattle.model_logcore.specs.LogLaws.{LogLaws}
@@ -29,6 +33,7 @@ use Rattle.model_core.specs.declared.words.Word.TheVariants as word
 use Rattle.model_core.specs.declared.ops.Op.TheVariants as op
 use Rattle.model_core.specs.declared.steps.WriterStep.TheVariants as writer_step
 use Rattle.model_core.specs.declared.steps.FlusherStep.TheVariants as flusher_step
+use Rattle.model_core.specs.declared.steps.ReaderStep.TheVariants as reader_step
 use Rattle.model_logcore.specs.LogFits as marks
 use Rattle.model_core.specs.declared.ops.Op.{Op}
 use Rattle.model_core.specs.declared.words.Word.{Word}
@@ -113,6 +118,11 @@ module _ (D : LogSide) (L : LogLaws D) (E : DataSide) (EL : DataLaws E) (c : Set
   flusher_caused t flusher_step.StoreFailed k w v = λ _. inl (subst (λ (y : D.Part). D.Cause y t.code) (sym w) k.1)
   flusher_caused t f k w v = quiet (flusher_op t f) tt w v
 
+  reader_caused : (t : ReaderState) (f : ReaderStep) → marks.ReaderAt D c m g p t f → LogServed D p (Room t.block) (reader_op t f) code q → DataServed E d (Room t.block) (reader_op t f) code e → CausedBy (reader_op t f)
+  reader_caused t reader_step.ReadBlock k w v = log_called (reader_op t reader_step.ReadBlock) tt (L.reads c.blocks c.base g.log (next_block t) code t.block p q both.logged.global.part.holds k w).causes v
+  reader_caused t reader_step.StoreFailed k w v = λ _. inl (subst (λ (y : D.Part). D.Cause y t.code) (sym w) k.1)
+  reader_caused t f k w v = quiet (reader_op t f) tt w v
+
   closer_caused : (t : CloserState) (f : CloserStep) → LogServed D p Nothing (closer_op t f) code q → DataServed E d Nothing (closer_op t f) code e → CausedBy (closer_op t f)
   closer_caused t (closer_step.Advance advance_step.LoadTail) w v = quiet (closer_op t (closer_step.Advance advance_step.LoadTail)) tt w v
   closer_caused t f w v = quiet (closer_op t f) tt w v
@@ -146,6 +156,11 @@ module _ (D : LogSide) (L : LogLaws D) (E : DataSide) (EL : DataLaws E) (c : Set
       by : (b : Bool) → LogServed D p Nothing (cond b (op.Load word.Failed) (flusher_op t t.step)) code q → DataServed E d Nothing (cond b (op.Load word.Failed) (flusher_op t t.step)) code e → CausedBy (cond b (op.Load word.Failed) (flusher_op t t.step))
       by true w v = quiet (op.Load word.Failed) tt w v
       by false w v = let T : marks.FlusherFits D c m g p seat t = both.logged.each seat (actor.Flusher t) at in flusher_caused t t.step T.step w v
+  caused (actor.Reader t) at w v = by t.checks w v
+    where
+      by : (b : Bool) → LogServed D p (Room t.block) (cond b (op.Load word.Failed) (reader_op t t.step)) code q → DataServed E d (Room t.block) (cond b (op.Load word.Failed) (reader_op t t.step)) code e → CausedBy (cond b (op.Load word.Failed) (reader_op t t.step))
+      by true w v = quiet (op.Load word.Failed) tt w v
+      by false w v = let T : marks.ReaderFits D c m g p seat t = both.logged.each seat (actor.Reader t) at in reader_caused t t.step T.step w v
   caused (actor.Closer t) at w v = by t.checks w v
     where
       by : (b : Bool) → LogServed D p Nothing (cond b (op.Load word.Failed) (closer_op t t.step)) code q → DataServed E d Nothing (cond b (op.Load word.Failed) (closer_op t t.step)) code e → CausedBy (cond b (op.Load word.Failed) (closer_op t t.step))

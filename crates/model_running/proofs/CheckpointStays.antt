@@ -4,6 +4,7 @@ use Rattle.std.specs.Prelude.{slice_index, slice_set}
 use lib.ListN.{get_elem?}
 use mathlib.Core.Option.{some}
 use Rattle.model_core.specs.{Actor, cleaner_op, CleanerState, closer_op, CloserState, first_of_batch, flusher_op, FlusherState, Listed, next, current_page, page_words_at, shared_left, SharedWords, user_op, UserState, with_page_words, writer_op, WriterState, Advance, advance_op, read, tail_word, wrote}
+use Rattle.model_core.specs.{reader_op, ReaderState}
 use Rattle.model_core.specs.DataSide.{DataSide}
 use Rattle.model_core.specs.LogSide.{LogSide}
 use Rattle.model_core.specs.Setup.{Setup}
@@ -11,6 +12,7 @@ use Rattle.model_core.specs.declared.ops.Op.{Op}
 use Rattle.model_core.specs.declared.steps.CleanerStep.{CleanerStep}
 use Rattle.model_core.specs.declared.steps.CloserStep.{CloserStep}
 use Rattle.model_core.specs.declared.steps.FlusherStep.{FlusherStep}
+use Rattle.model_core.specs.declared.steps.ReaderStep.{ReaderStep}
 use Rattle.model_core.specs.declared.steps.UserStep.{UserStep}
 use Rattle.model_core.specs.declared.steps.WriterStep.{WriterStep}
 use Rattle.model_logcore.specs.{LogGhost}
@@ -25,6 +27,7 @@ use Rattle.model_core.specs.declared.ops.Op.TheVariants as op
 use Rattle.model_core.specs.declared.steps.CleanerStep.TheVariants as cleaner_step
 use Rattle.model_core.specs.declared.steps.CloserStep.TheVariants as closer_step
 use Rattle.model_core.specs.declared.steps.FlusherStep.TheVariants as flusher_step
+use Rattle.model_core.specs.declared.steps.ReaderStep.TheVariants as reader_step
 use Rattle.model_core.specs.declared.steps.UserStep.TheVariants as user_step
 use Rattle.model_core.specs.declared.steps.WriterStep.TheVariants as writer_step
 use Rattle.model_core.specs.declared.words.Word.TheVariants as word
@@ -57,6 +60,10 @@ module _ (m : SharedWords) where
   flusher_stays t flusher_step.TakeDevice = either (eqb m.device 0) (record m { device = 1 }) refl
   flusher_stays t _ = refl
 
+  reader_stays : (t : ReaderState) (f : ReaderStep) → Stays (shared_left m (reader_op t f))
+  reader_stays t reader_step.TakeDevice = either (eqb m.device 0) (record m { device = 1 }) refl
+  reader_stays t _ = refl
+
   closer_stays : (t : CloserState) (f : CloserStep) → Stays (shared_left m (closer_op t f))
   closer_stays t (closer_step.Advance advance_step.TakeTail) = taken link_buffer.Closed t.advance
   closer_stays t _ = refl
@@ -75,6 +82,7 @@ module _ (D : LogSide) (E : DataSide) (c : Setup) (spare : ℕ) (m : SharedWords
   same_after (actor.User u) at = checking m u.checks (user_op u u.step) (user_stays m u u.step)
   same_after (actor.Writer s) at = checking m s.checks (writer_op s s.step) (writer_stays m s s.step)
   same_after (actor.Flusher t) at = checking m t.checks (flusher_op t t.step) (flusher_stays m t t.step)
+  same_after (actor.Reader t) at = checking m t.checks (reader_op t t.step) (reader_stays m t t.step)
   same_after (actor.Closer t) at = checking m t.checks (closer_op t t.step) (closer_stays m t t.step)
   same_after (actor.Cleaner v) at = checking m v.checks (cleaner_op v v.step) (cleaner_stays m v v.step)
   same_after (actor.Checkpointer t) at = let F : CheckpointerPageFits E c m g.log h ls d seat t = both.paged.each seat (actor.Checkpointer t) at in let with_pages = F.with_pages in absurd (cc)

@@ -12,7 +12,7 @@ use Rattle.model_logcore.specs.{LogGhost}
 use Rattle.model_logcore.specs.LogHalf.{LogHalf}
 use Rattle.model_logcore.specs.LogLaws.{LogLaws}
 use Rattle.model_pagecore.proofs.ListSteps.{keeps_oldest_end}
-use Rattle.model_pagecore.proofs.CheckpointSteps.{keeps_begin, keeps_candidate, keeps_next_list, keeps_promise}
+use Rattle.model_pagecore.proofs.CheckpointSteps.{keeps_begin, keeps_candidate, keeps_next_list, keeps_place_bound, keeps_promise}
 use Rattle.model_pagecore.specs.{CheckpointerPageFits, CheckpointerPagesAt, PageGhost, rests}
 use Rattle.model_pagecore.specs.DataLaws.{DataLaws}
 use Rattle.model_running.specs.RunningStore.{BothHalves}
@@ -61,6 +61,7 @@ module _ (D : LogSide) (L : LogLaws D) (E : DataSide) (EL : DataLaws E) (c : Set
     checkpointer_page : (f : CheckpointerStep) → (f ≡ checkpointer_step.Checkpoint → ⊥) → t.step ≡ f → at_pages f
         → Kept (shared_left m (checkpointer_op t f)) g.log (lists_left ls (λ i. slice_index m.lists i) (checkpointer_op t f)) (actor.Checkpointer (checkpointer_took t (shared_answer ls (D.failed p) code (D.stable q) m (checkpointer_op t f)) f))
     checkpointer_page checkpointer_step.LoadCtail n is o = (h, keeps_begin E c g.seat_of m g.log (D.stable p) h ls d actors seat both.paged (mates both) (laid_of both) t at is, unmoved)
+    checkpointer_page checkpointer_step.LoadPlace n is o = (h, keeps_place_bound E c g.seat_of m g.log (D.stable p) h ls d actors seat both.paged (mates both) (laid_of both) t at is (slice_index m.places t.reader), unmoved)
     checkpointer_page checkpointer_step.ReadList n is o = list_read (eqb (slice_index m.lists t.list) 0) refl is o
     checkpointer_page checkpointer_step.GiveList n is o = (h, keeps_next_list E c g.seat_of m g.log (D.stable p) h ls d actors seat both.paged (mates both) (laid_of both) t at both.logged.sized.lists is, unmoved)
     checkpointer_page checkpointer_step.LoadFlushed n is o = (h, keeps_candidate E c g.seat_of m g.log (D.stable p) h ls d actors seat both.paged (mates both) (laid_of both) t at is, unmoved)
@@ -89,6 +90,7 @@ module _ (D : LogSide) (L : LogLaws D) (E : DataSide) (EL : DataLaws E) (c : Set
           → Done (shared_left m (checkpointer_op t f)) g.log (lists_left ls (λ i. slice_index m.lists i) (checkpointer_op t f)) (actor.Checkpointer (checkpointer_took t (shared_answer ls (D.failed p) code (D.stable q) m (checkpointer_op t f)) f))
       by checkpointer_step.Checkpoint is o w v k after = called_it t at (eqb code 0) o k after (let r = (L.checkpoints c.blocks c.base g.log t.to code p q both.logged.global.part.holds (can_checkpoint D L E EL c spare m g h ls p d actors seat both t at is) w).stable in omega arith) v
       by checkpointer_step.LoadCtail is o w v k after = as_is D E c m h actors seat p q d e _ w v (checkpointer_page t at checkpointer_step.LoadCtail (λ z. absurd (cc)) is o)
+      by checkpointer_step.LoadPlace is o w v k after = as_is D E c m h actors seat p q d e _ w v (checkpointer_page t at checkpointer_step.LoadPlace (λ z. absurd (cc)) is o)
       by checkpointer_step.ReadList is o w v k after = as_is D E c m h actors seat p q d e _ w v (checkpointer_page t at checkpointer_step.ReadList (λ z. absurd (cc)) is o)
       by checkpointer_step.GiveList is o w v k after = as_is D E c m h actors seat p q d e _ w v (checkpointer_page t at checkpointer_step.GiveList (λ z. absurd (cc)) is o)
       by checkpointer_step.LoadFlushed is o w v k after = as_is D E c m h actors seat p q d e _ w v (checkpointer_page t at checkpointer_step.LoadFlushed (λ z. absurd (cc)) is o)

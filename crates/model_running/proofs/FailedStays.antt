@@ -4,6 +4,7 @@ use Rattle.std.specs.Prelude.{slice_index, slice_set}
 use lib.ListN.{get_elem?}
 use mathlib.Core.Option.{some}
 use Rattle.model_core.specs.{Actor, checkpointer_op, CheckpointerState, cleaner_op, CleanerState, closer_op, CloserState, Core, flat, flusher_op, FlusherState, index, is_checking, next, own_op, SharedWords, user_op, UserState, words_left, writer_op, WriterState}
+use Rattle.model_core.specs.{reader_op, ReaderState}
 use Rattle.model_core.specs.DataSide.{DataSide}
 use Rattle.model_core.specs.LogSide.{LogSide}
 use Rattle.model_core.specs.Setup.{Setup}
@@ -15,11 +16,13 @@ use Rattle.model_core.specs.declared.steps.CheckpointerStep.{CheckpointerStep}
 use Rattle.model_core.specs.declared.steps.CleanerStep.{CleanerStep}
 use Rattle.model_core.specs.declared.steps.CloserStep.{CloserStep}
 use Rattle.model_core.specs.declared.steps.FlusherStep.{FlusherStep}
+use Rattle.model_core.specs.declared.steps.ReaderStep.{ReaderStep}
 use Rattle.model_core.specs.declared.steps.UserStep.{UserStep}
 use Rattle.model_core.specs.declared.steps.WriterStep.{WriterStep}
 use Rattle.model_core.specs.declared.words.Word.{Word}
 use Rattle.model_logcore.proofs.WriterSteps.{own}
 use Rattle.model_logcore.specs.{CheckpointerAt, CheckpointerFits, CleanerTold, FlusherAt, FlusherFits, LogGhost, WriterAt, WriterFits}
+use Rattle.model_logcore.specs.{ReaderAt, ReaderFits}
 use Rattle.model_logcore.specs.LogHalf.{LogHalf}
 use Rattle.model_running.specs.RunningStore.{IsRunning}
 use Rattle.model_core.specs.declared.words.Word.TheVariants as word
@@ -27,6 +30,7 @@ use Rattle.model_core.specs.declared.ops.Op.TheVariants as op
 use Rattle.model_core.specs.declared.steps.UserStep.TheVariants as user_step
 use Rattle.model_core.specs.declared.steps.WriterStep.TheVariants as writer_step
 use Rattle.model_core.specs.declared.steps.FlusherStep.TheVariants as flusher_step
+use Rattle.model_core.specs.declared.steps.ReaderStep.TheVariants as reader_step
 use Rattle.model_core.specs.declared.steps.CloserStep.TheVariants as closer_step
 use Rattle.model_core.specs.declared.steps.CleanerStep.TheVariants as cleaner_step
 use Rattle.model_core.specs.declared.steps.CheckpointerStep.TheVariants as checkpointer_step
@@ -64,6 +68,7 @@ other_word (word.Wlink i) = inr (λ e. omega arith)
 other_word (word.Clink i) = inr (λ e. omega arith)
 other_word (word.Cell i) = inr (λ e. omega arith)
 other_word (word.First i) = inr (λ e. omega arith)
+other_word (word.Place i) = inr (λ e. omega arith)
 other_word (word.Latch p) = inr (λ e. omega arith)
 other_word (word.Newest p) = inr (λ e. omega arith)
 other_word (word.Oldest p) = inr (λ e. omega arith)
@@ -83,6 +88,7 @@ failed_left ws long (op.TakeRemove p) leaves = inl (else_by ws (8 + p % 4) 1 (sl
 failed_left ws long (op.TakeOldest i) leaves = inl (else_by ws (8 + i) 1 (slice_index ws (8 + i) == 0) (λ e. omega arith))
 failed_left ws long (op.GiveList i) leaves = inl (else_set ws (8 + i) 0 (λ e. omega arith))
 failed_left ws long (op.WriteTo t) leaves = inl refl
+failed_left ws long (op.ReadBlock b) leaves = inl refl
 failed_left ws long op.Sync leaves = inl refl
 failed_left ws long (op.Checkpoint x) leaves = inl refl
 failed_left ws long op.WriteBatch leaves = inl refl
@@ -102,6 +108,10 @@ flusher_leaves : (t : FlusherState) (f : FlusherStep) → LeavesFailed (flusher_
 flusher_leaves t flusher_step.LoadWrite = tt
 flusher_leaves t _ = tt
 
+reader_leaves : (t : ReaderState) (f : ReaderStep) → LeavesFailed (reader_op t f)
+reader_leaves t reader_step.LoadFlushed = tt
+reader_leaves t _ = tt
+
 closer_leaves : (t : CloserState) (f : CloserStep) → LeavesFailed (closer_op t f)
 closer_leaves t (closer_step.Advance advance_step.LoadTail) = tt
 closer_leaves t _ = tt
@@ -118,6 +128,7 @@ own_leaves : (a : Actor) → LeavesFailed (own_op a)
 own_leaves (actor.User u) = user_leaves u u.step
 own_leaves (actor.Writer s) = writer_leaves s s.step
 own_leaves (actor.Flusher t) = flusher_leaves t t.step
+own_leaves (actor.Reader t) = reader_leaves t t.step
 own_leaves (actor.Closer t) = closer_leaves t t.step
 own_leaves (actor.Cleaner v) = cleaner_leaves v v.step
 own_leaves (actor.Checkpointer t) = checkpointer_leaves t t.step
@@ -143,6 +154,10 @@ module _ (D : LogSide) (c : Setup) (spare : ℕ) (m : SharedWords) (g : LogGhost
   flusher_stores t flusher_step.StoreFailed at is = let code : t.code ≡ x = cc in subst (λ (k : ℕ). 0 < k) code at.0
   flusher_stores t _ at is = absurd (cc)
 
+  reader_stores : (t : ReaderState) (f : ReaderStep) → ReaderAt D c m g p t f → reader_op t f ≡ op.Store word.Failed x → 0 < x
+  reader_stores t reader_step.StoreFailed at is = let code : t.code ≡ x = cc in subst (λ (k : ℕ). 0 < k) code at.0
+  reader_stores t _ at is = absurd (cc)
+
   closer_stores : (t : CloserState) (f : CloserStep) → closer_op t f ≡ op.Store word.Failed x → 0 < x
   closer_stores t (closer_step.Advance advance_step.LoadTail) is = absurd (cc)
   closer_stores t _ is = absurd (cc)
@@ -163,6 +178,7 @@ module _ (D : LogSide) (c : Setup) (spare : ℕ) (m : SharedWords) (g : LogGhost
   stores (actor.User u) at = checking_stores u.checks (user_op u u.step) (user_stores u u.step)
   stores (actor.Writer s) at = let f : WriterFits D c m g p seat s = half.each seat (actor.Writer s) at in checking_stores s.checks (writer_op s s.step) (writer_stores s s.step f.step)
   stores (actor.Flusher t) at = let f : FlusherFits D c m g p seat t = half.each seat (actor.Flusher t) at in checking_stores t.checks (flusher_op t t.step) (flusher_stores t t.step f.step)
+  stores (actor.Reader t) at = let f : ReaderFits D c m g p seat t = half.each seat (actor.Reader t) at in checking_stores t.checks (reader_op t t.step) (reader_stores t t.step f.step)
   stores (actor.Closer t) at = checking_stores t.checks (closer_op t t.step) (closer_stores t t.step)
   stores (actor.Cleaner v) at = checking_stores v.checks (cleaner_op v v.step) (cleaner_stores v v.step refl (half.each seat (actor.Cleaner v) at))
   stores (actor.Checkpointer t) at = let f : CheckpointerFits D c m g p seat t = half.each seat (actor.Checkpointer t) at in checking_stores t.checks (checkpointer_op t t.step) (checkpointer_stores t t.step f.step)

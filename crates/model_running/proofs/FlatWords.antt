@@ -1,4 +1,5 @@
 -- The words by name and the list of words; and the one step lemma over the list.
+use Rattle.model_core.specs.Layout.{places_at}
 use Rattle.std.proofs.Common.{Bool, List, [], ap, arith, cond, eqb, false, length, refl, set, suc, sym, true, zero, ℕ, ◌%◌, ◌*◌, ◌++◌, ◌+◌, ◌<◌, ◌∙◌, ◌∷◌, ◌≡◌}
 use Rattle.std.specs.Prelude.{None, slice_index, slice_set}
 use Rattle.model_core.proofs.Groups.{back, front}
@@ -10,7 +11,7 @@ use Rattle.model_core.specs.declared.words.Word.{Word}
 use Rattle.model_core.specs.declared.words.Word.TheVariants as word
 use Rattle.model_core.specs.declared.ops.Op.TheVariants as op
 use Rattle.model_core.specs.declared.ops.Answer.TheVariants as answer
-use Rattle.model_core.specs.declared.limits.TheConstants.{BUFFER_BLOCKS, CLOSED_LINKS, FRAME_WORDS, BUFFER_WORDS, WRITTEN_LINKS}
+use Rattle.model_core.specs.declared.limits.TheConstants.{BUFFER_BLOCKS, CLOSED_LINKS, FRAME_WORDS, BUFFER_WORDS, READERS, WRITTEN_LINKS}
 
 set_front : (xs ys : List ℕ) (i v : ℕ) → i < length xs → set (xs ++ ys) i v ≡ set xs i v ++ ys
 set_front [] ys i v h = absurd (omega arith)
@@ -45,16 +46,19 @@ module _ (pages : ℕ) (m : SharedWords) (s : IsSized pages m) where
   past_set k j x h = ap (λ (z : ℕ). slice_set (flat m) z x) (let e : k ≡ suc (suc (suc (suc (suc (suc (suc (suc j))))))) = omega arith in e)
 
   abbrev r1 : List ℕ
-  r1 = m.wlinks ++ (m.clinks ++ (m.cells ++ (m.firsts ++ flat_page_words m.page_words)))
+  r1 = m.wlinks ++ (m.clinks ++ (m.cells ++ (m.firsts ++ (m.places ++ flat_page_words m.page_words))))
 
   abbrev r2 : List ℕ
-  r2 = m.clinks ++ (m.cells ++ (m.firsts ++ flat_page_words m.page_words))
+  r2 = m.clinks ++ (m.cells ++ (m.firsts ++ (m.places ++ flat_page_words m.page_words)))
 
   abbrev r3 : List ℕ
-  r3 = m.cells ++ (m.firsts ++ flat_page_words m.page_words)
+  r3 = m.cells ++ (m.firsts ++ (m.places ++ flat_page_words m.page_words))
 
   abbrev r4 : List ℕ
-  r4 = m.firsts ++ flat_page_words m.page_words
+  r4 = m.firsts ++ (m.places ++ flat_page_words m.page_words)
+
+  abbrev r5 : List ℕ
+  r5 = m.places ++ flat_page_words m.page_words
 
   to1 : (i : ℕ) → slice_index (rows m) (4 + i) ≡ slice_index r1 i
   to1 i = back m.lists r1 4 i (sym s.lists)
@@ -68,11 +72,14 @@ module _ (pages : ℕ) (m : SharedWords) (s : IsSized pages m) where
   to4 : (i : ℕ) → slice_index (rows m) (4 + (WRITTEN_LINKS + (CLOSED_LINKS + (BUFFER_WORDS + i)))) ≡ slice_index r4 i
   to4 i = to3 (BUFFER_WORDS + i) ∙ back m.cells r4 BUFFER_WORDS i (sym s.cells)
 
-  to5 : (i : ℕ) → slice_index (rows m) (4 + (WRITTEN_LINKS + (CLOSED_LINKS + (BUFFER_WORDS + (BUFFER_BLOCKS + i))))) ≡ slice_index (flat_page_words m.page_words) i
-  to5 i = to4 (BUFFER_BLOCKS + i) ∙ back m.firsts (flat_page_words m.page_words) BUFFER_BLOCKS i (sym s.firsts)
+  to5 : (i : ℕ) → slice_index (rows m) (4 + (WRITTEN_LINKS + (CLOSED_LINKS + (BUFFER_WORDS + (BUFFER_BLOCKS + i))))) ≡ slice_index r5 i
+  to5 i = to4 (BUFFER_BLOCKS + i) ∙ back m.firsts r5 BUFFER_BLOCKS i (sym s.firsts)
+
+  to6 : (i : ℕ) → slice_index (rows m) (4 + (WRITTEN_LINKS + (CLOSED_LINKS + (BUFFER_WORDS + (BUFFER_BLOCKS + (READERS + i)))))) ≡ slice_index (flat_page_words m.page_words) i
+  to6 i = to5 (READERS + i) ∙ back m.places (flat_page_words m.page_words) READERS i (sym s.places)
 
   paged_read : (k i : ℕ) → k ≡ pages_at + i → slice_index (flat m) k ≡ slice_index (flat_page_words m.page_words) i
-  paged_read k i h = past k (4 + (WRITTEN_LINKS + (CLOSED_LINKS + (BUFFER_WORDS + (BUFFER_BLOCKS + i))))) (omega arith) ∙ to5 i
+  paged_read k i h = past k (4 + (WRITTEN_LINKS + (CLOSED_LINKS + (BUFFER_WORDS + (BUFFER_BLOCKS + (READERS + i)))))) (omega arith) ∙ to6 i
 
   sizes : (q : ℕ) → q < length m.page_words → length (page_words_at m.page_words q).frame ≡ FRAME_WORDS
   sizes q l = s.frames q (let k = s.page_words in omega arith)
@@ -93,7 +100,8 @@ module _ (pages : ℕ) (m : SharedWords) (s : IsSized pages m) where
   flat_read (word.Wlink i) h = past (12 + i) (4 + i) (omega arith) ∙ to1 i ∙ front m.wlinks r2 i (omega (arith, s.wlinks))
   flat_read (word.Clink i) h = past (closed_links_at + i) (4 + (WRITTEN_LINKS + i)) (omega arith) ∙ to2 i ∙ front m.clinks r3 i (omega (arith, s.clinks))
   flat_read (word.Cell i) h = past (cells_at + i) (4 + (WRITTEN_LINKS + (CLOSED_LINKS + i))) (omega arith) ∙ to3 i ∙ front m.cells r4 i (omega (arith, s.cells))
-  flat_read (word.First i) h = past (firsts_at + i) (4 + (WRITTEN_LINKS + (CLOSED_LINKS + (BUFFER_WORDS + i)))) (omega arith) ∙ to4 i ∙ front m.firsts (flat_page_words m.page_words) i (omega (arith, s.firsts))
+  flat_read (word.First i) h = past (firsts_at + i) (4 + (WRITTEN_LINKS + (CLOSED_LINKS + (BUFFER_WORDS + i)))) (omega arith) ∙ to4 i ∙ front m.firsts r5 i (omega (arith, s.firsts))
+  flat_read (word.Place i) h = past (places_at + i) (4 + (WRITTEN_LINKS + (CLOSED_LINKS + (BUFFER_WORDS + (BUFFER_BLOCKS + i))))) (omega arith) ∙ to5 i ∙ front m.places (flat_page_words m.page_words) i (omega (arith, s.places))
   flat_read (word.Latch p) h = paged_read (pages_at + p * page_stride) (p * page_stride) refl ∙ ap (slice_index (flat_page_words m.page_words)) (let e : p * page_stride ≡ p * page_stride + 0 = omega arith in e) ∙ leaf_read m.page_words p 0 sizes (long p h) (omega arith)
   flat_read (word.Newest p) h = paged_read (pages_at + (p * page_stride + 1)) (p * page_stride + 1) refl ∙ leaf_read m.page_words p 1 sizes (long p h) (omega arith)
   flat_read (word.Oldest p) h = paged_read (pages_at + (p * page_stride + 2)) (p * page_stride + 2) refl ∙ leaf_read m.page_words p 2 sizes (long p h) (omega arith)
@@ -114,11 +122,14 @@ module _ (pages : ℕ) (m : SharedWords) (s : IsSized pages m) where
   set4 : (i x : ℕ) → slice_set (rows m) (4 + (WRITTEN_LINKS + (CLOSED_LINKS + (BUFFER_WORDS + i)))) x ≡ m.lists ++ (m.wlinks ++ (m.clinks ++ (m.cells ++ slice_set r4 i x)))
   set4 i x = set3 (BUFFER_WORDS + i) x ∙ ap (λ z. m.lists ++ (m.wlinks ++ (m.clinks ++ z))) (set_back m.cells r4 BUFFER_WORDS i x (sym s.cells))
 
-  set5 : (i x : ℕ) → slice_set (rows m) (4 + (WRITTEN_LINKS + (CLOSED_LINKS + (BUFFER_WORDS + (BUFFER_BLOCKS + i))))) x ≡ m.lists ++ (m.wlinks ++ (m.clinks ++ (m.cells ++ (m.firsts ++ slice_set (flat_page_words m.page_words) i x))))
-  set5 i x = set4 (BUFFER_BLOCKS + i) x ∙ ap (λ z. m.lists ++ (m.wlinks ++ (m.clinks ++ (m.cells ++ z)))) (set_back m.firsts (flat_page_words m.page_words) BUFFER_BLOCKS i x (sym s.firsts))
+  set5 : (i x : ℕ) → slice_set (rows m) (4 + (WRITTEN_LINKS + (CLOSED_LINKS + (BUFFER_WORDS + (BUFFER_BLOCKS + i))))) x ≡ m.lists ++ (m.wlinks ++ (m.clinks ++ (m.cells ++ (m.firsts ++ slice_set r5 i x))))
+  set5 i x = set4 (BUFFER_BLOCKS + i) x ∙ ap (λ z. m.lists ++ (m.wlinks ++ (m.clinks ++ (m.cells ++ z)))) (set_back m.firsts r5 BUFFER_BLOCKS i x (sym s.firsts))
+
+  set6 : (i x : ℕ) → slice_set (rows m) (4 + (WRITTEN_LINKS + (CLOSED_LINKS + (BUFFER_WORDS + (BUFFER_BLOCKS + (READERS + i)))))) x ≡ m.lists ++ (m.wlinks ++ (m.clinks ++ (m.cells ++ (m.firsts ++ (m.places ++ slice_set (flat_page_words m.page_words) i x)))))
+  set6 i x = set5 (READERS + i) x ∙ ap (λ z. m.lists ++ (m.wlinks ++ (m.clinks ++ (m.cells ++ (m.firsts ++ z))))) (set_back m.places (flat_page_words m.page_words) READERS i x (sym s.places))
 
   paged_wrote : (k p j x : ℕ) (v : PageWords) → k ≡ pages_at + (p * page_stride + j) → p < pages → j < page_stride → slice_set (leaf_words (page_words_at m.page_words p)) j x ≡ leaf_words v → slice_set (flat m) k x ≡ flat (with_page_words m p v)
-  paged_wrote k p j x v h l lt e = past_set k (4 + (WRITTEN_LINKS + (CLOSED_LINKS + (BUFFER_WORDS + (BUFFER_BLOCKS + (p * page_stride + j)))))) x (omega arith) ∙ ap first_offsets (set5 (p * page_stride + j) x ∙ ap (λ z. m.lists ++ (m.wlinks ++ (m.clinks ++ (m.cells ++ (m.firsts ++ z))))) (leaf_wrote m.page_words p j x v sizes (long p l) lt e))
+  paged_wrote k p j x v h l lt e = past_set k (4 + (WRITTEN_LINKS + (CLOSED_LINKS + (BUFFER_WORDS + (BUFFER_BLOCKS + (READERS + (p * page_stride + j))))))) x (omega arith) ∙ ap first_offsets (set6 (p * page_stride + j) x ∙ ap (λ z. m.lists ++ (m.wlinks ++ (m.clinks ++ (m.cells ++ (m.firsts ++ (m.places ++ z)))))) (leaf_wrote m.page_words p j x v sizes (long p l) lt e))
 
   pub flat_wrote : (w : Word) → IsWord pages w → (x : ℕ) → slice_set (flat m) (index w) x ≡ flat (wrote m w x)
   flat_wrote word.Sn h x = refl
@@ -133,7 +144,8 @@ module _ (pages : ℕ) (m : SharedWords) (s : IsSized pages m) where
   flat_wrote (word.Wlink i) h x = past_set (12 + i) (4 + i) x (omega arith) ∙ ap first_offsets (set1 i x ∙ ap (λ z. m.lists ++ z) (set_front m.wlinks r2 i x (omega (arith, s.wlinks))))
   flat_wrote (word.Clink i) h x = past_set (closed_links_at + i) (4 + (WRITTEN_LINKS + i)) x (omega arith) ∙ ap first_offsets (set2 i x ∙ ap (λ z. m.lists ++ (m.wlinks ++ z)) (set_front m.clinks r3 i x (omega (arith, s.clinks))))
   flat_wrote (word.Cell i) h x = past_set (cells_at + i) (4 + (WRITTEN_LINKS + (CLOSED_LINKS + i))) x (omega arith) ∙ ap first_offsets (set3 i x ∙ ap (λ z. m.lists ++ (m.wlinks ++ (m.clinks ++ z))) (set_front m.cells r4 i x (omega (arith, s.cells))))
-  flat_wrote (word.First i) h x = past_set (firsts_at + i) (4 + (WRITTEN_LINKS + (CLOSED_LINKS + (BUFFER_WORDS + i)))) x (omega arith) ∙ ap first_offsets (set4 i x ∙ ap (λ z. m.lists ++ (m.wlinks ++ (m.clinks ++ (m.cells ++ z)))) (set_front m.firsts (flat_page_words m.page_words) i x (omega (arith, s.firsts))))
+  flat_wrote (word.First i) h x = past_set (firsts_at + i) (4 + (WRITTEN_LINKS + (CLOSED_LINKS + (BUFFER_WORDS + i)))) x (omega arith) ∙ ap first_offsets (set4 i x ∙ ap (λ z. m.lists ++ (m.wlinks ++ (m.clinks ++ (m.cells ++ z)))) (set_front m.firsts r5 i x (omega (arith, s.firsts))))
+  flat_wrote (word.Place i) h x = past_set (places_at + i) (4 + (WRITTEN_LINKS + (CLOSED_LINKS + (BUFFER_WORDS + (BUFFER_BLOCKS + i))))) x (omega arith) ∙ ap first_offsets (set5 i x ∙ ap (λ z. m.lists ++ (m.wlinks ++ (m.clinks ++ (m.cells ++ (m.firsts ++ z))))) (set_front m.places (flat_page_words m.page_words) i x (omega (arith, s.places))))
   flat_wrote (word.Latch p) h x = paged_wrote (pages_at + p * page_stride) p 0 x (record (page_words_at m.page_words p) { latch = x }) (omega arith) h (omega arith) refl
   flat_wrote (word.Newest p) h x = paged_wrote (pages_at + (p * page_stride + 1)) p 1 x (record (page_words_at m.page_words p) { newest = x }) refl h (omega arith) refl
   flat_wrote (word.Oldest p) h x = paged_wrote (pages_at + (p * page_stride + 2)) p 2 x (record (page_words_at m.page_words p) { oldest = x }) refl h (omega arith) refl

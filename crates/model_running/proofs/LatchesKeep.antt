@@ -6,6 +6,7 @@ use mathlib.Core.Option.{some, some-injective}
 use native.Mathlib.Decide.{ℕ_discrete}
 use Rattle.model_core.proofs.Lists.{set_at, set_else}
 use Rattle.model_core.specs.{Actor, Advance, advance_op, blank_words, changes, checked_of, checkpointer_op, CheckpointerState, cleaner_op, cleaner_program, cleaner_took, CleanerState, closer_op, CloserState, current_page, Entry, first_of_batch, flusher_op, FlusherState, frame_word, group_end, heard, Listed, lsn, next, next_in_round, old_of, page_words_at, PageWords, read, shared_answer, shared_left, SharedWords, stored_word, tail_word, took, user_op, user_program, user_took, UserState, with_page_words, writer_op, WriterState, wrote}
+use Rattle.model_core.specs.{reader_op, ReaderState}
 use Rattle.model_core.specs.DataSide.{DataSide}
 use Rattle.model_core.specs.LogSide.{LogSide}
 use Rattle.model_core.specs.Setup.{Setup}
@@ -15,6 +16,7 @@ use Rattle.model_core.specs.declared.steps.CheckpointerStep.{CheckpointerStep}
 use Rattle.model_core.specs.declared.steps.CleanerStep.{CleanerStep}
 use Rattle.model_core.specs.declared.steps.CloserStep.{CloserStep}
 use Rattle.model_core.specs.declared.steps.FlusherStep.{FlusherStep}
+use Rattle.model_core.specs.declared.steps.ReaderStep.{ReaderStep}
 use Rattle.model_core.specs.declared.steps.UserStep.{UserStep}
 use Rattle.model_core.specs.declared.steps.WriterStep.{WriterStep}
 use Rattle.model_logcore.specs.{LogGhost}
@@ -33,6 +35,7 @@ use Rattle.model_core.specs.declared.steps.CheckpointerStep.TheVariants as check
 use Rattle.model_core.specs.declared.steps.CleanerStep.TheVariants as cleaner_step
 use Rattle.model_core.specs.declared.steps.CloserStep.TheVariants as closer_step
 use Rattle.model_core.specs.declared.steps.FlusherStep.TheVariants as flusher_step
+use Rattle.model_core.specs.declared.steps.ReaderStep.TheVariants as reader_step
 use Rattle.model_core.specs.declared.steps.UserStep.TheVariants as user_step
 use Rattle.model_core.specs.declared.steps.WriterStep.TheVariants as writer_step
 use Rattle.model_core.specs.declared.words.Word.TheVariants as word
@@ -74,6 +77,10 @@ module _ (m : SharedWords) where
   flusher_pages : (t : FlusherState) (f : FlusherStep) → SamePages (shared_left m (flusher_op t f))
   flusher_pages t flusher_step.TakeDevice = either (eqb m.device 0) (record m { device = 1 }) refl
   flusher_pages t _ = refl
+
+  reader_pages : (t : ReaderState) (f : ReaderStep) → SamePages (shared_left m (reader_op t f))
+  reader_pages t reader_step.TakeDevice = either (eqb m.device 0) (record m { device = 1 }) refl
+  reader_pages t _ = refl
 
   closer_pages : (t : CloserState) (f : CloserStep) → SamePages (shared_left m (closer_op t f))
   closer_pages t (closer_step.Advance advance_step.TakeTail) = taken link_buffer.Closed t.advance
@@ -262,6 +269,7 @@ module _ (D : LogSide) (E : DataSide) (c : Setup) (spare : ℕ) (m : SharedWords
     by_actor (actor.Cleaner v) at fits = cleaner_turn k grows v at broken code mark l ls' e v.checks fits
     by_actor (actor.Writer s) at fits = takes_none (actor.Writer s) at (checking_pages m s.checks (writer_op s s.step) (writer_pages m s s.step)) (λ q held. held)
     by_actor (actor.Flusher t) at fits = takes_none (actor.Flusher t) at (checking_pages m t.checks (flusher_op t t.step) (flusher_pages m t t.step)) (λ q held. held)
+    by_actor (actor.Reader t) at fits = takes_none (actor.Reader t) at (checking_pages m t.checks (reader_op t t.step) (reader_pages m t t.step)) (λ q held. held)
     by_actor (actor.Closer t) at fits = takes_none (actor.Closer t) at (checking_pages m t.checks (closer_op t t.step) (closer_pages m t t.step)) (λ q held. held)
     by_actor (actor.Checkpointer t) at fits = takes_none (actor.Checkpointer t) at (checking_pages m t.checks (checkpointer_op t t.step) (checkpointer_pages m t t.step)) (λ q held. held)
     by_actor (actor.Joined es) at fits = takes_none (actor.Joined es) at refl (λ q held. held)

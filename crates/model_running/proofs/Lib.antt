@@ -1,5 +1,5 @@
 pub mod AnswersFitAll
-pub mod AskedBound
+pub mod BlockGives
 pub mod BothKeep
 pub mod BothReady
 pub mod CallConditions
@@ -12,19 +12,23 @@ pub mod ClosedKeep
 pub mod ClosedStore
 pub mod EachTurn
 pub mod FailedStays
+pub mod Filling
 pub mod Finished
 pub mod FinishedPages
 pub mod FinishedStore
-pub mod FirstOffsets
+mod FirstOffsets
 pub mod FirstsFit
 pub mod FlatWords
+pub mod Following
 pub mod Given
 pub mod Groups
+pub mod InRun
 pub mod LatchSteps
 pub mod LatchesKeep
 pub mod Legality
 pub mod LineBytes
 pub mod ListsReady
+pub mod LogCalls
 pub mod LogTurns
 pub mod Losses
 pub mod MarksReach
@@ -32,6 +36,11 @@ pub mod OpenLines
 pub mod PagePrefixes
 pub mod PageTurn
 pub mod Places
+pub mod ReadKeeps
+pub mod ReadStart
+pub mod ReadStays
+pub mod ReadTurns
+pub mod Receivers
 pub mod RunEnds
 pub mod Scripted
 pub mod Seated

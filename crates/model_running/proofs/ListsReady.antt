@@ -4,6 +4,7 @@ use lib.ListN.{get_elem?}
 use mathlib.Core.Option.{some}
 use native.Mathlib.Decide.{dec_le}
 use Rattle.model_core.specs.{Actor, BatchPage, checkpointer_op, CheckpointerState, cleaner_op, CleanerState, closer_op, CloserState, current_page, flusher_op, FlusherState, Listed, lsn, next, no_page, oldest_of, SharedWords, user_op, UserState, writer_op, WriterState}
+use Rattle.model_core.specs.{reader_op, ReaderState}
 use Rattle.model_core.specs.DataSide.{DataSide}
 use Rattle.model_core.specs.LogSide.{LogSide}
 use Rattle.model_core.specs.Setup.{Setup}
@@ -12,6 +13,7 @@ use Rattle.model_core.specs.declared.steps.CheckpointerStep.{CheckpointerStep}
 use Rattle.model_core.specs.declared.steps.CleanerStep.{CleanerStep}
 use Rattle.model_core.specs.declared.steps.CloserStep.{CloserStep}
 use Rattle.model_core.specs.declared.steps.FlusherStep.{FlusherStep}
+use Rattle.model_core.specs.declared.steps.ReaderStep.{ReaderStep}
 use Rattle.model_core.specs.declared.steps.UserStep.{UserStep}
 use Rattle.model_core.specs.declared.steps.WriterStep.{WriterStep}
 use Rattle.model_core.specs.declared.limits.TheConstants.{CLOSED_LINKS}
@@ -26,6 +28,7 @@ use Rattle.model_core.specs.declared.ops.Op.TheVariants as op
 use Rattle.model_core.specs.declared.steps.UserStep.TheVariants as user_step
 use Rattle.model_core.specs.declared.steps.WriterStep.TheVariants as writer_step
 use Rattle.model_core.specs.declared.steps.FlusherStep.TheVariants as flusher_step
+use Rattle.model_core.specs.declared.steps.ReaderStep.TheVariants as reader_step
 use Rattle.model_core.specs.declared.steps.CloserStep.TheVariants as closer_step
 use Rattle.model_core.specs.declared.steps.CleanerStep.TheVariants as cleaner_step
 use Rattle.model_core.specs.declared.steps.CheckpointerStep.TheVariants as checkpointer_step
@@ -54,6 +57,10 @@ module _ (D : LogSide) (E : DataSide) (c : Setup) (spare : ℕ) (m : SharedWords
   flusher_lists : (t : FlusherState) (f : FlusherStep) → ListReady c.pages ls (flusher_op t f)
   flusher_lists t flusher_step.LoadWrite = tt
   flusher_lists t _ = tt
+
+  reader_lists : (t : ReaderState) (f : ReaderStep) → ListReady c.pages ls (reader_op t f)
+  reader_lists t reader_step.LoadFlushed = tt
+  reader_lists t _ = tt
 
   closer_lists : (t : CloserState) (f : CloserStep) → ListReady c.pages ls (closer_op t f)
   closer_lists t (closer_step.Advance advance_step.LoadTail) = tt
@@ -86,6 +93,7 @@ module _ (D : LogSide) (E : DataSide) (c : Setup) (spare : ℕ) (m : SharedWords
   list_ready (actor.User u) at = let f : UserPageFits E c m g.log h ls d seat u = both.paged.each seat (actor.User u) at in checking u.checks (user_op u u.step) (user_lists u at u.step f.step)
   list_ready (actor.Writer s) at = checking s.checks (writer_op s s.step) (writer_lists s s.step)
   list_ready (actor.Flusher t) at = checking t.checks (flusher_op t t.step) (flusher_lists t t.step)
+  list_ready (actor.Reader t) at = checking t.checks (reader_op t t.step) (reader_lists t t.step)
   list_ready (actor.Closer t) at = checking t.checks (closer_op t t.step) (closer_lists t t.step)
   list_ready (actor.Cleaner v) at = let f : CleanerFits E c m g.log h ls d seat v = both.paged.each seat (actor.Cleaner v) at in checking v.checks (cleaner_op v v.step) (cleaner_lists v v.step f.step)
   list_ready (actor.Checkpointer t) at = checking t.checks (checkpointer_op t t.step) (checkpointer_lists t t.step)

@@ -1,15 +1,19 @@
 -- The turns of the writer, the flusher and the closer keep the page half.
+use Rattle.model_core.specs.ReaderProgram.{next_block}
+use Rattle.model_core.specs.Actors.{Room}
 use Rattle.std.proofs.Common.{Bool, List, arith, cond, eqb, false, refl, set, subst, true, ℕ, ◌≡◌, ◌≤◌}
 use Rattle.std.specs.Prelude.{slice_index}
 use lib.ListN.{get_elem?}
 use mathlib.Core.Option.{some}
 use Rattle.model_core.specs.{Actor, Blocks, checked, closer_op, closer_took, CloserState, DataServed, Entry, flusher_op, FlusherState, Listed, lists_left, LogServed, Nothing, old_of, own_took, shared_answer, shared_left, SharedWords, writer_op, WriterState, advance_op, after, found, tail_word, wrote}
+use Rattle.model_core.specs.{reader_op, ReaderState}
 use Rattle.model_core.specs.DataSide.{DataSide}
 use Rattle.model_core.specs.LogSide.{LogSide}
 use Rattle.model_core.specs.Setup.{Setup}
 use Rattle.model_core.specs.declared.steps.CloserStep.{CloserStep}
 use Rattle.model_core.specs.declared.steps.WriterStep.{WriterStep}
 use Rattle.model_core.specs.declared.steps.FlusherStep.{FlusherStep}
+use Rattle.model_core.specs.declared.steps.ReaderStep.{ReaderStep}
 use Rattle.model_logcore.proofs.DeviceSteps.{can_write}
 use Rattle.model_logcore.specs.{LogGhost}
 use Rattle.model_logcore.specs.LogHalf.{LogHalf}
@@ -28,6 +32,7 @@ use Rattle.model_core.specs.declared.words.Word.TheVariants as word
 use Rattle.model_core.specs.declared.ops.Op.TheVariants as op
 use Rattle.model_core.specs.declared.steps.WriterStep.TheVariants as writer_step
 use Rattle.model_core.specs.declared.steps.FlusherStep.TheVariants as flusher_step
+use Rattle.model_core.specs.declared.steps.ReaderStep.TheVariants as reader_step
 use Rattle.model_logcore.specs.LogFits as marks
 use Rattle.model_running.proofs.PageTurn.{PageDone, as_is, laid_of, mates, pass, rested, still_part, unmoved}
 
@@ -80,6 +85,21 @@ module _ (D : LogSide) (L : LogLaws D) (E : DataSide) (c : Setup) (spare : ℕ) 
       by : (b : Bool) → LogHalf D c spare (cond b (record m { device = 1 }) m) k q (set actors seat (actor.Flusher x)) → Done (cond b (record m { device = 1 }) m) g.log ls (actor.Flusher x)
       by true a = pass both seat _ (actor.Flusher x) k a ge refl refl refl refl refl refl (omega arith) tt v
       by false a = pass both seat _ (actor.Flusher x) k a ge refl refl refl refl refl refl (omega arith) tt v
+
+  reader_page : (t : ReaderState) (f : ReaderStep) (x : ReaderState) (k : LogGhost) → LogHalf D c spare (shared_left m (reader_op t f)) k q (set actors seat (actor.Reader x)) → D.stable p ≤ D.stable q → ◌≡◌ {A = E.Part} e d → Done (shared_left m (reader_op t f)) g.log ls (actor.Reader x)
+  reader_page t reader_step.LoadFlushed x k after ge v = pass both seat _ (actor.Reader x) k after ge refl refl refl refl refl refl (omega arith) tt v
+  reader_page t reader_step.GiveBroken x k after ge v = pass both seat _ (actor.Reader x) k after ge refl refl refl refl refl refl (omega arith) tt v
+  reader_page t reader_step.ReadBlock x k after ge v = pass both seat _ (actor.Reader x) k after ge refl refl refl refl refl refl (omega arith) tt v
+  reader_page t reader_step.StorePlace x k after ge v = pass both seat _ (actor.Reader x) k after ge refl refl refl refl refl refl (omega arith) tt v
+  reader_page t reader_step.GiveDevice x k after ge v = pass both seat _ (actor.Reader x) k after ge refl refl refl refl refl refl (omega arith) tt v
+  reader_page t reader_step.StoreFailed x k after ge v = pass both seat _ (actor.Reader x) k after ge refl refl refl refl refl refl (omega arith) tt v
+  reader_page t reader_step.GiveFailed x k after ge v = pass both seat _ (actor.Reader x) k after ge refl refl refl refl refl refl (omega arith) tt v
+  reader_page t reader_step.Failed x k after ge v = pass both seat _ (actor.Reader x) k after ge refl refl refl refl refl refl (omega arith) tt v
+  reader_page t reader_step.TakeDevice x k after ge v = by (eqb m.device 0) after
+    where
+      by : (b : Bool) → LogHalf D c spare (cond b (record m { device = 1 }) m) k q (set actors seat (actor.Reader x)) → Done (cond b (record m { device = 1 }) m) g.log ls (actor.Reader x)
+      by true a = pass both seat _ (actor.Reader x) k a ge refl refl refl refl refl refl (omega arith) tt v
+      by false a = pass both seat _ (actor.Reader x) k a ge refl refl refl refl refl refl (omega arith) tt v
 
   module _ (s : WriterState) (at : get_elem? actors seat ≡ some (actor.Writer s)) where
     S1 : marks.WriterFits D c m g p seat s
@@ -165,3 +185,26 @@ module _ (D : LogSide) (L : LogLaws D) (E : DataSide) (c : Setup) (spare : ℕ) 
       by (closer_step.Advance advance_step.ClearLink) is w v = as_is D E c m h actors seat p q d e _ w v (closer_page t at (closer_step.Advance advance_step.ClearLink) is)
       by (closer_step.Advance advance_step.FreeTail) is w v = as_is D E c m h actors seat p q d e _ w v (closer_page t at (closer_step.Advance advance_step.FreeTail) is)
       by closer_step.Failed is w v = as_is D E c m h actors seat p q d e _ w v (closer_page t at closer_step.Failed is)
+
+  module _ (t : ReaderState) (at : get_elem? actors seat ≡ some (actor.Reader t)) where
+    R1 : marks.ReaderFits D c m g p seat t
+    R1 = both.logged.each seat (actor.Reader t) at
+
+    reader_ge : (f : ReaderStep) → marks.ReaderAt D c m g p t f → LogServed D p (Room t.block) (reader_op t f) code q → D.stable p ≤ D.stable q
+    reader_ge reader_step.ReadBlock k v = let r = (L.reads c.blocks c.base g.log (next_block t) code t.block p q both.logged.global.part.holds k v).stable in omega arith
+    reader_ge reader_step.LoadFlushed k v = still_part D v
+    reader_ge _ k v = still_part D v
+
+    reader_stored : (f : ReaderStep) → DataServed E d (Room t.block) (reader_op t f) code e → ◌≡◌ {A = E.Part} e d
+    reader_stored reader_step.LoadFlushed v = v
+    reader_stored _ v = v
+
+    reader_lists : (f : ReaderStep) (l : List Entry) (m' : SharedWords) (b : Actor) → Done m' l ls b → Done m' l (lists_left ls (λ i. slice_index m.lists i) (reader_op t f)) b
+    reader_lists reader_step.LoadFlushed l m' b r = r
+    reader_lists _ l m' b r = r
+
+    pub reader_turn : (b : Bool) (x : ReaderState) (k : LogGhost) → LogHalf D c spare (shared_left m (cond b (op.Load word.Failed) (reader_op t t.step))) k q (set actors seat (actor.Reader x)) → LogServed D p (Room t.block) (cond b (op.Load word.Failed) (reader_op t t.step)) code q
+        → DataServed E d (Room t.block) (cond b (op.Load word.Failed) (reader_op t t.step)) code e
+        → Done (shared_left m (cond b (op.Load word.Failed) (reader_op t t.step))) g.log (lists_left ls (λ i. slice_index m.lists i) (cond b (op.Load word.Failed) (reader_op t t.step))) (actor.Reader x)
+    reader_turn true x k after w v = pass both seat m (actor.Reader x) k after (still_part D w) refl refl refl refl refl refl (omega arith) tt v
+    reader_turn false x k after w v = reader_lists t.step g.log (shared_left m (reader_op t t.step)) (actor.Reader x) (reader_page t t.step x k after (reader_ge t.step R1.step w) (reader_stored t.step v))

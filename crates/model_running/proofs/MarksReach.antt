@@ -23,6 +23,7 @@ module _ (D : LogSide) (E : DataSide) (c : Setup) (s : Core D E) (has_marks : Ha
       let goes_on : s.tail ≤ m.wtail = let below = lsn_le has_marks.2.of_log.target has_marks.2.of_log.wtail O.target_wtail in let is = (O.writer i s at).0 in let word_is = O.wtail_is in omega arith in
       (goes_on, l.0, l.1)
   within_words i (model.Flusher f) at = has_marks.2.of_log.marks_are_ordered.loaded i (model.Flusher f) at
+  within_words i (model.Reader f) at = has_marks.2.of_log.marks_are_ordered.loaded i (model.Reader f) at
   within_words i (model.Closer t) at = tt
   within_words i (model.Cleaner v) at = has_marks.2.kept_pages_are_prefixes.cleaner_loaded i v at
   within_words i (model.Checkpointer t) at = ((has_marks.2.kept_pages_are_prefixes.loaded i t at).1, (let own = has_marks.2.of_log.marks_are_ordered.own i (model.Checkpointer t) at in omega arith))

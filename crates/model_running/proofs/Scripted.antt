@@ -1,4 +1,5 @@
 -- The lines of a script that fits the store change pages of the store, each once, and bytes of them.
+use Rattle.model_core.specs.{IsText}
 use Rattle.std.proofs.Common.{Bool, List, Some, [], ap, append-nil, arith, cond, eq-eqb, eqb, false, get_or, inl, inr, length, length-append, refl, slice_get, subst, suc, sym, true, zero, ℕ, ⊎_elim, ◌++◌, ◌+◌, ◌-◌, ◌<◌, ◌∙◌, ◌∷◌, ◌≡◌, ◌≤◌, ◌⊎◌, ◌||◌}
 use Rattle.std.proofs.Math.ListN.{get_or-append}
 use Rattle.std.proofs.Math.Seq.{get_or-append_right}
@@ -208,6 +209,13 @@ module _ (c : Setup) (script : List ScriptLine) (shape : Shape) (limits : IsWith
   get_bytes : (user j k : ℕ) → GetsBytes (change_at (line_at (c.script user) j).changes k)
   get_bytes user j k = ⊎_elim (λ z. let f = fits user j z.one z.at in subst (λ (cs : List PageChange). GetsBytes (change_at cs k)) (sym z.are) (bytes_by c.log_only (group_of shape.space z.one) k f.has_text.each)) (λ z. subst (λ (cs : List PageChange). GetsBytes (change_at cs k)) (sym z.1) (λ i. omega arith)) (line_changes c shape script S user j)
 
+  -- each is the text of a group
+  texts : (user j : ℕ) → j < length (c.script user) → IsText (line_at (c.script user) j).bytes
+  texts user j there =
+      let l = line_below (lines_of_user user script) j (let n = S.count user in omega arith) in
+      let f = fits user j l.0 l.1 in
+      (group_of shape.space l.0, record { is_group = f.has_text; spelled = ap (λ (z : Line). z.bytes) (S.each user j l.0 l.1) })
+
   -- so they name pages as the running store asks
   pub scripted : IsScripted c
   scripted = record {
@@ -218,5 +226,8 @@ module _ (c : Setup) (script : List ScriptLine) (shape : Shape) (limits : IsWith
     apart = λ user j i k lt l e. let z = (below user j).ascending i k lt l in absurd (omega arith);
     within = λ user j k i l. let z = (below user j).within k i l in omega arith;
     ascending = ascend;
+    few_readers = S.few_readers;
+    readers = S.readers;
+    texts = texts;
     are_bytes = get_bytes;
   }

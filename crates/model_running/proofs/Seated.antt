@@ -3,7 +3,7 @@ use Rattle.std.proofs.Common.{Bool, List, [], ap, arith, false, length, map, sub
 use lib.ListN.{get_elem?}
 use Rattle.model_base.specs.declared.shape.Shape.{Shape}
 use Rattle.model_core.proofs.Lists.{at_longer}
-use Rattle.model_core.specs.{Actor, CleanerState, Entry, UserState}
+use Rattle.model_core.specs.{Actor, CleanerState, Entry, ReaderState, UserState}
 use Rattle.model_core.specs.Setup.{Setup}
 use Rattle.model_running.specs.Ended.{IsAtEnd}
 use Rattle.model_running.specs.Script.{HasSeats, IsOfScript}
@@ -27,15 +27,21 @@ after_users [] others none seat es at = none seat es at
 after_users (x ∷ xs) others none zero es at = let z = maybe.some-injective (actor.User x) (actor.Joined es) at in absurd (cc)
 after_users (x ∷ xs) others none (suc i) es at = after_users xs others none i es at
 
+-- nor among the readers
+readers_none : (readers : List ReaderState) → NoneJoined (map actor.Reader readers)
+readers_none [] seat es at = absurd (maybe.some-ne-none (actor.Joined es) (sym at))
+readers_none (r ∷ rs) zero es at = let z = maybe.some-injective (actor.Reader r) (actor.Joined es) at in absurd (cc)
+readers_none (r ∷ rs) (suc i) es at = readers_none rs i es at
+
 page_actors : (log_only : Bool) (others : List Actor) → ArePageActors log_only others → NoneJoined others
-page_actors true others are = subst NoneJoined (sym are) (λ seat es at. absurd (maybe.some-ne-none (actor.Joined es) (sym at)))
-page_actors false others are = subst NoneJoined (sym are.1) three
+page_actors true others are = subst NoneJoined (sym are.1) (readers_none are.0)
+page_actors false others are = subst NoneJoined (sym are.2) three
   where
-    three : NoneJoined (actor.Closer are.0.closer ∷ actor.Cleaner are.0.cleaner ∷ actor.Checkpointer are.0.checkpointer ∷ [])
+    three : NoneJoined (actor.Closer are.0.closer ∷ actor.Cleaner are.0.cleaner ∷ actor.Checkpointer are.0.checkpointer ∷ map actor.Reader are.1)
     three zero es at = let z = maybe.some-injective (actor.Closer are.0.closer) (actor.Joined es) at in absurd (cc)
     three (suc zero) es at = let z = maybe.some-injective (actor.Cleaner are.0.cleaner) (actor.Joined es) at in absurd (cc)
     three (suc (suc zero)) es at = let z = maybe.some-injective (actor.Checkpointer are.0.checkpointer) (actor.Joined es) at in absurd (cc)
-    three (suc (suc (suc i))) es at = absurd (maybe.some-ne-none (actor.Joined es) (sym at))
+    three (suc (suc (suc i))) es at = readers_none are.1 i es at
 
 -- after the users' seats there is no user
 abbrev NoUsers : List Actor → Type 0
@@ -46,19 +52,29 @@ among_users [] others none seat u at = absurd (none seat u at)
 among_users (x ∷ xs) others none zero u at = let z = maybe.some-injective (actor.User x) (actor.User u) at in let same : x ≡ u = cc in cc
 among_users (x ∷ xs) others none (suc seat) u at = among_users xs others none seat u at
 
+no_reader_user : (readers : List ReaderState) → NoUsers (map actor.Reader readers)
+no_reader_user [] seat u at = maybe.some-ne-none (actor.User u) (sym at)
+no_reader_user (r ∷ rs) zero u at = let z = maybe.some-injective (actor.Reader r) (actor.User u) at in cc
+no_reader_user (r ∷ rs) (suc i) u at = no_reader_user rs i u at
+
 no_page_user : (log_only : Bool) (others : List Actor) → ArePageActors log_only others → NoUsers others
-no_page_user true others are = subst NoUsers (sym are) (λ seat u at. maybe.some-ne-none (actor.User u) (sym at))
-no_page_user false others are = subst NoUsers (sym are.1) three
+no_page_user true others are = subst NoUsers (sym are.1) (no_reader_user are.0)
+no_page_user false others are = subst NoUsers (sym are.2) three
   where
-    three : NoUsers (actor.Closer are.0.closer ∷ actor.Cleaner are.0.cleaner ∷ actor.Checkpointer are.0.checkpointer ∷ [])
+    three : NoUsers (actor.Closer are.0.closer ∷ actor.Cleaner are.0.cleaner ∷ actor.Checkpointer are.0.checkpointer ∷ map actor.Reader are.1)
     three zero u at = let z = maybe.some-injective (actor.Closer are.0.closer) (actor.User u) at in cc
     three (suc zero) u at = let z = maybe.some-injective (actor.Cleaner are.0.cleaner) (actor.User u) at in cc
     three (suc (suc zero)) u at = let z = maybe.some-injective (actor.Checkpointer are.0.checkpointer) (actor.User u) at in cc
-    three (suc (suc (suc i))) u at = maybe.some-ne-none (actor.User u) (sym at)
+    three (suc (suc (suc i))) u at = no_reader_user are.1 i u at
 
 -- nor a cleaner, where the log runs alone
 abbrev NoCleaner : List Actor → Type 0
 NoCleaner actors = (seat : ℕ) (v : CleanerState) → get_elem? actors seat ≡ maybe.some (actor.Cleaner v) → ⊥
+
+no_reader_cleaner : (readers : List ReaderState) → NoCleaner (map actor.Reader readers)
+no_reader_cleaner [] seat v at = maybe.some-ne-none (actor.Cleaner v) (sym at)
+no_reader_cleaner (r ∷ rs) zero v at = let z = maybe.some-injective (actor.Reader r) (actor.Cleaner v) at in cc
+no_reader_cleaner (r ∷ rs) (suc i) v at = no_reader_cleaner rs i v at
 
 no_cleaner_after : (users : List UserState) (others : List Actor) → NoCleaner others → NoCleaner (map actor.User users ++ others)
 no_cleaner_after [] others none seat v at = none seat v at
@@ -92,13 +108,13 @@ module _ (c : Setup) (actors : List Actor) (seated : AreSeated c actors) where
   pub no_cleaner : c.log_only ≡ true → (seat : ℕ) (v : CleanerState) → get_elem? actors seat ≡ maybe.some (actor.Cleaner v) → ⊥
   no_cleaner alone = subst NoCleaner (sym seated.are) (no_cleaner_after seated.users (actor.Writer seated.writer ∷ actor.Flusher seated.flusher ∷ seated.others) two)
     where
-      none : seated.others ≡ []
+      none : ArePageActors true seated.others
       none = subst (λ (b : Bool). ArePageActors b seated.others) alone seated.page_actors
 
       two : NoCleaner (actor.Writer seated.writer ∷ actor.Flusher seated.flusher ∷ seated.others)
       two zero v at = let z = maybe.some-injective (actor.Writer seated.writer) (actor.Cleaner v) at in cc
       two (suc zero) v at = let z = maybe.some-injective (actor.Flusher seated.flusher) (actor.Cleaner v) at in cc
-      two (suc (suc i)) v at = maybe.some-ne-none (actor.Cleaner v) (sym at ∙ ap (λ (l : List Actor). get_elem? l i) none)
+      two (suc (suc i)) v at = no_reader_cleaner none.0 i v (sym (ap (λ (l : List Actor). get_elem? l i) none.1) ∙ at)
 
   -- and else there is one
   pub has_cleaner : c.log_only ≡ false → (seat : ℕ) × (v : CleanerState) × (get_elem? actors seat ≡ maybe.some (actor.Cleaner v))
@@ -107,7 +123,7 @@ module _ (c : Setup) (actors : List Actor) (seated : AreSeated c actors) where
         length seated.users + 3,
         p.0.cleaner,
         ap (λ (l : List Actor). get_elem? l (length seated.users + 3)) seated.are
-            ∙ at_after seated.users (actor.Writer seated.writer ∷ actor.Flusher seated.flusher ∷ seated.others) 3 ∙ ap (λ (l : List Actor). get_elem? l 1) p.1,
+            ∙ at_after seated.users (actor.Writer seated.writer ∷ actor.Flusher seated.flusher ∷ seated.others) 3 ∙ ap (λ (l : List Actor). get_elem? l 1) p.2,
       )
 
   pub seated_end : HaveEnded actors → IsAtEnd actors

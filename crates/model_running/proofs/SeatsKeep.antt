@@ -1,7 +1,10 @@
 -- Each turn leaves each actor in its seat.
+use Rattle.model_core.specs.{ReaderState}
+use Rattle.model_core.specs.{filled, Filling}
+use Rattle.model_core.specs.ReaderProgram.{reader_filled}
 use Rattle.std.proofs.Common.{Bool, List, [], ap, arith, false, inl, inr, length, map, refl, set, subst, suc, sym, true, zero, ℕ, ⊎_elim, ◌++◌, ◌<◌, ◌∙◌, ◌∷◌, ◌≡◌, ◌⊎◌}
 use lib.ListN.{get_elem?}
-use Rattle.model_core.proofs.Later.{took_later}
+use Rattle.model_core.proofs.Later.{later_trans, took_later}
 use Rattle.model_core.specs.{Actor, Core, FlusherState, took, UserState, WriterState}
 use Rattle.model_core.specs.DataSide.{DataSide}
 use Rattle.model_core.specs.Later.{IsSameActor}
@@ -67,23 +70,34 @@ seat_in (x ∷ xs) rest (suc seat) a b at same = ⊎_elim
     (λ z. inr (record { place = z.place; at = z.at; are = ap (λ (l : List Actor). actor.User x ∷ l) z.are }))
     (seat_in xs rest seat a b at same)
 
-pages_there : (w : PageActors) (place : ℕ) (a b : Actor) → get_elem? (actor.Closer w.closer ∷ actor.Cleaner w.cleaner ∷ actor.Checkpointer w.checkpointer ∷ []) place ≡ maybe.some a → IsSameActor a b
-    → ArePageActors false (set (actor.Closer w.closer ∷ actor.Cleaner w.cleaner ∷ actor.Checkpointer w.checkpointer ∷ []) place b)
-pages_there w zero a b at later =
+readers_there : (readers : List ReaderState) (place : ℕ) (a b : Actor) → get_elem? (map actor.Reader readers) place ≡ maybe.some a → IsSameActor a b
+    → (after : List ReaderState) × ◌≡◌ {A = List Actor} (set (map actor.Reader readers) place b) (map actor.Reader after)
+readers_there [] place a b at later = absurd (maybe.some-ne-none a (sym at))
+readers_there (r ∷ rs) zero a b at later =
+    let z = subst (λ (z : Actor). IsSameActor z b) (sym (maybe.some-injective (actor.Reader r) a at)) later in
+    (z.0 ∷ rs, ap (λ (y : Actor). y ∷ map actor.Reader rs) z.1)
+readers_there (r ∷ rs) (suc place) a b at later = let z = readers_there rs place a b at later in (r ∷ z.0, ap (λ (l : List Actor). actor.Reader r ∷ l) z.1)
+
+pages_there : (w : PageActors) (readers : List ReaderState) (place : ℕ) (a b : Actor) → get_elem? (actor.Closer w.closer ∷ actor.Cleaner w.cleaner ∷ actor.Checkpointer w.checkpointer ∷ map actor.Reader readers) place ≡ maybe.some a → IsSameActor a b
+    → ArePageActors false (set (actor.Closer w.closer ∷ actor.Cleaner w.cleaner ∷ actor.Checkpointer w.checkpointer ∷ map actor.Reader readers) place b)
+pages_there w readers zero a b at later =
     let z = subst (λ (z : Actor). IsSameActor z b) (sym (maybe.some-injective (actor.Closer w.closer) a at)) later in
-    (record w { closer = z.0 }, ap (λ (y : Actor). y ∷ actor.Cleaner w.cleaner ∷ actor.Checkpointer w.checkpointer ∷ []) z.1)
-pages_there w (suc zero) a b at later =
+    (record w { closer = z.0 }, readers, ap (λ (y : Actor). y ∷ actor.Cleaner w.cleaner ∷ actor.Checkpointer w.checkpointer ∷ map actor.Reader readers) z.1)
+pages_there w readers (suc zero) a b at later =
     let z = subst (λ (z : Actor). IsSameActor z b) (sym (maybe.some-injective (actor.Cleaner w.cleaner) a at)) later in
-    (record w { cleaner = z.0 }, ap (λ (y : Actor). actor.Closer w.closer ∷ y ∷ actor.Checkpointer w.checkpointer ∷ []) z.1)
-pages_there w (suc (suc zero)) a b at later =
+    (record w { cleaner = z.0 }, readers, ap (λ (y : Actor). actor.Closer w.closer ∷ y ∷ actor.Checkpointer w.checkpointer ∷ map actor.Reader readers) z.1)
+pages_there w readers (suc (suc zero)) a b at later =
     let z = subst (λ (z : Actor). IsSameActor z b) (sym (maybe.some-injective (actor.Checkpointer w.checkpointer) a at)) later in
-    (record w { checkpointer = z.0 }, ap (λ (y : Actor). actor.Closer w.closer ∷ actor.Cleaner w.cleaner ∷ y ∷ []) z.1)
-pages_there w (suc (suc (suc place))) a b at later = absurd (maybe.some-ne-none a (sym at))
+    (record w { checkpointer = z.0 }, readers, ap (λ (y : Actor). actor.Closer w.closer ∷ actor.Cleaner w.cleaner ∷ y ∷ map actor.Reader readers) z.1)
+pages_there w readers (suc (suc (suc place))) a b at later =
+    let z = readers_there readers place a b at later in
+    (w, z.0, ap (λ (l : List Actor). actor.Closer w.closer ∷ actor.Cleaner w.cleaner ∷ actor.Checkpointer w.checkpointer ∷ l) z.1)
 
 others_there : (log_only : Bool) (others : List Actor) (place : ℕ) (a b : Actor) → ArePageActors log_only others → get_elem? others place ≡ maybe.some a → IsSameActor a b → ArePageActors log_only (set others place b)
-others_there true others place a b are at same = absurd (maybe.some-ne-none a (sym (sym (ap (λ (l : List Actor). get_elem? l place) are) ∙ at)))
+others_there true others place a b are at same =
+    subst (λ (l : List Actor). ArePageActors true (set l place b)) (sym are.1) (readers_there are.0 place a b (sym (ap (λ (l : List Actor). get_elem? l place) are.1) ∙ at) same)
 others_there false others place a b are at same =
-    subst (λ (l : List Actor). ArePageActors false (set l place b)) (sym are.1) (pages_there are.0 place a b (sym (ap (λ (l : List Actor). get_elem? l place) are.1) ∙ at) same)
+    subst (λ (l : List Actor). ArePageActors false (set l place b)) (sym are.2) (pages_there are.0 are.1 place a b (sym (ap (λ (l : List Actor). get_elem? l place) are.2) ∙ at) same)
 
 module _ (c : Setup) (actors : List Actor) (seated : AreSeated c actors) where
   with_users : (after : List UserState) (writer : WriterState) (flusher : FlusherState) (others actors' : List Actor) → SameUsers seated.users after → ◌≡◌ {A = List Actor} actors' (map actor.User after ++ actor.Writer writer ∷ actor.Flusher flusher ∷ others) → ArePageActors c.log_only others → AreSeated c actors'
@@ -125,9 +139,21 @@ module _ (c : Setup) (actors : List Actor) (seated : AreSeated c actors) where
       (λ z. other_seat seat z.place a b z.at same (set actors seat b) (are ∙ z.are))
       (seat_in seated.users rest seat a b at' same)
 
+-- what a turn puts into an actor leaves it the same
+pub filled_later : (a : Actor) (f : Filling) → IsSameActor a (filled a f)
+filled_later (actor.Reader r) f = (reader_filled r f r.step, refl)
+filled_later (actor.User u) f = (u, refl, refl, refl)
+filled_later (actor.Writer s) f = (s, refl)
+filled_later (actor.Flusher s) f = (s, refl)
+filled_later (actor.Closer s) f = (s, refl)
+filled_later (actor.Cleaner s) f = (s, refl)
+filled_later (actor.Checkpointer s) f = (s, refl)
+filled_later (actor.Joined es) f = (es, refl)
+
 -- a turn, and so a run of turns, leaves the actors in their seats
 pub turn_keeps_seats : (D : LogSide) (E : DataSide) (c : Setup) (old new : Core D E) (seat : ℕ) (answer : Answer) (step : Step) → AreSeated c old.actors → Turn D E old seat answer step new → AreSeated c new.actors
-turn_keeps_seats D E c old new seat answer step seated t = subst (AreSeated c) (sym t.actors) (seats_keep c old.actors seated seat t.who (took t.who answer) t.who_is (took_later t.who answer))
+turn_keeps_seats D E c old new seat answer step seated t = subst (AreSeated c) (sym t.actors) (seats_keep c old.actors seated seat t.who (took (filled t.who t.filling) answer) t.who_is
+    (later_trans t.who (filled t.who t.filling) (took (filled t.who t.filling) answer) (filled_later t.who t.filling) (took_later (filled t.who t.filling) answer)))
 
 pub run_keeps_seats : (D : LogSide) (E : DataSide) (c : Setup) (seed max n : ℕ) (first last : Core D E) → AreSeated c first.actors → TakesTurns D E seed max n first last → AreSeated c last.actors
 run_keeps_seats D E c seed max zero first last seated is = subst (λ (s : Core D E). AreSeated c s.actors) (sym is) seated

@@ -4,9 +4,11 @@ use Rattle.std.specs.Prelude.{slice_index}
 use lib.ListN.{get_elem?}
 use mathlib.Core.Option.{some}
 use Rattle.model_core.specs.{checkpointer_holds, CheckpointerState, CleanerState, Core, current_page, first_of_batch, flat, flusher_holds, SharedWords, UserState, writer_holds}
+use Rattle.model_core.specs.{reader_holds}
 use Rattle.model_core.specs.Actors as model
 use Rattle.model_core.specs.DataSide.{DataSide}
 use Rattle.model_core.specs.Hands.{checkpointer_hand, cleaner_hand, flusher_hand, hand, user_hand, writer_hand}
+use Rattle.model_core.specs.Hands.{reader_hand}
 use Rattle.model_core.specs.LogSide.{LogSide}
 use Rattle.model_core.specs.Setup.{Setup}
 use Rattle.model_core.specs.declared.steps.CheckpointerStep.{CheckpointerStep}
@@ -14,7 +16,9 @@ use Rattle.model_core.specs.declared.steps.CheckpointerStep.TheVariants as check
 use Rattle.model_core.specs.declared.steps.CleanerStep.{CleanerStep}
 use Rattle.model_core.specs.declared.steps.CleanerStep.TheVariants as cleaner_step
 use Rattle.model_core.specs.declared.steps.FlusherStep.{FlusherStep}
+use Rattle.model_core.specs.declared.steps.ReaderStep.{ReaderStep}
 use Rattle.model_core.specs.declared.steps.FlusherStep.TheVariants as flusher_step
+use Rattle.model_core.specs.declared.steps.ReaderStep.TheVariants as reader_step
 use Rattle.model_core.specs.declared.steps.UserStep.{UserStep}
 use Rattle.model_core.specs.declared.steps.UserStep.TheVariants as user_step
 use Rattle.model_core.specs.declared.steps.WriterStep.{WriterStep}
@@ -50,6 +54,14 @@ flusher_holding flusher_step.GiveDevice k e = (same_number 0 k e, refl)
 flusher_holding flusher_step.StoreFailed k e = (same_number 0 k e, refl)
 flusher_holding flusher_step.GiveFailed k e = (same_number 0 k e, refl)
 flusher_holding _ k e = absurd (cc)
+
+reader_holding : (f : ReaderStep) (k : ℕ) → reader_hand f ≡ Some k → (0 ≡ k) × (reader_holds f ≡ true)
+reader_holding reader_step.GiveBroken k e = (same_number 0 k e, refl)
+reader_holding reader_step.ReadBlock k e = (same_number 0 k e, refl)
+reader_holding reader_step.GiveDevice k e = (same_number 0 k e, refl)
+reader_holding reader_step.StoreFailed k e = (same_number 0 k e, refl)
+reader_holding reader_step.GiveFailed k e = (same_number 0 k e, refl)
+reader_holding _ k e = absurd (cc)
 
 module _ (D : LogSide) (E : DataSide) (c : Setup) (spare : ℕ) (s : Core D E) (running : IsRunning D E c spare s) where
   abbrev m : SharedWords
@@ -104,6 +116,7 @@ module _ (D : LogSide) (E : DataSide) (c : Setup) (spare : ℕ) (s : Core D E) (
   holding n (model.User u) at k e = let f : UserPageFits E c m g.log h s.lists s.data_part n u = running.both.paged.each n (model.User u) at in user_holding n u u.step k f.step e
   holding n (model.Writer s) at k e = let w = writer_holding s.step k e in with_device n k w.0 (running.both.logged.turns n (model.Writer s) at w.1)
   holding n (model.Flusher t) at k e = let w = flusher_holding t.step k e in with_device n k w.0 (running.both.logged.turns n (model.Flusher t) at w.1)
+  holding n (model.Reader t) at k e = let w = reader_holding t.step k e in with_device n k w.0 (running.both.logged.turns n (model.Reader t) at w.1)
   holding n (model.Closer t) at k e = absurd (cc)
   holding n (model.Cleaner v) at k e = let f : CleanerFits E c m g.log h s.lists s.data_part n v = running.both.paged.each n (model.Cleaner v) at in cleaner_holding n v v.step k f.step e
   holding n (model.Checkpointer t) at k e = let f : CheckpointerPageFits E c m g.log h s.lists s.data_part n t = running.both.paged.each n (model.Checkpointer t) at in

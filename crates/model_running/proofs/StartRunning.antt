@@ -1,4 +1,6 @@
 -- A run's start: both halves of the invariant hold.
+use Rattle.model_running.proofs.ReadStart.{candidate_starts, reader_starts, starts_in_run, starts_under}
+use Rattle.model_running.specs.ReadHalf.{NumberAt, ReadFits, StaysInRun}
 use Rattle.std.proofs.Common.{List, [], ap, arith, false, get_or, length, refl, subst, sym, ℕ, ◌+◌, ◌<◌, ◌≡◌, ◌≢◌}
 use lib.ListN.{get_elem?}
 use mathlib.Core.Option.{some, some-ne-none}
@@ -71,10 +73,35 @@ module _ (D : LogSide) (E : DataSide) (c : Setup) (m : SharedWords) (p : D.Part)
   }
   page_fits seat (actor.Writer s) at h = tt
   page_fits seat (actor.Flusher t) at h = tt
+  page_fits seat (actor.Reader t) at h = tt
   page_fits seat (actor.Closer t) at h = closer_fits seat t h.0 h.1
   page_fits seat (actor.Cleaner v) at h = cleaner_fits seat v h.0 h.1
   page_fits seat (actor.Checkpointer t) at h = checkpointer_fits seat t h.0 (S.with_pages seat t at) h.1
   page_fits seat (actor.Joined es) at h = tt
+
+  read_fits : (seat : ℕ) (a : Actor) → StartActor c seat_of writer seat a → ReadFits c m [] seat a
+  read_fits seat (actor.Checkpointer t) h = candidate_starts c m S.words.even S.words.flushed S.words.places t h.1
+  read_fits seat (actor.Reader r) h = reader_starts c m S.words.even S.words.flushed S.words.places seat r h.0 h.1 h.2 (let high = h.2 in let few = S.script.few_readers in omega arith) h.3
+  read_fits seat (actor.User u) h = tt
+  read_fits seat (actor.Writer s) h = tt
+  read_fits seat (actor.Flusher s) h = tt
+  read_fits seat (actor.Closer s) h = tt
+  read_fits seat (actor.Cleaner s) h = tt
+  read_fits seat (actor.Joined es) h = tt
+
+  start_in_run : (seat : ℕ) (a : Actor) → StartActor c seat_of writer seat a → StaysInRun c a
+  start_in_run seat (actor.Checkpointer t) h = (
+    ap (λ (x : CheckpointerState). x.first) h.1,
+    ap (λ (x : CheckpointerState). x.last) h.1,
+    subst (NumberAt t) (sym (ap (λ (x : CheckpointerState). x.step) h.1)) tt,
+  )
+  start_in_run seat (actor.Reader r) h = starts_in_run c S.words.even r h.2 h.3
+  start_in_run seat (actor.User u) h = tt
+  start_in_run seat (actor.Writer s) h = tt
+  start_in_run seat (actor.Flusher s) h = tt
+  start_in_run seat (actor.Closer s) h = tt
+  start_in_run seat (actor.Cleaner s) h = tt
+  start_in_run seat (actor.Joined es) h = tt
 
   pub both_start : (spare : ℕ) → lsn (c.base + sum_over_actors left_to_reserve actors + spare) < LSN_LIMIT → BothHalves D E c spare m (start D c m p seat_of writer S.words S.log_part) (start_pages c) (λ _. []) p d actors
   both_start spare room = let w = S.words in let f = w.failed in record {
@@ -83,6 +110,11 @@ module _ (D : LogSide) (E : DataSide) (c : Setup) (m : SharedWords) (p : D.Part)
     logged = half_starts D c m p seat_of writer S.words S.log_part spare actors S.each room;
     asked = (let z = S.log_part.asked in omega arith);
     latches = λ q there latched. let free = ap (λ (x : PageWords). x.latch) (S.page_words.page_words q there) in absurd (omega arith);
+    in_run = λ seat a at. start_in_run seat a (S.each seat a at);
+    reading = λ _. record {
+      asked = λ i low high. (let z = S.log_part.asked in let few = S.script.few_readers in let u = starts_under c m w.even w.flushed w.places i (omega arith) in omega arith);
+      each = λ seat a at. read_fits seat a (S.each seat a at);
+    };
     stays = λ _. w.ckpt;
     advanced = λ held. let free = S.page_words.cheld in absurd (cc);
     closed = λ seat u at. let k = new_user_is c u (S.each seat (actor.User u) at).1 in record {

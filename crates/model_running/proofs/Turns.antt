@@ -1,9 +1,13 @@
 -- The one step lemma, over the list of words.
+use Rattle.model_running.proofs.ReadStays.{IsFilled}
+use Rattle.model_core.specs.declared.limits.TheConstants.{READERS}
+use Rattle.model_running.specs.ReadHalf.{NumberAt, ReadsInRun}
 use Rattle.std.proofs.Common.{Bool, List, [], ap, arith, cond, eqb, false, get_or, length, refl, set, subst, sym, true, ℕ, ◌<◌, ◌∙◌, ◌∷◌, ◌≡◌, ◌≤◌}
 use Rattle.std.specs.Prelude.{slice_index}
 use lib.ListN.{get_elem?}
 use mathlib.Core.Option.{some}
-use Rattle.model_core.specs.{Actor, answer_of, BatchPage, checkpointer_op, CheckpointerState, cleaner_op, CleanerState, closer_op, CloserState, DataServed, first_of_batch, flat, flusher_op, FlusherState, IsWord, lent, Listed, lists_left, LogServed, mode, next, no_page, OpWords, shared_answer, shared_left, SharedWords, took, user_op, UserState, words_left, writer_op, WriterState, Advance, advance_op}
+use Rattle.model_core.specs.{Actor, answer_of, BatchPage, checkpointer_op, CheckpointerState, cleaner_op, CleanerState, closer_op, CloserState, DataServed, Entry, first_of_batch, flat, flusher_op, FlusherState, IsWord, lent, Listed, lists_left, log_left, LogServed, mode, next, no_page, OpWords, shared_answer, shared_left, SharedWords, took, user_op, UserState, words_left, writer_op, WriterState, Advance, advance_op}
+use Rattle.model_core.specs.{reader_op, ReaderState}
 use Rattle.model_core.proofs.PageSizes.{has_room}
 use Rattle.model_core.specs.DataSide.{DataSide}
 use Rattle.model_core.specs.LogSide.{LogSide}
@@ -17,6 +21,7 @@ use Rattle.model_core.specs.declared.steps.UserStep.{UserStep}
 use Rattle.model_core.specs.declared.steps.CheckpointerStep.{CheckpointerStep}
 use Rattle.model_core.specs.declared.steps.WriterStep.{WriterStep}
 use Rattle.model_core.specs.declared.steps.FlusherStep.{FlusherStep}
+use Rattle.model_core.specs.declared.steps.ReaderStep.{ReaderStep}
 use Rattle.model_logcore.specs.{LogGhost}
 use Rattle.model_logcore.specs.LogLaws.{LogLaws}
 use Rattle.model_pagecore.specs.DataLaws.{DataLaws}
@@ -37,6 +42,7 @@ use Rattle.model_core.specs.declared.words.Word.TheVariants as word
 use Rattle.model_core.specs.declared.ops.Op.TheVariants as op
 use Rattle.model_core.specs.declared.steps.WriterStep.TheVariants as writer_step
 use Rattle.model_core.specs.declared.steps.FlusherStep.TheVariants as flusher_step
+use Rattle.model_core.specs.declared.steps.ReaderStep.TheVariants as reader_step
 
 module _ (D : LogSide) (E : DataSide) (c : Setup) (spare : ℕ) (m : SharedWords) (g : LogGhost) (h : PageGhost) (ls : ℕ → List Listed) (p : D.Part) (d : E.Part) (actors : List Actor) (seat : ℕ) (both : BothHalves D E c spare m g h ls p d actors) where
   page_room : c.page_size ≤ FRAME_CELLS
@@ -93,6 +99,11 @@ module _ (D : LogSide) (E : DataSide) (c : Setup) (spare : ℕ) (m : SharedWords
   flusher_words f flusher_step.LoadWrite = tt
   flusher_words f _ = tt
 
+  reader_words : (f : ReaderState) → f.number < READERS → (w : ReaderStep) → OpWords c.pages (reader_op f w)
+  reader_words f few reader_step.LoadFlushed = tt
+  reader_words f few reader_step.StorePlace = few
+  reader_words f few _ = tt
+
   closer_words : (t : CloserState) (f : CloserStep) → OpWords c.pages (closer_op t f)
   closer_words t (closer_step.Advance v) = advance_words link_buffer.Closed t.advance v
   closer_words t closer_step.Failed = tt
@@ -119,19 +130,20 @@ module _ (D : LogSide) (E : DataSide) (c : Setup) (spare : ℕ) (m : SharedWords
   cleaner_words x l cleaner_step.StoreFailed o = tt
   cleaner_words x l cleaner_step.Failed o = tt
 
-  checkpointer_words : (t : CheckpointerState) (f : CheckpointerStep) → CheckpointerPagesAt E c m g.log h ls d seat t f → OpWords c.pages (checkpointer_op t f)
-  checkpointer_words t checkpointer_step.ReadList o = o.2
-  checkpointer_words t checkpointer_step.GiveList o = o.2
-  checkpointer_words t checkpointer_step.LoadCtail o = tt
-  checkpointer_words t checkpointer_step.LoadFlushed o = tt
-  checkpointer_words t checkpointer_step.TakeDevice o = tt
-  checkpointer_words t checkpointer_step.GiveBroken o = tt
-  checkpointer_words t checkpointer_step.Checkpoint o = tt
-  checkpointer_words t checkpointer_step.StoreCheckpoint o = tt
-  checkpointer_words t checkpointer_step.GiveDevice o = tt
-  checkpointer_words t checkpointer_step.StoreFailed o = tt
-  checkpointer_words t checkpointer_step.GiveFailed o = tt
-  checkpointer_words t checkpointer_step.Failed o = tt
+  checkpointer_words : (t : CheckpointerState) (f : CheckpointerStep) → CheckpointerPagesAt E c m g.log h ls d seat t f → NumberAt t f → t.last ≡ c.last_reader → OpWords c.pages (checkpointer_op t f)
+  checkpointer_words t checkpointer_step.ReadList o r l = o.2
+  checkpointer_words t checkpointer_step.GiveList o r l = o.2
+  checkpointer_words t checkpointer_step.LoadCtail o r l = tt
+  checkpointer_words t checkpointer_step.LoadPlace o r l = (let all = both.script.few_readers in omega arith)
+  checkpointer_words t checkpointer_step.LoadFlushed o r l = tt
+  checkpointer_words t checkpointer_step.TakeDevice o r l = tt
+  checkpointer_words t checkpointer_step.GiveBroken o r l = tt
+  checkpointer_words t checkpointer_step.Checkpoint o r l = tt
+  checkpointer_words t checkpointer_step.StoreCheckpoint o r l = tt
+  checkpointer_words t checkpointer_step.GiveDevice o r l = tt
+  checkpointer_words t checkpointer_step.StoreFailed o r l = tt
+  checkpointer_words t checkpointer_step.GiveFailed o r l = tt
+  checkpointer_words t checkpointer_step.Failed o r l = tt
 
   asked_words : (b : Bool) (o : Op) → OpWords c.pages o → OpWords c.pages (cond b (op.Load word.Failed) o)
   asked_words true o z = tt
@@ -142,19 +154,57 @@ module _ (D : LogSide) (E : DataSide) (c : Setup) (spare : ℕ) (m : SharedWords
   next_words (actor.User u) at = let F : UserPageFits E c m g.log h ls d seat u = both.paged.each seat (actor.User u) at in asked_words u.checks (user_op u u.step) (user_words u F u.step F.step)
   next_words (actor.Writer s) at = asked_words s.checks (writer_op s s.step) (writer_words s s.step)
   next_words (actor.Flusher f) at = asked_words f.checks (flusher_op f f.step) (flusher_words f f.step)
+  next_words (actor.Reader f) at = asked_words f.checks (reader_op f f.step) (reader_words f few f.step)
+    where
+      few : f.number < READERS
+      few =
+          let F : ReadsInRun c f = both.in_run seat (actor.Reader f) at in
+          let z = F.few in
+          let all = both.script.few_readers in
+          omega arith
   next_words (actor.Closer t) at = asked_words t.checks (closer_op t t.step) (closer_words t t.step)
   next_words (actor.Cleaner x) at = let F : CleanerFits E c m g.log h ls d seat x = both.paged.each seat (actor.Cleaner x) at in asked_words x.checks (cleaner_op x x.step) (cleaner_words x F.page x.step F.step)
-  next_words (actor.Checkpointer t) at = let F : CheckpointerPageFits E c m g.log h ls d seat t = both.paged.each seat (actor.Checkpointer t) at in asked_words t.checks (checkpointer_op t t.step) (checkpointer_words t t.step F.step)
+  next_words (actor.Checkpointer t) at =
+      let N : (t.first ≡ c.first_reader) × (t.last ≡ c.last_reader) × NumberAt t t.step =
+      both.in_run seat (actor.Checkpointer t) at in
+      let F : CheckpointerPageFits E c m g.log h ls d seat t = both.paged.each seat (actor.Checkpointer t) at in
+      asked_words t.checks (checkpointer_op t t.step) (checkpointer_words t t.step F.step N.2 N.1)
   next_words (actor.Joined es) at = tt
 
+-- a running store, over a log
+pub record RunsOver (D : LogSide) (E : DataSide) (c : Setup) (spare : ℕ) (ws : List ℕ) (ls : ℕ → List Listed)
+    (p : D.Part) (d : E.Part) (actors : List Actor) (log : List Entry) : Type 0 where
+  pub store : RunningStore D E c spare ws ls p d actors
+  pub log_is : store.log_ghost.log ≡ log
+
 module _ (D : LogSide) (L : LogLaws D) (E : DataSide) (EL : DataLaws E) (c : Setup) (spare : ℕ) (ws : List ℕ) (ls : ℕ → List Listed) (p : D.Part) (d : E.Part) (actors : List Actor) (seat : ℕ) (a : Actor) (before : RunningStore D E c spare ws ls p d actors)
-    (at : get_elem? actors seat ≡ some a) (code : ℕ) (q : D.Part) (e : E.Part) (served : LogServed D p (lent a) (next a) code q) (stored : DataServed E d (lent a) (next a) code e) where
+    (at : get_elem? actors seat ≡ some a) (full : IsFilled a) (code : ℕ) (q : D.Part) (e : E.Part) (served : LogServed D p (lent a) (next a) code q) (stored : DataServed E d (lent a) (next a) code e) where
   -- THE step lemma over the list of words
-  pub keeps_turn : RunningStore D E c spare (words_left ws (next a)) (lists_left ls (λ i. slice_index before.shared.lists i) (next a)) q e (set actors seat (took a (answer_of ls (D.failed p) code (D.stable q) ws (next a))))
+  pub keeps_turn : RunsOver D E c spare (words_left ws (next a))
+      (lists_left ls (λ i. slice_index before.shared.lists i) (next a)) q e
+      (set actors seat (took a (answer_of ls (D.failed p) code (D.stable q) ws (next a))))
+      (log_left before.log_ghost.log before.shared.sn a)
   keeps_turn =
-      let m = before.shared in let k = before.both in
-      let r = keeps_both D L E EL c spare m before.log_ghost before.page_ghost ls p d actors seat k code q e a at served stored in
+      let m = before.shared in
+      let k = before.both in
+      let r = keeps_both D L E EL c spare m before.log_ghost before.page_ghost ls p d actors seat k code q e a at full
+      served stored in
       let w = next_words D E c spare m before.log_ghost before.page_ghost ls p d actors seat k a at in
-      let left : words_left ws (next a) ≡ flat (shared_left m (next a)) = ap (λ (z : List ℕ). words_left z (next a)) before.flat_is ∙ flat_left c.pages m k.logged.sized (next a) w in
-      let said : ◌≡◌ {A = Answer} (answer_of ls (D.failed p) code (D.stable q) ws (next a)) (shared_answer ls (D.failed p) code (D.stable q) m (next a)) = ap (λ (z : List ℕ). answer_of ls (D.failed p) code (D.stable q) z (next a)) before.flat_is ∙ flat_answer c.pages m k.logged.sized ls (D.failed p) code (D.stable q) (next a) w in
-      subst (λ (z : Answer). RunningStore D E c spare (words_left ws (next a)) (lists_left ls (λ i. slice_index m.lists i) (next a)) q e (set actors seat (took a z))) (sym said) (record { shared = shared_left m (next a); log_ghost = r.0; page_ghost = r.1; flat_is = left; both = r.2 })
+      let left : words_left ws (next a) ≡ flat (shared_left m (next a)) =
+      ap (λ (z : List ℕ). words_left z (next a)) before.flat_is ∙ flat_left c.pages m k.logged.sized (next a) w in
+      let said : ◌≡◌ {A = Answer} (answer_of ls (D.failed p) code (D.stable q) ws (next a))
+      (shared_answer ls (D.failed p) code (D.stable q) m (next a)) =
+      ap (λ (z : List ℕ). answer_of ls (D.failed p) code (D.stable q) z (next a)) before.flat_is
+      ∙ flat_answer c.pages m k.logged.sized ls (D.failed p) code (D.stable q) (next a) w in
+      let lists : ℕ → List Listed = lists_left ls (λ i. slice_index m.lists i) (next a) in
+      subst (λ (z : Answer). RunsOver D E c spare (words_left ws (next a)) lists q e (set actors seat (took a z))
+      (log_left before.log_ghost.log m.sn a)) (sym said) (record {
+        store = record {
+          shared = shared_left m (next a);
+          log_ghost = r.log_ghost;
+          page_ghost = r.page_ghost;
+          flat_is = left;
+          both = r.both;
+        };
+        log_is = r.log_is;
+      })

@@ -10,6 +10,7 @@ pub mod ListReady
 pub mod OpenLines
 pub mod OpenedPages
 pub mod PageContents
+pub mod ReadHalf
 pub mod RunOf
 pub mod RunningStore
 pub mod Schedule

@@ -1,5 +1,7 @@
 -- Both halves of the invariant, over one list of actors.
 use Rattle.std.specs.Prelude.{List, true, ℕ, ◌<◌, ◌≡◌, ◌≤◌, ◌⊎◌}
+use lib.ListN.{get_elem?}
+use mathlib.Core.Option.{some}
 use Rattle.model_core.specs.{Actor, Core, flat, HasHolder, IsScripted, Listed, SharedWords}
 use Rattle.model_core.specs.DataSide.{DataSide}
 use Rattle.model_core.specs.LogSide.{LogSide}
@@ -10,6 +12,7 @@ use Rattle.model_logcore.specs.LogHalf.{LogHalf}
 use Rattle.model_pagecore.specs.{PageGhost}
 use Rattle.model_pagecore.specs.PageHalf.{PageHalf}
 use Rattle.model_running.specs.LatchesHeld.{LatchesAreHeld}
+use Rattle.model_running.specs.ReadHalf.{ReadHalf, StaysInRun}
 use Rattle.model_running.specs.UsersClosed.{UsersClosed}
 use Rattle.model_core.specs.declared.words.LinkBuffer.TheVariants as link_buffer
 
@@ -27,6 +30,10 @@ pub record BothHalves (D : LogSide) (E : DataSide) (c : Setup) (spare : ℕ) (m 
   pub closed : UsersClosed g.log h.closed actors
   -- who holds CTAIL
   pub advanced : m.cheld ≡ true → HasHolder link_buffer.Closed actors
+  -- what the readers of the log have, as long as the log device tells what it means
+  pub reading : D.Tells p → ReadHalf D c m g.log p actors
+  -- each names readers' words that there are, and reads blocks of the run
+  pub in_run : (seat : ℕ) (a : Actor) → get_elem? actors seat ≡ some a → StaysInRun c a
   pub paged : PageHalf E c m g.log (D.stable p) h ls d actors
 
 -- the same over the list of words

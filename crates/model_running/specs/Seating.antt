@@ -1,9 +1,9 @@
 -- Which actor has which seat: the users that have lines, by their numbers, then the writer and the flusher, and then, unless
--- the log runs alone, the closer, the cleaner and the checkpointer.
-use Rattle.std.specs.Prelude.{Bool, List, [], false, length, map, suc, true, ℕ, ◌++◌, ◌+◌, ◌<◌, ◌∷◌, ◌≡◌}
+-- the log runs alone, the closer, the cleaner and the checkpointer; and at last the readers of the log.
+use Rattle.std.specs.Prelude.{Bool, List, false, length, map, suc, true, ℕ, ◌++◌, ◌+◌, ◌<◌, ◌∷◌, ◌≡◌}
 use lib.ListN.{get_elem?}
 use mathlib.Core.Option.{some}
-use Rattle.model_core.specs.{Actor, CheckpointerState, CleanerState, CloserState, FlusherState, UserState, WriterState}
+use Rattle.model_core.specs.{Actor, CheckpointerState, CleanerState, CloserState, FlusherState, ReaderState, UserState, WriterState}
 use Rattle.model_core.specs.Setup.{Setup}
 use Rattle.model_core.specs.Actors as actor
 
@@ -14,8 +14,8 @@ pub record PageActors : Type 0 where
   pub checkpointer : CheckpointerState
 
 abbrev pub ArePageActors : Bool → List Actor → Type 0
-ArePageActors true actors = ◌≡◌ {A = List Actor} actors []
-ArePageActors false actors = (p : PageActors) × ◌≡◌ {A = List Actor} actors (actor.Closer p.closer ∷ actor.Cleaner p.cleaner ∷ actor.Checkpointer p.checkpointer ∷ [])
+ArePageActors true actors = (readers : List ReaderState) × ◌≡◌ {A = List Actor} actors (map actor.Reader readers)
+ArePageActors false actors = (p : PageActors) × (readers : List ReaderState) × ◌≡◌ {A = List Actor} actors (actor.Closer p.closer ∷ actor.Cleaner p.cleaner ∷ actor.Checkpointer p.checkpointer ∷ map actor.Reader readers)
 
 pub record AreSeated (c : Setup) (actors : List Actor) : Type 0 where
   pub users : List UserState

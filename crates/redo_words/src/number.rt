@@ -5,7 +5,7 @@ ghost use Rattle.model_core.specs.declared.words.Word.TheVariants as word;
 
 use crate::{Layout, Word};
 use model_core::{
-    BUFFER_BLOCKS, BUFFER_WORDS, CLOSED_LINKS, FLUSH_LISTS, FRAME_WORDS, WRITTEN_LINKS,
+    BUFFER_BLOCKS, BUFFER_WORDS, CLOSED_LINKS, FLUSH_LISTS, FRAME_WORDS, READERS, WRITTEN_LINKS,
 };
 
 #[cfg(test)]
@@ -22,7 +22,9 @@ const CELLS_AT: u64 = CLOSED_LINKS_AT + CLOSED_LINKS;
 
 const FIRSTS_AT: u64 = CELLS_AT + BUFFER_WORDS;
 
-const PAGES_AT: u64 = FIRSTS_AT + BUFFER_BLOCKS;
+const PLACES_AT: u64 = FIRSTS_AT + BUFFER_BLOCKS;
+
+const PAGES_AT: u64 = PLACES_AT + READERS;
 
 // of a page's words: its latch, its newest, its oldest modification, its frame
 const NEWEST_AT: u64 = 1;
@@ -58,6 +60,7 @@ pub fn number_of(word: Word) -> u64
         Word::Clink(place) => CLOSED_LINKS_AT + place as u64,
         Word::Cell(place) => CELLS_AT + place as u64,
         Word::First(block) => FIRSTS_AT + block as u64,
+        Word::Place(reader) => PLACES_AT + reader as u64,
         Word::Latch(page) => first_word(page),
         Word::Newest(page) => first_word(page) + NEWEST_AT,
         Word::Oldest(page) => first_word(page) + OLDEST_AT,

@@ -14,8 +14,10 @@ fn words_stand_kind_after_kind(rt: HostRuntime) {
     assert_eq!(rt; number_of(Word::Cell(0)), 49_164);
     assert_eq!(rt; number_of(Word::First(0)), 57_356);
     assert_eq!(rt; number_of(Word::First(127)), 57_483);
-    assert_eq!(rt; number_of(Word::Latch(0)), 57_484);
-    assert_eq!(rt; number_of(Word::Frame(0, 511)), 57_998);
-    assert_eq!(rt; number_of(Word::Latch(1)), 57_999);
-    assert_eq!(rt; count_of(Layout { pages: 2 }), 58_514);
+    assert_eq!(rt; number_of(Word::Place(0)), 57_484);
+    assert_eq!(rt; number_of(Word::Place(4)), 57_488);
+    assert_eq!(rt; number_of(Word::Latch(0)), 57_489);
+    assert_eq!(rt; number_of(Word::Frame(0, 511)), 58_003);
+    assert_eq!(rt; number_of(Word::Latch(1)), 58_004);
+    assert_eq!(rt; count_of(Layout { pages: 2 }), 58_519);
 }
