@@ -1,9 +1,9 @@
 // What the checkpointer asks for, and what it makes of the answer.
-ghost use Rattle.std.specs.Prelude.{◌≡◌, ◌<◌, ◌^◌, ◌==◌, if◌then◌else◌, true, List, Option};
+ghost use Rattle.std.specs.Prelude.{◌≡◌, ◌-◌, ◌<◌, ◌≤◌, ◌^◌, ◌==◌, if◌then◌else◌, true, List, Option};
 ghost use Rattle.model_core.specs.Actors as actor;
 ghost use Rattle.model_core.specs.AnswerFits.{AnswerFits};
 ghost use Rattle.model_core.specs.{after_of, candidate, checked_of, checkpointer_ending, checkpointer_program, checkpointer_took, has_taken, is_above, lent, lowered, next, step_of};
-ghost use Rattle.redo_pageactors.specs.CheckpointerView.{IsAtList};
+ghost use Rattle.redo_pageactors.specs.CheckpointerView.{IsAtList, IsAtPlace};
 ghost use Rattle.redo_words.specs.{Lends};
 
 use crate::checkpointer::Checkpointer;
@@ -23,6 +23,13 @@ fn lowered(to: u64, oldest: Option<u64>) -> u64
 }
 
 impl Checkpointer {
+    /// How many readers of the log there are: no checkpoint passes their places.
+    pub fn reader_count(&self) -> u32
+        ensures { result ≡ self.now.last - self.now.first }
+    {
+        self.last - self.first
+    }
+
     /// The Op that it asks for.
     pub fn next(&self) -> Op
         ensures { result ≡ next (actor.Checkpointer self.now) }
@@ -32,6 +39,7 @@ impl Checkpointer {
         }
         match self.step {
             CheckpointerStep::LoadCtail => Op::Load(Word::Ctail),
+            CheckpointerStep::LoadPlace => Op::Load(Word::Place(self.reader)),
             CheckpointerStep::ReadList => Op::TakeOldest(self.list),
             CheckpointerStep::GiveList => Op::GiveList(self.list),
             CheckpointerStep::LoadFlushed => Op::Load(Word::Flushed),
@@ -70,7 +78,8 @@ impl Checkpointer {
 
     /// It goes on with this step.
     fn goes_on(&mut self, step: CheckpointerStep) -> Step
-        requires { IsAtList self.old.list step }
+        requires list { IsAtList self.old.list step }
+        requires reader { IsAtPlace self.old.reader self.old.last step }
         ensures state { self.new ≡ record self.old { step = step } }
         ensures step { result ≡ checkpointer_ending self.old.code step }
     {
@@ -83,13 +92,30 @@ impl Checkpointer {
 
     /// It waits: it checks FAILED, and then goes on with this step.
     fn waits(&mut self, step: CheckpointerStep) -> Step
-        requires { IsAtList self.old.list step }
+        requires list { IsAtList self.old.list step }
+        requires reader { IsAtPlace self.old.reader self.old.last step }
         ensures state { self.new ≡ record self.old { checks = true; step = step } }
         ensures step { result ≡ Step.Idle }
     {
         self.checks = true;
         self.step = step;
         Step::Idle
+    }
+
+    /// It goes on with this reader's word, or with the lists where that was the last.
+    fn reads_from(&mut self, reader: u32) -> Step
+        requires list { self.old.list < FLUSH_LISTS }
+        requires reader { reader ≤ self.old.last }
+        ensures state { self.new ≡ record self.old { reader = reader; step = (if reader == self.old.last then CheckpointerStep.ReadList else CheckpointerStep.LoadPlace) } }
+        ensures step { result ≡ Step.Moved }
+    {
+        self.reader = reader;
+        self.step = if reader == self.last {
+            CheckpointerStep::ReadList
+        } else {
+            CheckpointerStep::LoadPlace
+        };
+        Step::Moved
     }
 
     /// A flush list was read, or is held.
@@ -164,7 +190,11 @@ impl Checkpointer {
                 self.ctail = tail_of(old_of(answer));
                 self.to = self.ctail;
                 self.list = 0;
-                self.goes_on(CheckpointerStep::ReadList)
+                self.reads_from(self.first)
+            }
+            CheckpointerStep::LoadPlace => {
+                self.to = self.to.min(old_of(answer));
+                self.reads_from(self.reader + 1)
             }
             CheckpointerStep::ReadList => self.reads_list(answer),
             CheckpointerStep::GiveList => self.gave_list(answer),

@@ -1,7 +1,8 @@
 // The actors of the pages as a run begins.
-ghost use Rattle.std.specs.Prelude.{◌≡◌, IfOk};
+ghost use Rattle.std.specs.Prelude.{◌≡◌, ◌≤◌, IfOk};
 ghost use Rattle.model_base.specs.{IsWithinLimits};
 ghost use Rattle.model_core.specs.{new_checkpointer, new_cleaner};
+ghost use Rattle.model_core.specs.declared.limits.TheConstants.{READERS};
 
 use crate::batch::RIM;
 use crate::checkpointer::Checkpointer;
@@ -43,9 +44,11 @@ impl Cleaner {
 }
 
 impl Checkpointer {
-    /// The checkpointer of a run that starts at this lsn; the newest checkpoint stands at the block of that.
-    pub fn new(start: u64) -> Checkpointer
-        ensures { result ≡ new_checkpointer start }
+    /// The checkpointer of a run that starts at this lsn, with the readers from the first number up to the last; the
+    /// newest checkpoint stands at the block of that lsn.
+    pub fn new(start: u64, first: u32, last: u32) -> Checkpointer
+        requires { first ≤ last × last ≤ READERS }
+        ensures { result ≡ new_checkpointer start first last }
     {
         Checkpointer {
             own: start.saturating_sub(BLOCK_HEADER),
@@ -53,6 +56,9 @@ impl Checkpointer {
             flushed: 0,
             to: 0,
             list: 0,
+            first,
+            last,
+            reader: 0,
             code: 0,
             checks: false,
             step: CheckpointerStep::LoadCtail,
