@@ -1,0 +1,3 @@
+pub mod Handing
+pub mod Lending
+pub mod Tallying
