@@ -17,6 +17,7 @@ pub batch_asked : {D : Type 0} (gives : D → Call → D → Type 0) (pages : Li
     → MakesCalls gives d.dev e.dev (Serve (batch_requests d.shape (batch_of d.shape pages frames)) e.failed) → MakesCalls gives d.dev e.dev (Serve (lent_pages d l) e.failed)
 batch_asked gives pages frames d e model.Nothing lends whole asked = absurd lends
 batch_asked gives pages frames d e (model.Blocks kept offsets) lends whole asked = absurd lends
+batch_asked gives pages frames d e (model.Room kept) lends whole asked = absurd lends
 batch_asked gives pages frames d e (model.Batch batch) lends whole asked =
     subst (λ (fresh : List Fresh). MakesCalls gives d.dev e.dev (Serve (batch_requests d.shape fresh) e.failed)) (sym (lent_batch d.shape batch pages frames whole lends.0 lends.1).pages) asked
 
@@ -24,6 +25,7 @@ pub write_asked : {L : Type 0} (gives : L → Call → L → Type 0) (bytes firs
     → MakesCalls gives p.dev q.dev (Serve (write_requests p bytes firsts) q.failed) → MakesCalls gives p.dev q.dev (Serve (lent_writes p l) q.failed)
 write_asked gives bytes firsts p q model.Nothing lends asked = absurd lends
 write_asked gives bytes firsts p q (model.Batch batch) lends asked = absurd lends
+write_asked gives bytes firsts p q (model.Room kept) lends asked = absurd lends
 write_asked gives bytes firsts p q (model.Blocks kept offsets) lends asked =
     subst (λ (b : List ℕ). MakesCalls gives p.dev q.dev (Serve (write_requests p b offsets) q.failed)) lends.0
     (subst (λ (f : List ℕ). MakesCalls gives p.dev q.dev (Serve (write_requests p bytes f) q.failed)) lends.1 asked)

@@ -3,7 +3,7 @@ use Rattle.std.proofs.Common.{List, ap, subst, sym, ℕ, ◌<◌, ◌∙◌, ◌
 use Rattle.std.specs.Prelude.{slice_index}
 use lib.ListN.{get_elem?}
 use mathlib.Core.Option.{some}
-use Rattle.model_core.specs.{Actor, Core, took}
+use Rattle.model_core.specs.{Actor, Core, filled, took}
 use Rattle.model_core.specs.DataSide.{DataSide}
 use Rattle.model_core.specs.LogSide.{LogSide}
 use Rattle.model_core.specs.Setup.{Setup}
@@ -22,9 +22,10 @@ module _ (D : LogSide) (L : LogLaws D) (E : DataSide) (EL : DataLaws E) (c : Set
   pub failed_turn_has_cause : (code : ℕ) → ends ≡ step.Failed code → D.Cause new.log_part (slice_index new.words 6) ⊎ E.Cause new.data_part (slice_index new.words 6)
   failed_turn_has_cause code is =
       let W = has_watermarks D L E EL c spare new running in
-      let who = took t.who answer in
+      let with : Actor = filled t.who t.filling in
+      let who = took with answer in
       let there : get_elem? new.actors seat ≡ some who =
       subst (λ (actors : List Actor). get_elem? actors seat ≡ some who) (sym t.actors) (set_at old.actors seat t.who who t.who_is) in
-      let shown : 0 < W.0.failed = W.2.of_log.failures_show seat who there (met t.who answer code (sym t.ends ∙ is)) in
+      let shown : 0 < W.0.failed = W.2.of_log.failures_show seat who there (met with answer code (sym t.ends ∙ is)) in
       let same : slice_index new.words 6 ≡ W.0.failed = ap (λ (ws : List ℕ). slice_index ws 6) W.1 in
       subst (λ (n : ℕ). D.Cause new.log_part n ⊎ E.Cause new.data_part n) (sym same) (W.2.failure_has_cause.cause shown)

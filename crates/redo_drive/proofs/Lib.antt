@@ -9,6 +9,7 @@ pub mod DataPartStarts
 pub mod Devices
 pub mod FailedTurns
 pub mod FailureCode
+pub mod Filled
 pub mod InOrder
 pub mod LeftRun
 pub mod Lent
@@ -35,6 +36,7 @@ pub mod StartWordsFrames
 pub mod StartWordsNames
 pub mod StartWordsPacked
 pub mod StartWordsPages
+pub mod StartWordsPlaces
 pub mod StartWordsStore
 pub mod StartWordsZero
 pub mod SyncedParts

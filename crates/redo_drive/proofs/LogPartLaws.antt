@@ -1,16 +1,17 @@
 -- The log part meets the laws by which the running store speaks of it.
-use Rattle.std.proofs.Common.{Bool, List, [], None, Option, Some, ap, arith, cond, false, inl, inr, length, refl, subst, sym, true, ℕ, ◌%◌, ◌++◌, ◌+◌, ◌/◌, ◌<◌, ◌==◌, ◌^◌, ◌∙◌, ◌∷◌, ◌≡◌, ◌≤◌, is_some}
-use Rattle.std.specs.Prelude.{IfSome}
+use Rattle.std.proofs.Common.{Bool, Err, List, [], None, Ok, Option, Some, ap, arith, cond, false, inl, inr, length, refl, subst, sym, true, ℕ, ◌%◌, ◌++◌, ◌+◌, ◌/◌, ◌<◌, ◌==◌, ◌^◌, ◌∙◌, ◌∷◌, ◌≡◌, ◌≤◌, is_some}
+use Rattle.std.specs.Prelude.{IfSome, OnOk, Result}
 use Rattle.model_base.specs.declared.shape.Shape.{Shape}
 use Rattle.model_core.specs.{Entry, IsLogCode, lsn, Tiles}
 use Rattle.model_core.specs.LogSide.{LogSide}
 use Rattle.model_core.proofs.Lsns.{lsn_less}
 use Rattle.model_device.specs.Disk.{Disk}
 use Rattle.model_running.proofs.Given.{given_to}
+use Rattle.model_running.proofs.BlockGives.{has_block, wholes_there}
 use Rattle.model_running.proofs.Groups.{groups_snoc, has_length, places, run_of_log, spans_end}
 use Rattle.model_log.proofs.Runs.{run-push}
-use Rattle.model_log.specs.{block_of, IsGivenTo, IsRunOf, run_layout, Span, spans_of}
-use Rattle.model_logcore.specs.{AfterCheckpoint, AfterSync, AfterWrite, CanCheckpoint, CanWrite}
+use Rattle.model_log.specs.{block_of, IsBoundaryBlock, IsGivenTo, IsRunOf, run_layout, Span, spans_of}
+use Rattle.model_logcore.specs.{AfterCheckpoint, AfterRead, AfterSync, AfterWrite, CanCheckpoint, CanRead, CanWrite, HasBlock}
 use Rattle.model_logcore.specs.LogLaws.{LogLaws}
 use Rattle.model_parts.proofs.Longer.{longer-holds, longer-live}
 use Rattle.model_parts.specs.{after_asked, after_checkpoint, after_given, after_synced, after_written, next_number}
@@ -18,14 +19,14 @@ use Rattle.model_parts.specs.declared.marks.LogMarks.{LogMarks}
 use Rattle.model_log.specs.declared.group.Whole.{Whole}
 use Rattle.model_log.specs.declared.layout.TheConstants.{BLOCK_DATA}
 use Rattle.redo_disk.specs.Seen.{Seen}
-use Rattle.redo_logdev.specs.{PartHolds}
+use Rattle.redo_logdev.specs.{DiskHolds, HoldsBlock, PartHolds, Stays}
 use Rattle.redo_logdev.specs.Part.{Part}
 use Rattle.redo_drive.proofs.Outcome.{not_failed, outcome, pick}
 use Rattle.redo_disk.specs.declared.error.DevError.{DevError}
 use Rattle.redo_disk.specs.declared.error.DevError.TheVariants.{Failed, NoMemory}
 use Rattle.redo_drive.proofs.Devices.{no_cause}
-use Rattle.redo_drive.specs.Devices.{code_of}
-use Rattle.redo_drive.specs.LogPartSide.{HoldsLog, LogCheckpointed, LogSynced, LogWrote, log_side}
+use Rattle.redo_drive.specs.Devices.{call_code, code_of}
+use Rattle.redo_drive.specs.LogPartSide.{HasFewCheckpoints, HoldsLog, LogCheckpointed, LogRead, LogSynced, LogWrote, log_side}
 use Rattle.redo_drive.specs.declared.device.Device.TheVariants.{Log}
 use Rattle.model_log.specs.Run as run
 
@@ -50,6 +51,19 @@ either P false x y z is a b = subst P (sym is) b
 
 next_is : (number ckpt : ℕ) → number ≤ 2 ^ 63 + ckpt / 512 → ckpt < 2 ^ 61 → (number + 1 < 2 ^ 64) × (next_number number ≡ number + 1)
 next_is number ckpt few small = let a : number + 1 < 2 ^ 64 = omega arith in (a, omega arith)
+
+one_choice : {A : Type 0} (b : Bool) (x : A) → ◌≡◌ {A = A} (cond b x x) x
+one_choice true x = refl
+one_choice false x = refl
+
+some_disk : (told : Option Disk) → (told ≡ None → ⊥) → (disk : Disk) × (told ≡ Some disk)
+some_disk None some = absurd (some refl)
+some_disk (Some disk) some = (disk, refl)
+
+-- an error has a code
+error_has_code : (fault : DevError) → 0 ≡ code_of Log fault → ⊥
+error_has_code Failed none = absurd (omega arith)
+error_has_code NoMemory none = absurd (omega arith)
 
 module _ {L : Type 0} (seen : L → Seen) (faults first : ℕ) (Begun : Type 0) where
   abbrev side : LogSide
@@ -85,6 +99,11 @@ module _ {L : Type 0} (seen : L → Seen) (faults first : ℕ) (Begun : Type 0) 
         }) (H.groups begun front r.3) in
         subst (λ (z : List Whole). PartHolds seen (lsn base) z p) (sym r.2) held;
   }
+
+  -- a device that tells after a call told before it
+  tells_before : (p q : Part L) (result : Result (Unit {0}) DevError) → Stays seen p result q
+      → side.Tells q → side.Tells p
+  tells_before p q result stays tells = (tells.0, λ none. tells.1 (stays.silent none))
 
   writes : (blocks base : ℕ) (log : List Entry) (w n code : ℕ) (bytes firsts : List ℕ) (p q : Part L)
       → Holds blocks base log p → CanWrite side blocks base log w n bytes firsts p → LogWrote seen (lsn n) bytes firsts code p q → AfterWrite side blocks base log (lsn n) code p q
@@ -123,6 +142,7 @@ module _ {L : Type 0} (seen : L → Seen) (faults first : ℕ) (Begun : Type 0) 
         sound = o.sound;
         causes = λ code cause. absurd (no_cause seen Log faults p.dev p.failed code live cause);
         cause = o.cause;
+        told = tells_before p q W.called.result W.called.stays;
       }
 
   syncs : (blocks base : ℕ) (log : List Entry) (code : ℕ) (p q : Part L) → Holds blocks base log p → side.failed p ≡ false → LogSynced seen code p q → AfterSync side blocks base log code p q
@@ -159,6 +179,7 @@ module _ {L : Type 0} (seen : L → Seen) (faults first : ℕ) (Begun : Type 0) 
         sound = o.sound;
         causes = λ code cause. absurd (no_cause seen Log faults p.dev p.failed code live cause);
         cause = o.cause;
+        told = tells_before p q S.called.result S.called.stays;
       }
 
   checkpoints : (blocks base : ℕ) (log : List Entry) (x code : ℕ) (p q : Part L) → Holds blocks base log p → CanCheckpoint side blocks base log x p → LogCheckpointed seen x code p q → AfterCheckpoint side blocks base log x code p q
@@ -201,6 +222,7 @@ module _ {L : Type 0} (seen : L → Seen) (faults first : ℕ) (Begun : Type 0) 
         sound = o.sound;
         causes = λ code cause. absurd (no_cause seen Log faults p.dev p.failed code live cause);
         cause = o.cause;
+        told = tells_before p q K.called.result K.called.stays;
       }
     where
       few_by : p.marks.number ≤ 2 ^ 63 + p.marks.ckpt / 512 → p.marks.ckpt < 2 ^ 61 → x % 512 ≡ 0 → p.marks.ckpt < x → p.marks.ckpt % 512 ≡ 0
@@ -214,6 +236,70 @@ module _ {L : Type 0} (seen : L → Seen) (faults first : ℕ) (Begun : Type 0) 
           by false is = let a : q.marks.number ≡ p.marks.number = ap (λ (z : LogMarks). z.number) is in let b : q.marks.ckpt ≡ p.marks.ckpt = ap (λ (z : LogMarks). z.ckpt) is in
               let d : q.marks.ckpt / 512 ≡ p.marks.ckpt / 512 = ap (λ (k : ℕ). k / 512) b in omega arith
 
+  reads : (blocks base : ℕ) (log : List Entry) (x code : ℕ) (bytes : List ℕ) (p q : Part L)
+      → Holds blocks base log p → side.failed p ≡ false → LogRead seen x bytes code p q
+      → AfterRead side blocks base log code p q
+  reads blocks base log x code bytes p q H sound R =
+      let live : p.failed ≡ None = not_failed p.failed sound in
+      let o = outcome seen faults code p.marks p.marks p q H.later R.called in
+      let same : ◌≡◌ {A = LogMarks} q.marks p.marks = o.marks ∙ one_choice (code == 0) p.marks in
+      let written : q.marks.written ≡ p.marks.written = ap (λ (z : LogMarks). z.written) same in
+      let stable : q.marks.stable ≡ p.marks.stable = ap (λ (z : LogMarks). z.stable) same in
+      let given : q.marks.given ≡ p.marks.given = ap (λ (z : LogMarks). z.given) same in
+      let ckpt : q.marks.ckpt ≡ p.marks.ckpt = ap (λ (z : LogMarks). z.ckpt) same in
+      let asked : q.marks.asked ≡ p.marks.asked = ap (λ (z : LogMarks). z.asked) same in
+      record {
+        holds = record {
+          blocks_are = ap (λ (z : Shape). (run_layout z).blocks) R.called.stays.shape ∙ H.blocks_are;
+          later = o.later;
+          all_given = λ alive. given ∙ H.all_given live ∙ sym written;
+          all_asked = λ alive. asked ∙ H.all_asked live ∙ sym ckpt;
+          aligned = ap (λ (z : ℕ). z % 512) ckpt ∙ H.aligned;
+          ckpt_stable = (let a = H.ckpt_stable in omega arith);
+          stable_written = (let a = H.stable_written in omega arith);
+          small = (let a = H.small in omega arith);
+          few = λ begun. subst HasFewCheckpoints (sym same) (H.few begun);
+          number_kept = λ begun. subst (λ (z : LogMarks). first ≤ z.number) (sym same) (H.number_kept begun);
+          groups = λ begun wholes are. R.holds (lsn base) wholes (H.groups begun wholes are);
+        };
+        written = written;
+        stable = stable;
+        given = given;
+        ckpt = ckpt;
+        asked = asked;
+        sound = o.sound;
+        causes = λ code cause. absurd (no_cause seen Log faults p.dev p.failed code live cause);
+        cause = o.cause;
+        told = tells_before p q R.called.result R.called.stays;
+      }
+
+  -- what is known after a good call, where the device tells
+  after_good : (P : Disk → Type 0) (result : Result (Unit {0}) DevError) (p q : Part L) (disk : Disk)
+      → 0 ≡ call_code Log q.failed → Stays seen p result q → (seen q.dev).tells ≡ Some disk
+      → OnOk result (IfSome (seen q.dev).tells P) → P disk
+  after_good P (Ok done) p q disk code stays tells known = subst (λ (o : Option Disk). IfSome o P) tells known
+  after_good P (Err fault) p q disk code stays tells known =
+      absurd (error_has_code fault (code ∙ ap (call_code Log) stays.failed))
+
+  gets : (blocks base : ℕ) (log : List Entry) (x : ℕ) (bytes : List ℕ) (p q : Part L)
+      → Holds blocks base log p → CanRead side blocks base log x p → LogRead seen x bytes 0 p q → side.Tells q
+      → (top : ℕ) → p.marks.stable ≡ lsn top → HasBlock side blocks base log top x bytes
+  gets blocks base log x bytes p q H C R tells top stable =
+      let disk = some_disk (seen q.dev).tells tells.1 in
+      let before : (seen p.dev).tells ≡ Some disk.0 =
+      subst (λ (o : Option Disk). IfSome o (λ d. (seen p.dev).tells ≡ Some d)) disk.1 R.told in
+      let groups = wholes_there log C.texts in
+      let wholes : List Whole = groups.0 in
+      let Held : Disk → Type 0 = DiskHolds p.shape (lsn base) wholes p.marks p.tails p.failed in
+      let held : Held disk.0 = subst (λ (o : Option Disk). IfSome o Held) before (H.groups tells.0 wholes groups.1) in
+      let there : HoldsBlock p x = record { from = omega (arith, C.from, C.even, H.aligned); some = C.some } in
+      let Is : Disk → Type 0 = λ d. Held d → IsBoundaryBlock (lsn base) wholes p.marks.written x bytes in
+      let block : IsBoundaryBlock (lsn base) wholes p.marks.written x bytes =
+      after_good Is R.called.result p q disk.0 R.called.code_is R.called.stays disk.1
+      (R.block there (lsn base) wholes) held in
+      has_block side blocks base x top p.marks.written log wholes bytes p C stable H.stable_written groups.1
+      held.holds.order.written block
+
   codes : (part : Part L) (code : ℕ) → side.Cause part code → IsLogCode code
   codes part code cause = subst IsLogCode (sym cause.code_is) (by cause.fault)
     where
@@ -225,4 +311,13 @@ module _ {L : Type 0} (seen : L → Seen) (faults first : ℕ) (Begun : Type 0) 
   broken part code cause = ap is_some cause.failed
 
   pub log_laws : LogLaws side
-  log_laws = record { codes = codes; broken = broken; more = more; writes = writes; syncs = syncs; checkpoints = checkpoints }
+  log_laws = record {
+    codes = codes;
+    broken = broken;
+    more = more;
+    writes = writes;
+    syncs = syncs;
+    checkpoints = checkpoints;
+    reads = reads;
+    gets = gets;
+  }

@@ -1,10 +1,11 @@
 -- Whoever has a turn may take it: the conditions of what an actor asks for follow from the invariant of the running store.
-use Rattle.std.proofs.Common.{Bool, List, [], ap, arith, cond, false, length, subst, sym, true, ℕ, ⊎_elim, ◌<◌, ◌^◌, ◌∙◌, ◌≡◌, is_some}
+use Rattle.std.proofs.Common.{Bool, List, [], ap, arith, cond, false, length, subst, sym, true, ℕ, ⊎_elim, ◌%◌, ◌<◌, ◌^◌, ◌∙◌, ◌≡◌, ◌≤◌, is_some}
 use lib.ListN.{get_elem?}
 use mathlib.Core.Option.{some}
 use Rattle.model_core.proofs.Asks.{IsNoAddition, user_or_no_addition}
 use Rattle.model_core.proofs.Lsns.{lsn_le}
 use Rattle.model_base.specs.{IsWithinLimits}
+use Rattle.model_base.specs.declared.limits.TheConstants.{BLOCK_SIZE, START_LSN}
 use Rattle.model_base.specs.declared.shape.Shape.{Shape}
 use Rattle.model_core.specs.Actors as model
 use Rattle.model_core.specs.AnswerFits.{AnswerFits}
@@ -26,6 +27,11 @@ use Rattle.model_pagecore.specs.DataLaws.{DataLaws}
 use Rattle.model_running.proofs.AnswersFitAll.{answer_fits}
 use Rattle.model_running.proofs.BothReady as both_ready
 use Rattle.model_running.proofs.FlatWords.{flat_answer}
+use Rattle.model_running.proofs.InRun.{next_in_run}
+use Rattle.model_running.specs.ReadHalf.{ReadsInRun, StaysInRun}
+use Rattle.model_core.specs.{reader_op, ReaderState}
+use Rattle.model_core.specs.declared.steps.ReaderStep.{ReaderStep}
+use Rattle.model_core.specs.declared.steps.ReaderStep.TheVariants as reader_step
 use Rattle.model_running.proofs.ListsReady.{list_ready}
 use Rattle.model_running.proofs.Turns.{next_words}
 use Rattle.model_running.specs.{HaveSmallCodes}
@@ -39,6 +45,7 @@ use Rattle.redo_disk.specs.Seen.{Seen}
 use Rattle.redo_logdev.specs.{MayWrite}
 use Rattle.redo_logdev.specs.Part as log
 use Rattle.redo_drive.proofs.LogMayCall.{may_checkpoint, may_sync, may_write}
+use Rattle.redo_drive.proofs.Filled.{IsNoRead, reader_or_no_read}
 use Rattle.redo_drive.proofs.Outcome.{not_failed}
 use Rattle.redo_drive.specs.LogPartSide as log_part
 use Rattle.redo_drive.specs.Lists.{lists_of}
@@ -81,6 +88,26 @@ module _ (ls : ℕ → List Listed) (broken : Bool) (code mark : ℕ) (ws : List
       (λ t. other_sum (next a) t)
       (user_or_no_addition a)
 
+-- a read is of a block that a log may have
+abbrev ReadsBlock : Op → Type 0
+ReadsBlock (op.ReadBlock x) = (x % BLOCK_SIZE ≡ 0) × (START_LSN ≤ x)
+ReadsBlock _ = Unit {0}
+
+reads_none : (o : Op) → IsNoRead o → ReadsBlock o
+reads_none (op.ReadBlock x) none = absurd none
+reads_none _ none = tt
+
+reader_reads : (c : Setup) (r : ReaderState) → ReadsInRun c r → START_LSN ≤ lsn c.base
+    → (f : ReaderStep) → ReadsBlock (reader_op r f)
+reader_reads c r in_run started reader_step.ReadBlock =
+    let next = next_in_run c r in_run in (next.0, let low = next.1 in omega arith)
+reader_reads c r in_run started reader_step.LoadFlushed = tt
+reader_reads c r in_run started _ = tt
+
+checking_reads : (b : Bool) (o : Op) → ReadsBlock o → ReadsBlock (cond b (op.Load word.Failed) o)
+checking_reads true o is = tt
+checking_reads false o is = is
+
 -- the calls of the log part
 module _ {L : Type 0} (seen : L → Seen) (faults number : ℕ) (Begun : Type 0) (c : Setup) (g : LogGhost) (p : log.Part L) (a : model.Actor) (H : log_part.HoldsLog seen faults number Begun c.blocks c.base g.log p) (small : p.marks.stable < 2 ^ 60) where
   abbrev side : LogSide
@@ -89,6 +116,7 @@ module _ {L : Type 0} (seen : L → Seen) (faults number : ℕ) (Begun : Type 0)
   write_ready : (ml : model.Lent) (l : Lent) (t : ℕ) → Lends l ml → CanLend side c g p a ml t → MayWriteLent p t l
   write_ready model.Nothing l t lends can = absurd can
   write_ready (model.Batch batch) l t lends can = absurd can
+  write_ready (model.Room kept) l t lends can = absurd can
   write_ready (model.Blocks kept offsets) lending.Nothing t lends can = absurd lends
   write_ready (model.Blocks kept offsets) (lending.Batch pages frames) t lends can = absurd lends
   write_ready (model.Blocks kept offsets) (lending.Blocks bytes firsts) t lends can =
@@ -97,11 +125,16 @@ module _ {L : Type 0} (seen : L → Seen) (faults number : ℕ) (Begun : Type 0)
       (subst (λ (f : List ℕ). MayWrite p (lsn g.target) kept f) (sym lends.1)
       (may_write seen faults number Begun c.blocks c.base g.log g.write g.target kept offsets p H can.1)))
 
-  pub log_call : (o : Op) (l : Lent) → Lends l (lent a) → Ready side c g p a o → LogReady p l o
-  log_call (op.WriteTo t) l lends can = write_ready (lent a) l t lends can.1
-  log_call op.Sync l lends can = may_sync seen faults number Begun p can.1
-  log_call (op.Checkpoint x) l lends can = (not_failed p.failed can.1.sound, may_checkpoint seen faults number Begun c.blocks c.base g.log x p H can.1 small)
-  log_call _ l lends can = tt
+  pub log_call : (o : Op) (l : Lent) → Lends l (lent a) → Ready side c g p a o → ReadsBlock o → LogReady p l o
+  log_call (op.ReadBlock x) l lends can place =
+      record { live = not_failed p.failed can.1; aligned = place.0; started = place.1 }
+  log_call (op.WriteTo t) l lends can place = write_ready (lent a) l t lends can.1
+  log_call op.Sync l lends can place = may_sync seen faults number Begun p can.1
+  log_call (op.Checkpoint x) l lends can place = (
+    not_failed p.failed can.1.sound,
+    may_checkpoint seen faults number Begun c.blocks c.base g.log x p H can.1 small,
+  )
+  log_call _ l lends can place = tt
 
 -- the call of the data part
 module _ {D : Type 0} (seen : D → Seen) (faults : ℕ) (shape : Shape) (Begun : Type 0) (c : Setup) (its_pages : shape.pages ≡ c.pages) (its_page_size : shape.page_size ≡ c.page_size) (limits : IsWithinLimits shape)
@@ -115,6 +148,7 @@ module _ {D : Type 0} (seen : D → Seen) (faults : ℕ) (shape : Shape) (Begun 
   batch_ready : (ml : model.Lent) (l : Lent) → Lends l ml → running.CanLendBatch data_side c kept_page ml d → MayBatchLent d l
   batch_ready model.Nothing l lends can = absurd can
   batch_ready (model.Blocks kept offsets) l lends can = absurd can
+  batch_ready (model.Room kept) l lends can = absurd can
   batch_ready (model.Batch batch) lending.Nothing lends can = absurd lends
   batch_ready (model.Batch batch) (lending.Blocks bytes firsts) lends can = absurd lends
   batch_ready (model.Batch batch) (lending.Batch pairs frames) lends can =
@@ -129,6 +163,7 @@ module _ {D : Type 0} (seen : D → Seen) (faults : ℕ) (shape : Shape) (Begun 
   whole_pages op.WriteBatch (model.Batch batch) can = λ i x at. whole_by batch can.1 i x at ∙ ap (λ (z : Shape). z.page_size) (sym can.0.shape_is)
   whole_pages op.WriteBatch model.Nothing can = tt
   whole_pages op.WriteBatch (model.Blocks kept offsets) can = tt
+  whole_pages op.WriteBatch (model.Room kept) can = tt
   whole_pages _ ml can = tt
 
 module _ {L D : Type 0} (log_seen : L → Seen) (data_seen : D → Seen) (run : RunOf L D) (parts : Parts L D) (actors : List Actor) (R : RunsOn log_seen data_seen run parts actors)
@@ -177,6 +212,15 @@ module _ {L D : Type 0} (log_seen : L → Seen) (data_seen : D → Seen) (run : 
     data_can : running.BatchReady B c R.running.page_ghost.kept_page (lent who) parts.store (next who)
     data_can = let W = R.running in both_ready.data_ready A log_laws B data_laws c 0 W.shared W.log_ghost W.page_ghost ls parts.log parts.store (views_of actors) seat W.both who at
 
+    reads : ReadsBlock (next who)
+    reads = ⊎_elim
+        (λ reader. let r = reader.0 in
+        let k : ReadsInRun c r = subst (StaysInRun c) reader.1 (R.running.both.in_run seat who at) in
+        subst (λ (a : model.Actor). ReadsBlock (next a)) (sym reader.1)
+        (checking_reads r.checks (reader_op r r.step) (reader_reads c r k R.started r.step)))
+        (reads_none (next who))
+        (reader_or_no_read who)
+
     playable : (l : Lent) → Lends l (lent who) → IsPlayable parts (next who) l
     playable l lends = let W = R.running in record {
       there = subst (λ (n : ℕ). OpWords n (next who)) (sym R.word_pages) words;
@@ -184,7 +228,8 @@ module _ {L D : Type 0} (log_seen : L → Seen) (data_seen : D → Seen) (run : 
       listing = subst (λ (n : ℕ). ListReady n ls (next who)) (sym R.list_pages) (list_ready A B c 0 W.shared W.log_ghost W.page_ghost ls parts.log parts.store (views_of actors) seat W.both who at);
       real = W.both.paged.paged.lists.real;
       log = log_call log_seen (log_seen run.first_log.dev).faults run.first_log.marks.number (log_part.HasBegun log_seen (lsn c.base) run.first_log) c W.log_ghost parts.log who W.both.logged.global.part.holds low_stable (next who) l lends
-          (both_ready.log_ready A log_laws B data_laws c 0 W.shared W.log_ghost W.page_ghost ls parts.log parts.store (views_of actors) seat W.both who at);
+          (both_ready.log_ready A log_laws B data_laws c 0 W.shared W.log_ghost W.page_ghost ls parts.log parts.store
+          (views_of actors) seat W.both who at) reads;
       data_part = data_call data_seen (data_seen run.first_data.dev).faults run.shape (data_part.HasBegun data_seen c.opened run.first_data) c R.its_pages R.its_page_size R.limits W.page_ghost.kept_page parts.store (next who) (lent who) l lends data_can;
     }
 

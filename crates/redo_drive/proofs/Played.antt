@@ -28,12 +28,14 @@ untouched E d e model.Nothing o code other same = same
 untouched E d e (model.Blocks kept offsets) o code other same = same
 untouched E d e (model.Batch batch) op.WriteBatch code other same = absurd other
 untouched E d e (model.Batch batch) _ code other same = same
+untouched E d e (model.Room bytes) o code other same = same
 
 -- the Op calls the log part
 abbrev pub CallsLog : Op → Type 0
 CallsLog (op.WriteTo t) = Unit {0}
 CallsLog op.Sync = Unit {0}
 CallsLog (op.Checkpoint x) = Unit {0}
+CallsLog (op.ReadBlock x) = Unit {0}
 CallsLog _ = ⊥
 
 module _ {L D : Type 0} (log_seen : L → Seen) (data_seen : D → Seen) (run : RunOf L D) (l : model.Lent) (old : Parts L D) where
@@ -85,6 +87,15 @@ module _ {L D : Type 0} (log_seen : L → Seen) (data_seen : D → Seen) (run : 
     log_played (op.WriteTo t) is calls same served told = by_op o (op.WriteTo t) r new is (record { code = call_code Log new.log.failed; log_served = served; data_served = untouched (run_data_side log_seen data_seen run) old.store new.store l (op.WriteTo t) (call_code Log new.log.failed) tt same; words = words; lists = ap lists_of lists; answered = told ∙ answer_by_code Log new.log.failed 0 })
     log_played op.Sync is calls same served told = by_op o op.Sync r new is (record { code = call_code Log new.log.failed; log_served = served; data_served = untouched (run_data_side log_seen data_seen run) old.store new.store l op.Sync (call_code Log new.log.failed) tt same; words = words; lists = ap lists_of lists; answered = told ∙ answer_by_code Log new.log.failed new.log.marks.stable })
     log_played (op.Checkpoint y) is calls same served told = by_op o (op.Checkpoint y) r new is (record { code = call_code Log new.log.failed; log_served = served; data_served = untouched (run_data_side log_seen data_seen run) old.store new.store l (op.Checkpoint y) (call_code Log new.log.failed) tt same; words = words; lists = ap lists_of lists; answered = told ∙ answer_by_code Log new.log.failed 0 })
+    log_played (op.ReadBlock y) is calls same served told = by_op o (op.ReadBlock y) r new is (record {
+      code = call_code Log new.log.failed;
+      log_served = served;
+      data_served = untouched (run_data_side log_seen data_seen run) old.store new.store l (op.ReadBlock y)
+          (call_code Log new.log.failed) tt same;
+      words = words;
+      lists = ap lists_of lists;
+      answered = told ∙ answer_by_code Log new.log.failed 0;
+    })
     log_played _ is calls same served told = absurd calls
 
     pub batch_played : o ≡ op.WriteBatch → new.log ≡ old.log → DataServed (run_data_side log_seen data_seen run) old.store l op.WriteBatch (call_code Data new.store.failed) new.store

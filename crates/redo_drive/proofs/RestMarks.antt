@@ -44,6 +44,7 @@ module _ (D : LogSide) (c : Setup) (m : SharedWords) (g : LogGhost) (p : D.Part)
   resting_checkpointer : (t : CheckpointerState) (step : CheckpointerStep) → checkpointer_hand t step ≡ None
       → CheckpointerAt D c m g p t step → D.ckpt p ≡ t.own
   resting_checkpointer t checkpointer_step.LoadCtail free at = at
+  resting_checkpointer t checkpointer_step.LoadPlace free at = at
   resting_checkpointer t checkpointer_step.ReadList free at = at
   resting_checkpointer t checkpointer_step.GiveList free at = at
   resting_checkpointer t checkpointer_step.LoadFlushed free at = at
@@ -122,7 +123,7 @@ module _ {L D : Type 0} (log_seen : L → Seen) (data_seen : D → Seen) (run : 
       let p : ArePageActors false runs.seated.others =
       subst (λ (b : Bool). ArePageActors b runs.seated.others) pages runs.seated.page_actors in
       let t : CheckpointerState = p.0.checkpointer in
-      let at = there 4 (model.Checkpointer t) (ap (λ (l : List model.Actor). get_elem? l 2) p.1) in
+      let at = there 4 (model.Checkpointer t) (ap (λ (l : List model.Actor). get_elem? l 2) p.2) in
       let R = runs.running in
       let fits : CheckpointerFits logs run.setup R.shared R.log_ghost parts.log (length runs.seated.users + 4) t =
       R.both.logged.each (length runs.seated.users + 4) (model.Checkpointer t) at in

@@ -198,6 +198,7 @@ module _ {L D : Type 0} (log_seen : L → Seen) (data_seen : D → Seen) (opened
   runs : RunsOn log_seen data_seen run start.parts own.actors.items
   runs = record {
     limits = may.runnable.limits;
+    started = (let low = may.runnable.first in omega (arith, place));
     its_pages = refl;
     its_page_size = refl;
     bytes = record { opened = owns.bytes; cells = λ user j k i. lines_get_bytes opened.shape opened.pages opened.start script log_only may.fits.lines user j k i };

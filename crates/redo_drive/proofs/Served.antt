@@ -54,6 +54,15 @@ log_called seen result old new ok err ok_tails err_tails on_ok on_err stays = re
   stays = stays;
 }
 
+-- what holds whatever a call answers
+pub on_any : (result : Result (Unit {0}) DevError) (P : Type 0) → P → OnOk result P
+on_any (Ok done) P so = so
+on_any (Err fault) P so = tt
+
+pub off_any : (result : Result (Unit {0}) DevError) (P : Type 0) → P → OnErr result P
+off_any (Ok done) P so = tt
+off_any (Err fault) P so = so
+
 -- what is lent is these bytes and first offsets
 abbrev pub LendsBlocks : List ℕ → List ℕ → model.Lent → Type 0
 LendsBlocks bytes firsts (model.Blocks kept offsets) = (bytes ≡ kept) × (firsts ≡ offsets)
@@ -64,6 +73,7 @@ pub write_served : {L : Type 0} (seen : L → Seen) (faults number : ℕ) (Begun
     → LogServed (log_part.log_side seen faults number Begun) p l (op.WriteTo mark) (call_code Log q.failed) q
 write_served seen faults number Begun mark bytes firsts p q model.Nothing lends wrote = absurd lends
 write_served seen faults number Begun mark bytes firsts p q (model.Batch batch) lends wrote = absurd lends
+write_served seen faults number Begun mark bytes firsts p q (model.Room kept) lends wrote = absurd lends
 write_served seen faults number Begun mark bytes firsts p q (model.Blocks kept offsets) lends wrote =
     subst (λ (b : List ℕ). log_part.LogWrote seen mark b offsets (call_code Log q.failed) p q) lends.0
     (subst (λ (f : List ℕ). log_part.LogWrote seen mark bytes f (call_code Log q.failed) p q) lends.1 wrote)
@@ -76,6 +86,7 @@ pub batch_served : {D : Type 0} (seen : D → Seen) (faults : ℕ) (shape : Shap
     → DataServed (data_part.data_side seen faults shape Begun) d l op.WriteBatch (call_code Data e.failed) e
 batch_served seen faults shape Begun pages frames result d e model.Nothing lends whole step keeps ok = absurd lends
 batch_served seen faults shape Begun pages frames result d e (model.Blocks kept offsets) lends whole step keeps ok = absurd lends
+batch_served seen faults shape Begun pages frames result d e (model.Room kept) lends whole step keeps ok = absurd lends
 batch_served seen faults shape Begun pages frames result d e (model.Batch batch) lends whole step keeps ok =
     let same : batch_of d.shape pages frames ≡ data_part.fresh_batch batch = sym (lent_batch d.shape batch pages frames whole lends.0 lends.1).pages in record {
       result = result;
@@ -91,8 +102,10 @@ pub batch_lent : (given : Lent) (pages : Bor (List (ℕ × ℕ))) (frames : Bor 
 batch_lent given pages frames is model.Nothing lends = subst (λ (z : Lent). Lends z model.Nothing) is lends
 batch_lent given pages frames is (model.Blocks kept offsets) lends = subst (λ (z : Lent). Lends z (model.Blocks kept offsets)) is lends
 batch_lent given pages frames is (model.Batch batch) lends = subst (λ (z : Lent). Lends z (model.Batch batch)) is lends
+batch_lent given pages frames is (model.Room kept) lends = subst (λ (z : Lent). Lends z (model.Room kept)) is lends
 
 pub blocks_lent : (given : Lent) (bytes firsts : Bor (List ℕ)) → given ≡ lent.Blocks bytes firsts → (l : model.Lent) → Lends given l → LendsBlocks bytes.now firsts.now l
 blocks_lent given bytes firsts is model.Nothing lends = subst (λ (z : Lent). Lends z model.Nothing) is lends
 blocks_lent given bytes firsts is (model.Blocks kept offsets) lends = subst (λ (z : Lent). Lends z (model.Blocks kept offsets)) is lends
 blocks_lent given bytes firsts is (model.Batch batch) lends = subst (λ (z : Lent). Lends z (model.Batch batch)) is lends
+blocks_lent given bytes firsts is (model.Room kept) lends = subst (λ (z : Lent). Lends z (model.Room kept)) is lends

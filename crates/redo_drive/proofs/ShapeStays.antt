@@ -1,14 +1,14 @@
 -- No Op of a running store changes the shape of its log part.
 use Rattle.std.proofs.Common.{List, ap, suc, zero, ℕ, ◌∙◌, ◌≡◌}
 use Rattle.model_base.specs.declared.shape.Shape.{Shape}
-use Rattle.model_core.specs.{Batch, Blocks, Core, Lent, lent, LogServed, next, Nothing}
+use Rattle.model_core.specs.{Batch, Blocks, Core, filled, Lent, lent, LogServed, next, Nothing, Room}
 use Rattle.model_core.specs.DataSide.{DataSide}
 use Rattle.model_core.specs.LogSide.{LogSide}
 use Rattle.model_core.specs.declared.ops.Op.{Op}
 use Rattle.model_running.specs.{TakesTurns}
 use Rattle.redo_disk.specs.Seen.{Seen}
 use Rattle.redo_logdev.specs.Part.{Part}
-use Rattle.redo_drive.specs.LogPartSide.{LogCheckpointed, LogSynced, LogWrote, log_side}
+use Rattle.redo_drive.specs.LogPartSide.{LogCheckpointed, LogRead, LogSynced, LogWrote, log_side}
 use Rattle.model_core.specs.declared.ops.Op.TheVariants as op
 
 module _ {L : Type 0} (seen : L → Seen) (faults number : ℕ) (Begun : Type 0) where
@@ -28,6 +28,9 @@ module _ {L : Type 0} (seen : L → Seen) (faults number : ℕ) (Begun : Type 0)
     checkpointed : (x : ℕ) → LogCheckpointed seen x code p q → IsSame
     checkpointed x w = w.called.stays.shape
 
+    was_read : (x : ℕ) (bytes : List ℕ) → LogRead seen x bytes code p q → IsSame
+    was_read x bytes w = w.called.stays.shape
+
     as_is : ◌≡◌ {A = Part L} q p → IsSame
     as_is same = ap (λ (z : Part L). z.shape) same
 
@@ -35,6 +38,11 @@ module _ {L : Type 0} (seen : L → Seen) (faults number : ℕ) (Begun : Type 0)
     served_shape (Blocks bytes firsts) (op.WriteTo t) w = wrote t bytes firsts w
     served_shape Nothing (op.WriteTo t) w = absurd w
     served_shape (Batch batch) (op.WriteTo t) w = absurd w
+    served_shape (Room bytes) (op.WriteTo t) w = absurd w
+    served_shape (Room bytes) (op.ReadBlock x) w = was_read x bytes w
+    served_shape Nothing (op.ReadBlock x) w = absurd w
+    served_shape (Blocks bytes firsts) (op.ReadBlock x) w = absurd w
+    served_shape (Batch batch) (op.ReadBlock x) w = absurd w
     served_shape l op.Sync w = synced w
     served_shape l (op.Checkpoint x) w = checkpointed x w
     served_shape l _ w = as_is w
@@ -43,4 +51,6 @@ module _ {L : Type 0} (seen : L → Seen) (faults number : ℕ) (Begun : Type 0)
   pub run_shape : (E : DataSide) (seed max n : ℕ) (first last : Core side E) → TakesTurns side E seed max n first last → ◌≡◌ {A = Shape} last.log_part.shape first.log_part.shape
   run_shape E seed max zero first last same = ap (λ (s : Core side E). s.log_part.shape) same
   run_shape E seed max (suc n) first last r =
-      served_shape r.before.log_part last.log_part r.turn.code (lent r.turn.who) (next r.turn.who) r.turn.log_served ∙ run_shape E seed max n first r.before r.earlier
+      let given : Lent = lent (filled r.turn.who r.turn.filling) in
+      served_shape r.before.log_part last.log_part r.turn.code given (next r.turn.who) r.turn.log_served
+      ∙ run_shape E seed max n first r.before r.earlier

@@ -13,6 +13,7 @@ pub some_lent : (given : model.Lent) → (l : Lent) × Lends l given
 some_lent model.Nothing = (lending.Nothing, tt)
 some_lent (model.Blocks bytes firsts) =
     (lending.Blocks (record { ref_ptr = (0, 0); now = bytes }) (record { ref_ptr = (0, 0); now = firsts }), (refl, refl))
+some_lent (model.Room bytes) = (lending.Nothing, tt)
 some_lent (model.Batch batch) = (
   lending.Batch
       (record { ref_ptr = (0, 0); now = map (λ (b : BatchPage). (b.page, b.lsn)) batch })

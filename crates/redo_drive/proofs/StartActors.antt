@@ -9,7 +9,7 @@ use native.Mathlib.Decide.{dec_le}
 use Rattle.model_base.specs.declared.limits.TheConstants.{MAX_GROUP}
 use Rattle.model_base.specs.declared.shape.Shape.{Shape}
 use Rattle.model_core.proofs.Collected.{group_has_text}
-use Rattle.model_core.specs.{Actor, Line, line_at, lsn, new_checkpointer, new_cleaner, new_closer, new_flusher, new_user, new_writer, UserState}
+use Rattle.model_core.specs.{Actor, CheckpointerState, Line, line_at, lsn, new_checkpointer, new_cleaner, new_closer, new_flusher, new_user, new_writer, UserState}
 use Rattle.model_core.specs.Actors as actor
 use Rattle.model_core.specs.Setup.{Setup}
 use Rattle.model_running.proofs.Groups.{line_below}
@@ -23,7 +23,7 @@ use Rattle.model_script.specs.declared.misfit.TheConstants.{MAX_USERS}
 use Rattle.model_script.specs.declared.script.ScriptLine.{ScriptLine}
 use Rattle.redo_drive.proofs.Seats.{HasSeat, ascend, at_either, has_seat, seated, user_at}
 use Rattle.redo_drive.proofs.UserLines.{few_modes, numbered, of_script, of_user}
-use Rattle.redo_drive.specs.Setups.{page_actors, programs_of, start_actors, users_below, users_of}
+use Rattle.redo_drive.specs.Setups.{first_follower, page_actors, programs_of, start_actors, users_below, users_of}
 use Rattle.redo_drive.specs.StartWords.{setup_of}
 use Rattle.model_log.specs.{run_layout}
 
@@ -51,6 +51,9 @@ module _ (shape : Shape) (pages : List Content) (start : ℕ) (script : List Scr
 
   abbrev programs : ℕ → List Line
   programs = programs_of shape log_only script
+
+  abbrev new_last : CheckpointerState
+  new_last = new_checkpointer start first_follower first_follower
 
   abbrev users : List UserState
   users = users_of shape log_only script
@@ -104,8 +107,11 @@ module _ (shape : Shape) (pages : List Content) (start : ℕ) (script : List Scr
         (record { start = (refl, refl); with_pages = tt })
     pages_start false is (suc zero) a at = subst (IsHere (length users + 3)) (some-injective (actor.Cleaner (new_cleaner shape.pages shape.page_size)) a at)
         (record { start = (refl, refl); with_pages = tt })
-    pages_start false is (suc (suc zero)) a at = subst (IsHere (length users + 4)) (some-injective (actor.Checkpointer (new_checkpointer start)) a at)
-        (record { start = (refl, ap new_checkpointer (sym place)); with_pages = sym is })
+    pages_start false is (suc (suc zero)) a at =
+        subst (IsHere (length users + 4)) (some-injective (actor.Checkpointer new_last) a at) (record {
+          start = (refl, ap (λ (x : ℕ). new_checkpointer x first_follower first_follower) (sym place));
+          with_pages = sym is;
+        })
     pages_start false is (suc (suc (suc i))) a at = absurd (some-ne-none a (sym at))
 
     others_start : (i : ℕ) (a : Actor) → get_elem? (actor.Writer (new_writer (run_layout shape).blocks start) ∷ actor.Flusher (new_flusher start) ∷ page_actors shape start log_only) i ≡ some a
@@ -123,8 +129,12 @@ module _ (shape : Shape) (pages : List Content) (start : ℕ) (script : List Scr
         (at_either (map actor.User users) (actor.Writer (new_writer (run_layout shape).blocks start) ∷ actor.Flusher (new_flusher start) ∷ page_actors shape start log_only) a seat at)
 
   are_page_actors : (b : Bool) → ArePageActors b (page_actors shape start b)
-  are_page_actors true = refl
-  are_page_actors false = (record { closer = new_closer; cleaner = new_cleaner shape.pages shape.page_size; checkpointer = new_checkpointer start }, refl)
+  are_page_actors true = ([], refl)
+  are_page_actors false = (
+    record { closer = new_closer; cleaner = new_cleaner shape.pages shape.page_size; checkpointer = new_last },
+    [],
+    refl,
+  )
 
   -- the users that have lines are seated, and the other actors after them
   pub are_seated : AreSeated setup (start_actors shape script start log_only)

@@ -1,5 +1,5 @@
 -- The words by name while their first numbers are written.
-use Rattle.std.proofs.Common.{List, ap, arith, length, subst, sym, ℕ, ◌<◌, ◌∙◌, ◌≡◌, ⊎_elim}
+use Rattle.std.proofs.Common.{List, ap, arith, length, refl, subst, sym, ℕ, ◌<◌, ◌∙◌, ◌≡◌, ⊎_elim}
 use Rattle.std.specs.Prelude.{slice_set}
 use Rattle.std.proofs.lemmas.Bool.{cases_eq}
 use Rattle.std.proofs.lemmas.List.{get_or-set_other, get_or-set_same, length-set}
@@ -20,6 +20,7 @@ module _ (pages : ℕ) (m : SharedWords) (s : IsSized pages m) where
     clinks = s.clinks;
     cells = s.cells;
     firsts = s.firsts;
+    places = s.places;
     page_words = length-set m.page_words p w ∙ s.page_words;
     frames = λ q below. ⊎_elim
         (λ e. ap (λ (k : ℕ). length (page_words_at (slice_set m.page_words p w) k).frame) e ∙ ap (λ (v : PageWords). length v.frame) (get_or-set_same m.page_words p w blank_words (omega (arith, s.page_words))) ∙ long)
@@ -27,21 +28,43 @@ module _ (pages : ℕ) (m : SharedWords) (s : IsSized pages m) where
         (cases_eq q p);
   }
 
+  -- words of which each row is as long, and whose pages are the same
+  rows_sized : (n : SharedWords) → length n.lists ≡ length m.lists → length n.wlinks ≡ length m.wlinks
+      → length n.clinks ≡ length m.clinks → length n.cells ≡ length m.cells → length n.firsts ≡ length m.firsts
+      → length n.places ≡ length m.places → n.page_words ≡ m.page_words → IsSized pages n
+  rows_sized n lists wlinks clinks cells firsts places page_words = record {
+    lists = lists ∙ s.lists;
+    wlinks = wlinks ∙ s.wlinks;
+    clinks = clinks ∙ s.clinks;
+    cells = cells ∙ s.cells;
+    firsts = firsts ∙ s.firsts;
+    places = places ∙ s.places;
+    page_words = ap length page_words ∙ s.page_words;
+    frames = λ p below. ap (λ (ws : List PageWords). length (page_words_at ws p).frame) page_words ∙ s.frames p below;
+  }
+
   -- a word that is written leaves how many there are of each kind
   pub wrote_sized : (w : Word) → IsWord pages w → (x : ℕ) → IsSized pages (wrote m w x)
-  wrote_sized word.Sn h x = record { lists = s.lists; wlinks = s.wlinks; clinks = s.clinks; cells = s.cells; firsts = s.firsts; page_words = s.page_words; frames = s.frames }
-  wrote_sized word.Write h x = record { lists = s.lists; wlinks = s.wlinks; clinks = s.clinks; cells = s.cells; firsts = s.firsts; page_words = s.page_words; frames = s.frames }
-  wrote_sized word.Wtail h x = record { lists = s.lists; wlinks = s.wlinks; clinks = s.clinks; cells = s.cells; firsts = s.firsts; page_words = s.page_words; frames = s.frames }
-  wrote_sized word.Flushed h x = record { lists = s.lists; wlinks = s.wlinks; clinks = s.clinks; cells = s.cells; firsts = s.firsts; page_words = s.page_words; frames = s.frames }
-  wrote_sized word.Ckpt h x = record { lists = s.lists; wlinks = s.wlinks; clinks = s.clinks; cells = s.cells; firsts = s.firsts; page_words = s.page_words; frames = s.frames }
-  wrote_sized word.Ctail h x = record { lists = s.lists; wlinks = s.wlinks; clinks = s.clinks; cells = s.cells; firsts = s.firsts; page_words = s.page_words; frames = s.frames }
-  wrote_sized word.Failed h x = record { lists = s.lists; wlinks = s.wlinks; clinks = s.clinks; cells = s.cells; firsts = s.firsts; page_words = s.page_words; frames = s.frames }
-  wrote_sized word.Device h x = record { lists = s.lists; wlinks = s.wlinks; clinks = s.clinks; cells = s.cells; firsts = s.firsts; page_words = s.page_words; frames = s.frames }
-  wrote_sized (word.List i) h x = record { lists = length-set m.lists i x ∙ s.lists; wlinks = s.wlinks; clinks = s.clinks; cells = s.cells; firsts = s.firsts; page_words = s.page_words; frames = s.frames }
-  wrote_sized (word.Wlink i) h x = record { lists = s.lists; wlinks = length-set m.wlinks i x ∙ s.wlinks; clinks = s.clinks; cells = s.cells; firsts = s.firsts; page_words = s.page_words; frames = s.frames }
-  wrote_sized (word.Clink i) h x = record { lists = s.lists; wlinks = s.wlinks; clinks = length-set m.clinks i x ∙ s.clinks; cells = s.cells; firsts = s.firsts; page_words = s.page_words; frames = s.frames }
-  wrote_sized (word.Cell i) h x = record { lists = s.lists; wlinks = s.wlinks; clinks = s.clinks; cells = length-set m.cells i x ∙ s.cells; firsts = s.firsts; page_words = s.page_words; frames = s.frames }
-  wrote_sized (word.First i) h x = record { lists = s.lists; wlinks = s.wlinks; clinks = s.clinks; cells = s.cells; firsts = length-set m.firsts i x ∙ s.firsts; page_words = s.page_words; frames = s.frames }
+  wrote_sized word.Sn h x = rows_sized (wrote m word.Sn x) refl refl refl refl refl refl refl
+  wrote_sized word.Write h x = rows_sized (wrote m word.Write x) refl refl refl refl refl refl refl
+  wrote_sized word.Wtail h x = rows_sized (wrote m word.Wtail x) refl refl refl refl refl refl refl
+  wrote_sized word.Flushed h x = rows_sized (wrote m word.Flushed x) refl refl refl refl refl refl refl
+  wrote_sized word.Ckpt h x = rows_sized (wrote m word.Ckpt x) refl refl refl refl refl refl refl
+  wrote_sized word.Ctail h x = rows_sized (wrote m word.Ctail x) refl refl refl refl refl refl refl
+  wrote_sized word.Failed h x = rows_sized (wrote m word.Failed x) refl refl refl refl refl refl refl
+  wrote_sized word.Device h x = rows_sized (wrote m word.Device x) refl refl refl refl refl refl refl
+  wrote_sized (word.List i) h x =
+      rows_sized (wrote m (word.List i) x) (length-set m.lists i x) refl refl refl refl refl refl
+  wrote_sized (word.Wlink i) h x =
+      rows_sized (wrote m (word.Wlink i) x) refl (length-set m.wlinks i x) refl refl refl refl refl
+  wrote_sized (word.Clink i) h x =
+      rows_sized (wrote m (word.Clink i) x) refl refl (length-set m.clinks i x) refl refl refl refl
+  wrote_sized (word.Cell i) h x =
+      rows_sized (wrote m (word.Cell i) x) refl refl refl (length-set m.cells i x) refl refl refl
+  wrote_sized (word.First i) h x =
+      rows_sized (wrote m (word.First i) x) refl refl refl refl (length-set m.firsts i x) refl refl
+  wrote_sized (word.Place i) h x =
+      rows_sized (wrote m (word.Place i) x) refl refl refl refl refl (length-set m.places i x) refl
   wrote_sized (word.Latch p) h x = page_sized p (record (page_words_at m.page_words p) { latch = x }) h (s.frames p h)
   wrote_sized (word.Newest p) h x = page_sized p (record (page_words_at m.page_words p) { newest = x }) h (s.frames p h)
   wrote_sized (word.Oldest p) h x = page_sized p (record (page_words_at m.page_words p) { oldest = x }) h (s.frames p h)

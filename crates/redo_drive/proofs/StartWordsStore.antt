@@ -12,7 +12,8 @@ use Rattle.model_core.proofs.Lists.{one_turn}
 use Rattle.model_core.proofs.Lsns.{lsn_block, lsn_offset}
 use Rattle.model_core.specs.{blank_words, framed_page, IsSized, KeptPage, lsn, page_words_at, PageWords, SharedWords}
 use Rattle.model_core.specs.Setup.{Setup}
-use Rattle.model_core.specs.declared.limits.TheConstants.{BUFFER_BLOCKS}
+use Rattle.model_core.specs.StartWords.{start_checkpoint}
+use Rattle.model_core.specs.declared.limits.TheConstants.{BUFFER_BLOCKS, READERS}
 use Rattle.model_log.specs.{data_before, IsAtDataStart, sn_of}
 use Rattle.model_log.specs.declared.layout.TheConstants.{BLOCK_DATA, BLOCK_HEADER}
 use Rattle.model_page.specs.{blank_page}
@@ -20,8 +21,9 @@ use Rattle.model_page.specs.declared.content.Content.{Content}
 use Rattle.redo_apply.specs.{ArePagesOf}
 use Rattle.redo_drive.proofs.StartWordsPacked.{page_frame-bytes}
 use Rattle.redo_drive.proofs.StartWordsPages.{user_at}
+use Rattle.redo_drive.proofs.StartWordsPlaces.{first_place}
 use Rattle.redo_drive.proofs.StartWordsZero.{zero_page, zero_page_at, zero_words, zeros, zeros-length, zeros-zero}
-use Rattle.redo_drive.specs.StartWords.{AreNamed, IsBlankFrame, StartsOn, page_frame, with_frame, with_log}
+use Rattle.redo_drive.specs.StartWords.{AreNamed, first_places, IsBlankFrame, StartsOn, page_frame, with_frame, with_log}
 use Rattle.redo_drive.specs.FirstWords.{AreStartWords}
 use Rattle.redo_words.specs.Plain.{Plain}
 
@@ -106,6 +108,12 @@ module _ (shape : Shape) (start : ℕ) (pages : List Content) where
         b : ℕ
         b = c.base / BLOCK_DATA
 
+    places : (i : ℕ) → i < READERS
+        → slice_index (first_places start) i ≡ cond (i == 0) (start_checkpoint c) (lsn c.base)
+    places i few =
+        subst (λ (n : ℕ). slice_index (first_places start) i ≡ cond (i == 0) (n - BLOCK_HEADER) n) (sym on.begins)
+        (first_place start i few)
+
     pub set_all : (words : Plain) (k : ℕ) → AreSetUpTo shape start pages k words → length pages ≤ k → AreStartWords words.words c
     set_all words k up_to all = record {
       by_name = begun_words start (length pages) up_to.page_words;
@@ -125,6 +133,7 @@ module _ (shape : Shape) (start : ℕ) (pages : List Content) where
         wlinks = zeros-zero _;
         cells = zeros-zero _;
         firsts = firsts;
+        places = places;
       };
       of_pages = record {
         page_words = λ p below. let there : p < length pages = omega (arith, on.count) in

@@ -2,8 +2,8 @@
 use Rattle.std.proofs.Common.{List, [], ap, arith, length, refl, replicate, suc, sym, zero, ℕ, ◌*◌, ◌++◌, ◌+◌, ◌<◌, ◌∙◌, ◌∷◌, ◌≡◌, false}
 use Rattle.std.specs.Prelude.{slice_index}
 use Rattle.std.proofs.lemmas.List.{get_or-replicate, length-replicate}
-use Rattle.model_core.specs.{blank_words, flat, flat_page_words, page_stride, page_words_at, PageWords, SharedWords, word_count}
-use Rattle.model_core.specs.declared.limits.TheConstants.{BUFFER_BLOCKS, CLOSED_LINKS, FLUSH_LISTS, FRAME_WORDS, BUFFER_WORDS, WRITTEN_LINKS}
+use Rattle.model_core.specs.{blank_words, flat, flat_page_words, page_stride, page_words_at, PageWords, rows, SharedWords, word_count}
+use Rattle.model_core.specs.declared.limits.TheConstants.{BUFFER_BLOCKS, CLOSED_LINKS, FLUSH_LISTS, FRAME_WORDS, BUFFER_WORDS, READERS, WRITTEN_LINKS}
 use Rattle.redo_drive.specs.StartWords.{AreNamed}
 use Rattle.redo_words.specs.Plain.{Plain}
 
@@ -72,6 +72,7 @@ zero_words pages = record {
   clinks = zeros CLOSED_LINKS;
   cells = zeros BUFFER_WORDS;
   firsts = zeros BUFFER_BLOCKS;
+  places = zeros READERS;
   page_words = replicate pages zero_page;
 }
 
@@ -85,10 +86,17 @@ zero_pages (suc pages) = ap (λ (xs : List ℕ). 0 ∷ 0 ∷ 0 ∷ xs) (ap (λ (
 zero_flat : (pages : ℕ) → flat (zero_words pages) ≡ zeros (word_count pages)
 zero_flat pages =
     let paged : ℕ = pages * page_stride in
-    ap (λ (xs : List ℕ). 0 ∷ 0 ∷ 0 ∷ 0 ∷ 0 ∷ 0 ∷ 0 ∷ 0 ∷ (zeros FLUSH_LISTS ++ (zeros WRITTEN_LINKS ++ (zeros CLOSED_LINKS ++ (zeros BUFFER_WORDS ++ (zeros BUFFER_BLOCKS ++ xs)))))) (zero_pages pages)
-    ∙ ap (λ (xs : List ℕ). 0 ∷ 0 ∷ 0 ∷ 0 ∷ 0 ∷ 0 ∷ 0 ∷ 0 ∷ xs) (longer FLUSH_LISTS _ _ (longer WRITTEN_LINKS _ _ (longer CLOSED_LINKS _ _ (longer BUFFER_WORDS _ _ (zeros-append BUFFER_BLOCKS paged)))))
-    ∙ zeros-eight (FLUSH_LISTS + (WRITTEN_LINKS + (CLOSED_LINKS + (BUFFER_WORDS + (BUFFER_BLOCKS + paged)))))
-    ∙ ap zeros (let e : suc (suc (suc (suc (suc (suc (suc (suc (FLUSH_LISTS + (WRITTEN_LINKS + (CLOSED_LINKS + (BUFFER_WORDS + (BUFFER_BLOCKS + paged)))))))))))) ≡ word_count pages = omega arith in e)
+    let places : ℕ = READERS + paged in
+    let firsts : ℕ = BUFFER_BLOCKS + places in
+    let cells : ℕ = BUFFER_WORDS + firsts in
+    let closed : ℕ = CLOSED_LINKS + cells in
+    let written : ℕ = WRITTEN_LINKS + closed in
+    let all : ℕ = FLUSH_LISTS + written in
+    let are : rows (zero_words pages) ≡ zeros all =
+    longer FLUSH_LISTS written _ (longer WRITTEN_LINKS closed _ (longer CLOSED_LINKS cells _
+    (longer BUFFER_WORDS firsts _ (longer BUFFER_BLOCKS places _ (longer READERS paged _ (zero_pages pages)))))) in
+    ap (λ (xs : List ℕ). 0 ∷ 0 ∷ 0 ∷ 0 ∷ 0 ∷ 0 ∷ 0 ∷ 0 ∷ xs) are ∙ zeros-eight all
+    ∙ ap zeros (let e : suc (suc (suc (suc (suc (suc (suc (suc all))))))) ≡ word_count pages = omega arith in e)
 
 -- each of its pages
 pub zero_page_at : (pages p : ℕ) → p < pages → page_words_at (zero_words pages).page_words p ≡ zero_page
@@ -103,6 +111,7 @@ zero_named words count each = record {
     clinks = zeros-length CLOSED_LINKS;
     cells = zeros-length BUFFER_WORDS;
     firsts = zeros-length BUFFER_BLOCKS;
+    places = zeros-length READERS;
     page_words = length-replicate {A = PageWords} words.pages zero_page;
     frames = λ p there. ap (λ (w : PageWords). length w.frame) (zero_page_at words.pages p there) ∙ zeros-length FRAME_WORDS;
   };

@@ -24,7 +24,21 @@ use Rattle.redo_drive.specs.declared.parts.Parts.{Parts}
 -- some run of a store with these parts
 pub some_run : {L D : Type 0} → Parts L D → RunOf L D
 some_run parts = record {
-  setup = record { base = 0; blocks = 0; pages = 0; page_size = 0; log_only = true; script = λ _. []; opened = λ _. record { lsn = 0; bytes = [] }; closer = 0; cleaner = 0; checkpointer = 0 };
+  setup = record {
+    base = 0;
+    blocks = 0;
+    pages = 0;
+    page_size = 0;
+    log_only = true;
+    script = λ _. [];
+    opened = λ _. record { lsn = 0; bytes = [] };
+    closer = 0;
+    cleaner = 0;
+    checkpointer = 0;
+    first_reader = 0;
+    last_reader = 0;
+    reader_at = λ number. number;
+  };
   shape = parts.store.shape;
   first_log = parts.log;
   first_data = parts.store;
@@ -45,6 +59,8 @@ module _ {L D : Type 0} (log_seen : L → Seen) (data_seen : D → Seen) (run : 
     turn = record {
       who = view_of (get_or actors seat d);
       who_is = view_at actors seat d below;
+      filling = served.filling;
+      fills = served.fills;
       code = played.code;
       log_served = played.log_served;
       data_served = played.data_served;
@@ -60,6 +76,7 @@ module _ {L D : Type 0} (log_seen : L → Seen) (data_seen : D → Seen) (run : 
   runs_on log_laws data_laws same R =
       let t = takes_turn in record {
         limits = R.limits;
+        started = R.started;
         its_pages = R.its_pages;
         its_page_size = R.its_page_size;
         bytes = R.bytes;

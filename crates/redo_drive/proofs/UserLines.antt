@@ -82,6 +82,8 @@ pub of_script : (shape : Shape) (pages : List Content) (start : ℕ) (script : L
     → IsOfScript (setup_of shape pages start script log_only) script shape
 of_script shape pages start script log_only = record {
   count = λ user. length-map (map spelled (lines_of_user user script)) program ∙ length-map (lines_of_user user script) spelled;
+  readers = omega arith;
+  few_readers = omega arith;
   each = λ user k one at. get_or_from_slice_get (programs_of shape log_only script user) k (program (spelled one)) (record { mode = 0; bytes = []; changes = [] })
       (slice_get-map program (map spelled (lines_of_user user script)) k ∙ ap (option_map program) (slice_get-map spelled (lines_of_user user script) k ∙ ap (option_map spelled) at));
 }

@@ -37,6 +37,7 @@ own_of d (model.Flusher t) = own.Flusher t
 own_of d (model.Closer t) = own.Closer t
 own_of d (model.Cleaner v) = own.Cleaner v
 own_of d (model.Checkpointer t) = own.Checkpointer t
+own_of d (model.Reader r) = d
 own_of d (model.Joined es) = d
 
 own_back : (d a : Actor) → ◌≡◌ {A = Actor} (own_of d (view_of a)) a

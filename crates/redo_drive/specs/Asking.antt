@@ -7,7 +7,7 @@ use Rattle.redo_drive.specs.DataPartSide.{fresh_batch}
 use Rattle.redo_disk.specs.{Call, MakesCalls, Request, Serve}
 use Rattle.redo_disk.specs.declared.error.DevError.{DevError}
 use Rattle.redo_logdev.specs.Part as log
-use Rattle.redo_drive.specs.Requests.{checkpoint_requests, sync_requests, write_requests}
+use Rattle.redo_drive.specs.Requests.{checkpoint_requests, read_requests, sync_requests, write_requests}
 use Rattle.redo_drive.specs.declared.parts.Parts.{Parts}
 use Rattle.redo_store.specs.Part as store
 use Rattle.redo_store.specs.Requests.{batch_requests}
@@ -26,6 +26,7 @@ abbrev pub log_asked : {L : Type 0} → log.Part L → model.Lent → Op → Lis
 log_asked part l (op.WriteTo mark) = lent_writes part l
 log_asked part l op.Sync = sync_requests
 log_asked part l (op.Checkpoint lsn) = checkpoint_requests part lsn
+log_asked part l (op.ReadBlock lsn) = read_requests part lsn
 log_asked part l _ = []
 
 abbrev pub data_asked : {D : Type 0} → store.Part D → model.Lent → Op → List Request

@@ -23,4 +23,4 @@ pub mod Views
 pub use Rattle.redo_drive.specs.Asking.{AskOfBoth}
 pub use Rattle.redo_drive.specs.Startable.{HasReading, room_from}
 pub use Rattle.redo_drive.specs.Drive.{ComesToRun, HasMemory, HoldsRun, IsOwedSynced, Owes, closed_run}
-pub use Rattle.redo_drive.specs.Requests.{checkpoint_requests, sync_requests, write_requests}
+pub use Rattle.redo_drive.specs.Requests.{checkpoint_requests, read_requests, sync_requests, write_requests}

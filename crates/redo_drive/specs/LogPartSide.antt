@@ -1,5 +1,5 @@
 -- The log part as the running store sees it.
-use Rattle.std.specs.Prelude.{List, [], None, OnErr, OnOk, Result, is_some, ℕ, ◌%◌, ◌+◌, ◌/◌, ◌^◌, ◌<◌, ◌≡◌, ◌≤◌}
+use Rattle.std.specs.Prelude.{List, [], None, OnErr, OnOk, Result, is_some, ℕ, ◌%◌, ◌+◌, ◌/◌, ◌^◌, ◌<◌, ◌≡◌, ◌≢◌, ◌≤◌}
 use Rattle.model_base.specs.declared.limits.TheConstants.{BLOCK_SIZE}
 use Rattle.model_core.specs.{Entry, lsn}
 use Rattle.model_core.specs.LogSide.{LogSide}
@@ -7,11 +7,11 @@ use Rattle.model_running.specs.{AreWholesOf}
 use Rattle.model_parts.specs.{after_asked, after_checkpoint, after_given, after_synced, after_written, next_number}
 use Rattle.model_parts.specs.declared.marks.LogMarks.{LogMarks}
 use Rattle.model_log.specs.declared.group.Whole.{Whole}
-use Rattle.redo_disk.specs.Seen.{Seen}
+use Rattle.redo_disk.specs.Seen.{Seen, StillTells}
 use Rattle.redo_disk.specs.declared.error.DevError.{DevError}
 use Rattle.redo_drive.specs.Devices.{call_code, HasFailedBy}
 use Rattle.redo_drive.specs.declared.device.Device.TheVariants.{Log}
-use Rattle.redo_logdev.specs.{KeepsHolding, KeepsNumbered, KeepsWriting, PartHolds, Stays}
+use Rattle.redo_logdev.specs.{GivesBlock, KeepsHolding, KeepsNumbered, KeepsWriting, PartHolds, Stays}
 use Rattle.redo_logdev.specs.Part.{Part}
 use Rattle.model_log.specs.{run_layout}
 
@@ -61,6 +61,13 @@ module _ {L : Type 0} (seen : L → Seen) where
     pub called : LogCalled code (after_checkpoint (next_number old.marks.number) lsn old.marks) (after_asked lsn old.marks) old new
     pub holds : KeepsNumbered seen old new
 
+  -- A read of the block at an lsn, which gave these bytes. The device tells what it told, or nothing any more.
+  pub record LogRead (lsn : ℕ) (bytes : List ℕ) (code : ℕ) (old new : Part L) : Type 0 where
+    pub called : LogCalled code old.marks old.marks old new
+    pub told : StillTells (seen old.dev).tells (seen new.dev).tells
+    pub holds : KeepsHolding seen old new
+    pub block : GivesBlock seen old lsn called.result bytes new
+
   -- `number` is that of the checkpoint at the run's start
   abbrev pub log_side : (faults number : ℕ) → Type 0 → LogSide
   log_side faults number Begun = record {
@@ -76,4 +83,6 @@ module _ {L : Type 0} (seen : L → Seen) where
     Wrote = LogWrote;
     Synced = LogSynced;
     Checkpointed = LogCheckpointed;
+    Read = LogRead;
+    Tells = λ part. Begun × ((seen part.dev).tells ≢ None);
   }

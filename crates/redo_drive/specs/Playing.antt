@@ -15,7 +15,7 @@ use Rattle.model_parts.specs.{IsWritable, MayBeNext}
 use Rattle.model_running.specs.ListReady.{ListReady}
 use Rattle.redo_drive.specs.DataPartSide as data_part
 use Rattle.redo_disk.specs.Seen.{Seen}
-use Rattle.redo_logdev.specs.{MayWrite}
+use Rattle.redo_logdev.specs.{MayRead, MayWrite}
 use Rattle.redo_logdev.specs.Part as log
 use Rattle.redo_drive.specs.LogPartSide as log_part
 use Rattle.redo_drive.specs.Lists.{lists_of}
@@ -55,6 +55,7 @@ abbrev pub LogReady : {L : Type 0} → log.Part L → Lent → Op → Type 0
 LogReady part l (op.WriteTo mark) = MayWriteLent part mark l
 LogReady part l op.Sync = part.failed ≡ None
 LogReady part l (op.Checkpoint x) = (part.failed ≡ None) × MayBeNext part.marks x
+LogReady part l (op.ReadBlock x) = MayRead part x
 LogReady part l _ = Unit {0}
 
 abbrev pub DataReady : {D : Type 0} → store.Part D → Lent → Op → Type 0

@@ -1,6 +1,8 @@
 -- The invariant of a running store over its parts and actors, in a run that is its own.
-use Rattle.std.specs.Prelude.{List, ◌≡◌}
+use Rattle.std.specs.Prelude.{List, ◌≡◌, ◌≤◌}
 use Rattle.model_base.specs.{IsWithinLimits}
+use Rattle.model_base.specs.declared.limits.TheConstants.{START_LSN}
+use Rattle.model_core.specs.{lsn}
 use Rattle.model_running.specs.{AreSeated, HasBytes, IsRunning}
 use Rattle.redo_disk.specs.Seen.{Seen}
 use Rattle.redo_drive.specs.Playing.{RunOf, run_data_side, run_log_side}
@@ -13,6 +15,7 @@ module _ {L D : Type 0} (log_seen : L → Seen) (data_seen : D → Seen) (run : 
   -- The invariant of a running store holds, in a run that is this one.
   pub record RunsOn (parts : Parts L D) (actors : List Actor) : Type 0 where
     pub limits : IsWithinLimits run.shape
+    pub started : START_LSN ≤ lsn run.setup.base
     pub its_pages : run.shape.pages ≡ run.setup.pages
     pub its_page_size : run.shape.page_size ≡ run.setup.page_size
     pub bytes : HasBytes run.setup

@@ -31,11 +31,16 @@ users_below blocks programs n = collected (user_of blocks programs) n
 abbrev pub users_of : Shape → (log_only : Bool) → List ScriptLine → List UserState
 users_of shape log_only script = users_below (run_layout shape).blocks (programs_of shape log_only script) (MAX_USERS + 1)
 
+-- the number of the first follower; a run has none, so this is past the last one
+abbrev pub first_follower : ℕ
+first_follower = 1
+
 -- the actors of the pages; where the log runs alone there are none
 abbrev pub page_actors : Shape → (start : ℕ) → (log_only : Bool) → List Actor
 page_actors shape start true = []
 page_actors shape start false =
-    actor.Closer new_closer ∷ actor.Cleaner (new_cleaner shape.pages shape.page_size) ∷ actor.Checkpointer (new_checkpointer start) ∷ []
+    actor.Closer new_closer ∷ actor.Cleaner (new_cleaner shape.pages shape.page_size)
+    ∷ actor.Checkpointer (new_checkpointer start first_follower first_follower) ∷ []
 
 -- the actors of the run in their seats, with nothing done
 abbrev pub start_actors : Shape → List ScriptLine → (start : ℕ) → (log_only : Bool) → List Actor

@@ -3,14 +3,14 @@ use Rattle.std.specs.Prelude.{Bool, List, Some, [], drop, get_or, length, replic
 use Rattle.model_base.specs.declared.limits.TheConstants.{BLOCK_SIZE, PAGE_TRAILER, USER_START}
 use Rattle.model_core.specs.{flat, IsSized, KeptPage, lsn, packed, page_words_at, SharedWords, with_page_words}
 use Rattle.model_core.specs.Setup.{Setup}
-use Rattle.model_core.specs.declared.limits.TheConstants.{BUFFER_BLOCKS, FRAME_WORDS, WORD_LANES}
+use Rattle.model_core.specs.declared.limits.TheConstants.{BUFFER_BLOCKS, FRAME_WORDS, READERS, WORD_LANES}
 use Rattle.model_log.specs.{run_layout, sn_of}
 use Rattle.model_log.specs.declared.layout.TheConstants.{BLOCK_HEADER}
 use Rattle.model_page.specs.{blank_page}
 use Rattle.model_page.specs.declared.content.Content.{Content}
 use Rattle.model_base.specs.declared.shape.Shape.{Shape}
 use Rattle.model_script.specs.declared.script.ScriptLine.{ScriptLine}
-use Rattle.redo_drive.specs.Setups.{programs_of, users_of}
+use Rattle.redo_drive.specs.Setups.{first_follower, programs_of, users_of}
 use Rattle.redo_words.specs.Plain.{Plain}
 
 -- the cells of a page: its user bytes, and 0 before and after them, where the running store keeps nothing
@@ -51,6 +51,11 @@ pub record AreNamed (words : Plain) (m : SharedWords) : Type 0 where
   pub sized : IsSized words.pages m
   pub in_order : words.words ≡ flat m
 
+-- up to where the readers of the log have it as the run begins: the archiver up to the block of the start, and each
+-- follower up to the start
+abbrev pub first_places : ℕ → List ℕ
+first_places start = (start - BLOCK_HEADER) ∷ replicate (READERS - 1) start
+
 -- the words once those of the log are what a run has that starts at this lsn
 abbrev pub with_log : ℕ → SharedWords → SharedWords
 with_log start m = record m {
@@ -63,6 +68,7 @@ with_log start m = record m {
   ctail = start;
   cheld = false;
   firsts = slice_set m.firsts (start / BLOCK_SIZE % BUFFER_BLOCKS) BLOCK_HEADER;
+  places = first_places start;
 }
 
 -- the words once a page's frame has these
@@ -87,4 +93,7 @@ setup_of shape pages start script log_only = record {
   closer = length (users_of shape log_only script) + 2;
   cleaner = length (users_of shape log_only script) + 3;
   checkpointer = length (users_of shape log_only script) + 4;
+  first_reader = first_follower;
+  last_reader = first_follower;
+  reader_at = λ number. number;
 }

@@ -19,5 +19,6 @@ retook (own.Checkpointer t) r = own.Checkpointer (after_of checkpointer_program 
 -- how many steps an actor takes at most from one wait to the next where it comes to nothing
 abbrev pub steps_in_vain : model.Actor → ℕ
 steps_in_vain (model.Cleaner v) = FRAME_WORDS - 1
-steps_in_vain (model.Checkpointer t) = 2 + 2 * FLUSH_LISTS
+steps_in_vain (model.Checkpointer t) = 2 + (t.last - t.first) + 2 * FLUSH_LISTS
+steps_in_vain (model.Reader r) = 2
 steps_in_vain _ = 5

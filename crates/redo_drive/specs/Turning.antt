@@ -2,7 +2,7 @@
 use Rattle.std.specs.Prelude.{List, slice_index, ℕ, ◌≡◌, ◌⊎◌, is_some}
 use Rattle.model_core.specs.Actors as model
 use Rattle.model_core.specs.AnswerFits.{AnswerFits}
-use Rattle.model_core.specs.{answer_of, Core, index, lent, next, step_of, took}
+use Rattle.model_core.specs.{answer_of, Core, filled, Filling, Fills, index, lent, next, step_of, took}
 use Rattle.model_core.specs.Turn.{Turn}
 use Rattle.model_core.specs.declared.ops.Answer.{Answer}
 use Rattle.model_core.specs.declared.ops.Step.{Step}
@@ -22,12 +22,14 @@ pub record MayServe {L D : Type 0} (parts : Parts L D) (who : model.Actor) : Typ
   pub whole : HasWholePages parts.store.shape (next who) (lent who)
   pub fits : (code mark : ℕ) → AnswerFits who (answer_of (lists_of parts.lists) (is_some parts.log.failed) code mark parts.words.words (next who))
 
--- An actor has had its turn, with this answer.
+-- An actor has had its turn, with what that put into it and with this answer.
 pub record IsServed {L D : Type 0} (log_seen : L → Seen) (data_seen : D → Seen) (run : RunOf L D) (old : Parts L D) (who : model.Actor) (step : Step) (new : Parts L D) (who_new : model.Actor) : Type 0 where
+  pub filling : Filling
+  pub fills : Fills who filling
   pub answer : Answer
-  pub played : IsPlayed log_seen data_seen run (next who) (lent who) old answer new
-  pub took : who_new ≡ took who answer
-  pub ends : step ≡ step_of who answer
+  pub played : IsPlayed log_seen data_seen run (next who) (lent (filled who filling)) old answer new
+  pub took : who_new ≡ took (filled who filling) answer
+  pub ends : step ≡ step_of (filled who filling) answer
 
 module _ {L D : Type 0} (log_seen : L → Seen) (data_seen : D → Seen) (run : RunOf L D) where
   abbrev pub core_of : Parts L D → List Actor → Core (run_log_side log_seen data_seen run) (run_data_side log_seen data_seen run)

@@ -41,8 +41,10 @@ impl Actor {
             Actor::User(_) | Actor::Writer(_) | Actor::Flusher(_) | Actor::Closer(_) => 5,
             // fewer than it takes to load a page
             Actor::Cleaner(_) => FRAME_WORDS - 1,
-            // FAILED, CTAIL, and each list taken and given
-            Actor::Checkpointer(_) => 2 + 2 * FLUSH_LISTS,
+            // FAILED, CTAIL, each reader's place, and each list taken and given
+            Actor::Checkpointer(checkpointer) => {
+                2 + u64::from(checkpointer.reader_count()) + 2 * FLUSH_LISTS
+            }
         }
     }
 }

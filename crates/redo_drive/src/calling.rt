@@ -11,8 +11,9 @@ ghost use Rattle.redo_drive.specs.DataPartSide as data_part;
 ghost use Rattle.redo_drive.specs.Devices.{call_code};
 ghost use Rattle.redo_drive.specs.LogPartSide as log_part;
 ghost use Rattle.redo_drive.specs.Playing.{HasWholePages, MayBatchLent, MayWriteLent};
-ghost use Rattle.redo_drive.specs.Requests.{checkpoint_requests, sync_requests};
+ghost use Rattle.redo_drive.specs.Requests.{checkpoint_requests, read_requests, sync_requests};
 ghost use Rattle.redo_drive.specs.declared.device.Device.TheVariants as device;
+ghost use Rattle.redo_logdev.specs.{MayRead};
 ghost use Rattle.redo_logdev.specs.Part as log_dev;
 ghost use Rattle.redo_store.specs.Part as store_dev;
 ghost use Rattle.redo_words.specs.{Lends};
@@ -61,6 +62,20 @@ pub fn call_checkpoint<L: Sectors>(log: &mut LogPart<L>, lsn: u64) -> Result<(),
     ensures calls { MakesCalls L.gives log.old.dev log.new.dev (Serve (checkpoint_requests log.old lsn) log.new.failed) }
 {
     log.checkpoint(lsn)
+}
+
+/// Reads the block of the log at an lsn into the room that an actor has for it.
+pub fn call_read<L: Sectors>(
+    log: &mut LogPart<L>,
+    lsn: u64,
+    room: &mut [u8; 512],
+) -> Result<(), DevError>
+    requires { MayRead log.old lsn }
+    ensures read { log_part.LogRead L.seen lsn room.new (call_code device.Log log.new.failed) log.old log.new }
+    ensures ended { log.new.failed ≡ error_of result }
+    ensures calls { MakesCalls L.gives log.old.dev log.new.dev (Serve (read_requests log.old lsn) log.new.failed) }
+{
+    log.read_block(lsn, room)
 }
 
 /// Writes a batch of pages, which an actor lends.

@@ -19,7 +19,7 @@ mod seating;
 mod start_words;
 
 pub use actor::Actor;
-pub use calling::{call_batch, call_checkpoint, call_sync, call_write};
+pub use calling::{call_batch, call_checkpoint, call_read, call_sync, call_write};
 pub use closed::Closed;
 pub use data_laws::{data_part_meets_laws, data_part_tells, held_pages_are_stored};
 pub use device::{Device, answer_of};

@@ -23,6 +23,9 @@ use std::alloc::Global;
 /// How many actors there are at the most.
 const MOST_ACTORS: usize = MAX_USERS as usize + 5;
 
+/// The number of the first follower; a run has none, so this is past the last one.
+const FIRST_FOLLOWER: u32 = 1;
+
 /// The lines of a user, each a mode and a group.
 fn lines_of(
     alloc: Global,
@@ -86,7 +89,7 @@ pub fn seat_actors(
     if !log_only {
         actors.push(Actor::Closer(Closer::new()))?;
         actors.push(Actor::Cleaner(Cleaner::new(alloc, shape)?))?;
-        actors.push(Actor::Checkpointer(Checkpointer::new(start)))?;
+        actors.push(Actor::Checkpointer(Checkpointer::new(start, FIRST_FOLLOWER, FIRST_FOLLOWER)))?;
     }
     Ok(actors)
 }

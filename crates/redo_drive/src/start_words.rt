@@ -5,11 +5,11 @@ ghost use Rattle.model_core.specs.{IsWord, SharedWords, wrote};
 ghost use Rattle.model_core.specs.Setup.{Setup};
 ghost use Rattle.model_log.specs.{IsAtDataStart};
 ghost use Rattle.redo_apply.specs.{ArePagesOf};
-ghost use Rattle.redo_drive.specs.StartWords.{AreNamed, HoldBytes, IsBlankFrame, StartsOn, page_frame, with_frame, with_log};
+ghost use Rattle.redo_drive.specs.StartWords.{AreNamed, HoldBytes, IsBlankFrame, StartsOn, first_places, page_frame, with_frame, with_log};
 ghost use Rattle.redo_drive.specs.FirstWords.{AreStartWords};
 
 use model_base::{BLOCK_SIZE, MAX_PAGE_SIZE, Shape, USER_START};
-use model_core::{BUFFER_BLOCKS, FRAME_WORDS};
+use model_core::{BUFFER_BLOCKS, FRAME_WORDS, READERS};
 use model_log::BLOCK_HEADER;
 use redo_apply::Pages;
 use redo_link::tail_word;
@@ -24,6 +24,32 @@ fn set(words: &mut PlainWords, word: Word, number: u64)
     ensures named { (m : SharedWords) → AreNamed words.old m → AreNamed words.new (wrote m word number) }
 {
     let _ = words.play(Op::Store(word, number));
+}
+
+/// Up to where a reader of the log has it as a run starts: the archiver, which is number 0, up to the block of the start,
+/// and each follower up to the start.
+fn first_place(start: u64, reader: u32) -> u64
+    requires header { BLOCK_HEADER ≤ start }
+    requires there { reader < READERS }
+    ensures { result ≡ slice_index (first_places start) reader }
+{
+    if reader == 0 {
+        start - BLOCK_HEADER
+    } else {
+        start
+    }
+}
+
+/// Gives the words of the readers of the log their places.
+fn set_places(words: &mut PlainWords, start: u64)
+    requires { BLOCK_HEADER ≤ start }
+    ensures pages { words.new.pages ≡ words.old.pages }
+    ensures named { (m : SharedWords) → AreNamed words.old m
+        → AreNamed words.new (record m { places = first_places start }) }
+{
+    for reader in 0..READERS as u32 {
+        set(words, Word::Place(reader), first_place(start, reader));
+    }
 }
 
 /// Gives the words of the log their numbers, for a run that starts at this lsn.
@@ -41,6 +67,7 @@ fn set_log(words: &mut PlainWords, start: u64)
     set(words, Word::Ctail, tail_word(start, false));
     let block = (start / BLOCK_SIZE % BUFFER_BLOCKS) as u32;
     set(words, Word::First(block), BLOCK_HEADER);
+    set_places(words, start);
 }
 
 /// A word of a page's frame, by the page's user bytes.

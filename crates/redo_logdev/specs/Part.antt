@@ -30,12 +30,13 @@ abbrev pub PartHolds : {L : Type 0} → (L → Seen) → ℕ → List Whole → 
 PartHolds seen s wholes part = IfSome (seen part.dev).tells (DiskHolds part.shape s wholes part.marks part.tails part.failed)
 
 -- What each call leaves, whatever it answers: the shape and the device's size are as before, the device failed if the
--- call says so, and the part tells what the call answered.
+-- call says so, the part tells what the call answered, and a device that tells nothing goes on telling nothing.
 pub record Stays {L : Type 0} (seen : L → Seen) (old : Part L) (result : Result (Unit {0}) DevError) (new : Part L) : Type 0 where
   pub shape : new.shape ≡ old.shape
   pub size : (seen new.dev).size ≡ (seen old.dev).size
   pub cause : HasCause (seen old.dev).faults (seen new.dev).faults result
   pub failed : new.failed ≡ error_of result
+  pub silent : (seen old.dev).tells ≡ None → (seen new.dev).tells ≡ None
 
 -- What a part's device holds after `write_to`, Ok or not, if what was given is of the run.
 abbrev pub KeepsWriting : {L : Type 0} → (L → Seen) → Part L → ℕ → List ℕ → List ℕ → Part L → Type 0

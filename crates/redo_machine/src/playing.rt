@@ -1,5 +1,5 @@
 // Playing the Ops of an actor.
-ghost use Rattle.std.specs.Prelude.{◌≡◌, ◌==◌, ◌%◌, ◌<◌, ◌+◌, ℕ, if◌then◌else◌, slice_index, slice_set, None, is_some};
+ghost use Rattle.std.specs.Prelude.{◌≡◌, ◌≢◌, ◌==◌, ◌%◌, ◌<◌, ◌+◌, ℕ, if◌then◌else◌, slice_index, slice_set, None, is_some};
 ghost use Rattle.model_core.specs.Actors as model;
 ghost use Rattle.model_core.specs.{answer_of, Each, index, IsWord, list_answer, list_word, lists_left, oldest_end, oldest_of, words_left};
 ghost use Rattle.model_core.specs.declared.limits.TheConstants.{CLOSED_LINKS};
@@ -111,9 +111,10 @@ fn take_oldest<L: Sectors, D: Sectors>(parts: &mut Parts<L, D>, list: u32) -> An
     Answer::Taken(parts.lists.oldest_end(list))
 }
 
-/// Plays an Op with what its actor lends.
+/// Plays an Op with what its actor lends. A read of the log is none: it takes room, which would be written.
 pub fn play<L: Sectors, D: Sectors>(parts: &mut Parts<L, D>, op: Op, lent: Lent<'_>) -> Answer
-    requires { IsPlayable parts.old op lent }
+    requires playable { IsPlayable parts.old op lent }
+    requires no_read { (lsn : ℕ) → op ≢ Op.ReadBlock lsn }
     ensures pages { HasSamePages parts.old parts.new }
     ensures played { (run : RunOf L D) (l : model.Lent) → Lends lent.entry l → HasWholePages parts.old.store.shape op l
         → IsPlayed L.seen D.seen run op l parts.old result parts.new }
@@ -136,6 +137,8 @@ pub fn play<L: Sectors, D: Sectors>(parts: &mut Parts<L, D>, op: Op, lent: Lent<
             answer_of(Device::Log, ended, parts.log.stable())
         }
         Op::Checkpoint(lsn) => answer_of(Device::Log, call_checkpoint(&mut parts.log, lsn), 0),
+        // no actor of a run reads the log
+        Op::ReadBlock(_) => unreachable!(),
         Op::WriteBatch => answer_of(Device::Data, call_batch(&mut parts.store, lent), 0),
         Op::Rest => Answer::Rested,
     }

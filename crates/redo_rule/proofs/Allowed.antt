@@ -122,7 +122,8 @@ module _ {L D : Type 0} (log_seen : L → Seen) (log_gives : L → Call → L �
   many s R k below =
       let m = R.runs.running.shared in
       let n : length s.words ≡ length (flat m) = ap length (sym R.words_are ∙ R.runs.running.flat_is) in
-      let rows = length-append m.lists (m.wlinks ++ (m.clinks ++ (m.cells ++ (m.firsts ++ flat_page_words m.page_words)))) in
+      let after_cells : List ℕ = m.firsts ++ (m.places ++ flat_page_words m.page_words) in
+      let rows = length-append m.lists (m.wlinks ++ (m.clinks ++ (m.cells ++ after_cells))) in
       let lists = R.runs.running.both.logged.sized.lists in
       omega arith
 

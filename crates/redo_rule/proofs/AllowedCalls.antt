@@ -55,6 +55,7 @@ pub hand_of : (o : Op) → CallsLog o → (before : Option ℕ) (after : Answer 
 hand_of (op.WriteTo t) calls before after h = (h.0, by_answer after h.1 h.2)
 hand_of op.Sync calls before after h = (h.0, by_answer after h.1 h.2)
 hand_of (op.Checkpoint x) calls before after h = (h.0, by_answer after h.1 h.2)
+hand_of (op.ReadBlock x) calls before after h = (h.0, by_answer after h.1 h.2)
 hand_of _ calls before after h = absurd calls
 
 -- what is in a list of one slot

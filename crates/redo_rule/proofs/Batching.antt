@@ -18,6 +18,7 @@ use Rattle.redo_drive.specs.Playing.{DataReady, HasWholePages, MayBatchLent, run
 use Rattle.redo_drive.specs.Views.{view_of}
 use Rattle.redo_drive.specs.declared.device.Device.TheVariants.{Data}
 use Rattle.redo_rule.proofs.AllowedCalls.{allows_batched, allows_reach}
+use Rattle.redo_rule.proofs.Filled.{plays}
 use Rattle.redo_rule.proofs.Kept as kept
 use Rattle.redo_rule.proofs.Retook.{view_retook}
 use Rattle.redo_rule.proofs.Stepping as stepping
@@ -130,16 +131,11 @@ module _ {L D : Type 0} (table : TableId) (seat : Seat (Slot L D) (View L D)) (a
 
           pub batched_played : (step : Step) → step ≡ step_of a r
               → HasPlayed log_seen data_seen seat.me.0.about a step b
-          batched_played step ends = record {
-            answer = r;
-            number = mine.who.number;
-            shown =
-                subst (λ (w : Me (Slot L D) (View L D)). Shown log_seen data_seen w.0.about mine.who.number a r) out_is
-                (subst (λ (w : model.Actor). Shown log_seen data_seen out.me.0.about mine.who.number w r) mine.state
-                stepped.shown);
-            is = b_is;
-            ends = ends;
-          }
+          batched_played step ends = plays log_seen data_seen a mine.who.number r
+              (subst (λ (w : Me (Slot L D) (View L D)). Shown log_seen data_seen w.0.about mine.who.number a r) out_is
+              (subst (λ (w : model.Actor). Shown log_seen data_seen out.me.0.about mine.who.number w r) mine.state
+              stepped.shown))
+              step b b_is ends
 
           pub keeps_part : HasPart after.me.0
           keeps_part = (e, ap (λ (w : Me (Slot L D) (View L D)). w.0.data_part) stepped.is)

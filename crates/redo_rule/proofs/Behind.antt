@@ -3,12 +3,13 @@ use Rattle.std.proofs.Common.{Bool, None, Option, Some, ap, subst, sym, true, �
 use Rattle.atomic_table.specs.Seated.{TableId}
 use Rattle.atomic_table.specs.declared.shared.Seat.{Seat}
 use Rattle.model_core.proofs.Asks.{batch_writer}
-use Rattle.model_core.proofs.Later.{took_later}
-use Rattle.model_core.specs.{next, took}
+use Rattle.model_core.proofs.Later.{later_trans, took_later}
+use Rattle.model_core.specs.{filled, next, took}
 use Rattle.model_core.specs.Actors as model
 use Rattle.model_core.specs.Later.{IsSameActor}
 use Rattle.model_core.specs.declared.ops.Op.TheVariants as op
 use Rattle.model_core.specs.declared.ops.Step.{Step}
+use Rattle.model_running.proofs.SeatsKeep.{filled_later}
 use Rattle.redo_disk.specs.Seen.{Seen}
 use Rattle.redo_rule.specs.Mine.{HasPlayed, Mine}
 use Rattle.redo_rule.specs.Seating.{HasPart, IsCleaner, IsSeatOf}
@@ -21,9 +22,17 @@ was_kind : (a b : model.Actor) → IsSameActor a b → IsCleaner b → IsCleaner
 was_kind (model.Cleaner v) b later is = tt
 was_kind _ b later is = absurd (subst IsCleaner later.1 is)
 
+-- a turn, with whatever it puts into an actor, leaves it the same
+pub played_later : {L D : Type 0} (log_seen : L → Seen) (data_seen : D → Seen) {told : Option (About L D)}
+    (a b : model.Actor) (step : Step) → HasPlayed log_seen data_seen told a step b → IsSameActor a b
+played_later log_seen data_seen a b step h =
+    let with : model.Actor = filled a h.shown.turn.filling in
+    subst (IsSameActor a) (sym h.is)
+    (later_trans a with (took with h.answer) (filled_later a h.shown.turn.filling) (took_later with h.answer))
+
 pub was_cleaner : {L D : Type 0} (log_seen : L → Seen) (data_seen : D → Seen) {told : Option (About L D)}
     (a b : model.Actor) (step : Step) → HasPlayed log_seen data_seen told a step b → IsCleaner b → IsCleaner a
-was_cleaner log_seen data_seen a b step h is = was_kind a (took a h.answer) (took_later a h.answer) (subst IsCleaner h.is is)
+was_cleaner log_seen data_seen a b step h is = was_kind a b (played_later log_seen data_seen a b step h) is
 
 -- the cleaner alone writes batches
 pub batch_cleaner : (a : model.Actor) → next a ≡ op.WriteBatch → IsCleaner a

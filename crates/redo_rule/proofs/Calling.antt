@@ -20,6 +20,7 @@ use Rattle.redo_drive.specs.Playing.{LogReady, MayWriteLent, run_log_side, RunOf
 use Rattle.redo_drive.specs.Views.{view_of}
 use Rattle.redo_drive.specs.declared.device.Device.TheVariants.{Log}
 use Rattle.redo_rule.proofs.AllowedCalls.{allows_called, hand_of}
+use Rattle.redo_rule.proofs.Filled.{plays}
 use Rattle.redo_rule.proofs.Kept as kept
 use Rattle.redo_rule.proofs.Retook.{view_retook}
 use Rattle.redo_rule.proofs.Stepping as stepping
@@ -44,6 +45,7 @@ live_of : {L : Type 0} (p : log.Part L) (o : Op) (l : Lent) → CallsLog o → L
 live_of p (op.WriteTo t) l calls may = write_live p t l may
 live_of p op.Sync l calls may = may
 live_of p (op.Checkpoint x) l calls may = may.0
+live_of p (op.ReadBlock x) l calls may = may.live
 live_of p _ l calls may = absurd calls
 
 module _ {L D : Type 0} (table : TableId) (seat : Seat (Slot L D) (View L D)) (a : model.Actor) (mine : Mine table seat a) (o : Op) (is : next a ≡ o) (calls_log : CallsLog o) where
@@ -108,15 +110,10 @@ module _ {L D : Type 0} (table : TableId) (seat : Seat (Slot L D) (View L D)) (a
             }
 
         pub called_played : (step : Step) → step ≡ step_of a r → HasPlayed log_seen data_seen seat.me.0.about a step b
-        called_played step ends = record {
-          answer = r;
-          number = mine.who.number;
-          shown =
-              subst (λ (w : model.Actor). Shown log_seen data_seen seat.me.0.about mine.who.number w r) mine.state
-              stepped.shown;
-          is = b_is;
-          ends = ends;
-        }
+        called_played step ends = plays log_seen data_seen a mine.who.number r
+            (subst (λ (w : model.Actor). Shown log_seen data_seen seat.me.0.about mine.who.number w r) mine.state
+            stepped.shown)
+            step b b_is ends
 
         pub called_part : KeepsSeat seat.me.0 after.me.0
         called_part = record {

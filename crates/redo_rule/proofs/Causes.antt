@@ -6,7 +6,7 @@ use Rattle.model_core.proofs.Endings.{ended_of, ended_well, idle_of, quiet, rest
 use Rattle.model_core.proofs.FailedSteps.{turn_fails}
 use Rattle.model_core.proofs.Lists.{set_at}
 use Rattle.model_core.proofs.Rests.{rests}
-use Rattle.model_core.specs.{answer_of, is_checking, next, old_of, own_op, step_of, took, UserState}
+use Rattle.model_core.specs.{answer_of, filled, is_checking, next, old_of, own_op, step_of, took, UserState}
 use Rattle.model_core.specs.Actors as model
 use Rattle.model_core.specs.Hands.{GivesFailed, StoresFailed}
 use Rattle.model_core.specs.Waiting.{ending}
@@ -25,6 +25,7 @@ use Rattle.redo_drive.specs.Turning.{code_in}
 use Rattle.redo_drive.specs.Views.{view_of, views_of}
 use Rattle.redo_drive.specs.declared.actor.Actor.{Actor}
 use Rattle.redo_rule.proofs.Failing.{caused}
+use Rattle.redo_rule.proofs.Filled.{is_plain, played_ends, played_took}
 use Rattle.redo_rule.proofs.Kept.{all_answered, done_is_free}
 use Rattle.redo_rule.proofs.Reached.{has_cause}
 use Rattle.redo_rule.specs.Causes.{EndsSo, HasEndedBy, HasFailureCode, HasWaited, IsFinishedUser}
@@ -48,8 +49,13 @@ module _ {L D : Type 0} (log_seen : L → Seen) (data_seen : D → Seen) (told :
 
   -- its state after the turn
   there : get_elem? (views_of s.after) number ≡ some (took a r)
-  there = subst (λ (z : model.Actor). get_elem? (views_of s.after) number ≡ some (took z r)) same
-      (subst (λ (l : List model.Actor). get_elem? l number ≡ some (took s.turn.who r)) (sym s.turn.actors) (set_at (views_of s.actors) number s.turn.who (took s.turn.who r) s.turn.who_is))
+  there =
+      let now : model.Actor = took (filled s.turn.who s.turn.filling) r in
+      let plain : ◌≡◌ {A = model.Actor} (filled s.turn.who s.turn.filling) a =
+      ap (λ (z : model.Actor). filled z s.turn.filling) same ∙ is_plain log_seen data_seen a number r s in
+      subst (λ (z : model.Actor). get_elem? (views_of s.after) number ≡ some (took z r)) plain
+      (subst (λ (l : List model.Actor). get_elem? l number ≡ some now) (sym s.turn.actors)
+      (set_at (views_of s.actors) number s.turn.who now s.turn.who_is))
 
   pub done_behind : (u : UserState) → took a r ≡ model.User u → u.step ≡ user_step.Done → u.k ≡ length u.lines
   done_behind u is at_end = let g = s.runs_on.running in all_answered (run_log_side log_seen data_seen s.run) s.run.setup g.shared g.log_ghost s.new.log number u at_end (g.both.logged.each number (model.User u) (there ∙ ap (λ (z : model.Actor). some z) is))
@@ -102,15 +108,23 @@ module _ {L D : Type 0} (log_seen : L → Seen) (data_seen : D → Seen) (told :
   why_idle : HasGone log_seen data_seen told a ends b → ends ≡ step.Idle → HasWaited log_seen data_seen told a
   why_idle gone e = ⊎_elim
       (λ t. absurd (quiet a answer.Rested t.0 (idle_of a answer.Rested (sym t.2 ∙ e)).1))
-      (λ h. let t = idle_of a h.answer (sym h.ends ∙ e) in record { number = h.number; answer = h.answer; shown = h.shown; goes_on = t.0; waits = t.1 }) gone
+      (λ h. let t = idle_of a h.answer (sym (played_ends log_seen data_seen a ends b h) ∙ e) in record {
+        number = h.number;
+        answer = h.answer;
+        shown = h.shown;
+        goes_on = t.0;
+        waits = t.1;
+      })
+      gone
 
   why_ended : HasGone log_seen data_seen told a ends b
       → ((u : UserState) → a ≡ model.User u → u.step ≡ user_step.Done → u.k ≡ length u.lines) → ends ≡ step.Ended
       → IsFinishedUser b
   why_ended gone done e = ⊎_elim
       (λ t. answered_at c (ap ending (t.1 ∙ sym (rests a t.0 answer.Rested)) ∙ ended_of a answer.Rested (sym t.2 ∙ e)) (λ u is at_end. done u (sym t.1 ∙ is) at_end))
-      (λ h. answered_at c (ap ending h.is ∙ ended_of a h.answer (sym h.ends ∙ e))
-      (λ u is at_end. done_behind log_seen data_seen told h.number a h.answer h.shown u (sym h.is ∙ is) at_end))
+      (λ h. let took_so = played_took log_seen data_seen a ends b h in
+      answered_at c (ap ending took_so ∙ ended_of a h.answer (sym (played_ends log_seen data_seen a ends b h) ∙ e))
+      (λ u is at_end. done_behind log_seen data_seen told h.number a h.answer h.shown u (sym took_so ∙ is) at_end))
       gone
 
   ends_well : HasGone log_seen data_seen told a ends b → IsFinishedUser b → ends ≡ step.Ended
@@ -118,14 +132,16 @@ module _ {L D : Type 0} (log_seen : L → Seen) (data_seen : D → Seen) (told :
       let u = is_user b is in
       ⊎_elim
       (λ t. t.2 ∙ turn_ends a u.0 answer.Rested (sym u.1 ∙ t.1 ∙ sym (rests a t.0 answer.Rested)) u.2 (λ w e at_end. ap is_checking (sym e) ∙ resting_free (is_checking a) (own_op a) t.0))
-      (λ h. h.ends ∙ turn_ends a u.0 h.answer (sym u.1 ∙ h.is) u.2
+      (λ h. played_ends log_seen data_seen a ends b h
+      ∙ turn_ends a u.0 h.answer (sym u.1 ∙ played_took log_seen data_seen a ends b h) u.2
       (λ w e at_end. free_before log_seen data_seen told h.number a h.answer h.shown w e at_end)) gone
 
   why_failed : HasGone log_seen data_seen told a ends b → (code : ℕ) → ends ≡ step.Failed code → HasEndedBy a code
       ⊎ HasFailureCode log_seen data_seen told a code
   why_failed gone code e = ⊎_elim
       (λ t. inl (t.0, resting_code a code t.0 (sym t.2 ∙ e)))
-      (λ h. failure log_seen data_seen told h.number a h.answer h.shown code (sym h.ends ∙ e)) gone
+      (λ h. failure log_seen data_seen told h.number a h.answer h.shown code
+      (sym (played_ends log_seen data_seen a ends b h) ∙ e)) gone
 
   -- `done` is what the seat knows of an actor that rests
   pub ends_so : HasGone log_seen data_seen told a ends b

@@ -7,7 +7,8 @@ use mathlib.Core.Option as maybe
 use native.Mathlib.Decide.{ℕ_discrete}
 use Rattle.atomic_table.specs.Table.{State}
 use Rattle.model_core.proofs.Lists.{at_set, set_at, set_else}
-use Rattle.model_core.specs.{answer_of, lent, lsn, next, OpWords, SharedWords, step_of, took, UserState}
+use Rattle.model_core.specs.{answer_of, DataServed, filled, lent, lsn, next, OpWords, SharedWords, step_of, took}
+use Rattle.model_core.specs.{UserState}
 use Rattle.model_core.specs.Actors as model
 use Rattle.model_core.specs.AnswerFits.{AnswerFits}
 use Rattle.model_core.specs.LogSide.{LogSide}
@@ -29,6 +30,7 @@ use Rattle.redo_disk.specs.{Call}
 use Rattle.redo_disk.specs.Seen.{Seen}
 use Rattle.redo_flushlist.specs.{Listing}
 use Rattle.redo_logdev.specs.Part as log
+use Rattle.redo_drive.proofs.Filled.{fills_nothing, nothing_filled}
 use Rattle.redo_drive.proofs.LogPartLaws.{log_laws}
 use Rattle.redo_drive.specs.LogPartSide as log_part
 use Rattle.redo_drive.proofs.MayTurn.{may_serve}
@@ -44,6 +46,7 @@ use Rattle.redo_drive.specs.declared.actor.Actor.{Actor}
 use Rattle.redo_drive.specs.declared.parts.Parts.{Parts}
 use Rattle.model_core.proofs.FailedCalls.{gives_hand, has_stored, stores}
 use Rattle.model_core.proofs.Hands.{stays_free}
+use Rattle.redo_rule.proofs.Filled.{as_it_was}
 use Rattle.redo_rule.proofs.Retook.{at_map, view_retook}
 use Rattle.model_core.specs.Hands.{GivesFailed, hand, IsFreeToCheck}
 use Rattle.redo_rule.specs.Plays.{behind, MayGo, Shown, Stepped, view_behind}
@@ -169,23 +172,34 @@ module _ {L D : Type 0} (log_seen : L → Seen) (log_gives : L → Call → L �
     abbrev after : List Actor
     after = set R.actors x.number (retook x.actor r)
 
+    -- a turn puts nothing into it
+    plain : ◌≡◌ {A = model.Actor} (filled a nothing_filled) a
+    plain = as_it_was x.actor nothing_filled
+
     pub turn : Turn (run_log_side log_seen data_seen R.run) (run_data_side log_seen data_seen R.run) (core_of log_seen data_seen R.run R.parts R.actors) x.number r (step_of a r) (core_of log_seen data_seen R.run new after)
     turn = record {
       who = a;
       who_is = there;
+      filling = nothing_filled;
+      fills = fills_nothing x.actor;
       code = played.code;
-      log_served = played.log_served;
-      data_served = played.data_served;
+      log_served = subst (λ (z : model.Actor). LogServed (run_log_side log_seen data_seen R.run) R.parts.log
+          (lent z) (next a) played.code new.log) (sym plain) played.log_served;
+      data_served = subst (λ (z : model.Actor). DataServed (run_data_side log_seen data_seen R.run) R.parts.store
+          (lent z) (next a) played.code new.store) (sym plain) played.data_served;
       words = played.words;
       lists = played.lists;
       answered = played.answered;
-      actors = map-set view_of R.actors x.number (retook x.actor r) ∙ ap (λ (z : model.Actor). set (views_of R.actors) x.number z) (view_retook x.actor r);
-      ends = refl;
+      actors = map-set view_of R.actors x.number (retook x.actor r)
+          ∙ ap (λ (z : model.Actor). set (views_of R.actors) x.number z)
+          (view_retook x.actor r ∙ ap (λ (z : model.Actor). took z r) (sym plain));
+      ends = ap (λ (z : model.Actor). step_of z r) (sym plain);
     }
 
     pub runs_behind : RunsOn log_seen data_seen R.run new after
     runs_behind = record {
       limits = R.runs.limits;
+      started = R.runs.started;
       its_pages = R.runs.its_pages;
       its_page_size = R.runs.its_page_size;
       bytes = R.runs.bytes;
@@ -210,6 +224,7 @@ module _ {L D : Type 0} (log_seen : L → Seen) (log_gives : L → Call → L �
       runs_on = runs_behind;
       at = there;
       has_cause = λ code gives. R.told x.number x.actor code here gives;
+      ends = step_of a r;
       turn = turn;
     }
 

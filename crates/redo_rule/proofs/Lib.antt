@@ -9,6 +9,7 @@ pub mod Causes
 pub mod Cuts
 pub mod Ends
 pub mod Failing
+pub mod Filled
 pub mod Finishing
 pub mod Gathered
 pub mod Holders

@@ -21,6 +21,7 @@ use Rattle.redo_drive.specs.Views.{view_of}
 use Rattle.redo_rule.proofs.Allowed.{allows_add, allows_give, allows_give_list, allows_load, allows_store, allows_swap, allows_take, word_hand}
 use Rattle.redo_rule.proofs.AllowedLists.{allows_take_add, allows_take_oldest, allows_take_remove}
 use Rattle.model_core.proofs.Hands.{handles}
+use Rattle.redo_rule.proofs.Filled.{plays}
 use Rattle.redo_rule.proofs.Retook.{view_retook}
 use Rattle.model_core.proofs.Hands.{Handles}
 use Rattle.model_core.specs.Hands.{hand, IsFreeToCheck}
@@ -210,15 +211,10 @@ module _ {L D : Type 0} (table : TableId) (seat : Seat (Slot L D) (View L D)) (a
 
     -- and the actor has had a turn
     pub has_played : (step : Step) → step ≡ step_of a r → HasPlayed log_seen data_seen seat.me.0.about a step b
-    has_played step ends = record {
-      answer = r;
-      number = mine.who.number;
-      shown =
-          subst (λ (z : model.Actor). Shown log_seen data_seen seat.me.0.about mine.who.number z r) mine.state
-          stepped.shown;
-      is = is;
-      ends = ends;
-    }
+    has_played step ends = plays log_seen data_seen a mine.who.number r
+        (subst (λ (z : model.Actor). Shown log_seen data_seen seat.me.0.about mine.who.number z r) mine.state
+        stepped.shown)
+        step b is ends
 
     -- the view keeps the data part
     pub keeps_part : stored ≡ seat.me.0.data_part → KeepsSeat seat.me.0 after.me.0

@@ -11,6 +11,7 @@ use Rattle.model_core.specs.declared.ops.Step.{Step}
 use Rattle.redo_disk.specs.Seen.{Seen}
 use Rattle.redo_flushlist.specs.{Listing}
 use Rattle.redo_logdev.specs.Part as log
+use Rattle.redo_rule.proofs.Filled.{plays}
 use Rattle.redo_rule.proofs.Retook.{view_retook}
 use Rattle.model_core.specs.Hands.{hand}
 use Rattle.redo_rule.specs.Mine.{HasPlayed, KeepsSeat, Mine, number_in, number_of}
@@ -57,15 +58,10 @@ module _ {L D : Type 0} (table : TableId) (seat : Seat (Slot L D) (View L D)) (a
 
   pub taken_played : (b : model.Actor) → b ≡ took a r → (step : Step) → step ≡ step_of a r
       → HasPlayed log_seen data_seen seat.me.0.about a step b
-  taken_played b b_is step ends = record {
-    answer = r;
-    number = mine.who.number;
-    shown =
-        subst (λ (y : model.Actor). Shown log_seen data_seen seat.me.0.about mine.who.number y r) mine.state
-        stepped.shown;
-    is = b_is;
-    ends = ends;
-  }
+  taken_played b b_is step ends = plays log_seen data_seen a mine.who.number r
+      (subst (λ (y : model.Actor). Shown log_seen data_seen seat.me.0.about mine.who.number y r) mine.state
+      stepped.shown)
+      step b b_is ends
 
   pub taken_part : KeepsSeat seat.me.0 after.me.0
   taken_part = record {

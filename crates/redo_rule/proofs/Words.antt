@@ -22,6 +22,7 @@ plain_off (word.Wlink i) off k l e = omega arith
 plain_off (word.Clink i) off k l e = omega arith
 plain_off (word.Cell i) off k l e = omega arith
 plain_off (word.First i) off k l e = omega arith
+plain_off (word.Place i) off k l e = omega arith
 plain_off (word.Latch p) off k l e = omega arith
 plain_off (word.Newest p) off k l e = omega arith
 plain_off (word.Oldest p) off k l e = omega arith

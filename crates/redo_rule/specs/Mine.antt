@@ -3,7 +3,7 @@ use Rattle.std.specs.Prelude.{List, Option, [], ℕ, ◌∷◌, ◌≡◌, ◌�
 use Rattle.atomic_table.specs.Seated.{TableId}
 use Rattle.atomic_table.specs.declared.shared.Seat.{Seat}
 use Rattle.model_core.specs.Actors as model
-use Rattle.model_core.specs.{next, step_of, took, word_count}
+use Rattle.model_core.specs.{filled, next, step_of, took, word_count}
 use Rattle.model_core.specs.declared.ops.Answer.{Answer}
 use Rattle.model_core.specs.declared.ops.Answer.TheVariants as answer
 use Rattle.model_core.specs.declared.ops.Op.TheVariants as op
@@ -42,15 +42,15 @@ pub record Mine {L D : Type 0} (table : TableId) (seat : Seat (Slot L D) (View L
   pub carries : Carries (hand a) seat.me
   pub may : MayGo seat.me.0.pages seat.me.0.held seat.me.0.data_part a
 
--- the actor has had a turn of the definition, with some answer, in the run that its table is about, as its seat was
--- told; and its step ended so
+-- the actor has had a turn of the definition, with some answer and with what that put into it, in the run that its
+-- table is about, as its seat was told; and its step ended so
 pub record HasPlayed {L D : Type 0} (log_seen : L → Seen) (data_seen : D → Seen) (told : Option (About L D))
     (a : model.Actor) (step : Step) (b : model.Actor) : Type 0 where
   pub answer : Answer
   pub number : ℕ
   pub shown : Shown log_seen data_seen told number a answer
-  pub is : b ≡ took a answer
-  pub ends : step ≡ step_of a answer
+  pub is : b ≡ took (filled a shown.turn.filling) answer
+  pub ends : step ≡ step_of (filled a shown.turn.filling) answer
 
 -- an actor that has ended rests; any other has had its turn
 abbrev pub HasGone : {L D : Type 0} (log_seen : L → Seen) (data_seen : D → Seen) (told : Option (About L D))

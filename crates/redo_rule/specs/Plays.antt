@@ -3,7 +3,7 @@ use Rattle.std.specs.Prelude.{Bool, List, None, Option, Some, [], cond, false, l
 use lib.ListN.{get_elem?}
 use mathlib.Core.Option.{some}
 use Rattle.atomic_table.specs.Table.{Me, rest}
-use Rattle.model_core.specs.{lent, next, oldest_end, OpWords, step_of, took, UserState}
+use Rattle.model_core.specs.{lent, next, oldest_end, OpWords, took, UserState}
 use Rattle.model_core.specs.Actors as model
 use Rattle.model_core.specs.AnswerFits.{AnswerFits}
 use Rattle.model_core.specs.Turn.{Turn}
@@ -12,6 +12,7 @@ use Rattle.model_core.specs.declared.ops.Answer.{Answer}
 use Rattle.model_core.specs.declared.ops.Answer.TheVariants as answer
 use Rattle.model_core.specs.declared.ops.Op.{Op}
 use Rattle.model_core.specs.declared.ops.Op.TheVariants as op
+use Rattle.model_core.specs.declared.ops.Step.{Step}
 use Rattle.model_core.specs.declared.steps.UserStep.TheVariants as user_step
 use Rattle.redo_disk.specs.Seen.{Seen}
 use Rattle.redo_flushlist.specs.{Listing, without_page}
@@ -116,7 +117,7 @@ module _ {L D : Type 0} where
 
 module _ {L D : Type 0} (log_seen : L → Seen) (data_seen : D → Seen) where
   -- THERE WAS A MOMENT in the run that the table is about, as its seat was told, at which the invariant held, and one
-  -- turn of the definition was this actor's, with this answer
+  -- turn of the definition was this actor's, with this answer; its step ended so
   pub record Shown (told : Option (About L D)) (number : ℕ) (a : model.Actor) (r : Answer) : Type 0 where
     pub about : About L D
     pub about_is : told ≡ Some about
@@ -131,7 +132,9 @@ module _ {L D : Type 0} (log_seen : L → Seen) (data_seen : D → Seen) where
     pub at : get_elem? (views_of actors) number ≡ some a
     -- where it gives the log part back after a failed call, its code is one that the part has
     pub has_cause : (code : ℕ) → GivesFailed a code → (run_log_side log_seen data_seen run).Cause old.log code
-    pub turn : Turn (run_log_side log_seen data_seen run) (run_data_side log_seen data_seen run) (core_of log_seen data_seen run old actors) number r (step_of a r) (core_of log_seen data_seen run new after)
+    pub ends : Step
+    pub turn : Turn (run_log_side log_seen data_seen run) (run_data_side log_seen data_seen run)
+        (core_of log_seen data_seen run old actors) number r ends (core_of log_seen data_seen run new after)
 
   -- the seat's actor took an answer
   pub record Stepped (x : Numbered) (r : Answer) (held : Option (Slot L D)) (stored : Option (Keeping D)) (carried : List (ℕ × Slot L D)) (m m' : Me (Slot L D) (View L D)) : Type 0 where

@@ -43,7 +43,8 @@ fn play_token<L: Sectors, D: Sectors>(
         Op::WriteTo(mark) => write_to(table, token, actor, mark),
         Op::Sync => sync(table, token, actor),
         Op::Checkpoint(lsn) => checkpoint(table, token, actor, lsn),
-        Op::WriteBatch | Op::Rest => unreachable!(),
+        // none of the actors reads the log, and the other two aren't bare
+        Op::ReadBlock(_) | Op::WriteBatch | Op::Rest => unreachable!(),
     }
 }
 

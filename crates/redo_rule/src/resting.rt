@@ -30,7 +30,8 @@ fn is_free(op: Op) -> bool
         | Op::GiveList(_)
         | Op::WriteTo(_)
         | Op::Sync
-        | Op::Checkpoint(_) => false,
+        | Op::Checkpoint(_)
+        | Op::ReadBlock(_) => false,
     }
 }
 

@@ -1,7 +1,7 @@
 -- Actors that keep on in their seats, whichever seats these are.
-use Rattle.std.proofs.Common.{List, [], ap, arith, get_or, length, refl, set, subst, sym, ℕ, ◌+◌, ◌<◌, ◌∙◌, ◌∷◌, ◌≡◌}
+use Rattle.std.proofs.Common.{List, ap, arith, get_or, length, refl, set, subst, sym, ℕ, ◌+◌, ◌<◌, ◌∙◌, ◌≡◌}
 use Rattle.std.specs.Prelude.{vec_capacity}
-use Rattle.std.specs.List.{AllZip, insert, remove}
+use Rattle.std.specs.List.{AllZip, remove}
 use Rattle.std.proofs.lemmas.List.Edits.{length-remove}
 use Rattle.std.proofs.lemmas.Slice.Zip.{AllZip-long}
 use mathlib.Core.Option as maybe

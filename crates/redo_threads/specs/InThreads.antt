@@ -17,7 +17,8 @@ use Rattle.redo_store.specs.declared.opened.Opened.{Opened}
 use Rattle.redo_threads.specs.Ended.{HaveAnswered}
 
 -- These are the actors of a script, in their order: the users that have lines, by their numbers, each with as many lines as the
--- script has of it; then the writer and the flusher; and then, unless the log runs alone, the actors of the pages.
+-- script has of it; then the writer and the flusher; then, unless the log runs alone, the actors of the pages; and at
+-- last the readers of the log.
 pub record AreActorsOf (script : List ScriptLine) (log_only : Bool) (actors : List model.Actor) : Type 0 where
   pub users : List UserState
   pub writer : WriterState

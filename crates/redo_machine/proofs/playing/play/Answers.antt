@@ -43,7 +43,7 @@ returns-in-WriteTo-clause-played g c = λ run l lends whole. let old = c.args.pa
 pub returns-in-WriteTo-clause-asked : goal.returns-in-WriteTo-clause-asked
 returns-in-WriteTo-clause-asked g c = λ l lends whole.
     write_asks g.L.Sectors.gives g.D.Sectors.gives l c.args.lent c.args.op c.in-WriteTo.mark c.args.parts.now.log c.call_write.new.log c.args.parts.now.store c.in-WriteTo.is
-    (subst (λ (o : Op). LogReady c.args.parts.now.log c.args.lent o) c.in-WriteTo.is c.requires.log) (c.call_write.ensures.asked l lends)
+    (subst (λ (o : Op). LogReady c.args.parts.now.log c.args.lent o) c.in-WriteTo.is c.requires.playable.log) (c.call_write.ensures.asked l lends)
 
 pub returns-in-Sync-clause-played : goal.returns-in-Sync-clause-played
 returns-in-Sync-clause-played g c = λ run l lends whole. let old = c.args.parts.now in
@@ -68,4 +68,7 @@ pub returns-in-WriteBatch-clause-asked : goal.returns-in-WriteBatch-clause-asked
 returns-in-WriteBatch-clause-asked g c = λ l lends whole. let old = c.args.parts.now in
     let batch : HasWholePages old.store.shape op.WriteBatch l = subst (λ (o : Op). HasWholePages old.store.shape o l) c.in-WriteBatch.is whole in
     batch_asks g.L.Sectors.gives g.D.Sectors.gives l c.args.lent c.args.op old.log old.store c.call_batch.new.store c.in-WriteBatch.is
-    c.requires.data_part (c.call_batch.ensures.asked l lends batch)
+    c.requires.playable.data_part (c.call_batch.ensures.asked l lends batch)
+
+pub unreachable-requires : goal.unreachable-requires
+unreachable-requires g c = c.requires.no_read c.in-ReadBlock.field-0 c.in-ReadBlock.is
