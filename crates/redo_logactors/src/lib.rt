@@ -6,6 +6,7 @@ mod closer;
 mod closing;
 mod flusher;
 mod flushing;
+mod lending;
 mod making;
 mod taking;
 mod writer;

@@ -6,6 +6,7 @@ mod actor;
 mod asking;
 mod changes;
 mod changing;
+mod helping;
 mod line;
 mod linking;
 mod making;

@@ -1,0 +1,2 @@
+pub mod OwnTurn
+pub mod OwnWrites

@@ -1,0 +1,139 @@
+-- From its start on a run of users that write for themselves is a running store; with one alone none of its turns is
+-- idle.
+use Rattle.std.proofs.Common.{List, [], ap, arith, false, inl, refl, subst, suc, sym, true, zero, ℕ, ◌*◌, ◌+◌, ◌∙◌, ◌∷◌}
+use Rattle.std.proofs.Common.{◌≡◌, ◌≤◌}
+use lib.ListN.{get_elem?}
+use mathlib.Core.Option.{some}
+use Rattle.model_base.specs.declared.limits.TheConstants.{BLOCK_SIZE}
+use Rattle.model_core.specs.{Actor, Listed, lsn, SharedWords}
+use Rattle.model_core.specs.DataSide.{DataSide}
+use Rattle.model_core.specs.LogSide.{LogSide}
+use Rattle.model_core.specs.Setup.{Setup}
+use Rattle.model_core.specs.StartWords.{start_checkpoint}
+use Rattle.model_core.specs.declared.limits.TheConstants.{FREE_MARGIN}
+use Rattle.model_core.specs.declared.steps.UserStep.{UserStep}
+use Rattle.model_core.specs.Actors as actor
+use Rattle.model_logcore.proofs.NewUsers.{new_user_is}
+use Rattle.model_logcore.specs.LogHalf.{left_to_reserve}
+use Rattle.model_logcore.specs.LogLaws.{LogLaws}
+use Rattle.model_own.specs.OwnTurn.{OwnCore, all_actors, with_writer}
+use Rattle.model_own.specs.OwnWrites.{LogWork, OwnUser, has_work}
+use Rattle.model_own.specs.declared.errand.ErrandStep.{ErrandStep}
+use Rattle.model_own.specs.declared.errand.ErrandStep.TheVariants as errand_step
+use Rattle.model_ownrun.proofs.AloneKeeps.{alone_turns}
+use Rattle.model_ownrun.proofs.OwnKeeps.{own_turn_keeps}
+use Rattle.model_ownrun.specs.Alone.{Alone, AloneRunning, ErrandAlone, UserAlone}
+use Rattle.model_own.specs.OwnWrites.{ErrandFits}
+use Rattle.model_ownrun.specs.OwnRunning.{OwnRunning, WorkFits}
+use Rattle.model_ownrun.specs.OwnRuns.{NoneIsIdle, TakesOwnTurns}
+use Rattle.model_ownrun.specs.OwnStart.{OwnStart}
+use Rattle.model_pagecore.specs.DataLaws.{DataLaws}
+use Rattle.model_running.proofs.StartRunning.{both_start, start_pages}
+use Rattle.model_logcore.proofs.StartHolds.{start}
+use Rattle.model_running.proofs.Watermarks.{has_watermarks}
+use Rattle.model_running.specs.RunningStore.{RunningStore}
+use Rattle.model_running.specs.Watermarks.{HasWatermarks}
+
+module _ (D : LogSide) (L : LogLaws D) (E : DataSide) (EL : DataLaws E) (c : Setup) (spare : ℕ) where
+  -- the store as the run begins
+  started : (s : OwnCore D E) (S : OwnStart D E c spare s)
+      → (r : RunningStore D E c spare s.words s.lists s.log_part s.data_part (all_actors s.users s.work s.others))
+      × (r.shared ≡ S.shared)
+  started s S =
+      subst (λ (ls : ℕ → List Listed).
+      (r : RunningStore D E c spare s.words ls s.log_part s.data_part (all_actors s.users s.work s.others))
+      × (r.shared ≡ S.shared)) (sym S.lists_are) (
+        record {
+          shared = S.shared;
+          log_ghost = start D c S.shared s.log_part S.seat_of S.writer S.store.words S.store.log_part;
+          page_ghost = start_pages c;
+          flat_is = S.flat_is;
+          both = both_start D E c S.shared s.log_part s.data_part S.seat_of S.writer
+              (all_actors s.users s.work s.others) S.store spare S.room;
+        },
+        refl,
+      )
+
+  pub own_starts : (s : OwnCore D E) → OwnStart D E c spare s → OwnRunning D E c spare s
+  own_starts s S = record {
+    running = (started s S).0;
+    errands = record {
+      fits = λ seat o at. subst (λ (x : ErrandStep). ErrandFits o.user x) (sym (S.users seat o at).0) tt;
+      alone = λ i j o x at there has too. let z : false ≡ true = sym (ap has_work (S.users i o at).0) ∙ has in
+          absurd (cc);
+      work = inl (
+        (λ seat o at. ap has_work (S.users seat o at).0),
+        subst
+            (λ (k : LogWork). WorkFits D s.log_part errand_step.Done k) (sym S.work)
+            (record { writer_goes_on = refl; flusher_goes_on = refl; step = (tt, tt) }),
+      );
+    };
+  }
+
+  pub own_run_keeps : (seed max n : ℕ) (first last : OwnCore D E) → OwnRunning D E c spare first
+      → TakesOwnTurns D E seed max n first last → OwnRunning D E c spare last
+  own_run_keeps seed max zero first last before is = subst (OwnRunning D E c spare) (sym is) before
+  own_run_keeps seed max (suc n) first last before r =
+      own_turn_keeps D L E EL c spare r.before last _ r.answer r.step
+      (own_run_keeps seed max n first r.before before r.earlier) r.turn
+
+  -- so each of the watermarks holds between any two turns
+  pub own_watermarks : (s : OwnCore D E) → OwnRunning D E c spare s → HasWatermarks D E c (with_writer s)
+  own_watermarks s r = has_watermarks D L E EL c spare (with_writer s) r.running
+
+  -- one user, the log alone, space for all its groups, and no other actor
+  pub alone_starts : (s : OwnCore D E) (S : OwnStart D E c spare s) (o : OwnUser) → c.log_only ≡ true
+      → s.users ≡ o ∷ [] → ◌≡◌ {A = List Actor} s.others []
+      → lsn (c.base + left_to_reserve (actor.User o.user)) + FREE_MARGIN ≤ start_checkpoint c + BLOCK_SIZE * c.blocks
+      → AloneRunning D E c spare s
+  unfolding own_starts started
+  alone_starts s S o log_only one none room =
+      let there : get_elem? s.users 0 ≡ some o = ap (λ (us : List OwnUser). get_elem? us 0) one in
+      let seat : get_elem? (all_actors s.users s.work s.others) 0 ≡ some (actor.User o.user) =
+      ap (λ (us : List OwnUser). get_elem? (all_actors us s.work s.others) 0) one in
+      let k = new_user_is c o.user (S.store.each 0 (actor.User o.user) seat).1 in
+      let off = (S.users 0 o there).0 in
+      let unhelped = (S.users 0 o there).1 in
+      let w = S.store.words in
+      record {
+        log_only = log_only;
+        own = own_starts s S;
+        who = o;
+        users = one;
+        others = none;
+        alone = subst (λ (m : SharedWords). Alone c m o s.work) (sym (started s S).1) (record {
+          room = (let sn = w.sn in let ckpt = w.ckpt in
+              subst (λ (x : ℕ). lsn (x + left_to_reserve (actor.User o.user)) + FREE_MARGIN ≤ S.shared.ckpt
+              + BLOCK_SIZE * c.blocks) (sym sn) (omega arith));
+          user = subst (λ (t : UserStep). UserAlone S.shared o.user t) (sym k.step) tt;
+          errand = subst (λ (x : ErrandStep). ErrandAlone S.shared o.user s.work x) (sym off) tt;
+          out = inl off;
+          helped = λ h. let z : false ≡ true = sym unhelped ∙ h in absurd (cc);
+        });
+      }
+
+  -- THE law of own writes: none of its turns is idle
+  pub never_idle : (seed max n : ℕ) (first last : OwnCore D E) → AloneRunning D E c spare first
+      → (turns : TakesOwnTurns D E seed max n first last)
+      → AloneRunning D E c spare last × NoneIsIdle D E seed max n first last turns
+  never_idle seed max zero first last before is = (subst (AloneRunning D E c spare) (sym is) before, tt)
+  never_idle seed max (suc n) first last before r =
+      let earlier = never_idle seed max n first r.before before r.earlier in
+      let now = alone_turns D L E EL c spare earlier.0.log_only r.before last _ r.answer r.step earlier.0 r.turn in
+      (now.0, (now.1, earlier.1))
+
+pub runs_have_watermarks : (D : LogSide) → LogLaws D → (E : DataSide) → DataLaws E
+    → (c : Setup) (spare seed max n : ℕ) (first last : OwnCore D E) → OwnStart D E c spare first
+    → TakesOwnTurns D E seed max n first last → HasWatermarks D E c (with_writer last)
+runs_have_watermarks D L E EL c spare seed max n first last S turns =
+    own_watermarks D L E EL c spare last
+    (own_run_keeps D L E EL c spare seed max n first last (own_starts D L E EL c spare first S) turns)
+
+pub alone_never_idle : (D : LogSide) → LogLaws D → (E : DataSide) → DataLaws E
+    → (c : Setup) (spare seed max n : ℕ) (first last : OwnCore D E) (user : OwnUser) → OwnStart D E c spare first
+    → c.log_only ≡ true → first.users ≡ user ∷ [] → ◌≡◌ {A = List Actor} first.others []
+    → lsn (c.base + left_to_reserve (actor.User user.user)) + FREE_MARGIN ≤ start_checkpoint c + BLOCK_SIZE * c.blocks
+    → (turns : TakesOwnTurns D E seed max n first last) → NoneIsIdle D E seed max n first last turns
+alone_never_idle D L E EL c spare seed max n first last user S log_only one none room turns =
+    (never_idle D L E EL c spare seed max n first last
+    (alone_starts D L E EL c spare first S user log_only one none room) turns).1

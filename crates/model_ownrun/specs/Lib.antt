@@ -1,0 +1,4 @@
+pub mod Alone
+pub mod OwnRunning
+pub mod OwnRuns
+pub mod OwnStart
