@@ -1,20 +1,21 @@
 mod Bounds
 mod Causing
-mod Contents
-mod Starting
-mod Unchanged
-mod Grouping
+pub mod Contents
+pub mod Starting
+pub mod Unchanged
+pub mod Grouping
 mod Joining
 pub mod Keeping
 mod Fronts
 mod Paging
 mod Parsing
+pub mod Pieces
 mod Placing
 mod Rising
 mod Scanning
 mod Stopping
 mod Standing
 mod Tailing
-mod Setting
+pub mod Setting
 pub mod Only
 mod Owning

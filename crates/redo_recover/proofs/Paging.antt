@@ -1,5 +1,5 @@
 -- Pages that are kept, judged and replayed one after another.
-use Rattle.std.proofs.Common.{◌≡◌, ℕ, ◌+◌, ◌<◌, ◌≤◌, inl, inr, cond, List, ◌∷◌, length, set, get_or, drop, Some, arith, refl, sym, ap, subst, ◌∙◌}
+use Rattle.std.proofs.Common.{◌≡◌, ℕ, ◌+◌, ◌<◌, ◌≤◌, cond, List, ◌∷◌, length, set, get_or, drop, Some, arith, refl, sym, ap, ◌∙◌}
 use Rattle.std.specs.Prelude.{nat_le}
 use Rattle.std.specs.List.{slice_get}
 use Rattle.std.proofs.lemmas.List.{drop_more, drop_all}
@@ -13,25 +13,18 @@ use Rattle.model_store.specs.{AreKeptBelow, AreNotAheadBelow, AreReadPages, IsKe
 use Rattle.model_store.proofs.Places.{has_place}
 use Rattle.redo_apply.specs.{AreAfterWhere, AreReplayed, ArePagesOf, HaveLsns}
 use Rattle.redo_recover.specs.Pages.{AreKept, AreNotAhead, IsFirstLost, IsFirstAhead}
-use Rattle.redo_recover.proofs.Setting.{slice_get-set}
+use Rattle.redo_recover.proofs.Setting.{all-first, AreFirst, first-put}
 
 -- KEPT PAGES
 
 -- the pages below this number are as they are kept
-pub record AreKeptFirst (shape : Shape) (data_bytes : List ℕ) (count : ℕ) (pages : List Content) : Type 0 where
-  pub its_pages : ArePagesOf shape pages
-  pub each : (p : ℕ) (page : Content) → p < count → slice_get pages p ≡ Some page → IsKept shape data_bytes p page
+abbrev pub AreKeptFirst : Shape → List ℕ → ℕ → List Content → Type 0
+AreKeptFirst shape data_bytes count pages = AreFirst (IsKept shape data_bytes) shape count pages
 
 pub kept-put : (shape : Shape) (data_bytes : List ℕ) (count : ℕ) (pages new : List Content) (kept : Content) → AreKeptFirst shape data_bytes count pages
     → IsKept shape data_bytes count kept → new ≡ set pages count kept → ArePagesOf shape new → AreKeptFirst shape data_bytes (count + 1) new
-kept-put shape data_bytes count pages new kept a is new_is its = record {
-  its_pages = its;
-  each = λ p page h at.
-      elim (slice_get-set pages count kept p page (ap (λ xs. slice_get xs p) (sym new_is) ∙ at)) [
-        | inl (same, page_is) ↦ subst (λ q. IsKept shape data_bytes q page) (sym same) (subst (λ (c : Content). IsKept shape data_bytes count c) (sym page_is) is)
-        | inr (other, there) ↦ a.each p page (omega (arith, other)) there
-      ];
-}
+kept-put shape data_bytes count pages new kept a is new_is its =
+    first-put (IsKept shape data_bytes) shape count pages new kept a is new_is its
 
 -- a kept page has an lsn
 kept-at : (shape : Shape) (data_bytes : List ℕ) (p : ℕ) (page : Content) → IsKept shape data_bytes p page → (lsn : ℕ) × IsKeptAt shape data_bytes p lsn
@@ -48,10 +41,8 @@ first_lost shape data_bytes pages count a below lost = record {
 
 pub all-kept : (shape : Shape) (data_bytes : List ℕ) (pages : List Content) (count : ℕ) → AreKeptFirst shape data_bytes count pages
     → shape.pages ≤ count → AreKept shape data_bytes pages
-all-kept shape data_bytes pages count a all = record {
-  count = a.its_pages.count;
-  each = λ p page at. (let within : p < length pages = slice_get_within pages p page at in a.each p page (omega (arith, a.its_pages.count)) at);
-}
+all-kept shape data_bytes pages count a all =
+    record { count = a.its_pages.count; each = all-first (IsKept shape data_bytes) shape pages count a all }
 
 -- JUDGED
 

@@ -24,6 +24,7 @@ use Rattle.redo_recover.specs.declared.taking.TheConstants.{TAILS}
 use Rattle.redo_recover.proofs.Contents.{content-both}
 use Rattle.redo_recover.proofs.Standing.{at-takes}
 use Rattle.redo_disk.specs.{part}
+use Rattle.redo_recover.proofs.Pieces.{piece-sector}
 use Rattle.redo_recover.proofs.Starting.{sector-part}
 
 -- so many blocks are read, all of them full, and this is their data
@@ -156,9 +157,7 @@ block-piece : (layout : Layout) (image : List ℕ) (piece : Piece) (lsn at : ℕ
     → at ≡ place_in layout lsn → block ≡ sector_at (at - piece.from) piece.bytes.items → block ≡ log_block layout lsn image
 unfolding log_block
 block-piece layout image piece lsn at block of has at_is block_is =
-    block_is ∙ ap (sector_at (at - piece.from)) of
-    ∙ sector-part image piece.from (length piece.bytes.items) (at - piece.from) (omega (arith, has.from, has.whole))
-    ∙ ap (λ n. sector_at n image) (omega (arith, has.from) ∙ at_is)
+    piece-sector image piece at block of has block_is ∙ ap (λ n. sector_at n image) at_is
 
 -- the two tail blocks are those of the image
 pub record AreTails (tails image : List ℕ) : Type 0 where

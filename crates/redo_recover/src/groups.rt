@@ -21,11 +21,7 @@ use redo_record::{Fits, Group, decode, one_group};
 use std::alloc::Global;
 
 /// Reads a group that fits the store off the front of the bytes.
-pub(crate) fn read_storable(
-    alloc: Global,
-    bytes: &[u8],
-    shape: &Shape,
-) -> Result<Got<Group>, NoMemory>
+pub fn read_storable(alloc: Global, bytes: &[u8], shape: &Shape) -> Result<Got<Group>, NoMemory>
     ensures { IfOk result (GivesStorable shape.now bytes.now) }
 {
     one_group();

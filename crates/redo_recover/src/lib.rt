@@ -21,6 +21,8 @@ mod taking;
 
 pub use errors::{data_fault, log_fault};
 pub use fault::RecFault;
+pub use groups::read_storable;
+pub use piece::{Piece, read_part, sector_at};
 pub use places::{Found, Places};
 pub use recovered::Recovered;
 pub use recovery::{recover, recover_with};

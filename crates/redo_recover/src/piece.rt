@@ -15,10 +15,11 @@ pub(crate) const PIECE: usize = 65_536;
 
 /// A stretch of a device that was read.
 #[derive(Debug, Drop)]
-pub(crate) struct Piece {
+pub struct Piece {
     /// The offset of its first byte on the device.
-    pub(crate) from: u64,
-    pub(crate) bytes: Vec<u8>,
+    pub from: u64,
+    /// Its bytes.
+    pub bytes: Vec<u8>,
 }
 
 impl Piece {
@@ -31,7 +32,7 @@ impl Piece {
     }
 
     /// The sector at this offset of the device.
-    pub(crate) fn sector(&self, at: u64) -> &[u8; 512]
+    pub fn sector(&self, at: u64) -> &[u8; 512]
         requires { HasSector self.now at }
         ensures { result.now ≡ sector_at (at - self.now.from) self.now.bytes.items }
     {
@@ -39,7 +40,7 @@ impl Piece {
     }
 
     /// The piece, if it has the sector at this offset, else the one that is read from there on, up to `end` at the most.
-    pub(crate) fn with_sector<D: Sectors>(
+    pub fn with_sector<D: Sectors>(
         self,
         alloc: Global,
         device: &mut D,
@@ -65,7 +66,7 @@ impl Piece {
 }
 
 /// The sector at this offset of what was read.
-pub(crate) fn sector_at(bytes: &[u8], at: usize) -> &[u8; 512]
+pub fn sector_at(bytes: &[u8], at: usize) -> &[u8; 512]
     requires { at + BLOCK_SIZE ≤ length bytes.now }
     ensures { result.now ≡ sector_at at bytes.now }
 {
@@ -76,7 +77,7 @@ pub(crate) fn sector_at(bytes: &[u8], at: usize) -> &[u8; 512]
 }
 
 /// Reads so many bytes from an offset on, by one call of the device.
-pub(crate) fn read_part<D: Sectors>(
+pub fn read_part<D: Sectors>(
     alloc: Global,
     device: &mut D,
     at: u64,

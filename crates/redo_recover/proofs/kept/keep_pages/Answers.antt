@@ -1,7 +1,6 @@
 -- One page after another.
-use Rattle.std.proofs.Common.{Option, Some, None, arith, rules, subst}
+use Rattle.std.proofs.Common.{Some, None, arith, rules}
 use Rattle.std.proofs.lemmas.Result.{err_from_is_err_and}
-use Rattle.model_device.specs.Disk.{Disk}
 use Rattle.redo_disk.specs.declared.error.DevError.TheVariants.{NoMemory}
 use Rattle.redo_recover.proofs.Contents.{content-any}
 use Rattle.redo_recover.proofs.Keeping.{kept-all, kept-next, lost-first}

@@ -1,5 +1,5 @@
 -- The slots are read and then each place, and the kept pages are judged and replayed.
-use Rattle.std.proofs.Common.{None, Option, rules, subst, sym}
+use Rattle.std.proofs.Common.{None, rules, subst, sym}
 use Rattle.std.proofs.lemmas.Result.{err_from_is_err_and}
 use Rattle.model_store.specs.{AreReadPages}
 use Rattle.redo_recover.proofs.Bounds.{replayed-not_ahead}
@@ -9,10 +9,8 @@ use Rattle.redo_recover.proofs.Keeping.{slots-range}
 use Rattle.redo_recover.proofs.Only.{only-data, only-own, only-then}
 use Rattle.redo_recover.proofs.Paging.{pages-read}
 use Rattle.redo_recover.proofs.Placing.{found-read, places-of}
-use Rattle.model_device.specs.Disk.{Disk}
 use Rattle.redo_recover.specs.Reads.{data_error}
 use Rattle.redo_recover.specs.Pages.{AreKept, IsPageFault}
-use Rattle.redo_recover.specs.Places.{AreFoundAt}
 use Rattle.redo_recover.specs.declared.fault.RecFault.TheVariants.{NoMemory}
 use Rattle.redo_recover.proofs.pages.read_pages.Goals as goal
 

@@ -1,0 +1,7 @@
+pub mod Appends
+pub mod Applied
+pub mod Basing
+pub mod Blocking
+pub mod Heads
+pub mod Restores
+pub mod Sealing

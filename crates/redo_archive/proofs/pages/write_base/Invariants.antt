@@ -1,0 +1,18 @@
+use Rattle.std.proofs.Common.{◌≡◌, ◌<◌, ◌≤◌, ℕ, length, Some}
+use Rattle.std.specs.List.{slice_get}
+use Rattle.model_page.specs.{FitsPage}
+use Rattle.model_page.specs.declared.content.Content.{Content}
+use Rattle.redo_archive.proofs.Sealing.{AreWritten}
+use Rattle.redo_disk.specs.{OnTold}
+use Rattle.redo_archive.proofs.pages.write_base.Given as goal
+
+abbrev pub invariant-loop-page : goal.invariant-loop-page
+invariant-loop-page g l = record {
+  room : length l.text ≡ l.shape.page_size;
+  told : OnTold (g.A.Sectors.seen l.fn.device).tells (g.A.Sectors.seen l.device).tells
+      (AreWritten l.shape l.pages l.page);
+  size : (g.A.Sectors.seen l.device).size ≡ (g.A.Sectors.seen l.fn.device).size;
+  later : (g.A.Sectors.seen l.fn.device).faults ≤ (g.A.Sectors.seen l.device).faults;
+  fit : (p : ℕ) (page : Content) → p < l.page → slice_get l.pages p ≡ Some page
+      → FitsPage p l.shape.space page.lsn page.user;
+}

@@ -1,0 +1,102 @@
+-- What callers see of an archive part, and what its calls ask for and keep.
+use Rattle.std.specs.Prelude.{ℕ, ◌≡◌, ◌≤◌, ◌<◌, ◌*◌, List, [], length, Option, None, Result, IfSome}
+use Rattle.model_base.specs.{HasRisen, IsWithinLimits}
+use Rattle.model_base.specs.declared.limits.TheConstants.{BLOCK_SIZE, LSN_LIMIT}
+use Rattle.model_base.specs.declared.shape.Shape.{Shape}
+use Rattle.model_device.specs.Disk.{Disk}
+use Rattle.model_log.specs.declared.group.Whole.{Whole}
+use Rattle.model_log.specs.{blocks_between, IsAtDataStart, IsDataLsn, last_span_end, spans_of}
+use Rattle.model_page.specs.declared.content.Content.{Content}
+use Rattle.model_archive.specs.{ArchiveHolds, archive_length, AreArchivedBlocks, begun_marks, HasNextMark, IsRunStart, IsSteadyArchive, pages_end}
+use Rattle.model_archive.specs.declared.marks.ArchMarks.{ArchMarks}
+use Rattle.redo_archive.specs.declared.fault.BeginFault.{BeginFault}
+use Rattle.redo_archive.specs.declared.fault.BeginFault.TheVariants.{Small, Dev, NoMemory}
+use Rattle.redo_disk.specs.{error_of, HasCause}
+use Rattle.redo_disk.specs.Seen.{Seen}
+use Rattle.redo_disk.specs.declared.error.DevError.{DevError}
+
+-- an archive part, over a device of any type
+pub record Part (A : Type 0) : Type 0 where
+  pub dev : A
+  pub shape : Shape
+  -- where the run starts
+  pub start : ℕ
+  pub marks : ArchMarks
+  -- what the call answered that failed
+  pub failed : Option DevError
+
+-- what holds of each part, whatever its device tells
+pub record IsSoundArchive (size : ℕ) (shape : Shape) (start : ℕ) (marks : ArchMarks) : Type 0 where
+  pub limits : IsWithinLimits shape
+  pub run_start : IsRunStart start
+  pub place : IsDataLsn marks.mark
+  pub from : start ≤ marks.mark
+  pub small : marks.mark < LSN_LIMIT
+  pub long : archive_length shape start marks.mark ≤ size
+
+-- what the device of a part archives of a run: more as long as no call has failed
+pub record DiskArchives (size : ℕ) (shape : Shape) (start : ℕ) (pages : List Content) (wholes : List Whole)
+    (marks : ArchMarks) (failed : Option DevError) (disk : Disk) : Type 0 where
+  pub size_is : length disk.base ≡ size
+  pub holds : ArchiveHolds shape start pages wholes marks disk
+  pub live : failed ≡ None → IsSteadyArchive start marks disk
+
+-- the same, where the device tells what it means
+abbrev pub PartArchives : {A : Type 0} → (A → Seen) → List Content → List Whole → Part A → Type 0
+PartArchives seen pages wholes part =
+    IfSome (seen part.dev).tells
+    (DiskArchives (seen part.dev).size part.shape part.start pages wholes part.marks part.failed)
+
+-- What may be given to `append`, whose newest mark stands at the first data byte of a block: the place of a byte from
+-- that mark on, and as many bytes as the blocks have that hold a byte between the two. The device has room for them.
+pub record MayAppend {A : Type 0} (seen : A → Seen) (part : Part A) (mark : ℕ) (blocks : List ℕ) : Type 0 where
+  pub live : part.failed ≡ None
+  pub at_start : IsAtDataStart part.marks.mark
+  pub place : IsDataLsn mark
+  pub later : part.marks.mark ≤ mark
+  pub small : mark < LSN_LIMIT
+  pub count : length blocks ≡ BLOCK_SIZE * blocks_between part.marks.mark mark
+  pub room : archive_length part.shape part.start mark ≤ (seen part.dev).size
+
+-- What each call leaves, whatever it answers: the shape, the start and the device's size are as before, the device
+-- failed if the call says so, and the part tells what the call answered.
+pub record Stays {A : Type 0} (seen : A → Seen) (old : Part A) (result : Result (Unit {0}) DevError)
+    (new : Part A) : Type 0 where
+  pub shape : new.shape ≡ old.shape
+  pub start : new.start ≡ old.start
+  pub size : (seen new.dev).size ≡ (seen old.dev).size
+  pub cause : HasCause (seen old.dev).faults (seen new.dev).faults result
+  pub failed : new.failed ≡ error_of result
+
+-- What a part's device archives after `append`, Ok or not, if what was given is of the run: until the number of marks
+-- goes round.
+abbrev pub KeepsArchive : {A : Type 0} → (A → Seen) → Part A → ℕ → List ℕ → Part A → Type 0
+KeepsArchive seen old mark blocks new =
+    HasNextMark old.marks → (pages : List Content) (wholes : List Whole) → PartArchives seen pages wholes old
+    → mark ≤ last_span_end old.start (spans_of wholes) → AreArchivedBlocks old.start wholes old.marks.mark mark blocks
+    → PartArchives seen pages wholes new
+
+-- why no archive was begun: the device is too short, which is judged first; it failed; or memory ran out
+abbrev pub IsBeginFault : Seen → Seen → Shape → BeginFault → Type 0
+IsBeginFault old new shape (Small n) = (old.size < n) × (n ≡ pages_end shape)
+IsBeginFault old new shape Dev = (pages_end shape ≤ old.size) × HasRisen old.faults new.faults
+IsBeginFault old new shape NoMemory = pages_end shape ≤ old.size
+
+-- An archive was begun: of this shape, from this start on, and with these pages its device archives a run of no group
+-- yet.
+pub record IsBegun {A : Type 0} (seen : A → Seen) (shape : Shape) (start : ℕ) (pages : List Content) (dev : A)
+    (part : Part A) : Type 0 where
+  pub shape_is : part.shape ≡ shape
+  pub start_is : part.start ≡ start
+  pub marks_are : part.marks ≡ begun_marks start
+  pub live : part.failed ≡ None
+  pub holds : PartArchives seen pages [] part
+  pub size : (seen part.dev).size ≡ (seen dev).size
+  pub later : (seen dev).faults ≤ (seen part.dev).faults
+
+-- None was begun, for this cause. Nothing is said of what stands on the device.
+pub record IsNotBegun {A : Type 0} (seen : A → Seen) (shape : Shape) (dev : A) (fault : BeginFault)
+    (left : A) : Type 0 where
+  pub cause : IsBeginFault (seen dev) (seen left) shape fault
+  pub size : (seen left).size ≡ (seen dev).size
+  pub later : (seen dev).faults ≤ (seen left).faults
