@@ -23,7 +23,7 @@ fn a_writer_begins(rt: HostRuntime) -> Result<(), Fail> {
 fn after_the_first_list() -> Checkpointer
     ensures { result.to ≡ 23616 }
 {
-    let mut checkpointer = Checkpointer::new(8_204);
+    let mut checkpointer = Checkpointer::new(8_204, 1, 1);
     checkpointer.took(Answer::Old(120_000));
     checkpointer.took(Answer::Taken(Some(40_000)));
     checkpointer

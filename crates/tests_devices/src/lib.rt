@@ -12,6 +12,8 @@ mod data;
 #[cfg(test)]
 mod files;
 #[cfg(test)]
+mod followers;
+#[cfg(test)]
 mod images;
 #[cfg(test)]
 mod logs;

@@ -1,5 +1,5 @@
 // Pages that opening writes, eight at a time.
-use crate::fixtures::{LOG, SHAPE, open_to_end, pages_of, read_back};
+use crate::fixtures::{LOG, SHAPE, open_to_end, see};
 use crate::store::Store;
 use model_base::Shape;
 use redo_disk::Sectors;
@@ -21,21 +21,27 @@ fn ten_groups(alloc: Global) -> Result<Store, Fail> {
     Ok(store)
 }
 
+/// What opening leaves of a store once both devices are crashed, and how many calls of the data device it made, where it ended
+/// with no fault.
+fn opened(alloc: Global, store: &Store) -> Result<(Store, Option<u64>), Fail> {
+    let (log, data) = store.devices(alloc)?;
+    let (mut log, mut data, fault) = open_to_end(alloc, log, Fused::new(data, None));
+    let calls = match fault {
+        None => Some(data.fuse().passed),
+        Some(_) => None,
+    };
+    log.crash(0);
+    data.crash(0);
+    Ok((Store::of(alloc, &mut log, &mut data.into_inner())?, calls))
+}
+
 const PAGES: &str =
-    "0 8210 7;1 8216 7;2 8222 7;3 8228 7;4 8234 7;5 8240 7;6 8246 7;7 8252 7;8 8258 7;9 8264 7;";
+    "(0, 0, None, 8716) 10 [0 8210 7;1 8216 7;2 8222 7;3 8228 7;4 8234 7;5 8240 7;6 8246 7;7 8252 7;8 8258 7;9 8264 7;]";
 
 /// Ten pages are written by a batch of eight and one of two.
 #[test]
 fn ten_pages_are_two_batches(rt: HostRuntime) -> Result<(), Fail> {
-    let (log, data) = ten_groups(rt.alloc())?.devices(rt.alloc())?;
-    let (mut log, mut data, fault) = open_to_end(rt.alloc(), log, Fused::new(data, None));
-    let calls = (1 + 10) + 1 + (2 + 8 + 1) + (2 + 2 + 1);
-    assert!(rt; fault.is_none() && data.fuse().passed == calls);
-    log.crash(0);
-    data.crash(0);
-    let left = Store::of(rt.alloc(), &mut log, &mut data.into_inner())?;
-    let read = read_back(rt.alloc(), &left)?;
-    assert!(rt; read.groups.is_empty() && read.end == 8716);
-    assert!(rt; pages_of(rt.alloc(), &read)?.as_str() == PAGES);
-    Ok(())
+    let (left, calls) = opened(rt.alloc(), &ten_groups(rt.alloc())?)?;
+    assert!(rt; calls == Some((1 + 10) + 1 + (2 + 8 + 1) + (2 + 2 + 1)));
+    see(&rt, &left, PAGES)
 }

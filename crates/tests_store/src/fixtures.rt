@@ -3,6 +3,7 @@ ghost use Rattle.std.specs.Prelude.{◌≤◌};
 
 use crate::store::Store;
 use model_base::Shape;
+use redo_apply::Pages;
 use redo_disk::Sectors;
 use redo_header::Format;
 use redo_memdisk::MemDisk;
@@ -10,6 +11,7 @@ use redo_open::{format, open_store};
 use redo_recover::{RecFault, Recovered, recover};
 use redo_store::Opened;
 use std::alloc::{AllocError, Global};
+use std::process::Abort;
 use std::test::Fail;
 
 /// The smallest log, and three pages.
@@ -36,10 +38,82 @@ pub fn read(alloc: Global, log: &mut MemDisk, data: &mut MemDisk) -> Result<Reco
     recover(alloc, log, data)
 }
 
-/// What is read of a store.
-pub fn read_back(alloc: Global, store: &Store) -> Result<Recovered, Fail> {
+/// Each page with an lsn above 0: its number, its lsn, and its byte at offset 100.
+fn pages_of(alloc: Global, pages: &Pages) -> Result<String, AllocError> {
+    let mut text = String::new(alloc);
+    for page in 0..pages.len().min(64) as u32 {
+        let lsn = pages.lsn(page);
+        if lsn > 0 {
+            let byte = pages.user_bytes(page).get(62).copied().unwrap_or(0);
+            text.push_str(&format!(in alloc; "{page} {lsn} {byte};")?)?;
+        }
+    }
+    Ok(text)
+}
+
+/// How many groups were read, up to which lsn, the lsn of page 5, where no further block was read and why, and the tail block in
+/// which the last one was found.
+fn row_of(alloc: Global, read: &Recovered) -> Result<String, AllocError> {
+    let lsn = if read.pages.len() == 8 {
+        read.pages.lsn(5)
+    } else {
+        0
+    };
+    let (count, end, stop) = (read.groups.len(), read.end, read.stop);
+    let tail = match read.tail {
+        Some(tail) => Some(tail.which),
+        None => None,
+    };
+    format!(in alloc; "{count} {end} {lsn} {stop:?} {tail:?}")
+}
+
+/// The format, the sizes, the number of the checkpoint and its lsn; how many blocks and how many groups were read, where the first
+/// group starts, and where the log ends; and how many pages there are.
+fn log_of(alloc: Global, read: &Recovered) -> Result<String, AllocError> {
+    let shape = &read.shape;
+    let sizes = [
+        shape.page_size,
+        shape.pages,
+        shape.space,
+        shape.log_blocks,
+        shape.slots,
+    ];
+    let first = match read.groups.first() {
+        Some(first) => Some(first.start),
+        None => None,
+    };
+    let head = (read.format, sizes, read.number, read.ckpt);
+    let log = (read.views.len(), read.groups.len(), first, read.end);
+    format!(in alloc; "{head:?} {log:?} {}", read.pages.len())
+}
+
+/// What was read of a store, in two lines.
+pub fn told_of(alloc: Global, read: &Recovered) -> Result<String, AllocError> {
+    let row = row_of(alloc, read)?;
+    let log = log_of(alloc, read)?;
+    let pages = pages_of(alloc, &read.pages)?;
+    format!(in alloc; "{row}\n{log} [{pages}]")
+}
+
+/// What is read off two devices, in two lines; or the fault.
+pub fn told_on(alloc: Global, log: &mut MemDisk, data: &mut MemDisk) -> Result<String, AllocError> {
+    match read(alloc, log, data) {
+        Ok(read) => told_of(alloc, &read),
+        Err(fault) => format!(in alloc; "{fault:?}"),
+    }
+}
+
+/// The same of a store.
+pub fn told(alloc: Global, store: &Store) -> Result<String, Fail> {
     let (mut log, mut data) = store.devices(alloc)?;
-    Ok(read(alloc, &mut log, &mut data)?)
+    Ok(told_on(alloc, &mut log, &mut data)?)
+}
+
+/// Sees that this is told of a store.
+pub fn see(rt: &(impl Abort + AllocGlobal), store: &Store, want: &str) -> Result<(), Fail> {
+    let told = told(rt.alloc(), store)?;
+    assert!(rt; told.contains(want), "{told}");
+    Ok(())
 }
 
 /// What opening leaves: both devices, and the fault that it ended with.
@@ -57,14 +131,22 @@ pub fn open_to_end<L: Sectors + Drop, D: Sectors + Drop>(
     }
 }
 
+/// Formats a store of three pages.
+pub fn format_on<L: Sectors, D: Sectors>(log: &mut L, data: &mut D) -> Result<(), RecFault> {
+    format(log, data, &SHAPE)
+}
+
 /// A store that was just formatted, over devices on which other bytes stood.
 pub fn formatted(alloc: Global) -> Result<Store, Fail> {
     let (mut log, mut data) = Store::filled(alloc, 0xA5, LOG, DATA)?.devices(alloc)?;
-    format(&mut log, &mut data, &SHAPE)?;
+    format_on(&mut log, &mut data)?;
     log.crash(0);
     data.crash(0);
     Ok(Store::of(alloc, &mut log, &mut data)?)
 }
+
+/// What is told of it.
+pub const BLANK: &str = "(Two, [4096, 3, 1, 1024, 8], 0, 8192) (0, 0, None, 8204) 3 []";
 
 /// The data of a full block that begins like this.
 pub fn full(front: &[u8], rest: u8) -> [u8; 496] {
@@ -118,6 +200,14 @@ pub fn torn_store(alloc: Global, format: Format) -> Result<Store, Fail> {
     Ok(store)
 }
 
+/// What is told of its pages: the group of one byte is applied to the copy of page 0, the whole one to page 1.
+pub fn torn_pages(format: Format) -> &'static str {
+    match format {
+        Format::One => "3 [0 532498 7;1 532492 5;2 9000 8;]",
+        Format::Two => "3 [0 531474 7;1 531468 5;2 9000 8;]",
+    }
+}
+
 /// The smallest log, and four pages.
 pub const FOUR: Shape = Shape {
     page_size: 4096,
@@ -149,17 +239,4 @@ pub fn group_store(alloc: Global, format: Format) -> Result<Store, AllocError> {
     store.put_head(&FOUR);
     put_group(&mut store);
     Ok(store)
-}
-
-/// Each page with an lsn above 0: its number, its lsn, and its byte at offset 100.
-pub fn pages_of(alloc: Global, read: &Recovered) -> Result<String, AllocError> {
-    let mut text = String::new(alloc);
-    for page in 0..read.pages.len().min(64) as u32 {
-        let lsn = read.pages.lsn(page);
-        if lsn > 0 {
-            let byte = read.pages.user_bytes(page).get(62).copied().unwrap_or(0);
-            text.push_str(&format!(in alloc; "{page} {lsn} {byte};")?)?;
-        }
-    }
-    Ok(text)
 }

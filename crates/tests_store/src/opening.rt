@@ -3,7 +3,7 @@ ghost use Rattle.std.specs.Prelude.{IfOk};
 ghost use Rattle.redo_store.specs.{IsRunnable};
 
 use crate::fixtures::{
-    FOUR, GROUP, SHAPE, WHOLE, formatted, full, group_store, open_to_end, pages_of, read_back,
+    BLANK, FOUR, GROUP, SHAPE, WHOLE, formatted, full, group_store, open_to_end, see,
 };
 use crate::store::Store;
 use model_base::BLOCK_SIZE;
@@ -23,26 +23,21 @@ use std::test::Fail;
 type Running = Opened<Fused<MemDisk>, MemDisk>;
 
 /// The store, opened on a log device that passes so many calls.
-fn open_on(
-    rt: &(impl Abort + AllocGlobal),
-    store: &Store,
-    limit: Option<u64>,
-) -> Result<Running, Fail>
+fn open_on(alloc: Global, store: &Store, limit: Option<u64>) -> Result<Running, Fail>
     ensures { IfOk result IsRunnable }
 {
-    let (log, data) = store.devices(rt.alloc())?;
-    match open_store(rt.alloc(), Fused::new(log, limit), data) {
+    let (log, data) = store.devices(alloc)?;
+    match open_store(alloc, Fused::new(log, limit), data) {
         Ok(opened) => Ok(opened),
-        Err((fault, _, _)) => panic!(rt; "{fault}"),
+        Err((fault, _, _)) => Err(Fail::from(fault)),
     }
 }
 
-/// Where a run on the store starts, and the number of its checkpoint.
-fn start_of(rt: &(impl Abort + AllocGlobal), store: &Store) -> Result<(u64, u64), Fail> {
-    let opened = open_on(rt, store, None)?;
-    let (written, stable) = (opened.log.written(), opened.log.stable());
-    assert!(rt; written == opened.start && stable == opened.start);
-    Ok((opened.start, opened.log.number()))
+/// Where a run on the store starts, up to where its log is written and stable, and the number of its checkpoint.
+fn start_of(alloc: Global, store: &Store) -> Result<(u64, u64, u64, u64), Fail> {
+    let opened = open_on(alloc, store, None)?;
+    let log = &opened.log;
+    Ok((opened.start, log.written(), log.stable(), log.number()))
 }
 
 /// What a crash with this pick leaves.
@@ -122,7 +117,7 @@ fn write_and_crash(
     task: Task,
     pick: u64,
 ) -> Result<(Store, Result<(), DevError>), Fail> {
-    let mut opened = open_on(rt, store, limit)?;
+    let mut opened = open_on(rt.alloc(), store, limit)?;
     let answer = match task {
         Task::Groups(count) => write_groups(rt, &mut opened, count),
         Task::Twice => write_again(rt, &mut opened),
@@ -130,14 +125,9 @@ fn write_and_crash(
     Ok((crashed(rt.alloc(), opened, pick)?, answer))
 }
 
-/// How many groups are read of the store, where the first of them starts, and where the log ends.
-fn groups_of(alloc: Global, store: &Store) -> Result<(usize, Option<u64>, u64), Fail> {
-    let read = read_back(alloc, store)?;
-    let first = match read.groups.as_slice() {
-        [first, ..] => Some(first.start),
-        [] => None,
-    };
-    Ok((read.groups.len(), first, read.end))
+/// What opening leaves of the store where a crash comes after it.
+fn opened_once(alloc: Global, store: &Store) -> Result<Store, Fail> {
+    Ok(crashed(alloc, open_on(alloc, store, None)?, 0)?)
 }
 
 /// Formatting leaves a store whose pages were never written, whatever stood on the devices before. A run on it starts at the
@@ -145,11 +135,8 @@ fn groups_of(alloc: Global, store: &Store) -> Result<(usize, Option<u64>, u64), 
 #[test]
 fn a_formatted_store_is_blank(rt: HostRuntime) -> Result<(), Fail> {
     let store = formatted(rt.alloc())?;
-    let read = read_back(rt.alloc(), &store)?;
-    assert!(rt; read.shape == SHAPE && read.number == 0 && read.ckpt == 8192);
-    assert!(rt; read.views.is_empty() && read.groups.is_empty() && read.end == 8204);
-    assert!(rt; read.pages.len() == 3 && pages_of(rt.alloc(), &read)?.is_empty());
-    assert!(rt; start_of(&rt, &store)? == (8204, 1));
+    see(&rt, &store, BLANK)?;
+    assert!(rt; start_of(rt.alloc(), &store)? == (8204, 8204, 8204, 1));
     Ok(())
 }
 
@@ -161,26 +148,27 @@ const CALLS: u64 = 4 + 1 + (2 + 1) + (8 + 1) + 2;
 /// where the second stood is read alone.
 #[test]
 fn an_old_block_is_gone(rt: HostRuntime) -> Result<(), Fail> {
-    let alloc = rt.alloc();
-    let store = formatted(alloc)?;
+    let store = formatted(rt.alloc())?;
     let (old, answer) = write_and_crash(&rt, &store, Some(CALLS), Task::Groups(3), 5)?;
     assert!(rt; answer == Err(DevError::Failed));
-    assert!(rt; groups_of(alloc, &old)? == (1, Some(8204), 8716));
-    assert!(rt; start_of(&rt, &old)?.0 == 8716);
+    see(&rt, &old, "(1, 1, Some(8204), 8716)")?;
+    assert!(rt; start_of(rt.alloc(), &old)?.0 == 8716);
     let (left, answer) = write_and_crash(&rt, &old, None, Task::Groups(1), 0)?;
     assert!(rt; answer.is_ok());
-    assert!(rt; groups_of(alloc, &left)? == (1, Some(8716), 9228));
-    Ok(())
+    see(&rt, &left, "(1, 1, Some(8716), 9228)")
 }
 
 /// A block that was synced is written again by a write that fails: a crash keeps it as it was, or as that write makes it.
 #[test]
 fn a_failed_second_write_may_stay(rt: HostRuntime) -> Result<(), Fail> {
     let store = formatted(rt.alloc())?;
-    for (pick, count, end) in [(0, 1, 8210), (1, 2, 8216)] {
+    for (pick, want) in [
+        (0, "(1, 1, Some(8204), 8210)"),
+        (1, "(1, 2, Some(8204), 8216)"),
+    ] {
         let (left, answer) = write_and_crash(&rt, &store, Some(CALLS + 2), Task::Twice, pick)?;
         assert!(rt; answer == Err(DevError::Failed));
-        assert!(rt; groups_of(rt.alloc(), &left)? == (count, Some(8204), end));
+        see(&rt, &left, want)?;
     }
     Ok(())
 }
@@ -192,25 +180,20 @@ fn a_full_block_without_a_group_is_passed(rt: HostRuntime) -> Result<(), Fail> {
     let mut store = formatted(rt.alloc())?;
     store.put_ckpt(&SHAPE, 1, 8704);
     store.put_block(&SHAPE, 1, 8704, &[5; 496], false);
-    assert!(rt; groups_of(rt.alloc(), &store)? == (0, None, 9228));
-    assert!(rt; start_of(&rt, &store)? == (9228, 2));
+    see(&rt, &store, "(1, 0, None, 9228)")?;
+    assert!(rt; start_of(rt.alloc(), &store)? == (9228, 9228, 9228, 2));
     Ok(())
 }
 
 /// A store of format 1 is one of format 2 once it is opened, under the second checkpoint after the one that was found.
 #[test]
 fn a_store_of_format_1_becomes_one_of_format_2(rt: HostRuntime) -> Result<(), Fail> {
-    let alloc = rt.alloc();
-    let store = group_store(alloc, Format::One)?;
-    let before = read_back(alloc, &store)?;
-    assert!(rt; before.format == Format::One && before.number == 1 && before.end == 8210);
-    assert!(rt; start_of(&rt, &store)? == (8716, 3));
-    let left = crashed(alloc, open_on(&rt, &store, None)?, 0)?;
-    let read = read_back(alloc, &left)?;
-    assert!(rt; read.format == Format::Two && read.shape == FOUR);
-    assert!(rt; read.number == 3 && read.ckpt == 8704 && read.end == 8716);
-    assert!(rt; read.groups.is_empty() && pages_of(alloc, &read)?.as_str() == "3 8210 7;");
-    Ok(())
+    let store = group_store(rt.alloc(), Format::One)?;
+    let before = "(One, [4096, 4, 1, 1024, 8], 1, 8192) (1, 1, Some(8204), 8210)";
+    see(&rt, &store, before)?;
+    assert!(rt; start_of(rt.alloc(), &store)? == (8716, 8716, 8716, 3));
+    let after = "(Two, [4096, 4, 1, 1024, 8], 3, 8704) (0, 0, None, 8716) 4 [3 8210 7;]";
+    see(&rt, &opened_once(rt.alloc(), &store)?, after)
 }
 
 /// How many blocks are full between the start of a run at 8716 and the block that comes into the place of 8192's.
@@ -222,18 +205,15 @@ const NEXT_ROUND: u64 = 8192 + 512 * 1_022;
 /// a round on. Opening takes it away: when the log has gone round, the block there is the one of the run.
 #[test]
 fn the_place_of_a_tail_block_is_cleared(rt: HostRuntime) -> Result<(), Fail> {
-    let alloc = rt.alloc();
-    let mut store = group_store(alloc, Format::Two)?;
+    let mut store = group_store(rt.alloc(), Format::Two)?;
     store.put_in_place(&FOUR, 1, NEXT_ROUND, &full(&[9, 1, 1, 0, 100, 7], 0), true);
-    let opened = open_on(&rt, &store, None)?;
-    assert!(rt; opened.start == 8716);
-    let mut left = crashed(alloc, opened, 0)?;
+    assert!(rt; start_of(rt.alloc(), &store)?.0 == 8716);
+    let mut left = opened_once(rt.alloc(), &store)?;
     for i in 0..ROUND {
         left.put_block(&FOUR, 2, 8704 + 512 * i, &full(&WHOLE, 5), true);
     }
     left.put_block(&FOUR, 2, NEXT_ROUND, &GROUP, true);
-    assert!(rt; groups_of(alloc, &left)? == (1_022, Some(8716), NEXT_ROUND + 18));
-    Ok(())
+    see(&rt, &left, "(1022, 1022, Some(8716), 531474)")
 }
 
 /// The lsn of a block that is more than a round past the start of a run at 8716.
@@ -243,13 +223,11 @@ const FAR: u64 = 8192 + 512 * 1_100;
 /// come there by full blocks, and so has its checkpoint, nothing is read.
 #[test]
 fn a_tail_block_of_a_later_round_is_cleared(rt: HostRuntime) -> Result<(), Fail> {
-    let alloc = rt.alloc();
-    let mut store = group_store(alloc, Format::Two)?;
+    let mut store = group_store(rt.alloc(), Format::Two)?;
     store.put_tail(5, FAR, &GROUP, true);
-    let mut left = crashed(alloc, open_on(&rt, &store, None)?, 0)?;
+    let mut left = opened_once(rt.alloc(), &store)?;
     left.put_ckpt(&FOUR, 3, FAR);
-    assert!(rt; groups_of(alloc, &left)? == (0, None, FAR + 12));
-    Ok(())
+    see(&rt, &left, "(0, 0, None, 571404)")
 }
 
 /// Whether opening refuses the store with this fault, and leaves both devices as they were.

@@ -1,12 +1,10 @@
 // Stores that are recovered, and damaged ones that are not.
-use crate::fixtures::{full, last_block, pages_of, read, read_back, torn_store};
-use crate::store::{NEVER, Store};
+use crate::fixtures::{full, see, told, told_on, torn_store};
+use crate::store::{Flaw, NEVER, SOUND, Store};
 use model_base::Shape;
 use redo_header::Format;
-use redo_recover::RecFault;
 use std::alloc::{AllocError, Global};
 use std::process::Abort;
-use std::str::SplitWhitespace;
 use std::test::Fail;
 
 /// Bytes of a log device of the default shape.
@@ -216,82 +214,83 @@ fn sound_store(alloc: Global, format: Format) -> Result<Store, AllocError> {
     Ok(store)
 }
 
-/// The next number of a row.
-fn number(words: &mut SplitWhitespace<'_>) -> Option<u16> {
-    words.next()?.parse::<u16>().ok()
+/// A change of a row: its word, up to three numbers, and the name of a text.
+#[derive(Drop)]
+struct Change<'a> {
+    kind: &'a str,
+    numbers: [u16; 3],
+    name: &'a str,
 }
 
-/// The next byte of a row.
-fn byte(words: &mut SplitWhitespace<'_>) -> Option<u8> {
-    u8::try_from(number(words)?).ok()
-}
-
-/// Makes a change of a row, if there is one.
-fn change(store: &mut Store, change: &str) -> Option<()> {
-    let mut words = change.split_whitespace();
-    let Some(kind) = words.next() else {
-        return Some(());
+/// The change that this part of a row spells.
+fn change_of(text: &str) -> Change<'_> {
+    let (kind, rest) = text.split_once(' ').unwrap_or((text, ""));
+    let mut change = Change {
+        kind,
+        numbers: [0; 3],
+        name: "",
     };
-    let at = number(&mut words)?;
-    match kind {
-        "log" => store.put_log_byte(at, byte(&mut words)?),
-        "sealed" => store.put_sealed(at, &[byte(&mut words)?, byte(&mut words)?]),
-        "data" => store.put_page_byte(at, number(&mut words)?, byte(&mut words)?),
-        "head" => {
-            let format = match byte(&mut words)? {
-                1 => Format::One,
-                _ => Format::Two,
-            };
-            store.put_head_block(at, format, &Shape::default_shape());
+    for (place, word) in rest.split_whitespace().enumerate() {
+        match word.parse::<u16>() {
+            Ok(number) => change.numbers[place.min(2)] = number,
+            Err(_) => change.name = word,
         }
-        "tail" => {
-            let lsn = u64::from(number(&mut words)?);
-            let (front, count) = text_of(words.next()?)?;
-            store.put_tail(at, lsn, &full(front, 5)[..count.min(496)], true);
+    }
+    change
+}
+
+/// The low byte of a number.
+fn low(number: u16) -> u8 {
+    number.to_be_bytes()[1]
+}
+
+/// Puts the text of a change into a tail block, or into its place, if there is such a text.
+fn put_text(store: &mut Store, change: &Change<'_>) -> bool {
+    let Some((front, count)) = text_of(change.name) else {
+        return false;
+    };
+    let text = full(front, 5);
+    let text = &text[..count.min(496)];
+    let [at, lsn, _] = change.numbers;
+    if change.kind == "tail" {
+        store.put_tail(at, u64::from(lsn), text, true);
+    } else if 8192 <= at {
+        store.put_in_place(&Shape::default_shape(), 1, u64::from(at), text, true);
+    }
+    true
+}
+
+/// Makes a change of a row, if it is one.
+fn make(store: &mut Store, change: &Change<'_>) -> bool {
+    let [at, second, third] = change.numbers;
+    match change.kind {
+        "" => {}
+        "log" => store.put_log_byte(at, low(second)),
+        "sealed" => store.put_sealed(at, &[low(second), low(third)]),
+        "data" => store.put_page_byte(at, second, low(third)),
+        "page" => store.put_page(at, u32::from(second), u64::from(third), 3),
+        "head" if second == 1 => {
+            store.put_head_block(at, Format::One, &Shape::default_shape());
         }
-        "place" if 8192 <= at => {
-            let (front, count) = text_of(words.next()?)?;
-            let text = full(front, 5);
-            let shape = Shape::default_shape();
-            store.put_in_place(&shape, 1, u64::from(at), &text[..count.min(496)], true);
-        }
-        "page" => {
-            let page = number(&mut words)?;
-            store.put_page(at, u32::from(page), u64::from(number(&mut words)?), 3);
-        }
+        "head" => store.put_head_block(at, Format::Two, &Shape::default_shape()),
         "log_sectors" => store.log_length = 512 * u64::from(at),
         "data_sectors" => store.data_length = 512 * u64::from(at),
-        _ => return None,
+        "tail" | "place" => return put_text(store, change),
+        _ => return false,
     }
-    Some(())
-}
-
-/// What comes of recovering a store: how many groups, up to which lsn, the lsn of page 5, where no further block is read and why,
-/// and the tail block in which the last one was found; or the fault.
-fn outcome(alloc: Global, store: &Store) -> Result<String, Fail> {
-    let (mut log, mut data) = store.devices(alloc)?;
-    let read = match read(alloc, &mut log, &mut data) {
-        Ok(read) => read,
-        Err(fault) => return Ok(format!(in alloc; "{fault:?}")?),
-    };
-    let lsn = if read.pages.len() == 8 {
-        read.pages.lsn(5)
-    } else {
-        0
-    };
-    let (count, end, stop) = (read.groups.len(), read.end, read.stop);
-    let tail = read.tail.map(|tail| tail.which);
-    Ok(format!(in alloc; "{count} {end} {lsn} {stop:?} {tail:?}")?)
+    true
 }
 
 /// Whether what a row says comes of the sound store of this format with the changes of the row.
 fn holds(alloc: Global, format: Format, row: &str) -> Result<bool, Fail> {
     let (changes, want) = row.split_once('|').ok_or("no outcome")?;
     let mut store = sound_store(alloc, format)?;
+    let mut is_made = true;
     for one in changes.split(',') {
-        change(&mut store, one).ok_or("no change")?;
+        is_made &= make(&mut store, &change_of(one.trim()));
     }
-    Ok(outcome(alloc, &store)?.contains(want.trim()))
+    let told = told(alloc, &store)?;
+    Ok(is_made && told.contains(want.trim()))
 }
 
 /// Sees that each row of these tables holds of a store of this format.
@@ -314,24 +313,36 @@ fn damaged_stores_of_format_2_are_judged(rt: HostRuntime) -> Result<(), Fail> {
     see_rows(&rt, Format::Two, &[HEADS, TAILS, PAGES])
 }
 
+/// What is told of a sound store of this format whose devices fail these calls.
+fn told_failing(alloc: Global, format: Format, log: u64, data: u64) -> Result<String, Fail> {
+    let store = sound_store(alloc, format)?;
+    let (log, data) = (
+        Flaw { call: log, ..SOUND },
+        Flaw {
+            call: data,
+            ..SOUND
+        },
+    );
+    let (mut log, mut data) = store.devices_with(alloc, log, data)?;
+    Ok(told_on(alloc, &mut log, &mut data)?)
+}
+
 /// A device that fails a call of recovery ends it at once. The log device's calls are its header, in format 2 its tail blocks,
 /// and a stretch of blocks; the first two of each device fill it.
 #[test]
 fn ends_at_a_failing_call(rt: HostRuntime) -> Result<(), Fail> {
-    for (format, log_fails, data_fails, want) in [
-        (Format::One, 2, NEVER, Some(RecFault::LogDev)),
-        (Format::One, 3, NEVER, Some(RecFault::LogDev)),
-        (Format::One, 4, NEVER, None),
-        (Format::Two, 2, NEVER, Some(RecFault::LogDev)),
-        (Format::Two, 3, NEVER, Some(RecFault::LogDev)),
-        (Format::Two, 4, NEVER, Some(RecFault::LogDev)),
-        (Format::Two, 5, NEVER, None),
-        (Format::Two, NEVER, 2, Some(RecFault::DataDev)),
+    for (format, log, data, want) in [
+        (Format::One, 2, NEVER, "LogDev"),
+        (Format::One, 3, NEVER, "LogDev"),
+        (Format::One, 4, NEVER, "(One, "),
+        (Format::Two, 2, NEVER, "LogDev"),
+        (Format::Two, 3, NEVER, "LogDev"),
+        (Format::Two, 4, NEVER, "LogDev"),
+        (Format::Two, 5, NEVER, "(Two, "),
+        (Format::Two, NEVER, 2, "DataDev"),
     ] {
-        let store = sound_store(rt.alloc(), format)?;
-        let (mut log, mut data) = store.failing(rt.alloc(), log_fails, data_fails)?;
-        let fault = read(rt.alloc(), &mut log, &mut data).err();
-        assert!(rt; fault == want, "{format:?} at {log_fails} and {data_fails}");
+        let told = told_failing(rt.alloc(), format, log, data)?;
+        assert!(rt; told.contains(want), "{told} at {log} and {data}");
     }
     Ok(())
 }
@@ -339,15 +350,17 @@ fn ends_at_a_failing_call(rt: HostRuntime) -> Result<(), Fail> {
 /// A log that goes round after its checkpoint is read up to its end in both formats.
 #[test]
 fn reads_the_torn_store(rt: HostRuntime) -> Result<(), Fail> {
-    for (format, pages) in [
-        (Format::One, "0 532498 7;1 532492 5;2 9000 8;"),
-        (Format::Two, "0 531474 7;1 531468 5;2 9000 8;"),
+    for (format, want) in [
+        (
+            Format::One,
+            "(One, [4096, 3, 1, 1024, 8], 1, 531968) (4, 2, Some(531980), 532498) 3 [0 532498 7;1 532492 5;2 9000 8;]",
+        ),
+        (
+            Format::Two,
+            "(Two, [4096, 3, 1, 1024, 8], 1, 530944) (4, 2, Some(530956), 531474) 3 [0 531474 7;1 531468 5;2 9000 8;]",
+        ),
     ] {
-        let read = read_back(rt.alloc(), &torn_store(rt.alloc(), format)?)?;
-        let last = last_block(format);
-        assert!(rt; read.format == format && read.number == 1 && read.ckpt == last);
-        assert!(rt; read.groups.len() == 2 && read.end == last + 530);
-        assert!(rt; pages_of(rt.alloc(), &read)?.as_str() == pages);
+        see(&rt, &torn_store(rt.alloc(), format)?, want)?;
     }
     Ok(())
 }

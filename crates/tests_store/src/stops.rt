@@ -1,37 +1,36 @@
 // Opening that stops at each call of a device, and that is tried again after that, on devices that tear sectors.
 use crate::fixtures::{
-    FOUR, GROUP, LONG, group_store, last_block, open_to_end, pages_of, put_group, read, torn_store,
-    zeros,
+    FOUR, GROUP, LONG, group_store, open_to_end, put_group, told_on, torn_pages, torn_store, zeros,
 };
-use crate::store::Store;
+use crate::store::{Store, TEARING};
 use redo_disk::Sectors;
 use redo_header::Format;
 use redo_memdisk::{Fused, MemDisk};
 use redo_recover::RecFault;
-use std::alloc::Global;
+use std::alloc::{AllocError, Global};
 use std::process::Abort;
 use std::test::Fail;
 
 /// Which sector writes since the last good sync a crash keeps: none, all, and every other one.
 pub const PICKS: [u64; 4] = [0, u64::MAX, 0x5555_5555_5555_5555, 0xAAAA_AAAA_AAAA_AAAA];
 
-/// How many first bytes of a sector a crash leaves that loses the rest.
-pub const CUT: usize = 100;
+/// How many calls the two devices pass.
+pub type Limits = (Option<u64>, Option<u64>);
 
-/// What is to be read of a store at each stop, and once it is opened.
+/// What is to be told of a store at each stop, and once it is opened.
 #[derive(Clone, Copy)]
 struct Kept<'a> {
     /// The pages.
     pages: &'a str,
-    /// Where a run on it starts.
-    start: u64,
+    /// That no block and no group is read, and where a run on it starts.
+    start: &'a str,
 }
 
 /// Opens a store on devices that pass so many calls, and crashes both. Gives the fault that opening ended with.
 pub fn open_and_crash(
     alloc: Global,
     (log, data): (MemDisk, MemDisk),
-    (log_limit, data_limit): (Option<u64>, Option<u64>),
+    (log_limit, data_limit): Limits,
     pick: u64,
 ) -> (MemDisk, MemDisk, Option<RecFault>) {
     let (mut log, mut data, fault) = open_to_end(
@@ -44,31 +43,42 @@ pub fn open_and_crash(
     (log.into_inner(), data.into_inner(), fault)
 }
 
+/// What is told of a store that is opened on these devices once more.
+fn told_again(alloc: Global, devices: (MemDisk, MemDisk)) -> Result<String, AllocError> {
+    let (mut log, mut data, _) = open_and_crash(alloc, devices, (None, None), 0);
+    told_on(alloc, &mut log, &mut data)
+}
+
+/// What is told of a store where opening stops so, and then where it is opened once more; and the fault that it stopped with.
+fn told_at(
+    alloc: Global,
+    devices: (MemDisk, MemDisk),
+    limits: Limits,
+    pick: u64,
+) -> Result<(String, String, Option<RecFault>), AllocError> {
+    let (mut log, mut data, fault) = open_and_crash(alloc, devices, limits, pick);
+    let stopped = told_on(alloc, &mut log, &mut data)?;
+    let opened = told_again(alloc, (log, data))?;
+    Ok((stopped, opened, fault))
+}
+
 /// Sees that opening with such a stop ends with this fault and leaves these pages, and that opening once more leaves them
 /// too, by format 2 and with no group to be read.
 fn see_stop(
     rt: &(impl Abort + AllocGlobal),
     store: &Store,
-    limits: (Option<u64>, Option<u64>),
+    limits: Limits,
     pick: u64,
     kept: Kept,
     want: Option<RecFault>,
 ) -> Result<(), Fail> {
-    let alloc = rt.alloc();
-    let devices = store.tearing(alloc, CUT)?;
-    let (mut log, mut data, fault) = open_and_crash(alloc, devices, limits, pick);
-    let is_kept = pages_of(alloc, &read(alloc, &mut log, &mut data)?)?.as_str() == kept.pages;
+    let devices = store.devices_with(rt.alloc(), TEARING, TEARING)?;
+    let (stopped, opened, fault) = told_at(rt.alloc(), devices, limits, pick)?;
+    let is_kept = stopped.ends_with(kept.pages) && opened.ends_with(kept.pages);
+    let is_opened = opened.contains("\n(Two, ") && opened.contains(kept.start);
     assert!(rt;
-        is_kept && fault == want,
-        "{fault:?} at {limits:?} with the pick {pick}"
-    );
-    let (mut log, mut data, _) = open_and_crash(alloc, (log, data), (None, None), 0);
-    let read = read(alloc, &mut log, &mut data)?;
-    let is_opened = read.format == Format::Two && read.end == kept.start;
-    let is_kept = pages_of(alloc, &read)?.as_str() == kept.pages;
-    assert!(rt;
-        is_opened && is_kept && read.groups.is_empty(),
-        "after {limits:?} with the pick {pick}"
+        is_kept && is_opened && fault == want,
+        "{fault:?} at {limits:?} with the pick {pick}: {stopped}, {opened}"
     );
     Ok(())
 }
@@ -89,19 +99,15 @@ fn see_log_stops(
     see_stop(rt, store, (Some(calls), None), 0, kept, None)
 }
 
-/// What is read of the pages of the torn store: the group of one byte is applied to the copy of page 0, the whole one to
-/// page 1.
+/// What is told of the torn store.
 fn torn_kept(format: Format) -> Kept<'static> {
-    let start = last_block(format) + 1036;
-    match format {
-        Format::One => Kept {
-            pages: "0 532498 7;1 532492 5;2 9000 8;",
-            start,
-        },
-        Format::Two => Kept {
-            pages: "0 531474 7;1 531468 5;2 9000 8;",
-            start,
-        },
+    let start = match format {
+        Format::One => "(0, 0, None, 533004)",
+        Format::Two => "(0, 0, None, 531980)",
+    };
+    Kept {
+        pages: torn_pages(format),
+        start,
     }
 }
 
@@ -161,8 +167,8 @@ fn a_stop_shows_no_shorter_tail_block(rt: HostRuntime) -> Result<(), Fail> {
     front[..7].copy_from_slice(&LONG);
     store.put_tail(4, 8192, &front, true);
     let kept = Kept {
-        pages: "",
-        start: 8204,
+        pages: "4 []",
+        start: "(0, 0, None, 8204)",
     };
     let calls = (1 + 1 + 1) + 1 + 1 + (1 + 1) + (8 + 2 + 1) + 2;
     see_log_stops(&rt, &store, calls, kept)
@@ -176,8 +182,8 @@ fn a_stop_leaves_a_header(rt: HostRuntime) -> Result<(), Fail> {
     store.put_head_block(2, Format::One, &FOUR);
     put_group(&mut store);
     let kept = Kept {
-        pages: "3 8210 7;",
-        start: 8716,
+        pages: "4 [3 8210 7;]",
+        start: "(0, 0, None, 8716)",
     };
     let calls = (1 + 1) + 1 + 1 + 2 + (8 + 1) + MIGRATION_CALLS;
     see_log_stops(&rt, &store, calls, kept)

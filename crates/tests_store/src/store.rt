@@ -1,5 +1,5 @@
 // Stores on devices in memory, built block by block and page by page.
-ghost use Rattle.std.specs.Prelude.{◌≡◌, ◌≤◌, ◌<◌, vec_len};
+ghost use Rattle.std.specs.Prelude.{◌≡◌, ◌≤◌, vec_len};
 ghost use Rattle.model_base.specs.declared.limits.TheConstants.{MAX_LOG_BLOCKS, MIN_LOG_BLOCKS};
 
 use model_base::Shape;
@@ -14,6 +14,23 @@ use std::alloc::{AllocError, Global};
 
 /// The number of no call of a device.
 pub const NEVER: u64 = u64::MAX;
+
+/// How a device fails: at the call of this number, of which the first two are the ones that fill it. Of a sector that a crash
+/// loses it keeps so many of the first bytes.
+#[derive(Clone, Copy)]
+pub struct Flaw {
+    pub call: u64,
+    pub cut: usize,
+}
+
+/// That of a device which never fails, and keeps nothing of such a sector.
+pub const SOUND: Flaw = Flaw {
+    call: NEVER,
+    cut: 0,
+};
+
+/// That of a device which tears the sectors that a crash loses.
+pub const TEARING: Flaw = Flaw { cut: 100, ..SOUND };
 
 /// What stands at the front of the two devices of a store, after which are zeros, and how long they are.
 #[derive(Drop)]
@@ -35,23 +52,19 @@ fn put(device: &mut Vec<u8>, at: usize, bytes: &[u8])
     }
 }
 
-/// A device of this length that begins with these bytes, as far as there is room. It fails the call of this number; the first
-/// two are the ones that fill it. Of a sector that a crash loses it keeps so many of the first bytes.
-fn device_of(
-    alloc: Global,
-    bytes: &[u8],
-    length: u64,
-    fails: u64,
-    cut: usize,
-) -> Result<MemDisk, DevError>
-    requires { cut < 512 }
-{
-    let mut calls = Vec::new(alloc);
-    calls.push(fails)?;
-    let mut device = MemDisk::tearing_and_failing(alloc, length / 512 * 512, cut, calls)?;
+/// Fills the front of a device with these bytes, as far as there is room.
+fn fill_front(device: &mut MemDisk, bytes: &[u8]) -> Result<(), DevError> {
     let count = (bytes.len() as u64).min(device.len()) / 512 * 512;
     device.write(0, &bytes[..count as usize])?;
-    device.sync()?;
+    device.sync()
+}
+
+/// A device of this length that begins with these bytes, as far as there is room.
+fn device_of(alloc: Global, bytes: &[u8], length: u64, flaw: Flaw) -> Result<MemDisk, DevError> {
+    let calls = vec![in alloc; flaw.call]?;
+    let length = length / 512 * 512;
+    let mut device = MemDisk::tearing_and_failing(alloc, length, flaw.cut.min(511), calls)?;
+    fill_front(&mut device, bytes)?;
     Ok(device)
 }
 
@@ -99,27 +112,18 @@ impl Store {
 
     /// Two devices on which this stands.
     pub fn devices(&self, alloc: Global) -> Result<(MemDisk, MemDisk), DevError> {
-        self.failing(alloc, NEVER, NEVER)
+        self.devices_with(alloc, SOUND, SOUND)
     }
 
-    /// The same, which fail the calls of these numbers.
-    pub fn failing(
+    /// The same, which fail in these ways.
+    pub fn devices_with(
         &self,
         alloc: Global,
-        log_fails: u64,
-        data_fails: u64,
+        log: Flaw,
+        data: Flaw,
     ) -> Result<(MemDisk, MemDisk), DevError> {
-        let log = device_of(alloc, &self.log, self.log_length, log_fails, 0)?;
-        let data = device_of(alloc, &self.data, self.data_length, data_fails, 0)?;
-        Ok((log, data))
-    }
-
-    /// The same, which tear the sectors that a crash loses: so many of the first bytes stay.
-    pub fn tearing(&self, alloc: Global, cut: usize) -> Result<(MemDisk, MemDisk), DevError>
-        requires { cut < 512 }
-    {
-        let log = device_of(alloc, &self.log, self.log_length, NEVER, cut)?;
-        let data = device_of(alloc, &self.data, self.data_length, NEVER, cut)?;
+        let log = device_of(alloc, &self.log, self.log_length, log)?;
+        let data = device_of(alloc, &self.data, self.data_length, data)?;
         Ok((log, data))
     }
 

@@ -1,11 +1,12 @@
 // Stores that are recovered by several workers, each of which has some of the pages.
 ghost use Rattle.std.specs.Prelude.{◌≤◌};
 
-use crate::fixtures::{pages_of, torn_store};
+use crate::fixtures::{told_of, torn_pages, torn_store};
 use crate::store::Store;
 use model_base::Shape;
 use redo_header::Format;
-use redo_recover::recover_with;
+use redo_memdisk::MemDisk;
+use redo_recover::{RecFault, Recovered, recover_with};
 use std::alloc::{AllocError, Global};
 use std::test::Fail;
 use std::thread::Threads;
@@ -24,8 +25,20 @@ fn two_pages(alloc: Global) -> Result<Store, AllocError> {
     Ok(store)
 }
 
-/// What so many workers read of the pages of a store.
-fn pages_by(
+/// What so many workers read off two devices.
+fn read_by(
+    rt: &(impl AllocGlobal + Threads + Sync),
+    log: &mut MemDisk,
+    data: &mut MemDisk,
+    workers: u32,
+) -> Result<Recovered, RecFault>
+    requires { (1 ≤ workers) × (workers ≤ 16) }
+{
+    recover_with(rt, rt.alloc(), log, data, workers)
+}
+
+/// What is told of a store that so many workers read.
+fn told_by(
     rt: &(impl AllocGlobal + Threads + Sync),
     store: &Store,
     workers: u32,
@@ -33,29 +46,35 @@ fn pages_by(
     requires { (1 ≤ workers) × (workers ≤ 16) }
 {
     let (mut log, mut data) = store.devices(rt.alloc())?;
-    let read = recover_with(rt, rt.alloc(), &mut log, &mut data, workers)?;
-    Ok(pages_of(rt.alloc(), &read)?)
+    let read = read_by(rt, &mut log, &mut data, workers)?;
+    Ok(told_of(rt.alloc(), &read)?)
 }
 
 /// With eight workers each of the eight pages has its own.
 #[test]
 fn one_group_is_applied_by_two_workers(rt: HostRuntime) -> Result<(), Fail> {
     let store = two_pages(rt.alloc())?;
-    assert!(rt; pages_by(&rt, &store, 1)?.as_str() == "3 8217 7;4 8217 8;");
-    assert!(rt; pages_by(&rt, &store, 8)?.as_str() == "3 8217 7;4 8217 8;");
+    for workers in [1, 8] {
+        let told = told_by(&rt, &store, workers)?;
+        assert!(rt;
+            told.ends_with("8 [3 8217 7;4 8217 8;]"),
+            "{workers} {told}"
+        );
+    }
     Ok(())
 }
 
 /// Three pages of different lsns, by two workers and by more than there are pages.
 #[test]
 fn a_torn_store_is_read_by_several_workers(rt: HostRuntime) -> Result<(), Fail> {
-    for (format, pages) in [
-        (Format::One, "0 532498 7;1 532492 5;2 9000 8;"),
-        (Format::Two, "0 531474 7;1 531468 5;2 9000 8;"),
+    for (format, workers) in [
+        (Format::One, 2),
+        (Format::One, 16),
+        (Format::Two, 2),
+        (Format::Two, 16),
     ] {
-        let store = torn_store(rt.alloc(), format)?;
-        assert!(rt; pages_by(&rt, &store, 2)?.as_str() == pages);
-        assert!(rt; pages_by(&rt, &store, 16)?.as_str() == pages);
+        let told = told_by(&rt, &torn_store(rt.alloc(), format)?, workers)?;
+        assert!(rt; told.ends_with(torn_pages(format)), "{workers} {told}");
     }
     Ok(())
 }

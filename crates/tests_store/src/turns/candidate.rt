@@ -12,20 +12,19 @@ fn the_first_page_of_a_list_bounds_the_checkpoint(rt: HostRuntime) -> Result<(),
     let mut list = FlushList::new(rt.alloc(), 64)?;
     list.add(3, 40_000);
     list.add(7, 24_000);
-    let mut checkpointer = Checkpointer::new(8204);
+    let mut checkpointer = Checkpointer::new(8204, 1, 1);
     checkpointer.took(Old(120_000));
     checkpointer.took(Taken(list.oldest_end()));
-    checkpointer.took(Taken(None));
-    checkpointer.took(Taken(None));
-    checkpointer.took(Taken(None));
-    checkpointer.took(Taken(None));
-    checkpointer.took(Taken(None));
-    checkpointer.took(Taken(None));
-    checkpointer.took(Taken(None));
-    assert_eq!(rt; checkpointer.next(), Op::Load(Word::Flushed));
-    checkpointer.took(Old(60_000));
-    assert_eq!(rt; checkpointer.next(), Op::TakeDevice);
-    checkpointer.took(Taken(None));
-    assert_eq!(rt; checkpointer.next(), Op::Checkpoint(23_552));
+    for _ in 0..6 {
+        checkpointer.took(Taken(None));
+    }
+    for (answer, next) in [
+        (Taken(None), Op::Load(Word::Flushed)),
+        (Old(60_000), Op::TakeDevice),
+        (Taken(None), Op::Checkpoint(23_552)),
+    ] {
+        checkpointer.took(answer);
+        assert_eq!(rt; checkpointer.next(), next);
+    }
     Ok(())
 }

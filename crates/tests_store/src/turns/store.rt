@@ -30,28 +30,25 @@ const LOG: u64 = 526_336;
 /// Bytes of the data device: the slots, and the places of the pages.
 const DATA: u64 = 65_536;
 
-/// A store that was formatted and opened.
-pub fn opened(rt: &impl Abort, alloc: Global) -> Result<Opened<MemDisk, MemDisk>, Fail>
-    ensures { IfOk result IsRunnable }
+/// Two devices on which a store was formatted, and which tear the sectors that a crash loses: so many of the first bytes stay.
+fn formatted(alloc: Global, cut: usize) -> Result<(MemDisk, MemDisk), Fail>
+    requires { cut < 512 }
 {
-    opened_tearing(rt, alloc, 0)
+    let mut log = MemDisk::tearing(alloc, LOG, cut)?;
+    let mut data = MemDisk::tearing(alloc, DATA, cut)?;
+    format(&mut log, &mut data, &SHAPE)?;
+    Ok((log, data))
 }
 
-/// The same on devices that tear the sectors that a crash loses: so many of the first bytes stay.
-pub fn opened_tearing(
-    rt: &impl Abort,
-    alloc: Global,
-    cut: usize,
-) -> Result<Opened<MemDisk, MemDisk>, Fail>
+/// A store that was formatted and opened on such devices.
+pub fn opened(alloc: Global, cut: usize) -> Result<Opened<MemDisk, MemDisk>, Fail>
     requires { cut < 512 }
     ensures { IfOk result IsRunnable }
 {
-    let mut log = MemDisk::tearing(alloc, LOG, cut)?;
-    let mut store = MemDisk::tearing(alloc, DATA, cut)?;
-    format(&mut log, &mut store, &SHAPE)?;
-    match open_store(alloc, log, store) {
+    let (log, data) = formatted(alloc, cut)?;
+    match open_store(alloc, log, data) {
         Ok(opened) => Ok(opened),
-        Err((fault, _, _)) => panic!(rt; "{fault}"),
+        Err((fault, _, _)) => Err(Fail::from(fault)),
     }
 }
 

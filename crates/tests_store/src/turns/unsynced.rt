@@ -1,36 +1,30 @@
 // Stores whose last run left a tail block that no sync covers, opened again with no crash between.
-use super::runs::{marks, take_turns};
-use super::store::{machine_on, opened_tearing};
-use crate::fixtures::{pages_of, read};
-use crate::stops::{CUT, PICKS, open_and_crash};
-use redo_drive::Closed;
-use redo_machine::Turned::Ended;
+use super::runs::{NO_TURNS, Run, closed_of, devices_of, left_of};
+use crate::fixtures::told_on;
+use crate::stops::{Limits, PICKS, open_and_crash};
 use redo_memdisk::MemDisk;
 use redo_recover::RecFault;
-use std::alloc::Global;
+use std::alloc::{AllocError, Global};
 use std::process::Abort;
 use std::test::Fail;
 
-/// A group that is answered once it is flushed, and one of the same block that is answered once it is written.
-const TWO_MODES: &[u8] = b"1 f b1 3 100 7\n1 w b1 3 101 8\n";
+/// A group that is answered once it is flushed, and one of the same block that is answered once it is written. The user, the
+/// writer and the flusher go on as far as they can.
+const TWO_MODES: Run = Run {
+    text: "1 f b1 3 100 7\n1 w b1 3 101 8\n",
+    turns: "0-* 1-* 2-* 0-* 1-* 0.*",
+    cut: 100,
+    ..NO_TURNS
+};
 
 /// The devices after a run in which nothing failed. One tail block has the first group and is synced, the other one has
 /// both and isn't.
 fn left_unsynced(rt: &impl Abort, alloc: Global) -> Result<(MemDisk, MemDisk), Fail> {
-    let opened = opened_tearing(rt, alloc, CUT)?;
-    let mut machine = machine_on(rt, alloc, opened, TWO_MODES);
-    let (user, writer, flusher) = (0, 1, 2);
-    take_turns(rt, &mut machine, user, u64::MAX);
-    take_turns(rt, &mut machine, writer, u64::MAX);
-    take_turns(rt, &mut machine, flusher, u64::MAX);
-    take_turns(rt, &mut machine, user, u64::MAX);
-    take_turns(rt, &mut machine, writer, u64::MAX);
-    let (_, last) = take_turns(rt, &mut machine, user, u64::MAX);
-    let closed = machine.finish();
-    assert!(rt; last == Ended && closed.code == 0);
-    assert!(rt; closed.marks == marks(8216, 8216, 8210, 8192));
-    let Closed { log, store, .. } = closed;
-    Ok((log.into_dev(), store.into_dev()))
+    let (ended, closed) = closed_of(rt, alloc, &TWO_MODES)?;
+    let left = left_of(alloc, ended, &closed)?;
+    let is_left = left.starts_with("Done 0 2: ") && left.ends_with("(8216, 8216, 8210, 8192)");
+    assert!(rt; is_left, "{left}");
+    Ok(devices_of(closed))
 }
 
 /// The calls of the log device up to and with the first sync: the header is read, a stretch of blocks, the tail blocks
@@ -47,27 +41,36 @@ const DATA_READ: u64 = 1 + 8;
 /// All of them: after that sync one page is written by four calls.
 const DATA_CALLS: u64 = DATA_READ + 1 + 4;
 
+/// What is told where opening stops so; and the fault that it stopped with.
+fn told_at(
+    alloc: Global,
+    devices: (MemDisk, MemDisk),
+    limits: Limits,
+    pick: u64,
+) -> Result<(String, Option<RecFault>), AllocError> {
+    let (mut log, mut data, fault) = open_and_crash(alloc, devices, limits, pick);
+    Ok((told_on(alloc, &mut log, &mut data)?, fault))
+}
+
 /// Sees that opening with such a stop, and a crash, leave the group that was flushed; and the other one too once the
 /// log device is synced, or where the pick keeps the first of its pending sectors.
 fn see_stop(
     rt: &(impl Abort + AllocGlobal),
-    limits: (Option<u64>, Option<u64>),
+    limits: Limits,
     is_synced: bool,
     want: Option<RecFault>,
 ) -> Result<(), Fail> {
-    let alloc = rt.alloc();
     for pick in PICKS {
-        let devices = left_unsynced(rt, alloc)?;
-        let (mut log, mut data, fault) = open_and_crash(alloc, devices, limits, pick);
-        let pages = pages_of(alloc, &read(alloc, &mut log, &mut data)?)?;
+        let devices = left_unsynced(rt, rt.alloc())?;
+        let (told, fault) = told_at(rt.alloc(), devices, limits, pick)?;
         let kept = if is_synced || pick % 2 == 1 {
-            "3 8216 7;"
+            "8 [3 8216 7;]"
         } else {
-            "3 8210 7;"
+            "8 [3 8210 7;]"
         };
         assert!(rt;
-            pages.as_str() == kept && fault == want,
-            "{fault:?} at {limits:?} with the pick {pick}"
+            told.ends_with(kept) && fault == want,
+            "{fault:?} at {limits:?} with the pick {pick}: {told}"
         );
     }
     Ok(())

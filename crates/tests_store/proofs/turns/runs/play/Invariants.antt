@@ -2,8 +2,8 @@
 use Rattle.redo_drive.specs.Running.{IsOnRun}
 use Rattle.tests_store.proofs.turns.runs.play.Given as goal
 
-abbrev pub invariant-loop-seat : goal.invariant-loop-seat
-invariant-loop-seat g l = IsOnRun g.L.Sectors.seen g.D.Sectors.seen l.machine.parts l.machine.actors.items
+abbrev pub invariant-loop-word : goal.invariant-loop-word
+invariant-loop-word g l = IsOnRun g.L.Sectors.seen g.D.Sectors.seen l.machine.parts l.machine.actors.items
 
 abbrev pub invariant-loop : goal.invariant-loop
 invariant-loop g l = IsOnRun g.L.Sectors.seen g.D.Sectors.seen l.machine.parts l.machine.actors.items
