@@ -1,6 +1,7 @@
 #!/usr/bin/env python3
 # Lists the files of definitions that have to be believed for the contract of `lab`, with their lines, and counts them: all that
-# the `ghost use` lines of the file with `pub fn lab<` lead to, over the `use` lines of specs. Run it anywhere in the repository.
+# the `ghost use` lines of the file with `pub fn lab<` lead to, over the `use` lines of specs. Then those that `lab_in_files`
+# needs beside them. Run it anywhere in the repository.
 import glob, os, re
 os.chdir(os.path.join(os.path.dirname(os.path.abspath(__file__)), "..", "crates"))
 heads, seen = {}, {}
@@ -43,11 +44,22 @@ def visit(crate, file):
         visit(*used)
 
 
-for path in glob.glob("*/src/**/*.rt", recursive=True):
-    text = open(path).read()
-    if "pub fn lab<" in text:
-        for used in used_in(text):
-            visit(*used)
+def visit_contract(function):
+    """Visits what the contract of a function leads to."""
+    for path in glob.glob("*/src/**/*.rt", recursive=True):
+        text = open(path).read()
+        if f"pub fn {function}<" in text:
+            for used in used_in(text):
+                visit(*used)
+
+
+visit_contract("lab")
 for path in sorted(seen):
     print(f"{seen[path]:6} {path}")
-print(f"{sum(seen.values()):6} lines in {len(seen)} files")
+print(f"{sum(seen.values()):6} lines in {len(seen)} files for `lab`")
+before = dict(seen)
+visit_contract("lab_in_files")
+more = sorted(seen.keys() - before.keys())
+for path in more:
+    print(f"{seen[path]:6} {path}")
+print(f"{sum(seen[path] for path in more):6} lines more in {len(more)} files for `lab_in_files`")
