@@ -22,8 +22,6 @@ pub struct Tally {
     /// Lying calls that refused the store, and those on devices without one.
     pub refused: u64,
     pub without: u64,
-    /// Stores that are refused after a lie about one of two heads that weren't alike.
-    pub unlike: u64,
 }
 
 impl Tally {
@@ -43,6 +41,5 @@ impl Tally {
         self.sectors += other.sectors;
         self.refused += other.refused;
         self.without += other.without;
-        self.unlike += other.unlike;
     }
 }

@@ -145,7 +145,7 @@ fn main() {
     let failures = soak.failures.load(Ordering::Relaxed);
     let tally = soak.tally.lock().unwrap();
     println!(
-        "{runs} runs, {} calls; a read lied in {} of `run`, {} of `crash`, {} of `recover`, {} of `dump`, {} of them in threads, {} without a store, {} times as a whole sector; {} about a head, {} about a checkpoint, {} about a tail block, {} about a block, {} about the data device; {} of these calls refused the store; {} stores are refused after a lie about one of two heads that weren't alike; in {} more no read lied; {failures} failures; {} seconds",
+        "{runs} runs, {} calls; a read lied in {} of `run`, {} of `crash`, {} of `recover`, {} of `dump`, {} of them in threads, {} without a store, {} times as a whole sector; {} about a head, {} about a checkpoint, {} about a tail block, {} about a block, {} about the data device; {} of these calls refused the store; in {} more no read lied; {failures} failures; {} seconds",
         tally.calls,
         tally.runs,
         tally.crashes,
@@ -160,7 +160,6 @@ fn main() {
         tally.rings,
         tally.datas,
         tally.refused,
-        tally.unlike,
         tally.truths,
         start.elapsed().as_secs()
     );

@@ -6,7 +6,7 @@ use crate::draws::Draws;
 use crate::events::{DEVICES, LOG};
 use crate::files::Files;
 use crate::history::History;
-use crate::layout::{Head, are_heads_alike};
+use crate::layout::Head;
 use crate::making::{draw_full_script, draw_script, text_of};
 use crate::options::{Options, draw_turns};
 use crate::program::{Call, Program, words_of};
@@ -91,15 +91,13 @@ impl<'a> Lying<'a> {
         fs::create_dir_all(&self.folder).map_err(|error| error.to_string())?;
         self.put(FILES, &history.files.contents)?;
         for _ in 0..self.draws.within(1, MOST_LIES) {
-            if !self.lie()? {
-                break;
-            }
+            self.lie()?;
         }
         Ok(())
     }
 
-    /// One call of which a read lies, and what is there after it. Says whether more may come.
-    fn lie(&mut self) -> Result<bool, String> {
+    /// One call of which a read lies, and what is there after it.
+    fn lie(&mut self) -> Result<(), String> {
         let before = self.find()?;
         ensure(before != Found::Refused, || {
             "the store is refused before the call".to_string()
@@ -122,18 +120,13 @@ impl<'a> Lying<'a> {
             })?;
         }
         let after = self.find()?;
-        if after != Found::Store && after != before {
-            let is_of_head = lie.is_some_and(|lie| lie.about == About::Head);
-            ensure(is_of_head && !are_heads_alike(&contents[LOG]), || {
-                "the store is refused from then on".to_string()
-            })?;
-            self.tally.unlike += 1;
-            return Ok(false);
-        }
+        ensure(after == Found::Store || after == before, || {
+            "the store is refused from then on".to_string()
+        })?;
         if after == Found::Store && self.draws.once_in(2) {
             self.run_on()?;
         }
-        Ok(true)
+        Ok(())
     }
 
     /// An honest run on the store that is there, which has to leave one.

@@ -30,14 +30,19 @@ use Rattle.redo_recover.specs.Devices.{OnContent}
 
 -- ONCE BOTH DEVICES ARE SYNCED, before the header blocks are made alike.
 
-heads-held : (opened : Reading) (heads log_bytes data_bytes : List ℕ) → IsOrderly log_bytes data_bytes opened
-    → heads ≡ part log_bytes 0 1536 → HaveHeads heads (settled log_bytes)
-heads-held opened heads log_bytes data_bytes orderly front =
-    let log : IsLogRead log_bytes opened = log-read log_bytes data_bytes opened orderly.reads in
-    record { rests = record { rests = settled-rests log_bytes; long = omega (arith, log.long) }; front = front }
+heads-held : (read : Reading) (heads log_bytes data_bytes : List ℕ) → IsReading log_bytes data_bytes read
+    → heads ≡ part log_bytes 0 1536 → HaveHeads read.format read.shape heads (settled log_bytes)
+heads-held read heads log_bytes data_bytes reads front =
+    let log : IsLogRead log_bytes read = log-read log_bytes data_bytes read reads in
+    record {
+      rests = record { rests = settled-rests log_bytes; long = omega (arith, log.long) };
+      says = reads.scan.devices.head.head;
+      front = front;
+    }
 
--- both were only read, which gave these header blocks, and then synced
-pub record AreSynced (heads : List ℕ) (log log_read log_now data_told data_read data_now : Option Disk) : Type 0 where
+-- both were only read, which gave this reading and these header blocks, and then synced
+pub record AreSynced (read : Reading) (heads : List ℕ) (log log_read log_now data_told data_read data_now : Option Disk) : Type 0 where
+  pub reads : OnContents log data_told (λ log_bytes data_bytes. IsReading log_bytes data_bytes read)
   pub front : OnContent log (λ content. heads ≡ part content 0 1536)
   pub log_same : log_read ≡ log
   pub log_synced : OnTold log_read log_now (λ before after. after ≡ synced before)
@@ -50,13 +55,13 @@ alike-from : (opened : Reading) (tail : Option Tail) (heads log_bytes data_bytes
     (done : Unit {0}) → IsOrderly log_bytes data_bytes opened
     → AreFoundIn (found_layout opened) log_bytes opened.ckpt opened.views tail
     → old.tells ≡ Some (settled log_bytes) → heads ≡ part log_bytes 0 1536
-    → IfSome data_mid.tells (λ disk. disk ≡ settled data_bytes) → AlikeStep heads old (Ok done) new
+    → IfSome data_mid.tells (λ disk. disk ≡ settled data_bytes) → AlikeStep opened.format opened.shape heads old (Ok done) new
     → (bytes : List ℕ) × OpensFrom opened tail new data_mid bytes data_bytes
 alike-from opened tail heads log_bytes data_bytes old new data_mid done orderly found at front data_known step =
-    let Alike : Disk → Disk → Type 0 = λ before after. HaveHeads heads before → HasAlike before.reads after in
+    let Alike : Disk → Disk → Type 0 = λ before after. HaveHeads opened.format opened.shape heads before → HasAlike before.reads after in
     let told : OnTold (Some (settled log_bytes)) new.tells Alike =
     subst (λ (o : Option Disk). OnTold o new.tells Alike) at step.ok in
-    let has : HasAlike log_bytes told.0 = told.2 (heads-held opened heads log_bytes data_bytes orderly front) in (
+    let has : HasAlike log_bytes told.0 = told.2 (heads-held opened heads log_bytes data_bytes orderly.reads front) in (
       told.0.reads,
       record {
         orderly = kept-orderly opened log_bytes data_bytes told.0.reads orderly has.kept;
@@ -71,19 +76,19 @@ alike-from opened tail heads log_bytes data_bytes old new data_mid done orderly 
 pub opened-alike : (opened read : Reading) (tail : Option Tail) (heads : List ℕ)
     (log data_told log_read data_read : Option Disk) (old new data_mid : Seen) (done : Unit {0})
     (Q : Reading → Disk → Disk → Type 0)
-    → OnContents log data_told (λ log_bytes data_bytes. IsReading log_bytes data_bytes read)
     → OnContent log (λ log_bytes. AreFoundIn (found_layout read) log_bytes read.ckpt read.views tail)
-    → AreSynced heads log log_read old.tells data_told data_read data_mid.tells → AlikeStep heads old (Ok done) new
+    → AreSynced read heads log log_read old.tells data_told data_read data_mid.tells
+    → AlikeStep read.format read.shape heads old (Ok done) new
     → ((log_bytes data_bytes : List ℕ) → OpensFrom read tail new data_mid log_bytes data_bytes
     → (l d : Disk) → Q read l d)
     → WhereBothTell log data_told (λ l d. IsOrderly l.reads d.reads opened → Q opened l d)
-opened-alike opened read tail heads None data_told log_read data_read old new data_mid done Q reads found is step
+opened-alike opened read tail heads None data_told log_read data_read old new data_mid done Q found is step
     leads = tt
-opened-alike opened read tail heads (Some l) None log_read data_read old new data_mid done Q reads found is step
+opened-alike opened read tail heads (Some l) None log_read data_read old new data_mid done Q found is step
     leads = tt
-opened-alike opened read tail heads (Some l) (Some d) log_read data_read old new data_mid done Q reads found is step
+opened-alike opened read tail heads (Some l) (Some d) log_read data_read old new data_mid done Q found is step
     leads = λ orderly. (
-    let same : opened ≡ read = same_reading one_group l.reads d.reads opened read orderly.reads reads in
+    let same : opened ≡ read = same_reading one_group l.reads d.reads opened read orderly.reads is.reads in
     let there : IsOrderly l.reads d.reads read =
     subst (λ (r : Reading). IsOrderly l.reads d.reads r) same orderly in
     let from = alike-from read tail heads l.reads d.reads old new data_mid done there found
@@ -111,15 +116,15 @@ synced-rewrites opened log_bytes data_bytes (Some b) orderly known =
     unchanged-keeps opened.shape opened.pages log_bytes data_bytes opened (Some b)
     (record { shape_is = refl; pages_are = refl; orderly = orderly }) settled_data known
 
-failed-heads : (opened : Reading) (heads log_bytes data_bytes : List ℕ) (old new : Seen) (error : DevError)
-    → IsOrderly log_bytes data_bytes opened → heads ≡ part log_bytes 0 1536 → old.tells ≡ Some (settled log_bytes)
-    → AlikeStep heads old (Err error) new → IfSome new.tells (KeepsHeads log_bytes)
-failed-heads opened heads log_bytes data_bytes old new error orderly front at step =
-    let Keeps : Disk → Disk → Type 0 = λ before after. HaveHeads heads before → KeepsHeads before.reads after in
+failed-heads : (read : Reading) (heads log_bytes data_bytes : List ℕ) (old new : Seen) (error : DevError)
+    → IsReading log_bytes data_bytes read → heads ≡ part log_bytes 0 1536 → old.tells ≡ Some (settled log_bytes)
+    → AlikeStep read.format read.shape heads old (Err error) new → IfSome new.tells (KeepsHeads log_bytes)
+failed-heads read heads log_bytes data_bytes old new error reads front at step =
+    let Keeps : Disk → Disk → Type 0 = λ before after. HaveHeads read.format read.shape heads before → KeepsHeads before.reads after in
     let told : OnTold (Some (settled log_bytes)) new.tells Keeps =
     subst (λ (o : Option Disk). OnTold o new.tells Keeps) at step.keeps in
     subst (λ (o : Option Disk). IfSome o (KeepsHeads log_bytes)) (sym told.1)
-    (told.2 (heads-held opened heads log_bytes data_bytes orderly front))
+    (told.2 (heads-held read heads log_bytes data_bytes reads front))
 
 -- the header says the same, and the checkpoints are as they were
 head-unopened : (opened : Reading) (log_bytes data_bytes image : List ℕ) → IsOrderly log_bytes data_bytes opened
@@ -136,29 +141,31 @@ head-unopened opened log_bytes data_bytes image orderly keeps =
           two newest;
     }
 
-pub failed-keeps : (opened : Reading) (heads : List ℕ) (log data_told log_read data_read : Option Disk)
+pub failed-keeps : (opened read : Reading) (heads : List ℕ) (log data_told log_read data_read : Option Disk)
     (old new data_mid : Seen) (error : DevError)
-    → AreSynced heads log log_read old.tells data_told data_read data_mid.tells → AlikeStep heads old (Err error) new
+    → AreSynced read heads log log_read old.tells data_told data_read data_mid.tells
+    → AlikeStep read.format read.shape heads old (Err error) new
     → WhereBothTell log data_told (λ l d. IsOrderly l.reads d.reads opened
     → WhereBothTell new.tells data_mid.tells (KeepsOpened opened))
-failed-keeps opened heads None data_told log_read data_read old new data_mid error is step = tt
-failed-keeps opened heads (Some l) None log_read data_read old new data_mid error is step = tt
-failed-keeps opened heads (Some l) (Some d) log_read data_read old new data_mid error is step = λ orderly.
+failed-keeps opened read heads None data_told log_read data_read old new data_mid error is step = tt
+failed-keeps opened read heads (Some l) None log_read data_read old new data_mid error is step = tt
+failed-keeps opened read heads (Some l) (Some d) log_read data_read old new data_mid error is step = λ orderly.
     both new.tells data_mid.tells (KeepsHeads l.reads) (Rewrites opened d.reads) (KeepsOpened opened)
     (λ a b keeps rewrites. kept-head_keeps opened l.reads d.reads a b orderly.reads keeps rewrites)
-    (failed-heads opened heads l.reads d.reads old new error orderly is.front
+    (failed-heads read heads l.reads d.reads old new error is.reads is.front
     (tells-synced log_read old.tells l is.log_same is.log_synced) step)
     (synced-rewrites opened l.reads d.reads data_mid.tells orderly
     (synced-from data_read data_mid.tells d is.data_same is.data_synced))
 
-pub failed-unmoved : (opened : Reading) (heads : List ℕ) (log data_told log_read data_read : Option Disk)
+pub failed-unmoved : (opened read : Reading) (heads : List ℕ) (log data_told log_read data_read : Option Disk)
     (old new data_mid : Seen) (error : DevError)
-    → AreSynced heads log log_read old.tells data_told data_read data_mid.tells → AlikeStep heads old (Err error) new
+    → AreSynced read heads log log_read old.tells data_told data_read data_mid.tells
+    → AlikeStep read.format read.shape heads old (Err error) new
     → WhereBothTell log data_told (λ l d. IsOrderly l.reads d.reads opened → IfSome new.tells (IsNotOpened opened))
-failed-unmoved opened heads None data_told log_read data_read old new data_mid error is step = tt
-failed-unmoved opened heads (Some l) None log_read data_read old new data_mid error is step = tt
-failed-unmoved opened heads (Some l) (Some d) log_read data_read old new data_mid error is step = λ orderly.
+failed-unmoved opened read heads None data_told log_read data_read old new data_mid error is step = tt
+failed-unmoved opened read heads (Some l) None log_read data_read old new data_mid error is step = tt
+failed-unmoved opened read heads (Some l) (Some d) log_read data_read old new data_mid error is step = λ orderly.
     known-as new.tells (KeepsHeads l.reads) (IsNotOpened opened)
     (λ disk keeps. head-unopened opened l.reads d.reads disk.base orderly (keeps disk.base (base-fair disk)))
-    (failed-heads opened heads l.reads d.reads old new error orderly is.front
+    (failed-heads read heads l.reads d.reads old new error is.reads is.front
     (tells-synced log_read old.tells l is.log_same is.log_synced) step)

@@ -129,7 +129,7 @@ pub fn open_store<L: Sectors, D: Sectors>(
         Ok(recovered) => recovered,
         Err(fault) => return Err((fault, log, data_device)),
     };
-    let heads = match read_heads(&mut log) {
+    let heads = match read_heads(&mut log, recovered.format, &recovered.shape) {
         Ok(heads) => heads,
         Err(error) => return Err((log_fault(error), log, data_device)),
     };
@@ -141,7 +141,7 @@ pub fn open_store<L: Sectors, D: Sectors>(
         Ok(()) => {}
         Err(error) => return Err((data_fault(error), log, data_device)),
     }
-    match make_alike(&mut log, &heads) {
+    match make_alike(&mut log, &heads, recovered.format, &recovered.shape) {
         Ok(()) => {}
         Err(error) => return Err((log_fault(error), log, data_device)),
     }

@@ -8,6 +8,8 @@ mod fixtures;
 #[cfg(test)]
 mod formatting;
 #[cfg(test)]
+mod lies;
+#[cfg(test)]
 mod opening;
 #[cfg(test)]
 mod recovery;

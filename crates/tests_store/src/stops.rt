@@ -44,7 +44,7 @@ pub fn open_and_crash(
 }
 
 /// What is told of a store that is opened on these devices once more.
-fn told_again(alloc: Global, devices: (MemDisk, MemDisk)) -> Result<String, AllocError> {
+pub fn told_again(alloc: Global, devices: (MemDisk, MemDisk)) -> Result<String, AllocError> {
     let (mut log, mut data, _) = open_and_crash(alloc, devices, (None, None), 0);
     told_on(alloc, &mut log, &mut data)
 }
@@ -120,7 +120,7 @@ const TORN_CALLS: u64 = (1 + 2 + 1) + 1 + 1 + (1 + 1) + (8 + 2 + 1) + 2;
 /// The calls for a store of format 1 after that of the blocks, of which 1,022 or 1,023 are cleared: the first checkpoint is
 /// written and synced; all 1,024 blocks are cleared by writes of 128, and synced; and the second checkpoint and the header
 /// in both its blocks are written and synced.
-const MIGRATION_CALLS: u64 = 2 + (8 + 1) + 3 * 2;
+pub const MIGRATION_CALLS: u64 = 2 + (8 + 1) + 3 * 2;
 
 /// Those for the torn store of format 1, of which no header stands in block 2.
 const OLD_CALLS: u64 = (1 + 2) + 1 + 1 + 2 + (8 + 1) + MIGRATION_CALLS;

@@ -1,12 +1,6 @@
--- The first bytes of the log device, by one call.
-use Rattle.std.proofs.lemmas.Result.{err_from_is_err_and}
-use Rattle.redo_recover.proofs.Only.{only-one}
+-- Both header blocks, read once more.
+use Rattle.redo_recover.proofs.Only.{only-then}
 use Rattle.redo_open.proofs.heads.read_heads.Goals as goal
 
-pub returns-in_err-read-clause-reads : goal.returns-in_err-read-clause-reads
-returns-in_err-read-clause-reads g c =
-    let p = err_from_is_err_and c.from_residual.result c.from_residual.ensures.1 in
-    rw (p.1, p.2) (only-one _ _ _ _ _ _ _ c.in_err-read.ensures.step c.in_err-read.ensures.gives)
-
-pub returns-clause-reads : goal.returns-clause-reads
-returns-clause-reads g c = only-one _ _ _ _ _ _ _ c.in_ok-read.ensures.step c.in_ok-read.ensures.gives
+pub returns-else-one_names-clause-reads : goal.returns-else-one_names-clause-reads
+returns-else-one_names-clause-reads g c = only-then _ _ _ _ c.in_ok-heads.ensures.reads c.read_once-else-one_names.ensures.reads

@@ -5,11 +5,13 @@ use Rattle.model_base.specs.declared.shape.Shape.{Shape}
 use Rattle.model_device.specs.{IsWithin}
 use Rattle.model_device.specs.Disk.{Disk}
 use Rattle.model_log.specs.{log_device_length}
+use Rattle.model_log.specs.declared.head.Format.{Format}
 use Rattle.model_store.specs.Reading.{Reading}
 use Rattle.redo_disk.specs.{Call, error_of, MakesCalls, part}
 use Rattle.redo_disk.specs.declared.error.DevError.{DevError}
 use Rattle.redo_disk.proofs.Made.{call_ends, may_end}
 use Rattle.redo_disk.proofs.Told.{still-same, still-then}
+use Rattle.redo_open.specs.Heads.{PutsHead}
 use Rattle.redo_open.specs.Opening.{OpensSafely, data_device_left, log_device_left}
 use Rattle.redo_open.specs.Places.{IsPageFault}
 use Rattle.redo_open.specs.Puts.{ArePuts, PutsWhere}
@@ -35,9 +37,10 @@ cause-same fault log log_new data_told data_new log_same data_same cause =
     subst (λ (told : Option Disk). HasCauseIn log told fault) data_same (subst (λ (told : Option Disk). HasCauseIn told data_new fault) log_same cause)
 
 -- the header blocks lie within every store
-heads_inside : {L : Type 0} {gives : L → Call → L → Type 0} {old new : L} {error : Option DevError} (shape : Shape) → MakesCalls gives old new (PutsWhere (IsWithin 1536) error)
+heads_inside : {L : Type 0} {gives : L → Call → L → Type 0} {old new : L} {error : Option DevError} {format : Format} {named : Shape} (shape : Shape)
+    → MakesCalls gives old new (PutsWhere (PutsHead format named) error)
     → MakesCalls gives old new (ArePuts (IsWithin (log_device_length shape)))
-heads_inside shape made = puts_of (put_weaker (within-longer 1536 (log_device_length shape) (omega arith)) made)
+heads_inside shape made = puts_of (put_weaker (λ write puts. within-longer 1536 (log_device_length shape) (omega arith) write puts.inside) made)
 
 -- WHERE NOTHING WAS WRITTEN.
 
@@ -93,19 +96,25 @@ returns-in-Err-make_alike-clause-safely g c opened = λ log_on data_on.
     let data_entry = (g.D.Sectors.seen c.args.data_device).tells in
     let data_first = (g.D.Sectors.seen c.recover.new.data_device).tells in
     let data_mid = g.D.Sectors.seen c.sync-2.new.self in
+    let read = reading_of c.in-Ok.recovered in
     let log_same = still-equal log log_first log_read.unchanged.tells log_told in
-    let synced : AreSynced heads log log_first old.tells data_entry data_first data_mid.tells = record {
+    let read_on = still-on _ _ c.in-Ok-read_heads.ensures.reads.unchanged.tells log_told in
+    let read_same = still-equal _ _ c.in-Ok.ensures.log.unchanged.tells read_on in
+    let data_same = still-equal data_entry data_first c.in-Ok.ensures.data_device.unchanged.tells data_told in
+    let synced : AreSynced read heads log log_first old.tells data_entry data_first data_mid.tells = record {
+      reads = contents-same (λ log_bytes data_bytes. IsReading log_bytes data_bytes read) _ _ _ _ read_same data_same
+          c.in-Ok.ensures.recovered.read;
       front = content-same (λ content. heads ≡ part content 0 1536) _ _ log_same c.in-Ok-read_heads.ensures.content;
       log_same = log_same;
       log_synced = c.in-Ok-sync.ensures.step.ok;
-      data_same = still-equal data_entry data_first c.in-Ok.ensures.data_device.unchanged.tells data_told;
+      data_same = data_same;
       data_synced = c.in-Ok-sync-2.ensures.step.ok;
     } in
     err-safely g.L.Sectors.seen g.D.Sectors.seen opened log data_entry
     (c.log_fault-in-Err-make_alike.result, c.make_alike.new.log, c.sync-2.new.self)
-    (failed-keeps opened heads log data_entry log_first data_first old new data_mid c.in-Err-make_alike.error synced
+    (failed-keeps opened read heads log data_entry log_first data_first old new data_mid c.in-Err-make_alike.error synced
     c.in-Err-make_alike.ensures.step)
-    (failed-unmoved opened heads log data_entry log_first data_first old new data_mid c.in-Err-make_alike.error synced
+    (failed-unmoved opened read heads log data_entry log_first data_first old new data_mid c.in-Err-make_alike.error synced
     c.in-Err-make_alike.ensures.step)
 
 -- ONCE THEY ARE ALIKE.
@@ -136,7 +145,9 @@ returns-clause-safely g c = λ opened log_on data_on.
     let read_on = still-on _ _ c.in-Ok-read_heads.ensures.reads.unchanged.tells log_told in
     let read_same = still-equal _ _ c.in-Ok.ensures.log.unchanged.tells read_on in
     let data_same = still-equal data_entry data_first c.in-Ok.ensures.data_device.unchanged.tells data_told in
-    let synced : AreSynced heads log log_first old.tells data_entry data_first data_mid.tells = record {
+    let synced : AreSynced read heads log log_first old.tells data_entry data_first data_mid.tells = record {
+      reads = contents-same (λ log_bytes data_bytes. IsReading log_bytes data_bytes read) _ _ _ _ read_same data_same
+          c.in-Ok.ensures.recovered.read;
       front = content-same (λ content. heads ≡ part content 0 1536) _ _ log_same c.in-Ok-read_heads.ensures.content;
       log_same = log_same;
       log_synced = c.in-Ok-sync.ensures.step.ok;
@@ -146,8 +157,6 @@ returns-clause-safely g c = λ opened log_on data_on.
     opened-alike opened read recovered.tail heads log data_entry log_first data_first
     old new data_mid tt
     (λ (r : Reading) (l d : Disk). OpensSafely g.L.Sectors.seen g.D.Sectors.seen r l d c.open_recovered.result)
-    (contents-same (λ log_bytes data_bytes. IsReading log_bytes data_bytes read) _ _ _ _ read_same data_same
-    c.in-Ok.ensures.recovered.read)
     (content-same
     (λ content. AreFoundIn (found_layout read) content recovered.ckpt recovered.views.items recovered.tail)
     _ _ read_same c.in-Ok.ensures.recovered.tail)
