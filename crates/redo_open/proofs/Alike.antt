@@ -1,5 +1,5 @@
 -- The two header blocks of a log device that is at rest, made alike.
-use Rattle.std.proofs.Common.{◌≡◌, ◌≤◌, ℕ, inr, true, false, cond, List, take, drop, refl, sym, ap, subst, ◌∙◌, ⊎_elim, arith}
+use Rattle.std.proofs.Common.{◌≡◌, ◌≤◌, ℕ, inr, true, cond, List, take, drop, refl, sym, ap, subst, ◌∙◌, ⊎_elim, arith}
 use Rattle.std.specs.Prelude.{Result, Ok}
 use Rattle.std.proofs.lemmas.Bool.{cases_Bool}
 use Rattle.std.proofs.lemmas.Result.{on_ok_weaker}
