@@ -14,5 +14,5 @@ pub use Rattle.model_report.specs.Listing.{NamesOperation, block_line, block_lin
 unfoldable pub use Rattle.model_report.specs.Listing.{format_text, listing_text, summary_text}
 pub use Rattle.model_report.specs.Pages.{hex_word, onto_trimmed, page_lines_from, trimmed}
 unfoldable pub use Rattle.model_report.specs.Pages.{page_line, page_lines}
-pub use Rattle.model_report.specs.Report.{group_line, left_line, marks_line, open_line, recovered_line, state_word}
+pub use Rattle.model_report.specs.Report.{follow_line, group_line, left_line, marks_line, open_line, recovered_line, state_word}
 unfoldable pub use Rattle.model_report.specs.Report.{report_text}

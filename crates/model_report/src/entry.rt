@@ -53,3 +53,13 @@ pub struct Marks {
     /// The newest checkpoint.
     pub ckpt: u64,
 }
+
+/// What a follower came to: its number, how many groups it handed on, modulo 2^64, up to which lsn, and the CRC-32C of
+/// their joined texts.
+#[derive(Clone, Copy, Debug, PartialEq, Eq)]
+pub struct Followed {
+    pub number: u32,
+    pub count: u64,
+    pub lsn: u64,
+    pub crc: u32,
+}

@@ -8,7 +8,7 @@ mod entry;
 mod fault;
 mod laws;
 
-pub use entry::{Entry, History, Marks, State};
+pub use entry::{Entry, Followed, History, Marks, State};
 pub use fault::Fault;
 pub use laws::{
     answered_state_is_legal, first_groups_are_front, history_is_run, legal_history_grows,

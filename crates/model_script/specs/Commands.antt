@@ -14,7 +14,7 @@ use Rattle.model_script.specs.declared.words.Expected.TheVariants.{Any}
 use Rattle.model_script.specs.declared.words.Given.{Given}
 use Rattle.model_script.specs.declared.words.Name.{Name}
 use Rattle.model_script.specs.declared.words.Name.TheVariants as name
-use Rattle.model_script.specs.declared.words.TheConstants.{DEFAULT_TURNS, MAX_GENERATED, MAX_TURNS, MAX_WORKERS}
+use Rattle.model_script.specs.declared.words.TheConstants.{DEFAULT_TURNS, MAX_FOLLOWERS, MAX_GENERATED, MAX_TURNS, MAX_WORKERS}
 
 -- the option has this name
 abbrev pub is_named : Name → Given → Bool
@@ -48,18 +48,23 @@ abbrev pub number_or : ℕ → ℕ → ℕ → Option ℕ → Option ℕ
 number_or least greatest default None = Some default
 number_or least greatest default (Some n) = number_within least greatest n
 
+-- how many followers read the log back: none where nothing else is asked
+abbrev pub given_followers : List Given → Option ℕ
+given_followers options = number_or 1 MAX_FOLLOWERS 0 (given_number name.Followers options)
+
 -- how a script is run: by turns of the seed 0 where nothing else is asked
 abbrev pub given_drive : List Given → Option Drive
 given_drive options =
-    option_map (λ max. record {
+    option_and_then (λ max. option_map (λ followers. record {
       seed = unwrap_or (given_number name.Turns options) 0;
       max = max;
       threads = is_given name.Threads options;
       log_only = is_given name.LogOnly options;
-    }) (number_or 0 MAX_TURNS DEFAULT_TURNS (given_number name.Max options))
+      followers = followers;
+    }) (given_followers options)) (number_or 0 MAX_TURNS DEFAULT_TURNS (given_number name.Max options))
 
 abbrev pub drive_names : List Name
-drive_names = name.Turns ∷ name.Max ∷ name.Threads ∷ name.LogOnly ∷ []
+drive_names = name.Turns ∷ name.Max ∷ name.Threads ∷ name.LogOnly ∷ name.Followers ∷ []
 
 abbrev pub given_format : List Given → Option Command
 given_format options =

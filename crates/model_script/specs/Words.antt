@@ -15,6 +15,7 @@ use Rattle.model_script.specs.declared.words.Word.TheVariants.{Flag, Open, Joine
 -- how an option is spelled
 abbrev pub spelling : Name → List ℕ
 spelling name.Files = codes "--files"
+spelling name.Followers = codes "--followers"
 spelling name.LogBlocks = codes "--log-blocks"
 spelling name.LogOnly = codes "--log-only"
 spelling name.Max = codes "--max"
@@ -31,8 +32,8 @@ spelling name.Workers = codes "--workers"
 
 abbrev pub every_name : List Name
 every_name =
-    name.Files ∷ name.LogBlocks ∷ name.LogOnly ∷ name.Max ∷ name.Pages ∷ name.Pick ∷ name.Run ∷ name.Space ∷ name.StopData
-    ∷ name.StopLog ∷ name.Threads ∷ name.Turns ∷ name.Why ∷ name.Workers ∷ []
+    name.Files ∷ name.Followers ∷ name.LogBlocks ∷ name.LogOnly ∷ name.Max ∷ name.Pages ∷ name.Pick ∷ name.Run
+    ∷ name.Space ∷ name.StopData ∷ name.StopLog ∷ name.Threads ∷ name.Turns ∷ name.Why ∷ name.Workers ∷ []
 
 -- the option that is spelled so
 unfoldable pub name_of : List ℕ → Option Name
@@ -45,6 +46,7 @@ is_flag name.LogOnly = true
 is_flag name.Run = true
 is_flag name.Threads = true
 is_flag name.Why = true
+is_flag name.Followers = false
 is_flag name.LogBlocks = false
 is_flag name.Max = false
 is_flag name.Pages = false

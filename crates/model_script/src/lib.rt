@@ -18,5 +18,6 @@ pub use laws::{
 pub use misfit::{MARGIN, MAX_USERS, Misfit, Quantity};
 pub use script::{Script, ScriptLine};
 pub use words::{
-    DEFAULT_TURNS, Expected, Given, MAX_GENERATED, MAX_TURNS, MAX_WORKERS, Name, Word,
+    DEFAULT_TURNS, Expected, Given, MAX_FOLLOWERS, MAX_GENERATED, MAX_TURNS, MAX_WORKERS, Name,
+    Word,
 };

@@ -8,11 +8,14 @@ pub const MAX_TURNS: u64 = 1_000_000_000_000_000_000;
 pub const MAX_GENERATED: u64 = 1_000_000;
 /// The greatest number of workers that apply the groups of a log.
 pub const MAX_WORKERS: u32 = 16;
+/// The greatest number of followers.
+pub const MAX_FOLLOWERS: u32 = 4;
 
 /// An option of some command.
 #[derive(Clone, Copy, Debug, PartialEq, Eq)]
 pub enum Name {
     Files,
+    Followers,
     LogBlocks,
     LogOnly,
     Max,

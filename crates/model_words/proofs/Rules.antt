@@ -15,6 +15,7 @@ use Rattle.model_words.specs.App.{redolab_app}
 -- an option's name without its dashes
 abbrev pub id : Name → Text
 id name.Files = codes "files"
+id name.Followers = codes "followers"
 id name.LogBlocks = codes "log-blocks"
 id name.LogOnly = codes "log-only"
 id name.Max = codes "max"
@@ -90,11 +91,12 @@ abbrev pub format_names : List Name
 format_names = name.Files ∷ name.Pages ∷ name.Space ∷ name.LogBlocks ∷ []
 
 abbrev pub run_names : List Name
-run_names = name.Files ∷ name.Turns ∷ name.Max ∷ name.Threads ∷ name.LogOnly ∷ []
+run_names = name.Files ∷ name.Turns ∷ name.Max ∷ name.Threads ∷ name.LogOnly ∷ name.Followers ∷ []
 
 abbrev pub crash_names : List Name
 crash_names =
-    name.Files ∷ name.StopLog ∷ name.StopData ∷ name.Pick ∷ name.Workers ∷ name.Turns ∷ name.Max ∷ name.Threads ∷ name.LogOnly ∷ []
+    name.Files ∷ name.StopLog ∷ name.StopData ∷ name.Pick ∷ name.Workers ∷ name.Turns ∷ name.Max ∷ name.Threads
+    ∷ name.LogOnly ∷ name.Followers ∷ []
 
 abbrev pub recover_names : List Name
 recover_names = name.Files ∷ name.Workers ∷ []

@@ -8,7 +8,7 @@ use Rattle.model_script.specs.declared.asked.Command.TheVariants as asked
 use Rattle.model_script.specs.declared.asked.Drive.{Drive}
 use Rattle.model_script.specs.declared.words.Name.{Name}
 use Rattle.model_script.specs.declared.words.Name.TheVariants as name
-use Rattle.model_script.specs.declared.words.TheConstants.{DEFAULT_TURNS, MAX_TURNS, MAX_WORKERS}
+use Rattle.model_script.specs.declared.words.TheConstants.{DEFAULT_TURNS, MAX_FOLLOWERS, MAX_TURNS, MAX_WORKERS}
 use Rattle.model_words.specs.Found.{is_true, text_number, text_number_or}
 use Rattle.model_words.proofs.Asked.{or_is, read, whole_is}
 use Rattle.model_words.proofs.Asked.{Command as Reads}
@@ -21,12 +21,23 @@ use Rattle.model_words.proofs.Said.{are_members}
 use Rattle.model_words.proofs.Spelled.{is_member}
 use Rattle.model_words.proofs.Uses.{use_row}
 
-abbrev drive_with : Bool → Bool → Option ℕ → Option ℕ → Option Drive
-drive_with threads log_only seed max =
-    option_and_then (λ seed. option_map (λ max. record { seed = seed; max = max; threads = threads; log_only = log_only }) max) seed
+abbrev drive_with : Bool → Bool → Option ℕ → Option ℕ → Option ℕ → Option Drive
+drive_with threads log_only seed max followers =
+    option_and_then (λ seed. option_and_then (λ max. option_map (λ followers. record {
+      seed = seed;
+      max = max;
+      threads = threads;
+      log_only = log_only;
+      followers = followers;
+    }) followers) max) seed
 
-no_drive : (threads log_only : Bool) (seed : Option ℕ) → drive_with threads log_only seed None ≡ None
-no_drive threads log_only seed = none_then seed
+no_drive : (threads log_only : Bool) (seed followers : Option ℕ)
+    → drive_with threads log_only seed None followers ≡ None
+no_drive threads log_only seed followers = none_then seed
+
+no_followers : (threads log_only : Bool) (seed max : Option ℕ) → drive_with threads log_only seed max None ≡ None
+no_followers threads log_only None max = refl
+no_followers threads log_only (Some seed) max = none_then max
 
 abbrev run_with : Bool → Option Drive → Option Asked
 run_with files drive = as_asked files (option_map asked.Run drive)
@@ -71,16 +82,28 @@ module _ (names : List Name) (rows0 : List Row) where
   abbrev max_at : Option ℕ
   max_at = text_number_or 0 MAX_TURNS DEFAULT_TURNS (at (codes "max"))
 
+  abbrev followers_at : Option ℕ
+  followers_at = text_number_or 1 MAX_FOLLOWERS 0 (at (codes "followers"))
+
   abbrev drive_at : Option Drive
-  drive_at = drive_with (flag_at (codes "threads")) (flag_at (codes "log-only")) seed_at max_at
+  drive_at = drive_with (flag_at (codes "threads")) (flag_at (codes "log-only")) seed_at max_at followers_at
 
   seed_bad : (t : Text) → at (codes "turns") ≡ Some t → word_number t ≡ None → drive_at ≡ None
-  seed_bad t e none = ap (λ o. drive_with (flag_at (codes "threads")) (flag_at (codes "log-only")) o max_at) (or_bad 0 (2 ^ 64 - 1) 0 (at (codes "turns")) t e none)
+  seed_bad t e none =
+      ap (λ o. drive_with (flag_at (codes "threads")) (flag_at (codes "log-only")) o max_at followers_at)
+      (or_bad 0 (2 ^ 64 - 1) 0 (at (codes "turns")) t e none)
 
   max_bad : (t : Text) → at (codes "max") ≡ Some t → word_number t ≡ None → drive_at ≡ None
   max_bad t e none =
-      ap (λ o. drive_with (flag_at (codes "threads")) (flag_at (codes "log-only")) seed_at o) (or_bad 0 MAX_TURNS DEFAULT_TURNS (at (codes "max")) t e none)
-      ∙ no_drive (flag_at (codes "threads")) (flag_at (codes "log-only")) seed_at
+      ap (λ o. drive_with (flag_at (codes "threads")) (flag_at (codes "log-only")) seed_at o followers_at)
+      (or_bad 0 MAX_TURNS DEFAULT_TURNS (at (codes "max")) t e none)
+      ∙ no_drive (flag_at (codes "threads")) (flag_at (codes "log-only")) seed_at followers_at
+
+  followers_bad : (t : Text) → at (codes "followers") ≡ Some t → word_number t ≡ None → drive_at ≡ None
+  followers_bad t e none =
+      ap (λ o. drive_with (flag_at (codes "threads")) (flag_at (codes "log-only")) seed_at max_at o)
+      (or_bad 1 MAX_FOLLOWERS 0 (at (codes "followers")) t e none)
+      ∙ no_followers (flag_at (codes "threads")) (flag_at (codes "log-only")) seed_at max_at
 
 run_bad : (rows0 : List Row) → Bad run_names plain rows0 → read (codes "run") run_names false plain rows0 ≡ None
 run_bad rows0 (inr b) = absurd (true≢false (sym b.2))
@@ -90,6 +113,9 @@ run_bad rows0 (inl b) = go b.0 b.1 b.2 b.3 b.4 b.5
         → read (codes "run") run_names false plain rows0 ≡ None
     go name.Turns t m f e none = ap (run_with (flag_at run_names rows0 (codes "files"))) (seed_bad run_names rows0 t (number_kept (codes "turns") (rules run_names false) rows0 refl ∙ e) none)
     go name.Max t m f e none = ap (run_with (flag_at run_names rows0 (codes "files"))) (max_bad run_names rows0 t (number_kept (codes "max") (rules run_names false) rows0 refl ∙ e) none)
+    go name.Followers t m f e none =
+        ap (run_with (flag_at run_names rows0 (codes "files")))
+        (followers_bad run_names rows0 t (number_kept (codes "followers") (rules run_names false) rows0 refl ∙ e) none)
     go name.Files t m f e none = absurd (true≢false f)
     go name.LogOnly t m f e none = absurd (true≢false f)
     go name.Threads t m f e none = absurd (true≢false f)
@@ -104,7 +130,10 @@ run_is = record {
       (drive_with (given name.Threads refl (flag_kept (codes "threads") (rules run_names false) (map use_row us) refl) i)
       (given name.LogOnly refl (flag_kept (codes "log-only") (rules run_names false) (map use_row us) refl) i)
       (whole_is _ _ (text name.Turns refl (number_kept (codes "turns") (rules run_names false) (map use_row us) refl)) i)
-      (or_is 0 MAX_TURNS DEFAULT_TURNS _ _ (text name.Max refl (number_kept (codes "max") (rules run_names false) (map use_row us) refl)) i)))
+      (or_is 0 MAX_TURNS DEFAULT_TURNS _ _
+      (text name.Max refl (number_kept (codes "max") (rules run_names false) (map use_row us) refl)) i)
+      (or_is 1 MAX_FOLLOWERS 0 _ _
+      (text name.Followers refl (number_kept (codes "followers") (rules run_names false) (map use_row us) refl)) i)))
       ∙ good_options (are_members run_names said.options) (are_different said.options) (is_given name.Files said.options) said.values (option_map asked.Run (given_drive said.options)) m
       (different_is run_names plain us said ok e ∙ d);
   bad = run_bad;
@@ -140,6 +169,10 @@ crash_bad rows0 (inl b) = go b.0 b.1 b.2 b.3 b.4 b.5
         ap (λ o. crash_with fs o stop_log stop_data pick workers) (seed_bad crash_names rows0 t (number_kept (codes "turns") (rules crash_names false) rows0 refl ∙ e) none)
     go name.Max t m f e none =
         ap (λ o. crash_with fs o stop_log stop_data pick workers) (max_bad crash_names rows0 t (number_kept (codes "max") (rules crash_names false) rows0 refl ∙ e) none)
+    go name.Followers t m f e none =
+        ap (λ o. crash_with fs o stop_log stop_data pick workers)
+        (followers_bad crash_names rows0 t
+        (number_kept (codes "followers") (rules crash_names false) rows0 refl ∙ e) none)
     go name.StopLog t m f e none =
         ap (λ o. crash_with fs drive o stop_data pick workers)
         (number_bad (at crash_names rows0 (codes "stop-log")) t (number_kept (codes "stop-log") (rules crash_names false) rows0 refl ∙ e) none)
@@ -170,7 +203,10 @@ crash_is = record {
       (drive_with (given name.Threads refl (flag_kept (codes "threads") (rules crash_names false) (map use_row us) refl) i)
       (given name.LogOnly refl (flag_kept (codes "log-only") (rules crash_names false) (map use_row us) refl) i)
       (whole_is _ _ (text name.Turns refl (number_kept (codes "turns") (rules crash_names false) (map use_row us) refl)) i)
-      (or_is 0 MAX_TURNS DEFAULT_TURNS _ _ (text name.Max refl (number_kept (codes "max") (rules crash_names false) (map use_row us) refl)) i))
+      (or_is 0 MAX_TURNS DEFAULT_TURNS _ _
+      (text name.Max refl (number_kept (codes "max") (rules crash_names false) (map use_row us) refl)) i)
+      (or_is 1 MAX_FOLLOWERS 0 _ _
+      (text name.Followers refl (number_kept (codes "followers") (rules crash_names false) (map use_row us) refl)) i))
       (text name.StopLog refl (number_kept (codes "stop-log") (rules crash_names false) (map use_row us) refl) i)
       (text name.StopData refl (number_kept (codes "stop-data") (rules crash_names false) (map use_row us) refl) i)
       (whole_is _ _ (text name.Pick refl (number_kept (codes "pick") (rules crash_names false) (map use_row us) refl)) i)

@@ -29,9 +29,13 @@ IsApp app command = (app_of command ≡ app) × IsLocal command
 abbrev pub plain_app : Text → App
 plain_app name = with_rule (new_app name) (flag_rule (codes "files"))
 
-abbrev pub with_drive : App → App
-with_drive app =
+-- the options that say in what order a run's steps are taken, and whether the log runs alone
+abbrev pub with_turns : App → App
+with_turns app =
     with_rule (with_rule (with_rule (with_rule app (number_rule (codes "turns"))) (number_rule (codes "max"))) (flag_rule (codes "threads"))) (flag_rule (codes "log-only"))
+
+abbrev pub with_drive : App → App
+with_drive app = with_rule (with_turns app) (number_rule (codes "followers"))
 
 abbrev pub with_workers : App → App
 with_workers app = with_rule app (number_rule (codes "workers"))

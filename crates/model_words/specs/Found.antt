@@ -11,7 +11,7 @@ use Rattle.model_script.specs.declared.asked.Asked.{Asked}
 use Rattle.model_script.specs.declared.asked.Command.{Command}
 use Rattle.model_script.specs.declared.asked.Command.TheVariants.{Format, Run, Crash, Recover, Dump, Gen}
 use Rattle.model_script.specs.declared.asked.Drive.{Drive}
-use Rattle.model_script.specs.declared.words.TheConstants.{DEFAULT_TURNS, MAX_GENERATED, MAX_TURNS, MAX_WORKERS}
+use Rattle.model_script.specs.declared.words.TheConstants.{DEFAULT_TURNS, MAX_FOLLOWERS, MAX_GENERATED, MAX_TURNS, MAX_WORKERS}
 use Rattle.model_words.specs.App.{redolab_app}
 
 -- a flag's text is `true` where it was given
@@ -34,14 +34,19 @@ text_number None = Some None
 text_number (Some text) = option_map Some (word_number text)
 
 -- a command's parts, each from the texts of its options
+abbrev pub followers_from : List Row → Option ℕ
+followers_from rows = text_number_or 1 MAX_FOLLOWERS 0 (first_of (codes "followers") rows)
+
 abbrev pub drive_from : List Row → Option Drive
 drive_from rows =
-    option_and_then (λ seed. option_map (λ max. record {
+    option_and_then (λ seed. option_and_then (λ max. option_map (λ followers. record {
       seed = seed;
       max = max;
       threads = is_true (first_of (codes "threads") rows);
       log_only = is_true (first_of (codes "log-only") rows);
-    }) (text_number_or 0 MAX_TURNS DEFAULT_TURNS (first_of (codes "max") rows)))
+      followers = followers;
+    }) (followers_from rows))
+    (text_number_or 0 MAX_TURNS DEFAULT_TURNS (first_of (codes "max") rows)))
     (text_number_or 0 (2 ^ 64 - 1) 0 (first_of (codes "turns") rows))
 
 abbrev pub format_from : List Row → Option Command

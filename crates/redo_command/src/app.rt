@@ -1,7 +1,7 @@
 // The application whose words `clap` reads.
 ghost use Rattle.std.specs.Prelude.{◌≡◌, false, IfOk, codes};
 ghost use Rattle.clap.specs.Words.{rule_of, with_rule, with_subcommand, app_of};
-ghost use Rattle.model_words.specs.App.{IsApp, IsLocal, crash_app, dump_app, flag_rule, format_app, gen_app, number_rule, plain_app, recover_app, redolab_app, run_app, top_app, value_rule, with_drive, with_others, with_runs, with_values, with_workers};
+ghost use Rattle.model_words.specs.App.{IsApp, IsLocal, crash_app, dump_app, flag_rule, format_app, gen_app, number_rule, plain_app, recover_app, redolab_app, run_app, top_app, value_rule, with_drive, with_others, with_runs, with_turns, with_values, with_workers};
 
 use clap::{Arg, ArgAction, Command};
 use std::alloc::{AllocError, Global};
@@ -46,16 +46,37 @@ fn format_command<'a>(alloc: Global) -> Result<Command<'a>, AllocError>
         .arg(number(alloc, "log-blocks"))
 }
 
-// With the options of a run.
-fn with_drive<'a>(alloc: Global, command: Command<'a>) -> Result<Command<'a>, AllocError>
+// With one more option, that has a number.
+fn with_number<'a>(
+    alloc: Global,
+    command: Command<'a>,
+    name: &'a str,
+) -> Result<Command<'a>, AllocError>
     requires { IsLocal command }
-    ensures { IfOk result (IsApp (with_drive (app_of command.entry))) }
+    ensures { IfOk result (IsApp (with_rule (app_of command.entry) (number_rule name.entry.now))) }
+{
+    command.arg(number(alloc, name))
+}
+
+// With the options that say in what order a run's steps are taken, and whether the log runs alone.
+fn with_turns<'a>(alloc: Global, command: Command<'a>) -> Result<Command<'a>, AllocError>
+    requires { IsLocal command }
+    ensures { IfOk result (IsApp (with_turns (app_of command.entry))) }
 {
     command
         .arg(number(alloc, "turns"))?
         .arg(number(alloc, "max"))?
         .arg(flag(alloc, "threads"))?
         .arg(flag(alloc, "log-only"))
+}
+
+// With the options of a run.
+fn with_drive<'a>(alloc: Global, command: Command<'a>) -> Result<Command<'a>, AllocError>
+    requires { IsLocal command }
+    ensures { IfOk result (IsApp (with_drive (app_of command.entry))) }
+{
+    let command = with_turns(alloc, command)?;
+    with_number(alloc, command, "followers")
 }
 
 // With the number of those that apply the groups of the log.

@@ -3,14 +3,15 @@ ghost use Rattle.std.specs.Prelude.{◌≡◌, codes, option_and_then, option_ma
 ghost use Rattle.clap.specs.Words.{first_of, found_of, rows_of};
 ghost use Rattle.model_base.specs.declared.limits.TheConstants.{DEFAULT_LOG_BLOCKS, DEFAULT_PAGES, DEFAULT_SPACE, MAX_LOG_BLOCKS, MAX_PAGES, MIN_LOG_BLOCKS};
 ghost use Rattle.model_script.specs.{number_within, word_number};
-ghost use Rattle.model_words.specs.Found.{asked_with, command_from, crash_from, drive_from, format_from, gen_from, is_true, text_number, text_number_or, text_number_within, workers_from};
+ghost use Rattle.model_words.specs.Found.{asked_with, command_from, crash_from, drive_from, followers_from, format_from, gen_from, is_true, text_number, text_number_or, text_number_within, workers_from};
 
 use clap::ArgMatches;
 use model_base::{
     DEFAULT_LOG_BLOCKS, DEFAULT_PAGES, DEFAULT_SPACE, MAX_LOG_BLOCKS, MAX_PAGES, MIN_LOG_BLOCKS,
 };
 use model_script::{
-    Asked, Command, DEFAULT_TURNS, Drive, MAX_GENERATED, MAX_TURNS, MAX_USERS, MAX_WORKERS,
+    Asked, Command, DEFAULT_TURNS, Drive, MAX_FOLLOWERS, MAX_GENERATED, MAX_TURNS, MAX_USERS,
+    MAX_WORKERS,
 };
 use redo_script::number_up_to;
 
@@ -94,16 +95,25 @@ fn turns_of(found: &ArgMatches<'_>) -> Option<u64>
     number_or(found, "max", 0, MAX_TURNS, DEFAULT_TURNS)
 }
 
+fn read_followers(found: &ArgMatches<'_>) -> Option<u32>
+    ensures { result ≡ followers_from (rows_of (found_of found.now)) }
+{
+    let followers = number_or(found, "followers", 1, u64::from(MAX_FOLLOWERS), 0)?;
+    Some(followers as u32)
+}
+
 fn read_drive(found: &ArgMatches<'_>) -> Option<Drive>
     ensures { result ≡ drive_from (rows_of (found_of found.now)) }
 {
     let seed = number_or(found, "turns", 0, u64::MAX, 0)?;
     let max = turns_of(found)?;
+    let followers = read_followers(found)?;
     Some(Drive {
         seed,
         max,
         threads: is_given(found, "threads"),
         log_only: is_given(found, "log-only"),
+        followers,
     })
 }
 

@@ -2,13 +2,13 @@
 ghost use Rattle.std.specs.Prelude.{◌≡◌, ◌++◌, OnOk, IfOk};
 ghost use Rattle.std.specs.List.{flat_map};
 ghost use Rattle.std.specs.String.{string_bytes};
-ghost use Rattle.model_report.specs.{group_line, left_line, recovered_line, report_text};
+ghost use Rattle.model_report.specs.{follow_line, group_line, left_line, recovered_line, report_text};
 ghost use Rattle.redo_report.specs.Read.{read_of};
 
 use crate::pages::push_pages;
-use crate::run_lines::{push_group, push_left, push_marks, push_open};
+use crate::run_lines::{push_follow, push_group, push_left, push_marks, push_open};
 use model_page::Content;
-use model_report::{Entry, Marks};
+use model_report::{Entry, Followed, Marks};
 use redo_io::Text;
 use redo_lsn::NoMemory;
 use std::alloc::{AllocError, Global};
@@ -33,6 +33,16 @@ fn push_lefts(text: &mut String, left: &[(u32, u64)]) -> Result<(), AllocError>
     Ok(())
 }
 
+fn push_follows(alloc: Global, text: &mut String, follows: &[Followed]) -> Result<(), AllocError>
+    ensures { OnOk result
+        (string_bytes text.new ≡ string_bytes text.old ++ flat_map follow_line follows.now) }
+{
+    for followed in follows {
+        push_follow(alloc, text, *followed)?;
+    }
+    Ok(())
+}
+
 fn push_recovered(text: &mut String, history: &[Entry], end: u64) -> Result<(), AllocError>
     ensures { OnOk result
         (string_bytes text.new ≡ string_bytes text.old ++ recovered_line history.now end) }
@@ -42,8 +52,8 @@ fn push_recovered(text: &mut String, history: &[Entry], end: u64) -> Result<(), 
 }
 
 /// The report of a run: where it starts, or that opening was stopped; each reserved group in lsn order; how many
-/// lines are left of each user; the marks, of which there are none where opening was stopped; and the end of the
-/// recovered log with the pages that were read, if the run was crashed.
+/// lines are left of each user; the marks, of which there are none where opening was stopped; what each follower came
+/// to; and the end of the recovered log with the pages that were read, if the run was crashed.
 #[tactic(auto, unfolding(model_report::specs::Report::report_text))]
 pub fn report(
     alloc: Global,
@@ -51,16 +61,18 @@ pub fn report(
     history: &[Entry],
     left: &[(u32, u64)],
     marks: Option<Marks>,
+    follows: &[Followed],
     read: Option<(u64, &[Content])>,
 ) -> Result<Text, NoMemory>
     ensures { IfOk result
-        (λ text. text ≡ report_text start history.now left.now marks (read_of read.entry)) }
+        (λ text. text ≡ report_text start history.now left.now marks follows.now (read_of read.entry)) }
 {
     let mut text = String::new(alloc);
     push_open(&mut text, start)?;
     push_groups(&mut text, history)?;
     push_lefts(&mut text, left)?;
     push_marks(&mut text, marks)?;
+    push_follows(alloc, &mut text, follows)?;
     if let Some((end, pages)) = read {
         push_recovered(&mut text, history, end)?;
         push_pages(alloc, &mut text, pages)?;

@@ -1,10 +1,10 @@
 // The lines of a report, each written at the end of a text.
 ghost use Rattle.std.specs.Prelude.{◌≡◌, ◌++◌, OnOk};
 ghost use Rattle.std.specs.String.{string_bytes};
-ghost use Rattle.model_report.specs.{group_line, left_line, marks_line, open_line, state_word};
+ghost use Rattle.model_report.specs.{follow_line, group_line, left_line, marks_line, open_line, state_word};
 
-use model_report::{Entry, Marks, State};
-use std::alloc::AllocError;
+use model_report::{Entry, Followed, Marks, State};
+use std::alloc::{AllocError, Global};
 
 // How a group's commit stands, as one word.
 fn state_word(state: State) -> &'static str
@@ -55,4 +55,15 @@ pub fn push_marks(text: &mut String, marks: Option<Marks>) -> Result<(), AllocEr
             marks.wtail, marks.write, marks.flushed, marks.ckpt
         ),
     }
+}
+
+pub fn push_follow(alloc: Global, text: &mut String, followed: Followed) -> Result<(), AllocError>
+    ensures { OnOk result (string_bytes text.new ≡ string_bytes text.old ++ follow_line followed) }
+{
+    let digits = hex::encode(alloc, followed.crc.to_be_bytes().as_slice())?;
+    writeln!(
+        text,
+        "follow {} {} {} {digits}",
+        followed.number, followed.count, followed.lsn
+    )
 }

@@ -1,4 +1,4 @@
-//! The tests of the texts: the edge for text, scripts and fault lines, and the words of a call.
+//! The tests of the texts: the edge for text, scripts, reports and fault lines, and the words of a call.
 #![tactic(auto, using(model_base::proofs::ShapeLimits::default_page_size))]
 
 #[cfg(test)]
@@ -15,6 +15,8 @@ mod misfits;
 mod no_commands;
 #[cfg(test)]
 mod printed;
+#[cfg(test)]
+mod reports;
 #[cfg(test)]
 mod rows;
 #[cfg(test)]

@@ -50,6 +50,12 @@ run --threads=1
 run --threads=
 run --threads 1
 run --log-only --log-only
+run --followers
+run --followers 0
+run --followers 5
+run --followers x
+run --followers 1 --followers 1
+run --followers 1 --followers=2
 run --files --files
 run --files=1
 run --log_only
@@ -79,6 +85,9 @@ crash --why
 crash --workers 0
 crash --workers 17
 crash --workers 1 --workers 1
+crash --followers 0
+crash --followers 5
+crash --followers 1 --followers 1
 recover 1
 recover --workers
 recover --workers 0
@@ -91,6 +100,7 @@ recover --workers 1 --workers 1
 recover --workers=1 --workers 2
 recover --why
 recover --threads
+recover --followers 1
 recover --turns 1
 recover --files --files
 recover -- 1
@@ -138,6 +148,8 @@ gen 1 1 1 --threads
 gen 1 1 1 -- --
 gen 000000000000000000001 1 1
 gen 1 1 1 --log-only
+gen 1 2 3 --followers 1
+gen 1 2 3 --run --followers 1
 ";
 
 // What `clap` refuses where it is given the same six commands, each option once at most, the three numbers of `gen` as
