@@ -47,12 +47,12 @@ pub record AreAnyStops (crash : Crash) : Type 0 where
   pub data_device : IsStoppedAsAsked crash.options.stop_data crash.data_device
   pub armed_first : AreArmedFirst crash.log_device crash.data_device
 
--- Prints: where the sink tells, it took the report of one history, of what is left of the script, of the marks, and of
--- what was read.
+-- Prints: where the sink tells, it took the report of one history, of what is left of the script, of the marks, of what
+-- each follower came to, and of what was read.
 pub record IsPrinted (crash : Crash) (account : Account) : Type 0 where
   pub taken : IfSome crash.taken (λ before. crash.taken_now ≡ Some (before ++ account.printed))
   pub report : account.printed ≡ report_text (run_start account.run) (entries_of account.run) account.left (marks_of account.run)
-      (Some (account.reading.end, account.reading.pages))
+      account.follows (Some (account.reading.end, account.reading.pages))
   pub left_is : IsLeft account.script (entries_of account.run) account.left
 
 -- The device was crashed once, with the pick of the words, and has kept one of the images that it had just before;

@@ -18,6 +18,7 @@ use Rattle.model_script.specs.declared.script.ScriptLine.{ScriptLine}
 use Rattle.model_store.specs.{HasOldCopies, IsReading, IsUnused}
 use Rattle.model_store.specs.Reading.{Reading}
 use Rattle.model_report.specs.declared.entry.Entry.{Entry}
+use Rattle.model_report.specs.declared.entry.Followed.{Followed}
 use Rattle.model_report.specs.declared.entry.State.TheVariants.{Lost, Flushed}
 use Rattle.model_theorem.specs.Opening.{HeldOlder}
 use Rattle.model_theorem.specs.Values.{CrashOptions, Device, Crash, Opened, Ran, Account, entries_of, run_start, marks_of}
@@ -170,19 +171,21 @@ failed_device found bytes writes reads limit passed faults = record {
 }
 
 -- the text that the account has to print
-abbrev pub report_of : Option Ran → List (ℕ × ℕ) → Reading → List ℕ
-report_of run left reading =
-    report_text (run_start run) (entries_of run) left (marks_of run) (Some (reading.end, reading.pages))
+abbrev pub report_of : Option Ran → List (ℕ × ℕ) → List Followed → Reading → List ℕ
+report_of run left follows reading =
+    report_text (run_start run) (entries_of run) left (marks_of run) follows (Some (reading.end, reading.pages))
 
--- an account of a script, a run and what is left of the script, where this is read afterwards
-abbrev pub account_of : List ℕ → List ScriptLine → Option Ran → List (ℕ × ℕ) → Reading → Account
-account_of text script run left reading = record {
+-- an account of a script, a run, what is left of the script and what is told of followers, where this is read
+-- afterwards
+abbrev pub account_of : List ℕ → List ScriptLine → Option Ran → List (ℕ × ℕ) → List Followed → Reading → Account
+account_of text script run left follows reading = record {
   text = text;
   script = script;
   run = run;
   left = left;
+  follows = follows;
   reading = reading;
-  printed = report_of run left reading;
+  printed = report_of run left follows reading;
 }
 
 -- a call with these options on a source that has this text left, on these devices, that prints what the account says
@@ -236,7 +239,7 @@ lost_run = record {
 }
 
 abbrev pub lost_account : Reading → Account
-lost_account reading = account_of text_of_two two_lines (Some lost_run) ((1, 1) ∷ []) reading
+lost_account reading = account_of text_of_two two_lines (Some lost_run) ((1, 1) ∷ []) [] reading
 
 abbrev pub lost_call : (found log : List ℕ) → List Write → (reads data_bytes : List ℕ) → Reading → Crash
 lost_call found log writes reads data_bytes reading =
@@ -244,7 +247,7 @@ lost_call found log writes reads data_bytes reading =
 
 -- Opening was stopped at the log device's first call, as the words ask.
 abbrev pub stopped_account : Reading → Account
-stopped_account reading = account_of text_of_one (line_of_value 7 ∷ []) None ((1, 1) ∷ []) reading
+stopped_account reading = account_of text_of_one (line_of_value 7 ∷ []) None ((1, 1) ∷ []) [] reading
 
 abbrev pub stopped_call : List ℕ → List ℕ → Reading → Crash
 stopped_call log data_bytes reading =
@@ -253,7 +256,7 @@ stopped_call log data_bytes reading =
 
 -- The script is empty.
 abbrev pub empty_account : Opened → Reading → Account
-empty_account opened reading = account_of [] [] (Some (empty_run (start_after opened.end) reading.ckpt)) [] reading
+empty_account opened reading = account_of [] [] (Some (empty_run (start_after opened.end) reading.ckpt)) [] [] reading
 
 abbrev pub empty_call : (found log data_bytes : List ℕ) → Opened → Reading → Crash
 empty_call found log data_bytes opened reading =

@@ -7,6 +7,7 @@ use Rattle.model_page.specs.declared.content.Content.{Content}
 use Rattle.model_store.specs.Reading.{Reading}
 use Rattle.model_script.specs.declared.script.ScriptLine.{ScriptLine}
 use Rattle.model_report.specs.declared.entry.Entry.{Entry}
+use Rattle.model_report.specs.declared.entry.Followed.{Followed}
 use Rattle.model_report.specs.declared.entry.Marks.{Marks}
 
 -- SEEN FROM OUTSIDE.
@@ -90,12 +91,14 @@ pub record RunResult : Type 0 where
   pub data_disk : Disk
 
 -- An account of a call: the text that was read and the script that it is; the run, if opening wasn't stopped; for each
--- user that has lines without an entry, how many; what was read off the devices after the crash; and what was printed.
+-- user that has lines without an entry, how many; what is told of each follower, none where opening was stopped; what
+-- was read off the devices after the crash; and what was printed.
 pub record Account : Type 0 where
   pub text : List ℕ
   pub script : List ScriptLine
   pub run : Option Ran
   pub left : List (ℕ × ℕ)
+  pub follows : List Followed
   pub reading : Reading
   pub printed : List ℕ
 
