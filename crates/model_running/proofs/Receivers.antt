@@ -29,16 +29,8 @@ use Rattle.model_running.proofs.LogCalls.{told_before}
 use Rattle.model_running.proofs.ReadKeeps.{groups_later, LogGrows}
 use Rattle.model_running.proofs.ReadStays.{IsFilled, ReaderIsFilled, reserved, same_log, texts_of_log}
 use Rattle.model_running.proofs.ReadTurns.{follows}
-use Rattle.model_running.specs.ReadHalf.{FollowerAt, FollowerHas, groups_upto, HasByKind, ReaderHas}
+use Rattle.model_running.specs.ReadHalf.{FollowerAt, FollowerHas, groups_upto, handed, handed_at, HasByKind, ReaderHas}
 use Rattle.model_running.specs.RunningStore.{BothHalves, IsRunning}
-
--- what a follower hands on as its next Op is answered
-abbrev pub handed_at : ReaderState → ReaderStep → List Given
-handed_at r reader_step.GiveDevice = placed_at r.at r.texts
-handed_at r _ = []
-
-abbrev pub handed : ReaderState → List Given
-handed r = cond r.checks [] (handed_at r r.step)
 
 module _ (D : LogSide) (L : LogLaws D) (E : DataSide) (EL : DataLaws E) (c : Setup) (spare : ℕ) (m : SharedWords)
     (g : LogGhost) (h : PageGhost) (ls : ℕ → List Listed) (p : D.Part) (d : E.Part) (actors : List Actor) (seat : ℕ)
@@ -164,7 +156,7 @@ module _ (D : LogSide) (L : LogLaws D) (E : DataSide) (EL : DataLaws E) (c : Set
   who_at : get_elem? actors seat ≡ some who
   who_at = filled_at D L E EL c spare old new seat answer step before t
 
-  told_then : D.Tells old.log_part
+  pub told_then : D.Tells old.log_part
   told_then = told_before D L E EL c spare before.shared before.log_ghost before.page_ghost old.lists old.log_part
       old.data_part actors seat both t.code new.log_part told who who_at
       (served_filled D L E EL c spare old new seat answer step before t)

@@ -19,7 +19,7 @@ user_at (x ∷ xs) zero u at = ap maybe.some (ap actor.User (maybe.some-injectiv
 user_at (x ∷ xs) (suc i) u at = user_at xs i u at
 
 -- no seat was joined
-abbrev NoneJoined : List Actor → Type 0
+abbrev pub NoneJoined : List Actor → Type 0
 NoneJoined actors = (seat : ℕ) (es : List Entry) → get_elem? actors seat ≡ maybe.some (actor.Joined es) → es ≡ []
 
 after_users : (users : List UserState) (others : List Actor) → NoneJoined others → NoneJoined (map actor.User users ++ others)
@@ -86,7 +86,7 @@ at_after [] others i = ap (get_elem? others) (let z : 0 + i ≡ i = omega arith 
 at_after (u ∷ users) others i = ap (get_elem? (actor.User u ∷ (map actor.User users ++ others))) (let z : suc (length users) + i ≡ suc (length users + i) = omega arith in z) ∙ at_after users others i
 
 module _ (c : Setup) (actors : List Actor) (seated : AreSeated c actors) where
-  none_joined : NoneJoined actors
+  pub none_joined : NoneJoined actors
   none_joined = subst NoneJoined (sym seated.are) (after_users seated.users (actor.Writer seated.writer ∷ actor.Flusher seated.flusher ∷ seated.others) two)
     where
       two : NoneJoined (actor.Writer seated.writer ∷ actor.Flusher seated.flusher ∷ seated.others)

@@ -4,7 +4,7 @@ use Rattle.std.specs.Prelude.{Bool, List, [], cond, drop, false, length, nat_le,
 use lib.ListN.{get_elem?}
 use mathlib.Core.Option.{some}
 use Rattle.model_base.specs.declared.limits.TheConstants.{BLOCK_SIZE, MAX_GROUP}
-use Rattle.model_core.specs.{Actor, archives, block_end, CheckpointerState, end_of, Entry, floor, Given, IsBound, IsText, lsn, next_piece, read_to, ReaderState, SharedWords, stream}
+use Rattle.model_core.specs.{Actor, archives, block_end, CheckpointerState, end_of, Entry, floor, Given, IsBound, IsText, lsn, next_piece, placed_at, read_to, ReaderState, SharedWords, stream}
 use Rattle.model_core.specs.LogSide.{LogSide}
 use Rattle.model_core.specs.Setup.{Setup}
 use Rattle.model_core.specs.Actors as actor
@@ -20,6 +20,14 @@ given_of e = record { start = lsn e.start; end = lsn (end_of e); text = e.bytes 
 abbrev pub groups_upto : ℕ → List Entry → List Given
 groups_upto x [] = []
 groups_upto x (e ∷ es) = cond (nat_le (end_of e) x) (given_of e ∷ groups_upto x es) (groups_upto x es)
+
+-- what a follower hands on as its next Op is answered
+abbrev pub handed_at : ReaderState → ReaderStep → List Given
+handed_at r reader_step.GiveDevice = placed_at r.at r.texts
+handed_at r _ = []
+
+abbrev pub handed : ReaderState → List Given
+handed r = cond r.checks [] (handed_at r r.step)
 
 module _ (c : Setup) (m : SharedWords) (log : List Entry) where
   -- a place between groups up to which the log is flushed

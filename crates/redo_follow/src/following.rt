@@ -77,6 +77,20 @@ impl<R: Receiver> Follower<R> {
         &mut self.block
     }
 
+    /// Its number.
+    pub fn number(&self) -> u32
+        ensures { result ≡ self.now.state.number }
+    {
+        self.number
+    }
+
+    /// The lsn up to which it has handed groups on.
+    pub fn place(&self) -> u64
+        ensures { result ≡ self.now.state.place }
+    {
+        self.place
+    }
+
     /// Who takes the groups.
     pub fn receiver(&self) -> &R
         ensures { result.now ≡ self.now.receiver }
@@ -228,6 +242,7 @@ impl<R: Receiver> Follower<R> {
         requires small { FollowerFits self.old.state answer }
         ensures state { TookAnswer R.stands_for self.old answer self.new }
         ensures step { result ≡ step_of (actor.Reader self.old.state) answer }
+        ensures some { 0 < self.old.state.number }
     {
         if !self.checks && self.step == ReaderStep::GiveDevice {
             self.follows();
