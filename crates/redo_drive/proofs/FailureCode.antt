@@ -1,13 +1,12 @@
 -- The code in FAILED has 32 bits.
 use Rattle.std.proofs.Common.{List, ap, arith, slice_index, ℕ, ⊎_elim, ◌<◌, ◌^◌, ◌≡◌}
 use native.Mathlib.Decide.{dec_le}
-use Rattle.model_core.specs.{index}
+use Rattle.model_core.specs.{Actor, index}
 use Rattle.model_core.specs.declared.words.Word.TheVariants as word
 use Rattle.redo_disk.specs.Seen.{Seen}
 use Rattle.redo_drive.proofs.Devices.{code_is_small}
 use Rattle.redo_drive.specs.Playing.{RunOf}
 use Rattle.redo_drive.specs.Running.{RunsOn}
-use Rattle.redo_drive.specs.declared.actor.Actor.{Actor}
 use Rattle.redo_drive.specs.declared.device.Device.TheVariants.{Data, Log}
 use Rattle.redo_drive.specs.declared.parts.Parts.{Parts}
 

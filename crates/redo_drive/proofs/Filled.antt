@@ -1,9 +1,13 @@
--- What a turn puts into an actor: into one that is no reader of the log nothing, and such an actor asks for no read.
-use Rattle.std.proofs.Common.{Bool, [], cond, false, inl, inr, refl, subst, sym, true, ⊎_elim, ◌≡◌, ◌⊎◌}
+-- What a turn puts into an actor, and who asks for no read.
+use Rattle.std.proofs.Common.{Bool, List, None, Option, Some, [], ap, cond, false, inl, inr, refl, subst, sym, true}
+use Rattle.std.proofs.Common.{ℕ, ◌∙◌, ◌≡◌, ◌⊎◌}
 use Rattle.model_core.specs.Actors as model
 use Rattle.model_core.specs.AnswerFits.{AnswerFits}
-use Rattle.model_core.specs.ReaderProgram.{reader_filled}
-use Rattle.model_core.specs.{Advance, advance_op, checkpointer_op, CheckpointerState, cleaner_op, CleanerState, closer_op, CloserState, filled, Filling, Fills, flusher_op, FlusherState, lent, next, ReaderState, step_of, took, user_op, UserState, writer_op, WriterState}
+use Rattle.model_core.specs.ReaderProgram.{reader_filled, reader_fills}
+use Rattle.model_core.specs.{Advance, advance_op, checkpointer_op, CheckpointerState, cleaner_op, CleanerState}
+use Rattle.model_core.specs.{closer_op, CloserState, filled, Filling, flusher_op, FlusherState, Given, lent, next}
+use Rattle.model_core.specs.{old_of, reader_op, ReaderState, step_of, took, user_op, UserState, writer_op}
+use Rattle.model_core.specs.{WriterState}
 use Rattle.model_core.specs.declared.ops.Answer.{Answer}
 use Rattle.model_core.specs.declared.ops.Op.{Op}
 use Rattle.model_core.specs.declared.ops.Op.TheVariants as op
@@ -29,46 +33,116 @@ use Rattle.model_core.specs.declared.words.LinkBuffer.TheVariants as link_buffer
 use Rattle.model_core.specs.declared.words.Word.TheVariants as word
 use Rattle.redo_disk.specs.Seen.{Seen}
 use Rattle.redo_drive.specs.Playing.{IsPlayed, RunOf}
+use Rattle.redo_drive.specs.Receiving.{filling_of, follower_of, handed_by, HasGot, HasTaken, IsSameFollower, MarkFits}
 use Rattle.redo_drive.specs.Turning.{IsServed}
 use Rattle.redo_drive.specs.Views.{view_of}
 use Rattle.redo_drive.specs.declared.actor.Actor.{Actor}
 use Rattle.redo_drive.specs.declared.actor.Actor.TheVariants as own
 use Rattle.redo_drive.specs.declared.parts.Parts.{Parts}
+use Rattle.redo_follow.specs.Handing.{follower_fits, Following}
+use Rattle.redo_follow.specs.Lending.{with_block}
 
-abbrev pub nothing_filled : Filling
-nothing_filled = record { block = []; texts = [] }
+-- WHAT AN ACTOR THAT HAS ITS BLOCK ALREADY LENDS is what it lends once it is filled.
+lent_by : (r : ReaderState) (texts : List (List ℕ)) (s : ReaderStep)
+    → ◌≡◌ {A = model.Lent} (lent (model.Reader (reader_filled r (filling_of (model.Reader r) texts) s)))
+    (model.Room r.block)
+lent_by r texts reader_step.LoadFlushed = refl
+lent_by r texts reader_step.TakeDevice = refl
+lent_by r texts reader_step.GiveBroken = refl
+lent_by r texts reader_step.ReadBlock = refl
+lent_by r texts reader_step.GiveDevice = refl
+lent_by r texts reader_step.StorePlace = refl
+lent_by r texts reader_step.StoreFailed = refl
+lent_by r texts reader_step.GiveFailed = refl
+lent_by r texts reader_step.Failed = refl
 
-pub as_it_was : (a : Actor) → ◌≡◌ {A = model.Actor} (filled (view_of a) nothing_filled) (view_of a)
-as_it_was (own.User u) = refl
-as_it_was (own.Writer s) = refl
-as_it_was (own.Flusher t) = refl
-as_it_was (own.Closer t) = refl
-as_it_was (own.Cleaner v) = refl
-as_it_was (own.Checkpointer t) = refl
+pub lent_filled : (who : model.Actor) (texts : List (List ℕ))
+    → ◌≡◌ {A = model.Lent} (lent (filled who (filling_of who texts))) (lent who)
+lent_filled (model.Reader r) texts = lent_by r texts r.step
+lent_filled (model.User u) texts = refl
+lent_filled (model.Writer s) texts = refl
+lent_filled (model.Flusher t) texts = refl
+lent_filled (model.Closer t) texts = refl
+lent_filled (model.Cleaner v) texts = refl
+lent_filled (model.Checkpointer t) texts = refl
+lent_filled (model.Joined es) texts = refl
 
-pub fills_nothing : (a : Actor) → Fills (view_of a) nothing_filled
-fills_nothing (own.User u) = tt
-fills_nothing (own.Writer s) = tt
-fills_nothing (own.Flusher t) = tt
-fills_nothing (own.Closer t) = tt
-fills_nothing (own.Cleaner v) = tt
-fills_nothing (own.Checkpointer t) = tt
+-- A READ is asked for by a reader at that step.
+read_at : (r : ReaderState) (x : ℕ) → next (model.Reader r) ≡ op.ReadBlock x → r.step ≡ reader_step.ReadBlock
+read_at r x = by r.checks r.step
+  where
+    by : (b : Bool) (s : ReaderStep) → cond b (op.Load word.Failed) (reader_op r s) ≡ op.ReadBlock x
+        → s ≡ reader_step.ReadBlock
+    by true s is = absurd (cc)
+    by false reader_step.LoadFlushed is = absurd (cc)
+    by false reader_step.TakeDevice is = absurd (cc)
+    by false reader_step.GiveBroken is = absurd (cc)
+    by false reader_step.ReadBlock is = refl
+    by false reader_step.GiveDevice is = absurd (cc)
+    by false reader_step.StorePlace is = absurd (cc)
+    by false reader_step.StoreFailed is = absurd (cc)
+    by false reader_step.GiveFailed is = absurd (cc)
+    by false reader_step.Failed is = absurd (cc)
 
--- so what was played for it, with what it lends, and with what it makes of the answer, serves it
-pub serves : {L D : Type 0} (log_seen : L → Seen) (data_seen : D → Seen) (run : RunOf L D) (old new : Parts L D)
-    (a : Actor) (b : model.Actor) (r : Answer) (step : Step)
-    → IsPlayed log_seen data_seen run (next (view_of a)) (lent (view_of a)) old r new
-    → b ≡ took (view_of a) r → step ≡ step_of (view_of a) r
-    → IsServed log_seen data_seen run old (view_of a) step new b
-serves log_seen data_seen run old new a b r step played took_is ends = record {
-  filling = nothing_filled;
-  fills = fills_nothing a;
-  answer = r;
-  played = subst (λ (z : model.Actor). IsPlayed log_seen data_seen run (next (view_of a)) (lent z) old r new)
-      (sym (as_it_was a)) played;
-  took = subst (λ (z : model.Actor). b ≡ took z r) (sym (as_it_was a)) took_is;
-  ends = subst (λ (z : model.Actor). step ≡ step_of z r) (sym (as_it_was a)) ends;
-}
+filled_at : (r : ReaderState) (f : Filling) → r.step ≡ reader_step.ReadBlock
+    → ◌≡◌ {A = model.Actor} (filled (model.Reader r) f) (model.Reader (record r { block = f.block }))
+filled_at r f is = ap (λ (s : ReaderStep). model.Reader (reader_filled r f s)) is
+
+module _ {L D R : Type 0} (log_seen : L → Seen) (data_seen : D → Seen) (stands : R → List Given → Type 0)
+    (run : RunOf L D) (old new : Parts L D) where
+  -- So what was played for an actor, with what it lends, and with what it makes of the answer, serves it.
+  pub serves : (a b : Actor R) (r : Answer) (step : Step)
+      → IsPlayed log_seen data_seen run (next (view_of a)) (lent (view_of a)) old r new → HasTaken stands a r step b
+      → IsServed log_seen data_seen stands run old a step new b
+  serves a b r step played taken = record {
+    filling = filling_of (view_of a) taken.texts;
+    fills = taken.fills;
+    answer = r;
+    played = subst (λ (l : model.Lent). IsPlayed log_seen data_seen run (next (view_of a)) l old r new)
+        (sym (lent_filled (view_of a) taken.texts)) played;
+    took = taken.state;
+    ends = taken.ends;
+    same = taken.same;
+    got = taken.got;
+  }
+
+  same_number : (f : Following R) (bytes : List ℕ) (g : Option (Following R))
+      → IsSameFollower (Some (with_block f bytes)) g → IsSameFollower (Some f) g
+  same_number f bytes None same = same
+  same_number f bytes (Some g) same = same
+
+  same_receiver : (f : Following R) (bytes : List ℕ) (groups : List Given) (g : Option (Following R))
+      → HasGot stands (Some (with_block f bytes)) groups g → HasGot stands (Some f) groups g
+  same_receiver f bytes groups None got = tt
+  same_receiver f bytes groups (Some g) got = got
+
+  -- And so does a read for a follower, which wrote these bytes into its room before it took the answer.
+  pub serves_read : (f : Following R) (bytes : List ℕ) (x : ℕ) (b : Actor R) (r : Answer) (step : Step)
+      → next (model.Reader f.state) ≡ op.ReadBlock x
+      → IsPlayed log_seen data_seen run (next (model.Reader f.state)) (model.Room bytes) old r new
+      → HasTaken stands (own.Follower (with_block f bytes)) r step b
+      → IsServed log_seen data_seen stands run old (own.Follower f) step new b
+  serves_read f bytes x b r step asks played taken =
+      let s : ReaderState = f.state in
+      let w : ReaderState = record s { block = bytes } in
+      let whole : Filling = record { block = bytes; texts = taken.texts } in
+      let is : s.step ≡ reader_step.ReadBlock = read_at s x asks in
+      let mine : ◌≡◌ {A = model.Actor} (filled (model.Reader s) whole) (model.Reader w) = filled_at s whole is in
+      let same : ◌≡◌ {A = model.Actor} (filled (model.Reader w) (filling_of (model.Reader w) taken.texts))
+      (filled (model.Reader s) whole) = filled_at w (filling_of (model.Reader w) taken.texts) is ∙ sym mine in
+      record {
+        filling = whole;
+        fills = subst (reader_fills s whole) (sym is) tt;
+        answer = r;
+        played = subst (λ (l : model.Actor). IsPlayed log_seen data_seen run (next (model.Reader s)) (lent l) old r new)
+            (sym mine) played;
+        took = subst (λ (z : model.Actor). view_of b ≡ took z r) same taken.state;
+        ends = subst (λ (z : model.Actor). step ≡ step_of z r) same taken.ends;
+        same = same_number f bytes (follower_of b) taken.same;
+        got = same_receiver f bytes (handed_by (filled (model.Reader s) whole)) (follower_of b)
+            (subst (λ (z : model.Actor). HasGot stands (Some (with_block f bytes)) (handed_by z) (follower_of b)) same
+            taken.got);
+      }
 
 -- Whatever is put into an actor, it may be given the same answers.
 reader_fits : (r : ReaderState) (f : Filling) (s : ReaderStep) (a : Answer) → AnswerFits (model.Reader r) a
@@ -87,6 +161,27 @@ filled_fits (model.Closer t) f a fits = fits
 filled_fits (model.Cleaner v) f a fits = fits
 filled_fits (model.Checkpointer t) f a fits = fits
 filled_fits (model.Joined es) f a fits = fits
+
+-- Whatever a call wrote into a reader's room, it may be given the same answers.
+pub block_fits : (r : ReaderState) (bytes : List ℕ) (a : Answer) → AnswerFits (model.Reader r) a
+    → AnswerFits (model.Reader (record r { block = bytes })) a
+block_fits r bytes a fits = reader_fits r (record { block = bytes; texts = [] }) reader_step.ReadBlock a fits
+
+mark_by : (r w : ReaderState) (n : ℕ) (s : ReaderStep) → follower_fits r n s → follower_fits w n s
+mark_by r w n reader_step.LoadFlushed fits = fits
+mark_by r w n _ fits = tt
+
+pub block_mark_fits : (r : ReaderState) (bytes : List ℕ) (a : Answer) → MarkFits (model.Reader r) a
+    → MarkFits (model.Reader (record r { block = bytes })) a
+block_mark_fits r bytes a fits = (by r.checks fits.0, fits.1)
+  where
+    w : ReaderState
+    w = record r { block = bytes }
+
+    by : (b : Bool) → cond b (Unit {0}) (follower_fits r (old_of a) r.step)
+        → cond b (Unit {0}) (follower_fits w (old_of a) r.step)
+    by true small = tt
+    by false small = mark_by r w (old_of a) r.step small
 
 -- WHO ASKS FOR NO READ
 abbrev pub IsNoRead : Op → Type 0
@@ -143,11 +238,13 @@ reader_or_no_read (model.Checkpointer t) =
     inr (checking_reads_not t.checks (checkpointer_op t t.step) (checkpointer_reads_not t t.step))
 reader_or_no_read (model.Joined es) = inr tt
 
--- and none of the actors is one
-no_reader : (a : Actor) (r : ReaderState) → ◌≡◌ {A = model.Actor} (view_of a) (model.Reader r) → ⊥
-no_reader (own.User u) r e = absurd (cc)
-no_reader _ r e = absurd (cc)
-
-pub asks_no_read : (a : Actor) → IsNoRead (next (view_of a))
-asks_no_read a =
-    ⊎_elim (λ reader. absurd (no_reader a reader.0 reader.1)) (λ none. none) (reader_or_no_read (view_of a))
+-- and among a run's actors the followers alone
+pub asks_no_read : {R : Type 0} (a : Actor R) → follower_of a ≡ None → IsNoRead (next (view_of a))
+asks_no_read (own.Follower f) none = absurd (cc)
+asks_no_read (own.User u) none = checking_reads_not u.checks (user_op u u.step) (user_reads_not u u.step)
+asks_no_read (own.Writer s) none = checking_reads_not s.checks (writer_op s s.step) (writer_reads_not s s.step)
+asks_no_read (own.Flusher t) none = checking_reads_not t.checks (flusher_op t t.step) (flusher_reads_not t t.step)
+asks_no_read (own.Closer t) none = checking_reads_not t.checks (closer_op t t.step) (closer_reads_not t t.step)
+asks_no_read (own.Cleaner v) none = checking_reads_not v.checks (cleaner_op v v.step) (cleaner_reads_not v v.step)
+asks_no_read (own.Checkpointer t) none =
+    checking_reads_not t.checks (checkpointer_op t t.step) (checkpointer_reads_not t t.step)

@@ -1,28 +1,42 @@
 -- What a run leaves, however its Ops were interleaved, is a run of its script, and, where its devices tell and the store was ready, both hold it; where
 -- all users have ended it is a closed one.
-use Rattle.std.proofs.Common.{Bool, List, None, Option, Some, ap, arith, inl, inr, refl, slice_get, subst, sym, ⊎_elim, ℕ, ◌+◌, ◌<◌, ◌∙◌, ◌≡◌}
-use Rattle.std.specs.Prelude.{IfSome}
+use Rattle.std.proofs.Common.{Bool, List, None, Option, Some, [], ap, arith, cond, drop, false, inl, inr, length}
+use Rattle.std.proofs.Common.{length-append, map, refl, slice_get, subst, suc, sym, take, true, zero, ⊎_elim, ℕ}
+use Rattle.std.proofs.Common.{◌++◌, ◌+◌, ◌-◌, ◌<◌, ◌∙◌, ◌∷◌, ◌≡◌, ◌≢◌, ◌≤◌}
+use Rattle.std.proofs.lemmas.Bool.{ne_eqb}
+use Rattle.std.proofs.lemmas.Bool.Decides.{nat_tests}
+use Rattle.std.proofs.lemmas.List.{take-append-drop, take-map, take_at}
+use Rattle.std.specs.List.{AllZip}
+use Rattle.std.specs.Prelude.{IfSome, nat_le}
 use lib.ListN.{get_elem?}
 use mathlib.Core.Option.{some}
 use native.Mathlib.Decide.{dec_le}
 use Rattle.model_base.specs.declared.shape.Shape.{Shape}
 use Rattle.model_core.specs.DataSide.{DataSide}
 use Rattle.model_core.specs.LogSide.{LogSide}
-use Rattle.model_core.specs.{lsn}
+use Rattle.model_core.proofs.Lsns.{lsn_le, lsn_less}
+use Rattle.model_core.specs.{archives, end_of, Given, lsn, ReaderState, SharedWords, UserState}
+use Rattle.model_core.specs.Actors as model
+use Rattle.model_core.specs.Groups as core
 use Rattle.model_core.specs.Hands.{HoldsNothing}
 use Rattle.model_device.specs.{synced}
 use Rattle.model_device.specs.Disk.{Disk}
 use Rattle.model_running.proofs.ClosedStore.{held_run}
-use Rattle.model_running.proofs.Finished.{finished_losses, finished_run, marks_same}
+use Rattle.model_running.proofs.Finished.{finished_groups, finished_losses, finished_run, marks_same}
+use Rattle.model_running.proofs.Places.{bound_spans, history_spans}
+use Rattle.model_running.specs.History.{AreWholesOf, IsWholeOf, log_span, log_spans}
+use Rattle.model_running.specs.ReadHalf.{FollowerHas, groups_upto, HasByKind, ReaderHas, ReadHalf}
+use Rattle.model_running.specs.ReadHalf as read_half
+use Rattle.model_logcore.specs.{LogGhost}
 use Rattle.model_running.proofs.FinishedPages.{finished_pages}
 use Rattle.model_running.proofs.FinishedStore.{stands_for_run}
 use Rattle.model_running.proofs.Seated.{seated_end, seated_seats}
 use Rattle.model_running.specs.{CausesAreFailures, DataTells, HasFailedPart, HasItsPages, HaveEnded, IsOfScript, LeavesOpen, LogTells, run_of, word_marks}
 use Rattle.model_report.proofs.Groups.{have-lines}
-use Rattle.model_report.specs.{IsLeft, wholes_of}
+use Rattle.model_report.specs.{entry_spans, IsLeft, wholes_of}
 use Rattle.model_report.specs.declared.entry.Entry.{Entry}
 use Rattle.model_report.specs.declared.entry.Marks.{Marks}
-use Rattle.model_log.specs.{start_after}
+use Rattle.model_log.specs.{IsBoundary, Span, span_of, start_after}
 use Rattle.model_log.specs.declared.group.Whole.{Whole}
 use Rattle.model_page.specs.declared.content.Content.{Content}
 use Rattle.model_theorem.proofs.Closing.{few-blocks, some-blocks}
@@ -47,14 +61,23 @@ use Rattle.redo_drive.proofs.RestMarks.{ckpt_is_newest, write_is_written}
 use Rattle.redo_drive.specs.LogPartSide as log_part
 use Rattle.redo_drive.proofs.SyncedParts.{data_is_synced, log_tells_synced}
 use Rattle.redo_drive.specs.Beginning.{HaveBegun}
-use Rattle.redo_drive.specs.Startable.{HasReading, MayBegin}
+use Rattle.redo_drive.specs.Startable.{AreNewFollowers, HasReading, MayBegin}
 use Rattle.redo_drive.specs.Calls.{CallsOn}
 use Rattle.redo_drive.specs.Drive.{ComesToRun, HasMemory, HasMetError, HoldsRun, IsOwedSynced, Owes, ReadsToMarks, closed_run, failed_in}
+use Rattle.redo_drive.specs.Followed.{followers_in, given_of, given_upto, HasFollowed, HasSameNumber, HaveFollowed}
 use Rattle.redo_drive.specs.Leaving.{LeavesRun}
+use Rattle.redo_drive.specs.Making.{EndsWithFollowers}
 use Rattle.redo_drive.specs.Playing.{RunOf, run_data_side, run_log_side}
+use Rattle.redo_drive.specs.Receiving.{follower_of, IsSameFollower}
+use Rattle.redo_drive.specs.Running.{groups_of}
+use Rattle.redo_drive.specs.Setups.{followers_from, other_actors, page_actors, seated_before, start_actors, users_of}
 use Rattle.redo_drive.specs.Turning.{core_of}
+use Rattle.redo_follow.specs.Handing.{Following, StandsFor}
+use Rattle.redo_drive.proofs.Viewed.{length_views, views_at}
 use Rattle.redo_drive.specs.Views.{view_of, views_of}
 use Rattle.redo_drive.specs.declared.actor.Actor.{Actor}
+use Rattle.redo_drive.specs.declared.actor.Actor.TheVariants as own
+use Rattle.redo_drive.specs.declared.seating.TheConstants.{FIRST_FOLLOWER}
 use Rattle.redo_drive.specs.declared.drive.Driven.{Driven}
 use Rattle.redo_drive.specs.declared.drive.RunEnd.TheVariants as ended
 use Rattle.redo_store.specs.declared.opened.Opened.{Opened}
@@ -73,8 +96,150 @@ failure_counts : (fault : DevError) (failed other : Option DevError) → failed 
 failure_counts Failed failed other is memory = let n : failures failed ≡ 1 = ap failures is in omega arith
 failure_counts NoMemory failed other is memory = memory is
 
-module _ {L D : Type 0} (log_seen : L → Seen) (log_gives : L → Call → L → Type 0) (data_seen : D → Seen) (data_gives : D → Call → D → Type 0) (opened : Opened L D) (script : List ScriptLine) (log_only : Bool) (actors : List Actor) (driven : Driven L D)
-    (by : LeavesRun log_seen log_gives data_seen data_gives opened script log_only actors driven.closed) where
+-- a group that a run tells of is the log's, at its place
+module _ (x : ℕ) where
+  same_test : (end : ℕ) → nat_le end x ≡ nat_le (lsn end) (lsn x)
+  same_test end = elim (dec_le end x) [
+    | yes low ↦ (let a : nat_le end x ≡ true = grind (arith, nat_tests) in
+        let under = lsn_le end x low in
+        let b : nat_le (lsn end) (lsn x) ≡ true = grind (arith, nat_tests) in a ∙ sym b)
+    | no high ↦ (let a : nat_le end x ≡ false = grind (arith, nat_tests) in
+        let over = lsn_less x end (omega arith) in
+        let b : nat_le (lsn end) (lsn x) ≡ false = grind (arith, nat_tests) in a ∙ sym b)
+  ]
+
+  same_given : (e : core.Entry) (whole : Whole) → IsWholeOf e whole
+      → ◌≡◌ {A = Given} (read_half.given_of e) (given_of whole)
+  same_given e whole is =
+      let place : ◌≡◌ {A = Span} (span_of whole) (log_span e) = is.place in
+      let start : whole.start ≡ lsn e.start = ap (λ (z : Span). z.start) place in
+      let end : whole.end ≡ lsn (end_of e) = ap (λ (z : Span). z.end) place in
+      let text = is.text in
+      λ i. record { start = sym start i; end = sym end i; text = sym text i }
+
+  groups_are : (log : List core.Entry) (wholes : List Whole) → AreWholesOf log wholes
+      → ◌≡◌ {A = List Given} (groups_upto x log) (given_upto (lsn x) wholes)
+  groups_are [] [] are = refl
+  groups_are [] (whole ∷ wholes) are = absurd are
+  groups_are (e ∷ es) [] are = absurd are
+  groups_are (e ∷ es) (whole ∷ wholes) are =
+      let rest = groups_are es wholes are.1 in
+      let end : lsn (end_of e) ≡ whole.end = sym (ap (λ (z : Span). z.end) are.0.place) in
+      let test : nat_le (end_of e) x ≡ nat_le whole.end (lsn x) =
+      same_test (end_of e) ∙ ap (λ (n : ℕ). nat_le n (lsn x)) end in
+      let mine : Given = read_half.given_of e in
+      let low : Bool = nat_le whole.end (lsn x) in
+      ap (λ (b : Bool). let l : List Given = cond b (mine ∷ groups_upto x es) (groups_upto x es) in l) test
+      ∙ ap (λ (g : Given). let l : List Given = cond low (g ∷ groups_upto x es) (groups_upto x es) in l)
+      (same_given e whole are.0)
+      ∙ ap (λ (gs : List Given). let l : List Given = cond low (given_of whole ∷ gs) gs in l) rest
+
+-- THE FOLLOWERS AMONG SOME ACTORS, pair by pair.
+module _ {R : Type 0} (P : Following R → Following R → Type 0) where
+  Pair : Option (Following R) → Option (Following R) → Type 0
+  Pair None None = Unit {0}
+  Pair (Some f) (Some g) = P f g
+  Pair _ _ = ⊥
+
+  first_pair : (a b : Actor R) (xs ys : List (Actor R)) → Pair (follower_of a) (follower_of b)
+      → AllZip P (followers_in xs) (followers_in ys) → AllZip P (followers_in (a ∷ xs)) (followers_in (b ∷ ys))
+  unfolding Pair
+  first_pair (own.Follower f) (own.Follower g) xs ys one rest = (one, rest)
+  first_pair (own.Follower f) _ xs ys one rest = absurd one
+  first_pair (own.User u) (own.Follower g) xs ys one rest = absurd one
+  first_pair (own.Writer s) (own.Follower g) xs ys one rest = absurd one
+  first_pair (own.Flusher t) (own.Follower g) xs ys one rest = absurd one
+  first_pair (own.Closer t) (own.Follower g) xs ys one rest = absurd one
+  first_pair (own.Cleaner v) (own.Follower g) xs ys one rest = absurd one
+  first_pair (own.Checkpointer t) (own.Follower g) xs ys one rest = absurd one
+  first_pair _ _ xs ys one rest = rest
+
+  all_pairs : (xs ys : List (Actor R)) → length ys ≡ length xs
+      → ((i : ℕ) (a b : Actor R) → get_elem? xs i ≡ some a → get_elem? ys i ≡ some b
+      → Pair (follower_of a) (follower_of b)) → AllZip P (followers_in xs) (followers_in ys)
+  all_pairs [] [] long each = tt
+  all_pairs [] (y ∷ ys) long each = absurd (omega arith)
+  all_pairs (x ∷ xs) [] long each = absurd (omega arith)
+  all_pairs (x ∷ xs) (y ∷ ys) long each = first_pair x y xs ys (each 0 x y refl refl)
+      (all_pairs xs ys (omega arith) (λ i a b at there. each (suc i) a b at there))
+
+followers_both : {R : Type 0} (xs ys : List (Actor R))
+    → ◌≡◌ {A = List (Following R)} (followers_in (xs ++ ys)) (followers_in xs ++ followers_in ys)
+followers_both [] ys = refl
+followers_both (own.Follower f ∷ xs) ys = ap (λ l. f ∷ l) (followers_both xs ys)
+followers_both (own.User u ∷ xs) ys = followers_both xs ys
+followers_both (own.Writer s ∷ xs) ys = followers_both xs ys
+followers_both (own.Flusher t ∷ xs) ys = followers_both xs ys
+followers_both (own.Closer t ∷ xs) ys = followers_both xs ys
+followers_both (own.Cleaner v ∷ xs) ys = followers_both xs ys
+followers_both (own.Checkpointer t ∷ xs) ys = followers_both xs ys
+
+all_followers : {R : Type 0} (fs : List (Following R))
+    → ◌≡◌ {A = List (Following R)} (followers_in (map own.Follower fs)) fs
+all_followers [] = refl
+all_followers (f ∷ fs) = ap (λ l. f ∷ l) (all_followers fs)
+
+-- no follower is among these
+abbrev NoReaders : List model.Actor → Type 0
+NoReaders [] = Unit {0}
+NoReaders (model.Reader r ∷ actors) = ⊥
+NoReaders (_ ∷ actors) = NoReaders actors
+
+none_among : {R : Type 0} (front : List (Actor R)) → NoReaders (views_of front)
+    → ◌≡◌ {A = List (Following R)} (followers_in front) []
+none_among [] none = refl
+none_among (own.Follower f ∷ xs) none = absurd none
+none_among (own.User u ∷ xs) none = none_among xs none
+none_among (own.Writer s ∷ xs) none = none_among xs none
+none_among (own.Flusher t ∷ xs) none = none_among xs none
+none_among (own.Closer t ∷ xs) none = none_among xs none
+none_among (own.Cleaner v ∷ xs) none = none_among xs none
+none_among (own.Checkpointer t ∷ xs) none = none_among xs none
+
+after_users : (users : List UserState) (others : List model.Actor) → NoReaders others
+    → NoReaders (map model.User users ++ others)
+after_users [] others none = none
+after_users (u ∷ users) others none = after_users users others none
+
+no_others : (shape : Shape) (start : ℕ) (b : Bool) (followers : ℕ) → NoReaders (page_actors shape start b followers)
+no_others shape start true followers = tt
+no_others shape start false followers = tt
+
+long_followers : (start number n : ℕ) → length (followers_from start number n) ≡ n
+long_followers start number zero = refl
+long_followers start number (suc n) = ap suc (long_followers start (number + 1) n)
+
+-- the followers among the actors of a run's start are those that it was given
+starts_with : {R : Type 0} (shape : Shape) (script : List ScriptLine) (start : ℕ) (log_only : Bool)
+    (fs : List (Following R)) (starts : List (Actor R))
+    → views_of starts ≡ start_actors shape script start log_only (length fs) → EndsWithFollowers starts fs
+    → ◌≡◌ {A = List (Following R)} (followers_in starts) fs
+starts_with {R} shape script start log_only fs starts are ends =
+    let front : List model.Actor = seated_before shape script start log_only (length fs) in
+    let back : List model.Actor = followers_from start FIRST_FOLLOWER (length fs) in
+    let k : ℕ = length starts - length fs in
+    let joined : ◌≡◌ {A = List model.Actor} (views_of starts) (front ++ back) =
+    are in
+    let long : length (views_of starts) ≡ length (front ++ back) = ap length joined in
+    let both = length-append front back in
+    let same = length_views starts in
+    let few = long_followers start FIRST_FOLLOWER (length fs) in
+    let here : length front ≡ k = omega arith in
+    let views : ◌≡◌ {A = List model.Actor} (views_of (take k starts)) front =
+    sym (take-map view_of k starts) ∙ ap (take k) joined ∙ take_at front back k here in
+    let none : NoReaders front = after_users (users_of shape log_only script)
+    (other_actors shape start log_only (length fs)) (no_others shape start log_only (length fs)) in
+    let nothing : ◌≡◌ {A = List (Following R)} (followers_in (take k starts)) [] =
+    none_among (take k starts) (subst NoReaders (sym views) none) in
+    ap followers_in (sym (take-append-drop k starts)) ∙ followers_both (take k starts) (drop k starts)
+    ∙ ap (λ (l : List (Following R)). l ++ followers_in (drop k starts)) nothing
+    ∙ ap followers_in ends ∙ all_followers fs
+
+module _ {L D R : Type 0} (log_seen : L → Seen) (log_gives : L → Call → L → Type 0) (data_seen : D → Seen)
+    (data_gives : D → Call → D → Type 0) (stands : R → List Given → Type 0) (opened : Opened L D)
+    (script : List ScriptLine) (log_only : Bool) (followers : ℕ) (starts actors : List (Actor R)) (driven : Driven L D)
+    (by : LeavesRun log_seen log_gives data_seen data_gives stands opened script log_only followers starts actors
+    driven.closed) where
   abbrev run : RunOf L D
   run = by.run
 
@@ -88,21 +253,21 @@ module _ {L D : Type 0} (log_seen : L → Seen) (log_gives : L → Call → L �
   abbrev ran : theorem.Ran
   ran = closed_run opened.start driven.closed
 
-  ran_is : ◌≡◌ {A = theorem.Ran} (run_of run.setup by.runs.running.log_ghost by.runs.running.shared) ran
+  ran_is : ◌≡◌ {A = theorem.Ran} (run_of run.setup by.from.runs.running.log_ghost by.from.runs.running.shared) ran
   ran_is =
       let start : lsn run.setup.base ≡ opened.start = by.is_run.start in
-      let marks : ◌≡◌ {A = Marks} (word_marks by.runs.running.shared) driven.closed.marks = sym (by.marks ∙ marks_same by.last.words.words by.runs.running.shared by.runs.running.flat_is) in
+      let marks : ◌≡◌ {A = Marks} (word_marks by.from.runs.running.shared) driven.closed.marks = sym (by.marks ∙ marks_same by.last.words.words by.from.runs.running.shared by.from.runs.running.flat_is) in
       let history = by.history in
       cc
 
-  left_of_run : (left : List (ℕ × ℕ)) → IsLeft script driven.closed.history left → IsLeft script (run_of run.setup by.runs.running.log_ghost by.runs.running.shared).entries left
+  left_of_run : (left : List (ℕ × ℕ)) → IsLeft script driven.closed.history left → IsLeft script (run_of run.setup by.from.runs.running.log_ghost by.from.runs.running.shared).entries left
   left_of_run left is = subst (λ (z : List Entry). IsLeft script z left) by.history is
 
   is_run : (end : ℕ) → opened.start ≡ start_after end → IsRun script (record { shape = opened.shape; pages = opened.pages; end = end }) ran
   is_run end start =
       let was : theorem.Opened = record { shape = opened.shape; pages = opened.pages; end = end } in
       subst (IsRun script was) ran_is
-      (finished_run logs run.setup 0 by.runs.running.shared by.runs.running.log_ghost by.last.log (views_of actors) by.runs.running.both.logged script was by.is_run.of_script (by.is_run.start ∙ start))
+      (finished_run logs run.setup 0 by.from.runs.running.shared by.from.runs.running.log_ghost by.last.log (views_of actors) by.from.runs.running.both.logged script was by.is_run.of_script (by.is_run.start ∙ start))
 
   causes : HasMemory driven.closed → CausesAreFailures logs datas (failed_in driven.closed) by.last.log by.last.store
   causes memory = record {
@@ -114,9 +279,9 @@ module _ {L D : Type 0} (log_seen : L → Seen) (log_gives : L → Call → L �
   loses left ended memory left_is =
       let cause = causes memory in
       subst (λ (z : theorem.Ran). LosesOnlyByFailure (failed_in driven.closed) (Some z) left) ran_is
-      (finished_losses logs run.setup 0 by.runs.running.shared by.runs.running.log_ghost by.last.log (views_of actors) by.runs.running.both.logged script opened.shape (failed_in driven.closed) left
-      (seated_end run.setup (views_of actors) by.runs.seated ended) by.is_run.of_script (seated_seats run.setup (views_of actors) by.runs.seated script opened.shape by.is_run.of_script)
-      (λ failed. ⊎_elim (λ c. cause.log by.runs.running.shared.failed c) (λ c. cause.data_part by.runs.running.shared.failed c) (by.runs.running.both.cause failed)) (left_of_run left left_is))
+      (finished_losses logs run.setup 0 by.from.runs.running.shared by.from.runs.running.log_ghost by.last.log (views_of actors) by.from.runs.running.both.logged script opened.shape (failed_in driven.closed) left
+      (seated_end run.setup (views_of actors) by.from.runs.seated ended) by.is_run.of_script (seated_seats run.setup (views_of actors) by.from.runs.seated script opened.shape by.is_run.of_script)
+      (λ failed. ⊎_elim (λ c. cause.log by.from.runs.running.shared.failed c) (λ c. cause.data_part by.from.runs.running.shared.failed c) (by.from.runs.running.both.cause failed)) (left_of_run left left_is))
 
   -- the devices came here by calls, the log's and the data's
   log_calls : MayBegin opened script log_only → CallsOn log_gives opened.log.dev None driven.closed.log.dev driven.closed.log.failed
@@ -177,8 +342,8 @@ module _ {L D : Type 0} (log_seen : L → Seen) (log_gives : L → Call → L �
     data_synced : HaveBegun log_seen data_seen run → driven.closed.store.failed ≡ None → (disk : Disk) → (data_seen driven.closed.store.dev).tells ≡ Some disk → DataTells datas (opened_as reading) by.last.store (synced disk)
     data_synced begun live disk told =
         subst (DataTells datas (opened_as reading) by.last.store)
-        (data_is_synced data_seen (data_seen run.first_data.dev).faults run.shape (data_part.HasBegun data_seen run.setup.opened run.first_data) by.runs.running.page_ghost.kept_page by.runs.running.page_ghost.unfinished by.last.store disk
-        by.runs.running.both.paged.paged.stored begun.data_part (ap (λ (z : store.Part D). (data_seen z.dev).tells) (sym by.data_part) ∙ told) (ap (λ (z : store.Part D). z.failed) (sym by.data_part) ∙ live))
+        (data_is_synced data_seen (data_seen run.first_data.dev).faults run.shape (data_part.HasBegun data_seen run.setup.opened run.first_data) by.from.runs.running.page_ghost.kept_page by.from.runs.running.page_ghost.unfinished by.last.store disk
+        by.from.runs.running.both.paged.paged.stored begun.data_part (ap (λ (z : store.Part D). (data_seen z.dev).tells) (sym by.data_part) ∙ told) (ap (λ (z : store.Part D). z.failed) (sym by.data_part) ∙ live))
         (data_device begun disk told)
 
     -- so both devices hold the run, as the parts tell of them
@@ -187,8 +352,8 @@ module _ {L D : Type 0} (log_seen : L → Seen) (log_gives : L → Call → L �
         → IsHeld (record { script = script; opened = opened_as reading; number = reading.number + numbers_taken reading.format; run = ran; log_disk = log_now; data_disk = data_now })
     unfolding stands_for_run
     held log_disk data_disk log_now data_now start log_tells_now data_tells_now =
-        let core = core_of log_seen data_seen run by.last actors in
-        let running = by.runs.running in
+        let core = core_of log_seen data_seen run by.last (views_of actors) in
+        let running = by.from.runs.running in
         let of_script = subst (IsOfScript run.setup script) as_read.shape by.is_run.of_script in
         let behind : lsn run.setup.base ≡ start_after reading.end = by.is_run.start ∙ as_read.start in
         let given = start-given reading script log_disk data_disk start in
@@ -222,25 +387,25 @@ module _ {L D : Type 0} (log_seen : L → Seen) (log_gives : L → Call → L �
       held may reading as_read log_disk data_disk log_now data_now start (log_device may reading as_read begun log_now log_told) (data_device may reading as_read begun data_now data_told))
 
   -- FAILED is 0 where no part has failed
-  no_code : driven.closed.log.failed ≡ None → driven.closed.store.failed ≡ None → by.runs.running.shared.failed ≡ 0
-  no_code log_live data_live = elim (dec_le 1 by.runs.running.shared.failed) [
+  no_code : driven.closed.log.failed ≡ None → driven.closed.store.failed ≡ None → by.from.runs.running.shared.failed ≡ 0
+  no_code log_live data_live = elim (dec_le 1 by.from.runs.running.shared.failed) [
     | yes positive ↦ ⊎_elim
         (λ c. let is : driven.closed.log.failed ≡ Some c.fault = ap (λ (z : log.Part L). z.failed) by.log ∙ c.failed in
         absurd (cc))
         (λ c. let is : driven.closed.store.failed ≡ Some c.fault = ap (λ (z : store.Part D). z.failed) by.data_part
         ∙ c.failed in absurd (cc))
-        (by.runs.running.both.cause positive)
-    | no zero ↦ omega arith
+        (by.from.runs.running.both.cause positive)
+    | no none ↦ omega arith
   ]
 
   -- where no actor holds anything, what reads give ends at WRITE
   pub reads_to_marks : MayBegin opened script log_only
-      → ((i : ℕ) (a : Actor) → get_elem? actors i ≡ some a → HoldsNothing (view_of a))
+      → ((i : ℕ) (a : model.Actor) → get_elem? (views_of actors) i ≡ some a → HoldsNothing a)
       → ReadsToMarks log_seen data_seen opened script driven.closed
   unfolding stands_for_run
   reads_to_marks may rest log_live data_live reading as_read =
       where_told reading as_read _ (λ log_disk data_disk log_now data_now start begun log_told data_told left is.
-      let R = by.runs.running in
+      let R = by.from.runs.running in
       let part : log.Part L = by.last.log in
       let sound = no_code log_live data_live in
       let live : part.failed ≡ None = ap (λ (z : log.Part L). z.failed) (sym by.log) ∙ log_live in
@@ -257,7 +422,7 @@ module _ {L D : Type 0} (log_seen : L → Seen) (log_gives : L → Call → L �
       (data_synced may reading as_read begun data_live data_now data_told) in
       let of_script = subst (IsOfScript run.setup script) as_read.shape by.is_run.of_script in
       let stands = stands_for_run logs datas run.setup 0 script (opened_as reading)
-      (core_of log_seen data_seen run by.last actors) R of_script (by.is_run.start ∙ as_read.start) in
+      (core_of log_seen data_seen run by.last (views_of actors)) R of_script (by.is_run.start ∙ as_read.start) in
       let wholes : List Whole = wholes_of script reading.shape.space stands.run.entries in
       let shape : ◌≡◌ {A = Shape} part.shape reading.shape = log_shape may reading as_read in
       let here : DiskHolds part.shape (lsn run.setup.base) wholes part.marks part.tails part.failed log_now =
@@ -283,9 +448,9 @@ module _ {L D : Type 0} (log_seen : L → Seen) (log_gives : L → Call → L �
       left fits on_shape (R.both.logged.global.part.holds.all_asked live) is in
       let marks : ◌≡◌ {A = Marks} (word_marks R.shared) driven.closed.marks =
       sym (by.marks ∙ marks_same by.last.words.words R.shared R.flat_is) in (
-        read.0 ∙ write_is_written log_seen data_seen run by.last actors by.runs rest sound
+        read.0 ∙ write_is_written log_seen data_seen run by.last (views_of actors) by.from.runs rest sound
             ∙ ap (λ (z : Marks). z.write) marks,
-        read.1 ∙ ckpt_is_newest log_seen data_seen run by.last actors by.runs rest sound
+        read.1 ∙ ckpt_is_newest log_seen data_seen run by.last (views_of actors) by.from.runs rest sound
             ∙ ap (λ (z : Marks). z.ckpt) marks,
       ))
 
@@ -306,3 +471,103 @@ module _ {L D : Type 0} (log_seen : L → Seen) (log_gives : L → Call → L �
     holds = holds_run may;
     owed_synced = is_owed_synced may ended;
   }
+
+  -- WHAT IT LEAVES OF FOLLOWERS.
+  module _ (fs : List (Following R)) (new : AreNewFollowers opened.start fs)
+      (are : views_of starts ≡ start_actors opened.shape script opened.start log_only (length fs))
+      (ends : EndsWithFollowers starts fs) where
+    these : ◌≡◌ {A = List (Following R)} (followers_in starts) fs
+    these = starts_with opened.shape script opened.start log_only fs starts are ends
+
+    each_pair : (P : Following R → Following R → Type 0)
+        → ((seat : ℕ) (f g : Following R) → get_elem? starts seat ≡ some (own.Follower f)
+        → get_elem? actors seat ≡ some (own.Follower g) → P f g)
+        → AllZip P fs (followers_in actors)
+    unfolding Pair
+    each_pair P each = subst (λ (l : List (Following R)). AllZip P l (followers_in actors)) these
+        (all_pairs P starts actors by.from.count (λ i a b at there. pair i a b at there (by.from.same i a b at there)))
+      where
+        pair : (i : ℕ) (a b : Actor R) → get_elem? starts i ≡ some a → get_elem? actors i ≡ some b
+            → IsSameFollower (follower_of a) (follower_of b) → Pair P (follower_of a) (follower_of b)
+        pair i (own.Follower f) (own.Follower g) at there same = each i f g at there
+        pair i (own.Follower f) (own.User u) at there same = absurd same
+        pair i (own.Follower f) (own.Writer s) at there same = absurd same
+        pair i (own.Follower f) (own.Flusher t) at there same = absurd same
+        pair i (own.Follower f) (own.Closer t) at there same = absurd same
+        pair i (own.Follower f) (own.Cleaner v) at there same = absurd same
+        pair i (own.Follower f) (own.Checkpointer t) at there same = absurd same
+        pair i (own.User u) (own.Follower g) at there same = absurd same
+        pair i (own.Writer s) (own.Follower g) at there same = absurd same
+        pair i (own.Flusher t) (own.Follower g) at there same = absurd same
+        pair i (own.Closer t) (own.Follower g) at there same = absurd same
+        pair i (own.Cleaner v) (own.Follower g) at there same = absurd same
+        pair i (own.Checkpointer t) (own.Follower g) at there same = absurd same
+        pair i _ _ at there same = tt
+
+    module _ (told : logs.Tells by.last.log) where
+      abbrev m : SharedWords
+      m = by.from.runs.running.shared
+
+      abbrev g : LogGhost
+      g = by.from.runs.running.log_ghost
+
+      half : ReadHalf logs run.setup m g.log by.last.log (views_of actors)
+      half = by.from.runs.running.both.reading told
+
+      marks_are : ◌≡◌ {A = Marks} (word_marks m) driven.closed.marks
+      marks_are = sym (by.marks ∙ marks_same by.last.words.words m by.from.runs.running.flat_is)
+
+      has_followed : (seat : ℕ) (before after : Following R) → get_elem? starts seat ≡ some (own.Follower before)
+          → get_elem? actors seat ≡ some (own.Follower after)
+          → HasFollowed stands opened script driven.closed before after
+      has_followed seat before after at there =
+          let r : ReaderState = after.state in
+          let R : ReaderHas run.setup m g.log seat r =
+          half.each seat (model.Reader r) (views_at actors seat (own.Follower after) there) in
+          let first = R.first in
+          let from_one = by.is_run.first_reader in
+          let kind : archives r ≡ false = ne_eqb r.number 0 (λ none. omega arith) in
+          let F : FollowerHas run.setup m g.log r =
+          subst (λ (b : Bool). HasByKind run.setup m g.log b r) kind R.has in
+          let tiles = by.from.runs.running.both.logged.global.tiled.tiles in
+          let wholes : List Whole = wholes_of script opened.shape.space driven.closed.history in
+          let spans : ◌≡◌ {A = List Span} (log_spans g.log) (entry_spans driven.closed.history) =
+          sym (ap entry_spans by.history ∙ history_spans g.answered (word_marks m) g.log) in
+          let between : IsBoundary (lsn run.setup.base) (log_spans g.log) (lsn r.at) =
+          bound_spans g.log run.setup.base m.sn r.at tiles F.bound in
+          let are_wholes : AreWholesOf g.log wholes =
+          subst (λ (z : List Entry). AreWholesOf g.log (wholes_of script opened.shape.space z)) (sym by.history)
+          (finished_groups logs run.setup 0 m g by.last.log (views_of actors) by.from.runs.running.both.logged script
+          opened.shape by.is_run.of_script) in
+          let groups : ◌≡◌ {A = List Given} (groups_of (model.Reader r) g.log) (given_upto r.place wholes) =
+          ap (λ (b : Bool). let l : List Given = cond b [] (groups_upto r.at g.log) in l) kind
+          ∙ groups_are r.at g.log wholes are_wholes ∙ ap (λ (n : ℕ). given_upto n wholes) (sym F.place) in
+          record {
+            place = subst (λ (n : ℕ). IsBoundary n (entry_spans driven.closed.history) r.place) by.is_run.start
+                (subst (λ (z : List Span). IsBoundary (lsn run.setup.base) z r.place) spans
+                (subst (IsBoundary (lsn run.setup.base) (log_spans g.log)) (sym F.place) between));
+            flushed = subst (λ (z : Marks). r.place ≤ z.flushed) marks_are
+                (let below = F.below in let up = lsn_le r.at F.to (omega arith) in
+                let flushed = F.read.flushed in let place = F.place in omega arith);
+            checkpoint = subst (λ (z : log.Part L). z.marks.asked ≤ r.own) (sym by.log)
+                (let under = half.asked r.number R.first R.last in let word = R.word in omega arith);
+            got = subst (λ (l : List Given). StandsFor stands before.receiver l after.receiver) groups
+                (by.from.got told seat (own.Follower before) (own.Follower after) at there);
+          }
+
+    pub have_followed : HaveFollowed log_seen data_seen stands opened script fs actors driven.closed
+    have_followed = record {
+      same = each_pair HasSameNumber
+          (λ seat f g at there. by.from.same seat (own.Follower f) (own.Follower g) at there);
+      each = λ reading as_read. where_told reading as_read _
+          (λ log_disk data_disk log_now data_now start begun log_told data_told.
+          each_pair (HasFollowed stands opened script driven.closed)
+          (has_followed (begun.log, tells log_now log_told)));
+    }
+      where
+        tells : (disk : Disk) → (log_seen driven.closed.log.dev).tells ≡ Some disk
+            → (log_seen by.last.log.dev).tells ≢ None
+        tells disk told none =
+            let z : (log_seen by.last.log.dev).tells ≡ Some disk =
+            ap (λ (z : log.Part L). (log_seen z.dev).tells) (sym by.log) ∙ told in
+            let bad : None ≡ Some disk = sym none ∙ z in absurd (cc)

@@ -27,6 +27,7 @@ pub mod ReadMarks
 pub mod RestMarks
 pub mod RunStarts
 pub mod ScriptRoom
+pub mod SeatedFollowers
 pub mod Seats
 pub mod Served
 pub mod ShapeStays
@@ -40,6 +41,7 @@ pub mod StartWordsPlaces
 pub mod StartWordsStore
 pub mod StartWordsZero
 pub mod SyncedParts
+pub mod Taken
 pub mod Told
 pub mod TurnsOf
 pub mod UserLines

@@ -7,7 +7,7 @@ use Rattle.model_core.specs.Actors as model
 use Rattle.model_report.specs.declared.entry.Entry.{Entry}
 use Rattle.model_report.specs.declared.entry.Marks.{Marks}
 use Rattle.redo_drive.specs.History.{all_listed, listed, listed_from, listed_group}
-use Rattle.redo_drive.specs.Views.{view_of}
+use Rattle.redo_drive.specs.Views.{view_of, views_of}
 use Rattle.redo_drive.specs.declared.actor.Actor.{Actor}
 
 -- what is there, before what is still to come
@@ -44,29 +44,31 @@ module _ (marks : Marks) (u : UserState) (k : ℕ) (there : k < length u.starts)
         one_more items (one ∷ []) (listed_from marks u (k + 1) (drop (k + 1) u.starts))
         ∙ ap (λ (x : Entry). items ++ x ∷ listed_from marks u (k + 1) (drop (k + 1) u.starts)) is ∙ ap (λ (z : List Entry). items ++ z) (sym next_from) ∙ so_far
 
-module _ (marks : Marks) (actors : List Actor) (at : ℕ) (actor : Actor) (is : actor ≡ get_or actors at actor) (there : at < length actors) where
-  next_actor : all_listed marks (drop at actors) ≡ listed marks (view_of actor) ++ all_listed marks (drop (at + 1) actors)
+module _ {R : Type 0} (marks : Marks) (actors : List (Actor R)) (at : ℕ) (actor : Actor R) (is : actor ≡ get_or actors at actor) (there : at < length actors) where
+  next_actor : all_listed marks (views_of (drop at actors)) ≡ listed marks (view_of actor) ++ all_listed marks (views_of (drop (at + 1) actors))
   next_actor =
-      ap (all_listed marks) (drop-cons actors at actor there ∙ ap (λ (a : Actor). a ∷ drop (suc at) actors) (sym is))
-      ∙ flat_map-cons (λ (a : Actor). listed marks (view_of a)) actor (drop (suc at) actors) ∙ ap (λ (n : ℕ). listed marks (view_of actor) ++ all_listed marks (drop n actors)) (sym (add-one at))
+      ap (λ (l : List (Actor R)). all_listed marks (views_of l))
+      (drop-cons actors at actor there ∙ ap (λ (a : Actor R). a ∷ drop (suc at) actors) (sym is))
+      ∙ flat_map-cons (listed marks) (view_of actor) (views_of (drop (suc at) actors))
+      ∙ ap (λ (n : ℕ). listed marks (view_of actor) ++ all_listed marks (views_of (drop n actors))) (sym (add-one at))
 
-  module _ (items : List Entry) (so_far : items ++ all_listed marks (drop at actors) ≡ all_listed marks actors) where
-    pub has_room_for_all : (room : ℕ) → length (all_listed marks actors) ≤ room → length items + length (listed marks (view_of actor)) ≤ room
+  module _ (items : List Entry) (so_far : items ++ all_listed marks (views_of (drop at actors)) ≡ all_listed marks (views_of actors)) where
+    pub has_room_for_all : (room : ℕ) → length (all_listed marks (views_of actors)) ≤ room → length items + length (listed marks (view_of actor)) ≤ room
     has_room_for_all room enough =
-        let a = length-append items (all_listed marks (drop at actors)) in
-        let b : length (items ++ all_listed marks (drop at actors)) ≡ length (all_listed marks actors) = ap length so_far in
-        let d : length (all_listed marks (drop at actors)) ≡ length (listed marks (view_of actor) ++ all_listed marks (drop (at + 1) actors)) = ap length next_actor in
-        let e = length-append (listed marks (view_of actor)) (all_listed marks (drop (at + 1) actors)) in
+        let a = length-append items (all_listed marks (views_of (drop at actors))) in
+        let b : length (items ++ all_listed marks (views_of (drop at actors))) ≡ length (all_listed marks (views_of actors)) = ap length so_far in
+        let d : length (all_listed marks (views_of (drop at actors))) ≡ length (listed marks (view_of actor) ++ all_listed marks (views_of (drop (at + 1) actors))) = ap length next_actor in
+        let e = length-append (listed marks (view_of actor)) (all_listed marks (views_of (drop (at + 1) actors))) in
         omega arith
 
-    pub actor_added : (more : List Entry) → more ≡ items ++ listed marks (view_of actor) → more ++ all_listed marks (drop (at + 1) actors) ≡ all_listed marks actors
+    pub actor_added : (more : List Entry) → more ≡ items ++ listed marks (view_of actor) → more ++ all_listed marks (views_of (drop (at + 1) actors)) ≡ all_listed marks (views_of actors)
     actor_added more grown =
-        ap (λ (z : List Entry). z ++ all_listed marks (drop (at + 1) actors)) grown ∙ one_more items (listed marks (view_of actor)) (all_listed marks (drop (at + 1) actors))
+        ap (λ (z : List Entry). z ++ all_listed marks (views_of (drop (at + 1) actors))) grown ∙ one_more items (listed marks (view_of actor)) (all_listed marks (views_of (drop (at + 1) actors)))
         ∙ ap (λ (z : List Entry). items ++ z) (sym next_actor) ∙ so_far
 
 -- where nothing is still to come, all is there
 pub all_groups_added : (marks : Marks) (u : UserState) (k : ℕ) (items whole : List Entry) → length u.starts ≤ k → items ++ listed_from marks u k (drop k u.starts) ≡ whole → items ≡ whole
 all_groups_added marks u k items whole past so_far = sym (append-nil items) ∙ sym (at_drop_all (λ (starts : List ℕ). items ++ listed_from marks u k starts) u.starts k past) ∙ so_far
 
-pub all_actors_added : (marks : Marks) (actors : List Actor) (at : ℕ) (items whole : List Entry) → length actors ≤ at → items ++ all_listed marks (drop at actors) ≡ whole → items ≡ whole
-all_actors_added marks actors at items whole past so_far = sym (append-nil items) ∙ sym (at_drop_all (λ (rest : List Actor). items ++ all_listed marks rest) actors at past) ∙ so_far
+pub all_actors_added : {R : Type 0} (marks : Marks) (actors : List (Actor R)) (at : ℕ) (items whole : List Entry) → length actors ≤ at → items ++ all_listed marks (views_of (drop at actors)) ≡ whole → items ≡ whole
+all_actors_added {R} marks actors at items whole past so_far = sym (append-nil items) ∙ sym (at_drop_all (λ (rest : List (Actor R)). items ++ all_listed marks (views_of rest)) actors at past) ∙ so_far

@@ -11,7 +11,8 @@ use Rattle.model_core.specs.Actors as model
 use Rattle.model_core.specs.AnswerFits.{AnswerFits}
 use Rattle.model_core.specs.DataSide.{DataSide}
 use Rattle.model_core.specs.Fitting.{Fitting}
-use Rattle.model_core.specs.{answer_of, BatchPage, KeptPage, lent, Listed, lsn, next, old_of, OpWords, shared_answer, user_fits, user_op, UserState}
+use Rattle.model_core.specs.{answer_of, BatchPage, KeptPage, lent, Listed, lsn, next, old_of, OpWords, shared_answer}
+use Rattle.model_core.specs.{SharedWords, user_fits, user_op, UserState}
 use Rattle.model_core.specs.LogSide.{LogSide}
 use Rattle.model_core.specs.Setup.{Setup}
 use Rattle.model_core.specs.declared.ops.Answer.{Answer}
@@ -19,7 +20,7 @@ use Rattle.model_core.specs.declared.ops.Op.{Op}
 use Rattle.model_core.specs.declared.ops.Op.TheVariants as op
 use Rattle.model_core.specs.declared.words.Word.TheVariants as word
 use Rattle.model_logcore.proofs.AnswersFit.{small_sn}
-use Rattle.model_logcore.specs.{CanLend, LogGhost}
+use Rattle.model_logcore.specs.{CanLend, LogGhost, ReaderFits}
 use Rattle.model_logcore.specs.LogLaws.{LogLaws}
 use Rattle.model_logcore.specs.Ready.{Ready}
 use Rattle.model_pagecore.specs.{CanBatch}
@@ -50,12 +51,12 @@ use Rattle.redo_drive.proofs.Outcome.{not_failed}
 use Rattle.redo_drive.specs.LogPartSide as log_part
 use Rattle.redo_drive.specs.Lists.{lists_of}
 use Rattle.redo_drive.specs.Playing.{DataReady, HasWholePages, IsPlayable, LogReady, MayBatchLent, MayWriteLent, RunOf, run_data_side, run_log_side}
+use Rattle.redo_drive.specs.Receiving.{MarkFits}
 use Rattle.redo_drive.specs.Running.{RunsOn}
 use Rattle.redo_drive.specs.Turning.{MayServe}
-use Rattle.redo_drive.specs.Views.{views_of}
-use Rattle.redo_drive.specs.declared.actor.Actor.{Actor}
 use Rattle.redo_drive.specs.declared.device.Device.TheVariants.{Data, Log}
 use Rattle.redo_drive.specs.declared.parts.Parts.{Parts}
+use Rattle.redo_follow.specs.Handing.{follower_fits}
 use Rattle.redo_store.specs.Part as store
 use Rattle.redo_words.specs.{HoldsSum, Lends}
 use Rattle.redo_words.specs.declared.lent.Lent.{Lent}
@@ -166,7 +167,23 @@ module _ {D : Type 0} (seen : D → Seen) (faults : ℕ) (shape : Shape) (Begun 
   whole_pages op.WriteBatch (model.Room kept) can = tt
   whole_pages _ ml can = tt
 
-module _ {L D : Type 0} (log_seen : L → Seen) (data_seen : D → Seen) (run : RunOf L D) (parts : Parts L D) (actors : List Actor) (R : RunsOn log_seen data_seen run parts actors)
+-- a mark that a reader is given is FLUSHED
+mark_given : (ls : ℕ → List Listed) (broken : Bool) (code mark : ℕ) (m : SharedWords) → m.flushed < 2 ^ 61
+    → (r : ReaderState) (b : Bool) (s : ReaderStep)
+    → cond b (Unit {0}) (follower_fits r (old_of (shared_answer ls broken code mark m
+    (cond b (op.Load word.Failed) (reader_op r s)))) s)
+mark_given ls broken code mark m low r true s = tt
+mark_given ls broken code mark m low r false reader_step.LoadFlushed = low
+mark_given ls broken code mark m low r false reader_step.TakeDevice = tt
+mark_given ls broken code mark m low r false reader_step.GiveBroken = tt
+mark_given ls broken code mark m low r false reader_step.ReadBlock = tt
+mark_given ls broken code mark m low r false reader_step.GiveDevice = tt
+mark_given ls broken code mark m low r false reader_step.StorePlace = tt
+mark_given ls broken code mark m low r false reader_step.StoreFailed = tt
+mark_given ls broken code mark m low r false reader_step.GiveFailed = tt
+mark_given ls broken code mark m low r false reader_step.Failed = tt
+
+module _ {L D : Type 0} (log_seen : L → Seen) (data_seen : D → Seen) (run : RunOf L D) (parts : Parts L D) (actors : List model.Actor) (R : RunsOn log_seen data_seen run parts actors)
     (log_laws : LogLaws (run_log_side log_seen data_seen run)) (data_laws : DataLaws (run_data_side log_seen data_seen run)) where
   abbrev A : LogSide
   A = run_log_side log_seen data_seen run
@@ -189,15 +206,15 @@ module _ {L D : Type 0} (log_seen : L → Seen) (data_seen : D → Seen) (run : 
       let P = half.global.part in let O = half.global.order in
       let a = P.stable_written in let b = P.written_wtail in let e = O.wtail_is in
       let l = lsn_le R.running.log_ghost.wtail R.running.shared.sn (let x = O.wtail_tail in let y = O.tail_sn in omega arith) in
-      let s = small_sn A c 0 R.running.shared R.running.log_ghost parts.log (views_of actors) 0 half in
+      let s = small_sn A c 0 R.running.shared R.running.log_ghost parts.log actors 0 half in
       omega arith
 
-  module _ (seat : ℕ) (who : model.Actor) (at : get_elem? (views_of actors) seat ≡ some who) where
+  module _ (seat : ℕ) (who : model.Actor) (at : get_elem? actors seat ≡ some who) where
     abbrev ls : ℕ → List Listed
     ls = lists_of parts.lists
 
     words : OpWords c.pages (next who)
-    words = let W = R.running in next_words A B c 0 W.shared W.log_ghost W.page_ghost ls parts.log parts.store (views_of actors) seat W.both who at
+    words = let W = R.running in next_words A B c 0 W.shared W.log_ghost W.page_ghost ls parts.log parts.store actors seat W.both who at
 
     answer_is : (code mark : ℕ) → ◌≡◌ {A = Answer} (answer_of ls (is_some parts.log.failed) code mark parts.words.words (next who)) (shared_answer ls (is_some parts.log.failed) code mark R.running.shared (next who))
     answer_is code mark = let W = R.running in
@@ -207,10 +224,36 @@ module _ {L D : Type 0} (log_seen : L → Seen) (data_seen : D → Seen) (run : 
     fits : (code mark : ℕ) → AnswerFits who (answer_of ls (is_some parts.log.failed) code mark parts.words.words (next who))
     fits code mark = let W = R.running in
         subst (λ (r : Answer). AnswerFits who r) (sym (answer_is code mark))
-        (answer_fits A B c 0 W.shared W.log_ghost W.page_ghost ls parts.log parts.store (views_of actors) seat W.both R.bytes codes (is_some parts.log.failed) code mark who at)
+        (answer_fits A B c 0 W.shared W.log_ghost W.page_ghost ls parts.log parts.store actors seat W.both R.bytes codes (is_some parts.log.failed) code mark who at)
+
+    mark_fits : (code mark : ℕ)
+        → MarkFits who (answer_of ls (is_some parts.log.failed) code mark parts.words.words (next who))
+    mark_fits code mark = let W = R.running in
+        subst (λ (r : Answer). MarkFits who r) (sym (answer_is code mark)) (by who at)
+      where
+        low_flushed : R.running.shared.flushed < 2 ^ 61
+        low_flushed =
+            let low = low_stable in
+            let flushed = R.running.both.logged.global.part.flushed_stable in omega arith
+
+        by : (a : model.Actor) → get_elem? actors seat ≡ some a
+            → MarkFits a (shared_answer ls (is_some parts.log.failed) code mark R.running.shared (next a))
+        by (model.Reader r) there =
+            let F : ReaderFits A c R.running.shared R.running.log_ghost parts.log seat r =
+            R.running.both.logged.each seat (model.Reader r) there in (
+              mark_given ls (is_some parts.log.failed) code mark R.running.shared low_flushed r r.checks r.step,
+              F.no_device_while_checking,
+            )
+        by (model.User u) there = tt
+        by (model.Writer s) there = tt
+        by (model.Flusher x) there = tt
+        by (model.Closer x) there = tt
+        by (model.Cleaner v) there = tt
+        by (model.Checkpointer x) there = tt
+        by (model.Joined es) there = tt
 
     data_can : running.BatchReady B c R.running.page_ghost.kept_page (lent who) parts.store (next who)
-    data_can = let W = R.running in both_ready.data_ready A log_laws B data_laws c 0 W.shared W.log_ghost W.page_ghost ls parts.log parts.store (views_of actors) seat W.both who at
+    data_can = let W = R.running in both_ready.data_ready A log_laws B data_laws c 0 W.shared W.log_ghost W.page_ghost ls parts.log parts.store actors seat W.both who at
 
     reads : ReadsBlock (next who)
     reads = ⊎_elim
@@ -225,11 +268,11 @@ module _ {L D : Type 0} (log_seen : L → Seen) (data_seen : D → Seen) (run : 
     playable l lends = let W = R.running in record {
       there = subst (λ (n : ℕ). OpWords n (next who)) (sym R.word_pages) words;
       sum = holds_sum ls (is_some parts.log.failed) 0 0 parts.words.words who (fits 0 0).log;
-      listing = subst (λ (n : ℕ). ListReady n ls (next who)) (sym R.list_pages) (list_ready A B c 0 W.shared W.log_ghost W.page_ghost ls parts.log parts.store (views_of actors) seat W.both who at);
+      listing = subst (λ (n : ℕ). ListReady n ls (next who)) (sym R.list_pages) (list_ready A B c 0 W.shared W.log_ghost W.page_ghost ls parts.log parts.store actors seat W.both who at);
       real = W.both.paged.paged.lists.real;
       log = log_call log_seen (log_seen run.first_log.dev).faults run.first_log.marks.number (log_part.HasBegun log_seen (lsn c.base) run.first_log) c W.log_ghost parts.log who W.both.logged.global.part.holds low_stable (next who) l lends
           (both_ready.log_ready A log_laws B data_laws c 0 W.shared W.log_ghost W.page_ghost ls parts.log parts.store
-          (views_of actors) seat W.both who at) reads;
+          actors seat W.both who at) reads;
       data_part = data_call data_seen (data_seen run.first_data.dev).faults run.shape (data_part.HasBegun data_seen c.opened run.first_data) c R.its_pages R.its_page_size R.limits W.page_ghost.kept_page parts.store (next who) (lent who) l lends data_can;
     }
 
@@ -238,4 +281,5 @@ module _ {L D : Type 0} (log_seen : L → Seen) (data_seen : D → Seen) (run : 
       playable = playable;
       whole = whole_pages data_seen (data_seen run.first_data.dev).faults run.shape (data_part.HasBegun data_seen c.opened run.first_data) c R.its_pages R.its_page_size R.limits R.running.page_ghost.kept_page parts.store (next who) (lent who) data_can;
       fits = fits;
+      mark = mark_fits;
     }

@@ -1,5 +1,5 @@
 -- Where no actor holds anything and FAILED is 0, the words WRITE and CKPT are the marks of the log part.
-use Rattle.std.proofs.Common.{Bool, List, None, [], ap, arith, false, length, map, refl, subst, suc, sym, true, zero, ℕ}
+use Rattle.std.proofs.Common.{Bool, List, None, [], ap, arith, false, length, map, refl, subst, suc, sym, true, ℕ}
 use Rattle.std.proofs.Common.{◌%◌, ◌++◌, ◌+◌, ◌-◌, ◌∙◌, ◌∷◌, ◌≡◌, ◌≤◌}
 use lib.ListN.{get_elem?}
 use mathlib.Core.Option as maybe
@@ -17,8 +17,6 @@ use Rattle.model_running.specs.{ArePageActors}
 use Rattle.redo_disk.specs.Seen.{Seen}
 use Rattle.redo_drive.specs.Playing.{RunOf, run_log_side}
 use Rattle.redo_drive.specs.Running.{RunsOn}
-use Rattle.redo_drive.specs.Views.{view_of, views_of}
-use Rattle.redo_drive.specs.declared.actor.Actor.{Actor}
 use Rattle.redo_drive.specs.declared.parts.Parts.{Parts}
 
 module _ (D : LogSide) (c : Setup) (m : SharedWords) (g : LogGhost) (p : D.Part) (sound : m.failed ≡ 0) where
@@ -57,13 +55,6 @@ module _ (D : LogSide) (c : Setup) (m : SharedWords) (g : LogGhost) (p : D.Part)
   resting_checkpointer t checkpointer_step.GiveFailed free at = absurd (cc)
   resting_checkpointer t checkpointer_step.Failed free at = absurd (omega arith)
 
--- the actor whose view stands there
-seen_at : (actors : List Actor) (i : ℕ) (who : model.Actor) → get_elem? (views_of actors) i ≡ maybe.some who
-    → (a : Actor) × (get_elem? actors i ≡ maybe.some a) × (view_of a ≡ who)
-seen_at [] i who at = absurd (maybe.some-ne-none who (sym at))
-seen_at (x ∷ xs) zero who at = (x, refl, maybe.some-injective (view_of x) who at)
-seen_at (x ∷ xs) (suc i) who at = seen_at xs i who at
-
 -- the actors after the users
 after_users : (users : List UserState) (others : List model.Actor) (i : ℕ)
     → get_elem? (map model.User users ++ others) (length users + i) ≡ get_elem? others i
@@ -78,20 +69,17 @@ unfolding lsn
 start_block_alone base ckpt even aligned from up_to = omega arith
 
 module _ {L D : Type 0} (log_seen : L → Seen) (data_seen : D → Seen) (run : RunOf L D) (parts : Parts L D)
-    (actors : List Actor) (runs : RunsOn log_seen data_seen run parts actors)
-    (rest : (i : ℕ) (a : Actor) → get_elem? actors i ≡ maybe.some a → HoldsNothing (view_of a))
+    (actors : List model.Actor) (runs : RunsOn log_seen data_seen run parts actors)
+    (rests : (i : ℕ) (a : model.Actor) → get_elem? actors i ≡ maybe.some a → HoldsNothing a)
     (sound : runs.running.shared.failed ≡ 0) where
   abbrev logs : LogSide
   logs = run_log_side log_seen data_seen run
-
-  rests : (i : ℕ) (who : model.Actor) → get_elem? (views_of actors) i ≡ maybe.some who → HoldsNothing who
-  rests i who at = let s = seen_at actors i who at in subst HoldsNothing s.2 (rest i s.0 s.1)
 
   abbrev after : List model.Actor
   after = model.Writer runs.seated.writer ∷ model.Flusher runs.seated.flusher ∷ runs.seated.others
 
   there : (i : ℕ) (who : model.Actor) → get_elem? after i ≡ maybe.some who
-      → get_elem? (views_of actors) (length runs.seated.users + i) ≡ maybe.some who
+      → get_elem? actors (length runs.seated.users + i) ≡ maybe.some who
   there i who at = ap (λ (l : List model.Actor). get_elem? l (length runs.seated.users + i)) runs.seated.are
       ∙ after_users runs.seated.users after i ∙ at
 

@@ -1,15 +1,19 @@
 -- New actors, the words of a start and empty lists stand at the beginning of a run.
-use Rattle.std.proofs.Common.{Bool, List, None, Option, Some, [], ap, arith, cond, false, length, ltb, refl, slice_get, subst, suc, sym, true, zero, ℕ, ◌%◌, ◌*◌, ◌+◌, ◌-◌, ◌/◌, ◌<◌, ◌∙◌, ◌≡◌}
+use Rattle.std.proofs.Common.{Bool, List, None, Option, Some, [], ap, append-nil, arith, cond, false, length, ltb}
+use Rattle.std.proofs.Common.{refl, slice_get, slice_index, subst, suc, sym, true, zero, ℕ, ◌%◌, ◌*◌, ◌+◌, ◌-◌, ◌/◌}
+use Rattle.std.proofs.Common.{◌<◌, ◌∙◌, ◌∷◌, ◌≡◌}
 use Rattle.std.proofs.lemmas.Bool.{le-ltb}
 use Rattle.std.proofs.lemmas.List.{get_or_past}
 use Rattle.std.specs.List.{AllByRecursion}
 use Rattle.std.specs.Prelude.{IfSome}
 use lib.ListN.{get_elem?}
-use mathlib.Core.Option.{some}
+use mathlib.Core.Option.{some, some-injective}
 use native.Mathlib.Decide.{dec_le}
 use Rattle.model_base.specs.declared.limits.TheConstants.{LSN_LIMIT}
 use Rattle.model_base.specs.declared.shape.Shape.{Shape}
-use Rattle.model_core.specs.{Actor, change_at, changes_of, Line, line_at, Listed, lsn}
+use Rattle.model_core.proofs.Groups.{tiles_le}
+use Rattle.model_core.specs.{Actor, archives, change_at, changes_of, Entry, flat, Given, Line, line_at, Listed, lsn}
+use Rattle.model_core.specs.{Tiles}
 use Rattle.model_core.specs.DataSide.{DataSide}
 use Rattle.model_core.specs.LogSide.{LogSide}
 use Rattle.model_core.specs.Setup.{Setup}
@@ -44,20 +48,23 @@ use Rattle.redo_drive.proofs.StartActors.{IsNew, are_new, are_seated, seat_of_us
 use Rattle.redo_drive.proofs.StartWordsPages.{has_opened_pages}
 use Rattle.redo_drive.proofs.UserLines.{of_script, of_user}
 use Rattle.redo_drive.specs.Beginning.{HaveBegun}
-use Rattle.redo_drive.specs.Startable.{HasReading, MayBegin}
+use Rattle.redo_drive.specs.Startable.{AreNewFollowers, HasReading, MayBegin}
 use Rattle.redo_drive.specs.Begins.{BeginsRun}
 use Rattle.redo_drive.specs.Lists.{Listings, empty_lists, lists_of}
 use Rattle.redo_drive.specs.Making.{IsOwnOf}
 use Rattle.redo_drive.specs.Playing.{RunOf, run_data_side, run_log_side}
-use Rattle.redo_drive.specs.Running.{RunsOn}
+use Rattle.redo_drive.specs.Receiving.{follower_of, HasGot, IsSameFollower}
+use Rattle.redo_drive.specs.Running.{groups_of, RunsFrom, RunsOn}
 use Rattle.redo_drive.specs.Turning.{core_of}
 use Rattle.redo_drive.specs.Setups.{programs_of}
 use Rattle.redo_drive.specs.StartWords.{setup_of}
 use Rattle.redo_drive.specs.StartWords.{StartsOn}
 use Rattle.redo_drive.specs.FirstWords.{AreStartWords}
-use Rattle.redo_drive.specs.Views.{views_of}
+use Rattle.redo_drive.specs.Views.{view_of, views_of}
+use Rattle.redo_drive.specs.declared.actor.Actor as own_actor
 use Rattle.redo_drive.specs.declared.making.Beginning.{Beginning}
 use Rattle.redo_drive.specs.declared.making.Own.{Own}
+use Rattle.redo_follow.specs.Handing.{Following}
 use Rattle.redo_store.specs.declared.opened.Opened.{Opened}
 
 -- no page is in an empty list
@@ -82,12 +89,13 @@ unfolding lsn
 lsn_at_start start place = ap lsn_of (sn_at_start start place) ∙ omega arith
 
 -- the cells that lines change get bytes
-lines_get_bytes : (shape : Shape) (pages : List Content) (start : ℕ) (script : List ScriptLine) (log_only : Bool) → AllByRecursion (LineFits shape) script
+lines_get_bytes : (shape : Shape) (pages : List Content) (start : ℕ) (script : List ScriptLine) (log_only : Bool)
+    → AllByRecursion (LineFits shape) script
     → (user j k : ℕ) → GetsBytes (change_at (line_at (programs_of shape log_only script user) j).changes k)
 lines_get_bytes shape pages start script log_only fits user j k = elim (dec_le (length (programs_of shape log_only script user)) j) [
   | yes past ↦ subst (λ (line : Line). GetsBytes (change_at line.changes k)) (sym (get_or_past (programs_of shape log_only script user) j (record { mode = 0; bytes = []; changes = [] }) past)) (λ i. omega arith)
   | no there ↦ (
-      let is = of_script shape pages start script log_only in
+      let is = of_script shape pages start script log_only 0 (omega arith) in
       let count = is.count user in
       let one = line_below (lines_of_user user script) j (omega arith) in
       subst (λ (line : Line). GetsBytes (change_at line.changes k)) (sym (is.each user j one.0 one.1)) (by log_only one.0 (of_user (LineFits shape) script user j one.0 fits one.1).0))
@@ -104,11 +112,42 @@ if_told None data_told P is = tt
 if_told (Some log_disk) None P is = tt
 if_told (Some log_disk) (Some data_disk) P is = is log_disk data_disk refl refl
 
-module _ {L D : Type 0} (log_seen : L → Seen) (data_seen : D → Seen) (opened : Opened L D) (script : List ScriptLine) (log_only : Bool) (may : MayBegin opened script log_only) (own : Own)
-    (owns : IsOwnOf opened.shape opened.pages script opened.start log_only own) where
+-- a log that ends where it begins has no group
+no_log : (s n : ℕ) (log : List Entry) → Tiles s log n → n ≡ s → ◌≡◌ {A = List Entry} log []
+no_log s n [] tiles is = refl
+no_log s n (e ∷ es) tiles is =
+    absurd (let some = tiles.1 in let up = tiles_le es (s + length e.bytes) n tiles.3 in omega arith)
+
+-- so no groups of it are handed on
+none_of_log : (a : Actor) → ◌≡◌ {A = List Given} (groups_of a []) []
+none_of_log (actor.Reader r) = by (archives r)
+  where
+    by : (b : Bool) → ◌≡◌ {A = List Given} (cond b [] []) []
+    by true = refl
+    by false = refl
+none_of_log (actor.User u) = refl
+none_of_log (actor.Writer s) = refl
+none_of_log (actor.Flusher t) = refl
+none_of_log (actor.Closer t) = refl
+none_of_log (actor.Cleaner v) = refl
+none_of_log (actor.Checkpointer t) = refl
+none_of_log (actor.Joined es) = refl
+
+same_follower : {R : Type 0} (f : Option (Following R)) → IsSameFollower f f
+same_follower None = tt
+same_follower (Some f) = refl
+
+got_none : {R : Type 0} (stands : R → List Given → Type 0) (f : Option (Following R)) → HasGot stands f [] f
+got_none stands None = tt
+got_none stands (Some f) = λ before is. subst (λ (l : List Given). stands f.receiver l) (sym (append-nil before)) is
+
+module _ {L D R : Type 0} (log_seen : L → Seen) (data_seen : D → Seen) (stands : R → List Given → Type 0)
+    (opened : Opened L D) (script : List ScriptLine) (log_only : Bool) (followers : List (Following R))
+    (may : MayBegin opened script log_only) (new : AreNewFollowers opened.start followers) (own : Own R)
+    (owns : IsOwnOf opened.shape opened.pages script opened.start log_only followers own) where
   -- the run
   abbrev setup : Setup
-  setup = setup_of opened.shape opened.pages opened.start script log_only
+  setup = setup_of opened.shape opened.pages opened.start script log_only (length followers)
 
   abbrev run : RunOf L D
   run = record { setup = setup; shape = opened.shape; first_log = opened.log; first_data = opened.store }
@@ -125,7 +164,7 @@ module _ {L D : Type 0} (log_seen : L → Seen) (data_seen : D → Seen) (opened
   abbrev writer : ℕ
   writer = writer_seat opened.shape log_only script
 
-  abbrev start : Beginning L D
+  abbrev start : Beginning L D R
   start = record {
     parts = record { words = own.words; log = opened.log; store = opened.store; lists = own.lists };
     actors = own.actors;
@@ -155,7 +194,8 @@ module _ {L D : Type 0} (log_seen : L → Seen) (data_seen : D → Seen) (opened
   fit user k one at = (of_user (LineFits opened.shape) script user k one may.fits.lines at).0
 
   new_actors : (seat : ℕ) (a : Actor) → get_elem? (views_of own.actors.items) seat ≡ some a → IsNew setup seat_of writer seat a
-  new_actors seat a at = are_new opened.shape opened.pages opened.start script log_only may.lines may.fits.lines place seat a
+  new_actors seat a at = are_new opened.shape opened.pages opened.start script log_only (length followers)
+      new.few may.lines may.fits.lines place seat a
       (subst (λ (actors : List Actor). get_elem? actors seat ≡ some a) owns.actors at)
 
   -- and so are both parts
@@ -171,7 +211,7 @@ module _ {L D : Type 0} (log_seen : L → Seen) (data_seen : D → Seen) (opened
   -- what stands at its start
   store_start : StartStore log_part data_part setup words.by_name opened.log opened.store seat_of writer (views_of own.actors.items)
   store_start = record {
-    script = scripted setup script opened.shape may.runnable.limits refl refl (of_script opened.shape opened.pages opened.start script log_only) fit;
+    script = scripted setup script opened.shape may.runnable.limits refl refl (of_script opened.shape opened.pages opened.start script log_only (length followers) new.few) fit;
     some_page = may.runnable.limits.some_pages;
     words = words.of_log;
     page_words = words.of_pages;
@@ -186,16 +226,16 @@ module _ {L D : Type 0} (log_seen : L → Seen) (data_seen : D → Seen) (opened
   none_at i = ap (λ (lists : Listings). let l : List Listed = lists_of lists i in l) owns.lists ∙ none_listed opened.shape.pages i
 
   -- the invariant holds
-  is_running : IsRunning log_part data_part setup 0 (core_of log_seen data_seen run start.parts own.actors.items)
+  is_running : IsRunning log_part data_part setup 0 (core_of log_seen data_seen run start.parts (views_of own.actors.items))
   is_running =
       let room : lsn (setup.base + sum_over_actors left_to_reserve (views_of own.actors.items) + 0) < LSN_LIMIT =
       subst (λ (actors : List Actor). lsn (setup.base + sum_over_actors left_to_reserve actors + 0) < LSN_LIMIT) (sym owns.actors)
-      (room_for_all opened.shape script opened.start log_only may.fits.lines may.fits.end) in
+      (room_for_all opened.shape script opened.start log_only (length followers) may.fits.lines may.fits.end) in
       let none : ◌≡◌ {A = ℕ → List Listed} (lists_of own.lists) (λ _. []) = λ k i. none_at i k in
       subst (λ (lists : ℕ → List Listed). RunningStore log_part data_part setup 0 own.words.words lists opened.log opened.store (views_of own.actors.items)) (sym none)
       (store_starts log_part data_part setup words.by_name opened.log opened.store seat_of writer (views_of own.actors.items) store_start 0 own.words.words words.in_order room)
 
-  runs : RunsOn log_seen data_seen run start.parts own.actors.items
+  runs : RunsOn log_seen data_seen run start.parts (views_of own.actors.items)
   runs = record {
     limits = may.runnable.limits;
     started = (let low = may.runnable.first in omega (arith, place));
@@ -205,7 +245,29 @@ module _ {L D : Type 0} (log_seen : L → Seen) (data_seen : D → Seen) (opened
     word_pages = owns.word_pages ∙ may.runnable.its_pages.count;
     list_pages = ap (λ (lists : Listings). lists.pages) owns.lists;
     running = is_running;
-    seated = subst (AreSeated setup) (sym owns.actors) (are_seated opened.shape opened.pages opened.start script log_only may.lines may.fits.lines);
+    seated = subst (AreSeated setup) (sym owns.actors) (are_seated opened.shape opened.pages opened.start script log_only (length followers)
+        new.few may.lines may.fits.lines);
+  }
+
+  -- nothing has been handed on
+  empty : ◌≡◌ {A = List Entry} runs.running.log_ghost.log []
+  empty =
+      let W = runs.running in
+      let words_same : ◌≡◌ {A = List ℕ} (flat W.shared) (flat words.by_name) = sym W.flat_is ∙ words.in_order in
+      let sn : W.shared.sn ≡ words.by_name.sn = ap (λ (ws : List ℕ). slice_index ws 0) words_same in
+      no_log setup.base W.shared.sn W.log_ghost.log W.both.logged.global.tiled.tiles (sn ∙ words.of_log.sn)
+
+  from : RunsFrom log_seen data_seen stands run own.actors.items start.parts own.actors.items
+  from = record {
+    runs = runs;
+    count = refl;
+    same = λ seat a b at there. subst (λ (z : own_actor.Actor R). IsSameFollower (follower_of a) (follower_of z))
+        (some-injective a b (sym at ∙ there)) (same_follower (follower_of a));
+    got = λ told seat a b at there. subst (λ (z : own_actor.Actor R).
+        HasGot stands (follower_of a) (groups_of (view_of z) runs.running.log_ghost.log) (follower_of z))
+        (some-injective a b (sym at ∙ there))
+        (subst (λ (l : List Given). HasGot stands (follower_of a) l (follower_of a))
+        (sym (ap (groups_of (view_of a)) empty ∙ none_of_log (view_of a))) (got_none stands (follower_of a)));
   }
 
   -- where the store was ready, its devices hold what was opened
@@ -221,7 +283,7 @@ module _ {L D : Type 0} (log_seen : L → Seen) (data_seen : D → Seen) (opened
       }
 
   -- its parts and actors stand at the beginning of the run
-  pub begins : BeginsRun log_seen data_seen opened script log_only start
+  pub begins : BeginsRun log_seen data_seen stands opened script log_only followers start
   begins = record {
     run = run;
     is_run = record {
@@ -230,7 +292,9 @@ module _ {L D : Type 0} (log_seen : L → Seen) (data_seen : D → Seen) (opened
       first_data = refl;
       start = place;
       log_only_is = refl;
-      of_script = of_script opened.shape opened.pages opened.start script log_only;
+      first_reader = refl;
+      last_reader = refl;
+      of_script = of_script opened.shape opened.pages opened.start script log_only (length followers) new.few;
       its_pages = has_opened_pages setup (record { shape = opened.shape; pages = opened.pages; end = 0 }) may.runnable.limits may.runnable.its_pages (sym may.runnable.its_pages.count) refl (λ p there. refl);
     };
     at_start = record {
@@ -248,7 +312,8 @@ module _ {L D : Type 0} (log_seen : L → Seen) (data_seen : D → Seen) (opened
       data_part = refl;
       none_listed = none_at;
     };
-    runs = runs;
+    from = from;
+    followers = owns.followers;
     log = refl;
     data_part = refl;
     no_entries = owns.no_entries;

@@ -6,7 +6,7 @@ use Rattle.std.specs.List.{AllByRecursion, flat_map}
 use native.Mathlib.Decide.{ℕ_discrete}
 use Rattle.model_base.specs.declared.limits.TheConstants.{LSN_LIMIT}
 use Rattle.model_base.specs.declared.shape.Shape.{Shape}
-use Rattle.model_core.specs.{Actor, collected, Line, lsn, new_flusher, new_user, new_writer, UserState}
+use Rattle.model_core.specs.{Actor, collected, Line, lsn, new_user, UserState}
 use Rattle.model_core.specs.Actors as actor
 use Rattle.model_running.proofs.Places.{lsn_is}
 use Rattle.model_report.specs.{lines_of_user}
@@ -16,7 +16,9 @@ use Rattle.model_script.specs.{group_of, LineFits, script_end}
 use Rattle.model_script.specs.declared.misfit.TheConstants.{MAX_USERS}
 use Rattle.model_script.specs.declared.script.ScriptLine.{ScriptLine}
 use Rattle.redo_useractor.specs.{program_lines}
-use Rattle.redo_drive.specs.Setups.{page_actors, programs_of, start_actors, users_below, users_of}
+use Rattle.redo_drive.specs.declared.seating.TheConstants.{FIRST_FOLLOWER}
+use Rattle.redo_drive.specs.Setups.{followers_from, other_actors, page_actors, programs_of, start_actors, users_below}
+use Rattle.redo_drive.specs.Setups.{users_of}
 
 -- the sum for each number below n
 sum_below : (ℕ → ℕ) → ℕ → ℕ
@@ -97,25 +99,36 @@ users_reserve blocks programs (suc n) = by (eqb (length (programs n)) 0) (λ is.
         let last : sum_over_actors left_to_reserve (actor.User user ∷ []) ≡ lengths (programs n) = omega arith in omega arith
 
 -- the actors of the pages reserve nothing
-pages_reserve : (shape : Shape) (start : ℕ) (log_only : Bool) → sum_over_actors left_to_reserve (page_actors shape start log_only) ≡ 0
-pages_reserve shape start true = refl
-pages_reserve shape start false = refl
+pages_reserve : (shape : Shape) (start : ℕ) (log_only : Bool) (followers : ℕ)
+    → sum_over_actors left_to_reserve (page_actors shape start log_only followers) ≡ 0
+pages_reserve shape start true followers = refl
+pages_reserve shape start false followers = refl
+
+followers_reserve : (start number followers : ℕ)
+    → sum_over_actors left_to_reserve (followers_from start number followers) ≡ 0
+followers_reserve start number zero = refl
+followers_reserve start number (suc n) = let rest = followers_reserve start (number + 1) n in omega arith
 
 -- what all actors may reserve
-pub actors_reserve : (shape : Shape) (script : List ScriptLine) (start : ℕ) (log_only : Bool) → AllByRecursion (LineFits shape) script
-    → sum_over_actors left_to_reserve (start_actors shape script start log_only) ≡ length (stream_of (map (group_of shape.space) script))
-actors_reserve shape script start log_only fits =
+pub actors_reserve : (shape : Shape) (script : List ScriptLine) (start : ℕ) (log_only : Bool) (followers : ℕ)
+    → AllByRecursion (LineFits shape) script
+    → sum_over_actors left_to_reserve (start_actors shape script start log_only followers) ≡ length (stream_of (map (group_of shape.space) script))
+actors_reserve shape script start log_only followers fits =
     let programs : ℕ → List Line = programs_of shape log_only script in
     let users : List Actor = map actor.User (users_of shape log_only script) in
-    let others : List Actor = actor.Writer (new_writer (run_layout shape).blocks start) ∷ actor.Flusher (new_flusher start) ∷ page_actors shape start log_only in
-    let parts = sum_append left_to_reserve users others in
-    let none = pages_reserve shape start log_only in
+    let others : List Actor = other_actors shape start log_only followers in
+    let readers : List Actor = followers_from start FIRST_FOLLOWER followers in
+    let parts = sum_append left_to_reserve (users ++ others) readers in
+    let more = sum_append left_to_reserve users others in
+    let none = pages_reserve shape start log_only followers in
+    let nothing = followers_reserve start FIRST_FOLLOWER followers in
     let all = users_reserve (run_layout shape).blocks programs (MAX_USERS + 1) ∙ all_count shape log_only script fits in omega arith
 
 -- and the log has room for that
-pub room_for_all : (shape : Shape) (script : List ScriptLine) (start : ℕ) (log_only : Bool) → AllByRecursion (LineFits shape) script → script_end shape start script < LSN_LIMIT
-    → lsn (sn_of start + sum_over_actors left_to_reserve (start_actors shape script start log_only) + 0) < LSN_LIMIT
-room_for_all shape script start log_only fits room =
-    let sum = actors_reserve shape script start log_only fits in
-    let end : sn_of start + sum_over_actors left_to_reserve (start_actors shape script start log_only) + 0 ≡ sn_of start + length (stream_of (map (group_of shape.space) script)) = omega arith in
+pub room_for_all : (shape : Shape) (script : List ScriptLine) (start : ℕ) (log_only : Bool) (followers : ℕ)
+    → AllByRecursion (LineFits shape) script → script_end shape start script < LSN_LIMIT
+    → lsn (sn_of start + sum_over_actors left_to_reserve (start_actors shape script start log_only followers) + 0) < LSN_LIMIT
+room_for_all shape script start log_only followers fits room =
+    let sum = actors_reserve shape script start log_only followers fits in
+    let end : sn_of start + sum_over_actors left_to_reserve (start_actors shape script start log_only followers) + 0 ≡ sn_of start + length (stream_of (map (group_of shape.space) script)) = omega arith in
     subst (λ (n : ℕ). lsn n < LSN_LIMIT) (sym end) (subst (λ (n : ℕ). n < LSN_LIMIT) (sym (lsn_is (sn_of start + length (stream_of (map (group_of shape.space) script))))) room)

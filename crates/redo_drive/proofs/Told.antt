@@ -10,6 +10,7 @@ use Rattle.model_core.proofs.Lsns.{lsn_less, sn_below}
 use Rattle.model_core.specs.Actors as model
 use Rattle.model_core.specs.{end_of, entries, entries_from, entry, Line, line_at, lsn, sum_of, Tiles, UserState}
 use Rattle.model_core.specs.Groups as core
+use Rattle.model_running.proofs.Seated.{NoneJoined, none_joined}
 use Rattle.model_running.specs.{history_entry, history_of, word_marks}
 use Rattle.model_report.specs.declared.entry.Entry.{Entry}
 use Rattle.model_report.specs.declared.entry.Marks.{Marks}
@@ -24,7 +25,6 @@ use Rattle.redo_drive.specs.Playing.{RunOf, run_log_side}
 use Rattle.redo_drive.specs.Running.{RunsOn}
 use Rattle.redo_drive.specs.Views.{view_of, views_of}
 use Rattle.redo_drive.specs.declared.actor.Actor.{Actor}
-use Rattle.redo_drive.specs.declared.actor.Actor.TheVariants as own
 use Rattle.redo_drive.specs.declared.parts.Parts.{Parts}
 
 -- the history of a log ascends by its starts
@@ -82,44 +82,54 @@ ones [] = refl
 ones (x ∷ xs) = let r = ones xs in omega arith
 
 -- what is told of a user's answered commits
-abbrev AreAnswered : (ℕ → ℕ) → List Actor → Type 0
-AreAnswered answered actors = (seat : ℕ) (u : UserState) → get_elem? (views_of actors) seat ≡ some (model.User u) → answered u.user ≡ u.k
+abbrev AreAnswered : (ℕ → ℕ) → List model.Actor → Type 0
+AreAnswered answered actors = (seat : ℕ) (u : UserState) → get_elem? actors seat ≡ some (model.User u) → answered u.user ≡ u.k
 
-actor_total : (answered : ℕ → ℕ) (marks : Marks) (f : Entry → ℕ) (a : Actor) → ((u : UserState) → view_of a ≡ model.User u → answered u.user ≡ u.k) → total f (listed marks (view_of a)) ≡ sum_of (λ e. f (history_entry answered marks e)) (entries (view_of a))
-actor_total answered marks f (own.User u) is = user_total answered marks f u.user u.k u.lines 0 u.starts (is u refl)
-actor_total answered marks f _ is = refl
+actor_total : (answered : ℕ → ℕ) (marks : Marks) (f : Entry → ℕ) (a : model.Actor)
+    → ((u : UserState) → a ≡ model.User u → answered u.user ≡ u.k)
+    → ((es : List core.Entry) → a ≡ model.Joined es → ◌≡◌ {A = List core.Entry} es [])
+    → total f (listed marks a) ≡ sum_of (λ e. f (history_entry answered marks e)) (entries a)
+actor_total answered marks f (model.User u) is none =
+    user_total answered marks f u.user u.k u.lines 0 u.starts (is u refl)
+actor_total answered marks f (model.Joined es) is none =
+    sym (ap (sum_of (λ e. f (history_entry answered marks e))) (none es refl))
+actor_total answered marks f _ is none = refl
 
-all_total : (answered : ℕ → ℕ) (marks : Marks) (f : Entry → ℕ) (actors : List Actor) → AreAnswered answered actors → total f (all_listed marks actors) ≡ sum_over_actors (λ a. sum_of (λ e. f (history_entry answered marks e)) (entries a)) (views_of actors)
-all_total answered marks f [] are = refl
-all_total answered marks f (x ∷ xs) are =
-    let parts : total f (all_listed marks (x ∷ xs)) ≡ total f (listed marks (view_of x)) + total f (all_listed marks xs) =
-    ap (total f) (flat_map-cons (λ (a : Actor). listed marks (view_of a)) x xs) ∙ total_append f (listed marks (view_of x)) (all_listed marks xs) in
-    let first = actor_total answered marks f x (λ u is. are 0 u (ap some is)) in
-    let rest = all_total answered marks f xs (λ seat u at. are (suc seat) u at) in
+all_total : (answered : ℕ → ℕ) (marks : Marks) (f : Entry → ℕ) (actors : List model.Actor)
+    → AreAnswered answered actors → NoneJoined actors
+    → total f (all_listed marks actors)
+    ≡ sum_over_actors (λ a. sum_of (λ e. f (history_entry answered marks e)) (entries a)) actors
+all_total answered marks f [] are none = refl
+all_total answered marks f (x ∷ xs) are none =
+    let parts : total f (all_listed marks (x ∷ xs)) ≡ total f (listed marks x) + total f (all_listed marks xs) =
+    ap (total f) (flat_map-cons (listed marks) x xs) ∙ total_append f (listed marks x) (all_listed marks xs) in
+    let first = actor_total answered marks f x (λ u is. are 0 u (ap some is)) (λ es is. none 0 es (ap some is)) in
+    let rest = all_total answered marks f xs (λ seat u at. are (suc seat) u at) (λ seat es at. none (suc seat) es at) in
     omega arith
 
-module _ {L D : Type 0} (log_seen : L → Seen) (data_seen : D → Seen) (run : RunOf L D) (parts : Parts L D) (actors : List Actor) (runs : RunsOn log_seen data_seen run parts actors) where
+module _ {L D : Type 0} (log_seen : L → Seen) (data_seen : D → Seen) (run : RunOf L D) (parts : Parts L D)
+    (actors : List model.Actor) (runs : RunsOn log_seen data_seen run parts actors) where
   abbrev ghosts : LogGhost
   ghosts = runs.running.log_ghost
 
   abbrev marks : Marks
   marks = word_marks runs.running.shared
 
-  abbrev half : LogHalf (run_log_side log_seen data_seen run) run.setup 0 runs.running.shared ghosts parts.log (views_of actors)
+  abbrev half : LogHalf (run_log_side log_seen data_seen run) run.setup 0 runs.running.shared ghosts parts.log actors
   half = runs.running.both.logged
 
   -- what no group of the log has, no group of a user has
-  none_of_user : (h : core.Entry → ℕ) → ((i : ℕ) (e : core.Entry) → get_elem? ghosts.log i ≡ some e → h e ≡ 0) → (seat : ℕ) (u : UserState) → get_elem? (views_of actors) seat ≡ some (model.User u) → (k : ℕ) → k < length u.starts
+  none_of_user : (h : core.Entry → ℕ) → ((i : ℕ) (e : core.Entry) → get_elem? ghosts.log i ≡ some e → h e ≡ 0) → (seat : ℕ) (u : UserState) → get_elem? actors seat ≡ some (model.User u) → (k : ℕ) → k < length u.starts
       → h (entry u.user k (slice_index u.starts k) (line_at u.lines k)) ≡ 0
   none_of_user h none seat u at k l =
       let here : h (entry u.user (0 + k) (slice_index u.starts k) (line_at u.lines (0 + k))) ≤ sum_of h (entries (model.User u)) = group_at h u.user u.lines 0 u.starts k l in
       let same : h (entry u.user (0 + k) (slice_index u.starts k) (line_at u.lines (0 + k))) ≡ h (entry u.user k (slice_index u.starts k) (line_at u.lines k)) = ap (λ (i : ℕ). h (entry u.user i (slice_index u.starts k) (line_at u.lines i))) (omega arith) in
-      let seats = actor_at (λ a. sum_of h (entries a)) (views_of actors) seat (model.User u) at in
+      let seats = actor_at (λ a. sum_of h (entries a)) actors seat (model.User u) at in
       let all = half.counted h in
       let nothing = none_of_log h ghosts.log none in
       omega arith
 
-  reserved : (seat : ℕ) (u : UserState) → get_elem? (views_of actors) seat ≡ some (model.User u) → (k : ℕ) → k < length u.starts → HasReserved u k
+  reserved : (seat : ℕ) (u : UserState) → get_elem? actors seat ≡ some (model.User u) → (k : ℕ) → k < length u.starts → HasReserved u k
   reserved seat u at k l =
       let f : UserFits (run_log_side log_seen data_seen run) run.setup runs.running.shared ghosts parts.log seat u = half.each seat (model.User u) at in
       let tiled = half.global.tiled in
@@ -127,19 +137,17 @@ module _ {L D : Type 0} (log_seen : L → Seen) (data_seen : D → Seen) (run : 
       let end : slice_index u.starts k + length (line_at u.lines k).bytes - runs.running.shared.sn ≡ 0 =
       none_of_user (λ e. end_of e - runs.running.shared.sn) (λ i e is. let n = (tiles_at ghosts.log run.setup.base runs.running.shared.sn i e tiled.tiles is).1 in omega arith) seat u at k l in
       let lines : length u.lines ≡ length (run.setup.script u.user) = ap length f.lines in
-      let small = sn_below runs.running.shared.sn runs.running.shared.sn LSN_LIMIT (omega arith) (small_sn (run_log_side log_seen data_seen run) run.setup 0 runs.running.shared ghosts parts.log (views_of actors) 0 half) in
+      let small = sn_below runs.running.shared.sn runs.running.shared.sn LSN_LIMIT (omega arith) (small_sn (run_log_side log_seen data_seen run) run.setup 0 runs.running.shared ghosts parts.log actors 0 half) in
       record { start = l; line = omega arith; small = omega arith }
 
-  has_groups : (seat : ℕ) (a : model.Actor) → get_elem? (views_of actors) seat ≡ some a → HasGroups a
+  pub has_groups : (seat : ℕ) (a : model.Actor) → get_elem? actors seat ≡ some a → HasGroups a
   has_groups seat (model.User u) at = reserved seat u at
   has_groups seat _ at = tt
-
-  pub have_groups : (seat : ℕ) (actor : Actor) → seat < length actors → HasGroups (view_of (get_or actors seat actor))
-  have_groups seat actor l = has_groups seat (view_of (get_or actors seat actor)) (view_at actors seat actor l)
 
   sums : (f : Entry → ℕ) → total f (all_listed marks actors) ≡ total f (history_of ghosts.answered marks ghosts.log)
   sums f =
       all_total ghosts.answered marks f actors (λ seat u at. let fits : UserFits (run_log_side log_seen data_seen run) run.setup runs.running.shared ghosts parts.log seat u = half.each seat (model.User u) at in fits.answers)
+      (none_joined run.setup actors runs.seated)
       ∙ half.counted (λ e. f (history_entry ghosts.answered marks e)) ∙ sym (log_total ghosts.answered marks f ghosts.log)
 
   -- they are as many as the log has
@@ -151,3 +159,10 @@ module _ {L D : Type 0} (log_seen : L → Seen) (data_seen : D → Seen) (run : 
   history_is history l =
       same_in_order (lsn run.setup.base) history (history_of ghosts.answered marks ghosts.log) l.in_order
       (history_rises ghosts.answered marks ghosts.log run.setup.base runs.running.shared.sn half.global.tiled.tiles) (λ f. total_moved f (all_listed marks actors) history l.all ∙ sums f)
+
+pub have_groups : {L D R : Type 0} (log_seen : L → Seen) (data_seen : D → Seen) (run : RunOf L D) (parts : Parts L D)
+    (actors : List (Actor R)) → RunsOn log_seen data_seen run parts (views_of actors)
+    → (seat : ℕ) (actor : Actor R) → seat < length actors → HasGroups (view_of (get_or actors seat actor))
+have_groups log_seen data_seen run parts actors runs seat actor l =
+    has_groups log_seen data_seen run parts (views_of actors) runs seat (view_of (get_or actors seat actor))
+    (view_at actors seat actor l)

@@ -1,5 +1,6 @@
 -- The lines that a user has of a script that fits the store.
-use Rattle.std.proofs.Common.{Bool, List, Some, [], ap, arith, cond, eqb, false, length, map, refl, slice_get, subst, suc, sym, true, zero, ℕ, ◌<◌, ◌∙◌, ◌∷◌, ◌≡◌, ◌≤◌}
+use Rattle.std.proofs.Common.{Bool, List, Some, [], ap, arith, cond, eqb, false, length, map, refl, slice_get, subst}
+use Rattle.std.proofs.Common.{suc, sym, true, zero, ℕ, ◌+◌, ◌<◌, ◌∙◌, ◌∷◌, ◌≡◌, ◌≤◌}
 use Rattle.std.proofs.lemmas.Bool.{eqb-true}
 use Rattle.std.proofs.lemmas.List.{length-map}
 use Rattle.std.proofs.lemmas.Option.{get_or_from_slice_get, same_Some, slice_get-map, slice_get_within}
@@ -8,6 +9,7 @@ use Rattle.std.specs.Option.{option_map}
 use native.Mathlib.Decide.{dec_le}
 use Rattle.model_base.specs.declared.shape.Shape.{Shape}
 use Rattle.model_core.specs.{Line, line_of}
+use Rattle.model_core.specs.declared.limits.TheConstants.{READERS}
 use Rattle.model_running.proofs.Groups.{line_below}
 use Rattle.model_running.specs.{IsOfScript}
 use Rattle.model_report.specs.{lines_of_user}
@@ -18,6 +20,7 @@ use Rattle.model_script.specs.declared.misfit.TheConstants.{MAX_USERS}
 use Rattle.model_script.specs.declared.script.ScriptLine.{ScriptLine}
 use Rattle.redo_drive.specs.Setups.{programs_of, user_lines}
 use Rattle.redo_drive.specs.StartWords.{setup_of}
+use Rattle.redo_drive.specs.declared.seating.TheConstants.{FIRST_FOLLOWER}
 use Rattle.redo_useractor.specs.{AreUserLines, IsUserLine}
 
 -- what holds of each line of a script holds of a user's, which are its own
@@ -79,11 +82,12 @@ no_program shape script lines fits log_only user outside = elim (dec_le 1 (lengt
 
 -- the users' programs are those of the script
 pub of_script : (shape : Shape) (pages : List Content) (start : ℕ) (script : List ScriptLine) (log_only : Bool)
-    → IsOfScript (setup_of shape pages start script log_only) script shape
-of_script shape pages start script log_only = record {
+    (followers : ℕ) → FIRST_FOLLOWER + followers ≤ READERS
+    → IsOfScript (setup_of shape pages start script log_only followers) script shape
+of_script shape pages start script log_only followers few = record {
   count = λ user. length-map (map spelled (lines_of_user user script)) program ∙ length-map (lines_of_user user script) spelled;
   readers = omega arith;
-  few_readers = omega arith;
+  few_readers = few;
   each = λ user k one at. get_or_from_slice_get (programs_of shape log_only script user) k (program (spelled one)) (record { mode = 0; bytes = []; changes = [] })
       (slice_get-map program (map spelled (lines_of_user user script)) k ∙ ap (option_map program) (slice_get-map spelled (lines_of_user user script) k ∙ ap (option_map spelled) at));
 }

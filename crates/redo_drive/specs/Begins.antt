@@ -1,6 +1,6 @@
 -- A run at its beginning, with all that the invariant starts from.
 use Rattle.std.specs.Prelude.{Bool, IfSome, List, [], length, vec_capacity, ℕ, ◌≡◌, ◌≤◌}
-use Rattle.model_core.specs.{flat, Listed, SharedWords}
+use Rattle.model_core.specs.{flat, Given, Listed, SharedWords}
 use Rattle.model_theorem.specs.{IsStart}
 use Rattle.model_running.specs.StartStore.{StartStore}
 use Rattle.model_script.specs.declared.script.ScriptLine.{ScriptLine}
@@ -9,14 +9,16 @@ use Rattle.redo_disk.specs.Seen.{Seen}
 use Rattle.redo_drive.specs.Beginning.{HaveBegun, IsRunOfOpened, StandsAtStart}
 use Rattle.redo_drive.specs.Startable.{HasReading}
 use Rattle.redo_drive.specs.Lists.{lists_of}
+use Rattle.redo_drive.specs.Making.{EndsWithFollowers}
 use Rattle.redo_drive.specs.Playing.{RunOf, run_data_side, run_log_side}
-use Rattle.redo_drive.specs.Running.{RunsOn}
+use Rattle.redo_drive.specs.Running.{RunsFrom}
 use Rattle.redo_drive.specs.Views.{views_of}
 use Rattle.redo_drive.specs.declared.making.Beginning.{Beginning}
+use Rattle.redo_follow.specs.Handing.{Following}
 use Rattle.redo_store.specs.declared.opened.Opened.{Opened}
 
 -- The store stands as the invariant wants it at the start: words, parts and actors, and no page is listed.
-pub record IsAtStart {L D : Type 0} (log_seen : L → Seen) (data_seen : D → Seen) (run : RunOf L D) (start : Beginning L D) : Type 0 where
+pub record IsAtStart {L D R : Type 0} (log_seen : L → Seen) (data_seen : D → Seen) (run : RunOf L D) (start : Beginning L D R) : Type 0 where
   pub words : SharedWords
   pub words_are : start.parts.words.words ≡ flat words
   pub seat_of : ℕ → ℕ
@@ -25,13 +27,15 @@ pub record IsAtStart {L D : Type 0} (log_seen : L → Seen) (data_seen : D → S
       start.parts.log start.parts.store seat_of writer (views_of start.actors.items)
   pub none_listed : (i : ℕ) → ◌≡◌ {A = List Listed} (lists_of start.parts.lists i) []
 
--- PARTS AND ACTORS STAND AT THE BEGINNING of the run of this script on this store.
-pub record BeginsRun {L D : Type 0} (log_seen : L → Seen) (data_seen : D → Seen) (opened : Opened L D) (script : List ScriptLine) (log_only : Bool) (start : Beginning L D) : Type 0 where
+-- PARTS AND ACTORS STAND AT THE BEGINNING of the run of this script on this store, with these followers.
+pub record BeginsRun {L D R : Type 0} (log_seen : L → Seen) (data_seen : D → Seen) (stands_for : R → List Given → Type 0) (opened : Opened L D)
+    (script : List ScriptLine) (log_only : Bool) (new_followers : List (Following R)) (start : Beginning L D R) : Type 0 where
   pub run : RunOf L D
-  pub is_run : IsRunOfOpened opened script log_only run
+  pub is_run : IsRunOfOpened opened script log_only (length new_followers) run
   pub at_start : IsAtStart log_seen data_seen run start
-  pub stands : StandsAtStart opened script run start.parts start.actors.items
-  pub runs : RunsOn log_seen data_seen run start.parts start.actors.items
+  pub stands : StandsAtStart opened script (length new_followers) run start.parts (views_of start.actors.items)
+  pub from : RunsFrom log_seen data_seen stands_for run start.actors.items start.parts start.actors.items
+  pub followers : EndsWithFollowers start.actors.items new_followers
   pub log : start.parts.log ≡ opened.log
   pub data_part : start.parts.store ≡ opened.store
   -- there is room for the history

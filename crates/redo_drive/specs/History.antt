@@ -7,8 +7,6 @@ use Rattle.model_core.specs.{entries_from, entry, line_at, UserState}
 use Rattle.model_running.specs.{history_entry}
 use Rattle.model_report.specs.declared.entry.Entry.{Entry}
 use Rattle.model_report.specs.declared.entry.Marks.{Marks}
-use Rattle.redo_drive.specs.Views.{view_of}
-use Rattle.redo_drive.specs.declared.actor.Actor.{Actor}
 
 -- the user has reserved a group for its k-th line, which ends at an sn
 pub record HasReserved (u : UserState) (k : ℕ) : Type 0 where
@@ -34,10 +32,10 @@ abbrev pub listed : Marks → model.Actor → List Entry
 listed marks (model.User u) = listed_from marks u 0 u.starts
 listed marks _ = []
 
-abbrev pub all_listed : Marks → List Actor → List Entry
-all_listed marks actors = flat_map (λ actor. listed marks (view_of actor)) actors
+abbrev pub all_listed : Marks → List model.Actor → List Entry
+all_listed marks actors = flat_map (listed marks) actors
 
 -- the history lists the groups of all, in lsn order
-pub record ListsInOrder (marks : Marks) (actors : List Actor) (history : List Entry) : Type 0 where
+pub record ListsInOrder (marks : Marks) (actors : List model.Actor) (history : List Entry) : Type 0 where
   pub all : IsPermutation (all_listed marks actors) history
   pub in_order : IsNonDecreasingBy (λ entry. entry.start) history

@@ -1,6 +1,6 @@
 -- What a run leaves, however its Ops were interleaved: from this the closed run follows, by turns and in threads alike.
-use Rattle.std.specs.Prelude.{Bool, IfSome, List, slice_index, ◌≡◌}
-use Rattle.model_core.specs.{index}
+use Rattle.std.specs.Prelude.{Bool, IfSome, List, slice_index, ℕ, ◌≡◌}
+use Rattle.model_core.specs.{Given, index}
 use Rattle.model_core.specs.declared.words.Word.TheVariants as word
 use Rattle.model_running.specs.{history_of, marks_in, word_marks}
 use Rattle.model_theorem.specs.{IsStart}
@@ -12,22 +12,24 @@ use Rattle.redo_drive.specs.Beginning.{HaveBegun, IsRunOfOpened}
 use Rattle.redo_drive.specs.Startable.{HasReading}
 use Rattle.redo_drive.specs.Calls.{CallsOn}
 use Rattle.redo_drive.specs.Playing.{RunOf}
-use Rattle.redo_drive.specs.Running.{RunsOn}
+use Rattle.redo_drive.specs.Running.{RunsFrom}
 use Rattle.redo_drive.specs.declared.actor.Actor.{Actor}
 use Rattle.redo_drive.specs.declared.parts.Parts.{Parts}
 use Rattle.redo_drive.specs.declared.closed.Closed.{Closed}
 use Rattle.redo_store.specs.declared.opened.Opened.{Opened}
 
--- The run of the script on the opened store came to these actors, and the closed store is what they and its parts tell.
-pub record LeavesRun {L D : Type 0} (log_seen : L → Seen) (log_gives : L → Call → L → Type 0) (data_seen : D → Seen) (data_gives : D → Call → D → Type 0)
-    (opened : Opened L D) (script : List ScriptLine) (log_only : Bool) (actors : List Actor) (closed : Closed L D) : Type 0 where
+-- The run of the script on the opened store, with so many followers, began with the first of these actors and came to the
+-- others, and the closed store is what they and its parts tell.
+pub record LeavesRun {L D R : Type 0} (log_seen : L → Seen) (log_gives : L → Call → L → Type 0) (data_seen : D → Seen) (data_gives : D → Call → D → Type 0)
+    (stands : R → List Given → Type 0) (opened : Opened L D) (script : List ScriptLine) (log_only : Bool) (followers : ℕ)
+    (starts actors : List (Actor R)) (closed : Closed L D) : Type 0 where
   pub run : RunOf L D
-  pub is_run : IsRunOfOpened opened script log_only run
+  pub is_run : IsRunOfOpened opened script log_only followers run
   pub begun : (reading : Reading) → HasReading reading opened
       → IfSome (log_seen opened.log.dev).tells (λ log_disk. IfSome (data_seen opened.store.dev).tells (λ data_disk.
       IsStart reading script log_disk data_disk → HaveBegun log_seen data_seen run))
   pub last : Parts L D
-  pub runs : RunsOn log_seen data_seen run last actors
+  pub from : RunsFrom log_seen data_seen stands run starts last actors
   pub log_calls : CallsOn log_gives opened.log.dev opened.log.failed last.log.dev last.log.failed
   pub data_calls : CallsOn data_gives opened.store.dev opened.store.failed last.store.dev last.store.failed
   pub log_shape : last.log.shape ≡ opened.log.shape
@@ -35,4 +37,4 @@ pub record LeavesRun {L D : Type 0} (log_seen : L → Seen) (log_gives : L → C
   pub data_part : closed.store ≡ last.store
   pub marks : closed.marks ≡ marks_in last.words.words
   pub code : closed.code ≡ slice_index last.words.words (index word.Failed)
-  pub history : closed.history ≡ history_of runs.running.log_ghost.answered (word_marks runs.running.shared) runs.running.log_ghost.log
+  pub history : closed.history ≡ history_of from.runs.running.log_ghost.answered (word_marks from.runs.running.shared) from.runs.running.log_ghost.log

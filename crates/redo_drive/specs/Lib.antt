@@ -6,12 +6,14 @@ pub mod DataPartSide
 pub mod Devices
 pub mod Drive
 pub mod FirstWords
+pub mod Followed
 pub mod History
 pub mod Leaving
 pub mod Lists
 pub mod LogPartSide
 pub mod Making
 pub mod Playing
+pub mod Receiving
 pub mod Requests
 pub mod Running
 pub mod Setups

@@ -1,5 +1,5 @@
 -- What a run takes memory for, as it begins.
-use Rattle.std.specs.Prelude.{Bool, List, [], length, vec_capacity, ℕ, ◌≡◌, ◌≤◌}
+use Rattle.std.specs.Prelude.{Bool, List, [], drop, length, map, vec_capacity, ℕ, ◌-◌, ◌≡◌, ◌≤◌}
 use Rattle.model_base.specs.declared.shape.Shape.{Shape}
 use Rattle.model_core.specs.Setup.{Setup}
 use Rattle.model_page.specs.declared.content.Content.{Content}
@@ -9,14 +9,25 @@ use Rattle.redo_drive.specs.Setups.{start_actors}
 use Rattle.redo_drive.specs.StartWords.{HoldBytes, StartsOn}
 use Rattle.redo_drive.specs.FirstWords.{AreStartWords}
 use Rattle.redo_drive.specs.Views.{views_of}
+use Rattle.redo_drive.specs.declared.actor.Actor.{Actor}
+use Rattle.redo_drive.specs.declared.actor.Actor.TheVariants as own
 use Rattle.redo_drive.specs.declared.making.Own.{Own}
+use Rattle.redo_follow.specs.Handing.{Following}
 
--- The words of the run's start, empty lists, new actors in their seats, and room for an entry of each line.
-pub record IsOwnOf (shape : Shape) (pages : List Content) (script : List ScriptLine) (start : ℕ) (log_only : Bool) (own : Own) : Type 0 where
+-- the last actors are these followers, in their order
+abbrev pub EndsWithFollowers : {R : Type 0} → List (Actor R) → List (Following R) → Type 0
+EndsWithFollowers {R} actors followers =
+    ◌≡◌ {A = List (Actor R)} (drop (length actors - length followers) actors) (map own.Follower followers)
+
+-- The words of the run's start, empty lists, new actors in their seats, the last of which are these followers, and room
+-- for an entry of each line.
+pub record IsOwnOf {R : Type 0} (shape : Shape) (pages : List Content) (script : List ScriptLine) (start : ℕ) (log_only : Bool)
+    (new_followers : List (Following R)) (own : Own R) : Type 0 where
   pub word_pages : own.words.pages ≡ length pages
   pub bytes : HoldBytes shape pages
   pub words : (c : Setup) → StartsOn start shape pages c → AreStartWords own.words.words c
   pub lists : own.lists ≡ empty_lists shape.pages
-  pub actors : views_of own.actors.items ≡ start_actors shape script start log_only
+  pub actors : views_of own.actors.items ≡ start_actors shape script start log_only (length new_followers)
+  pub followers : EndsWithFollowers own.actors.items new_followers
   pub no_entries : own.entries.items ≡ []
   pub room : length script ≤ vec_capacity own.entries

@@ -1,7 +1,7 @@
 -- The actors of the run of a script on a store, as it begins.
-use Rattle.std.specs.Prelude.{Bool, List, [], cond, false, length, map, true, ℕ, ◌++◌, ◌+◌, ◌==◌, ◌∷◌}
+use Rattle.std.specs.Prelude.{Bool, List, [], cond, false, length, map, suc, true, zero, ℕ, ◌++◌, ◌+◌, ◌==◌, ◌∷◌}
 use Rattle.model_base.specs.declared.shape.Shape.{Shape}
-use Rattle.model_core.specs.{Actor, collected, Line, new_checkpointer, new_cleaner, new_closer, new_flusher, new_user, new_writer, UserState}
+use Rattle.model_core.specs.{Actor, collected, Line, new_checkpointer, new_cleaner, new_closer, new_flusher, new_reader, new_user, new_writer, UserState}
 use Rattle.model_core.specs.Actors as actor
 use Rattle.model_report.specs.{lines_of_user}
 use Rattle.model_log.specs.{run_layout}
@@ -9,6 +9,7 @@ use Rattle.model_log.specs.declared.rec.Rec.{Rec}
 use Rattle.model_script.specs.{group_of}
 use Rattle.model_script.specs.declared.misfit.TheConstants.{MAX_USERS}
 use Rattle.model_script.specs.declared.script.ScriptLine.{ScriptLine}
+use Rattle.redo_drive.specs.declared.seating.TheConstants.{FIRST_FOLLOWER}
 use Rattle.redo_useractor.specs.{program_lines}
 
 -- the lines of a user, each a mode and a group
@@ -31,19 +32,30 @@ users_below blocks programs n = collected (user_of blocks programs) n
 abbrev pub users_of : Shape → (log_only : Bool) → List ScriptLine → List UserState
 users_of shape log_only script = users_below (run_layout shape).blocks (programs_of shape log_only script) (MAX_USERS + 1)
 
--- the number of the first follower; a run has none, so this is past the last one
-abbrev pub first_follower : ℕ
-first_follower = 1
+-- so many followers, the first of which has this number
+abbrev pub followers_from : (start : ℕ) → (number : ℕ) → (followers : ℕ) → List Actor
+followers_from start number zero = []
+followers_from start number (suc n) = actor.Reader (new_reader number start) ∷ followers_from start (number + 1) n
 
 -- the actors of the pages; where the log runs alone there are none
-abbrev pub page_actors : Shape → (start : ℕ) → (log_only : Bool) → List Actor
-page_actors shape start true = []
-page_actors shape start false =
+abbrev pub page_actors : Shape → (start : ℕ) → (log_only : Bool) → (followers : ℕ) → List Actor
+page_actors shape start true followers = []
+page_actors shape start false followers =
     actor.Closer new_closer ∷ actor.Cleaner (new_cleaner shape.pages shape.page_size)
-    ∷ actor.Checkpointer (new_checkpointer start first_follower first_follower) ∷ []
+    ∷ actor.Checkpointer (new_checkpointer start FIRST_FOLLOWER (FIRST_FOLLOWER + followers)) ∷ []
 
--- the actors of the run in their seats, with nothing done
-abbrev pub start_actors : Shape → List ScriptLine → (start : ℕ) → (log_only : Bool) → List Actor
-start_actors shape script start log_only =
-    map actor.User (users_of shape log_only script)
-    ++ actor.Writer (new_writer (run_layout shape).blocks start) ∷ actor.Flusher (new_flusher start) ∷ page_actors shape start log_only
+-- the actors behind the users
+abbrev pub other_actors : Shape → (start : ℕ) → (log_only : Bool) → (followers : ℕ) → List Actor
+other_actors shape start log_only followers =
+    actor.Writer (new_writer (run_layout shape).blocks start) ∷ actor.Flusher (new_flusher start)
+    ∷ page_actors shape start log_only followers
+
+-- the actors of the run that have their seats before the followers
+abbrev pub seated_before : Shape → List ScriptLine → (start : ℕ) → (log_only : Bool) → (followers : ℕ) → List Actor
+seated_before shape script start log_only followers =
+    map actor.User (users_of shape log_only script) ++ other_actors shape start log_only followers
+
+-- the actors of the run in their seats, with nothing done: the followers come last
+abbrev pub start_actors : Shape → List ScriptLine → (start : ℕ) → (log_only : Bool) → (followers : ℕ) → List Actor
+start_actors shape script start log_only followers =
+    seated_before shape script start log_only followers ++ followers_from start FIRST_FOLLOWER followers

@@ -1,5 +1,5 @@
 -- The words of a store as a run begins on its pages, and what never changes in the run.
-use Rattle.std.specs.Prelude.{Bool, List, Some, [], drop, get_or, length, replicate, slice_get, slice_index, slice_set, suc, take, zero, ℕ, ◌%◌, ◌++◌, ◌+◌, ◌-◌, ◌/◌, ◌<◌, ◌∷◌, ◌≡◌, ◌≤◌, false}
+use Rattle.std.specs.Prelude.{Bool, List, Some, [], drop, get_or, length, replicate, slice_get, slice_index, slice_set, suc, take, zero, ℕ, ◌%◌, ◌++◌, ◌+◌, ◌-◌, ◌/◌, ◌<◌, ◌∷◌, ◌≡◌, ◌≤◌, false, if◌then◌else◌}
 use Rattle.model_base.specs.declared.limits.TheConstants.{BLOCK_SIZE, PAGE_TRAILER, USER_START}
 use Rattle.model_core.specs.{flat, IsSized, KeptPage, lsn, packed, page_words_at, SharedWords, with_page_words}
 use Rattle.model_core.specs.Setup.{Setup}
@@ -10,7 +10,8 @@ use Rattle.model_page.specs.{blank_page}
 use Rattle.model_page.specs.declared.content.Content.{Content}
 use Rattle.model_base.specs.declared.shape.Shape.{Shape}
 use Rattle.model_script.specs.declared.script.ScriptLine.{ScriptLine}
-use Rattle.redo_drive.specs.Setups.{first_follower, programs_of, users_of}
+use Rattle.redo_drive.specs.Setups.{programs_of, users_of}
+use Rattle.redo_drive.specs.declared.seating.TheConstants.{FIRST_FOLLOWER}
 use Rattle.redo_words.specs.Plain.{Plain}
 
 -- the cells of a page: its user bytes, and 0 before and after them, where the running store keeps nothing
@@ -79,10 +80,15 @@ with_frame page frame m = with_page_words m page (record (page_words_at m.page_w
 abbrev pub IsBlankFrame : ℕ → SharedWords → Type 0
 IsBlankFrame page m = (i : ℕ) → slice_index (page_words_at m.page_words page).frame i ≡ 0
 
--- The run of a script on these pages of a store, with the log alone or with the pages, which starts at this lsn. The closer,
--- the cleaner and the checkpointer have their seats after the users, the writer and the flusher.
-abbrev pub setup_of : Shape → List Content → (start : ℕ) → List ScriptLine → (log_only : Bool) → Setup
-setup_of shape pages start script log_only = record {
+-- how many actors have their seats before the followers: the writer, the flusher, and those of the pages, behind the users
+abbrev pub seats_before : Shape → List ScriptLine → (log_only : Bool) → ℕ
+seats_before shape script log_only = length (users_of shape log_only script) + (if log_only then 2 else 5)
+
+-- The run of a script on these pages of a store, with the log alone or with the pages, and with so many followers, which
+-- starts at this lsn. The closer, the cleaner and the checkpointer have their seats after the users, the writer and the
+-- flusher, and the followers theirs at the end.
+abbrev pub setup_of : Shape → List Content → (start : ℕ) → List ScriptLine → (log_only : Bool) → (followers : ℕ) → Setup
+setup_of shape pages start script log_only followers = record {
   base = sn_of start;
   blocks = (run_layout shape).blocks;
   pages = shape.pages;
@@ -93,7 +99,7 @@ setup_of shape pages start script log_only = record {
   closer = length (users_of shape log_only script) + 2;
   cleaner = length (users_of shape log_only script) + 3;
   checkpointer = length (users_of shape log_only script) + 4;
-  first_reader = first_follower;
-  last_reader = first_follower;
-  reader_at = λ number. number;
+  first_reader = FIRST_FOLLOWER;
+  last_reader = FIRST_FOLLOWER + followers;
+  reader_at = λ number. seats_before shape script log_only + (number - FIRST_FOLLOWER);
 }

@@ -1,12 +1,18 @@
 -- A store on which a run may begin.
-use Rattle.std.specs.Prelude.{Bool, List, None, Option, Some, if◌then◌else◌, ℕ, ◌+◌, ◌-◌, ◌≡◌}
+use Rattle.std.specs.Prelude.{Bool, List, length, None, Option, Some, if◌then◌else◌, ℕ, ◌+◌, ◌-◌, ◌≡◌, ◌≤◌}
 use Rattle.std.specs.List.{AllByRecursion}
+use lib.ListN.{get_elem?}
+use mathlib.Core.Option.{some}
 use Rattle.model_base.specs.declared.shape.Shape.{Shape}
+use Rattle.model_core.specs.{new_reader}
+use Rattle.model_core.specs.declared.limits.TheConstants.{READERS}
 use Rattle.model_log.specs.declared.layout.TheConstants.{BLOCK_HEADER}
 use Rattle.model_parts.specs.{numbers_taken, start_of}
 use Rattle.model_script.specs.{IsScriptLine, round_end, ScriptFits}
 use Rattle.model_script.specs.declared.script.ScriptLine.{ScriptLine}
 use Rattle.model_store.specs.Reading.{Reading}
+use Rattle.redo_drive.specs.declared.seating.TheConstants.{FIRST_FOLLOWER}
+use Rattle.redo_follow.specs.Handing.{Following}
 use Rattle.redo_store.specs.{IsRunnable}
 use Rattle.redo_store.specs.declared.opened.Opened.{Opened}
 
@@ -19,6 +25,12 @@ pub record MayBegin {L D : Type 0} (opened : Opened L D) (script : List ScriptLi
   pub runnable : IsRunnable opened
   pub lines : AllByRecursion IsScriptLine script
   pub fits : ScriptFits opened.shape opened.start (room_from log_only opened.shape opened.start) script
+
+-- These are followers for a run that starts at this lsn: newly made, at most 4, and numbered 1, 2, .. in order.
+pub record AreNewFollowers {R : Type 0} (start : ℕ) (followers : List (Following R)) : Type 0 where
+  pub few : FIRST_FOLLOWER + length followers ≤ READERS
+  pub each : (i : ℕ) (follower : Following R) → get_elem? followers i ≡ some follower
+      → follower.state ≡ new_reader (FIRST_FOLLOWER + i) start
 
 -- The opened store was in order and read as this.
 pub record HasReading {L D : Type 0} (reading : Reading) (opened : Opened L D) : Type 0 where

@@ -4,13 +4,14 @@ use Rattle.model_core.specs.Actors as model
 use Rattle.redo_drive.specs.declared.actor.Actor.{Actor}
 use Rattle.redo_drive.specs.declared.actor.Actor.TheVariants as own
 
-abbrev pub view_of : Actor → model.Actor
+abbrev pub view_of : {R : Type 0} → Actor R → model.Actor
 view_of (own.User user) = model.User user
 view_of (own.Writer writer) = model.Writer writer
 view_of (own.Flusher flusher) = model.Flusher flusher
 view_of (own.Closer closer) = model.Closer closer
 view_of (own.Cleaner cleaner) = model.Cleaner cleaner
 view_of (own.Checkpointer checkpointer) = model.Checkpointer checkpointer
+view_of (own.Follower follower) = model.Reader follower.state
 
-abbrev pub views_of : List Actor → List model.Actor
+abbrev pub views_of : {R : Type 0} → List (Actor R) → List model.Actor
 views_of actors = map view_of actors

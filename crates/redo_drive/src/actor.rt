@@ -1,33 +1,46 @@
 // The actors of a running store.
-ghost use Rattle.std.specs.Prelude.{MatchOption, ◌≡◌, ◌≢◌};
+ghost use Rattle.std.specs.Prelude.{MatchOption, None, Some, ◌≡◌, ◌≢◌};
 ghost use Rattle.model_core.specs.{UserState};
 ghost use Rattle.model_core.specs.Actors as model;
+ghost use Rattle.redo_drive.specs.Receiving.{follower_of};
 ghost use Rattle.redo_drive.specs.Steps.{steps_in_vain};
 ghost use Rattle.redo_drive.specs.Views.{view_of};
 
 use model_core::{FLUSH_LISTS, FRAME_WORDS};
+use redo_follow::{Follower, Receiver};
 use redo_logactors::{Closer, Flusher, Writer};
 use redo_pageactors::{Checkpointer, Cleaner};
 use redo_useractor::UserActor;
 
 /// An actor.
-#[derive(Debug, Drop)]
-pub enum Actor {
+#[derive(Drop)]
+pub enum Actor<R: Receiver> {
     User(UserActor),
     Writer(Writer),
     Flusher(Flusher),
     Closer(Closer),
     Cleaner(Cleaner),
     Checkpointer(Checkpointer),
+    Follower(Follower<R>),
 }
 
-impl Actor {
+impl<R: Receiver> Actor<R> {
     /// The user, if it is one.
     pub fn user(&self) -> Option<&UserActor>
         ensures { MatchOption result ((u : UserState) → view_of self.now ≢ model.User u) (λ user. view_of self.now ≡ model.User user.now) }
     {
         match self {
             Actor::User(user) => Some(user),
+            _ => None,
+        }
+    }
+
+    /// The follower, if it is one.
+    pub fn follower(&self) -> Option<&Follower<R>>
+        ensures { MatchOption result (follower_of self.now ≡ None) (λ follower. follower_of self.now ≡ Some follower.now) }
+    {
+        match self {
+            Actor::Follower(follower) => Some(follower),
             _ => None,
         }
     }
@@ -45,6 +58,8 @@ impl Actor {
             Actor::Checkpointer(checkpointer) => {
                 2 + u64::from(checkpointer.reader_count()) + 2 * FLUSH_LISTS
             }
+            // FAILED and FLUSHED
+            Actor::Follower(_) => 2,
         }
     }
 }

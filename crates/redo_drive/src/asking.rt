@@ -1,14 +1,16 @@
 // What all actors have in common.
 ghost use Rattle.std.specs.Prelude.{◌≡◌};
 ghost use Rattle.model_core.specs.AnswerFits.{AnswerFits};
-ghost use Rattle.model_core.specs.{lent, next, step_of, took};
+ghost use Rattle.model_core.specs.{lent, next};
+ghost use Rattle.redo_drive.specs.Receiving.{HasTaken, MarkFits};
 ghost use Rattle.redo_drive.specs.Views.{view_of};
 ghost use Rattle.redo_words.specs.{Lends};
 
 use crate::actor::Actor;
+use redo_follow::Receiver;
 use redo_words::{Answer, Lent, Op, Step};
 
-impl Actor {
+impl<R: Receiver> Actor<R> {
     /// The Op that it asks for.
     pub fn next(&self) -> Op
         ensures { result ≡ next (view_of self.now) }
@@ -20,6 +22,7 @@ impl Actor {
             Actor::Closer(closer) => closer.next(),
             Actor::Cleaner(cleaner) => cleaner.next(),
             Actor::Checkpointer(checkpointer) => checkpointer.next(),
+            Actor::Follower(follower) => follower.next(),
         }
     }
 
@@ -34,14 +37,15 @@ impl Actor {
             Actor::Closer(closer) => closer.lent(),
             Actor::Cleaner(cleaner) => cleaner.lent(),
             Actor::Checkpointer(checkpointer) => checkpointer.lent(),
+            Actor::Follower(follower) => follower.lent(),
         }
     }
 
     /// Takes the answer to the Op that it asked for.
     pub fn took(&mut self, answer: Answer) -> Step
-        requires { AnswerFits (view_of self.old) answer }
-        ensures state { view_of self.new ≡ took (view_of self.old) answer }
-        ensures step { result ≡ step_of (view_of self.old) answer }
+        requires fits { AnswerFits (view_of self.old) answer }
+        requires mark { MarkFits (view_of self.old) answer }
+        ensures { HasTaken R.stands_for self.old answer result self.new }
     {
         match self {
             Actor::User(user) => user.took(answer),
@@ -50,6 +54,7 @@ impl Actor {
             Actor::Closer(closer) => closer.took(answer),
             Actor::Cleaner(cleaner) => cleaner.took(answer),
             Actor::Checkpointer(checkpointer) => checkpointer.took(answer),
+            Actor::Follower(follower) => follower.took(answer),
         }
     }
 }

@@ -3,10 +3,11 @@ ghost use Rattle.std.specs.Prelude.{ℕ, [], ◌++◌, ◌+◌, ◌≡◌, ◌<�
 ghost use Rattle.model_report.specs.{state_by};
 ghost use Rattle.model_report.specs.declared.entry.State.TheVariants as state;
 ghost use Rattle.redo_drive.specs.History.{HasGroups, HasReserved, ListsInOrder, all_listed, listed, listed_from, listed_group};
-ghost use Rattle.redo_drive.specs.Views.{view_of};
+ghost use Rattle.redo_drive.specs.Views.{view_of, views_of};
 
 use crate::actor::Actor;
 use model_report::{Entry, History, Marks, State};
+use redo_follow::Receiver;
 use redo_lsn::lsn_of;
 use redo_useractor::UserActor;
 
@@ -65,7 +66,7 @@ fn add_user(entries: &mut Vec<Entry>, user: &UserActor, marks: &Marks)
 }
 
 /// Adds the groups of an actor, as far as there is room.
-fn add_actor(entries: &mut Vec<Entry>, actor: &Actor, marks: &Marks)
+fn add_actor<R: Receiver>(entries: &mut Vec<Entry>, actor: &Actor<R>, marks: &Marks)
     requires { HasGroups (view_of actor.now) }
     ensures capacity { vec_capacity entries.new ≡ vec_capacity entries.old }
     ensures added { length entries.old.items + length (listed marks.now (view_of actor.now)) ≤ vec_capacity entries.old
@@ -78,10 +79,14 @@ fn add_actor(entries: &mut Vec<Entry>, actor: &Actor, marks: &Marks)
 }
 
 /// The groups of all actors in lsn order, in a vector that has room for them.
-pub fn history_of(mut entries: Vec<Entry>, actors: &[Actor], marks: &Marks) -> History
-    requires { (seat : ℕ) (actor : Actor) → seat < length actors.now → HasGroups (view_of (slice_index_or actors.now seat actor)) }
-    ensures { entries.items ≡ [] → length (all_listed marks.now actors.now) ≤ vec_capacity entries
-        → ListsInOrder marks.now actors.now result }
+pub fn history_of<R: Receiver>(
+    mut entries: Vec<Entry>,
+    actors: &[Actor<R>],
+    marks: &Marks,
+) -> History
+    requires { (seat : ℕ) (actor : Actor R) → seat < length actors.now → HasGroups (view_of (slice_index_or actors.now seat actor)) }
+    ensures { entries.items ≡ [] → length (all_listed marks.now (views_of actors.now)) ≤ vec_capacity entries
+        → ListsInOrder marks.now (views_of actors.now) result }
 {
     for actor in actors {
         add_actor(&mut entries, actor, marks);

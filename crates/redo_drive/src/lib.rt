@@ -31,3 +31,4 @@ pub use log_laws::{
 };
 pub use making::{Beginning, begin_run};
 pub use parts::Parts;
+pub use seating::FIRST_FOLLOWER;

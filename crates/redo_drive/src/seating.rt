@@ -1,18 +1,24 @@
 // The actors of a run, in their seats.
-ghost use Rattle.std.specs.Prelude.{◌≡◌, ◌≤◌, ◌<◌, ◌^◌, IfOk, map};
+ghost use Rattle.std.specs.Prelude.{◌≡◌, ◌≤◌, ◌<◌, ◌^◌, ◌+◌, ◌++◌, IfOk, length, map};
 ghost use Rattle.std.specs.List.{AllByRecursion};
 ghost use Rattle.model_base.specs.{IsWithinLimits};
 ghost use Rattle.model_core.specs.Actors as actor;
+ghost use Rattle.model_core.specs.declared.limits.TheConstants.{READERS};
 ghost use Rattle.model_log.specs.{IsAtDataStart};
 ghost use Rattle.model_base.specs.declared.limits.TheConstants.{FIRST_DATA_LSN};
 ghost use Rattle.model_script.specs.{IsScriptLine, LineFits};
-ghost use Rattle.redo_drive.specs.Setups.{start_actors, user_lines, users_of};
+ghost use Rattle.redo_drive.specs.Making.{EndsWithFollowers};
+ghost use Rattle.redo_drive.specs.Setups.{seated_before, start_actors, user_lines, users_of};
+ghost use Rattle.redo_drive.specs.Startable.{AreNewFollowers};
 ghost use Rattle.redo_drive.specs.Views.{views_of};
+ghost use Rattle.redo_drive.specs.declared.actor.Actor.TheVariants as own;
+ghost use Rattle.redo_drive.specs.declared.seating.TheConstants.{FIRST_FOLLOWER};
 
 use crate::actor::Actor;
 use model_base::Shape;
 use model_log::Group;
 use model_script::{MAX_USERS, ScriptLine};
+use redo_follow::{Follower, Receiver};
 use redo_logactors::{Closer, Flusher, Writer};
 use redo_lsn::NoMemory;
 use redo_pageactors::{Checkpointer, Cleaner};
@@ -20,11 +26,11 @@ use redo_script::group_of;
 use redo_useractor::UserActor;
 use std::alloc::Global;
 
-/// How many actors there are at the most.
+/// How many actors there are at the most beside the followers.
 const MOST_ACTORS: usize = MAX_USERS as usize + 5;
 
-/// The number of the first follower; a run has none, so this is past the last one.
-const FIRST_FOLLOWER: u32 = 1;
+/// The number of the first follower.
+pub const FIRST_FOLLOWER: u32 = 1;
 
 /// The lines of a user, each a mode and a group.
 fn lines_of(
@@ -44,19 +50,21 @@ fn lines_of(
     Ok(lines)
 }
 
-/// The users that have lines, by their numbers, with room for the other actors.
-fn seat_users(
+/// The users that have lines, by their numbers, with room for the other actors, so many followers among them.
+fn seat_users<R: Receiver + Drop>(
     alloc: Global,
     script: &[ScriptLine],
     shape: &Shape,
     log_only: bool,
-) -> Result<Vec<Actor>, NoMemory>
+    followers: u32,
+) -> Result<Vec<Actor<R>>, NoMemory>
     requires limits { IsWithinLimits shape.now }
     requires lines { AllByRecursion IsScriptLine script.now }
     requires fits { AllByRecursion (LineFits shape.now) script.now }
+    requires few { FIRST_FOLLOWER + followers ≤ READERS }
     ensures { IfOk result (λ actors. views_of actors.items ≡ map actor.User (users_of shape.now log_only script.now)) }
 {
-    let mut actors = Vec::with_capacity(alloc, MOST_ACTORS)?;
+    let mut actors = Vec::with_capacity(alloc, MOST_ACTORS + followers as usize)?;
     for user in 1..MAX_USERS + 1 {
         let lines = lines_of(alloc, script, user, shape.space)?;
         if !lines.is_empty() {
@@ -67,29 +75,69 @@ fn seat_users(
     Ok(actors)
 }
 
-/// The actors of a run that starts at this lsn.
-pub fn seat_actors(
+/// The actors before the followers, of a run that starts at this lsn and has so many followers.
+fn seat_others<R: Receiver + Drop>(
     alloc: Global,
     script: &[ScriptLine],
     shape: &Shape,
     start: u64,
     log_only: bool,
-) -> Result<Vec<Actor>, NoMemory>
+    followers: u32,
+) -> Result<Vec<Actor<R>>, NoMemory>
     requires limits { IsWithinLimits shape.now }
     requires lines { AllByRecursion IsScriptLine script.now }
     requires fits { AllByRecursion (LineFits shape.now) script.now }
     requires place { IsAtDataStart start }
     requires first { FIRST_DATA_LSN ≤ start }
     requires small { start < 2 ^ 61 }
-    ensures { IfOk result (λ actors. views_of actors.items ≡ start_actors shape.now script.now start log_only) }
+    requires few { FIRST_FOLLOWER + followers ≤ READERS }
+    ensures { IfOk result (λ actors. views_of actors.items ≡ seated_before shape.now script.now start log_only followers) }
 {
-    let mut actors = seat_users(alloc, script, shape, log_only)?;
+    let mut actors = seat_users(alloc, script, shape, log_only, followers)?;
     actors.push(Actor::Writer(Writer::new(alloc, shape, start)?))?;
     actors.push(Actor::Flusher(Flusher::new(start)))?;
     if !log_only {
+        let last = FIRST_FOLLOWER + followers;
         actors.push(Actor::Closer(Closer::new()))?;
         actors.push(Actor::Cleaner(Cleaner::new(alloc, shape)?))?;
-        actors.push(Actor::Checkpointer(Checkpointer::new(start, FIRST_FOLLOWER, FIRST_FOLLOWER)))?;
+        actors.push(Actor::Checkpointer(Checkpointer::new(start, FIRST_FOLLOWER, last)))?;
     }
     Ok(actors)
+}
+
+/// These followers after the other actors, in their order.
+fn seat_followers<R: Receiver + Drop>(
+    mut actors: Vec<Actor<R>>,
+    followers: Vec<Follower<R>>,
+) -> Result<Vec<Actor<R>>, NoMemory>
+    ensures { IfOk result (λ seated. seated.items ≡ actors.items ++ map own.Follower followers.items) }
+{
+    for follower in followers {
+        actors.push(Actor::Follower(follower))?;
+    }
+    Ok(actors)
+}
+
+/// The actors of a run that starts at this lsn, with these followers at the end.
+pub fn seat_actors<R: Receiver + Drop>(
+    alloc: Global,
+    script: &[ScriptLine],
+    shape: &Shape,
+    start: u64,
+    log_only: bool,
+    followers: Vec<Follower<R>>,
+) -> Result<Vec<Actor<R>>, NoMemory>
+    requires limits { IsWithinLimits shape.now }
+    requires lines { AllByRecursion IsScriptLine script.now }
+    requires fits { AllByRecursion (LineFits shape.now) script.now }
+    requires place { IsAtDataStart start }
+    requires first { FIRST_DATA_LSN ≤ start }
+    requires small { start < 2 ^ 61 }
+    requires new { AreNewFollowers start followers.items }
+    ensures actors { IfOk result (λ actors. views_of actors.items ≡ start_actors shape.now script.now start log_only (length followers.items)) }
+    ensures followers { IfOk result (λ actors. EndsWithFollowers actors.items followers.items) }
+{
+    let count = followers.len() as u32;
+    let actors = seat_others(alloc, script, shape, start, log_only, count)?;
+    seat_followers(actors, followers)
 }

@@ -38,7 +38,7 @@ pub open_by_user : (a : model.Actor) (u : UserState) (user : ℕ) → a ≡ mode
 open_by_user a u user is open_user = subst (λ (z : model.Actor). IsOpen z user) (sym is) open_user
 
 -- below this seat each user has ended
-abbrev pub EndedBelow : ℕ → List Actor → Type 0
+abbrev pub EndedBelow : {R : Type 0} → ℕ → List (Actor R) → Type 0
 EndedBelow seat actors = (j : ℕ) (u : UserState) → j < seat → get_elem? (views_of actors) j ≡ some (model.User u) → HasEnded u
 
 past : (actors : List model.Actor) (seat : ℕ) (u : UserState) → get_elem? actors seat ≡ some (model.User u) → seat < length actors
@@ -50,25 +50,29 @@ over_user : (a : model.Actor) (u : UserState) → IsOver a → a ≡ model.User 
 over_user (model.User v) u over is = let same : v ≡ u = cc in subst HasEnded same over
 over_user _ u over is = absurd (cc)
 
-pub below_more : (actors : List Actor) (seat : ℕ) (d : Actor) → seat < length actors → EndedBelow seat actors → IsOver (view_of (get_or actors seat d)) → EndedBelow (seat + 1) actors
+pub below_more : {R : Type 0} (actors : List (Actor R)) (seat : ℕ) (d : Actor R) → seat < length actors
+    → EndedBelow seat actors → IsOver (view_of (get_or actors seat d)) → EndedBelow (seat + 1) actors
 below_more actors seat d l before over j u below at = elim (ℕ_discrete j seat) [
   | yes e ↦ (let here : some (view_of (get_or actors seat d)) ≡ some (model.User u) = sym (view_at actors seat d l) ∙ ap (get_elem? (views_of actors)) (sym e) ∙ at in over_user (view_of (get_or actors seat d)) u over (some-injective (view_of (get_or actors seat d)) (model.User u) here))
   | no n ↦ before j u (omega arith) at
 ]
 
-pub all_ended : (actors : List Actor) (seat : ℕ) → length actors ≤ seat → EndedBelow seat actors → HaveEnded (views_of actors)
+pub all_ended : {R : Type 0} (actors : List (Actor R)) (seat : ℕ) → length actors ≤ seat → EndedBelow seat actors
+    → HaveEnded (views_of actors)
 all_ended actors seat all before j u at = before j u (let p = past (views_of actors) j u at in let n = length_views actors in omega arith) at
 
 opened : (a : model.Actor) (user : ℕ) → IsOpen a user → (u : UserState) × (a ≡ model.User u) × IsOpenUser u user
 opened (model.User u) user is = (u, refl, is)
 opened _ user is = absurd is
 
-pub first_open : (actors : List Actor) (seat : ℕ) (d : Actor) (user : ℕ) → seat < length actors → EndedBelow seat actors → IsOpen (view_of (get_or actors seat d)) user → IsFirstOpen (views_of actors) user
+pub first_open : {R : Type 0} (actors : List (Actor R)) (seat : ℕ) (d : Actor R) (user : ℕ) → seat < length actors
+    → EndedBelow seat actors → IsOpen (view_of (get_or actors seat d)) user → IsFirstOpen (views_of actors) user
 first_open actors seat d user l before is = let o = opened (view_of (get_or actors seat d)) user is in
     record { seat = seat; state = o.0; is = view_at actors seat d l ∙ ap some o.1; open_user = o.2; before = before }
 
 -- a user that hasn't ended is one of those that would have
-pub not_all : (actors : List Actor) (seat : ℕ) (d : Actor) (user : ℕ) → seat < length actors → IsOpen (view_of (get_or actors seat d)) user → HaveEnded (views_of actors) → ⊥
+pub not_all : {R : Type 0} (actors : List (Actor R)) (seat : ℕ) (d : Actor R) (user : ℕ) → seat < length actors
+    → IsOpen (view_of (get_or actors seat d)) user → HaveEnded (views_of actors) → ⊥
 not_all actors seat d user l is ended = let o = opened (view_of (get_or actors seat d)) user is in
     o.2.not_ended (ended seat o.0 (view_at actors seat d l ∙ ap some o.1))
 

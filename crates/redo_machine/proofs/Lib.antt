@@ -1,4 +1,6 @@
 pub mod Ended
+pub mod FollowsRun
+pub mod PlayedNext
 pub mod RunLeft
 pub mod Runs
 pub mod UserSeats

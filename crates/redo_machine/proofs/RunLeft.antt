@@ -1,6 +1,7 @@
 -- What a run by turns leaves, and so what it comes to.
-use Rattle.std.proofs.Common.{List, ap, slice_index, subst, sym, ⊎_elim, inl, inr, ℕ, ◌∙◌, ◌≡◌}
-use Rattle.model_core.specs.{index, lsn}
+use Rattle.std.proofs.Common.{Bool, List, ap, length, slice_index, subst, sym, ⊎_elim, inl, inr, ℕ, ◌∙◌, ◌≡◌}
+use Rattle.model_core.specs.{Given, index, lsn}
+use Rattle.model_core.specs.Actors as model
 use Rattle.model_core.specs.declared.words.Word.TheVariants as word
 use Rattle.model_running.proofs.OpenLines as open_lines
 use Rattle.model_running.proofs.Seated.{seated_seats}
@@ -13,14 +14,16 @@ use Rattle.redo_logdev.specs.Part as log
 use Rattle.redo_drive.proofs.ShapeStays.{run_shape}
 use Rattle.redo_drive.specs.LogPartSide as log_part
 use Rattle.redo_drive.proofs.LeftRun as left_run
-use Rattle.redo_drive.specs.Startable.{MayBegin}
+use Rattle.redo_drive.specs.Followed.{HaveFollowed}
+use Rattle.redo_drive.specs.Setups.{start_actors}
+use Rattle.redo_drive.specs.Startable.{AreNewFollowers, MayBegin}
 use Rattle.redo_drive.specs.Calls.{CallOnBoth, CallsOn}
 use Rattle.redo_drive.specs.Drive.{HasMetError, Owes}
 use Rattle.redo_machine.specs.ByTurns.{RunsByTurns}
 use Rattle.redo_drive.specs.Begins.{BeginsRun}
 use Rattle.redo_drive.specs.History.{ListsInOrder}
 use Rattle.redo_drive.specs.Leaving.{LeavesRun}
-use Rattle.redo_drive.specs.Running.{RunsOn}
+use Rattle.redo_drive.specs.Running.{RunsFrom}
 use Rattle.redo_drive.specs.declared.making.Beginning.{Beginning}
 use Rattle.redo_drive.specs.Playing.{RunOf, run_data_side, run_log_side}
 use Rattle.redo_drive.specs.Turning.{core_of}
@@ -32,47 +35,59 @@ use Rattle.redo_machine.specs.declared.drive.Turns.{Turns}
 use Rattle.redo_drive.specs.declared.parts.Parts.{Parts}
 use Rattle.redo_drive.specs.declared.drive.RunEnd.{RunEnd}
 use Rattle.redo_drive.specs.declared.drive.RunEnd.TheVariants as ended
+use Rattle.redo_follow.specs.Handing.{Following}
 use Rattle.redo_store.specs.declared.opened.Opened.{Opened}
 use Rattle.redo_store.specs.Part as store
 
 -- However a run ended, turns led there.
-turns_taken : {L D : Type 0} (log_seen : L → Seen) (data_seen : D → Seen) (run : RunOf L D) (seed max : ℕ) (first : Parts L D) (actors : List Actor) (how : RunEnd) (last : Parts L D) (after : List Actor)
+turns_taken : {L D : Type 0} (log_seen : L → Seen) (data_seen : D → Seen) (run : RunOf L D) (seed max : ℕ)
+    (first : Parts L D) (actors : List model.Actor) (how : RunEnd) (last : Parts L D) (after : List model.Actor)
     → EndsAs log_seen data_seen run seed max first actors how last after
     → (count : ℕ) × TakesTurns (run_log_side log_seen data_seen run) (run_data_side log_seen data_seen run) seed max count (core_of log_seen data_seen run first actors) (core_of log_seen data_seen run last after)
 turns_taken log_seen data_seen run seed max first actors ended.Done last after ends = (ends.count, ends.turns)
 turns_taken log_seen data_seen run seed max first actors (ended.Spent turns user) last after ends = (max, ends.1.turns)
 
 -- The parts and actors began the run of the script on the store, and the turns of the seed led from there to its end, at which
--- the invariant holds, and of which the closed run tells.
-pub record TurnsLead {L D : Type 0} (log_seen : L → Seen) (log_gives : L → Call → L → Type 0) (data_seen : D → Seen) (data_gives : D → Call → D → Type 0)
-    (opened : Opened L D) (script : List ScriptLine) (turns : Turns) (driven : Driven L D) : Type 0 where
-  pub first : Beginning L D
-  pub begins : BeginsRun log_seen data_seen opened script turns.log_only first
+-- the invariant holds, with what the followers' receivers have got, and of which the closed run tells.
+pub record TurnsLead {L D R : Type 0} (log_seen : L → Seen) (log_gives : L → Call → L → Type 0) (data_seen : D → Seen)
+    (data_gives : D → Call → D → Type 0)
+    (stands : R → List Given → Type 0) (opened : Opened L D) (script : List ScriptLine) (turns : Turns)
+    (followers : List (Following R))
+    (actors : List (Actor R)) (driven : Driven L D) : Type 0 where
+  pub first : Beginning L D R
+  pub begins : BeginsRun log_seen data_seen stands opened script turns.log_only followers first
   pub last : Parts L D
-  pub actors : List Actor
-  pub runs : RunsOn log_seen data_seen begins.run last actors
-  pub ends : EndsAs log_seen data_seen begins.run turns.seed turns.max first.parts first.actors.items driven.ended last actors
-  pub asked : AskToEnd log_seen log_gives data_seen data_gives begins.run turns.seed turns.max first.parts first.actors.items driven.ended last actors ends
+  pub from : RunsFrom log_seen data_seen stands begins.run first.actors.items last actors
+  pub ends : EndsAs log_seen data_seen begins.run turns.seed turns.max first.parts (views_of first.actors.items)
+      driven.ended last (views_of actors)
+  pub asked : AskToEnd log_seen log_gives data_seen data_gives begins.run turns.seed turns.max first.parts
+      (views_of first.actors.items)
+      driven.ended last (views_of actors) ends
   pub calls : CallOnBoth log_gives data_gives first.parts last
   pub log : driven.closed.log ≡ last.log
   pub data_part : driven.closed.store ≡ last.store
   pub marks : driven.closed.marks ≡ marks_in last.words.words
   pub code : driven.closed.code ≡ slice_index last.words.words (index word.Failed)
-  pub history : driven.closed.history ≡ history_of runs.running.log_ghost.answered (word_marks runs.running.shared) runs.running.log_ghost.log
-  pub listed : ListsInOrder driven.closed.marks actors driven.closed.history
+  pub history : driven.closed.history ≡ history_of from.runs.running.log_ghost.answered
+      (word_marks from.runs.running.shared) from.runs.running.log_ghost.log
+  pub listed : ListsInOrder driven.closed.marks (views_of actors) driven.closed.history
 
-module _ {L D : Type 0} (log_seen : L → Seen) (log_gives : L → Call → L → Type 0) (data_seen : D → Seen) (data_gives : D → Call → D → Type 0) (opened : Opened L D) (script : List ScriptLine) (turns : Turns) (driven : Driven L D)
-    (by : TurnsLead log_seen log_gives data_seen data_gives opened script turns driven) where
+module _ {L D R : Type 0} (log_seen : L → Seen) (log_gives : L → Call → L → Type 0) (data_seen : D → Seen)
+    (data_gives : D → Call → D → Type 0)
+    (stands : R → List Given → Type 0) (opened : Opened L D) (script : List ScriptLine) (turns : Turns)
+    (followers : List (Following R))
+    (actors : List (Actor R)) (driven : Driven L D)
+    (by : TurnsLead log_seen log_gives data_seen data_gives stands opened script turns followers actors driven) where
   -- so the run is by turns
-  pub by_turns : RunsByTurns log_seen log_gives data_seen data_gives opened script turns driven
+  pub by_turns : RunsByTurns log_seen log_gives data_seen data_gives opened script turns (length followers) driven
   by_turns = record {
     run = by.begins.run;
     is_run = by.begins.is_run;
     first = by.first.parts;
-    starts = by.first.actors.items;
+    starts = views_of by.first.actors.items;
     begins = by.begins.stands;
     last = by.last;
-    actors = by.actors;
+    actors = views_of actors;
     ends = by.ends;
     asked = by.asked;
     log = by.log;
@@ -82,20 +97,23 @@ module _ {L D : Type 0} (log_seen : L → Seen) (log_gives : L → Call → L �
     history = by.listed;
   }
 
-  pub leaves : LeavesRun log_seen log_gives data_seen data_gives opened script turns.log_only by.actors driven.closed
+  pub leaves : LeavesRun log_seen log_gives data_seen data_gives stands opened script turns.log_only (length followers)
+      by.first.actors.items actors driven.closed
   leaves = record {
     run = by.begins.run;
     is_run = by.begins.is_run;
     begun = by.begins.begun;
     last = by.last;
-    runs = by.runs;
+    from = by.from;
     log_calls = subst (λ (z : log.Part L). CallsOn log_gives z.dev z.failed by.last.log.dev by.last.log.failed) by.begins.log by.calls.log;
     data_calls = subst (λ (z : store.Part D). CallsOn data_gives z.dev z.failed by.last.store.dev by.last.store.failed) by.begins.data_part by.calls.data_part;
     log_shape =
-        let taken = turns_taken log_seen data_seen by.begins.run turns.seed turns.max by.first.parts by.first.actors.items driven.ended by.last by.actors by.ends in
+        let taken = turns_taken log_seen data_seen by.begins.run turns.seed turns.max by.first.parts
+        (views_of by.first.actors.items) driven.ended by.last (views_of actors) by.ends in
         let run = by.begins.run in
         run_shape log_seen (log_seen run.first_log.dev).faults run.first_log.marks.number (log_part.HasBegun log_seen (lsn run.setup.base) run.first_log) (run_data_side log_seen data_seen run) turns.seed turns.max taken.0
-        (core_of log_seen data_seen run by.first.parts by.first.actors.items) (core_of log_seen data_seen run by.last by.actors) taken.1
+        (core_of log_seen data_seen run by.first.parts (views_of by.first.actors.items))
+        (core_of log_seen data_seen run by.last (views_of actors)) taken.1
         ∙ ap (λ (z : log.Part L). z.shape) by.begins.log;
     log = by.log;
     data_part = by.data_part;
@@ -104,25 +122,48 @@ module _ {L D : Type 0} (log_seen : L → Seen) (log_gives : L → Call → L �
     history = by.history;
   }
 
-  is_done : driven.ended ≡ ended.Done → IsDone (run_log_side log_seen data_seen by.begins.run) (run_data_side log_seen data_seen by.begins.run) turns.seed turns.max (core_of log_seen data_seen by.begins.run by.first.parts by.first.actors.items) (core_of log_seen data_seen by.begins.run by.last by.actors)
-  is_done done = subst (λ (z : RunEnd). EndsAs log_seen data_seen by.begins.run turns.seed turns.max by.first.parts by.first.actors.items z by.last by.actors) done by.ends
+  is_done : driven.ended ≡ ended.Done → IsDone (run_log_side log_seen data_seen by.begins.run)
+      (run_data_side log_seen data_seen by.begins.run) turns.seed turns.max
+      (core_of log_seen data_seen by.begins.run by.first.parts (views_of by.first.actors.items))
+      (core_of log_seen data_seen by.begins.run by.last (views_of actors))
+  is_done done = subst (λ (z : RunEnd). EndsAs log_seen data_seen by.begins.run turns.seed turns.max by.first.parts
+      (views_of by.first.actors.items) z by.last (views_of actors)) done by.ends
 
   -- where the turns are spent
-  is_spent : (count user : ℕ) → driven.ended ≡ ended.Spent count user → IsSpent (run_log_side log_seen data_seen by.begins.run) (run_data_side log_seen data_seen by.begins.run) turns.seed turns.max user (core_of log_seen data_seen by.begins.run by.first.parts by.first.actors.items) (core_of log_seen data_seen by.begins.run by.last by.actors)
-  is_spent count user spent = (subst (λ (z : RunEnd). EndsAs log_seen data_seen by.begins.run turns.seed turns.max by.first.parts by.first.actors.items z by.last by.actors) spent by.ends).1
+  is_spent : (count user : ℕ) → driven.ended ≡ ended.Spent count user → IsSpent
+      (run_log_side log_seen data_seen by.begins.run) (run_data_side log_seen data_seen by.begins.run) turns.seed
+      turns.max user (core_of log_seen data_seen by.begins.run by.first.parts (views_of by.first.actors.items))
+      (core_of log_seen data_seen by.begins.run by.last (views_of actors))
+  is_spent count user spent = (subst (λ (z : RunEnd). EndsAs log_seen data_seen by.begins.run turns.seed turns.max
+      by.first.parts (views_of by.first.actors.items) z by.last (views_of actors)) spent by.ends).1
 
   leaves_open : (count user : ℕ) → driven.ended ≡ ended.Spent count user → LeavesOpen script driven.closed.history (HasMetError driven.closed) user
   unfolding leaves
   leaves_open count user spent =
       let end = is_spent count user spent in
-      let c = by.begins.run.setup in let g = by.runs.running.log_ghost in let m = by.runs.running.shared in
+      let c = by.begins.run.setup in let g = by.from.runs.running.log_ghost in let m = by.from.runs.running.shared in
       subst (λ (z : List Entry). LeavesOpen script z (HasMetError driven.closed) user) (sym by.history)
-      (open_lines.leaves_open (run_log_side log_seen data_seen by.begins.run) c 0 m g by.last.log (views_of by.actors) by.runs.running.both.logged (word_marks m) script opened.shape by.begins.is_run.of_script
-      (seated_seats c (views_of by.actors) by.runs.seated script opened.shape by.begins.is_run.of_script) (HasMetError driven.closed)
-      (λ failed. left_run.met_error log_seen log_gives data_seen data_gives opened script turns.log_only by.actors driven leaves (⊎_elim (λ cause. (m.failed, inl cause)) (λ cause. (m.failed, inr cause)) (by.runs.running.both.cause failed))) user end.seat end.state end.is end.number end.not_ended end.least)
+      (open_lines.leaves_open (run_log_side log_seen data_seen by.begins.run) c 0 m g by.last.log (views_of actors)
+      by.from.runs.running.both.logged (word_marks m) script opened.shape by.begins.is_run.of_script
+      (seated_seats c (views_of actors) by.from.runs.seated script opened.shape by.begins.is_run.of_script)
+      (HasMetError driven.closed)
+      (λ failed. left_run.met_error log_seen log_gives data_seen data_gives stands opened script turns.log_only
+      (length followers) by.first.actors.items actors driven leaves
+      (⊎_elim (λ cause. (m.failed, inl cause)) (λ cause. (m.failed, inr cause))
+      (by.from.runs.running.both.cause failed))) user end.seat end.state end.is end.number end.not_ended end.least)
 
-  has_ended : driven.ended ≡ ended.Done → HaveEnded (views_of by.actors)
+  has_ended : driven.ended ≡ ended.Done → HaveEnded (views_of actors)
   has_ended done = (is_done done).ended
 
   pub owes : MayBegin opened script turns.log_only → Owes log_seen log_gives data_seen data_gives opened script driven
-  owes may = left_run.owes log_seen log_gives data_seen data_gives opened script turns.log_only by.actors driven leaves may has_ended leaves_open
+  owes may = left_run.owes log_seen log_gives data_seen data_gives stands opened script turns.log_only
+      (length followers) by.first.actors.items actors driven leaves may has_ended leaves_open
+
+  pub followed : AreNewFollowers opened.start followers → HaveFollowed log_seen data_seen stands opened script
+      followers actors driven.closed
+  followed new = left_run.have_followed log_seen log_gives data_seen data_gives stands opened script turns.log_only
+      (length followers)
+      by.first.actors.items actors driven leaves followers new
+      (by.begins.stands.are_new ∙ ap (λ (b : Bool). start_actors opened.shape script opened.start b (length followers))
+      by.begins.is_run.log_only_is)
+      by.begins.followers

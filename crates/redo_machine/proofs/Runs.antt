@@ -6,7 +6,7 @@ use lib.ListN.{get_elem?}
 use mathlib.Core.Option.{some}
 use Rattle.model_core.specs.Actors as model
 use Rattle.model_core.specs.Setup.{Setup}
-use Rattle.model_core.specs.{Core, lent, next}
+use Rattle.model_core.specs.{Core, Given, lent, next}
 use Rattle.model_core.specs.Turn.{Turn}
 use Rattle.model_core.specs.declared.ops.Step.{Step}
 use Rattle.model_running.specs.{AreSeated, HaveEnded, LastTurn, seat_of_turn, TakesTurns}
@@ -19,7 +19,7 @@ use Rattle.redo_drive.specs.Asking.{AskOfBoth}
 use Rattle.redo_drive.specs.Calls.{CallOnBoth}
 use Rattle.redo_machine.specs.OpenUsers.{IsFirstOpen}
 use Rattle.redo_drive.specs.Playing.{RunOf, run_data_side, run_log_side}
-use Rattle.redo_drive.specs.Running.{IsOnRun, RunsOn}
+use Rattle.redo_drive.specs.Running.{IsOnRun, RunsFrom, RunsOn}
 use Rattle.redo_drive.specs.Turning.{TakesTurn, core_of}
 use Rattle.redo_machine.specs.Turns.{AskInTurns, EndsAsking, IsDrawn}
 use Rattle.redo_drive.specs.Views.{view_of, views_of}
@@ -52,26 +52,32 @@ module _ {L D : Type 0} (log_seen : L → Seen) (log_gives : L → Call → L �
     pub asked : AskInTurns log_seen log_gives data_seen data_gives run seed max n first last turns
 
   -- so many turns of a run lead from the first state to this one
-  pub record GoesOn (run : RunOf L D) (seed max turn : ℕ) (first now : Machine L D) : Type 0 where
-    pub runs : RunsOn log_seen data_seen run now.parts now.actors.items
-    pub taken : TurnsAsk run seed max turn (core_of log_seen data_seen run first.parts first.actors.items) (core_of log_seen data_seen run now.parts now.actors.items)
+  pub record GoesOn {R : Type 0} (run : RunOf L D) (seed max turn : ℕ) (first now : Machine L D R) : Type 0 where
+    pub runs : RunsOn log_seen data_seen run now.parts (views_of now.actors.items)
+    pub taken : TurnsAsk run seed max turn (core_of log_seen data_seen run first.parts (views_of first.actors.items))
+        (core_of log_seen data_seen run now.parts (views_of now.actors.items))
 
   -- A machine in its run, after so many turns. There are so many seats.
-  pub record InRun (seed max turn draws seats : ℕ) (first now : Machine L D) : Type 0 where
+  pub record InRun {R : Type 0} (seed max turn draws seats : ℕ) (first now : Machine L D R) : Type 0 where
     pub drawn : IsDrawn seed turn max draws
     pub count : length now.actors.items ≡ seats
     pub some_seats : 0 < seats
-    pub on_run : IsOnRun log_seen data_seen now.parts now.actors.items
-    pub goes : (run : RunOf L D) → RunsOn log_seen data_seen run first.parts first.actors.items → GoesOn run seed max turn first now
+    pub on_run : IsOnRun log_seen data_seen now.parts (views_of now.actors.items)
+    pub goes : (run : RunOf L D) → RunsOn log_seen data_seen run first.parts (views_of first.actors.items)
+        → GoesOn run seed max turn first now
 
-  -- the same, with what it leaves
-  pub record InTurns (seed max turn draws seats : ℕ) (first now : Machine L D) : Type 0 where
+  -- the same, with what its followers got, and what it leaves
+  pub record InTurns {R : Type 0} (stands : R → List Given → Type 0) (seed max turn draws seats : ℕ)
+      (first now : Machine L D R) : Type 0 where
     pub run : InRun seed max turn draws seats first now
+    pub from : (run : RunOf L D) (starts : List (Actor R))
+        → RunsFrom log_seen data_seen stands run starts first.parts first.actors.items
+        → RunsFrom log_seen data_seen stands run starts now.parts now.actors.items
     pub calls : CallOnBoth log_gives data_gives first.parts now.parts
     pub entries : now.entries ≡ first.entries
 
 -- there is an actor
-some_actor : (c : Setup) (actors : List Actor) → AreSeated c (views_of actors) → 0 < length actors
+some_actor : {R : Type 0} (c : Setup) (actors : List (Actor R)) → AreSeated c (views_of actors) → 0 < length actors
 some_actor c actors S =
     let long : length (views_of actors) ≡ length (map model.User S.users) + (2 + length S.others) = ap length S.are ∙ length-append (map model.User S.users) (model.Writer S.writer ∷ model.Flusher S.flusher ∷ S.others) ∙ omega arith in
     let same = length_views actors in
@@ -86,8 +92,11 @@ module _ {L D : Type 0} (log_seen : L → Seen) (log_gives : L → Call → L �
   one_more run n first last t asked =
       subst (λ (k : ℕ). TurnsAsk log_seen log_gives data_seen data_gives run seed max k first last) (sym (add-one n)) (record { turns = t; asked = asked })
 
+module _ {L D R : Type 0} (log_seen : L → Seen) (log_gives : L → Call → L → Type 0) (data_seen : D → Seen)
+    (data_gives : D → Call → D → Type 0) (seed max : ℕ) where
   -- a run before its first turn
-  pub starts_run : (seats : ℕ) (machine : Machine L D) → IsOnRun log_seen data_seen machine.parts machine.actors.items → length machine.actors.items ≡ seats
+  pub starts_run : (seats : ℕ) (machine : Machine L D R) → IsOnRun log_seen data_seen machine.parts
+      (views_of machine.actors.items) → length machine.actors.items ≡ seats
       → InRun log_seen log_gives data_seen data_gives seed max 0 (first_state seed) seats machine machine
   starts_run seats machine on count = record {
     drawn = λ _. refl;
@@ -98,10 +107,13 @@ module _ {L D : Type 0} (log_seen : L → Seen) (log_gives : L → Call → L �
   }
 
   -- one turn more, of the seat whose turn it is
-  pub goes_on : (turn draws draws_left seats seat : ℕ) (step : Step) (first old new : Machine L D) → InRun log_seen log_gives data_seen data_gives seed max turn draws seats first old
+  pub goes_on : (turn draws draws_left seats seat : ℕ) (step : Step) (first old new : Machine L D R)
+      → InRun log_seen log_gives data_seen data_gives seed max turn draws seats first old
       → (HaveEnded (views_of old.actors.items) → ⊥)
       → seat ≡ seat_of_turn seed max seats turn → IsDrawn seed (turn + 1) max draws_left
-      → ((run : RunOf L D) → RunsOn log_seen data_seen run old.parts old.actors.items → TakesTurn log_seen data_seen run old.parts old.actors.items seat step new.parts new.actors.items × RunsOn log_seen data_seen run new.parts new.actors.items)
+      → ((run : RunOf L D) → RunsOn log_seen data_seen run old.parts (views_of old.actors.items)
+      → TakesTurn log_seen data_seen run old.parts (views_of old.actors.items) seat step new.parts
+      (views_of new.actors.items) × RunsOn log_seen data_seen run new.parts (views_of new.actors.items))
       → length new.actors.items ≡ length old.actors.items
       → IfSome (slice_get old.actors.items seat) (λ actor. AskOfBoth log_gives data_gives (lent (view_of actor)) (next (view_of actor)) old.parts new.parts)
       → InRun log_seen log_gives data_seen data_gives seed max (turn + 1) draws_left seats first new
@@ -115,13 +127,20 @@ module _ {L D : Type 0} (log_seen : L → Seen) (log_gives : L → Call → L �
         let taken = (keeps run before.runs).0 in
         let count : seats ≡ length (views_of old.actors.items) = sym (length_views old.actors.items ∙ I.count) in
         let its_seat : seat ≡ seat_of_turn seed max (length (views_of old.actors.items)) turn = its ∙ ap (λ (n : ℕ). seat_of_turn seed max n turn) count in
-        let its_turn : Turn (run_log_side log_seen data_seen run) (run_data_side log_seen data_seen run) (core_of log_seen data_seen run old.parts old.actors.items) (seat_of_turn seed max (length (views_of old.actors.items)) turn) taken.answer step (core_of log_seen data_seen run new.parts new.actors.items) =
-        subst (λ (s : ℕ). Turn (run_log_side log_seen data_seen run) (run_data_side log_seen data_seen run) (core_of log_seen data_seen run old.parts old.actors.items) s taken.answer step (core_of log_seen data_seen run new.parts new.actors.items)) its_seat taken.turn in
+        let its_turn : Turn (run_log_side log_seen data_seen run) (run_data_side log_seen data_seen run)
+        (core_of log_seen data_seen run old.parts (views_of old.actors.items))
+        (seat_of_turn seed max (length (views_of old.actors.items)) turn) taken.answer step
+        (core_of log_seen data_seen run new.parts (views_of new.actors.items)) =
+        subst (λ (s : ℕ). Turn (run_log_side log_seen data_seen run) (run_data_side log_seen data_seen run)
+        (core_of log_seen data_seen run old.parts (views_of old.actors.items)) s taken.answer step
+        (core_of log_seen data_seen run new.parts (views_of new.actors.items))) its_seat taken.turn in
         record {
           runs = (keeps run before.runs).1;
-          taken = one_more run turn (core_of log_seen data_seen run first.parts first.actors.items) (core_of log_seen data_seen run new.parts new.actors.items)
+          taken = one_more log_seen log_gives data_seen data_gives seed max run turn
+              (core_of log_seen data_seen run first.parts (views_of first.actors.items))
+              (core_of log_seen data_seen run new.parts (views_of new.actors.items))
               (record {
-                before = core_of log_seen data_seen run old.parts old.actors.items;
+                before = core_of log_seen data_seen run old.parts (views_of old.actors.items);
                 earlier = before.taken.turns;
                 open_user = open_user;
                 answer = taken.answer;
@@ -136,9 +155,11 @@ module _ {L D : Type 0} (log_seen : L → Seen) (log_gives : L → Call → L �
   }
 
   -- a run in which each user has ended
-  pub ends_done : (turn draws seats : ℕ) (first last : Machine L D) → InRun log_seen log_gives data_seen data_gives seed max turn draws seats first last → turn ≤ max → HaveEnded (views_of last.actors.items)
-      → (run : RunOf L D) → RunsOn log_seen data_seen run first.parts first.actors.items
-      → EndsAsking log_seen log_gives data_seen data_gives run seed max first.parts first.actors.items ran.Done last.parts last.actors.items
+  pub ends_done : (turn draws seats : ℕ) (first last : Machine L D R) → InRun log_seen log_gives data_seen data_gives
+      seed max turn draws seats first last → turn ≤ max → HaveEnded (views_of last.actors.items)
+      → (run : RunOf L D) → RunsOn log_seen data_seen run first.parts (views_of first.actors.items)
+      → EndsAsking log_seen log_gives data_seen data_gives run seed max first.parts (views_of first.actors.items)
+      ran.Done last.parts (views_of last.actors.items)
   ends_done turn draws seats first last I within ended run R =
       let goes = I.goes run R in record {
         ends = record { count = turn; within = within; turns = goes.taken.turns; ended = ended };
@@ -146,12 +167,16 @@ module _ {L D : Type 0} (log_seen : L → Seen) (log_gives : L → Call → L �
       }
 
   -- a run whose turns are spent
-  pub ends_spent : (turn draws seats user : ℕ) (first last : Machine L D) → InRun log_seen log_gives data_seen data_gives seed max turn draws seats first last → turn ≡ max → IsFirstOpen (views_of last.actors.items) user
-      → (run : RunOf L D) → RunsOn log_seen data_seen run first.parts first.actors.items
-      → EndsAsking log_seen log_gives data_seen data_gives run seed max first.parts first.actors.items (ran.Spent max user) last.parts last.actors.items
+  pub ends_spent : (turn draws seats user : ℕ) (first last : Machine L D R) → InRun log_seen log_gives data_seen
+      data_gives seed max turn draws seats first last → turn ≡ max → IsFirstOpen (views_of last.actors.items) user
+      → (run : RunOf L D) → RunsOn log_seen data_seen run first.parts (views_of first.actors.items)
+      → EndsAsking log_seen log_gives data_seen data_gives run seed max first.parts (views_of first.actors.items)
+      (ran.Spent max user) last.parts (views_of last.actors.items)
   ends_spent turn draws seats user first last I all open_user run R =
       let goes = I.goes run R in
-      let taken = subst (λ (n : ℕ). TurnsAsk log_seen log_gives data_seen data_gives run seed max n (core_of log_seen data_seen run first.parts first.actors.items) (core_of log_seen data_seen run last.parts last.actors.items)) all goes.taken in record {
+      let taken = subst (λ (n : ℕ). TurnsAsk log_seen log_gives data_seen data_gives run seed max n
+      (core_of log_seen data_seen run first.parts (views_of first.actors.items))
+      (core_of log_seen data_seen run last.parts (views_of last.actors.items))) all goes.taken in record {
         ends = (
           refl,
           record {

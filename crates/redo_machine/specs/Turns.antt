@@ -1,5 +1,6 @@
 -- The turns of a run.
 use Rattle.std.specs.Prelude.{List, suc, zero, ℕ, ◌/◌, ◌<◌, ◌≡◌}
+use Rattle.model_core.specs.Actors as model
 use Rattle.model_core.specs.{Core, lent, next}
 use Rattle.model_running.specs.{IsDone, IsSpent, TakesTurns}
 use Rattle.model_script.specs.{first_state, state_after}
@@ -8,7 +9,6 @@ use Rattle.redo_disk.specs.Seen.{Seen}
 use Rattle.redo_drive.specs.Asking.{AskOfParts}
 use Rattle.redo_drive.specs.Playing.{RunOf, run_data_side, run_log_side}
 use Rattle.redo_drive.specs.Turning.{core_of}
-use Rattle.redo_drive.specs.declared.actor.Actor.{Actor}
 use Rattle.redo_drive.specs.declared.parts.Parts.{Parts}
 use Rattle.redo_drive.specs.declared.drive.RunEnd.{RunEnd}
 use Rattle.redo_drive.specs.declared.drive.RunEnd.TheVariants as ran
@@ -18,7 +18,7 @@ abbrev pub IsDrawn : ℕ → ℕ → ℕ → ℕ → Type 0
 IsDrawn seed turn max state = turn < max / 2 → state ≡ state_after turn (first_state seed)
 
 -- a run by a seed that ended so
-abbrev pub EndsAs : {L D : Type 0} (log_seen : L → Seen) (data_seen : D → Seen) (run : RunOf L D) (seed max : ℕ) → Parts L D → List Actor → RunEnd → Parts L D → List Actor → Type 0
+abbrev pub EndsAs : {L D : Type 0} (log_seen : L → Seen) (data_seen : D → Seen) (run : RunOf L D) (seed max : ℕ) → Parts L D → List model.Actor → RunEnd → Parts L D → List model.Actor → Type 0
 EndsAs log_seen data_seen run seed max first actors ran.Done last after = IsDone (run_log_side log_seen data_seen run) (run_data_side log_seen data_seen run) seed max (core_of log_seen data_seen run first actors) (core_of log_seen data_seen run last after)
 EndsAs log_seen data_seen run seed max first actors (ran.Spent turns user) last after = (turns ≡ max) × IsSpent (run_log_side log_seen data_seen run) (run_data_side log_seen data_seen run) seed max user (core_of log_seen data_seen run first actors) (core_of log_seen data_seen run last after)
 
@@ -34,7 +34,7 @@ AskInTurns log_seen log_gives data_seen data_gives run seed max (suc n) first la
 
 -- the same of the turns of a run that ended so
 abbrev pub AskToEnd : {L D : Type 0} (log_seen : L → Seen) (log_gives : L → Call → L → Type 0) (data_seen : D → Seen) (data_gives : D → Call → D → Type 0) (run : RunOf L D) (seed max : ℕ)
-    (first : Parts L D) (actors : List Actor) (how : RunEnd) (last : Parts L D) (after : List Actor) → EndsAs log_seen data_seen run seed max first actors how last after → Type 0
+    (first : Parts L D) (actors : List model.Actor) (how : RunEnd) (last : Parts L D) (after : List model.Actor) → EndsAs log_seen data_seen run seed max first actors how last after → Type 0
 AskToEnd log_seen log_gives data_seen data_gives run seed max first actors ran.Done last after ends =
     AskInTurns log_seen log_gives data_seen data_gives run seed max ends.count (core_of log_seen data_seen run first actors) (core_of log_seen data_seen run last after) ends.turns
 AskToEnd log_seen log_gives data_seen data_gives run seed max first actors (ran.Spent turns user) last after ends =
@@ -42,6 +42,6 @@ AskToEnd log_seen log_gives data_seen data_gives run seed max first actors (ran.
 
 -- a run by a seed that ended so, with what its turns asked of both devices
 pub record EndsAsking {L D : Type 0} (log_seen : L → Seen) (log_gives : L → Call → L → Type 0) (data_seen : D → Seen) (data_gives : D → Call → D → Type 0) (run : RunOf L D) (seed max : ℕ)
-    (first : Parts L D) (actors : List Actor) (how : RunEnd) (last : Parts L D) (after : List Actor) : Type 0 where
+    (first : Parts L D) (actors : List model.Actor) (how : RunEnd) (last : Parts L D) (after : List model.Actor) : Type 0 where
   pub ends : EndsAs log_seen data_seen run seed max first actors how last after
   pub asked : AskToEnd log_seen log_gives data_seen data_gives run seed max first actors how last after ends

@@ -1,13 +1,15 @@
 // The drive by turns.
-ghost use Rattle.std.specs.Prelude.{◌≡◌, IfErr, IfOk};
-ghost use Rattle.redo_drive.specs.Startable.{MayBegin};
+ghost use Rattle.std.specs.Prelude.{◌≡◌, IfErr, IfOk, length};
+ghost use Rattle.redo_drive.specs.Startable.{AreNewFollowers, MayBegin};
 ghost use Rattle.redo_drive.specs.Drive.{Owes};
+ghost use Rattle.redo_drive.specs.Followed.{HaveFollowed};
 ghost use Rattle.redo_machine.specs.ByTurns.{RunsByTurns};
 
 use crate::machine::Machine;
 use model_script::Script;
 use redo_disk::Sectors;
-use redo_drive::Driven;
+use redo_drive::{Actor, Driven};
+use redo_follow::{Follower, Receiver};
 use redo_lsn::NoMemory;
 use redo_store::Opened;
 use std::alloc::Global;
@@ -20,20 +22,24 @@ pub struct Turns {
     pub log_only: bool,
 }
 
-/// Runs a script on an opened store by turns. Where there is no memory it gives both devices back as they were.
-pub fn run_by_turns<L: Sectors, D: Sectors>(
+/// Runs a script on an opened store by turns, with these followers. With what the run leaves it gives the actors back, the
+/// followers among them. Where there is no memory it gives both devices back as they were.
+pub fn run_by_turns<L: Sectors, D: Sectors, R: Receiver + Drop>(
     alloc: Global,
     opened: Opened<L, D>,
     script: &Script,
     turns: &Turns,
-) -> Result<Driven<L, D>, (NoMemory, L, D)>
-    requires { MayBegin opened script.now turns.now.log_only }
+    followers: Vec<Follower<R>>,
+) -> Result<(Driven<L, D>, Vec<Actor<R>>), (NoMemory, L, D)>
+    requires may { MayBegin opened script.now turns.now.log_only }
+    requires new { AreNewFollowers opened.start followers.items }
     ensures err { IfErr result (λ error. (error.1 ≡ opened.log.dev) × (error.2 ≡ opened.store.dev)) }
-    ensures owed { IfOk result (Owes L.seen L.gives D.seen D.gives opened script.now) }
-    ensures turns { IfOk result (RunsByTurns L.seen L.gives D.seen D.gives opened script.now turns.now) }
+    ensures owed { IfOk result (λ left. Owes L.seen L.gives D.seen D.gives opened script.now left.0) }
+    ensures turns { IfOk result (λ left. RunsByTurns L.seen L.gives D.seen D.gives opened script.now turns.now (length followers.items) left.0) }
+    ensures followed { IfOk result (λ left. HaveFollowed L.seen D.seen R.stands_for opened script.now followers.items left.1.items left.0.closed) }
 {
-    let mut machine = Machine::new(alloc, opened, script, turns.log_only)?;
+    let mut machine = Machine::new(alloc, opened, script, turns.log_only, followers)?;
     let ended = machine.run(turns.seed, turns.max);
-    let closed = machine.finish();
-    Ok(Driven { ended, closed })
+    let (closed, actors) = machine.finish();
+    Ok((Driven { ended, closed }, actors))
 }

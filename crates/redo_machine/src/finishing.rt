@@ -6,11 +6,13 @@ ghost use Rattle.model_running.specs.{history_of, marks_in, word_marks};
 ghost use Rattle.redo_drive.specs.History.{ListsInOrder};
 ghost use Rattle.redo_drive.specs.Playing.{RunOf};
 ghost use Rattle.redo_drive.specs.Running.{IsOnRun, RunsOn};
+ghost use Rattle.redo_drive.specs.Views.{views_of};
 
 use crate::machine::Machine;
 use model_report::Marks;
 use redo_disk::Sectors;
-use redo_drive::{Closed, Parts, history_of};
+use redo_drive::{Actor, Closed, Parts, history_of};
+use redo_follow::Receiver;
 use redo_link::tail_of;
 use redo_words::{Op, PlainWords, Word, old_of};
 
@@ -38,20 +40,21 @@ fn marks_in(words: &mut PlainWords) -> Marks
     }
 }
 
-impl<L: Sectors, D: Sectors> Machine<L, D> {
-    /// What the run leaves: its history, its marks, both parts, and the code in FAILED.
-    pub fn finish(self) -> Closed<L, D>
-        requires { IsOnRun L.seen D.seen self.parts self.actors.items }
-        ensures log { result.log ≡ self.parts.log }
-        ensures data_part { result.store ≡ self.parts.store }
-        ensures code { result.code ≡ slice_index self.parts.words.words (index word_is.Failed) }
-        ensures marks { result.marks ≡ marks_in self.parts.words.words }
-        ensures history { (run : RunOf L D) (runs : RunsOn L.seen D.seen run self.parts self.actors.items)
+impl<L: Sectors, D: Sectors, R: Receiver> Machine<L, D, R> {
+    /// What the run leaves: its history, its marks, both parts, and the code in FAILED; and its actors, the followers among
+    /// them.
+    pub fn finish(self) -> (Closed<L, D>, Vec<Actor<R>>)
+        requires { IsOnRun L.seen D.seen self.parts (views_of self.actors.items) }
+        ensures parts { (result.0.log ≡ self.parts.log) × (result.0.store ≡ self.parts.store) }
+        ensures actors { result.1.items ≡ self.actors.items }
+        ensures code { result.0.code ≡ slice_index self.parts.words.words (index word_is.Failed) }
+        ensures marks { result.0.marks ≡ marks_in self.parts.words.words }
+        ensures history { (run : RunOf L D) (runs : RunsOn L.seen D.seen run self.parts (views_of self.actors.items))
             → self.entries.items ≡ [] → length runs.running.log_ghost.log ≤ vec_capacity self.entries
-            → result.history ≡ history_of runs.running.log_ghost.answered (word_marks runs.running.shared) runs.running.log_ghost.log }
-        ensures listed { (run : RunOf L D) (runs : RunsOn L.seen D.seen run self.parts self.actors.items)
+            → result.0.history ≡ history_of runs.running.log_ghost.answered (word_marks runs.running.shared) runs.running.log_ghost.log }
+        ensures listed { (run : RunOf L D) (runs : RunsOn L.seen D.seen run self.parts (views_of self.actors.items))
             → self.entries.items ≡ [] → length runs.running.log_ghost.log ≤ vec_capacity self.entries
-            → ListsInOrder result.marks self.actors.items result.history }
+            → ListsInOrder result.0.marks (views_of self.actors.items) result.0.history }
     {
         let Machine {
             parts,
@@ -67,12 +70,13 @@ impl<L: Sectors, D: Sectors> Machine<L, D> {
         let marks = marks_in(&mut words);
         let code = word(&mut words, Word::Failed) as u32;
         let history = history_of(entries, actors.as_slice(), &marks);
-        Closed {
+        let closed = Closed {
             history,
             marks,
             log,
             store,
             code,
-        }
+        };
+        (closed, actors)
     }
 }

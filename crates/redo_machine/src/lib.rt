@@ -12,6 +12,6 @@ mod running;
 mod turning;
 
 pub use drive::{Turns, run_by_turns};
-pub use laws::{running_machine_has_watermarks, turn_keeps_failed};
+pub use laws::{running_machine_has_followed, running_machine_has_watermarks, turn_keeps_failed};
 pub use machine::Machine;
 pub use redo_words::Step as Turned;

@@ -5,6 +5,7 @@ ghost use Rattle.redo_machine.specs.OpenUsers.{IsFirstOpen, IsOpen, IsOpenUser, 
 ghost use Rattle.redo_drive.specs.Views.{view_of, views_of};
 
 use redo_drive::Actor;
+use redo_follow::Receiver;
 use redo_useractor::UserActor;
 
 /// A user's number, where it hasn't ended.
@@ -21,7 +22,7 @@ fn number_if_open(user: &UserActor) -> Option<u32>
 
 /// The number of an actor that is a user which hasn't ended.
 #[tactic(auto, using(crate::proofs::Ended::over_by_user, crate::proofs::Ended::over_without_user, crate::proofs::Ended::open_by_user))]
-fn open_number(actor: &Actor) -> Option<u32>
+fn open_number<R: Receiver>(actor: &Actor<R>) -> Option<u32>
     ensures { MatchOption result (IsOver (view_of actor.now)) (IsOpen (view_of actor.now)) }
 {
     match actor.user() {
@@ -31,7 +32,7 @@ fn open_number(actor: &Actor) -> Option<u32>
 }
 
 /// The first user that hasn't ended, by the seats, with its seat.
-pub fn open_user(actors: &[Actor]) -> Option<(usize, u32)>
+pub fn open_user<R: Receiver>(actors: &[Actor<R>]) -> Option<(usize, u32)>
     ensures { MatchOption result (HaveEnded (views_of actors.now)) (λ found. IsFirstOpen (views_of actors.now) found.1) }
 {
     for (seat, actor) in actors.iter().enumerate() {
@@ -45,7 +46,7 @@ pub fn open_user(actors: &[Actor]) -> Option<(usize, u32)>
 
 /// A seat whose user hasn't ended: this one as long as its user hasn't, else the first. So a run looks over all seats only once
 /// for each user that ends.
-pub fn open_seat(actors: &[Actor], seat: usize) -> Option<usize>
+pub fn open_seat<R: Receiver>(actors: &[Actor<R>], seat: usize) -> Option<usize>
     ensures { MatchOption result (HaveEnded (views_of actors.now)) (λ _. HaveEnded (views_of actors.now) → ⊥) }
 {
     if seat < actors.len() {

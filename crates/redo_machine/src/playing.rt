@@ -137,7 +137,7 @@ pub fn play<L: Sectors, D: Sectors>(parts: &mut Parts<L, D>, op: Op, lent: Lent<
             answer_of(Device::Log, ended, parts.log.stable())
         }
         Op::Checkpoint(lsn) => answer_of(Device::Log, call_checkpoint(&mut parts.log, lsn), 0),
-        // no actor of a run reads the log
+        // a block is read into room that is written, and what is lent here is only read
         Op::ReadBlock(_) => unreachable!(),
         Op::WriteBatch => answer_of(Device::Data, call_batch(&mut parts.store, lent), 0),
         Op::Rest => Answer::Rested,

@@ -9,10 +9,10 @@ use Rattle.redo_drive.specs.declared.actor.Actor.{Actor}
 use Rattle.redo_drive.proofs.history.history_of.Goals as goal
 
 pub add_actor-requires : goal.add_actor-requires
-add_actor-requires c = subst (λ (z : Actor). HasGroups (view_of z)) (sym c.actor-item.is) (c.requires c.loop-actor.actor-index c.actor-item.result (omega arith))
+add_actor-requires g c = subst (λ (z : Actor g.row.R.Denot). HasGroups (view_of z)) (sym c.actor-item.is) (c.requires c.loop-actor.actor-index c.actor-item.result (omega arith))
 
 pub loop-actor-preserved : goal.loop-actor-preserved
-loop-actor-preserved c =
+loop-actor-preserved g c =
     let marks = c.args.marks.now in let actors = c.args.actors.now in let at = c.loop-actor.actor-index in let actor = c.actor-item.result in
     record {
       capacity = c.add_actor.ensures.capacity ∙ c.loop-actor.invariant.capacity;
@@ -24,7 +24,7 @@ loop-actor-preserved c =
     }
 
 pub returns : goal.returns
-returns c = λ empty room. record {
+returns g c = λ empty room. record {
   all = subst (λ (z : List Entry). IsPermutation z c.sort_unstable_by_key.new.self.items) (all_actors_added c.args.marks.now c.args.actors.now c.loop-actor.actor-index c.loop-actor.entries.items _ (omega arith) (c.loop-actor.invariant.so_far empty room))
       c.sort_unstable_by_key.ensures.permutation;
   in_order = IsNonDecreasingBy-from_sort_by_key (λ entry. entry.start) _ c.sort_unstable_by_key.ensures.sorted (λ a r q k. search rules);

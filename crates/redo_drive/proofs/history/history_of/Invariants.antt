@@ -1,11 +1,12 @@
 -- What is there, before the groups of the actors that are still to come, is the groups of all.
 use Rattle.std.proofs.Common.{[], drop, length, vec_capacity, ◌++◌, ◌≡◌, ◌≤◌}
 use Rattle.redo_drive.specs.History.{all_listed}
+use Rattle.redo_drive.specs.Views.{views_of}
 use Rattle.redo_drive.proofs.history.history_of.Given as goal
 
 abbrev pub invariant-loop-actor : goal.invariant-loop-actor
-invariant-loop-actor l = record {
+invariant-loop-actor g l = record {
   capacity : vec_capacity l.entries ≡ vec_capacity l.initial.entries;
-  so_far : l.initial.entries.items ≡ [] → length (all_listed l.marks l.actors) ≤ vec_capacity l.initial.entries
-      → l.entries.items ++ all_listed l.marks (drop l.actor-index l.actors) ≡ all_listed l.marks l.actors;
+  so_far : l.initial.entries.items ≡ [] → length (all_listed l.marks (views_of l.actors)) ≤ vec_capacity l.initial.entries
+      → l.entries.items ++ all_listed l.marks (views_of (drop l.actor-index l.actors)) ≡ all_listed l.marks (views_of l.actors);
 }

@@ -17,7 +17,7 @@ use Rattle.redo_drive.proofs.seating.seat_users.Goals as goal
 use Rattle.model_log.specs.{run_layout}
 
 pub loop-user-init : goal.loop-user-init
-loop-user-init c =
+loop-user-init g c =
     let shape = c.args.shape.now in
     let script = c.args.script.now in
     let programs : ℕ → List Line = programs_of shape c.args.log_only script in
@@ -25,13 +25,13 @@ loop-user-init c =
     ∙ sym (none_first (run_layout shape).blocks programs (no_program shape script c.requires.lines c.requires.fits c.args.log_only 0 (λ in_range. let from = in_range.0 in omega arith)))
 
 pub new-requires-clause-lines : goal.new-requires-clause-lines
-new-requires-clause-lines c =
+new-requires-clause-lines g c =
     let shape = c.args.shape.now in
     let script = c.args.script.now in
     subst (AreUserLines shape) (sym c.in_ok-lines.ensures) (are_user_lines shape script c.requires.lines c.requires.fits c.loop-user.user)
 
 pub loop-user-preserved : goal.loop-user-preserved
-loop-user-preserved c =
+loop-user-preserved g c =
     let shape = c.args.shape.now in
     let script = c.args.script.now in
     let user = c.loop-user.user in
@@ -48,7 +48,7 @@ loop-user-preserved c =
             | yes some ↦ some
             | no none ↦ absurd (full (omega arith))
           ] in
-          ap (λ (v : Vec Actor Global). views_of v.items) w.actors-is
+          ap (λ (v : Vec (Actor g.row.R.Denot) Global). views_of v.items) w.actors-is
           ∙ ap views_of w.in_ok-push.ensures.items
           ∙ map-append view_of c.loop-user.actors.items (own.User w.in_ok-actor.actor ∷ [])
           ∙ ap (λ (u : UserState). views_of c.loop-user.actors.items ++ actor.User u ∷ []) state
@@ -56,5 +56,5 @@ loop-user-preserved c =
       | else-not-is_empty w ↦
           let empty = eqb-true (vec_len c.in_ok-lines.lines) 0 (sym w.if-not-is_empty.ensures) in
           let none : length (programs user) ≡ 0 = omega arith in
-          ap (λ (v : Vec Actor Global). views_of v.items) w.actors-is ∙ none_seated (run_layout shape).blocks programs user (views_of c.loop-user.actors.items) none c.loop-user.invariant
+          ap (λ (v : Vec (Actor g.row.R.Denot) Global). views_of v.items) w.actors-is ∙ none_seated (run_layout shape).blocks programs user (views_of c.loop-user.actors.items) none c.loop-user.invariant
     ]

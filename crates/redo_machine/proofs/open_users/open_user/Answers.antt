@@ -6,12 +6,14 @@ use Rattle.redo_drive.specs.declared.actor.Actor.{Actor}
 use Rattle.redo_machine.proofs.open_users.open_user.Goals as goal
 
 pub returns-in-Some : goal.returns-in-Some
-returns-in-Some c = first_open c.args.actors.now c.loop-seat.seat c.index-actors-seat.result c.in-Some.user (omega arith) c.loop-seat.invariant
-    (subst (λ (z : Actor). IsOpen (view_of z) c.in-Some.user) c.index-actors-seat.is c.in-Some.ensures)
+returns-in-Some g c = first_open c.args.actors.now c.loop-seat.seat c.index-actors-seat.result c.in-Some.user
+    (omega arith) c.loop-seat.invariant
+    (subst (λ (z : Actor g.row.R.Denot). IsOpen (view_of z) c.in-Some.user) c.index-actors-seat.is c.in-Some.ensures)
 
 pub loop-seat-preserved : goal.loop-seat-preserved
-loop-seat-preserved c = below_more c.args.actors.now c.loop-seat.seat c.index-actors-seat.result (omega arith) c.loop-seat.invariant
-    (subst (λ (z : Actor). IsOver (view_of z)) c.index-actors-seat.is c.in-None.ensures)
+loop-seat-preserved g c = below_more c.args.actors.now c.loop-seat.seat c.index-actors-seat.result (omega arith)
+    c.loop-seat.invariant
+    (subst (λ (z : Actor g.row.R.Denot). IsOver (view_of z)) c.index-actors-seat.is c.in-None.ensures)
 
 pub returns : goal.returns
-returns c = all_ended c.args.actors.now c.loop-seat.seat (omega arith) c.loop-seat.invariant
+returns g c = all_ended c.args.actors.now c.loop-seat.seat (omega arith) c.loop-seat.invariant

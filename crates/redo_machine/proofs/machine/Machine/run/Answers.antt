@@ -11,6 +11,7 @@ pub loop-turn-init : goal.loop-turn-init
 loop-turn-init g c = record {
   run = subst (λ (draws : ℕ). InRun g.L.Sectors.seen g.L.Sectors.gives g.D.Sectors.seen g.D.Sectors.gives c.args.seed c.args.max 0 draws c.seats-seats.result c.args.self.now c.args.self.now) (sym c.new-draws.ensures)
       (starts_run g.L.Sectors.seen g.L.Sectors.gives g.D.Sectors.seen g.D.Sectors.gives c.args.seed c.args.max c.seats-seats.result c.args.self.now c.requires (sym c.seats-seats.ensures));
+  from = λ run starts F. F;
   calls = none_called g.L.Sectors.gives g.D.Sectors.gives c.args.self.now.parts;
   entries = refl;
 }
@@ -20,9 +21,11 @@ loop-turn-preserved g c =
     let I = c.loop-turn.invariant in
     record {
       run = goes_on g.L.Sectors.seen g.L.Sectors.gives g.D.Sectors.seen g.D.Sectors.gives c.args.seed c.args.max c.loop-turn.turn c.loop-turn.draws c.seat_of-seat.new.draws c.seats-seats.result c.seat_of-seat.result c.turn.result c.args.self.now c.loop-turn.self c.turn.new.self I.run
-          (subst (λ (actors : List Actor). HaveEnded (views_of actors) → ⊥) c.as_slice.ensures.value c.in-Some.ensures)
+          (subst (λ (actors : List (Actor g.row.R.Denot)). HaveEnded (views_of actors) → ⊥) c.as_slice.ensures.value
+          c.in-Some.ensures)
           (c.seat_of-seat.ensures.seat c.args.seed I.run.drawn) (c.seat_of-seat.ensures.drawn c.args.seed I.run.drawn)
           c.turn.ensures.turn c.turn.ensures.seats c.turn.ensures.asked;
+      from = λ run starts F. c.turn.ensures.from run starts (I.from run starts F);
       calls = both_then g.L.Sectors.gives g.D.Sectors.gives c.args.self.now.parts c.loop-turn.self.parts c.turn.new.self.parts I.calls c.turn.ensures.calls;
       entries = c.turn.ensures.entries ∙ I.entries;
     }
@@ -30,7 +33,11 @@ loop-turn-preserved g c =
 pub returns-in-None-clause-ends : goal.returns-in-None-clause-ends
 returns-in-None-clause-ends g c =
     ends_done g.L.Sectors.seen g.L.Sectors.gives g.D.Sectors.seen g.D.Sectors.gives c.args.seed c.args.max c.loop-turn.turn c.loop-turn.draws c.seats-seats.result c.args.self.now c.loop-turn.self c.loop-turn.invariant.run (omega arith)
-    (subst (λ (actors : List Actor). HaveEnded (views_of actors)) c.as_slice.ensures.value c.in-None.ensures)
+    (subst (λ (actors : List (Actor g.row.R.Denot)). HaveEnded (views_of actors)) c.as_slice.ensures.value
+    c.in-None.ensures)
+
+pub returns-in-None-clause-from : goal.returns-in-None-clause-from
+returns-in-None-clause-from g c = c.loop-turn.invariant.from
 
 pub returns-in-None-clause-runs : goal.returns-in-None-clause-runs
 returns-in-None-clause-runs g c = λ run R. (c.loop-turn.invariant.run.goes run R).runs
@@ -38,7 +45,11 @@ returns-in-None-clause-runs g c = λ run R. (c.loop-turn.invariant.run.goes run 
 pub returns-in-None-open_user-clause-ends : goal.returns-in-None-open_user-clause-ends
 returns-in-None-open_user-clause-ends g c =
     ends_done g.L.Sectors.seen g.L.Sectors.gives g.D.Sectors.seen g.D.Sectors.gives c.args.seed c.args.max c.loop-turn.turn c.loop-turn.draws c.seats-seats.result c.args.self.now c.loop-turn.self c.loop-turn.invariant.run (omega arith)
-    (subst (λ (actors : List Actor). HaveEnded (views_of actors)) c.as_slice-2.ensures.value c.in-None-open_user.ensures)
+    (subst (λ (actors : List (Actor g.row.R.Denot)). HaveEnded (views_of actors)) c.as_slice-2.ensures.value
+    c.in-None-open_user.ensures)
+
+pub returns-in-None-open_user-clause-from : goal.returns-in-None-open_user-clause-from
+returns-in-None-open_user-clause-from g c = c.loop-turn.invariant.from
 
 pub returns-in-None-open_user-clause-runs : goal.returns-in-None-open_user-clause-runs
 returns-in-None-open_user-clause-runs g c = λ run R. (c.loop-turn.invariant.run.goes run R).runs
@@ -46,7 +57,11 @@ returns-in-None-open_user-clause-runs g c = λ run R. (c.loop-turn.invariant.run
 pub returns-in-Some-open_user-clause-ends : goal.returns-in-Some-open_user-clause-ends
 returns-in-Some-open_user-clause-ends g c =
     ends_spent g.L.Sectors.seen g.L.Sectors.gives g.D.Sectors.seen g.D.Sectors.gives c.args.seed c.args.max c.loop-turn.turn c.loop-turn.draws c.seats-seats.result c.in-Some-open_user.user c.args.self.now c.loop-turn.self c.loop-turn.invariant.run (omega arith)
-    (subst (λ (actors : List Actor). IsFirstOpen (views_of actors) c.in-Some-open_user.user) c.as_slice-2.ensures.value c.in-Some-open_user.ensures)
+    (subst (λ (actors : List (Actor g.row.R.Denot)). IsFirstOpen (views_of actors) c.in-Some-open_user.user)
+    c.as_slice-2.ensures.value c.in-Some-open_user.ensures)
+
+pub returns-in-Some-open_user-clause-from : goal.returns-in-Some-open_user-clause-from
+returns-in-Some-open_user-clause-from g c = c.loop-turn.invariant.from
 
 pub returns-in-Some-open_user-clause-runs : goal.returns-in-Some-open_user-clause-runs
 returns-in-Some-open_user-clause-runs g c = λ run R. (c.loop-turn.invariant.run.goes run R).runs

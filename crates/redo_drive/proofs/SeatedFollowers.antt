@@ -1,0 +1,53 @@
+-- The followers in their seats, after the other actors.
+use Rattle.std.proofs.Common.{Bool, Err, List, Ok, Result, [], ap, arith, length, length-append, map, refl, suc}
+use Rattle.std.proofs.Common.{ℕ, ◌++◌, ◌+◌, ◌-◌, ◌∙◌, ◌∷◌, ◌≡◌}
+use Rattle.std.specs.Prelude.{IfOk}
+use Rattle.std.proofs.lemmas.List.{drop_at, length-map, map-append}
+use lib.ListN.{get_elem?}
+use mathlib.Core.Option.{some}
+use Rattle.model_base.specs.declared.shape.Shape.{Shape}
+use Rattle.model_core.specs.Actors as model
+use Rattle.model_core.specs.{new_reader}
+use Rattle.model_script.specs.declared.script.ScriptLine.{ScriptLine}
+use Rattle.redo_drive.specs.Making.{EndsWithFollowers}
+use Rattle.redo_drive.specs.Setups.{followers_from, seated_before, start_actors}
+use Rattle.redo_drive.specs.Startable.{AreNewFollowers}
+use Rattle.redo_drive.specs.Views.{view_of, views_of}
+use Rattle.redo_drive.specs.declared.actor.Actor.{Actor}
+use Rattle.redo_drive.specs.declared.actor.Actor.TheVariants as own
+use Rattle.redo_drive.specs.declared.seating.TheConstants.{FIRST_FOLLOWER}
+use Rattle.redo_follow.specs.Handing.{Following}
+
+followers_seen : {R : Type 0} (start number : ℕ) (fs : List (Following R))
+    → ((i : ℕ) (f : Following R) → get_elem? fs i ≡ some f → f.state ≡ new_reader (number + i) start)
+    → ◌≡◌ {A = List model.Actor} (views_of (map own.Follower fs)) (followers_from start number (length fs))
+followers_seen start number [] each = refl
+followers_seen start number (f ∷ fs) each =
+    let first : f.state ≡ new_reader number start =
+    each 0 f refl ∙ ap (λ (n : ℕ). new_reader n start) (let e : number + 0 ≡ number = omega arith in e) in
+    ap (λ r. model.Reader r ∷ views_of (map own.Follower fs)) first
+    ∙ ap (λ (l : List model.Actor). model.Reader (new_reader number start) ∷ l)
+    (followers_seen start (number + 1) fs (λ i g at. each (suc i) g at
+    ∙ ap (λ (n : ℕ). new_reader n start) (let e : number + suc i ≡ number + 1 + i = omega arith in e)))
+
+module _ {R : Type 0} (before : List (Actor R)) (fs : List (Following R)) where
+  pub all_seated : (shape : Shape) (script : List ScriptLine) (start : ℕ) (log_only : Bool) → AreNewFollowers start fs
+      → views_of before ≡ seated_before shape script start log_only (length fs)
+      → views_of (before ++ map own.Follower fs) ≡ start_actors shape script start log_only (length fs)
+  all_seated shape script start log_only new are =
+      map-append view_of before (map own.Follower fs)
+      ∙ ap (λ (l : List model.Actor). l ++ views_of (map own.Follower fs)) are
+      ∙ ap (λ (l : List model.Actor). seated_before shape script start log_only (length fs) ++ l)
+      (followers_seen start FIRST_FOLLOWER fs new.each)
+
+  pub ends_so : EndsWithFollowers (before ++ map own.Follower fs) fs
+  ends_so =
+      let both = length-append before (map own.Follower fs) in
+      let long = length-map fs own.Follower in
+      drop_at before (map own.Follower fs) (length (before ++ map own.Follower fs) - length fs) (omega arith)
+
+-- what holds of what is seated holds where there was memory
+pub if_seated : {A E : Type 0} (result : Result A E) (P Q : A → Type 0) → ((x : A) → P x → Q x) → IfOk result P
+    → IfOk result Q
+if_seated (Ok x) P Q all is = all x is
+if_seated (Err e) P Q all is = tt
