@@ -8,7 +8,7 @@ use native.Mathlib.Decide.{ℕ_discrete}
 use prog.Atomic.{either}
 use Rattle.atomic_table.specs.Table.{Allows, gives, keeps, Me, put_back, rest, State, takes}
 use Rattle.model_core.proofs.Lists.{set_again, set_else}
-use Rattle.model_core.specs.{flat, flat_page_words, index, lent, next, OnWord, took, word_found, words_after}
+use Rattle.model_core.specs.{filled, Filling, Fills, flat, flat_page_words, index, lent, next, OnWord, took, word_found, words_after}
 use Rattle.model_core.specs.Actors as model
 use Rattle.model_core.specs.declared.ops.Answer.{Answer}
 use Rattle.model_core.specs.declared.ops.Answer.TheVariants as answer
@@ -22,11 +22,12 @@ use Rattle.redo_drive.proofs.MayTurn.{holds_sum}
 use Rattle.redo_drive.proofs.Played as played
 use Rattle.redo_drive.specs.Lists.{AreLists, listing_at, Listings, lists_of}
 use Rattle.redo_drive.specs.Playing.{HasSamePages, IsPlayed, run_data_side}
-use Rattle.redo_drive.specs.Views.{view_of, views_of}
 use Rattle.redo_drive.specs.Calls.{CallsOn}
+use Rattle.redo_drive.specs.Receiving.{handed_by}
 use Rattle.redo_drive.specs.declared.parts.Parts.{Parts}
 use Rattle.redo_flushlist.specs.{Listing}
-use Rattle.model_core.proofs.Hands.{handles}
+use Rattle.redo_drive.proofs.Filled.{IsNoRead}
+use Rattle.redo_rule.proofs.Filled.{fills_block, handles_filled, IsNoGive, one_filling}
 use Rattle.redo_rule.proofs.Holders as holders
 use Rattle.redo_rule.proofs.Kept as kept
 use Rattle.redo_rule.proofs.Retook.{one_head}
@@ -35,9 +36,10 @@ use Rattle.redo_rule.proofs.Words.{plain_off, swapped}
 use Rattle.atomic_table.proofs.Lists.{set_here}
 use Rattle.model_core.proofs.Hands.{Handles}
 use Rattle.model_core.specs.Hands.{hand, IsFreeToCheck}
-use Rattle.redo_rule.specs.Plays.{behind, gave, list_behind, list_said, ListFits, looked, saw, seized, Stepped, TakesList, taking, view_behind}
+use Rattle.redo_rule.specs.Plays.{behind, gave, list_behind, list_said, ListFits, looked, no_filling, saw, seized, Stepped, TakesList, taking, view_behind}
 use Rattle.redo_rule.specs.Ruled.{Knows, Ruled, slot_content}
 use Rattle.redo_rule.specs.declared.law.About.{About}
+use Rattle.redo_rule.specs.declared.law.Desk.{Desk}
 use Rattle.redo_rule.specs.declared.law.Keeping.{Keeping}
 use Rattle.redo_rule.specs.declared.law.Numbered.{Numbered}
 use Rattle.redo_rule.specs.declared.law.Slot.{Slot}
@@ -47,9 +49,10 @@ use Rattle.redo_store.specs.Part as store
 use Rattle.redo_words.specs.{HoldsSum}
 
 -- what a slot has depends on the log part and the lists alone
-pub same_content : {L D : Type 0} (p q : Parts L D) → p.log ≡ q.log → p.lists ≡ q.lists → (k : ℕ) → ◌≡◌ {A = Slot L D} (slot_content p k) (slot_content q k)
-same_content p q e f zero = ap slot.Log e
-same_content p q e f (suc i) = ap (λ (z : Listings). slot.Pages (listing_at z.lists i)) f
+pub same_content : {L D : Type 0} (p q : Parts L D) (block : List ℕ) → p.log ≡ q.log → p.lists ≡ q.lists → (k : ℕ)
+    → ◌≡◌ {A = Slot L D} (slot_content p block k) (slot_content q block k)
+same_content p q block e f zero = ap (λ (z : log.Part _). slot.Log (record { part = z; block = block })) e
+same_content p q block e f (suc i) = ap (λ (z : Listings). slot.Pages (listing_at z.lists i)) f
 
 -- an Op on a word leaves what its actor holds
 pub word_hand : (o : Op) → OnWord o → (before : Option ℕ) (behind : Answer → Option ℕ) → Handles o before behind → (n : ℕ) → behind (answer.Old n) ≡ before
@@ -64,58 +67,91 @@ module _ {L D : Type 0} (log_seen : L → Seen) (log_gives : L → Call → L �
   Law = Ruled log_seen log_gives data_seen data_gives about
 
   abbrev a : model.Actor
-  a = view_of x.actor
+  a = x.actor
 
   -- a seat's view after an answer, and what it tells
-  abbrev pub viewed : Answer → Option (Slot L D) → Option (Keeping D) → View L D
-  viewed r held stored = view_behind me.0 x r held stored
+  abbrev pub viewed : Filling → Answer → Option (Slot L D) → Option (Keeping D) → View L D
+  viewed f r held stored = view_behind me.0 x f r held stored
+
+  -- its actor, into which nothing is put
+  abbrev plain : model.Actor
+  plain = filled a no_filling
+
+  fills_none : (o : Op) → next a ≡ o → IsNoGive o → IsFreeToCheck a → Fills a no_filling
+  fills_none o is other free = fills_block a no_filling free (subst IsNoGive (sym is) other)
 
   pub of_any : (P : Numbered → Type 0) → P x → (y : Numbered) → me.0.seats ≡ y ∷ [] → P y
   of_any P p y e = subst P (one_head me.0.seats x y one e) p
 
-  on_word : (o : Op) (i : ℕ) (f : ℕ → ℕ) → next a ≡ o → OnWord o → ((k : ℕ) → k < 5 → 7 + k ≢ i) → ((ws : List ℕ) → HoldsSum o ws → slice_set ws i (f (slice_index ws i)) ≡ words_after o ws) → ((ws : List ℕ) → word_found o ws ≡ slice_index ws i)
+  on_word : (o : Op) (i : ℕ) (f : ℕ → ℕ) → next a ≡ o → OnWord o → IsNoGive o → ((k : ℕ) → k < 5 → 7 + k ≢ i) → ((ws :
+      List ℕ) → HoldsSum o ws → slice_set ws i (f (slice_index ws i)) ≡ words_after o ws) → ((ws : List ℕ) →
+      word_found o ws ≡ slice_index ws i)
       → Allows Law slots id me i f (saw log_seen data_seen me)
-  on_word o i f is on off words found s R wide at small =
+  on_word o i f is on other off words found s R wide at small =
+      let fills = fills_none o is other (kept.is_free log_seen log_gives data_seen data_gives about s R id me.0 x one
+      at) in
       let n : ℕ = slice_index s.words i in
       let r : Answer = answer.Old n in
       let ws : List ℕ = slice_set s.words i (f n) in
       let new : Parts L D = record { words = record { pages = R.parts.words.pages; words = ws }; log = R.parts.log; store = R.parts.store; lists = R.parts.lists } in
       let e : R.parts.words.words ≡ s.words = R.words_are in
-      let known : Knows about R.parts R.actors R.seat_of R.keeper R.out id me.0 =
+      let known : Knows about R.parts R.block R.actors R.heard R.seat_of R.keeper R.out id me.0 =
       kept.known log_seen log_gives data_seen data_gives about s R id me.0 x one at in
       let sum : HoldsSum o s.words = subst (HoldsSum o) e (subst (λ (p : Op). HoldsSum p R.parts.words.words) is
       (holds_sum (lists_of R.parts.lists) (is_some R.parts.log.failed) 0 0 R.parts.words.words a (kept.fits log_seen log_gives data_seen data_gives about s R id me.0 x one at 0 0).log)) in
       let same : HasSamePages R.parts new = record { words = refl; lists = refl } in
-      let done : IsPlayed log_seen data_seen R.run (next a) (lent a) R.parts r new = subst (λ (p : Op). IsPlayed log_seen data_seen R.run p (lent a) R.parts r new) (sym is)
-      (played.word_played log_seen data_seen R.run (lent a) R.parts o new.words r on (words s.words sum ∙ ap (words_after o) (sym e)) (ap answer.Old (sym (found s.words) ∙ ap (word_found o) (sym e)))) in
-      let goes : Handles o (hand a) (λ (z : Answer). hand (took a z)) = subst (λ (p : Op). Handles p (hand a) (λ (z : Answer). hand (took a z))) is (handles a (kept.is_free log_seen log_gives data_seen data_gives about s R id me.0 x one at)) in
-      let own : (k : ℕ) → hand (took a r) ≡ Some k → me.0.held ≡ Some (slot_content new k) = λ k h.
-      kept.holds_content log_seen log_gives data_seen data_gives about s R id me.0 x one at k (sym (word_hand o on (hand a) (λ (z : Answer). hand (took a z)) goes n) ∙ h) ∙ ap (λ (z : Slot L D). Some z) (same_content R.parts new refl refl k) in (
-        viewed r me.0.held me.0.data_part,
+      let done : IsPlayed log_seen data_seen R.run (next a) (lent plain) R.parts r new = subst (λ (p : Op). IsPlayed
+      log_seen data_seen R.run p (lent plain) R.parts r new) (sym is)
+      (played.word_played log_seen data_seen R.run (lent plain) R.parts o new.words r on (words s.words sum ∙ ap
+      (words_after o) (sym e)) (ap answer.Old (sym (found s.words) ∙ ap (word_found o) (sym e)))) in
+      let goes : Handles o (hand a) (λ (z : Answer). hand (took plain z)) = subst (λ (p : Op). Handles p (hand a) (λ
+      (z : Answer). hand (took plain z))) is (handles_filled a no_filling (kept.is_free log_seen log_gives
+      data_seen data_gives about s R id me.0 x one at)) in
+      let own : (k : ℕ) → hand (took plain r) ≡ Some k → me.0.held ≡ Some (slot_content new R.block k) = λ k h.
+      kept.holds_content log_seen log_gives data_seen data_gives about s R id me.0 x one at k (sym (word_hand o on
+      (hand a) (λ (z : Answer). hand (took plain z)) goes n) ∙ h) ∙ ap (λ (z : Slot L D). Some z) (same_content
+      R.parts new R.block refl refl k) in (
+        viewed no_filling r me.0.held me.0.data_part,
         keeps,
         tt,
-        kept.kept log_seen log_gives data_seen data_gives about s R id me.0 x one at r new same done
-            (viewed r me.0.held me.0.data_part) R.out refl refl refl own (λ d h. known.data_part d h)
-            (λ j c k ne h hold. same_content R.parts new refl refl k) (λ j u d ne h stored. (R.knows j u h).data_part d stored) s.homes R.lists_are R.log_calls R.data_calls refl R.slots
-            (λ k l z. R.home k l (sym (get_or-set_other s.words i (7 + k) (f n) 0 (off k l)) ∙ z) ∙ ap (λ (y : Slot L D). maybe.some (maybe.some y)) (same_content R.parts new refl refl k))
+        kept.kept log_seen log_gives data_seen data_gives about s R id me.0 x one at no_filling fills r new R.block
+            same done
+            (viewed no_filling r me.0.held me.0.data_part) R.out refl refl refl own (λ d h. known.data_part d h)
+            (λ j c k ne h hold. same_content R.parts new R.block refl refl k) (λ j u d ne h stored. (R.knows j u
+            h).data_part d stored) s.homes R.lists_are R.log_calls R.data_calls refl R.slots
+            (λ k l z. R.home k l (sym (get_or-set_other s.words i (7 + k) (f n) 0 (off k l)) ∙ z) ∙ ap (λ (y : Slot L
+            D). maybe.some (maybe.some y)) (same_content R.parts new R.block refl refl k))
             R.data_home
-            (λ k l z. inr ((λ q. z (get_or-set_other s.words i (7 + k) (f n) 0 (off k l) ∙ q)), λ q. word_hand o on (hand a) (λ (y : Answer). hand (took a y)) goes n ∙ q)),
-        of_any (λ (y : Numbered). Stepped log_seen data_seen y r me.0.held me.0.data_part me.1 me (viewed r me.0.held me.0.data_part, me.1))
-            (kept.steps log_seen log_gives data_seen data_gives about s R id me.0 x one at r new same done me.1 me.0.held me.0.data_part me.1 own (λ d h. (known.data_part d h).1)),
+            (λ k l z. inr (
+              (λ q. z (get_or-set_other s.words i (7 + k) (f n) 0 (off k l) ∙ q)),
+              λ q. word_hand o on
+                  (hand a) (λ (y : Answer). hand (took plain y)) goes n ∙ q,
+            )),
+        of_any (λ (y : Numbered). Stepped log_seen data_seen y no_filling r me.0.held me.0.data_part me.1 me (
+          viewed
+              no_filling r me.0.held me.0.data_part,
+          me.1,
+        ))
+            (kept.steps log_seen log_gives data_seen data_gives about s R id me.0 x one at no_filling fills r new
+            R.block same done me.1 me.0.held me.0.data_part me.1 own (λ d h. (known.data_part d h).1)),
       )
 
   pub allows_load : (w : Word) → next a ≡ op.Load w → Allows Law slots id me (index w) (λ n. n) (saw log_seen data_seen me)
-  allows_load w is = on_word (op.Load w) (index w) (λ n. n) is tt (plain_off w (subst IsOffTurns is (next_off a))) (λ ws _. set-get_or ws (index w) 0) (λ ws. refl)
+  allows_load w is = on_word (op.Load w) (index w) (λ n. n) is tt tt (plain_off w (subst IsOffTurns is (next_off a)))
+      (λ ws _. set-get_or ws (index w) 0) (λ ws. refl)
 
   pub allows_store : (w : Word) (y : ℕ) → next a ≡ op.Store w y → Allows Law slots id me (index w) (λ _. y) (saw log_seen data_seen me)
-  allows_store w y is = on_word (op.Store w y) (index w) (λ _. y) is tt (plain_off w (subst IsOffTurns is (next_off a))) (λ ws _. refl) (λ ws. refl)
+  allows_store w y is = on_word (op.Store w y) (index w) (λ _. y) is tt tt (plain_off w (subst IsOffTurns is (next_off
+      a))) (λ ws _. refl) (λ ws. refl)
 
   pub allows_add : (w : Word) (y : ℕ) → next a ≡ op.Add w y → Allows Law slots id me (index w) (λ n. (n + y) % 2 ^ 64) (saw log_seen data_seen me)
-  allows_add w y is = on_word (op.Add w y) (index w) (λ n. (n + y) % 2 ^ 64) is tt (plain_off w (subst IsOffTurns is (next_off a)))
+  allows_add w y is = on_word (op.Add w y) (index w) (λ n. (n + y) % 2 ^ 64) is tt tt (plain_off w (subst IsOffTurns
+      is (next_off a)))
       (λ ws sum. ap (slice_set ws (index w)) (let e : (slice_index ws (index w) + y) % 2 ^ 64 ≡ slice_index ws (index w) + y = omega arith in e)) (λ ws. refl)
 
   pub allows_swap : (w : Word) (y z : ℕ) → next a ≡ op.Swap w y z → Allows Law slots id me (index w) (λ n. either (eqb n y) z n) (saw log_seen data_seen me)
-  allows_swap w y z is = on_word (op.Swap w y z) (index w) (λ n. either (eqb n y) z n) is tt (plain_off w (subst IsOffTurns is (next_off a))) (λ ws _. swapped ws (index w) y z) (λ ws. refl)
+  allows_swap w y z is = on_word (op.Swap w y z) (index w) (λ n. either (eqb n y) z n) is tt tt (plain_off w (subst
+      IsOffTurns is (next_off a))) (λ ws _. swapped ws (index w) y z) (λ ws. refl)
 
   -- there are words enough
   many : (s : State (Slot L D) (View L D)) (R : Law s) (k : ℕ) → k < 5 → 7 + k < length s.words
@@ -126,6 +162,10 @@ module _ {L D : Type 0} (log_seen : L → Seen) (log_gives : L → Call → L �
       let rows = length-append m.lists (m.wlinks ++ (m.clinks ++ (m.cells ++ after_cells))) in
       let lists = R.runs.running.both.logged.sized.lists in
       omega arith
+
+  -- what lies in the log part's slot
+  abbrev desk_of : (s : State (Slot L D) (View L D)) → Law s → Desk L
+  desk_of s R = record { part = R.parts.log; block = R.block }
 
   -- a look
   pub allows_look : (i : ℕ) → Allows Law slots id me i (λ n. n) (looked log_seen data_seen me)
@@ -139,53 +179,99 @@ module _ {L D : Type 0} (log_seen : L → Seen) (log_gives : L → Call → L �
         (
           refl,
           λ y is. let known = kept.known log_seen log_gives data_seen data_gives about s R id me.0 y is at in
-              kept.may_go log_seen data_seen R.run R.parts R.actors R.runs y.number (view_of y.actor) (kept.there log_seen log_gives data_seen data_gives about s R id me.0 y is at) me.0.pages me.0.held me.0.data_part (kept.count log_seen log_gives data_seen data_gives about s R id me.0 y is at)
-              (λ p h mine. kept.same_log p R.parts.log (kept.same_slot (slot.Log p) (slot.Log R.parts.log) (sym h ∙ kept.holds_content log_seen log_gives data_seen data_gives about s R id me.0 y is at 0 mine)))
+              kept.may_go log_seen data_seen R.run R.parts R.actors R.runs y.number y.actor (kept.here log_seen
+              log_gives data_seen data_gives about s R id me.0 y is at) me.0.pages me.0.held me.0.data_part
+              (kept.count log_seen log_gives data_seen data_gives about s R id me.0 y is at)
+              (λ desk h mine. kept.same_log desk (desk_of s R) (kept.same_slot (slot.Log desk) (slot.Log (desk_of s
+              R)) (sym h ∙ kept.holds_content log_seen log_gives data_seen data_gives about s R id me.0 y is at 0
+              mine)))
               (λ d h. (known.data_part d h).1) (kept.is_free log_seen log_gives data_seen data_gives about s R id me.0 y is at),
         ),
       )
 
   -- whoever takes a turn word that is held
-  finds_held : (o : Op) (k : ℕ) → next a ≡ o → k < 5 → (hand a ≡ None) → hand (took a answer.Held) ≡ None
-      → ((s : State (Slot L D) (View L D)) (R : Law s) (new : Parts L D) → slice_index s.words (7 + k) ≢ 0 → new.words.words ≡ R.parts.words.words → new.log ≡ R.parts.log → new.store ≡ R.parts.store → new.lists ≡ R.parts.lists → IsPlayed log_seen data_seen R.run o (lent a) R.parts answer.Held new)
+  finds_held : (o : Op) (k : ℕ) → next a ≡ o → IsNoGive o → k < 5 → (hand a ≡ None) → hand (took plain answer.Held) ≡
+      None
+      → ((s : State (Slot L D) (View L D)) (R : Law s) (new : Parts L D) → slice_index s.words (7 + k) ≢ 0 →
+      new.words.words ≡ R.parts.words.words → new.log ≡ R.parts.log → new.store ≡ R.parts.store → new.lists ≡
+      R.parts.lists → IsPlayed log_seen data_seen R.run o (lent plain) R.parts answer.Held new)
       → (s : State (Slot L D) (View L D)) (R : Law s) → get_elem? s.views id ≡ maybe.some me.0 → slice_index s.words (7 + k) ≢ 0
       → (ws : List ℕ) → ws ≡ s.words
-      → Law (record { words = ws; homes = s.homes; views = slice_set s.views id (viewed answer.Held me.0.held me.0.data_part) }) × Stepped log_seen data_seen x answer.Held me.0.held me.0.data_part me.1 me (viewed answer.Held me.0.held me.0.data_part, me.1)
-  finds_held o k is below free held plays s R at busy ws e =
+      → Law (record {
+        words = ws;
+        homes = s.homes;
+        views = slice_set s.views id (viewed no_filling answer.Held
+            me.0.held me.0.data_part);
+      }) × Stepped log_seen data_seen x no_filling answer.Held me.0.held me.0.data_part
+      me.1 me (viewed no_filling answer.Held me.0.held me.0.data_part, me.1)
+  finds_held o k is other below free held plays s R at busy ws e =
+      let fills = fills_none o is other (kept.is_free log_seen log_gives data_seen data_gives about s R id me.0 x one
+      at) in
       let new : Parts L D = record { words = record { pages = R.parts.words.pages; words = ws }; log = R.parts.log; store = R.parts.store; lists = R.parts.lists } in
-      let known : Knows about R.parts R.actors R.seat_of R.keeper R.out id me.0 =
+      let known : Knows about R.parts R.block R.actors R.heard R.seat_of R.keeper R.out id me.0 =
       kept.known log_seen log_gives data_seen data_gives about s R id me.0 x one at in
       let same : HasSamePages R.parts new = record { words = refl; lists = refl } in
-      let done : IsPlayed log_seen data_seen R.run (next a) (lent a) R.parts answer.Held new = subst (λ (p : Op). IsPlayed log_seen data_seen R.run p (lent a) R.parts answer.Held new) (sym is) (plays s R new busy (e ∙ sym R.words_are) refl refl refl) in
-      let own : (j : ℕ) → hand (took a answer.Held) ≡ Some j → me.0.held ≡ Some (slot_content new j) = λ j h. absurd (cc) in (
-        kept.kept log_seen log_gives data_seen data_gives about s R id me.0 x one at answer.Held new same done
-            (viewed answer.Held me.0.held me.0.data_part) R.out refl refl refl own (λ d h. known.data_part d h)
-            (λ j c i ne h hold. same_content R.parts new refl refl i) (λ j u d ne h stored. (R.knows j u h).data_part d stored) s.homes R.lists_are R.log_calls R.data_calls refl R.slots
-            (λ i l z. R.home i l (sym (ap (λ (y : List ℕ). slice_index y (7 + i)) e) ∙ z) ∙ ap (λ (y : Slot L D). maybe.some (maybe.some y)) (same_content R.parts new refl refl i))
+      let done : IsPlayed log_seen data_seen R.run (next a) (lent plain) R.parts answer.Held new = subst (λ (p : Op).
+      IsPlayed log_seen data_seen R.run p (lent plain) R.parts answer.Held new) (sym is) (plays s R new busy (e ∙
+      sym R.words_are) refl refl refl) in
+      let own : (j : ℕ) → hand (took plain answer.Held) ≡ Some j → me.0.held ≡ Some (slot_content new R.block j) = λ j
+      h. absurd (cc) in (
+        kept.kept log_seen log_gives data_seen data_gives about s R id me.0 x one at no_filling fills answer.Held new
+            R.block same done
+            (viewed no_filling answer.Held me.0.held me.0.data_part) R.out refl refl refl own (λ d h. known.data_part
+            d h)
+            (λ j c i ne h hold. same_content R.parts new R.block refl refl i) (λ j u d ne h stored. (R.knows j u
+            h).data_part d stored) s.homes R.lists_are R.log_calls R.data_calls refl R.slots
+            (λ i l z. R.home i l (sym (ap (λ (y : List ℕ). slice_index y (7 + i)) e) ∙ z) ∙ ap (λ (y : Slot L D).
+            maybe.some (maybe.some y)) (same_content R.parts new R.block refl refl i))
             R.data_home
             (λ j l z. inr ((λ q. z (ap (λ (y : List ℕ). slice_index y (7 + j)) e ∙ q)), λ q. absurd (cc))),
-        kept.steps log_seen log_gives data_seen data_gives about s R id me.0 x one at answer.Held new same done me.1 me.0.held me.0.data_part me.1 own (λ d h. (known.data_part d h).1),
+        kept.steps log_seen log_gives data_seen data_gives about s R id me.0 x one at no_filling fills answer.Held new
+            R.block same done me.1 me.0.held me.0.data_part me.1 own (λ d h. (known.data_part d h).1),
       )
 
   -- whoever takes one that is free, and so its slot, in which he makes a change that is to follow
-  finds_free : (o : Op) (k : ℕ) (r : Answer) → next a ≡ o → k < 5 → hand a ≡ None → hand (took a r) ≡ Some k → ((j : ℕ) → hand (took a r) ≡ Some j → j ≡ k)
+  finds_free : (o : Op) (k : ℕ) (r : Answer) → next a ≡ o → IsNoGive o → k < 5 → hand a ≡ None → hand (took plain r) ≡
+      Some k → ((j : ℕ) → hand (took plain r) ≡ Some j → j ≡ k)
       → (s : State (Slot L D) (View L D)) (R : Law s) (new : Parts L D) → get_elem? s.views id ≡ maybe.some me.0 → slice_index s.words (7 + k) ≡ 0
       → new.words.words ≡ slice_set s.words (7 + k) 1 → new.words.pages ≡ R.parts.words.pages → new.lists.pages ≡ R.parts.lists.pages → new.log ≡ R.parts.log → new.store ≡ R.parts.store → AreLists new.lists
-      → ((j : ℕ) → j ≢ k → ◌≡◌ {A = Slot L D} (slot_content R.parts j) (slot_content new j))
-      → IsPlayed log_seen data_seen R.run o (lent a) R.parts r new
-      → Law (record { words = new.words.words; homes = slice_set s.homes k maybe.none; views = slice_set s.views id (viewed r (Some (slot_content new k)) me.0.data_part) })
-      × Stepped log_seen data_seen x r (Some (slot_content new k)) me.0.data_part ((k, slot_content R.parts k) ∷ me.1) me (viewed r (Some (slot_content new k)) me.0.data_part, (k, slot_content R.parts k) ∷ me.1)
-  finds_free o k r is below free_hand gets mine s R new at free words count list_count log_same store_same are others plays =
-      let known : Knows about R.parts R.actors R.seat_of R.keeper R.out id me.0 =
+      → ((j : ℕ) → j ≢ k → ◌≡◌ {A = Slot L D} (slot_content R.parts R.block j) (slot_content new R.block j))
+      → IsPlayed log_seen data_seen R.run o (lent plain) R.parts r new
+      → Law (record {
+        words = new.words.words;
+        homes = slice_set s.homes k maybe.none;
+        views = slice_set s.views id
+            (viewed no_filling r (Some (slot_content new R.block k)) me.0.data_part);
+      })
+      × Stepped log_seen data_seen x no_filling r (Some (slot_content new R.block k)) me.0.data_part ((
+        k,
+        slot_content
+            R.parts R.block k,
+      ) ∷ me.1) me (
+        viewed no_filling r (Some (slot_content new R.block k)) me.0.data_part,
+        (
+          k,
+          slot_content R.parts R.block k,
+        ) ∷ me.1,
+      )
+  finds_free o k r is other below free_hand gets mine s R new at free words count list_count log_same store_same are
+      others plays =
+      let fills = fills_none o is other (kept.is_free log_seen log_gives data_seen data_gives about s R id me.0 x one
+      at) in
+      let known : Knows about R.parts R.block R.actors R.heard R.seat_of R.keeper R.out id me.0 =
       kept.known log_seen log_gives data_seen data_gives about s R id me.0 x one at in
       let same : HasSamePages R.parts new = record { words = count; lists = list_count } in
-      let done : IsPlayed log_seen data_seen R.run (next a) (lent a) R.parts r new = subst (λ (p : Op). IsPlayed log_seen data_seen R.run p (lent a) R.parts r new) (sym is) plays in
-      let own : (j : ℕ) → hand (took a r) ≡ Some j → Some (slot_content new k) ≡ Some (slot_content new j) = λ j h. ap (λ (i : ℕ). Some (slot_content new i)) (sym (mine j h)) in
+      let done : IsPlayed log_seen data_seen R.run (next a) (lent plain) R.parts r new = subst (λ (p : Op). IsPlayed
+      log_seen data_seen R.run p (lent plain) R.parts r new) (sym is) plays in
+      let own : (j : ℕ) → hand (took plain r) ≡ Some j → Some (slot_content new R.block k) ≡ Some (slot_content new
+      R.block j) = λ j h. ap (λ (i : ℕ). Some (slot_content new R.block i)) (sym (mine j h)) in
       -- nobody else holds it, since its word was 0
-      let not_held : (n : ℕ) (c : model.Actor) → get_elem? (views_of R.actors) n ≡ maybe.some c → hand c ≡ Some k → ⊥ = λ n c there held.
+      let not_held : (n : ℕ) (c : model.Actor) → get_elem? R.actors n ≡ maybe.some c → hand c ≡ Some k → ⊥ = λ n c
+      there held.
       let t = (holders.holding log_seen data_seen R.run R.parts R.actors R.runs n c there k held).word_is in let z : slice_index R.parts.words.words (7 + k) ≡ 0 = ap (λ (y : List ℕ). slice_index y (7 + k)) R.words_are ∙ free in omega arith in (
-        kept.kept log_seen log_gives data_seen data_gives about s R id me.0 x one at r new same done
-            (viewed r (Some (slot_content new k)) me.0.data_part) R.out refl refl refl own
+        kept.kept log_seen log_gives data_seen data_gives about s R id me.0 x one at no_filling fills r new R.block
+            same done
+            (viewed no_filling r (Some (slot_content new R.block k)) me.0.data_part) R.out refl refl refl own
             (λ d h. let t = known.data_part d h in (t.0, t.1 ∙ sym store_same, t.2))
             (λ n c j ne there hold. others j (λ z. not_held n c there (hold ∙ ap (λ (i : ℕ). Some i) z))) (λ j u d ne h stored. let t = (R.knows j u h).data_part d stored in (t.0, t.1 ∙ sym store_same, t.2))
             (slice_set s.homes k maybe.none) are (subst (λ (z : log.Part L). CallsOn log_gives about.opened.value.log.dev about.opened.value.log.failed z.dev z.failed) (sym log_same) R.log_calls) (subst (λ (z : store.Part D). CallsOn data_gives about.opened.value.store.dev about.opened.value.store.failed z.dev z.failed) (sym store_same) R.data_calls)
@@ -200,7 +286,9 @@ module _ {L D : Type 0} (log_seen : L → Seen) (log_gives : L → Call → L �
               | yes here ↦ inl (gets ∙ ap (λ (i : ℕ). Some i) (sym here))
               | no far ↦ inr ((λ q. z (ap (λ (y : List ℕ). slice_index y (7 + j)) words ∙ get_or-set_other s.words (7 + k) (7 + j) 1 0 (λ e. far (omega arith)) ∙ q)), λ q. absurd (cc))
             ]),
-        kept.steps log_seen log_gives data_seen data_gives about s R id me.0 x one at r new same done me.1 (Some (slot_content new k)) me.0.data_part ((k, slot_content R.parts k) ∷ me.1) own (λ d h. (known.data_part d h).1 ∙ sym store_same),
+        kept.steps log_seen log_gives data_seen data_gives about s R id me.0 x one at no_filling fills r new R.block
+            same done me.1 (Some (slot_content new R.block k)) me.0.data_part ((k, slot_content R.parts R.block k) ∷
+            me.1) own (λ d h. (known.data_part d h).1 ∙ sym store_same),
       )
     where
       taken_word : (s : State (Slot L D) (View L D)) (R : Law s) (k : ℕ) → k < 5 → slice_index (slice_set s.words (7 + k) 1) (7 + k) ≡ 1
@@ -215,10 +303,11 @@ module _ {L D : Type 0} (log_seen : L → Seen) (log_gives : L → Call → L �
     pub log_same : new.log ≡ R.parts.log
     pub store_same : new.store ≡ R.parts.store
     pub are : AreLists new.lists
-    pub others : (j : ℕ) → j ≢ suc i → ◌≡◌ {A = Slot L D} (slot_content R.parts j) (slot_content new j)
+    pub others : (j : ℕ) → j ≢ suc i → ◌≡◌ {A = Slot L D} (slot_content R.parts R.block j) (slot_content new R.block j)
     pub own : listing_at new.lists.lists i ≡ list_behind o (listing_at R.parts.lists.lists i)
     pub fits : ListFits o (listing_at R.parts.lists.lists i)
-    pub plays : IsPlayed log_seen data_seen R.run o (lent a) R.parts (answer.Taken (list_said o (listing_at R.parts.lists.lists i))) new
+    pub plays : IsPlayed log_seen data_seen R.run o (lent plain) R.parts (answer.Taken (list_said o (listing_at
+        R.parts.lists.lists i))) new
 
   -- TakeDevice
   pub allows_take : next a ≡ op.TakeDevice → Allows Law slots id me 7 (λ n. either (eqb n 0) 1 n) (seized log_seen data_seen me)
@@ -228,27 +317,56 @@ module _ {L D : Type 0} (log_seen : L → Seen) (log_gives : L → Call → L �
         let ws : List ℕ = slice_set s.words 7 (either (eqb (slice_index s.words 7) 0) 1 (slice_index s.words 7)) in
         let new : Parts L D = record { words = record { pages = R.parts.words.pages; words = ws }; log = R.parts.log; store = R.parts.store; lists = R.parts.lists } in
         let words : ws ≡ slice_set s.words 7 1 = swapped s.words 7 0 1 ∙ ap (λ (b : Bool). cond b (slice_set s.words 7 1) s.words) (eq-eqb (slice_index s.words 7) 0 free) in
-        let goes : Handles op.TakeDevice (hand a) (λ (z : Answer). hand (took a z)) = subst (λ (p : Op). Handles p (hand a) (λ (z : Answer). hand (took a z))) is (handles a (kept.is_free log_seen log_gives data_seen data_gives about s R id me.0 x one at)) in
-        let plays = played.took_device log_seen data_seen R.run (lent a) R.parts new r (record { log = refl; data_part = refl }) op.TakeDevice refl
+        let goes : Handles op.TakeDevice (hand a) (λ (z : Answer). hand (took plain z)) = subst (λ (p : Op). Handles p
+        (hand a) (λ (z : Answer). hand (took plain z))) is (handles_filled a no_filling (kept.is_free log_seen
+        log_gives data_seen data_gives about s R id me.0 x one at)) in
+        let plays = played.took_device log_seen data_seen R.run (lent plain) R.parts new r (record {
+          log = refl;
+          data_part = refl;
+        }) op.TakeDevice refl
         (swapped s.words 7 0 1 ∙ ap (λ (y : List ℕ). cond (slice_index y 7 == 0) (slice_set y 7 1) y) (sym R.words_are)) refl
         (λ code mark. sym (ap (λ (b : Bool). cond b (taking (is_some R.parts.log.failed)) answer.Held) (eq-eqb (slice_index R.parts.words.words 7) 0 (ap (λ (y : List ℕ). slice_index y 7) R.words_are ∙ free)))) in
-        let k = finds_free op.TakeDevice 0 r is (omega arith) goes.0 (took_hand (is_some R.parts.log.failed) (λ (z : Answer). hand (took a z)) goes.1 (goes.2, goes.3)) (λ j h. taken_hand (is_some R.parts.log.failed) (λ (z : Answer). hand (took a z)) goes.1 (goes.2, goes.3) j h) s R new at free words refl refl refl refl R.lists_are (λ j ne. same_content R.parts new refl refl j) plays in (
-          viewed r (Some (slot.Log R.parts.log)) me.0.data_part,
-          takes 0 (slot.Log R.parts.log),
+        let k = finds_free op.TakeDevice 0 r is tt (omega arith) goes.0 (took_hand (is_some R.parts.log.failed) (λ (z
+        : Answer). hand (took plain z)) goes.1 (goes.2, goes.3)) (λ j h. taken_hand (is_some R.parts.log.failed)
+        (λ (z : Answer). hand (took plain z)) goes.1 (goes.2, goes.3) j h) s R new at free words refl refl refl
+        refl R.lists_are (λ j ne. same_content R.parts new R.block refl refl j) plays in (
+          viewed no_filling r (Some (slot.Log (desk_of s R))) me.0.data_part,
+          takes 0 (slot.Log (desk_of s R)),
           R.home 0 (omega arith) free,
           k.0,
-          λ y e. ((λ _. (R.parts.log, of_any (λ (z : Numbered). Stepped log_seen data_seen z r (Some (slot.Log R.parts.log)) me.0.data_part ((0, slot.Log R.parts.log) ∷ me.1) me (viewed r (Some (slot.Log R.parts.log)) me.0.data_part, (0, slot.Log R.parts.log) ∷ me.1)) k.1 y e)), λ busy. absurd (busy free)),
+          λ y e. (
+            (λ _. (
+              desk_of s R,
+              of_any (λ (z : Numbered). Stepped log_seen data_seen z no_filling r (Some
+                  (slot.Log (desk_of s R))) me.0.data_part ((0, slot.Log (desk_of s R)) ∷ me.1) me (
+                    viewed no_filling r
+                        (Some (slot.Log (desk_of s R))) me.0.data_part,
+                    (0, slot.Log (desk_of s R)) ∷ me.1,
+                  )) k.1 y e,
+            )),
+            λ busy.
+                absurd (busy free),
+          ),
         ))
     | no busy ↦ (
         let ws : List ℕ = slice_set s.words 7 (either (eqb (slice_index s.words 7) 0) 1 (slice_index s.words 7)) in
         let words : ws ≡ s.words = swapped s.words 7 0 1 ∙ ap (λ (b : Bool). cond b (slice_set s.words 7 1) s.words) (ne_eqb (slice_index s.words 7) 0 busy) in
-        let goes : Handles op.TakeDevice (hand a) (λ (z : Answer). hand (took a z)) = subst (λ (p : Op). Handles p (hand a) (λ (z : Answer). hand (took a z))) is (handles a (kept.is_free log_seen log_gives data_seen data_gives about s R id me.0 x one at)) in
-        let k = finds_held op.TakeDevice 0 is (omega arith) goes.0 goes.3 held_plays s R at busy ws words in (
-          viewed answer.Held me.0.held me.0.data_part,
+        let goes : Handles op.TakeDevice (hand a) (λ (z : Answer). hand (took plain z)) = subst (λ (p : Op). Handles p
+        (hand a) (λ (z : Answer). hand (took plain z))) is (handles_filled a no_filling (kept.is_free log_seen
+        log_gives data_seen data_gives about s R id me.0 x one at)) in
+        let k = finds_held op.TakeDevice 0 is tt (omega arith) goes.0 goes.3 held_plays s R at busy ws words in (
+          viewed no_filling answer.Held me.0.held me.0.data_part,
           keeps,
           tt,
           k.0,
-          λ y e. ((λ free. absurd (busy free)), λ _. of_any (λ (z : Numbered). Stepped log_seen data_seen z answer.Held me.0.held me.0.data_part me.1 me (viewed answer.Held me.0.held me.0.data_part, me.1)) k.1 y e),
+          λ y e. (
+            (λ free. absurd (busy free)),
+            λ _. of_any (λ (z : Numbered). Stepped log_seen data_seen z no_filling
+                answer.Held me.0.held me.0.data_part me.1 me (
+                  viewed no_filling answer.Held me.0.held me.0.data_part,
+                  me.1,
+                )) k.1 y e,
+          ),
         ))
   ]
     where
@@ -260,105 +378,203 @@ module _ {L D : Type 0} (log_seen : L → Seen) (log_gives : L → Call → L �
       took_hand true f t b = b.0
       took_hand false f t b = t None
 
-      held_plays : (s : State (Slot L D) (View L D)) (R : Law s) (new : Parts L D) → slice_index s.words 7 ≢ 0 → new.words.words ≡ R.parts.words.words → new.log ≡ R.parts.log → new.store ≡ R.parts.store → new.lists ≡ R.parts.lists → IsPlayed log_seen data_seen R.run op.TakeDevice (lent a) R.parts answer.Held new
+      held_plays : (s : State (Slot L D) (View L D)) (R : Law s) (new : Parts L D) → slice_index s.words 7 ≢ 0 →
+          new.words.words ≡ R.parts.words.words → new.log ≡ R.parts.log → new.store ≡ R.parts.store → new.lists ≡
+          R.parts.lists → IsPlayed log_seen data_seen R.run op.TakeDevice (lent plain) R.parts answer.Held new
       held_plays s R new busy words log_same store_same lists_same =
           let w : cond (slice_index R.parts.words.words 7 == 0) (slice_set R.parts.words.words 7 1) R.parts.words.words ≡ R.parts.words.words = ap (λ (b : Bool). cond b (slice_set R.parts.words.words 7 1) R.parts.words.words) (ne_eqb (slice_index R.parts.words.words 7) 0 (λ z. busy (sym (ap (λ (y : List ℕ). slice_index y 7) R.words_are) ∙ z))) in
-          played.took_device log_seen data_seen R.run (lent a) R.parts new answer.Held (record { log = log_same; data_part = store_same }) op.TakeDevice refl (words ∙ sym w) lists_same
+          played.took_device log_seen data_seen R.run (lent plain) R.parts new answer.Held (record {
+            log = log_same;
+            data_part = store_same;
+          }) op.TakeDevice refl (words ∙ sym w) lists_same
           (λ code mark. sym (ap (λ (b : Bool). cond b (taking (is_some R.parts.log.failed)) answer.Held) (ne_eqb (slice_index R.parts.words.words 7) 0 (λ z. busy (sym (ap (λ (y : List ℕ). slice_index y 7) R.words_are) ∙ z)))))
 
   -- a turn word and its slot are given back
-  gives_back : (o : Op) (k : ℕ) (own_slot : Slot L D) → next a ≡ o → k < 5 → hand a ≡ Some k → hand (took a (answer.Taken None)) ≡ None → me.0.held ≡ Some own_slot → me.1 ≡ (k, own_slot) ∷ []
-      → ((s : State (Slot L D) (View L D)) (R : Law s) (new : Parts L D) → new.words.words ≡ slice_set R.parts.words.words (7 + k) 0 → new.log ≡ R.parts.log → new.store ≡ R.parts.store → new.lists ≡ R.parts.lists → IsPlayed log_seen data_seen R.run o (lent a) R.parts (answer.Taken None) new)
+  gives_back : (o : Op) (k : ℕ) (own_slot : Slot L D) (f : Filling) → Fills a f → next a ≡ o → IsNoRead o → k < 5 →
+      hand a ≡ Some k → ((g : Filling) → hand (took (filled a g) (answer.Taken None)) ≡ None) → me.0.held ≡ Some
+      own_slot → me.1 ≡ (k, own_slot) ∷ []
+      → ((s : State (Slot L D) (View L D)) (R : Law s) (new : Parts L D) → new.words.words ≡ slice_set
+      R.parts.words.words (7 + k) 0 → new.log ≡ R.parts.log → new.store ≡ R.parts.store → new.lists ≡
+      R.parts.lists → (l : model.Lent) → IsPlayed log_seen data_seen R.run o l R.parts (answer.Taken None) new)
       → Allows Law slots id me (7 + k) (λ _. 0) (gave log_seen data_seen me)
-  gives_back o k own_slot is below held_k none held carried plays s R wide at small =
+  gives_back o k own_slot f fills is other below held_k none held carried plays s R wide at small =
       let r : Answer = answer.Taken None in
       let ws : List ℕ = slice_set s.words (7 + k) 0 in
       let new : Parts L D = record { words = record { pages = R.parts.words.pages; words = ws }; log = R.parts.log; store = R.parts.store; lists = R.parts.lists } in
-      let known : Knows about R.parts R.actors R.seat_of R.keeper R.out id me.0 =
+      let known : Knows about R.parts R.block R.actors R.heard R.seat_of R.keeper R.out id me.0 =
       kept.known log_seen log_gives data_seen data_gives about s R id me.0 x one at in
       let same : HasSamePages R.parts new = record { words = refl; lists = refl } in
-      let done : IsPlayed log_seen data_seen R.run (next a) (lent a) R.parts r new = subst (λ (p : Op). IsPlayed log_seen data_seen R.run p (lent a) R.parts r new) (sym is) (plays s R new (ap (λ (y : List ℕ). slice_set y (7 + k) 0) (sym R.words_are)) refl refl refl) in
-      let own : (j : ℕ) → hand (took a r) ≡ Some j → None ≡ Some (slot_content new j) = λ j h. absurd (cc) in
-      let mine : ◌≡◌ {A = Slot L D} own_slot (slot_content R.parts k) = kept.same_slot own_slot (slot_content R.parts k) (sym held ∙ kept.holds_content log_seen log_gives data_seen data_gives about s R id me.0 x one at k held_k) in
+      let done : (g : Filling) → IsPlayed log_seen data_seen R.run (next a) (lent (filled a g)) R.parts r new = λ g.
+      subst (λ (p : Op). IsPlayed log_seen data_seen R.run p (lent (filled a g)) R.parts r new) (sym is) (plays s
+      R new (ap (λ (y : List ℕ). slice_set y (7 + k) 0) (sym R.words_are)) refl refl refl (lent (filled a g))) in
+      let own : (g : Filling) (j : ℕ) → hand (took (filled a g) r) ≡ Some j → None ≡ Some (slot_content new R.block j)
+      = λ g j h. let n = none g in absurd (cc) in
+      let free = kept.is_free log_seen log_gives data_seen data_gives about s R id me.0 x one at in
+      let follows = kept.follows log_seen log_gives data_seen data_gives about s R id me.0 x one at in
+      let one_way : (g : Filling) → Fills a g → ◌≡◌ {A = model.Actor} (filled a g) (filled a f) = λ g p. one_filling a
+      g f follows free (subst IsNoRead (sym is) other) p fills in
+      let mine : ◌≡◌ {A = Slot L D} own_slot (slot_content R.parts R.block k) = kept.same_slot own_slot (slot_content
+      R.parts R.block k) (sym held ∙ kept.holds_content log_seen log_gives data_seen data_gives about s R id me.0
+      x one at k held_k) in
       let back : put_back s.homes me.1 ≡ slice_set s.homes k (maybe.some own_slot) = ap (put_back s.homes) carried in (
-        viewed r None me.0.data_part,
+        viewed f r None me.0.data_part,
         gives,
         tt,
-        kept.kept log_seen log_gives data_seen data_gives about s R id me.0 x one at r new same done
-            (viewed r None me.0.data_part) R.out refl refl refl own (λ d h. known.data_part d h)
-            (λ n c j ne h hold. same_content R.parts new refl refl j) (λ j u d ne h stored. (R.knows j u h).data_part d stored) (put_back s.homes me.1) R.lists_are R.log_calls R.data_calls refl
+        kept.kept log_seen log_gives data_seen data_gives about s R id me.0 x one at f fills r new R.block same (done f)
+            (viewed f r None me.0.data_part) R.out refl refl refl (own f) (λ d h. known.data_part d h)
+            (λ n c j ne h hold. same_content R.parts new R.block refl refl j) (λ j u d ne h stored. (R.knows j u
+            h).data_part d stored) (put_back s.homes me.1) R.lists_are R.log_calls R.data_calls refl
             (ap length back ∙ length-set s.homes k (maybe.some own_slot) ∙ R.slots)
             (λ j l z. ap (λ (y : List (maybe.Option (Slot L D))). get_elem? y j) back ∙ elim (ℕ_discrete j k) [
-              | yes here ↦ (ap (get_elem? (slice_set s.homes k (maybe.some own_slot))) here ∙ set_here s.homes k (maybe.some own_slot) (let n = R.slots in omega arith) ∙ ap (λ (y : Slot L D). maybe.some (maybe.some y)) (mine ∙ ap (slot_content R.parts) (sym here) ∙ same_content R.parts new refl refl j))
-              | no far ↦ set_else s.homes k j (maybe.some own_slot) far ∙ R.home j l (sym (get_or-set_other s.words (7 + k) (7 + j) 0 0 (λ e. far (omega arith))) ∙ z) ∙ ap (λ (y : Slot L D). maybe.some (maybe.some y)) (same_content R.parts new refl refl j)
+              | yes here ↦ (ap (get_elem? (slice_set s.homes k (maybe.some own_slot))) here ∙ set_here s.homes k
+                  (maybe.some own_slot) (let n = R.slots in omega arith) ∙ ap (λ (y : Slot L D). maybe.some
+                  (maybe.some y)) (mine ∙ ap (slot_content R.parts R.block) (sym here) ∙ same_content R.parts new
+                  R.block refl refl j))
+              | no far ↦ set_else s.homes k j (maybe.some own_slot) far ∙ R.home j l (sym (get_or-set_other s.words (7
+                  + k) (7 + j) 0 0 (λ e. far (omega arith))) ∙ z) ∙ ap (λ (y : Slot L D). maybe.some (maybe.some y))
+                  (same_content R.parts new R.block refl refl j)
             ])
             (λ z. ap (λ (y : List (maybe.Option (Slot L D))). get_elem? y 5) back ∙ set_else s.homes k 5 (maybe.some own_slot) (λ e. omega arith) ∙ R.data_home z)
             (λ j l z. elim (ℕ_discrete j k) [
               | yes here ↦ absurd (z (ap (λ (i : ℕ). slice_index (slice_set s.words (7 + k) 0) (7 + i)) here ∙ get_or-set_same s.words (7 + k) 0 0 (many s R k below)))
               | no far ↦ inr ((λ q. z (get_or-set_other s.words (7 + k) (7 + j) 0 0 (λ e. far (omega arith)) ∙ q)), λ q. absurd (far (holders.same_number j k (sym q ∙ held_k))))
             ]),
-        of_any (λ (y : Numbered). Stepped log_seen data_seen y r None me.0.data_part (rest me.1) me (viewed r None me.0.data_part, rest me.1))
-            (kept.steps log_seen log_gives data_seen data_gives about s R id me.0 x one at r new same done me.1 None me.0.data_part (rest me.1) own (λ d h. (known.data_part d h).1)),
+        λ y g e fills_y. of_any (λ (z : Numbered). Fills z.actor g
+            → Stepped log_seen data_seen z g r None me.0.data_part (rest me.1) me (
+              viewed f r None me.0.data_part,
+              rest me.1,
+            ))
+            (λ p. subst (Stepped log_seen data_seen x g r None me.0.data_part (rest me.1) me)
+            (ap (λ (z : model.Actor). left z) (one_way g p))
+            (kept.steps log_seen log_gives data_seen data_gives about s R id me.0 x one at g p r new R.block same
+            (done g) me.1 None me.0.data_part (rest me.1) (own g) (λ d h. (known.data_part d h).1)))
+            y e fills_y,
+      )
+    where
+      left : model.Actor → Me (Slot L D) (View L D)
+      left z = (
+        record {
+          about = me.0.about;
+          pages = me.0.pages;
+          seats = (record { number = x.number; actor = took z (answer.Taken None); heard = x.heard ++ handed_by z }) ∷
+              [];
+          held = None;
+          data_part = me.0.data_part;
+        },
+        rest me.1,
       )
 
-  pub allows_give : (own_slot : Slot L D) → next a ≡ op.GiveDevice → IsFreeToCheck a → me.0.held ≡ Some own_slot → me.1 ≡ (0, own_slot) ∷ [] → Allows Law slots id me 7 (λ _. 0) (gave log_seen data_seen me)
-  allows_give own_slot is free held carried =
-      let goes : Handles op.GiveDevice (hand a) (λ (z : Answer). hand (took a z)) = subst (λ (p : Op). Handles p (hand a) (λ (z : Answer). hand (took a z))) is (handles a free) in
-      gives_back op.GiveDevice 0 own_slot is (omega arith) goes.0 goes.1 held carried
-      (λ s R new words log_same store_same lists_same. record { code = 0; log_served = log_same; data_served = played.untouched (run_data_side log_seen data_seen R.run) R.parts.store new.store (lent a) op.GiveDevice 0 tt store_same; words = words; lists = ap lists_of lists_same; answered = refl })
+  pub allows_give : (own_slot : Slot L D) (f : Filling) → Fills a f → next a ≡ op.GiveDevice → IsFreeToCheck a →
+      me.0.held ≡ Some own_slot → me.1 ≡ (0, own_slot) ∷ [] → Allows Law slots id me 7 (λ _. 0) (gave log_seen
+      data_seen me)
+  allows_give own_slot f fills is free held carried =
+      let goes : (g : Filling) → Handles op.GiveDevice (hand a) (λ (z : Answer). hand (took (filled a g) z)) = λ g.
+      subst (λ (p : Op). Handles p (hand a) (λ (z : Answer). hand (took (filled a g) z))) is (handles_filled a g
+      free) in
+      gives_back op.GiveDevice 0 own_slot f fills is tt (omega arith) (goes f).0 (λ g. (goes g).1) held carried
+      (λ s R new words log_same store_same lists_same l. record {
+        code = 0;
+        log_served = log_same;
+        data_served =
+            played.untouched (run_data_side log_seen data_seen R.run) R.parts.store new.store l op.GiveDevice 0 tt
+            store_same;
+        words = words;
+        lists = ap lists_of lists_same;
+        answered = refl;
+      })
 
   pub allows_give_list : (i : ℕ) (own_slot : Slot L D) → next a ≡ op.GiveList i → i < 4 → IsFreeToCheck a → me.0.held ≡ Some own_slot → me.1 ≡ (suc i, own_slot) ∷ [] → Allows Law slots id me (8 + i) (λ _. 0) (gave log_seen data_seen me)
   allows_give_list i own_slot is below free held carried =
-      let goes : Handles (op.GiveList i) (hand a) (λ (z : Answer). hand (took a z)) = subst (λ (p : Op). Handles p (hand a) (λ (z : Answer). hand (took a z))) is (handles a free) in
+      let goes : (g : Filling) → Handles (op.GiveList i) (hand a) (λ (z : Answer). hand (took (filled a g) z)) = λ g.
+      subst (λ (p : Op). Handles p (hand a) (λ (z : Answer). hand (took (filled a g) z))) is (handles_filled a g
+      free) in
       let word : 7 + suc i ≡ 8 + i = omega arith in
       subst (λ (n : ℕ). Allows Law slots id me n (λ _. 0) (gave log_seen data_seen me)) word
-      (gives_back (op.GiveList i) (suc i) own_slot is (omega arith) goes.0 goes.1 held carried
-      (λ s R new words log_same store_same lists_same. record {
+      (gives_back (op.GiveList i) (suc i) own_slot no_filling (fills_none (op.GiveList i) is tt free) is tt (omega
+      arith) (goes no_filling).0 (λ g. (goes g).1) held carried
+      (λ s R new words log_same store_same lists_same l. record {
         code = 0;
         log_served = log_same;
-        data_served = played.untouched (run_data_side log_seen data_seen R.run) R.parts.store new.store (lent a) (op.GiveList i) 0 tt store_same;
+        data_served = played.untouched (run_data_side log_seen data_seen R.run) R.parts.store new.store l (op.GiveList
+            i) 0 tt store_same;
         words = words ∙ ap (λ (n : ℕ). slice_set R.parts.words.words n 0) word;
         lists = ap lists_of lists_same;
         answered = refl;
       }))
 
   -- TakeAdd, TakeRemove, TakeOldest: whoever finds the list free makes its call after the step
-  pub takes_list : (o : Op) (i : ℕ) → next a ≡ o → TakesList o (suc i) → i < 4 → (hand a ≡ None) × ((n : Option ℕ) → hand (took a (answer.Taken n)) ≡ Some (suc i)) × (hand (took a answer.Held) ≡ None)
-      → ((s : State (Slot L D) (View L D)) (R : Law s) (new : Parts L D) → slice_index s.words (7 + suc i) ≢ 0 → new.words.words ≡ R.parts.words.words → new.log ≡ R.parts.log → new.store ≡ R.parts.store → new.lists ≡ R.parts.lists → IsPlayed log_seen data_seen R.run o (lent a) R.parts answer.Held new)
-      → ((s : State (Slot L D) (View L D)) (R : Law s) (ws : List ℕ) → ws ≡ cond (slice_index R.parts.words.words (8 + i) == 0) (slice_set R.parts.words.words (8 + i) 1) R.parts.words.words → slice_index R.parts.words.words (8 + i) ≡ 0 → get_elem? (views_of R.actors) x.number ≡ maybe.some a
+  pub takes_list : (o : Op) (i : ℕ) → next a ≡ o → IsNoGive o → TakesList o (suc i) → i < 4 → (hand a ≡ None) × ((n :
+      Option ℕ) → hand (took plain (answer.Taken n)) ≡ Some (suc i)) × (hand (took plain answer.Held) ≡ None)
+      → ((s : State (Slot L D) (View L D)) (R : Law s) (new : Parts L D) → slice_index s.words (7 + suc i) ≢ 0 →
+      new.words.words ≡ R.parts.words.words → new.log ≡ R.parts.log → new.store ≡ R.parts.store → new.lists ≡
+      R.parts.lists → IsPlayed log_seen data_seen R.run o (lent plain) R.parts answer.Held new)
+      → ((s : State (Slot L D) (View L D)) (R : Law s) (ws : List ℕ) → ws ≡ cond (slice_index R.parts.words.words (8 +
+      i) == 0) (slice_set R.parts.words.words (8 + i) 1) R.parts.words.words → slice_index R.parts.words.words (8
+      + i) ≡ 0 → get_elem? R.actors x.number ≡ maybe.some a
       → Goes s R o i ws)
-      → Allows Law slots id me (8 + i) (λ n. either (eqb n 0) 1 n) (λ n m'. (n ≡ 0 → (l : Listing) × ListFits o l × Stepped log_seen data_seen x (answer.Taken (list_said o l)) (Some (slot.Pages (list_behind o l))) me.0.data_part ((suc i, slot.Pages l) ∷ me.1) me m') × (n ≢ 0 → Stepped log_seen data_seen x answer.Held me.0.held me.0.data_part me.1 me m'))
-  takes_list o i is takes_it below goes held_plays free_plays s R wide at small = elim (ℕ_discrete (slice_index s.words (8 + i)) 0) [
-    | yes free ↦ (
-        let word : 7 + suc i ≡ 8 + i = omega arith in
-        let ws : List ℕ = slice_set s.words (8 + i) (either (eqb (slice_index s.words (8 + i)) 0) 1 (slice_index s.words (8 + i))) in
-        let l : Listing = listing_at R.parts.lists.lists i in
-        let r : Answer = answer.Taken (list_said o l) in
-        let words : ws ≡ slice_set s.words (8 + i) 1 = swapped s.words (8 + i) 0 1 ∙ ap (λ (b : Bool). cond b (slice_set s.words (8 + i) 1) s.words) (eq-eqb (slice_index s.words (8 + i)) 0 free) in
-        let there = kept.there log_seen log_gives data_seen data_gives about s R id me.0 x one at in
-        let g = free_plays s R ws (swapped s.words (8 + i) 0 1 ∙ ap (λ (y : List ℕ). cond (slice_index y (8 + i) == 0) (slice_set y (8 + i) 1) y) (sym R.words_are)) (ap (λ (y : List ℕ). slice_index y (8 + i)) R.words_are ∙ free) there in
-        let new : Parts L D = g.new in
-        let k = finds_free o (suc i) r is (omega arith) goes.0 (goes.1 (list_said o l)) (λ j h. holders.same_number j (suc i) (sym h ∙ goes.1 (list_said o l))) s R new at (ap (slice_index s.words) word ∙ free) (g.words ∙ words ∙ ap (λ (n : ℕ). slice_set s.words n 1) (sym word)) g.count g.list_count g.log_same g.store_same g.are g.others g.plays in
-        let held : ◌≡◌ {A = Slot L D} (slot_content new (suc i)) (slot.Pages (list_behind o l)) = ap slot.Pages g.own in (
-          viewed r (Some (slot.Pages (list_behind o l))) me.0.data_part,
-          takes (suc i) (slot.Pages l),
-          R.home (suc i) (omega arith) (ap (slice_index s.words) word ∙ free),
-          subst (λ (z : List ℕ). Law (record { words = z; homes = slice_set s.homes (suc i) maybe.none; views = slice_set s.views id (viewed r (Some (slot.Pages (list_behind o l))) me.0.data_part) })) g.words
-              (subst (λ (z : Slot L D). Law (record { words = new.words.words; homes = slice_set s.homes (suc i) maybe.none; views = slice_set s.views id (viewed r (Some z) me.0.data_part) })) held k.0),
-          (
-            (λ _. (l, g.fits, subst (λ (z : Slot L D). Stepped log_seen data_seen x r (Some z) me.0.data_part ((suc i, slot.Pages l) ∷ me.1) me (viewed r (Some z) me.0.data_part, (suc i, slot.Pages l) ∷ me.1)) held k.1)),
-            λ busy. absurd (busy free),
-          ),
-        ))
-    | no busy ↦ (
-        let word : 7 + suc i ≡ 8 + i = omega arith in
-        let ws : List ℕ = slice_set s.words (8 + i) (either (eqb (slice_index s.words (8 + i)) 0) 1 (slice_index s.words (8 + i))) in
-        let words : ws ≡ s.words = swapped s.words (8 + i) 0 1 ∙ ap (λ (b : Bool). cond b (slice_set s.words (8 + i) 1) s.words) (ne_eqb (slice_index s.words (8 + i)) 0 busy) in
-        let k = finds_held o (suc i) is (omega arith) goes.0 goes.2 held_plays s R at (λ z. busy (sym (ap (slice_index s.words) word) ∙ z)) ws words in (
-          viewed answer.Held me.0.held me.0.data_part,
-          keeps,
-          tt,
-          k.0,
-          ((λ free. absurd (busy free)), λ _. k.1),
-        ))
-  ]
+      → Allows Law slots id me (8 + i) (λ n. either (eqb n 0) 1 n) (λ n m'. (n ≡ 0 → (l : Listing) × ListFits o l ×
+      Stepped log_seen data_seen x no_filling (answer.Taken (list_said o l)) (Some (slot.Pages (list_behind o l)))
+      me.0.data_part ((suc i, slot.Pages l) ∷ me.1) me m') × (n ≢ 0 → Stepped log_seen data_seen x no_filling
+      answer.Held me.0.held me.0.data_part me.1 me m'))
+  takes_list o i is other takes_it below goes held_plays free_plays s R wide at small = elim (ℕ_discrete (slice_index
+      s.words (8 + i)) 0) [
+        | yes free ↦ (
+            let word : 7 + suc i ≡ 8 + i = omega arith in
+            let ws : List ℕ = slice_set s.words (8 + i) (either (eqb (slice_index s.words (8 + i)) 0) 1 (slice_index s.words (8 + i))) in
+            let l : Listing = listing_at R.parts.lists.lists i in
+            let r : Answer = answer.Taken (list_said o l) in
+            let words : ws ≡ slice_set s.words (8 + i) 1 = swapped s.words (8 + i) 0 1 ∙ ap (λ (b : Bool). cond b (slice_set s.words (8 + i) 1) s.words) (eq-eqb (slice_index s.words (8 + i)) 0 free) in
+            let there = kept.here log_seen log_gives data_seen data_gives about s R id me.0 x one at in
+            let g = free_plays s R ws (swapped s.words (8 + i) 0 1 ∙ ap (λ (y : List ℕ). cond (slice_index y (8 + i) == 0) (slice_set y (8 + i) 1) y) (sym R.words_are)) (ap (λ (y : List ℕ). slice_index y (8 + i)) R.words_are ∙ free) there in
+            let new : Parts L D = g.new in
+            let k = finds_free o (suc i) r is other (omega arith) goes.0 (goes.1 (list_said o l)) (λ j h.
+            holders.same_number j (suc i) (sym h ∙ goes.1 (list_said o l))) s R new at (ap (slice_index s.words) word
+            ∙ free) (g.words ∙ words ∙ ap (λ (n : ℕ). slice_set s.words n 1) (sym word)) g.count g.list_count
+            g.log_same g.store_same g.are g.others g.plays in
+            let held : ◌≡◌ {A = Slot L D} (slot_content new R.block (suc i)) (slot.Pages (list_behind o l)) = ap
+            slot.Pages g.own in (
+              viewed no_filling r (Some (slot.Pages (list_behind o l))) me.0.data_part,
+              takes (suc i) (slot.Pages l),
+              R.home (suc i) (omega arith) (ap (slice_index s.words) word ∙ free),
+              subst (λ (z : List ℕ). Law (record {
+                words = z;
+                homes = slice_set s.homes (suc i) maybe.none;
+                views =
+                    slice_set s.views id (viewed no_filling r (Some (slot.Pages (list_behind o l))) me.0.data_part);
+              }))
+                  g.words
+                  (subst (λ (z : Slot L D). Law (record {
+                    words = new.words.words;
+                    homes = slice_set s.homes (suc i)
+                        maybe.none;
+                    views = slice_set s.views id (viewed no_filling r (Some z) me.0.data_part);
+                  })) held k.0),
+              (
+                (λ _. (
+                  l,
+                  g.fits,
+                  subst (λ (z : Slot L D). Stepped log_seen data_seen x no_filling r (Some z)
+                      me.0.data_part ((suc i, slot.Pages l) ∷ me.1) me (
+                        viewed no_filling r (Some z) me.0.data_part,
+                        (
+                          suc i,
+                          slot.Pages l,
+                        ) ∷ me.1,
+                      )) held k.1,
+                )),
+                λ busy. absurd (busy free),
+              ),
+            ))
+        | no busy ↦ (
+            let word : 7 + suc i ≡ 8 + i = omega arith in
+            let ws : List ℕ = slice_set s.words (8 + i) (either (eqb (slice_index s.words (8 + i)) 0) 1 (slice_index s.words (8 + i))) in
+            let words : ws ≡ s.words = swapped s.words (8 + i) 0 1 ∙ ap (λ (b : Bool). cond b (slice_set s.words (8 + i) 1) s.words) (ne_eqb (slice_index s.words (8 + i)) 0 busy) in
+            let k = finds_held o (suc i) is other (omega arith) goes.0 goes.2 held_plays s R at (λ z. busy (sym (ap
+            (slice_index s.words) word) ∙ z)) ws words in (
+              viewed no_filling answer.Held me.0.held me.0.data_part,
+              keeps,
+              tt,
+              k.0,
+              ((λ free. absurd (busy free)), λ _. k.1),
+            ))
+      ]

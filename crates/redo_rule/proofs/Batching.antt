@@ -4,7 +4,7 @@ use Rattle.atomic_table.specs.Seated.{TableId}
 use Rattle.atomic_table.specs.Table.{Allows, Me, rest}
 use Rattle.atomic_table.specs.declared.shared.Seat.{Seat}
 use Rattle.model_base.specs.declared.shape.Shape.{Shape}
-use Rattle.model_core.specs.{DataServed, KeptPage, lent, next, step_of, took, word_count}
+use Rattle.model_core.specs.{DataServed, filled, Given, KeptPage, lent, next, word_count}
 use Rattle.model_core.specs.Actors as model
 use Rattle.model_core.specs.declared.ops.Answer.{Answer}
 use Rattle.model_core.specs.declared.ops.Op.{Op}
@@ -15,16 +15,19 @@ use Rattle.redo_disk.specs.{Call, EndWith, MakesCalls}
 use Rattle.redo_disk.specs.Seen.{Seen}
 use Rattle.redo_drive.specs.Devices.{call_answer, call_code}
 use Rattle.redo_drive.specs.Playing.{DataReady, HasWholePages, MayBatchLent, run_data_side, RunOf}
+use Rattle.redo_drive.specs.Receiving.{HasTaken, MarkFits}
 use Rattle.redo_drive.specs.Views.{view_of}
+use Rattle.redo_drive.specs.declared.actor.Actor.{Actor}
 use Rattle.redo_drive.specs.declared.device.Device.TheVariants.{Data}
 use Rattle.redo_rule.proofs.AllowedCalls.{allows_batched, allows_reach}
-use Rattle.redo_rule.proofs.Filled.{plays}
+use Rattle.redo_rule.proofs.Filled.{IsPlainOp, plain_filled}
 use Rattle.redo_rule.proofs.Kept as kept
-use Rattle.redo_rule.proofs.Retook.{view_retook}
 use Rattle.redo_rule.proofs.Stepping as stepping
-use Rattle.model_core.specs.Hands.{hand, IsFreeToCheck}
-use Rattle.redo_rule.specs.Mine.{HasPlayed, Mine, number_in, number_of}
-use Rattle.redo_rule.specs.Plays.{batched, behind, Carries, MayGo, reached, Shown, Stepped, view_reaching}
+use Rattle.redo_rule.proofs.Took.{Leaves, leaves, may_take, took_plain}
+use Rattle.model_core.specs.AnswerFits.{AnswerFits}
+use Rattle.model_core.specs.Hands.{IsFreeToCheck}
+use Rattle.redo_rule.specs.Mine.{Mine}
+use Rattle.redo_rule.specs.Plays.{batched, Carries, no_filling, reached, Stepped, view_reaching}
 use Rattle.redo_rule.specs.Ruled.{Ruled}
 use Rattle.redo_rule.specs.declared.law.About.{About}
 use Rattle.redo_rule.specs.Seating.{HasPart}
@@ -42,7 +45,12 @@ live_of d (lending.Batch pages frames) may = may.0
 live_of d lending.Nothing may = absurd may
 live_of d (lending.Blocks bytes firsts) may = absurd may
 
-module _ {L D : Type 0} (table : TableId) (seat : Seat (Slot L D) (View L D)) (a : model.Actor) (mine : Mine table seat a) (is : next a ≡ op.WriteBatch) (d : store.Part D) (has : seat.me.0.data_part ≡ Some (record { part = d; out = false })) where
+module _ {L D R : Type 0} (table : TableId) (seat : Seat (Slot L D) (View L D)) (old : Actor R) (mine : Mine table
+    seat (view_of old)) (is : next (view_of old) ≡ op.WriteBatch) (d : store.Part D) (has : seat.me.0.data_part ≡ Some
+    (record { part = d; out = false })) where
+  abbrev a : model.Actor
+  a = view_of old
+
   -- the seat that has reached for the data part
   abbrev pub reaching : Me (Slot L D) (View L D)
   reaching = (view_reaching seat.me.0 d, (5, slot.Data d) ∷ seat.me.1)
@@ -52,7 +60,8 @@ module _ {L D : Type 0} (table : TableId) (seat : Seat (Slot L D) (View L D)) (a
   reach_ok log_seen log_gives data_seen data_gives about = (mine.of, (let w = mine.words in omega arith), allows_reach log_seen log_gives data_seen data_gives about table.slots seat.id seat.me mine.who mine.one 0 d has)
 
   none : seat.me.1 ≡ []
-  none = let g = stepping.goes table seat a mine op.WriteBatch is in subst (λ (h : Option ℕ). Carries h seat.me) g.0 mine.carries
+  none = let g = stepping.goes table seat a mine op.WriteBatch is no_filling in subst (λ (h : Option ℕ). Carries h
+      seat.me) g.0 mine.carries
 
   pub may_batch : (l : Lent) → Lends l (lent a) → MayBatchLent d l
   may_batch l lends = subst (DataReady d l) is (mine.may.data_part (record { part = d; out = false }) has l lends)
@@ -96,11 +105,17 @@ module _ {L D : Type 0} (table : TableId) (seat : Seat (Slot L D) (View L D)) (a
             → MakesCalls data_gives p.dev e.dev (EndWith e.failed)
             → (out.table_id ≡ table) × (0 < table.words) × Allows (Ruled log_seen log_gives data_seen data_gives about) table.slots out.id (out.me.0, (5, z) ∷ rest out.me.1) 0 (λ n. n) (batched log_seen data_seen (out.me.0, (5, z) ∷ rest out.me.1))
         batched_ok log_seen log_gives data_seen data_gives about l lends served calls =
-            let asks : next (view_of mine.who.actor) ≡ op.WriteBatch = ap next mine.state ∙ is in
-            let free : IsFreeToCheck (view_of mine.who.actor) = subst IsFreeToCheck (sym mine.state) mine.may.free in
-            let done : (run : RunOf L D) → DataServed (run_data_side log_seen data_seen run) p (lent (view_of mine.who.actor)) op.WriteBatch (call_code Data e.failed) e = λ run.
-            subst (λ (w : model.Actor). DataServed (run_data_side log_seen data_seen run) p (lent w) op.WriteBatch (call_code Data e.failed) e) (sym mine.state)
-            (served (data_seen run.first_data.dev).faults run.shape run.setup.opened run.first_data (lent a) lends whole) in
+            let asks : next mine.who.actor ≡ op.WriteBatch = ap next mine.state ∙ is in
+            let free : IsFreeToCheck mine.who.actor = subst IsFreeToCheck (sym mine.state) mine.may.free in
+            let done : (run : RunOf L D) → DataServed (run_data_side log_seen data_seen run) p (lent (filled
+            mine.who.actor no_filling)) op.WriteBatch (call_code Data e.failed) e = λ run.
+            subst (λ (w : model.Actor). DataServed (run_data_side log_seen data_seen run) p (lent (filled w
+            no_filling)) op.WriteBatch (call_code Data e.failed) e) (sym mine.state)
+            (subst (λ (w : model.Actor). DataServed (run_data_side log_seen data_seen run) p (lent w) op.WriteBatch
+            (call_code Data e.failed) e) (sym (plain_filled a no_filling mine.may.free (subst IsPlainOp (sym is)
+            tt)))
+            (served (data_seen run.first_data.dev).faults run.shape run.setup.opened run.first_data (lent a) lends
+            whole)) in
             let one : out.me.0.seats ≡ mine.who ∷ [] = ap (λ (m : Me (Slot L D) (View L D)). m.0.seats) out_is ∙ mine.one in
             let keeps : out.me.0.data_part ≡ Some (record { part = p; out = true }) = ap (λ (m : Me (Slot L D) (View L D)). m.0.data_part) out_is ∙ ap (λ (w : store.Part D). Some (record { part = w; out = true })) (sym was) in (
               out_table ∙ mine.of,
@@ -109,40 +124,59 @@ module _ {L D : Type 0} (table : TableId) (seat : Seat (Slot L D) (View L D)) (a
             )
 
         module _ (log_seen : L → Seen) (data_seen : D → Seen) (after : Seat (Slot L D) (View L D)) (same : after.table_id ≡ out.table_id) (m : ℕ) (told_after : batched log_seen data_seen (out.me.0, (5, z) ∷ rest out.me.1) m after.me)
-            (r : Answer) (r_is : r ≡ call_answer Data e.failed 0) (b : model.Actor) (b_is : b ≡ took a r) where
-          stepped : Stepped log_seen data_seen mine.who r out.me.0.held (Some (record { part = e; out = false })) (rest out.me.1) (out.me.0, (5, z) ∷ rest out.me.1) after.me
-          stepped = subst (λ (w : Answer). Stepped log_seen data_seen mine.who w out.me.0.held (Some (record { part = e; out = false })) (rest out.me.1) (out.me.0, (5, z) ∷ rest out.me.1) after.me) (sym r_is)
+            (r : Answer) (r_is : r ≡ call_answer Data e.failed 0) where
+          stepped : Stepped log_seen data_seen mine.who no_filling r out.me.0.held (Some (record {
+            part = e;
+            out =
+                false;
+          })) (rest out.me.1) (out.me.0, (5, z) ∷ rest out.me.1) after.me
+          stepped = subst (λ (w : Answer). Stepped log_seen data_seen mine.who no_filling w out.me.0.held (Some
+              (record { part = e; out = false })) (rest out.me.1) (out.me.0, (5, z) ∷ rest out.me.1) after.me) (sym
+              r_is)
               (told_after mine.who e (ap (λ (w : Me (Slot L D) (View L D)). w.0.seats) out_is ∙ mine.one) bare)
 
-          pub batched_mine : Mine table after b
-          batched_mine =
-              let g = stepping.goes table seat a mine op.WriteBatch is in
-              let same_pages : out.me.0.pages ≡ seat.me.0.pages = ap (λ (w : Me (Slot L D) (View L D)). w.0.pages) out_is in record {
-                of = same ∙ out_table ∙ mine.of;
-                slots = mine.slots;
-                words = mine.words ∙ ap word_count (sym (ap (λ (w : Me (Slot L D) (View L D)). w.0.pages) stepped.is ∙ same_pages));
-                who = behind mine.who r;
-                one = ap (λ (w : Me (Slot L D) (View L D)). w.0.seats) stepped.is;
-                state = view_retook mine.who.actor r ∙ ap (λ (w : model.Actor). took w r) mine.state ∙ sym b_is;
-                carries = subst (λ (w : Option ℕ). Carries w after.me) (sym (ap hand b_is ∙ g.1 r)) (ap (λ (w : Me (Slot L D) (View L D)). w.1) stepped.is ∙ ap rest carries_part);
-                may = subst (λ (w : Me (Slot L D) (View L D)). MayGo w.0.pages w.0.held w.0.data_part b) (sym stepped.is)
-                    (subst (λ (w : model.Actor). MayGo out.me.0.pages out.me.0.held (Some (record { part = e; out = false })) w) (ap (λ (w : model.Actor). took w r) mine.state ∙ sym b_is) stepped.may);
-              }
-
-          pub batched_played : (step : Step) → step ≡ step_of a r
-              → HasPlayed log_seen data_seen seat.me.0.about a step b
-          batched_played step ends = plays log_seen data_seen a mine.who.number r
-              (subst (λ (w : Me (Slot L D) (View L D)). Shown log_seen data_seen w.0.about mine.who.number a r) out_is
-              (subst (λ (w : model.Actor). Shown log_seen data_seen out.me.0.about mine.who.number w r) mine.state
-              stepped.shown))
-              step b b_is ends
+          pub batched_fits : AnswerFits a r × MarkFits a r
+          batched_fits = may_take log_seen data_seen mine.who a no_filling r out.me.0.held
+              (Some (record { part = e; out = false })) (rest out.me.1) (out.me.0, (5, z) ∷ rest out.me.1) after.me
+              mine.state
+              stepped
 
           pub keeps_part : HasPart after.me.0
           keeps_part = (e, ap (λ (w : Me (Slot L D) (View L D)). w.0.data_part) stepped.is)
 
-          pub keeps_table : after.me.0.about ≡ seat.me.0.about
-          keeps_table = ap (λ (w : Me (Slot L D) (View L D)). w.0.about) stepped.is
-              ∙ ap (λ (w : Me (Slot L D) (View L D)). w.0.about) out_is
+          module _ (stands : R → List Given → Type 0) (step : Step) (new : Actor R) (h : HasTaken stands old r step
+              new) where
+            left : Leaves table log_seen data_seen stands out.me.0 old step after new
+            left =
+                let g = stepping.goes table seat a mine op.WriteBatch is no_filling in
+                let one : out.me.0.seats ≡ mine.who ∷ [] = ap (λ (w : Me (Slot L D) (View L D)). w.0.seats) out_is ∙
+                mine.one in
+                let pages : out.me.0.pages ≡ seat.me.0.pages = ap (λ (w : Me (Slot L D) (View L D)). w.0.pages) out_is
+                in
+                leaves table log_seen data_seen stands out.me.0 mine.who old new step no_filling r out.me.0.held
+                (Some (record { part = e; out = false })) (rest out.me.1) ((5, z) ∷ rest out.me.1) after.me mine.slots
+                (mine.words ∙ ap word_count (sym pages)) one mine.state stepped
+                (took_plain stands r step new no_filling old op.WriteBatch is tt mine.may.free h) after
+                (same ∙ out_table ∙ mine.of) (ap (λ (w : Me (Slot L D) (View L D)). w.0) stepped.is)
+                (subst (λ (w : Option ℕ). Carries w after.me) (sym (g.1 r))
+                (ap (λ (w : Me (Slot L D) (View L D)). w.1) stepped.is ∙ ap rest carries_part))
 
-          pub keeps_number : number_of after.me.0 ≡ number_of seat.me.0
-          keeps_number = ap (λ (w : Me (Slot L D) (View L D)). number_of w.0) stepped.is ∙ sym (ap number_in mine.one)
+            -- what it leaves of its actor and of the seat that reached for the data part
+            pub batched_leaves : Leaves table log_seen data_seen stands seat.me.0 old step after new
+            batched_leaves = reached_back (subst (λ (w : Me (Slot L D) (View L D)). Leaves table log_seen data_seen
+                stands w.0 old step after new) out_is left)
+              where
+                reached_back : Leaves table log_seen data_seen stands (view_reaching seat.me.0 d) old step after new
+                    → Leaves table log_seen data_seen stands seat.me.0 old step after new
+                reached_back l = record {
+                  mine = l.mine;
+                  played = l.played;
+                  same = record {
+                    about = l.same.about;
+                    number = l.same.number;
+                    same = l.same.same;
+                    since = l.same.since;
+                    heard = l.same.heard;
+                    got = l.same.got;
+                  };
+                }

@@ -6,7 +6,7 @@ use Rattle.model_core.proofs.Endings.{ended_of, ended_well, idle_of, quiet, rest
 use Rattle.model_core.proofs.FailedSteps.{turn_fails}
 use Rattle.model_core.proofs.Lists.{set_at}
 use Rattle.model_core.proofs.Rests.{rests}
-use Rattle.model_core.specs.{answer_of, filled, is_checking, next, old_of, own_op, step_of, took, UserState}
+use Rattle.model_core.specs.{answer_of, filled, Filling, is_checking, next, old_of, own_op, step_of, took, UserState}
 use Rattle.model_core.specs.Actors as model
 use Rattle.model_core.specs.Hands.{GivesFailed, StoresFailed}
 use Rattle.model_core.specs.Waiting.{ending}
@@ -17,15 +17,16 @@ use Rattle.model_core.specs.declared.ops.Step.{Step}
 use Rattle.model_core.specs.declared.ops.Step.TheVariants as step
 use Rattle.model_core.specs.declared.steps.UserStep.TheVariants as user_step
 use Rattle.model_core.specs.declared.words.Word.TheVariants as word
+use Rattle.model_running.proofs.Filling.{next_filled}
 use Rattle.redo_disk.specs.Seen.{Seen}
 use Rattle.redo_drive.proofs.Viewed.{not_joined}
 use Rattle.redo_drive.specs.Lists.{lists_of}
 use Rattle.redo_drive.specs.Playing.{run_data_side, run_log_side}
 use Rattle.redo_drive.specs.Turning.{code_in}
-use Rattle.redo_drive.specs.Views.{view_of, views_of}
+use Rattle.redo_drive.specs.Views.{view_of}
 use Rattle.redo_drive.specs.declared.actor.Actor.{Actor}
 use Rattle.redo_rule.proofs.Failing.{caused}
-use Rattle.redo_rule.proofs.Filled.{is_plain, played_ends, played_took}
+use Rattle.redo_rule.proofs.Filled.{checks_filled, ending_filled, gives_filled, stores_filled, waits_filled}
 use Rattle.redo_rule.proofs.Kept.{all_answered, done_is_free}
 use Rattle.redo_rule.proofs.Reached.{has_cause}
 use Rattle.redo_rule.specs.Causes.{EndsSo, HasEndedBy, HasFailureCode, HasWaited, IsFinishedUser}
@@ -34,7 +35,8 @@ use Rattle.redo_rule.specs.Plays.{Shown}
 use Rattle.redo_rule.specs.declared.law.About.{About}
 
 -- a user that has all its commits answered, where those at its end are
-answered_at : (b : Actor) → ending (view_of b) ≡ step.Ended → ((u : UserState) → view_of b ≡ model.User u → u.step ≡ user_step.Done → u.k ≡ length u.lines) → IsFinishedUser (view_of b)
+answered_at : {R : Type 0} (b : Actor R) → ending (view_of b) ≡ step.Ended → ((u : UserState) → view_of b ≡ model.User
+    u → u.step ≡ user_step.Done → u.k ≡ length u.lines) → IsFinishedUser (view_of b)
 answered_at b e all = ⊎_elim (λ t. subst IsFinishedUser (sym t.1) (t.2, all t.0 t.1 t.2)) (λ t. absurd (not_joined b t.0 t.1)) (ended_well (view_of b) e)
 
 -- it is a user
@@ -47,17 +49,19 @@ module _ {L D : Type 0} (log_seen : L → Seen) (data_seen : D → Seen) (told :
   same : s.turn.who ≡ a
   same = some-injective s.turn.who a (sym s.turn.who_is ∙ s.at)
 
+  -- the actor, with what the turn puts into it
+  abbrev pub with : model.Actor
+  with = filled a s.turn.filling
+
   -- its state after the turn
-  there : get_elem? (views_of s.after) number ≡ some (took a r)
+  there : get_elem? s.after number ≡ some (took with r)
   there =
       let now : model.Actor = took (filled s.turn.who s.turn.filling) r in
-      let plain : ◌≡◌ {A = model.Actor} (filled s.turn.who s.turn.filling) a =
-      ap (λ (z : model.Actor). filled z s.turn.filling) same ∙ is_plain log_seen data_seen a number r s in
-      subst (λ (z : model.Actor). get_elem? (views_of s.after) number ≡ some (took z r)) plain
+      subst (λ (z : model.Actor). get_elem? s.after number ≡ some (took (filled z s.turn.filling) r)) same
       (subst (λ (l : List model.Actor). get_elem? l number ≡ some now) (sym s.turn.actors)
-      (set_at (views_of s.actors) number s.turn.who now s.turn.who_is))
+      (set_at s.actors number s.turn.who now s.turn.who_is))
 
-  pub done_behind : (u : UserState) → took a r ≡ model.User u → u.step ≡ user_step.Done → u.k ≡ length u.lines
+  pub done_behind : (u : UserState) → took with r ≡ model.User u → u.step ≡ user_step.Done → u.k ≡ length u.lines
   done_behind u is at_end = let g = s.runs_on.running in all_answered (run_log_side log_seen data_seen s.run) s.run.setup g.shared g.log_ghost s.new.log number u at_end (g.both.logged.each number (model.User u) (there ∙ ap (λ (z : model.Actor). some z) is))
 
   pub free_before : (u : UserState) → a ≡ model.User u → u.step ≡ user_step.Done → u.checks ≡ false
@@ -70,7 +74,8 @@ module _ {L D : Type 0} (log_seen : L → Seen) (data_seen : D → Seen) (told :
       (asks, ap old_of (s.turn.answered ∙ ap (answer_of (lists_of s.old.lists) (is_some s.old.log.failed) s.turn.code s.new.log.marks.stable s.old.words.words) (ap next same ∙ asks)))
 
   -- its code, if it tells a failure of its own
-  batch_cause : (b : model.Actor) (code : ℕ) → get_elem? (views_of s.actors) number ≡ some b → StoresFailed b code → (run_data_side log_seen data_seen s.run).Cause s.old.store code
+  batch_cause : (b : model.Actor) (code : ℕ) → get_elem? s.actors number ≡ some b → StoresFailed b code →
+      (run_data_side log_seen data_seen s.run).Cause s.old.store code
   batch_cause (model.Cleaner v) code at h = subst ((run_data_side log_seen data_seen s.run).Cause s.old.store) h.1 ((s.runs.running.both.paged.each number (model.Cleaner v) at).cause h.0)
   batch_cause _ code at h = absurd h
 
@@ -93,27 +98,37 @@ module _ {L D : Type 0} (log_seen : L → Seen) (data_seen : D → Seen) (told :
         (λ some_code. ⊎_elim (λ h. inl (s.has_cause code h)) (λ h. inr (batch_cause a code s.at h)) way);
   }
 
-  pub failure : (code : ℕ) → step_of a r ≡ step.Failed code → HasEndedBy a code
+  pub failure : (code : ℕ) → step_of with r ≡ step.Failed code → HasEndedBy a code
       ⊎ HasFailureCode log_seen data_seen told a code
-  failure code e = ⊎_elim
-      (λ t. inr (found_failure code t.0 t.1))
-      (λ t. ⊎_elim (λ h. inr (own_failure code (inl h))) (λ u. ⊎_elim (λ h. inr (own_failure code (inr h))) (λ h. inl (ap (λ (b : Bool). cond b (op.Load word.Failed) (own_op a)) t.0 ∙ h.0, h.1)) u) t.1)
-      (turn_fails a r code e)
+  failure code e =
+      let f : Filling = s.turn.filling in
+      ⊎_elim
+      (λ t. inr (found_failure code (sym (checks_filled a f) ∙ t.0) t.1))
+      (λ t. ⊎_elim (λ h. inr (own_failure code (inl (gives_filled a f code h))))
+      (λ u. ⊎_elim (λ h. inr (own_failure code (inr (stores_filled a f code h))))
+      (λ h. inl (
+        sym (next_filled a f) ∙ ap (λ (b : Bool). cond b (op.Load word.Failed) (own_op with)) t.0 ∙ h.0,
+        sym
+            (ending_filled a f) ∙ h.1,
+      )) u) t.1)
+      (turn_fails with r code e)
 
 module _ {L D : Type 0} (log_seen : L → Seen) (data_seen : D → Seen) (told : Option (About L D)) (a : model.Actor)
-    (c : Actor) (ends : Step) where
+    {R : Type 0} (c : Actor R) (ends : Step) where
   abbrev b : model.Actor
   b = view_of c
 
   why_idle : HasGone log_seen data_seen told a ends b → ends ≡ step.Idle → HasWaited log_seen data_seen told a
   why_idle gone e = ⊎_elim
       (λ t. absurd (quiet a answer.Rested t.0 (idle_of a answer.Rested (sym t.2 ∙ e)).1))
-      (λ h. let t = idle_of a h.answer (sym (played_ends log_seen data_seen a ends b h) ∙ e) in record {
+      (λ h.
+      let f : Filling = h.shown.turn.filling in
+      let t = idle_of (filled a f) h.answer (sym h.ends ∙ e) in record {
         number = h.number;
         answer = h.answer;
         shown = h.shown;
-        goes_on = t.0;
-        waits = t.1;
+        goes_on = sym (checks_filled a f) ∙ t.0;
+        waits = sym (waits_filled a f h.answer) ∙ t.1;
       })
       gone
 
@@ -122,9 +137,8 @@ module _ {L D : Type 0} (log_seen : L → Seen) (data_seen : D → Seen) (told :
       → IsFinishedUser b
   why_ended gone done e = ⊎_elim
       (λ t. answered_at c (ap ending (t.1 ∙ sym (rests a t.0 answer.Rested)) ∙ ended_of a answer.Rested (sym t.2 ∙ e)) (λ u is at_end. done u (sym t.1 ∙ is) at_end))
-      (λ h. let took_so = played_took log_seen data_seen a ends b h in
-      answered_at c (ap ending took_so ∙ ended_of a h.answer (sym (played_ends log_seen data_seen a ends b h) ∙ e))
-      (λ u is at_end. done_behind log_seen data_seen told h.number a h.answer h.shown u (sym took_so ∙ is) at_end))
+      (λ h. answered_at c (ap ending h.is ∙ ended_of (filled a h.shown.turn.filling) h.answer (sym h.ends ∙ e))
+      (λ u is at_end. done_behind log_seen data_seen told h.number a h.answer h.shown u (sym h.is ∙ is) at_end))
       gone
 
   ends_well : HasGone log_seen data_seen told a ends b → IsFinishedUser b → ends ≡ step.Ended
@@ -132,16 +146,20 @@ module _ {L D : Type 0} (log_seen : L → Seen) (data_seen : D → Seen) (told :
       let u = is_user b is in
       ⊎_elim
       (λ t. t.2 ∙ turn_ends a u.0 answer.Rested (sym u.1 ∙ t.1 ∙ sym (rests a t.0 answer.Rested)) u.2 (λ w e at_end. ap is_checking (sym e) ∙ resting_free (is_checking a) (own_op a) t.0))
-      (λ h. played_ends log_seen data_seen a ends b h
-      ∙ turn_ends a u.0 h.answer (sym u.1 ∙ played_took log_seen data_seen a ends b h) u.2
-      (λ w e at_end. free_before log_seen data_seen told h.number a h.answer h.shown w e at_end)) gone
+      (λ h. h.ends ∙ turn_ends (filled a h.shown.turn.filling) u.0 h.answer (sym u.1 ∙ h.is) u.2
+      (λ w e at_end. free_before log_seen data_seen told h.number a h.answer h.shown w (was_user a
+      h.shown.turn.filling w e) at_end)) gone
+    where
+      was_user : (a : model.Actor) (f : Filling) (w : UserState) → filled a f ≡ model.User w → a ≡ model.User w
+      was_user (model.Reader r) f w e = absurd (cc)
+      was_user (model.User u) f w e = e
+      was_user _ f w e = absurd (cc)
 
   why_failed : HasGone log_seen data_seen told a ends b → (code : ℕ) → ends ≡ step.Failed code → HasEndedBy a code
       ⊎ HasFailureCode log_seen data_seen told a code
   why_failed gone code e = ⊎_elim
       (λ t. inl (t.0, resting_code a code t.0 (sym t.2 ∙ e)))
-      (λ h. failure log_seen data_seen told h.number a h.answer h.shown code
-      (sym (played_ends log_seen data_seen a ends b h) ∙ e)) gone
+      (λ h. failure log_seen data_seen told h.number a h.answer h.shown code (sym h.ends ∙ e)) gone
 
   -- `done` is what the seat knows of an actor that rests
   pub ends_so : HasGone log_seen data_seen told a ends b

@@ -8,7 +8,6 @@ use Rattle.atomic_table.specs.declared.shared.Seat.{Seat}
 use Rattle.model_core.specs.{word_count}
 use Rattle.redo_disk.specs.{Call}
 use Rattle.redo_disk.specs.Seen.{Seen}
-use Rattle.redo_drive.specs.Views.{view_of}
 use Rattle.redo_rule.proofs.Allowed.{allows_look}
 use Rattle.redo_rule.proofs.Retook.{one_head}
 use Rattle.redo_rule.proofs.Seated.{joins_ok, splits_ok}
@@ -56,12 +55,20 @@ module _ {L D : Type 0} (log_seen : L → Seen) (log_gives : L → Call → L �
       pub look_ok : (token.table_id ≡ table) × (0 < table.words) × Allows (Ruled log_seen log_gives data_seen data_gives about) table.slots token.id token.me 0 (λ n. n) (looked log_seen data_seen token.me)
       look_ok = (of ∙ F.of, some_words, allows_look log_seen log_gives data_seen data_gives about table.slots token.id token.me M.head one 0)
 
-      pub cut_mine : (after : Seat (Slot L D) (View L D)) → after.table_id ≡ token.table_id → (n : ℕ) → looked log_seen data_seen token.me n after.me → (x : Numbered) → after.me.0.seats ≡ x ∷ [] → Mine table after (view_of x.actor)
+      pub cut_mine : (after : Seat (Slot L D) (View L D)) → after.table_id ≡ token.table_id → (n : ℕ) → looked
+          log_seen data_seen token.me n after.me → (x : Numbered) → after.me.0.seats ≡ x ∷ [] → Mine table after x.actor
       cut_mine after same n told x seats =
           let back : after.me ≡ token.me = told.0 in
           let seats_t : token.me.0.seats ≡ x ∷ [] = ap (λ (m : Me (Slot L D) (View L D)). m.0.seats) (sym back) ∙ seats in
-          let rest : hand (view_of x.actor) ≡ None = (F.rest 0 x (ap (λ (l : List Numbered). get_elem? l 0) M.are ∙ ap (λ (z : Numbered). maybe.some z) (one_head token.me.0.seats M.head x one seats_t))).no_slot in
-          subst (λ (m : Me (Slot L D) (View L D)). Mine table (record { marker = after.marker; table_id = after.table_id; id = after.id; me = m }) (view_of x.actor)) (sym back)
+          let rest : hand x.actor ≡ None = (F.rest 0 x (ap (λ (l : List Numbered). get_elem? l 0) M.are ∙ ap (λ (z :
+          Numbered). maybe.some z) (one_head token.me.0.seats M.head x one seats_t))).no_slot in
+          subst (λ (m : Me (Slot L D) (View L D)). Mine table (record {
+            marker = after.marker;
+            table_id =
+                after.table_id;
+            id = after.id;
+            me = m;
+          }) x.actor) (sym back)
           (record {
             of = same ∙ of ∙ F.of;
             slots = F.slots;

@@ -1,56 +1,322 @@
--- An actor of the run is no reader of the log, so a turn puts nothing into it: what it takes is its answer alone.
-use Rattle.std.proofs.Common.{List, Option, [], ap, refl, subst, suc, sym, zero, ℕ, ◌∙◌, ◌∷◌, ◌≡◌}
-use lib.ListN.{get_elem?}
-use mathlib.Core.Option as maybe
+-- What a turn puts into an actor changes neither what it asks for nor what it holds. Where it gives something back, all that a
+-- turn may put into it is one.
+use Rattle.std.proofs.Common.{Bool, List, Option, Some, [], ap, append_assoc, arith, cond, false, length, length-append, refl, subst, sym, take, true}
+use Rattle.std.proofs.Common.{ℕ, ⊎_elim, ◌++◌, ◌==◌, ◌∙◌, ◌∷◌, ◌≡◌}
+use Rattle.std.proofs.lemmas.List.{take_at}
+use Rattle.model_core.proofs.FailedCalls.{HasStored}
+use Rattle.model_core.proofs.Hands.{handles, Handles}
+use Rattle.model_core.proofs.Later.{took_later}
 use Rattle.model_core.specs.Actors as model
-use Rattle.model_core.specs.{filled, Filling, step_of, took}
+use Rattle.model_core.specs.Hands.{GivesFailed, hand, IsFreeToCheck, reader_hand, StoresFailed}
+use Rattle.model_core.specs.Waiting.{ending, waits}
+use Rattle.model_core.specs.{archived, archives, AreInFront, filled, Filling, Fills, followed, Given, has_all, holds_tail, is_checking, IsText, joined_texts, lent, next, old_of, pending, reader_op, reader_took, ReaderState, took}
+use Rattle.model_core.specs.ReaderProgram.{reader_filled, reader_fills, reader_waits}
 use Rattle.model_core.specs.declared.ops.Answer.{Answer}
-use Rattle.model_core.specs.declared.ops.Step.{Step}
-use Rattle.redo_disk.specs.Seen.{Seen}
-use Rattle.redo_drive.specs.Views.{view_of, views_of}
-use Rattle.redo_drive.specs.declared.actor.Actor.{Actor}
-use Rattle.redo_drive.specs.declared.actor.Actor.TheVariants as own
-use Rattle.redo_rule.specs.Mine.{HasPlayed}
-use Rattle.redo_rule.specs.Plays.{Shown}
-use Rattle.redo_rule.specs.declared.law.About.{About}
+use Rattle.model_core.specs.declared.ops.Op.{Op}
+use Rattle.model_core.specs.declared.ops.Op.TheVariants as op
+use Rattle.model_core.specs.declared.steps.ReaderStep.{ReaderStep}
+use Rattle.model_core.specs.declared.steps.ReaderStep.TheVariants as reader_step
+use Rattle.model_core.specs.declared.words.Word.TheVariants as word
+use Rattle.model_running.proofs.Filling.{next_filled}
+use Rattle.model_running.proofs.Following.{one_text}
+use Rattle.model_running.specs.ReadHalf.{handed_at}
+use Rattle.redo_drive.proofs.Filled.{IsNoRead, reader_or_no_read}
+use Rattle.redo_drive.specs.Receiving.{filling_of, handed_by}
+use Rattle.redo_rule.specs.Plays.{block_filling}
+use Rattle.redo_rule.specs.Ruled.{IsNoArchiver}
 
-pub as_it_was : (x : Actor) (f : Filling) → ◌≡◌ {A = model.Actor} (filled (view_of x) f) (view_of x)
-as_it_was (own.User u) f = refl
-as_it_was (own.Writer s) f = refl
-as_it_was (own.Flusher t) f = refl
-as_it_was (own.Closer t) f = refl
-as_it_was (own.Cleaner v) f = refl
-as_it_was (own.Checkpointer t) f = refl
+-- what depends neither on a reader's block nor on the groups in front
+same_filled : {A : Type 0} (P : model.Actor → A)
+    → ((r : ReaderState) (block : List ℕ) → P (model.Reader (record r { block = block })) ≡ P (model.Reader r))
+    → ((r : ReaderState) (texts : List (List ℕ)) → P (model.Reader (record r { texts = texts })) ≡ P (model.Reader r))
+    → (a : model.Actor) (f : Filling) → P (filled a f) ≡ P a
+same_filled {A} P block texts (model.Reader r) f = by r.step
+  where
+    by : (st : ReaderStep) → ◌≡◌ {A = A} (P (model.Reader (reader_filled r f st))) (P (model.Reader r))
+    by reader_step.ReadBlock = block r f.block
+    by reader_step.GiveDevice = texts r f.texts
+    by _ = refl
+same_filled P block texts (model.User u) f = refl
+same_filled P block texts (model.Writer s) f = refl
+same_filled P block texts (model.Flusher s) f = refl
+same_filled P block texts (model.Closer s) f = refl
+same_filled P block texts (model.Cleaner s) f = refl
+same_filled P block texts (model.Checkpointer s) f = refl
+same_filled P block texts (model.Joined es) f = refl
 
--- the same of whichever stands at a seat
-filled_at : (actors : List Actor) (n : ℕ) (a : model.Actor) → get_elem? (views_of actors) n ≡ maybe.some a
-    → (f : Filling) → ◌≡◌ {A = model.Actor} (filled a f) a
-filled_at [] n a at f = absurd (maybe.some-ne-none a (sym at))
-filled_at (x ∷ xs) zero a at f = subst (λ (z : model.Actor). ◌≡◌ {A = model.Actor} (filled z f) z)
-    (maybe.some-injective (view_of x) a at) (as_it_was x f)
-filled_at (x ∷ xs) (suc n) a at f = filled_at xs n a at f
+pub hand_filled : (a : model.Actor) (f : Filling) → hand (filled a f) ≡ hand a
+hand_filled = same_filled hand (λ r b. refl) (λ r t. refl)
 
-module _ {L D : Type 0} (log_seen : L → Seen) (data_seen : D → Seen) {told : Option (About L D)} (a : model.Actor) where
-  pub is_plain : (number : ℕ) (r : Answer) (s : Shown log_seen data_seen told number a r)
-      → ◌≡◌ {A = model.Actor} (filled a s.turn.filling) a
-  is_plain number r s = filled_at s.actors number a s.at s.turn.filling
+pub checks_filled : (a : model.Actor) (f : Filling) → is_checking (filled a f) ≡ is_checking a
+checks_filled = same_filled is_checking (λ r b. refl) (λ r t. refl)
 
-  -- so it has had a turn where it took an answer
-  pub plays : (number : ℕ) (r : Answer) → Shown log_seen data_seen told number a r
-      → (step : Step) (b : model.Actor) → b ≡ took a r → step ≡ step_of a r → HasPlayed log_seen data_seen told a step b
-  plays number r s step b is ends = record {
-    answer = r;
-    number = number;
-    shown = s;
-    is = is ∙ ap (λ (z : model.Actor). took z r) (sym (is_plain number r s));
-    ends = ends ∙ ap (λ (z : model.Actor). step_of z r) (sym (is_plain number r s));
-  }
+pub ending_filled : (a : model.Actor) (f : Filling) → ending (filled a f) ≡ ending a
+ending_filled = same_filled ending (λ r b. refl) (λ r t. refl)
 
-  -- and where it has had one, it took the answer
-  pub played_took : (step : Step) (b : model.Actor) (h : HasPlayed log_seen data_seen told a step b)
-      → b ≡ took a h.answer
-  played_took step b h = h.is ∙ ap (λ (z : model.Actor). took z h.answer) (is_plain h.number h.answer h.shown)
+waits_by : (r : ReaderState) (block : List ℕ) (texts : List (List ℕ)) (y : Answer) (st : ReaderStep)
+    → reader_waits (record r { block = block; texts = texts }) y st ≡ reader_waits r y st
+waits_by r block texts y reader_step.LoadFlushed = refl
+waits_by r block texts y reader_step.TakeDevice = refl
+waits_by r block texts y _ = refl
 
-  pub played_ends : (step : Step) (b : model.Actor) (h : HasPlayed log_seen data_seen told a step b)
-      → step ≡ step_of a h.answer
-  played_ends step b h = h.ends ∙ ap (λ (z : model.Actor). step_of z h.answer) (is_plain h.number h.answer h.shown)
+pub waits_filled : (a : model.Actor) (f : Filling) (y : Answer) → waits (filled a f) y ≡ waits a y
+waits_filled a f y =
+    same_filled (λ z. waits z y) (λ r b. waits_by r b r.texts y r.step) (λ r t. waits_by r r.block t y r.step) a f
+
+pub free_filled : (a : model.Actor) (f : Filling) → IsFreeToCheck a → IsFreeToCheck (filled a f)
+free_filled a f free checks = let n = free (sym (checks_filled a f) ∙ checks) in record {
+  no_slot = hand_filled a f ∙ n.no_slot;
+  no_tail = λ b. same_filled (holds_tail b) (λ r x. refl) (λ r t. refl) a f ∙ n.no_tail b;
+}
+
+-- what its Op does with what it holds
+pub handles_filled : (a : model.Actor) (f : Filling) → IsFreeToCheck a
+    → Handles (next a) (hand a) (λ r. hand (took (filled a f) r))
+handles_filled a f free =
+    let then : Answer → Option ℕ = λ r. hand (took (filled a f) r) in
+    subst (λ (o : Op). Handles o (hand a) then) (next_filled a f)
+    (subst (λ (h : Option ℕ). Handles (next (filled a f)) h then) (hand_filled a f)
+    (handles (filled a f) (free_filled a f free)))
+
+pub gives_filled : (a : model.Actor) (f : Filling) (code : ℕ) → GivesFailed (filled a f) code → GivesFailed a code
+gives_filled (model.Reader r) f code g = by r.step g
+  where
+    by : (st : ReaderStep) → GivesFailed (model.Reader (reader_filled r f st)) code → GivesFailed (model.Reader r) code
+    by reader_step.ReadBlock g = g
+    by reader_step.GiveDevice g = g
+    by _ g = g
+gives_filled (model.User u) f code g = g
+gives_filled (model.Writer s) f code g = g
+gives_filled (model.Flusher s) f code g = g
+gives_filled (model.Closer s) f code g = g
+gives_filled (model.Cleaner s) f code g = g
+gives_filled (model.Checkpointer s) f code g = g
+gives_filled (model.Joined es) f code g = g
+
+pub stored_before : (a : model.Actor) (f : Filling) (code : ℕ) → HasStored (filled a f) code → HasStored a code
+stored_before (model.Reader r) f code g = by r.step g
+  where
+    by : (st : ReaderStep) → HasStored (model.Reader (reader_filled r f st)) code → HasStored (model.Reader r) code
+    by reader_step.ReadBlock g = g
+    by reader_step.GiveDevice g = g
+    by _ g = g
+stored_before (model.User u) f code g = g
+stored_before (model.Writer s) f code g = g
+stored_before (model.Flusher s) f code g = g
+stored_before (model.Closer s) f code g = g
+stored_before (model.Cleaner s) f code g = g
+stored_before (model.Checkpointer s) f code g = g
+stored_before (model.Joined es) f code g = g
+
+pub stores_filled : (a : model.Actor) (f : Filling) (code : ℕ) → StoresFailed (filled a f) code → StoresFailed a code
+stores_filled (model.Cleaner s) f code g = g
+stores_filled (model.Reader r) f code g = absurd g
+stores_filled (model.User u) f code g = g
+stores_filled (model.Writer s) f code g = g
+stores_filled (model.Flusher s) f code g = g
+stores_filled (model.Closer s) f code g = g
+stores_filled (model.Checkpointer s) f code g = g
+stores_filled (model.Joined es) f code g = g
+
+-- AN OP INTO WHOSE ACTOR A TURN PUTS NOTHING
+abbrev pub IsPlainOp : Op → Type 0
+IsPlainOp (op.ReadBlock x) = ⊥
+IsPlainOp op.GiveDevice = ⊥
+IsPlainOp _ = Unit {0}
+
+-- what a reader asks for where it checks for no failure
+asks_own : (r : ReaderState) (st : ReaderStep) → r.step ≡ st → reader_hand st ≡ Some 0 → IsFreeToCheck (model.Reader r)
+    → ◌≡◌ {A = Op} (next (model.Reader r)) (reader_op r st)
+asks_own r st is holds free = by r.checks refl
+  where
+    by : (b : Bool) → r.checks ≡ b → ◌≡◌ {A = Op} (next (model.Reader r)) (reader_op r st)
+    by true c = let none = (free c).no_slot in let some = ap reader_hand is ∙ holds in absurd (cc)
+    by false c = ap (λ (b : Bool). cond b (op.Load word.Failed) (reader_op r r.step)) c ∙ ap (reader_op r) is
+
+pub plain_filled : (a : model.Actor) (f : Filling) → IsFreeToCheck a → IsPlainOp (next a)
+    → ◌≡◌ {A = model.Actor} (filled a f) a
+plain_filled (model.Reader r) f free plain = by r.step refl
+  where
+    by : (st : ReaderStep) → r.step ≡ st → ◌≡◌ {A = model.Actor} (model.Reader (reader_filled r f st)) (model.Reader r)
+    by reader_step.ReadBlock is = absurd (subst IsPlainOp (asks_own r reader_step.ReadBlock is refl free) plain)
+    by reader_step.GiveDevice is = absurd (subst IsPlainOp (asks_own r reader_step.GiveDevice is refl free) plain)
+    by _ is = refl
+plain_filled (model.User u) f free plain = refl
+plain_filled (model.Writer s) f free plain = refl
+plain_filled (model.Flusher s) f free plain = refl
+plain_filled (model.Closer s) f free plain = refl
+plain_filled (model.Cleaner s) f free plain = refl
+plain_filled (model.Checkpointer s) f free plain = refl
+plain_filled (model.Joined es) f free plain = refl
+
+-- nor does it hand anything on
+pub plain_hands : (a : model.Actor) → IsFreeToCheck a → IsPlainOp (next a) → ◌≡◌ {A = List Given} (handed_by a) []
+plain_hands (model.Reader r) free plain = by (archives r) r.checks r.step refl
+  where
+    by : (b c : Bool) (st : ReaderStep) → r.step ≡ st → ◌≡◌ {A = List Given} (cond b [] (cond c [] (handed_at r st))) []
+    by true c st is = refl
+    by false true st is = refl
+    by false false reader_step.GiveDevice is =
+        absurd (subst IsPlainOp (asks_own r reader_step.GiveDevice is refl free) plain)
+    by false false _ is = refl
+plain_hands (model.User u) free plain = refl
+plain_hands (model.Writer s) free plain = refl
+plain_hands (model.Flusher s) free plain = refl
+plain_hands (model.Closer s) free plain = refl
+plain_hands (model.Cleaner s) free plain = refl
+plain_hands (model.Checkpointer s) free plain = refl
+plain_hands (model.Joined es) free plain = refl
+
+-- a reader that reads has the block, whatever a turn puts into it then
+read_step : (r : ReaderState) (x : ℕ) (st : ReaderStep) → reader_op r st ≡ op.ReadBlock x → st ≡ reader_step.ReadBlock
+read_step r x reader_step.ReadBlock is = refl
+read_step r x reader_step.LoadFlushed is = absurd (cc)
+read_step r x reader_step.TakeDevice is = absurd (cc)
+read_step r x reader_step.GiveBroken is = absurd (cc)
+read_step r x reader_step.GiveDevice is = absurd (cc)
+read_step r x reader_step.StorePlace is = absurd (cc)
+read_step r x reader_step.StoreFailed is = absurd (cc)
+read_step r x reader_step.GiveFailed is = absurd (cc)
+read_step r x reader_step.Failed is = absurd (cc)
+
+asks_read : (r : ReaderState) (x : ℕ) (b : Bool) → cond b (op.Load word.Failed) (reader_op r r.step) ≡ op.ReadBlock x
+    → r.step ≡ reader_step.ReadBlock
+asks_read r x true is = absurd (cc)
+asks_read r x false is = read_step r x r.step is
+
+pub read_filled : (r : ReaderState) (bytes : List ℕ) (texts : List (List ℕ)) (x : ℕ) → next (model.Reader r) ≡
+    op.ReadBlock x
+    → let w : ReaderState = record r { block = bytes } in
+    ◌≡◌ {A = model.Actor} (filled (model.Reader w) (filling_of (model.Reader w) texts))
+    (filled (model.Reader r) (block_filling bytes))
+read_filled r bytes texts x is =
+    let w : ReaderState = record r { block = bytes } in
+    let at = asks_read r x r.checks is in
+    ap (λ (st : ReaderStep). model.Reader (reader_filled w (filling_of (model.Reader w) texts) st)) at
+    ∙ sym (ap (λ (st : ReaderStep). model.Reader (reader_filled r (block_filling bytes) st)) at)
+
+-- and lends it
+pub lent_read : (a : model.Actor) (bytes : List ℕ) (x : ℕ) → next a ≡ op.ReadBlock x
+    → ◌≡◌ {A = model.Lent} (lent (filled a (block_filling bytes))) (model.Room bytes)
+lent_read a bytes x is = ⊎_elim
+    (λ reader. let r : ReaderState = reader.0 in
+    let asks : next (model.Reader r) ≡ op.ReadBlock x = sym (ap next reader.1) ∙ is in
+    ap (λ (z : model.Actor). lent (filled z (block_filling bytes))) reader.1
+    ∙ ap (λ (st : ReaderStep). lent (model.Reader (reader_filled r (block_filling bytes) st))) (asks_read r x r.checks
+    asks))
+    (λ none. absurd (subst IsNoRead is none))
+    (reader_or_no_read a)
+
+-- THE WHOLE GROUPS IN FRONT OF SOME BYTES ARE ONE LIST
+one_more : (t : List ℕ) (ts : List (List ℕ)) (bytes : List ℕ) → AreInFront bytes (t ∷ ts) → AreInFront bytes [] → ⊥
+one_more t ts bytes f g =
+    let rest : List ℕ = joined_texts ts ++ f.rest in
+    let are : g.rest ≡ t ++ rest = sym g.are ∙ f.are ∙ append_assoc t (joined_texts ts) f.rest in
+    g.no_more (length t) (omega (arith, ap length are, length-append t rest)) f.each.0.1
+    (subst IsText (sym (ap (take (length t)) are ∙ take_at t rest (length t) refl)) f.each.0.0)
+
+pub one_front : (ts us : List (List ℕ)) (bytes : List ℕ) → AreInFront bytes ts → AreInFront bytes us
+    → ◌≡◌ {A = List (List ℕ)} ts us
+one_front [] [] bytes f g = refl
+one_front [] (u ∷ us) bytes f g = absurd (one_more u us bytes g f)
+one_front (t ∷ ts) [] bytes f g = absurd (one_more t ts bytes f g)
+one_front (t ∷ ts) (u ∷ us) bytes f g =
+    let left : List ℕ = joined_texts ts ++ f.rest in
+    let right : List ℕ = joined_texts us ++ g.rest in
+    let same : t ++ left ≡ u ++ right = sym (append_assoc t (joined_texts ts) f.rest) ∙ sym f.are ∙ g.are
+    ∙ append_assoc u (joined_texts us) g.rest in
+    let one = one_text t u left right f.each.0.0 g.each.0.0 same in
+    let others = one_front ts us left (record { rest = f.rest; are = refl; each = f.each.1; no_more = f.no_more })
+    (record { rest = g.rest; are = one.1; each = g.each.1; no_more = g.no_more }) in
+    ap (λ (x : List ℕ). x ∷ ts) one.0 ∙ ap (λ (xs : List (List ℕ)). u ∷ xs) others
+
+pub one_filling : (a : model.Actor) (f g : Filling) → IsNoArchiver a → IsFreeToCheck a → IsNoRead (next a) → Fills a f
+    → Fills a g → ◌≡◌ {A = model.Actor} (filled a f) (filled a g)
+one_filling (model.Reader r) f g follows free gives p q = by r.step refl p q
+  where
+    by : (st : ReaderStep) → r.step ≡ st → reader_fills r f st → reader_fills r g st
+        → ◌≡◌ {A = model.Actor} (model.Reader (reader_filled r f st)) (model.Reader (reader_filled r g st))
+    by reader_step.ReadBlock is p q = absurd (subst IsNoRead (asks_own r reader_step.ReadBlock is refl free) gives)
+    by reader_step.GiveDevice is p q = ap (λ (ts : List (List ℕ)). model.Reader (record r { texts = ts }))
+        (one_front f.texts g.texts (pending r) (p follows) (q follows))
+    by _ is p q = refl
+one_filling (model.User u) f g follows free gives p q = refl
+one_filling (model.Writer s) f g follows free gives p q = refl
+one_filling (model.Flusher s) f g follows free gives p q = refl
+one_filling (model.Closer s) f g follows free gives p q = refl
+one_filling (model.Cleaner s) f g follows free gives p q = refl
+one_filling (model.Checkpointer s) f g follows free gives p q = refl
+one_filling (model.Joined es) f g follows free gives p q = refl
+
+abbrev pub IsNoGive : Op → Type 0
+IsNoGive op.GiveDevice = ⊥
+IsNoGive _ = Unit {0}
+
+-- nothing, or a block, may be put into whoever gives nothing back
+pub fills_block : (a : model.Actor) (f : Filling) → IsFreeToCheck a → IsNoGive (next a) → Fills a f
+fills_block (model.Reader r) f free plain = by r.step refl
+  where
+    by : (st : ReaderStep) → r.step ≡ st → reader_fills r f st
+    by reader_step.GiveDevice is = absurd (subst IsNoGive (asks_own r reader_step.GiveDevice is refl free) plain)
+    by _ is = tt
+fills_block (model.User u) f free plain = tt
+fills_block (model.Writer s) f free plain = tt
+fills_block (model.Flusher s) f free plain = tt
+fills_block (model.Closer s) f free plain = tt
+fills_block (model.Cleaner s) f free plain = tt
+fills_block (model.Checkpointer s) f free plain = tt
+fills_block (model.Joined es) f free plain = tt
+
+-- who follows, follows still
+pub filled_follows : (a : model.Actor) (f : Filling) → IsNoArchiver a → IsNoArchiver (filled a f)
+filled_follows (model.Reader r) f follows = by r.step
+  where
+    by : (st : ReaderStep) → IsNoArchiver (model.Reader (reader_filled r f st))
+    by reader_step.ReadBlock = follows
+    by reader_step.GiveDevice = follows
+    by _ = follows
+filled_follows (model.User u) f follows = tt
+filled_follows (model.Writer s) f follows = tt
+filled_follows (model.Flusher s) f follows = tt
+filled_follows (model.Closer s) f follows = tt
+filled_follows (model.Cleaner s) f follows = tt
+filled_follows (model.Checkpointer s) f follows = tt
+filled_follows (model.Joined es) f follows = tt
+
+took_reader : (r : ReaderState) (y : Answer) → IsNoArchiver (model.Reader r) → IsNoArchiver (took (model.Reader r) y)
+took_reader r y follows = by r.checks (old_of y == 0)
+  where
+    loaded : (b : Bool) → IsNoArchiver (model.Reader (cond b
+        (record r { mark = old_of y; checks = true; step = reader_step.LoadFlushed })
+        (record r { mark = old_of y; step = reader_step.TakeDevice })))
+    loaded true = follows
+    loaded false = follows
+
+    given : (b : Bool) → IsNoArchiver (model.Reader (cond b (archived r) (followed r)))
+    given true = follows
+    given false = follows
+
+    own : (st : ReaderStep) → IsNoArchiver (model.Reader (reader_took r y st))
+    own reader_step.LoadFlushed = loaded (has_all r (old_of y))
+    own reader_step.GiveDevice = given (archives r)
+    own _ = follows
+
+    by : (b n : Bool) → IsNoArchiver (cond b (model.Reader (cond n (record r { checks = false })
+        (record r { checks = false; code = old_of y; step = reader_step.Failed }))) (model.Reader (reader_took r y
+        r.step)))
+    by true true = follows
+    by true false = follows
+    by false n = own r.step
+
+took_follows : (a : model.Actor) (y : Answer) → IsNoArchiver a → IsNoArchiver (took a y)
+took_follows (model.Reader r) y follows = took_reader r y follows
+took_follows (model.User u) y follows = subst IsNoArchiver (sym (took_later (model.User u) y).1) tt
+took_follows (model.Writer s) y follows = subst IsNoArchiver (sym (took_later (model.Writer s) y).1) tt
+took_follows (model.Flusher s) y follows = subst IsNoArchiver (sym (took_later (model.Flusher s) y).1) tt
+took_follows (model.Closer s) y follows = subst IsNoArchiver (sym (took_later (model.Closer s) y).1) tt
+took_follows (model.Cleaner s) y follows = subst IsNoArchiver (sym (took_later (model.Cleaner s) y).1) tt
+took_follows (model.Checkpointer s) y follows = subst IsNoArchiver (sym (took_later (model.Checkpointer s) y).1) tt
+took_follows (model.Joined es) y follows = subst IsNoArchiver (sym (took_later (model.Joined es) y).1) tt
+
+pub turn_follows : (a : model.Actor) (f : Filling) (y : Answer) → IsNoArchiver a → IsNoArchiver (took (filled a f) y)
+turn_follows a f y follows = took_follows (filled a f) y (filled_follows a f follows)

@@ -1,12 +1,13 @@
 -- What a table leaves is what a run leaves, and so what every drive owes.
-use Rattle.std.proofs.Common.{Bool, List, get_or, ap, arith, drop, false, get_or-set_other, length, refl, subst, suc, sym, true, zero, ℕ, ◌<◌, ◌^◌, ◌∙◌, ◌∷◌, ◌≡◌, ◌≢◌, ◌≤◌, []}
+use Rattle.std.proofs.Common.{Bool, List, None, Option, Some, get_or, ap, arith, drop, false, get_or-set_other, length, refl, subst, suc, sym, true, zero, ℕ, ◌<◌, ◌^◌, ◌∙◌, ◌∷◌, ◌≡◌, ◌≢◌, ◌≤◌, []}
 use Rattle.std.specs.Prelude.{slice_index, slice_set}
 use lib.ListN.{get_elem?}
 use mathlib.Core.Option as maybe
 use Rattle.atomic_table.specs.Seated.{TableId}
 use Rattle.atomic_table.specs.Table.{Final, Seen as SeenBy}
 use Rattle.atomic_table.specs.declared.shared.Seat.{Seat}
-use Rattle.model_core.specs.{index, tail_of}
+use Rattle.model_core.specs.Actors as model
+use Rattle.model_core.specs.{Given, index, tail_of}
 use Rattle.model_core.specs.declared.words.Word.TheVariants as word
 use Rattle.model_running.proofs.Finished.{marks_same}
 use Rattle.model_running.specs.{history_of, marks_in, word_marks}
@@ -18,21 +19,29 @@ use Rattle.redo_drive.proofs.FailureCode.{small_code}
 use Rattle.redo_drive.proofs.LeftRun as left_run
 use Rattle.redo_drive.proofs.LogCount.{log_within_script}
 use Rattle.redo_drive.proofs.Told.{as_many, have_groups, history_is}
+use Rattle.redo_drive.proofs.Viewed.{views_at}
+use Rattle.redo_follow.specs.Handing.{Following}
 use Rattle.redo_drive.specs.Startable.{MayBegin}
 use Rattle.redo_drive.specs.History.{HasGroups, ListsInOrder, all_listed}
 use Rattle.redo_drive.specs.Lists.{listing_at}
 use Rattle.redo_drive.specs.Leaving.{LeavesRun}
-use Rattle.redo_drive.specs.Views.{view_of}
+use Rattle.redo_drive.specs.Playing.{run_log_side}
+use Rattle.redo_drive.specs.Receiving.{follower_of, HasGot, IsSameFollower}
+use Rattle.redo_drive.specs.Running.{groups_of}
+use Rattle.redo_drive.specs.Views.{view_of, views_of}
 use Rattle.redo_drive.specs.declared.actor.Actor.{Actor}
 use Rattle.redo_drive.specs.declared.closed.Closed.{Closed}
 use Rattle.redo_rule.proofs.Ends.{ends_ok}
+use Rattle.redo_rule.proofs.Gathered.{heard_at, there}
 use Rattle.redo_rule.proofs.Kept as kept
 use Rattle.redo_rule.specs.Closing.{done_with, IsOwedRun, LeavesParts, MayClose}
 use Rattle.redo_rule.specs.Ending.{RunReaches}
 use Rattle.redo_rule.specs.Ruled.{Ruled}
+use Rattle.redo_rule.specs.Sharing.{HaveHeard, heard_by}
 use Rattle.redo_rule.specs.Slots.{IsData, IsLog, IsPages}
 use Rattle.redo_rule.specs.declared.closing.Left.{Left}
 use Rattle.redo_rule.specs.declared.law.About.{About}
+use Rattle.redo_rule.specs.declared.law.Desk.{Desk}
 use Rattle.redo_rule.specs.declared.law.Slot.{Slot}
 use Rattle.redo_rule.specs.declared.law.Slot.TheVariants as slot
 use Rattle.redo_rule.specs.declared.law.View.{View}
@@ -100,11 +109,18 @@ nothing_left (x ∷ xs) = nothing_left xs
 
 module _ {L D : Type 0} (log_seen : L → Seen) (log_gives : L → Call → L → Type 0) (data_seen : D → Seen) (data_gives : D → Call → D → Type 0) (about : About L D) where
   -- what is left where the table is closed
-  pub ends_with : (table : TableId) (actors : List Actor) (first : Seat (Slot L D) (View L D)) → MayClose about table actors first → (ws : List ℕ) (xs : List (Slot L D))
-      → Final (SeenBy (Ruled log_seen log_gives data_seen data_gives about) first.id first.me.0) ws xs → RunReaches log_seen log_gives data_seen data_gives about actors ws xs
-  ends_with table actors first may ws xs final = ends_ok log_seen log_gives data_seen data_gives about first.id first.me.0 ws xs actors final may.all may.count may.rest may.cleaner may.alone
+  pub ends_with : (table : TableId) (heard : ℕ → List Given) (actors : List model.Actor) (first : Seat (Slot L D)
+      (View L D)) → MayClose about table heard actors first → (ws : List ℕ) (xs : List (Slot L D))
+      → Final (SeenBy (Ruled log_seen log_gives data_seen data_gives about) first.id first.me.0) ws xs → RunReaches
+      log_seen log_gives data_seen data_gives about heard actors ws xs
+  ends_with table heard actors first may ws xs final = ends_ok log_seen log_gives data_seen data_gives about first.id
+      first.me.0 ws xs heard actors final may.all may.count may.rest may.cleaner may.alone
 
-  module _ (actors : List Actor) (ws : List ℕ) (xs : List (Slot L D)) (E : RunReaches log_seen log_gives data_seen data_gives about actors ws xs) where
+  module _ (heard : ℕ → List Given) (actors : List model.Actor) (ws : List ℕ) (xs : List (Slot L D)) (E : RunReaches
+      log_seen log_gives data_seen data_gives about heard actors ws xs) where
+    abbrev desk : Desk L
+    desk = record { part = E.parts.log; block = E.block }
+
     pub small : slice_index ws (index word.Failed) < 2 ^ 32
     small = subst (λ (z : List ℕ). slice_index z (index word.Failed) < 2 ^ 32) E.words_are (small_code log_seen data_seen E.run E.parts actors E.runs)
 
@@ -121,7 +137,7 @@ module _ {L D : Type 0} (log_seen : L → Seen) (log_gives : L → Call → L �
 
     -- what lies in each slot
     pub log_there : (x : Slot L D) → get_elem? xs 0 ≡ maybe.some x → IsLog x (λ p. Unit {0})
-    log_there x e = (E.parts.log, in_slot 0 x (slot.Log E.parts.log) e E.log, tt)
+    log_there x e = (desk, in_slot 0 x (slot.Log desk) e E.log, tt)
 
     pub list_there : (i : ℕ) (x : Slot L D) → i < 4 → get_elem? xs (suc i) ≡ maybe.some x → IsPages x (λ l. Unit {0})
     list_there i x l e = (listing_at E.parts.lists.lists i, in_slot (suc i) x (slot.Pages (listing_at E.parts.lists.lists i)) e (E.lists i l), tt)
@@ -129,29 +145,30 @@ module _ {L D : Type 0} (log_seen : L → Seen) (log_gives : L → Call → L �
     pub data_there : (x : Slot L D) → get_elem? xs 5 ≡ maybe.some x → IsData x (λ d. Unit {0})
     data_there x e = (E.parts.store, in_slot 5 x (slot.Data E.parts.store) e E.data_part, tt)
 
-    pub parts_left : (left : Left L D) (x y : Slot L D) → get_elem? xs 0 ≡ maybe.some x → x ≡ slot.Log left.log → get_elem? xs 5 ≡ maybe.some y → y ≡ slot.Data left.store
+    pub parts_left : (left : Left L D) (x y : Slot L D) → get_elem? xs 0 ≡ maybe.some x → IsLog x (λ p. p ≡ left.log)
+        → get_elem? xs 5 ≡ maybe.some y → y ≡ slot.Data left.store
         → left.marks.wtail ≡ tail_of (slice_index ws (index word.Wtail)) → left.marks.write ≡ slice_index ws (index word.Write) → left.marks.flushed ≡ slice_index ws (index word.Flushed) → left.marks.ckpt ≡ slice_index ws (index word.Ckpt)
-        → left.code ≡ slice_index ws (index word.Failed) → LeavesParts log_seen log_gives data_seen data_gives about actors left
+        → left.code ≡ slice_index ws (index word.Failed) → LeavesParts log_seen log_gives data_seen data_gives about
+        heard actors left
     parts_left left x y at_log log_is at_data store_is wtail write flushed ckpt code = record {
       run = E.run;
       is_about = E.is_about;
       last = E.parts;
       runs = E.runs;
+      hears = E.hears;
       log_calls = E.log_calls;
       data_calls = E.data_calls;
       log_shape = E.log_shape;
-      log = kept.same_log left.log E.parts.log (sym log_is ∙ in_slot 0 x (slot.Log E.parts.log) at_log E.log);
+      log = sym log_is.2 ∙ kept.same_log log_is.0 desk (sym log_is.1 ∙ in_slot 0 x (slot.Log desk) at_log E.log);
       data_part = kept.same_data left.store E.parts.store (sym store_is ∙ in_slot 5 y (slot.Data E.parts.store) at_data E.data_part);
       marks = marks_are left.marks.wtail left.marks.write left.marks.flushed left.marks.ckpt wtail write flushed ckpt;
       code = code ∙ ap (λ (z : List ℕ). slice_index z (index word.Failed)) (sym E.words_are);
     }
 
-  module _ (actors : List Actor) (left : Left L D) (P : LeavesParts log_seen log_gives data_seen data_gives about actors left) where
+  module _ (heard : ℕ → List Given) (actors : List model.Actor) (left : Left L D) (P : LeavesParts log_seen log_gives
+      data_seen data_gives about heard actors left) where
     its_marks : ◌≡◌ {A = Marks} left.marks (word_marks P.runs.running.shared)
     its_marks = P.marks ∙ marks_same P.last.words.words P.runs.running.shared P.runs.running.flat_is
-
-    pub groups : (seat : ℕ) (actor : Actor) → seat < length actors → HasGroups (view_of (get_or actors seat actor))
-    groups = have_groups log_seen data_seen P.run P.last actors P.runs
 
     -- there is room for the history
     pub has_room : (room : ℕ) → length about.script.value ≤ room → length (all_listed left.marks actors) ≤ room
@@ -165,28 +182,90 @@ module _ {L D : Type 0} (log_seen : L → Seen) (log_gives : L → Call → L �
     pub its_history : (history : List Entry) → ListsInOrder left.marks actors history → ◌≡◌ {A = List Entry} history (history_of P.runs.running.log_ghost.answered (word_marks P.runs.running.shared) P.runs.running.log_ghost.log)
     its_history history l = history_is log_seen data_seen P.run P.last actors P.runs history (subst (λ (z : Marks). ListsInOrder z actors history) its_marks l)
 
-    pub leaves : (closed : Closed L D) → closed.log ≡ left.log → closed.store ≡ left.store → ◌≡◌ {A = Marks} closed.marks left.marks → closed.code ≡ left.code → ListsInOrder left.marks actors closed.history
-        → LeavesRun log_seen log_gives data_seen data_gives about.opened.value about.script.value about.log_only actors closed
-    leaves closed log_is store_is marks_is code_is listed = record {
-      run = P.run;
-      is_run = P.is_about.is_run;
-      begun = P.is_about.begun;
-      last = P.last;
-      runs = P.runs;
-      log_calls = P.log_calls;
-      data_calls = P.data_calls;
-      log_shape = P.log_shape;
-      log = log_is ∙ P.log;
-      data_part = store_is ∙ P.data_part;
-      marks = marks_is ∙ P.marks;
-      code = code_is ∙ P.code;
-      history = its_history closed.history listed;
-    }
+  -- the same of the actors themselves
+  module _ {R : Type 0} (heard : ℕ → List Given) (actors : List (Actor R)) (left : Left L D)
+      (P : LeavesParts log_seen log_gives data_seen data_gives about heard (views_of actors) left) where
+    pub groups : (seat : ℕ) (actor : Actor R) → seat < length actors → HasGroups (view_of (get_or actors seat actor))
+    groups = have_groups log_seen data_seen P.run P.last actors P.runs
 
-    pub is_owed : MayBegin about.opened.value about.script.value about.log_only → (closed : Closed L D) → LeavesRun log_seen log_gives data_seen data_gives about.opened.value about.script.value about.log_only actors closed
-        → IsOwedRun log_seen log_gives data_seen data_gives about.opened.value about.script.value actors closed
-    is_owed may closed by = record {
-      holds = left_run.holds_run log_seen log_gives data_seen data_gives about.opened.value about.script.value about.log_only actors (done_with closed) by may;
-      comes_to = λ ended. left_run.comes_to_run log_seen log_gives data_seen data_gives about.opened.value about.script.value about.log_only actors (done_with closed) by may (λ e. ended) (λ turns user e. absurd (cc));
-      owed_synced = λ ended. left_run.is_owed_synced log_seen log_gives data_seen data_gives about.opened.value about.script.value about.log_only actors (done_with closed) by may (λ e. ended);
-    }
+    module _ (closed : Closed L D) (log_is : closed.log ≡ left.log) (store_is : closed.store ≡ left.store)
+        (marks_is : ◌≡◌ {A = Marks} closed.marks left.marks) (code_is : closed.code ≡ left.code)
+        (listed : ListsInOrder left.marks (views_of actors) closed.history) where
+      leaves_from : (stands : R → List Given → Type 0) (starts : List (Actor R)) → length actors ≡ length starts
+          → ((n : ℕ) (a b : Actor R) → get_elem? starts n ≡ maybe.some a → get_elem? actors n ≡ maybe.some b →
+          IsSameFollower (follower_of a) (follower_of b))
+          → ((run_log_side log_seen data_seen P.run).Tells P.last.log → (n : ℕ) (a b : Actor R) → get_elem? starts n ≡
+          maybe.some a → get_elem? actors n ≡ maybe.some b
+          → HasGot stands (follower_of a) (groups_of (view_of b) P.runs.running.log_ghost.log) (follower_of b))
+          → LeavesRun log_seen log_gives data_seen data_gives stands about.opened.value about.script.value
+          about.log_only about.followers starts actors closed
+      leaves_from stands starts count same got = record {
+        run = P.run;
+        is_run = P.is_about.is_run;
+        begun = P.is_about.begun;
+        last = P.last;
+        from = record { runs = P.runs; count = count; same = same; got = got };
+        log_calls = P.log_calls;
+        data_calls = P.data_calls;
+        log_shape = P.log_shape;
+        log = log_is ∙ P.log;
+        data_part = store_is ∙ P.data_part;
+        marks = marks_is ∙ P.marks;
+        code = code_is ∙ P.code;
+        history = its_history heard (views_of actors) left P closed.history listed;
+      }
+
+      -- of actors that began with whatever they are, and of receivers of which nothing is told
+      pub leaves_own : LeavesRun log_seen log_gives data_seen data_gives (λ (r : R) (l : List Given). Unit {0})
+          about.opened.value about.script.value about.log_only about.followers actors actors closed
+      leaves_own = leaves_from (λ r l. Unit {0}) actors refl
+          (λ n a b e f. subst (λ (z : Actor R). IsSameFollower (follower_of a) (follower_of z)) (maybe.some-injective
+          a b (sym e ∙ f)) (own_follower (follower_of a)))
+          (λ told n a b e f. got_any (follower_of a) (groups_of (view_of b) P.runs.running.log_ghost.log) (follower_of
+          b))
+        where
+          own_follower : (f : Option (Following R)) → IsSameFollower f f
+          own_follower None = tt
+          own_follower (Some f) = refl
+
+          got_any : (f : Option (Following R)) (groups : List Given) (g : Option (Following R)) → HasGot (λ (r : R) (l
+              : List Given). Unit {0}) f groups g
+          got_any (Some f) groups (Some g) = λ l is. tt
+          got_any (Some f) groups None = tt
+          got_any None groups g = tt
+
+      pub is_owed : MayBegin about.opened.value about.script.value about.log_only → IsOwedRun log_seen log_gives
+          data_seen data_gives about.opened.value about.script.value (views_of actors) closed
+      is_owed may = record {
+        holds = left_run.holds_run log_seen log_gives data_seen data_gives (λ (r : R) (l : List Given). Unit {0})
+            about.opened.value about.script.value about.log_only about.followers actors actors (done_with closed)
+            leaves_own may;
+        comes_to = λ ended. left_run.comes_to_run log_seen log_gives data_seen data_gives (λ (r : R) (l : List Given).
+            Unit {0}) about.opened.value about.script.value about.log_only about.followers actors actors (done_with
+            closed) leaves_own may (λ e. ended) (λ turns user e. absurd (cc));
+        owed_synced = λ ended. left_run.is_owed_synced log_seen log_gives data_seen data_gives (λ (r : R) (l : List
+            Given). Unit {0}) about.opened.value about.script.value about.log_only about.followers actors actors
+            (done_with closed) leaves_own may (λ e. ended);
+      }
+
+  -- WHAT THE SEATS HAVE HEARD, the receivers got
+  pub leaves : {R : Type 0} (seats : List (Seat (Slot L D) (View L D))) (actors : List (Actor R)) (left : Left L D)
+      → LeavesParts log_seen log_gives data_seen data_gives about (heard_by seats) (views_of actors) left → length
+      seats ≡ length actors
+      → (closed : Closed L D) → closed.log ≡ left.log → closed.store ≡ left.store → ◌≡◌ {A = Marks} closed.marks
+      left.marks → closed.code ≡ left.code → ListsInOrder left.marks (views_of actors) closed.history
+      → (stands : R → List Given → Type 0) (starts : List (Actor R)) → HaveHeard stands starts seats actors
+      → LeavesRun log_seen log_gives data_seen data_gives stands about.opened.value about.script.value about.log_only
+      about.followers starts actors closed
+  leaves {R} seats actors left P many closed log_is store_is marks_is code_is listed stands starts H =
+      leaves_from (heard_by seats) actors left P closed log_is store_is marks_is code_is listed stands starts H.count
+      H.same
+      (λ told n a b began at.
+      let s = there seats n (let l = past actors n b at in omega arith) in
+      subst (λ (l : List Given). HasGot stands (follower_of a) l (follower_of b))
+      (heard_at seats n s.0 s.1 ∙ P.hears told n (view_of b) (views_at actors n b at)) (H.got n s.0 a b s.1 began at))
+    where
+      past : (l : List (Actor R)) (i : ℕ) (a : Actor R) → get_elem? l i ≡ maybe.some a → i < length l
+      past [] i a at = absurd (maybe.some-ne-none a (sym at))
+      past (x ∷ xs) zero a at = omega arith
+      past (x ∷ xs) (suc i) a at = let l = past xs i a at in omega arith

@@ -6,22 +6,19 @@ use native.Mathlib.Decide.{ℕ_discrete}
 use Rattle.atomic_table.proofs.Lists.{at_last, at_longer, drop_at}
 use Rattle.atomic_table.specs.Seated.{TableId}
 use Rattle.atomic_table.specs.declared.shared.Seat.{Seat}
-use Rattle.model_core.specs.{word_count}
-use Rattle.redo_drive.proofs.Viewed.{same_actor}
-use Rattle.redo_drive.specs.Views.{view_of}
-use Rattle.redo_drive.specs.declared.actor.Actor.{Actor}
-use Rattle.redo_drive.specs.declared.actor.Actor.TheVariants as own
+use Rattle.model_core.specs.{Given, word_count}
+use Rattle.model_core.specs.Actors as model
 use Rattle.redo_rule.proofs.Opens.{numbered_at}
 use Rattle.redo_rule.proofs.Seated.{at_end}
 use Rattle.redo_rule.specs.Cutting.{HoldNothing, IsFirst, MayCut, MayTakeIn}
 use Rattle.redo_rule.specs.Gathering.{AreHandedOut, HasOneCleaner, PartIsKept}
 use Rattle.model_core.specs.Hands.{HoldsNothing}
-use Rattle.redo_rule.specs.Mine.{Mine, number_in, number_of}
+use Rattle.redo_rule.specs.Mine.{heard_in, heard_of, Mine, number_in, number_of}
 use Rattle.redo_rule.specs.Plays.{Carries}
 use Rattle.redo_rule.specs.Ruled.{numbered}
 use Rattle.redo_rule.specs.Seating.{HasPart, IsCleaner, IsSeatOf}
 use Rattle.redo_rule.specs.Seats.{cut_left, cut_right, first_numbered, first_some, heads_cleaner, is_cleaner, rest_numbered, taken_in}
-use Rattle.redo_rule.specs.Sharing.{KnowTable}
+use Rattle.redo_rule.specs.Sharing.{heard_by}
 use Rattle.redo_rule.specs.declared.law.About.{About}
 use Rattle.redo_rule.specs.declared.law.Keeping.{Keeping}
 use Rattle.redo_rule.specs.declared.law.Numbered.{Numbered}
@@ -29,12 +26,12 @@ use Rattle.redo_rule.specs.declared.law.Slot.{Slot}
 use Rattle.redo_rule.specs.declared.law.View.{View}
 
 -- whether it is the cleaner
-told_cleaner : (a : Actor) → (IsCleaner (view_of a) × (is_cleaner a ≡ true)) ⊎ (is_cleaner a ≡ false)
-told_cleaner (own.Cleaner v) = inl (tt, refl)
+told_cleaner : (a : model.Actor) → (IsCleaner a × (is_cleaner a ≡ true)) ⊎ (is_cleaner a ≡ false)
+told_cleaner (model.Cleaner v) = inl (tt, refl)
 told_cleaner _ = inr refl
 
-cleaner_true : (a : Actor) → IsCleaner (view_of a) → is_cleaner a ≡ true
-cleaner_true (own.Cleaner v) is = refl
+cleaner_true : (a : model.Actor) → IsCleaner a → is_cleaner a ≡ true
+cleaner_true (model.Cleaner v) is = refl
 cleaner_true _ is = absurd is
 
 cut_part_is : {D : Type 0} (b : Bool) (o : Option (Keeping D)) (d : Keeping D) → cond b o None ≡ Some d → o ≡ Some d
@@ -45,6 +42,11 @@ pub there : {A : Type 0} (l : List A) (n : ℕ) → n < length l → (a : A) × 
 there [] n less = absurd (omega arith)
 there (x ∷ xs) zero less = (x, refl)
 there (x ∷ xs) (suc n) less = there xs n (omega arith)
+
+-- each of these seats knows this of its table
+abbrev pub KnowTable : {L D : Type 0} → Option (About L D) → List (Seat (Slot L D) (View L D)) → Type 0
+KnowTable {L} {D} told seats =
+    (i : ℕ) (seat : Seat (Slot L D) (View L D)) → get_elem? seats i ≡ maybe.some seat → seat.me.0.about ≡ told
 
 -- what the seats know of their table, where there is none, and where there is one more
 pub none_know : {L D : Type 0} (told : Option (About L D)) (seats : List (Seat (Slot L D) (View L D))) → seats ≡ []
@@ -64,45 +66,48 @@ none_beyond [] i a le e = maybe.some-ne-none a (sym e)
 none_beyond (x ∷ xs) zero a le e = absurd (omega arith)
 none_beyond (x ∷ xs) (suc i) a le e = none_beyond xs i a (omega arith) e
 
-module _ {L D : Type 0} (table : TableId) (actors : List Actor) (first : Seat (Slot L D) (View L D)) (seats : List (Seat (Slot L D) (View L D))) (A : AreHandedOut table actors first seats) where
+module _ {L D : Type 0} (table : TableId) (heard : ℕ → List Given) (actors : List model.Actor) (first : Seat (Slot L
+    D) (View L D)) (seats : List (Seat (Slot L D) (View L D))) (A : AreHandedOut table heard actors first seats) where
   module _ (less : length seats < length actors) where
-    abbrev next_actor : Actor
+    abbrev next_actor : model.Actor
     next_actor = (there actors (length seats) less).0
 
     next_at : get_elem? actors (length seats) ≡ maybe.some next_actor
     next_at = (there actors (length seats) less).1
 
     abbrev head : Numbered
-    head = record { number = length seats; actor = next_actor }
+    head = record { number = length seats; actor = next_actor; heard = heard (length seats) }
 
     abbrev others : List Numbered
-    others = numbered (length seats + 1) (drop (suc (length seats)) actors)
+    others = numbered heard (length seats + 1) (drop (suc (length seats)) actors)
 
     are : first.me.0.seats ≡ head ∷ others
-    are = A.others ∙ ap (numbered (length seats)) (drop_at actors (length seats) next_actor next_at)
+    are = A.others ∙ ap (numbered heard (length seats)) (drop_at actors (length seats) next_actor next_at)
 
     pub may_cut : MayCut first.me.0
     may_cut = record {
       head = head;
       others = others;
       are = are;
-      apart = λ i y e z. let n = (numbered_at (length seats + 1) (drop (suc (length seats)) actors) i y e).0 in omega arith;
+      apart = λ i y e z. let n = (numbered_at heard (length seats + 1) (drop (suc (length seats)) actors) i y e).0 in
+          omega arith;
     }
 
     module _ (after token : Seat (Slot L D) (View L D)) (is_first : IsFirst table after) (left : after.me.0 ≡ cut_left first.me.0) (right : token.me.0 ≡ cut_right first.me.0)
-        (mine : (x : Numbered) → token.me.0.seats ≡ x ∷ [] → Mine table token (view_of x.actor)) (one : HasOneCleaner actors) (part : PartIsKept (length seats) actors first) where
+        (mine : (x : Numbered) → token.me.0.seats ≡ x ∷ [] → Mine table token x.actor) (one : HasOneCleaner actors)
+        (part : PartIsKept (length seats) actors first) where
       token_seats : token.me.0.seats ≡ head ∷ []
       token_seats = ap (λ (v : View L D). v.seats) right ∙ ap first_numbered are
 
       heads : heads_cleaner first.me.0.seats ≡ is_cleaner next_actor
       heads = ap heads_cleaner are
 
-      keeps_part : IsCleaner (view_of next_actor) → HasPart token.me.0
+      keeps_part : IsCleaner next_actor → HasPart token.me.0
       keeps_part is = ⊎_elim
           (λ p. (p.0, ap (λ (v : View L D). v.data_part) right ∙ ap (λ (b : Bool). cond b first.me.0.data_part None) (heads ∙ cleaner_true next_actor is) ∙ p.1))
           (λ t. let same : t.0 ≡ length seats = one t.0 (length seats) t.1 next_actor t.3 next_at t.4 is in let l = t.2 in absurd (omega arith)) part
 
-      cut_seat : IsSeatOf table token (view_of next_actor)
+      cut_seat : IsSeatOf table token next_actor
       cut_seat = record {
         mine = mine head token_seats;
         home = λ d has. A.is_first.home d (cut_part_is (heads_cleaner first.me.0.seats) first.me.0.data_part d (sym (ap (λ (v : View L D). v.data_part) right) ∙ has));
@@ -115,16 +120,24 @@ module _ {L D : Type 0} (table : TableId) (actors : List Actor) (first : Seat (S
       longer : suc (length seats) ≡ length (seats ++ token ∷ [])
       longer = let n = long in omega arith
 
-      pub cut_next : AreHandedOut table actors after (seats ++ token ∷ [])
+      pub cut_next : AreHandedOut table heard actors after (seats ++ token ∷ [])
       cut_next = record {
         is_first = is_first;
         few = (let n = long in omega arith);
-        others = ap (λ (v : View L D). v.seats) left ∙ ap rest_numbered are ∙ ap (λ (n : ℕ). numbered n (drop (suc (length seats)) actors)) (sym long) ∙ ap (λ (n : ℕ). numbered (length (seats ++ token ∷ [])) (drop n actors)) longer;
+        others = ap (λ (v : View L D). v.seats) left ∙ ap rest_numbered are ∙ ap (λ (n : ℕ). numbered heard n (drop
+            (suc (length seats)) actors)) (sym long) ∙ ap (λ (n : ℕ). numbered heard (length (seats ++ token ∷ []))
+            (drop n actors)) longer;
         each = λ i seat a e at. ⊎_elim
             (λ t. A.each i seat a t.1 at)
-            (λ t. let same : ◌≡◌ {A = Actor} next_actor a = maybe.some-injective next_actor a (sym next_at ∙ ap (get_elem? actors) (sym t.0) ∙ at) in
-            subst (λ (s : Seat (Slot L D) (View L D)). IsSeatOf table s (view_of a) × (number_of s.me.0 ≡ i)) t.1
-            (subst (λ (b : Actor). IsSeatOf table token (view_of b)) same cut_seat, ap number_in token_seats ∙ sym t.0))
+            (λ t. let same : ◌≡◌ {A = model.Actor} next_actor a = maybe.some-injective next_actor a (sym next_at ∙ ap
+            (get_elem? actors) (sym t.0) ∙ at) in
+            subst (λ (s : Seat (Slot L D) (View L D)). IsSeatOf table s a × (number_of s.me.0 ≡ i) × (heard_of s.me.0
+            ≡ heard i)) t.1 (
+              subst (λ (b : model.Actor). IsSeatOf table token b) same cut_seat,
+              ap number_in token_seats ∙ sym t.0,
+              ap
+                  heard_in token_seats ∙ ap heard (sym t.0),
+            ))
             (at_end seats token seat i e);
       }
 
@@ -143,7 +156,7 @@ module _ {L D : Type 0} (table : TableId) (actors : List Actor) (first : Seat (S
     last_less : length before < length actors
     last_less = let n = count in let l = A.few in omega arith
 
-    abbrev last_actor : Actor
+    abbrev last_actor : model.Actor
     last_actor = (there actors (length before) last_less).0
 
     last_at : get_elem? actors (length before) ≡ maybe.some last_actor
@@ -152,20 +165,31 @@ module _ {L D : Type 0} (table : TableId) (actors : List Actor) (first : Seat (S
     seat_at : get_elem? seats (length before) ≡ maybe.some seat
     seat_at = ap (λ (l : List (Seat (Slot L D) (View L D))). get_elem? l (length before)) is ∙ at_last before seat (length before) refl
 
-    own_seat : IsSeatOf table seat (view_of last_actor)
+    own_seat : IsSeatOf table seat last_actor
     own_seat = (A.each (length before) seat last_actor seat_at last_at).0
 
     its_number : number_of seat.me.0 ≡ length before
     its_number = (A.each (length before) seat last_actor seat_at last_at).1
 
-    free : HoldsNothing (view_of last_actor)
+    its_heard : ◌≡◌ {A = List Given} (heard_of seat.me.0) (heard (length before))
+    its_heard = (A.each (length before) seat last_actor seat_at last_at).2
+
+    free : HoldsNothing last_actor
     free = rest (length before) last_actor last_at
 
     abbrev who : Numbered
     who = own_seat.mine.who
 
-    who_is : ◌≡◌ {A = Numbered} who (record { number = length before; actor = last_actor })
-    who_is = ap (λ (n : ℕ). record { number = n; actor = who.actor }) (sym (ap number_in own_seat.mine.one) ∙ its_number) ∙ ap (λ (a : Actor). record { number = length before; actor = a }) (same_actor who.actor last_actor own_seat.mine.state)
+    abbrev last_who : Numbered
+    last_who = record { number = length before; actor = last_actor; heard = heard (length before) }
+
+    who_is : ◌≡◌ {A = Numbered} who last_who
+    who_is =
+        ap (λ (n : ℕ). record { number = n; actor = who.actor; heard = who.heard }) (sym (ap number_in
+        own_seat.mine.one) ∙ its_number)
+        ∙ ap (λ (a : model.Actor). record { number = length before; actor = a; heard = who.heard }) own_seat.mine.state
+        ∙ ap (λ (l : List Given). record { number = length before; actor = last_actor; heard = l })
+        (sym (ap heard_in own_seat.mine.one) ∙ its_heard)
 
     same_count : (p q : ℕ) → word_count p ≡ word_count q → p ≡ q
     same_count p q e = omega arith
@@ -176,7 +200,8 @@ module _ {L D : Type 0} (table : TableId) (actors : List Actor) (first : Seat (S
       pages = same_count first.me.0.pages seat.me.0.pages (sym A.is_first.words ∙ own_seat.mine.words);
       none = subst (λ (h : Option ℕ). Carries h seat.me) free.no_slot own_seat.mine.carries;
       some = (who, ap (λ (l : List Numbered). get_elem? l 0) own_seat.mine.one);
-      rest = λ i y e. subst (λ (z : Numbered). HoldsNothing (view_of z.actor)) (in_one who i y (sym (ap (λ (l : List Numbered). get_elem? l i) own_seat.mine.one) ∙ e)) (subst HoldsNothing (sym own_seat.mine.state) free);
+      rest = λ i y e. subst (λ (z : Numbered). HoldsNothing z.actor) (in_one who i y (sym (ap (λ (l : List Numbered).
+          get_elem? l i) own_seat.mine.one) ∙ e)) (subst HoldsNothing (sym own_seat.mine.state) free);
       home = own_seat.home;
     }
       where
@@ -188,12 +213,13 @@ module _ {L D : Type 0} (table : TableId) (actors : List Actor) (first : Seat (S
       shorter : length seats ≡ suc (length before)
       shorter = let n = count in omega arith
 
-      joined : after.me.0.seats ≡ numbered (length before) (drop (length before) actors)
+      joined : after.me.0.seats ≡ numbered heard (length before) (drop (length before) actors)
       joined = ap (λ (v : View L D). v.seats) both ∙ ap (λ (l : List Numbered). l ++ first.me.0.seats) (own_seat.mine.one ∙ ap (λ (x : Numbered). x ∷ []) who_is)
-          ∙ ap (λ (l : List Numbered). (record { number = length before; actor = last_actor }) ∷ l) (A.others ∙ ap (λ (n : ℕ). numbered n (drop (length seats) actors)) count ∙ ap (λ (n : ℕ). numbered (length before + 1) (drop n actors)) shorter)
-          ∙ sym (ap (numbered (length before)) (drop_at actors (length before) last_actor last_at))
+          ∙ ap (λ (l : List Numbered). last_who ∷ l) (A.others ∙ ap (λ (n : ℕ). numbered heard n (drop (length seats)
+          actors)) count ∙ ap (λ (n : ℕ). numbered heard (length before + 1) (drop n actors)) shorter)
+          ∙ sym (ap (numbered heard (length before)) (drop_at actors (length before) last_actor last_at))
 
-      pub taken_before : AreHandedOut table actors after before
+      pub taken_before : AreHandedOut table heard actors after before
       taken_before = record {
         is_first = is_first;
         few = (let l = last_less in omega arith);
@@ -214,30 +240,58 @@ module _ {L D : Type 0} (table : TableId) (actors : List Actor) (first : Seat (S
       pub taken_part : HasPart first.me.0 → HasPart after.me.0
       taken_part p = first_part p
 
-      pub taken_cleaner : ((i : ℕ) (a : Actor) → length seats ≤ i → get_elem? actors i ≡ maybe.some a → IsCleaner (view_of a) → HasPart first.me.0)
-          → (i : ℕ) (a : Actor) → length before ≤ i → get_elem? actors i ≡ maybe.some a → IsCleaner (view_of a) → HasPart after.me.0
+      pub taken_cleaner : ((i : ℕ) (a : model.Actor) → length seats ≤ i → get_elem? actors i ≡ maybe.some a →
+          IsCleaner a → HasPart first.me.0)
+          → (i : ℕ) (a : model.Actor) → length before ≤ i → get_elem? actors i ≡ maybe.some a → IsCleaner a → HasPart
+          after.me.0
       taken_cleaner others i a l at is_one = elim (ℕ_discrete i (length before)) [
         | yes here ↦ either_part first.me.0.data_part refl
-            (own_seat.cleaner (subst (λ (b : Actor). IsCleaner (view_of b)) (maybe.some-injective a last_actor (sym at ∙ ap (get_elem? actors) here ∙ last_at)) is_one))
+            (own_seat.cleaner (subst (λ (b : model.Actor). IsCleaner b) (maybe.some-injective a last_actor (sym at ∙
+            ap (get_elem? actors) here ∙ last_at)) is_one))
         | no far ↦ first_part (others i a (let n = count in omega arith) at is_one)
       ]
 
+  -- where nothing was handed on, each seat has heard nothing
+  pub none_heard_yet : ((n : ℕ) → ◌≡◌ {A = List Given} (heard n) [])
+      → (i : ℕ) (seat : Seat (Slot L D) (View L D)) → get_elem? seats i ≡ maybe.some seat
+      → ◌≡◌ {A = List Given} (heard_of seat.me.0) []
+  none_heard_yet none i seat at =
+      let few = A.few in
+      let a = there actors i (let l = below seats i seat at in omega arith) in
+      (A.each i seat a.0 at a.1).2 ∙ none i
+    where
+      below : {A : Type 0} (l : List A) (i : ℕ) (a : A) → get_elem? l i ≡ maybe.some a → i < length l
+      below [] i a e = absurd (maybe.some-ne-none a (sym e))
+      below (x ∷ xs) zero a e = omega arith
+      below (x ∷ xs) (suc i) a e = let r = below xs i a e in omega arith
+
+-- what the seat of an actor's number has heard
+pub heard_at : {L D : Type 0} (seats : List (Seat (Slot L D) (View L D))) (i : ℕ) (seat : Seat (Slot L D) (View L D))
+    → get_elem? seats i ≡ maybe.some seat → ◌≡◌ {A = List Given} (heard_of seat.me.0) (heard_by seats i)
+heard_at [] i seat e = absurd (maybe.some-ne-none seat (sym e))
+heard_at (x ∷ xs) zero seat e = ap (λ (z : Seat _ _). heard_of z.me.0) (sym (maybe.some-injective x seat e))
+heard_at (x ∷ xs) (suc i) seat e = heard_at xs i seat e
+
 -- no actor has its seat yet, and each has
-module _ {L D : Type 0} (table : TableId) (actors : List Actor) (first : Seat (Slot L D) (View L D)) (seats : List (Seat (Slot L D) (View L D))) where
-  pub all_in_first : IsFirst table first → first.me.0.seats ≡ numbered 0 actors → seats ≡ [] → AreHandedOut table actors first seats
-  all_in_first is_first all none = subst (AreHandedOut table actors first) (sym none) (record {
+module _ {L D : Type 0} (table : TableId) (heard : ℕ → List Given) (actors : List model.Actor) (first : Seat (Slot L
+    D) (View L D)) (seats : List (Seat (Slot L D) (View L D))) where
+  pub all_in_first : IsFirst table first → first.me.0.seats ≡ numbered heard 0 actors → seats ≡ [] → AreHandedOut
+      table heard actors first seats
+  all_in_first is_first all none = subst (AreHandedOut table heard actors first) (sym none) (record {
     is_first = is_first;
     few = omega arith;
     others = all;
     each = λ i seat a e at. absurd (maybe.some-ne-none seat (sym e));
   })
 
-  pub none_in_first : AreHandedOut table actors first seats → length seats ≡ length actors → first.me.0.seats ≡ []
-  none_in_first A all = A.others ∙ ap (numbered (length seats)) (ap (λ (n : ℕ). drop n actors) all ∙ nothing_left actors)
+  pub none_in_first : AreHandedOut table heard actors first seats → length seats ≡ length actors → first.me.0.seats ≡ []
+  none_in_first A all = A.others ∙ ap (numbered heard (length seats)) (ap (λ (n : ℕ). drop n actors) all ∙
+      nothing_left actors)
     where
       nothing_left : {A : Type 0} (l : List A) → drop (length l) l ≡ []
       nothing_left [] = refl
       nothing_left (x ∷ xs) = nothing_left xs
 
-  pub part_alone : PartIsKept (length actors) actors first → ((i : ℕ) (a : Actor) → get_elem? actors i ≡ maybe.some a → IsCleaner (view_of a) → ⊥) → HasPart first.me.0
+  pub part_alone : PartIsKept (length actors) actors first → ((i : ℕ) (a : model.Actor) → get_elem? actors i ≡
+      maybe.some a → IsCleaner a → ⊥) → HasPart first.me.0
   part_alone part none = ⊎_elim (λ p. p) (λ t. absurd (none t.0 t.1 t.3 t.4)) part

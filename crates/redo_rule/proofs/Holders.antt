@@ -9,17 +9,17 @@ use Rattle.redo_disk.specs.Seen.{Seen}
 use Rattle.redo_drive.specs.Playing.{RunOf, run_data_side, run_log_side}
 use Rattle.redo_drive.specs.Running.{RunsOn}
 use Rattle.redo_drive.specs.Turning.{core_of}
-use Rattle.redo_drive.specs.Views.{views_of}
-use Rattle.redo_drive.specs.declared.actor.Actor.{Actor}
 use Rattle.redo_drive.specs.declared.parts.Parts.{Parts}
 pub use Rattle.model_running.proofs.SlotHolders.{same_number}
 
-module _ {L D : Type 0} (log_seen : L → Seen) (data_seen : D → Seen) (run : RunOf L D) (parts : Parts L D) (actors : List Actor) (runs : RunsOn log_seen data_seen run parts actors) where
+module _ {L D : Type 0} (log_seen : L → Seen) (data_seen : D → Seen) (run : RunOf L D) (parts : Parts L D) (actors :
+    List model.Actor) (runs : RunsOn log_seen data_seen run parts actors) where
   abbrev Holds : ℕ → ℕ → Type 0
   Holds = slots.Holds (run_log_side log_seen data_seen run) (run_data_side log_seen data_seen run) run.setup 0 (core_of log_seen data_seen run parts actors) runs.running
 
-  pub holding : (n : ℕ) (a : model.Actor) → get_elem? (views_of actors) n ≡ some a → (k : ℕ) → hand a ≡ Some k → Holds n k
+  pub holding : (n : ℕ) (a : model.Actor) → get_elem? actors n ≡ some a → (k : ℕ) → hand a ≡ Some k → Holds n k
   holding = slots.holding (run_log_side log_seen data_seen run) (run_data_side log_seen data_seen run) run.setup 0 (core_of log_seen data_seen run parts actors) runs.running
 
-  pub one_holder : (n j : ℕ) (a b : model.Actor) (k : ℕ) → get_elem? (views_of actors) n ≡ some a → get_elem? (views_of actors) j ≡ some b → hand a ≡ Some k → hand b ≡ Some k → n ≡ j
+  pub one_holder : (n j : ℕ) (a b : model.Actor) (k : ℕ) → get_elem? actors n ≡ some a → get_elem? actors j ≡ some b →
+      hand a ≡ Some k → hand b ≡ Some k → n ≡ j
   one_holder = slots.one_holder (run_log_side log_seen data_seen run) (run_data_side log_seen data_seen run) run.setup 0 (core_of log_seen data_seen run parts actors) runs.running

@@ -1,13 +1,12 @@
 -- A turn of one actor keeps the rule, whatever it does to the slots.
-use Rattle.std.proofs.Common.{Bool, List, None, Option, Some, [], ap, false, length, length-set, refl, set, subst, suc, sym, zero, ℕ, ⊎_elim, ◌+◌, ◌<◌, ◌∙◌, ◌∷◌, ◌≡◌, ◌≢◌, ◌⊎◌, is_some}
-use Rattle.std.proofs.lemmas.List.{map-set}
+use Rattle.std.proofs.Common.{Bool, List, None, Option, Some, [], ap, false, length, length-set, refl, set, subst, suc, sym, zero, ℕ, ⊎_elim, ◌++◌, ◌+◌, ◌<◌, ◌∙◌, ◌∷◌, ◌≡◌, ◌≢◌, ◌⊎◌, is_some}
 use Rattle.std.specs.Prelude.{slice_index, slice_set}
 use lib.ListN.{get_elem?}
 use mathlib.Core.Option as maybe
 use native.Mathlib.Decide.{ℕ_discrete}
 use Rattle.atomic_table.specs.Table.{State}
 use Rattle.model_core.proofs.Lists.{at_set, set_at, set_else}
-use Rattle.model_core.specs.{answer_of, DataServed, filled, lent, lsn, next, OpWords, SharedWords, step_of, took}
+use Rattle.model_core.specs.{answer_of, filled, Filling, Fills, Given, lent, lsn, next, OpWords, SharedWords, step_of, took}
 use Rattle.model_core.specs.{UserState}
 use Rattle.model_core.specs.Actors as model
 use Rattle.model_core.specs.AnswerFits.{AnswerFits}
@@ -21,8 +20,7 @@ use Rattle.model_logcore.proofs.Failures.{stored_cause}
 use Rattle.model_logcore.specs.{LogGhost, UserAt, UserFits}
 use Rattle.model_logcore.specs.LogLaws.{LogLaws}
 use Rattle.model_pagecore.specs.DataLaws.{DataLaws}
-use Rattle.model_running.proofs.EachTurn.{turn_keeps}
-use Rattle.model_running.proofs.SeatsKeep.{turn_keeps_seats}
+use Rattle.model_running.proofs.Filling.{next_filled}
 use Rattle.model_running.proofs.Turns.{next_words}
 use Rattle.redo_drive.proofs.DataPartLaws.{data_laws}
 use Rattle.redo_drive.specs.DataPartSide as data_part
@@ -30,28 +28,26 @@ use Rattle.redo_disk.specs.{Call}
 use Rattle.redo_disk.specs.Seen.{Seen}
 use Rattle.redo_flushlist.specs.{Listing}
 use Rattle.redo_logdev.specs.Part as log
-use Rattle.redo_drive.proofs.Filled.{fills_nothing, nothing_filled}
 use Rattle.redo_drive.proofs.LogPartLaws.{log_laws}
 use Rattle.redo_drive.specs.LogPartSide as log_part
 use Rattle.redo_drive.proofs.MayTurn.{may_serve}
-use Rattle.redo_drive.proofs.TurnsOf.{answer_fits}
+use Rattle.redo_drive.proofs.TurnsOf as turns
 use Rattle.redo_drive.specs.Calls.{CallsOn}
 use Rattle.redo_drive.specs.Lists.{AreLists, lists_of}
 use Rattle.redo_drive.specs.Playing.{DataReady, HasSamePages, HasWholePages, IsPlayed, LogReady, RunOf, run_data_side, run_log_side}
 use Rattle.redo_drive.specs.Running.{RunsOn}
 use Rattle.redo_drive.specs.Turning.{core_of, MayServe}
-use Rattle.redo_drive.specs.Steps.{retook}
-use Rattle.redo_drive.specs.Views.{view_of, views_of}
-use Rattle.redo_drive.specs.declared.actor.Actor.{Actor}
+use Rattle.redo_drive.specs.Receiving.{handed_by, MarkFits}
 use Rattle.redo_drive.specs.declared.parts.Parts.{Parts}
 use Rattle.model_core.proofs.FailedCalls.{gives_hand, has_stored, stores}
 use Rattle.model_core.proofs.Hands.{stays_free}
-use Rattle.redo_rule.proofs.Filled.{as_it_was}
-use Rattle.redo_rule.proofs.Retook.{at_map, view_retook}
+use Rattle.redo_rule.proofs.Filled.{free_filled, stored_before, turn_follows}
+use Rattle.redo_rule.proofs.Hearing.{hears_then, heard_else, heard_here, heard_then}
 use Rattle.model_core.specs.Hands.{GivesFailed, hand, IsFreeToCheck}
 use Rattle.redo_rule.specs.Plays.{behind, MayGo, Shown, Stepped, view_behind}
-use Rattle.redo_rule.specs.Ruled.{IsSlotHeld, Knows, Ruled, slot_content}
+use Rattle.redo_rule.specs.Ruled.{HaveGroups, IsNoArchiver, IsSlotHeld, Knows, Ruled, slot_content}
 use Rattle.redo_rule.specs.declared.law.About.{About}
+use Rattle.redo_rule.specs.declared.law.Desk.{Desk}
 use Rattle.redo_rule.specs.declared.law.Keeping.{Keeping}
 use Rattle.redo_rule.specs.declared.law.Numbered.{Numbered}
 use Rattle.redo_rule.specs.declared.law.Slot.{Slot}
@@ -75,13 +71,17 @@ slot_or d (Some x) = x
 pub same_slot : {L D : Type 0} (x y : Slot L D) → Some x ≡ Some y → ◌≡◌ {A = Slot L D} x y
 same_slot x y e = ap (slot_or x) e
 
-abbrev log_or : {L D : Type 0} → log.Part L → Slot L D → log.Part L
-log_or d (slot.Log p) = p
-log_or d (slot.Pages l) = d
-log_or d (slot.Data e) = d
+abbrev desk_or : {L D : Type 0} → Desk L → Slot L D → Desk L
+desk_or d (slot.Log desk) = desk
+desk_or d (slot.Pages l) = d
+desk_or d (slot.Data e) = d
 
-pub same_log : {L D : Type 0} (p q : log.Part L) → ◌≡◌ {A = Slot L D} (slot.Log p) (slot.Log q) → ◌≡◌ {A = log.Part L} p q
-same_log p q e = ap (log_or p) e
+pub same_desk : {L D : Type 0} (p q : Desk L) → ◌≡◌ {A = Slot L D} (slot.Log p) (slot.Log q) → ◌≡◌ {A = Desk L} p q
+same_desk p q e = ap (desk_or p) e
+
+pub same_log : {L D : Type 0} (p q : Desk L) → ◌≡◌ {A = Slot L D} (slot.Log p) (slot.Log q)
+    → ◌≡◌ {A = log.Part L} p.part q.part
+same_log p q e = ap (λ (z : Desk _). z.part) (same_desk p q e)
 
 abbrev pages_or : {L D : Type 0} → Listing → Slot L D → Listing
 pages_or d (slot.Log p) = d
@@ -113,15 +113,23 @@ all_answered E c m g p n u at_end fits = (subst (UserAt E c m g p n u) at_end fi
 pub done_is_free : (E : LogSide) (c : Setup) (m : SharedWords) (g : LogGhost) (p : E.Part) (n : ℕ) (u : UserState) → u.step ≡ user_step.Done → UserFits E c m g p n u → u.checks ≡ false
 done_is_free E c m g p n u at_end fits = (subst (UserAt E c m g p n u) at_end fits.step).2
 
-module _ {L D : Type 0} (log_seen : L → Seen) (data_seen : D → Seen) (run : RunOf L D) (parts : Parts L D) (actors : List Actor) (runs : RunsOn log_seen data_seen run parts actors) (n : ℕ) (a : model.Actor) (at : get_elem? (views_of actors) n ≡ maybe.some a) where
+module _ {L D : Type 0} (log_seen : L → Seen) (data_seen : D → Seen) (run : RunOf L D) (parts : Parts L D) (actors :
+    List model.Actor) (runs : RunsOn log_seen data_seen run parts actors) (n : ℕ) (a : model.Actor) (at : get_elem?
+    actors n ≡ maybe.some a) where
   pub serves : MayServe parts a
   serves = may_serve log_seen data_seen run parts actors runs (laws_of_log log_seen data_seen run) (laws_of_data log_seen data_seen run) n a at
 
   pub words_there : OpWords parts.words.pages (next a)
   words_there = subst (λ (k : ℕ). OpWords k (next a)) (sym runs.word_pages)
-      (next_words (run_log_side log_seen data_seen run) (run_data_side log_seen data_seen run) run.setup 0 runs.running.shared runs.running.log_ghost runs.running.page_ghost (lists_of parts.lists) parts.log parts.store (views_of actors) n runs.running.both a at)
+      (next_words (run_log_side log_seen data_seen run) (run_data_side log_seen data_seen run) run.setup 0
+      runs.running.shared runs.running.log_ghost runs.running.page_ghost (lists_of parts.lists) parts.log
+      parts.store actors n runs.running.both a at)
 
-  pub may_go : (pages : ℕ) (held : Option (Slot L D)) (stored : Option (Keeping D)) → pages ≡ parts.words.pages → ((p : log.Part L) → held ≡ Some (slot.Log p) → hand a ≡ Some 0 → ◌≡◌ {A = log.Part L} p parts.log)
+  abbrev answer_to : Op → Answer
+  answer_to = answer_of (lists_of parts.lists) (is_some parts.log.failed) 0 0 parts.words.words
+
+  pub may_go : (pages : ℕ) (held : Option (Slot L D)) (stored : Option (Keeping D)) → pages ≡ parts.words.pages →
+      ((desk : Desk L) → held ≡ Some (slot.Log desk) → hand a ≡ Some 0 → ◌≡◌ {A = log.Part L} desk.part parts.log)
       → ((d : Keeping D) → stored ≡ Some d → ◌≡◌ {A = store.Part D} d.part parts.store) → IsFreeToCheck a → MayGo pages held stored a
   may_go pages held stored count with_log with_data free = record {
     there = subst (λ (k : ℕ). OpWords k (next a)) (sym count) words_there;
@@ -130,18 +138,27 @@ module _ {L D : Type 0} (log_seen : L → Seen) (data_seen : D → Seen) (run : 
     whole = λ d is. subst (λ (e : store.Part D). HasWholePages e.shape (next a) (lent a)) (sym (with_data d is)) serves.whole;
     free = free;
     done = λ u is at_end. all_answered (run_log_side log_seen data_seen run) run.setup runs.running.shared runs.running.log_ghost parts.log n u at_end (runs.running.both.logged.each n (model.User u) (at ∙ ap (λ (z : model.Actor). maybe.some z) is));
-    rest = λ e. subst (λ (o : Op). AnswerFits a (answer_of (lists_of parts.lists) (is_some parts.log.failed) 0 0 parts.words.words o)) e (serves.fits 0 0);
+    rest = λ e. (
+      subst (λ (o : Op). AnswerFits a (answer_to o)) e (serves.fits 0 0),
+      subst (λ (o : Op). MarkFits a
+          (answer_to o)) e (serves.mark 0 0),
+    );
+    give = λ e. (
+      subst (λ (o : Op). AnswerFits a (answer_to o)) e (serves.fits 0 0),
+      subst (λ (o : Op). MarkFits a
+          (answer_to o)) e (serves.mark 0 0),
+    );
   }
 
 module _ {L D : Type 0} (log_seen : L → Seen) (log_gives : L → Call → L → Type 0) (data_seen : D → Seen) (data_gives : D → Call → D → Type 0) (about : About L D) (s : State (Slot L D) (View L D)) (R : Ruled log_seen log_gives data_seen data_gives about s)
     (id : ℕ) (v : View L D) (x : Numbered) (one : v.seats ≡ x ∷ []) (at : get_elem? s.views id ≡ maybe.some v) where
   abbrev a : model.Actor
-  a = view_of x.actor
+  a = x.actor
 
-  pub known : Knows about R.parts R.actors R.seat_of R.keeper R.out id v
+  pub known : Knows about R.parts R.block R.actors R.heard R.seat_of R.keeper R.out id v
   known = R.knows id v at
 
-  first : get_elem? v.seats 0 ≡ maybe.some x
+  pub first : get_elem? v.seats 0 ≡ maybe.some x
   first = ap (λ (z : List Numbered). get_elem? z 0) one
 
   pub count : v.pages ≡ R.parts.words.pages
@@ -150,67 +167,56 @@ module _ {L D : Type 0} (log_seen : L → Seen) (log_gives : L → Call → L �
   pub here : get_elem? R.actors x.number ≡ maybe.some x.actor
   here = (known.mine 0 x first).1
 
+  pub follows : IsNoArchiver a
+  follows = R.follow x.number a here
+
   pub seated : R.seat_of x.number ≡ id
   seated = (known.mine 0 x first).0
-
-  pub there : get_elem? (views_of R.actors) x.number ≡ maybe.some a
-  there = at_map view_of R.actors x.number x.actor here
 
   pub is_free : IsFreeToCheck a
   is_free = known.free 0 x first
 
-  pub holds_content : (k : ℕ) → hand a ≡ Some k → v.held ≡ Some (slot_content R.parts k)
+  pub holds_content : (k : ℕ) → hand a ≡ Some k → v.held ≡ Some (slot_content R.parts R.block k)
   holds_content k e = known.held 0 x k first e
 
   pub fits : (code mark : ℕ) → AnswerFits a (answer_of (lists_of R.parts.lists) (is_some R.parts.log.failed) code mark R.parts.words.words (next a))
-  fits code mark = (serves log_seen data_seen R.run R.parts R.actors R.runs x.number a there).fits code mark
+  fits code mark = (serves log_seen data_seen R.run R.parts R.actors R.runs x.number a here).fits code mark
 
-  module _ (r : Answer) (new : Parts L D) (same : HasSamePages R.parts new) (played : IsPlayed log_seen data_seen R.run (next a) (lent a) R.parts r new) where
+  module _ (f : Filling) (fills : Fills a f) (r : Answer) (new : Parts L D) (block : List ℕ) (same : HasSamePages
+      R.parts new)
+      (played : IsPlayed log_seen data_seen R.run (next a) (lent (filled a f)) R.parts r new) where
     abbrev b : model.Actor
-    b = took a r
+    b = took (filled a f) r
 
-    abbrev after : List Actor
-    after = set R.actors x.number (retook x.actor r)
+    abbrev after : List model.Actor
+    after = set R.actors x.number b
 
-    -- a turn puts nothing into it
-    plain : ◌≡◌ {A = model.Actor} (filled a nothing_filled) a
-    plain = as_it_was x.actor nothing_filled
+    abbrev heard : ℕ → List Given
+    heard = heard_then R.heard x.number (handed_by (filled a f))
 
-    pub turn : Turn (run_log_side log_seen data_seen R.run) (run_data_side log_seen data_seen R.run) (core_of log_seen data_seen R.run R.parts R.actors) x.number r (step_of a r) (core_of log_seen data_seen R.run new after)
+    abbrev pub turn : Turn (run_log_side log_seen data_seen R.run) (run_data_side log_seen data_seen R.run) (core_of
+        log_seen data_seen R.run R.parts R.actors) x.number r (step_of (filled a f) r) (core_of log_seen data_seen
+        R.run new after)
     turn = record {
       who = a;
-      who_is = there;
-      filling = nothing_filled;
-      fills = fills_nothing x.actor;
+      who_is = here;
+      filling = f;
+      fills = fills;
       code = played.code;
-      log_served = subst (λ (z : model.Actor). LogServed (run_log_side log_seen data_seen R.run) R.parts.log
-          (lent z) (next a) played.code new.log) (sym plain) played.log_served;
-      data_served = subst (λ (z : model.Actor). DataServed (run_data_side log_seen data_seen R.run) R.parts.store
-          (lent z) (next a) played.code new.store) (sym plain) played.data_served;
+      log_served = played.log_served;
+      data_served = played.data_served;
       words = played.words;
       lists = played.lists;
       answered = played.answered;
-      actors = map-set view_of R.actors x.number (retook x.actor r)
-          ∙ ap (λ (z : model.Actor). set (views_of R.actors) x.number z)
-          (view_retook x.actor r ∙ ap (λ (z : model.Actor). took z r) (sym plain));
-      ends = ap (λ (z : model.Actor). step_of z r) (sym plain);
+      actors = refl;
+      ends = refl;
     }
 
-    pub runs_behind : RunsOn log_seen data_seen R.run new after
-    runs_behind = record {
-      limits = R.runs.limits;
-      started = R.runs.started;
-      its_pages = R.runs.its_pages;
-      its_page_size = R.runs.its_page_size;
-      bytes = R.runs.bytes;
-      word_pages = same.words ∙ R.runs.word_pages;
-      list_pages = same.lists ∙ R.runs.list_pages;
-      running = turn_keeps (run_log_side log_seen data_seen R.run) (laws_of_log log_seen data_seen R.run) (run_data_side log_seen data_seen R.run) (laws_of_data log_seen data_seen R.run) R.run.setup 0
-          (core_of log_seen data_seen R.run R.parts R.actors) (core_of log_seen data_seen R.run new after) x.number r (step_of a r) R.runs.running turn;
-      seated = turn_keeps_seats (run_log_side log_seen data_seen R.run) (run_data_side log_seen data_seen R.run) R.run.setup (core_of log_seen data_seen R.run R.parts R.actors) (core_of log_seen data_seen R.run new after) x.number r (step_of a r) R.runs.seated turn;
-    }
+    abbrev pub runs_behind : RunsOn log_seen data_seen R.run new after
+    runs_behind = turns.goes_on log_seen data_seen R.run R.parts new R.actors after x.number r (step_of (filled a f) r)
+        (laws_of_log log_seen data_seen R.run) (laws_of_data log_seen data_seen R.run) same R.runs turn
 
-    pub shown : Shown log_seen data_seen v.about x.number a r
+    abbrev pub shown : Shown log_seen data_seen v.about x.number a r
     shown = record {
       about = about;
       about_is = known.told 0 x first;
@@ -222,77 +228,120 @@ module _ {L D : Type 0} (log_seen : L → Seen) (log_gives : L → Call → L �
       new = new;
       after = after;
       runs_on = runs_behind;
-      at = there;
-      has_cause = λ code gives. R.told x.number x.actor code here gives;
-      ends = step_of a r;
+      at = here;
+      has_cause = λ code gives. R.told x.number a code here gives;
+      ends = step_of (filled a f) r;
       turn = turn;
     }
 
     -- this actor, if it has stored its code now
     told_here : (code : ℕ) → GivesFailed b code → (run_log_side log_seen data_seen R.run).Cause new.log code
     told_here code gives =
-        let h = has_stored a r code is_free gives in
-        let same_part : new.log ≡ R.parts.log = subst (λ (o : Op). LogServed (run_log_side log_seen data_seen R.run) R.parts.log (lent a) o played.code new.log) (stores a code h.0 h.1) played.log_served in
+        let h = has_stored (filled a f) r code (free_filled a f is_free) gives in
+        let asks : next a ≡ next (filled a f) = sym (next_filled a f) in
+        let same_part : new.log ≡ R.parts.log = subst (λ (o : Op). LogServed (run_log_side log_seen data_seen R.run)
+        R.parts.log (lent (filled a f)) o played.code new.log) (asks ∙ stores (filled a f) code h.0 h.1)
+        played.log_served in
         subst (λ (p : log.Part L). (run_log_side log_seen data_seen R.run).Cause p code) (sym same_part)
-        (stored_cause (run_log_side log_seen data_seen R.run) R.run.setup R.runs.running.shared R.runs.running.log_ghost R.parts.log x.number a code h.1 (R.runs.running.both.logged.each x.number a there))
+        (stored_cause (run_log_side log_seen data_seen R.run) R.run.setup R.runs.running.shared
+        R.runs.running.log_ghost R.parts.log x.number a code (stored_before a f code h.1)
+        (R.runs.running.both.logged.each x.number a here))
 
-    pub there_behind : get_elem? (views_of after) x.number ≡ maybe.some b
-    there_behind = at_map view_of after x.number (retook x.actor r) (set_at R.actors x.number x.actor (retook x.actor r) here) ∙ ap (λ (z : model.Actor). maybe.some z) (view_retook x.actor r)
+    pub here_behind : get_elem? after x.number ≡ maybe.some b
+    here_behind = set_at R.actors x.number a b here
+
+    -- an actor after the turn, and who it was
+    was : (n : ℕ) (c : model.Actor) → get_elem? after n ≡ maybe.some c
+        → (d : model.Actor) × (get_elem? R.actors n ≡ maybe.some d)
+    was n c e = ⊎_elim (λ t. (a, ap (get_elem? R.actors) t.0 ∙ here)) (λ t. (c, t.1)) (at_set R.actors x.number n b c e)
+
+    follow_behind : (n : ℕ) (c : model.Actor) → get_elem? after n ≡ maybe.some c → IsNoArchiver c
+    follow_behind n c e = ⊎_elim (λ t. subst IsNoArchiver t.1 (turn_follows a f r follows)) (λ t. R.follow n c t.1)
+        (at_set R.actors x.number n b c e)
+
+    hears_behind : HaveGroups (run_log_side log_seen data_seen R.run) new.log heard after
+        runs_behind.running.log_ghost.log
+    hears_behind = hears_then log_seen data_seen R.run R.parts new R.actors after x.number r (step_of (filled a f) r)
+        (laws_of_log log_seen data_seen R.run) (laws_of_data log_seen data_seen R.run) same R.runs turn R.heard was
+        R.hears
 
     -- who holds a slot after the turn
     holds_behind : (k : ℕ) → hand b ≡ Some k → IsSlotHeld after k
-    holds_behind k e = (x.number, retook x.actor r, set_at R.actors x.number x.actor (retook x.actor r) here, ap hand (view_retook x.actor r) ∙ e)
+    holds_behind k e = (x.number, b, here_behind, e)
 
     held_still : (k : ℕ) → IsSlotHeld R.actors k → (hand a ≡ Some k → hand b ≡ Some k) → IsSlotHeld after k
     held_still k t keeps = elim (ℕ_discrete t.0 x.number) [
-      | yes same ↦ holds_behind k (keeps (ap (λ (z : Actor). hand (view_of z)) (maybe.some-injective x.actor t.1 (sym here ∙ ap (get_elem? R.actors) (sym same) ∙ t.2)) ∙ t.3))
-      | no far ↦ (t.0, t.1, set_else R.actors x.number t.0 (retook x.actor r) far ∙ t.2, t.3)
+      | yes same ↦ holds_behind k (keeps (ap hand (maybe.some-injective a t.1 (sym here ∙ ap (get_elem? R.actors) (sym
+          same) ∙ t.2)) ∙ t.3))
+      | no far ↦ (t.0, t.1, set_else R.actors x.number t.0 b far ∙ t.2, t.3)
     ]
 
-    pub goes_on : (held : Option (Slot L D)) (stored : Option (Keeping D)) → ((p : log.Part L) → held ≡ Some (slot.Log p) → hand b ≡ Some 0 → ◌≡◌ {A = log.Part L} p new.log) → ((d : Keeping D) → stored ≡ Some d → ◌≡◌ {A = store.Part D} d.part new.store)
+    pub goes_on : (held : Option (Slot L D)) (stored : Option (Keeping D)) → ((desk : Desk L) → held ≡ Some (slot.Log
+        desk) → hand b ≡ Some 0 → ◌≡◌ {A = log.Part L} desk.part new.log) → ((d : Keeping D) → stored ≡ Some d → ◌≡◌
+        {A = store.Part D} d.part new.store)
         → MayGo v.pages held stored b
-    goes_on held stored with_log with_data = may_go log_seen data_seen R.run new after runs_behind x.number b there_behind v.pages held stored (count ∙ sym same.words) with_log with_data (stays_free a r)
+    goes_on held stored with_log with_data = may_go log_seen data_seen R.run new after runs_behind x.number b
+        here_behind v.pages held stored (count ∙ sym same.words) with_log with_data (stays_free (filled a f) r)
 
     module _ (w : View L D) (out : Bool) (about_w : w.about ≡ v.about) (pages_w : w.pages ≡ v.pages)
-        (seats_w : w.seats ≡ behind x r ∷ []) (own : (k : ℕ) → hand b ≡ Some k → w.held ≡ Some (slot_content new k))
+        (seats_w : w.seats ≡ behind x f r ∷ []) (own : (k : ℕ) → hand b ≡ Some k → w.held ≡ Some (slot_content new
+        block k))
         (data_w : (d : Keeping D) → w.data_part ≡ Some d → (R.keeper ≡ id) × ◌≡◌ {A = store.Part D} d.part new.store × (out ≡ d.out)) where
-      knows_w : Knows about new after R.seat_of R.keeper out id w
+      knows_w : Knows about new block after heard R.seat_of R.keeper out id w
       knows_w = record {
         told = λ i y e. about_w ∙ known.told 0 x first;
         pages = λ i y e. pages_w ∙ count ∙ sym same.words;
-        mine = λ i y e. subst (λ (z : Numbered). (R.seat_of z.number ≡ id) × (get_elem? after z.number ≡ maybe.some z.actor)) (only w.seats (behind x r) i y seats_w e)
-            (seated, set_at R.actors x.number x.actor (retook x.actor r) here);
-        free = λ i y e. subst (λ (z : Numbered). IsFreeToCheck (view_of z.actor)) (only w.seats (behind x r) i y seats_w e) (subst IsFreeToCheck (sym (view_retook x.actor r)) (stays_free a r));
-        held = λ i y k e held. own k (ap hand (sym (view_retook x.actor r)) ∙ ap (λ (z : Numbered). hand (view_of z.actor)) (only w.seats (behind x r) i y seats_w e) ∙ held);
+        mine = λ i y e. subst (λ (z : Numbered). (R.seat_of z.number ≡ id) × (get_elem? after z.number ≡ maybe.some
+            z.actor)
+            × (heard z.number ≡ z.heard)) (only w.seats (behind x f r) i y seats_w e) (
+              seated,
+              here_behind,
+              heard_here R.heard x.number (handed_by (filled a f))
+                  ∙ ap (λ (l : List Given). l ++ handed_by (filled a f)) (known.mine 0 x first).2,
+            );
+        free = λ i y e. subst (λ (z : Numbered). IsFreeToCheck z.actor) (only w.seats (behind x f r) i y seats_w e)
+            (stays_free (filled a f) r);
+        held = λ i y k e held. own k (ap (λ (z : Numbered). hand z.actor) (only w.seats (behind x f r) i y seats_w e)
+            ∙ held);
         data_part = data_w;
       }
 
-      module _ (others : (n : ℕ) (c : model.Actor) (k : ℕ) → n ≢ x.number → get_elem? (views_of R.actors) n ≡ maybe.some c → hand c ≡ Some k → ◌≡◌ {A = Slot L D} (slot_content R.parts k) (slot_content new k))
+      module _ (others : (n : ℕ) (c : model.Actor) (k : ℕ) → n ≢ x.number → get_elem? R.actors n ≡ maybe.some c → hand
+          c ≡ Some k → ◌≡◌ {A = Slot L D} (slot_content R.parts R.block k) (slot_content new block k))
           (data_others : (j : ℕ) (u : View L D) (d : Keeping D) → j ≢ id → get_elem? s.views j ≡ maybe.some u → u.data_part ≡ Some d → (R.keeper ≡ j) × ◌≡◌ {A = store.Part D} d.part new.store × (out ≡ d.out)) where
         knows_others : (j : ℕ) (u : View L D) → j ≢ id → get_elem? s.views j ≡ maybe.some u
-            → Knows about new after R.seat_of R.keeper out j u
+            → Knows about new block after heard R.seat_of R.keeper out j u
         knows_others j u ne e =
             let K = R.knows j u e in
-            let far : (i : ℕ) (y : Numbered) → get_elem? u.seats i ≡ maybe.some y → y.number ≢ x.number = λ i y f z. ne (sym (K.mine i y f).0 ∙ ap R.seat_of z ∙ seated) in record {
+            let far : (i : ℕ) (y : Numbered) → get_elem? u.seats i ≡ maybe.some y → y.number ≢ x.number = λ i y at z.
+            ne (sym (K.mine i y at).0 ∙ ap R.seat_of z ∙ seated) in record {
               told = K.told;
-              pages = λ i y f. K.pages i y f ∙ sym same.words;
-              mine = λ i y f. ((K.mine i y f).0, set_else R.actors x.number y.number (retook x.actor r) (far i y f) ∙ (K.mine i y f).1);
+              pages = λ i y e. K.pages i y e ∙ sym same.words;
+              mine = λ i y e. (
+                (K.mine i y e).0,
+                set_else R.actors x.number y.number b (far i y e) ∙ (K.mine i y e).1,
+                heard_else R.heard x.number (handed_by (filled a f)) y.number (far i y e) ∙ (K.mine i y e).2,
+              );
               free = K.free;
-              held = λ i y k f held. K.held i y k f held ∙ ap (λ (z : Slot L D). Some z) (others y.number (view_of y.actor) k (far i y f) (at_map view_of R.actors y.number y.actor (K.mine i y f).1) held);
-              data_part = λ d f. data_others j u d ne e f;
+              held = λ i y k e held. K.held i y k e held ∙ ap (λ (z : Slot L D). Some z) (others y.number y.actor k
+                  (far i y e) (K.mine i y e).1 held);
+              data_part = λ d h. data_others j u d ne e h;
             }
 
-        told_behind : (n : ℕ) (c : Actor) (code : ℕ) → get_elem? after n ≡ maybe.some c → GivesFailed (view_of c) code → (run_log_side log_seen data_seen R.run).Cause new.log code
+        told_behind : (n : ℕ) (c : model.Actor) (code : ℕ) → get_elem? after n ≡ maybe.some c → GivesFailed c code →
+            (run_log_side log_seen data_seen R.run).Cause new.log code
         told_behind n c code e gives = ⊎_elim
-            (λ t. told_here code (subst (λ (z : model.Actor). GivesFailed z code) (sym (ap view_of t.1) ∙ view_retook x.actor r) gives))
+            (λ t. told_here code (subst (λ (z : model.Actor). GivesFailed z code) (sym t.1) gives))
             (λ t. subst (λ (p : log.Part L). (run_log_side log_seen data_seen R.run).Cause p code)
-            (same_log R.parts.log new.log (others n (view_of c) 0 t.0 (at_map view_of R.actors n c t.1) (gives_hand (view_of c) code gives)))
+            (same_log (record { part = R.parts.log; block = R.block }) (record { part = new.log; block = block })
+            (others n c 0 t.0 t.1 (gives_hand c code gives)))
             (R.told n c code t.1 gives))
-            (at_set R.actors x.number n (retook x.actor r) c e)
+            (at_set R.actors x.number n b c e)
 
         pub kept : (hs : List (maybe.Option (Slot L D))) → AreLists new.lists
             → CallsOn log_gives about.opened.value.log.dev about.opened.value.log.failed new.log.dev new.log.failed → CallsOn data_gives about.opened.value.store.dev about.opened.value.store.failed new.store.dev new.store.failed
-            → new.log.shape ≡ R.parts.log.shape → length hs ≡ 6 → ((k : ℕ) → k < 5 → slice_index new.words.words (7 + k) ≡ 0 → get_elem? hs k ≡ maybe.some (maybe.some (slot_content new k)))
+            → new.log.shape ≡ R.parts.log.shape → length hs ≡ 6 → ((k : ℕ) → k < 5 → slice_index new.words.words (7 +
+            k) ≡ 0 → get_elem? hs k ≡ maybe.some (maybe.some (slot_content new block k)))
             → (out ≡ false → get_elem? hs 5 ≡ maybe.some (maybe.some (slot.Data new.store)))
             → ((k : ℕ) → k < 5 → slice_index new.words.words (7 + k) ≢ 0 → (hand b ≡ Some k) ⊎ ((slice_index s.words (7 + k) ≢ 0) × (hand a ≡ Some k → hand b ≡ Some k)))
             → Ruled log_seen log_gives data_seen data_gives about (record { words = new.words.words; homes = hs; views = slice_set s.views id w })
@@ -300,11 +349,15 @@ module _ {L D : Type 0} (log_seen : L → Seen) (log_gives : L → Call → L �
           run = R.run;
           is_about = R.is_about;
           parts = new;
+          block = block;
           actors = after;
+          heard = heard;
           words_are = refl;
           lists_are = are;
           runs = runs_behind;
-          count = length-set R.actors x.number (retook x.actor r) ∙ R.count;
+          hears = hears_behind;
+          count = length-set R.actors x.number b ∙ R.count;
+          follow = follow_behind;
           log_calls = log_calls;
           data_calls = data_calls;
           log_shape = shape ∙ R.log_shape;
@@ -316,18 +369,27 @@ module _ {L D : Type 0} (log_seen : L → Seen) (log_gives : L → Call → L �
           data_home = data_home;
           told = told_behind;
           taken = λ k l busy. ⊎_elim (λ t. holds_behind k t) (λ t. held_still k (R.taken k l t.0) t.1) (turned k l busy);
-          knows = λ j u e. ⊎_elim (λ t. subst (λ (z : View L D). Knows about new after R.seat_of R.keeper out j z) t.1
-              (subst (λ (i : ℕ). Knows about new after R.seat_of R.keeper out i w) (sym t.0) knows_w))
+          knows = λ j u e. ⊎_elim (λ t. subst (λ (z : View L D). Knows about new block after heard R.seat_of R.keeper
+              out j z) t.1
+              (subst (λ (i : ℕ). Knows about new block after heard R.seat_of R.keeper out i w) (sym t.0) knows_w))
               (λ t. knows_others j u t.0 t.1) (at_set s.views id j w u e);
         }
 
     -- what the step tells
-    pub steps : (carried : List (ℕ × Slot L D)) (held : Option (Slot L D)) (stored : Option (Keeping D)) (after_carried : List (ℕ × Slot L D)) → ((k : ℕ) → hand b ≡ Some k → held ≡ Some (slot_content new k)) → ((d : Keeping D) → stored ≡ Some d → ◌≡◌ {A = store.Part D} d.part new.store)
-        → Stepped log_seen data_seen x r held stored after_carried (v, carried)
-        (view_behind v x r held stored, after_carried)
-    steps carried held stored after_carried own data_is = record {
-      fits = answer_fits log_seen data_seen R.run R.parts new a (next a) r refl played (serves log_seen data_seen R.run R.parts R.actors R.runs x.number a there);
-      shown = shown;
-      is = refl;
-      may = goes_on held stored (λ p e mine. same_log p new.log (same_slot (slot.Log p) (slot.Log new.log) (sym e ∙ own 0 mine))) data_is;
-    }
+    pub steps : (carried : List (ℕ × Slot L D)) (held : Option (Slot L D)) (stored : Option (Keeping D))
+        (after_carried : List (ℕ × Slot L D)) → ((k : ℕ) → hand b ≡ Some k → held ≡ Some (slot_content new block k)) →
+        ((d : Keeping D) → stored ≡ Some d → ◌≡◌ {A = store.Part D} d.part new.store)
+        → Stepped log_seen data_seen x f r held stored after_carried (v, carried)
+        (view_behind v x f r held stored, after_carried)
+    steps carried held stored after_carried own data_is =
+        let S : MayServe R.parts a = serves log_seen data_seen R.run R.parts R.actors R.runs x.number a here in
+        record {
+          fits = subst (AnswerFits a) (sym played.answered) (S.fits played.code new.log.marks.stable);
+          mark = subst (MarkFits a) (sym played.answered) (S.mark played.code new.log.marks.stable);
+          shown = shown;
+          filling = refl;
+          is = refl;
+          may = goes_on held stored (λ desk e mine. same_log desk (record { part = new.log; block = block })
+              (same_slot (slot.Log desk) (slot.Log (record { part = new.log; block = block })) (sym e ∙ own 0 mine)))
+              data_is;
+        }

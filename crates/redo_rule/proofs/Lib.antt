@@ -12,6 +12,7 @@ pub mod Failing
 pub mod Filled
 pub mod Finishing
 pub mod Gathered
+pub mod Hearing
 pub mod Holders
 pub mod Kept
 pub mod Laid
@@ -21,5 +22,6 @@ pub mod Retook
 pub mod Seated
 pub mod Stepping
 pub mod Taking
+pub mod Took
 pub mod Unseated
 pub mod Words

@@ -1,14 +1,20 @@
 -- The rule holds of a table that was made of parts and actors at the beginning of a run.
-use Rattle.std.proofs.Common.{Bool, List, None, Option, Some, [], ap, arith, false, length, map, refl, subst, suc, sym, zero, ℕ, ◌+◌, ◌<◌, ◌∙◌, ◌∷◌, ◌≡◌}
+use Rattle.std.proofs.Common.{Bool, List, None, Option, Some, [], ap, arith, cond, false, length, map, ne_eqb, refl, subst, suc, sym, true, zero, ℕ, ◌+◌, ◌<◌, ◌∙◌, ◌∷◌, ◌≡◌, ◌≤◌}
 use Rattle.std.specs.Prelude.{slice_index}
 use lib.ListN.{get_elem?}
 use mathlib.Core.Option as maybe
 use Rattle.atomic_table.specs.Table.{opening}
 use Rattle.model_base.specs.declared.shape.Shape.{Shape}
-use Rattle.model_core.specs.{flat}
+use Rattle.model_core.proofs.Lsns.{lsn_block}
+use Rattle.model_core.specs.Actors as model
+use Rattle.model_core.specs.Setup.{Setup}
+use Rattle.model_core.specs.{archives, Entry, flat, Given, ReaderState, Tiles}
 use Rattle.model_core.specs.declared.words.Word.TheVariants as word
 use Rattle.model_logcore.proofs.StartEmpty.{start_empty}
+use Rattle.model_logcore.specs.{StartActor}
 use Rattle.model_running.proofs.FlatWords.{flat_read}
+use Rattle.model_running.proofs.Following.{upto_back}
+use Rattle.model_running.specs.ReadHalf.{groups_upto}
 use Rattle.redo_disk.specs.{Call}
 use Rattle.redo_disk.specs.Seen.{Seen}
 use Rattle.redo_logdev.specs.Part as log
@@ -16,15 +22,17 @@ use Rattle.redo_drive.proofs.CallsOn.{not_called}
 use Rattle.redo_drive.specs.Begins.{BeginsRun}
 use Rattle.redo_drive.specs.Calls.{CallsOn}
 use Rattle.redo_drive.specs.Lists.{AreLists, listing_at}
-use Rattle.redo_drive.specs.Views.{view_of}
-use Rattle.redo_drive.specs.declared.actor.Actor.{Actor}
+use Rattle.redo_drive.specs.Beginning.{IsRunOfOpened}
+use Rattle.redo_drive.specs.Running.{groups_of}
+use Rattle.redo_drive.specs.Setups.{start_actors}
+use Rattle.redo_drive.specs.Views.{views_of}
 use Rattle.redo_drive.specs.declared.making.Beginning.{Beginning}
 use Rattle.redo_drive.specs.declared.parts.Parts.{Parts}
 use Rattle.model_core.proofs.FailedCalls.{gives_hand}
 use Rattle.redo_rule.proofs.Holders.{holding}
-use Rattle.redo_rule.proofs.Retook.{at_map}
 use Rattle.model_core.specs.Hands.{HoldsNothing}
-use Rattle.redo_rule.specs.Ruled.{first_view, Knows, numbered, Ruled, slot_content}
+use Rattle.redo_follow.specs.Handing.{Following}
+use Rattle.redo_rule.specs.Ruled.{first_view, IsNoArchiver, Knows, none_heard, numbered, Ruled, slot_content, starts_about}
 use Rattle.redo_rule.specs.declared.law.About.{About}
 use Rattle.redo_rule.specs.declared.law.Keeping.{Keeping}
 use Rattle.redo_rule.specs.declared.law.Numbered.{Numbered}
@@ -42,55 +50,118 @@ abbrev pub is_out : {D : Type 0} → Option (Keeping D) → Bool
 is_out None = false
 is_out (Some k) = k.out
 
-pub numbered_at : (k : ℕ) (l : List Actor) (i : ℕ) (x : Numbered) → get_elem? (numbered k l) i ≡ maybe.some x → (k + i ≡ x.number) × (get_elem? l i ≡ maybe.some x.actor)
-numbered_at k [] i x e = absurd (maybe.some-ne-none x (sym e))
-numbered_at k (y ∷ ys) zero x e = let s = maybe.some-injective (record { number = k; actor = y }) x e in ((let n : k ≡ x.number = ap (λ (z : Numbered). z.number) s in omega arith), ap (λ (z : Numbered). maybe.some z.actor) s)
-numbered_at k (y ∷ ys) (suc i) x e = let r = numbered_at (k + 1) ys i x e in ((let n = r.0 in omega arith), r.1)
+pub numbered_at : (heard : ℕ → List Given) (k : ℕ) (l : List model.Actor) (i : ℕ) (x : Numbered)
+    → get_elem? (numbered heard k l) i ≡ maybe.some x
+    → (k + i ≡ x.number) × (get_elem? l i ≡ maybe.some x.actor) × (◌≡◌ {A = List Given} (heard x.number) x.heard)
+numbered_at heard k [] i x e = absurd (maybe.some-ne-none x (sym e))
+numbered_at heard k (y ∷ ys) zero x e =
+    let s = maybe.some-injective (record { number = k; actor = y; heard = heard k }) x e in (
+      (let n : k ≡ x.number = ap (λ (z : Numbered). z.number) s in omega arith),
+      ap (λ (z : Numbered). maybe.some z.actor) s,
+      ap heard (sym (ap (λ (z : Numbered). z.number) s)) ∙ ap (λ (z : Numbered). z.heard) s,
+    )
+numbered_at heard k (y ∷ ys) (suc i) x e =
+    let r = numbered_at heard (k + 1) ys i x e in ((let n = r.0 in omega arith), r.1, r.2)
 
 module _ {L D : Type 0} where
   -- what lies in the slots
-  abbrev pub slots_of : Parts L D → List (Slot L D)
-  slots_of parts = slot.Log parts.log ∷ slot.Pages (listing_at parts.lists.lists 0) ∷ slot.Pages (listing_at parts.lists.lists 1) ∷ slot.Pages (listing_at parts.lists.lists 2) ∷ slot.Pages (listing_at parts.lists.lists 3) ∷ slot.Data parts.store ∷ []
+  abbrev pub slots_of : Parts L D → (block : List ℕ) → List (Slot L D)
+  slots_of parts block = slot.Log (record { part = parts.log; block = block }) ∷ slot.Pages (listing_at
+      parts.lists.lists 0) ∷ slot.Pages (listing_at parts.lists.lists 1) ∷ slot.Pages (listing_at parts.lists.lists 2)
+      ∷ slot.Pages (listing_at parts.lists.lists 3) ∷ slot.Data parts.store ∷ []
 
-  at_home : (parts : Parts L D) (k : ℕ) → k < 5 → get_elem? (map maybe.some (slots_of parts)) k ≡ maybe.some (maybe.some (slot_content parts k))
-  at_home parts zero l = refl
-  at_home parts (suc zero) l = refl
-  at_home parts (suc (suc zero)) l = refl
-  at_home parts (suc (suc (suc zero))) l = refl
-  at_home parts (suc (suc (suc (suc zero)))) l = refl
-  at_home parts (suc (suc (suc (suc (suc k))))) l = absurd (omega arith)
+  at_home : (parts : Parts L D) (block : List ℕ) (k : ℕ) → k < 5 → get_elem? (map maybe.some (slots_of parts block)) k
+      ≡ maybe.some (maybe.some (slot_content parts block k))
+  at_home parts block zero l = refl
+  at_home parts block (suc zero) l = refl
+  at_home parts block (suc (suc zero)) l = refl
+  at_home parts block (suc (suc (suc zero))) l = refl
+  at_home parts block (suc (suc (suc (suc zero)))) l = refl
+  at_home parts block (suc (suc (suc (suc (suc k))))) l = absurd (omega arith)
 
-module _ {L D : Type 0} (log_seen : L → Seen) (data_seen : D → Seen) (about : About L D) (start : Beginning L D)
-    (B : BeginsRun log_seen data_seen about.opened.value about.script.value about.log_only start) (actors : ◌≡◌ {A = List Actor} about.actors.value.items start.actors.items) where
-  pub fresh : (n : ℕ) (a : Actor) → get_elem? start.actors.items n ≡ maybe.some a → HoldsNothing (view_of a)
-  fresh n a at =
-      start_empty B.run.setup B.at_start.seat_of B.at_start.writer n (view_of a) (B.at_start.starts.each n (view_of a) (at_map view_of start.actors.items n a at))
+-- an actor that begins follows, if it is a reader of the log, and stands at the run's base
+follows_at_start : (c : Setup) (seat_of : ℕ → ℕ) (writer n : ℕ) (a : model.Actor) → 0 < c.first_reader
+    → StartActor c seat_of writer n a → IsNoArchiver a
+follows_at_start c seat_of writer n (model.Reader r) some is = ne_eqb r.number 0 (λ none. let first = is.1 in omega
+    arith)
+follows_at_start c seat_of writer n _ some is = tt
 
-  pub there : (i : ℕ) (x : Numbered) → get_elem? (first_view about).seats i ≡ maybe.some x → get_elem? start.actors.items x.number ≡ maybe.some x.actor
-  there i x e = let n = numbered_at 0 about.actors.value.items i x e in ap (get_elem? start.actors.items) (let k = n.0 in let z : x.number ≡ i = omega arith in z) ∙ ap (λ (l : List Actor). get_elem? l i) (sym actors) ∙ n.1
+none_at_start : (c : Setup) (seat_of : ℕ → ℕ) (writer n sn : ℕ) (log : List Entry) (a : model.Actor) → Tiles c.base
+    log sn
+    → StartActor c seat_of writer n a → ◌≡◌ {A = List Given} (groups_of a log) []
+none_at_start c seat_of writer n sn log (model.Reader r) tiles is =
+    let low : r.at ≤ c.base =
+    (let at = ap (λ (x : ReaderState). x.at) is.3 in let b = lsn_block c.base in omega arith) in
+    pick (archives r) (groups_upto r.at log) (upto_back log r.at c.base sn low tiles)
+  where
+    pick : (b : Bool) (l : List Given) → ◌≡◌ {A = List Given} l [] → ◌≡◌ {A = List Given} (cond b [] l) []
+    pick true l e = refl
+    pick false l e = e
+none_at_start c seat_of writer n sn log _ tiles is = refl
 
-module _ {L D : Type 0} (log_seen : L → Seen) (log_gives : L → Call → L → Type 0) (data_seen : D → Seen) (data_gives : D → Call → D → Type 0) (about : About L D) (start : Beginning L D)
-    (B : BeginsRun log_seen data_seen about.opened.value about.script.value about.log_only start) (are : AreLists start.parts.lists) (actors : ◌≡◌ {A = List Actor} about.actors.value.items start.actors.items) where
-  abbrev fresh_one : (n : ℕ) (a : Actor) → get_elem? start.actors.items n ≡ maybe.some a → HoldsNothing (view_of a)
-  fresh_one n a at = fresh log_seen data_seen about start B actors n a at
+module _ {L D R : Type 0} (log_seen : L → Seen) (data_seen : D → Seen) (stands : R → List Given → Type 0) (about :
+    About L D)
+    (followers : List (Following R)) (many : about.followers ≡ length followers) (start : Beginning L D R)
+    (B : BeginsRun log_seen data_seen stands about.opened.value about.script.value about.log_only followers start) where
+  abbrev pub actors : List model.Actor
+  actors = views_of start.actors.items
 
-  abbrev there_one : (i : ℕ) (x : Numbered) → get_elem? (first_view about).seats i ≡ maybe.some x → get_elem? start.actors.items x.number ≡ maybe.some x.actor
-  there_one i x e = there log_seen data_seen about start B actors i x e
+  -- they are those that the table's run begins with
+  pub are : ◌≡◌ {A = List model.Actor} actors (starts_about about)
+  are = B.stands.are_new
+      ∙ ap (λ (b : Bool). start_actors about.opened.value.shape about.script.value about.opened.value.start b (length
+      followers)) B.is_run.log_only_is
+      ∙ ap (start_actors about.opened.value.shape about.script.value about.opened.value.start about.log_only) (sym many)
 
-  knows_first : Knows about start.parts start.actors.items (λ _. 0) 0 false 0 (first_view about)
+  begun : (n : ℕ) (a : model.Actor) → get_elem? actors n ≡ maybe.some a → StartActor B.run.setup B.at_start.seat_of
+      B.at_start.writer n a
+  begun n a at = B.at_start.starts.each n a at
+
+  pub fresh : (n : ℕ) (a : model.Actor) → get_elem? actors n ≡ maybe.some a → HoldsNothing a
+  fresh n a at = start_empty B.run.setup B.at_start.seat_of B.at_start.writer n a (begun n a at)
+
+  pub there : (i : ℕ) (x : Numbered) → get_elem? (first_view about).seats i ≡ maybe.some x
+      → (get_elem? actors x.number ≡ maybe.some x.actor) × (◌≡◌ {A = List Given} [] x.heard)
+  there i x e =
+      let n = numbered_at none_heard 0 (starts_about about) i x e in (
+        ap (get_elem? actors) (let k = n.0 in let z : x.number ≡ i = omega arith in z) ∙ ap (λ (l : List model.Actor).
+            get_elem? l i) are ∙ n.1,
+        n.2,
+      )
+
+module _ {L D R : Type 0} (log_seen : L → Seen) (log_gives : L → Call → L → Type 0) (data_seen : D → Seen) (data_gives
+    : D → Call → D → Type 0)
+    (stands : R → List Given → Type 0) (about : About L D) (followers : List (Following R)) (many : about.followers ≡
+    length followers)
+    (start : Beginning L D R) (B : BeginsRun log_seen data_seen stands about.opened.value about.script.value
+    about.log_only followers start)
+    (lists_are : AreLists start.parts.lists) (block : List ℕ) where
+  abbrev all : List model.Actor
+  all = views_of start.actors.items
+
+  abbrev fresh_one : (n : ℕ) (a : model.Actor) → get_elem? all n ≡ maybe.some a → HoldsNothing a
+  fresh_one = fresh log_seen data_seen stands about followers many start B
+
+  abbrev there_one : (i : ℕ) (x : Numbered) → get_elem? (first_view about).seats i ≡ maybe.some x
+      → (get_elem? all x.number ≡ maybe.some x.actor) × (◌≡◌ {A = List Given} [] x.heard)
+  there_one = there log_seen data_seen stands about followers many start B
+
+  abbrev Known : ℕ → View L D → Type 0
+  Known j v = Knows about start.parts block all none_heard (λ _. 0) 0 false j v
+
+  knows_first : Known 0 (first_view about)
   knows_first = record {
     told = λ i x e. refl;
-    pages = λ i x e. ap (λ (z : Shape). z.pages) (sym B.is_run.shape) ∙ B.runs.its_pages ∙ sym B.runs.word_pages;
-    mine = λ i x e. (refl, there_one i x e);
-    free = λ i x e _. fresh_one x.number x.actor (there_one i x e);
-    held = λ i x k e h. let z = (fresh_one x.number x.actor (there_one i x e)).no_slot in absurd (cc);
+    pages = λ i x e. ap (λ (z : Shape). z.pages) (sym B.is_run.shape) ∙ B.from.runs.its_pages ∙ sym
+        B.from.runs.word_pages;
+    mine = λ i x e. (refl, (there_one i x e).0, (there_one i x e).1);
+    free = λ i x e _. fresh_one x.number x.actor (there_one i x e).0;
+    held = λ i x k e h. let z = (fresh_one x.number x.actor (there_one i x e).0).no_slot in absurd (cc);
     data_part = λ d e. (refl, sym (ap (λ (o : Option (Keeping D)). part_or about.opened.value.store o) e) ∙ sym B.data_part, ap (λ (o : Option (Keeping D)). is_out o) e);
   }
 
-  one_view : (j : ℕ) (u : View L D) → get_elem? (first_view about ∷ []) j ≡ maybe.some u
-      → Knows about start.parts start.actors.items (λ _. 0) 0 false j u
-  one_view zero u e = subst (λ (z : View L D). Knows about start.parts start.actors.items (λ _. 0) 0 false 0 z)
-      (maybe.some-injective (first_view about) u e) knows_first
+  one_view : (j : ℕ) (u : View L D) → get_elem? (first_view about ∷ []) j ≡ maybe.some u → Known j u
+  one_view zero u e = subst (Known 0) (maybe.some-injective (first_view about) u e) knows_first
   one_view (suc j) u e = absurd (maybe.some-ne-none u (sym e))
 
   -- no turn word is held
@@ -99,30 +170,45 @@ module _ {L D : Type 0} (log_seen : L → Seen) (log_gives : L → Call → L �
   free_word (suc i) l = ap (λ (ws : List ℕ). slice_index ws (7 + suc i)) B.at_start.words_are ∙ ap (slice_index (flat B.at_start.words)) (let q : 7 + suc i ≡ 8 + i = omega arith in q)
       ∙ flat_read B.run.setup.pages B.at_start.words B.at_start.starts.words.sized (word.List i) (omega arith) ∙ B.at_start.starts.words.lists i
 
-  opens_one : Ruled log_seen log_gives data_seen data_gives about (opening start.parts.words.words (slots_of start.parts) (first_view about))
+  opens_one : Ruled log_seen log_gives data_seen data_gives about (opening start.parts.words.words (slots_of
+      start.parts block) (first_view about))
   opens_one = record {
     run = B.run;
-    is_about = record { is_run = B.is_run; begun = B.begun };
+    is_about = record {
+      is_run = subst (λ (n : ℕ). IsRunOfOpened about.opened.value about.script.value about.log_only n B.run) (sym
+          many) B.is_run;
+      begun = B.begun;
+    };
     parts = start.parts;
-    actors = start.actors.items;
+    block = block;
+    actors = all;
+    heard = none_heard;
     words_are = refl;
-    lists_are = are;
-    runs = B.runs;
-    count = ap length (sym actors);
+    lists_are = lists_are;
+    runs = B.from.runs;
+    hears = λ told n a at. sym (none_at_start B.run.setup B.at_start.seat_of B.at_start.writer n
+        B.from.runs.running.shared.sn B.from.runs.running.log_ghost.log a
+        B.from.runs.running.both.logged.global.tiled.tiles (B.at_start.starts.each n a at));
+    count = ap length (are log_seen data_seen stands about followers many start B);
+    follow = λ n a at. follows_at_start B.run.setup B.at_start.seat_of B.at_start.writer n a (let z =
+        B.is_run.first_reader in omega arith) (B.at_start.starts.each n a at);
     log_calls = subst (λ (z : log.Part L). CallsOn log_gives about.opened.value.log.dev about.opened.value.log.failed z.dev z.failed) (sym B.log) (not_called log_gives about.opened.value.log.dev about.opened.value.log.failed);
     data_calls = subst (λ (z : store.Part D). CallsOn data_gives about.opened.value.store.dev about.opened.value.store.failed z.dev z.failed) (sym B.data_part) (not_called data_gives about.opened.value.store.dev about.opened.value.store.failed);
     log_shape = ap (λ (z : log.Part L). z.shape) B.log;
     slots = refl;
-    home = λ k l z. at_home start.parts k l;
+    home = λ k l z. at_home start.parts block k l;
     seat_of = λ _. 0;
     keeper = 0;
     out = false;
     data_home = λ z. refl;
-    told = λ n a code at g. let held = (holding log_seen data_seen B.run start.parts start.actors.items B.runs n (view_of a) (at_map view_of start.actors.items n a at) 0 (gives_hand (view_of a) code g)).word_is in let free = free_word 0 (omega arith) in absurd (omega arith);
+    told = λ n a code at g. let held = (holding log_seen data_seen B.run start.parts all B.from.runs n a at 0
+        (gives_hand a code g)).word_is in let free = free_word 0 (omega arith) in absurd (omega arith);
     taken = λ k l busy. absurd (busy (free_word k l));
     knows = one_view;
   }
 
-  pub opens_ok : (ws : List ℕ) (xs : List (Slot L D)) → ws ≡ start.parts.words.words → ◌≡◌ {A = List (Slot L D)} xs (slots_of start.parts) → Ruled log_seen log_gives data_seen data_gives about (opening ws xs (first_view about))
+  pub opens_ok : (ws : List ℕ) (xs : List (Slot L D)) → ws ≡ start.parts.words.words → ◌≡◌ {A = List (Slot L D)} xs
+      (slots_of start.parts block) → Ruled log_seen log_gives data_seen data_gives about (opening ws xs (first_view
+      about))
   opens_ok ws xs words slots_are = subst (λ (z : List ℕ). Ruled log_seen log_gives data_seen data_gives about (opening z xs (first_view about))) (sym words)
       (subst (λ (z : List (Slot L D)). Ruled log_seen log_gives data_seen data_gives about (opening start.parts.words.words z (first_view about))) (sym slots_are) opens_one)

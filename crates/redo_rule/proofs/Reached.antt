@@ -3,7 +3,7 @@ use Rattle.std.proofs.Common.{List, ap, arith, inl, inr, subst, sym, ℕ, ⊎_el
 use Rattle.std.specs.Prelude.{slice_index}
 use lib.ListN.{get_elem?}
 use mathlib.Core.Option as maybe
-use Rattle.model_core.specs.{index, SharedWords}
+use Rattle.model_core.specs.{Given, index, SharedWords}
 use Rattle.model_core.specs.Actors as model
 use Rattle.model_core.specs.declared.words.Word.TheVariants as word
 use Rattle.model_running.proofs.Finished.{marks_same}
@@ -21,14 +21,13 @@ use Rattle.redo_drive.specs.Leaving.{LeavesRun}
 use Rattle.redo_drive.specs.Playing.{RunOf, run_data_side, run_log_side}
 use Rattle.redo_drive.specs.Running.{RunsOn}
 use Rattle.redo_drive.specs.Turning.{core_of}
-use Rattle.redo_drive.specs.Views.{view_of, views_of}
+use Rattle.redo_drive.specs.Views.{views_of}
 use Rattle.redo_drive.specs.declared.actor.Actor.{Actor}
 use Rattle.redo_drive.specs.declared.device.Device.TheVariants.{Data, Log}
 use Rattle.redo_drive.specs.declared.parts.Parts.{Parts}
 use Rattle.redo_drive.specs.declared.closed.Closed.{Closed}
 use Rattle.redo_store.specs.declared.opened.Opened.{Opened}
 use Rattle.redo_rule.proofs.Kept.{laws_of_data, laws_of_log}
-use Rattle.redo_rule.proofs.Retook.{at_map}
 use Rattle.redo_rule.proofs.Failing.{caused}
 use Rattle.redo_rule.specs.Failing.{CodeHasCause}
 use Rattle.redo_rule.specs.Reached.{ReachesAll}
@@ -36,20 +35,23 @@ use Rattle.redo_store.specs.Part as store
 use Rattle.model_script.specs.declared.script.ScriptLine.{ScriptLine}
 use Rattle.std.specs.Prelude.{Bool}
 
-module _ {L D : Type 0} (log_seen : L → Seen) (data_seen : D → Seen) (run : RunOf L D) (parts : Parts L D) (actors : List Actor) (runs : RunsOn log_seen data_seen run parts actors) where
+module _ {L D : Type 0} (log_seen : L → Seen) (data_seen : D → Seen) (run : RunOf L D) (parts : Parts L D) (actors :
+    List model.Actor) (runs : RunsOn log_seen data_seen run parts actors) where
   has_marks : HasWatermarks (run_log_side log_seen data_seen run) (run_data_side log_seen data_seen run) run.setup (core_of log_seen data_seen run parts actors)
   has_marks = has_watermarks (run_log_side log_seen data_seen run) (laws_of_log log_seen data_seen run) (run_data_side log_seen data_seen run) (laws_of_data log_seen data_seen run) run.setup 0 (core_of log_seen data_seen run parts actors) runs.running
 
   abbrev m : SharedWords
   m = has_marks.0
 
-  pub within : (i : ℕ) (a : model.Actor) → get_elem? (views_of actors) i ≡ maybe.some a → HasMarksWithin (marks_in parts.words.words) a
+  pub within : (i : ℕ) (a : model.Actor) → get_elem? actors i ≡ maybe.some a → HasMarksWithin (marks_in
+      parts.words.words) a
   within i a at = subst (λ (k : Marks). HasMarksWithin k a) (sym (marks_same parts.words.words m has_marks.1)) (within_words (run_log_side log_seen data_seen run) (run_data_side log_seen data_seen run) run.setup (core_of log_seen data_seen run parts actors) has_marks i a at)
 
   its_code : slice_index parts.words.words (index word.Failed) ≡ m.failed
   its_code = ap (λ (ws : List ℕ). slice_index ws (index word.Failed)) has_marks.1
 
-  pub code_shows : (i : ℕ) (a : model.Actor) → get_elem? (views_of actors) i ≡ maybe.some a → HasMetFailure a → 0 < slice_index parts.words.words (index word.Failed)
+  pub code_shows : (i : ℕ) (a : model.Actor) → get_elem? actors i ≡ maybe.some a → HasMetFailure a → 0 < slice_index
+      parts.words.words (index word.Failed)
   code_shows i a at met = let less = has_marks.2.of_log.failures_show i a at met in let is = its_code in omega arith
 
   pub has_cause : (code : ℕ) → code ≡ slice_index parts.words.words (index word.Failed) → 0 < code → HasFailedBy log_seen Log (log_seen run.first_log.dev).faults parts.log.dev parts.log.failed code ⊎ HasFailedBy data_seen Data (data_seen run.first_data.dev).faults parts.store.dev parts.store.failed code
@@ -58,18 +60,23 @@ module _ {L D : Type 0} (log_seen : L → Seen) (data_seen : D → Seen) (run : 
       subst (λ (n : ℕ). HasFailedBy log_seen Log (log_seen run.first_log.dev).faults parts.log.dev parts.log.failed n ⊎ HasFailedBy data_seen Data (data_seen run.first_data.dev).faults parts.store.dev parts.store.failed n) (sym same)
       (has_marks.2.failure_has_cause.cause (subst (λ (n : ℕ). 0 < n) same some))
 
-module _ {L D : Type 0} (log_seen : L → Seen) (log_gives : L → Call → L → Type 0) (data_seen : D → Seen) (data_gives : D → Call → D → Type 0) (opened : Opened L D) (script : List ScriptLine) (log_only : Bool) (actors : List Actor) (closed : Closed L D) (by : LeavesRun log_seen log_gives data_seen data_gives opened script log_only actors closed) where
-  pub reaches_all : ReachesAll actors closed
+module _ {L D R : Type 0} (log_seen : L → Seen) (log_gives : L → Call → L → Type 0) (data_seen : D → Seen) (data_gives
+    : D → Call → D → Type 0) (stands : R → List Given → Type 0) (opened : Opened L D) (script : List ScriptLine)
+    (log_only : Bool) (followers : ℕ) (starts actors : List (Actor R)) (closed : Closed L D) (by : LeavesRun log_seen
+    log_gives data_seen data_gives stands opened script log_only followers starts actors closed) where
+  pub reaches_all : ReachesAll (views_of actors) closed
   reaches_all = record {
-    marks = λ i a at. subst (λ (k : Marks). HasMarksWithin k (view_of a)) (sym by.marks) (within log_seen data_seen by.run by.last actors by.runs i (view_of a) (at_map view_of actors i a at));
-    code = λ i a at met. let shows = code_shows log_seen data_seen by.run by.last actors by.runs i (view_of a) (at_map view_of actors i a at) met in let is = by.code in omega arith;
+    marks = λ i a at. subst (λ (k : Marks). HasMarksWithin k a) (sym by.marks) (within log_seen data_seen by.run
+        by.last (views_of actors) by.from.runs i a at);
+    code = λ i a at met. let shows = code_shows log_seen data_seen by.run by.last (views_of actors) by.from.runs i a
+        at met in let is = by.code in omega arith;
   }
 
   cause : 0 < closed.code → HasFailedBy log_seen Log (log_seen opened.log.dev).faults closed.log.dev closed.log.failed closed.code ⊎ HasFailedBy data_seen Data (data_seen opened.store.dev).faults closed.store.dev closed.store.failed closed.code
   cause some = ⊎_elim
       (λ h. inl (subst (λ (p : log.Part L). HasFailedBy log_seen Log (log_seen opened.log.dev).faults p.dev p.failed closed.code) (sym by.log) (subst (λ (p : log.Part L). HasFailedBy log_seen Log (log_seen p.dev).faults by.last.log.dev by.last.log.failed closed.code) by.is_run.first_log h)))
       (λ h. inr (subst (λ (d : store.Part D). HasFailedBy data_seen Data (data_seen opened.store.dev).faults d.dev d.failed closed.code) (sym by.data_part) (subst (λ (d : store.Part D). HasFailedBy data_seen Data (data_seen d.dev).faults by.last.store.dev by.last.store.failed closed.code) by.is_run.first_data h)))
-      (has_cause log_seen data_seen by.run by.last actors by.runs closed.code by.code some)
+      (has_cause log_seen data_seen by.run by.last (views_of actors) by.from.runs closed.code by.code some)
 
   pub code_has_cause : CodeHasCause log_seen data_seen closed.code opened.log closed.log opened.store closed.store
   code_has_cause = caused log_seen data_seen closed.code opened.log closed.log opened.store closed.store cause

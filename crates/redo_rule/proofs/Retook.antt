@@ -1,8 +1,7 @@
--- An actor's state after an answer, as the definition has it, and lists of seats.
+-- Lists of seats.
 use Rattle.std.proofs.Common.{List, [], ap, get_or, map, suc, sym, zero, ℕ, ◌∙◌, ◌∷◌, ◌≡◌}
 use lib.ListN.{get_elem?}
 use mathlib.Core.Option as maybe
-pub use Rattle.redo_drive.proofs.Viewed.{view_retook}
 
 -- two heads of one list
 pub one_head : {A : Type 0} (l : List A) (x y : A) → l ≡ x ∷ [] → l ≡ y ∷ [] → ◌≡◌ {A = A} x y

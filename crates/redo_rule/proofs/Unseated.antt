@@ -5,7 +5,7 @@ use lib.ListN.{get_elem?}
 use mathlib.Core.Option as maybe
 use Rattle.atomic_table.specs.Table.{Me}
 use Rattle.model_base.specs.declared.shape.Shape.{Shape}
-use Rattle.model_core.specs.{CleanerState, word_count}
+use Rattle.model_core.specs.{CleanerState, Given, word_count}
 use Rattle.model_core.specs.Actors as model
 use Rattle.model_core.specs.Setup.{Setup}
 use Rattle.model_logcore.specs.{StartActor}
@@ -15,14 +15,13 @@ use Rattle.model_script.specs.declared.script.ScriptLine.{ScriptLine}
 use Rattle.redo_disk.specs.Seen.{Seen}
 use Rattle.redo_drive.specs.Startable.{MayBegin}
 use Rattle.redo_drive.specs.Begins.{BeginsRun}
-use Rattle.redo_drive.specs.Views.{view_of, views_of}
-use Rattle.redo_drive.specs.declared.actor.Actor.{Actor}
+use Rattle.redo_drive.specs.Views.{views_of}
 use Rattle.redo_drive.specs.declared.making.Beginning.{Beginning}
 use Rattle.redo_store.specs.declared.opened.Opened.{Opened}
 use Rattle.redo_rule.proofs.Opens as opens
-use Rattle.redo_rule.proofs.Retook.{at_map}
 use Rattle.redo_rule.specs.Cutting.{IsFirst}
-use Rattle.redo_rule.specs.Ruled.{first_view, numbered}
+use Rattle.redo_follow.specs.Handing.{Following}
+use Rattle.redo_rule.specs.Ruled.{first_view, none_heard, numbered, starts_about}
 use Rattle.redo_rule.specs.Seating.{IsCleaner}
 use Rattle.redo_rule.specs.Sharing.{IsUnseated}
 use Rattle.redo_rule.specs.declared.law.About.{About}
@@ -40,25 +39,35 @@ its_state : (a : model.Actor) → IsCleaner a → (v : CleanerState) × (a ≡ m
 its_state (model.Cleaner v) is = (v, refl)
 its_state _ is = absurd is
 
-none_there : (c : Setup) (actors : List Actor) → AreSeated c (views_of actors) → c.log_only ≡ true → (i : ℕ) (a : Actor) → get_elem? actors i ≡ maybe.some a → IsCleaner (view_of a) → ⊥
+none_there : (c : Setup) (actors : List model.Actor) → AreSeated c actors → c.log_only ≡ true → (i : ℕ) (a :
+    model.Actor) → get_elem? actors i ≡ maybe.some a → IsCleaner a → ⊥
 none_there c actors S alone i a at is =
-    let v = its_state (view_of a) is in
-    no_cleaner c (views_of actors) S alone i v.0 (at_map view_of actors i a at ∙ ap (λ (z : model.Actor). maybe.some z) v.1)
+    let v = its_state a is in
+    no_cleaner c actors S alone i v.0 (at ∙ ap (λ (z : model.Actor). maybe.some z) v.1)
 
-module _ {L D : Type 0} (log_seen : L → Seen) (data_seen : D → Seen) (about : About L D) (start : Beginning L D)
-    (B : BeginsRun log_seen data_seen about.opened.value about.script.value about.log_only start) (actors : ◌≡◌ {A = List Actor} about.actors.value.items start.actors.items)
+module _ {L D R : Type 0} (log_seen : L → Seen) (data_seen : D → Seen) (stands : R → List Given → Type 0) (about :
+    About L D)
+    (followers : List (Following R)) (many : about.followers ≡ length followers) (start : Beginning L D R)
+    (B : BeginsRun log_seen data_seen stands about.opened.value about.script.value about.log_only followers start)
     (may : MayBegin about.opened.value about.script.value about.log_only) where
+  abbrev actors : List model.Actor
+  actors = views_of start.actors.items
+
+  are : ◌≡◌ {A = List model.Actor} actors (starts_about about)
+  are = opens.are log_seen data_seen stands about followers many start B
+
   pages_are : about.opened.value.shape.pages ≡ start.parts.words.pages
-  pages_are = ap (λ (z : Shape). z.pages) (sym B.is_run.shape) ∙ B.runs.its_pages ∙ sym B.runs.word_pages
+  pages_are = ap (λ (z : Shape). z.pages) (sym B.is_run.shape) ∙ B.from.runs.its_pages ∙ sym B.from.runs.word_pages
 
   module _ (shared : Shared L D) (key : shared.board.shared.key ≡ about) (of : shared.first.table_id ≡ shared.board.shared.table_id) (slots : shared.board.shared.table_id.slots ≡ 6)
       (words : shared.board.shared.table_id.words ≡ word_count start.parts.words.pages) (me : shared.first.me ≡ (first_view about, [])) (no_entries : shared.entries.items ≡ []) (room : length about.script.value ≤ vec_capacity shared.entries)
-      (has_room : IsSome shared.room) (fits : IfSome shared.room (λ v. (v.items ≡ []) × (length start.actors.items ≤ vec_capacity v))) where
+      (has_room : IsSome shared.room) (fits : IfSome shared.room (λ v. (v.items ≡ []) × (length actors ≤ vec_capacity
+      v))) where
     view : shared.first.me.0 ≡ first_view about
     view = ap (λ (m : Me (Slot L D) (View L D)). m.0) me
 
-    known : shared.first.me.0.seats ≡ numbered 0 start.actors.items
-    known = ap (λ (v : View L D). v.seats) view ∙ ap (numbered 0) actors
+    known : shared.first.me.0.seats ≡ numbered none_heard 0 actors
+    known = ap (λ (v : View L D). v.seats) view ∙ ap (numbered none_heard 0) (sym are)
 
     first_is : IsFirst shared.board.shared.table_id shared.first
     first_is = record {
@@ -67,23 +76,27 @@ module _ {L D : Type 0} (log_seen : L → Seen) (data_seen : D → Seen) (about 
       words = words ∙ ap word_count (sym pages_are ∙ sym (ap (λ (v : View L D). v.pages) view));
       none = ap (λ (m : Me (Slot L D) (View L D)). m.1) me;
       empty = ap (λ (v : View L D). v.held) view;
-      rest = λ i y e. opens.fresh log_seen data_seen about start B actors y.number y.actor (opens.there log_seen data_seen about start B actors i y (ap (λ (v : View L D). get_elem? v.seats i) (sym view) ∙ e));
+      rest = λ i y e. opens.fresh log_seen data_seen stands about followers many start B y.number y.actor (opens.there
+          log_seen data_seen stands about followers many start B i y (ap (λ (v : View L D). get_elem? v.seats i) (sym
+          view) ∙ e)).0;
       home = λ d has. sym (ap (λ (o : Option (Keeping D)). opens.is_out o) (sym (ap (λ (v : View L D). v.data_part) view) ∙ has));
     }
 
-    starts : (i : ℕ) (a : Actor) → get_elem? start.actors.items i ≡ maybe.some a → IsCleaner (view_of a) → i ≡ B.run.setup.cleaner
-    starts i a at is = cleaner_place B.run.setup B.at_start.seat_of B.at_start.writer i (view_of a) (B.at_start.starts.each i (view_of a) (at_map view_of start.actors.items i a at)) is
+    starts : (i : ℕ) (a : model.Actor) → get_elem? actors i ≡ maybe.some a → IsCleaner a → i ≡ B.run.setup.cleaner
+    starts i a at is = cleaner_place B.run.setup B.at_start.seat_of B.at_start.writer i a (B.at_start.starts.each i a
+        at) is
 
-    pub unseated : IsUnseated shared start.actors.items
+    pub unseated : IsUnseated shared actors
     unseated = record {
       ready = record {
         may = subst (λ (z : About L D). MayBegin z.opened.value z.script.value z.log_only) (sym key) may;
         no_entries = no_entries;
         room = subst (λ (z : About L D). length z.script.value ≤ vec_capacity shared.entries) (sym key) room;
       };
-      actors_are = ap (λ (z : About L D). z.actors.value.items) key ∙ actors;
+      actors_are = ap (λ (z : About L D). starts_about z) key ∙ sym are;
       one_cleaner = λ i j a b at bt is jt. starts i a at is ∙ sym (starts j b bt jt);
-      no_cleaner = λ alone i a at is. none_there B.run.setup start.actors.items B.runs.seated (B.is_run.log_only_is ∙ sym (ap (λ (z : About L D). z.log_only) key) ∙ alone) i a at is;
+      no_cleaner = λ alone i a at is. none_there B.run.setup actors B.from.runs.seated (B.is_run.log_only_is ∙ sym (ap
+          (λ (z : About L D). z.log_only) key) ∙ alone) i a at is;
       first = first_is;
       told = ap (λ (v : View L D). v.about) view ∙ ap Some (sym key);
       all = known;
@@ -93,10 +106,17 @@ module _ {L D : Type 0} (log_seen : L → Seen) (data_seen : D → Seen) (about 
     }
 
 -- what was told of the run at its start, as its table is told
-module _ {L D : Type 0} (log_seen : L → Seen) (data_seen : D → Seen) (about : About L D) (opened : Opened L D) (script : List ScriptLine) (log_only : Bool) (opened_is : about.opened.value ≡ opened) (script_is : about.script.value ≡ script) (only_is : about.log_only ≡ log_only) where
-  pub about_begins : (start : Beginning L D) → BeginsRun log_seen data_seen opened script log_only start → BeginsRun log_seen data_seen about.opened.value about.script.value about.log_only start
-  about_begins start B = subst (λ (o : Opened L D). BeginsRun log_seen data_seen o about.script.value about.log_only start) (sym opened_is)
-      (subst (λ (s : List ScriptLine). BeginsRun log_seen data_seen opened s about.log_only start) (sym script_is) (subst (λ (b : Bool). BeginsRun log_seen data_seen opened script b start) (sym only_is) B))
+module _ {L D R : Type 0} (log_seen : L → Seen) (data_seen : D → Seen) (stands : R → List Given → Type 0) (about :
+    About L D) (followers : List (Following R)) (opened : Opened L D) (script : List ScriptLine) (log_only : Bool)
+    (opened_is : about.opened.value ≡ opened) (script_is : about.script.value ≡ script) (only_is : about.log_only ≡
+    log_only) where
+  pub about_begins : (start : Beginning L D R) → BeginsRun log_seen data_seen stands opened script log_only followers
+      start → BeginsRun log_seen data_seen stands about.opened.value about.script.value about.log_only followers start
+  about_begins start B = subst (λ (o : Opened L D). BeginsRun log_seen data_seen stands o about.script.value
+      about.log_only followers start) (sym opened_is)
+      (subst (λ (s : List ScriptLine). BeginsRun log_seen data_seen stands opened s about.log_only followers start)
+      (sym script_is) (subst (λ (b : Bool). BeginsRun log_seen data_seen stands opened script b followers start)
+      (sym only_is) B))
 
   pub about_may : MayBegin opened script log_only → MayBegin about.opened.value about.script.value about.log_only
   about_may M = subst (λ (o : Opened L D). MayBegin o about.script.value about.log_only) (sym opened_is)

@@ -4,7 +4,8 @@ use lib.ListN.{get_elem?}
 use mathlib.Core.Option.{some}
 use Rattle.atomic_table.specs.Seated.{TableId}
 use Rattle.atomic_table.specs.declared.shared.Seat.{Seat}
-use Rattle.model_core.specs.{index}
+use Rattle.model_core.specs.{Given, index}
+use Rattle.model_core.specs.Actors as model
 use Rattle.model_core.specs.declared.words.Word.TheVariants as word
 use Rattle.model_running.specs.{HaveEnded, marks_in}
 use Rattle.model_script.specs.declared.script.ScriptLine.{ScriptLine}
@@ -12,17 +13,15 @@ use Rattle.redo_disk.specs.{Call}
 use Rattle.redo_disk.specs.Seen.{Seen}
 use Rattle.redo_drive.specs.Calls.{CallsOn}
 use Rattle.redo_drive.specs.Drive.{ComesToRun, HoldsRun, IsOwedSynced}
-use Rattle.redo_drive.specs.Playing.{RunOf}
+use Rattle.redo_drive.specs.Playing.{RunOf, run_log_side}
 use Rattle.redo_drive.specs.Running.{RunsOn}
-use Rattle.redo_drive.specs.Views.{view_of, views_of}
-use Rattle.redo_drive.specs.declared.actor.Actor.{Actor}
 use Rattle.redo_drive.specs.declared.drive.Driven.{Driven}
 use Rattle.redo_drive.specs.declared.parts.Parts.{Parts}
 use Rattle.redo_drive.specs.declared.drive.RunEnd.TheVariants as ended
 use Rattle.redo_drive.specs.declared.closed.Closed.{Closed}
 use Rattle.redo_store.specs.declared.opened.Opened.{Opened}
 use Rattle.redo_rule.specs.Cutting.{HoldNothing, IsFirst}
-use Rattle.redo_rule.specs.Ruled.{IsRunAbout, numbered}
+use Rattle.redo_rule.specs.Ruled.{HaveGroups, IsRunAbout, numbered, starts_about}
 use Rattle.redo_rule.specs.Seating.{HasPart, IsCleaner}
 use Rattle.redo_rule.specs.declared.closing.Left.{Left}
 use Rattle.redo_rule.specs.declared.law.About.{About}
@@ -31,12 +30,12 @@ use Rattle.redo_rule.specs.declared.law.View.{View}
 
 module _ {L D : Type 0} where
   -- the first seat knows all actors, of which none holds anything, and keeps the data part
-  pub record MayClose (about : About L D) (table : TableId) (actors : List Actor) (first : Seat (Slot L D) (View L D)) : Type 0 where
+  pub record MayClose (about : About L D) (table : TableId) (heard : ℕ → List Given) (actors : List model.Actor) (first : Seat (Slot L D) (View L D)) : Type 0 where
     pub is_first : IsFirst table first
-    pub all : first.me.0.seats ≡ numbered 0 actors
-    pub count : length actors ≡ length about.actors.value.items
+    pub all : first.me.0.seats ≡ numbered heard 0 actors
+    pub count : length actors ≡ length (starts_about about)
     pub rest : HoldNothing actors
-    pub cleaner : (i : ℕ) (a : Actor) → get_elem? actors i ≡ some a → IsCleaner (view_of a) → HasPart first.me.0
+    pub cleaner : (i : ℕ) (a : model.Actor) → get_elem? actors i ≡ some a → IsCleaner a → HasPart first.me.0
     pub alone : about.log_only ≡ true → HasPart first.me.0
 
   -- where all users have ended it is a drive that came to its end
@@ -44,12 +43,13 @@ module _ {L D : Type 0} where
   done_with closed = record { ended = ended.Done; closed = closed }
 
 module _ {L D : Type 0} (log_seen : L → Seen) (log_gives : L → Call → L → Type 0) (data_seen : D → Seen) (data_gives : D → Call → D → Type 0) where
-  -- The run of the script on the opened store came to these actors, and this is what its parts tell.
-  pub record LeavesParts (about : About L D) (actors : List Actor) (left : Left L D) : Type 0 where
+  -- The run of the script on the opened store came to these actors, who have handed on this, and this is what its parts tell.
+  pub record LeavesParts (about : About L D) (heard : ℕ → List Given) (actors : List model.Actor) (left : Left L D) : Type 0 where
     pub run : RunOf L D
     pub is_about : IsRunAbout log_seen data_seen about run
     pub last : Parts L D
     pub runs : RunsOn log_seen data_seen run last actors
+    pub hears : HaveGroups (run_log_side log_seen data_seen run) last.log heard actors runs.running.log_ghost.log
     pub log_calls : CallsOn log_gives about.opened.value.log.dev about.opened.value.log.failed last.log.dev last.log.failed
     pub data_calls : CallsOn data_gives about.opened.value.store.dev about.opened.value.store.failed last.store.dev last.store.failed
     pub log_shape : last.log.shape ≡ about.opened.value.log.shape
@@ -59,7 +59,7 @@ module _ {L D : Type 0} (log_seen : L → Seen) (log_gives : L → Call → L �
     pub code : left.code ≡ slice_index last.words.words (index word.Failed)
 
   -- WHAT EVERY DRIVE OWES: both devices hold the run; and where all users have ended, it is a closed one.
-  pub record IsOwedRun (opened : Opened L D) (script : List ScriptLine) (actors : List Actor) (closed : Closed L D) : Type 0 where
+  pub record IsOwedRun (opened : Opened L D) (script : List ScriptLine) (actors : List model.Actor) (closed : Closed L D) : Type 0 where
     pub holds : HoldsRun log_seen data_seen opened script (done_with closed)
-    pub comes_to : HaveEnded (views_of actors) → ComesToRun log_gives data_gives opened script (done_with closed)
-    pub owed_synced : HaveEnded (views_of actors) → IsOwedSynced log_seen data_seen opened script (done_with closed)
+    pub comes_to : HaveEnded actors → ComesToRun log_gives data_gives opened script (done_with closed)
+    pub owed_synced : HaveEnded actors → IsOwedSynced log_seen data_seen opened script (done_with closed)

@@ -4,9 +4,8 @@ use lib.ListN.{get_elem?}
 use mathlib.Core.Option.{some}
 use Rattle.atomic_table.specs.Seated.{TableId}
 use Rattle.atomic_table.specs.declared.shared.Seat.{Seat}
+use Rattle.model_core.specs.Actors as model
 use Rattle.model_core.specs.{word_count}
-use Rattle.redo_drive.specs.Views.{view_of}
-use Rattle.redo_drive.specs.declared.actor.Actor.{Actor}
 use Rattle.model_core.specs.Hands.{HoldsNothing, IsFreeToCheck}
 use Rattle.redo_rule.specs.declared.law.Keeping.{Keeping}
 use Rattle.redo_rule.specs.declared.law.Numbered.{Numbered}
@@ -19,14 +18,14 @@ IsApart n l = (i : ℕ) (y : Numbered) → get_elem? l i ≡ some y → y.number
 
 -- nothing is held by any of these
 abbrev pub AreAtRest : List Numbered → Type 0
-AreAtRest l = (i : ℕ) (y : Numbered) → get_elem? l i ≡ some y → HoldsNothing (view_of y.actor)
+AreAtRest l = (i : ℕ) (y : Numbered) → get_elem? l i ≡ some y → HoldsNothing y.actor
 
-abbrev pub HoldNothing : List Actor → Type 0
-HoldNothing actors = (i : ℕ) (a : Actor) → get_elem? actors i ≡ some a → HoldsNothing (view_of a)
+abbrev pub HoldNothing : List model.Actor → Type 0
+HoldNothing actors = (i : ℕ) (a : model.Actor) → get_elem? actors i ≡ some a → HoldsNothing a
 
 -- each of these is free wherever it checks for a failure
-abbrev pub AreFreeToCheck : List Actor → Type 0
-AreFreeToCheck actors = (i : ℕ) (a : Actor) → get_elem? actors i ≡ some a → IsFreeToCheck (view_of a)
+abbrev pub AreFreeToCheck : List model.Actor → Type 0
+AreFreeToCheck actors = (i : ℕ) (a : model.Actor) → get_elem? actors i ≡ some a → IsFreeToCheck a
 
 module _ {L D : Type 0} where
   -- the data part, if the seat keeps it, lies in its slot

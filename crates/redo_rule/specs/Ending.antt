@@ -2,15 +2,16 @@
 use Rattle.std.specs.Prelude.{List, suc, ℕ, ◌<◌, ◌≡◌}
 use lib.ListN.{get_elem?}
 use mathlib.Core.Option.{some}
+use Rattle.model_core.specs.{Given}
+use Rattle.model_core.specs.Actors as model
 use Rattle.redo_disk.specs.{Call}
 use Rattle.redo_disk.specs.Seen.{Seen}
 use Rattle.redo_drive.specs.Calls.{CallsOn}
 use Rattle.redo_drive.specs.Lists.{listing_at}
-use Rattle.redo_drive.specs.Playing.{RunOf}
+use Rattle.redo_drive.specs.Playing.{RunOf, run_log_side}
 use Rattle.redo_drive.specs.Running.{RunsOn}
-use Rattle.redo_drive.specs.declared.actor.Actor.{Actor}
 use Rattle.redo_drive.specs.declared.parts.Parts.{Parts}
-use Rattle.redo_rule.specs.Ruled.{IsRunAbout}
+use Rattle.redo_rule.specs.Ruled.{HaveGroups, IsRunAbout}
 use Rattle.redo_rule.specs.declared.law.About.{About}
 use Rattle.redo_rule.specs.declared.law.Slot.{Slot}
 use Rattle.redo_rule.specs.declared.law.Slot.TheVariants as slot
@@ -18,13 +19,15 @@ use Rattle.redo_rule.specs.declared.law.Slot.TheVariants as slot
 -- The run of the script on the opened store has come to these parts and actors, of which the words and the log part are what
 -- the table had: ALL THAT `Machine::finish` IS GIVEN.
 pub record RunReaches {L D : Type 0} (log_seen : L → Seen) (log_gives : L → Call → L → Type 0) (data_seen : D → Seen) (data_gives : D → Call → D → Type 0)
-    (about : About L D) (actors : List Actor) (words : List ℕ) (slots : List (Slot L D)) : Type 0 where
+    (about : About L D) (heard : ℕ → List Given) (actors : List model.Actor) (words : List ℕ) (slots : List (Slot L D)) : Type 0 where
   pub run : RunOf L D
   pub is_about : IsRunAbout log_seen data_seen about run
   pub parts : Parts L D
   pub runs : RunsOn log_seen data_seen run parts actors
+  pub hears : HaveGroups (run_log_side log_seen data_seen run) parts.log heard actors runs.running.log_ghost.log
   pub words_are : parts.words.words ≡ words
-  pub log : get_elem? slots 0 ≡ some (slot.Log parts.log)
+  pub block : List ℕ
+  pub log : get_elem? slots 0 ≡ some (slot.Log (record { part = parts.log; block = block }))
   pub lists : (i : ℕ) → i < 4 → get_elem? slots (suc i) ≡ some (slot.Pages (listing_at parts.lists.lists i))
   pub data_part : get_elem? slots 5 ≡ some (slot.Data parts.store)
   pub log_calls : CallsOn log_gives about.opened.value.log.dev about.opened.value.log.failed parts.log.dev parts.log.failed

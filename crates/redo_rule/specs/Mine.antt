@@ -1,16 +1,17 @@
 -- A seat of this table, whose view is the actor's state.
-use Rattle.std.specs.Prelude.{List, Option, [], ℕ, ◌∷◌, ◌≡◌, ◌⊎◌}
+use Rattle.std.specs.Prelude.{List, Option, [], ℕ, ◌++◌, ◌∷◌, ◌≡◌, ◌⊎◌}
 use Rattle.atomic_table.specs.Seated.{TableId}
 use Rattle.atomic_table.specs.declared.shared.Seat.{Seat}
 use Rattle.model_core.specs.Actors as model
-use Rattle.model_core.specs.{filled, next, step_of, took, word_count}
+use Rattle.model_core.specs.{filled, Given, next, step_of, took, word_count}
 use Rattle.model_core.specs.declared.ops.Answer.{Answer}
 use Rattle.model_core.specs.declared.ops.Answer.TheVariants as answer
 use Rattle.model_core.specs.declared.ops.Op.TheVariants as op
 use Rattle.model_core.specs.declared.ops.Step.{Step}
 use Rattle.redo_disk.specs.Seen.{Seen}
-use Rattle.redo_drive.specs.Views.{view_of}
 use Rattle.model_core.specs.Hands.{hand}
+use Rattle.redo_drive.specs.Receiving.{follower_of, HasGot, IsSameFollower}
+use Rattle.redo_drive.specs.declared.actor.Actor.{Actor}
 use Rattle.redo_rule.specs.Plays.{Carries, MayGo, Shown}
 use Rattle.redo_rule.specs.declared.law.About.{About}
 use Rattle.redo_rule.specs.declared.law.Numbered.{Numbered}
@@ -25,10 +26,27 @@ number_in (x ∷ xs) = x.number
 abbrev pub number_of : {L D : Type 0} → View L D → ℕ
 number_of v = number_in v.seats
 
--- a seat keeps its number, and what it knows of its table and of the data part
-pub record KeepsSeat {L D : Type 0} (v w : View L D) : Type 0 where
+-- all that a seat's actor has handed on
+abbrev pub heard_in : List Numbered → List Given
+heard_in [] = []
+heard_in (x ∷ xs) = x.heard
+
+abbrev pub heard_of : {L D : Type 0} → View L D → List Given
+heard_of v = heard_in v.seats
+
+-- THE SEAT OF AN ACTOR, LATER. It keeps its number and what it knows of its table; and what it has heard since, the
+-- actor's receiver got.
+pub record IsSameSeat {L D R : Type 0} (stands : R → List Given → Type 0) (v : View L D) (a : Actor R) (w : View L D) (b : Actor R) : Type 0 where
   pub about : w.about ≡ v.about
   pub number : number_of w ≡ number_of v
+  pub same : IsSameFollower (follower_of a) (follower_of b)
+  pub since : List Given
+  pub heard : heard_of w ≡ heard_of v ++ since
+  pub got : HasGot stands (follower_of a) since (follower_of b)
+
+-- and what it knows of the data part
+pub record KeepsSeat {L D R : Type 0} (stands : R → List Given → Type 0) (v : View L D) (a : Actor R) (w : View L D) (b : Actor R) : Type 0 where
+  pub seat : IsSameSeat stands v a w b
   pub data_part : w.data_part ≡ v.data_part
 
 -- THE SEAT IS AT THIS TABLE, its view is the actor's state, it has the slot that the actor holds, and the actor may go on.
@@ -38,7 +56,7 @@ pub record Mine {L D : Type 0} (table : TableId) (seat : Seat (Slot L D) (View L
   pub words : table.words ≡ word_count seat.me.0.pages
   pub who : Numbered
   pub one : seat.me.0.seats ≡ who ∷ []
-  pub state : view_of who.actor ≡ a
+  pub state : who.actor ≡ a
   pub carries : Carries (hand a) seat.me
   pub may : MayGo seat.me.0.pages seat.me.0.held seat.me.0.data_part a
 

@@ -3,7 +3,7 @@ use Rattle.std.specs.Prelude.{Bool, List, None, Option, Some, [], cond, false, l
 use lib.ListN.{get_elem?}
 use mathlib.Core.Option.{some}
 use Rattle.atomic_table.specs.Table.{Me, rest}
-use Rattle.model_core.specs.{lent, next, oldest_end, OpWords, took, UserState}
+use Rattle.model_core.specs.{filled, Filling, Fills, lent, next, oldest_end, OpWords, took, UserState}
 use Rattle.model_core.specs.Actors as model
 use Rattle.model_core.specs.AnswerFits.{AnswerFits}
 use Rattle.model_core.specs.Turn.{Turn}
@@ -16,20 +16,18 @@ use Rattle.model_core.specs.declared.ops.Step.{Step}
 use Rattle.model_core.specs.declared.steps.UserStep.TheVariants as user_step
 use Rattle.redo_disk.specs.Seen.{Seen}
 use Rattle.redo_flushlist.specs.{Listing, without_page}
-use Rattle.redo_logdev.specs.Part as log
 use Rattle.redo_drive.specs.Devices.{call_answer}
 use Rattle.redo_drive.specs.Lists.{listed_of}
 use Rattle.redo_drive.specs.Playing.{DataReady, HasWholePages, LogReady, RunOf, run_data_side, run_log_side, told_by}
 use Rattle.redo_drive.specs.Running.{RunsOn}
 use Rattle.redo_drive.specs.Turning.{core_of}
-use Rattle.redo_drive.specs.Steps.{retook}
-use Rattle.redo_drive.specs.Views.{view_of, views_of}
-use Rattle.redo_drive.specs.declared.actor.Actor.{Actor}
+use Rattle.redo_drive.specs.Receiving.{handed_by, MarkFits}
 use Rattle.redo_drive.specs.declared.device.Device.TheVariants.{Data, Log}
 use Rattle.redo_drive.specs.declared.parts.Parts.{Parts}
 use Rattle.model_core.specs.Hands.{GivesFailed, hand, IsFreeToCheck}
 use Rattle.redo_rule.specs.Ruled.{IsRunAbout}
 use Rattle.redo_rule.specs.declared.law.About.{About}
+use Rattle.redo_rule.specs.declared.law.Desk.{Desk}
 use Rattle.redo_rule.specs.declared.law.Keeping.{Keeping}
 use Rattle.redo_rule.specs.declared.law.Numbered.{Numbered}
 use Rattle.redo_rule.specs.declared.law.Slot.{Slot}
@@ -42,9 +40,20 @@ use Rattle.model_core.specs.{Each, oldest_of}
 use Rattle.model_core.specs.declared.limits.TheConstants.{CLOSED_LINKS}
 use Rattle.std.specs.Prelude.{◌<◌}
 
--- a seat's actor after it
-abbrev pub behind : Numbered → Answer → Numbered
-behind x r = record { number = x.number; actor = retook x.actor r }
+-- a seat's actor after it, with what the turn put into it, and all that it has handed on then
+abbrev pub behind : Numbered → Filling → Answer → Numbered
+behind x f r = record {
+  number = x.number;
+  actor = took (filled x.actor f) r;
+  heard = x.heard ++ handed_by (filled x.actor f);
+}
+
+-- a turn put nothing into an actor, or this block alone
+abbrev pub block_filling : List ℕ → Filling
+block_filling bytes = record { block = bytes; texts = [] }
+
+abbrev pub no_filling : Filling
+no_filling = block_filling []
 
 -- the answer to whoever gets the log part
 abbrev pub taking : Bool → Answer
@@ -75,11 +84,11 @@ ListFits _ l = Unit {0}
 
 module _ {L D : Type 0} where
   -- what a seat knows once its actor took an answer, and once the data part is taken out of its slot
-  abbrev pub view_behind : View L D → Numbered → Answer → Option (Slot L D) → Option (Keeping D) → View L D
-  view_behind v x r held stored = record {
+  abbrev pub view_behind : View L D → Numbered → Filling → Answer → Option (Slot L D) → Option (Keeping D) → View L D
+  view_behind v x f r held stored = record {
     about = v.about;
     pages = v.pages;
-    seats = behind x r ∷ [];
+    seats = behind x f r ∷ [];
     held = held;
     data_part = stored;
   }
@@ -96,18 +105,19 @@ module _ {L D : Type 0} where
   -- what an actor may do next, with what its seat has
   pub record MayGo (pages : ℕ) (held : Option (Slot L D)) (stored : Option (Keeping D)) (a : model.Actor) : Type 0 where
     pub there : OpWords pages (next a)
-    pub log : (p : log.Part L) → held ≡ Some (slot.Log p) → hand a ≡ Some 0 → (l : Lent) → Lends l (lent a) → LogReady p l (next a)
+    pub log : (desk : Desk L) → held ≡ Some (slot.Log desk) → hand a ≡ Some 0 → (l : Lent) → Lends l (lent a) → LogReady desk.part l (next a)
     pub data_part : (d : Keeping D) → stored ≡ Some d → (l : Lent) → Lends l (lent a) → DataReady d.part l (next a)
     pub whole : (d : Keeping D) → stored ≡ Some d → HasWholePages d.part.shape (next a) (lent a)
     pub free : IsFreeToCheck a
-    pub rest : next a ≡ op.Rest → AnswerFits a answer.Rested
+    pub rest : next a ≡ op.Rest → AnswerFits a answer.Rested × MarkFits a answer.Rested
+    pub give : next a ≡ op.GiveDevice → AnswerFits a (answer.Taken None) × MarkFits a (answer.Taken None)
     -- a user that has ended well has all its commits answered
     pub done : (u : UserState) → a ≡ model.User u → u.step ≡ user_step.Done → u.k ≡ length u.lines
 
   -- a seat carries the slot that its actor holds
   abbrev pub Carries : Option ℕ → Me (Slot L D) (View L D) → Type 0
   Carries None me = me.1 ≡ []
-  Carries (Some zero) me = (p : log.Part L) × (me.1 ≡ (0, slot.Log p) ∷ []) × (me.0.held ≡ Some (slot.Log p))
+  Carries (Some zero) me = (desk : Desk L) × (me.1 ≡ (0, slot.Log desk) ∷ []) × (me.0.held ≡ Some (slot.Log desk))
   Carries (Some (suc i)) me = (l : Listing) × (me.1 ≡ (suc i, slot.Pages l) ∷ []) × (me.0.held ≡ Some (slot.Pages l))
 
   -- the data part is taken out of its slot, and nothing else changes
@@ -124,56 +134,61 @@ module _ {L D : Type 0} (log_seen : L → Seen) (data_seen : D → Seen) where
     pub run : RunOf L D
     pub is_about : IsRunAbout log_seen data_seen about run
     pub old : Parts L D
-    pub actors : List Actor
+    pub actors : List model.Actor
     pub runs : RunsOn log_seen data_seen run old actors
     pub new : Parts L D
-    pub after : List Actor
+    pub after : List model.Actor
     pub runs_on : RunsOn log_seen data_seen run new after
-    pub at : get_elem? (views_of actors) number ≡ some a
+    pub at : get_elem? actors number ≡ some a
     -- where it gives the log part back after a failed call, its code is one that the part has
     pub has_cause : (code : ℕ) → GivesFailed a code → (run_log_side log_seen data_seen run).Cause old.log code
     pub ends : Step
     pub turn : Turn (run_log_side log_seen data_seen run) (run_data_side log_seen data_seen run)
         (core_of log_seen data_seen run old actors) number r ends (core_of log_seen data_seen run new after)
 
-  -- the seat's actor took an answer
-  pub record Stepped (x : Numbered) (r : Answer) (held : Option (Slot L D)) (stored : Option (Keeping D)) (carried : List (ℕ × Slot L D)) (m m' : Me (Slot L D) (View L D)) : Type 0 where
-    pub fits : AnswerFits (view_of x.actor) r
-    pub shown : Shown m.0.about x.number (view_of x.actor) r
-    pub is : m' ≡ (view_behind m.0 x r held stored, carried)
-    pub may : MayGo m.0.pages held stored (took (view_of x.actor) r)
+  -- the seat's actor took an answer, with what its turn put into it
+  pub record Stepped (x : Numbered) (f : Filling) (r : Answer) (held : Option (Slot L D)) (stored : Option (Keeping D)) (carried : List (ℕ × Slot L D)) (m m' : Me (Slot L D) (View L D)) : Type 0 where
+    pub fits : AnswerFits x.actor r
+    pub mark : MarkFits x.actor r
+    pub shown : Shown m.0.about x.number x.actor r
+    pub filling : shown.turn.filling ≡ f
+    pub is : m' ≡ (view_behind m.0 x f r held stored, carried)
+    pub may : MayGo m.0.pages held stored (took (filled x.actor f) r)
 
   -- a step on a word: the number found is the answer
   abbrev pub saw : Me (Slot L D) (View L D) → ℕ → Me (Slot L D) (View L D) → Type 0
-  saw m n m' = (x : Numbered) → m.0.seats ≡ x ∷ [] → Stepped x (answer.Old n) m.0.held m.0.data_part m.1 m m'
+  saw m n m' = (x : Numbered) → m.0.seats ≡ x ∷ [] → Stepped x no_filling (answer.Old n) m.0.held m.0.data_part m.1 m m'
 
   -- the taking of the log part
   abbrev pub seized : Me (Slot L D) (View L D) → ℕ → Me (Slot L D) (View L D) → Type 0
   seized m n m' = (x : Numbered) → m.0.seats ≡ x ∷ []
-      → (n ≡ 0 → (p : log.Part L) × Stepped x (taking (is_some p.failed)) (Some (slot.Log p)) m.0.data_part ((0, slot.Log p) ∷ m.1) m m')
-      × (n ≢ 0 → Stepped x answer.Held m.0.held m.0.data_part m.1 m m')
+      → (n ≡ 0 → (desk : Desk L)
+      × Stepped x no_filling (taking (is_some desk.part.failed)) (Some (slot.Log desk)) m.0.data_part ((0, slot.Log desk) ∷ m.1) m m')
+      × (n ≢ 0 → Stepped x no_filling answer.Held m.0.held m.0.data_part m.1 m m')
 
   -- the taking of a flush list, whose call is to follow
   abbrev pub seized_list : Me (Slot L D) (View L D) → ℕ → Me (Slot L D) (View L D) → Type 0
-  seized_list m n m' = (x : Numbered) (k : ℕ) → m.0.seats ≡ x ∷ [] → TakesList (next (view_of x.actor)) k
-      → (n ≡ 0 → (l : Listing) × ListFits (next (view_of x.actor)) l
-      × Stepped x (answer.Taken (list_said (next (view_of x.actor)) l)) (Some (slot.Pages (list_behind (next (view_of x.actor)) l))) m.0.data_part ((k, slot.Pages l) ∷ m.1) m m')
-      × (n ≢ 0 → Stepped x answer.Held m.0.held m.0.data_part m.1 m m')
+  seized_list m n m' = (x : Numbered) (k : ℕ) → m.0.seats ≡ x ∷ [] → TakesList (next x.actor) k
+      → (n ≡ 0 → (l : Listing) × ListFits (next x.actor) l
+      × Stepped x no_filling (answer.Taken (list_said (next x.actor) l)) (Some (slot.Pages (list_behind (next x.actor) l))) m.0.data_part ((k, slot.Pages l) ∷ m.1) m m')
+      × (n ≢ 0 → Stepped x no_filling answer.Held m.0.held m.0.data_part m.1 m m')
 
-  -- a turn word is given back with its slot
+  -- a turn word is given back with its slot, whatever the turn put into the actor: a follower's groups in front are one list
   abbrev pub gave : Me (Slot L D) (View L D) → ℕ → Me (Slot L D) (View L D) → Type 0
-  gave m n m' = (x : Numbered) → m.0.seats ≡ x ∷ [] → Stepped x (answer.Taken None) None m.0.data_part (rest m.1) m m'
+  gave m n m' = (x : Numbered) (f : Filling) → m.0.seats ≡ x ∷ [] → Fills x.actor f
+      → Stepped x f (answer.Taken None) None m.0.data_part (rest m.1) m m'
 
-  -- after a call of the log part
+  -- after a call of the log part, which put the block that was read last into the actor, if it was a read
   abbrev pub called : Me (Slot L D) (View L D) → ℕ → Me (Slot L D) (View L D) → Type 0
-  called m n m' = (x : Numbered) (q : log.Part L) → m.0.seats ≡ x ∷ [] → m.1 ≡ (0, slot.Log q) ∷ []
-      → Stepped x (call_answer Log q.failed (told_by (next (view_of x.actor)) q.marks.stable)) (Some (slot.Log q)) m.0.data_part m.1 m m'
+  called m n m' = (x : Numbered) (desk : Desk L) → m.0.seats ≡ x ∷ [] → m.1 ≡ (0, slot.Log desk) ∷ []
+      → Stepped x (block_filling desk.block) (call_answer Log desk.part.failed (told_by (next x.actor) desk.part.marks.stable))
+      (Some (slot.Log desk)) m.0.data_part m.1 m m'
 
   -- after a call of the data part, which is back in its slot
   abbrev pub batched : Me (Slot L D) (View L D) → ℕ → Me (Slot L D) (View L D) → Type 0
   batched m n m' = (x : Numbered) (e : store.Part D) → m.0.seats ≡ x ∷ [] → m.1 ≡ (5, slot.Data e) ∷ []
-      → Stepped x (call_answer Data e.failed 0) m.0.held (Some (record { part = e; out = false })) (rest m.1) m m'
+      → Stepped x no_filling (call_answer Data e.failed 0) m.0.held (Some (record { part = e; out = false })) (rest m.1) m m'
 
   -- a look that changes nothing: what the actor may do
   abbrev pub looked : Me (Slot L D) (View L D) → ℕ → Me (Slot L D) (View L D) → Type 0
-  looked m n m' = (m' ≡ m) × ((x : Numbered) → m.0.seats ≡ x ∷ [] → MayGo m.0.pages m.0.held m.0.data_part (view_of x.actor))
+  looked m n m' = (m' ≡ m) × ((x : Numbered) → m.0.seats ≡ x ∷ [] → MayGo m.0.pages m.0.held m.0.data_part x.actor)

@@ -1,12 +1,11 @@
 -- How a seat is cut off the first one, and how it is taken in again.
 use Rattle.std.specs.Prelude.{Bool, List, None, Option, Some, [], cond, false, true, ◌++◌, ◌∷◌}
-use Rattle.redo_drive.specs.declared.actor.Actor.{Actor}
-use Rattle.redo_drive.specs.declared.actor.Actor.TheVariants as own
+use Rattle.model_core.specs.Actors as model
 use Rattle.redo_rule.specs.declared.law.Numbered.{Numbered}
 use Rattle.redo_rule.specs.declared.law.View.{View}
 
-abbrev pub is_cleaner : Actor → Bool
-is_cleaner (own.Cleaner v) = true
+abbrev pub is_cleaner : model.Actor → Bool
+is_cleaner (model.Cleaner v) = true
 is_cleaner _ = false
 
 abbrev pub first_numbered : List Numbered → List Numbered

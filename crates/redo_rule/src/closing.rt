@@ -1,14 +1,16 @@
 // A store after its run.
-ghost use Rattle.std.specs.Prelude.{◌<◌, ◌≡◌, length, slice_index};
+ghost use Rattle.std.specs.Prelude.{◌<◌, ◌≡◌, List, ℕ, length, slice_index};
 ghost use Rattle.std.specs.Slots.{IsFull, slots_items, slots_len};
-ghost use Rattle.model_core.specs.{index};
+ghost use Rattle.model_core.specs.{Given, index};
 ghost use Rattle.redo_drive.specs.History.{ListsInOrder};
 ghost use Rattle.redo_drive.specs.Leaving.{LeavesRun};
+ghost use Rattle.redo_drive.specs.Views.{views_of};
+ghost use Rattle.redo_drive.specs.declared.actor.Actor.{Actor as TheActor};
 ghost use Rattle.redo_rule.specs.Closing.{IsOwedRun, LeavesParts, MayClose};
 ghost use Rattle.redo_rule.specs.Cutting.{HoldNothing};
 ghost use Rattle.redo_rule.specs.Failing.{CodeHasCause};
 ghost use Rattle.redo_rule.specs.Reached.{ReachesAll};
-ghost use Rattle.redo_rule.specs.Sharing.{AreSeatsOf, IsSeated, opened_of, shared_script, starts_of, table_of};
+ghost use Rattle.redo_rule.specs.Sharing.{AreSeatsOf, HaveHeard, IsSeated, opened_of, shared_script, starts_of, table_of};
 
 use crate::law::{Seat, Slot};
 use crate::seats::take_all;
@@ -18,6 +20,7 @@ use atomic_table::Closed as ClosedTable;
 use model_report::Marks;
 use redo_disk::Sectors;
 use redo_drive::{Actor, Closed, history_of};
+use redo_follow::Receiver;
 use redo_link::tail_of;
 use redo_logdev::LogPart;
 use redo_store::DataPart;
@@ -42,13 +45,14 @@ fn word_in<L: Sectors, D: Sectors>(closed: &ClosedTable<Slot<L, D>, Global>, wor
 }
 
 /// Closes a table, given the seat that knows all actors, of which none holds anything.
-fn close_table<L: Sectors, D: Sectors>(
+fn close_table<L: Sectors, D: Sectors, R: Receiver>(
     board: Board<L, D>,
     first: Seat<L, D>,
-    actors: &[Actor],
+    actors: &[Actor<R>],
 ) -> Left<L, D>
-    requires { MayClose board.shared.key board.shared.table_id actors.now first }
-    ensures { LeavesParts L.seen L.gives D.seen D.gives board.shared.key actors.now result }
+    requires { (heard : ℕ → List Given) × MayClose board.shared.key board.shared.table_id heard (views_of actors.now) first }
+    ensures { (heard : ℕ → List Given) → MayClose board.shared.key board.shared.table_id heard (views_of actors.now) first
+        → LeavesParts L.seen L.gives D.seen D.gives board.shared.key heard (views_of actors.now) result }
 {
     let mut closed = board.close_with(first);
     let marks = Marks {
@@ -80,15 +84,17 @@ fn close_table<L: Sectors, D: Sectors>(
 impl<L: Sectors, D: Sectors> Shared<L, D> {
     /// What the run leaves, given the seats of all actors, none of which holds a turn or a tail: its history, its marks, both
     /// parts, and the code in FAILED.
-    pub fn finish(self, seats: Vec<Seat<L, D>>, actors: &[Actor]) -> Closed<L, D>
+    pub fn finish<R: Receiver>(self, seats: Vec<Seat<L, D>>, actors: &[Actor<R>]) -> Closed<L, D>
         requires seated { IsSeated self }
-        requires seats { AreSeatsOf (table_of self) seats.items actors.now }
+        requires seats { AreSeatsOf (table_of self) seats.items (views_of actors.now) }
         requires all { length actors.now ≡ length (starts_of self) }
-        requires rest { HoldNothing actors.now }
-        ensures leaves { LeavesRun L.seen L.gives D.seen D.gives (opened_of self) (shared_script self) self.board.shared.key.log_only actors.now result }
-        ensures listed { ListsInOrder result.marks actors.now result.history }
-        ensures owed { IsOwedRun L.seen L.gives D.seen D.gives (opened_of self) (shared_script self) actors.now result }
-        ensures reaches { ReachesAll actors.now result }
+        requires rest { HoldNothing (views_of actors.now) }
+        ensures leaves { (starts : List (TheActor R)) → HaveHeard R.stands_for starts seats.items actors.now
+            → LeavesRun L.seen L.gives D.seen D.gives R.stands_for (opened_of self) (shared_script self) self.board.shared.key.log_only
+            self.board.shared.key.followers starts actors.now result }
+        ensures listed { ListsInOrder result.marks (views_of actors.now) result.history }
+        ensures owed { IsOwedRun L.seen L.gives D.seen D.gives (opened_of self) (shared_script self) (views_of actors.now) result }
+        ensures reaches { ReachesAll (views_of actors.now) result }
         ensures cause { CodeHasCause L.seen D.seen result.code (opened_of self).log result.log (opened_of self).store result.store }
     {
         let Shared {

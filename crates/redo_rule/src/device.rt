@@ -7,9 +7,10 @@ ghost use Rattle.redo_rule.specs.Mine.{HasPlayed, KeepsSeat, Mine};
 
 use crate::law::{Ring, Seat};
 use crate::plays::{Called, Gave, Seized};
-use crate::slots::{checkpoint_slot, sync_slot, taken_answer, write_slot};
+use crate::slots::{checkpoint_slot, read_slot, sync_slot, taken_answer, write_slot};
 use redo_disk::Sectors;
 use redo_drive::{Actor, Device, answer_of};
+use redo_follow::Receiver;
 use redo_words::{Answer, Step};
 
 /// The turn word of the log part, and its slot.
@@ -18,17 +19,17 @@ const DEVICE: usize = 7;
 const LOG: usize = 0;
 
 /// `TakeDevice`.
-pub(crate) fn take_device<L: Sectors, D: Sectors>(
+pub(crate) fn take_device<L: Sectors, D: Sectors, R: Receiver>(
     table: &Ring<L, D>,
     token: &mut Seat<L, D>,
-    actor: &mut Actor,
+    actor: &mut Actor<R>,
 ) -> Step
     requires mine { Mine table.now.table_id token.old (view_of actor.old) }
     requires asks { next (view_of actor.old) ≡ op.TakeDevice }
     ensures mine { Mine table.now.table_id token.new (view_of actor.new) }
     ensures played { HasPlayed L.seen D.seen token.old.me.0.about (view_of actor.old) result (view_of actor.new) }
     ensures seat { token.new.id ≡ token.old.id }
-    ensures stays { KeepsSeat token.old.me.0 token.new.me.0 }
+    ensures stays { KeepsSeat R.stands_for token.old.me.0 actor.old token.new.me.0 actor.new }
 {
     if table.compare_exchange::<Seized>(token, DEVICE, 0, 1) != 0 {
         return actor.took(Answer::Held);
@@ -37,28 +38,51 @@ pub(crate) fn take_device<L: Sectors, D: Sectors>(
     actor.took(answer)
 }
 
-/// `GiveDevice`.
-pub(crate) fn give_device<L: Sectors, D: Sectors>(
+/// `GiveDevice`. A follower hands its groups on before others get the log part.
+pub(crate) fn give_device<L: Sectors, D: Sectors, R: Receiver>(
     table: &Ring<L, D>,
     token: &mut Seat<L, D>,
-    actor: &mut Actor,
+    actor: &mut Actor<R>,
 ) -> Step
     requires mine { Mine table.now.table_id token.old (view_of actor.old) }
     requires asks { next (view_of actor.old) ≡ op.GiveDevice }
     ensures mine { Mine table.now.table_id token.new (view_of actor.new) }
     ensures played { HasPlayed L.seen D.seen token.old.me.0.about (view_of actor.old) result (view_of actor.new) }
     ensures seat { token.new.id ≡ token.old.id }
-    ensures stays { KeepsSeat token.old.me.0 token.new.me.0 }
+    ensures stays { KeepsSeat R.stands_for token.old.me.0 actor.old token.new.me.0 actor.new }
 {
+    let step = actor.took(Answer::Taken(None));
     table.store::<Gave>(token, DEVICE, 0);
-    actor.took(Answer::Taken(None))
+    step
+}
+
+/// `ReadBlock lsn`. The block that was read goes into the room that a follower has for it.
+pub(crate) fn read_block<L: Sectors, D: Sectors, R: Receiver>(
+    table: &Ring<L, D>,
+    token: &mut Seat<L, D>,
+    actor: &mut Actor<R>,
+    lsn: u64,
+) -> Step
+    requires mine { Mine table.now.table_id token.old (view_of actor.old) }
+    requires asks { next (view_of actor.old) ≡ op.ReadBlock lsn }
+    ensures mine { Mine table.now.table_id token.new (view_of actor.new) }
+    ensures played { HasPlayed L.seen D.seen token.old.me.0.about (view_of actor.old) result (view_of actor.new) }
+    ensures seat { token.new.id ≡ token.old.id }
+    ensures stays { KeepsSeat R.stands_for token.old.me.0 actor.old token.new.me.0 actor.new }
+{
+    let Actor::Follower(follower) = actor else {
+        unreachable!()
+    };
+    let ended = read_slot(token.slot_mut(table, LOG), lsn, follower.room());
+    table.load::<Called>(token, 0);
+    actor.took(answer_of(Device::Log, ended, 0))
 }
 
 /// `WriteTo mark`.
-pub(crate) fn write_to<L: Sectors, D: Sectors>(
+pub(crate) fn write_to<L: Sectors, D: Sectors, R: Receiver>(
     table: &Ring<L, D>,
     token: &mut Seat<L, D>,
-    actor: &mut Actor,
+    actor: &mut Actor<R>,
     mark: u64,
 ) -> Step
     requires mine { Mine table.now.table_id token.old (view_of actor.old) }
@@ -66,7 +90,7 @@ pub(crate) fn write_to<L: Sectors, D: Sectors>(
     ensures mine { Mine table.now.table_id token.new (view_of actor.new) }
     ensures played { HasPlayed L.seen D.seen token.old.me.0.about (view_of actor.old) result (view_of actor.new) }
     ensures seat { token.new.id ≡ token.old.id }
-    ensures stays { KeepsSeat token.old.me.0 token.new.me.0 }
+    ensures stays { KeepsSeat R.stands_for token.old.me.0 actor.old token.new.me.0 actor.new }
 {
     let ended = write_slot(token.slot_mut(table, LOG), mark, actor.lent());
     table.load::<Called>(token, 0);
@@ -74,17 +98,17 @@ pub(crate) fn write_to<L: Sectors, D: Sectors>(
 }
 
 /// `Sync`.
-pub(crate) fn sync<L: Sectors, D: Sectors>(
+pub(crate) fn sync<L: Sectors, D: Sectors, R: Receiver>(
     table: &Ring<L, D>,
     token: &mut Seat<L, D>,
-    actor: &mut Actor,
+    actor: &mut Actor<R>,
 ) -> Step
     requires mine { Mine table.now.table_id token.old (view_of actor.old) }
     requires asks { next (view_of actor.old) ≡ op.Sync }
     ensures mine { Mine table.now.table_id token.new (view_of actor.new) }
     ensures played { HasPlayed L.seen D.seen token.old.me.0.about (view_of actor.old) result (view_of actor.new) }
     ensures seat { token.new.id ≡ token.old.id }
-    ensures stays { KeepsSeat token.old.me.0 token.new.me.0 }
+    ensures stays { KeepsSeat R.stands_for token.old.me.0 actor.old token.new.me.0 actor.new }
 {
     let (ended, stable) = sync_slot(token.slot_mut(table, LOG));
     table.load::<Called>(token, 0);
@@ -92,10 +116,10 @@ pub(crate) fn sync<L: Sectors, D: Sectors>(
 }
 
 /// `Checkpoint lsn`.
-pub(crate) fn checkpoint<L: Sectors, D: Sectors>(
+pub(crate) fn checkpoint<L: Sectors, D: Sectors, R: Receiver>(
     table: &Ring<L, D>,
     token: &mut Seat<L, D>,
-    actor: &mut Actor,
+    actor: &mut Actor<R>,
     lsn: u64,
 ) -> Step
     requires mine { Mine table.now.table_id token.old (view_of actor.old) }
@@ -103,7 +127,7 @@ pub(crate) fn checkpoint<L: Sectors, D: Sectors>(
     ensures mine { Mine table.now.table_id token.new (view_of actor.new) }
     ensures played { HasPlayed L.seen D.seen token.old.me.0.about (view_of actor.old) result (view_of actor.new) }
     ensures seat { token.new.id ≡ token.old.id }
-    ensures stays { KeepsSeat token.old.me.0 token.new.me.0 }
+    ensures stays { KeepsSeat R.stands_for token.old.me.0 actor.old token.new.me.0 actor.new }
 {
     let ended = checkpoint_slot(token.slot_mut(table, LOG), lsn);
     table.load::<Called>(token, 0);

@@ -4,24 +4,72 @@ use model_script::Script;
 use redo_disk::Sectors;
 use redo_drive::Actor;
 use redo_flushlist::FlushList;
+use redo_follow::Tally;
 use redo_logdev::LogPart;
 use redo_store::{DataPart, Opened};
 use std::collections::LinkedList;
+use std::marker::Model;
 use std::snapshot::Snapshot;
+
+/// The log part, and the block that was read last off its device.
+#[derive(Drop)]
+pub struct Desk<L: Sectors> {
+    pub part: LogPart<L>,
+    pub block: [u8; 512],
+}
 
 /// What lies in a slot: the log part in slot 0, a flush list in each of slots 1 to 4, and the data part in slot 5.
 #[derive(Drop)]
 pub enum Slot<L: Sectors, D: Sectors> {
-    Log(LogPart<L>),
+    Log(Desk<L>),
     Pages(FlushList),
     Data(DataPart<D>),
 }
 
-/// An actor's state, with its number among the actors.
+/// An actor's state, as the definitions see it. No value of it is made.
+#[derive(Drop)]
+pub struct Viewed {
+    actor: Actor<Tally>,
+}
+
+impl Model for Viewed {
+    ghost use Rattle.model_core.specs.{Actor};
+    ghost use Rattle.redo_drive.specs.Views.{view_of};
+
+    ghost Value = { Actor };
+
+    ghost view = { λ viewed. view_of viewed.actor };
+}
+
+/// A group that was handed on.
+#[derive(Drop)]
+struct Group {
+    start: u64,
+    end: u64,
+    text: LinkedList<u8>,
+}
+
+/// Groups that were handed on, in their order. No value of it is made.
+#[derive(Drop)]
+pub struct Heard {
+    groups: LinkedList<Group>,
+}
+
+impl Model for Heard {
+    ghost use Rattle.std.specs.Prelude.{List, map};
+    ghost use Rattle.model_core.specs.{Given};
+
+    ghost Value = { List Given };
+
+    ghost view = { λ heard. map (λ group. record { start = group.start; end = group.end; text = group.text }) heard.groups };
+}
+
+/// An actor's state, with its number among the actors, and with all that it has handed on.
 #[derive(Drop)]
 pub struct Numbered {
     pub number: u64,
-    pub actor: Actor,
+    pub actor: Viewed,
+    pub heard: Heard,
 }
 
 /// The data part as the seat that keeps it knows it, and whether it is out of its slot, with that seat.
@@ -42,13 +90,14 @@ pub struct View<L: Sectors, D: Sectors> {
     pub data_part: Option<Keeping<D>>,
 }
 
-/// What a table is told once: the opened store, the script, and the actors as they begin.
+/// What a table is told once: the opened store, the script, and how many followers there are. The actors as they begin follow
+/// from that.
 #[derive(Drop)]
 pub struct About<L: Sectors, D: Sectors> {
     pub opened: Snapshot<Opened<L, D>>,
     pub script: Snapshot<Script>,
-    pub actors: Snapshot<Vec<Actor>>,
     pub log_only: bool,
+    pub followers: u64,
 }
 
 pub struct Law;

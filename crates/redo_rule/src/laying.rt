@@ -1,13 +1,14 @@
 // Both parts and the lists in their slots, and a table over them.
-ghost use Rattle.std.specs.Prelude.{[], ◌++◌, ◌<◌, ◌∷◌, ◌≡◌, ◌≤◌, IfErr, IfOk, length, vec_capacity, vec_len};
+ghost use Rattle.std.specs.Prelude.{[], ◌++◌, ◌<◌, ◌∷◌, ◌≡◌, ◌≤◌, IfErr, IfOk, length, replicate, vec_capacity, vec_len};
+ghost use Rattle.model_base.specs.declared.limits.TheConstants.{BLOCK_SIZE};
 ghost use Rattle.atomic_table.specs.Table.{opening};
 ghost use Rattle.redo_drive.specs.Lists.{AreLists, Listings};
-ghost use Rattle.redo_logdev.specs.Part as log_dev;
 ghost use Rattle.redo_rule.specs.Ruled.{Ruled, first_view};
 ghost use Rattle.redo_rule.specs.Sharing.{AreLaid, laid};
+ghost use Rattle.redo_rule.specs.declared.law.Desk.{Desk};
 ghost use Rattle.redo_store.specs.Part as store_dev;
 
-use crate::law::{About, Seat, Slot};
+use crate::law::{About, Desk, Seat, Slot};
 use crate::shared::Board;
 use crate::slots::{data_in, drop_list, log_in};
 use atomic_table::Table;
@@ -29,7 +30,7 @@ pub(crate) fn lay_out<L: Sectors, D: Sectors>(
     lists: FlushLists,
 ) -> Result<(Vec<Seat<L, D>>, Vec<Slot<L, D>>), (LogPart<L>, DataPart<D>)>
     ensures room { IfOk result (λ made. (made.0.items ≡ []) × (seats ≤ vec_capacity made.0)) }
-    ensures slots { IfOk result (λ made. (made.1.items ≡ laid log lists store) × AreLists lists) }
+    ensures slots { IfOk result (λ made. (made.1.items ≡ laid (record { part = log; block = replicate BLOCK_SIZE 0 }) lists store) × AreLists lists) }
     ensures err { IfErr result (λ parts. (parts.0 ≡ log) × (parts.1 ≡ store)) }
 {
     let Ok(room) = Vec::with_capacity(alloc, seats) else {
@@ -43,7 +44,10 @@ pub(crate) fn lay_out<L: Sectors, D: Sectors>(
     let Some(c) = lists.pop() else { unreachable!() };
     let Some(b) = lists.pop() else { unreachable!() };
     let Some(a) = lists.pop() else { unreachable!() };
-    slots.push_reserved(Slot::Log(log));
+    slots.push_reserved(Slot::Log(Desk {
+        part: log,
+        block: [0; 512],
+    }));
     slots.push_reserved(Slot::Pages(a));
     slots.push_reserved(Slot::Pages(b));
     slots.push_reserved(Slot::Pages(c));
@@ -89,7 +93,7 @@ pub(crate) fn parts_in<L: Sectors, D: Sectors>(
     mut slots: Vec<Slot<L, D>>,
 ) -> (LogPart<L>, DataPart<D>)
     requires { AreLaid slots.items }
-    ensures { (log : log_dev.Part L) (lists : Listings) (stored : store_dev.Part D) → slots.items ≡ laid log lists stored → (result.0 ≡ log) × (result.1 ≡ stored) }
+    ensures { (desk : Desk L) (lists : Listings) (stored : store_dev.Part D) → slots.items ≡ laid desk lists stored → (result.0 ≡ desk.part) × (result.1 ≡ stored) }
 {
     let data = last_slot(&mut slots);
     let d = last_slot(&mut slots);

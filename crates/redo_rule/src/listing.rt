@@ -12,6 +12,7 @@ use crate::slots::{add_slot, oldest_slot, remove_slot};
 use model_core::FLUSH_LISTS;
 use redo_disk::Sectors;
 use redo_drive::Actor;
+use redo_follow::Receiver;
 use redo_words::{Answer, Step, Word, number_of};
 
 /// The turn word of a flush list, and its slot.
@@ -29,10 +30,10 @@ fn slot_of(list: u32) -> usize
 }
 
 /// `TakeAdd page oldest`.
-pub(crate) fn take_add<L: Sectors, D: Sectors>(
+pub(crate) fn take_add<L: Sectors, D: Sectors, R: Receiver>(
     table: &Ring<L, D>,
     token: &mut Seat<L, D>,
-    actor: &mut Actor,
+    actor: &mut Actor<R>,
     page: u32,
     oldest: u64,
 ) -> Step
@@ -41,7 +42,7 @@ pub(crate) fn take_add<L: Sectors, D: Sectors>(
     ensures mine { Mine table.now.table_id token.new (view_of actor.new) }
     ensures played { HasPlayed L.seen D.seen token.old.me.0.about (view_of actor.old) result (view_of actor.new) }
     ensures seat { token.new.id ≡ token.old.id }
-    ensures stays { KeepsSeat token.old.me.0 token.new.me.0 }
+    ensures stays { KeepsSeat R.stands_for token.old.me.0 actor.old token.new.me.0 actor.new }
 {
     let list = page % FLUSH_LISTS as u32;
     if table.compare_exchange::<SeizedList>(token, turn_of(list), 0, 1) != 0 {
@@ -52,10 +53,10 @@ pub(crate) fn take_add<L: Sectors, D: Sectors>(
 }
 
 /// `TakeRemove page`.
-pub(crate) fn take_remove<L: Sectors, D: Sectors>(
+pub(crate) fn take_remove<L: Sectors, D: Sectors, R: Receiver>(
     table: &Ring<L, D>,
     token: &mut Seat<L, D>,
-    actor: &mut Actor,
+    actor: &mut Actor<R>,
     page: u32,
 ) -> Step
     requires mine { Mine table.now.table_id token.old (view_of actor.old) }
@@ -63,7 +64,7 @@ pub(crate) fn take_remove<L: Sectors, D: Sectors>(
     ensures mine { Mine table.now.table_id token.new (view_of actor.new) }
     ensures played { HasPlayed L.seen D.seen token.old.me.0.about (view_of actor.old) result (view_of actor.new) }
     ensures seat { token.new.id ≡ token.old.id }
-    ensures stays { KeepsSeat token.old.me.0 token.new.me.0 }
+    ensures stays { KeepsSeat R.stands_for token.old.me.0 actor.old token.new.me.0 actor.new }
 {
     let list = page % FLUSH_LISTS as u32;
     if table.compare_exchange::<SeizedList>(token, turn_of(list), 0, 1) != 0 {
@@ -74,10 +75,10 @@ pub(crate) fn take_remove<L: Sectors, D: Sectors>(
 }
 
 /// `TakeOldest list`.
-pub(crate) fn take_oldest<L: Sectors, D: Sectors>(
+pub(crate) fn take_oldest<L: Sectors, D: Sectors, R: Receiver>(
     table: &Ring<L, D>,
     token: &mut Seat<L, D>,
-    actor: &mut Actor,
+    actor: &mut Actor<R>,
     list: u32,
 ) -> Step
     requires mine { Mine table.now.table_id token.old (view_of actor.old) }
@@ -85,7 +86,7 @@ pub(crate) fn take_oldest<L: Sectors, D: Sectors>(
     ensures mine { Mine table.now.table_id token.new (view_of actor.new) }
     ensures played { HasPlayed L.seen D.seen token.old.me.0.about (view_of actor.old) result (view_of actor.new) }
     ensures seat { token.new.id ≡ token.old.id }
-    ensures stays { KeepsSeat token.old.me.0 token.new.me.0 }
+    ensures stays { KeepsSeat R.stands_for token.old.me.0 actor.old token.new.me.0 actor.new }
 {
     if table.compare_exchange::<SeizedList>(token, turn_of(list), 0, 1) != 0 {
         return actor.took(Answer::Held);
@@ -95,10 +96,10 @@ pub(crate) fn take_oldest<L: Sectors, D: Sectors>(
 }
 
 /// `GiveList list`.
-pub(crate) fn give_list<L: Sectors, D: Sectors>(
+pub(crate) fn give_list<L: Sectors, D: Sectors, R: Receiver>(
     table: &Ring<L, D>,
     token: &mut Seat<L, D>,
-    actor: &mut Actor,
+    actor: &mut Actor<R>,
     list: u32,
 ) -> Step
     requires mine { Mine table.now.table_id token.old (view_of actor.old) }
@@ -106,7 +107,7 @@ pub(crate) fn give_list<L: Sectors, D: Sectors>(
     ensures mine { Mine table.now.table_id token.new (view_of actor.new) }
     ensures played { HasPlayed L.seen D.seen token.old.me.0.about (view_of actor.old) result (view_of actor.new) }
     ensures seat { token.new.id ≡ token.old.id }
-    ensures stays { KeepsSeat token.old.me.0 token.new.me.0 }
+    ensures stays { KeepsSeat R.stands_for token.old.me.0 actor.old token.new.me.0 actor.new }
 {
     table.store::<Gave>(token, turn_of(list), 0);
     actor.took(Answer::Taken(None))

@@ -3,23 +3,24 @@ ghost use Rattle.std.specs.Prelude.{◌≡◌};
 ghost use Rattle.model_core.specs.{next};
 ghost use Rattle.redo_drive.specs.Views.{view_of};
 ghost use Rattle.redo_rule.specs.Causes.{EndsSo};
-ghost use Rattle.redo_rule.specs.Mine.{HasGone, HasPlayed, KeepsSeat, Mine, number_of};
+ghost use Rattle.redo_rule.specs.Mine.{HasGone, HasPlayed, IsSameSeat, KeepsSeat, Mine};
 ghost use Rattle.redo_rule.specs.Seating.{IsBare, IsSeatOf};
 
 use crate::batch::write_batch;
-use crate::device::{checkpoint, give_device, sync, take_device, write_to};
+use crate::device::{checkpoint, give_device, read_block, sync, take_device, write_to};
 use crate::law::{Ring, Seat};
 use crate::listing::{give_list, take_add, take_oldest, take_remove};
 use crate::steps::{add, load, store, swap};
 use redo_disk::Sectors;
 use redo_drive::Actor;
+use redo_follow::Receiver;
 use redo_words::{Answer, Op, Step};
 
 /// Plays an Op on the words, the log part or a list.
-fn play_token<L: Sectors, D: Sectors>(
+fn play_token<L: Sectors, D: Sectors, R: Receiver>(
     table: &Ring<L, D>,
     token: &mut Seat<L, D>,
-    actor: &mut Actor,
+    actor: &mut Actor<R>,
     op: Op,
 ) -> Step
     requires mine { Mine table.now.table_id token.old (view_of actor.old) }
@@ -27,7 +28,7 @@ fn play_token<L: Sectors, D: Sectors>(
     requires bare { IsBare op }
     ensures mine { Mine table.now.table_id token.new (view_of actor.new) }
     ensures played { HasPlayed L.seen D.seen token.old.me.0.about (view_of actor.old) result (view_of actor.new) }
-    ensures stays { KeepsSeat token.old.me.0 token.new.me.0 }
+    ensures stays { KeepsSeat R.stands_for token.old.me.0 actor.old token.new.me.0 actor.new }
 {
     match op {
         Op::Load(word) => load(table, token, actor, word),
@@ -43,21 +44,21 @@ fn play_token<L: Sectors, D: Sectors>(
         Op::WriteTo(mark) => write_to(table, token, actor, mark),
         Op::Sync => sync(table, token, actor),
         Op::Checkpoint(lsn) => checkpoint(table, token, actor, lsn),
-        // none of the actors reads the log, and the other two aren't bare
-        Op::ReadBlock(_) | Op::WriteBatch | Op::Rest => unreachable!(),
+        Op::ReadBlock(lsn) => read_block(table, token, actor, lsn),
+        // these aren't bare
+        Op::WriteBatch | Op::Rest => unreachable!(),
     }
 }
 
 /// Plays the next Op of an actor.
-fn play_next<L: Sectors, D: Sectors>(
+fn play_next<L: Sectors, D: Sectors, R: Receiver>(
     table: &Ring<L, D>,
     seat: &mut Seat<L, D>,
-    actor: &mut Actor,
+    actor: &mut Actor<R>,
 ) -> Step
     requires { IsSeatOf table.now.table_id seat.old (view_of actor.old) }
     ensures seat { IsSeatOf table.now.table_id seat.new (view_of actor.new) }
-    ensures number { number_of seat.new.me.0 ≡ number_of seat.old.me.0 }
-    ensures knows { seat.new.me.0.about ≡ seat.old.me.0.about }
+    ensures same { IsSameSeat R.stands_for seat.old.me.0 actor.old seat.new.me.0 actor.new }
     ensures played { HasGone L.seen D.seen seat.old.me.0.about (view_of actor.old) result (view_of actor.new) }
 {
     let op = actor.next();
@@ -70,15 +71,14 @@ fn play_next<L: Sectors, D: Sectors>(
 
 /// Plays the next Op of the actor whose state is the seat's view, and tells how its step ended. It doesn't wait, and takes no
 /// memory.
-pub fn play<L: Sectors, D: Sectors>(
+pub fn play<L: Sectors, D: Sectors, R: Receiver>(
     table: &Ring<L, D>,
     seat: &mut Seat<L, D>,
-    actor: &mut Actor,
+    actor: &mut Actor<R>,
 ) -> Step
     requires { IsSeatOf table.now.table_id seat.old (view_of actor.old) }
     ensures seat { IsSeatOf table.now.table_id seat.new (view_of actor.new) }
-    ensures number { number_of seat.new.me.0 ≡ number_of seat.old.me.0 }
-    ensures knows { seat.new.me.0.about ≡ seat.old.me.0.about }
+    ensures same { IsSameSeat R.stands_for seat.old.me.0 actor.old seat.new.me.0 actor.new }
     ensures played { HasGone L.seen D.seen seat.old.me.0.about (view_of actor.old) result (view_of actor.new) }
     ensures ends { EndsSo L.seen D.seen seat.old.me.0.about (view_of actor.old) result (view_of actor.new) }
 {

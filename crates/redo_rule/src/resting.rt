@@ -1,11 +1,12 @@
 // Whether actors hold anything. One that has a seat is free wherever it checks for a failure.
 ghost use Rattle.std.specs.Prelude.{false, true, ◌≡◌};
 ghost use Rattle.model_core.specs.{next};
-ghost use Rattle.redo_drive.specs.Views.{view_of};
+ghost use Rattle.redo_drive.specs.Views.{view_of, views_of};
 ghost use Rattle.redo_rule.specs.Cutting.{AreFreeToCheck, HoldNothing};
 ghost use Rattle.model_core.specs.Hands.{HoldsNothing, IsFreeOp, IsFreeToCheck};
 
 use redo_drive::Actor;
+use redo_follow::Receiver;
 use redo_words::{Op, Word};
 
 /// Whether an actor that asks for this Op surely holds nothing. Where it stores it may hold a turn, and where it loads a link it
@@ -36,7 +37,7 @@ fn is_free(op: Op) -> bool
 }
 
 /// Whether an actor surely holds nothing.
-pub fn holds_nothing(actor: &Actor) -> bool
+pub fn holds_nothing<R: Receiver>(actor: &Actor<R>) -> bool
     requires { IsFreeToCheck (view_of actor.now) }
     ensures nothing { result ≡ true → HoldsNothing (view_of actor.now) }
     ensures asks { IsFreeOp (next (view_of actor.now)) → result ≡ true }
@@ -45,9 +46,9 @@ pub fn holds_nothing(actor: &Actor) -> bool
 }
 
 /// Whether each of these actors surely holds nothing, so that their store may be finished.
-pub fn all_hold_nothing(actors: &[Actor]) -> bool
-    requires { AreFreeToCheck actors.now }
-    ensures { result ≡ true → HoldNothing actors.now }
+pub fn all_hold_nothing<R: Receiver>(actors: &[Actor<R>]) -> bool
+    requires { AreFreeToCheck (views_of actors.now) }
+    ensures { result ≡ true → HoldNothing (views_of actors.now) }
 {
     for number in 0..actors.len() {
         if !holds_nothing(&actors[number]) {

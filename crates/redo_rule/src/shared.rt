@@ -1,6 +1,8 @@
 // A store that its actors share, each in a thread of its own.
-ghost use Rattle.std.specs.Prelude.{◌≡◌, IfErr, IfOk};
-ghost use Rattle.redo_drive.specs.Startable.{MayBegin};
+ghost use Rattle.std.specs.Prelude.{◌≡◌, IfErr, IfOk, length};
+ghost use Rattle.redo_drive.specs.Making.{EndsWithFollowers};
+ghost use Rattle.redo_drive.specs.Startable.{AreNewFollowers, MayBegin};
+ghost use Rattle.redo_drive.specs.Views.{views_of};
 ghost use Rattle.redo_rule.specs.Sharing.{IsNewlyShared};
 
 use crate::law::{About, Law, Ring, Seat, Slot, View};
@@ -10,6 +12,7 @@ use model_report::Entry;
 use model_script::Script;
 use redo_disk::Sectors;
 use redo_drive::{Actor, Beginning, Parts, begin_run};
+use redo_follow::{Follower, Receiver};
 use redo_lsn::NoMemory;
 use redo_store::Opened;
 use std::alloc::Global;
@@ -29,29 +32,33 @@ pub struct Shared<L: Sectors, D: Sectors> {
 }
 
 impl<L: Sectors, D: Sectors> Shared<L, D> {
-    /// The store as the run of a script begins, with the log alone or with the pages, and its actors, none of which has a seat
-    /// yet. It takes all memory; where there is none it gives both devices back as they were.
-    pub fn new(
+    /// The store as the run of a script begins, with the log alone or with the pages, and its actors, these followers among
+    /// them, none of which has a seat yet. It takes all memory; where there is none it gives both devices back as they were.
+    pub fn new<R: Receiver + Drop>(
         alloc: Global,
         opened: Opened<L, D>,
         script: &Script,
         log_only: bool,
-    ) -> Result<(Shared<L, D>, Vec<Actor>), (NoMemory, L, D)>
-        requires { MayBegin opened script.now log_only }
+        followers: Vec<Follower<R>>,
+    ) -> Result<(Shared<L, D>, Vec<Actor<R>>), (NoMemory, L, D)>
+        requires may { MayBegin opened script.now log_only }
+        requires new { AreNewFollowers opened.start followers.items }
         ensures err { IfErr result (λ error. (error.1 ≡ opened.log.dev) × (error.2 ≡ opened.store.dev)) }
-        ensures new { IfOk result (λ made. IsNewlyShared opened script.now log_only made.0 made.1.items) }
+        ensures new { IfOk result (λ made. IsNewlyShared opened script.now log_only (length followers.items) made.0 (views_of made.1.items)) }
+        ensures followers { IfOk result (λ made. EndsWithFollowers made.1.items followers.items) }
     {
         let opened_is = Snapshot::of(&opened);
+        let count = followers.len() as u64;
         let Beginning {
             parts,
             actors,
             entries,
-        } = begin_run(alloc, opened, script, log_only)?;
+        } = begin_run(alloc, opened, script, log_only, followers)?;
         let about = About {
             opened: opened_is,
             script: Snapshot::of(script),
-            actors: Snapshot::of(&actors),
             log_only,
+            followers: count,
         };
         let Parts {
             words,

@@ -6,19 +6,21 @@ ghost use Rattle.model_core.specs.{DataServed, KeptPage, LogServed};
 ghost use Rattle.redo_drive.specs.DataPartSide as data_part;
 ghost use Rattle.model_core.specs.declared.ops.Op.TheVariants as op;
 ghost use Rattle.model_parts.specs.{MayBeNext};
+ghost use Rattle.redo_logdev.specs.{MayRead};
 ghost use Rattle.redo_logdev.specs.Part as log_dev;
 ghost use Rattle.redo_drive.specs.Devices.{call_code};
 ghost use Rattle.redo_drive.specs.declared.device.Device.TheVariants as device;
 ghost use Rattle.redo_drive.specs.LogPartSide as log_part;
 ghost use Rattle.redo_drive.specs.Playing.{HasWholePages, MayBatchLent, MayWriteLent};
 ghost use Rattle.redo_rule.specs.Plays.{ListFits, list_behind, list_said, taking};
-ghost use Rattle.redo_rule.specs.Slots.{IsBatched, IsCalled, IsData, IsLog, IsPages};
+ghost use Rattle.redo_rule.specs.Slots.{IsBatched, IsCalled, IsData, IsLog, IsPages, block_of};
+ghost use Rattle.redo_rule.specs.declared.law.Desk.{Desk};
 ghost use Rattle.redo_store.specs.Part as store_dev;
 ghost use Rattle.redo_words.specs.{Lends};
 
 use crate::law::Slot;
 use redo_disk::{DevError, Sectors};
-use redo_drive::{call_batch, call_checkpoint, call_sync, call_write};
+use redo_drive::{call_batch, call_checkpoint, call_read, call_sync, call_write};
 use redo_logdev::LogPart;
 use redo_store::DataPart;
 use redo_words::{Answer, Lent};
@@ -26,10 +28,10 @@ use redo_words::{Answer, Lent};
 /// The answer to whoever has taken the log part.
 pub(crate) fn taken_answer<L: Sectors, D: Sectors>(slot: &Slot<L, D>) -> Answer
     requires { IsLog slot.now (λ p. Unit {0}) }
-    ensures { (p : log_dev.Part L) → slot.now ≡ Slot.Log p → result ≡ taking (is_some p.failed) }
+    ensures { (desk : Desk L) → slot.now ≡ Slot.Log desk → result ≡ taking (is_some desk.part.failed) }
 {
     match slot {
-        Slot::Log(part) => match part.failed() {
+        Slot::Log(desk) => match desk.part.failed() {
             None => Answer::Taken(None),
             Some(_) => Answer::Broken,
         },
@@ -48,7 +50,7 @@ pub(crate) fn write_slot<L: Sectors, D: Sectors>(
         → LogServed (log_part.log_side L.seen faults first.marks.number (log_part.HasBegun L.seen start first)) p l (op.WriteTo mark) (call_code device.Log q.failed) q) }
 {
     match slot {
-        Slot::Log(part) => call_write(part, mark, lent),
+        Slot::Log(desk) => call_write(&mut desk.part, mark, lent),
         Slot::Pages(_) | Slot::Data(_) => unreachable!(),
     }
 }
@@ -60,12 +62,12 @@ pub(crate) fn sync_slot<L: Sectors, D: Sectors>(
     requires { IsLog slot.old (λ p. p.failed ≡ None) }
     ensures called { IsCalled L.gives slot.old slot.new result.0 (λ p q. (faults start : ℕ) (first : log_dev.Part L) (l : model.Lent)
         → LogServed (log_part.log_side L.seen faults first.marks.number (log_part.HasBegun L.seen start first)) p l op.Sync (call_code device.Log q.failed) q) }
-    ensures stable { (q : log_dev.Part L) → slot.new ≡ Slot.Log q → result.1 ≡ q.marks.stable }
+    ensures stable { (desk : Desk L) → slot.new ≡ Slot.Log desk → result.1 ≡ desk.part.marks.stable }
 {
     match slot {
-        Slot::Log(part) => {
-            let ended = call_sync(part);
-            (ended, part.stable())
+        Slot::Log(desk) => {
+            let ended = call_sync(&mut desk.part);
+            (ended, desk.part.stable())
         }
         Slot::Pages(_) | Slot::Data(_) => unreachable!(),
     }
@@ -81,7 +83,28 @@ pub(crate) fn checkpoint_slot<L: Sectors, D: Sectors>(
         → LogServed (log_part.log_side L.seen faults first.marks.number (log_part.HasBegun L.seen start first)) p l (op.Checkpoint lsn) (call_code device.Log q.failed) q) }
 {
     match slot {
-        Slot::Log(part) => call_checkpoint(part, lsn),
+        Slot::Log(desk) => call_checkpoint(&mut desk.part, lsn),
+        Slot::Pages(_) | Slot::Data(_) => unreachable!(),
+    }
+}
+
+/// Reads the block at an lsn, which is the one that was read last then, and puts it into this room.
+pub(crate) fn read_slot<L: Sectors, D: Sectors>(
+    slot: &mut Slot<L, D>,
+    lsn: u64,
+    room: &mut [u8; 512],
+) -> Result<(), DevError>
+    requires { IsLog slot.old (λ p. MayRead p lsn) }
+    ensures called { IsCalled L.gives slot.old slot.new result (λ p q. (faults start : ℕ) (first : log_dev.Part L)
+        → LogServed (log_part.log_side L.seen faults first.marks.number (log_part.HasBegun L.seen start first)) p (model.Room room.new) (op.ReadBlock lsn) (call_code device.Log q.failed) q) }
+    ensures block { room.new ≡ block_of slot.new }
+{
+    match slot {
+        Slot::Log(desk) => {
+            let ended = call_read(&mut desk.part, lsn, &mut desk.block);
+            *room = desk.block;
+            ended
+        }
         Slot::Pages(_) | Slot::Data(_) => unreachable!(),
     }
 }
@@ -138,10 +161,10 @@ pub(crate) fn oldest_slot<L: Sectors, D: Sectors>(slot: &Slot<L, D>, list: u32) 
 /// The log part that lies in a slot.
 pub(crate) fn log_in<L: Sectors, D: Sectors>(slot: Slot<L, D>) -> LogPart<L>
     requires { IsLog slot (λ p. Unit {0}) }
-    ensures { slot ≡ Slot.Log result }
+    ensures { IsLog slot (λ p. p ≡ result) }
 {
     match slot {
-        Slot::Log(part) => part,
+        Slot::Log(desk) => desk.part,
         Slot::Pages(_list) => unreachable!(),
         Slot::Data(_part) => unreachable!(),
     }

@@ -9,13 +9,14 @@ use crate::law::{Ring, Seat};
 use crate::plays::Saw;
 use redo_disk::Sectors;
 use redo_drive::Actor;
+use redo_follow::Receiver;
 use redo_words::{Answer, Step, Word, number_of};
 
 /// `Load word`.
-pub(crate) fn load<L: Sectors, D: Sectors>(
+pub(crate) fn load<L: Sectors, D: Sectors, R: Receiver>(
     table: &Ring<L, D>,
     token: &mut Seat<L, D>,
-    actor: &mut Actor,
+    actor: &mut Actor<R>,
     word: Word,
 ) -> Step
     requires mine { Mine table.now.table_id token.old (view_of actor.old) }
@@ -23,17 +24,17 @@ pub(crate) fn load<L: Sectors, D: Sectors>(
     ensures mine { Mine table.now.table_id token.new (view_of actor.new) }
     ensures played { HasPlayed L.seen D.seen token.old.me.0.about (view_of actor.old) result (view_of actor.new) }
     ensures seat { token.new.id ≡ token.old.id }
-    ensures stays { KeepsSeat token.old.me.0 token.new.me.0 }
+    ensures stays { KeepsSeat R.stands_for token.old.me.0 actor.old token.new.me.0 actor.new }
 {
     let n = table.load::<Saw>(token, number_of(word) as usize);
     actor.took(Answer::Old(n))
 }
 
 /// `Store word number`.
-pub(crate) fn store<L: Sectors, D: Sectors>(
+pub(crate) fn store<L: Sectors, D: Sectors, R: Receiver>(
     table: &Ring<L, D>,
     token: &mut Seat<L, D>,
-    actor: &mut Actor,
+    actor: &mut Actor<R>,
     word: Word,
     number: u64,
 ) -> Step
@@ -42,17 +43,17 @@ pub(crate) fn store<L: Sectors, D: Sectors>(
     ensures mine { Mine table.now.table_id token.new (view_of actor.new) }
     ensures played { HasPlayed L.seen D.seen token.old.me.0.about (view_of actor.old) result (view_of actor.new) }
     ensures seat { token.new.id ≡ token.old.id }
-    ensures stays { KeepsSeat token.old.me.0 token.new.me.0 }
+    ensures stays { KeepsSeat R.stands_for token.old.me.0 actor.old token.new.me.0 actor.new }
 {
     let n = table.swap::<Saw>(token, number_of(word) as usize, number);
     actor.took(Answer::Old(n))
 }
 
 /// `Add word number`.
-pub(crate) fn add<L: Sectors, D: Sectors>(
+pub(crate) fn add<L: Sectors, D: Sectors, R: Receiver>(
     table: &Ring<L, D>,
     token: &mut Seat<L, D>,
-    actor: &mut Actor,
+    actor: &mut Actor<R>,
     word: Word,
     number: u64,
 ) -> Step
@@ -61,17 +62,17 @@ pub(crate) fn add<L: Sectors, D: Sectors>(
     ensures mine { Mine table.now.table_id token.new (view_of actor.new) }
     ensures played { HasPlayed L.seen D.seen token.old.me.0.about (view_of actor.old) result (view_of actor.new) }
     ensures seat { token.new.id ≡ token.old.id }
-    ensures stays { KeepsSeat token.old.me.0 token.new.me.0 }
+    ensures stays { KeepsSeat R.stands_for token.old.me.0 actor.old token.new.me.0 actor.new }
 {
     let n = table.fetch_add::<Saw>(token, number_of(word) as usize, number);
     actor.took(Answer::Old(n))
 }
 
 /// `Swap word old new`.
-pub(crate) fn swap<L: Sectors, D: Sectors>(
+pub(crate) fn swap<L: Sectors, D: Sectors, R: Receiver>(
     table: &Ring<L, D>,
     token: &mut Seat<L, D>,
-    actor: &mut Actor,
+    actor: &mut Actor<R>,
     word: Word,
     old: u64,
     new: u64,
@@ -81,7 +82,7 @@ pub(crate) fn swap<L: Sectors, D: Sectors>(
     ensures mine { Mine table.now.table_id token.new (view_of actor.new) }
     ensures played { HasPlayed L.seen D.seen token.old.me.0.about (view_of actor.old) result (view_of actor.new) }
     ensures seat { token.new.id ≡ token.old.id }
-    ensures stays { KeepsSeat token.old.me.0 token.new.me.0 }
+    ensures stays { KeepsSeat R.stands_for token.old.me.0 actor.old token.new.me.0 actor.new }
 {
     let n = table.compare_exchange::<Saw>(token, number_of(word) as usize, old, new);
     actor.took(Answer::Old(n))

@@ -1,14 +1,22 @@
 -- What a run in threads owes and tells, of the store that was opened.
-use Rattle.std.proofs.Common.{Bool, List, refl, subst, ◌≡◌}
+use Rattle.std.proofs.Common.{Bool, List, ap, length, refl, subst, sym, ℕ, ◌∙◌, ◌≡◌}
+use Rattle.model_core.specs.Actors as model
+use Rattle.model_core.specs.{Given}
 use Rattle.model_running.specs.Schedule.{HaveEnded}
 use Rattle.model_script.specs.declared.script.ScriptLine.{ScriptLine}
 use Rattle.redo_disk.specs.{Call}
 use Rattle.redo_disk.specs.Seen.{Seen}
+use Rattle.redo_drive.proofs.LeftRun.{have_followed}
 use Rattle.redo_drive.specs.Drive.{Owes, ReadsToMarks}
+use Rattle.redo_drive.specs.Followed.{HaveFollowed}
 use Rattle.redo_drive.specs.Leaving.{LeavesRun}
+use Rattle.redo_drive.specs.Making.{EndsWithFollowers}
+use Rattle.redo_drive.specs.Setups.{start_actors}
+use Rattle.redo_drive.specs.Startable.{AreNewFollowers}
 use Rattle.redo_drive.specs.Views.{views_of}
 use Rattle.redo_drive.specs.declared.actor.Actor.{Actor}
 use Rattle.redo_drive.specs.declared.closed.Closed.{Closed}
+use Rattle.redo_follow.specs.Handing.{Following}
 use Rattle.redo_store.specs.declared.opened.Opened.{Opened}
 use Rattle.redo_rule.specs.Closing.{done_with, IsOwedRun}
 use Rattle.redo_rule.specs.Failing.{CodeHasCause}
@@ -16,10 +24,14 @@ use Rattle.redo_threads.proofs.Scripted.{are_of_script}
 use Rattle.redo_threads.specs.Ended.{HaveRun}
 use Rattle.redo_threads.specs.InThreads.{AreActorsOf, RunsInThreads}
 
-module _ {L D : Type 0} (log_seen : L → Seen) (log_gives : L → Call → L → Type 0) (data_seen : D → Seen) (data_gives : D → Call → D → Type 0)
-    (known opened : Opened L D) (lines script : List ScriptLine) (actors : List Actor) (closed : Closed L D) (opened_is : known ≡ opened) (script_is : lines ≡ script) where
-  pub owes : HaveEnded (views_of actors) → IsOwedRun log_seen log_gives data_seen data_gives known lines actors closed → Owes log_seen log_gives data_seen data_gives opened script (done_with closed)
-  owes ended owed = subst (λ (o : Opened L D). Owes log_seen log_gives data_seen data_gives o script (done_with closed)) opened_is
+module _ {L D : Type 0} (log_seen : L → Seen) (log_gives : L → Call → L → Type 0) (data_seen : D → Seen)
+    (data_gives : D → Call → D → Type 0) (known opened : Opened L D) (lines script : List ScriptLine)
+    (closed : Closed L D) (opened_is : known ≡ opened) (script_is : lines ≡ script) where
+  pub owes : (actors : List model.Actor) → HaveEnded actors
+      → IsOwedRun log_seen log_gives data_seen data_gives known lines actors closed
+      → Owes log_seen log_gives data_seen data_gives opened script (done_with closed)
+  owes actors ended owed =
+      subst (λ (o : Opened L D). Owes log_seen log_gives data_seen data_gives o script (done_with closed)) opened_is
       (subst (λ (s : List ScriptLine). Owes log_seen log_gives data_seen data_gives known s (done_with closed)) script_is
       (record { comes_to = owed.comes_to ended; holds = owed.holds; owed_synced = owed.owed_synced ended }))
 
@@ -30,16 +42,35 @@ module _ {L D : Type 0} (log_seen : L → Seen) (log_gives : L → Call → L �
 
   pub has_cause : CodeHasCause log_seen data_seen closed.code known.log closed.log known.store closed.store
       → CodeHasCause log_seen data_seen closed.code opened.log closed.log opened.store closed.store
-  has_cause = subst (λ (o : Opened L D). CodeHasCause log_seen data_seen closed.code o.log closed.log o.store closed.store) opened_is
+  has_cause =
+      subst (λ (o : Opened L D). CodeHasCause log_seen data_seen closed.code o.log closed.log o.store closed.store)
+      opened_is
 
-  pub runs_in_threads : (alone log_only : Bool) → alone ≡ log_only → (starts : List Actor) → LeavesRun log_seen log_gives data_seen data_gives known lines alone actors closed → HaveRun starts actors closed
-      → RunsInThreads opened script log_only (done_with closed)
-  runs_in_threads alone log_only only_is starts left run = record {
-    done = refl;
-    actors = actors;
-    of_script = subst (λ (b : Bool). AreActorsOf script b (views_of actors)) only_is
-        (subst (λ (s : List ScriptLine). AreActorsOf s alone (views_of actors)) script_is (are_of_script log_seen log_gives data_seen data_gives known lines alone actors closed left));
-    ended = run.ended;
-    answered = run.answered;
-    listed = run.listed;
-  }
+  module _ {F : Type 0} (stands : F → List Given → Type 0) (alone : Bool) (count : ℕ) (starts actors : List (Actor F))
+      (left : LeavesRun log_seen log_gives data_seen data_gives stands known lines alone count starts actors closed)
+    where
+      pub runs_in_threads : (log_only : Bool) → alone ≡ log_only → HaveRun (views_of starts) (views_of actors) closed
+          → RunsInThreads opened script log_only (done_with closed)
+      runs_in_threads log_only only_is run = record {
+        done = refl;
+        actors = views_of actors;
+        of_script = subst (λ (b : Bool). AreActorsOf script b (views_of actors)) only_is
+            (subst (λ (s : List ScriptLine). AreActorsOf s alone (views_of actors)) script_is
+            (are_of_script log_seen log_gives data_seen data_gives stands known lines alone count starts actors closed
+            left));
+        ended = run.ended;
+        answered = run.answered;
+        listed = run.listed;
+      }
+
+      -- what is left of the followers with which the run was made
+      pub followed : (fs : List (Following F)) → AreNewFollowers opened.start fs → EndsWithFollowers starts fs
+          → start_actors known.shape lines known.start alone count ≡ views_of starts → count ≡ length fs
+          → HaveFollowed log_seen data_seen stands opened script fs actors closed
+      followed fs new ends are count_is =
+          subst (λ (o : Opened L D). HaveFollowed log_seen data_seen stands o script fs actors closed) opened_is
+          (subst (λ (s : List ScriptLine). HaveFollowed log_seen data_seen stands known s fs actors closed) script_is
+          (have_followed log_seen log_gives data_seen data_gives stands known lines alone count starts actors
+          (done_with closed) left fs
+          (subst (λ (o : Opened L D). AreNewFollowers o.start fs) (sym opened_is) new)
+          (sym are ∙ ap (start_actors known.shape lines known.start alone) count_is) ends))

@@ -3,7 +3,7 @@ use Rattle.std.proofs.Common.{List, [], ap, arith, length, refl, set, slice_inde
 use lib.ListN.{get_elem?}
 use mathlib.Core.Option as maybe
 use Rattle.atomic_table.proofs.Lists.{at_set}
-use Rattle.model_core.specs.{index}
+use Rattle.model_core.specs.{Given, index}
 use Rattle.model_core.specs.Actors as model
 use Rattle.model_core.specs.declared.steps.UserStep.{UserStep}
 use Rattle.model_core.specs.declared.steps.UserStep.TheVariants as user_step
@@ -21,48 +21,57 @@ use Rattle.redo_store.specs.declared.opened.Opened.{Opened}
 use Rattle.model_script.specs.declared.script.ScriptLine.{ScriptLine}
 use Rattle.redo_rule.specs.Cutting.{HoldNothing}
 use Rattle.redo_threads.specs.Ended.{HaveAnswered}
-use Rattle.redo_threads.specs.Working.{AreAtEnd, AtEnd, IsOver}
+use Rattle.redo_threads.specs.Working.{AreAtEnd, AtEnd}
 use Rattle.std.specs.Prelude.{Bool}
 
 -- below this number each has come to its end
-abbrev pub EndBelow : ℕ → List Actor → Type 0
-EndBelow n actors = (i : ℕ) (a : Actor) → i < n → get_elem? actors i ≡ maybe.some a → AtEnd (view_of a)
+abbrev pub EndBelow : {F : Type 0} → ℕ → List (Actor F) → Type 0
+EndBelow {F} n actors = (i : ℕ) (a : Actor F) → i < n → get_elem? actors i ≡ maybe.some a → AtEnd (view_of a)
 
-pub none_below : (actors : List Actor) → EndBelow 0 actors
+pub none_below : {F : Type 0} (actors : List (Actor F)) → EndBelow 0 actors
 none_below actors i a l at = absurd (omega arith)
 
-pub one_more : (actors : List Actor) (n : ℕ) (b : Actor) → EndBelow n actors → AtEnd (view_of b) → EndBelow (n + 1) (set actors n b)
-one_more actors n b below ends i a l at = ⊎_elim
-    (λ t. subst (λ (z : Actor). AtEnd (view_of z)) t.1 ends)
+pub one_more : {F : Type 0} (actors : List (Actor F)) (n : ℕ) (b : Actor F) → EndBelow n actors → AtEnd (view_of b)
+    → EndBelow (n + 1) (set actors n b)
+one_more {F} actors n b below ends i a l at = ⊎_elim
+    (λ t. subst (λ (z : Actor F). AtEnd (view_of z)) t.1 ends)
     (λ t. let far = t.0 in below i a (omega arith) t.1)
     (at_set actors n i b a at)
 
-past : (l : List Actor) (i : ℕ) (a : Actor) → get_elem? l i ≡ maybe.some a → i < length l
+pub past : {A : Type 0} (l : List A) (i : ℕ) (a : A) → get_elem? l i ≡ maybe.some a → i < length l
 past [] i a at = absurd (maybe.some-ne-none a (sym at))
 past (x ∷ xs) zero a at = omega arith
 past (x ∷ xs) (suc i) a at = let l = past xs i a at in omega arith
 
-pub all_end : (actors : List Actor) (n : ℕ) → length actors ≤ n → EndBelow n actors → AreAtEnd actors
-all_end actors n all below i a at = below i a (let l = past actors i a at in omega arith) at
-
-pub hold_nothing : (actors : List Actor) → AreAtEnd actors → HoldNothing actors
-hold_nothing actors ends i a at = (ends i a at).rests
-
 -- the actor whose view stands there
-seen_at : (actors : List Actor) (i : ℕ) (who : model.Actor) → get_elem? (views_of actors) i ≡ maybe.some who → (a : Actor) × (get_elem? actors i ≡ maybe.some a) × (view_of a ≡ who)
+pub seen_at : {F : Type 0} (actors : List (Actor F)) (i : ℕ) (who : model.Actor)
+    → get_elem? (views_of actors) i ≡ maybe.some who
+    → (a : Actor F) × (get_elem? actors i ≡ maybe.some a) × (view_of a ≡ who)
 seen_at [] i who at = absurd (maybe.some-ne-none who (sym at))
 seen_at (x ∷ xs) zero who at = (x, refl, maybe.some-injective (view_of x) who at)
 seen_at (x ∷ xs) (suc i) who at = seen_at xs i who at
 
-pub have_ended : (actors : List Actor) → AreAtEnd actors → HaveEnded (views_of actors)
-have_ended actors ends seat u at = let s = seen_at actors seat (model.User u) at in subst IsOver s.2 (ends seat s.0 s.1).over
+pub all_end : {F : Type 0} (actors : List (Actor F)) (n : ℕ) → length actors ≤ n → EndBelow n actors
+    → AreAtEnd (views_of actors)
+all_end actors n all below i who at =
+    let a = seen_at actors i who at in
+    subst AtEnd a.2 (below i a.0 (let l = past actors i a.0 a.1 in omega arith) a.1)
 
-module _ {L D : Type 0} (log_seen : L → Seen) (log_gives : L → Call → L → Type 0) (data_seen : D → Seen) (data_gives : D → Call → D → Type 0)
-    (opened : Opened L D) (script : List ScriptLine) (log_only : Bool) (actors : List Actor) (closed : Closed L D) (left : LeavesRun log_seen log_gives data_seen data_gives opened script log_only actors closed) where
+pub hold_nothing : (actors : List model.Actor) → AreAtEnd actors → HoldNothing actors
+hold_nothing actors ends i a at = (ends i a at).rests
+
+pub have_ended : (actors : List model.Actor) → AreAtEnd actors → HaveEnded actors
+have_ended actors ends seat u at = (ends seat (model.User u) at).over
+
+module _ {L D F : Type 0} (log_seen : L → Seen) (log_gives : L → Call → L → Type 0) (data_seen : D → Seen)
+    (data_gives : D → Call → D → Type 0) (stands : F → List Given → Type 0) (opened : Opened L D)
+    (script : List ScriptLine) (log_only : Bool) (followers : ℕ) (starts actors : List (Actor F)) (closed : Closed L D)
+    (left : LeavesRun log_seen log_gives data_seen data_gives stands opened script log_only followers starts actors
+    closed) where
   -- a user that has ended by a failure has met it in FAILED
   pub have_answered : HaveEnded (views_of actors) → closed.code ≡ 0 → HaveAnswered (views_of actors)
   have_answered ended none seat u at =
-      let R = left.runs.running in
+      let R = left.from.runs.running in
       let fits = R.both.logged.each seat (model.User u) at in
       let code : slice_index left.last.words.words (index word.Failed) ≡ R.shared.failed = ap (λ (ws : List ℕ). slice_index ws (index word.Failed)) R.flat_is in
       let zero_is : R.shared.failed ≡ 0 = sym code ∙ sym left.code ∙ none in

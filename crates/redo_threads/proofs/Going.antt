@@ -1,26 +1,90 @@
 -- An actor in its seat that goes on.
-use Rattle.std.proofs.Common.{refl, subst, ◌∙◌, ◌≡◌}
+use Rattle.std.proofs.Common.{List, None, Option, Some, [], ap, append_assoc, append-nil, refl, subst, sym, ◌++◌}
+use Rattle.std.proofs.Common.{◌∙◌, ◌≡◌}
 use Rattle.atomic_table.specs.Seated.{TableId}
 use Rattle.atomic_table.specs.declared.shared.Seat.{Seat}
 use Rattle.model_core.proofs.Later.{later_refl, later_trans}
+use Rattle.model_core.specs.{Given}
+use Rattle.redo_drive.specs.Receiving.{follower_of, HasGot, IsSameFollower}
 use Rattle.redo_drive.specs.Views.{view_of}
 use Rattle.redo_drive.specs.declared.actor.Actor.{Actor}
+use Rattle.redo_follow.specs.Handing.{Following}
+use Rattle.redo_rule.specs.Mine.{heard_of, IsSameSeat}
 use Rattle.redo_rule.specs.Seating.{IsSeatOf}
 use Rattle.redo_rule.specs.declared.law.Slot.{Slot}
 use Rattle.redo_rule.specs.declared.law.View.{View}
 use Rattle.redo_threads.specs.Working.{GoesOn}
 use Rattle.redo_threads.specs.declared.crew.Worker.{Worker}
 
-module _ {L D : Type 0} (table : TableId) where
-  pub goes_refl : (s : Seat (Slot L D) (View L D)) (a : Actor) → IsSeatOf table s (view_of a) → GoesOn table s a s a
-  goes_refl s a h = record { seat = h; number = refl; actor = later_refl (view_of a) }
+-- a follower is the same, and its receiver got nothing; and then it is the same again, and its receiver got more
+module _ {F : Type 0} where
+  follower_refl : (f : Option (Following F)) → IsSameFollower f f
+  follower_refl None = tt
+  follower_refl (Some f) = refl
 
-  pub goes_trans : (s t u : Seat (Slot L D) (View L D)) (a b c : Actor) → GoesOn table s a t b → GoesOn table t b u c → GoesOn table s a u c
-  goes_trans s t u a b c h k = record { seat = k.seat; number = k.number ∙ h.number; actor = later_trans (view_of a) (view_of b) (view_of c) h.actor k.actor }
+  follower_trans : (f g h : Option (Following F)) → IsSameFollower f g → IsSameFollower g h → IsSameFollower f h
+  follower_trans None None None one two = tt
+  follower_trans None None (Some h) one two = absurd two
+  follower_trans None (Some g) h one two = absurd one
+  follower_trans (Some f) None h one two = absurd one
+  follower_trans (Some f) (Some g) None one two = absurd two
+  follower_trans (Some f) (Some g) (Some h) one two = two ∙ one
 
-  -- what the promise of a worker in its seat says
-  pub goes_promised : (p w v : Worker L D) → p ≡ w → IsSeatOf table w.seat (view_of w.actor)
-      → GoesOn p.seat.table_id p.seat p.actor v.seat v.actor → GoesOn table w.seat w.actor v.seat v.actor
-  goes_promised p w v e sits h =
-      subst (λ (m : TableId). GoesOn m w.seat w.actor v.seat v.actor) sits.mine.of
-      (subst (λ (q : Worker L D). GoesOn q.seat.table_id q.seat q.actor v.seat v.actor) e h)
+  module _ (stands : F → List Given → Type 0) where
+    got_none : (f : Option (Following F)) → HasGot stands f [] f
+    got_none None = tt
+    got_none (Some f) = λ before is. subst (λ (l : List Given). stands f.receiver l) (sym (append-nil before)) is
+
+    got_more : (f g h : Option (Following F)) (groups more : List Given) → IsSameFollower f g → IsSameFollower g h
+        → HasGot stands f groups g → HasGot stands g more h → HasGot stands f (groups ++ more) h
+    got_more None None None groups more one two got then = tt
+    got_more None None (Some h) groups more one two got then = absurd two
+    got_more None (Some g) h groups more one two got then = absurd one
+    got_more (Some f) None h groups more one two got then = absurd one
+    got_more (Some f) (Some g) None groups more one two got then = absurd two
+    got_more (Some f) (Some g) (Some h) groups more one two got then =
+        λ before is. subst (λ (l : List Given). stands h.receiver l) (append_assoc before groups more)
+        (then (before ++ groups) (got before is))
+
+module _ {L D F : Type 0} (stands : F → List Given → Type 0) where
+  seat_refl : (v : View L D) (a : Actor F) → IsSameSeat stands v a v a
+  seat_refl v a = record {
+    about = refl;
+    number = refl;
+    same = follower_refl (follower_of a);
+    since = [];
+    heard = sym (append-nil (heard_of v));
+    got = got_none stands (follower_of a);
+  }
+
+  seat_trans : (v w x : View L D) (a b c : Actor F) → IsSameSeat stands v a w b → IsSameSeat stands w b x c
+      → IsSameSeat stands v a x c
+  seat_trans v w x a b c h k = record {
+    about = k.about ∙ h.about;
+    number = k.number ∙ h.number;
+    same = follower_trans (follower_of a) (follower_of b) (follower_of c) h.same k.same;
+    since = h.since ++ k.since;
+    heard = k.heard ∙ ap (λ (l : List Given). l ++ k.since) h.heard ∙ append_assoc (heard_of v) h.since k.since;
+    got = got_more stands (follower_of a) (follower_of b) (follower_of c) h.since k.since h.same k.same h.got k.got;
+  }
+
+  module _ (table : TableId) where
+    pub goes_refl : (s : Seat (Slot L D) (View L D)) (a : Actor F) → IsSeatOf table s (view_of a)
+        → GoesOn stands table s a s a
+    goes_refl s a h = record { seat = h; same = seat_refl s.me.0 a; actor = later_refl (view_of a) }
+
+    pub goes_trans : (s t u : Seat (Slot L D) (View L D)) (a b c : Actor F) → GoesOn stands table s a t b
+        → GoesOn stands table t b u c → GoesOn stands table s a u c
+    goes_trans s t u a b c h k = record {
+      seat = k.seat;
+      same = seat_trans s.me.0 t.me.0 u.me.0 a b c h.same k.same;
+      actor = later_trans (view_of a) (view_of b) (view_of c) h.actor k.actor;
+    }
+
+    -- what the promise of a worker in its seat says
+    pub goes_promised : (p w v : Worker L D F) → p ≡ w → IsSeatOf table w.seat (view_of w.actor)
+        → GoesOn stands p.seat.table_id p.seat p.actor v.seat v.actor
+        → GoesOn stands table w.seat w.actor v.seat v.actor
+    goes_promised p w v e sits h =
+        subst (λ (m : TableId). GoesOn stands m w.seat w.actor v.seat v.actor) sits.mine.of
+        (subst (λ (q : Worker L D F). GoesOn stands q.seat.table_id q.seat q.actor v.seat v.actor) e h)

@@ -4,6 +4,7 @@ use lib.ListN.{get_elem?}
 use mathlib.Core.Option as maybe
 use Rattle.atomic_table.proofs.Lists.{at_longer}
 use Rattle.model_core.specs.Actors as model
+use Rattle.model_core.specs.{Given}
 use Rattle.model_core.specs.States.{UserState}
 use Rattle.model_running.specs.Seating.{ArePageActors}
 use Rattle.model_script.specs.declared.script.ScriptLine.{ScriptLine}
@@ -17,25 +18,28 @@ use Rattle.redo_store.specs.declared.opened.Opened.{Opened}
 use Rattle.redo_rule.proofs.Retook.{at_map}
 use Rattle.redo_threads.specs.InThreads.{AreActorsOf}
 
-module _ {L D : Type 0} (log_seen : L → Seen) (log_gives : L → Call → L → Type 0) (data_seen : D → Seen) (data_gives : D → Call → D → Type 0)
-    (opened : Opened L D) (script : List ScriptLine) (log_only : Bool) (actors : List Actor) (closed : Closed L D) (left : LeavesRun log_seen log_gives data_seen data_gives opened script log_only actors closed) where
-  user_at : (i : ℕ) (u : UserState) → get_elem? left.runs.seated.users i ≡ maybe.some u → get_elem? (views_of actors) i ≡ maybe.some (model.User u)
-  user_at i u at = ap (λ (l : List model.Actor). get_elem? l i) left.runs.seated.are
-      ∙ at_longer (map model.User left.runs.seated.users) (model.Writer left.runs.seated.writer ∷ model.Flusher left.runs.seated.flusher ∷ left.runs.seated.others) i (model.User u) (at_map model.User left.runs.seated.users i u at)
+module _ {L D F : Type 0} (log_seen : L → Seen) (log_gives : L → Call → L → Type 0) (data_seen : D → Seen)
+    (data_gives : D → Call → D → Type 0) (stands : F → List Given → Type 0) (opened : Opened L D)
+    (script : List ScriptLine) (log_only : Bool) (followers : ℕ) (starts actors : List (Actor F)) (closed : Closed L D)
+    (left : LeavesRun log_seen log_gives data_seen data_gives stands opened script log_only followers starts actors
+    closed) where
+  user_at : (i : ℕ) (u : UserState) → get_elem? left.from.runs.seated.users i ≡ maybe.some u → get_elem? (views_of actors) i ≡ maybe.some (model.User u)
+  user_at i u at = ap (λ (l : List model.Actor). get_elem? l i) left.from.runs.seated.are
+      ∙ at_longer (map model.User left.from.runs.seated.users) (model.Writer left.from.runs.seated.writer ∷ model.Flusher left.from.runs.seated.flusher ∷ left.from.runs.seated.others) i (model.User u) (at_map model.User left.from.runs.seated.users i u at)
 
-  its_lines : (i : ℕ) (u : UserState) → get_elem? left.runs.seated.users i ≡ maybe.some u → u.lines ≡ left.run.setup.script u.user
-  its_lines i u at = (left.runs.running.both.logged.each i (model.User u) (user_at i u at)).lines
+  its_lines : (i : ℕ) (u : UserState) → get_elem? left.from.runs.seated.users i ≡ maybe.some u → u.lines ≡ left.run.setup.script u.user
+  its_lines i u at = (left.from.runs.running.both.logged.each i (model.User u) (user_at i u at)).lines
 
   pub are_of_script : AreActorsOf script log_only (views_of actors)
   are_of_script = record {
-    users = left.runs.seated.users;
-    writer = left.runs.seated.writer;
-    flusher = left.runs.seated.flusher;
-    others = left.runs.seated.others;
-    are = left.runs.seated.are;
-    page_actors = subst (λ (b : Bool). ArePageActors b left.runs.seated.others) left.is_run.log_only_is left.runs.seated.page_actors;
-    ascending = left.runs.seated.ascending;
-    has_lines = λ i u at. let h = left.runs.seated.have_lines i u at in let e = ap length (its_lines i u at) in omega arith;
+    users = left.from.runs.seated.users;
+    writer = left.from.runs.seated.writer;
+    flusher = left.from.runs.seated.flusher;
+    others = left.from.runs.seated.others;
+    are = left.from.runs.seated.are;
+    page_actors = subst (λ (b : Bool). ArePageActors b left.from.runs.seated.others) left.is_run.log_only_is left.from.runs.seated.page_actors;
+    ascending = left.from.runs.seated.ascending;
+    has_lines = λ i u at. let h = left.from.runs.seated.have_lines i u at in let e = ap length (its_lines i u at) in omega arith;
     lines = λ i u at. ap length (its_lines i u at) ∙ left.is_run.of_script.count u.user;
-    all = λ user some. left.runs.seated.all user (let e = left.is_run.of_script.count user in omega arith);
+    all = λ user some. left.from.runs.seated.all user (let e = left.is_run.of_script.count user in omega arith);
   }

@@ -5,10 +5,6 @@ use lib.ListN.{get_elem?}
 use mathlib.Core.Option as maybe
 
 module _ {A : Type 0} (R : A → A → Type 0) where
-  pub zip_refl : ((x : A) → R x x) → (xs : List A) → AllZip R xs xs
-  zip_refl same [] = tt
-  zip_refl same (x ∷ xs) = (same x, zip_refl same xs)
-
   pub zip_trans : ((x y z : A) → R x y → R y z → R x z) → (xs ys zs : List A)
       → AllZip R xs ys → AllZip R ys zs → AllZip R xs zs
   zip_trans join [] [] [] h k = tt
@@ -36,13 +32,6 @@ module _ {A B : Type 0} (R : A → B → Type 0) where
   zip_back (u ∷ xs) (v ∷ ys) zero y h b = (u, refl, subst (λ z. R u z) (maybe.some-injective v y b) h.0)
   zip_back (u ∷ xs) (v ∷ ys) (suc i) y h b = zip_back xs ys i y h.1 b
 
-  pub zip_at : (xs : List A) (ys : List B) (n : ℕ) (a : A) (b : B) → AllZip R xs ys → n < length xs
-      → a ≡ get_or xs n a → b ≡ get_or ys n b → R a b
-  zip_at [] ys n a b h less e f = absurd (omega arith)
-  zip_at (x ∷ xs) [] n a b h less e f = absurd h
-  zip_at (x ∷ xs) (y ∷ ys) zero a b h less e f = subst (λ z. R z b) (sym e) (subst (λ z. R x z) (sym f) h.0)
-  zip_at (x ∷ xs) (y ∷ ys) (suc n) a b h less e f = zip_at xs ys n a b h.1 (omega arith) e f
-
   pub zip_removed : (xs : List A) (ys : List B) (n : ℕ) → AllZip R xs ys → AllZip R (remove xs n) (remove ys n)
   zip_removed [] [] zero h = tt
   zip_removed [] [] (suc n) h = tt
@@ -51,14 +40,6 @@ module _ {A B : Type 0} (R : A → B → Type 0) where
   zip_removed (x ∷ xs) (y ∷ ys) zero h = h.1
   zip_removed (x ∷ xs) (y ∷ ys) (suc n) h = (h.0, zip_removed xs ys n h.1)
 
-  pub zip_inserted : (xs : List A) (ys : List B) (n : ℕ) (a : A) (b : B) → AllZip R xs ys → R a b
-      → AllZip R (insert xs n a) (insert ys n b)
-  zip_inserted xs ys zero a b h r = (r, h)
-  zip_inserted [] [] (suc n) a b h r = (r, tt)
-  zip_inserted [] (y ∷ ys) (suc n) a b h r = absurd h
-  zip_inserted (x ∷ xs) [] (suc n) a b h r = absurd h
-  zip_inserted (x ∷ xs) (y ∷ ys) (suc n) a b h r = (h.0, zip_inserted xs ys n a b h.1 r)
-
   -- the one that was taken out is put back
   pub zip_put_back : (xs : List A) (ys : List B) (n : ℕ) (a : A) (b : B) → AllZip R (remove xs n) ys → n < length xs
       → a ≡ get_or xs n a → R a b → AllZip R xs (insert ys n b)
@@ -66,14 +47,6 @@ module _ {A B : Type 0} (R : A → B → Type 0) where
   zip_put_back (x ∷ xs) ys zero a b h less e r = (subst (λ z. R z b) e r, h)
   zip_put_back (x ∷ xs) [] (suc n) a b h less e r = absurd h
   zip_put_back (x ∷ xs) (y ∷ ys) (suc n) a b h less e r = (h.0, zip_put_back xs ys n a b h.1 (omega arith) e r)
-
-  pub zip_set : (xs : List A) (ys : List B) (n : ℕ) (a : A) (b : B) → AllZip R xs ys → R a b
-      → AllZip R (set xs n a) (set ys n b)
-  zip_set [] [] n a b h r = tt
-  zip_set [] (y ∷ ys) n a b h r = absurd h
-  zip_set (x ∷ xs) [] n a b h r = absurd h
-  zip_set (x ∷ xs) (y ∷ ys) zero a b h r = (r, h.1)
-  zip_set (x ∷ xs) (y ∷ ys) (suc n) a b h r = (h.0, zip_set xs ys n a b h.1 r)
 
   -- one of the second list goes on
   pub zip_goes : (xs : List A) (ys : List B) (n : ℕ) (d b : B) → AllZip R xs ys → n < length ys → d ≡ get_or ys n d

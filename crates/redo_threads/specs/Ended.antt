@@ -7,8 +7,6 @@ use Rattle.model_core.specs.Actors as model
 use Rattle.model_core.specs.States.{UserState}
 use Rattle.model_running.specs.Schedule.{HaveEnded}
 use Rattle.redo_drive.specs.History.{ListsInOrder}
-use Rattle.redo_drive.specs.Views.{view_of, views_of}
-use Rattle.redo_drive.specs.declared.actor.Actor.{Actor}
 use Rattle.redo_drive.specs.declared.closed.Closed.{Closed}
 use Rattle.model_core.specs.Later.{IsSameActor}
 
@@ -18,8 +16,8 @@ HaveAnswered actors = (seat : ℕ) (u : UserState) → get_elem? actors seat ≡
 
 -- The actors stand in their order. Each user has ended, and has answered all of its lines where the code tells of no failure.
 -- The history lists the groups of these actors.
-pub record HaveRun {L D : Type 0} (starts ends : List Actor) (closed : Closed L D) : Type 0 where
-  pub each : AllZip (λ (a b : Actor). IsSameActor (view_of a) (view_of b)) starts ends
-  pub ended : HaveEnded (views_of ends)
-  pub answered : closed.code ≡ 0 → HaveAnswered (views_of ends)
+pub record HaveRun {L D : Type 0} (starts ends : List model.Actor) (closed : Closed L D) : Type 0 where
+  pub each : AllZip IsSameActor starts ends
+  pub ended : HaveEnded ends
+  pub answered : closed.code ≡ 0 → HaveAnswered ends
   pub listed : ListsInOrder closed.marks ends closed.history

@@ -9,8 +9,6 @@ use Rattle.model_running.specs.Schedule.{HaveEnded}
 use Rattle.model_running.specs.Seating.{ArePageActors}
 use Rattle.model_script.specs.declared.script.ScriptLine.{ScriptLine}
 use Rattle.redo_drive.specs.History.{ListsInOrder}
-use Rattle.redo_drive.specs.Views.{views_of}
-use Rattle.redo_drive.specs.declared.actor.Actor.{Actor}
 use Rattle.redo_drive.specs.declared.drive.Driven.{Driven}
 use Rattle.redo_drive.specs.declared.drive.RunEnd.TheVariants as run_end
 use Rattle.redo_store.specs.declared.opened.Opened.{Opened}
@@ -35,8 +33,8 @@ pub record AreActorsOf (script : List ScriptLine) (log_only : Bool) (actors : Li
 -- tells of no failure. The history lists the groups of these actors.
 pub record RunsInThreads {L D : Type 0} (opened : Opened L D) (script : List ScriptLine) (log_only : Bool) (driven : Driven L D) : Type 0 where
   pub done : driven.ended ≡ run_end.Done
-  pub actors : List Actor
-  pub of_script : AreActorsOf script log_only (views_of actors)
-  pub ended : HaveEnded (views_of actors)
-  pub answered : driven.closed.code ≡ 0 → HaveAnswered (views_of actors)
+  pub actors : List model.Actor
+  pub of_script : AreActorsOf script log_only actors
+  pub ended : HaveEnded actors
+  pub answered : driven.closed.code ≡ 0 → HaveAnswered actors
   pub listed : ListsInOrder driven.closed.marks actors driven.closed.history

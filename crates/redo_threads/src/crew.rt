@@ -1,5 +1,6 @@
 // Actors with their seats, in their order.
 ghost use Rattle.std.specs.Prelude.{length, ◌<◌, ◌≡◌};
+ghost use Rattle.redo_drive.specs.Views.{views_of};
 ghost use Rattle.redo_threads.specs.Working.{AreAtEnd, AreSeated, HasPlace, IsPutBack, IsTakenOut, KeepOn};
 
 use crate::gate::Gate;
@@ -7,27 +8,28 @@ use crate::pace::Pace;
 use crate::work::{stint, work};
 use redo_disk::Sectors;
 use redo_drive::Actor;
+use redo_follow::Receiver;
 use redo_rule::{Ring, Seat};
 use std::sync::Wait;
 use std::sync::atomic::AtomicU64;
 
 /// An actor in its seat.
 #[derive(Drop)]
-pub(crate) struct Worker<L: Sectors, D: Sectors> {
+pub(crate) struct Worker<L: Sectors, D: Sectors, F: Receiver> {
     pub(crate) seat: Seat<L, D>,
-    pub(crate) actor: Actor,
+    pub(crate) actor: Actor<F>,
 }
 
 /// Actors with their seats, in their order.
 #[derive(Drop)]
-pub(crate) struct Crew<L: Sectors, D: Sectors> {
+pub(crate) struct Crew<L: Sectors, D: Sectors, F: Receiver> {
     pub(crate) seats: Vec<Seat<L, D>>,
-    pub(crate) actors: Vec<Actor>,
+    pub(crate) actors: Vec<Actor<F>>,
 }
 
-impl<L: Sectors, D: Sectors> Crew<L, D> {
+impl<L: Sectors, D: Sectors, F: Receiver + Drop> Crew<L, D, F> {
     /// Takes out the actor at a place, in its seat.
-    pub(crate) fn take_out(&mut self, at: usize) -> Worker<L, D>
+    pub(crate) fn take_out(&mut self, at: usize) -> Worker<L, D, F>
         requires seated { length self.old.seats.items ≡ length self.old.actors.items }
         requires there { at < length self.old.actors.items }
         ensures { IsTakenOut self.old at result self.new }
@@ -38,7 +40,7 @@ impl<L: Sectors, D: Sectors> Crew<L, D> {
     }
 
     /// Puts an actor in its seat back at its place.
-    pub(crate) fn put_back(&mut self, at: usize, worker: Worker<L, D>)
+    pub(crate) fn put_back(&mut self, at: usize, worker: Worker<L, D, F>)
         requires { HasPlace self.old at }
         ensures { IsPutBack self.old at worker self.new }
     {
@@ -51,14 +53,14 @@ impl<L: Sectors, D: Sectors> Crew<L, D> {
 
 /// Plays each of the actors that haven't come to their end until it waits. `None` where there are none; else whether
 /// one of them has gone on.
-fn round<L: Sectors, D: Sectors, G: Gate>(
+fn round<L: Sectors, D: Sectors, F: Receiver, G: Gate>(
     table: &Ring<L, D>,
     running: &AtomicU64,
     gate: &G,
-    crew: &mut Crew<L, D>,
+    crew: &mut Crew<L, D, F>,
 ) -> Option<bool>
-    requires { AreSeated table.now.table_id crew.old.seats.items crew.old.actors.items }
-    ensures { KeepOn table.now.table_id crew.old crew.new }
+    requires { AreSeated table.now.table_id crew.old.seats.items (views_of crew.old.actors.items) }
+    ensures { KeepOn F.stands_for table.now.table_id crew.old crew.new }
 {
     let mut open = None;
     for k in 0..crew.actors.len() {
@@ -76,15 +78,15 @@ fn round<L: Sectors, D: Sectors, G: Gate>(
 }
 
 /// Plays actors up to their ends, each until it waits, in turn. It waits itself only where none of them has gone on.
-pub(crate) fn play_here<R: Wait, L: Sectors, D: Sectors, G: Gate>(
+pub(crate) fn play_here<R: Wait, L: Sectors, D: Sectors, F: Receiver, G: Gate>(
     rt: &R,
     table: &Ring<L, D>,
     running: &AtomicU64,
     gate: &G,
-    crew: &mut Crew<L, D>,
+    crew: &mut Crew<L, D, F>,
 )
-    requires { AreSeated table.now.table_id crew.old.seats.items crew.old.actors.items }
-    ensures { KeepOn table.now.table_id crew.old crew.new }
+    requires { AreSeated table.now.table_id crew.old.seats.items (views_of crew.old.actors.items) }
+    ensures { KeepOn F.stands_for table.now.table_id crew.old crew.new }
 {
     let mut pace = Pace::new();
     for _ in rt.forever() {
@@ -98,16 +100,16 @@ pub(crate) fn play_here<R: Wait, L: Sectors, D: Sectors, G: Gate>(
 }
 
 /// Plays each actor up to its end, at which it stands already where it was played in a thread or in turn.
-pub(crate) fn to_ends<R: Wait, L: Sectors, D: Sectors, G: Gate>(
+pub(crate) fn to_ends<R: Wait, L: Sectors, D: Sectors, F: Receiver, G: Gate>(
     rt: &R,
     table: &Ring<L, D>,
     running: &AtomicU64,
     gate: &G,
-    crew: &mut Crew<L, D>,
+    crew: &mut Crew<L, D, F>,
 )
-    requires { AreSeated table.now.table_id crew.old.seats.items crew.old.actors.items }
-    ensures goes_on { KeepOn table.now.table_id crew.old crew.new }
-    ensures at_end { AreAtEnd crew.new.actors.items }
+    requires { AreSeated table.now.table_id crew.old.seats.items (views_of crew.old.actors.items) }
+    ensures goes_on { KeepOn F.stands_for table.now.table_id crew.old crew.new }
+    ensures at_end { AreAtEnd (views_of crew.new.actors.items) }
 {
     for number in 0..crew.actors.len() {
         work(

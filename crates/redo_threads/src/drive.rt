@@ -1,7 +1,8 @@
 // The drive in threads.
 ghost use Rattle.std.specs.Prelude.{IfErr, IfOk, ◌≡◌};
-ghost use Rattle.redo_drive.specs.Startable.{MayBegin};
+ghost use Rattle.redo_drive.specs.Startable.{AreNewFollowers, MayBegin};
 ghost use Rattle.redo_drive.specs.Drive.{Owes, ReadsToMarks};
+ghost use Rattle.redo_drive.specs.Followed.{HaveFollowed};
 ghost use Rattle.redo_rule.specs.Failing.{CodeHasCause};
 ghost use Rattle.redo_threads.specs.InThreads.{RunsInThreads};
 
@@ -9,7 +10,8 @@ use crate::gate::Gate;
 use crate::run::run_threads;
 use model_script::Script;
 use redo_disk::Sectors;
-use redo_drive::{Driven, RunEnd};
+use redo_drive::{Actor, Driven, RunEnd};
+use redo_follow::{Follower, Receiver};
 use redo_lsn::NoMemory;
 use redo_rule::Shared;
 use redo_store::Opened;
@@ -17,27 +19,38 @@ use std::alloc::Global;
 use std::sync::Wait;
 use std::thread::Threads;
 
-/// Runs a script on an opened store in threads, one for each actor, with the log alone or with the pages. Where there is no
-/// memory it gives both devices back as they were.
-pub fn drive_in_threads<R: Threads + Wait + Sync, L: Sectors + Send, D: Sectors + Send, G: Gate>(
+/// Runs a script on an opened store in threads, one for each actor, with the log alone or with the pages, and with these
+/// followers. With what the run leaves it gives the actors back, the followers among them. Where there is no memory it gives both
+/// devices back as they were.
+pub fn drive_in_threads<
+    R: Threads + Wait + Sync,
+    L: Sectors + Send,
+    D: Sectors + Send,
+    F: Receiver + Drop + Send,
+    G: Gate,
+>(
     rt: &R,
     alloc: Global,
     opened: Opened<L, D>,
     script: &Script,
     log_only: bool,
+    followers: Vec<Follower<F>>,
     gate: &G,
-) -> Result<Driven<L, D>, (NoMemory, L, D)>
-    requires { MayBegin opened script.now log_only }
+) -> Result<(Driven<L, D>, Vec<Actor<F>>), (NoMemory, L, D)>
+    requires may { MayBegin opened script.now log_only }
+    requires new { AreNewFollowers opened.start followers.items }
     ensures err { IfErr result (λ error. (error.1 ≡ opened.log.dev) × (error.2 ≡ opened.store.dev)) }
-    ensures owed { IfOk result (Owes L.seen L.gives D.seen D.gives opened script.now) }
-    ensures says { IfOk result (RunsInThreads opened script.now log_only) }
-    ensures reads { IfOk result (λ driven. ReadsToMarks L.seen D.seen opened script.now driven.closed) }
-    ensures cause { IfOk result (λ driven. CodeHasCause L.seen D.seen driven.closed.code opened.log driven.closed.log opened.store driven.closed.store) }
+    ensures owed { IfOk result (λ left. Owes L.seen L.gives D.seen D.gives opened script.now left.0) }
+    ensures says { IfOk result (λ left. RunsInThreads opened script.now log_only left.0) }
+    ensures reads { IfOk result (λ left. ReadsToMarks L.seen D.seen opened script.now left.0.closed) }
+    ensures cause { IfOk result (λ left. CodeHasCause L.seen D.seen left.0.closed.code opened.log left.0.closed.log opened.store left.0.closed.store) }
+    ensures followed { IfOk result (λ left. HaveFollowed L.seen D.seen F.stands_for opened script.now followers.items left.1.items left.0.closed) }
 {
-    let (shared, actors) = Shared::new(alloc, opened, script, log_only)?;
-    let (closed, _actors) = run_threads(rt, shared, actors, gate);
-    Ok(Driven {
+    let (shared, actors) = Shared::new(alloc, opened, script, log_only, followers)?;
+    let (closed, actors) = run_threads(rt, shared, actors, gate);
+    let driven = Driven {
         ended: RunEnd::Done,
         closed,
-    })
+    };
+    Ok((driven, actors))
 }

@@ -1,6 +1,6 @@
 // A thread for each actor, where one can be started.
 ghost use Rattle.std.specs.Prelude.{IfErr, IfOk, length, ◌≡◌, ◌≤◌};
-ghost use Rattle.redo_drive.specs.Views.{view_of};
+ghost use Rattle.redo_drive.specs.Views.{view_of, views_of};
 ghost use Rattle.redo_rule.specs.Seating.{IsSeatOf};
 ghost use Rattle.redo_rule.specs.Sharing.{AreSeatsOf};
 ghost use Rattle.redo_threads.specs.Working.{AreAtEnd, AreSeated, GoOn, GoesOn, KeepOn};
@@ -9,6 +9,7 @@ use crate::crew::{Crew, Worker, play_here, to_ends};
 use crate::gate::Gate;
 use crate::work::work;
 use redo_disk::Sectors;
+use redo_follow::Receiver;
 use redo_rule::Ring;
 use std::snapshot::Snapshot;
 use std::sync::Wait;
@@ -20,27 +21,27 @@ const NOBODY: u64 = u64::MAX;
 
 /// The promise of an actor's thread: what it gives back has gone on from what it was given.
 #[derive(Drop)]
-pub(crate) struct FromWorker<L: Sectors, D: Sectors>(Snapshot<Worker<L, D>>);
+pub(crate) struct FromWorker<L: Sectors, D: Sectors, F: Receiver>(Snapshot<Worker<L, D, F>>);
 
-impl<L: Sectors, D: Sectors> Promise<Worker<L, D>> for FromWorker<L, D> {
+impl<L: Sectors, D: Sectors, F: Receiver> Promise<Worker<L, D, F>> for FromWorker<L, D, F> {
     ghost use Rattle.redo_threads.specs.Working.{GoesOn};
 
-    ghost kept_by = { λ p r. GoesOn p.0.value.seat.table_id p.0.value.seat p.0.value.actor r.seat r.actor };
+    ghost kept_by = { λ p r. GoesOn F.stands_for p.0.value.seat.table_id p.0.value.seat p.0.value.actor r.seat r.actor };
 }
 
 /// What a thread does: it plays its actor up to the end. Where the thread couldn't be started, the caller has noted its number
 /// and calls this itself, to get the actor back as it was.
-fn work_or_return<R: Wait, L: Sectors, D: Sectors, G: Gate>(
+fn work_or_return<R: Wait, L: Sectors, D: Sectors, F: Receiver, G: Gate>(
     rt: &R,
     table: &Ring<L, D>,
     running: &AtomicU64,
     refused: &AtomicU64,
     gate: &G,
     number: u64,
-    mut worker: Worker<L, D>,
-) -> Worker<L, D>
+    mut worker: Worker<L, D, F>,
+) -> Worker<L, D, F>
     requires { IsSeatOf table.now.table_id worker.seat (view_of worker.actor) }
-    ensures { GoesOn table.now.table_id worker.seat worker.actor result.seat result.actor }
+    ensures { GoesOn F.stands_for table.now.table_id worker.seat worker.actor result.seat result.actor }
 {
     if refused.load(Ordering::SeqCst) != number {
         work(
@@ -57,7 +58,15 @@ fn work_or_return<R: Wait, L: Sectors, D: Sectors, G: Gate>(
 
 /// Starts a thread for the actor with this number. Where it can't be started, or the gate refuses it, the actor comes
 /// back.
-fn start_one<'s, E, R: Threads + Wait + Sync, L: Sectors + Send, D: Sectors + Send, G: Gate>(
+fn start_one<
+    's,
+    E,
+    R: Threads + Wait + Sync,
+    L: Sectors + Send,
+    D: Sectors + Send,
+    F: Receiver + Drop + Send + 's,
+    G: Gate,
+>(
     scope: &'s Scope<'s, E>,
     rt: &'s R,
     table: &'s Ring<L, D>,
@@ -65,11 +74,11 @@ fn start_one<'s, E, R: Threads + Wait + Sync, L: Sectors + Send, D: Sectors + Se
     refused: &'s AtomicU64,
     gate: &'s G,
     number: usize,
-    worker: Worker<L, D>,
-) -> Result<PromisedHandle<Worker<L, D>, FromWorker<L, D>>, Worker<L, D>>
+    worker: Worker<L, D, F>,
+) -> Result<PromisedHandle<Worker<L, D, F>, FromWorker<L, D, F>>, Worker<L, D, F>>
     requires { IsSeatOf table.now.table_id worker.seat (view_of worker.actor) }
     ensures ok { IfOk result (λ handle. handle.promise.0.value ≡ worker) }
-    ensures err { IfErr result (λ back. GoesOn table.now.table_id worker.seat worker.actor back.seat back.actor) }
+    ensures err { IfErr result (λ back. GoesOn F.stands_for table.now.table_id worker.seat worker.actor back.seat back.actor) }
 {
     if gate.refuses(number) {
         return Err(worker);
@@ -78,9 +87,9 @@ fn start_one<'s, E, R: Threads + Wait + Sync, L: Sectors + Send, D: Sectors + Se
     let promise = FromWorker(Snapshot::of(&worker));
     match scope.spawn_with(
         promise,
-        move || -> Worker<L, D>
+        move || -> Worker<L, D, F>
             requires { IsSeatOf table.now.table_id worker.seat (view_of worker.actor) }
-            ensures { GoesOn table.entry.now.table_id worker.seat worker.actor result.seat result.actor }
+            ensures { GoesOn F.stands_for table.entry.now.table_id worker.seat worker.actor result.seat result.actor }
         { work_or_return(rt, table, running, refused, gate, number, worker) },
     ) {
         Ok(handle) => Ok(handle),
@@ -93,7 +102,15 @@ fn start_one<'s, E, R: Threads + Wait + Sync, L: Sectors + Send, D: Sectors + Se
 
 /// Starts threads for the first actors, as many as are left, the last of them first, and joins them. Who gets no
 /// thread stays behind those that are left: it plays these itself, once each of the others has been tried.
-fn start<'s, E, R: Threads + Wait + Sync, L: Sectors + Send, D: Sectors + Send, G: Gate>(
+fn start<
+    's,
+    E,
+    R: Threads + Wait + Sync,
+    L: Sectors + Send,
+    D: Sectors + Send,
+    F: Receiver + Drop + Send + 's,
+    G: Gate,
+>(
     scope: &'s Scope<'s, E>,
     rt: &'s R,
     table: &'s Ring<L, D>,
@@ -101,11 +118,11 @@ fn start<'s, E, R: Threads + Wait + Sync, L: Sectors + Send, D: Sectors + Send, 
     refused: &'s AtomicU64,
     gate: &'s G,
     left: usize,
-    mut crew: Crew<L, D>,
-) -> Crew<L, D>
-    requires seated { AreSeated table.now.table_id crew.seats.items crew.actors.items }
+    mut crew: Crew<L, D, F>,
+) -> Crew<L, D, F>
+    requires seated { AreSeated table.now.table_id crew.seats.items (views_of crew.actors.items) }
     requires left { left ≤ length crew.actors.items }
-    ensures { KeepOn table.now.table_id crew result }
+    ensures { KeepOn F.stands_for table.now.table_id crew result }
 {
     if left == 0 {
         play_here(rt, table, running, gate, &mut crew);
@@ -127,25 +144,25 @@ fn start<'s, E, R: Threads + Wait + Sync, L: Sectors + Send, D: Sectors + Send, 
 }
 
 /// Plays all actors at once, up to their ends.
-pub(crate) fn play_all<R: Threads + Wait + Sync, L: Sectors + Send, D: Sectors + Send, G: Gate>(
-    rt: &R,
-    table: &Ring<L, D>,
-    running: &AtomicU64,
-    gate: &G,
-    crew: Crew<L, D>,
-) -> Crew<L, D>
-    requires { AreSeatsOf table.now.table_id crew.seats.items crew.actors.items }
-    ensures goes_on { GoOn table.now.table_id crew result }
-    ensures at_end { AreAtEnd result.actors.items }
+pub(crate) fn play_all<
+    R: Threads + Wait + Sync,
+    L: Sectors + Send,
+    D: Sectors + Send,
+    F: Receiver + Drop + Send,
+    G: Gate,
+>(rt: &R, table: &Ring<L, D>, running: &AtomicU64, gate: &G, crew: Crew<L, D, F>) -> Crew<L, D, F>
+    requires { AreSeatsOf table.now.table_id crew.seats.items (views_of crew.actors.items) }
+    ensures goes_on { GoOn F.stands_for table.now.table_id crew result }
+    ensures at_end { AreAtEnd (views_of result.actors.items) }
 {
     let refused = AtomicU64::new(NOBODY);
     let refused_at = &refused;
     let mut played = scope(
         scope_env(),
         rt,
-        |all| -> Crew<L, D>
-            requires { AreSeatsOf table.now.table_id crew.seats.items crew.actors.items }
-            ensures { KeepOn table.entry.now.table_id crew result }
+        |all| -> Crew<L, D, F>
+            requires { AreSeatsOf table.now.table_id crew.seats.items (views_of crew.actors.items) }
+            ensures { KeepOn F.stands_for table.entry.now.table_id crew result }
         {
             let left = crew.actors.len();
             start(all, rt, table, running, refused_at, gate, left, crew)

@@ -10,6 +10,7 @@ use crate::gate::{Gate, point_after};
 use crate::pace::Pace;
 use redo_disk::Sectors;
 use redo_drive::Actor;
+use redo_follow::Receiver;
 use redo_rule::{Ring, Seat, holds_nothing, play};
 use redo_useractor::UserActor;
 use redo_words::{Op, Step};
@@ -28,7 +29,7 @@ pub(crate) fn is_over(user: &UserActor) -> bool
 }
 
 /// Whether an actor has come to its end: a user has ended, and any other holds nothing, and has failed or no user runs.
-fn is_at_end(actor: &Actor, running: &AtomicU64) -> bool
+fn is_at_end<F: Receiver>(actor: &Actor<F>, running: &AtomicU64) -> bool
     requires { IsFreeToCheck (view_of actor.now) }
     ensures { result ≡ true → AtEnd (view_of actor.now) }
 {
@@ -40,7 +41,7 @@ fn is_at_end(actor: &Actor, running: &AtomicU64) -> bool
 }
 
 /// What a user asks for.
-fn user_op(actor: &Actor) -> Option<Op> {
+fn user_op<F: Receiver>(actor: &Actor<F>) -> Option<Op> {
     match actor {
         Actor::User(user) => Some(user.next()),
         _ => None,
@@ -58,15 +59,15 @@ fn leave<G: Gate>(user: &UserActor, done: Op, running: &AtomicU64, gate: &G) {
 }
 
 /// One Op of an actor that hasn't come to its end.
-fn turn<L: Sectors, D: Sectors, G: Gate>(
+fn turn<L: Sectors, D: Sectors, F: Receiver, G: Gate>(
     table: &Ring<L, D>,
     running: &AtomicU64,
     gate: &G,
     seat: &mut Seat<L, D>,
-    actor: &mut Actor,
+    actor: &mut Actor<F>,
 ) -> Step
     requires { IsSeatOf table.now.table_id seat.old (view_of actor.old) }
-    ensures { GoesOn table.now.table_id seat.old actor.old seat.new actor.new }
+    ensures { GoesOn F.stands_for table.now.table_id seat.old actor.old seat.new actor.new }
 {
     let done = user_op(actor);
     let step = play(table, seat, actor);
@@ -80,15 +81,15 @@ fn turn<L: Sectors, D: Sectors, G: Gate>(
 
 /// Plays an actor until it waits or has come to its end, or for a stint. `None` where it is at its end already; else
 /// whether it has gone on, and not only looked in vain.
-pub(crate) fn stint<L: Sectors, D: Sectors, G: Gate>(
+pub(crate) fn stint<L: Sectors, D: Sectors, F: Receiver, G: Gate>(
     table: &Ring<L, D>,
     running: &AtomicU64,
     gate: &G,
     seat: &mut Seat<L, D>,
-    actor: &mut Actor,
+    actor: &mut Actor<F>,
 ) -> Option<bool>
     requires { IsSeatOf table.now.table_id seat.old (view_of actor.old) }
-    ensures { GoesOn table.now.table_id seat.old actor.old seat.new actor.new }
+    ensures { GoesOn F.stands_for table.now.table_id seat.old actor.old seat.new actor.new }
 {
     if is_at_end(actor, running) {
         return None;
@@ -105,16 +106,16 @@ pub(crate) fn stint<L: Sectors, D: Sectors, G: Gate>(
 }
 
 /// Plays an actor up to its end.
-pub(crate) fn work<R: Wait, L: Sectors, D: Sectors, G: Gate>(
+pub(crate) fn work<R: Wait, L: Sectors, D: Sectors, F: Receiver, G: Gate>(
     rt: &R,
     table: &Ring<L, D>,
     running: &AtomicU64,
     gate: &G,
     seat: &mut Seat<L, D>,
-    actor: &mut Actor,
+    actor: &mut Actor<F>,
 )
     requires { IsSeatOf table.now.table_id seat.old (view_of actor.old) }
-    ensures goes_on { GoesOn table.now.table_id seat.old actor.old seat.new actor.new }
+    ensures goes_on { GoesOn F.stands_for table.now.table_id seat.old actor.old seat.new actor.new }
     ensures at_end { AtEnd (view_of actor.new) }
 {
     let in_vain = actor.steps_in_vain();

@@ -2,61 +2,180 @@ use Rattle.std.proofs.Common.{ap, arith, sym, List, ◌∙◌}
 use Rattle.std.specs.Slots.{slots_filled, slots_items}
 use lib.ListN.{get_elem?}
 use Rattle.model_core.specs.{tail_of}
+use Rattle.redo_drive.specs.Views.{views_of}
 use Rattle.redo_rule.proofs.Finishing.{all_empty, data_there, ends_with, list_there, log_there, parts_left, small, still_there}
 use Rattle.redo_rule.specs.declared.law.Slot.{Slot}
 use Rattle.redo_rule.proofs.closing.close_table.Goals as goal
 
 pub close_with-closed-requires : goal.close_with-closed-requires
-close_with-closed-requires g c = c.requires.is_first.of
+close_with-closed-requires g c = c.requires.1.is_first.of
 
 pub word_in-requires-clause-there : goal.word_in-requires-clause-there
-word_in-requires-clause-there g c = let n = c.close_with-closed.ensures.counts.0 in let w = c.requires.is_first.words in omega arith
+word_in-requires-clause-there g c = let n = c.close_with-closed.ensures.counts.0 in let w =
+    c.requires.1.is_first.words in omega arith
 
 pub word_in-code-requires-clause-there : goal.word_in-code-requires-clause-there
-word_in-code-requires-clause-there g c = let n = c.close_with-closed.ensures.counts.0 in let w = c.requires.is_first.words in omega arith
+word_in-code-requires-clause-there g c = let n = c.close_with-closed.ensures.counts.0 in let w =
+    c.requires.1.is_first.words in omega arith
 
 pub overflow_cast-code : goal.overflow_cast-code
-overflow_cast-code g c = let n = small g.L.Sectors.seen g.L.Sectors.gives g.D.Sectors.seen g.D.Sectors.gives c.args.board.shared.key c.args.actors.now (slots_items c.close_with-closed.result.words) (slots_items c.close_with-closed.result.slots) (ends_with g.L.Sectors.seen g.L.Sectors.gives g.D.Sectors.seen g.D.Sectors.gives c.args.board.shared.key c.args.board.shared.table_id c.args.actors.now c.args.first c.requires (slots_items c.close_with-closed.result.words) (slots_items c.close_with-closed.result.slots) c.close_with-closed.ensures.values.2) in let e = c.word_in-code.ensures in omega arith
+overflow_cast-code g c = let n = small g.L.Sectors.seen g.L.Sectors.gives g.D.Sectors.seen g.D.Sectors.gives
+    c.args.board.shared.key c.requires.0 (views_of c.args.actors.now) (slots_items c.close_with-closed.result.words)
+    (slots_items c.close_with-closed.result.slots) (ends_with g.L.Sectors.seen g.L.Sectors.gives g.D.Sectors.seen
+    g.D.Sectors.gives c.args.board.shared.key c.args.board.shared.table_id c.requires.0 (views_of c.args.actors.now)
+    c.args.first c.requires.1 (slots_items c.close_with-closed.result.words) (slots_items
+    c.close_with-closed.result.slots) c.close_with-closed.ensures.values.2) in let e = c.word_in-code.ensures in omega
+    arith
 
 pub take-log-requires : goal.take-log-requires
-take-log-requires g c = ((let n = c.close_with-closed.ensures.counts.1 in let m = c.requires.is_first.slots in omega arith), (c.close_with-closed.ensures.values.1 0 (omega arith) (let n = c.close_with-closed.ensures.counts.1 in let m = c.requires.is_first.slots in omega arith)))
+take-log-requires g c = (
+  (let n = c.close_with-closed.ensures.counts.1 in let m = c.requires.1.is_first.slots in omega
+      arith),
+  (c.close_with-closed.ensures.values.1 0 (omega arith) (let n = c.close_with-closed.ensures.counts.1 in let
+      m = c.requires.1.is_first.slots in omega arith)),
+)
 
 pub take-a-requires : goal.take-a-requires
-take-a-requires g c = ((let n = c.close_with-closed.ensures.counts.1 in let m = c.requires.is_first.slots in let l1 = c.take-log.ensures.others.2 in omega arith), (still_there (slots_filled c.close_with-closed.result.slots) (slots_filled c.take-log.new.self.slots) 0 1 c.take-log.ensures.others.1 (λ e. omega arith) (c.close_with-closed.ensures.values.1 1 (omega arith) (let n = c.close_with-closed.ensures.counts.1 in let m = c.requires.is_first.slots in omega arith))))
+take-a-requires g c = (
+  (let n = c.close_with-closed.ensures.counts.1 in let m = c.requires.1.is_first.slots in let l1
+      = c.take-log.ensures.others.2 in omega arith),
+  (still_there (slots_filled c.close_with-closed.result.slots)
+      (slots_filled c.take-log.new.self.slots) 0 1 c.take-log.ensures.others.1 (λ e. omega arith)
+      (c.close_with-closed.ensures.values.1 1 (omega arith) (let n = c.close_with-closed.ensures.counts.1 in let m =
+      c.requires.1.is_first.slots in omega arith))),
+)
 
 pub take-b-requires : goal.take-b-requires
-take-b-requires g c = ((let n = c.close_with-closed.ensures.counts.1 in let m = c.requires.is_first.slots in let l1 = c.take-log.ensures.others.2 in let l2 = c.take-a.ensures.others.2 in omega arith), (still_there (slots_filled c.take-log.new.self.slots) (slots_filled c.take-a.new.self.slots) 1 2 c.take-a.ensures.others.1 (λ e. omega arith) (still_there (slots_filled c.close_with-closed.result.slots) (slots_filled c.take-log.new.self.slots) 0 2 c.take-log.ensures.others.1 (λ e. omega arith) (c.close_with-closed.ensures.values.1 2 (omega arith) (let n = c.close_with-closed.ensures.counts.1 in let m = c.requires.is_first.slots in omega arith)))))
+take-b-requires g c = (
+  (let n = c.close_with-closed.ensures.counts.1 in let m = c.requires.1.is_first.slots in let l1
+      = c.take-log.ensures.others.2 in let l2 = c.take-a.ensures.others.2 in omega arith),
+  (still_there (slots_filled
+      c.take-log.new.self.slots) (slots_filled c.take-a.new.self.slots) 1 2 c.take-a.ensures.others.1 (λ e. omega arith)
+      (still_there (slots_filled c.close_with-closed.result.slots) (slots_filled c.take-log.new.self.slots) 0 2
+      c.take-log.ensures.others.1 (λ e. omega arith) (c.close_with-closed.ensures.values.1 2 (omega arith) (let n =
+      c.close_with-closed.ensures.counts.1 in let m = c.requires.1.is_first.slots in omega arith)))),
+)
 
 pub take-c-requires : goal.take-c-requires
-take-c-requires g c = ((let n = c.close_with-closed.ensures.counts.1 in let m = c.requires.is_first.slots in let l1 = c.take-log.ensures.others.2 in let l2 = c.take-a.ensures.others.2 in let l3 = c.take-b.ensures.others.2 in omega arith), (still_there (slots_filled c.take-a.new.self.slots) (slots_filled c.take-b.new.self.slots) 2 3 c.take-b.ensures.others.1 (λ e. omega arith) (still_there (slots_filled c.take-log.new.self.slots) (slots_filled c.take-a.new.self.slots) 1 3 c.take-a.ensures.others.1 (λ e. omega arith) (still_there (slots_filled c.close_with-closed.result.slots) (slots_filled c.take-log.new.self.slots) 0 3 c.take-log.ensures.others.1 (λ e. omega arith) (c.close_with-closed.ensures.values.1 3 (omega arith) (let n = c.close_with-closed.ensures.counts.1 in let m = c.requires.is_first.slots in omega arith))))))
+take-c-requires g c = (
+  (let n = c.close_with-closed.ensures.counts.1 in let m = c.requires.1.is_first.slots in let l1
+      = c.take-log.ensures.others.2 in let l2 = c.take-a.ensures.others.2 in let l3 = c.take-b.ensures.others.2 in omega
+      arith),
+  (still_there (slots_filled c.take-a.new.self.slots) (slots_filled c.take-b.new.self.slots) 2 3
+      c.take-b.ensures.others.1 (λ e. omega arith) (still_there (slots_filled c.take-log.new.self.slots) (slots_filled
+      c.take-a.new.self.slots) 1 3 c.take-a.ensures.others.1 (λ e. omega arith) (still_there (slots_filled
+      c.close_with-closed.result.slots) (slots_filled c.take-log.new.self.slots) 0 3 c.take-log.ensures.others.1 (λ e.
+      omega arith) (c.close_with-closed.ensures.values.1 3 (omega arith) (let n = c.close_with-closed.ensures.counts.1
+      in let m = c.requires.1.is_first.slots in omega arith))))),
+)
 
 pub take-d-requires : goal.take-d-requires
-take-d-requires g c = ((let n = c.close_with-closed.ensures.counts.1 in let m = c.requires.is_first.slots in let l1 = c.take-log.ensures.others.2 in let l2 = c.take-a.ensures.others.2 in let l3 = c.take-b.ensures.others.2 in let l4 = c.take-c.ensures.others.2 in omega arith), (still_there (slots_filled c.take-b.new.self.slots) (slots_filled c.take-c.new.self.slots) 3 4 c.take-c.ensures.others.1 (λ e. omega arith) (still_there (slots_filled c.take-a.new.self.slots) (slots_filled c.take-b.new.self.slots) 2 4 c.take-b.ensures.others.1 (λ e. omega arith) (still_there (slots_filled c.take-log.new.self.slots) (slots_filled c.take-a.new.self.slots) 1 4 c.take-a.ensures.others.1 (λ e. omega arith) (still_there (slots_filled c.close_with-closed.result.slots) (slots_filled c.take-log.new.self.slots) 0 4 c.take-log.ensures.others.1 (λ e. omega arith) (c.close_with-closed.ensures.values.1 4 (omega arith) (let n = c.close_with-closed.ensures.counts.1 in let m = c.requires.is_first.slots in omega arith)))))))
+take-d-requires g c = (
+  (let n = c.close_with-closed.ensures.counts.1 in let m = c.requires.1.is_first.slots in let l1
+      = c.take-log.ensures.others.2 in let l2 = c.take-a.ensures.others.2 in let l3 = c.take-b.ensures.others.2 in let
+      l4 = c.take-c.ensures.others.2 in omega arith),
+  (still_there (slots_filled c.take-b.new.self.slots) (slots_filled
+      c.take-c.new.self.slots) 3 4 c.take-c.ensures.others.1 (λ e. omega arith) (still_there (slots_filled
+      c.take-a.new.self.slots) (slots_filled c.take-b.new.self.slots) 2 4 c.take-b.ensures.others.1 (λ e. omega arith)
+      (still_there (slots_filled c.take-log.new.self.slots) (slots_filled c.take-a.new.self.slots) 1 4
+      c.take-a.ensures.others.1 (λ e. omega arith) (still_there (slots_filled c.close_with-closed.result.slots)
+      (slots_filled c.take-log.new.self.slots) 0 4 c.take-log.ensures.others.1 (λ e. omega arith)
+      (c.close_with-closed.ensures.values.1 4 (omega arith) (let n = c.close_with-closed.ensures.counts.1 in let m =
+      c.requires.1.is_first.slots in omega arith)))))),
+)
 
 pub take-data-requires : goal.take-data-requires
-take-data-requires g c = ((let n = c.close_with-closed.ensures.counts.1 in let m = c.requires.is_first.slots in let l1 = c.take-log.ensures.others.2 in let l2 = c.take-a.ensures.others.2 in let l3 = c.take-b.ensures.others.2 in let l4 = c.take-c.ensures.others.2 in let l5 = c.take-d.ensures.others.2 in omega arith), (still_there (slots_filled c.take-c.new.self.slots) (slots_filled c.take-d.new.self.slots) 4 5 c.take-d.ensures.others.1 (λ e. omega arith) (still_there (slots_filled c.take-b.new.self.slots) (slots_filled c.take-c.new.self.slots) 3 5 c.take-c.ensures.others.1 (λ e. omega arith) (still_there (slots_filled c.take-a.new.self.slots) (slots_filled c.take-b.new.self.slots) 2 5 c.take-b.ensures.others.1 (λ e. omega arith) (still_there (slots_filled c.take-log.new.self.slots) (slots_filled c.take-a.new.self.slots) 1 5 c.take-a.ensures.others.1 (λ e. omega arith) (still_there (slots_filled c.close_with-closed.result.slots) (slots_filled c.take-log.new.self.slots) 0 5 c.take-log.ensures.others.1 (λ e. omega arith) (c.close_with-closed.ensures.values.1 5 (omega arith) (let n = c.close_with-closed.ensures.counts.1 in let m = c.requires.is_first.slots in omega arith))))))))
+take-data-requires g c = (
+  (let n = c.close_with-closed.ensures.counts.1 in let m = c.requires.1.is_first.slots in let
+      l1 = c.take-log.ensures.others.2 in let l2 = c.take-a.ensures.others.2 in let l3 = c.take-b.ensures.others.2 in
+      let l4 = c.take-c.ensures.others.2 in let l5 = c.take-d.ensures.others.2 in omega arith),
+  (still_there
+      (slots_filled c.take-c.new.self.slots) (slots_filled c.take-d.new.self.slots) 4 5 c.take-d.ensures.others.1 (λ e.
+      omega arith) (still_there (slots_filled c.take-b.new.self.slots) (slots_filled c.take-c.new.self.slots) 3 5
+      c.take-c.ensures.others.1 (λ e. omega arith) (still_there (slots_filled c.take-a.new.self.slots) (slots_filled
+      c.take-b.new.self.slots) 2 5 c.take-b.ensures.others.1 (λ e. omega arith) (still_there (slots_filled
+      c.take-log.new.self.slots) (slots_filled c.take-a.new.self.slots) 1 5 c.take-a.ensures.others.1 (λ e. omega arith)
+      (still_there (slots_filled c.close_with-closed.result.slots) (slots_filled c.take-log.new.self.slots) 0 5
+      c.take-log.ensures.others.1 (λ e. omega arith) (c.close_with-closed.ensures.values.1 5 (omega arith) (let n =
+      c.close_with-closed.ensures.counts.1 in let m = c.requires.1.is_first.slots in omega arith))))))),
+)
 
 pub free-requires : goal.free-requires
-free-requires g c = λ k l. all_empty (slots_filled c.close_with-closed.result.slots) (slots_filled c.take-log.new.self.slots) (slots_filled c.take-a.new.self.slots) (slots_filled c.take-b.new.self.slots) (slots_filled c.take-c.new.self.slots) (slots_filled c.take-d.new.self.slots) (slots_filled c.take-data.new.self.slots) c.take-log.ensures.others.1 c.take-a.ensures.others.1 c.take-b.ensures.others.1 c.take-c.ensures.others.1 c.take-d.ensures.others.1 c.take-data.ensures.others.1 k (let n = c.close_with-closed.ensures.counts.1 in let m = c.requires.is_first.slots in let l1 = c.take-log.ensures.others.2 in let l2 = c.take-a.ensures.others.2 in let l3 = c.take-b.ensures.others.2 in let l4 = c.take-c.ensures.others.2 in let l5 = c.take-d.ensures.others.2 in let l6 = c.take-data.ensures.others.2 in omega arith)
+free-requires g c = λ k l. all_empty (slots_filled c.close_with-closed.result.slots) (slots_filled
+    c.take-log.new.self.slots) (slots_filled c.take-a.new.self.slots) (slots_filled c.take-b.new.self.slots)
+    (slots_filled c.take-c.new.self.slots) (slots_filled c.take-d.new.self.slots) (slots_filled
+    c.take-data.new.self.slots) c.take-log.ensures.others.1 c.take-a.ensures.others.1 c.take-b.ensures.others.1
+    c.take-c.ensures.others.1 c.take-d.ensures.others.1 c.take-data.ensures.others.1 k (let n =
+    c.close_with-closed.ensures.counts.1 in let m = c.requires.1.is_first.slots in let l1 =
+    c.take-log.ensures.others.2 in let l2 = c.take-a.ensures.others.2 in let l3 = c.take-b.ensures.others.2 in let l4
+    = c.take-c.ensures.others.2 in let l5 = c.take-d.ensures.others.2 in let l6 = c.take-data.ensures.others.2 in
+    omega arith)
 
 pub drop_list-requires : goal.drop_list-requires
-drop_list-requires g c = list_there g.L.Sectors.seen g.L.Sectors.gives g.D.Sectors.seen g.D.Sectors.gives c.args.board.shared.key c.args.actors.now (slots_items c.close_with-closed.result.words) (slots_items c.close_with-closed.result.slots) (ends_with g.L.Sectors.seen g.L.Sectors.gives g.D.Sectors.seen g.D.Sectors.gives c.args.board.shared.key c.args.board.shared.table_id c.args.actors.now c.args.first c.requires (slots_items c.close_with-closed.result.words) (slots_items c.close_with-closed.result.slots) c.close_with-closed.ensures.values.2) 0 c.take-a.result (omega arith) (ap (λ (l : List (Slot _ _)). get_elem? l 1) (sym (c.take-log.ensures.others.0)) ∙ c.take-a.ensures.value)
+drop_list-requires g c = list_there g.L.Sectors.seen g.L.Sectors.gives g.D.Sectors.seen g.D.Sectors.gives
+    c.args.board.shared.key c.requires.0 (views_of c.args.actors.now) (slots_items c.close_with-closed.result.words)
+    (slots_items c.close_with-closed.result.slots) (ends_with g.L.Sectors.seen g.L.Sectors.gives g.D.Sectors.seen
+    g.D.Sectors.gives c.args.board.shared.key c.args.board.shared.table_id c.requires.0 (views_of c.args.actors.now)
+    c.args.first c.requires.1 (slots_items c.close_with-closed.result.words) (slots_items
+    c.close_with-closed.result.slots) c.close_with-closed.ensures.values.2) 0 c.take-a.result (omega arith) (ap (λ (l
+    : List (Slot _ _)). get_elem? l 1) (sym (c.take-log.ensures.others.0)) ∙ c.take-a.ensures.value)
 
 pub drop_list-requires-2 : goal.drop_list-requires-2
-drop_list-requires-2 g c = list_there g.L.Sectors.seen g.L.Sectors.gives g.D.Sectors.seen g.D.Sectors.gives c.args.board.shared.key c.args.actors.now (slots_items c.close_with-closed.result.words) (slots_items c.close_with-closed.result.slots) (ends_with g.L.Sectors.seen g.L.Sectors.gives g.D.Sectors.seen g.D.Sectors.gives c.args.board.shared.key c.args.board.shared.table_id c.args.actors.now c.args.first c.requires (slots_items c.close_with-closed.result.words) (slots_items c.close_with-closed.result.slots) c.close_with-closed.ensures.values.2) 1 c.take-b.result (omega arith) (ap (λ (l : List (Slot _ _)). get_elem? l 2) (sym (c.take-a.ensures.others.0 ∙ c.take-log.ensures.others.0)) ∙ c.take-b.ensures.value)
+drop_list-requires-2 g c = list_there g.L.Sectors.seen g.L.Sectors.gives g.D.Sectors.seen g.D.Sectors.gives
+    c.args.board.shared.key c.requires.0 (views_of c.args.actors.now) (slots_items c.close_with-closed.result.words)
+    (slots_items c.close_with-closed.result.slots) (ends_with g.L.Sectors.seen g.L.Sectors.gives g.D.Sectors.seen
+    g.D.Sectors.gives c.args.board.shared.key c.args.board.shared.table_id c.requires.0 (views_of c.args.actors.now)
+    c.args.first c.requires.1 (slots_items c.close_with-closed.result.words) (slots_items
+    c.close_with-closed.result.slots) c.close_with-closed.ensures.values.2) 1 c.take-b.result (omega arith) (ap (λ (l
+    : List (Slot _ _)). get_elem? l 2) (sym (c.take-a.ensures.others.0 ∙ c.take-log.ensures.others.0)) ∙
+    c.take-b.ensures.value)
 
 pub drop_list-requires-3 : goal.drop_list-requires-3
-drop_list-requires-3 g c = list_there g.L.Sectors.seen g.L.Sectors.gives g.D.Sectors.seen g.D.Sectors.gives c.args.board.shared.key c.args.actors.now (slots_items c.close_with-closed.result.words) (slots_items c.close_with-closed.result.slots) (ends_with g.L.Sectors.seen g.L.Sectors.gives g.D.Sectors.seen g.D.Sectors.gives c.args.board.shared.key c.args.board.shared.table_id c.args.actors.now c.args.first c.requires (slots_items c.close_with-closed.result.words) (slots_items c.close_with-closed.result.slots) c.close_with-closed.ensures.values.2) 2 c.take-c.result (omega arith) (ap (λ (l : List (Slot _ _)). get_elem? l 3) (sym (c.take-b.ensures.others.0 ∙ c.take-a.ensures.others.0 ∙ c.take-log.ensures.others.0)) ∙ c.take-c.ensures.value)
+drop_list-requires-3 g c = list_there g.L.Sectors.seen g.L.Sectors.gives g.D.Sectors.seen g.D.Sectors.gives
+    c.args.board.shared.key c.requires.0 (views_of c.args.actors.now) (slots_items c.close_with-closed.result.words)
+    (slots_items c.close_with-closed.result.slots) (ends_with g.L.Sectors.seen g.L.Sectors.gives g.D.Sectors.seen
+    g.D.Sectors.gives c.args.board.shared.key c.args.board.shared.table_id c.requires.0 (views_of c.args.actors.now)
+    c.args.first c.requires.1 (slots_items c.close_with-closed.result.words) (slots_items
+    c.close_with-closed.result.slots) c.close_with-closed.ensures.values.2) 2 c.take-c.result (omega arith) (ap (λ (l
+    : List (Slot _ _)). get_elem? l 3) (sym (c.take-b.ensures.others.0 ∙ c.take-a.ensures.others.0 ∙
+    c.take-log.ensures.others.0)) ∙ c.take-c.ensures.value)
 
 pub drop_list-requires-4 : goal.drop_list-requires-4
-drop_list-requires-4 g c = list_there g.L.Sectors.seen g.L.Sectors.gives g.D.Sectors.seen g.D.Sectors.gives c.args.board.shared.key c.args.actors.now (slots_items c.close_with-closed.result.words) (slots_items c.close_with-closed.result.slots) (ends_with g.L.Sectors.seen g.L.Sectors.gives g.D.Sectors.seen g.D.Sectors.gives c.args.board.shared.key c.args.board.shared.table_id c.args.actors.now c.args.first c.requires (slots_items c.close_with-closed.result.words) (slots_items c.close_with-closed.result.slots) c.close_with-closed.ensures.values.2) 3 c.take-d.result (omega arith) (ap (λ (l : List (Slot _ _)). get_elem? l 4) (sym (c.take-c.ensures.others.0 ∙ c.take-b.ensures.others.0 ∙ c.take-a.ensures.others.0 ∙ c.take-log.ensures.others.0)) ∙ c.take-d.ensures.value)
+drop_list-requires-4 g c = list_there g.L.Sectors.seen g.L.Sectors.gives g.D.Sectors.seen g.D.Sectors.gives
+    c.args.board.shared.key c.requires.0 (views_of c.args.actors.now) (slots_items c.close_with-closed.result.words)
+    (slots_items c.close_with-closed.result.slots) (ends_with g.L.Sectors.seen g.L.Sectors.gives g.D.Sectors.seen
+    g.D.Sectors.gives c.args.board.shared.key c.args.board.shared.table_id c.requires.0 (views_of c.args.actors.now)
+    c.args.first c.requires.1 (slots_items c.close_with-closed.result.words) (slots_items
+    c.close_with-closed.result.slots) c.close_with-closed.ensures.values.2) 3 c.take-d.result (omega arith) (ap (λ (l
+    : List (Slot _ _)). get_elem? l 4) (sym (c.take-c.ensures.others.0 ∙ c.take-b.ensures.others.0 ∙
+    c.take-a.ensures.others.0 ∙ c.take-log.ensures.others.0)) ∙ c.take-d.ensures.value)
 
 pub log_in-requires : goal.log_in-requires
-log_in-requires g c = log_there g.L.Sectors.seen g.L.Sectors.gives g.D.Sectors.seen g.D.Sectors.gives c.args.board.shared.key c.args.actors.now (slots_items c.close_with-closed.result.words) (slots_items c.close_with-closed.result.slots) (ends_with g.L.Sectors.seen g.L.Sectors.gives g.D.Sectors.seen g.D.Sectors.gives c.args.board.shared.key c.args.board.shared.table_id c.args.actors.now c.args.first c.requires (slots_items c.close_with-closed.result.words) (slots_items c.close_with-closed.result.slots) c.close_with-closed.ensures.values.2) c.take-log.result c.take-log.ensures.value
+log_in-requires g c = log_there g.L.Sectors.seen g.L.Sectors.gives g.D.Sectors.seen g.D.Sectors.gives
+    c.args.board.shared.key c.requires.0 (views_of c.args.actors.now) (slots_items c.close_with-closed.result.words)
+    (slots_items c.close_with-closed.result.slots) (ends_with g.L.Sectors.seen g.L.Sectors.gives g.D.Sectors.seen
+    g.D.Sectors.gives c.args.board.shared.key c.args.board.shared.table_id c.requires.0 (views_of c.args.actors.now)
+    c.args.first c.requires.1 (slots_items c.close_with-closed.result.words) (slots_items
+    c.close_with-closed.result.slots) c.close_with-closed.ensures.values.2) c.take-log.result c.take-log.ensures.value
 
 pub data_in-requires : goal.data_in-requires
-data_in-requires g c = data_there g.L.Sectors.seen g.L.Sectors.gives g.D.Sectors.seen g.D.Sectors.gives c.args.board.shared.key c.args.actors.now (slots_items c.close_with-closed.result.words) (slots_items c.close_with-closed.result.slots) (ends_with g.L.Sectors.seen g.L.Sectors.gives g.D.Sectors.seen g.D.Sectors.gives c.args.board.shared.key c.args.board.shared.table_id c.args.actors.now c.args.first c.requires (slots_items c.close_with-closed.result.words) (slots_items c.close_with-closed.result.slots) c.close_with-closed.ensures.values.2) c.take-data.result (ap (λ (l : List (Slot _ _)). get_elem? l 5) (sym (c.take-d.ensures.others.0 ∙ c.take-c.ensures.others.0 ∙ c.take-b.ensures.others.0 ∙ c.take-a.ensures.others.0 ∙ c.take-log.ensures.others.0)) ∙ c.take-data.ensures.value)
+data_in-requires g c = data_there g.L.Sectors.seen g.L.Sectors.gives g.D.Sectors.seen g.D.Sectors.gives
+    c.args.board.shared.key c.requires.0 (views_of c.args.actors.now) (slots_items c.close_with-closed.result.words)
+    (slots_items c.close_with-closed.result.slots) (ends_with g.L.Sectors.seen g.L.Sectors.gives g.D.Sectors.seen
+    g.D.Sectors.gives c.args.board.shared.key c.args.board.shared.table_id c.requires.0 (views_of c.args.actors.now)
+    c.args.first c.requires.1 (slots_items c.close_with-closed.result.words) (slots_items
+    c.close_with-closed.result.slots) c.close_with-closed.ensures.values.2) c.take-data.result (ap (λ (l : List (Slot
+    _ _)). get_elem? l 5) (sym (c.take-d.ensures.others.0 ∙ c.take-c.ensures.others.0 ∙ c.take-b.ensures.others.0 ∙
+    c.take-a.ensures.others.0 ∙ c.take-log.ensures.others.0)) ∙ c.take-data.ensures.value)
 
 pub returns : goal.returns
-returns g c = parts_left g.L.Sectors.seen g.L.Sectors.gives g.D.Sectors.seen g.D.Sectors.gives c.args.board.shared.key c.args.actors.now (slots_items c.close_with-closed.result.words) (slots_items c.close_with-closed.result.slots) (ends_with g.L.Sectors.seen g.L.Sectors.gives g.D.Sectors.seen g.D.Sectors.gives c.args.board.shared.key c.args.board.shared.table_id c.args.actors.now c.args.first c.requires (slots_items c.close_with-closed.result.words) (slots_items c.close_with-closed.result.slots) c.close_with-closed.ensures.values.2) _ c.take-log.result c.take-data.result c.take-log.ensures.value c.log_in.ensures (ap (λ (l : List (Slot _ _)). get_elem? l 5) (sym (c.take-d.ensures.others.0 ∙ c.take-c.ensures.others.0 ∙ c.take-b.ensures.others.0 ∙ c.take-a.ensures.others.0 ∙ c.take-log.ensures.others.0)) ∙ c.take-data.ensures.value) c.data_in.ensures
+returns g c = λ heard may. parts_left g.L.Sectors.seen g.L.Sectors.gives g.D.Sectors.seen g.D.Sectors.gives
+    c.args.board.shared.key heard (views_of c.args.actors.now) (slots_items c.close_with-closed.result.words)
+    (slots_items c.close_with-closed.result.slots) (ends_with g.L.Sectors.seen g.L.Sectors.gives g.D.Sectors.seen
+    g.D.Sectors.gives c.args.board.shared.key c.args.board.shared.table_id heard (views_of c.args.actors.now)
+    c.args.first may (slots_items c.close_with-closed.result.words) (slots_items c.close_with-closed.result.slots)
+    c.close_with-closed.ensures.values.2) _ c.take-log.result c.take-data.result c.take-log.ensures.value
+    c.log_in.ensures (ap (λ (l : List (Slot _ _)). get_elem? l 5) (sym (c.take-d.ensures.others.0 ∙
+    c.take-c.ensures.others.0 ∙ c.take-b.ensures.others.0 ∙ c.take-a.ensures.others.0 ∙ c.take-log.ensures.others.0))
+    ∙ c.take-data.ensures.value) c.data_in.ensures
     (c.tail_of.ensures ∙ ap tail_of c.word_in.ensures) c.word_in-2.ensures c.word_in-3.ensures c.word_in-4.ensures c.word_in-code.ensures

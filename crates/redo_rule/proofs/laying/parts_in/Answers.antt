@@ -23,4 +23,17 @@ pub data_in-requires : goal.data_in-requires
 data_in-requires g c = (c.requires.2, data_last c.requires.0 c.requires.1 c.requires.2 c.args.slots.items c.last_slot-data.new.slots.items c.last_slot-d.new.slots.items c.last_slot-c.new.slots.items c.last_slot-b.new.slots.items c.last_slot-a.new.slots.items c.last_slot-log.new.slots.items c.last_slot-data.result c.last_slot-d.result c.last_slot-c.result c.last_slot-b.result c.last_slot-a.result c.last_slot-log.result c.requires.3 c.last_slot-data.ensures c.last_slot-d.ensures c.last_slot-c.ensures c.last_slot-b.ensures c.last_slot-a.ensures c.last_slot-log.ensures, tt)
 
 pub returns : goal.returns
-returns g c = λ log lists stored is. (same_log c.log_in.result log (sym c.log_in.ensures ∙ log_last log lists stored c.args.slots.items c.last_slot-data.new.slots.items c.last_slot-d.new.slots.items c.last_slot-c.new.slots.items c.last_slot-b.new.slots.items c.last_slot-a.new.slots.items c.last_slot-log.new.slots.items c.last_slot-data.result c.last_slot-d.result c.last_slot-c.result c.last_slot-b.result c.last_slot-a.result c.last_slot-log.result is c.last_slot-data.ensures c.last_slot-d.ensures c.last_slot-c.ensures c.last_slot-b.ensures c.last_slot-a.ensures c.last_slot-log.ensures), same_data c.data_in.result stored (sym c.data_in.ensures ∙ data_last log lists stored c.args.slots.items c.last_slot-data.new.slots.items c.last_slot-d.new.slots.items c.last_slot-c.new.slots.items c.last_slot-b.new.slots.items c.last_slot-a.new.slots.items c.last_slot-log.new.slots.items c.last_slot-data.result c.last_slot-d.result c.last_slot-c.result c.last_slot-b.result c.last_slot-a.result c.last_slot-log.result is c.last_slot-data.ensures c.last_slot-d.ensures c.last_slot-c.ensures c.last_slot-b.ensures c.last_slot-a.ensures c.last_slot-log.ensures))
+returns g c = λ desk lists stored is. (
+  sym c.log_in.ensures.2 ∙ same_log c.log_in.ensures.0 desk (sym
+      c.log_in.ensures.1 ∙ log_last desk lists stored c.args.slots.items c.last_slot-data.new.slots.items
+      c.last_slot-d.new.slots.items c.last_slot-c.new.slots.items c.last_slot-b.new.slots.items
+      c.last_slot-a.new.slots.items c.last_slot-log.new.slots.items c.last_slot-data.result c.last_slot-d.result
+      c.last_slot-c.result c.last_slot-b.result c.last_slot-a.result c.last_slot-log.result is c.last_slot-data.ensures
+      c.last_slot-d.ensures c.last_slot-c.ensures c.last_slot-b.ensures c.last_slot-a.ensures c.last_slot-log.ensures),
+  same_data c.data_in.result stored (sym c.data_in.ensures ∙ data_last desk lists stored c.args.slots.items
+      c.last_slot-data.new.slots.items c.last_slot-d.new.slots.items c.last_slot-c.new.slots.items
+      c.last_slot-b.new.slots.items c.last_slot-a.new.slots.items c.last_slot-log.new.slots.items
+      c.last_slot-data.result c.last_slot-d.result c.last_slot-c.result c.last_slot-b.result c.last_slot-a.result
+      c.last_slot-log.result is c.last_slot-data.ensures c.last_slot-d.ensures c.last_slot-c.ensures
+      c.last_slot-b.ensures c.last_slot-a.ensures c.last_slot-log.ensures),
+)

@@ -1,45 +1,126 @@
-use Rattle.std.proofs.Common.{ap, refl, suc, sym, ◌∙◌}
-use Rattle.model_core.specs.{step_of, took}
+use Rattle.std.proofs.Common.{ap, refl, subst, suc, sym, ◌∙◌}
+use Rattle.model_core.specs.AnswerFits.{AnswerFits}
+use Rattle.model_core.specs.declared.ops.Answer.{Answer}
 use Rattle.model_core.specs.declared.ops.Answer.TheVariants as answer
 use Rattle.model_core.specs.declared.ops.Op.TheVariants as op
+use Rattle.redo_drive.specs.Receiving.{MarkFits}
 use Rattle.redo_drive.specs.Views.{view_of}
 use Rattle.redo_rule.proofs.Kept.{same_pages}
-use Rattle.redo_rule.proofs.Stepping.{goes, has_played, held_carries, keeps_part, listed, oldest_below, stays_mine, take_oldest_ok, takes}
-use Rattle.redo_rule.proofs.Taking.{carries_list, is_taken, lends_taken, taken_mine, taken_part, taken_played}
-use Rattle.redo_rule.specs.Plays.{list_behind, list_said}
-use Rattle.redo_rule.specs.declared.law.Slot.TheVariants as slot
+use Rattle.redo_rule.proofs.Stepping.{goes, held_leaves, oldest_below, take_oldest_ok}
+use Rattle.redo_rule.proofs.Taking.{held_list, its, list_fits, list_is, list_leaves, list_lent}
+use Rattle.redo_rule.proofs.Took.{may_take}
+use Rattle.redo_rule.specs.Plays.{list_said, no_filling}
 use Rattle.redo_rule.proofs.listing.take_oldest.Goals as goal
 
 pub compare_exchange-requires : goal.compare_exchange-requires
-compare_exchange-requires g c = take_oldest_ok c.args.table.now.table_id c.args.token.now (view_of c.args.actor.now) c.requires.mine g.L.Sectors.seen g.L.Sectors.gives g.D.Sectors.seen g.D.Sectors.gives c.args.table.now.key c.args.list c.turn_of.result c.requires.asks c.turn_of.ensures (oldest_below c.args.table.now.table_id c.args.token.now (view_of c.args.actor.now) c.requires.mine c.args.list c.requires.asks)
+compare_exchange-requires g c = take_oldest_ok c.args.table.now.table_id c.args.token.now (view_of c.args.actor.now)
+    c.requires.mine g.L.Sectors.seen g.L.Sectors.gives g.D.Sectors.seen g.D.Sectors.gives c.args.table.now.key
+    c.args.list c.turn_of.result c.requires.asks c.turn_of.ensures
+    (oldest_below c.args.table.now.table_id c.args.token.now (view_of c.args.actor.now) c.requires.mine c.args.list
+    c.requires.asks)
 
-pub returns-then-compare_exchange-ne0-clause-mine : goal.returns-then-compare_exchange-ne0-clause-mine
-returns-then-compare_exchange-ne0-clause-mine g c = let h = (goes c.args.table.now.table_id c.args.token.now (view_of c.args.actor.now) c.requires.mine (op.TakeOldest c.args.list) c.requires.asks) in
-    stays_mine c.args.table.now.table_id c.args.token.now (view_of c.args.actor.now) c.requires.mine g.L.Sectors.seen g.D.Sectors.seen c.compare_exchange.new.seat answer.Held _ _ _ (view_of c.took.new.self) c.compare_exchange.ensures.0 ((c.compare_exchange.ensures.2 c.requires.mine.who (suc (c.args.list)) c.requires.mine.one (takes c.args.table.now.table_id c.args.token.now (view_of c.args.actor.now) c.requires.mine (op.TakeOldest c.args.list) (suc (c.args.list)) c.requires.asks refl)).1 c.if-compare_exchange-ne0.true) c.took.ensures.state
-    (held_carries c.args.table.now.table_id c.args.token.now (view_of c.args.actor.now) c.requires.mine h.0 h.2)
+pub took-requires : goal.took-requires
+took-requires g c =
+    let h = goes c.args.table.now.table_id c.args.token.now (view_of c.args.actor.now) c.requires.mine
+    (op.TakeOldest c.args.list) c.requires.asks no_filling in
+    let may = may_take g.L.Sectors.seen g.D.Sectors.seen c.requires.mine.who (view_of c.args.actor.now) no_filling
+    answer.Held
+    _ _ _ _ _ c.requires.mine.state (held_list c.args.table.now.table_id c.args.token.now c.args.actor.now
+    c.requires.mine g.L.Sectors.seen g.D.Sectors.seen
+    (op.TakeOldest c.args.list) c.requires.asks h.0 (suc c.args.list) refl c.compare_exchange.new.seat
+    c.compare_exchange.ensures.0
+    c.compare_exchange.result c.compare_exchange.ensures.2
+    c.if-compare_exchange-ne0.true) in
+    record { fits = may.0; mark = may.1 }
 
-pub returns-then-compare_exchange-ne0-clause-played : goal.returns-then-compare_exchange-ne0-clause-played
-returns-then-compare_exchange-ne0-clause-played g c =
-    has_played c.args.table.now.table_id c.args.token.now (view_of c.args.actor.now) c.requires.mine g.L.Sectors.seen g.D.Sectors.seen c.compare_exchange.new.seat answer.Held _ _ _ (view_of c.took.new.self) c.compare_exchange.ensures.0 ((c.compare_exchange.ensures.2 c.requires.mine.who (suc (c.args.list)) c.requires.mine.one (takes c.args.table.now.table_id c.args.token.now (view_of c.args.actor.now) c.requires.mine (op.TakeOldest c.args.list) (suc (c.args.list)) c.requires.asks refl)).1 c.if-compare_exchange-ne0.true) c.took.ensures.state c.took.result c.took.ensures.step
+pub returns-then-compare_exchange-ne0 : goal.returns-then-compare_exchange-ne0
+returns-then-compare_exchange-ne0 g c =
+    let h = goes c.args.table.now.table_id c.args.token.now (view_of c.args.actor.now) c.requires.mine
+    (op.TakeOldest c.args.list) c.requires.asks no_filling in
+    let l = held_leaves c.args.table.now.table_id c.args.token.now c.args.actor.now c.requires.mine g.L.Sectors.seen
+    g.D.Sectors.seen
+    g.R.Receiver.stands_for c.compare_exchange.new.seat c.compare_exchange.ensures.0 c.took.new.self c.took.result
+    (op.TakeOldest c.args.list) c.requires.asks tt h.0 h.2 (held_list c.args.table.now.table_id c.args.token.now
+    c.args.actor.now c.requires.mine g.L.Sectors.seen g.D.Sectors.seen
+    (op.TakeOldest c.args.list) c.requires.asks h.0 (suc c.args.list) refl c.compare_exchange.new.seat
+    c.compare_exchange.ensures.0
+    c.compare_exchange.result c.compare_exchange.ensures.2
+    c.if-compare_exchange-ne0.true) c.took.ensures in
+    record { mine = l.mine; played = l.played; seat = c.compare_exchange.ensures.1; stays = l.stays }
 
 pub slot_mut-requires : goal.slot_mut-requires
-slot_mut-requires g c = let t = listed c.args.table.now.table_id c.args.token.now (view_of c.args.actor.now) c.requires.mine (op.TakeOldest c.args.list) c.requires.asks g.L.Sectors.seen g.D.Sectors.seen c.slot_of.result c.compare_exchange.new.seat.me ((c.compare_exchange.ensures.2 c.requires.mine.who c.slot_of.result c.requires.mine.one (takes c.args.table.now.table_id c.args.token.now (view_of c.args.actor.now) c.requires.mine (op.TakeOldest c.args.list) c.slot_of.result c.requires.asks c.slot_of.ensures)).0 c.if-compare_exchange-ne0.false) in lends_taken c.args.table.now.table_id c.args.token.now (view_of c.args.actor.now) c.requires.mine (goes c.args.table.now.table_id c.args.token.now (view_of c.args.actor.now) c.requires.mine (op.TakeOldest c.args.list) c.requires.asks).0 g.L.Sectors.seen g.D.Sectors.seen c.compare_exchange.new.seat c.compare_exchange.ensures.0 c.slot_of.result (slot.Pages t.0) (slot.Pages (list_behind (op.TakeOldest c.args.list) t.0)) (answer.Taken (list_said (op.TakeOldest c.args.list) t.0)) t.2
+slot_mut-requires g c =
+    let h = goes c.args.table.now.table_id c.args.token.now (view_of c.args.actor.now) c.requires.mine
+    (op.TakeOldest c.args.list) c.requires.asks no_filling in
+    list_lent c.args.table.now.table_id c.args.token.now c.args.actor.now c.requires.mine g.L.Sectors.seen
+    g.D.Sectors.seen
+    (op.TakeOldest c.args.list) c.requires.asks h.0 c.slot_of.result c.slot_of.ensures c.compare_exchange.new.seat
+    c.compare_exchange.ensures.0 c.compare_exchange.result c.compare_exchange.ensures.2
+    c.if-compare_exchange-ne0.false
 
 pub oldest_slot-oldest-requires : goal.oldest_slot-oldest-requires
-oldest_slot-oldest-requires g c = let t = listed c.args.table.now.table_id c.args.token.now (view_of c.args.actor.now) c.requires.mine (op.TakeOldest c.args.list) c.requires.asks g.L.Sectors.seen g.D.Sectors.seen c.slot_of.result c.compare_exchange.new.seat.me ((c.compare_exchange.ensures.2 c.requires.mine.who c.slot_of.result c.requires.mine.one (takes c.args.table.now.table_id c.args.token.now (view_of c.args.actor.now) c.requires.mine (op.TakeOldest c.args.list) c.slot_of.result c.requires.asks c.slot_of.ensures)).0 c.if-compare_exchange-ne0.false) in (t.0, is_taken c.args.table.now.table_id c.args.token.now (view_of c.args.actor.now) c.requires.mine (goes c.args.table.now.table_id c.args.token.now (view_of c.args.actor.now) c.requires.mine (op.TakeOldest c.args.list) c.requires.asks).0 g.L.Sectors.seen g.D.Sectors.seen c.compare_exchange.new.seat c.compare_exchange.ensures.0 c.slot_of.result (slot.Pages t.0) (slot.Pages (list_behind (op.TakeOldest c.args.list) t.0)) (answer.Taken (list_said (op.TakeOldest c.args.list) t.0)) t.2 c.slot_mut.result.now c.slot_mut.ensures.value, tt)
+oldest_slot-oldest-requires g c =
+    let h = goes c.args.table.now.table_id c.args.token.now (view_of c.args.actor.now) c.requires.mine
+    (op.TakeOldest c.args.list) c.requires.asks no_filling in (
+      its c.args.table.now.table_id c.args.token.now c.args.actor.now c.requires.mine g.L.Sectors.seen g.D.Sectors.seen
+          (op.TakeOldest c.args.list) c.requires.asks h.0 c.slot_of.result c.slot_of.ensures c.compare_exchange.new.seat
+          c.compare_exchange.ensures.0 c.compare_exchange.result c.compare_exchange.ensures.2
+          c.if-compare_exchange-ne0.false,
+      list_is c.args.table.now.table_id c.args.token.now c.args.actor.now c.requires.mine g.L.Sectors.seen
+          g.D.Sectors.seen
+          (op.TakeOldest c.args.list) c.requires.asks h.0 c.slot_of.result c.slot_of.ensures c.compare_exchange.new.seat
+          c.compare_exchange.ensures.0 c.compare_exchange.result c.compare_exchange.ensures.2
+          c.if-compare_exchange-ne0.false
+          c.slot_mut.result.now c.slot_mut.ensures.value,
+      tt,
+    )
 
-pub returns-clause-mine : goal.returns-clause-mine
-returns-clause-mine g c = let t = listed c.args.table.now.table_id c.args.token.now (view_of c.args.actor.now) c.requires.mine (op.TakeOldest c.args.list) c.requires.asks g.L.Sectors.seen g.D.Sectors.seen c.slot_of.result c.compare_exchange.new.seat.me ((c.compare_exchange.ensures.2 c.requires.mine.who c.slot_of.result c.requires.mine.one (takes c.args.table.now.table_id c.args.token.now (view_of c.args.actor.now) c.requires.mine (op.TakeOldest c.args.list) c.slot_of.result c.requires.asks c.slot_of.ensures)).0 c.if-compare_exchange-ne0.false) in let y = is_taken c.args.table.now.table_id c.args.token.now (view_of c.args.actor.now) c.requires.mine (goes c.args.table.now.table_id c.args.token.now (view_of c.args.actor.now) c.requires.mine (op.TakeOldest c.args.list) c.requires.asks).0 g.L.Sectors.seen g.D.Sectors.seen c.compare_exchange.new.seat c.compare_exchange.ensures.0 c.slot_of.result (slot.Pages t.0) (slot.Pages (list_behind (op.TakeOldest c.args.list) t.0)) (answer.Taken (list_said (op.TakeOldest c.args.list) t.0)) t.2 c.slot_mut.result.now c.slot_mut.ensures.value in let h = (goes c.args.table.now.table_id c.args.token.now (view_of c.args.actor.now) c.requires.mine (op.TakeOldest c.args.list) c.requires.asks) in
-    taken_mine c.args.table.now.table_id c.args.token.now (view_of c.args.actor.now) c.requires.mine (goes c.args.table.now.table_id c.args.token.now (view_of c.args.actor.now) c.requires.mine (op.TakeOldest c.args.list) c.requires.asks).0 g.L.Sectors.seen g.D.Sectors.seen c.compare_exchange.new.seat c.compare_exchange.ensures.0 c.slot_of.result (slot.Pages t.0) (slot.Pages (list_behind (op.TakeOldest c.args.list) t.0)) (answer.Taken (list_said (op.TakeOldest c.args.list) t.0)) t.2 c.slot_mut.result.now y (view_of c.took-2.new.self) (c.took-2.ensures.state ∙ ap (took (view_of c.args.actor.now)) (ap answer.Taken ((c.oldest_slot-oldest.ensures).2 ∙ ap (list_said (op.TakeOldest c.args.list)) (same_pages (c.oldest_slot-oldest.ensures).0 t.0 (sym (c.oldest_slot-oldest.ensures).1 ∙ y))))) (suc (c.args.list)) (h.1 (list_said (op.TakeOldest c.args.list) t.0)) (carries_list c.slot_of.result (c.args.list) (list_behind (op.TakeOldest c.args.list) t.0) c.slot_of.ensures)
+pub took-requires-2 : goal.took-requires-2
+took-requires-2 g c =
+    let h = goes c.args.table.now.table_id c.args.token.now (view_of c.args.actor.now) c.requires.mine
+    (op.TakeOldest c.args.list) c.requires.asks no_filling in
+    let e = c.oldest_slot-oldest.ensures in
+    let y = list_is c.args.table.now.table_id c.args.token.now c.args.actor.now c.requires.mine g.L.Sectors.seen
+    g.D.Sectors.seen
+    (op.TakeOldest c.args.list) c.requires.asks h.0 c.slot_of.result c.slot_of.ensures c.compare_exchange.new.seat
+    c.compare_exchange.ensures.0 c.compare_exchange.result c.compare_exchange.ensures.2
+    c.if-compare_exchange-ne0.false c.slot_mut.result.now c.slot_mut.ensures.value in
+    let said = ap answer.Taken (e.2 ∙ ap (list_said (op.TakeOldest c.args.list)) (same_pages e.0 (its
+    c.args.table.now.table_id c.args.token.now c.args.actor.now c.requires.mine g.L.Sectors.seen g.D.Sectors.seen
+    (op.TakeOldest c.args.list) c.requires.asks h.0 c.slot_of.result c.slot_of.ensures c.compare_exchange.new.seat
+    c.compare_exchange.ensures.0 c.compare_exchange.result c.compare_exchange.ensures.2
+    c.if-compare_exchange-ne0.false) (sym e.1 ∙ y))) in
+    let may = list_fits c.args.table.now.table_id c.args.token.now c.args.actor.now c.requires.mine g.L.Sectors.seen
+    g.D.Sectors.seen
+    (op.TakeOldest c.args.list) c.requires.asks h.0 c.slot_of.result c.slot_of.ensures c.compare_exchange.new.seat
+    c.compare_exchange.ensures.0 c.compare_exchange.result c.compare_exchange.ensures.2
+    c.if-compare_exchange-ne0.false in
+    record {
+      fits = subst (λ (r : Answer). AnswerFits (view_of c.args.actor.now) r) (sym said) may.0;
+      mark = subst (λ (r : Answer). MarkFits (view_of c.args.actor.now) r) (sym said) may.1;
+    }
 
-pub returns-clause-played : goal.returns-clause-played
-returns-clause-played g c = let t = listed c.args.table.now.table_id c.args.token.now (view_of c.args.actor.now) c.requires.mine (op.TakeOldest c.args.list) c.requires.asks g.L.Sectors.seen g.D.Sectors.seen c.slot_of.result c.compare_exchange.new.seat.me ((c.compare_exchange.ensures.2 c.requires.mine.who c.slot_of.result c.requires.mine.one (takes c.args.table.now.table_id c.args.token.now (view_of c.args.actor.now) c.requires.mine (op.TakeOldest c.args.list) c.slot_of.result c.requires.asks c.slot_of.ensures)).0 c.if-compare_exchange-ne0.false) in let y = is_taken c.args.table.now.table_id c.args.token.now (view_of c.args.actor.now) c.requires.mine (goes c.args.table.now.table_id c.args.token.now (view_of c.args.actor.now) c.requires.mine (op.TakeOldest c.args.list) c.requires.asks).0 g.L.Sectors.seen g.D.Sectors.seen c.compare_exchange.new.seat c.compare_exchange.ensures.0 c.slot_of.result (slot.Pages t.0) (slot.Pages (list_behind (op.TakeOldest c.args.list) t.0)) (answer.Taken (list_said (op.TakeOldest c.args.list) t.0)) t.2 c.slot_mut.result.now c.slot_mut.ensures.value in
-    taken_played c.args.table.now.table_id c.args.token.now (view_of c.args.actor.now) c.requires.mine (goes c.args.table.now.table_id c.args.token.now (view_of c.args.actor.now) c.requires.mine (op.TakeOldest c.args.list) c.requires.asks).0 g.L.Sectors.seen g.D.Sectors.seen c.compare_exchange.new.seat c.compare_exchange.ensures.0 c.slot_of.result (slot.Pages t.0) (slot.Pages (list_behind (op.TakeOldest c.args.list) t.0)) (answer.Taken (list_said (op.TakeOldest c.args.list) t.0)) t.2 (view_of c.took-2.new.self) (c.took-2.ensures.state ∙ ap (took (view_of c.args.actor.now)) (ap answer.Taken ((c.oldest_slot-oldest.ensures).2 ∙ ap (list_said (op.TakeOldest c.args.list)) (same_pages (c.oldest_slot-oldest.ensures).0 t.0 (sym (c.oldest_slot-oldest.ensures).1 ∙ y))))) c.took-2.result (c.took-2.ensures.step ∙ ap (step_of (view_of c.args.actor.now)) (ap answer.Taken ((c.oldest_slot-oldest.ensures).2 ∙ ap (list_said (op.TakeOldest c.args.list)) (same_pages (c.oldest_slot-oldest.ensures).0 t.0 (sym (c.oldest_slot-oldest.ensures).1 ∙ y)))))
-
-pub returns-then-compare_exchange-ne0-clause-stays : goal.returns-then-compare_exchange-ne0-clause-stays
-returns-then-compare_exchange-ne0-clause-stays g c = let h = (goes c.args.table.now.table_id c.args.token.now (view_of c.args.actor.now) c.requires.mine (op.TakeOldest c.args.list) c.requires.asks) in
-    keeps_part c.args.table.now.table_id c.args.token.now (view_of c.args.actor.now) c.requires.mine g.L.Sectors.seen g.D.Sectors.seen c.compare_exchange.new.seat answer.Held _ _ _ (view_of c.took.new.self) c.compare_exchange.ensures.0 ((c.compare_exchange.ensures.2 c.requires.mine.who (suc (c.args.list)) c.requires.mine.one (takes c.args.table.now.table_id c.args.token.now (view_of c.args.actor.now) c.requires.mine (op.TakeOldest c.args.list) (suc (c.args.list)) c.requires.asks refl)).1 c.if-compare_exchange-ne0.true) c.took.ensures.state refl
-
-pub returns-clause-stays : goal.returns-clause-stays
-returns-clause-stays g c = let t = listed c.args.table.now.table_id c.args.token.now (view_of c.args.actor.now) c.requires.mine (op.TakeOldest c.args.list) c.requires.asks g.L.Sectors.seen g.D.Sectors.seen c.slot_of.result c.compare_exchange.new.seat.me ((c.compare_exchange.ensures.2 c.requires.mine.who c.slot_of.result c.requires.mine.one (takes c.args.table.now.table_id c.args.token.now (view_of c.args.actor.now) c.requires.mine (op.TakeOldest c.args.list) c.slot_of.result c.requires.asks c.slot_of.ensures)).0 c.if-compare_exchange-ne0.false) in let y = is_taken c.args.table.now.table_id c.args.token.now (view_of c.args.actor.now) c.requires.mine (goes c.args.table.now.table_id c.args.token.now (view_of c.args.actor.now) c.requires.mine (op.TakeOldest c.args.list) c.requires.asks).0 g.L.Sectors.seen g.D.Sectors.seen c.compare_exchange.new.seat c.compare_exchange.ensures.0 c.slot_of.result (slot.Pages t.0) (slot.Pages (list_behind (op.TakeOldest c.args.list) t.0)) (answer.Taken (list_said (op.TakeOldest c.args.list) t.0)) t.2 c.slot_mut.result.now c.slot_mut.ensures.value in
-    taken_part c.args.table.now.table_id c.args.token.now (view_of c.args.actor.now) c.requires.mine (goes c.args.table.now.table_id c.args.token.now (view_of c.args.actor.now) c.requires.mine (op.TakeOldest c.args.list) c.requires.asks).0 g.L.Sectors.seen g.D.Sectors.seen c.compare_exchange.new.seat c.compare_exchange.ensures.0 c.slot_of.result (slot.Pages t.0) (slot.Pages (list_behind (op.TakeOldest c.args.list) t.0)) (answer.Taken (list_said (op.TakeOldest c.args.list) t.0)) t.2
+pub returns : goal.returns
+returns g c =
+    let h = goes c.args.table.now.table_id c.args.token.now (view_of c.args.actor.now) c.requires.mine
+    (op.TakeOldest c.args.list) c.requires.asks no_filling in
+    let e = c.oldest_slot-oldest.ensures in
+    let y = list_is c.args.table.now.table_id c.args.token.now c.args.actor.now c.requires.mine g.L.Sectors.seen
+    g.D.Sectors.seen
+    (op.TakeOldest c.args.list) c.requires.asks h.0 c.slot_of.result c.slot_of.ensures c.compare_exchange.new.seat
+    c.compare_exchange.ensures.0 c.compare_exchange.result c.compare_exchange.ensures.2
+    c.if-compare_exchange-ne0.false c.slot_mut.result.now c.slot_mut.ensures.value in
+    let said = ap answer.Taken (e.2 ∙ ap (list_said (op.TakeOldest c.args.list)) (same_pages e.0 (its
+    c.args.table.now.table_id c.args.token.now c.args.actor.now c.requires.mine g.L.Sectors.seen g.D.Sectors.seen
+    (op.TakeOldest c.args.list) c.requires.asks h.0 c.slot_of.result c.slot_of.ensures c.compare_exchange.new.seat
+    c.compare_exchange.ensures.0 c.compare_exchange.result c.compare_exchange.ensures.2
+    c.if-compare_exchange-ne0.false) (sym e.1 ∙ y))) in
+    let l = list_leaves c.args.table.now.table_id c.args.token.now c.args.actor.now c.requires.mine g.L.Sectors.seen
+    g.D.Sectors.seen
+    (op.TakeOldest c.args.list) c.requires.asks h.0 c.slot_of.result c.slot_of.ensures c.compare_exchange.new.seat
+    c.compare_exchange.ensures.0 c.compare_exchange.result c.compare_exchange.ensures.2
+    c.if-compare_exchange-ne0.false
+    g.R.Receiver.stands_for c.took-2.result c.took-2.new.self c.slot_mut.result.now y c.args.list c.slot_of.ensures
+    h.1 tt (answer.Taken c.oldest_slot-oldest.result) said
+    c.took-2.ensures in
+    record { mine = l.mine; played = l.played; seat = c.compare_exchange.ensures.1; stays = l.stays }

@@ -1,31 +1,37 @@
-use Rattle.std.proofs.Common.{inl, inr, subst, sym, ◌∙◌, ◌≡◌}
-use Rattle.model_core.specs.{next}
+use Rattle.std.proofs.Common.{inl, inr, subst, sym, ◌∙◌}
 use Rattle.model_core.specs.Actors as model
-use Rattle.model_core.specs.declared.ops.Answer.TheVariants as answer
-use Rattle.model_core.specs.declared.ops.Op.TheVariants as op
 use Rattle.redo_drive.specs.Views.{view_of}
-use Rattle.redo_rule.proofs.Behind.{batch_behind, batch_cleaner, seat_behind, was_cleaner}
-use Rattle.model_core.proofs.Rests.{rests}
+use Rattle.redo_rule.proofs.Behind.{batch_behind, batch_cleaner, rested, seat_behind, was_cleaner}
 use Rattle.redo_rule.specs.Seating.{IsSeatOf}
 use Rattle.redo_rule.proofs.playing.play_next.Goals as goal
 
-pub returns-in-WriteBatch-clause-seat : goal.returns-in-WriteBatch-clause-seat
-returns-in-WriteBatch-clause-seat g c = batch_behind c.args.table.now.table_id c.write_batch.new.token (view_of c.write_batch.new.actor) c.write_batch.ensures.mine c.write_batch.ensures.part
+pub took-requires : goal.took-requires
+took-requires g c =
+    let may = c.requires.mine.may.rest (sym c.next-op.ensures ∙ c.in-Rest.is) in record { fits = may.0; mark = may.1 }
 
-pub returns-in-Rest-clause-seat : goal.returns-in-Rest-clause-seat
-returns-in-Rest-clause-seat g c = let rest : next (view_of c.args.actor.now) ≡ op.Rest = sym c.next-op.ensures ∙ c.in-Rest.is in
-    subst (λ (z : model.Actor). IsSeatOf c.args.table.now.table_id c.args.seat.now z) (sym (c.took.ensures.state ∙ rests (view_of c.args.actor.now) rest answer.Rested)) c.requires
+pub returns-in-WriteBatch : goal.returns-in-WriteBatch
+returns-in-WriteBatch g c = record {
+  seat = batch_behind c.args.table.now.table_id c.write_batch.new.token (view_of c.write_batch.new.actor)
+      c.write_batch.ensures.mine c.write_batch.ensures.part;
+  same = c.write_batch.ensures.same;
+  played = inr c.write_batch.ensures.played;
+}
 
-pub returns-in-Rest-clause-played : goal.returns-in-Rest-clause-played
-returns-in-Rest-clause-played g c = let rest : next (view_of c.args.actor.now) ≡ op.Rest = sym c.next-op.ensures ∙ c.in-Rest.is in
-    inl (rest, c.took.ensures.state ∙ rests (view_of c.args.actor.now) rest answer.Rested, c.took.ensures.step)
+pub returns-in-Rest : goal.returns-in-Rest
+returns-in-Rest g c =
+    let r = rested g.R.Receiver.stands_for c.args.seat.now.me.0 c.args.actor.now c.took.result c.took.new.self
+    (sym c.next-op.ensures ∙ c.in-Rest.is) c.requires.mine.may.free c.took.ensures in
+    record {
+      seat = subst (λ (z : model.Actor). IsSeatOf c.args.table.now.table_id c.args.seat.now z) (sym r.0) c.requires;
+      same = r.2;
+      played = inl (sym c.next-op.ensures ∙ c.in-Rest.is, r.0, r.1);
+    }
 
 pub returns-in_default : goal.returns-in_default
 returns-in_default g c = record {
   seat = seat_behind c.args.table.now.table_id c.args.seat.now _ (view_of c.args.actor.now) (view_of c.play_token.new.actor) c.requires c.play_token.ensures.mine c.play_token.ensures.stays.data_part
       (was_cleaner g.L.Sectors.seen g.D.Sectors.seen (view_of c.args.actor.now) (view_of c.play_token.new.actor) c.play_token.result c.play_token.ensures.played);
-  number = c.play_token.ensures.stays.number;
-  knows = c.play_token.ensures.stays.about;
+  same = c.play_token.ensures.stays.seat;
   played = inr c.play_token.ensures.played;
 }
 

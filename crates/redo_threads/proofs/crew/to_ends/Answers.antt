@@ -5,36 +5,43 @@ use Rattle.redo_threads.proofs.crew.to_ends.Goals as goal
 
 pub loop-number-init : goal.loop-number-init
 loop-number-init g c = record {
-  goes_on = keep_refl c.args.table.now.table_id c.args.crew.now c.requires;
+  goes_on = keep_refl g.F.Receiver.stands_for c.args.table.now.table_id c.args.crew.now c.requires;
   ended = none_below c.args.crew.now.actors.items;
 }
 
 pub index_mut-requires : goal.index_mut-requires
 index_mut-requires g c =
-    let crew = c.loop-number.crew in
+    let was = c.args.crew.now in
     let on = c.loop-number.invariant.goes_on in
-    let n = as_many c.args.table.now.table_id crew.seats.items crew.actors.items on.seated in
-    let m = keep_long c.args.table.now.table_id c.args.crew.now crew on in grind rules
+    let count = as_many g.F.Receiver.stands_for c.args.table.now.table_id was.seats.items was.actors.items c.requires in
+    let m = keep_long g.F.Receiver.stands_for c.args.table.now.table_id was c.loop-number.crew count on in
+    let n = on.count in grind rules
 
 pub index_mut-requires-in-loop-number : goal.index_mut-requires-in-loop-number
 index_mut-requires-in-loop-number g c =
-    let m = keep_long c.args.table.now.table_id c.args.crew.now c.loop-number.crew c.loop-number.invariant.goes_on in
-    grind rules
+    let was = c.args.crew.now in
+    let on = c.loop-number.invariant.goes_on in
+    let count = as_many g.F.Receiver.stands_for c.args.table.now.table_id was.seats.items was.actors.items c.requires in
+    let m = keep_long g.F.Receiver.stands_for c.args.table.now.table_id was c.loop-number.crew count on in grind rules
 
 pub work-requires-after_bounds : goal.work-requires-after_bounds
 work-requires-after_bounds g c κs within =
+    let was = c.args.crew.now in
     let on = c.loop-number.invariant.goes_on in
-    let m = keep_long c.args.table.now.table_id c.args.crew.now c.loop-number.crew on in
-    sits_at c.args.table.now.table_id c.loop-number.crew c.loop-number.number
-    c.index_mut.result.now c.index_mut-in-loop-number.result.now on.seated (grind rules)
+    let count = as_many g.F.Receiver.stands_for c.args.table.now.table_id was.seats.items was.actors.items c.requires in
+    let m = keep_long g.F.Receiver.stands_for c.args.table.now.table_id was c.loop-number.crew count on in
+    sits_at g.F.Receiver.stands_for c.args.table.now.table_id was c.loop-number.crew c.loop-number.number
+    c.index_mut.result.now c.index_mut-in-loop-number.result.now on (grind rules)
     c.index_mut.ensures.value c.index_mut-in-loop-number.ensures.value
 
 pub loop-number-preserved : goal.loop-number-preserved
 loop-number-preserved g c =
+    let was = c.args.crew.now in
     let on = c.loop-number.invariant.goes_on in
-    let m = keep_long c.args.table.now.table_id c.args.crew.now c.loop-number.crew on in
+    let count = as_many g.F.Receiver.stands_for c.args.table.now.table_id was.seats.items was.actors.items c.requires in
+    let m = keep_long g.F.Receiver.stands_for c.args.table.now.table_id was c.loop-number.crew count on in
     record {
-      goes_on = keep_set c.args.table.now.table_id c.args.crew.now c.loop-number.crew _ c.loop-number.number
+      goes_on = keep_set g.F.Receiver.stands_for c.args.table.now.table_id was c.loop-number.crew _ c.loop-number.number
           c.index_mut.result.now c.work.new.seat c.index_mut-in-loop-number.result.now c.work.new.actor on (grind rules)
           c.index_mut.ensures.value c.index_mut-in-loop-number.ensures.value c.work.ensures.goes_on refl refl refl refl;
       ended = one_more c.loop-number.crew.actors.items c.loop-number.number c.work.new.actor
@@ -43,5 +50,8 @@ loop-number-preserved g c =
 
 pub returns-clause-at_end : goal.returns-clause-at_end
 returns-clause-at_end g c =
-    let m = keep_long c.args.table.now.table_id c.args.crew.now c.loop-number.crew c.loop-number.invariant.goes_on in
+    let was = c.args.crew.now in
+    let on = c.loop-number.invariant.goes_on in
+    let count = as_many g.F.Receiver.stands_for c.args.table.now.table_id was.seats.items was.actors.items c.requires in
+    let m = keep_long g.F.Receiver.stands_for c.args.table.now.table_id was c.loop-number.crew count on in
     all_end c.loop-number.crew.actors.items c.loop-number.number (grind rules) c.loop-number.invariant.ended

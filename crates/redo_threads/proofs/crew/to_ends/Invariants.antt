@@ -4,6 +4,6 @@ use Rattle.redo_threads.proofs.crew.to_ends.Given as goal
 
 abbrev pub invariant-loop-number : goal.invariant-loop-number
 invariant-loop-number g l = record {
-  goes_on : KeepOn l.table.table_id l.fn.crew l.crew;
+  goes_on : KeepOn g.F.Receiver.stands_for l.table.table_id l.fn.crew l.crew;
   ended : EndBelow l.number l.crew.actors.items;
 }

@@ -1,25 +1,70 @@
-use Rattle.std.proofs.Common.{Some, ap, arith, refl, ◌∙◌, length}
+use Rattle.std.proofs.Common.{Some, ap, arith, length, refl, ◌∙◌}
+use Rattle.redo_drive.proofs.Viewed.{length_views}
 use Rattle.redo_rule.proofs.Opens.{opens_ok}
 use Rattle.redo_rule.proofs.Unseated.{about_begins, about_may, unseated}
 use Rattle.redo_rule.specs.declared.law.About.{About}
 use Rattle.redo_rule.proofs.shared.Shared.new.Goals as goal
 
 pub make_board-requires : goal.make_board-requires
-make_board-requires g c = opens_ok g.L.Sectors.seen g.L.Sectors.gives g.D.Sectors.seen g.D.Sectors.gives (record { opened = c.of-opened_is.result; script = c.of.result; actors = c.of-2.result; log_only = c.args.log_only }) _ (about_begins g.L.Sectors.seen g.D.Sectors.seen (record { opened = c.of-opened_is.result; script = c.of.result; actors = c.of-2.result; log_only = c.args.log_only }) c.args.opened c.args.script.now c.args.log_only c.of-opened_is.ensures c.of.ensures refl c.in_ok-parts.field-0 c.in_ok-parts.ensures.begins) c.in-Ok.ensures.slots.1
-    (ap (λ v. v.items) c.of-2.ensures) _ _ c.as_slice.ensures.words c.in-Ok.ensures.slots.0
+make_board-requires g c = opens_ok g.L.Sectors.seen g.L.Sectors.gives g.D.Sectors.seen g.D.Sectors.gives
+    g.R.Receiver.stands_for (record {
+      opened = c.of-opened_is.result;
+      script = c.of.result;
+      log_only =
+          c.args.log_only;
+      followers = c.len-count.result;
+    })
+    c.args.followers.items (let n = c.len-count.ensures in omega arith) _ (about_begins g.L.Sectors.seen
+    g.D.Sectors.seen g.R.Receiver.stands_for (record {
+      opened = c.of-opened_is.result;
+      script = c.of.result;
+      log_only = c.args.log_only;
+      followers = c.len-count.result;
+    })
+    c.args.followers.items c.args.opened c.args.script.now c.args.log_only c.of-opened_is.ensures c.of.ensures refl
+    c.in_ok-parts.field-0 c.in_ok-parts.ensures.begins)
+    c.in-Ok.ensures.slots.1 _ _ _ c.as_slice.ensures.words c.in-Ok.ensures.slots.0
 
 pub parts_in-log-requires : goal.parts_in-log-requires
-parts_in-log-requires g c = (c.in_ok-parts.field-0.parts.log, c.in_ok-parts.field-0.parts.lists, c.in_ok-parts.field-0.parts.store, c.in-Err-make_board.ensures.err ∙ c.in-Ok.ensures.slots.0)
+parts_in-log-requires g c = (
+  _,
+  c.in_ok-parts.field-0.parts.lists,
+  c.in_ok-parts.field-0.parts.store,
+  c.in-Err-make_board.ensures.err ∙ c.in-Ok.ensures.slots.0,
+)
 
 pub returns-in-Ok-make_board-clause-new : goal.returns-in-Ok-make_board-clause-new
 returns-in-Ok-make_board-clause-new g c = record {
   opened_is = ap (λ (z : About _ _). z.opened.value) c.in-Ok-make_board.ensures.key ∙ c.of-opened_is.ensures;
   script_is = ap (λ (z : About _ _). z.script.value) c.in-Ok-make_board.ensures.key ∙ c.of.ensures;
   log_only_is = ap (λ (z : About _ _). z.log_only) c.in-Ok-make_board.ensures.key;
-  unseated = unseated g.L.Sectors.seen g.D.Sectors.seen (record { opened = c.of-opened_is.result; script = c.of.result; actors = c.of-2.result; log_only = c.args.log_only }) c.in_ok-parts.field-0
-      (about_begins g.L.Sectors.seen g.D.Sectors.seen (record { opened = c.of-opened_is.result; script = c.of.result; actors = c.of-2.result; log_only = c.args.log_only }) c.args.opened c.args.script.now c.args.log_only c.of-opened_is.ensures c.of.ensures refl c.in_ok-parts.field-0 c.in_ok-parts.ensures.begins)
-      (ap (λ v. v.items) c.of-2.ensures)
-      (about_may g.L.Sectors.seen g.D.Sectors.seen (record { opened = c.of-opened_is.result; script = c.of.result; actors = c.of-2.result; log_only = c.args.log_only }) c.args.opened c.args.script.now c.args.log_only c.of-opened_is.ensures c.of.ensures refl c.requires)
+  followers_are = ap (λ (z : About _ _). z.followers) c.in-Ok-make_board.ensures.key ∙ (let n = c.len-count.ensures in
+      omega arith);
+  unseated = unseated g.L.Sectors.seen g.D.Sectors.seen g.R.Receiver.stands_for (record {
+    opened =
+        c.of-opened_is.result;
+    script = c.of.result;
+    log_only = c.args.log_only;
+    followers = c.len-count.result;
+  })
+      c.args.followers.items (let n = c.len-count.ensures in omega arith) c.in_ok-parts.field-0
+      (about_begins g.L.Sectors.seen g.D.Sectors.seen g.R.Receiver.stands_for (record {
+        opened =
+            c.of-opened_is.result;
+        script = c.of.result;
+        log_only = c.args.log_only;
+        followers = c.len-count.result;
+      })
+      c.args.followers.items c.args.opened c.args.script.now c.args.log_only c.of-opened_is.ensures c.of.ensures refl
+      c.in_ok-parts.field-0 c.in_ok-parts.ensures.begins)
+      (about_may g.L.Sectors.seen g.D.Sectors.seen g.R.Receiver.stands_for (record {
+        opened = c.of-opened_is.result;
+        script = c.of.result;
+        log_only = c.args.log_only;
+        followers = c.len-count.result;
+      })
+      c.args.followers.items c.args.opened c.args.script.now c.args.log_only c.of-opened_is.ensures c.of.ensures refl
+      c.requires.may)
       (record { board = c.in-Ok-make_board.board; first = c.in-Ok-make_board.first; room = Some c.in-Ok.room; entries = c.in_ok-parts.field-0.entries })
       c.in-Ok-make_board.ensures.key
       c.in-Ok-make_board.ensures.ids
@@ -28,14 +73,17 @@ returns-in-Ok-make_board-clause-new g c = record {
       c.in-Ok-make_board.ensures.me
       c.in_ok-parts.ensures.begins.no_entries
       (let s = ap length c.of.ensures in let r = c.in_ok-parts.ensures.begins.room in omega arith)
-      refl
-      (c.in-Ok.ensures.room.0, (let r = c.in-Ok.ensures.room.1 in let n = c.len.ensures in omega arith));
+      refl (
+        c.in-Ok.ensures.room.0,
+        (let r = c.in-Ok.ensures.room.1 in let n = length_views
+            c.in_ok-parts.field-0.actors.items in omega arith),
+      );
 }
 
 pub returns-in-Err-make_board-clause-err : goal.returns-in-Err-make_board-clause-err
 returns-in-Err-make_board-clause-err g c =
     let p = c.in_ok-parts.field-0.parts in
-    let both = c.parts_in-log.ensures p.log p.lists p.store (c.in-Err-make_board.ensures.err ∙ c.in-Ok.ensures.slots.0) in
+    let both = c.parts_in-log.ensures _ p.lists p.store (c.in-Err-make_board.ensures.err ∙ c.in-Ok.ensures.slots.0) in
     let B = c.in_ok-parts.ensures.begins in (
       c.into_dev-in-Err-make_board.ensures ∙ ap (λ z. z.dev) (both.0 ∙ B.log),
       c.into_dev-in-Err-make_board-2.ensures ∙ ap (λ z. z.dev) (both.1 ∙ B.data_part),
