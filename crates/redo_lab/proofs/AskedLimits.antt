@@ -4,12 +4,12 @@ use Rattle.std.specs.Option.{option_map, option_and_then}
 use Rattle.std.specs.Str.{bytes_eq}
 use Rattle.model_base.specs.declared.limits.TheConstants.{DEFAULT_LOG_BLOCKS, DEFAULT_PAGES, DEFAULT_SPACE, MAX_LOG_BLOCKS, MAX_PAGES, MIN_LOG_BLOCKS}
 use Rattle.model_script.specs.Commands as commands
-use Rattle.model_script.specs.{are_among, are_different, asked_of, given_crash, drive_names, given_drive, given_format, given_gen, given_number, number_or, number_within, is_given, plain_command, said_from, where_allowed, given_workers}
+use Rattle.model_script.specs.{are_among, are_different, asked_of, given_crash, drive_names, given_drive, given_followers, given_format, given_gen, given_number, number_or, number_within, is_given, plain_command, said_from, where_allowed, given_workers}
 use Rattle.model_script.specs.declared.asked.Asked.{Asked}
 use Rattle.model_script.specs.declared.asked.Command.{Command}
 use Rattle.model_script.specs.declared.asked.Command.TheVariants.{Run, Recover, Dump}
 use Rattle.model_script.specs.declared.words.Given.{Given}
-use Rattle.model_script.specs.declared.words.TheConstants.{MAX_WORKERS}
+use Rattle.model_script.specs.declared.words.TheConstants.{DEFAULT_TURNS, MAX_FOLLOWERS, MAX_TURNS, MAX_WORKERS}
 use Rattle.model_script.specs.declared.words.Name.{Name}
 use Rattle.model_script.specs.declared.words.Name.TheVariants as name
 use Rattle.model_script.specs.declared.words.Expected.TheVariants.{Any}
@@ -48,6 +48,11 @@ if-between least greatest n m false high low high' is = cc
 within-between : (least greatest n m : ℕ) → number_within least greatest n ≡ Some m → IsBetween least greatest m
 within-between least greatest n m is = if-between least greatest n m _ _ refl refl is
 
+or-at-most : (least greatest default m : ℕ) (o : Option ℕ) → default ≤ greatest
+    → number_or least greatest default o ≡ Some m → m ≤ greatest
+or-at-most least greatest default m None within is = let same : default ≡ m = cc in omega arith
+or-at-most least greatest default m (Some n) within is = (within-between least greatest n m is).1
+
 or-between : (least greatest default m : ℕ) (o : Option ℕ) → IsBetween least greatest default → number_or least greatest default o ≡ Some m
     → IsBetween least greatest m
 or-between least greatest default m None between is = let same : default ≡ m = cc in (omega arith, omega arith)
@@ -71,8 +76,18 @@ format-within options command is =
     or-between MIN_LOG_BLOCKS MAX_LOG_BLOCKS DEFAULT_LOG_BLOCKS blocks.0 (given_number name.LogBlocks options) (lit≤ tt, lit≤ tt) blocks.1 in
     subst HasAllowedNumbers blocks.2 (some.0, some.1, many.0, many.1)
 
+drive-within : (options : List Given) (drive : Drive) → given_drive options ≡ Some drive
+    → drive.followers ≤ MAX_FOLLOWERS
+drive-within options drive is =
+    let max = and_then-some _ (number_or 0 MAX_TURNS DEFAULT_TURNS (given_number name.Max options)) drive is in
+    let followers = map-some _ (given_followers options) drive max.2 in
+    subst (λ (drive : Drive). drive.followers ≤ MAX_FOLLOWERS) followers.2
+    (or-at-most 1 MAX_FOLLOWERS 0 followers.0 (given_number name.Followers options) (lit≤ tt) followers.1)
+
 run-within : (options : List Given) (command : Command) → option_map Run (given_drive options) ≡ Some command → HasAllowedNumbers command
-run-within options command is = let run = map-some Run (given_drive options) command is in subst HasAllowedNumbers run.2 tt
+run-within options command is =
+    let run = map-some Run (given_drive options) command is in
+    subst HasAllowedNumbers run.2 (drive-within options run.0 run.1)
 
 workers-within : (options : List Given) (workers : ℕ) → given_workers options ≡ Some workers → IsBetween 1 MAX_WORKERS workers
 workers-within options workers is = or-between 1 MAX_WORKERS 1 workers (given_number name.Workers options) (lit≤ tt, lit≤ tt) is
@@ -81,7 +96,8 @@ crash-within : (options : List Given) (command : Command) → given_crash option
 crash-within options command is =
     let drive = and_then-some _ (given_drive options) command is in
     let workers = map-some _ (given_workers options) command drive.2 in
-    subst HasAllowedNumbers workers.2 (workers-within options workers.0 workers.1)
+    let between = workers-within options workers.0 workers.1 in
+    subst HasAllowedNumbers workers.2 (drive-within options drive.0 drive.1, between.0, between.1)
 
 recover-within : (options : List Given) (command : Command) → option_map Recover (given_workers options) ≡ Some command → HasAllowedNumbers command
 recover-within options command is =
@@ -156,4 +172,10 @@ command-of-within words command is =
 pub within-workers : (asked : Drive) (crash : Option Crashing) → HasAllowedNumbers (command_with asked crash)
     → IfSome crash (λ crash. (1 ≤ crash.workers) × (crash.workers ≤ MAX_WORKERS))
 within-workers asked None is = tt
-within-workers asked (Some crash) is = is
+within-workers asked (Some crash) is = (is.1, is.2)
+
+-- the followers of a script's run
+pub within-followers : (asked : Drive) (crash : Option Crashing) → HasAllowedNumbers (command_with asked crash)
+    → asked.followers ≤ MAX_FOLLOWERS
+within-followers asked None is = is
+within-followers asked (Some crash) is = is.0

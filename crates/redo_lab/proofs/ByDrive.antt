@@ -63,13 +63,19 @@ module _ {L D : Type 0} (log_seen : L → Seen) (log_gives : L → Call → L �
   TellsIn threads asked opened script driven = TellsOf threads log_seen log_gives data_seen data_gives asked opened script driven
 
   -- by turns
-  pub tells-turns : (asked : Drive) (turns : Turns) (opened : Opened (Fused L) (Fused D)) (script : List ScriptLine) (driven : Driven (Fused L) (Fused D))
-      → turns ≡ turns_of asked → asked.threads ≡ false
-      → RunsByTurns (seen_through log_seen) (CallsThrough log_seen log_gives) (seen_through data_seen) (CallsThrough data_seen data_gives) opened script turns driven
-      → TellsIn asked.threads asked opened script driven
-  tells-turns asked turns opened script driven same is told =
+  abbrev ByTurns : Opened (Fused L) (Fused D) → List ScriptLine → Driven (Fused L) (Fused D) → Turns → ℕ → Type 0
+  ByTurns opened script driven turns followers =
+      RunsByTurns (seen_through log_seen) (CallsThrough log_seen log_gives)
+      (seen_through data_seen) (CallsThrough data_seen data_gives) opened script turns followers driven
+
+  pub tells-turns : (asked : Drive) (turns : Turns) (followers : ℕ) (opened : Opened (Fused L) (Fused D))
+      (script : List ScriptLine) (driven : Driven (Fused L) (Fused D))
+      → turns ≡ turns_of asked → followers ≡ asked.followers → asked.threads ≡ false
+      → ByTurns opened script driven turns followers → TellsIn asked.threads asked opened script driven
+  tells-turns asked turns followers opened script driven same as_many is told =
       subst (λ (threads : Bool). TellsIn threads asked opened script driven) (sym is)
-      (subst (λ (turns : Turns). RunsByTurns (seen_through log_seen) (CallsThrough log_seen log_gives) (seen_through data_seen) (CallsThrough data_seen data_gives) opened script turns driven) same told)
+      (subst (λ (turns : Turns). ByTurns opened script driven turns asked.followers) same
+      (subst (λ (n : ℕ). ByTurns opened script driven turns n) as_many told))
 
   -- in threads
   pub tells-threads : (asked : Drive) (log_only : Bool) (opened : Opened (Fused L) (Fused D)) (script : List ScriptLine) (driven : Driven (Fused L) (Fused D))

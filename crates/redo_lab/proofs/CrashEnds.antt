@@ -1,10 +1,11 @@
 -- What a crash comes to: a report, with the crash theorem, or why there is none.
-use Rattle.std.proofs.Common.{ℕ, ◌≡◌, ◌+◌, List, Option, Some, None, IfSome, refl, sym, subst, ◌∙◌, inr, arith, ◌≢◌}
+use Rattle.std.proofs.Common.{ℕ, ◌≡◌, ◌+◌, List, [], Option, Some, None, IfSome, refl, sym, subst, ◌∙◌, inr, arith, ◌≢◌}
 use Rattle.std.proofs.lemmas.Bool.{false≢true}
 use Rattle.model_device.proofs.Images.{settled_images}
 use Rattle.model_device.specs.{Crashes, IsImage}
 use Rattle.model_device.specs.Disk.{Disk}
 use Rattle.model_report.specs.{IsLeft}
+use Rattle.model_report.specs.declared.entry.Followed.{Followed}
 use Rattle.model_report.specs.declared.fault.Fault.{Fault}
 use Rattle.model_report.specs.declared.fault.Fault.TheVariants as fault
 use Rattle.model_script.specs.declared.asked.Command.{Command}
@@ -35,7 +36,7 @@ use Rattle.redo_lab.specs.Cause.{AreOfRun, CanPlay, LeavesFailed}
 use Rattle.redo_lab.specs.Laws.{Laws}
 use Rattle.redo_lab.specs.Runs.{HasFailed, IsLeftBy, IsReportOf, IsToldRightly}
 use Rattle.redo_lab.specs.Store.{AreReadAsPrefix, AreRefused}
-use Rattle.redo_lab.specs.Told.{AreMarksRead, HasRunScript, IsOpenedFirst, LeavesStore}
+use Rattle.redo_lab.specs.Told.{AreMarksRead, AreToldOf, HasRunScript, IsOpenedFirst, LeavesStore}
 use Rattle.redo_lab.specs.Ending.{EndsWith, IsDoneOrKeptFrom, IsOutcome}
 
 -- of an opening that a device stopped something is lost only by that
@@ -49,14 +50,19 @@ lost-stopped call fault.DataDevice left some =
 lost-stopped call f left some = absurd some
 
 pub told-stopped : (call : LabCall) (drive : Drive) (script : List ScriptLine) (f : Fault) → HasFailed call f
-    → IsToldRightly call drive script None
-told-stopped call drive script f some = record { loses = λ left left_is. lost-stopped call f left some; marks = tt }
+    → IsToldRightly call drive script None []
+told-stopped call drive script f some = record {
+  loses = λ left left_is. lost-stopped call f left some;
+  marks = tt;
+  followers = refl;
+}
 
 module _ (call : LabCall) (drives : Drives) (later : DrivesLater drives call.drives) (drive : Drive) (stops : Stops)
-    (pick workers : ℕ) (script : List ScriptLine) (run : Option Ran) (log_was data_was : Was) (laws : Laws)
+    (pick workers : ℕ) (script : List ScriptLine) (run : Option Ran) (follows : List Followed)
+    (log_was data_was : Was) (laws : Laws)
     (read : IsScriptRead call.source call.source_now script)
     (left_by : IsLeftBy (before call drives log_was data_was) (Crash drive stops.log stops.store pick workers) drive stops script run Done)
-    (told : IsToldRightly (before call drives log_was data_was) drive script run) where
+    (told : IsToldRightly (before call drives log_was data_was) drive script run follows) where
   abbrev asked : Command
   asked = Crash drive stops.log stops.store pick workers
 
@@ -159,6 +165,26 @@ module _ (call : LabCall) (drives : Drives) (later : DrivesLater drives call.dri
             opened log data_disk log_is data_is (since.0.arming.back log_on) (since.1.arming.back data_on)
             log_fresh data_fresh opens log_at data_at (sym log_same ∙ log_at_is) (sym store_same ∙ data_at_is)
 
+    -- and what is told of its followers
+    followers-met : {log_met store_met : Option Disk} → log_met ≡ log_was.now.tells → store_met ≡ data_was.now.tells
+        → AreToldOf call drive script run follows log_met store_met
+    followers-met log_is store_is = met-on run _ _ log_is store_is told.followers
+      where
+        met-on : (run : Option Ran) (log_met store_met : Option Disk)
+            → log_met ≡ log_was.now.tells → store_met ≡ data_was.now.tells
+            → AreToldOf (before call drives log_was data_was) drive script run follows
+            log_was.now.tells data_was.now.tells
+            → AreToldOf call drive script run follows log_met store_met
+        met-on None log_met store_met log_same store_same were = were
+        met-on (Some run) log_met store_met log_same store_same were = record {
+          count = were.count;
+          numbered = were.numbered;
+          each = λ opened log data_disk log_is data_is log_on data_on log_fresh data_fresh opens
+              log_at data_at log_at_is data_at_is.
+              were.each opened log data_disk log_is data_is (since.0.arming.back log_on) (since.1.arming.back data_on)
+              log_fresh data_fresh opens log_at data_at (sym log_same ∙ log_at_is) (sym store_same ∙ data_at_is);
+        }
+
     lost-by : (left : List (ℕ × ℕ)) → IsLeft script (entries_of run) left → LosesOnlyByFailure (call.log.fuse.mid + call.store.fuse.mid) run left
     lost-by left left_is =
         let counted : log_was.fuse.mid + data_was.fuse.mid ≡ call.log.fuse.mid + call.store.fuse.mid = omega (arith, since.0.mid, since.1.mid) in
@@ -169,9 +195,17 @@ module _ (call : LabCall) (drives : Drives) (later : DrivesLater drives call.dri
 
   -- THE CRASH THEOREM, of the report and what was read.
   module _ (since : Since 0 0) (text : List ℕ) (reading : Reading) (is_read : WhereToldNow call (λ log store. IsReading log.reads store.reads reading))
-      (report : IsReportOf script run (Some (reading.end, reading.pages)) text) where
+      (report : IsReportOf script run follows (Some (reading.end, reading.pages)) text) where
     abbrev account : Account
-    account = record { text = read.text; script = script; run = run; left = report.left; reading = reading; printed = text }
+    account = record {
+      text = read.text;
+      script = script;
+      run = run;
+      left = report.left;
+      follows = follows;
+      reading = reading;
+      printed = text;
+    }
 
     abbrev crash_with : HasTold log_was call.log → HasTold data_was call.store → values.Crash
     crash_with log_told data_told = record {
@@ -246,6 +280,7 @@ module _ (call : LabCall) (drives : Drives) (later : DrivesLater drives call.dri
         left_is = report.left_is;
         loses = lost-by since report.left report.left_is;
         marks = marks-met since since.0.from since.1.from;
+        followers = followers-met since since.0.from since.1.from;
         opened_first = crash-first since;
       };
       text_is = refl;
@@ -278,7 +313,8 @@ module _ (call : LabCall) (drives : Drives) (later : DrivesLater drives call.dri
       laws.one_answer log_left.0.reads data_left.0.reads kept.reading cause kept.is_read (refused log_left.0 data_left.0 log_left.1 data_left.1)
 
   -- WHAT THE CRASH COMES TO, by what is read after it.
-  pub crash-reads : ReadsTo Since call.log.now.tells call.store.now.tells (λ reading. IsReportOf script run (Some (reading.end, reading.pages))) (EndsWith call asked)
+  pub crash-reads : ReadsTo Since call.log.now.tells call.store.now.tells
+      (λ reading. IsReportOf script run follows (Some (reading.end, reading.pages))) (EndsWith call asked)
   crash-reads = record {
     read = λ reading text since is_read report. ends-crash since (outcome.Text text) (unfailed-aside since, crash-text since text reading is_read report) (λ can unfailed. tt);
     refused = λ cause since refused. ends-crash since (outcome.Fault (fault.Store cause))

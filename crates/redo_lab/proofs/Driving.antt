@@ -1,11 +1,13 @@
 -- The run of a script on a store that stands opened, by a drive, and what it leaves.
+use Rattle.std.proofs.Common.{Global, Vec}
 use Rattle.std.proofs.Common.{ℕ, ◌≡◌, ◌+◌, ◌<◌, true, List, Option, Some, None, refl, sym, ap, subst, ◌∙◌, inl, ⊎_elim, arith, ◌≢◌}
-use Rattle.std.specs.List.{AllByRecursion}
+use Rattle.std.specs.List.{AllByRecursion, AllZip}
 use Rattle.model_base.specs.declared.shape.Shape.{Shape}
 use Rattle.model_device.specs.{synced}
 use Rattle.model_device.specs.Disk.{Disk}
 use Rattle.model_parts.specs.{IsReady, numbers_taken}
-use Rattle.model_report.specs.{IsLeft}
+use Rattle.model_report.specs.{IsLeft, IsLegal}
+use Rattle.model_report.specs.declared.entry.Followed.{Followed}
 use Rattle.model_script.specs.{LineFits}
 use Rattle.model_script.specs.declared.asked.Command.{Command}
 use Rattle.model_script.specs.declared.asked.Drive.{Drive}
@@ -19,11 +21,15 @@ use Rattle.redo_disk.specs.declared.error.DevError.{DevError}
 use Rattle.redo_disk.specs.declared.error.DevError.TheVariants as device
 use Rattle.redo_disk.proofs.Made.{may_end}
 use Rattle.redo_drive.specs.{HasMemory, Owes}
-use Rattle.redo_drive.specs.Startable.{HasReading}
 use Rattle.redo_drive.specs.Drive.{ReadsToMarks, failed_in}
+use Rattle.redo_drive.specs.Followed.{followers_in, HasFollowed, HaveFollowed}
+use Rattle.redo_drive.specs.Startable.{AreNewFollowers, HasReading}
+use Rattle.redo_drive.specs.declared.actor.Actor.{Actor}
 use Rattle.redo_drive.specs.declared.drive.Driven.{Driven}
 use Rattle.redo_drive.specs.declared.drive.RunEnd.{RunEnd}
 use Rattle.redo_drive.specs.declared.drive.RunEnd.TheVariants.{Done, Spent}
+use Rattle.redo_follow.specs.Handing.{Following}
+use Rattle.redo_follow.specs.Tallying.{HasTally, Kept}
 use Rattle.redo_io.specs.{SourceSeen}
 use Rattle.redo_memdisk.proofs.Behind.{counts-calls, keeps-behind}
 use Rattle.redo_memdisk.specs.{CallsThrough, seen_through}
@@ -34,7 +40,8 @@ use Rattle.redo_lab.specs.declared.playing.Played.{Played}
 use Rattle.redo_lab.specs.declared.playing.Stops.{Stops}
 use Rattle.redo_lab.proofs.Behind.{calls-same, same-fused}
 use Rattle.redo_lab.proofs.Ends.{SpendsTurns, left-memory, left-spent}
-use Rattle.redo_lab.proofs.Found.{WasFound, found-armed, held-older}
+use Rattle.redo_lab.proofs.Followers.{as-many, followed-all, numbered-so}
+use Rattle.redo_lab.proofs.Found.{WasFound, found-armed, held-older, one-opened}
 use Rattle.redo_lab.proofs.Fuses.{armed-calls}
 use Rattle.redo_lab.proofs.Opened.{armed-after}
 use Rattle.redo_lab.proofs.Rereading.{armed-as}
@@ -42,11 +49,12 @@ use Rattle.redo_lab.proofs.SomeLeft.{some-left}
 use Rattle.redo_disk.proofs.Told.{still-same}
 use Rattle.redo_lab.proofs.Told.{both-told, some-told}
 use Rattle.redo_lab.specs.Call.{LabCall, WhereOpened, WhereToldNow, mids}
+use Rattle.redo_lab.specs.Following.{AreUntold, IsToldOf}
 use Rattle.redo_lab.specs.Handed.{TellsOf, call_on}
 use Rattle.redo_lab.specs.Laws.{Laws}
 use Rattle.redo_lab.specs.Runs.{ComesTo, CommandRuns, IsLeftBy, IsToldRightly, StandsReady, course_done, course_of, ended_by, played_of, ran_of}
 use Rattle.redo_lab.specs.Store.{AreReadAsPrefix}
-use Rattle.redo_lab.specs.Told.{AreLeftRead, AreMarksRead, IsOpenedFirst}
+use Rattle.redo_lab.specs.Told.{AreFollowed, AreLeftRead, AreMarksRead, IsFollowed, IsOpenedFirst}
 
 -- what reads give of a log device that was synced is fair
 synced-fair : (disk : Disk) → IsFairLog (synced disk) disk.reads
@@ -63,6 +71,11 @@ module _ {L D : Type 0} (log_seen : L → Seen) (log_gives : L → Call → L �
     (owes : Owes (seen_through log_seen) (CallsThrough log_seen log_gives) (seen_through data_seen) (CallsThrough data_seen data_gives) given script driven)
     (reads : drive.threads ≡ true
     → ReadsToMarks (seen_through log_seen) (seen_through data_seen) given script driven.closed)
+    (followers : List (Following Kept)) (actors : List (Actor Kept)) (follows : Vec Followed Global)
+    (new : AreNewFollowers given.start followers) (untold : AreUntold drive.followers followers)
+    (followed : HaveFollowed (seen_through log_seen) (seen_through data_seen) HasTally given script followers actors
+    driven.closed)
+    (of_followers : AllZip IsToldOf (followers_in actors) follows.items)
     (spends : SpendsTurns (call_on log_seen log_gives data_seen data_gives words source source_now log data_device driven.closed.log.dev driven.closed.store.dev) drive) where
   abbrev opening : LabCall
   opening = call_on log_seen log_gives data_seen data_gives words source source_now log data_device given.log.dev given.store.dev
@@ -71,7 +84,7 @@ module _ {L D : Type 0} (log_seen : L → Seen) (log_gives : L → Call → L �
   call = call_on log_seen log_gives data_seen data_gives words source source_now log data_device driven.closed.log.dev driven.closed.store.dev
 
   abbrev played : Played
-  played = played_of given.start driven.closed
+  played = played_of given.start driven.closed follows
 
   abbrev run : Ran
   run = ran_of played
@@ -229,20 +242,46 @@ module _ {L D : Type 0} (log_seen : L → Seen) (log_gives : L → Call → L �
       let marks = found.1 log_now data_now log_now_is data_now_is read.0 read.1 in
       (read.0, read.1, marks.0, marks.1)
 
+  -- the run is a legal one of the store that was opened
+  legal-run : IsLegal script given.shape.space given.start driven.closed.marks driven.closed.history
+  legal-run = (owes.comes_to.is_run ready.opened.end ready.is_opened.start).legal
+
+  -- WHAT IS TOLD OF ITS FOLLOWERS is so.
+  followers-told : AreFollowed call drive script run follows.items call.log.now.tells call.store.now.tells
+  followers-told = record {
+    count = as-many drive.followers followers (followers_in actors) follows.items untold followed.same of_followers;
+    numbered = numbered-so given.start followers (followers_in actors) follows.items new followed.same of_followers;
+    each = λ opened log_entry data_entry log_is data_is log_on data_on log_fresh data_fresh opens
+        log_now data_now log_now_is data_now_is.
+        let Follow : Reading → Disk → Disk → Type 0 = λ was log_disk data_disk.
+        AllZip (HasFollowed HasTally given script driven.closed) followers (followers_in actors) in
+        let found = run-found Follow followed.each
+        opened log_entry data_entry log_is data_is log_on data_on log_fresh data_fresh opens in
+        let same : ready.opened ≡ opened = one-opened laws log_entry data_entry ready.opened opened
+        (ready.opens log_entry data_entry log_is data_is (log-before log_on) (data-before data_on)) opens in
+        let space : given.shape.space ≡ opened.shape.space =
+        ap (λ (shape : Shape). shape.space) ready.is_opened.shape ∙ ap (λ (o : Opened). o.shape.space) same in
+        subst (λ (n : ℕ). AllByRecursion (IsFollowed script n run) follows.items) space
+        (followed-all given script driven.closed legal-run ready.is_opened.runnable.place drive.followers followers
+        (followers_in actors) follows.items (found.1 log_now data_now log_now_is data_now_is) untold of_followers);
+  }
+
   -- what is told of the run is so, whether a device failed or none
   told-failed : driven.ended ≡ Done → HasMemory driven.closed → 0 < mids call
-      → IsToldRightly call drive script (Some run)
+      → IsToldRightly call drive script (Some run) follows.items
   told-failed done memory some = record {
     loses = loses-so done memory;
     marks = λ threads none. absurd (omega (arith, some, none));
+    followers = followers-told;
   }
 
   told-unfailed : driven.ended ≡ Done → HasMemory driven.closed
       → driven.closed.log.failed ≡ None → driven.closed.store.failed ≡ None
-      → IsToldRightly call drive script (Some run)
+      → IsToldRightly call drive script (Some run) follows.items
   told-unfailed done memory log_none data_none = record {
     loses = loses-so done memory;
     marks = marks-read done memory log_none data_none;
+    followers = followers-told;
   }
 
   -- by what a call of each device answered that failed

@@ -10,8 +10,10 @@ pub mod Driving
 pub mod Ends
 pub mod Entered
 pub mod FirstRead
+pub mod Followers
 pub mod Formats
 pub mod Found
+pub mod Fronts
 pub mod Fuses
 pub mod Opened
 pub mod Opening
@@ -23,4 +25,5 @@ pub mod RunEnds
 pub mod Sizes
 pub mod SomeLeft
 pub mod Telling
+pub mod Tallied
 pub mod Told

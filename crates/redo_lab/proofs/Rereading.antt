@@ -1,5 +1,6 @@
 -- Two devices that are read by recovery after a run, with a crash of both between or without one.
-use Rattle.std.proofs.Common.{ℕ, ◌≡◌, ◌≢◌, ◌<◌, List, Option, Some, None, Result, Ok, Err, IfOk, sym, ap, subst, ◌∙◌, inl, inr, ⊎_elim, arith, length}
+use Rattle.std.proofs.Common.{ℕ, ◌≡◌, ◌≢◌, ◌<◌, List, Option, Some, None, Result, Ok, Err, IfOk}
+use Rattle.std.proofs.Common.{ap, arith, inl, inr, length, sym, ◌∙◌, ⊎_elim}
 use Rattle.model_device.specs.{Crashes}
 use Rattle.model_device.specs.Disk.{Disk}
 use Rattle.model_report.specs.declared.fault.Fault.TheVariants as fault

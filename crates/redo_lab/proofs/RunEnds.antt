@@ -3,6 +3,7 @@ use Rattle.std.proofs.Common.{ℕ, ◌≡◌, ◌<◌, ◌+◌, true, false, Lis
 use Rattle.std.proofs.lemmas.Bool.{false≢true}
 use Rattle.model_base.specs.{HasRisen}
 use Rattle.model_report.specs.{IsLeft}
+use Rattle.model_report.specs.declared.entry.Followed.{Followed}
 use Rattle.model_report.specs.declared.fault.Fault.{Fault}
 use Rattle.model_report.specs.declared.fault.Fault.TheVariants as fault
 use Rattle.model_script.specs.declared.asked.Command.{Command}
@@ -47,20 +48,24 @@ ends-stopped call command drive script running laws uncrashing f is = ends-faile
 
 -- A TEXT OF A RUN
 run-text : (call : LabCall) (command : Command) (drive : Drive) (script : List ScriptLine) (run : Ran) (left : List (ℕ × ℕ))
-    (IsTextOf : List ScriptLine → Ran → List (ℕ × ℕ) → List ℕ → Type 0) (text : List ℕ) → IsScriptFor command call.source call.source_now script
-    → IsLeftBy call command drive no_stops script (Some run) Done → IsToldRightly call drive script (Some run)
-    → IsLeft script run.entries left → IsTextOf script run left text → IsRunText call command drive IsTextOf text
-run-text call command drive script run left IsTextOf text is_script is told left_is text_is = record {
+    (follows : List Followed) (IsTextOf : List ScriptLine → Ran → List (ℕ × ℕ) → List Followed → List ℕ → Type 0)
+    (text : List ℕ) → IsScriptFor command call.source call.source_now script
+    → IsLeftBy call command drive no_stops script (Some run) Done → IsToldRightly call drive script (Some run) follows
+    → IsLeft script run.entries left → IsTextOf script run left follows text
+    → IsRunText call command drive IsTextOf text
+run-text call command drive script run left follows IsTextOf text is_script is told left_is text_is = record {
   opened = is.opened;
   script = script;
   run = run;
   left = left;
+  follows = follows;
   account = record {
     is_script = is_script;
     ran = is.ran;
     left_is = left_is;
     loses = told.loses left left_is;
     marks = told.marks;
+    followers = told.followers;
     opened_first = is.opened_first;
   };
   in_run = in-run is.armed;
@@ -73,11 +78,15 @@ risen-unstopped : {device : Guarded} {stage : Stage} {late : ℕ} → IsArmed No
 risen-unstopped was some = ⊎_elim (λ risen. risen) (λ passed. absurd passed) (was.cause some)
 
 module _ (call : LabCall) (drive : Drive) (script : List ScriptLine) (played : declared.Played) (read : IsScriptRead call.source call.source_now script) (laws : Laws) where
-  run-told : (f : Option Fault) (text : List ℕ) → ComesTo call (Run drive) drive no_stops script (Played played f) → IsReportOf script (Some (ran_of played)) None text
+  run-told : (f : Option Fault) (text : List ℕ) → ComesTo call (Run drive) drive no_stops script (Played played f)
+      → IsReportOf script (Some (ran_of played)) played.follows.items None text
       → IsRunText call (Run drive) drive IsReportText text
-  run-told f text was report = run-text call (Run drive) drive script (ran_of played) report.left IsReportText text read was.0 was.1 report.left_is report.text_is
+  run-told f text was report = run-text call (Run drive) drive script (ran_of played) report.left played.follows.items
+      IsReportText text read was.0 was.1 report.left_is report.text_is
 
-  run-reported : (f : Fault) (text : List ℕ) → ComesTo call (Run drive) drive no_stops script (Played played (Some f)) → IsReportOf script (Some (ran_of played)) None text
+  run-reported : (f : Fault) (text : List ℕ)
+      → ComesTo call (Run drive) drive no_stops script (Played played (Some f))
+      → IsReportOf script (Some (ran_of played)) played.follows.items None text
       → EndsWith call (Run drive) (outcome.Report text f)
   run-reported fault.LogDevice text was report = ends-left call (Run drive) drive script (runs-scripted drive None read) laws was.0 (outcome.Report text fault.LogDevice)
       (run-told (Some fault.LogDevice) text was report, (risen-unstopped was.0.armed.log_device was.2, was.2), aside-armed was.0.armed)
@@ -88,8 +97,8 @@ module _ (call : LabCall) (drive : Drive) (script : List ScriptLine) (played : d
   run-reported f text was report = absurd was.2
 
   -- THE LINES WERE RUN.
-  pub run-played : (f : Option Fault) (o : Outcome) → ComesTo call (Run drive) drive no_stops script (Played played f) → IsRunPrinted script (ran_of played) f o
-      → EndsWith call (Run drive) o
+  pub run-played : (f : Option Fault) (o : Outcome) → ComesTo call (Run drive) drive no_stops script (Played played f)
+      → IsRunPrinted script (ran_of played) played.follows.items f o → EndsWith call (Run drive) o
   run-played f (outcome.Text text) was printed =
       let done = subst (λ (f : Option Fault). ComesTo call (Run drive) drive no_stops script (Played played f)) printed.0 was in
       ends-left call (Run drive) drive script (runs-scripted drive None read) laws was.0 (outcome.Text text)
@@ -100,10 +109,10 @@ module _ (call : LabCall) (drive : Drive) (script : List ScriptLine) (played : d
       (left-memory call (Run drive) drive script (runs-scripted drive None read) laws was.0)
 
 module _ (call : LabCall) (drives : Drives) (later : DrivesLater drives call.drives) (seed users groups max : ℕ)
-    (script : List ScriptLine) (run : Ran) (log_was data_was : Was) (laws : Laws)
+    (script : List ScriptLine) (run : Ran) (follows : List Followed) (log_was data_was : Was) (laws : Laws)
     (running : CommandRuns call.source call.source_now (Gen seed users groups true max) (drive_of_seed seed max) script)
     (left_by : IsLeftBy (before call drives log_was data_was) (Gen seed users groups true max) (drive_of_seed seed max) no_stops script (Some run) Done)
-    (told : IsToldRightly (before call drives log_was data_was) (drive_of_seed seed max) script (Some run))
+    (told : IsToldRightly (before call drives log_was data_was) (drive_of_seed seed max) script (Some run) follows)
     (played : IsPlayedTo (before call drives log_was data_was) None) where
   abbrev asked : Command
   asked = Gen seed users groups true max
@@ -141,12 +150,21 @@ module _ (call : LabCall) (drives : Drives) (later : DrivesLater drives call.dri
             (still-at _ _ log_now since.0.tells log_now_is) (still-at _ _ data_now since.1.tells data_now_is);
       }
 
-  told-still : Since 0 0 → IsToldRightly call drive script (Some run)
+  told-still : Since 0 0 → IsToldRightly call drive script (Some run) follows
   told-still since = record {
     loses = λ left left_is. (let counted : log_was.fuse.mid + data_was.fuse.mid ≡ mids call =
         omega (arith, played.0, since.0.mid, since.1.mid) in
         subst (λ (n : ℕ). LosesOnlyByFailure n (Some run) left) counted (told.loses left left_is));
     marks = λ threads. absurd (false≢true threads);
+    followers = record {
+      count = told.followers.count;
+      numbered = told.followers.numbered;
+      each = λ opened log data_disk log_is data_is log_on data_on log_fresh data_fresh opens
+          log_now data_now log_now_is data_now_is.
+          told.followers.each opened log data_disk log_is data_is
+          (since.0.arming.back log_on) (since.1.arming.back data_on) log_fresh data_fresh opens log_now data_now
+          (still-at _ _ log_now since.0.tells log_now_is) (still-at _ _ data_now since.1.tells data_now_is);
+    };
   }
 
   -- A STORE THAT CAN BE RUN ON is not refused after the run.
@@ -165,7 +183,7 @@ module _ (call : LabCall) (drives : Drives) (later : DrivesLater drives call.dri
       record {
         read = λ reading text since is_read text_is. ends-left call asked drive script running laws (read-left since) (outcome.Text text) (
           unfailed-armed (read-left since).armed since.0.mid since.1.mid,
-          run-text call asked drive script run left.0 (IsSummaryText call) text running.is_script
+          run-text call asked drive script run left.0 follows (IsSummaryText call) text running.is_script
               (read-left since) (told-still since) left.1 (reading, is_read, text_is),
         )
             (λ can unfailed. tt);

@@ -89,11 +89,11 @@ AreCrashedAs stop_log stop_data pick call = IsCrashedAs stop_log pick call.log.f
 pub record IsCrashText (call : LabCall) (drive : Drive) (stop_log stop_data : Option ℕ) (pick workers : ℕ) (text : List ℕ) : Type 0 where
   pub account : Account
   pub opened : Opened
-  pub told : IsAccount call (Crash drive stop_log stop_data pick workers) drive opened account.script account.run account.left
+  pub told : IsAccount call (Crash drive stop_log stop_data pick workers) drive opened account.script account.run account.left account.follows
       call.log.now.crashed_from call.store.now.crashed_from
   pub text_is : text ≡ account.printed
   pub report : text ≡ report_text (run_start account.run) (entries_of account.run) account.left (marks_of account.run)
-      (Some (account.reading.end, account.reading.pages))
+      account.follows (Some (account.reading.end, account.reading.pages))
   pub crashed : AreCrashedAs stop_log stop_data pick call
   pub is_read : WhereToldNow call (λ log store. IsReading log.reads store.reads account.reading)
   pub safe : call.log.now.tells ≢ None → call.store.now.tells ≢ None

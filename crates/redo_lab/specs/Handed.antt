@@ -33,7 +33,7 @@ abbrev pub TellsOf : {L D : Type 0} → (threads : Bool) → (L → Seen) → (L
     → Drive → Opened (Fused L) (Fused D) → List ScriptLine → Driven (Fused L) (Fused D) → Type 0
 TellsOf false log_seen log_gives data_seen data_gives drive store script driven =
     RunsByTurns (seen_through log_seen) (CallsThrough log_seen log_gives) (seen_through data_seen) (CallsThrough data_seen data_gives)
-    store script (turns_of drive) driven
+    store script (turns_of drive) drive.followers driven
 TellsOf true log_seen log_gives data_seen data_gives drive store script driven = RunsInThreads store script drive.log_only driven
 
 -- It is one device behind one fuse: handed in once, and armed once, with this limit.

@@ -5,6 +5,7 @@ pub mod Cause
 pub mod Devices
 pub mod Ending
 pub mod Files
+pub mod Following
 pub mod Handed
 pub mod Laws
 pub mod Runs

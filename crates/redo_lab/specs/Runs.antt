@@ -1,10 +1,13 @@
 -- A command that runs a script: how far its run came, and what that leaves of the two devices.
-use Rattle.std.specs.Prelude.{ℕ, ◌≡◌, ◌≢◌, ◌<◌, ◌+◌, false, List, Option, Some, None, IfSome, Result, Ok, Err, length}
+use Rattle.std.specs.Prelude.{ℕ, ◌≡◌, ◌≢◌, ◌<◌, ◌+◌, false, List, [], Option, Some, None, IfSome, Result, Ok, Err, length}
+use Rattle.std.specs.Prelude.{Vec}
 use Rattle.std.specs.Borrow.{Bor}
+use Rattle.std.specs.declared.alloc.Global.{Global}
 use Rattle.model_device.specs.Disk.{Disk}
 use Rattle.model_page.specs.declared.content.Content.{Content}
 use Rattle.model_parts.specs.{IsOpenable}
 use Rattle.model_report.specs.{IsLeft, report_text, summary_text}
+use Rattle.model_report.specs.declared.entry.Followed.{Followed}
 use Rattle.model_report.specs.declared.fault.Fault.{Fault}
 use Rattle.model_report.specs.declared.fault.Fault.TheVariants as fault
 use Rattle.model_report.specs.declared.fault.Fault.TheVariants.{Memory}
@@ -43,7 +46,7 @@ use Rattle.redo_lab.specs.Devices.{AreArmed, ArePrepared, IsUnarmed, to_be_armed
 use Rattle.redo_lab.specs.Handed.{AreOf, IsOpenedAt}
 use Rattle.redo_lab.specs.Ending.{EndsWith}
 use Rattle.redo_lab.specs.Store.{DevicesOpenAs}
-use Rattle.redo_lab.specs.Told.{AreLeftRead, AreMarksRead, HasRunScript, IsOpenedFirst}
+use Rattle.redo_lab.specs.Told.{AreToldOf, AreLeftRead, AreMarksRead, HasRunScript, IsOpenedFirst}
 
 -- the fault of a call whose store isn't formatted, read or opened
 abbrev pub fault_of : RecFault → Fault
@@ -89,9 +92,10 @@ pub record IsLeftBy (call : LabCall) (command : Command) (drive : Drive) (stops 
   pub reads : AreLeftRead call script run
 
 -- What is told of it is so: something is lost only where a device failed, and its marks are read.
-pub record IsToldRightly (call : LabCall) (drive : Drive) (script : List ScriptLine) (run : Option Ran) : Type 0 where
+pub record IsToldRightly (call : LabCall) (drive : Drive) (script : List ScriptLine) (run : Option Ran) (follows : List Followed) : Type 0 where
   pub loses : (left : List (ℕ × ℕ)) → IsLeft script (entries_of run) left → LosesOnlyByFailure (mids call) run left
   pub marks : AreMarksRead call drive run call.log.now.tells call.store.now.tells
+  pub followers : AreToldOf call drive script run follows call.log.now.tells call.store.now.tells
 
 -- this device failed since its fuse was armed: the log device where both did
 abbrev pub HasFailed : LabCall → Fault → Type 0
@@ -116,7 +120,7 @@ ComesTo call command drive stops script (course.Stopped fault) =
     IsLeftBy call command drive stops script None ended.Done × HasFailed call fault
 ComesTo call command drive stops script (course.Played played fault) =
     IsLeftBy call command drive stops script (Some (ran_of played)) ended.Done
-    × IsToldRightly call drive script (Some (ran_of played)) × IsPlayedTo call fault
+    × IsToldRightly call drive script (Some (ran_of played)) played.follows.items × IsPlayedTo call fault
 
 -- the same of the devices that are given back, with which the call is this
 abbrev pub IsRanBy : {L D : Type 0} → (Fused L → Fused D → LabCall) → Command → Drive → Stops → List ScriptLine → declared.Ran L D → Type 0
@@ -155,8 +159,8 @@ unopened DataDev = course.Stopped fault.DataDevice
 unopened other = course.Ended (fault_of other)
 
 -- the lines that were run, as the drive hands them back
-abbrev pub played_of : {L D : Type 0} → ℕ → Closed L D → Played
-played_of start closed = record { start = start; history = closed.history; marks = closed.marks }
+abbrev pub played_of : {L D : Type 0} → ℕ → Closed L D → Vec Followed Global → Played
+played_of start closed follows = record { start = start; history = closed.history; marks = closed.marks; follows = follows }
 
 -- why a run that all users ended comes to no text, or with a fault after it, by what a call of each device answered that
 -- failed: a log fault goes before a data fault, and both before want of memory
@@ -181,18 +185,23 @@ abbrev pub played_run : Option (Bor Played) → Option Ran
 played_run None = None
 played_run (Some played) = Some (ran_of played.now)
 
+-- and its followers
+abbrev pub played_follows : Option (Bor Played) → List Followed
+played_follows None = []
+played_follows (Some played) = played.now.follows.items
+
 -- how many groups the run reserved, its flushed mark and its checkpoint, and the checksum of the pages that are read after it
 abbrev pub summary_of : Ran → Reading → List ℕ
 summary_of run reading = summary_text (length run.entries) run.marks.flushed run.marks.ckpt reading.pages
 
--- The text is the report of this run of the script, with what is left of it, and of what was read.
-pub record IsReportOf (script : List ScriptLine) (run : Option Ran) (read : Option (ℕ × List Content)) (text : List ℕ) : Type 0 where
+-- The text is the report of this run of the script, with what is left of it and what is told of followers, and of what was read.
+pub record IsReportOf (script : List ScriptLine) (run : Option Ran) (follows : List Followed) (read : Option (ℕ × List Content)) (text : List ℕ) : Type 0 where
   pub left : List (ℕ × ℕ)
   pub left_is : IsLeft script (entries_of run) left
-  pub text_is : text ≡ report_text (run_start run) (entries_of run) left (marks_of run) read
+  pub text_is : text ≡ report_text (run_start run) (entries_of run) left (marks_of run) follows read
 
 -- what is to be printed of a run that was ended by this, if by anything: its report, if there was memory for it
-abbrev pub IsRunPrinted : List ScriptLine → Ran → Option Fault → Outcome → Type 0
-IsRunPrinted script run cut (outcome.Text text) = (cut ≡ None) × IsReportOf script (Some run) None text
-IsRunPrinted script run cut (outcome.Report text fault) = (cut ≡ Some fault) × IsReportOf script (Some run) None text
-IsRunPrinted script run cut (outcome.Fault fault) = fault ≡ Memory
+abbrev pub IsRunPrinted : List ScriptLine → Ran → List Followed → Option Fault → Outcome → Type 0
+IsRunPrinted script run follows cut (outcome.Text text) = (cut ≡ None) × IsReportOf script (Some run) follows None text
+IsRunPrinted script run follows cut (outcome.Report text fault) = (cut ≡ Some fault) × IsReportOf script (Some run) follows None text
+IsRunPrinted script run follows cut (outcome.Fault fault) = fault ≡ Memory

@@ -1,10 +1,14 @@
 -- WHAT IS TOLD OF A RUN, by a report, a summary or spent turns, always of one run, which is the drive's; and what is left of the store,
 -- whatever the status.
-use Rattle.std.specs.Prelude.{ℕ, ◌≡◌, true, List, length, Option, Some, None, IfSome, ◌≢◌, ◌⊎◌}
+use Rattle.std.specs.Prelude.{ℕ, ◌%◌, ◌+◌, ◌^◌, ◌≡◌, ◌≤◌, true, List, [], length, Option, slice_get, Some, None, IfSome, take, ◌≢◌, ◌⊎◌}
+use Rattle.std.specs.List.{AllByRecursion}
+use Rattle.model_base.specs.{crc_of}
 use Rattle.model_script.specs.declared.asked.Command.{Command}
 use Rattle.model_script.specs.declared.asked.Drive.{Drive}
 use Rattle.model_device.specs.Disk.{Disk}
-use Rattle.model_report.specs.{IsLeft, report_text, summary_text}
+use Rattle.model_log.specs.{groups_of, IsBoundary, stream_of}
+use Rattle.model_report.specs.{count_up_to, entry_spans, IsLeft, report_text, summary_text, wholes_of}
+use Rattle.model_report.specs.declared.entry.Followed.{Followed}
 use Rattle.model_script.specs.declared.script.ScriptLine.{ScriptLine}
 use Rattle.model_store.specs.{IsReading, OpensOrderly, OpensUnused}
 use Rattle.model_store.specs.Reading.{Reading}
@@ -38,15 +42,37 @@ AreMarksRead call drive run log_met store_met = IfSome run (λ run. drive.thread
     → (reading : Reading) × IsReading log.reads store.reads reading
     × (reading.end ≡ run.marks.write) × (reading.ckpt ≡ run.marks.ckpt)))
 
+-- What is told of a follower of a run: its LSN stands between groups, at or below FLUSHED. It has handed on the groups that end at
+-- or below that, in lsn order: they are so many, and their joined texts have this checksum.
+pub record IsFollowed (script : List ScriptLine) (space : ℕ) (run : Ran) (followed : Followed) : Type 0 where
+  pub place : IsBoundary run.start (entry_spans run.entries) followed.lsn
+  pub flushed : followed.lsn ≤ run.marks.flushed
+  pub count : followed.count ≡ count_up_to followed.lsn run.entries % 2 ^ 64
+  pub crc : followed.crc ≡ crc_of (stream_of (groups_of (take (count_up_to followed.lsn run.entries) (wholes_of script space run.entries))))
+
+-- The followers of a run are as many as are asked for, numbered from 1; and each is told so, where both told and open a store.
+pub record AreFollowed (call : LabCall) (drive : Drive) (script : List ScriptLine) (run : Ran) (follows : List Followed)
+    (log_met store_met : Option Disk) : Type 0 where
+  pub count : length follows ≡ drive.followers
+  pub numbered : (i : ℕ) (followed : Followed) → slice_get follows i ≡ Some followed → followed.number ≡ i + 1
+  pub each : (opened : Opened) → WhereOpened call opened ((log store : Disk) → log_met ≡ Some log → store_met ≡ Some store
+      → AllByRecursion (IsFollowed script opened.shape.space run) follows)
+
+-- the followers of a run, or none where none is told
+abbrev pub AreToldOf : LabCall → Drive → List ScriptLine → Option Ran → List Followed → (log_met store_met : Option Disk) → Type 0
+AreToldOf call drive script None follows log_met store_met = follows ≡ []
+AreToldOf call drive script (Some run) follows log_met store_met = AreFollowed call drive script run follows log_met store_met
+
 -- The run, if opening wasn't stopped, and what is left of the script. Something is lost only where a device failed since its fuse
 -- was armed.
 pub record IsAccount (call : LabCall) (command : Command) (drive : Drive) (opened : Opened) (script : List ScriptLine) (run : Option Ran)
-    (left : List (ℕ × ℕ)) (log_met store_met : Option Disk) : Type 0 where
+    (left : List (ℕ × ℕ)) (follows : List Followed) (log_met store_met : Option Disk) : Type 0 where
   pub is_script : IsScriptFor command call.source call.source_now script
   pub ran : IfSome run (λ run. HasRunScript call command drive opened script run Done log_met store_met)
   pub left_is : IsLeft script (entries_of run) left
   pub loses : LosesOnlyByFailure (mids call) run left
   pub marks : AreMarksRead call drive run log_met store_met
+  pub followers : AreToldOf call drive script run follows log_met store_met
   pub opened_first : IsOpenedFirst call log_met run
 
 -- Every fair image of the two devices that are left is read as a prefix of this run, or of none, where both told and open a store.
@@ -54,24 +80,25 @@ abbrev pub AreLeftRead : LabCall → List ScriptLine → Option Ran → Type 0
 AreLeftRead call script run = (store : Opened) → WhereOpened call store (WhereToldNow call (AreReadAsPrefix script store run))
 
 -- A run whose devices aren't crashed: they are as it left them, and every fair image of them is read as a prefix of it.
-pub record IsRunText (call : LabCall) (command : Command) (drive : Drive) (IsTextOf : List ScriptLine → Ran → List (ℕ × ℕ) → List ℕ → Type 0)
+pub record IsRunText (call : LabCall) (command : Command) (drive : Drive) (IsTextOf : List ScriptLine → Ran → List (ℕ × ℕ) → List Followed → List ℕ → Type 0)
     (text : List ℕ) : Type 0 where
   pub opened : Opened
   pub script : List ScriptLine
   pub run : Ran
   pub left : List (ℕ × ℕ)
-  pub account : IsAccount call command drive opened script (Some run) left call.log.now.tells call.store.now.tells
+  pub follows : List Followed
+  pub account : IsAccount call command drive opened script (Some run) left follows call.log.now.tells call.store.now.tells
   pub in_run : BothDevices IsInRun call
   pub reads : AreLeftRead call script (Some run)
-  pub text_is : IsTextOf script run left text
+  pub text_is : IsTextOf script run left follows text
 
 -- the report of it
-abbrev pub IsReportText : List ScriptLine → Ran → List (ℕ × ℕ) → List ℕ → Type 0
-IsReportText script run left text = text ≡ report_text (Some run.start) run.entries left (Some run.marks) None
+abbrev pub IsReportText : List ScriptLine → Ran → List (ℕ × ℕ) → List Followed → List ℕ → Type 0
+IsReportText script run left follows text = text ≡ report_text (Some run.start) run.entries left (Some run.marks) follows None
 
 -- the summary of it, and of what the devices are read as
-abbrev pub IsSummaryText : LabCall → List ScriptLine → Ran → List (ℕ × ℕ) → List ℕ → Type 0
-IsSummaryText call script run left text =
+abbrev pub IsSummaryText : LabCall → List ScriptLine → Ran → List (ℕ × ℕ) → List Followed → List ℕ → Type 0
+IsSummaryText call script run left follows text =
     (reading : Reading) × WhereToldNow call (λ log store. IsReading log.reads store.reads reading)
     × (text ≡ summary_text (length run.entries) run.marks.flushed run.marks.ckpt reading.pages)
 

@@ -82,8 +82,9 @@ fn source_by_turns<R: Threads + Sync, S: Source, L: Sectors, D: Sectors>(
     match read_script(alloc, src) {
         Ok(script) => {
             let turns = turns_of(&asked.drive);
+            let followers = asked.drive.followers;
             let stops = stops_of(asked.crash);
-            let ran = by_turns(alloc, &script, &turns, stops, log, store);
+            let ran = by_turns(alloc, &script, &turns, followers, stops, log, store);
             after_run(rt, alloc, &script, ran, asked.crash)
         }
         Err(fault) => unasked(fault, log, store),
@@ -110,8 +111,11 @@ pub(crate) fn source_in_threads<
     match read_script(alloc, src) {
         Ok(script) => {
             let log_only = asked.drive.log_only;
+            let followers = asked.drive.followers;
             let stops = stops_of(asked.crash);
-            let ran = in_threads(rt, alloc, &script, log_only, gate, stops, log, store);
+            let ran = in_threads(
+                rt, alloc, &script, log_only, followers, gate, stops, log, store,
+            );
             after_run(rt, alloc, &script, ran, asked.crash)
         }
         Err(fault) => unasked(fault, log, store),

@@ -9,7 +9,7 @@ ghost use Rattle.redo_memdisk.specs.{entry_of};
 ghost use Rattle.redo_lab.specs.Asked.{IsScriptRead};
 ghost use Rattle.redo_lab.specs.Handed.{AreOf, call_on};
 ghost use Rattle.redo_lab.specs.Ending.{EndsWith};
-ghost use Rattle.redo_lab.specs.Runs.{IsLeftBy, IsRanBy, IsReportOf, IsToldRightly, command_with, played_run};
+ghost use Rattle.redo_lab.specs.Runs.{IsLeftBy, IsRanBy, IsReportOf, IsToldRightly, command_with, played_follows, played_run};
 
 use crate::faults::fault_of;
 use crate::laws::laws;
@@ -43,7 +43,7 @@ fn report_crash(
     recovered: &Recovered,
 ) -> Result<Text, NoMemory>
     requires { length recovered.now.pages ≤ MAX_PAGES }
-    ensures { IfOk result (λ text. IsReportOf script.now (played_run played.entry) (Some (recovered.now.end, recovered.now.pages)) text) }
+    ensures { IfOk result (λ text. IsReportOf script.now (played_run played.entry) (played_follows played.entry) (Some (recovered.now.end, recovered.now.pages)) text) }
 {
     let pages = contents(alloc, &recovered.pages)?;
     report_of(
@@ -70,7 +70,7 @@ fn crash_and_read<R: Threads + Sync, L: Sectors, D: Sectors>(
         → IsLeftBy (call_on L.seen L.gives D.seen D.gives words source source_now log_entry data_entry log.old store.old) (command_with asked (Some crash)) asked crash.stops
         script.now (played_run played.entry) ended.Done
         → IsToldRightly (call_on L.seen L.gives D.seen D.gives words source source_now log_entry data_entry log.old store.old) asked
-        script.now (played_run played.entry)
+        script.now (played_run played.entry) (played_follows played.entry)
         → EndsWith (call_on L.seen L.gives D.seen D.gives words source source_now log_entry data_entry log.new store.new) (command_with asked (Some crash)) result }
     ensures entered { AreOf (entry_of log.old) (entry_of store.old) log.new store.new }
 {

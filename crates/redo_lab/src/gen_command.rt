@@ -124,7 +124,7 @@ fn run_script<L: Sectors, D: Sectors>(
         course,
         mut log,
         mut store,
-    } = by_turns(alloc, script, turns, stops, log, store);
+    } = by_turns(alloc, script, turns, 0, stops, log, store);
     let outcome = match course {
         Course::Ended(fault) | Course::Stopped(fault) => Outcome::Fault(fault),
         Course::Played(played, ended) => match ended {

@@ -7,6 +7,7 @@ mod commands;
 mod crash_command;
 mod ended;
 mod faults;
+mod following;
 mod gen_command;
 mod in_files;
 mod lab_call;

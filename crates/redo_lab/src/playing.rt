@@ -3,9 +3,11 @@ ghost use Rattle.std.specs.Prelude.{◌≡◌, ◌≤◌, ◌<◌, ◌^◌, ℕ,
 ghost use Rattle.std.specs.List.{AllByRecursion};
 ghost use Rattle.model_base.specs.{IsWithinLimits};
 ghost use Rattle.model_log.specs.declared.layout.TheConstants.{BLOCK_HEADER};
+ghost use Rattle.model_report.specs.declared.fault.Fault.TheVariants.{Memory};
 ghost use Rattle.model_script.specs.{IsScriptLine};
 ghost use Rattle.model_script.specs.declared.asked.Command.{Command};
 ghost use Rattle.model_script.specs.declared.asked.Drive.{Drive as Asked};
+ghost use Rattle.model_script.specs.declared.words.TheConstants.{MAX_FOLLOWERS};
 ghost use Rattle.redo_drive.specs.{room_from};
 ghost use Rattle.redo_drive.specs.Startable.{MayBegin};
 ghost use Rattle.redo_io.specs.{SourceSeen};
@@ -18,11 +20,12 @@ ghost use Rattle.redo_lab.specs.Handed.{AreOf, call_on};
 ghost use Rattle.redo_lab.specs.Runs.{AreEntered, AreReady, CommandRuns, IsRanBy, course_done, course_of, ended_by, played_of, unopened};
 
 use crate::faults::fault_of;
+use crate::following::{make_followers, told_of};
 use crate::laws::laws;
 use crate::prepare::prepare;
 use model_base::Shape;
 use model_log::BLOCK_HEADER;
-use model_report::{Fault, History, Marks};
+use model_report::{Fault, Followed, History, Marks};
 use model_script::{Script, fitting_script};
 use redo_disk::{DevError, Sectors};
 use redo_drive::{Driven, RunEnd};
@@ -45,12 +48,13 @@ pub struct Stops {
     pub store: Option<u64>,
 }
 
-/// The lines that were run: from this lsn on these groups were reserved, and so far the run came.
+/// The lines that were run: from this lsn on these groups were reserved, so far the run came, and this is told of followers.
 #[derive(Drop)]
 pub struct Played {
     pub start: u64,
     pub history: History,
     pub marks: Marks,
+    pub follows: Vec<Followed>,
 }
 
 /// How far a run came.
@@ -111,8 +115,12 @@ fn course_done(played: Played, fault: Option<Fault>) -> Course
 }
 
 /// What a run comes to that was driven.
-fn close<L: Sectors, D: Sectors>(start: u64, driven: Driven<Fused<L>, Fused<D>>) -> Ran<L, D>
-    ensures course { result.course ≡ course_of driven.ended (played_of start driven.closed)
+fn close<L: Sectors, D: Sectors>(
+    start: u64,
+    driven: Driven<Fused<L>, Fused<D>>,
+    follows: Vec<Followed>,
+) -> Ran<L, D>
+    ensures course { result.course ≡ course_of driven.ended (played_of start driven.closed follows)
         (ended_by driven.closed.log.failed driven.closed.store.failed) }
     ensures log { result.log ≡ driven.closed.log.dev }
     ensures store { result.store ≡ driven.closed.store.dev }
@@ -123,6 +131,7 @@ fn close<L: Sectors, D: Sectors>(start: u64, driven: Driven<Fused<L>, Fused<D>>)
         start,
         history: closed.history,
         marks: closed.marks,
+        follows,
     };
     let course = match ended {
         RunEnd::Spent { turns, user } => Course::Ended(Fault::Turns(turns, user)),
@@ -146,6 +155,19 @@ fn unplayed<L: Sectors, D: Sectors>(fault: Fault, log: Fused<L>, store: Fused<D>
         log,
         store,
     }
+}
+
+/// A run on an opened store for which there was no memory.
+fn unbegun<L: Sectors, D: Sectors>(opened: Opened<Fused<L>, Fused<D>>) -> Ran<L, D>
+    ensures course { result.course ≡ ended.Ended Memory }
+    ensures log { result.log ≡ opened.log.dev }
+    ensures store { result.store ≡ opened.store.dev }
+{
+    unplayed(
+        Fault::Memory,
+        opened.log.into_dev(),
+        opened.store.into_dev(),
+    )
 }
 
 /// How a run came to an end whose store wasn't opened.
@@ -237,18 +259,21 @@ fn ready<L: Sectors, D: Sectors>(
     open_fitted(alloc, script, log_only, log, store)
 }
 
-/// Runs the lines of a script by these turns: on both devices, prepared, and with these stops once their fuses are armed.
+/// Runs the lines of a script by these turns, with so many followers: on both devices, prepared, and with these stops once
+/// their fuses are armed.
 pub(crate) fn by_turns<L: Sectors, D: Sectors>(
     alloc: Global,
     script: &Script,
     turns: &Turns,
+    followers: u32,
     stops: Stops,
     log: L,
     store: D,
 ) -> Ran<L, D>
-    requires { AllByRecursion IsScriptLine script.now }
+    requires lines { AllByRecursion IsScriptLine script.now }
+    requires few { followers ≤ MAX_FOLLOWERS }
     ensures comes_to { (words : List (List ℕ)) (source source_now : SourceSeen) (command : Command) (asked : Asked)
-        → CommandRuns source source_now command asked script.now → turns.now ≡ turns_of asked → asked.threads ≡ false
+        → CommandRuns source source_now command asked script.now → turns.now ≡ turns_of asked → followers ≡ asked.followers → asked.threads ≡ false
         → IsRanBy (call_on L.seen L.gives D.seen D.gives words source source_now log store) command asked stops script.now result }
     ensures entered { AreOf log store result.log result.store }
 {
@@ -258,8 +283,11 @@ pub(crate) fn by_turns<L: Sectors, D: Sectors>(
         Err(ran) => return ran,
     };
     let start = opened.start;
-    match run_by_turns(alloc, opened, script, turns) {
-        Ok(driven) => close(start, driven),
+    let Ok((followers, follows)) = make_followers(alloc, followers, start) else {
+        return unbegun(opened);
+    };
+    match run_by_turns(alloc, opened, script, turns, followers) {
+        Ok((driven, actors)) => close(start, driven, told_of(follows, actors.as_slice())),
         Err((_, log, store)) => unplayed(Fault::Memory, log, store),
     }
 }
@@ -270,14 +298,16 @@ pub(crate) fn in_threads<R: Threads + Wait + Sync, L: Sectors + Send, D: Sectors
     alloc: Global,
     script: &Script,
     log_only: bool,
+    followers: u32,
     gate: &G,
     stops: Stops,
     log: L,
     store: D,
 ) -> Ran<L, D>
     requires lines { AllByRecursion IsScriptLine script.now }
+    requires few { followers ≤ MAX_FOLLOWERS }
     ensures comes_to { (words : List (List ℕ)) (source source_now : SourceSeen) (command : Command) (asked : Asked)
-        → CommandRuns source source_now command asked script.now → log_only ≡ asked.log_only → asked.threads ≡ true
+        → CommandRuns source source_now command asked script.now → log_only ≡ asked.log_only → followers ≡ asked.followers → asked.threads ≡ true
         → IsRanBy (call_on L.seen L.gives D.seen D.gives words source source_now log store) command asked stops script.now result }
     ensures entered { AreOf log store result.log result.store }
 {
@@ -287,8 +317,11 @@ pub(crate) fn in_threads<R: Threads + Wait + Sync, L: Sectors + Send, D: Sectors
         Err(ran) => return ran,
     };
     let start = opened.start;
-    match drive_in_threads(rt, alloc, opened, script, log_only, gate) {
-        Ok(driven) => close(start, driven),
+    let Ok((followers, follows)) = make_followers(alloc, followers, start) else {
+        return unbegun(opened);
+    };
+    match drive_in_threads(rt, alloc, opened, script, log_only, followers, gate) {
+        Ok((driven, actors)) => close(start, driven, told_of(follows, actors.as_slice())),
         Err((_, log, store)) => unplayed(Fault::Memory, log, store),
     }
 }

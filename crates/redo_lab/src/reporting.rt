@@ -1,6 +1,6 @@
 // The report of a run.
 ghost use Rattle.std.specs.Prelude.{IfOk};
-ghost use Rattle.redo_lab.specs.Runs.{IsReportOf, played_run};
+ghost use Rattle.redo_lab.specs.Runs.{IsReportOf, played_follows, played_run};
 ghost use Rattle.redo_report.specs.{read_of};
 
 use crate::playing::Played;
@@ -19,12 +19,12 @@ pub(crate) fn report_of(
     run: Option<&Played>,
     read: Option<(u64, &[Content])>,
 ) -> Result<Text, NoMemory>
-    ensures { IfOk result (λ text. IsReportOf script.now (played_run run.entry) (read_of read.entry) text) }
+    ensures { IfOk result (λ text. IsReportOf script.now (played_run run.entry) (played_follows run.entry) (read_of read.entry) text) }
 {
     match run {
         None => {
             let left = left_of(alloc, &History(Vec::new(alloc)), script)?;
-            report(alloc, None, &[], left.as_slice(), None, read)
+            report(alloc, None, &[], left.as_slice(), None, &[], read)
         }
         Some(played) => {
             let left = left_of(alloc, &played.history, script)?;
@@ -36,6 +36,7 @@ pub(crate) fn report_of(
                 entries,
                 left.as_slice(),
                 marks,
+                played.follows.as_slice(),
                 read,
             )
         }

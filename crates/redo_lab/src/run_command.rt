@@ -19,7 +19,7 @@ use std::alloc::Global;
 
 /// What there is to print of lines that were run: the report, and after it the fault of the device that ended the run.
 fn print_run(alloc: Global, script: &Script, played: &Played, fault: Option<Fault>) -> Outcome
-    ensures { IsRunPrinted script.now (ran_of played.now) fault result }
+    ensures { IsRunPrinted script.now (ran_of played.now) played.now.follows.items fault result }
 {
     match (report_of(alloc, script, Some(played), None), fault) {
         (Err(_), _) => Outcome::Fault(Fault::Memory),

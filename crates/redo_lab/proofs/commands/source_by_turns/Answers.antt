@@ -1,12 +1,15 @@
-use Rattle.std.proofs.Common.{ap}
+use Rattle.std.proofs.Common.{ap, refl}
 use Rattle.redo_lab.proofs.Alone.{scripted-unscripted}
-use Rattle.redo_lab.proofs.AskedLimits.{within-workers}
+use Rattle.redo_lab.proofs.AskedLimits.{within-followers, within-workers}
 use Rattle.redo_lab.proofs.Ends.{runs-scripted}
 use Rattle.redo_lab.proofs.commands.source_by_turns.Goals as goal
 
-pub by_turns-ran-requires : goal.by_turns-ran-requires
-by_turns-ran-requires g c =
+pub by_turns-ran-requires-clause-lines : goal.by_turns-ran-requires-clause-lines
+by_turns-ran-requires-clause-lines g c =
     c.read_lines_are_ranged.ensures c.in-Ok.ensures.script.text c.in-Ok.script c.in-Ok.ensures.script.is_script
+
+pub by_turns-ran-requires-clause-few : goal.by_turns-ran-requires-clause-few
+by_turns-ran-requires-clause-few g c = within-followers c.args.asked.drive c.args.asked.crash c.requires.within
 
 pub after_run-requires-clause-workers : goal.after_run-requires-clause-workers
 after_run-requires-clause-workers g c = λ κs live. within-workers c.args.asked.drive c.args.asked.crash c.requires.within
@@ -14,7 +17,8 @@ after_run-requires-clause-workers g c = λ κs live. within-workers c.args.asked
 pub returns-in-Ok-clause-ends : goal.returns-in-Ok-clause-ends
 returns-in-Ok-clause-ends g c = λ words. c.after_run.ensures.ends c.args.asked.drive words _ _ c.args.log c.args.store
     (rw c.stops_of-stops.ensures at c.by_turns-ran.ensures.comes_to words _ _ _ c.args.asked.drive
-    (runs-scripted c.args.asked.drive c.args.asked.crash c.in-Ok.ensures.script) c.turns_of-turns.ensures c.requires.by_turns) c.in-Ok.ensures.script
+    (runs-scripted c.args.asked.drive c.args.asked.crash c.in-Ok.ensures.script) c.turns_of-turns.ensures refl
+    c.requires.by_turns) c.in-Ok.ensures.script
 
 pub returns-in-Err-clause-ends : goal.returns-in-Err-clause-ends
 returns-in-Err-clause-ends g c = λ words.

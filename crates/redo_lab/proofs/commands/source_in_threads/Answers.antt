@@ -1,6 +1,6 @@
 use Rattle.std.proofs.Common.{ap, refl}
 use Rattle.redo_lab.proofs.Alone.{scripted-unscripted}
-use Rattle.redo_lab.proofs.AskedLimits.{within-workers}
+use Rattle.redo_lab.proofs.AskedLimits.{within-followers, within-workers}
 use Rattle.redo_lab.proofs.Ends.{runs-scripted}
 use Rattle.redo_lab.proofs.commands.source_in_threads.Goals as goal
 
@@ -8,13 +8,18 @@ pub in_threads-ran-requires-clause-lines : goal.in_threads-ran-requires-clause-l
 in_threads-ran-requires-clause-lines g c = λ κs live.
     c.read_lines_are_ranged.ensures c.in-Ok.ensures.script.text c.in-Ok.script c.in-Ok.ensures.script.is_script
 
+pub in_threads-ran-requires-clause-few : goal.in_threads-ran-requires-clause-few
+in_threads-ran-requires-clause-few g c = λ κs live.
+    within-followers c.args.asked.drive c.args.asked.crash c.requires.within
+
 pub after_run-requires-clause-workers : goal.after_run-requires-clause-workers
 after_run-requires-clause-workers g c = λ κs live. within-workers c.args.asked.drive c.args.asked.crash c.requires.within
 
 pub returns-in-Ok-clause-ends : goal.returns-in-Ok-clause-ends
 returns-in-Ok-clause-ends g c = λ words. c.after_run.ensures.ends c.args.asked.drive words _ _ c.args.log c.args.store
     (rw c.stops_of-stops.ensures at c.in_threads-ran.ensures.comes_to words _ _ _ c.args.asked.drive
-    (runs-scripted c.args.asked.drive c.args.asked.crash c.in-Ok.ensures.script) refl c.requires.in_threads) c.in-Ok.ensures.script
+    (runs-scripted c.args.asked.drive c.args.asked.crash c.in-Ok.ensures.script) refl refl c.requires.in_threads)
+    c.in-Ok.ensures.script
 
 pub returns-in-Err-clause-ends : goal.returns-in-Err-clause-ends
 returns-in-Err-clause-ends g c = λ words.

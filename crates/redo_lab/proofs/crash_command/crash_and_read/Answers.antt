@@ -5,7 +5,7 @@ use Rattle.redo_lab.proofs.ByDrive.{driven-later}
 use Rattle.redo_lab.proofs.CrashEnds.{crash-reads}
 use Rattle.redo_lab.proofs.Entered.{both-entries}
 use Rattle.redo_lab.proofs.Rereading.{crashed-since, failure-ends, log-reads, reading-ends, was_of}
-use Rattle.redo_lab.specs.Runs.{played_run}
+use Rattle.redo_lab.specs.Runs.{played_follows, played_run}
 use Rattle.redo_lab.proofs.crash_command.crash_and_read.Goals as goal
 
 pub returns-in-Ok-clause-ends : goal.returns-in-Ok-clause-ends
@@ -15,7 +15,8 @@ returns-in-Ok-clause-ends g c = λ asked words source source_now log_entry data_
     (crash-reads _ _ (driven-later g.L.Sectors.seen g.L.Sectors.gives g.D.Sectors.seen g.D.Sectors.gives
     (same-then (crash-same c.crash.ensures.gives) (calls-same now.log.calls))
     (same-then (crash-same c.crash-2.ensures.gives) (calls-same now.data_device.calls)))
-    asked c.args.crash.stops c.args.crash.pick c.args.crash.workers c.args.script.now (played_run c.args.played)
+    asked c.args.crash.stops c.args.crash.pick c.args.crash.workers c.args.script.now
+    (played_run c.args.played) (played_follows c.args.played)
     (was_of g.L.Sectors.seen c.args.log.now) (was_of g.D.Sectors.seen c.args.store.now) c.laws.ensures read left told)
     _ _ refl refl (reading_of c.in-Ok.recovered) _
     (crashed-since left.armed.log_device c.crash.ensures.gives (log-reads now.log.calls), crashed-since left.armed.data_device c.crash-2.ensures.gives now.data_device.calls)
@@ -28,7 +29,8 @@ returns-in-Err-clause-ends g c = λ asked words source source_now log_entry data
     (crash-reads _ _ (driven-later g.L.Sectors.seen g.L.Sectors.gives g.D.Sectors.seen g.D.Sectors.gives
     (same-then (crash-same c.crash.ensures.gives) (calls-same now.log.calls))
     (same-then (crash-same c.crash-2.ensures.gives) (calls-same now.data_device.calls)))
-    asked c.args.crash.stops c.args.crash.pick c.args.crash.workers c.args.script.now (played_run c.args.played)
+    asked c.args.crash.stops c.args.crash.pick c.args.crash.workers c.args.script.now
+    (played_run c.args.played) (played_follows c.args.played)
     (was_of g.L.Sectors.seen c.args.log.now) (was_of g.D.Sectors.seen c.args.store.now) c.laws.ensures read left told)
     _ _ refl refl c.in-Err.fault
     (crashed-since left.armed.log_device c.crash.ensures.gives (log-reads now.log.calls), crashed-since left.armed.data_device c.crash-2.ensures.gives now.data_device.calls)

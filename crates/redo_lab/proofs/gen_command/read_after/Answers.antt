@@ -14,7 +14,7 @@ returns-in-Ok-clause-ends g c = λ words source log_entry data_entry seed users 
     rw c.of_text.ensures (reading-ends
     (gen-reads _ _ (driven-later g.L.Sectors.seen g.L.Sectors.gives g.D.Sectors.seen g.D.Sectors.gives
     (calls-same now.log.calls) (calls-same now.data_device.calls))
-    seed users groups max script (ran_of c.args.played.now)
+    seed users groups max script (ran_of c.args.played.now) c.args.played.now.follows.items
     (was_of g.L.Sectors.seen c.args.log.now) (was_of g.D.Sectors.seen c.args.store.now) c.laws.ensures running was.0 was.1 was.2)
     _ _ refl refl (reading_of c.in-Ok.recovered) _
     (read-since was.0.armed.log_device (omega (arith, was.2.0)) (log-reads now.log.calls), read-since was.0.armed.data_device (omega (arith, was.2.0)) now.data_device.calls)
@@ -26,7 +26,7 @@ returns-in-Err-clause-ends g c = λ words source log_entry data_entry seed users
     rw c.fault_of.ensures (failure-ends
     (gen-reads _ _ (driven-later g.L.Sectors.seen g.L.Sectors.gives g.D.Sectors.seen g.D.Sectors.gives
     (calls-same now.log.calls) (calls-same now.data_device.calls))
-    seed users groups max script (ran_of c.args.played.now)
+    seed users groups max script (ran_of c.args.played.now) c.args.played.now.follows.items
     (was_of g.L.Sectors.seen c.args.log.now) (was_of g.D.Sectors.seen c.args.store.now) c.laws.ensures running was.0 was.1 was.2)
     _ _ refl refl c.in-Err.fault
     (read-since was.0.armed.log_device (omega (arith, was.2.0)) (log-reads now.log.calls), read-since was.0.armed.data_device (omega (arith, was.2.0)) now.data_device.calls)

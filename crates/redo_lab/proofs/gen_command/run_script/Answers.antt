@@ -12,7 +12,8 @@ pub returns-clause-ends : goal.returns-clause-ends
 returns-clause-ends g c = λ words source seed users groups max is turns_are.
     let running : CommandRuns source source (Gen seed users groups true max) (drive_of_seed seed max) c.args.script.now =
     record { asked = refl; is_script = is; unread = λ plain. refl } in
-    let comes_to = c.by_turns-course.ensures.comes_to words source source (Gen seed users groups true max) (drive_of_seed seed max) running turns_are refl in
+    let comes_to = c.by_turns-course.ensures.comes_to words source source (Gen seed users groups true max)
+    (drive_of_seed seed max) running turns_are refl refl in
     elim c.match-course.branch [
       | in-Ended2 w ↦ rw (w.outcome-is, w.log-is, w.store-is) (elim w.in-Ended.is [
         | inl ended ↦ rw ended at comes_to

@@ -1,4 +1,4 @@
-use Rattle.std.proofs.Common.{ap, refl, sym}
+use Rattle.std.proofs.Common.{refl}
 use Rattle.redo_recover.specs.{reading_of}
 use Rattle.redo_lab.proofs.Entered.{both-entries, entries-then}
 use Rattle.redo_lab.proofs.Plain.{only-read, plain-reads, recovers-off}
