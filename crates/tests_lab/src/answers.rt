@@ -1,6 +1,5 @@
 // Calls on devices that hold zeros.
-use crate::calls::{call_on, has_lines, prints};
-use crate::tables::{left_by, play, spelled};
+use crate::tables::{play, play_with};
 use std::test::Fail;
 
 #[test]
@@ -103,13 +102,14 @@ const MANY_LINES: &str = "[1 f s 3 38 (07*4050);s 3 38 (07*4050);s 3 38 (07*70) 
 
 #[test]
 fn refuses_a_script_for_which_the_log_alone_has_no_room(rt: HostRuntime) -> Result<(), Fail> {
-    for command in ["run", "crash"] {
-        let row = format!(in rt.alloc();
-            "new | {command} --log-only | {MANY_LINES} | 10 | fault fit total 1107516"
-        )?;
-        play(&rt, &row)?;
-    }
-    Ok(())
+    play_with(
+        &rt,
+        MANY_LINES,
+        "
+new | run --log-only   | @ | 10 | fault fit total 1107516
+new | crash --log-only | @ | 10 | fault fit total 1107516
+",
+    )
 }
 
 /// 28 groups of 8,192 bytes, and the first string of another one. With a second string of 3,646 bytes that has 7,711, and all of them
@@ -121,28 +121,29 @@ const FULL_LOG: &str =
 /// 278,528 more, is one round from 8192 on. A group of one byte more would end in the next block.
 #[test]
 fn runs_the_log_alone_up_to_its_last_byte(rt: HostRuntime) -> Result<(), Fail> {
-    let small = "new | format --log-blocks 1024 | | 0 | formatted 8192";
-    let row = format!(in rt.alloc();
-        "{small}\nsame | crash --log-only | {FULL_LOG};s 4 38 (08*3647) | 10 | fault fit total 252940"
-    )?;
-    play(&rt, &row)?;
-    let script = format!(in rt.alloc(); "{FULL_LOG};s 4 38 (08*3646)")?;
-    let script = spelled(rt.alloc(), &script)?;
-    let called = call_on(&rt, "crash --log-only", &script, left_by(&rt, small)?)?;
-    let lines = ["g 244972 252923 1 28 flushed", "recovered 29 252923"];
-    assert!(rt; prints(&called, lines)?);
-    Ok(())
+    play_with(
+        &rt,
+        FULL_LOG,
+        "
+new  | format --log-blocks 1024 |                    |  0 | formatted 8192
+same | crash --log-only         | @;s 4 38 (08*3647) | 10 | fault fit total 252940
+new  | format --log-blocks 1024 |                    |  0 | formatted 8192
+same | crash --log-only         | @;s 4 38 (08*3646) |  0 | .. / g 244972 252923 1 28 flushed / .. / recovered 29 252923 / ..
+",
+    )
 }
 
 /// The first group starts at sn 7936, and the last after 129 of 8192 bytes.
 #[test]
 fn frees_the_log_by_checkpoints(rt: HostRuntime) -> Result<(), Fail> {
-    let script = spelled(rt.alloc(), MANY_LINES)?;
-    let lines = ["g 1099052 1107516 1 129 flushed", "recovered 130 1107516"];
-    for words in ["crash", "crash --threads"] {
-        assert!(rt; has_lines(&rt, words, &script, lines)?, "at {words}");
-    }
-    Ok(())
+    play_with(
+        &rt,
+        MANY_LINES,
+        "
+new | crash           | @ | 0 | .. / g 1099052 1107516 1 129 flushed / .. / recovered 130 1107516 / ..
+new | crash --threads | @ | 0 | .. / g 1099052 1107516 1 129 flushed / .. / recovered 130 1107516 / ..
+",
+    )
 }
 
 #[test]

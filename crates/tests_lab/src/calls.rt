@@ -1,8 +1,8 @@
-// Calls on devices in memory.
-use crate::devices::{Devices, blank};
+// Calls, and what they come to.
+use crate::devices::{Devices, MemDevices, blank};
+use redo_disk::Sectors;
 use redo_io::{MemSink, MemSource};
-use redo_lab::lab;
-use redo_memdisk::Fuse;
+use redo_lab::{Ended, lab};
 use redo_threads::{Gate, NoGate};
 use std::alloc::{AllocError, Global};
 use std::sync::Wait;
@@ -12,17 +12,20 @@ use std::thread::Threads;
 /// The script of most calls.
 pub(crate) const LINE: &str = "1 f b1 3 100 7";
 
-/// What a call came to: its status, what was printed, what the log device's fuse counted, and the devices.
+/// A call, and what it came to once it was made.
 #[derive(Drop)]
-pub(crate) struct Called {
-    pub(crate) status: u8,
-    pub(crate) sink: MemSink,
-    pub(crate) log_fuse: Fuse,
-    pub(crate) devices: Devices,
+pub(crate) struct Call {
+    words: Vec<String>,
+    source: MemSource,
+    sink: MemSink,
+    status: u8,
+    /// How many calls of the log device it made before its opening, and from that on.
+    early: u64,
+    passed: u64,
 }
 
 /// The words of a text.
-pub(crate) fn words_of(alloc: Global, text: &str) -> Result<Vec<String>, AllocError> {
+fn words_of(alloc: Global, text: &str) -> Result<Vec<String>, AllocError> {
     let mut words = Vec::new(alloc);
     for word in text.split_whitespace() {
         words.push(word.to_string(alloc)?)?;
@@ -30,102 +33,121 @@ pub(crate) fn words_of(alloc: Global, text: &str) -> Result<Vec<String>, AllocEr
     Ok(words)
 }
 
-/// A source that gives this text.
-pub(crate) fn source_of(alloc: Global, text: &str) -> Result<MemSource, AllocError> {
-    Ok(MemSource::new(text.as_bytes().to_vec(alloc)?))
-}
-
-/// A call with this source and this sink on these devices, whose users this gate may hold.
-pub(crate) fn call_gated<G: Gate>(
-    rt: &(impl AllocGlobal + Threads + Wait + Sync),
-    words: &[String],
-    mut source: MemSource,
-    mut sink: MemSink,
-    devices: Devices,
-    gate: &G,
-) -> Called {
-    let Devices { log, store } = devices;
-    let ended = lab(
-        rt,
-        rt.alloc(),
-        words,
-        &mut source,
-        &mut sink,
-        log,
-        store,
-        gate,
-    );
-    Called {
-        status: ended.status,
-        sink,
-        log_fuse: ended.log.fuse(),
-        devices: Devices {
-            log: ended.log.into_inner(),
-            store: ended.store.into_inner(),
-        },
+/// A source that gives this text: in pieces of one byte, not at all, or as a whole.
+fn source_of(alloc: Global, way: &str, text: &str) -> Result<MemSource, AllocError> {
+    let bytes = text.as_bytes().to_vec(alloc)?;
+    match way {
+        "in pieces" => Ok(MemSource::short(bytes, 1)),
+        "source fails" => Ok(MemSource::failing(bytes, vec![in alloc; 0]?)),
+        _ => Ok(MemSource::new(bytes)),
     }
 }
 
-/// A call with this source and this sink on these devices.
-pub(crate) fn call_with(
+/// A sink that takes pieces of one byte, none, or all.
+fn sink_of(alloc: Global, way: &str) -> Result<MemSink, AllocError> {
+    match way {
+        "in pieces" => Ok(MemSink::short(alloc, 1)),
+        "sink fails" => Ok(MemSink::failing(alloc, vec![in alloc; 0]?)),
+        _ => Ok(MemSink::new(alloc)),
+    }
+}
+
+/// Makes the call of these words with this source and this sink on these devices, whose users this gate may hold.
+fn ended_of<L: Sectors + Send, D: Sectors + Send, G: Gate>(
     rt: &(impl AllocGlobal + Threads + Wait + Sync),
     words: &[String],
-    source: MemSource,
-    sink: MemSink,
-    devices: Devices,
-) -> Called {
-    call_gated(rt, words, source, sink, devices, &NoGate)
+    source: &mut MemSource,
+    sink: &mut MemSink,
+    log: L,
+    store: D,
+    gate: &G,
+) -> Ended<L, D> {
+    lab(rt, rt.alloc(), words, source, sink, log, store, gate)
 }
 
-/// A call on these devices, with this script on its source.
+impl Call {
+    /// A call with these words and this script, which goes `in pieces`, or where the `source fails` or the `sink fails`.
+    pub(crate) fn by(
+        alloc: Global,
+        way: &str,
+        words: &str,
+        script: &str,
+    ) -> Result<Call, AllocError> {
+        let words = words_of(alloc, words)?;
+        let source = source_of(alloc, way, script)?;
+        let sink = sink_of(alloc, way)?;
+        Ok(Call {
+            words,
+            source,
+            sink,
+            status: 0,
+            early: 0,
+            passed: 0,
+        })
+    }
+
+    /// Makes the call on these devices, whose users this gate may hold; the devices after it.
+    pub(crate) fn make<L: Sectors + Send, D: Sectors + Send, G: Gate>(
+        &mut self,
+        rt: &(impl AllocGlobal + Threads + Wait + Sync),
+        devices: Devices<L, D>,
+        gate: &G,
+    ) -> Devices<L, D> {
+        let Devices { log, store } = devices;
+        let words = self.words.as_slice();
+        let ended = ended_of(
+            rt,
+            words,
+            &mut self.source,
+            &mut self.sink,
+            log,
+            store,
+            gate,
+        );
+        let fuse = ended.log.fuse();
+        self.status = ended.status;
+        self.early = fuse.early_calls;
+        self.passed = fuse.passed;
+        Devices {
+            log: ended.log.into_inner(),
+            store: ended.store.into_inner(),
+        }
+    }
+
+    /// What the call came to: its status in a line of its own, and what was printed.
+    pub(crate) fn told(&self, alloc: Global) -> Result<String, Fail> {
+        let printed = str::from_utf8(self.sink.bytes())?;
+        Ok(format!(in alloc; "{}\n{printed}", self.status)?)
+    }
+}
+
+/// What a call on these devices comes to, and the devices after it.
 pub(crate) fn call_on(
-    rt: &(impl AllocGlobal + Threads + Wait + Sync),
-    text: &str,
-    script: &str,
-    devices: Devices,
-) -> Result<Called, AllocError> {
-    let alloc = rt.alloc();
-    let words = words_of(alloc, text)?;
-    let source = source_of(alloc, script)?;
-    Ok(call_with(rt, &words, source, MemSink::new(alloc), devices))
-}
-
-/// A call on devices that hold zeros.
-pub(crate) fn call(
-    rt: &(impl AllocGlobal + Threads + Wait + Sync),
-    text: &str,
-    script: &str,
-) -> Result<Called, AllocError> {
-    let alloc = rt.alloc();
-    call_on(rt, text, script, blank(alloc)?)
-}
-
-/// How many calls of the log device a call on devices that hold zeros makes before its opening, and in its opening.
-pub(crate) fn calls_of_opening(
-    rt: &(impl AllocGlobal + Threads + Wait + Sync),
-) -> Result<(u64, u64), AllocError> {
-    let fuse = call(rt, "run", "")?.log_fuse;
-    Ok((fuse.early_calls, fuse.passed))
-}
-
-/// Whether a text has this line.
-fn has_line(text: &str, wanted: &str) -> bool {
-    text.lines().any(|line| line == wanted)
-}
-
-/// Whether a call ended with status 0 and printed these two lines, among others.
-pub(crate) fn prints(called: &Called, lines: [&str; 2]) -> Result<bool, Fail> {
-    let text = str::from_utf8(called.sink.bytes())?;
-    let [first, second] = lines;
-    Ok(called.status == 0 && has_line(text, first) && has_line(text, second))
-}
-
-/// Whether a call on devices that hold zeros ends with status 0 and prints these two lines, among others.
-pub(crate) fn has_lines(
     rt: &(impl AllocGlobal + Threads + Wait + Sync),
     words: &str,
     script: &str,
-    lines: [&str; 2],
-) -> Result<bool, Fail> {
-    prints(&call(rt, words, script)?, lines)
+    devices: MemDevices,
+) -> Result<(String, MemDevices), Fail> {
+    let mut call = Call::by(rt.alloc(), "", words, script)?;
+    let left = call.make(rt, devices, &NoGate);
+    Ok((call.told(rt.alloc())?, left))
+}
+
+/// How many calls of the log device a call on devices that hold zeros makes before its opening, and from that on.
+pub(crate) fn log_calls(
+    rt: &(impl AllocGlobal + Threads + Wait + Sync),
+    words: &str,
+) -> Result<(u64, u64), AllocError> {
+    let devices = blank(rt.alloc())?;
+    let mut call = Call::by(rt.alloc(), "", words, "")?;
+    let _left = call.make(rt, devices, &NoGate);
+    Ok((call.early, call.passed))
+}
+
+/// How many it makes in its opening.
+pub(crate) fn calls_of_opening(
+    rt: &(impl AllocGlobal + Threads + Wait + Sync),
+) -> Result<u64, AllocError> {
+    let (_, passed) = log_calls(rt, "run")?;
+    Ok(passed)
 }

@@ -39,13 +39,16 @@ const PLACE: u64 = 13 * PAGE;
 
 /// A log device and a data device.
 #[derive(Drop)]
-pub(crate) struct Devices {
-    pub(crate) log: MemDisk,
-    pub(crate) store: MemDisk,
+pub(crate) struct Devices<L, D> {
+    pub(crate) log: L,
+    pub(crate) store: D,
 }
 
+/// Such devices in memory.
+pub(crate) type MemDevices = Devices<MemDisk, MemDisk>;
+
 /// Devices of the default sizes, which hold zeros.
-pub(crate) fn blank(alloc: Global) -> Result<Devices, AllocError> {
+pub(crate) fn blank(alloc: Global) -> Result<MemDevices, AllocError> {
     Ok(Devices {
         log: MemDisk::new(alloc, LOG_LENGTH)?,
         store: MemDisk::new(alloc, STORE_LENGTH)?,
@@ -56,7 +59,7 @@ pub(crate) fn blank(alloc: Global) -> Result<Devices, AllocError> {
 pub(crate) const CUT: usize = 100;
 
 /// Such devices, of which a crash tears the sectors that it loses.
-fn tearing(alloc: Global) -> Result<Devices, AllocError> {
+fn tearing(alloc: Global) -> Result<MemDevices, AllocError> {
     Ok(Devices {
         log: MemDisk::tearing(alloc, LOG_LENGTH, CUT)?,
         store: MemDisk::tearing(alloc, STORE_LENGTH, CUT)?,
@@ -230,22 +233,21 @@ fn shortened(alloc: Global, device: &mut MemDisk, sectors: u32) -> Result<MemDis
 }
 
 /// The devices, of which one is cut as a name says: `log of SECTORS` or `data of SECTORS`.
-pub(crate) fn shorten(alloc: Global, devices: &mut Devices, name: &str) -> Result<bool, Fail> {
-    match name.split_once(" of ") {
-        Some(("log", sectors)) => {
-            devices.log = shortened(alloc, &mut devices.log, sectors.parse::<u32>()?)?;
-            Ok(true)
-        }
-        Some((_, sectors)) => {
-            devices.store = shortened(alloc, &mut devices.store, sectors.parse::<u32>()?)?;
-            Ok(true)
-        }
-        None => Ok(false),
+pub(crate) fn shorten(alloc: Global, devices: &mut MemDevices, name: &str) -> Result<bool, Fail> {
+    let Some((device, sectors)) = name.split_once(" of ") else {
+        return Ok(false);
+    };
+    let sectors = sectors.parse::<u32>()?;
+    if device == "log" {
+        devices.log = shortened(alloc, &mut devices.log, sectors)?;
+    } else {
+        devices.store = shortened(alloc, &mut devices.store, sectors)?;
     }
+    Ok(true)
 }
 
 /// Changes devices as a name says; `same` leaves them, and any other name that isn't below is refused.
-pub(crate) fn change(devices: &mut Devices, name: &str) -> Result<(), DevError> {
+pub(crate) fn change(devices: &mut MemDevices, name: &str) -> Result<(), DevError> {
     match name {
         "first format" => put_first_format(&mut devices.log),
         "first head lost" => put(&mut devices.log, 0, &[1; 512]),
@@ -286,15 +288,20 @@ pub(crate) fn change(devices: &mut Devices, name: &str) -> Result<(), DevError> 
 
 /// New devices; those of `tearing` tear the sectors that a crash loses, and so do those of `log fails CALL` or
 /// `data fails CALL`, of which one fails a call.
-pub(crate) fn new_devices(alloc: Global, name: &str) -> Result<Devices, Fail> {
-    let mut devices = match name {
-        "new" => blank(alloc)?,
-        _ => tearing(alloc)?,
+pub(crate) fn new_devices(alloc: Global, name: &str) -> Result<MemDevices, Fail> {
+    let Some((device, call)) = name.split_once(" fails ") else {
+        let devices = match name {
+            "tearing" => tearing(alloc)?,
+            _ => blank(alloc)?,
+        };
+        return Ok(devices);
     };
-    match name.split_once(" fails ") {
-        Some(("log", call)) => devices.log = failing(alloc, LOG_LENGTH, call.parse::<u64>()?)?,
-        Some((_, call)) => devices.store = failing(alloc, STORE_LENGTH, call.parse::<u64>()?)?,
-        None => {}
+    let call = call.parse::<u64>()?;
+    let mut devices = tearing(alloc)?;
+    if device == "log" {
+        devices.log = failing(alloc, LOG_LENGTH, call)?;
+    } else {
+        devices.store = failing(alloc, STORE_LENGTH, call)?;
     }
     Ok(devices)
 }

@@ -1,6 +1,6 @@
 // Stores of both formats, and log devices of which a header block is lost.
-use crate::calls::{Called, call_on};
-use crate::tables::{left_by, play};
+use crate::calls::call_on;
+use crate::tables::{expect, left_by, left_of, play};
 use std::process::Abort;
 use std::sync::Wait;
 use std::test::Fail;
@@ -28,49 +28,49 @@ same         | recover |             | 0 | read 1 8722 / p 3 8722 (00*62)0709
 /// The same where the run is crashed, by each drive.
 #[test]
 fn crashes_a_store_of_the_first_format(rt: HostRuntime) -> Result<(), Fail> {
-    for words in ["crash", "crash --threads"] {
-        let table = format!(in rt.alloc();
-            "
-tearing      | run     | 1 f b1 3 100 7 | 0 | open 8204 / g 8204 8210 1 0 flushed / marks 8210 8210 8210 8192
-first format | {words} | 1 f b1 3 101 9 | 0 | open 8716 / g 8716 8722 1 0 flushed / marks 8722 8722 8722 8704 / recovered 1 8722 / p 3 8722 (00*62)0709
-"
-        )?;
-        play(&rt, &table)?;
-    }
-    Ok(())
+    play(
+        &rt,
+        "
+tearing      | run             | 1 f b1 3 100 7 | 0 | open 8204 / g 8204 8210 1 0 flushed / marks 8210 8210 8210 8192
+first format | crash           | 1 f b1 3 101 9 | 0 | open 8716 / g 8716 8722 1 0 flushed / marks 8722 8722 8722 8704 / recovered 1 8722 / p 3 8722 (00*62)0709
+tearing      | run             | 1 f b1 3 100 7 | 0 | open 8204 / g 8204 8210 1 0 flushed / marks 8210 8210 8210 8192
+first format | crash --threads | 1 f b1 3 101 9 | 0 | open 8716 / g 8716 8722 1 0 flushed / marks 8722 8722 8722 8704 / recovered 1 8722 / p 3 8722 (00*62)0709
+",
+    )
 }
 
-/// Whether a crash with no line, which stops opening a store of format 1 after so many calls of the log device, leaves page 3; and
-/// whether opening came to its end.
+/// A store of format 1 whose newest page is page 3.
+const FIRST_FORMAT: &str = "
+tearing      | run     | 1 f b1 3 100 7 | 0 | open 8204 / g 8204 8210 1 0 flushed / marks 8210 8210 8210 8192
+first format | recover |                | 0 | read 1 8210 / p 3 8210 (00*62)07
+";
+
+/// Whether opening that store comes to its end in a crash with no line, which stops it after so many calls of the log device. Page 3
+/// is read then and again, which rows say.
 fn crash_opening(
     rt: &(impl Abort + AllocGlobal + Threads + Wait + Sync),
     stop: u64,
     pick: u64,
 ) -> Result<bool, Fail> {
-    let alloc = rt.alloc();
-    let devices = left_by(
-        rt,
-        "
-tearing      | run     | 1 f b1 3 100 7 | 0 | open 8204 / g 8204 8210 1 0 flushed / marks 8210 8210 8210 8192
-first format | recover |                | 0 | read 1 8210 / p 3 8210 (00*62)07
-",
-    )?;
-    let words = format!(in alloc; "crash --stop-log {stop} --pick {pick}")?;
-    let Called {
-        status,
-        sink,
-        devices,
-        ..
-    } = call_on(rt, &words, "", devices)?;
-    let report = str::from_utf8(sink.bytes())?;
-    let read = call_on(rt, "recover", "", devices)?;
-    let pages = str::from_utf8(read.sink.bytes())?;
-    let page = format!(in alloc; "\np 3 8210 {:0126}\n", 7u32)?;
-    assert!(rt;
-        status == 0 && report.ends_with(&page) && pages.ends_with(&page),
-        "at {words}: {report}"
-    );
-    Ok(report.starts_with("open 8716\n"))
+    let devices = left_by(rt, FIRST_FORMAT)?;
+    let words = format!(in rt.alloc(); "crash --stop-log {stop} --pick {pick}")?;
+    let (report, devices) = call_on(rt, &words, "", devices)?;
+    expect(rt, &words, &report, "0 | .. / p 3 8210 (00*62)07")?;
+    left_of(rt, devices, "recover | | 0 | .. / p 3 8210 (00*62)07")?;
+    Ok(report.starts_with("0\nopen 8716\n"))
+}
+
+/// The first number of calls, below 200, at which opening comes to its end with this pick.
+fn stops_of_opening(
+    rt: &(impl Abort + AllocGlobal + Threads + Wait + Sync),
+    pick: u64,
+) -> Result<u64, Fail> {
+    for stop in 0..200u64 {
+        if crash_opening(rt, stop, pick)? {
+            return Ok(stop);
+        }
+    }
+    Ok(200)
 }
 
 /// Opening is stopped at each call of the log device, and a crash tears what was written since the last sync, or keeps every other
@@ -78,13 +78,7 @@ first format | recover |                | 0 | read 1 8210 / p 3 8210 (00*62)07
 #[test]
 fn keeps_pages_where_opening_the_first_format_stops(rt: HostRuntime) -> Result<(), Fail> {
     for pick in [0, 6_148_914_691_236_517_205, 18_446_744_073_709_551_615] {
-        let mut stop = 0;
-        for _ in 0..200u64 {
-            if crash_opening(&rt, stop, pick)? {
-                break;
-            }
-            stop = stop.saturating_add(1);
-        }
+        let stop = stops_of_opening(&rt, pick)?;
         assert!(rt; 40 < stop && stop < 200, "{stop} calls at {pick}");
     }
     Ok(())

@@ -58,11 +58,11 @@ impl InvalidDisk {
         })
     }
 
-    /// The same device, but it tells of a write of three bytes since the last sync, which reads don't give.
-    pub(crate) fn with_part_write(mut self) -> Result<Self, AllocError> {
+    /// From now on it tells of a write of three bytes since the last sync, which reads don't give.
+    pub(crate) fn add_part_write(&mut self) -> Result<(), AllocError> {
         let bytes = Bytes::new(vec![in self.alloc; 7; 3]?);
         self.held.writes.push(Write { at: 100, bytes })?;
-        Ok(self)
+        Ok(())
     }
 
     /// From now on the sector at this offset held zeros at the last sync. It reads as before, and no write since is told.

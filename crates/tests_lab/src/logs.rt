@@ -1,6 +1,5 @@
 // Logs that were written by a run, and logs whose blocks are made by hand.
-use crate::calls::{call_on, prints};
-use crate::devices::{FIRST_BLOCK, SECOND_BLOCK, change};
+use crate::devices::{FIRST_BLOCK, SECOND_BLOCK};
 use crate::tables::{left_by, play};
 use redo_disk::{DevError, Sectors};
 use std::test::Fail;
@@ -104,11 +103,13 @@ last block | dump --why | | 0 | store 4096 8 1 2048 8 / checkpoint 2 11529215046
 /// Each of the 2,046 blocks was read.
 #[test]
 fn ends_after_a_whole_round(rt: HostRuntime) -> Result<(), Fail> {
-    let mut devices = left_by(&rt, "new | format | | 0 | formatted 8192")?;
-    change(&mut devices, "whole round")?;
-    let called = call_on(&rt, "dump --why", "", devices)?;
-    assert!(rt; prints(&called, ["stop 1055744 round", "end 1055756"])?);
-    Ok(())
+    play(
+        &rt,
+        "
+new         | format     | | 0 | formatted 8192
+whole round | dump --why | | 0 | .. / stop 1055744 round / .. / end 1055756
+",
+    )
 }
 
 #[test]

@@ -1,16 +1,16 @@
 // The premises of the crash theorem: one call where each holds, and what comes where one of them doesn't.
-use crate::calls::{LINE, call, calls_of_opening, has_lines, prints, source_of, words_of};
-use crate::devices::{Devices, FIRST_TAIL, SECOND_HEAD, blank, first_slot};
+ghost use Rattle.std.specs.Prelude.{◌≡◌, ◌%◌};
+ghost use Rattle.model_base.specs.declared.limits.TheConstants.{BLOCK_SIZE};
+
+use crate::calls::log_calls;
+use crate::devices::{Devices, FIRST_TAIL, SECOND_HEAD, first_slot};
 use crate::invalid_disk::InvalidDisk;
 use crate::silent_disk::{Harm, SilentDisk};
-use crate::tables::{expect, play, play_at, spelled};
+use crate::tables::{left_by, left_of, play, play_after_opening, play_with};
 use crate::worn_disk::WornDisk;
-use redo_disk::Sectors;
-use redo_io::MemSink;
-use redo_lab::{LOG_LENGTH, STORE_LENGTH, lab};
+use redo_lab::{LOG_LENGTH, STORE_LENGTH};
 use redo_memdisk::MemDisk;
-use redo_page::{PageState, check};
-use redo_threads::NoGate;
+use redo_page::check;
 use std::alloc::{AllocError, Global};
 use std::process::Abort;
 use std::sync::Wait;
@@ -44,19 +44,39 @@ const UNSEEN: &str = "1 f s 3 2000 f176ec0501 / [1 f b1 4 100 7 / *500]";
 /// Kept whole, or not at all, it has the bytes.
 #[test]
 fn a_torn_page_that_passes_loses_its_bytes(rt: HostRuntime) -> Result<(), Fail> {
-    let script = spelled(rt.alloc(), UNSEEN)?;
-    let whole = spelled(rt.alloc(), "p 3 8216 (00*1962)f176ec0501")?;
-    for (pick, page) in [
-        (129, "p 3 8216 -"),
-        (0, whole.as_str()),
-        (255, whole.as_str()),
-    ] {
-        let words = format!(in rt.alloc(); "crash --stop-data 12 --pick {pick}")?;
-        let lines = ["g 8204 8216 1 0 flushed", page];
-        assert!(rt; has_lines(&rt, &words, &script, lines)?, "at {pick}");
-    }
-    Ok(())
+    play_with(
+        &rt,
+        UNSEEN,
+        "
+new | crash --stop-data 12 --pick 129 | @ | 0 | .. / g 8204 8216 1 0 flushed / .. / p 3 8216 - / ..
+new | crash --stop-data 12 --pick 0   | @ | 0 | .. / g 8204 8216 1 0 flushed / .. / p 3 8216 (00*1962)f176ec0501 / ..
+new | crash --stop-data 12 --pick 255 | @ | 0 | .. / g 8204 8216 1 0 flushed / .. / p 3 8216 (00*1962)f176ec0501 / ..
+",
+    )
 }
+
+/// What the first slot is, and where the five bytes are in it, after the same with this pick, where page 3 is read whole.
+fn slot_left(
+    rt: &(impl Abort + AllocGlobal + Threads + Wait + Sync),
+    pick: &str,
+) -> Result<String, Fail> {
+    let crash = "new | crash --stop-data 10 --pick @ | ";
+    let read = " | 0 | .. / g 8204 8216 1 0 flushed / .. / p 3 8216 (00*1962)f176ec0501 / ..";
+    let mut table = crash.replace(rt.alloc(), "@", pick)?;
+    table.push_str(UNSEEN)?;
+    table.push_str(read)?;
+    let mut devices = left_by(rt, &table)?;
+    let slot = first_slot(&mut devices.store)?;
+    Ok(format!(in rt.alloc(); "{:?} {:?}", check(&slot), &slot[2000..2005])?)
+}
+
+/// What is left in slot 0 with each pick.
+const SLOTS: &str = "
+129 | Sound(3, 1, 8216) [0, 0, 0, 0, 0]
+0   | Blank [0, 0, 0, 0, 0]
+1   | Broken [0, 0, 0, 0, 0]
+255 | Sound(3, 1, 8216) [241, 118, 236, 5, 1]
+";
 
 /// The same batch, of which the write of the slots fails; page 3 is its first page, so slot 0 is its. Where the pick keeps the
 /// slot's first and last sectors, and so not the fourth, the slot passes its check though it is torn: the image isn't fair, since
@@ -65,21 +85,10 @@ fn a_torn_page_that_passes_loses_its_bytes(rt: HostRuntime) -> Result<(), Fail> 
 /// pass, since the low half of the lsn stands in the last one.
 #[test]
 fn a_torn_slot_that_passes_loses_nothing(rt: HostRuntime) -> Result<(), Fail> {
-    let script = spelled(rt.alloc(), UNSEEN)?;
-    let page = spelled(rt.alloc(), "p 3 8216 (00*1962)f176ec0501")?;
-    let lines = ["g 8204 8216 1 0 flushed", page.as_str()];
-    for (pick, state, bytes) in [
-        (129, PageState::Sound(3, 1, 8216), [0; 5]),
-        (0, PageState::Blank, [0; 5]),
-        (1, PageState::Broken, [0; 5]),
-        (255, PageState::Sound(3, 1, 8216), [0xf1, 0x76, 0xec, 5, 1]),
-    ] {
-        let words = format!(in rt.alloc(); "crash --stop-data 10 --pick {pick}")?;
-        let mut called = call(&rt, &words, &script)?;
-        assert!(rt; prints(&called, lines)?, "at {pick}");
-        let slot = first_slot(&mut called.devices.store)?;
-        assert_eq!(rt; check(&slot), state, "at {pick}");
-        assert_eq!(rt; &slot[2000..2005], bytes.as_slice(), "at {pick}");
+    for row in SLOTS.trim().lines() {
+        let (pick, wanted) = row.split_once('|').unwrap_or((row, ""));
+        let left = slot_left(&rt, pick.trim())?;
+        assert!(rt; left.as_str() == wanted.trim(), "{left} at {row}");
     }
     Ok(())
 }
@@ -121,46 +130,42 @@ page pending  | crash                          | 2 f b1 4 101 9 | 0 | open 8716 
     )
 }
 
-/// What `crash` comes to on new devices with the one line.
-const FLUSHED: &str =
-    "0 | open 8204 / g 8204 8210 1 0 flushed / marks 8210 8210 8210 8192 / recovered 1 8210 / p 3 8210 (00*62)07";
+/// The row of `crash` on new devices with the one line.
+const CRASH: &str =
+    "crash | 1 f b1 3 100 7 | 0 | open 8204 / g 8204 8210 1 0 flushed / marks 8210 8210 8210 8192 / recovered 1 8210 / p 3 8210 (00*62)07";
 
 /// New devices that tell nothing, of which a sector may come to harm in a crash.
 fn silent_devices(
     alloc: Global,
     log: Option<Harm>,
     store: Option<Harm>,
-) -> Result<(SilentDisk, SilentDisk), AllocError> {
-    Ok((
-        SilentDisk::new(alloc, LOG_LENGTH, log)?,
-        SilentDisk::new(alloc, STORE_LENGTH, store)?,
-    ))
+) -> Result<Devices<SilentDisk, SilentDisk>, AllocError> {
+    Ok(Devices {
+        log: SilentDisk::new(alloc, LOG_LENGTH, log)?,
+        store: SilentDisk::new(alloc, STORE_LENGTH, store)?,
+    })
 }
 
-/// Makes a call on these devices, which is to come to this; the devices after it.
-fn expect_on<L: Sectors + Send + Drop, D: Sectors + Send + Drop>(
+/// Plays a table on such devices, of which this sector of the log device comes to harm in a crash.
+fn play_harming_log(
     rt: &(impl Abort + AllocGlobal + Threads + Wait + Sync),
-    (log, store): (L, D),
-    asked: &str,
-    script: &str,
-    outcome: &str,
-) -> Result<(L, D), Fail> {
-    let alloc = rt.alloc();
-    let mut source = source_of(alloc, script)?;
-    let mut sink = MemSink::new(alloc);
-    let words = words_of(alloc, asked)?;
-    let ended = lab(
-        rt,
-        alloc,
-        &words,
-        &mut source,
-        &mut sink,
-        log,
-        store,
-        &NoGate,
-    );
-    expect(rt, outcome, ended.status, sink.bytes(), outcome)?;
-    Ok((ended.log.into_inner(), ended.store.into_inner()))
+    harm: Option<Harm>,
+    table: &str,
+) -> Result<(), Fail> {
+    let devices = silent_devices(rt.alloc(), harm, None)?;
+    left_of(rt, devices, table)?;
+    Ok(())
+}
+
+/// The same with a sector of the data device.
+fn play_harming_data(
+    rt: &(impl Abort + AllocGlobal + Threads + Wait + Sync),
+    harm: Harm,
+    table: &str,
+) -> Result<(), Fail> {
+    let devices = silent_devices(rt.alloc(), None, Some(harm))?;
+    left_of(rt, devices, table)?;
+    Ok(())
 }
 
 /// Two lines whose groups stand in one log block. The first is flushed, in one tail block. The second is written to the other one,
@@ -171,10 +176,9 @@ fn expect_on<L: Sectors + Send + Drop, D: Sectors + Send + Drop>(
 /// other bytes, or where the write is kept, all is well.
 #[test]
 fn a_torn_block_that_passes_loses_a_group(rt: HostRuntime) -> Result<(), Fail> {
-    let (_, opening) = calls_of_opening(&rt)?;
-    play_at(
+    play_after_opening(
         &rt,
-        opening.saturating_add(3),
+        3,
         "
 tearing | crash --stop-log @          | 1 f b1 3 100 7 / 1 f s 4 38 7c361e68(08*76)              | 0 | open 8204 / g 8204 8210 1 0 flushed / g 8210 8297 1 1 lost / marks 8297 8297 8210 8192 / recovered 2 8297 / p 3 8210 (00*62)07 / p 4 8297 7c361e68(08*71)
 tearing | crash --stop-log @ --pick 1 | 1 f b1 3 100 7 / 1 f s 4 38 7c361e68(08*76)              | 0 | open 8204 / g 8204 8210 1 0 flushed / g 8210 8297 1 1 lost / marks 8297 8297 8210 8192 / recovered 2 8297 / p 3 8210 (00*62)07 / p 4 8297 7c361e68(08*76)
@@ -191,17 +195,22 @@ tearing | crash --stop-log @ --pick 1 | 1 f b1 3 100 7 / 1 f s 4 38 a6bb207a(08*
 /// lost by a sector that is torn, unless it passes its check then.
 #[test]
 fn a_torn_data_sector_is_noticed(rt: HostRuntime) -> Result<(), Fail> {
-    for (words, torn) in [
-        ("crash --stop-data 10", 0),
-        ("crash --stop-data 12", 11 * 4096),
-    ] {
-        let devices = silent_devices(rt.alloc(), None, Some(Harm::Torn(torn)))?;
-        let run = "0 | open 8204 / g 8204 8210 1 0 flushed / marks 8210 8210 8210 8192";
-        let devices = expect_on(&rt, devices, "run --log-only", LINE, run)?;
-        let crash = "0 | open none / left 2 1 / recovered 0 8210 / p 3 8210 (00*62)07";
-        expect_on(&rt, devices, words, "2 f b1 4 100 8", crash)?;
-    }
-    Ok(())
+    play_harming_data(
+        &rt,
+        Harm::Torn(0),
+        "
+run --log-only       | 1 f b1 3 100 7 | 0 | open 8204 / g 8204 8210 1 0 flushed / marks 8210 8210 8210 8192
+crash --stop-data 10 | 2 f b1 4 100 8 | 0 | open none / left 2 1 / recovered 0 8210 / p 3 8210 (00*62)07
+",
+    )?;
+    play_harming_data(
+        &rt,
+        Harm::Torn(11 * 4096),
+        "
+run --log-only       | 1 f b1 3 100 7 | 0 | open 8204 / g 8204 8210 1 0 flushed / marks 8210 8210 8210 8192
+crash --stop-data 12 | 2 f b1 4 100 8 | 0 | open none / left 2 1 / recovered 0 8210 / p 3 8210 (00*62)07
+",
+    )
 }
 
 /// After a run and before the crash somebody else writes zeros on the log device: over one of the two headers, over the newest
@@ -211,27 +220,28 @@ fn a_torn_data_sector_is_noticed(rt: HostRuntime) -> Result<(), Fail> {
 /// the second run started.
 #[test]
 fn another_writer_is_not_seen(rt: HostRuntime) -> Result<(), Fail> {
-    for (at, outcome) in [
-        (
-            0,
-            "0 | open 8716 / g 8716 8722 2 0 flushed / marks 8722 8722 8722 8704 / recovered 1 8722 / p 3 8722 (00*62)0708",
-        ),
-        (
-            SECOND_HEAD,
-            "0 | open 8716 / g 8716 8722 2 0 flushed / marks 8722 8722 8722 8704 / recovered 1 8722 / p 3 8722 (00*62)0708",
-        ),
-        (512, "8 | fault store ahead 3 8210"),
-        (
-            FIRST_TAIL,
-            "0 | open 8716 / g 8716 8722 2 0 flushed / marks 8722 8722 8722 8704 / recovered 0 8716 / p 3 8210 (00*62)07",
-        ),
-    ] {
-        let devices = silent_devices(rt.alloc(), Some(Harm::Zeroed(at)), None)?;
-        let run = "0 | open 8204 / g 8204 8210 1 0 flushed / marks 8210 8210 8210 8192";
-        let devices = expect_on(&rt, devices, "run", LINE, run)?;
-        expect_on(&rt, devices, "crash", "2 f b1 3 101 8", outcome)?;
-    }
-    Ok(())
+    let sound = "
+run   | 1 f b1 3 100 7 | 0 | open 8204 / g 8204 8210 1 0 flushed / marks 8210 8210 8210 8192
+crash | 2 f b1 3 101 8 | 0 | open 8716 / g 8716 8722 2 0 flushed / marks 8722 8722 8722 8704 / recovered 1 8722 / p 3 8722 (00*62)0708
+";
+    play_harming_log(&rt, Some(Harm::Zeroed(0)), sound)?;
+    play_harming_log(&rt, Some(Harm::Zeroed(SECOND_HEAD)), sound)?;
+    play_harming_log(
+        &rt,
+        Some(Harm::Zeroed(512)),
+        "
+run   | 1 f b1 3 100 7 | 0 | open 8204 / g 8204 8210 1 0 flushed / marks 8210 8210 8210 8192
+crash | 2 f b1 3 101 8 | 8 | fault store ahead 3 8210
+",
+    )?;
+    play_harming_log(
+        &rt,
+        Some(Harm::Zeroed(FIRST_TAIL)),
+        "
+run   | 1 f b1 3 100 7 | 0 | open 8204 / g 8204 8210 1 0 flushed / marks 8210 8210 8210 8192
+crash | 2 f b1 3 101 8 | 0 | open 8716 / g 8716 8722 2 0 flushed / marks 8722 8722 8722 8704 / recovered 0 8716 / p 3 8210 (00*62)07
+",
+    )
 }
 
 /// The same on the data device, over the first sector of page 3's place, which stands after eight slots and three places. It
@@ -239,65 +249,78 @@ fn another_writer_is_not_seen(rt: HostRuntime) -> Result<(), Fail> {
 /// has had page 4, and the checkpoint stands past the group of page 3, that page is lost.
 #[test]
 fn another_writer_of_the_data_device_is_not_seen(rt: HostRuntime) -> Result<(), Fail> {
-    let run = "0 | open 8204 / g 8204 8210 1 0 flushed / marks 8210 8210 8210 8192";
-    let again = "0 | open 8716 / g 8716 8722 2 0 flushed / marks 8722 8722 8722 8704";
-    let read =
-        "0 | open 8716 / g 8716 8722 2 0 flushed / marks 8722 8722 8722 8704 / recovered 1 8722 / p 3 8722 (00*62)0708";
-    let harm = Some(Harm::Zeroed(11 * 4096));
-    let devices = silent_devices(rt.alloc(), None, harm)?;
-    let devices = expect_on(&rt, devices, "run", LINE, run)?;
-    expect_on(&rt, devices, "crash", "2 f b1 3 101 8", read)?;
-    let devices = silent_devices(rt.alloc(), None, harm)?;
-    let devices = expect_on(&rt, devices, "run", LINE, run)?;
-    let devices = expect_on(&rt, devices, "run", "2 f b1 4 100 8", again)?;
-    expect_on(
+    play_harming_data(
         &rt,
-        devices,
-        "crash",
-        "3 f b1 5 100 9",
-        "8 | fault store lost 3",
+        Harm::Zeroed(11 * 4096),
+        "
+run   | 1 f b1 3 100 7 | 0 | open 8204 / g 8204 8210 1 0 flushed / marks 8210 8210 8210 8192
+crash | 2 f b1 3 101 8 | 0 | open 8716 / g 8716 8722 2 0 flushed / marks 8722 8722 8722 8704 / recovered 1 8722 / p 3 8722 (00*62)0708
+",
     )?;
-    Ok(())
+    play_harming_data(
+        &rt,
+        Harm::Zeroed(11 * 4096),
+        "
+run   | 1 f b1 3 100 7 | 0 | open 8204 / g 8204 8210 1 0 flushed / marks 8210 8210 8210 8192
+run   | 2 f b1 4 100 8 | 0 | open 8716 / g 8716 8722 2 0 flushed / marks 8722 8722 8722 8704
+crash | 3 f b1 5 100 9 | 8 | fault store lost 3
+",
+    )
+}
+
+/// New devices of these lengths that tell what they hold.
+fn invalid_devices(
+    alloc: Global,
+    log: u64,
+    store: u64,
+) -> Result<Devices<InvalidDisk, InvalidDisk>, AllocError> {
+    Ok(Devices {
+        log: InvalidDisk::new(alloc, log)?,
+        store: InvalidDisk::new(alloc, store)?,
+    })
 }
 
 /// New devices that tell what they hold, which end within a sector, or which tell of a write of fewer bytes than a sector. They have
 /// one image all the same, and `crash` does what it does on valid ones.
 #[test]
 fn parts_of_sectors_change_nothing(rt: HostRuntime) -> Result<(), Fail> {
-    let log = InvalidDisk::new(rt.alloc(), LOG_LENGTH + 100)?;
-    let store = InvalidDisk::new(rt.alloc(), STORE_LENGTH + 100)?;
-    expect_on(&rt, (log, store), "crash", LINE, FLUSHED)?;
-    let log = InvalidDisk::new(rt.alloc(), LOG_LENGTH)?.with_part_write()?;
-    let store = InvalidDisk::new(rt.alloc(), STORE_LENGTH)?.with_part_write()?;
-    expect_on(&rt, (log, store), "crash", LINE, FLUSHED)?;
+    let devices = invalid_devices(rt.alloc(), LOG_LENGTH + 100, STORE_LENGTH + 100)?;
+    left_of(&rt, devices, CRASH)?;
+    let mut devices = invalid_devices(rt.alloc(), LOG_LENGTH, STORE_LENGTH)?;
+    devices.log.add_part_write()?;
+    devices.store.add_part_write()?;
+    left_of(&rt, devices, CRASH)?;
     Ok(())
 }
+
+/// Plays a row on devices that a run has left, of which the log device tells that its first tail block held zeros at the last sync.
+fn play_forgetting(
+    rt: &(impl Abort + AllocGlobal + Threads + Wait + Sync),
+    row: &str,
+) -> Result<(), Fail> {
+    let devices = invalid_devices(rt.alloc(), LOG_LENGTH, STORE_LENGTH)?;
+    let run =
+        "run --log-only | 1 f b1 3 100 7 | 0 | open 8204 / g 8204 8210 1 0 flushed / marks 8210 8210 8210 8192";
+    let mut devices = left_of(rt, devices, run)?;
+    devices.log.forget(FIRST_TAIL);
+    left_of(rt, devices, row)?;
+    Ok(())
+}
+
+/// What comes of it, by the call.
+const FORGOTTEN: &str = "
+crash --stop-log 4 | 2 f b1 4 100 8 | 0 | open none / left 2 1 / recovered 0 8204
+crash --stop-log 5 | 2 f b1 4 100 8 | 0 | open none / left 2 1 / recovered 0 8210 / p 3 8210 (00*62)07
+crash              | 2 f b1 4 100 8 | 0 | open 8716 / g 8716 8722 2 0 flushed / marks 8722 8722 8722 8704 / recovered 1 8722 / p 3 8210 (00*62)07 / p 4 8722 (00*62)08
+";
 
 /// The tail block of the log's only group, which no page has, reads as it was written, but at the last sync it was zeros, and no
 /// write since is told: what reads give is no image. Opening reads the group by four reads of the log device, and syncs that. Where
 /// the sync is stopped the crash leaves the zeros, and what was flushed is lost. After the sync the group is there.
 #[test]
 fn reads_that_are_no_image_are_lost(rt: HostRuntime) -> Result<(), Fail> {
-    for (words, outcome) in [
-        (
-            "crash --stop-log 4",
-            "0 | open none / left 2 1 / recovered 0 8204",
-        ),
-        (
-            "crash --stop-log 5",
-            "0 | open none / left 2 1 / recovered 0 8210 / p 3 8210 (00*62)07",
-        ),
-        (
-            "crash",
-            "0 | open 8716 / g 8716 8722 2 0 flushed / marks 8722 8722 8722 8704 / recovered 1 8722 / p 3 8210 (00*62)07 / p 4 8722 (00*62)08",
-        ),
-    ] {
-        let log = InvalidDisk::new(rt.alloc(), LOG_LENGTH)?;
-        let store = InvalidDisk::new(rt.alloc(), STORE_LENGTH)?;
-        let run = "0 | open 8204 / g 8204 8210 1 0 flushed / marks 8210 8210 8210 8192";
-        let (mut log, store) = expect_on(&rt, (log, store), "run --log-only", LINE, run)?;
-        log.forget(FIRST_TAIL);
-        expect_on(&rt, (log, store), words, "2 f b1 4 100 8", outcome)?;
+    for row in FORGOTTEN.trim().lines() {
+        play_forgetting(&rt, row)?;
     }
     Ok(())
 }
@@ -305,34 +328,44 @@ fn reads_that_are_no_image_are_lost(rt: HostRuntime) -> Result<(), Fail> {
 /// A call prints the same whether both devices tell what they hold, one of the two does, or neither.
 #[test]
 fn devices_that_tell_nothing_serve_as_well(rt: HostRuntime) -> Result<(), Fail> {
-    let devices = silent_devices(rt.alloc(), None, None)?;
-    expect_on(&rt, devices, "crash", LINE, FLUSHED)?;
-    let (silent_log, silent_store) = silent_devices(rt.alloc(), None, None)?;
-    let Devices { log, store } = blank(rt.alloc())?;
-    expect_on(&rt, (log, silent_store), "crash", LINE, FLUSHED)?;
-    expect_on(&rt, (silent_log, store), "crash", LINE, FLUSHED)?;
+    play_harming_log(&rt, None, CRASH)?;
+    let log = MemDisk::new(rt.alloc(), LOG_LENGTH)?;
+    let store = SilentDisk::new(rt.alloc(), STORE_LENGTH, None)?;
+    left_of(&rt, Devices { log, store }, CRASH)?;
+    let log = SilentDisk::new(rt.alloc(), LOG_LENGTH, None)?;
+    let store = MemDisk::new(rt.alloc(), STORE_LENGTH)?;
+    left_of(&rt, Devices { log, store }, CRASH)?;
     Ok(())
+}
+
+/// A device in memory of so many zeros that fails this call, and whose count of faults can't rise.
+fn worn(alloc: Global, length: u64, call: u64) -> Result<WornDisk, AllocError>
+    requires { length % BLOCK_SIZE ≡ 0 }
+{
+    Ok(WornDisk {
+        inner: MemDisk::failing(alloc, length, vec![in alloc; call]?)?,
+    })
 }
 
 /// The first sync after opening fails, on a log device whose count of faults can't rise. The line is lost, as on one whose
 /// count does. On such a data device the first call of formatting fails.
 #[test]
 fn a_count_at_its_end(rt: HostRuntime) -> Result<(), Fail> {
-    let alloc = rt.alloc();
-    let (early, opening) = calls_of_opening(&rt)?;
+    let (early, opening) = log_calls(&rt, "run")?;
     let failing = early.saturating_add(opening).saturating_add(1);
-    let log = WornDisk {
-        inner: MemDisk::failing(alloc, LOG_LENGTH, vec![in alloc; failing]?)?,
-    };
-    let store = MemDisk::new(alloc, STORE_LENGTH)?;
-    let script = "1 f b1 3 100 7\n1 f b1 3 100 8\n";
-    let outcome =
-        "0 | open 8204 / g 8204 8210 1 0 lost / left 1 1 / marks 8210 8210 8204 8192 / recovered 0 8204";
-    expect_on(&rt, (log, store), "crash", script, outcome)?;
-    let log = MemDisk::new(alloc, LOG_LENGTH)?;
-    let store = WornDisk {
-        inner: MemDisk::failing(alloc, STORE_LENGTH, vec![in alloc; 0]?)?,
-    };
-    expect_on(&rt, (log, store), "crash", script, "7 | fault data device")?;
+    let log = worn(rt.alloc(), LOG_LENGTH, failing)?;
+    let store = MemDisk::new(rt.alloc(), STORE_LENGTH)?;
+    left_of(
+        &rt,
+        Devices { log, store },
+        "crash | 1 f b1 3 100 7 / 1 f b1 3 100 8 / | 0 | open 8204 / g 8204 8210 1 0 lost / left 1 1 / marks 8210 8210 8204 8192 / recovered 0 8204",
+    )?;
+    let log = MemDisk::new(rt.alloc(), LOG_LENGTH)?;
+    let store = worn(rt.alloc(), STORE_LENGTH, 0)?;
+    left_of(
+        &rt,
+        Devices { log, store },
+        "crash | 1 f b1 3 100 7 / 1 f b1 3 100 8 / | 7 | fault data device",
+    )?;
     Ok(())
 }

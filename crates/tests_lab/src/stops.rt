@@ -1,6 +1,6 @@
 // Crashes of a script of four lines under every stop, against what the groups that are kept make of the pages.
-use crate::calls::{Called, call_on};
-use crate::devices::{CUT, Devices};
+use crate::calls::call_on;
+use crate::devices::{CUT, Devices, MemDevices};
 use redo_memdisk::MemDisk;
 use std::alloc::{AllocError, Global};
 use std::process::Abort;
@@ -111,21 +111,26 @@ fn line_of(user: &str, k: &str) -> Option<Line> {
     }
 }
 
+/// The word of a line at this place.
+fn word(line: &str, place: usize) -> &str {
+    line.split(' ').nth(place).unwrap_or("")
+}
+
 /// The group of a line of a report, if it tells of one: `g START END USER K STATE`.
 fn group_of(line: &str) -> Option<Group> {
-    let mut words = line.split_whitespace();
-    if words.next()? != "g" {
+    if word(line, 0) != "g" {
         return None;
     }
-    let _start = words.next()?;
-    let end = words.next()?.parse::<u64>().ok()?;
-    let line = line_of(words.next()?, words.next()?)?;
-    let is_flushed = words.next()? == "flushed";
-    Some(Group {
-        line,
-        end,
-        is_flushed,
-    })
+    let end = word(line, 2).parse::<u64>().unwrap_or(0);
+    let is_flushed = word(line, 5) == "flushed";
+    match line_of(word(line, 3), word(line, 4)) {
+        Some(line) => Some(Group {
+            line,
+            end,
+            is_flushed,
+        }),
+        None => None,
+    }
 }
 
 /// The groups that a report tells of.
@@ -163,7 +168,11 @@ fn kept_groups(alloc: Global, groups: &[Group], report: &str) -> Result<Option<u
 
 /// How many of these groups are flushed.
 fn flushed(groups: &[Group]) -> usize {
-    groups.iter().filter(|group| group.is_flushed).count()
+    let mut count = 0usize;
+    for group in groups {
+        count = count.saturating_add(usize::from(group.is_flushed));
+    }
+    count
 }
 
 /// Whether a report of the four lines is in order: what is read is what the first groups make of the pages, no group after those
@@ -183,30 +192,34 @@ fn is_stopped(report: &str) -> bool {
     report.contains(" lost\n") || report.contains("left ") || report.contains("open none")
 }
 
-/// A crash of the four lines on a small store that is formatted on these devices.
+/// What a crash of the four lines comes to on a small store that is formatted on these devices.
 fn crash_on(
     rt: &(impl AllocGlobal + Threads + Wait + Sync),
     words: &str,
-    devices: Devices,
-) -> Result<Called, AllocError> {
-    let made = call_on(rt, FORMAT, "", devices)?;
-    if made.status != 0 {
-        return Ok(made);
+    devices: MemDevices,
+) -> Result<String, Fail> {
+    let (formatted, devices) = call_on(rt, FORMAT, "", devices)?;
+    if !formatted.starts_with("0\n") {
+        return Ok(formatted);
     }
-    call_on(rt, words, SCRIPT, made.devices)
+    let (crashed, _) = call_on(rt, words, SCRIPT, devices)?;
+    Ok(crashed)
 }
 
-/// The same on devices that tear the sectors which a crash loses.
-fn crash(
-    rt: &(impl AllocGlobal + Threads + Wait + Sync),
-    words: &str,
-) -> Result<Called, AllocError> {
-    let alloc = rt.alloc();
-    let devices = Devices {
+/// Small devices that tear the sectors which a crash loses. The device of this name fails this call, the first of which come in
+/// formatting.
+fn small_devices(alloc: Global, failing: &str, call: u64) -> Result<MemDevices, AllocError> {
+    let mut devices = Devices {
         log: MemDisk::tearing(alloc, SMALL_LOG, CUT)?,
         store: MemDisk::tearing(alloc, SMALL_STORE, CUT)?,
     };
-    crash_on(rt, words, devices)
+    let calls = vec![in alloc; call]?;
+    match failing {
+        "log" => devices.log = MemDisk::tearing_and_failing(alloc, SMALL_LOG, CUT, calls)?,
+        "data" => devices.store = MemDisk::tearing_and_failing(alloc, SMALL_STORE, CUT, calls)?,
+        _ => {}
+    }
+    Ok(devices)
 }
 
 /// Crashes under these options with a pick: whether no stop shows in the report. Groups that are printed as flushed are kept,
@@ -216,19 +229,19 @@ fn crash_with_pick(
     options: &str,
     pick: u64,
 ) -> Result<bool, Fail> {
-    let alloc = rt.alloc();
-    let words = format!(in alloc; "crash {options} --pick {pick}")?;
-    let called = crash(rt, &words)?;
-    let report = str::from_utf8(called.sink.bytes())?;
+    let words = format!(in rt.alloc(); "crash {options} --pick {pick}")?;
+    let devices = small_devices(rt.alloc(), "none", 0)?;
+    let report = crash_on(rt, &words, devices)?;
+    let is_in_order = is_in_order(rt.alloc(), &report)?;
     assert!(rt;
-        called.status == 0 && is_in_order(alloc, report)?,
+        report.starts_with("0\n") && is_in_order,
         "at {words}: {report}"
     );
-    Ok(!is_stopped(report))
+    Ok(!is_stopped(&report))
 }
 
 /// The same with each pick.
-pub(crate) fn crash_with_each_pick(
+fn crash_with_each_pick(
     rt: &(impl Abort + AllocGlobal + Threads + Wait + Sync),
     options: &str,
 ) -> Result<bool, Fail> {
@@ -242,11 +255,22 @@ pub(crate) fn crash_with_each_pick(
 #[test]
 fn keeps_flushed_lines_under_each_schedule(rt: HostRuntime) -> Result<(), Fail> {
     for seed in 0..8u64 {
-        let options = format!(in rt.alloc(); "--turns {seed}")?;
-        assert!(rt; crash_with_each_pick(&rt, &options)?, "at {options}");
+        let is_whole = crash_at(&rt, "--turns @", seed)?;
+        assert!(rt; is_whole, "at {seed}");
     }
     assert!(rt; crash_with_each_pick(&rt, "--log-only")?);
     Ok(())
+}
+
+/// Crashes with each pick under these options, where `@` is this number: whether no stop shows.
+pub(crate) fn crash_at(
+    rt: &(impl Abort + AllocGlobal + Threads + Wait + Sync),
+    options: &str,
+    number: u64,
+) -> Result<bool, Fail> {
+    let number = format!(in rt.alloc(); "{number}")?;
+    let options = options.replace(rt.alloc(), "@", &number)?;
+    crash_with_each_pick(rt, &options)
 }
 
 /// Crashes with these stops, where `@` is the number of calls before them: from 0 on, up to where no stop comes before a call.
@@ -255,14 +279,11 @@ fn stop_at_each_call(
     stops: &str,
 ) -> Result<(), Fail> {
     for calls in 0..MANY_CALLS {
-        let calls = format!(in rt.alloc(); "{calls}")?;
-        let options = stops.replace(rt.alloc(), "@", &calls)?;
-        if crash_with_each_pick(rt, &options)? {
+        if crash_at(rt, stops, calls)? {
             return Ok(());
         }
     }
-    assert!(rt; false, "no stop comes behind all calls");
-    Ok(())
+    Err(Fail::from("no stop comes behind all calls"))
 }
 
 #[test]
@@ -280,26 +301,17 @@ fn keeps_flushed_lines_where_both_devices_stop(rt: HostRuntime) -> Result<(), Fa
     stop_at_each_call(&rt, "--turns 1 --stop-log @ --stop-data @")
 }
 
-/// Such devices, which also fail these calls, the first of which come in formatting.
-fn failing_devices(
-    alloc: Global,
-    log_calls: Vec<u64>,
-    store_calls: Vec<u64>,
-) -> Result<Devices, AllocError> {
-    Ok(Devices {
-        log: MemDisk::tearing_and_failing(alloc, SMALL_LOG, CUT, log_calls)?,
-        store: MemDisk::tearing_and_failing(alloc, SMALL_STORE, CUT, store_calls)?,
-    })
-}
-
-/// The devices of which this one fails this call.
-fn devices_failing(alloc: Global, device: &str, call: u64) -> Result<Devices, AllocError> {
-    let calls = vec![in alloc; call]?;
-    if device == "log" {
-        failing_devices(alloc, calls, Vec::new(alloc))
-    } else {
-        failing_devices(alloc, Vec::new(alloc), calls)
-    }
+/// Sees that a crash where a device fails this call is told by the fault's line alone, or comes to a report that is in order.
+fn see_failing(
+    rt: &(impl Abort + AllocGlobal + Threads + Wait + Sync),
+    words: &str,
+    devices: MemDevices,
+    fault: &str,
+) -> Result<(), Fail> {
+    let report = crash_on(rt, words, devices)?;
+    let is_read = report.starts_with("0\n") && is_in_order(rt.alloc(), &report)?;
+    assert!(rt; is_read || report.as_str() == fault, "at {words}: {report}");
+    Ok(())
 }
 
 /// Crashes with each pick where a device fails one of its calls, each alone. In formatting and in the reading after the crash that
@@ -308,18 +320,13 @@ pub(crate) fn fail_each_call(
     rt: &(impl Abort + AllocGlobal + Threads + Wait + Sync),
     drive: &str,
     device: &str,
-    status: u8,
+    fault: &str,
 ) -> Result<(), Fail> {
-    let alloc = rt.alloc();
-    let fault = format!(in alloc; "fault {device} device\n")?;
-    for call in 0..MOST_CALLS {
-        for pick in PICKS {
-            let words = format!(in alloc; "crash {drive} --pick {pick}")?;
-            let called = crash_on(rt, &words, devices_failing(alloc, device, call)?)?;
-            let report = str::from_utf8(called.sink.bytes())?;
-            let is_told = called.status == status && report == fault.as_str();
-            let is_read = called.status == 0 && is_in_order(alloc, report)?;
-            assert!(rt; is_told || is_read, "at call {call}, {words}: {report}");
+    for pick in PICKS {
+        let words = format!(in rt.alloc(); "crash {drive} --pick {pick}")?;
+        for call in 0..MOST_CALLS {
+            let devices = small_devices(rt.alloc(), device, call)?;
+            see_failing(rt, &words, devices, fault)?;
         }
     }
     Ok(())
@@ -327,10 +334,10 @@ pub(crate) fn fail_each_call(
 
 #[test]
 fn keeps_flushed_lines_where_a_call_of_the_log_device_fails(rt: HostRuntime) -> Result<(), Fail> {
-    fail_each_call(&rt, "--turns 1", "log", 6)
+    fail_each_call(&rt, "--turns 1", "log", "6\nfault log device\n")
 }
 
 #[test]
 fn keeps_flushed_lines_where_a_call_of_the_data_device_fails(rt: HostRuntime) -> Result<(), Fail> {
-    fail_each_call(&rt, "--turns 1", "data", 7)
+    fail_each_call(&rt, "--turns 1", "data", "7\nfault data device\n")
 }

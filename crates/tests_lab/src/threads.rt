@@ -1,8 +1,8 @@
 // Runs in threads.
-use crate::calls::{call_gated, prints, source_of, words_of};
+use crate::calls::Call;
 use crate::devices::blank;
-use crate::stops::{crash_with_each_pick, fail_each_call};
-use redo_io::MemSink;
+use crate::stops::{crash_at, fail_each_call};
+use crate::tables::is_told;
 use redo_threads::{Gate, Point};
 use std::process::Abort;
 use std::sync::Wait;
@@ -79,20 +79,30 @@ impl Gate for TwoUsers {
     }
 }
 
-/// A crash with a line of user 1 and two of user 2 on another page, held by this gate: both users see what they wait for, and all
-/// lines are read.
-fn meets(
+/// What a crash with a line of user 1 and two of user 2 on another page comes to, held by this gate.
+fn told_gated(
     rt: &(impl AllocGlobal + Threads + Wait + Sync),
     words: &str,
     gate: &TwoUsers,
-) -> Result<bool, Fail> {
-    let alloc = rt.alloc();
-    let words = words_of(alloc, words)?;
-    let source = source_of(alloc, "1 f b1 3 100 7\n2 f b1 4 100 8\n2 f b1 4 101 9\n")?;
-    let sink = MemSink::new(alloc);
-    let called = call_gated(rt, &words, source, sink, blank(alloc)?, gate);
-    let is_read = prints(&called, ["open 8204", "recovered 3 8222"])?;
-    Ok(is_read && gate.seen.load(Ordering::SeqCst) == 2)
+) -> Result<String, Fail> {
+    let devices = blank(rt.alloc())?;
+    let script = "1 f b1 3 100 7\n2 f b1 4 100 8\n2 f b1 4 101 9\n";
+    let mut call = Call::by(rt.alloc(), "", words, script)?;
+    let _left = call.make(rt, devices, gate);
+    call.told(rt.alloc())
+}
+
+/// Sees that in such a crash, with this gate, both users see what they wait for, and all lines are read.
+fn see_gated(
+    rt: &(impl Abort + AllocGlobal + Threads + Wait + Sync),
+    words: &str,
+    gate: &TwoUsers,
+) -> Result<(), Fail> {
+    let told = told_gated(rt, words, gate)?;
+    let is_read = is_told(&told, "0\nopen 8204\n..\nrecovered 3 8222\n..");
+    let seen = gate.seen.load(Ordering::SeqCst);
+    assert!(rt; is_read && seen == 2, "{words}: {seen} {told}");
+    Ok(())
 }
 
 /// While user 1 is held with a reserved place, user 2 links a group; while it is held with a linked one, user 2 is answered, and
@@ -100,10 +110,10 @@ fn meets(
 #[test]
 fn gate_two_users(rt: HostRuntime) -> Result<(), Fail> {
     for words in ["crash --threads", "crash --threads --log-only"] {
-        let gate = TwoUsers::new(Point::Reserved, Point::Linked, 1);
-        assert!(rt; meets(&rt, words, &gate)?, "reserved: {words}");
-        let gate = TwoUsers::new(Point::Linked, Point::Reserved, 2);
-        assert!(rt; meets(&rt, words, &gate)?, "linked: {words}");
+        let reserved = TwoUsers::new(Point::Reserved, Point::Linked, 1);
+        see_gated(&rt, words, &reserved)?;
+        let linked = TwoUsers::new(Point::Linked, Point::Reserved, 2);
+        see_gated(&rt, words, &linked)?;
     }
     Ok(())
 }
@@ -115,9 +125,7 @@ fn stop_threads(
     stops: &str,
 ) -> Result<(), Fail> {
     for calls in 0..61u64 {
-        let calls = format!(in rt.alloc(); "{calls}")?;
-        let options = stops.replace(rt.alloc(), "@", &calls)?;
-        let _is_whole = crash_with_each_pick(rt, &options)?;
+        let _is_whole = crash_at(rt, stops, calls)?;
     }
     Ok(())
 }
@@ -141,12 +149,12 @@ fn keeps_flushed_lines_where_both_devices_stop_threads(rt: HostRuntime) -> Resul
 fn keeps_flushed_lines_where_a_call_of_the_log_device_fails_threads(
     rt: HostRuntime,
 ) -> Result<(), Fail> {
-    fail_each_call(&rt, "--threads", "log", 6)
+    fail_each_call(&rt, "--threads", "log", "6\nfault log device\n")
 }
 
 #[test]
 fn keeps_flushed_lines_where_a_call_of_the_data_device_fails_threads(
     rt: HostRuntime,
 ) -> Result<(), Fail> {
-    fail_each_call(&rt, "--threads", "data", 7)
+    fail_each_call(&rt, "--threads", "data", "7\nfault data device\n")
 }

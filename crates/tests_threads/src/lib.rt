@@ -3,6 +3,8 @@
 #![tactic(auto, using(model_base::proofs::ShapeLimits::default_page_size))]
 
 #[cfg(test)]
+mod following;
+#[cfg(test)]
 mod runs;
 #[cfg(test)]
 mod seats;
@@ -10,5 +12,7 @@ mod seats;
 mod store;
 #[cfg(test)]
 mod text;
+#[cfg(test)]
+mod told;
 #[cfg(test)]
 mod watch;

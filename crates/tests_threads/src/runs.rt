@@ -1,10 +1,10 @@
 // Runs in threads: that they end, and where users pass the gate.
-use crate::store::{Device, LOG_ALONE, LOG_CALLS, PAGES, Ready, Way, make_ready};
-use crate::text::{add_lines, lines_of};
+use crate::store::{Device, LOG_ALONE, LOG_CALLS, PAGES, Ready, Way, make_ready, no_followers};
+use crate::text::{lines_of, user_lines};
+use crate::told::{see_told, told_of};
 use crate::watch::{NOBODY, Watch};
-use model_report::State::{Flushed, Lost};
 use redo_drive::{Closed, Driven};
-use redo_threads::{Point, drive_in_threads};
+use redo_threads::drive_in_threads;
 use std::alloc::Global;
 use std::process::Abort;
 use std::sync::Wait;
@@ -12,51 +12,57 @@ use std::test::Fail;
 use std::thread::Threads;
 
 /// What the run in threads of a script on a new store leaves.
-fn left_by<R: Abort + Threads + Wait + Sync>(
+fn left_by<R: Threads + Wait + Sync>(
     rt: &R,
     alloc: Global,
-    text: &[u8],
+    text: &str,
     way: Way,
     watch: &Watch,
 ) -> Result<Closed<Device, Device>, Fail> {
-    let Ready { opened, script } = make_ready(rt, alloc, text, way)?;
-    match drive_in_threads(rt, alloc, opened, &script, way.log_only, watch) {
-        Ok(Driven { closed, .. }) => Ok(closed),
-        Err(_) => panic!(rt; "no memory"),
+    let Ready { opened, script } = make_ready(alloc, text.as_bytes(), way)?;
+    match drive_in_threads(
+        rt,
+        alloc,
+        opened,
+        &script,
+        way.log_only,
+        no_followers(alloc),
+        watch,
+    ) {
+        Ok((Driven { closed, .. }, _)) => Ok(closed),
+        Err(_) => Err(Fail::from("no memory")),
     }
 }
 
-/// Sees that a run came to so many groups, that all are flushed, and that each user's have its order.
-fn see_flushed(rt: &impl Abort, closed: &Closed<Device, Device>, groups: usize) {
-    assert_eq!(rt; (closed.code, closed.history.0.len()), (0, groups));
-    let mut end = 8204;
-    let mut next = [0u64; 17];
-    for entry in closed.history.0.iter() {
-        let user = entry.user as usize;
-        assert!(rt; user < next.len());
-        assert_eq!(rt;
-            (entry.k, entry.state, entry.start),
-            (next[user], Flushed, end)
-        );
-        next[user] = next[user].wrapping_add(1);
-        end = entry.end;
-    }
-    assert_eq!(rt; (closed.marks.wtail, closed.marks.flushed), (end, end));
+/// Sees that all of these are told of a run: of what it leaves, and of how often its users passed each point.
+fn see<R: Abort + AllocGlobal + Threads + Wait + Sync>(
+    rt: &R,
+    text: &str,
+    way: Way,
+    watch: &Watch,
+    wants: &[&str],
+) -> Result<(), Fail> {
+    let closed = left_by(rt, rt.alloc(), text, way, watch)?;
+    let left = told_of(rt.alloc(), &closed)?;
+    let passed = watch.passed();
+    let told = format!(in rt.alloc(); "{left} passed {passed:?}")?;
+    see_told(rt, &told, wants);
+    Ok(())
 }
 
 /// Sees that all is flushed of so many users with so many lines each, where these threads are refused.
-fn see_users_end<R: Abort + Threads + Wait + Sync>(
+fn see_users_end<R: Abort + AllocGlobal + Threads + Wait + Sync>(
     rt: &R,
-    alloc: Global,
-    (users, lines): (u32, u32),
+    users: u32,
+    lines: usize,
     refused: (usize, usize),
 ) -> Result<(), Fail> {
-    let text = lines_of(alloc, users, 'f', lines, 8)?;
-    let groups = users as usize * lines as usize;
+    let text = lines_of(rt.alloc(), users, "f", lines, 8)?;
+    let groups = (users as usize).saturating_mul(lines);
+    let groups = format!(in rt.alloc(); "all flushed true groups {groups}: ")?;
     for way in [LOG_ALONE, PAGES] {
         let watch = Watch::new(false, refused);
-        let closed = left_by(rt, alloc, text.as_bytes(), way, &watch)?;
-        see_flushed(rt, &closed, groups);
+        see(rt, &text, way, &watch, &["code 0 ", &groups])?;
     }
     Ok(())
 }
@@ -64,10 +70,9 @@ fn see_users_end<R: Abort + Threads + Wait + Sync>(
 /// With no line there is no user to wait for, and sixteen users share four pages.
 #[test]
 fn users_end(rt: HostRuntime) -> Result<(), Fail> {
-    for run in [(0, 0), (1, 1), (16, 3)] {
-        see_users_end(&rt, rt.alloc(), run, NOBODY)?;
-    }
-    Ok(())
+    see_users_end(&rt, 0, 0, NOBODY)?;
+    see_users_end(&rt, 1, 1, NOBODY)?;
+    see_users_end(&rt, 16, 3, NOBODY)
 }
 
 /// The caller plays an actor whose thread is refused, beside the threads of the others: of two users, writer, flusher,
@@ -75,8 +80,8 @@ fn users_end(rt: HostRuntime) -> Result<(), Fail> {
 #[test]
 fn an_actor_with_no_thread_is_played(rt: HostRuntime) -> Result<(), Fail> {
     for number in 0..7 {
-        see_users_end(&rt, rt.alloc(), (2, 3), (number, number + 1))?;
-        see_users_end(&rt, rt.alloc(), (2, 3), (number, 7))?;
+        see_users_end(&rt, 2, 3, (number, number + 1))?;
+        see_users_end(&rt, 2, 3, (number, 7))?;
     }
     Ok(())
 }
@@ -89,31 +94,20 @@ fn a_failure_ends_all(rt: HostRuntime) -> Result<(), Fail> {
         ..PAGES
     };
     let watch = Watch::new(false, NOBODY);
-    let closed = left_by(&rt, rt.alloc(), b"1 f b1 3 100 7\n", way, &watch)?;
-    assert_eq!(rt; (closed.code, closed.history.0.len()), (1, 1));
-    for entry in closed.history.0.iter() {
-        assert_eq!(rt; (entry.user, entry.k, entry.state), (1, 0, Lost));
-        assert_eq!(rt; (entry.start, entry.end), (8204, 8210));
-    }
-    Ok(())
+    let wants = ["code 1 ", " groups 1: (1, 0, 8204, 8210, Lost);"];
+    see(&rt, "1 f b1 3 100 7\n", way, &watch, &wants)
 }
 
 /// Sees that so many groups pass each point once, of which the last is for pages alone.
-fn see_points<R: Abort + Threads + Wait + Sync>(
+fn see_points<R: Abort + AllocGlobal + Threads + Wait + Sync>(
     rt: &R,
-    alloc: Global,
-    text: &[u8],
+    text: &str,
     groups: u64,
 ) -> Result<(), Fail> {
-    for (way, closed) in [(LOG_ALONE, 0), (PAGES, groups)] {
-        let watch = Watch::new(false, NOBODY);
-        left_by(rt, alloc, text, way, &watch)?;
-        assert_eq!(rt; watch.passed(Point::Reserved), groups);
-        assert_eq!(rt; watch.passed(Point::Copied), groups);
-        assert_eq!(rt; watch.passed(Point::Linked), groups);
-        assert_eq!(rt; watch.passed(Point::Closed), closed);
-    }
-    Ok(())
+    let alone = format!(in rt.alloc(); "passed {:?}", (groups, groups, groups, 0u64))?;
+    let pages = format!(in rt.alloc(); "passed {:?}", (groups, groups, groups, groups))?;
+    see(rt, text, LOG_ALONE, &Watch::new(false, NOBODY), &[&alone])?;
+    see(rt, text, PAGES, &Watch::new(false, NOBODY), &[&pages])
 }
 
 /// The first of three groups is on one page, the second on two, and the third has 600 bytes: so it ends in another
@@ -122,16 +116,16 @@ fn see_points<R: Abort + Threads + Wait + Sync>(
 fn each_group_passes_each_point(rt: HostRuntime) -> Result<(), Fail> {
     let short = "1 f b1 3 100 7\n2 n b1 4 100 8;b1 5 100 8\n";
     let mut text = String::from_str(rt.alloc(), short)?;
-    add_lines(rt.alloc(), &mut text, 1, 'f', 1, 600)?;
-    see_points(&rt, rt.alloc(), text.as_bytes(), 3)
+    text.push_str(&user_lines(rt.alloc(), 1, "f", 1, 600)?)?;
+    see_points(&rt, &text, 3)
 }
 
 /// Four groups of 4,057 bytes fill the recent-closed buffer, so users move the tails too. A link that a user clears
 /// there is none of its own: each group passes each point once.
 #[test]
 fn clearing_links_passes_no_point(rt: HostRuntime) -> Result<(), Fail> {
-    let text = lines_of(rt.alloc(), 16, 'n', 3, 4057)?;
-    see_points(&rt, rt.alloc(), text.as_bytes(), 48)
+    let text = lines_of(rt.alloc(), 16, "n", 3, 4057)?;
+    see_points(&rt, &text, 48)
 }
 
 /// While user 1 is held with its reserved place, user 2 links its group.
@@ -139,10 +133,9 @@ fn clearing_links_passes_no_point(rt: HostRuntime) -> Result<(), Fail> {
 fn a_user_links_beside_another(rt: HostRuntime) -> Result<(), Fail> {
     for way in [LOG_ALONE, PAGES] {
         let watch = Watch::new(true, NOBODY);
-        let text = b"1 f b1 3 100 7\n2 f b1 4 100 8\n";
-        let closed = left_by(&rt, rt.alloc(), text, way, &watch)?;
-        see_flushed(&rt, &closed, 2);
-        assert_eq!(rt; watch.seen(), 2);
+        let wants = ["code 0 ", "all flushed true groups 2: "];
+        see(&rt, "1 f b1 3 100 7\n2 f b1 4 100 8\n", way, &watch, &wants)?;
+        assert!(rt; watch.seen() == 2);
     }
     Ok(())
 }

@@ -1,19 +1,19 @@
 // Stores that were just formatted, over devices in memory that may stop, each with a script that fits it.
-ghost use Rattle.std.specs.Prelude.{IfOk, ◌<◌, ◌^◌, ◌≡◌, ◌≤◌};
+ghost use Rattle.std.specs.Prelude.{IfOk, ℕ, ◌<◌, ◌^◌, ◌≡◌, ◌≤◌};
 ghost use Rattle.model_base.specs.{IsWithinLimits};
 ghost use Rattle.model_log.specs.declared.layout.TheConstants.{BLOCK_HEADER};
-ghost use Rattle.redo_drive.specs.Startable.{MayBegin, room_from};
+ghost use Rattle.redo_drive.specs.Startable.{AreNewFollowers, MayBegin, room_from};
 ghost use Rattle.redo_store.specs.{IsRunnable};
 
 use model_base::{BLOCK_SIZE, Shape};
 use model_log::{BLOCK_HEADER, TAIL_BLOCKS};
 use model_script::{Script, fitting_script, read_lines_are_ranged};
+use redo_follow::{Follower, Tally};
 use redo_memdisk::{Fused, MemDisk};
 use redo_open::{format, open_store};
 use redo_script::{judge, parse};
 use redo_store::Opened;
 use std::alloc::Global;
-use std::process::Abort;
 use std::test::Fail;
 
 /// A device of the tests.
@@ -62,19 +62,32 @@ pub struct Ready {
     pub script: Script,
 }
 
-/// A store that was formatted, and opened on these devices.
-fn opened(rt: &impl Abort, alloc: Global, way: Way) -> Result<Opened<Device, Device>, Fail>
-    ensures { IfOk result IsRunnable }
-{
+/// The devices of a store that was formatted.
+fn formatted(alloc: Global) -> Result<(MemDisk, MemDisk), Fail> {
     let mut log = MemDisk::new(alloc, LOG)?;
     let mut store = MemDisk::new(alloc, DATA)?;
     format(&mut log, &mut store, &Shape::default_shape())?;
-    let log = Fused::new(log, way.log_calls);
-    let store = Fused::new(store, way.data_calls);
+    Ok((log, store))
+}
+
+/// The store on these devices.
+fn opened_on(alloc: Global, log: Device, store: Device) -> Result<Opened<Device, Device>, Fail>
+    ensures { IfOk result IsRunnable }
+{
     match open_store(alloc, log, store) {
         Ok(opened) => Ok(opened),
-        Err((fault, _, _)) => panic!(rt; "{fault}"),
+        Err((fault, _, _)) => Err(Fail::from(fault)),
     }
+}
+
+/// A store that was formatted, and opened on these devices.
+fn opened(alloc: Global, way: Way) -> Result<Opened<Device, Device>, Fail>
+    ensures { IfOk result IsRunnable }
+{
+    let (log, store) = formatted(alloc)?;
+    let log = Fused::new(log, way.log_calls);
+    let store = Fused::new(store, way.data_calls);
+    opened_on(alloc, log, store)
 }
 
 /// How far the log has room where it runs alone: one round from the checkpoint on, which stands where a run begins.
@@ -93,18 +106,25 @@ fn room_end(log_only: bool, shape: &Shape, start: u64) -> Option<u64>
 }
 
 /// A new store with the script of a text, which has to fit it.
-pub fn make_ready(rt: &impl Abort, alloc: Global, text: &[u8], way: Way) -> Result<Ready, Fail>
+pub fn make_ready(alloc: Global, text: &[u8], way: Way) -> Result<Ready, Fail>
     ensures { IfOk result (λ ready. MayBegin ready.opened ready.script way.log_only) }
 {
-    let opened = opened(rt, alloc, way)?;
+    let opened = opened(alloc, way)?;
     fitting_script();
     read_lines_are_ranged();
     let Ok(script) = parse(alloc, text) else {
-        panic!(rt; "no script");
+        return Err(Fail::from("no script"));
     };
     let end = room_end(way.log_only, &opened.shape, opened.start);
     let Ok(()) = judge(alloc, &opened.shape, opened.start, end, &script) else {
-        panic!(rt; "no fit");
+        return Err(Fail::from("no fit"));
     };
     Ok(Ready { opened, script })
+}
+
+/// No followers.
+pub fn no_followers(alloc: Global) -> Vec<Follower<Tally>>
+    ensures { (start : ℕ) → AreNewFollowers start result.items }
+{
+    Vec::new(alloc)
 }

@@ -55,9 +55,14 @@ impl Watch {
         }
     }
 
-    /// How often this point was passed.
-    pub fn passed(&self, point: Point) -> u64 {
-        self.count_of(point).load(Ordering::SeqCst)
+    /// How often each point was passed: reserved, copied, linked, and closed.
+    pub fn passed(&self) -> (u64, u64, u64, u64) {
+        (
+            self.reserved.load(Ordering::SeqCst),
+            self.copied.load(Ordering::SeqCst),
+            self.linked.load(Ordering::SeqCst),
+            self.closed.load(Ordering::SeqCst),
+        )
     }
 
     /// How often a user that was held has seen what it waited for.

@@ -1,13 +1,15 @@
 // Runs whose turns are given by hand, and what is told of them after a crash.
 ghost use Rattle.redo_drive.specs.Running.{IsOnRun};
+ghost use Rattle.redo_drive.specs.Views.{views_of};
 
-use super::store::{machine_on, opened};
+use super::store::{machine_on, no_followers, opened};
 use crate::fixtures::read;
 use model_base::{PAGE_SIZE, SLOTS};
 use model_report::History;
 use redo_apply::Pages;
 use redo_disk::{DevError, Sectors};
 use redo_drive::{Closed, RunEnd};
+use redo_follow::Receiver;
 use redo_machine::{Machine, Turned};
 use redo_memdisk::MemDisk;
 use std::alloc::{AllocError, Global};
@@ -55,14 +57,14 @@ fn turns_of(word: &str) -> Option<(usize, u64, Turned)> {
 }
 
 /// Gives the actor at a seat turns until one doesn't move it on, at most so many. Answers how many, and how the last ends.
-pub fn take_turns<L: Sectors, D: Sectors>(
+pub fn take_turns<L: Sectors, D: Sectors, R: Receiver>(
     rt: &impl Abort,
-    machine: &mut Machine<L, D>,
+    machine: &mut Machine<L, D, R>,
     seat: usize,
     most: u64,
 ) -> (u64, Turned)
-    requires { IsOnRun L.seen D.seen machine.old.parts machine.old.actors.items }
-    ensures { IsOnRun L.seen D.seen machine.new.parts machine.new.actors.items }
+    requires { IsOnRun L.seen D.seen machine.old.parts (views_of machine.old.actors.items) }
+    ensures { IsOnRun L.seen D.seen machine.new.parts (views_of machine.new.actors.items) }
 {
     for turn in 0..most {
         assert!(rt; seat < machine.seats());
@@ -75,9 +77,9 @@ pub fn take_turns<L: Sectors, D: Sectors>(
 }
 
 /// Gives each actor turns until it doesn't move, the first one last.
-fn play_round<L: Sectors, D: Sectors>(rt: &impl Abort, machine: &mut Machine<L, D>)
-    requires { IsOnRun L.seen D.seen machine.old.parts machine.old.actors.items }
-    ensures { IsOnRun L.seen D.seen machine.new.parts machine.new.actors.items }
+fn play_round<L: Sectors, D: Sectors, R: Receiver>(rt: &impl Abort, machine: &mut Machine<L, D, R>)
+    requires { IsOnRun L.seen D.seen machine.old.parts (views_of machine.old.actors.items) }
+    ensures { IsOnRun L.seen D.seen machine.new.parts (views_of machine.new.actors.items) }
 {
     for seat in 1..machine.seats() {
         take_turns(rt, machine, seat, u64::MAX);
@@ -86,9 +88,13 @@ fn play_round<L: Sectors, D: Sectors>(rt: &impl Abort, machine: &mut Machine<L, 
 }
 
 /// Gives the turns that a word spells, and sees that they go as it says.
-fn see_turns<L: Sectors, D: Sectors>(rt: &impl Abort, machine: &mut Machine<L, D>, word: &str)
-    requires { IsOnRun L.seen D.seen machine.old.parts machine.old.actors.items }
-    ensures { IsOnRun L.seen D.seen machine.new.parts machine.new.actors.items }
+fn see_turns<L: Sectors, D: Sectors, R: Receiver>(
+    rt: &impl Abort,
+    machine: &mut Machine<L, D, R>,
+    word: &str,
+)
+    requires { IsOnRun L.seen D.seen machine.old.parts (views_of machine.old.actors.items) }
+    ensures { IsOnRun L.seen D.seen machine.new.parts (views_of machine.new.actors.items) }
 {
     let Some((seat, count, last)) = turns_of(word) else {
         panic!(rt; "no turns: {word}");
@@ -99,9 +105,13 @@ fn see_turns<L: Sectors, D: Sectors>(rt: &impl Abort, machine: &mut Machine<L, D
 }
 
 /// Gives the turns of a run, and answers whether each user has ended.
-fn play<L: Sectors, D: Sectors>(rt: &impl Abort, machine: &mut Machine<L, D>, run: &Run) -> RunEnd
-    requires { IsOnRun L.seen D.seen machine.old.parts machine.old.actors.items }
-    ensures { IsOnRun L.seen D.seen machine.new.parts machine.new.actors.items }
+pub fn play<L: Sectors, D: Sectors, R: Receiver>(
+    rt: &impl Abort,
+    machine: &mut Machine<L, D, R>,
+    run: &Run,
+) -> RunEnd
+    requires { IsOnRun L.seen D.seen machine.old.parts (views_of machine.old.actors.items) }
+    ensures { IsOnRun L.seen D.seen machine.new.parts (views_of machine.new.actors.items) }
 {
     for word in run.turns.split_whitespace() {
         see_turns(rt, machine, word);
@@ -132,9 +142,10 @@ pub fn closed_of(
 ) -> Result<(RunEnd, Closed<MemDisk, MemDisk>), Fail> {
     let text = spelled(alloc, run.text)?;
     let opened = opened(alloc, run.cut.min(511))?;
-    let mut machine = machine_on(rt, alloc, opened, text.as_bytes());
+    let mut machine = machine_on(rt, alloc, opened, text.as_bytes(), no_followers(alloc));
     let ended = play(rt, &mut machine, run);
-    Ok((ended, machine.finish()))
+    let (closed, _) = machine.finish();
+    Ok((ended, closed))
 }
 
 /// The groups of a history: of each its user, its number among the user's, its start, its end, and its state.

@@ -1,12 +1,16 @@
 // Machines on stores that were just formatted, over devices in memory that may stop.
-ghost use Rattle.std.specs.Prelude.{◌<◌, IfOk};
+ghost use Rattle.std.specs.Prelude.{false, ℕ, ◌<◌, IfOk};
 ghost use Rattle.redo_drive.specs.Running.{IsOnRun};
+ghost use Rattle.redo_drive.specs.Startable.{AreNewFollowers, MayBegin};
+ghost use Rattle.redo_drive.specs.Views.{views_of};
 ghost use Rattle.redo_store.specs.{IsRunnable};
 
 use model_base::Shape;
-use model_script::{fitting_script, read_lines_are_ranged};
+use model_script::{Script, fitting_script, read_lines_are_ranged};
 use redo_disk::Sectors;
-use redo_machine::Machine;
+use redo_drive::{Actor, Driven};
+use redo_follow::{Follower, Receiver, Tally};
+use redo_machine::{Machine, Turns, run_by_turns};
 use redo_memdisk::MemDisk;
 use redo_open::{format, open_store};
 use redo_script::{judge, parse};
@@ -52,15 +56,22 @@ pub fn opened(alloc: Global, cut: usize) -> Result<Opened<MemDisk, MemDisk>, Fai
     }
 }
 
-/// A machine on an opened store for the script of a text, which fits it.
-pub fn machine_on<L: Sectors + Drop, D: Sectors + Drop>(
+/// No followers.
+pub fn no_followers(alloc: Global) -> Vec<Follower<Tally>>
+    ensures { (start : ℕ) → AreNewFollowers start result.items }
+{
+    Vec::new(alloc)
+}
+
+/// The script of a text, which fits the store.
+fn script_on<L: Sectors, D: Sectors>(
     rt: &impl Abort,
     alloc: Global,
-    opened: Opened<L, D>,
+    opened: &Opened<L, D>,
     text: &[u8],
-) -> Machine<L, D>
-    requires { IsRunnable opened }
-    ensures { IsOnRun L.seen D.seen result.parts result.actors.items }
+) -> Script
+    requires { IsRunnable opened.now }
+    ensures { MayBegin opened.now result false }
 {
     fitting_script();
     read_lines_are_ranged();
@@ -70,8 +81,49 @@ pub fn machine_on<L: Sectors + Drop, D: Sectors + Drop>(
     let Ok(()) = judge(alloc, &opened.shape, opened.start, None, &script) else {
         panic!(rt; "no fit");
     };
-    match Machine::new(alloc, opened, &script, false) {
+    script
+}
+
+/// A machine on an opened store, with these followers, for the script of a text, which fits the store.
+pub fn machine_on<L: Sectors + Drop, D: Sectors + Drop, R: Receiver + Drop>(
+    rt: &impl Abort,
+    alloc: Global,
+    opened: Opened<L, D>,
+    text: &[u8],
+    followers: Vec<Follower<R>>,
+) -> Machine<L, D, R>
+    requires runnable { IsRunnable opened }
+    requires new { AreNewFollowers opened.start followers.items }
+    ensures { IsOnRun L.seen D.seen result.parts (views_of result.actors.items) }
+{
+    let script = script_on(rt, alloc, &opened, text);
+    match Machine::new(alloc, opened, &script, false, followers) {
         Ok(machine) => machine,
+        Err(_) => panic!(rt; "no memory"),
+    }
+}
+
+/// What a run by turns of this seed leaves on an opened store, of the script of a text, which fits the store, with these followers;
+/// and its actors.
+pub fn driven_on<L: Sectors + Drop, D: Sectors + Drop, R: Receiver + Drop>(
+    rt: &impl Abort,
+    alloc: Global,
+    opened: Opened<L, D>,
+    text: &[u8],
+    seed: u64,
+    followers: Vec<Follower<R>>,
+) -> (Driven<L, D>, Vec<Actor<R>>)
+    requires runnable { IsRunnable opened }
+    requires new { AreNewFollowers opened.start followers.items }
+{
+    let script = script_on(rt, alloc, &opened, text);
+    let turns = Turns {
+        seed,
+        max: 100_000_000,
+        log_only: false,
+    };
+    match run_by_turns(alloc, opened, &script, &turns, followers) {
+        Ok(left) => left,
         Err(_) => panic!(rt; "no memory"),
     }
 }

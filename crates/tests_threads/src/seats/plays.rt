@@ -1,39 +1,23 @@
-// Runs of seats that one thread plays in turn.
+// Runs of seats that one thread plays in turn. The users have the first seats; then come the writer, the flusher, the closer, the
+// cleaner and the checkpointer.
 ghost use Rattle.std.specs.Prelude.{◌≤◌};
 
-use super::turns::left_by;
-use crate::store::{DATA_CALLS, Device, LOG_ALONE, LOG_CALLS, PAGES, Way};
-use crate::text::{add_lines, lines_of};
-use model_base::{PAGE_SIZE, SLOTS};
-use model_report::Marks;
-use model_report::State::{Flushed, Lost, Written};
-use redo_disk::Sectors;
-use redo_drive::Closed;
-use redo_words::Step::{Ended, Failed, Idle, Moved};
-use std::alloc::Global;
-use std::process::Abort;
+use super::turns::{NO_TURNS, Run, see};
+use crate::store::{DATA_CALLS, LOG_ALONE, LOG_CALLS, PAGES, Way};
+use crate::text::{lines_of, user_lines};
 use std::test::Fail;
 
 /// One line, whose group has six bytes and is answered once it is written.
-const ONE_LINE: &[u8] = b"1 w b1 3 100 7\n";
+const ONE_LINE: &str = "1 w b1 3 100 7\n";
 
 /// A line of each of two users.
-const TWO_USERS: &[u8] = b"1 w b1 3 100 7\n2 w b1 4 100 8\n";
+const TWO_USERS: &str = "1 w b1 3 100 7\n2 w b1 4 100 8\n";
 
 /// A line of each of two users, on one page.
-const ONE_PAGE: &[u8] = b"1 w b1 3 100 7\n2 w b1 3 101 8\n";
+const ONE_PAGE: &str = "1 w b1 3 100 7\n2 w b1 3 101 8\n";
 
 /// A line whose group of 13 bytes is on two pages, and is answered once it is flushed.
-const TWO_PAGES: &[u8] = b"1 f b1 3 100 7;b1 4 100 8\n";
-
-/// A byte of a page's place on the data device.
-fn byte_in_place(rt: &impl Abort, store: &mut Device, page: u32, at: usize) -> Result<u8, Fail> {
-    let mut bytes = [0; PAGE_SIZE as usize];
-    let start = (u64::from(SLOTS) + u64::from(page)) * u64::from(PAGE_SIZE);
-    assert!(rt; at < bytes.len() && start + u64::from(PAGE_SIZE) <= store.len());
-    store.read(start, &mut bytes)?;
-    Ok(bytes[at])
-}
+const TWO_PAGES: &str = "1 f b1 3 100 7;b1 4 100 8\n";
 
 /// The user reserves by its fifth call, after those on FAILED, CKPT, SN and the latch. Its group of six bytes at 8204 fills parts of
 /// two words: so it is linked by the sixth call from the reservation on, 2 + 4. The writer waits until then: it takes WTAIL, finds
@@ -42,100 +26,55 @@ fn byte_in_place(rt: &impl Abort, store: &mut Device, page: u32, at: usize) -> R
 /// with WTAIL. A word whose bytes aren't all written yet isn't cleared.
 #[test]
 fn a_link_comes_six_calls_from_the_reservation(rt: HostRuntime) -> Result<(), Fail> {
-    let (user, writer) = (0, 1);
-    let turns = [
-        (user, 4 + 5, Moved),
-        (writer, 4, Idle),
-        (user, 1, Moved),
-        (writer, 21, Idle),
-        (user, 11, Ended),
-    ];
-    let closed = left_by(&rt, rt.alloc(), ONE_LINE, PAGES, &turns, 0)?;
-    assert_eq!(rt; (closed.marks.wtail, closed.code), (8210, 0));
-    Ok(())
+    let run = Run {
+        text: ONE_LINE,
+        turns: "0 9 Moved, 1 4 Idle, 0 1 Moved, 1 21 Idle, 0 11 Ended",
+        ..NO_TURNS
+    };
+    see(&rt, &run, &["code 0 marks (8210, "])
 }
 
 /// A group of 496 bytes from 8204 on ends in the next block. Its bytes fill 63 words, those of lsns 8200 to 8703, and the end's
-/// first offset is stored too: so it is linked by the 68th call from the reservation on, 63 + 4 + 1.
+/// first offset is stored too: so it is linked by the 68th call from the reservation on, 63 + 4 + 1, which is the user's 72nd.
 #[test]
 fn a_long_link_comes_68_calls_from_the_reservation(rt: HostRuntime) -> Result<(), Fail> {
-    let (user, writer) = (0, 1);
-    let turns = [
-        (user, 4 + 67, Moved),
-        (writer, 4, Idle),
-        (writer, 5, Idle),
-        (user, 1, Moved),
-        (writer, 7, Moved),
-    ];
-    let line = lines_of(rt.alloc(), 1, 'n', 1, 496)?;
-    let closed = left_by(&rt, rt.alloc(), line.as_bytes(), PAGES, &turns, 0)?;
-    assert_eq!(rt; closed.history.0.len(), 1);
-    for entry in closed.history.0.iter() {
-        assert_eq!(rt; (entry.start, entry.end), (8204, 8716));
-    }
-    Ok(())
+    let line = lines_of(rt.alloc(), 1, "n", 1, 496)?;
+    let run = Run {
+        text: &line,
+        turns: "0 71 Moved, 1 4 Idle, 1 5 Idle, 0 1 Moved, 1 7 Moved",
+        ..NO_TURNS
+    };
+    see(&rt, &run, &[" groups 1: (1, 0, 8204, 8716, "])
 }
 
 /// The second user's group is linked while the first one's isn't copied yet: its link stands, and the writer waits. Once the
 /// first one's is linked too, the writer takes both.
 #[test]
 fn second_links_first(rt: HostRuntime) -> Result<(), Fail> {
-    let (first, second, writer) = (0, 1, 2);
-    let turns = [
-        (first, 5, Moved),
-        (second, 9, Moved),
-        (writer, 4, Idle),
-        (first, 5, Moved),
-        (writer, 20, Moved),
-        (first, 11, Ended),
-        (second, 11, Ended),
-    ];
-    let closed = left_by(&rt, rt.alloc(), TWO_USERS, PAGES, &turns, 0)?;
-    let marks = Marks {
-        wtail: 8216,
-        write: 8216,
-        flushed: 8204,
-        ckpt: 8192,
+    let run = Run {
+        text: TWO_USERS,
+        turns: "0 5 Moved, 1 9 Moved, 2 4 Idle, 0 5 Moved, 2 20 Moved, 0 11 Ended, 1 11 Ended",
+        ..NO_TURNS
     };
-    assert_eq!(rt; (closed.marks, closed.code), (marks, 0));
-    let history = [(1, 0, 8204, 8210, Written), (2, 0, 8210, 8216, Written)];
-    assert_eq!(rt; closed.history.0.len(), history.len());
-    for (entry, told) in closed.history.0.iter().zip(&history) {
-        let found = (entry.user, entry.k, entry.start, entry.end, entry.state);
-        assert_eq!(rt; found, *told);
-    }
-    Ok(())
+    let groups = " groups 2: (1, 0, 8204, 8210, Written);(2, 0, 8210, 8216, Written); ";
+    see(
+        &rt,
+        &run,
+        &["code 0 marks (8216, 8216, 8204, 8192) ", groups],
+    )
 }
 
 /// Two users on one page: the second waits until the first has released the latch. The cleaner writes both bytes, and as the page's
-/// lsn the end of the second group.
+/// lsn the end of the second group, 8216, of whose bytes the others are 0.
 #[test]
 fn two_seats_write_one_page(rt: HostRuntime) -> Result<(), Fail> {
-    let (first, second, writer, flusher, cleaner) = (0, 1, 2, 3, 5);
-    let turns = [
-        (first, 4, Moved),
-        (second, 4, Idle),
-        (first, 15, Moved),
-        (second, 2, Idle),
-        (first, 1, Moved),
-        (second, 14, Moved),
-        (writer, 19, Moved),
-        (first, 1, Ended),
-        (second, 1, Ended),
-        (flusher, 5, Moved),
-        (cleaner, 528, Moved),
-    ];
-    let closed = left_by(&rt, rt.alloc(), ONE_PAGE, PAGES, &turns, 0)?;
-    assert_eq!(rt; closed.code, 0);
-    let mut store = closed.store.into_dev();
-    assert_eq!(rt; byte_in_place(&rt, &mut store, 3, 100)?, 7);
-    assert_eq!(rt; byte_in_place(&rt, &mut store, 3, 101)?, 8);
-    let lsn = (
-        byte_in_place(&rt, &mut store, 3, 22)?,
-        byte_in_place(&rt, &mut store, 3, 23)?,
-    );
-    assert_eq!(rt; lsn, (0x20, 0x18), "8216, of which the other bytes are 0");
-    Ok(())
+    let run = Run {
+        text: ONE_PAGE,
+        turns: "0 4 Moved, 1 4 Idle, 0 15 Moved, 1 2 Idle, 0 1 Moved, 1 14 Moved, 2 19 Moved, 0 1 Ended, 1 1 Ended, 3 5 Moved, 5 528 Moved",
+        places: &[(3, 100), (3, 101), (3, 22), (3, 23)],
+        ..NO_TURNS
+    };
+    see(&rt, &run, &["code 0 ", " places 7 8 32 24"])
 }
 
 /// The log device passes so many calls after those of opening.
@@ -158,6 +97,16 @@ fn data_passes(calls: u64) -> Way
     }
 }
 
+/// Five rounds of the line on two pages.
+fn five_rounds(way: Way) -> Run<'static> {
+    Run {
+        text: TWO_PAGES,
+        way,
+        rounds: 5,
+        ..NO_TURNS
+    }
+}
+
 /// A device fails at each of its calls: the log device where the group is written and where it is synced, and the data device at
 /// each of the five of a batch of two pages. In the first round the user comes to wait for FLUSHED; in the second all others go
 /// before it, so the call fails, and FAILED has its code, 1 or 2. The user's next step is the load of FAILED: so it ends by the
@@ -165,17 +114,16 @@ fn data_passes(calls: u64) -> Way
 /// written, since CTAIL, rounded down, is still that of opening.
 #[test]
 fn a_device_fails_at_each_call(rt: HostRuntime) -> Result<(), Fail> {
-    for calls in 0..3 {
-        let closed = left_by(&rt, rt.alloc(), TWO_PAGES, log_passes(calls), &[], 5)?;
-        let wanted = if calls < 2 { (1, Lost) } else { (0, Flushed) };
-        see_one(&rt, &closed, wanted, calls);
+    let lost = " groups 1: (1, 0, 8204, 8217, Lost);";
+    let flushed = ["code 0 ", " groups 1: (1, 0, 8204, 8217, Flushed);"];
+    for calls in 0..2 {
+        see(&rt, &five_rounds(log_passes(calls)), &["code 1 ", lost])?;
     }
-    for calls in 0..6 {
-        let closed = left_by(&rt, rt.alloc(), TWO_PAGES, data_passes(calls), &[], 5)?;
-        let wanted = if calls < 5 { (2, Lost) } else { (0, Flushed) };
-        see_one(&rt, &closed, wanted, calls);
+    see(&rt, &five_rounds(log_passes(2)), &flushed)?;
+    for calls in 0..5 {
+        see(&rt, &five_rounds(data_passes(calls)), &["code 2 ", lost])?;
     }
-    Ok(())
+    see(&rt, &five_rounds(data_passes(5)), &flushed)
 }
 
 /// The log device fails at its first call of the run, while the closer holds CTAIL, at which it has found no link. The writer stores
@@ -183,22 +131,19 @@ fn a_device_fails_at_each_call(rt: HostRuntime) -> Result<(), Fail> {
 /// goes on until it waits for FLUSHED.
 #[test]
 fn a_closer_frees_its_tail_before_it_ends(rt: HostRuntime) -> Result<(), Fail> {
-    let (user, writer, closer) = (0, 1, 3);
-    let turns = [
-        (closer, 3, Moved),
-        (user, 10, Moved),
-        (writer, 16, Failed(1)),
-        (closer, 1, Idle),
-        (closer, 1, Failed(1)),
-        (user, 11, Idle),
-        (user, 1, Failed(1)),
-    ];
-    let text = b"1 f b1 3 100 7\n";
-    let closed = left_by(&rt, rt.alloc(), text, log_passes(0), &turns, 0)?;
-    see_one(&rt, &closed, (1, Lost), 0);
-    assert_eq!(rt; (closed.marks.wtail, closed.marks.write), (8210, 8204));
-    Ok(())
+    let run = Run {
+        text: "1 f b1 3 100 7\n",
+        way: log_passes(0),
+        turns: "3 3 Moved, 0 10 Moved, 1 16 Failed, 3 1 Idle, 3 1 Failed, 0 11 Idle, 0 1 Failed",
+        ..NO_TURNS
+    };
+    let group = " groups 1: (1, 0, 8204, 8210, Lost);";
+    see(&rt, &run, &["code 1 marks (8210, 8204, ", group])
 }
+
+/// The turns of the run below.
+const TURNS: &str =
+    "0 63720 Idle, 1 5 Idle, 2 5 Idle, 3 5 Idle, 4 5 Idle, 5 5 Idle, 6 5 Idle, 7 5 Idle, 8 5 Idle, 9 5 Idle, 10 5 Idle, 11 5 Idle, 12 5 Idle, 13 5 Idle, 14 5 Idle, 15 5 Idle, 16 22736 Moved";
 
 /// Sixteen users with groups of ten bytes go on without the writer until each waits for it: the group that it has reserved would
 /// end at 73,728 or above, 65,536 lsns past the block of WRITE. The first one has moved WTAIL once, to 40,978, where its 3,176th
@@ -208,37 +153,14 @@ fn a_closer_frees_its_tail_before_it_ends(rt: HostRuntime) -> Result<(), Fail> {
 /// turns are for each block, and two for each of 8,063 words, but one for the last.
 #[test]
 fn a_writer_keeps_what_the_ring_holds(rt: HostRuntime) -> Result<(), Fail> {
-    let mut text = String::new(rt.alloc());
-    add_lines(rt.alloc(), &mut text, 1, 'n', 6349, 10)?;
-    let writer = 16;
-    let mut turns = vec![in rt.alloc(); (0, 63_720, Idle)]?;
-    for user in 1..writer {
-        add_lines(rt.alloc(), &mut text, 1 + user as u32, 'n', 1, 10)?;
-        turns.push((user, 5, Idle))?;
-    }
-    turns.push((writer, 22_736, Moved))?;
-    let turns = turns.as_slice();
-    let closed = left_by(&rt, rt.alloc(), text.as_bytes(), LOG_ALONE, turns, 0)?;
-    let marks = Marks {
-        wtail: 73_716,
-        write: 73_716,
-        flushed: 8204,
-        ckpt: 8192,
+    let mut text = user_lines(rt.alloc(), 1, "n", 6348, 10)?;
+    text.push_str(&lines_of(rt.alloc(), 16, "n", 1, 10)?)?;
+    let run = Run {
+        text: &text,
+        way: LOG_ALONE,
+        turns: TURNS,
+        ..NO_TURNS
     };
-    assert_eq!(rt; closed.marks, marks);
-    assert_eq!(rt; closed.history.0.len(), 6348 + 16);
-    Ok(())
-}
-
-/// Sees that a run left this code, and its one group in this state.
-fn see_one(
-    rt: &impl Abort,
-    closed: &Closed<Device, Device>,
-    wanted: (u32, model_report::State),
-    calls: u64,
-) {
-    assert_eq!(rt; closed.history.0.len(), 1);
-    for entry in closed.history.0.iter() {
-        assert_eq!(rt; (closed.code, entry.state), wanted, "behind {calls} calls");
-    }
+    let marks = " marks (73716, 73716, 8204, 8192) ";
+    see(&rt, &run, &[marks, " groups 6364: "])
 }

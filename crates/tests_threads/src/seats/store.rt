@@ -1,37 +1,61 @@
 // Shared stores that were just formatted, each actor with its seat.
 ghost use Rattle.std.specs.Prelude.{IfOk, length, ◌≡◌};
-ghost use Rattle.redo_rule.specs.Sharing.{AreSeatsOf, IsSeated, starts_of, table_of};
+ghost use Rattle.redo_drive.specs.Startable.{MayBegin};
+ghost use Rattle.redo_drive.specs.Views.{views_of};
+ghost use Rattle.redo_rule.specs.Sharing.{AreSeatsOf, IsSeated, IsUnseated, starts_of, table_of};
 
-use crate::store::{Device, Ready, Way, make_ready};
+use crate::store::{Device, Ready, Way, make_ready, no_followers};
 use redo_drive::Actor;
+use redo_follow::Tally;
 use redo_rule::{Seat, Shared};
 use std::alloc::Global;
-use std::process::Abort;
 use std::test::Fail;
 
 /// A store that its actors share, each with its seat.
 pub struct Playing {
     pub shared: Shared<Device, Device>,
     pub seats: Vec<Seat<Device, Device>>,
-    pub actors: Vec<Actor>,
+    pub actors: Vec<Actor<Tally>>,
+}
+
+/// The store on which the run of a script may begin, none of whose actors has a seat yet.
+fn shared_of(
+    alloc: Global,
+    ready: Ready,
+    log_only: bool,
+) -> Result<(Shared<Device, Device>, Vec<Actor<Tally>>), Fail>
+    requires { MayBegin ready.opened ready.script log_only }
+    ensures { IfOk result (λ made. IsUnseated made.0 (views_of made.1.items)) }
+{
+    let Ready { opened, script } = ready;
+    match Shared::new(alloc, opened, &script, log_only, no_followers(alloc)) {
+        Ok(made) => Ok(made),
+        Err(_) => Err(Fail::from("no memory")),
+    }
+}
+
+/// The store, each of whose actors has its seat.
+fn seated(mut shared: Shared<Device, Device>, actors: Vec<Actor<Tally>>) -> Playing
+    requires { IsUnseated shared (views_of actors.items) }
+    ensures seated { IsSeated result.shared }
+    ensures seats { AreSeatsOf (table_of result.shared) result.seats.items (views_of result.actors.items) }
+    ensures all { length result.actors.items ≡ length (starts_of result.shared) }
+{
+    let seats = shared.seats(actors.as_slice());
+    Playing {
+        shared,
+        seats,
+        actors,
+    }
 }
 
 /// The store of the script of a text, which fits it.
-pub fn begin(rt: &impl Abort, alloc: Global, text: &[u8], way: Way) -> Result<Playing, Fail>
+pub fn begin(alloc: Global, text: &[u8], way: Way) -> Result<Playing, Fail>
     ensures seated { IfOk result (λ made. IsSeated made.shared) }
-    ensures seats { IfOk result (λ made. AreSeatsOf (table_of made.shared) made.seats.items made.actors.items) }
+    ensures seats { IfOk result (λ made. AreSeatsOf (table_of made.shared) made.seats.items (views_of made.actors.items)) }
     ensures all { IfOk result (λ made. length made.actors.items ≡ length (starts_of made.shared)) }
 {
-    let Ready { opened, script } = make_ready(rt, alloc, text, way)?;
-    match Shared::new(alloc, opened, &script, way.log_only) {
-        Ok((mut shared, actors)) => {
-            let seats = shared.seats(actors.as_slice());
-            Ok(Playing {
-                shared,
-                seats,
-                actors,
-            })
-        }
-        Err(_) => panic!(rt; "no memory"),
-    }
+    let ready = make_ready(alloc, text, way)?;
+    let (shared, actors) = shared_of(alloc, ready, way.log_only)?;
+    Ok(seated(shared, actors))
 }

@@ -1,10 +1,11 @@
 -- Each actor has its seat.
 use Rattle.std.proofs.Common.{length, ◌≡◌}
+use Rattle.redo_drive.specs.Views.{views_of}
 use Rattle.redo_rule.specs.Sharing.{AreSeatsOf}
 use Rattle.tests_threads.proofs.seats.turns.take_turns.Given as goal
 
 abbrev pub invariant-loop-taken : goal.invariant-loop-taken
 invariant-loop-taken g l = record {
-  seats : AreSeatsOf l.table.table_id l.seats.items l.actors.items;
+  seats : AreSeatsOf l.table.table_id l.seats.items (views_of l.actors.items);
   count : length l.actors.items ≡ length l.initial.actors.items;
 }

@@ -1,0 +1,8 @@
+use Rattle.std.proofs.Common.{arith, subst, sym}
+use mathlib.Core.Option.{some-ne-none}
+use Rattle.redo_drive.specs.Startable.{AreNewFollowers}
+use Rattle.tests_threads.proofs.store.no_followers.Goals as goal
+
+pub returns : goal.returns
+returns c = λ start. subst (AreNewFollowers start) (sym c.new.ensures.items)
+    (record { few = omega arith; each = λ i follower at. absurd (some-ne-none follower (sym at)) })
