@@ -7,7 +7,7 @@ use crate::generated;
 use crate::listing::read_of;
 use crate::lsn::start_after;
 use crate::making::{draw_full_script, draw_script, spoil_fit, spoil_text, text_of};
-use crate::options::Options;
+use crate::options::{Options, draw_followers};
 use crate::places::Place;
 use crate::program::{Call, Program, words_of};
 use crate::report::Report;
@@ -26,6 +26,8 @@ pub struct Tally {
     pub threads: u64,
     pub narrow: u64,
     pub refusing: u64,
+    /// Runs with followers.
+    pub followed: u64,
     pub chains: u64,
     /// How often a log has gone round.
     pub rounds: u64,
@@ -41,6 +43,7 @@ impl Tally {
         self.threads += other.threads;
         self.narrow += other.narrow;
         self.refusing += other.refusing;
+        self.followed += other.followed;
         self.chains += other.chains;
         self.rounds += other.rounds;
         self.refused += other.refused;
@@ -56,7 +59,11 @@ pub struct Case<'a> {
     pub seed: u64,
     /// Whether each run is one in threads, of all users.
     pub all_threads: bool,
+    /// Whether each run of a drawn script has followers.
+    pub all_followers: bool,
     pub draws: Draws,
+    /// What the followers alone are drawn from, so that the draws of all else stay as they are without them.
+    pub beside: Draws,
     pub tally: Tally,
     pub times: Times,
     /// The calls so far.
@@ -112,7 +119,9 @@ impl Case<'_> {
 
     /// The call of a run: in threads at a drawn place.
     fn call_run(&mut self, options: &Options, text: &str, is_wide: bool) -> Result<Call, String> {
-        let place = options.threads.then(|| Place::draw(&mut self.draws));
+        let place = options
+            .threads
+            .then(|| Place::draw(&mut self.draws, options.followers));
         let mut variables = Vec::new();
         let mut kind = options.kind(is_wide);
         if let Some(place) = place {
@@ -142,7 +151,10 @@ impl Case<'_> {
         if self.draws.once_in(24) {
             spoil_fit(&mut self.draws, &mut script, &store.shape);
         }
-        let options = Options::draw(&mut self.draws, files, threads, script.len());
+        let options = Options {
+            followers: draw_followers(&mut self.beside, self.all_followers),
+            ..Options::draw(&mut self.draws, files, threads, script.len())
+        };
         let mut text = text_of(&mut self.draws, &script);
         if self.draws.once_in(24) {
             let line = spoil_text(&mut self.draws, &mut text);
@@ -197,11 +209,13 @@ impl Case<'_> {
         self.tally.crashes += u64::from(options.crashes);
         self.tally.stops += u64::from(report.tells_failure());
         self.tally.threads += u64::from(options.threads);
+        self.tally.followed += u64::from(options.followers > 0);
         let asked = Asked {
             script,
             stops: options.stops(),
             log_only: options.log_only,
             keeps_all: options.keeps_all(),
+            followers: options.followers,
         };
         let known = check(store, asked, &report)?;
         if options.crashes || !options.files {
@@ -261,6 +275,10 @@ impl Case<'_> {
             "crash --stop-log 1 --stop-log 1",
             "run --stop-log 1",
             "run --pick 1",
+            "run --followers",
+            "run --followers 0",
+            "crash --followers 5",
+            "recover --followers 1",
             "run --max 1000000000000000001",
             "recover --turns 1",
             "dump 1",

@@ -1,5 +1,6 @@
 //! Whether the report of a run is one that the crash theorem allows, on a store of which all is known.
 
+use crate::following::check_follows;
 use crate::lsn::{BLOCK, BLOCK_HEADER, FIRST, behind, start_after};
 use crate::pages::Pages;
 use crate::report::{Entry, Marks, Recovered, Report, State};
@@ -68,6 +69,8 @@ pub struct Asked<'a> {
     pub log_only: bool,
     /// Whether all that was written is read, also what wasn't synced.
     pub keeps_all: bool,
+    /// How many followers there are.
+    pub followers: u64,
 }
 
 pub fn ensure(holds: bool, message: impl FnOnce() -> String) -> Result<(), String> {
@@ -92,7 +95,7 @@ pub fn check(store: &Store, asked: Asked, report: &Report) -> Result<Store, Stri
 }
 
 /// The lines of a user, in order.
-fn lines_of(script: &[Line], user: u32) -> Vec<&Line> {
+pub fn lines_of(script: &[Line], user: u32) -> Vec<&Line> {
     script.iter().filter(|line| line.user == user).collect()
 }
 
@@ -124,6 +127,9 @@ fn check_stopped(store: &Store, report: &Report) -> Result<Store, String> {
     ensure(report.entries.is_empty(), || {
         "groups without a start".to_string()
     })?;
+    ensure(report.follows.is_empty(), || {
+        "followers without a start".to_string()
+    })?;
     let Some(recovered) = &report.recovered else {
         return Err("opening was stopped, and there is no crash".to_string());
     };
@@ -150,7 +156,8 @@ fn check_run(
         format!("the run starts at {start}, and not at {wanted}")
     })?;
     check_entries(store, asked.script, report, start, marks)?;
-    check_marks(asked, report, start, marks)
+    check_marks(asked, report, start, marks)?;
+    check_follows(store, asked, report, start, marks)
 }
 
 /// The groups tile the log from the start on, each user's as its lines order and once, and their states are what the marks

@@ -1,6 +1,7 @@
 //! The script that `gen` prints, a function of a seed, the number of users and the number of groups; and the summary that
 //! `gen --run` prints of its run.
 
+use crate::crc::crc32c;
 use crate::script::{Line, Mode, Op};
 
 /// The generator of the C standard's example.
@@ -57,11 +58,4 @@ pub fn summary(groups: usize, flushed: u64, checkpoint: u64, pages: &str) -> Str
         "summary {groups} {flushed} {checkpoint} {:08x}\n",
         crc32c(pages.as_bytes())
     )
-}
-
-/// CRC-32C, bit by bit.
-fn crc32c(bytes: &[u8]) -> u32 {
-    let step = |register: u32, _| register >> 1 ^ (register & 1) * 0x82F6_3B78;
-    let take = |register: u32, byte: &u8| (0..8).fold(register ^ u32::from(*byte), step);
-    !bytes.iter().fold(u32::MAX, take)
 }

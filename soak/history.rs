@@ -13,7 +13,7 @@ use crate::moments::{
     Stage, after_last_write, draw_moment, draw_moment_before_sync, draw_moment_of_run, opened,
     stage_of,
 };
-use crate::options::{Options, draw_turns};
+use crate::options::{Options, draw_followers, draw_turns};
 use crate::program::{Call, words_of};
 use crate::report::Report;
 use crate::script::{DEFAULT_SHAPE, Line, MOST_BYTES, Shape, group_length, misfit};
@@ -38,6 +38,8 @@ pub struct History<'a> {
     /// Whether sectors stay whole.
     is_whole: bool,
     draws: Draws,
+    /// What the followers alone are drawn from, so that the draws of all else stay as they are without them.
+    beside: Draws,
     /// Nothing where the log device holds no store.
     store: Option<Store>,
     since: Since,
@@ -87,6 +89,7 @@ impl<'a> History<'a> {
             tally: Tally::default(),
             is_whole,
             draws,
+            beside: Draws::beside(seed),
             store: None,
             since: Since::new(None, [Vec::new(), Vec::new()]),
             is_wide,
@@ -459,6 +462,7 @@ impl<'a> History<'a> {
             stops: options.stops() || fails,
             log_only: options.log_only,
             keeps_all: true,
+            followers: options.followers,
         };
         // as printed it was read from files that lost nothing
         check(&store, asked, &report)?;
@@ -513,6 +517,7 @@ impl<'a> History<'a> {
     fn count_run(&mut self, report: &Report, options: &Options) {
         self.tally.groups += report.entries.len() as u64;
         self.tally.threads += u64::from(options.threads);
+        self.tally.followed += u64::from(options.followers > 0);
         self.tally.stops += u64::from(report.tells_failure());
     }
 
@@ -566,6 +571,7 @@ impl<'a> History<'a> {
             stop_log: (stops && which != 0).then(|| self.draw_stop(LOG, is_older)),
             stop_data: (stops && which % 3 == 0).then(|| self.draw_stop(DATA, is_older)),
             pick: None,
+            followers: draw_followers(&mut self.beside, false),
         }
     }
 

@@ -11,6 +11,7 @@ mod crc;
 mod draws;
 mod events;
 mod files;
+mod following;
 mod heads;
 #[allow(dead_code)]
 mod history;
@@ -31,6 +32,7 @@ mod since;
 #[allow(dead_code)]
 mod tally;
 mod tears;
+mod texts;
 
 use counts::Tally;
 use files::Files;

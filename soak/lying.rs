@@ -221,6 +221,7 @@ impl<'a> Lying<'a> {
             stop_log,
             stop_data,
             pick: None,
+            followers: 0,
         }
     }
 

@@ -3,7 +3,10 @@
 mod case;
 mod chain;
 mod checking;
+#[allow(dead_code)]
+mod crc;
 mod draws;
+mod following;
 mod generated;
 mod listing;
 mod lsn;
@@ -14,6 +17,7 @@ mod places;
 mod program;
 mod report;
 mod script;
+mod texts;
 mod times;
 
 use case::{Case, Tally};
@@ -33,6 +37,7 @@ struct Soak {
     program: Program,
     refusing: PathBuf,
     all_threads: bool,
+    all_followers: bool,
     next: AtomicU64,
     last: u64,
     failures: AtomicU64,
@@ -48,7 +53,9 @@ impl Soak {
             folder,
             seed,
             all_threads: self.all_threads,
+            all_followers: self.all_followers,
             draws: Draws::new(seed),
+            beside: Draws::beside(seed),
             tally: Tally::default(),
             times: Times::default(),
             calls: Vec::new(),
@@ -60,8 +67,13 @@ impl Soak {
             self.failures.fetch_add(1, Ordering::Relaxed);
             let calls: Vec<String> = case.calls.iter().map(|call| call.shown()).collect();
             let threads = if self.all_threads { "--threads " } else { "" };
+            let followers = if self.all_followers {
+                "--followers "
+            } else {
+                ""
+            };
             println!(
-                "soak/run {threads}{seed} 1\n{message}\n{}",
+                "soak/run {threads}{followers}{seed} 1\n{message}\n{}",
                 calls.join("\n")
             );
         }
@@ -82,7 +94,7 @@ impl Soak {
 fn number(word: Option<String>, default: u64) -> u64 {
     let word = word.map_or(Some(default), |word| word.parse().ok());
     word.unwrap_or_else(|| {
-        eprintln!("usage: soak [--threads] [FIRST_SEED] [RUNS]");
+        eprintln!("usage: soak [--threads] [--followers] [FIRST_SEED] [RUNS]");
         process::exit(2)
     })
 }
@@ -100,6 +112,7 @@ fn named(variable: &str) -> PathBuf {
 fn main() {
     let mut words = env::args().skip(1).peekable();
     let all_threads = words.next_if_eq("--threads").is_some();
+    let all_followers = words.next_if_eq("--followers").is_some();
     let first = number(words.next(), 1);
     let runs = number(words.next(), 1_000);
     let start = Instant::now();
@@ -107,6 +120,7 @@ fn main() {
         program: Program::new(named("REDOLAB")),
         refusing: named("REFUSING"),
         all_threads,
+        all_followers,
         next: AtomicU64::new(first),
         last: first.saturating_add(runs),
         failures: AtomicU64::new(0),
@@ -135,7 +149,7 @@ fn main() {
     }
     let tally = soak.tally.lock().unwrap();
     println!(
-        "{runs} runs, {} calls, {} groups, {} crashes, {} stops that hit, {} runs in threads, {} of them on one or two processors and {} with refused threads, {} chains, {} rounds of a log, {} refused, {failures} failures, {} seconds",
+        "{runs} runs, {} calls, {} groups, {} crashes, {} stops that hit, {} runs in threads, {} of them on one or two processors and {} with refused threads, {} runs with followers, {} chains, {} rounds of a log, {} refused, {failures} failures, {} seconds",
         tally.calls,
         tally.groups,
         tally.crashes,
@@ -143,6 +157,7 @@ fn main() {
         tally.threads,
         tally.narrow,
         tally.refusing,
+        tally.followed,
         tally.chains,
         tally.rounds,
         tally.refused,

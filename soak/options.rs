@@ -2,6 +2,8 @@
 
 use crate::draws::Draws;
 
+const MOST_FOLLOWERS: u64 = 4;
+
 #[derive(Clone, Copy)]
 pub struct Options {
     /// `crash`, and not `run`.
@@ -14,6 +16,8 @@ pub struct Options {
     pub stop_log: Option<u64>,
     pub stop_data: Option<u64>,
     pub pick: Option<u64>,
+    /// How many followers there are; none, if 0.
+    pub followers: u64,
 }
 
 impl Options {
@@ -33,6 +37,7 @@ impl Options {
             stop_log: (stops && which != 0).then(|| draw_stop(draws, 21, 4 * groups as u64)),
             stop_data: (stops && which != 1).then(|| draw_stop(draws, 10, 22)),
             pick: crashes.then(|| draw_pick(draws)).flatten(),
+            followers: 0,
         }
     }
 
@@ -48,6 +53,7 @@ impl Options {
             stop_log: None,
             stop_data: None,
             pick: Some(u64::MAX),
+            followers: 0,
         }
     }
 
@@ -69,6 +75,7 @@ impl Options {
             (self.threads, " --threads"),
             (is_wide, " of long groups"),
             (self.stops(), " with stops"),
+            (self.followers > 0, " with followers"),
         ];
         let named = named.iter().filter(|(is, _)| *is);
         let named: String = named.map(|(_, name)| *name).collect();
@@ -83,6 +90,10 @@ impl Options {
             ("--stop-log", self.stop_log),
             ("--stop-data", self.stop_data),
             ("--pick", self.pick),
+            (
+                "--followers",
+                (self.followers > 0).then_some(self.followers),
+            ),
         ];
         for (name, number) in numbers {
             if let Some(number) = number {
@@ -102,6 +113,12 @@ impl Options {
         );
         words
     }
+}
+
+/// A number of followers, in each draw or in one of three; else 0.
+pub fn draw_followers(draws: &mut Draws, always: bool) -> u64 {
+    let count = draws.within(1, MOST_FOLLOWERS);
+    if always || draws.once_in(3) { count } else { 0 }
 }
 
 pub fn draw_turns(draws: &mut Draws) -> Option<u64> {

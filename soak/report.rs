@@ -35,6 +35,15 @@ pub struct Marks {
     pub checkpoint: u64,
 }
 
+/// What a follower has handed on: how many groups, up to which place, and the checksum of their joined texts.
+#[derive(Clone, Copy, Debug)]
+pub struct Follow {
+    pub number: u64,
+    pub count: usize,
+    pub lsn: u64,
+    pub crc: u32,
+}
+
 /// What was read after the crash: how many groups came back, where the log ends, and the lines of the pages.
 #[derive(Clone, Debug)]
 pub struct Recovered {
@@ -50,11 +59,16 @@ pub struct Report {
     pub entries: Vec<Entry>,
     pub left: Vec<(u32, usize)>,
     pub marks: Option<Marks>,
+    pub follows: Vec<Follow>,
     pub recovered: Option<Recovered>,
 }
 
 fn number<T: FromStr>(word: &str) -> Result<T, String> {
     word.parse().map_err(|_| format!("no number: {word}"))
+}
+
+fn checksum(word: &str) -> Result<u32, String> {
+    u32::from_str_radix(word, 16).map_err(|_| format!("no checksum: {word}"))
 }
 
 impl Report {
@@ -92,6 +106,12 @@ impl Report {
                     checkpoint: number(checkpoint)?,
                 })
             }
+            ["follow", n, count, lsn, crc] => self.follows.push(Follow {
+                number: number(n)?,
+                count: number(count)?,
+                lsn: number(lsn)?,
+                crc: checksum(crc)?,
+            }),
             ["recovered", count, end] => {
                 self.recovered = Some(Recovered {
                     count: number(count)?,
@@ -131,6 +151,15 @@ impl Report {
             let (copied, written) = (marks.copied, marks.written);
             let (flushed, checkpoint) = (marks.flushed, marks.checkpoint);
             writeln!(text, "marks {copied} {written} {flushed} {checkpoint}").unwrap();
+        }
+        for Follow {
+            number,
+            count,
+            lsn,
+            crc,
+        } in &self.follows
+        {
+            writeln!(text, "follow {number} {count} {lsn} {crc:08x}").unwrap();
         }
         if let Some(Recovered { count, end, pages }) = &self.recovered {
             write!(text, "recovered {count} {end}\n{pages}").unwrap();

@@ -9,6 +9,8 @@ pub struct Tally {
     /// Groups that a run reserved and a cut or a kill took.
     pub dropped: u64,
     pub threads: u64,
+    /// Runs with followers.
+    pub followed: u64,
     /// Cuts at the end of a call, and within one.
     pub ends: u64,
     pub withins: u64,
@@ -37,6 +39,7 @@ impl Tally {
         self.groups += other.groups;
         self.dropped += other.dropped;
         self.threads += other.threads;
+        self.followed += other.followed;
         self.ends += other.ends;
         self.withins += other.withins;
         self.pendings += other.pendings;

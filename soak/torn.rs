@@ -14,6 +14,7 @@ mod tears;
 
 mod checking;
 mod draws;
+mod following;
 mod listing;
 mod lsn;
 #[allow(dead_code)]
@@ -25,6 +26,7 @@ mod pages;
 mod program;
 mod report;
 mod script;
+mod texts;
 
 use files::Files;
 use history::{History, RUNS_OF_A_STORE};
@@ -145,13 +147,14 @@ fn main() {
     let failures = soak.failures.load(Ordering::Relaxed);
     let tally = soak.tally.lock().unwrap();
     println!(
-        "{} runs on {} stores, {} calls, {} groups, {} of them dropped; {} in threads; {} cuts after a run, {} within one, {} of them with writes of an earlier call pending; {} calls without a cut, {} killed; {} stops that hit; cuts and stops: {} in formatting, {} in opening, {} of them in a migration; {} migrations; {} torn sectors; {} wraps of the ring; {failures} failures; {} seconds",
+        "{} runs on {} stores, {} calls, {} groups, {} of them dropped; {} in threads; {} with followers; {} cuts after a run, {} within one, {} of them with writes of an earlier call pending; {} calls without a cut, {} killed; {} stops that hit; cuts and stops: {} in formatting, {} in opening, {} of them in a migration; {} migrations; {} torn sectors; {} wraps of the ring; {failures} failures; {} seconds",
         tally.runs,
         tally.stores,
         tally.calls,
         tally.groups,
         tally.dropped,
         tally.threads,
+        tally.followed,
         tally.ends,
         tally.withins,
         tally.pendings,
