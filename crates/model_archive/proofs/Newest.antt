@@ -1,5 +1,5 @@
 -- Which mark is the newest on a fair image of an archive device, and the reading theorem.
-use Rattle.std.proofs.Common.{◌≡◌, ◌≤◌, ◌<◌, ◌*◌, ◌%◌, ◌⊎◌, ◌==◌, ℕ, zero, suc, inl, inr, true, false, cond, List, [], ◌∷◌, length, take, Option, Some, None, refl, sym, ap, subst, ◌∙◌, ⊎_elim, arith}
+use Rattle.std.proofs.Common.{◌≡◌, ◌≤◌, ◌<◌, ◌+◌, ◌*◌, ◌%◌, ◌⊎◌, ◌==◌, ℕ, zero, suc, inl, inr, true, false, cond, List, [], ◌∷◌, length, take, Option, Some, None, refl, sym, ap, subst, ◌∙◌, ⊎_elim, arith}
 use Rattle.std.specs.Prelude.{nat_lt}
 use Rattle.std.specs.List.{AllByRecursion}
 use Rattle.std.proofs.lemmas.Bool.{cases_Bool}
@@ -89,7 +89,7 @@ record Newest (shape : Shape) (s : ℕ) (pages : List Content) (wholes : List Wh
     (image : List ℕ) : Type 0 where
   number : ℕ
   mark : ℕ
-  which : (mark ≡ marks.mark) ⊎ (mark ≡ marks.asked)
+  which : ((number ≡ marks.number) × (mark ≡ marks.mark)) ⊎ ((number ≡ marks.number + 1) × (mark ≡ marks.asked))
   newest : newest_mark s image ≡ Some (number, mark)
   holds : HoldsUpTo shape s pages wholes mark disk
 
@@ -105,7 +105,7 @@ newest-beside shape s pages wholes marks disk image holds own None there is =
     record {
       number = marks.number;
       mark = marks.mark;
-      which = inl refl;
+      which = inl (refl, refl);
       newest = in-order at marks.number (Some first) (
         ap (λ x. newer x (at (other_mark_place marks.number))) own
             ∙ ap (newer (Some first)) there,
@@ -122,7 +122,7 @@ newest-beside shape s pages wholes marks disk image holds own (Some other) there
     record {
       number = marks.number;
       mark = marks.mark;
-      which = inl refl;
+      which = inl (refl, refl);
       newest = in-order at marks.number (Some first) (
         ap (λ x. newer x (at (other_mark_place marks.number))) own ∙ ap (newer (Some first)) there
             ∙ both.0,
@@ -136,7 +136,7 @@ newest-beside shape s pages wholes marks disk image holds own (Some other) there
     record {
       number = other.0;
       mark = other.1;
-      which = inr next.1;
+      which = inr (next.0, next.1);
       newest = in-order at marks.number (Some other) (
         ap (λ x. newer x (at (other_mark_place marks.number))) own ∙ ap (newer (Some first)) there
             ∙ both.1,
@@ -165,7 +165,9 @@ archive-reads shape s pages wholes marks disk image good holds fair =
     newest-beside shape s pages wholes marks disk image holds own
     (read_mark other s (sector other image)) refl beside in
     record {
+      number = found.number;
       mark = found.mark;
+      newest = found.newest;
       which = found.which;
       restores = restores-up_to shape s pages wholes found.number found.mark disk image holds.limits holds.start good
           holds.run found.holds fair.possible found.newest;

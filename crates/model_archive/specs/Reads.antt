@@ -1,9 +1,10 @@
 -- What is restored from a device that holds the archive of a run.
-use Rattle.std.specs.Prelude.{ℕ, ◌≡◌, ◌≤◌, ◌⊎◌, List, length}
+use Rattle.std.specs.Prelude.{ℕ, ◌≡◌, ◌≤◌, ◌+◌, ◌⊎◌, List, length, Some}
 use Rattle.model_log.specs.declared.group.Whole.{Whole}
 use Rattle.model_log.specs.{last_span_end, spans_of}
 use Rattle.model_page.specs.declared.content.Content.{Content}
 use Rattle.model_store.specs.{folded}
+use Rattle.model_archive.specs.Layout.{newest_mark}
 use Rattle.model_archive.specs.Restore.{ending_by, IsRestored}
 use Rattle.model_archive.specs.declared.marks.ArchMarks.{ArchMarks}
 
@@ -14,9 +15,12 @@ RestoresUpTo s pages wholes mark image =
     → IsRestored image lsn (length (ending_by lsn wholes)) (last_span_end s (spans_of (ending_by lsn wholes)))
     (folded pages (ending_by lsn wholes))
 
--- the newest good mark or the one asked for last is the newest on the image, and up to there the run is restored
+-- the newest mark on the image is the newest good one, or the one asked for last with the next number, and up to there
+-- the run is restored
 pub record ReadsArchive (s : ℕ) (pages : List Content) (wholes : List Whole) (marks : ArchMarks)
     (image : List ℕ) : Type 0 where
+  pub number : ℕ
   pub mark : ℕ
-  pub which : (mark ≡ marks.mark) ⊎ (mark ≡ marks.asked)
+  pub newest : newest_mark s image ≡ Some (number, mark)
+  pub which : ((number ≡ marks.number) × (mark ≡ marks.mark)) ⊎ ((number ≡ marks.number + 1) × (mark ≡ marks.asked))
   pub restores : RestoresUpTo s pages wholes mark image

@@ -76,11 +76,13 @@ KeepsArchive seen old mark blocks new =
     → mark ≤ last_span_end old.start (spans_of wholes) → AreArchivedBlocks old.start wholes old.marks.mark mark blocks
     → PartArchives seen pages wholes new
 
--- why no archive was begun: the device is too short, which is judged first; it failed; or memory ran out
-abbrev pub IsBeginFault : Seen → Seen → Shape → BeginFault → Type 0
-IsBeginFault old new shape (Small n) = (old.size < n) × (n ≡ pages_end shape)
-IsBeginFault old new shape Dev = (pages_end shape ≤ old.size) × HasRisen old.faults new.faults
-IsBeginFault old new shape NoMemory = pages_end shape ≤ old.size
+-- why no archive was begun: the device is too short, which is judged before any call of it, so that it is left as it
+-- was; it failed; or memory ran out
+abbrev pub IsBeginFault : {A : Type 0} → (A → Seen) → Shape → A → A → BeginFault → Type 0
+IsBeginFault seen shape old new (Small n) = ((seen old).size < n) × (n ≡ pages_end shape) × (new ≡ old)
+IsBeginFault seen shape old new Dev =
+    (pages_end shape ≤ (seen old).size) × HasRisen (seen old).faults (seen new).faults
+IsBeginFault seen shape old new NoMemory = pages_end shape ≤ (seen old).size
 
 -- An archive was begun: of this shape, from this start on, and with these pages its device archives a run of no group
 -- yet.
@@ -94,9 +96,9 @@ pub record IsBegun {A : Type 0} (seen : A → Seen) (shape : Shape) (start : ℕ
   pub size : (seen part.dev).size ≡ (seen dev).size
   pub later : (seen dev).faults ≤ (seen part.dev).faults
 
--- None was begun, for this cause. Nothing is said of what stands on the device.
+-- None was begun, for this cause. Nothing is said of what stands on a device that is long enough.
 pub record IsNotBegun {A : Type 0} (seen : A → Seen) (shape : Shape) (dev : A) (fault : BeginFault)
     (left : A) : Type 0 where
-  pub cause : IsBeginFault (seen dev) (seen left) shape fault
+  pub cause : IsBeginFault seen shape dev left fault
   pub size : (seen left).size ≡ (seen dev).size
   pub later : (seen dev).faults ≤ (seen left).faults

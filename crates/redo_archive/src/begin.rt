@@ -20,8 +20,8 @@ impl<A: Sectors> ArchPart<A> {
     /// stood on the device is gone with the first sync.
     ///
     /// It fails with `Small` where the device is shorter than the head, the marks and the pages, which is judged before
-    /// anything is written; with `Dev` where the device fails, and with `NoMemory`. After the latter two nothing is
-    /// promised of what stands on the device. It takes memory for one page.
+    /// any call, so that the device comes back as it was; with `Dev` where the device fails, and with `NoMemory`. After
+    /// the latter two nothing is promised of what stands on the device. It takes memory for one page.
     pub fn begin(
         alloc: Global,
         dev: A,
