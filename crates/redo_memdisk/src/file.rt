@@ -6,7 +6,7 @@ ghost use Rattle.redo_memdisk.specs.File.{CountsFailure, FileCrash, FileGives, f
 ghost use Rattle.redo_memdisk.specs.Notes.{filled};
 
 use crate::Contents;
-use crate::lock::LockFiles;
+use crate::files::{DeviceFiles, Place};
 use crate::record::{Event, Record};
 use redo_disk::{DevError, Sectors};
 use std::fs::{File, OpenFile, OpenOptions};
@@ -24,6 +24,10 @@ pub struct FileDisk<R: Files, S: Contents> {
     files: R,
     path: String,
     file: Option<R::File>,
+    /// How long the file is: its length as it was opened, and what was written past that.
+    len: u64,
+    /// It was made longer since the last sync.
+    is_longer: bool,
     /// A sync has failed. The system may have dropped what was to be synced, and would answer a later sync with Ok.
     has_failed_sync: bool,
     faults: u64,
@@ -43,7 +47,7 @@ fn folder_of(path: &str) -> &str {
     }
 }
 
-impl<R: LockFiles, S: Contents> FileDisk<R, S> {
+impl<R: DeviceFiles, S: Contents> FileDisk<R, S> {
     /// The device in the file at this path.
     pub fn new(files: R, path: String) -> Self
         ensures faults { file_faults result ≡ 0 }
@@ -53,6 +57,8 @@ impl<R: LockFiles, S: Contents> FileDisk<R, S> {
             files,
             path,
             file: None,
+            len: 0,
+            is_longer: false,
             has_failed_sync: false,
             faults: 0,
             calls: Record::new(),
@@ -77,9 +83,10 @@ impl<R: LockFiles, S: Contents> FileDisk<R, S> {
         ensures faults { file_faults self.new ≡ file_faults self.old }
         ensures notes { file_notes self.new ≡ file_notes self.old }
     {
-        let file = self.open_or_make()?.try_clone()?;
+        let mut file = self.open_or_make()?.try_clone()?;
         self.files.try_lock(&file)?;
         self.sync_file(&file)?;
+        self.len = file.seek(SeekFrom::End(0))?;
         Ok(file)
     }
 
@@ -101,20 +108,54 @@ impl<R: LockFiles, S: Contents> FileDisk<R, S> {
         }
     }
 
-    /// Syncs a file or a folder, if no sync has failed.
+    /// Syncs a file or a folder with all that the system knows of it, if no sync has failed.
     fn sync_file(&mut self, file: &R::File) -> io::Result<()>
+        ensures faults { file_faults self.new ≡ file_faults self.old }
+        ensures notes { file_notes self.new ≡ file_notes self.old }
+    {
+        self.sync_by(|| file.sync_all())
+    }
+
+    /// Syncs what was written to the file, if no sync has failed: with its length, where that has changed.
+    fn sync_written(&mut self, file: &R::File) -> io::Result<()>
+        ensures faults { file_faults self.new ≡ file_faults self.old }
+        ensures notes { file_notes self.new ≡ file_notes self.old }
+    {
+        if !self.is_longer {
+            return self.sync_by(|| file.sync_data());
+        }
+        self.sync_file(file)?;
+        self.is_longer = false;
+        Ok(())
+    }
+
+    /// Syncs, if no sync has failed.
+    fn sync_by<F: FnOnce() -> io::Result<()> + Drop>(&mut self, sync: F) -> io::Result<()>
+        requires { F.IsAlwaysCallable sync }
         ensures faults { file_faults self.new ≡ file_faults self.old }
         ensures notes { file_notes self.new ≡ file_notes self.old }
     {
         if self.has_failed_sync {
             return Err(io::Error::from(ErrorKind::Other));
         }
-        let done = file.sync_all();
+        let done = sync();
         self.has_failed_sync = done.is_err();
         done
     }
 
-    fn with_file<F: FnOnce(&mut R::File) -> io::Result<()> + Drop>(
+    /// Notes that so many bytes were written from this offset on.
+    fn lengthen(&mut self, at: u64, count: usize)
+        ensures faults { file_faults self.new ≡ file_faults self.old }
+        ensures notes { file_notes self.new ≡ file_notes self.old }
+    {
+        let end = at.saturating_add(count as u64);
+        if self.len < end {
+            self.len = end;
+            self.is_longer = true;
+        }
+    }
+
+    fn with_file<F: FnOnce(&R, &R::File) -> io::Result<()> + Drop>(
         &mut self,
         act: F,
     ) -> io::Result<()>
@@ -122,8 +163,8 @@ impl<R: LockFiles, S: Contents> FileDisk<R, S> {
         ensures faults { file_faults self.new ≡ file_faults self.old }
         ensures notes { file_notes self.new ≡ file_notes self.old }
     {
-        let mut file = self.opened()?;
-        let done = act(&mut file);
+        let file = self.opened()?;
+        let done = act(&self.files, &file);
         self.file = Some(file);
         done
     }
@@ -133,7 +174,7 @@ impl<R: LockFiles, S: Contents> FileDisk<R, S> {
         ensures notes { file_notes self.new ≡ file_notes self.old }
     {
         let file = self.opened()?;
-        let done = self.sync_file(&file);
+        let done = self.sync_written(&file);
         self.file = Some(file);
         done
     }
@@ -194,22 +235,7 @@ fn put_into<F: Write>(file: &mut F, bytes: &[u8], taken: &mut usize) -> io::Resu
     Err(io::Error::from(ErrorKind::Interrupted))
 }
 
-fn read_at<F: Read + Seek>(file: &mut F, at: u64, out: &mut [u8]) -> io::Result<()> {
-    file.seek(SeekFrom::Start(at))?;
-    fill_from(file, out)
-}
-
-fn write_at<F: Write + Seek>(
-    file: &mut F,
-    at: u64,
-    bytes: &[u8],
-    taken: &mut usize,
-) -> io::Result<()> {
-    file.seek(SeekFrom::Start(at))?;
-    put_into(file, bytes, taken)
-}
-
-impl<R: LockFiles, S: Contents> Sectors for FileDisk<R, S> {
+impl<R: DeviceFiles, S: Contents> Sectors for FileDisk<R, S> {
     ghost use Rattle.redo_memdisk.specs.Before.{file-before};
 
     ghost seen = { file_seen S.Contents.bytes };
@@ -225,7 +251,7 @@ impl<R: LockFiles, S: Contents> Sectors for FileDisk<R, S> {
     }
 
     fn read(&mut self, at: u64, out: &mut [u8]) -> Result<(), DevError> {
-        let done = self.with_file(|file| read_at(file, at, out));
+        let done = self.with_file(|files, file| fill_from(&mut Place { files, file, at }, out));
         let answer = self.answer(done);
         if answer.is_ok() {
             self.calls.note(Event::Read { at }, out);
@@ -235,7 +261,12 @@ impl<R: LockFiles, S: Contents> Sectors for FileDisk<R, S> {
 
     fn write(&mut self, at: u64, bytes: &[u8]) -> Result<(), DevError> {
         let mut taken = 0;
-        let done = self.with_file(|file| write_at(file, at, bytes, &mut taken));
+        let done = self.with_file(|files, file| put_into(
+            &mut Place { files, file, at },
+            bytes,
+            &mut taken,
+        ));
+        self.lengthen(at, taken);
         let answer = self.answer(done);
         match answer {
             Ok(()) => self.calls.note(Event::Written { at }, bytes),

@@ -11,7 +11,7 @@ ghost use Rattle.redo_memdisk.specs.declared.file.FileDisk.{FileDisk};
 ghost use Rattle.redo_memdisk.specs.declared.file.TheConstants.{FILE_DISK_LEN};
 ghost use Rattle.redo_memdisk.specs.declared.fused.Fused.{Fused};
 
-use crate::{Contents, LockFiles};
+use crate::{Contents, DeviceFiles};
 use redo_disk::Sectors;
 
 /// What a fuse tells after calls through it, and what they leave of the device behind it.
@@ -25,7 +25,7 @@ pub fn a_fuse_counts_calls<D: Sectors>()
 {}
 
 /// What is asked of a file can be met: a read that gives what the file meant leaves the device telling that.
-pub fn a_true_read_is_told<R: LockFiles, S: Contents>()
+pub fn a_true_read_is_told<R: DeviceFiles, S: Contents>()
     ensures { (bytes : List ℕ) (old new : FileDisk R S R.File R.Dir) (at : ℕ) (before after : List ℕ) (done : Unit {0})
         → FileGives old (Reads at before (Ok done) after) new
         → IfSome (file_seen bytes old).tells (λ disk. after ≡ part disk.reads at (length after))
@@ -34,7 +34,7 @@ pub fn a_true_read_is_told<R: LockFiles, S: Contents>()
 
 /// Whether a device in a file tells is decided by its own calls alone, so a lie that one read told empties nothing that
 /// is said of another device: a new one tells what the file holds then.
-pub fn a_file_tells_by_its_calls<R: LockFiles, S: Contents>()
+pub fn a_file_tells_by_its_calls<R: DeviceFiles, S: Contents>()
     ensures new { (bytes : List ℕ) (device : FileDisk R S R.File R.Dir) → file_notes device ≡ []
         → (file_seen bytes device).tells ≡ Some (settled (filled FILE_DISK_LEN bytes)) }
     ensures same { (bytes : List ℕ) (one other : FileDisk R S R.File R.Dir) → file_notes one ≡ file_notes other

@@ -6,11 +6,11 @@ mod apply;
 mod contents;
 mod cut;
 mod file;
+mod files;
 mod fuse;
 mod fused;
 mod image;
 mod laws;
-mod lock;
 mod medium;
 mod memory;
 mod plan;
@@ -19,11 +19,11 @@ mod record;
 pub use apply::apply_writes;
 pub use contents::{Contents, Unread};
 pub use file::{FILE_DISK_LEN, FileDisk};
+pub use files::DeviceFiles;
 pub use fuse::{Fuse, Stage};
 pub use fused::Fused;
 pub use image::is_image;
 pub use laws::{a_file_tells_by_its_calls, a_fuse_counts_calls, a_true_read_is_told};
-pub use lock::LockFiles;
 pub use memory::MemDisk;
 
 /// Bytes of a sector.

@@ -1,5 +1,5 @@
 // Files of which only the calls are told.
-use redo_memdisk::LockFiles;
+use redo_memdisk::DeviceFiles;
 use std::alloc::Allocator;
 use std::cell::Cell;
 use std::fs::{Files, Metadata, OpenFile, OpenOptions};
@@ -16,8 +16,9 @@ pub enum Ask {
     SyncFolder,
     Clone,
     Lock,
-    Sync,
     Seek,
+    Sync,
+    SyncData,
     Read,
     Write,
 }
@@ -57,6 +58,15 @@ impl Calls {
         asked[..self.made.get().min(ROOM)]
             .iter()
             .filter(|one| **one == ask)
+            .count()
+    }
+
+    /// How often the file was synced, with its length or without.
+    pub fn count_of_syncs(&self) -> usize {
+        let asked = self.asked.get();
+        asked[..self.made.get().min(ROOM)]
+            .iter()
+            .filter(|one| **one == Ask::Sync || **one == Ask::SyncData)
             .count()
     }
 
@@ -103,15 +113,13 @@ fn counted(calls: &Rc<Calls>, is_folder: bool) -> io::Result<CountedFile> {
 
 impl Read for CountedFile {
     fn read(&mut self, _out: &mut [u8]) -> io::Result<usize> {
-        self.calls.count(Ask::Read)?;
-        Ok(0)
+        Err(unsupported())
     }
 }
 
 impl Write for CountedFile {
-    fn write(&mut self, bytes: &[u8]) -> io::Result<usize> {
-        self.calls.count(Ask::Write)?;
-        Ok(bytes.len())
+    fn write(&mut self, _bytes: &[u8]) -> io::Result<usize> {
+        Err(unsupported())
     }
 
     fn flush(&mut self) -> io::Result<()> {
@@ -144,7 +152,7 @@ impl OpenFile for CountedFile {
     }
 
     fn sync_data(&self) -> io::Result<()> {
-        Ok(())
+        self.calls.count(Ask::SyncData)
     }
 
     fn try_clone(&self) -> io::Result<CountedFile> {
@@ -212,8 +220,18 @@ impl Files for CountedFiles {
     }
 }
 
-impl LockFiles for CountedFiles {
+impl DeviceFiles for CountedFiles {
     fn try_lock(&self, _file: &CountedFile) -> io::Result<()> {
         self.calls.count(Ask::Lock)
+    }
+
+    fn read_at(&self, _file: &CountedFile, _out: &mut [u8], _at: u64) -> io::Result<usize> {
+        self.calls.count(Ask::Read)?;
+        Ok(0)
+    }
+
+    fn write_at(&self, _file: &CountedFile, bytes: &[u8], _at: u64) -> io::Result<usize> {
+        self.calls.count(Ask::Write)?;
+        Ok(bytes.len())
     }
 }

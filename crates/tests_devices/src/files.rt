@@ -4,14 +4,14 @@ ghost use Rattle.std.specs.Prelude.{◌+◌, ◌*◌, ◌≤◌};
 use crate::counted_files::{Ask, Calls, CountedFiles};
 use crate::memdisk::{fill, first_byte};
 use redo_disk::{DevError, Sectors};
-use redo_memdisk::{FileDisk, LockFiles, Unread};
+use redo_memdisk::{DeviceFiles, FileDisk, Unread};
 use std::alloc::{AllocError, Global};
 use std::fs;
 use std::rc::Rc;
 use std::test::Fail;
 
 /// The device in the file at this path.
-fn device_at<R: LockFiles + Drop>(
+fn device_at<R: DeviceFiles + Drop>(
     files: R,
     alloc: Global,
     path: &str,
@@ -73,19 +73,13 @@ fn call_each<D: Sectors>(device: &mut D) -> Result<(), DevError>
     Ok(())
 }
 
-// The first call syncs the file before its own write, and of a new file the folder too; nothing else syncs the folder.
+// The first call syncs the file before its own write, and of a new file the folder too; nothing else syncs the folder. What
+// is written past the file's end is synced with the file's length, and what comes after that without.
 #[test]
 fn a_file_is_synced_as_it_is_opened(rt: HostRuntime) -> Result<(), Fail> {
     let made = [Ask::OpenFolder, Ask::Make, Ask::SyncFolder];
-    let opened = [Ask::Clone, Ask::Lock, Ask::Sync];
-    let called = [
-        Ask::Seek,
-        Ask::Write,
-        Ask::Seek,
-        Ask::Read,
-        Ask::Sync,
-        Ask::Sync,
-    ];
+    let opened = [Ask::Clone, Ask::Lock, Ask::Sync, Ask::Seek];
+    let called = [Ask::Write, Ask::Read, Ask::Sync, Ask::SyncData];
     for (is_there, made) in [(true, &made[..0]), (false, &made[..])] {
         let (mut device, calls) = told_device(rt.alloc(), is_there, (0, 0))?;
         call_each(&mut device)?;
@@ -112,10 +106,10 @@ fn answers_of<D: Sectors>(device: &mut D) -> [bool; 4]
 
 #[test]
 fn nothing_is_done_once_all_calls_fail(rt: HostRuntime) -> Result<(), Fail> {
-    for failing in 0..14 {
+    for failing in 0..13 {
         let (mut device, _) = told_device(rt.alloc(), false, (failing, usize::MAX))?;
-        // a new file's first write makes nine calls, each sync one and the read two
-        let want = [9, 10, 12, 13].map(|calls| calls <= failing);
+        // a new file's first write makes nine calls, each sync one and the read one
+        let want = [9, 10, 11, 12].map(|calls| calls <= failing);
         let found = answers_of(&mut device);
         assert!(rt; found == want, "from the call {failing} on");
     }
@@ -125,20 +119,22 @@ fn nothing_is_done_once_all_calls_fail(rt: HostRuntime) -> Result<(), Fail> {
 // Where a call fails once, the next one tries again, but for syncs: after one that failed none is made.
 #[test]
 fn a_sync_that_failed_is_the_last(rt: HostRuntime) -> Result<(), Fail> {
-    for failing in 0..14 {
+    for failing in 0..13 {
         let (mut device, calls) = told_device(rt.alloc(), false, (failing, failing + 1))?;
         let (want, syncs) = match failing {
             3 => ([false; 4], 0),
             6 => ([false; 4], 1),
+            // the file's length isn't told, and it is opened once more
+            7 => ([false, true, true, true], 4),
             0..=8 => ([false, true, true, true], 3),
             9 => ([true, false, true, false], 2),
-            10..=11 => ([true, true, false, true], 3),
-            12 => ([true, true, true, false], 3),
+            10 => ([true, true, false, true], 3),
+            11 => ([true, true, true, false], 3),
             _ => ([true; 4], 3),
         };
         let found = answers_of(&mut device);
         assert!(rt; found == want, "at the call {failing}");
-        assert!(rt; calls.count_of(Ask::Sync) == syncs, "at the call {failing}");
+        assert!(rt; calls.count_of_syncs() == syncs, "at the call {failing}");
         assert!(rt;
             calls.count_of(Ask::SyncFolder) == 1,
             "at the call {failing}"
@@ -163,7 +159,7 @@ fn a_crash_whose_sync_failed_ends_all_syncs(rt: HostRuntime) -> Result<(), Fail>
         let (mut device, calls) = told_device(rt.alloc(), true, (failing, failing + 1))?;
         let found = syncs_after_crash(&mut device)?;
         assert!(rt;
-            found == want && calls.count_of(Ask::Sync) == syncs,
+            found == want && calls.count_of_syncs() == syncs,
             "at the call {failing}"
         );
     }

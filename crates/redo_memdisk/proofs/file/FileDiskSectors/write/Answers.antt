@@ -9,12 +9,12 @@ pub returns-in-Ok-clause-step : goal.returns-in-Ok-clause-step
 returns-in-Ok-clause-step g c =
     let bytes = c.args.bytes.now in
     let faults = c.answer-answer.new.self.faults in
-    let noted = noted-on c.note.ensures (c.answer-answer.ensures.notes ∙ c.with_file-done.ensures.notes) in
+    let noted = noted-on c.note.ensures (c.answer-answer.ensures.notes ∙ c.lengthen.ensures.notes ∙ c.with_file-done.ensures.notes) in
     rw c.in-Ok.is (record {
       ok = write-told g.S.Contents.bytes c.args.at bytes _ _ c.requires noted;
       err = tt;
       size = refl;
-      cause = subst (λ (n : ℕ). HasCause n faults (Ok c.in-Ok.field-0)) c.with_file-done.ensures.faults
+      cause = subst (λ (n : ℕ). HasCause n faults (Ok c.in-Ok.field-0)) (c.lengthen.ensures.faults ∙ c.with_file-done.ensures.faults)
           c.in-Ok.ensures.cause;
     })
 
@@ -22,12 +22,12 @@ pub returns-in-Err-clause-step : goal.returns-in-Err-clause-step
 returns-in-Err-clause-step g c =
     let bytes = c.args.bytes.now in
     let faults = c.answer-answer.new.self.faults in
-    let noted = noted-on c.note-in-Err.ensures (c.answer-answer.ensures.notes ∙ c.with_file-done.ensures.notes) in
+    let noted = noted-on c.note-in-Err.ensures (c.answer-answer.ensures.notes ∙ c.lengthen.ensures.notes ∙ c.with_file-done.ensures.notes) in
     rw c.in-Err.is (record {
       ok = tt;
       err = miss-told g.S.Contents.bytes c.args.at bytes _ _ c.requires noted;
       size = refl;
-      cause = subst (λ (n : ℕ). HasCause n faults (Err c.in-Err.field-0)) c.with_file-done.ensures.faults
+      cause = subst (λ (n : ℕ). HasCause n faults (Err c.in-Err.field-0)) (c.lengthen.ensures.faults ∙ c.with_file-done.ensures.faults)
           c.in-Err.ensures.cause;
     })
 
@@ -36,9 +36,9 @@ returns-in-Err-clause-gives g c =
     let faults = c.answer-answer.new.self.faults in
     rw c.in-Err.is (record {
       given = record {
-        counts = subst (λ (n : ℕ). CountsFailure n (Err c.in-Err.field-0) faults) c.with_file-done.ensures.faults
+        counts = subst (λ (n : ℕ). CountsFailure n (Err c.in-Err.field-0) faults) (c.lengthen.ensures.faults ∙ c.with_file-done.ensures.faults)
             c.in-Err.ensures.counts;
         taken = _;
-        noted = noted-on c.note-in-Err.ensures (c.answer-answer.ensures.notes ∙ c.with_file-done.ensures.notes);
+        noted = noted-on c.note-in-Err.ensures (c.answer-answer.ensures.notes ∙ c.lengthen.ensures.notes ∙ c.with_file-done.ensures.notes);
       };
     })
