@@ -88,23 +88,22 @@ front-join shape bytes start old run new joins first at front one = record {
   at = at ∙ front.at;
 }
 
--- the runs of all workers, if all went well
-all-runs : {X : Type 0} (E : Type 0) (shape : Shape) (bytes : List ℕ) (lent : List X) (runs : List Run)
-    → AllZip (λ x (run : Result Run E). IfOk run (HasRunGroups shape bytes)) lent (map Ok runs) → All (HasRunGroups shape bytes) runs
-all-runs E shape bytes [] [] all = All-nil (HasRunGroups shape bytes)
-all-runs E shape bytes [] (run ∷ runs) all = absurd all
-all-runs E shape bytes (x ∷ lent) [] all = absurd all
-all-runs E shape bytes (x ∷ lent) (run ∷ runs) all =
-    All-cons (HasRunGroups shape bytes) run runs all.0 (all-runs E shape bytes lent runs all.1)
+-- what each worker made has this property, if all went well
+all-well : {X R : Type 0} (E : Type 0) (P : R → Type 0) (lent : List X) (made : List R)
+    → AllZip (λ x (one : Result R E). IfOk one P) lent (map Ok made) → All P made
+all-well E P [] [] all = All-nil P
+all-well E P [] (one ∷ made) all = absurd all
+all-well E P (x ∷ lent) [] all = absurd all
+all-well E P (x ∷ lent) (one ∷ made) all = All-cons P one made all.0 (all-well E P lent made all.1)
 
-pub runs-well : {X : Type 0} (E : Type 0) (shape : Shape) (bytes : List ℕ) (lent : List X) (results : List (Result Run E)) (r : Result (Vec Run Global) E)
-    → AllZip (λ x (run : Result Run E). IfOk run (HasRunGroups shape bytes)) lent results
-    → MatchResult r (λ runs. (ys : List Run) × (results ≡ map Ok ys) × (runs.items ≡ ys)) (λ e. Contains results (Err e))
-    → IfOk r (λ runs. All (HasRunGroups shape bytes) runs.items)
-runs-well E shape bytes lent results (Err e) all is = tt
-runs-well E shape bytes lent results (Ok runs) all is =
-    subst (λ (ys : List Run). All (HasRunGroups shape bytes) ys) (sym is.2)
-    (all-runs E shape bytes lent is.0 (subst (λ (rs : List (Result Run E)). AllZip (λ x (run : Result Run E). IfOk run (HasRunGroups shape bytes)) lent rs) is.1 all))
+pub made-well : {X R : Type 0} (E : Type 0) (P : R → Type 0) (lent : List X) (results : List (Result R E)) (r : Result (Vec R Global) E)
+    → AllZip (λ x (one : Result R E). IfOk one P) lent results
+    → MatchResult r (λ made. (ys : List R) × (results ≡ map Ok ys) × (made.items ≡ ys)) (λ e. Contains results (Err e))
+    → IfOk r (λ made. All P made.items)
+made-well E P lent results (Err e) all is = tt
+made-well {X} {R} E P lent results (Ok made) all is =
+    subst (λ (ys : List R). All P ys) (sym is.2)
+    (all-well E P lent is.0 (subst (λ (rs : List (Result R E)). AllZip (λ x (one : Result R E). IfOk one P) lent rs) is.1 all))
 
 pub all-front : {X : Type 0} (P : X → Type 0) (xs : List X) (y : X) → All P (xs ++ y ∷ []) → All P xs × P y
 all-front P [] y all = (All-nil P, all 0 y (omega arith))

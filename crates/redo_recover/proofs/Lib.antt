@@ -19,3 +19,4 @@ mod Tailing
 pub mod Setting
 pub mod Only
 mod Owning
+mod Stretching

@@ -16,6 +16,7 @@ use Rattle.model_store.proofs.Sources.{data_at, joined-append, view-none}
 use Rattle.model_device.specs.Disk.{Disk}
 use Rattle.redo_recover.specs.Blocks.{AreBlocksOf}
 use Rattle.redo_recover.specs.Devices.{OnContent}
+use Rattle.redo_recover.specs.Full.{AreBlocksSoFar}
 use Rattle.redo_recover.specs.Piece.{IsPieceOf, HasSector}
 use Rattle.redo_recover.specs.Taking.{AreTailsOf, block_at, five_of, found_at, four_of}
 use Rattle.redo_recover.specs.declared.piece.Piece.{Piece}
@@ -26,13 +27,6 @@ use Rattle.redo_recover.proofs.Standing.{at-takes}
 use Rattle.redo_disk.specs.{part}
 use Rattle.redo_recover.proofs.Pieces.{piece-sector}
 use Rattle.redo_recover.proofs.Starting.{sector-part}
-
--- so many blocks are read, all of them full, and this is their data
-pub record AreBlocksSoFar (ckpt : ℕ) (views : List BlockView) (bytes : List ℕ) (count : ℕ) (source : Source) : Type 0 where
-  pub many : length views ≡ count
-  pub each : (i : ℕ) (view : BlockView) → slice_get views i ≡ Some view → view_at source (lsn_at ckpt i) ≡ Some view
-  pub full : (i : ℕ) (view : BlockView) → slice_get views i ≡ Some view → is_full view ≡ true
-  pub bytes_are : bytes ≡ joined source ckpt views
 
 pub so_far-none : (ckpt : ℕ) (views : List BlockView) (bytes : List ℕ) (source : Source) → views ≡ [] → bytes ≡ [] → AreBlocksSoFar ckpt views bytes 0 source
 so_far-none ckpt views bytes source views_are bytes_are =

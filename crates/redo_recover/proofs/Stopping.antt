@@ -12,7 +12,8 @@ use Rattle.model_log.specs.declared.cause.Cause.TheVariants.{Partial, Round, End
 use Rattle.model_store.proofs.Places.{place_push}
 use Rattle.model_store.specs.{taken}
 use Rattle.redo_recover.specs.declared.taking.Stand.{Stand}
-use Rattle.redo_recover.proofs.Scanning.{AreBlocksSoFar, IsTakenAt}
+use Rattle.redo_recover.specs.Full.{AreBlocksSoFar}
+use Rattle.redo_recover.proofs.Scanning.{IsTakenAt}
 
 -- a cause for which a block isn't read is none of the blocks before it
 unread-stop : (layout : Layout) (ckpt : ℕ) (views : List BlockView) (lsn : ℕ) (cause : Cause) (image block : List ℕ) (b : Bool)

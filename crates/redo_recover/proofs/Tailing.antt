@@ -9,15 +9,12 @@ use Rattle.model_log.specs.declared.head.Format.TheVariants.{Two}
 use Rattle.model_log.specs.declared.layout.Layout.{Layout}
 use Rattle.model_store.specs.{AreFoundIn, AreInPlace, read_full, read_tail, taken_from}
 use Rattle.model_store.proofs.Taking.{from-full, from-tail}
+use Rattle.redo_recover.specs.Full.{AreStanding}
 use Rattle.redo_recover.specs.Taking.{five_of, four_of, tail_block_at}
 use Rattle.redo_recover.specs.declared.taking.Stand.{Stand}
 use Rattle.redo_recover.specs.declared.taking.Stand.TheVariants.{Place, Four, Five}
 use Rattle.redo_recover.proofs.Scanning.{AreTails, IsTakenAt}
 use Rattle.redo_recover.proofs.Standing.{IsAt, stands-at}
-
--- in format 2 so many blocks stand in their places
-abbrev pub AreStanding : Layout → ℕ → ℕ → List ℕ → Type 0
-AreStanding layout ckpt count image = layout.format ≡ Two → AreInPlace layout image ckpt count
 
 -- a full block stands in its place
 full-read : (format : Format) (lsn : ℕ) (place four five : List ℕ) (stand : Stand) (view : BlockView) → IsAt format lsn place four five view stand

@@ -1,5 +1,6 @@
 pub mod Blocks
 pub mod Devices
+pub mod Full
 pub mod Groups
 pub mod Pages
 pub mod Piece

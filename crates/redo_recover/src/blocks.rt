@@ -10,7 +10,9 @@ ghost use Rattle.redo_recover.specs.Reading.{IsTailFound};
 ghost use Rattle.redo_recover.specs.Reads.{IsOnlyRead};
 ghost use Rattle.redo_recover.specs.Taking.{AreTailsOf};
 
-use crate::piece::Piece;
+use crate::ahead::{Ahead, read_ahead};
+use crate::full::FullBlocks;
+use crate::replay::Replay;
 use crate::taking::{TAILS, bytes_at, is_full, tail_at, take, untaken};
 use model_base::BLOCK_SIZE;
 use model_log::{BlockView, Cause, Format, HEADER_BYTES, Layout};
@@ -35,7 +37,7 @@ pub(crate) struct Blocks {
 
 /// Up to which offset the log device may be read for the blocks from this one on, of which so many are left: they stand
 /// side by side up to the ring's end.
-fn readable_end(layout: &Layout, at: u64, left: u64) -> u64
+pub(crate) fn readable_end(layout: &Layout, at: u64, left: u64) -> u64
     requires is_layout { IsLayout layout.now }
     requires at { at % BLOCK_SIZE ≡ 0 }
     requires within { at + BLOCK_SIZE ≤ ring_start layout.now + round_of layout.now }
@@ -63,13 +65,16 @@ fn read_tails<L: Sectors>(log: &mut L, format: Format) -> Result<[u8; TAILS], De
 }
 
 /// Reads the blocks from the checkpoint's on, while they are taken, up to and including the first that isn't full; at most
-/// as many as the log has. The tail blocks are read first, and no sector twice.
-pub(crate) fn read_blocks<L: Sectors>(
+/// as many as the log has. The tail blocks are read first, and no sector twice. Full blocks in front may be taken by several
+/// workers.
+pub(crate) fn read_blocks<L: Sectors, P: Replay>(
     alloc: Global,
     log: &mut L,
     layout: &Layout,
     ckpt: u64,
+    replay: &P,
 ) -> Result<Blocks, DevError>
+    requires ready { P.is_ready replay.now }
     requires is_layout { IsLayout layout.now }
     requires long { ring_start layout.now + round_of layout.now ≤ (L.seen log.old).size }
     requires aligned { ckpt % BLOCK_SIZE ≡ 0 }
@@ -83,13 +88,13 @@ pub(crate) fn read_blocks<L: Sectors>(
     ensures reads { IsOnlyRead L.seen L.gives log.old (error_of result) log.new }
 {
     let tails = read_tails(log, layout.format)?;
-    let mut views = Vec::new(alloc);
-    let mut joined = Vec::new(alloc);
-    let mut piece = Piece {
-        from: 0,
-        bytes: Vec::new(alloc),
-    };
-    for i in 0..layout.blocks {
+    let ahead = read_ahead(alloc, log, layout, ckpt, &tails, replay)?;
+    let Ahead { full, piece } = ahead;
+    let FullBlocks { views, joined, .. } = full;
+    let mut views = views;
+    let mut joined = joined;
+    let mut piece = piece;
+    for i in views.len() as u64..layout.blocks {
         let lsn = ckpt + BLOCK_SIZE * i;
         let at = offset_of(lsn, layout);
         let end = readable_end(layout, at, layout.blocks - i);

@@ -2,9 +2,11 @@
 //! checkpoint the place from which the log is scanned, and the scanned groups are applied to the pages as they are kept.
 #![tactic(auto)]
 
+mod ahead;
 mod blocks;
 mod errors;
 mod fault;
+mod full;
 mod groups;
 mod kept;
 mod pages;

@@ -1,5 +1,5 @@
 // Stretches of a device, read in pieces.
-ghost use Rattle.std.specs.Prelude.{◌≡◌, ◌≤◌, ◌<◌, ◌+◌, ◌-◌, ◌%◌, length, take, IfOk, IsTrue, ◌↔◌};
+ghost use Rattle.std.specs.Prelude.{ℕ, List, ◌≡◌, ◌≤◌, ◌<◌, ◌+◌, ◌-◌, ◌%◌, length, take, IfOk, IsTrue, ◌↔◌};
 ghost use Rattle.model_log.specs.{sector_at};
 ghost use Rattle.redo_disk.specs.{error_of, IsRange, part};
 ghost use Rattle.redo_recover.specs.Devices.{OnContent};
@@ -10,7 +10,7 @@ use model_base::BLOCK_SIZE;
 use redo_disk::{DevError, Sectors};
 use std::alloc::Global;
 
-/// How many bytes one read of a device takes at the most.
+/// How many bytes one read of a device takes at the most, where no blocks are taken ahead.
 pub(crate) const PIECE: usize = 65_536;
 
 /// A stretch of a device that was read.
@@ -23,8 +23,36 @@ pub struct Piece {
 }
 
 impl Piece {
+    /// Nothing of a device.
+    pub(crate) fn none(alloc: Global) -> Piece
+        ensures { (content : List ℕ) → IsPieceOf result content }
+    {
+        Piece {
+            from: 0,
+            bytes: Vec::new(alloc),
+        }
+    }
+
+    /// So many bytes of a device from an offset on, in the memory of this piece.
+    pub(crate) fn read_over<D: Sectors>(
+        self,
+        device: &mut D,
+        at: u64,
+        count: usize,
+    ) -> Result<Piece, DevError>
+        requires range { IsRange (D.seen device.old).size at count }
+        ensures content { IfOk result (λ piece. OnContent (D.seen device.new).tells (IsPieceOf piece)) }
+        ensures reads { IsOnlyRead D.seen D.gives device.old (error_of result) device.new }
+    {
+        let Piece { bytes, .. } = self;
+        let mut bytes = bytes;
+        bytes.resize(count, 0)?;
+        device.read(at, bytes.as_mut_slice())?;
+        Ok(Piece { from: at, bytes })
+    }
+
     /// Whether it has the sector at this offset of the device.
-    fn has_sector(&self, at: u64) -> bool
+    pub(crate) fn has_sector(&self, at: u64) -> bool
         ensures { IsTrue result ↔ HasSector self.now at }
     {
         let length = self.bytes.len() as u64;

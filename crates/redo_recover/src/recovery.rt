@@ -13,7 +13,7 @@ use redo_lsn::layout_of;
 use std::alloc::Global;
 use std::thread::Threads;
 
-/// Reads a store off its two devices, with the groups read and applied by the workers that are handed in.
+/// Reads a store off its two devices, with blocks taken, and groups read and applied, by the workers that are handed in.
 fn recover_by<L: Sectors, D: Sectors, P: Replay>(
     alloc: Global,
     log: &mut L,
@@ -75,7 +75,9 @@ pub fn recover<L: Sectors, D: Sectors>(
     recover_by(alloc, log, data_device, &OneWorker)
 }
 
-/// The same, with the groups read and applied by so many workers. What it gives and what it refuses doesn't depend on their number.
+/// The same, with blocks taken, and groups read and applied, by so many workers. Several of them have blocks read by up to 4 MiB
+/// at once: a piece first, and then never more than was taken so far. What it gives and what it refuses doesn't depend on their
+/// number.
 pub fn recover_with<R: Threads + Sync, L: Sectors, D: Sectors>(
     rt: &R,
     alloc: Global,

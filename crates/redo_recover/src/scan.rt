@@ -55,7 +55,7 @@ pub(crate) fn scan_log<L: Sectors, P: Replay>(
     ensures fault { IfErr result (IsScanFault shape.now layout.now ckpt (L.seen log.new).tells) }
     ensures reads { IsOnlyRead L.seen L.gives log.old (log_error_of result) log.new }
 {
-    let blocks = match read_blocks(alloc, log, layout, ckpt) {
+    let blocks = match read_blocks(alloc, log, layout, ckpt, replay) {
         Ok(blocks) => blocks,
         Err(error) => return Err(log_fault(error)),
     };

@@ -1,4 +1,4 @@
-use Rattle.std.proofs.Common.{◌≡◌, ◌≤◌, ◌+◌, ◌∙◌, ℕ, List, Option, Some, None, length, take, drop, sym, ap, refl, subst, arith}
+use Rattle.std.proofs.Common.{◌≡◌, ◌≤◌, ◌+◌, ◌∙◌, ℕ, List, Option, Some, None, length, sym, ap, refl, subst, arith}
 use Rattle.std.proofs.lemmas.List.{length_push}
 use Rattle.std.proofs.lemmas.Result.{err_from_is_err_and}
 use Rattle.model_log.specs.declared.block.BlockView.{BlockView}
@@ -10,14 +10,14 @@ use Rattle.redo_disk.specs.declared.error.DevError.TheVariants.{NoMemory}
 use Rattle.model_store.specs.declared.tail.Tail.{Tail}
 use Rattle.redo_recover.specs.Blocks.{AreBlocksOf}
 use Rattle.redo_recover.specs.Devices.{OnContent}
-use Rattle.redo_recover.specs.Piece.{IsPieceOf}
+use Rattle.redo_recover.specs.Full.{AreBlocksSoFar, AreFullIn, AreStanding}
 use Rattle.redo_recover.specs.Taking.{AreTailsOf, bytes_at, tail_block_at}
 use Rattle.redo_recover.specs.declared.taking.Stand.{Stand}
-use Rattle.redo_recover.proofs.Bounds.{bounded-none, bounded-push}
-use Rattle.redo_recover.proofs.Contents.{content-any, content-both, content-weaker}
-use Rattle.redo_recover.proofs.Scanning.{AreBlocksSoFar, IsTakenAt, taken-here, so_far-none, so_far-next, read-stopped, read-last, read-all, length-data_of}
+use Rattle.redo_recover.proofs.Bounds.{bounded-push}
+use Rattle.redo_recover.proofs.Contents.{content-both, content-weaker}
+use Rattle.redo_recover.proofs.Scanning.{IsTakenAt, taken-here, so_far-next, read-stopped, read-last, read-all, length-data_of}
 use Rattle.redo_recover.proofs.Stopping.{stopped-part, stopped-round, stopped-unread}
-use Rattle.redo_recover.proofs.Tailing.{AreStanding, found-all, found-last, standing-next, standing-none}
+use Rattle.redo_recover.proofs.Tailing.{found-all, found-last, standing-next}
 use Rattle.redo_recover.proofs.Only.{only-own, only-then}
 use Rattle.redo_recover.proofs.Unchanged.{content-after}
 use Rattle.redo_recover.proofs.blocks.read_blocks.Goals as goal
@@ -28,17 +28,26 @@ with_sector-requires-clause-within g c =
 
 pub loop-i-init : goal.loop-i-init
 loop-i-init g c =
-    let old = g.L.Sectors.seen c.read_tails.new.log in
+    let middle = g.L.Sectors.seen c.read_tails.new.log in
+    let new = g.L.Sectors.seen c.read_ahead.new.log in
     let layout = c.args.layout.now in
+    let ahead = c.in_ok-ahead.ensures in
+    let full = c.in_ok-ahead.ahead.full in
+    let many : length full.views.items ≡ c.len-i.result = omega (arith, c.len-i.ensures, full.views.ok.0) in
     record {
-      reads = c.in_ok-tails.ensures.reads;
-      tails = c.in_ok-tails.ensures.tails;
-      piece = content-any old.tells (IsPieceOf (record { from = 0; bytes = c.new.result })) (λ image. c.new.ensures.items ∙ sym (ap (λ n. take n (drop 0 image)) (ap length c.new.ensures.items)));
-      many = ap length c.new-views.ensures.items;
-      bounded = bounded-none layout.blocks c.new-views.result.items c.new-joined.result.items c.new-views.ensures.items c.new-joined.ensures.items;
-      so_far = content-any old.tells (λ image. AreBlocksSoFar c.args.ckpt c.new-views.result.items c.new-joined.result.items 0 (taken layout image))
-          (λ image. so_far-none c.args.ckpt c.new-views.result.items c.new-joined.result.items (taken layout image) c.new-views.ensures.items c.new-joined.ensures.items);
-      standing = content-any old.tells (AreStanding layout c.args.ckpt 0) (λ image. standing-none layout c.args.ckpt image);
+      reads = only-then c.args.log.now c.read_tails.new.log c.read_ahead.new.log None c.in_ok-tails.ensures.reads ahead.reads;
+      tails = content-after middle new (AreTailsOf layout.format c.in_ok-tails.tails) ahead.reads.unchanged c.in_ok-tails.ensures.tails;
+      piece = ahead.piece;
+      many = many;
+      bounded = ahead.bounded;
+      so_far = content-weaker new.tells (AreFullIn layout full)
+          (λ image. AreBlocksSoFar c.args.ckpt full.views.items full.joined.items c.len-i.result (taken layout image))
+          (λ image a. subst (λ (n : ℕ). AreBlocksSoFar c.args.ckpt full.views.items full.joined.items n (taken layout image)) many
+          (subst (λ (lsn : ℕ). AreBlocksSoFar lsn full.views.items full.joined.items (length full.views.items) (taken layout image)) ahead.from a.so_far))
+          ahead.full;
+      standing = content-weaker new.tells (AreFullIn layout full) (AreStanding layout c.args.ckpt c.len-i.result)
+          (λ image a. subst (λ (n : ℕ). AreStanding layout c.args.ckpt n image) many
+          (subst (λ (lsn : ℕ). AreStanding layout lsn (length full.views.items) image) ahead.from a.standing)) ahead.full;
     }
 
 pub loop-i-preserved : goal.loop-i-preserved
@@ -254,6 +263,11 @@ pub returns-clause-reads : goal.returns-clause-reads
 returns-clause-reads g c = c.loop-i.invariant.reads
 
 -- WHERE A READ FAILS or memory runs out.
+
+pub returns-in_err-ahead-clause-reads : goal.returns-in_err-ahead-clause-reads
+returns-in_err-ahead-clause-reads g c =
+    let p = err_from_is_err_and c.from_residual-in_err-ahead.result c.from_residual-in_err-ahead.ensures.1 in
+    rw (p.1, p.2) (only-then c.args.log.now c.read_tails.new.log c.read_ahead.new.log _ c.in_ok-tails.ensures.reads c.in_err-ahead.ensures.reads)
 
 pub returns-in_err-piece-clause-reads : goal.returns-in_err-piece-clause-reads
 returns-in_err-piece-clause-reads g c =
