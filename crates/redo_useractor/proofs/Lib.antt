@@ -9,5 +9,6 @@ pub mod Skipped
 pub mod Texts
 pub mod UserSteps
 pub mod WayToLink
+pub mod WholeWords
 pub mod WordCells
 pub mod WordsSpanned

@@ -14,7 +14,7 @@ use Rattle.redo_useractor.proofs.RecordBytes.{row_none}
 use Rattle.redo_useractor.specs.Written.{as_cell, cell_byte, cell_list, cells_end, first_cell, first_word, later, next_word, own_byte, recorded_byte, words_end}
 
 -- A RECORD writes from its first cell up to its end
-low_cell : (n : ℕ) (rec : Rec) → WritesWithin n rec → 38 ≤ first_cell rec
+pub low_cell : (n : ℕ) (rec : Rec) → WritesWithin n rec → 38 ≤ first_cell rec
 low_cell n (Num width space page offset value) w = w.0
 low_cell n (Text space page offset bytes) w = w.0
 low_cell n (Init space page) w = omega arith
@@ -36,7 +36,7 @@ own_none n (Num width space page offset value) c w low out = row_none (offset - 
 own_none n (Text space page offset bytes) c w low out = row_none (offset - 38) (length bytes) (c - 38) (slice_index bytes (c - 38 - (offset - 38))) (shifted offset (offset + length bytes) c w.0 low out (length bytes) refl)
 own_none n (Init space page) c w low out = ap (λ (b : Bool). let o : Option ℕ = cond b (Some 0) None in o) (le-ltb (c - 38) n (⊎_elim (λ (l : c < 38). absurd (omega arith)) (λ (m : 38 + n ≤ c). omega arith) out))
 
-own_some : (n : ℕ) (rec : Rec) (c : ℕ) → WritesWithin n rec → first_cell rec ≤ c → c < cells_end n rec → is_some (own_byte n rec (c - 38)) ≡ true
+pub own_some : (n : ℕ) (rec : Rec) (c : ℕ) → WritesWithin n rec → first_cell rec ≤ c → c < cells_end n rec → is_some (own_byte n rec (c - 38)) ≡ true
 own_some n (Num width space page offset value) c w le lt = let a = w.0 in row_some (offset - 38) width (c - 38) (byte_at (width - 1 - (c - 38 - (offset - 38))) value) (omega arith) (omega arith)
 own_some n (Text space page offset bytes) c w le lt = let a = w.0 in row_some (offset - 38) (length bytes) (c - 38) (slice_index bytes (c - 38 - (offset - 38))) (omega arith) (omega arith)
 own_some n (Init space page) c w le lt = ap (λ (b : Bool). is_some (let o : Option ℕ = cond b (Some 0) None in o)) (lt-ltb (c - 38) n (omega arith))
@@ -49,7 +49,7 @@ first_own : (n p q : ℕ) (rec : Rec) → eqb (page_of rec) p ≡ true → first
 first_own n p q rec on = ap (λ (b : Bool). let n : ℕ = cond (b && changes_from n q rec) (max q (first_cell rec / 8)) words_end in n) on
 
 -- up to it nothing is written
-first_skip : (n p q : ℕ) (rec : Rec) (c : ℕ) → WritesWithin n rec → eqb (page_of rec) p ≡ true → 8 * q ≤ c → c < 8 * first_word n p q rec → 38 ≤ c → own_byte n rec (c - 38) ≡ None
+pub first_skip : (n p q : ℕ) (rec : Rec) (c : ℕ) → WritesWithin n rec → eqb (page_of rec) p ≡ true → 8 * q ≤ c → c < 8 * first_word n p q rec → 38 ≤ c → own_byte n rec (c - 38) ≡ None
 first_skip n p q rec c w on from less low = own_none n rec c w low (by (changes_from n q rec) refl)
   where
     word_is : first_word n p q rec ≡ cond (changes_from n q rec) (max q (first_cell rec / 8)) words_end

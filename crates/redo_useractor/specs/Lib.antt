@@ -2,6 +2,7 @@ pub mod CellsStep
 pub mod Ending
 pub mod Lines
 pub mod Places
+pub mod Runs
 pub mod ToLink
 pub mod UserView
 pub mod Words

@@ -1,10 +1,11 @@
 // What a user makes of the answers while it changes the pages of its group.
-ghost use Rattle.std.specs.Prelude.{◌≡◌, ◌<◌, ◌+◌, ◌==◌, false, length};
+ghost use Rattle.std.specs.Prelude.{◌≡◌, ◌<◌, ◌≤◌, ◌+◌, ◌==◌, false, length};
 ghost use Rattle.model_core.specs.{change_at, changes, group_end, to_next_page, user_took};
 ghost use Rattle.redo_useractor.specs.CellsStep.{cells_step};
 ghost use Rattle.redo_useractor.specs.Ending.{step_end};
-ghost use Rattle.redo_useractor.specs.Places.{IsNextCell};
+ghost use Rattle.redo_useractor.specs.Places.{cells_before, IsNextCell};
 ghost use Rattle.redo_useractor.specs.UserView.{end_limit};
+ghost use Rattle.redo_useractor.specs.Written.{words_end};
 
 use crate::actor::UserActor;
 use crate::line::Place;
@@ -12,6 +13,17 @@ use model_core::UserStep;
 use redo_words::Step;
 
 impl UserActor {
+    /// The first word of a page's frame that the group in hand changes, from this word on.
+    fn place_from(&mut self, page: usize, word: usize) -> Place
+        requires line { self.old.k < length self.old.lines }
+        requires page { page < length (changes self.old) }
+        requires word { word ≤ words_end }
+        ensures same { self.new ≡ self.old }
+        ensures place { IsNextCell (change_at (changes self.old) page).cells result.word result.count (cells_before word (change_at (changes self.old) page).cells) }
+    {
+        self.lines[self.k].place_from(page, word)
+    }
+
     /// It goes on at this place of a page, after so many of the changed cells there.
     fn comes_to(&mut self, page: usize, cell: usize, at: Place)
         requires line { self.old.k < length self.old.lines }
@@ -36,7 +48,7 @@ impl UserActor {
         requires first { cell ≡ 0 }
         ensures { self.new ≡ record self.old { page = page; cell = cell; step = cells_step (change_at (changes self.old) page).cells cell } }
     {
-        let at = self.line().first_place(page);
+        let at = self.place_from(page, 0);
         self.comes_to(page, cell, at);
     }
 
@@ -59,7 +71,8 @@ impl UserActor {
     {
         let page = self.page;
         let next = self.cell + self.at.count;
-        let at = self.line().place_behind(page, self.at);
+        let word = self.at.word + 1;
+        let at = self.place_from(page, word);
         self.word = 0;
         self.comes_to(page, next, at);
         Step::Moved

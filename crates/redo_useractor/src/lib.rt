@@ -10,6 +10,7 @@ mod helping;
 mod line;
 mod linking;
 mod making;
+mod runs;
 mod taking;
 mod telling;
 mod words;

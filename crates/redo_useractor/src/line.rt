@@ -5,12 +5,13 @@ ghost use Rattle.redo_useractor.specs.CellsStep.{cells_step};
 ghost use Rattle.redo_useractor.specs.Places.{cells_before, cells_in, IsNextCell, word_at};
 ghost use Rattle.redo_useractor.specs.Written.{words_end};
 
+use crate::runs::{Run, bytes_in, run_from};
 use crate::words::{count_in, with_written};
 use crate::written::{WORDS_END, next_word};
 use model_base::{Bytes, Shape};
 use model_core::{UserStep, WORD_LANES};
 use model_log::Group;
-use redo_words::Word;
+use redo_words::{Word, packed};
 use std::marker::Model;
 
 /// A word of a frame, and how many of its cells a group changes; after the last word that it changes the end.
@@ -37,7 +38,8 @@ impl Place {
 }
 
 /// A line of a user of a store: what it waits for, its group and the text of that, and the pages that the group is on,
-/// ascending. What it changes there isn't held cell by cell: the records say it.
+/// ascending. What it changes there isn't held cell by cell: the records say it. Where it looked last, it has the words that one
+/// record covers, its run.
 #[derive(Debug, Drop)]
 pub struct UserLine {
     pub(crate) shape: Shape,
@@ -45,6 +47,7 @@ pub struct UserLine {
     pub(crate) text: Bytes,
     pub(crate) group: Group,
     pub(crate) pages: Vec<u32>,
+    pub(crate) run: Run,
 }
 
 impl Model for UserLine {
@@ -53,12 +56,14 @@ impl Model for UserLine {
     ghost use Rattle.model_core.specs.{Line};
     ghost use Rattle.redo_apply.specs.{WritesWithin};
     ghost use Rattle.redo_useractor.specs.Places.{changes_on};
+    ghost use Rattle.redo_useractor.specs.Runs.{IsRun};
 
     ghost Value = { Line };
 
     ghost view = { λ line. record { mode = line.mode; bytes = line.text; changes = changes_on line.shape line.group line.pages.items } };
 
-    ghost invariant = { λ line. IsWholeSectors line.shape.page_size × AllByRecursion (WritesWithin (user_length line.shape)) line.group };
+    ghost invariant = { λ line. IsWholeSectors line.shape.page_size × AllByRecursion (WritesWithin (user_length line.shape)) line.group
+        × IsRun (user_length line.shape) line.run.page line.group line.run.rec line.run.first line.run.end };
 }
 
 impl UserLine {
@@ -77,8 +82,8 @@ impl UserLine {
         self.pages[page]
     }
 
-    /// The first word of that page's frame that its group changes, from this word on.
-    fn place_from(&self, page: usize, word: usize) -> Place
+    /// The first word of that page's frame that its group changes, from this word on, found among all records.
+    fn search(&self, page: usize, word: usize) -> Place
         requires page { page < length self.now.changes }
         requires word { word ≤ words_end }
         ensures { IsNextCell (change_at self.now.changes page).cells result.word result.count (cells_before word (change_at self.now.changes page).cells) }
@@ -95,22 +100,24 @@ impl UserLine {
         Place { word, count }
     }
 
-    /// The first one that its group changes.
-    pub(crate) fn first_place(&self, page: usize) -> Place
-        requires { page < length self.now.changes }
-        ensures { IsNextCell (change_at self.now.changes page).cells result.word result.count 0 }
+    /// The same. It searches only where the run in hand ends.
+    pub(crate) fn place_from(&mut self, page: usize, word: usize) -> Place
+        requires page { page < length self.old.changes }
+        requires word { word ≤ words_end }
+        ensures same { self.new ≡ self.old }
+        ensures place { IsNextCell (change_at self.old.changes page).cells result.word result.count (cells_before word (change_at self.old.changes page).cells) }
     {
-        self.place_from(page, 0)
-    }
-
-    /// The next one after this.
-    pub(crate) fn place_behind(&self, page: usize, at: Place) -> Place
-        requires page { page < length self.now.changes }
-        requires word { at.word < words_end }
-        ensures { (number : ℕ) → IsNextCell (change_at self.now.changes page).cells at.word at.count number
-            → IsNextCell (change_at self.now.changes page).cells result.word result.count (number + at.count) }
-    {
-        self.place_from(page, at.word + 1)
+        let number = self.pages[page];
+        if self.run.has(number, word) {
+            return Place {
+                word,
+                count: WORD_LANES as usize,
+            };
+        }
+        let at = self.search(page, word);
+        let user_bytes = self.shape.user_bytes() as usize;
+        self.run = run_from(user_bytes, self.group.0.as_slice(), number, at.word);
+        at
     }
 
     /// The name of the word of that page's frame in which the next changed cell lies.
@@ -132,12 +139,13 @@ impl UserLine {
             → result ≡ packed 0 (put_lanes (cells_in (word_at (change_at self.now.changes page).cells number) number (change_at self.now.changes page).cells) (lanes 0 WORD_LANES old)) }
     {
         let user_bytes = self.shape.user_bytes() as usize;
-        with_written(
-            user_bytes,
-            self.group.0.as_slice(),
-            self.pages[page],
-            at.word,
-            old,
-        )
+        let recs = self.group.0.as_slice();
+        let number = self.pages[page];
+        if self.run.has(number, at.word) {
+            if let Some(bytes) = bytes_in(user_bytes, &recs[self.run.rec], at.word) {
+                return packed(0, bytes);
+            }
+        }
+        with_written(user_bytes, recs, number, at.word, old)
     }
 }

@@ -8,6 +8,7 @@ ghost use Rattle.redo_useractor.specs.Lines.{AreUserLines, IsUserLine, program_l
 use crate::actor::{Marks, UserActor};
 use crate::changes::touched_pages;
 use crate::line::{Place, UserLine};
+use crate::runs::Run;
 use model_base::Shape;
 use model_core::UserStep;
 use model_log::Group;
@@ -40,6 +41,7 @@ fn line_of(
         text,
         group,
         pages,
+        run: Run::none(),
     })
 }
 

@@ -95,7 +95,7 @@ pub(crate) fn cell_byte(user_bytes: usize, recs: &[Rec], page: u32, cell: usize)
 }
 
 /// The first cell that a record writes.
-fn first_cell(rec: &Rec) -> usize
+pub(crate) fn first_cell(rec: &Rec) -> usize
     ensures { result ≡ first_cell rec.now }
 {
     match rec {
@@ -105,7 +105,7 @@ fn first_cell(rec: &Rec) -> usize
 }
 
 /// The cell after the last that a record writes.
-fn cells_end(user_bytes: usize, rec: &Rec) -> usize
+pub(crate) fn cells_end(user_bytes: usize, rec: &Rec) -> usize
     requires { user_bytes ≤ MAX_PAGE_SIZE }
     ensures { result ≡ cells_end user_bytes rec.now }
 {
@@ -117,7 +117,7 @@ fn cells_end(user_bytes: usize, rec: &Rec) -> usize
 }
 
 /// The first word of this page's frame, from this one on, that a record changes.
-fn first_word(user_bytes: usize, rec: &Rec, page: u32, word: usize) -> usize
+pub(crate) fn first_word(user_bytes: usize, rec: &Rec, page: u32, word: usize) -> usize
     requires user_bytes { user_bytes ≤ MAX_PAGE_SIZE }
     requires word { word ≤ words_end }
     ensures { result ≡ first_word user_bytes page word rec.now }

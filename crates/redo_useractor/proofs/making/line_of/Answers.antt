@@ -1,4 +1,4 @@
-use Rattle.std.proofs.Common.{[], Bool, Global, List, Vec, ap, cond, sym, ℕ, ◌∙◌, ◌≡◌}
+use Rattle.std.proofs.Common.{[], Bool, Global, List, Vec, ap, arith, cond, sym, ℕ, ◌∙◌, ◌≡◌}
 use Rattle.model_base.proofs.ShapeLimits.{whole_sectors}
 use Rattle.model_core.specs.{collected}
 use Rattle.model_log.specs.declared.rec.Rec.{Rec}
@@ -9,7 +9,7 @@ use Rattle.redo_useractor.proofs.making.line_of.Goals as goal
 use Rattle.redo_useractor.proofs.making.line_of.Goals.{then-log_only, else-log_only+in_ok-pages}
 
 pub invariant_of-result : goal.invariant_of-result
-invariant_of-result c = (whole_sectors c.args.shape.now c.requires.limits, group_writes c.args.shape.now c.args.group c.requires.line.fits)
+invariant_of-result c = (whole_sectors c.args.shape.now c.requires.limits, group_writes c.args.shape.now c.args.group c.requires.line.fits, λ q first end. let none = c.none.ensures in absurd (omega arith))
 
 pub returns : goal.returns
 returns c = line_is c.args.log_only c.args.shape.now c.args.mode c.args.group c.in_ok-text.text c.if-log_only.pages.items c.in_ok-text.ensures its

@@ -1,8 +1,8 @@
 -- It is at a word of the frame, and goes on after the cells that it has stored there.
-use Rattle.std.proofs.Common.{ap, arith, subst, sym, ◌+◌, ◌∙◌, ◌≡◌}
-use Rattle.model_core.specs.{change_at, line, Line, UserState}
-use Rattle.redo_useractor.specs.Places.{IsNextCell}
-use Rattle.redo_useractor.specs.UserView.{IsAt, user_view}
+use Rattle.std.proofs.Common.{ap, arith, subst, sym, ℕ, ◌+◌, ◌∙◌, ◌≡◌}
+use Rattle.model_core.specs.{change_at, changes, UserState}
+use Rattle.redo_useractor.specs.Places.{cells_before, IsNextCell}
+use Rattle.redo_useractor.specs.UserView.{IsAt}
 use Rattle.redo_useractor.proofs.actor.UserActor.stored_frame.Goals as goal
 
 pub overflow_add-next : goal.overflow_add-next
@@ -14,7 +14,10 @@ pub comes_to-requires-clause-place : goal.comes_to-requires-clause-place
 comes_to-requires-clause-place c =
     let u = c.self.inside in
     let here = subst (IsAt u) (ap (λ (s : UserState). s.step) c.self.view_is ∙ c.requires.step) c.self.invariant.step in
-    let same : c.line.result.now ≡ line (user_view u) = c.line.ensures ∙ sym (ap line c.self.view_is) in
-    let at = c.place_behind-at.result in
-    subst (λ (l : Line). IsNextCell (change_at l.changes u.page).cells at.word at.count (u.cell + u.at.count)) same
-    (c.place_behind-at.ensures u.cell (subst (λ (l : Line). IsNextCell (change_at l.changes u.page).cells u.at.word u.at.count u.cell) (sym same) here.2.0))
+    let at = c.place_from-at.result in
+    subst (λ (s : UserState). IsNextCell (change_at (changes s) u.page).cells at.word at.count (u.cell + u.at.count))
+    (sym (c.self-2.view_is ∙ c.place_from-at.ensures.same))
+    (subst (λ (n : ℕ). IsNextCell (change_at (changes c.args.self.now) u.page).cells at.word at.count n)
+    (subst (λ (s : UserState). cells_before (u.at.word + 1) (change_at (changes s) u.page).cells ≡ u.cell + u.at.count) c.self.view_is
+    (here.2.0.next here.2.1))
+    c.place_from-at.ensures.place)
