@@ -1,32 +1,28 @@
 -- What a run leaves, however its Ops were interleaved, is a run of its script, and, where its devices tell and the store was ready, both hold it; where
 -- all users have ended it is a closed one.
-use Rattle.std.proofs.Common.{Bool, List, None, Option, Some, [], ap, arith, cond, drop, false, inl, inr, length}
-use Rattle.std.proofs.Common.{length-append, map, refl, slice_get, subst, suc, sym, take, true, zero, ⊎_elim, ℕ}
-use Rattle.std.proofs.Common.{◌++◌, ◌+◌, ◌-◌, ◌<◌, ◌∙◌, ◌∷◌, ◌≡◌, ◌≢◌, ◌≤◌}
+use Rattle.std.proofs.Common.{Bool, List, None, Option, Some, [], ap, arith, cond, false, inl, inr, length}
+use Rattle.std.proofs.Common.{refl, slice_get, subst, sym, ⊎_elim, ℕ}
+use Rattle.std.proofs.Common.{◌+◌, ◌<◌, ◌∙◌, ◌≡◌, ◌≢◌, ◌≤◌}
 use Rattle.std.proofs.lemmas.Bool.{ne_eqb}
-use Rattle.std.proofs.lemmas.Bool.Decides.{nat_tests}
-use Rattle.std.proofs.lemmas.List.{take-append-drop, take-map, take_at}
 use Rattle.std.specs.List.{AllZip}
-use Rattle.std.specs.Prelude.{IfSome, nat_le}
+use Rattle.std.specs.Prelude.{IfSome}
 use lib.ListN.{get_elem?}
 use mathlib.Core.Option.{some}
 use native.Mathlib.Decide.{dec_le}
 use Rattle.model_base.specs.declared.shape.Shape.{Shape}
 use Rattle.model_core.specs.DataSide.{DataSide}
 use Rattle.model_core.specs.LogSide.{LogSide}
-use Rattle.model_core.proofs.Lsns.{lsn_le, lsn_less}
-use Rattle.model_core.specs.{archives, end_of, Given, lsn, ReaderState, SharedWords, UserState}
+use Rattle.model_core.proofs.Lsns.{lsn_le}
+use Rattle.model_core.specs.{archives, Given, lsn, ReaderState, SharedWords}
 use Rattle.model_core.specs.Actors as model
-use Rattle.model_core.specs.Groups as core
 use Rattle.model_core.specs.Hands.{HoldsNothing}
 use Rattle.model_device.specs.{synced}
 use Rattle.model_device.specs.Disk.{Disk}
 use Rattle.model_running.proofs.ClosedStore.{held_run}
 use Rattle.model_running.proofs.Finished.{finished_groups, finished_losses, finished_run, marks_same}
 use Rattle.model_running.proofs.Places.{bound_spans, history_spans}
-use Rattle.model_running.specs.History.{AreWholesOf, IsWholeOf, log_span, log_spans}
+use Rattle.model_running.specs.History.{AreWholesOf, log_spans}
 use Rattle.model_running.specs.ReadHalf.{FollowerHas, groups_upto, HasByKind, ReaderHas, ReadHalf}
-use Rattle.model_running.specs.ReadHalf as read_half
 use Rattle.model_logcore.specs.{LogGhost}
 use Rattle.model_running.proofs.FinishedPages.{finished_pages}
 use Rattle.model_running.proofs.FinishedStore.{stands_for_run}
@@ -36,7 +32,7 @@ use Rattle.model_report.proofs.Groups.{have-lines}
 use Rattle.model_report.specs.{entry_spans, IsLeft, wholes_of}
 use Rattle.model_report.specs.declared.entry.Entry.{Entry}
 use Rattle.model_report.specs.declared.entry.Marks.{Marks}
-use Rattle.model_log.specs.{IsBoundary, Span, span_of, start_after}
+use Rattle.model_log.specs.{IsBoundary, Span, start_after}
 use Rattle.model_log.specs.declared.group.Whole.{Whole}
 use Rattle.model_page.specs.declared.content.Content.{Content}
 use Rattle.model_theorem.proofs.Closing.{few-blocks, some-blocks}
@@ -64,24 +60,24 @@ use Rattle.redo_drive.specs.Beginning.{HaveBegun}
 use Rattle.redo_drive.specs.Startable.{AreNewFollowers, HasReading, MayBegin}
 use Rattle.redo_drive.specs.Calls.{CallsOn}
 use Rattle.redo_drive.specs.Drive.{ComesToRun, HasMemory, HasMetError, HoldsRun, IsOwedSynced, Owes, ReadsToMarks, closed_run, failed_in}
-use Rattle.redo_drive.specs.Followed.{followers_in, given_of, given_upto, HasFollowed, HasSameNumber, HaveFollowed}
+use Rattle.redo_drive.specs.Followed.{followers_in, given_upto, HasFollowed, HasSameNumber, HaveFollowed}
 use Rattle.redo_drive.specs.Leaving.{LeavesRun}
 use Rattle.redo_drive.specs.Making.{EndsWithFollowers}
 use Rattle.redo_drive.specs.Playing.{RunOf, run_data_side, run_log_side}
 use Rattle.redo_drive.specs.Receiving.{follower_of, IsSameFollower}
 use Rattle.redo_drive.specs.Running.{groups_of}
-use Rattle.redo_drive.specs.Setups.{followers_from, other_actors, page_actors, seated_before, start_actors, users_of}
+use Rattle.redo_drive.specs.Setups.{start_actors}
 use Rattle.redo_drive.specs.Turning.{core_of}
 use Rattle.redo_follow.specs.Handing.{Following, StandsFor}
-use Rattle.redo_drive.proofs.Viewed.{length_views, views_at}
-use Rattle.redo_drive.specs.Views.{view_of, views_of}
+use Rattle.redo_drive.proofs.Viewed.{views_at}
+use Rattle.redo_drive.specs.Views.{views_of}
 use Rattle.redo_drive.specs.declared.actor.Actor.{Actor}
 use Rattle.redo_drive.specs.declared.actor.Actor.TheVariants as own
-use Rattle.redo_drive.specs.declared.seating.TheConstants.{FIRST_FOLLOWER}
 use Rattle.redo_drive.specs.declared.drive.Driven.{Driven}
 use Rattle.redo_drive.specs.declared.drive.RunEnd.TheVariants as ended
 use Rattle.redo_store.specs.declared.opened.Opened.{Opened}
 use Rattle.redo_store.specs.Part as store
+use Rattle.redo_drive.proofs.FollowersLeft.{all_pairs, groups_are, Pair, starts_with}
 
 -- where a device tells
 if_told : (tells : Option Disk) (Is : Disk → Type 0) → ((disk : Disk) → tells ≡ Some disk → Is disk) → IfSome tells Is
@@ -95,145 +91,6 @@ as_told tells Is disk told is = subst (λ (o : Option Disk). IfSome o Is) told i
 failure_counts : (fault : DevError) (failed other : Option DevError) → failed ≡ Some fault → (failed ≡ Some NoMemory → 0 < failures failed + failures other) → 0 < failures failed + failures other
 failure_counts Failed failed other is memory = let n : failures failed ≡ 1 = ap failures is in omega arith
 failure_counts NoMemory failed other is memory = memory is
-
--- a group that a run tells of is the log's, at its place
-module _ (x : ℕ) where
-  same_test : (end : ℕ) → nat_le end x ≡ nat_le (lsn end) (lsn x)
-  same_test end = elim (dec_le end x) [
-    | yes low ↦ (let a : nat_le end x ≡ true = grind (arith, nat_tests) in
-        let under = lsn_le end x low in
-        let b : nat_le (lsn end) (lsn x) ≡ true = grind (arith, nat_tests) in a ∙ sym b)
-    | no high ↦ (let a : nat_le end x ≡ false = grind (arith, nat_tests) in
-        let over = lsn_less x end (omega arith) in
-        let b : nat_le (lsn end) (lsn x) ≡ false = grind (arith, nat_tests) in a ∙ sym b)
-  ]
-
-  same_given : (e : core.Entry) (whole : Whole) → IsWholeOf e whole
-      → ◌≡◌ {A = Given} (read_half.given_of e) (given_of whole)
-  same_given e whole is =
-      let place : ◌≡◌ {A = Span} (span_of whole) (log_span e) = is.place in
-      let start : whole.start ≡ lsn e.start = ap (λ (z : Span). z.start) place in
-      let end : whole.end ≡ lsn (end_of e) = ap (λ (z : Span). z.end) place in
-      let text = is.text in
-      λ i. record { start = sym start i; end = sym end i; text = sym text i }
-
-  groups_are : (log : List core.Entry) (wholes : List Whole) → AreWholesOf log wholes
-      → ◌≡◌ {A = List Given} (groups_upto x log) (given_upto (lsn x) wholes)
-  groups_are [] [] are = refl
-  groups_are [] (whole ∷ wholes) are = absurd are
-  groups_are (e ∷ es) [] are = absurd are
-  groups_are (e ∷ es) (whole ∷ wholes) are =
-      let rest = groups_are es wholes are.1 in
-      let end : lsn (end_of e) ≡ whole.end = sym (ap (λ (z : Span). z.end) are.0.place) in
-      let test : nat_le (end_of e) x ≡ nat_le whole.end (lsn x) =
-      same_test (end_of e) ∙ ap (λ (n : ℕ). nat_le n (lsn x)) end in
-      let mine : Given = read_half.given_of e in
-      let low : Bool = nat_le whole.end (lsn x) in
-      ap (λ (b : Bool). let l : List Given = cond b (mine ∷ groups_upto x es) (groups_upto x es) in l) test
-      ∙ ap (λ (g : Given). let l : List Given = cond low (g ∷ groups_upto x es) (groups_upto x es) in l)
-      (same_given e whole are.0)
-      ∙ ap (λ (gs : List Given). let l : List Given = cond low (given_of whole ∷ gs) gs in l) rest
-
--- THE FOLLOWERS AMONG SOME ACTORS, pair by pair.
-module _ {R : Type 0} (P : Following R → Following R → Type 0) where
-  Pair : Option (Following R) → Option (Following R) → Type 0
-  Pair None None = Unit {0}
-  Pair (Some f) (Some g) = P f g
-  Pair _ _ = ⊥
-
-  first_pair : (a b : Actor R) (xs ys : List (Actor R)) → Pair (follower_of a) (follower_of b)
-      → AllZip P (followers_in xs) (followers_in ys) → AllZip P (followers_in (a ∷ xs)) (followers_in (b ∷ ys))
-  unfolding Pair
-  first_pair (own.Follower f) (own.Follower g) xs ys one rest = (one, rest)
-  first_pair (own.Follower f) _ xs ys one rest = absurd one
-  first_pair (own.User u) (own.Follower g) xs ys one rest = absurd one
-  first_pair (own.Writer s) (own.Follower g) xs ys one rest = absurd one
-  first_pair (own.Flusher t) (own.Follower g) xs ys one rest = absurd one
-  first_pair (own.Closer t) (own.Follower g) xs ys one rest = absurd one
-  first_pair (own.Cleaner v) (own.Follower g) xs ys one rest = absurd one
-  first_pair (own.Checkpointer t) (own.Follower g) xs ys one rest = absurd one
-  first_pair _ _ xs ys one rest = rest
-
-  all_pairs : (xs ys : List (Actor R)) → length ys ≡ length xs
-      → ((i : ℕ) (a b : Actor R) → get_elem? xs i ≡ some a → get_elem? ys i ≡ some b
-      → Pair (follower_of a) (follower_of b)) → AllZip P (followers_in xs) (followers_in ys)
-  all_pairs [] [] long each = tt
-  all_pairs [] (y ∷ ys) long each = absurd (omega arith)
-  all_pairs (x ∷ xs) [] long each = absurd (omega arith)
-  all_pairs (x ∷ xs) (y ∷ ys) long each = first_pair x y xs ys (each 0 x y refl refl)
-      (all_pairs xs ys (omega arith) (λ i a b at there. each (suc i) a b at there))
-
-followers_both : {R : Type 0} (xs ys : List (Actor R))
-    → ◌≡◌ {A = List (Following R)} (followers_in (xs ++ ys)) (followers_in xs ++ followers_in ys)
-followers_both [] ys = refl
-followers_both (own.Follower f ∷ xs) ys = ap (λ l. f ∷ l) (followers_both xs ys)
-followers_both (own.User u ∷ xs) ys = followers_both xs ys
-followers_both (own.Writer s ∷ xs) ys = followers_both xs ys
-followers_both (own.Flusher t ∷ xs) ys = followers_both xs ys
-followers_both (own.Closer t ∷ xs) ys = followers_both xs ys
-followers_both (own.Cleaner v ∷ xs) ys = followers_both xs ys
-followers_both (own.Checkpointer t ∷ xs) ys = followers_both xs ys
-
-all_followers : {R : Type 0} (fs : List (Following R))
-    → ◌≡◌ {A = List (Following R)} (followers_in (map own.Follower fs)) fs
-all_followers [] = refl
-all_followers (f ∷ fs) = ap (λ l. f ∷ l) (all_followers fs)
-
--- no follower is among these
-abbrev NoReaders : List model.Actor → Type 0
-NoReaders [] = Unit {0}
-NoReaders (model.Reader r ∷ actors) = ⊥
-NoReaders (_ ∷ actors) = NoReaders actors
-
-none_among : {R : Type 0} (front : List (Actor R)) → NoReaders (views_of front)
-    → ◌≡◌ {A = List (Following R)} (followers_in front) []
-none_among [] none = refl
-none_among (own.Follower f ∷ xs) none = absurd none
-none_among (own.User u ∷ xs) none = none_among xs none
-none_among (own.Writer s ∷ xs) none = none_among xs none
-none_among (own.Flusher t ∷ xs) none = none_among xs none
-none_among (own.Closer t ∷ xs) none = none_among xs none
-none_among (own.Cleaner v ∷ xs) none = none_among xs none
-none_among (own.Checkpointer t ∷ xs) none = none_among xs none
-
-after_users : (users : List UserState) (others : List model.Actor) → NoReaders others
-    → NoReaders (map model.User users ++ others)
-after_users [] others none = none
-after_users (u ∷ users) others none = after_users users others none
-
-no_others : (shape : Shape) (start : ℕ) (b : Bool) (followers : ℕ) → NoReaders (page_actors shape start b followers)
-no_others shape start true followers = tt
-no_others shape start false followers = tt
-
-long_followers : (start number n : ℕ) → length (followers_from start number n) ≡ n
-long_followers start number zero = refl
-long_followers start number (suc n) = ap suc (long_followers start (number + 1) n)
-
--- the followers among the actors of a run's start are those that it was given
-starts_with : {R : Type 0} (shape : Shape) (script : List ScriptLine) (start : ℕ) (log_only : Bool)
-    (fs : List (Following R)) (starts : List (Actor R))
-    → views_of starts ≡ start_actors shape script start log_only (length fs) → EndsWithFollowers starts fs
-    → ◌≡◌ {A = List (Following R)} (followers_in starts) fs
-starts_with {R} shape script start log_only fs starts are ends =
-    let front : List model.Actor = seated_before shape script start log_only (length fs) in
-    let back : List model.Actor = followers_from start FIRST_FOLLOWER (length fs) in
-    let k : ℕ = length starts - length fs in
-    let joined : ◌≡◌ {A = List model.Actor} (views_of starts) (front ++ back) =
-    are in
-    let long : length (views_of starts) ≡ length (front ++ back) = ap length joined in
-    let both = length-append front back in
-    let same = length_views starts in
-    let few = long_followers start FIRST_FOLLOWER (length fs) in
-    let here : length front ≡ k = omega arith in
-    let views : ◌≡◌ {A = List model.Actor} (views_of (take k starts)) front =
-    sym (take-map view_of k starts) ∙ ap (take k) joined ∙ take_at front back k here in
-    let none : NoReaders front = after_users (users_of shape log_only script)
-    (other_actors shape start log_only (length fs)) (no_others shape start log_only (length fs)) in
-    let nothing : ◌≡◌ {A = List (Following R)} (followers_in (take k starts)) [] =
-    none_among (take k starts) (subst NoReaders (sym views) none) in
-    ap followers_in (sym (take-append-drop k starts)) ∙ followers_both (take k starts) (drop k starts)
-    ∙ ap (λ (l : List (Following R)). l ++ followers_in (drop k starts)) nothing
-    ∙ ap followers_in ends ∙ all_followers fs
 
 module _ {L D R : Type 0} (log_seen : L → Seen) (log_gives : L → Call → L → Type 0) (data_seen : D → Seen)
     (data_gives : D → Call → D → Type 0) (stands : R → List Given → Type 0) (opened : Opened L D)
@@ -369,17 +226,25 @@ module _ {L D R : Type 0} (log_seen : L → Seen) (log_gives : L → Call → L 
       as_told (data_seen opened.store.dev).tells (λ disk. IsStart reading script log_disk disk → HaveBegun log_seen data_seen run) data_disk data_told
       (as_told (log_seen opened.log.dev).tells (λ disk. IfSome (data_seen opened.store.dev).tells (λ other. IsStart reading script disk other → HaveBegun log_seen data_seen run)) log_disk log_told (by.begun reading as_read))
 
-  -- where both devices tell, then and now, and the store was ready
+  -- where both devices told, and the store was ready
+  where_started : (reading : Reading) → HasReading reading opened → (Is : Type 0)
+      → ((log_disk data_disk : Disk) → IsStart reading script log_disk data_disk → HaveBegun log_seen data_seen run → Is)
+      → IfSome (log_seen opened.log.dev).tells (λ log_disk. IfSome (data_seen opened.store.dev).tells (λ data_disk.
+      IsStart reading script log_disk data_disk → Is))
+  where_started reading as_read Is each =
+      if_told (log_seen opened.log.dev).tells _ (λ log_disk log_told. if_told (data_seen opened.store.dev).tells _ (λ data_disk data_told start.
+      each log_disk data_disk start (has_begun reading as_read log_disk data_disk log_told data_told start)))
+
+  -- and where both tell now
   where_told : (reading : Reading) → HasReading reading opened → (Is : Disk → Disk → Type 0)
       → ((log_disk data_disk log_now data_now : Disk) → IsStart reading script log_disk data_disk → HaveBegun log_seen data_seen run
       → (log_seen driven.closed.log.dev).tells ≡ Some log_now → (data_seen driven.closed.store.dev).tells ≡ Some data_now → Is log_now data_now)
       → IfSome (log_seen opened.log.dev).tells (λ log_disk. IfSome (data_seen opened.store.dev).tells (λ data_disk.
       IsStart reading script log_disk data_disk
       → IfSome (log_seen driven.closed.log.dev).tells (λ log_now. IfSome (data_seen driven.closed.store.dev).tells (λ data_now. Is log_now data_now))))
-  where_told reading as_read Is each =
-      if_told (log_seen opened.log.dev).tells _ (λ log_disk log_told. if_told (data_seen opened.store.dev).tells _ (λ data_disk data_told start.
+  where_told reading as_read Is each = where_started reading as_read _ (λ log_disk data_disk start begun.
       if_told (log_seen driven.closed.log.dev).tells _ (λ log_now log_now_told. if_told (data_seen driven.closed.store.dev).tells _ (λ data_now data_now_told.
-      each log_disk data_disk log_now data_now start (has_begun reading as_read log_disk data_disk log_told data_told start) log_now_told data_now_told))))
+      each log_disk data_disk log_now data_now start begun log_now_told data_now_told)))
 
   pub holds_run : MayBegin opened script log_only → HoldsRun log_seen data_seen opened script driven
   holds_run may reading as_read =
@@ -483,7 +348,6 @@ module _ {L D R : Type 0} (log_seen : L → Seen) (log_gives : L → Call → L 
         → ((seat : ℕ) (f g : Following R) → get_elem? starts seat ≡ some (own.Follower f)
         → get_elem? actors seat ≡ some (own.Follower g) → P f g)
         → AllZip P fs (followers_in actors)
-    unfolding Pair
     each_pair P each = subst (λ (l : List (Following R)). AllZip P l (followers_in actors)) these
         (all_pairs P starts actors by.from.count (λ i a b at there. pair i a b at there (by.from.same i a b at there)))
       where
@@ -549,7 +413,12 @@ module _ {L D R : Type 0} (log_seen : L → Seen) (log_gives : L → Call → L 
             flushed = subst (λ (z : Marks). r.place ≤ z.flushed) marks_are
                 (let below = F.below in let up = lsn_le r.at F.to (omega arith) in
                 let flushed = F.read.flushed in let place = F.place in omega arith);
-            checkpoint = subst (λ (z : log.Part L). z.marks.asked ≤ r.own) (sym by.log)
+            stored = R.up;
+            made = subst (λ (z : Marks). z.ckpt ≤ r.own) marks_are
+                (let part = by.from.runs.running.both.logged.global.part in
+                let ckpt = part.ckpt_part in let asked = part.ckpt_asked in
+                let under = half.asked r.number R.first R.last in let word = R.word in omega arith);
+            asked = subst (λ (z : log.Part L). z.marks.asked ≤ r.own) (sym by.log)
                 (let under = half.asked r.number R.first R.last in let word = R.word in omega arith);
             got = subst (λ (l : List Given). StandsFor stands before.receiver l after.receiver) groups
                 (by.from.got told seat (own.Follower before) (own.Follower after) at there);
@@ -559,10 +428,10 @@ module _ {L D R : Type 0} (log_seen : L → Seen) (log_gives : L → Call → L 
     have_followed = record {
       same = each_pair HasSameNumber
           (λ seat f g at there. by.from.same seat (own.Follower f) (own.Follower g) at there);
-      each = λ reading as_read. where_told reading as_read _
-          (λ log_disk data_disk log_now data_now start begun log_told data_told.
+      each = λ reading as_read. where_started reading as_read _ (λ log_disk data_disk start begun.
+          if_told (log_seen driven.closed.log.dev).tells _ (λ log_now log_told.
           each_pair (HasFollowed stands opened script driven.closed)
-          (has_followed (begun.log, tells log_now log_told)));
+          (has_followed (begun.log, tells log_now log_told))));
     }
       where
         tells : (disk : Disk) → (log_seen driven.closed.log.dev).tells ≡ Some disk

@@ -10,6 +10,7 @@ pub mod Devices
 pub mod FailedTurns
 pub mod FailureCode
 pub mod Filled
+pub mod FollowersLeft
 pub mod InOrder
 pub mod LeftRun
 pub mod Lent

@@ -48,15 +48,18 @@ pub record ComesToRun {L D : Type 0} (log_gives : L → Call → L → Type 0) (
   pub log_calls : CallsOn log_gives opened.log.dev None driven.closed.log.dev driven.closed.log.failed
   pub data_calls : CallsOn data_gives opened.store.dev None driven.closed.store.dev driven.closed.store.failed
 
--- This holds of what both devices tell after a run, where they told before it and the store was ready.
-abbrev pub WhereRun : {L D : Type 0} → (L → Seen) → (D → Seen) → Opened L D → List ScriptLine → Closed L D
-    → (Reading → Disk → Disk → Type 0) → Type 0
-WhereRun log_seen data_seen opened script closed Is =
+-- This holds of a run before which both devices told, of a store that was ready.
+abbrev pub WhereStarted : {L D : Type 0} → (L → Seen) → (D → Seen) → Opened L D → List ScriptLine → (Reading → Type 0) → Type 0
+WhereStarted log_seen data_seen opened script Is =
     (reading : Reading) → HasReading reading opened
     → IfSome (log_seen opened.log.dev).tells (λ log_disk. IfSome (data_seen opened.store.dev).tells (λ data_disk.
-    IsStart reading script log_disk data_disk
-    → IfSome (log_seen closed.log.dev).tells (λ log_now.
-    IfSome (data_seen closed.store.dev).tells (Is reading log_now))))
+    IsStart reading script log_disk data_disk → Is reading))
+
+-- and this of what both devices tell after it
+abbrev pub WhereRun : {L D : Type 0} → (L → Seen) → (D → Seen) → Opened L D → List ScriptLine → Closed L D
+    → (Reading → Disk → Disk → Type 0) → Type 0
+WhereRun log_seen data_seen opened script closed Is = WhereStarted log_seen data_seen opened script (λ reading.
+    IfSome (log_seen closed.log.dev).tells (λ log_now. IfSome (data_seen closed.store.dev).tells (Is reading log_now)))
 
 -- WHAT A DRIVE LEAVES, whatever ended it: both devices hold the run.
 abbrev pub HoldsRun : {L D : Type 0} → (L → Seen) → (D → Seen) → Opened L D → List ScriptLine → Driven L D → Type 0

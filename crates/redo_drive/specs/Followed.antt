@@ -1,5 +1,5 @@
 -- What followers are left with by a run.
-use Rattle.std.specs.Prelude.{List, [], cond, nat_le, ℕ, ◌∷◌, ◌≡◌, ◌≤◌}
+use Rattle.std.specs.Prelude.{IfSome, List, [], cond, nat_le, ℕ, ◌∷◌, ◌≡◌, ◌≤◌}
 use Rattle.std.specs.List.{AllZip}
 use Rattle.model_core.specs.{Given}
 use Rattle.model_log.specs.{group_text, IsBoundary}
@@ -7,7 +7,7 @@ use Rattle.model_log.specs.declared.group.Whole.{Whole}
 use Rattle.model_report.specs.{entry_spans, wholes_of}
 use Rattle.model_script.specs.declared.script.ScriptLine.{ScriptLine}
 use Rattle.redo_disk.specs.Seen.{Seen}
-use Rattle.redo_drive.specs.Drive.{WhereRun}
+use Rattle.redo_drive.specs.Drive.{WhereStarted}
 use Rattle.redo_drive.specs.declared.actor.Actor.{Actor}
 use Rattle.redo_drive.specs.declared.actor.Actor.TheVariants as own
 use Rattle.redo_drive.specs.declared.closed.Closed.{Closed}
@@ -28,13 +28,16 @@ abbrev pub given_upto : ℕ → List Whole → List Given
 given_upto lsn [] = []
 given_upto lsn (whole ∷ wholes) = cond (nat_le whole.end lsn) (given_of whole ∷ given_upto lsn wholes) (given_upto lsn wholes)
 
--- A FOLLOWER, as a run leaves it. Its place stands between groups, at or below FLUSHED, and no checkpoint that was made or
--- asked for is above it; and its receiver got just the groups of the history that end at or below that place.
+-- A FOLLOWER, as a run leaves it. Its place stands between groups, at or below FLUSHED, and its word FOLLOW isn't above
+-- that; no checkpoint that was made or asked for is above FOLLOW; and its receiver got just the groups of the history that
+-- end at or below its place.
 pub record HasFollowed {L D R : Type 0} (stands : R → List Given → Type 0) (opened : Opened L D) (script : List ScriptLine)
     (closed : Closed L D) (before after : Following R) : Type 0 where
   pub place : IsBoundary opened.start (entry_spans closed.history) after.state.place
   pub flushed : after.state.place ≤ closed.marks.flushed
-  pub checkpoint : closed.log.marks.asked ≤ after.state.own
+  pub stored : after.state.own ≤ after.state.place
+  pub made : closed.marks.ckpt ≤ after.state.own
+  pub asked : closed.log.marks.asked ≤ after.state.own
   pub got : StandsFor stands before.receiver
       (given_upto after.state.place (wholes_of script opened.shape.space closed.history)) after.receiver
 
@@ -43,9 +46,10 @@ abbrev pub HasSameNumber : {R : Type 0} → Following R → Following R → Type
 HasSameNumber before after = after.state.number ≡ before.state.number
 
 -- WHAT A DRIVE LEAVES OF THESE FOLLOWERS: they are the followers among its actors, each with its number; and where both
--- devices tell, and the store was ready, each has followed.
+-- devices told before the run, of a store that was ready, and the log device tells after it, each has followed.
 pub record HaveFollowed {L D R : Type 0} (log_seen : L → Seen) (data_seen : D → Seen) (stands : R → List Given → Type 0)
     (opened : Opened L D) (script : List ScriptLine) (followers : List (Following R)) (actors : List (Actor R)) (closed : Closed L D) : Type 0 where
   pub same : AllZip HasSameNumber followers (followers_in actors)
-  pub each : WhereRun log_seen data_seen opened script closed
-      (λ was log_now data_now. AllZip (HasFollowed stands opened script closed) followers (followers_in actors))
+  pub each : WhereStarted log_seen data_seen opened script (λ was.
+      IfSome (log_seen closed.log.dev).tells (λ log_now.
+      AllZip (HasFollowed stands opened script closed) followers (followers_in actors)))

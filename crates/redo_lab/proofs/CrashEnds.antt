@@ -61,7 +61,7 @@ module _ (call : LabCall) (drives : Drives) (later : DrivesLater drives call.dri
     (pick workers : ℕ) (script : List ScriptLine) (run : Option Ran) (follows : List Followed)
     (log_was data_was : Was) (laws : Laws)
     (read : IsScriptRead call.source call.source_now script)
-    (left_by : IsLeftBy (before call drives log_was data_was) (Crash drive stops.log stops.store pick workers) drive stops script run Done)
+    (left_by : IsLeftBy (before call drives log_was data_was) (Crash drive stops.log stops.store pick workers) drive stops script run follows Done)
     (told : IsToldRightly (before call drives log_was data_was) drive script run follows) where
   abbrev asked : Command
   asked = Crash drive stops.log stops.store pick workers
@@ -121,7 +121,7 @@ module _ (call : LabCall) (drives : Drives) (later : DrivesLater drives call.dri
           is_script = read;
           in_run = inr crashed-as;
           reads = λ store log data_disk log_is data_is log_on data_on log_fresh data_fresh opens fair log_now data_now log_now_is data_now_is. (
-            legal-on (before call drives log_was data_was) asked drive left_by.opened script run Done _ _ laws left_by.ran store log data_disk log_is data_is (since.0.arming.back log_on) (since.1.arming.back data_on) log_fresh data_fresh opens,
+            legal-on (before call drives log_was data_was) asked drive left_by.opened script run follows Done _ _ laws left_by.ran store log data_disk log_is data_is (since.0.arming.back log_on) (since.1.arming.back data_on) log_fresh data_fresh opens,
             images-read store log data_disk log_is data_is log_on data_on log_fresh data_fresh opens fair log_now data_now log_now_is data_now_is,
           );
         } in
@@ -134,19 +134,19 @@ module _ (call : LabCall) (drives : Drives) (later : DrivesLater drives call.dri
 
     -- the run as the crash met it
     as-met : {log_met store_met : Option Disk} → log_met ≡ log_was.now.tells → store_met ≡ data_was.now.tells
-        → IfSome run (λ run. HasRunScript call asked drive left_by.opened script run Done log_met store_met)
+        → IfSome run (λ run. HasRunScript call asked drive left_by.opened script run follows Done log_met store_met)
     as-met log_is store_is = met-on run _ _ log_is store_is left_by.ran
       where
         met-on : (run : Option Ran) (log_met store_met : Option Disk) → log_met ≡ log_was.now.tells → store_met ≡ data_was.now.tells
-            → IfSome run (λ run. HasRunScript (before call drives log_was data_was) asked drive left_by.opened script run Done log_was.now.tells data_was.now.tells)
-            → IfSome run (λ run. HasRunScript call asked drive left_by.opened script run Done log_met store_met)
+            → IfSome run (λ run. HasRunScript (before call drives log_was data_was) asked drive left_by.opened script run follows Done log_was.now.tells data_was.now.tells)
+            → IfSome run (λ run. HasRunScript call asked drive left_by.opened script run follows Done log_met store_met)
         met-on None log_met store_met log_is store_is took = tt
         met-on (Some run) log_met store_met log_is store_is took = record {
           is_script = read;
           opens = λ log data_disk log_is data_is log_on data_on. took.opens log data_disk log_is data_is (since.0.arming.back log_on) (since.1.arming.back data_on);
           fits = took.fits;
           in_lsn_order = took.in_lsn_order;
-          driven = later drive left_by.opened script run Done _ _ _ _ (still-same _ _ log_is) (still-same _ _ store_is) took.driven;
+          driven = later drive left_by.opened script run follows Done _ _ _ _ (still-same _ _ log_is) (still-same _ _ store_is) took.driven;
         }
 
     -- and its marks, which were read then
@@ -254,7 +254,7 @@ module _ (call : LabCall) (drives : Drives) (later : DrivesLater drives call.dri
         (left_by.opened_first opened log data_disk log_told.entry_is data_told.entry_is (some-tells _ _ log_told.crashed_is) (some-tells _ _ data_told.crashed_is) premises.log_fresh premises.data_fresh premises.opens
         log_told.armed_from log_told.crashed_from (sym since.0.arming.told ∙ log_told.armed_is) log_told.crashed_is)
         (record {
-          in_lsn_order = legal-on (before call drives log_was data_was) asked drive left_by.opened script run Done _ _ laws left_by.ran opened
+          in_lsn_order = legal-on (before call drives log_was data_was) asked drive left_by.opened script run follows Done _ _ laws left_by.ran opened
               log data_disk log_told.entry_is data_told.entry_is (some-tells _ _ log_told.crashed_is) (some-tells _ _ data_told.crashed_is) premises.log_fresh premises.data_fresh premises.opens;
           left_is = report.left_is;
           every_image = reads;
@@ -264,7 +264,7 @@ module _ (call : LabCall) (drives : Drives) (later : DrivesLater drives call.dri
         fits-on : (run : Option Ran) (log data_disk : Disk) → call.log.entry.tells ≡ Some log → call.store.entry.tells ≡ Some data_disk
             → log_was.now.tells ≢ None → data_was.now.tells ≢ None
             → Opens log.reads data_disk.reads opened.shape opened.pages opened.end
-            → IfSome run (λ run. HasRunScript (before call drives log_was data_was) asked drive left_by.opened script run Done log_was.now.tells data_was.now.tells)
+            → IfSome run (λ run. HasRunScript (before call drives log_was data_was) asked drive left_by.opened script run follows Done log_was.now.tells data_was.now.tells)
             → IfSome run (λ run. FitsOpened drive.log_only opened script)
         fits-on None log data_disk log_is data_is log_on data_on opens took = tt
         fits-on (Some run) log data_disk log_is data_is log_on data_on opens took =

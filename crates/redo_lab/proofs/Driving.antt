@@ -24,6 +24,7 @@ use Rattle.redo_drive.specs.{HasMemory, Owes}
 use Rattle.redo_drive.specs.Drive.{ReadsToMarks, failed_in}
 use Rattle.redo_drive.specs.Followed.{followers_in, HasFollowed, HaveFollowed}
 use Rattle.redo_drive.specs.Startable.{AreNewFollowers, HasReading}
+use Rattle.redo_drive.specs.Views.{views_of}
 use Rattle.redo_drive.specs.declared.actor.Actor.{Actor}
 use Rattle.redo_drive.specs.declared.drive.Driven.{Driven}
 use Rattle.redo_drive.specs.declared.drive.RunEnd.{RunEnd}
@@ -47,7 +48,7 @@ use Rattle.redo_lab.proofs.Opened.{armed-after}
 use Rattle.redo_lab.proofs.Rereading.{armed-as}
 use Rattle.redo_lab.proofs.SomeLeft.{some-left}
 use Rattle.redo_disk.proofs.Told.{still-same}
-use Rattle.redo_lab.proofs.Told.{both-told, some-told}
+use Rattle.redo_lab.proofs.Told.{both-told, one-told, some-told, weaker-both}
 use Rattle.redo_lab.specs.Call.{LabCall, WhereOpened, WhereToldNow, mids}
 use Rattle.redo_lab.specs.Following.{AreUntold, IsToldOf}
 use Rattle.redo_lab.specs.Handed.{TellsOf, call_on}
@@ -67,11 +68,12 @@ module _ {L D : Type 0} (log_seen : L → Seen) (log_gives : L → Call → L �
     (words : List (List ℕ)) (source source_now : SourceSeen) (log : L) (data_device : D) (command : Command) (drive : Drive) (stops : Stops) (script : List ScriptLine)
     (given : store.Opened (Fused L) (Fused D)) (driven : Driven (Fused L) (Fused D)) (running : CommandRuns source source_now command drive script) (laws : Laws)
     (ready : StandsReady log_seen data_seen (call_on log_seen log_gives data_seen data_gives words source source_now log data_device given.log.dev given.store.dev) drive stops script given)
-    (told : TellsOf drive.threads log_seen log_gives data_seen data_gives drive given script driven)
+    (actors : List (Actor Kept))
+    (told : TellsOf drive.threads log_seen log_gives data_seen data_gives drive given script (views_of actors) driven)
     (owes : Owes (seen_through log_seen) (CallsThrough log_seen log_gives) (seen_through data_seen) (CallsThrough data_seen data_gives) given script driven)
     (reads : drive.threads ≡ true
     → ReadsToMarks (seen_through log_seen) (seen_through data_seen) given script driven.closed)
-    (followers : List (Following Kept)) (actors : List (Actor Kept)) (follows : Vec Followed Global)
+    (followers : List (Following Kept)) (follows : Vec Followed Global)
     (new : AreNewFollowers given.start followers) (untold : AreUntold drive.followers followers)
     (followed : HaveFollowed (seen_through log_seen) (seen_through data_seen) HasTally given script followers actors
     driven.closed)
@@ -168,7 +170,7 @@ module _ {L D : Type 0} (log_seen : L → Seen) (log_gives : L → Call → L �
       (laws.held_opened _ found.log (held.1 disk data_now.0 now_is data_now.1) (held-older found.reading found.log found.data_disk found.openable)))
 
   -- WHAT IT LEAVES
-  left-so : (end : RunEnd) → driven.ended ≡ end → IsLeftBy call command drive stops script (Some run) end
+  left-so : (end : RunEnd) → driven.ended ≡ end → IsLeftBy call command drive stops script (Some run) follows.items end
   left-so end ends =
       let is = ready.is_opened in
       let same : record { shape = given.shape; pages = given.pages; end = ready.opened.end } ≡ ready.opened =
@@ -188,9 +190,11 @@ module _ {L D : Type 0} (log_seen : L → Seen) (log_gives : L → Call → L �
             opened_on = (calls-same log-made, calls-same data-made);
             driven = driven;
             driven_on = (same-fused driven.closed.log.dev, same-fused driven.closed.store.dev);
+            actors = actors;
             told = told;
             ends = ends;
             run_is = refl;
+            follows_are = of_followers;
             log_is = still-same _ _ refl;
             store_is = still-same _ _ refl;
           };
@@ -246,6 +250,20 @@ module _ {L D : Type 0} (log_seen : L → Seen) (log_gives : L → Call → L �
   legal-run : IsLegal script given.shape.space given.start driven.closed.marks driven.closed.history
   legal-run = (owes.comes_to.is_run ready.opened.end ready.is_opened.start).legal
 
+  -- its followers have followed, where the log device tells, and so where both do
+  abbrev Followed-all : Type 0
+  Followed-all = AllZip (HasFollowed HasTally given script driven.closed) followers (followers_in actors)
+
+  followed-run : (was : Reading) → HasReading was given
+      → WhereBothTell (log_seen given.log.dev.inner).tells (data_seen given.store.dev.inner).tells (λ log_was data_was.
+      IsStart was script log_was data_was
+      → WhereBothTell (log_seen driven.closed.log.dev.inner).tells (data_seen driven.closed.store.dev.inner).tells
+      (λ log_disk data_disk. Followed-all))
+  followed-run was as_read = weaker-both (log_seen given.log.dev.inner).tells (data_seen given.store.dev.inner).tells
+      (λ log_was data_was so started. one-told (log_seen driven.closed.log.dev.inner).tells
+      (data_seen driven.closed.store.dev.inner).tells (λ log_disk. Followed-all) (so started))
+      (followed.each was as_read)
+
   -- WHAT IS TOLD OF ITS FOLLOWERS is so.
   followers-told : AreFollowed call drive script run follows.items call.log.now.tells call.store.now.tells
   followers-told = record {
@@ -253,9 +271,7 @@ module _ {L D : Type 0} (log_seen : L → Seen) (log_gives : L → Call → L �
     numbered = numbered-so given.start followers (followers_in actors) follows.items new followed.same of_followers;
     each = λ opened log_entry data_entry log_is data_is log_on data_on log_fresh data_fresh opens
         log_now data_now log_now_is data_now_is.
-        let Follow : Reading → Disk → Disk → Type 0 = λ was log_disk data_disk.
-        AllZip (HasFollowed HasTally given script driven.closed) followers (followers_in actors) in
-        let found = run-found Follow followed.each
+        let found = run-found (λ was log_disk data_disk. Followed-all) followed-run
         opened log_entry data_entry log_is data_is log_on data_on log_fresh data_fresh opens in
         let same : ready.opened ≡ opened = one-opened laws log_entry data_entry ready.opened opened
         (ready.opens log_entry data_entry log_is data_is (log-before log_on) (data-before data_on)) opens in

@@ -5,6 +5,7 @@ use Rattle.model_base.specs.{HasRisen}
 use Rattle.model_base.specs.declared.shape.Shape.{Shape}
 use Rattle.model_device.specs.Disk.{Disk}
 use Rattle.model_parts.specs.{KeepsOpened}
+use Rattle.model_report.specs.declared.entry.Followed.{Followed}
 use Rattle.model_report.specs.declared.fault.Fault.{Fault}
 use Rattle.model_report.specs.declared.fault.Fault.TheVariants as fault
 use Rattle.model_script.specs.{script_of}
@@ -23,11 +24,10 @@ use Rattle.redo_lab.specs.declared.crash_command.Crashing.{Crashing}
 use Rattle.redo_lab.specs.declared.outcome.Outcome.{Outcome}
 use Rattle.redo_lab.specs.declared.outcome.Outcome.TheVariants as outcome
 use Rattle.redo_lab.specs.declared.playing.Stops.{Stops}
-use Rattle.redo_lab.proofs.ByDrive.{in-threads}
 use Rattle.redo_lab.proofs.Found.{one-opened, openable-fresh, same-told, unused-unread}
 use Rattle.redo_lab.specs.Asked.{IsScriptRead, leaves_devices, runs_script}
 use Rattle.redo_lab.specs.Call.{AreUnfailedFor, BothDevices, Guarded, IsInRun, IsUnfailed, IsUnfailedAside, LabCall, WhereOpened}
-use Rattle.redo_lab.specs.Cause.{AreInRunOrCrashed, AreOfRun, CanPlay, CanRun, IsDeviceFault, IsPastSource, IsPossible, IsRefused, IsRefusedAtEntry, IsUnbegun, IsUnprepared, LeavesFailed}
+use Rattle.redo_lab.specs.Cause.{AreInRunOrCrashed, AreOfRun, CanPlay, CanRun, IsDeviceFault, IsPastSource, IsPossible, IsRefused, IsRefusedAtEntry, IsUnbegun, IsUnprepared, LeavesFailed, MaySpend}
 use Rattle.redo_lab.specs.Devices.{AreArmed}
 use Rattle.redo_lab.specs.Laws.{Laws}
 use Rattle.redo_lab.specs.Runs.{CommandRuns, HasFailed, IsLeftBy, command_with}
@@ -165,11 +165,12 @@ unfailed-armed armed log_none data_none =
     ((armed.log_device.early, log_none, armed.log_device.late), (armed.data_device.early, data_none, armed.data_device.late))
 
 -- the run is a legal one on whatever store was opened
-pub legal-on : (call : LabCall) (command : Command) (drive : Drive) (opened : Opened) (script : List ScriptLine) (run : Option Ran) (end : RunEnd) (log_met store_met : Option Disk)
-    → Laws → IfSome run (λ run. HasRunScript call command drive opened script run end log_met store_met)
+pub legal-on : (call : LabCall) (command : Command) (drive : Drive) (opened : Opened) (script : List ScriptLine) (run : Option Ran)
+    (follows : List Followed) (end : RunEnd) (log_met store_met : Option Disk)
+    → Laws → IfSome run (λ run. HasRunScript call command drive opened script run follows end log_met store_met)
     → (store : Opened) → WhereOpened call store (IfSome run (IsRun script store))
-legal-on call command drive opened script None end log_met store_met laws took store log data_disk log_is data_is log_on data_on log_fresh data_fresh opens = tt
-legal-on call command drive opened script (Some run) end log_met store_met laws took store log data_disk log_is data_is log_on data_on log_fresh data_fresh opens =
+legal-on call command drive opened script None follows end log_met store_met laws took store log data_disk log_is data_is log_on data_on log_fresh data_fresh opens = tt
+legal-on call command drive opened script (Some run) follows end log_met store_met laws took store log data_disk log_is data_is log_on data_on log_fresh data_fresh opens =
     subst (λ (o : Opened). IsRun script o run) (one-opened laws log data_disk opened store (took.opens log data_disk log_is data_is log_on data_on) opens) took.in_lsn_order
 
 -- what is left of a command that runs a script
@@ -182,10 +183,10 @@ leaves-run call (Recover workers) runs left = λ _. left
 leaves-run call (Dump why) runs left = λ _. left
 leaves-run call (Gen seed users groups run max) runs left = λ _. left
 
--- turns are spent by a drive that isn't in threads
+-- turns are spent by a drive that may spend them
 abbrev pub SpendsTurns : LabCall → Drive → Type 0
-SpendsTurns call drive = (opened : Opened) (script : List ScriptLine) (run : Ran) (turns user : ℕ) (log_met store_met : Option Disk)
-    → call.drives drive opened script run (Spent turns user) log_met store_met → drive.threads ≡ false
+SpendsTurns call drive = (opened : Opened) (script : List ScriptLine) (run : Ran) (follows : List Followed) (turns user : ℕ)
+    (log_met store_met : Option Disk) → call.drives drive opened script run follows (Spent turns user) log_met store_met → MaySpend drive turns
 
 module _ (call : LabCall) (command : Command) (drive : Drive) (script : List ScriptLine)
     (running : CommandRuns call.source call.source_now command drive script) (laws : Laws) where
@@ -243,9 +244,10 @@ module _ (call : LabCall) (command : Command) (drive : Drive) (script : List Scr
     );
   }
 
-  module _ {stops : Stops} {run : Option Ran} {end : RunEnd} (is : IsLeftBy call command drive stops script run end) where
+  module _ {stops : Stops} {run : Option Ran} {follows : List Followed} {end : RunEnd}
+      (is : IsLeftBy call command drive stops script run follows end) where
     pub left-by : LeavesFailed call command
-    left-by = leaves-run call command its.runs (inr (left-read run (in-run is.armed) (legal-on call command drive is.opened script run end _ _ laws is.ran) is.reads))
+    left-by = leaves-run call command its.runs (inr (left-read run (in-run is.armed) (legal-on call command drive is.opened script run follows end _ _ laws is.ran) is.reads))
 
     pub ends-left : (o : Outcome) → IsOutcome call command o
         → (CanPlay call drive.log_only script → AreUnfailedFor command call → IsDoneOrKeptFrom command o) → EndsWith call command o
@@ -256,19 +258,22 @@ module _ (call : LabCall) (command : Command) (drive : Drive) (script : List Scr
     left-memory = ends-left (outcome.Fault fault.Memory) left-by (λ can unfailed. tt)
 
   -- ITS TURNS ARE SPENT.
-  pub left-spent : {stops : Stops} {run : Ran} (turns user : ℕ) → SpendsTurns call drive → IsLeftBy call command drive stops script (Some run) (Spent turns user)
+  pub left-spent : {stops : Stops} {run : Ran} {follows : List Followed} (turns user : ℕ) → SpendsTurns call drive
+      → IsLeftBy call command drive stops script (Some run) follows (Spent turns user)
       → EndsWith call command (outcome.Fault (fault.Turns turns user))
-  left-spent {run = run} turns user spends is = ends-left is (outcome.Fault (fault.Turns turns user)) (record {
+  left-spent {run = run} {follows = follows} turns user spends is = ends-left is (outcome.Fault (fault.Turns turns user)) (record {
     drive = drive;
     asked = running.asked;
+    may_spend = spends is.opened script run follows turns user _ _ is.ran.driven;
     opened = is.opened;
     script = script;
     run = run;
+    follows = follows;
     is_run = is.ran;
     in_run = in-run is.armed;
     reads = is.reads;
   })
-      (λ can unfailed. (its.runs, in-threads command drive running.asked ∙ spends is.opened script run turns user _ _ is.ran.driven))
+      (λ can unfailed. (drive, running.asked, spends is.opened script run follows turns user _ _ is.ran.driven))
 
 -- A COMMAND THAT ISN'T `crash` ends with the fault of a device that failed since its fuse was armed.
 pub record IsUncrashing (call : LabCall) (command : Command) : Type 0 where
@@ -287,9 +292,10 @@ abbrev pub no_stops : Stops
 no_stops = record { log = None; store = None }
 
 -- its fault, of what the call left
-pub ends-failed : (call : LabCall) (command : Command) (drive : Drive) (script : List ScriptLine) {run : Option Ran} {end : RunEnd}
+pub ends-failed : (call : LabCall) (command : Command) (drive : Drive) (script : List ScriptLine) {run : Option Ran}
+    {follows : List Followed} {end : RunEnd}
     → CommandRuns call.source call.source_now command drive script → Laws → IsUncrashing call command → (f : Fault)
-    → IsLeftBy call command drive no_stops script run end → IsUnbegun call command → HasFailed call f → EndsWith call command (outcome.Fault f)
+    → IsLeftBy call command drive no_stops script run follows end → IsUnbegun call command → HasFailed call f → EndsWith call command (outcome.Fault f)
 ends-failed call command drive script running laws uncrashing fault.LogDevice is unbegun some =
     let its = runs-script call command drive script running in
     ends-left call command drive script running laws is (outcome.Fault fault.LogDevice)

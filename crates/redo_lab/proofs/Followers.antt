@@ -101,6 +101,7 @@ module _ {L D : Type 0} (opened : Opened L D) (script : List ScriptLine) (closed
       let all : IsFollowed script space run (record followed { lsn = upto }) = record {
         place = has.place;
         flushed = has.flushed;
+        checkpoint = (let made = has.made in let stored = has.stored in omega arith);
         count = told.count ∙ got.0 ∙ ap (λ (n : ℕ). n % 2 ^ 64) front.count;
         crc = told.crc given got ∙ ap crc_of front.texts;
       } in

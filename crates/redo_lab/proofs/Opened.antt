@@ -1,5 +1,5 @@
 -- A store that was opened, or wasn't, on two devices whose fuses are armed.
-use Rattle.std.proofs.Common.{ℕ, ◌≡◌, ◌≢◌, ◌≤◌, ◌<◌, ◌+◌, List, length, Option, Some, None, Ok, Err, IfSome, refl, sym, subst, ◌∙◌, arith}
+use Rattle.std.proofs.Common.{ℕ, ◌≡◌, ◌≢◌, ◌≤◌, ◌<◌, ◌+◌, List, [], length, Option, Some, None, Ok, Err, IfSome, refl, sym, subst, ◌∙◌, arith}
 use Rattle.model_base.specs.{default_shape}
 use Rattle.model_device.specs.Disk.{Disk}
 use Rattle.model_log.specs.declared.layout.TheConstants.{HEADER_BYTES}
@@ -137,7 +137,7 @@ module _ (call : LabCall) (command : Command) (drive : Drive) (stops : Stops) (s
   -- a device failed
   stopped-by : {log_failed data_failed : ℕ} → IsOpening log_failed data_failed log.tells data_device.tells call stops
       → ((reading : Reading) → WhereBothTell log.tells data_device.tells (λ log_disk data_disk. IsOpenable reading log_disk data_disk
-      → call.store.now.tells ≢ None → IfSome call.log.now.tells (IsNotOpened reading))) → IsLeftBy call command drive stops script None Done
+      → call.store.now.tells ≢ None → IfSome call.log.now.tells (IsNotOpened reading))) → IsLeftBy call command drive stops script None [] Done
   stopped-by is unmoved = record {
     armed = is.armed;
     counted = is.counted;

@@ -50,7 +50,7 @@ ends-stopped call command drive script running laws uncrashing f is = ends-faile
 run-text : (call : LabCall) (command : Command) (drive : Drive) (script : List ScriptLine) (run : Ran) (left : List (ℕ × ℕ))
     (follows : List Followed) (IsTextOf : List ScriptLine → Ran → List (ℕ × ℕ) → List Followed → List ℕ → Type 0)
     (text : List ℕ) → IsScriptFor command call.source call.source_now script
-    → IsLeftBy call command drive no_stops script (Some run) Done → IsToldRightly call drive script (Some run) follows
+    → IsLeftBy call command drive no_stops script (Some run) follows Done → IsToldRightly call drive script (Some run) follows
     → IsLeft script run.entries left → IsTextOf script run left follows text
     → IsRunText call command drive IsTextOf text
 run-text call command drive script run left follows IsTextOf text is_script is told left_is text_is = record {
@@ -111,7 +111,7 @@ module _ (call : LabCall) (drive : Drive) (script : List ScriptLine) (played : d
 module _ (call : LabCall) (drives : Drives) (later : DrivesLater drives call.drives) (seed users groups max : ℕ)
     (script : List ScriptLine) (run : Ran) (follows : List Followed) (log_was data_was : Was) (laws : Laws)
     (running : CommandRuns call.source call.source_now (Gen seed users groups true max) (drive_of_seed seed max) script)
-    (left_by : IsLeftBy (before call drives log_was data_was) (Gen seed users groups true max) (drive_of_seed seed max) no_stops script (Some run) Done)
+    (left_by : IsLeftBy (before call drives log_was data_was) (Gen seed users groups true max) (drive_of_seed seed max) no_stops script (Some run) follows Done)
     (told : IsToldRightly (before call drives log_was data_was) (drive_of_seed seed max) script (Some run) follows)
     (played : IsPlayedTo (before call drives log_was data_was) None) where
   abbrev asked : Command
@@ -124,7 +124,7 @@ module _ (call : LabCall) (drives : Drives) (later : DrivesLater drives call.dri
   Since log_failed data_failed = IsReadSince log_failed log_was call.log × IsReadSince data_failed data_was call.store
 
   -- READS LEAVE the run as it was.
-  read-left : {log_failed data_failed : ℕ} → Since log_failed data_failed → IsLeftBy call asked drive no_stops script (Some run) Done
+  read-left : {log_failed data_failed : ℕ} → Since log_failed data_failed → IsLeftBy call asked drive no_stops script (Some run) follows Done
   read-left since =
       let driven = left_by.ran.driven in
       record {
@@ -140,7 +140,7 @@ module _ (call : LabCall) (drives : Drives) (later : DrivesLater drives call.dri
           opens = λ log data_disk log_is data_is log_on data_on. left_by.ran.opens log data_disk log_is data_is (since.0.arming.back log_on) (since.1.arming.back data_on);
           fits = left_by.ran.fits;
           in_lsn_order = left_by.ran.in_lsn_order;
-          driven = later drive left_by.opened script run Done _ _ _ _ since.0.tells since.1.tells driven;
+          driven = later drive left_by.opened script run follows Done _ _ _ _ since.0.tells since.1.tells driven;
         };
         opened_first = λ opened log data_disk log_is data_is log_on data_on log_fresh data_fresh opens armed_from disk armed_is now_is.
             left_by.opened_first opened log data_disk log_is data_is (since.0.arming.back log_on) (since.1.arming.back data_on) log_fresh data_fresh opens armed_from disk

@@ -32,6 +32,12 @@ weaker-both None data_told weaker holds = tt
 weaker-both (Some log) None weaker holds = tt
 weaker-both (Some log) (Some data_told) weaker holds = weaker log data_told holds
 
+-- what is so where one tells
+pub one-told : (log data_told : Option Disk) (R : Disk → Type 0) → IfSome log R → WhereBothTell log data_told (λ log_disk data_disk. R log_disk)
+one-told None data_told R holds = tt
+one-told (Some log) None R holds = tt
+one-told (Some log) (Some data_told) R holds = holds
+
 -- DEVICES THAT STILL TELL.
 
 pub some-told : (o : Option Disk) → o ≢ None → (disk : Disk) × (o ≡ Some disk)

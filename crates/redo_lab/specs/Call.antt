@@ -4,6 +4,7 @@ use Rattle.model_script.specs.declared.asked.Command.{Command}
 use Rattle.model_script.specs.declared.asked.Command.TheVariants.{Crash}
 use Rattle.model_script.specs.declared.asked.Drive.{Drive}
 use Rattle.model_device.specs.Disk.{Disk}
+use Rattle.model_report.specs.declared.entry.Followed.{Followed}
 use Rattle.model_script.specs.declared.script.ScriptLine.{ScriptLine}
 use Rattle.model_store.specs.{IsFair, IsFairLog, Opens}
 use Rattle.model_theorem.specs.{IsSettledAtEntry, Opened, Ran}
@@ -28,14 +29,15 @@ abbrev pub guarded : {D : Type 0} → (D → Seen) → D → Fused D → Guarded
 guarded seen device fused = record { entry = seen device; now = seen (inner_of fused); fuse = fuse_of fused; armed_from = armed_from seen fused }
 
 -- What a call was handed, and what has become of it. `drives` says that the run of this script on this opened store is the one to
--- which the drive leads, that it ended so, and what both devices meant then: the one place that knows of drives.
+-- which the drive leads, that this is told of the followers that it leaves, that it ended so, and what both devices meant then: the
+-- one place that knows of drives.
 pub record LabCall : Type 1 where
   pub words : List (List ℕ)
   pub source : SourceSeen
   pub source_now : SourceSeen
   pub log : Guarded
   pub store : Guarded
-  pub drives : Drive → Opened → List ScriptLine → Ran → RunEnd → Option Disk → Option Disk → Type 0
+  pub drives : Drive → Opened → List ScriptLine → Ran → List Followed → RunEnd → Option Disk → Option Disk → Type 0
 
 -- where both devices told what they mean when they were handed in, and tell to the end, this holds of the two
 abbrev pub WhereToldAtEntry : LabCall → (Disk → Disk → Type 0) → Type 0

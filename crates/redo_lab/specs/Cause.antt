@@ -11,9 +11,11 @@ use Rattle.model_log.specs.declared.layout.TheConstants.{HEADER_BYTES}
 use Rattle.model_parts.specs.{KeepsNoStore}
 use Rattle.model_report.specs.declared.fault.Fault.{Fault}
 use Rattle.model_report.specs.declared.fault.Fault.TheVariants.{Memory, Script, Source, LogDevice, DataDevice, Store, Turns, Fit}
+use Rattle.model_report.specs.declared.entry.Followed.{Followed}
 use Rattle.model_script.specs.{first_misfit, generated_lines, script_of}
 use Rattle.model_script.specs.declared.misfit.Misfit.{Misfit}
 use Rattle.model_script.specs.declared.script.ScriptLine.{ScriptLine}
+use Rattle.model_script.specs.declared.words.TheConstants.{MAX_TURNS}
 use Rattle.model_store.specs.{IsUnused, IsReading, Opens}
 use Rattle.model_store.specs.declared.refusal.Refusal.{Refusal}
 use Rattle.model_store.specs.declared.refusal.Refusal.TheVariants.{SmallLog}
@@ -21,7 +23,7 @@ use Rattle.model_theorem.specs.{Opened, Ran, room_of, FitsOpened, IsSettledAtEnt
 use Rattle.redo_drive.specs.declared.drive.RunEnd.TheVariants.{Spent}
 use Rattle.redo_memdisk.specs.declared.fuse.Stage.TheVariants.{Before}
 use Rattle.redo_lab.specs.Answer.{AreCrashedAs, asked_shape}
-use Rattle.redo_lab.specs.Asked.{IsBadLine, IsLongScript, IsScriptFor, IsScriptRead, drive_of, reads_script, runs_in_threads, runs_script}
+use Rattle.redo_lab.specs.Asked.{IsBadLine, IsLongScript, IsScriptFor, IsScriptRead, drive_of, reads_script, runs_script}
 use Rattle.redo_lab.specs.Call.{HaveSameContents, AreUnfailedFor, LabCall, BothDevices, Guarded, IsInRun, IsUnfailed, IsUnwritten, WhereToldAtEntry, WhereToldNow, IsLeftFair, WhereOpened}
 use Rattle.redo_lab.specs.Store.{AreReadAsPrefix, AreRefused, DevicesOpenAs, IsTooShort}
 use Rattle.redo_lab.specs.Told.{AreLeftRead, HasRunScript, IsOpenedFirst}
@@ -100,15 +102,23 @@ IsRefused call (Gen seed users groups true max) refusal =
     IsRefusedAtEntry call refusal ⊎ (BothDevices IsInRun call × WhereToldNow call (AreRefused refusal))
 IsRefused call (Gen seed users groups false max) refusal = ⊥
 
+-- A drive may spend so many turns: it runs by turns; and with the log alone, without followers, the greatest number that may be
+-- asked for is enough, whatever the devices answer.
+pub record MaySpend (drive : Drive) (turns : ℕ) : Type 0 where
+  pub by_turns : drive.threads ≡ false
+  pub few : drive.log_only ≡ true → drive.followers ≡ 0 → turns < MAX_TURNS
+
 -- THE TURNS ARE SPENT: the drive's run has taken so many, which are all, and this is the least user that hasn't ended. What is left
 -- is read as a prefix of the run.
 pub record AreTurnsSpent (call : LabCall) (command : Command) (turns user : ℕ) : Type 0 where
   pub drive : Drive
   pub asked : drive_of command ≡ Some drive
+  pub may_spend : MaySpend drive turns
   pub opened : Opened
   pub script : List ScriptLine
   pub run : Ran
-  pub is_run : HasRunScript call command drive opened script run (Spent turns user) call.log.now.tells call.store.now.tells
+  pub follows : List Followed
+  pub is_run : HasRunScript call command drive opened script run follows (Spent turns user) call.log.now.tells call.store.now.tells
   pub in_run : BothDevices IsInRun call
   pub reads : AreLeftRead call script (Some run)
 
@@ -195,8 +205,8 @@ IsPossible call (Dump why) = CanRead call
 IsPossible call (Gen seed users groups true max) = CanPlay call false (generated_lines seed users groups)
 IsPossible call (Gen seed users groups false max) = ⊤
 
--- what may keep a command from being done where nothing failed: want of memory, or, where it runs a script by turns, spent turns
+-- what may keep a command from being done where nothing failed: want of memory, or spent turns, where its drive may spend them
 abbrev pub MayKeepFrom : Command → Fault → Type 0
 MayKeepFrom command Memory = ⊤
-MayKeepFrom command (Turns turns user) = (runs_script command ≡ true) × (runs_in_threads command ≡ false)
+MayKeepFrom command (Turns turns user) = (drive : Drive) × (drive_of command ≡ Some drive) × MaySpend drive turns
 MayKeepFrom command _ = ⊥

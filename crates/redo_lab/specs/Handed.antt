@@ -1,5 +1,7 @@
 -- A call, by what it was handed and what it gave back; and what is told of a run by its drive: a new drive is one more case of `TellsOf`.
 use Rattle.std.specs.Prelude.{ℕ, ◌≡◌, List, Bool, true, false, Option}
+use Rattle.std.specs.List.{AllZip}
+use Rattle.model_core.specs.Actors as model
 use Rattle.redo_disk.specs as device
 use Rattle.redo_disk.specs.Seen.{Seen, StillTells}
 use Rattle.redo_io.specs.{SourceSeen}
@@ -9,16 +11,22 @@ use Rattle.redo_lab.specs.Call.{LabCall, guarded}
 use Rattle.model_script.specs.declared.asked.Drive.{Drive}
 use Rattle.model_device.specs.Disk.{Disk}
 use Rattle.model_log.specs.{start_after}
+use Rattle.model_report.specs.declared.entry.Followed.{Followed}
 use Rattle.model_script.specs.declared.script.ScriptLine.{ScriptLine}
 use Rattle.model_theorem.specs.{Ran}
 use Rattle.model_theorem.specs.Values as values
 use Rattle.redo_machine.specs.{RunsByTurns}
+use Rattle.redo_drive.specs.Followed.{followers_in}
+use Rattle.redo_drive.specs.Views.{views_of}
+use Rattle.redo_drive.specs.declared.actor.Actor.{Actor}
 use Rattle.redo_drive.specs.declared.drive.Driven.{Driven}
 use Rattle.redo_drive.specs.declared.drive.RunEnd.{RunEnd}
+use Rattle.redo_follow.specs.Tallying.{Kept}
 use Rattle.redo_store.specs.{IsRunnable}
 use Rattle.redo_store.specs.declared.opened.Opened.{Opened}
 use Rattle.redo_threads.specs.InThreads.{RunsInThreads}
 use Rattle.redo_lab.specs.Asked.{turns_of}
+use Rattle.redo_lab.specs.Following.{IsToldOf}
 
 -- the store stands opened on both devices, as the theorem has it, and a run can start on it
 pub record IsOpenedAt {L D : Type 0} (opened : values.Opened) (store : Opened L D) : Type 0 where
@@ -27,14 +35,15 @@ pub record IsOpenedAt {L D : Type 0} (opened : values.Opened) (store : Opened L 
   pub start : store.start ≡ start_after opened.end
   pub runnable : IsRunnable store
 
--- what the drive tells, on devices behind their fuses: by turns, those of the seed, at most as many as are allowed; or in threads, by
--- which no turns are counted
+-- what the drive tells of the actors that it leaves, on devices behind their fuses: by turns, those of the seed, at most as many as
+-- are allowed; or in threads, by which no turns are counted
 abbrev pub TellsOf : {L D : Type 0} → (threads : Bool) → (L → Seen) → (L → device.Call → L → Type 0) → (D → Seen) → (D → device.Call → D → Type 0)
-    → Drive → Opened (Fused L) (Fused D) → List ScriptLine → Driven (Fused L) (Fused D) → Type 0
-TellsOf false log_seen log_gives data_seen data_gives drive store script driven =
+    → Drive → Opened (Fused L) (Fused D) → List ScriptLine → List model.Actor → Driven (Fused L) (Fused D) → Type 0
+TellsOf false log_seen log_gives data_seen data_gives drive store script actors driven =
     RunsByTurns (seen_through log_seen) (CallsThrough log_seen log_gives) (seen_through data_seen) (CallsThrough data_seen data_gives)
-    store script (turns_of drive) drive.followers driven
-TellsOf true log_seen log_gives data_seen data_gives drive store script driven = RunsInThreads store script drive.log_only driven
+    store script (turns_of drive) drive.followers actors driven
+TellsOf true log_seen log_gives data_seen data_gives drive store script actors driven =
+    RunsInThreads store script drive.log_only actors driven
 
 -- It is one device behind one fuse: handed in once, and armed once, with this limit.
 pub record IsSameFused {D : Type 0} (was now : Fused D) : Type 0 where
@@ -42,18 +51,21 @@ pub record IsSameFused {D : Type 0} (was now : Fused D) : Type 0 where
   pub armed : armed_at now ≡ armed_at was
   pub limit : (fuse_of now).limit ≡ (fuse_of was).limit
 
--- On the devices given back, which meant this then, the drive led from the opened store to this end, and left this run.
+-- On the devices given back, which meant this then, the drive led from the opened store to this end, and left this run; and this is
+-- told of the followers among the actors that it left.
 pub record IsDriven {L D : Type 0} (log_seen : L → Seen) (log_gives : L → device.Call → L → Type 0) (data_seen : D → Seen) (data_gives : D → device.Call → D → Type 0)
     (log_now : Fused L) (data_now : Fused D) (drive : Drive) (opened : values.Opened) (script : List ScriptLine)
-    (run : Ran) (end : RunEnd) (log_met store_met : Option Disk) : Type 0 where
+    (run : Ran) (follows : List Followed) (end : RunEnd) (log_met store_met : Option Disk) : Type 0 where
   pub store : Opened (Fused L) (Fused D)
   pub is_opened : IsOpenedAt opened store
   pub opened_on : IsSameFused store.log.dev log_now × IsSameFused store.store.dev data_now
   pub driven : Driven (Fused L) (Fused D)
   pub driven_on : IsSameFused driven.closed.log.dev log_now × IsSameFused driven.closed.store.dev data_now
-  pub told : TellsOf drive.threads log_seen log_gives data_seen data_gives drive store script driven
+  pub actors : List (Actor Kept)
+  pub told : TellsOf drive.threads log_seen log_gives data_seen data_gives drive store script (views_of actors) driven
   pub ends : driven.ended ≡ end
   pub run_is : run ≡ record { start = store.start; entries = driven.closed.history; marks = driven.closed.marks }
+  pub follows_are : AllZip IsToldOf (followers_in actors) follows
   pub log_is : StillTells (log_seen driven.closed.log.dev.inner).tells log_met
   pub store_is : StillTells (data_seen driven.closed.store.dev.inner).tells store_met
 

@@ -83,11 +83,12 @@ Prepares call (Err fault) = (command : Command) (drive : Drive) (script : List S
 
 -- WHAT IS LEFT of a run that ended so, or of an opening that a device stopped: its first call was counted, the run is told rightly of
 -- the store on which it began, and each image of the devices is read as a prefix of it.
-pub record IsLeftBy (call : LabCall) (command : Command) (drive : Drive) (stops : Stops) (script : List ScriptLine) (run : Option Ran) (end : RunEnd) : Type 0 where
+pub record IsLeftBy (call : LabCall) (command : Command) (drive : Drive) (stops : Stops) (script : List ScriptLine) (run : Option Ran)
+    (follows : List Followed) (end : RunEnd) : Type 0 where
   pub armed : AreArmed call stops
   pub counted : 0 < call.log.fuse.passed + call.log.fuse.mid
   pub opened : Opened
-  pub ran : IfSome run (λ run. HasRunScript call command drive opened script run end call.log.now.tells call.store.now.tells)
+  pub ran : IfSome run (λ run. HasRunScript call command drive opened script run follows end call.log.now.tells call.store.now.tells)
   pub opened_first : IsOpenedFirst call call.log.now.tells run
   pub reads : AreLeftRead call script run
 
@@ -117,9 +118,9 @@ ran_of played = record { start = played.start; entries = played.history; marks =
 abbrev pub ComesTo : LabCall → Command → Drive → Stops → List ScriptLine → Course → Type 0
 ComesTo call command drive stops script (course.Ended fault) = EndsWith call command (outcome.Fault fault)
 ComesTo call command drive stops script (course.Stopped fault) =
-    IsLeftBy call command drive stops script None ended.Done × HasFailed call fault
+    IsLeftBy call command drive stops script None [] ended.Done × HasFailed call fault
 ComesTo call command drive stops script (course.Played played fault) =
-    IsLeftBy call command drive stops script (Some (ran_of played)) ended.Done
+    IsLeftBy call command drive stops script (Some (ran_of played)) played.follows.items ended.Done
     × IsToldRightly call drive script (Some (ran_of played)) played.follows.items × IsPlayedTo call fault
 
 -- the same of the devices that are given back, with which the call is this

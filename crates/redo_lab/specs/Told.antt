@@ -20,14 +20,15 @@ use Rattle.redo_lab.specs.Asked.{IsScriptFor}
 use Rattle.redo_lab.specs.Store.{AreReadAsPrefix, DevicesOpenAs, AreAccepted}
 use Rattle.redo_memdisk.specs.declared.fuse.Stage.TheVariants.{Before}
 
--- The run took place: of the whole script, which fits the store that was opened; a legal history; and it is the drive's.
-pub record HasRunScript (call : LabCall) (command : Command) (drive : Drive) (opened : Opened) (script : List ScriptLine) (run : Ran) (end : RunEnd)
-    (log_met store_met : Option Disk) : Type 0 where
+-- The run took place: of the whole script, which fits the store that was opened; a legal history; and it is the drive's, as are the
+-- followers of which this is told.
+pub record HasRunScript (call : LabCall) (command : Command) (drive : Drive) (opened : Opened) (script : List ScriptLine) (run : Ran)
+    (follows : List Followed) (end : RunEnd) (log_met store_met : Option Disk) : Type 0 where
   pub is_script : IsScriptFor command call.source call.source_now script
   pub opens : WhereToldAtEntry call (DevicesOpenAs opened)
   pub fits : FitsOpened drive.log_only opened script
   pub in_lsn_order : IsRun script opened run
-  pub driven : call.drives drive opened script run end log_met store_met
+  pub driven : call.drives drive opened script run follows end log_met store_met
 
 -- Opening came to its end just where a run is told: the log device shows it, where both told and open a store.
 abbrev pub IsOpenedFirst : LabCall → Option Disk → Option Ran → Type 0
@@ -42,11 +43,12 @@ AreMarksRead call drive run log_met store_met = IfSome run (λ run. drive.thread
     → (reading : Reading) × IsReading log.reads store.reads reading
     × (reading.end ≡ run.marks.write) × (reading.ckpt ≡ run.marks.ckpt)))
 
--- What is told of a follower of a run: its LSN stands between groups, at or below FLUSHED. It has handed on the groups that end at
--- or below that, in lsn order: they are so many, and their joined texts have this checksum.
+-- What is told of a follower of a run: its LSN stands between groups, at or below FLUSHED and not below CKPT. It has handed on the
+-- groups that end at or below that, in lsn order: they are so many, and their joined texts have this checksum.
 pub record IsFollowed (script : List ScriptLine) (space : ℕ) (run : Ran) (followed : Followed) : Type 0 where
   pub place : IsBoundary run.start (entry_spans run.entries) followed.lsn
   pub flushed : followed.lsn ≤ run.marks.flushed
+  pub checkpoint : run.marks.ckpt ≤ followed.lsn
   pub count : followed.count ≡ count_up_to followed.lsn run.entries % 2 ^ 64
   pub crc : followed.crc ≡ crc_of (stream_of (groups_of (take (count_up_to followed.lsn run.entries) (wholes_of script space run.entries))))
 
@@ -68,7 +70,7 @@ AreToldOf call drive script (Some run) follows log_met store_met = AreFollowed c
 pub record IsAccount (call : LabCall) (command : Command) (drive : Drive) (opened : Opened) (script : List ScriptLine) (run : Option Ran)
     (left : List (ℕ × ℕ)) (follows : List Followed) (log_met store_met : Option Disk) : Type 0 where
   pub is_script : IsScriptFor command call.source call.source_now script
-  pub ran : IfSome run (λ run. HasRunScript call command drive opened script run Done log_met store_met)
+  pub ran : IfSome run (λ run. HasRunScript call command drive opened script run follows Done log_met store_met)
   pub left_is : IsLeft script (entries_of run) left
   pub loses : LosesOnlyByFailure (mids call) run left
   pub marks : AreMarksRead call drive run log_met store_met

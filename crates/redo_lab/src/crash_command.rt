@@ -68,7 +68,7 @@ fn crash_and_read<R: Threads + Sync, L: Sectors, D: Sectors>(
     ensures ends { (asked : Asked) (words : List (List ℕ)) (source source_now : SourceSeen) (log_entry : L) (data_entry : D)
         → IsScriptRead source source_now script.now
         → IsLeftBy (call_on L.seen L.gives D.seen D.gives words source source_now log_entry data_entry log.old store.old) (command_with asked (Some crash)) asked crash.stops
-        script.now (played_run played.entry) ended.Done
+        script.now (played_run played.entry) (played_follows played.entry) ended.Done
         → IsToldRightly (call_on L.seen L.gives D.seen D.gives words source source_now log_entry data_entry log.old store.old) asked
         script.now (played_run played.entry) (played_follows played.entry)
         → EndsWith (call_on L.seen L.gives D.seen D.gives words source source_now log_entry data_entry log.new store.new) (command_with asked (Some crash)) result }

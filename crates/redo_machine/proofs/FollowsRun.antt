@@ -68,11 +68,15 @@ module _ {L D R : Type 0} (log_seen : L → Seen) (data_seen : D → Seen) (stan
   few : IsWord c.pages (word.Place after.state.number)
   few = let last = reader.last in let readers = from.runs.running.both.script.few_readers in omega arith
 
+  under : slice_index m.places after.state.number ≤ after.state.place
+  under = let up = reader.up in let word = reader.word in omega arith
+
   pub follows_log : FollowsLog stands c.base log parts before after
   follows_log = record {
     place = follower.place;
     bound = follower.bound;
     flushed = subst (λ (n : ℕ). after.state.place ≤ n) (sym (word_is word.Flushed tt)) below;
+    stored = subst (λ (n : ℕ). n ≤ after.state.place) (sym (word_is (word.Place after.state.number) few)) under;
     asked = subst (λ (n : ℕ). parts.log.marks.asked ≤ n) (sym (word_is (word.Place after.state.number) few))
         (half.asked after.state.number reader.first reader.last);
     got = subst (λ (b : Bool). StandsFor stands before.receiver (cond b [] (groups_upto after.state.at log))

@@ -1,3 +1,4 @@
+mod Alone
 pub mod Ended
 pub mod FollowsRun
 pub mod PlayedNext

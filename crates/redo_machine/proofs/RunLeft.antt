@@ -1,5 +1,5 @@
 -- What a run by turns leaves, and so what it comes to.
-use Rattle.std.proofs.Common.{Bool, List, ap, length, slice_index, subst, sym, ⊎_elim, inl, inr, ℕ, ◌∙◌, ◌≡◌}
+use Rattle.std.proofs.Common.{Bool, List, ap, arith, length, slice_index, subst, sym, true, ⊎_elim, inl, inr, ℕ, ◌∙◌, ◌<◌, ◌≡◌}
 use Rattle.model_core.specs.{Given, index, lsn}
 use Rattle.model_core.specs.Actors as model
 use Rattle.model_core.specs.declared.words.Word.TheVariants as word
@@ -8,6 +8,7 @@ use Rattle.model_running.proofs.Seated.{seated_seats}
 use Rattle.model_running.specs.{HaveEnded, history_of, IsDone, IsSpent, LeavesOpen, marks_in, TakesTurns, word_marks}
 use Rattle.model_report.specs.declared.entry.Entry.{Entry}
 use Rattle.model_script.specs.declared.script.ScriptLine.{ScriptLine}
+use Rattle.model_script.specs.declared.words.TheConstants.{MAX_TURNS}
 use Rattle.redo_disk.specs.{Call}
 use Rattle.redo_disk.specs.Seen.{Seen}
 use Rattle.redo_logdev.specs.Part as log
@@ -19,6 +20,7 @@ use Rattle.redo_drive.specs.Setups.{start_actors}
 use Rattle.redo_drive.specs.Startable.{AreNewFollowers, MayBegin}
 use Rattle.redo_drive.specs.Calls.{CallOnBoth, CallsOn}
 use Rattle.redo_drive.specs.Drive.{HasMetError, Owes}
+use Rattle.redo_machine.proofs.Alone as alone
 use Rattle.redo_machine.specs.ByTurns.{RunsByTurns}
 use Rattle.redo_drive.specs.Begins.{BeginsRun}
 use Rattle.redo_drive.specs.History.{ListsInOrder}
@@ -78,16 +80,32 @@ module _ {L D R : Type 0} (log_seen : L → Seen) (log_gives : L → Call → L 
     (followers : List (Following R))
     (actors : List (Actor R)) (driven : Driven L D)
     (by : TurnsLead log_seen log_gives data_seen data_gives stands opened script turns followers actors driven) where
+  -- where the turns are spent, all of them are
+  is_spent : (count user : ℕ) → driven.ended ≡ ended.Spent count user → (count ≡ turns.max) × IsSpent
+      (run_log_side log_seen data_seen by.begins.run) (run_data_side log_seen data_seen by.begins.run) turns.seed
+      turns.max user (core_of log_seen data_seen by.begins.run by.first.parts (views_of by.first.actors.items))
+      (core_of log_seen data_seen by.begins.run by.last (views_of actors))
+  is_spent count user spent = subst (λ (z : RunEnd). EndsAs log_seen data_seen by.begins.run turns.seed turns.max
+      by.first.parts (views_of by.first.actors.items) z by.last (views_of actors)) spent by.ends
+
+  -- and with the log alone, without followers, they are few
+  are_few : MayBegin opened script turns.log_only → (count user : ℕ) → driven.ended ≡ ended.Spent count user
+      → turns.log_only ≡ true → length followers ≡ 0 → count < MAX_TURNS
+  are_few may count user spent only none =
+      let all = is_spent count user spent in
+      let few = alone.spent_are_fewer log_seen data_seen stands opened script turns.log_only followers by.first by.begins may only none
+      turns.seed turns.max user _ all.1 in omega (arith, all.0)
+
   -- so the run is by turns
-  pub by_turns : RunsByTurns log_seen log_gives data_seen data_gives opened script turns (length followers) driven
-  by_turns = record {
+  pub by_turns : MayBegin opened script turns.log_only → RunsByTurns log_seen log_gives data_seen data_gives opened script turns
+      (length followers) (views_of actors) driven
+  by_turns may = record {
     run = by.begins.run;
     is_run = by.begins.is_run;
     first = by.first.parts;
     starts = views_of by.first.actors.items;
     begins = by.begins.stands;
     last = by.last;
-    actors = views_of actors;
     ends = by.ends;
     asked = by.asked;
     log = by.log;
@@ -95,6 +113,7 @@ module _ {L D R : Type 0} (log_seen : L → Seen) (log_gives : L → Call → L 
     marks = by.marks;
     code = by.code;
     history = by.listed;
+    few = are_few may;
   }
 
   pub leaves : LeavesRun log_seen log_gives data_seen data_gives stands opened script turns.log_only (length followers)
@@ -129,18 +148,10 @@ module _ {L D R : Type 0} (log_seen : L → Seen) (log_gives : L → Call → L 
   is_done done = subst (λ (z : RunEnd). EndsAs log_seen data_seen by.begins.run turns.seed turns.max by.first.parts
       (views_of by.first.actors.items) z by.last (views_of actors)) done by.ends
 
-  -- where the turns are spent
-  is_spent : (count user : ℕ) → driven.ended ≡ ended.Spent count user → IsSpent
-      (run_log_side log_seen data_seen by.begins.run) (run_data_side log_seen data_seen by.begins.run) turns.seed
-      turns.max user (core_of log_seen data_seen by.begins.run by.first.parts (views_of by.first.actors.items))
-      (core_of log_seen data_seen by.begins.run by.last (views_of actors))
-  is_spent count user spent = (subst (λ (z : RunEnd). EndsAs log_seen data_seen by.begins.run turns.seed turns.max
-      by.first.parts (views_of by.first.actors.items) z by.last (views_of actors)) spent by.ends).1
-
   leaves_open : (count user : ℕ) → driven.ended ≡ ended.Spent count user → LeavesOpen script driven.closed.history (HasMetError driven.closed) user
   unfolding leaves
   leaves_open count user spent =
-      let end = is_spent count user spent in
+      let end = (is_spent count user spent).1 in
       let c = by.begins.run.setup in let g = by.from.runs.running.log_ghost in let m = by.from.runs.running.shared in
       subst (λ (z : List Entry). LeavesOpen script z (HasMetError driven.closed) user) (sym by.history)
       (open_lines.leaves_open (run_log_side log_seen data_seen by.begins.run) c 0 m g by.last.log (views_of actors)

@@ -3,6 +3,7 @@ ghost use Rattle.std.specs.Prelude.{◌≡◌, IfErr, IfOk, length};
 ghost use Rattle.redo_drive.specs.Startable.{AreNewFollowers, MayBegin};
 ghost use Rattle.redo_drive.specs.Drive.{Owes};
 ghost use Rattle.redo_drive.specs.Followed.{HaveFollowed};
+ghost use Rattle.redo_drive.specs.Views.{views_of};
 ghost use Rattle.redo_machine.specs.ByTurns.{RunsByTurns};
 
 use crate::machine::Machine;
@@ -35,7 +36,7 @@ pub fn run_by_turns<L: Sectors, D: Sectors, R: Receiver + Drop>(
     requires new { AreNewFollowers opened.start followers.items }
     ensures err { IfErr result (λ error. (error.1 ≡ opened.log.dev) × (error.2 ≡ opened.store.dev)) }
     ensures owed { IfOk result (λ left. Owes L.seen L.gives D.seen D.gives opened script.now left.0) }
-    ensures turns { IfOk result (λ left. RunsByTurns L.seen L.gives D.seen D.gives opened script.now turns.now (length followers.items) left.0) }
+    ensures turns { IfOk result (λ left. RunsByTurns L.seen L.gives D.seen D.gives opened script.now turns.now (length followers.items) (views_of left.1.items) left.0) }
     ensures followed { IfOk result (λ left. HaveFollowed L.seen D.seen R.stands_for opened script.now followers.items left.1.items left.0.closed) }
 {
     let mut machine = Machine::new(alloc, opened, script, turns.log_only, followers)?;

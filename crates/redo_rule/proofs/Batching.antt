@@ -170,7 +170,12 @@ module _ {L D R : Type 0} (table : TableId) (seat : Seat (Slot L D) (View L D)) 
                     → Leaves table log_seen data_seen stands seat.me.0 old step after new
                 reached_back l = record {
                   mine = l.mine;
-                  played = l.played;
+                  played = record {
+                    answer = l.played.answer;
+                    shown = l.played.shown;
+                    is = l.played.is;
+                    ends = l.played.ends;
+                  };
                   same = record {
                     about = l.same.about;
                     number = l.same.number;

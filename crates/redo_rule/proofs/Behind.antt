@@ -22,7 +22,6 @@ use Rattle.redo_rule.proofs.Took.{took_plain}
 use Rattle.redo_rule.specs.Mine.{HasPlayed, heard_of, IsSameSeat, Mine}
 use Rattle.redo_rule.specs.Plays.{no_filling}
 use Rattle.redo_rule.specs.Seating.{HasPart, IsCleaner, IsSeatOf}
-use Rattle.redo_rule.specs.declared.law.About.{About}
 use Rattle.redo_rule.specs.declared.law.Keeping.{Keeping}
 use Rattle.redo_rule.specs.declared.law.Slot.{Slot}
 use Rattle.redo_rule.specs.declared.law.View.{View}
@@ -32,15 +31,15 @@ was_kind (model.Cleaner v) b later is = tt
 was_kind _ b later is = absurd (subst IsCleaner later.1 is)
 
 -- a turn, with whatever it puts into an actor, leaves it the same
-pub played_later : {L D : Type 0} (log_seen : L → Seen) (data_seen : D → Seen) {told : Option (About L D)}
-    (a b : model.Actor) (step : Step) → HasPlayed log_seen data_seen told a step b → IsSameActor a b
+pub played_later : {L D : Type 0} (log_seen : L → Seen) (data_seen : D → Seen) {v : View L D}
+    (a b : model.Actor) (step : Step) → HasPlayed log_seen data_seen v a step b → IsSameActor a b
 played_later log_seen data_seen a b step h =
     let with : model.Actor = filled a h.shown.turn.filling in
     subst (IsSameActor a) (sym h.is)
     (later_trans a with (took with h.answer) (filled_later a h.shown.turn.filling) (took_later with h.answer))
 
-pub was_cleaner : {L D : Type 0} (log_seen : L → Seen) (data_seen : D → Seen) {told : Option (About L D)}
-    (a b : model.Actor) (step : Step) → HasPlayed log_seen data_seen told a step b → IsCleaner b → IsCleaner a
+pub was_cleaner : {L D : Type 0} (log_seen : L → Seen) (data_seen : D → Seen) {v : View L D}
+    (a b : model.Actor) (step : Step) → HasPlayed log_seen data_seen v a step b → IsCleaner b → IsCleaner a
 was_cleaner log_seen data_seen a b step h is = was_kind a b (played_later log_seen data_seen a b step h) is
 
 -- the cleaner alone writes batches

@@ -1,5 +1,5 @@
 -- Why an answer of `play` came: a wait met its condition, an end was one, and a failure had a cause.
-use Rattle.std.proofs.Common.{Bool, List, Option, ap, cond, false, inl, inr, length, refl, subst, sym, true, ℕ, ⊎_elim, ◌∙◌, ◌≡◌, ◌⊎◌, is_some}
+use Rattle.std.proofs.Common.{Bool, List, ap, cond, false, inl, inr, length, refl, subst, sym, true, ℕ, ⊎_elim, ◌∙◌, ◌≡◌, ◌⊎◌, is_some}
 use lib.ListN.{get_elem?}
 use mathlib.Core.Option.{some, some-injective}
 use Rattle.model_core.proofs.Endings.{ended_of, ended_well, idle_of, quiet, resting_code, resting_free, turn_ends}
@@ -30,9 +30,9 @@ use Rattle.redo_rule.proofs.Filled.{checks_filled, ending_filled, gives_filled, 
 use Rattle.redo_rule.proofs.Kept.{all_answered, done_is_free}
 use Rattle.redo_rule.proofs.Reached.{has_cause}
 use Rattle.redo_rule.specs.Causes.{EndsSo, HasEndedBy, HasFailureCode, HasWaited, IsFinishedUser}
-use Rattle.redo_rule.specs.Mine.{HasGone}
+use Rattle.redo_rule.specs.Mine.{HasGone, heard_of, number_of}
 use Rattle.redo_rule.specs.Plays.{Shown}
-use Rattle.redo_rule.specs.declared.law.About.{About}
+use Rattle.redo_rule.specs.declared.law.View.{View}
 
 -- a user that has all its commits answered, where those at its end are
 answered_at : {R : Type 0} (b : Actor R) → ending (view_of b) ≡ step.Ended → ((u : UserState) → view_of b ≡ model.User
@@ -44,8 +44,11 @@ is_user : (b : model.Actor) → IsFinishedUser b → (u : UserState) × (b ≡ m
 is_user (model.User u) is = (u, refl, is.0)
 is_user _ is = absurd is
 
-module _ {L D : Type 0} (log_seen : L → Seen) (data_seen : D → Seen) (told : Option (About L D)) (number : ℕ)
-    (a : model.Actor) (r : Answer) (s : Shown log_seen data_seen told number a r) where
+module _ {L D : Type 0} (log_seen : L → Seen) (data_seen : D → Seen) (v : View L D) (a : model.Actor) (r : Answer)
+    (s : Shown log_seen data_seen v.about (number_of v) (heard_of v) a r) where
+  abbrev number : ℕ
+  number = number_of v
+
   same : s.turn.who ≡ a
   same = some-injective s.turn.who a (sym s.turn.who_is ∙ s.at)
 
@@ -79,18 +82,16 @@ module _ {L D : Type 0} (log_seen : L → Seen) (data_seen : D → Seen) (told :
   batch_cause (model.Cleaner v) code at h = subst ((run_data_side log_seen data_seen s.run).Cause s.old.store) h.1 ((s.runs.running.both.paged.each number (model.Cleaner v) at).cause h.0)
   batch_cause _ code at h = absurd h
 
-  found_failure : (code : ℕ) → is_checking a ≡ true → old_of r ≡ code → HasFailureCode log_seen data_seen told a code
+  found_failure : (code : ℕ) → is_checking a ≡ true → old_of r ≡ code → HasFailureCode log_seen data_seen v a code
   found_failure code checks is = let f = found checks in record {
-    number = number;
     answer = r;
     shown = s;
     way = inl (f.0, sym is ∙ f.1);
     cause = caused log_seen data_seen code s.run.first_log s.old.log s.run.first_data s.old.store (has_cause log_seen data_seen s.run s.old s.actors s.runs code (sym is ∙ f.1));
   }
 
-  own_failure : (code : ℕ) → GivesFailed a code ⊎ StoresFailed a code → HasFailureCode log_seen data_seen told a code
+  own_failure : (code : ℕ) → GivesFailed a code ⊎ StoresFailed a code → HasFailureCode log_seen data_seen v a code
   own_failure code way = record {
-    number = number;
     answer = r;
     shown = s;
     way = inr way;
@@ -99,7 +100,7 @@ module _ {L D : Type 0} (log_seen : L → Seen) (data_seen : D → Seen) (told :
   }
 
   pub failure : (code : ℕ) → step_of with r ≡ step.Failed code → HasEndedBy a code
-      ⊎ HasFailureCode log_seen data_seen told a code
+      ⊎ HasFailureCode log_seen data_seen v a code
   failure code e =
       let f : Filling = s.turn.filling in
       ⊎_elim
@@ -113,18 +114,17 @@ module _ {L D : Type 0} (log_seen : L → Seen) (data_seen : D → Seen) (told :
       )) u) t.1)
       (turn_fails with r code e)
 
-module _ {L D : Type 0} (log_seen : L → Seen) (data_seen : D → Seen) (told : Option (About L D)) (a : model.Actor)
+module _ {L D : Type 0} (log_seen : L → Seen) (data_seen : D → Seen) (v : View L D) (a : model.Actor)
     {R : Type 0} (c : Actor R) (ends : Step) where
   abbrev b : model.Actor
   b = view_of c
 
-  why_idle : HasGone log_seen data_seen told a ends b → ends ≡ step.Idle → HasWaited log_seen data_seen told a
+  why_idle : HasGone log_seen data_seen v a ends b → ends ≡ step.Idle → HasWaited log_seen data_seen v a
   why_idle gone e = ⊎_elim
       (λ t. absurd (quiet a answer.Rested t.0 (idle_of a answer.Rested (sym t.2 ∙ e)).1))
       (λ h.
       let f : Filling = h.shown.turn.filling in
       let t = idle_of (filled a f) h.answer (sym h.ends ∙ e) in record {
-        number = h.number;
         answer = h.answer;
         shown = h.shown;
         goes_on = sym (checks_filled a f) ∙ t.0;
@@ -132,22 +132,22 @@ module _ {L D : Type 0} (log_seen : L → Seen) (data_seen : D → Seen) (told :
       })
       gone
 
-  why_ended : HasGone log_seen data_seen told a ends b
+  why_ended : HasGone log_seen data_seen v a ends b
       → ((u : UserState) → a ≡ model.User u → u.step ≡ user_step.Done → u.k ≡ length u.lines) → ends ≡ step.Ended
       → IsFinishedUser b
   why_ended gone done e = ⊎_elim
       (λ t. answered_at c (ap ending (t.1 ∙ sym (rests a t.0 answer.Rested)) ∙ ended_of a answer.Rested (sym t.2 ∙ e)) (λ u is at_end. done u (sym t.1 ∙ is) at_end))
       (λ h. answered_at c (ap ending h.is ∙ ended_of (filled a h.shown.turn.filling) h.answer (sym h.ends ∙ e))
-      (λ u is at_end. done_behind log_seen data_seen told h.number a h.answer h.shown u (sym h.is ∙ is) at_end))
+      (λ u is at_end. done_behind log_seen data_seen v a h.answer h.shown u (sym h.is ∙ is) at_end))
       gone
 
-  ends_well : HasGone log_seen data_seen told a ends b → IsFinishedUser b → ends ≡ step.Ended
+  ends_well : HasGone log_seen data_seen v a ends b → IsFinishedUser b → ends ≡ step.Ended
   ends_well gone is =
       let u = is_user b is in
       ⊎_elim
       (λ t. t.2 ∙ turn_ends a u.0 answer.Rested (sym u.1 ∙ t.1 ∙ sym (rests a t.0 answer.Rested)) u.2 (λ w e at_end. ap is_checking (sym e) ∙ resting_free (is_checking a) (own_op a) t.0))
       (λ h. h.ends ∙ turn_ends (filled a h.shown.turn.filling) u.0 h.answer (sym u.1 ∙ h.is) u.2
-      (λ w e at_end. free_before log_seen data_seen told h.number a h.answer h.shown w (was_user a
+      (λ w e at_end. free_before log_seen data_seen v a h.answer h.shown w (was_user a
       h.shown.turn.filling w e) at_end)) gone
     where
       was_user : (a : model.Actor) (f : Filling) (w : UserState) → filled a f ≡ model.User w → a ≡ model.User w
@@ -155,16 +155,16 @@ module _ {L D : Type 0} (log_seen : L → Seen) (data_seen : D → Seen) (told :
       was_user (model.User u) f w e = e
       was_user _ f w e = absurd (cc)
 
-  why_failed : HasGone log_seen data_seen told a ends b → (code : ℕ) → ends ≡ step.Failed code → HasEndedBy a code
-      ⊎ HasFailureCode log_seen data_seen told a code
+  why_failed : HasGone log_seen data_seen v a ends b → (code : ℕ) → ends ≡ step.Failed code → HasEndedBy a code
+      ⊎ HasFailureCode log_seen data_seen v a code
   why_failed gone code e = ⊎_elim
       (λ t. inl (t.0, resting_code a code t.0 (sym t.2 ∙ e)))
-      (λ h. failure log_seen data_seen told h.number a h.answer h.shown code (sym h.ends ∙ e)) gone
+      (λ h. failure log_seen data_seen v a h.answer h.shown code (sym h.ends ∙ e)) gone
 
   -- `done` is what the seat knows of an actor that rests
-  pub ends_so : HasGone log_seen data_seen told a ends b
+  pub ends_so : HasGone log_seen data_seen v a ends b
       → ((u : UserState) → a ≡ model.User u → u.step ≡ user_step.Done → u.k ≡ length u.lines)
-      → EndsSo log_seen data_seen told a ends b
+      → EndsSo log_seen data_seen v a ends b
   ends_so gone done = record {
     idle = why_idle gone;
     ended = (why_ended gone done, ends_well gone);

@@ -216,7 +216,7 @@ module _ {L D : Type 0} (log_seen : L → Seen) (log_gives : L → Call → L �
     runs_behind = turns.goes_on log_seen data_seen R.run R.parts new R.actors after x.number r (step_of (filled a f) r)
         (laws_of_log log_seen data_seen R.run) (laws_of_data log_seen data_seen R.run) same R.runs turn
 
-    abbrev pub shown : Shown log_seen data_seen v.about x.number a r
+    abbrev pub shown : Shown log_seen data_seen v.about x.number x.heard a r
     shown = record {
       about = about;
       about_is = known.told 0 x first;
@@ -229,6 +229,7 @@ module _ {L D : Type 0} (log_seen : L → Seen) (log_gives : L → Call → L �
       after = after;
       runs_on = runs_behind;
       at = here;
+      hears = λ told. sym (known.mine 0 x first).2 ∙ R.hears told x.number a here;
       has_cause = λ code gives. R.told x.number a code here gives;
       ends = step_of (filled a f) r;
       turn = turn;

@@ -100,7 +100,7 @@ pub record Leaves {L D R : Type 0} (table : TableId) (log_seen : L → Seen) (da
     (stands : R → List Given → Type 0) (v : View L D) (old : Actor R) (step : Step) (last : Seat (Slot L D) (View L D))
     (new : Actor R) : Type 0 where
   pub mine : Mine table last (view_of new)
-  pub played : HasPlayed log_seen data_seen v.about (view_of old) step (view_of new)
+  pub played : HasPlayed log_seen data_seen v (view_of old) step (view_of new)
   pub same : IsSameSeat stands v old last.me.0 new
 
 -- and it keeps what it knows of the data part
@@ -108,7 +108,7 @@ pub record Steps {L D R : Type 0} (table : TableId) (log_seen : L → Seen) (dat
     (stands : R → List Given → Type 0) (v : View L D) (old : Actor R) (step : Step) (last : Seat (Slot L D) (View L D))
     (new : Actor R) : Type 0 where
   pub mine : Mine table last (view_of new)
-  pub played : HasPlayed log_seen data_seen v.about (view_of old) step (view_of new)
+  pub played : HasPlayed log_seen data_seen v (view_of old) step (view_of new)
   pub stays : KeepsSeat stands v old last.me.0 new
 
 module _ {L D R : Type 0} (table : TableId) (log_seen : L → Seen) (data_seen : D → Seen)
@@ -136,14 +136,14 @@ module _ {L D R : Type 0} (table : TableId) (log_seen : L → Seen) (data_seen :
         (subst (λ (z : model.Actor). MayGo v.pages held stored z) then stepped.may);
   }
 
-  has_played : HasPlayed log_seen data_seen v.about (view_of old) step (view_of new)
+  has_played : HasPlayed log_seen data_seen v (view_of old) step (view_of new)
   has_played =
-      let p = subst (λ (z : model.Actor). (s : Shown log_seen data_seen v.about x.number z r) × (s.turn.filling ≡ f))
+      let p = subst (λ (z : model.Actor). (s : Shown log_seen data_seen v.about (number_of v) (heard_of v) z r) × (s.turn.filling ≡ f))
       state
-      (stepped.shown, stepped.filling) in
+      (subst (λ (l : List Numbered). (s : Shown log_seen data_seen v.about (number_in l) (heard_in l) x.actor r) × (s.turn.filling ≡ f))
+      (sym one) (stepped.shown, stepped.filling)) in
       record {
         answer = r;
-        number = x.number;
         shown = p.0;
         is = t.state ∙ ap (λ (g : Filling). took (filled (view_of old) g) r) (sym p.1);
         ends = t.ends ∙ ap (λ (g : Filling). step_of (filled (view_of old) g) r) (sym p.1);

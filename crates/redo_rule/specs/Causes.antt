@@ -1,5 +1,5 @@
 -- Why an answer of `play` came.
-use Rattle.std.specs.Prelude.{Option, false, length, true, ℕ, ◌↔◌, ◌≡◌, ◌⊎◌}
+use Rattle.std.specs.Prelude.{false, length, true, ℕ, ◌↔◌, ◌≡◌, ◌⊎◌}
 use Rattle.model_core.specs.{is_checking, next}
 use Rattle.model_core.specs.Actors as model
 use Rattle.model_core.specs.Waiting.{ending, waits}
@@ -13,8 +13,9 @@ use Rattle.redo_disk.specs.Seen.{Seen}
 use Rattle.redo_drive.specs.Turning.{code_in}
 use Rattle.model_core.specs.Hands.{GivesFailed, StoresFailed}
 use Rattle.redo_rule.specs.Failing.{CodeHasCause}
+use Rattle.redo_rule.specs.Mine.{heard_of, number_of}
 use Rattle.redo_rule.specs.Plays.{Shown}
-use Rattle.redo_rule.specs.declared.law.About.{About}
+use Rattle.redo_rule.specs.declared.law.View.{View}
 
 -- it is a user that has ended: the commit of its last line is answered
 abbrev pub IsFinishedUser : model.Actor → Type 0
@@ -25,12 +26,11 @@ IsFinishedUser _ = ⊥
 abbrev pub HasEndedBy : model.Actor → ℕ → Type 0
 HasEndedBy a code = (next a ≡ op.Rest) × (ending a ≡ step.Failed code)
 
-module _ {L D : Type 0} (log_seen : L → Seen) (data_seen : D → Seen) (told : Option (About L D)) where
+module _ {L D : Type 0} (log_seen : L → Seen) (data_seen : D → Seen) (v : View L D) where
   -- at that moment the condition of its step didn't hold yet
   pub record HasWaited (a : model.Actor) : Type 0 where
-    pub number : ℕ
     pub answer : Answer
-    pub shown : Shown log_seen data_seen told number a answer
+    pub shown : Shown log_seen data_seen v.about (number_of v) (heard_of v) a answer
     pub goes_on : is_checking a ≡ false
     pub waits : waits a answer ≡ true
 
@@ -38,9 +38,8 @@ module _ {L D : Type 0} (log_seen : L → Seen) (data_seen : D → Seen) (told :
   -- and it had stored it and gave the log part back, or, having none, stored it. The code has its cause in what the devices
   -- had met since the run began.
   pub record HasFailureCode (a : model.Actor) (code : ℕ) : Type 0 where
-    pub number : ℕ
     pub answer : Answer
-    pub shown : Shown log_seen data_seen told number a answer
+    pub shown : Shown log_seen data_seen v.about (number_of v) (heard_of v) a answer
     pub way : ((next a ≡ op.Load word.Failed) × (code ≡ code_in shown.old)) ⊎ (GivesFailed a code ⊎ StoresFailed a code)
     pub cause : CodeHasCause log_seen data_seen code shown.run.first_log shown.old.log shown.run.first_data shown.old.store
 

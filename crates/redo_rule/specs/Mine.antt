@@ -1,5 +1,5 @@
 -- A seat of this table, whose view is the actor's state.
-use Rattle.std.specs.Prelude.{List, Option, [], ℕ, ◌++◌, ◌∷◌, ◌≡◌, ◌⊎◌}
+use Rattle.std.specs.Prelude.{List, [], ℕ, ◌++◌, ◌∷◌, ◌≡◌, ◌⊎◌}
 use Rattle.atomic_table.specs.Seated.{TableId}
 use Rattle.atomic_table.specs.declared.shared.Seat.{Seat}
 use Rattle.model_core.specs.Actors as model
@@ -13,7 +13,6 @@ use Rattle.model_core.specs.Hands.{hand}
 use Rattle.redo_drive.specs.Receiving.{follower_of, HasGot, IsSameFollower}
 use Rattle.redo_drive.specs.declared.actor.Actor.{Actor}
 use Rattle.redo_rule.specs.Plays.{Carries, MayGo, Shown}
-use Rattle.redo_rule.specs.declared.law.About.{About}
 use Rattle.redo_rule.specs.declared.law.Numbered.{Numbered}
 use Rattle.redo_rule.specs.declared.law.Slot.{Slot}
 use Rattle.redo_rule.specs.declared.law.View.{View}
@@ -60,18 +59,17 @@ pub record Mine {L D : Type 0} (table : TableId) (seat : Seat (Slot L D) (View L
   pub carries : Carries (hand a) seat.me
   pub may : MayGo seat.me.0.pages seat.me.0.held seat.me.0.data_part a
 
--- the actor has had a turn of the definition, with some answer and with what that put into it, in the run that its
--- table is about, as its seat was told; and its step ended so
-pub record HasPlayed {L D : Type 0} (log_seen : L → Seen) (data_seen : D → Seen) (told : Option (About L D))
+-- the actor of this seat has had a turn of the definition, with some answer and with what that put into it, in the run
+-- that its table is about, as the seat was told; and its step ended so
+pub record HasPlayed {L D : Type 0} (log_seen : L → Seen) (data_seen : D → Seen) (v : View L D)
     (a : model.Actor) (step : Step) (b : model.Actor) : Type 0 where
   pub answer : Answer
-  pub number : ℕ
-  pub shown : Shown log_seen data_seen told number a answer
+  pub shown : Shown log_seen data_seen v.about (number_of v) (heard_of v) a answer
   pub is : b ≡ took (filled a shown.turn.filling) answer
   pub ends : step ≡ step_of (filled a shown.turn.filling) answer
 
 -- an actor that has ended rests; any other has had its turn
-abbrev pub HasGone : {L D : Type 0} (log_seen : L → Seen) (data_seen : D → Seen) (told : Option (About L D))
+abbrev pub HasGone : {L D : Type 0} (log_seen : L → Seen) (data_seen : D → Seen) (v : View L D)
     (a : model.Actor) (step : Step) (b : model.Actor) → Type 0
-HasGone log_seen data_seen told a step b = ((next a ≡ op.Rest) × (b ≡ a) × (step ≡ step_of a answer.Rested))
-    ⊎ HasPlayed log_seen data_seen told a step b
+HasGone log_seen data_seen v a step b = ((next a ≡ op.Rest) × (b ≡ a) × (step ≡ step_of a answer.Rested))
+    ⊎ HasPlayed log_seen data_seen v a step b

@@ -3,7 +3,7 @@ use Rattle.std.specs.Prelude.{Bool, List, None, Option, Some, [], cond, false, l
 use lib.ListN.{get_elem?}
 use mathlib.Core.Option.{some}
 use Rattle.atomic_table.specs.Table.{Me, rest}
-use Rattle.model_core.specs.{filled, Filling, Fills, lent, next, oldest_end, OpWords, took, UserState}
+use Rattle.model_core.specs.{filled, Filling, Fills, Given, lent, next, oldest_end, OpWords, took, UserState}
 use Rattle.model_core.specs.Actors as model
 use Rattle.model_core.specs.AnswerFits.{AnswerFits}
 use Rattle.model_core.specs.Turn.{Turn}
@@ -19,7 +19,7 @@ use Rattle.redo_flushlist.specs.{Listing, without_page}
 use Rattle.redo_drive.specs.Devices.{call_answer}
 use Rattle.redo_drive.specs.Lists.{listed_of}
 use Rattle.redo_drive.specs.Playing.{DataReady, HasWholePages, LogReady, RunOf, run_data_side, run_log_side, told_by}
-use Rattle.redo_drive.specs.Running.{RunsOn}
+use Rattle.redo_drive.specs.Running.{groups_of, RunsOn}
 use Rattle.redo_drive.specs.Turning.{core_of}
 use Rattle.redo_drive.specs.Receiving.{handed_by, MarkFits}
 use Rattle.redo_drive.specs.declared.device.Device.TheVariants.{Data, Log}
@@ -127,8 +127,9 @@ module _ {L D : Type 0} where
 
 module _ {L D : Type 0} (log_seen : L → Seen) (data_seen : D → Seen) where
   -- THERE WAS A MOMENT in the run that the table is about, as its seat was told, at which the invariant held, and one
-  -- turn of the definition was this actor's, with this answer; its step ended so
-  pub record Shown (told : Option (About L D)) (number : ℕ) (a : model.Actor) (r : Answer) : Type 0 where
+  -- turn of the definition was this actor's, with this answer; its step ended so. What the actor had handed on by then
+  -- was, where the log device told, the groups of the log up to its place: for a follower those that end at or below it.
+  pub record Shown (told : Option (About L D)) (number : ℕ) (heard : List Given) (a : model.Actor) (r : Answer) : Type 0 where
     pub about : About L D
     pub about_is : told ≡ Some about
     pub run : RunOf L D
@@ -140,6 +141,7 @@ module _ {L D : Type 0} (log_seen : L → Seen) (data_seen : D → Seen) where
     pub after : List model.Actor
     pub runs_on : RunsOn log_seen data_seen run new after
     pub at : get_elem? actors number ≡ some a
+    pub hears : (run_log_side log_seen data_seen run).Tells old.log → heard ≡ groups_of a runs.running.log_ghost.log
     -- where it gives the log part back after a failed call, its code is one that the part has
     pub has_cause : (code : ℕ) → GivesFailed a code → (run_log_side log_seen data_seen run).Cause old.log code
     pub ends : Step
@@ -150,7 +152,7 @@ module _ {L D : Type 0} (log_seen : L → Seen) (data_seen : D → Seen) where
   pub record Stepped (x : Numbered) (f : Filling) (r : Answer) (held : Option (Slot L D)) (stored : Option (Keeping D)) (carried : List (ℕ × Slot L D)) (m m' : Me (Slot L D) (View L D)) : Type 0 where
     pub fits : AnswerFits x.actor r
     pub mark : MarkFits x.actor r
-    pub shown : Shown m.0.about x.number x.actor r
+    pub shown : Shown m.0.about x.number x.heard x.actor r
     pub filling : shown.turn.filling ≡ f
     pub is : m' ≡ (view_behind m.0 x f r held stored, carried)
     pub may : MayGo m.0.pages held stored (took (filled x.actor f) r)

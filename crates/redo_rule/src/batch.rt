@@ -27,7 +27,7 @@ pub(crate) fn write_batch<L: Sectors, D: Sectors, R: Receiver>(
     requires asks { next (view_of actor.old) ≡ op.WriteBatch }
     requires part { HasPart token.old.me.0 }
     ensures mine { Mine table.now.table_id token.new (view_of actor.new) }
-    ensures played { HasPlayed L.seen D.seen token.old.me.0.about (view_of actor.old) result (view_of actor.new) }
+    ensures played { HasPlayed L.seen D.seen token.old.me.0 (view_of actor.old) result (view_of actor.new) }
     ensures part { HasPart token.new.me.0 }
     ensures same { IsSameSeat R.stands_for token.old.me.0 actor.old token.new.me.0 actor.new }
 {

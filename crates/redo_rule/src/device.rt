@@ -27,7 +27,7 @@ pub(crate) fn take_device<L: Sectors, D: Sectors, R: Receiver>(
     requires mine { Mine table.now.table_id token.old (view_of actor.old) }
     requires asks { next (view_of actor.old) ≡ op.TakeDevice }
     ensures mine { Mine table.now.table_id token.new (view_of actor.new) }
-    ensures played { HasPlayed L.seen D.seen token.old.me.0.about (view_of actor.old) result (view_of actor.new) }
+    ensures played { HasPlayed L.seen D.seen token.old.me.0 (view_of actor.old) result (view_of actor.new) }
     ensures seat { token.new.id ≡ token.old.id }
     ensures stays { KeepsSeat R.stands_for token.old.me.0 actor.old token.new.me.0 actor.new }
 {
@@ -47,7 +47,7 @@ pub(crate) fn give_device<L: Sectors, D: Sectors, R: Receiver>(
     requires mine { Mine table.now.table_id token.old (view_of actor.old) }
     requires asks { next (view_of actor.old) ≡ op.GiveDevice }
     ensures mine { Mine table.now.table_id token.new (view_of actor.new) }
-    ensures played { HasPlayed L.seen D.seen token.old.me.0.about (view_of actor.old) result (view_of actor.new) }
+    ensures played { HasPlayed L.seen D.seen token.old.me.0 (view_of actor.old) result (view_of actor.new) }
     ensures seat { token.new.id ≡ token.old.id }
     ensures stays { KeepsSeat R.stands_for token.old.me.0 actor.old token.new.me.0 actor.new }
 {
@@ -66,7 +66,7 @@ pub(crate) fn read_block<L: Sectors, D: Sectors, R: Receiver>(
     requires mine { Mine table.now.table_id token.old (view_of actor.old) }
     requires asks { next (view_of actor.old) ≡ op.ReadBlock lsn }
     ensures mine { Mine table.now.table_id token.new (view_of actor.new) }
-    ensures played { HasPlayed L.seen D.seen token.old.me.0.about (view_of actor.old) result (view_of actor.new) }
+    ensures played { HasPlayed L.seen D.seen token.old.me.0 (view_of actor.old) result (view_of actor.new) }
     ensures seat { token.new.id ≡ token.old.id }
     ensures stays { KeepsSeat R.stands_for token.old.me.0 actor.old token.new.me.0 actor.new }
 {
@@ -88,7 +88,7 @@ pub(crate) fn write_to<L: Sectors, D: Sectors, R: Receiver>(
     requires mine { Mine table.now.table_id token.old (view_of actor.old) }
     requires asks { next (view_of actor.old) ≡ op.WriteTo mark }
     ensures mine { Mine table.now.table_id token.new (view_of actor.new) }
-    ensures played { HasPlayed L.seen D.seen token.old.me.0.about (view_of actor.old) result (view_of actor.new) }
+    ensures played { HasPlayed L.seen D.seen token.old.me.0 (view_of actor.old) result (view_of actor.new) }
     ensures seat { token.new.id ≡ token.old.id }
     ensures stays { KeepsSeat R.stands_for token.old.me.0 actor.old token.new.me.0 actor.new }
 {
@@ -106,7 +106,7 @@ pub(crate) fn sync<L: Sectors, D: Sectors, R: Receiver>(
     requires mine { Mine table.now.table_id token.old (view_of actor.old) }
     requires asks { next (view_of actor.old) ≡ op.Sync }
     ensures mine { Mine table.now.table_id token.new (view_of actor.new) }
-    ensures played { HasPlayed L.seen D.seen token.old.me.0.about (view_of actor.old) result (view_of actor.new) }
+    ensures played { HasPlayed L.seen D.seen token.old.me.0 (view_of actor.old) result (view_of actor.new) }
     ensures seat { token.new.id ≡ token.old.id }
     ensures stays { KeepsSeat R.stands_for token.old.me.0 actor.old token.new.me.0 actor.new }
 {
@@ -125,7 +125,7 @@ pub(crate) fn checkpoint<L: Sectors, D: Sectors, R: Receiver>(
     requires mine { Mine table.now.table_id token.old (view_of actor.old) }
     requires asks { next (view_of actor.old) ≡ op.Checkpoint lsn }
     ensures mine { Mine table.now.table_id token.new (view_of actor.new) }
-    ensures played { HasPlayed L.seen D.seen token.old.me.0.about (view_of actor.old) result (view_of actor.new) }
+    ensures played { HasPlayed L.seen D.seen token.old.me.0 (view_of actor.old) result (view_of actor.new) }
     ensures seat { token.new.id ≡ token.old.id }
     ensures stays { KeepsSeat R.stands_for token.old.me.0 actor.old token.new.me.0 actor.new }
 {

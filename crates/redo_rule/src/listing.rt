@@ -40,7 +40,7 @@ pub(crate) fn take_add<L: Sectors, D: Sectors, R: Receiver>(
     requires mine { Mine table.now.table_id token.old (view_of actor.old) }
     requires asks { next (view_of actor.old) ≡ op.TakeAdd page oldest }
     ensures mine { Mine table.now.table_id token.new (view_of actor.new) }
-    ensures played { HasPlayed L.seen D.seen token.old.me.0.about (view_of actor.old) result (view_of actor.new) }
+    ensures played { HasPlayed L.seen D.seen token.old.me.0 (view_of actor.old) result (view_of actor.new) }
     ensures seat { token.new.id ≡ token.old.id }
     ensures stays { KeepsSeat R.stands_for token.old.me.0 actor.old token.new.me.0 actor.new }
 {
@@ -62,7 +62,7 @@ pub(crate) fn take_remove<L: Sectors, D: Sectors, R: Receiver>(
     requires mine { Mine table.now.table_id token.old (view_of actor.old) }
     requires asks { next (view_of actor.old) ≡ op.TakeRemove page }
     ensures mine { Mine table.now.table_id token.new (view_of actor.new) }
-    ensures played { HasPlayed L.seen D.seen token.old.me.0.about (view_of actor.old) result (view_of actor.new) }
+    ensures played { HasPlayed L.seen D.seen token.old.me.0 (view_of actor.old) result (view_of actor.new) }
     ensures seat { token.new.id ≡ token.old.id }
     ensures stays { KeepsSeat R.stands_for token.old.me.0 actor.old token.new.me.0 actor.new }
 {
@@ -84,7 +84,7 @@ pub(crate) fn take_oldest<L: Sectors, D: Sectors, R: Receiver>(
     requires mine { Mine table.now.table_id token.old (view_of actor.old) }
     requires asks { next (view_of actor.old) ≡ op.TakeOldest list }
     ensures mine { Mine table.now.table_id token.new (view_of actor.new) }
-    ensures played { HasPlayed L.seen D.seen token.old.me.0.about (view_of actor.old) result (view_of actor.new) }
+    ensures played { HasPlayed L.seen D.seen token.old.me.0 (view_of actor.old) result (view_of actor.new) }
     ensures seat { token.new.id ≡ token.old.id }
     ensures stays { KeepsSeat R.stands_for token.old.me.0 actor.old token.new.me.0 actor.new }
 {
@@ -105,7 +105,7 @@ pub(crate) fn give_list<L: Sectors, D: Sectors, R: Receiver>(
     requires mine { Mine table.now.table_id token.old (view_of actor.old) }
     requires asks { next (view_of actor.old) ≡ op.GiveList list }
     ensures mine { Mine table.now.table_id token.new (view_of actor.new) }
-    ensures played { HasPlayed L.seen D.seen token.old.me.0.about (view_of actor.old) result (view_of actor.new) }
+    ensures played { HasPlayed L.seen D.seen token.old.me.0 (view_of actor.old) result (view_of actor.new) }
     ensures seat { token.new.id ≡ token.old.id }
     ensures stays { KeepsSeat R.stands_for token.old.me.0 actor.old token.new.me.0 actor.new }
 {

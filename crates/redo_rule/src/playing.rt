@@ -27,7 +27,7 @@ fn play_token<L: Sectors, D: Sectors, R: Receiver>(
     requires asks { next (view_of actor.old) ≡ op }
     requires bare { IsBare op }
     ensures mine { Mine table.now.table_id token.new (view_of actor.new) }
-    ensures played { HasPlayed L.seen D.seen token.old.me.0.about (view_of actor.old) result (view_of actor.new) }
+    ensures played { HasPlayed L.seen D.seen token.old.me.0 (view_of actor.old) result (view_of actor.new) }
     ensures stays { KeepsSeat R.stands_for token.old.me.0 actor.old token.new.me.0 actor.new }
 {
     match op {
@@ -50,18 +50,19 @@ fn play_token<L: Sectors, D: Sectors, R: Receiver>(
     }
 }
 
-/// Plays the next Op of an actor.
+/// Plays the Op that an actor asks for.
 fn play_next<L: Sectors, D: Sectors, R: Receiver>(
     table: &Ring<L, D>,
     seat: &mut Seat<L, D>,
     actor: &mut Actor<R>,
+    op: Op,
 ) -> Step
-    requires { IsSeatOf table.now.table_id seat.old (view_of actor.old) }
+    requires seat { IsSeatOf table.now.table_id seat.old (view_of actor.old) }
+    requires asks { next (view_of actor.old) ≡ op }
     ensures seat { IsSeatOf table.now.table_id seat.new (view_of actor.new) }
     ensures same { IsSameSeat R.stands_for seat.old.me.0 actor.old seat.new.me.0 actor.new }
-    ensures played { HasGone L.seen D.seen seat.old.me.0.about (view_of actor.old) result (view_of actor.new) }
+    ensures played { HasGone L.seen D.seen seat.old.me.0 (view_of actor.old) result (view_of actor.new) }
 {
-    let op = actor.next();
     match op {
         Op::WriteBatch => write_batch(table, seat, actor),
         Op::Rest => actor.took(Answer::Rested),
@@ -69,18 +70,20 @@ fn play_next<L: Sectors, D: Sectors, R: Receiver>(
     }
 }
 
-/// Plays the next Op of the actor whose state is the seat's view, and tells how its step ended. It doesn't wait, and takes no
-/// memory.
+/// Plays the Op that the actor asks for whose state is the seat's view, and tells how its step ended. It doesn't wait, and takes
+/// no memory.
 pub fn play<L: Sectors, D: Sectors, R: Receiver>(
     table: &Ring<L, D>,
     seat: &mut Seat<L, D>,
     actor: &mut Actor<R>,
+    op: Op,
 ) -> Step
-    requires { IsSeatOf table.now.table_id seat.old (view_of actor.old) }
+    requires seat { IsSeatOf table.now.table_id seat.old (view_of actor.old) }
+    requires asks { next (view_of actor.old) ≡ op }
     ensures seat { IsSeatOf table.now.table_id seat.new (view_of actor.new) }
     ensures same { IsSameSeat R.stands_for seat.old.me.0 actor.old seat.new.me.0 actor.new }
-    ensures played { HasGone L.seen D.seen seat.old.me.0.about (view_of actor.old) result (view_of actor.new) }
-    ensures ends { EndsSo L.seen D.seen seat.old.me.0.about (view_of actor.old) result (view_of actor.new) }
+    ensures played { HasGone L.seen D.seen seat.old.me.0 (view_of actor.old) result (view_of actor.new) }
+    ensures ends { EndsSo L.seen D.seen seat.old.me.0 (view_of actor.old) result (view_of actor.new) }
 {
-    play_next(table, seat, actor)
+    play_next(table, seat, actor, op)
 }

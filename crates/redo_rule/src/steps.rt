@@ -22,7 +22,7 @@ pub(crate) fn load<L: Sectors, D: Sectors, R: Receiver>(
     requires mine { Mine table.now.table_id token.old (view_of actor.old) }
     requires asks { next (view_of actor.old) ≡ op.Load word }
     ensures mine { Mine table.now.table_id token.new (view_of actor.new) }
-    ensures played { HasPlayed L.seen D.seen token.old.me.0.about (view_of actor.old) result (view_of actor.new) }
+    ensures played { HasPlayed L.seen D.seen token.old.me.0 (view_of actor.old) result (view_of actor.new) }
     ensures seat { token.new.id ≡ token.old.id }
     ensures stays { KeepsSeat R.stands_for token.old.me.0 actor.old token.new.me.0 actor.new }
 {
@@ -41,7 +41,7 @@ pub(crate) fn store<L: Sectors, D: Sectors, R: Receiver>(
     requires mine { Mine table.now.table_id token.old (view_of actor.old) }
     requires asks { next (view_of actor.old) ≡ op.Store word number }
     ensures mine { Mine table.now.table_id token.new (view_of actor.new) }
-    ensures played { HasPlayed L.seen D.seen token.old.me.0.about (view_of actor.old) result (view_of actor.new) }
+    ensures played { HasPlayed L.seen D.seen token.old.me.0 (view_of actor.old) result (view_of actor.new) }
     ensures seat { token.new.id ≡ token.old.id }
     ensures stays { KeepsSeat R.stands_for token.old.me.0 actor.old token.new.me.0 actor.new }
 {
@@ -60,7 +60,7 @@ pub(crate) fn add<L: Sectors, D: Sectors, R: Receiver>(
     requires mine { Mine table.now.table_id token.old (view_of actor.old) }
     requires asks { next (view_of actor.old) ≡ op.Add word number }
     ensures mine { Mine table.now.table_id token.new (view_of actor.new) }
-    ensures played { HasPlayed L.seen D.seen token.old.me.0.about (view_of actor.old) result (view_of actor.new) }
+    ensures played { HasPlayed L.seen D.seen token.old.me.0 (view_of actor.old) result (view_of actor.new) }
     ensures seat { token.new.id ≡ token.old.id }
     ensures stays { KeepsSeat R.stands_for token.old.me.0 actor.old token.new.me.0 actor.new }
 {
@@ -80,7 +80,7 @@ pub(crate) fn swap<L: Sectors, D: Sectors, R: Receiver>(
     requires mine { Mine table.now.table_id token.old (view_of actor.old) }
     requires asks { next (view_of actor.old) ≡ op.Swap word old new }
     ensures mine { Mine table.now.table_id token.new (view_of actor.new) }
-    ensures played { HasPlayed L.seen D.seen token.old.me.0.about (view_of actor.old) result (view_of actor.new) }
+    ensures played { HasPlayed L.seen D.seen token.old.me.0 (view_of actor.old) result (view_of actor.new) }
     ensures seat { token.new.id ≡ token.old.id }
     ensures stays { KeepsSeat R.stands_for token.old.me.0 actor.old token.new.me.0 actor.new }
 {

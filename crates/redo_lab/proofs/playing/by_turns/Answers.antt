@@ -1,5 +1,6 @@
 use Rattle.std.proofs.Common.{ap, length, subst, sym, ℕ, ◌∙◌}
 use Rattle.std.proofs.lemmas.Bool.{false≢true}
+use Rattle.redo_drive.specs.Views.{views_of}
 use Rattle.redo_machine.specs.declared.drive.Turns.{Turns}
 use Rattle.redo_lab.proofs.ByDrive.{spends-turns, tells-turns}
 use Rattle.redo_lab.proofs.Driving.{driven-comes}
@@ -22,11 +23,13 @@ returns-in-Ok-run_by_turns-clause-comes_to g c = λ words source source_now comm
     (driven-comes g.L.Sectors.seen g.L.Sectors.gives g.D.Sectors.seen g.D.Sectors.gives words source source_now c.args.log c.args.store command asked c.args.stops c.args.script.now
     c.in-Ok.opened c.in-Ok-run_by_turns.driven running c.laws.ensures
     (c.in-Ok.ensures.ready words source source_now command asked running (ap (λ (turns : Turns). turns.log_only) same))
+    c.in-Ok-run_by_turns.actors.items
     (tells-turns g.L.Sectors.seen g.L.Sectors.gives g.D.Sectors.seen g.D.Sectors.gives asked c.args.turns.now
-    (length c.in-Ok-make_followers.followers.items) c.in-Ok.opened c.args.script.now c.in-Ok-run_by_turns.driven same
+    (length c.in-Ok-make_followers.followers.items) c.in-Ok.opened c.args.script.now
+    (views_of c.in-Ok-run_by_turns.actors.items) c.in-Ok-run_by_turns.driven same
     (c.in-Ok-make_followers.ensures.untold.count_is ∙ few) is c.in-Ok-run_by_turns.ensures.turns)
     c.in-Ok-run_by_turns.ensures.owed (λ threads. absurd (false≢true (sym is ∙ threads)))
-    c.in-Ok-make_followers.followers.items c.in-Ok-run_by_turns.actors.items c.told_of.result
+    c.in-Ok-make_followers.followers.items c.told_of.result
     c.in-Ok-make_followers.ensures.new
     (subst (λ (n : ℕ). AreUntold n c.in-Ok-make_followers.followers.items) few c.in-Ok-make_followers.ensures.untold)
     c.in-Ok-run_by_turns.ensures.followed

@@ -1,4 +1,5 @@
 use Rattle.std.proofs.Common.{subst, ℕ}
+use Rattle.redo_drive.specs.Views.{views_of}
 use Rattle.redo_lab.proofs.ByDrive.{spends-turns, tells-threads}
 use Rattle.redo_lab.proofs.Driving.{driven-comes}
 use Rattle.redo_lab.proofs.Entered.{both-same, entries-then, owed-entries}
@@ -20,10 +21,12 @@ returns-in-Ok-drive_in_threads-clause-comes_to g c = λ words source source_now 
     (driven-comes g.L.Sectors.seen g.L.Sectors.gives g.D.Sectors.seen g.D.Sectors.gives words source source_now c.args.log c.args.store command asked c.args.stops c.args.script.now
     c.in-Ok.opened c.in-Ok-drive_in_threads.driven running c.laws.ensures
     (c.in-Ok.ensures.ready words source source_now command asked running same)
-    (tells-threads g.L.Sectors.seen g.L.Sectors.gives g.D.Sectors.seen g.D.Sectors.gives asked c.args.log_only c.in-Ok.opened c.args.script.now c.in-Ok-drive_in_threads.driven same is
+    c.in-Ok-drive_in_threads.actors.items
+    (tells-threads g.L.Sectors.seen g.L.Sectors.gives g.D.Sectors.seen g.D.Sectors.gives asked c.args.log_only c.in-Ok.opened c.args.script.now
+    (views_of c.in-Ok-drive_in_threads.actors.items) c.in-Ok-drive_in_threads.driven same is
     c.in-Ok-drive_in_threads.ensures.says)
     c.in-Ok-drive_in_threads.ensures.owed (λ threads. c.in-Ok-drive_in_threads.ensures.reads)
-    c.in-Ok-make_followers.followers.items c.in-Ok-drive_in_threads.actors.items c.told_of.result
+    c.in-Ok-make_followers.followers.items c.told_of.result
     c.in-Ok-make_followers.ensures.new
     (subst (λ (n : ℕ). AreUntold n c.in-Ok-make_followers.followers.items) few c.in-Ok-make_followers.ensures.untold)
     c.in-Ok-drive_in_threads.ensures.followed

@@ -1,9 +1,12 @@
 -- The machine begins the run, its turns lead to the end, and what `finish` tells of that end is what the run comes to.
-use Rattle.std.proofs.Common.{List, arith, rules, subst, sym}
+use Rattle.std.proofs.Common.{List, arith, length, rules, subst, sym}
 use Rattle.redo_drive.proofs.LogCount.{log_within_script}
 use Rattle.redo_drive.specs.Followed.{HaveFollowed}
+use Rattle.redo_drive.specs.Views.{views_of}
 use Rattle.redo_drive.specs.declared.actor.Actor.{Actor}
+use Rattle.redo_drive.specs.declared.drive.Driven.{Driven}
 use Rattle.redo_machine.proofs.RunLeft.{TurnsLead, by_turns, followed, owes}
+use Rattle.redo_machine.specs.ByTurns.{RunsByTurns}
 use Rattle.redo_machine.proofs.drive.run_by_turns.Given as given
 use Rattle.redo_machine.proofs.drive.run_by_turns.Goals as goal
 
@@ -50,9 +53,15 @@ returns-clause-owed g c = owes g.L.Sectors.seen g.L.Sectors.gives g.D.Sectors.se
     c.args.turns.now c.args.followers.items c.run-ended.new.self.actors.items _ (leads g c) c.requires.may
 
 pub returns-clause-turns : goal.returns-clause-turns
-returns-clause-turns g c = by_turns g.L.Sectors.seen g.L.Sectors.gives g.D.Sectors.seen g.D.Sectors.gives
+returns-clause-turns g c =
+    let driven : Driven g.row.L.Denot g.row.D.Denot =
+    record { ended = c.run-ended.result; closed = c.finish-closed.result.0 } in
+    subst (λ (actors : List (Actor g.row.R.Denot)). RunsByTurns g.L.Sectors.seen g.L.Sectors.gives g.D.Sectors.seen
+    g.D.Sectors.gives c.args.opened c.args.script.now c.args.turns.now (length c.args.followers.items)
+    (views_of actors) driven) (sym c.finish-closed.ensures.actors)
+    (by_turns g.L.Sectors.seen g.L.Sectors.gives g.D.Sectors.seen g.D.Sectors.gives
     g.R.Receiver.stands_for c.args.opened c.args.script.now
-    c.args.turns.now c.args.followers.items c.run-ended.new.self.actors.items _ (leads g c)
+    c.args.turns.now c.args.followers.items c.run-ended.new.self.actors.items driven (leads g c) c.requires.may)
 
 pub returns-clause-followed : goal.returns-clause-followed
 returns-clause-followed g c =

@@ -7,7 +7,7 @@ use Rattle.redo_rule.proofs.playing.play_next.Goals as goal
 
 pub took-requires : goal.took-requires
 took-requires g c =
-    let may = c.requires.mine.may.rest (sym c.next-op.ensures ∙ c.in-Rest.is) in record { fits = may.0; mark = may.1 }
+    let may = c.requires.seat.mine.may.rest (c.requires.asks ∙ c.in-Rest.is) in record { fits = may.0; mark = may.1 }
 
 pub returns-in-WriteBatch : goal.returns-in-WriteBatch
 returns-in-WriteBatch g c = record {
@@ -20,20 +20,20 @@ returns-in-WriteBatch g c = record {
 pub returns-in-Rest : goal.returns-in-Rest
 returns-in-Rest g c =
     let r = rested g.R.Receiver.stands_for c.args.seat.now.me.0 c.args.actor.now c.took.result c.took.new.self
-    (sym c.next-op.ensures ∙ c.in-Rest.is) c.requires.mine.may.free c.took.ensures in
+    (c.requires.asks ∙ c.in-Rest.is) c.requires.seat.mine.may.free c.took.ensures in
     record {
-      seat = subst (λ (z : model.Actor). IsSeatOf c.args.table.now.table_id c.args.seat.now z) (sym r.0) c.requires;
+      seat = subst (λ (z : model.Actor). IsSeatOf c.args.table.now.table_id c.args.seat.now z) (sym r.0) c.requires.seat;
       same = r.2;
-      played = inl (sym c.next-op.ensures ∙ c.in-Rest.is, r.0, r.1);
+      played = inl (c.requires.asks ∙ c.in-Rest.is, r.0, r.1);
     }
 
 pub returns-in_default : goal.returns-in_default
 returns-in_default g c = record {
-  seat = seat_behind c.args.table.now.table_id c.args.seat.now _ (view_of c.args.actor.now) (view_of c.play_token.new.actor) c.requires c.play_token.ensures.mine c.play_token.ensures.stays.data_part
+  seat = seat_behind c.args.table.now.table_id c.args.seat.now _ (view_of c.args.actor.now) (view_of c.play_token.new.actor) c.requires.seat c.play_token.ensures.mine c.play_token.ensures.stays.data_part
       (was_cleaner g.L.Sectors.seen g.D.Sectors.seen (view_of c.args.actor.now) (view_of c.play_token.new.actor) c.play_token.result c.play_token.ensures.played);
   same = c.play_token.ensures.stays.seat;
   played = inr c.play_token.ensures.played;
 }
 
 pub write_batch-requires-clause-part : goal.write_batch-requires-clause-part
-write_batch-requires-clause-part g c = c.requires.cleaner (batch_cleaner (view_of c.args.actor.now) (sym c.next-op.ensures ∙ c.in-WriteBatch.is))
+write_batch-requires-clause-part g c = c.requires.seat.cleaner (batch_cleaner (view_of c.args.actor.now) (c.requires.asks ∙ c.in-WriteBatch.is))
