@@ -50,10 +50,9 @@ module _ {L D : Type 0} (log_seen : L → Seen) (log_gives : L → Call → L �
       (left : LeavesRun log_seen log_gives data_seen data_gives stands known lines alone count starts actors closed)
     where
       pub runs_in_threads : (log_only : Bool) → alone ≡ log_only → HaveRun (views_of starts) (views_of actors) closed
-          → RunsInThreads opened script log_only (done_with closed)
+          → RunsInThreads opened script log_only (views_of actors) (done_with closed)
       runs_in_threads log_only only_is run = record {
         done = refl;
-        actors = views_of actors;
         of_script = subst (λ (b : Bool). AreActorsOf script b (views_of actors)) only_is
             (subst (λ (s : List ScriptLine). AreActorsOf s alone (views_of actors)) script_is
             (are_of_script log_seen log_gives data_seen data_gives stands known lines alone count starts actors closed

@@ -31,9 +31,9 @@ pub record AreActorsOf (script : List ScriptLine) (log_only : Bool) (actors : Li
 
 -- THE RUN IN THREADS came to these actors of the script. Each user has ended, and has answered all of its lines where the code
 -- tells of no failure. The history lists the groups of these actors.
-pub record RunsInThreads {L D : Type 0} (opened : Opened L D) (script : List ScriptLine) (log_only : Bool) (driven : Driven L D) : Type 0 where
+pub record RunsInThreads {L D : Type 0} (opened : Opened L D) (script : List ScriptLine) (log_only : Bool)
+    (actors : List model.Actor) (driven : Driven L D) : Type 0 where
   pub done : driven.ended ≡ run_end.Done
-  pub actors : List model.Actor
   pub of_script : AreActorsOf script log_only actors
   pub ended : HaveEnded actors
   pub answered : driven.closed.code ≡ 0 → HaveAnswered actors

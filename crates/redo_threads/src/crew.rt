@@ -3,6 +3,7 @@ ghost use Rattle.std.specs.Prelude.{length, ◌<◌, ◌≡◌};
 ghost use Rattle.redo_drive.specs.Views.{views_of};
 ghost use Rattle.redo_threads.specs.Working.{AreAtEnd, AreSeated, HasPlace, IsPutBack, IsTakenOut, KeepOn};
 
+use crate::bells::{Bells, Call};
 use crate::gate::Gate;
 use crate::pace::Pace;
 use crate::work::{stint, work};
@@ -11,7 +12,6 @@ use redo_drive::Actor;
 use redo_follow::Receiver;
 use redo_rule::{Ring, Seat};
 use std::sync::Wait;
-use std::sync::atomic::AtomicU64;
 
 /// An actor in its seat.
 #[derive(Drop)]
@@ -55,7 +55,7 @@ impl<L: Sectors, D: Sectors, F: Receiver + Drop> Crew<L, D, F> {
 /// one of them has gone on.
 fn round<L: Sectors, D: Sectors, F: Receiver, G: Gate>(
     table: &Ring<L, D>,
-    running: &AtomicU64,
+    bells: &Bells,
     gate: &G,
     crew: &mut Crew<L, D, F>,
 ) -> Option<bool>
@@ -64,13 +64,7 @@ fn round<L: Sectors, D: Sectors, F: Receiver, G: Gate>(
 {
     let mut open = None;
     for k in 0..crew.actors.len() {
-        if let Some(went_on) = stint(
-            table,
-            running,
-            gate,
-            &mut crew.seats[k],
-            &mut crew.actors[k],
-        ) {
+        if let Some(went_on) = stint(table, bells, gate, &mut crew.seats[k], &mut crew.actors[k]) {
             open = Some(went_on || open == Some(true));
         }
     }
@@ -81,19 +75,22 @@ fn round<L: Sectors, D: Sectors, F: Receiver, G: Gate>(
 pub(crate) fn play_here<R: Wait, L: Sectors, D: Sectors, F: Receiver, G: Gate>(
     rt: &R,
     table: &Ring<L, D>,
-    running: &AtomicU64,
+    bells: &Bells,
     gate: &G,
     crew: &mut Crew<L, D, F>,
 )
     requires { AreSeated table.now.table_id crew.old.seats.items (views_of crew.old.actors.items) }
     ensures { KeepOn F.stands_for table.now.table_id crew.old crew.new }
 {
-    let mut pace = Pace::new();
+    let mut pace = Pace::of_many(bells);
     for _ in rt.forever() {
-        match round(table, running, gate, crew) {
-            None => return,
-            Some(true) => pace.reset(),
-            Some(false) => pace.wait(rt),
+        match round(table, bells, gate, crew) {
+            None => {
+                pace.leave(bells);
+                return;
+            }
+            Some(true) => pace.moves(bells),
+            Some(false) => pace.waits(rt, bells, Call::Any),
         }
     }
     unreachable!()
@@ -103,7 +100,7 @@ pub(crate) fn play_here<R: Wait, L: Sectors, D: Sectors, F: Receiver, G: Gate>(
 pub(crate) fn to_ends<R: Wait, L: Sectors, D: Sectors, F: Receiver, G: Gate>(
     rt: &R,
     table: &Ring<L, D>,
-    running: &AtomicU64,
+    bells: &Bells,
     gate: &G,
     crew: &mut Crew<L, D, F>,
 )
@@ -115,7 +112,7 @@ pub(crate) fn to_ends<R: Wait, L: Sectors, D: Sectors, F: Receiver, G: Gate>(
         work(
             rt,
             table,
-            running,
+            bells,
             gate,
             &mut crew.seats[number],
             &mut crew.actors[number],

@@ -3,6 +3,7 @@ ghost use Rattle.std.specs.Prelude.{IfErr, IfOk, ◌≡◌};
 ghost use Rattle.redo_drive.specs.Startable.{AreNewFollowers, MayBegin};
 ghost use Rattle.redo_drive.specs.Drive.{Owes, ReadsToMarks};
 ghost use Rattle.redo_drive.specs.Followed.{HaveFollowed};
+ghost use Rattle.redo_drive.specs.Views.{views_of};
 ghost use Rattle.redo_rule.specs.Failing.{CodeHasCause};
 ghost use Rattle.redo_threads.specs.InThreads.{RunsInThreads};
 
@@ -41,7 +42,7 @@ pub fn drive_in_threads<
     requires new { AreNewFollowers opened.start followers.items }
     ensures err { IfErr result (λ error. (error.1 ≡ opened.log.dev) × (error.2 ≡ opened.store.dev)) }
     ensures owed { IfOk result (λ left. Owes L.seen L.gives D.seen D.gives opened script.now left.0) }
-    ensures says { IfOk result (λ left. RunsInThreads opened script.now log_only left.0) }
+    ensures says { IfOk result (λ left. RunsInThreads opened script.now log_only (views_of left.1.items) left.0) }
     ensures reads { IfOk result (λ left. ReadsToMarks L.seen D.seen opened script.now left.0.closed) }
     ensures cause { IfOk result (λ left. CodeHasCause L.seen D.seen left.0.closed.code opened.log left.0.closed.log opened.store left.0.closed.store) }
     ensures followed { IfOk result (λ left. HaveFollowed L.seen D.seen F.stands_for opened script.now followers.items left.1.items left.0.closed) }

@@ -5,6 +5,7 @@
 //! users at a gate, and refuse threads there.
 #![tactic(auto)]
 
+mod bells;
 mod crew;
 mod drive;
 mod gate;

@@ -1,74 +1,174 @@
 // How a thread waits.
+use crate::bells::{Bells, Call};
 use crossbeam_utils::Backoff;
-use redo_words::Step;
+use redo_drive::Actor;
+use redo_follow::Receiver;
 use std::sync::Wait;
-use std::thread::{Parker, yield_now};
+use std::thread::yield_now;
 use std::time::Duration;
 
-/// How often a thread spins before it yields, each time for twice as long.
-const SPINS: u32 = 7;
+/// How often a thread spins, each time for twice as long, and how often it yields then, before it sleeps.
+#[derive(Clone, Copy)]
+struct Patience {
+    spins: u32,
+    yields: u32,
+}
 
-/// How often it yields before it sleeps.
-const YIELDS: u32 = 32;
+/// Where it keeps nobody from a processor: for longer than a large group is written.
+const LONG: Patience = Patience {
+    spins: 7,
+    yields: 256,
+};
 
-/// How long a thread sleeps, in microseconds.
-const NAP: u64 = 50;
+/// Where it may. Those that spin or yield for long keep the one that could go on from its turn.
+const SHORT: Patience = Patience {
+    spins: 2,
+    yields: 20,
+};
 
-/// How a thread waits for another: it spins a little, leaves the processor to others a few times, and then sleeps for some
-/// microseconds at a time. With more threads than processors, those that yield for long keep the one that could go on from its
-/// turn; and those that sleep at once let each commit wait for a sleep.
+/// How long a thread sleeps that is called when there is something to do, in microseconds: at first, and then.
+const NAP: u64 = 1_000;
+
+const LONG_NAP: u64 = 1_000_000;
+
+/// How long one sleeps that isn't called for all that it could do: at first, and at most.
+const SHORT_NAP: u64 = 50;
+
+const LONG_SHORT_NAP: u64 = 1_600;
+
+/// How long a thread sleeps at first, how often as long from time to time, and at most.
+#[derive(Clone, Copy)]
+struct Naps {
+    first: u64,
+    factor: u64,
+    longest: u64,
+}
+
+/// How a thread waits for another: it spins a little, leaves the processor to others a few times, and then sleeps until it is
+/// called.
 #[derive(Drop)]
 pub(crate) struct Pace {
     backoff: Backoff,
-    // how often it has waited since it went on last
+    patience: Patience,
+    // whether it has waited since it went on last, how often, and whether a sleep has come to its end without a call
+    has_waited: bool,
     waits: u32,
-    // nobody wakes the thread: it sleeps until its time is over
-    parker: Parker,
-    // how many steps the actor has taken since it waited last
+    is_long: bool,
+    // how many steps its actors take in vain, and have taken since it waited last
+    in_vain: u64,
     steps: u64,
+    // the bell at which it is counted, and how often that had rung
+    call: Option<Call>,
+    heard: u64,
+    // how long it sleeps, and how long next
+    naps: Naps,
+    nap: u64,
 }
 
 impl Pace {
-    pub(crate) fn new() -> Pace {
+    fn of(bells: &Bells, in_vain: u64, naps: Naps) -> Pace {
         Pace {
             backoff: Backoff::new(),
+            patience: if bells.is_roomy() { LONG } else { SHORT },
+            has_waited: false,
             waits: 0,
-            parker: Parker::new(),
+            is_long: false,
+            in_vain,
             steps: 0,
+            call: None,
+            heard: 0,
+            naps,
+            nap: naps.first,
         }
     }
 
-    /// Waits a little, and longer from time to time.
-    pub(crate) fn wait<R: Wait>(&mut self, rt: &R) {
-        if self.waits < SPINS {
+    /// That of an actor.
+    pub(crate) fn new<F: Receiver>(actor: &Actor<F>, bells: &Bells) -> Pace {
+        let naps = match actor {
+            Actor::Closer(_) | Actor::Cleaner(_) | Actor::Checkpointer(_) => Naps {
+                first: SHORT_NAP,
+                factor: 2,
+                longest: LONG_SHORT_NAP,
+            },
+            _ => Naps {
+                first: NAP,
+                factor: LONG_NAP / NAP,
+                longest: LONG_NAP,
+            },
+        };
+        Pace::of(bells, actor.steps_in_vain(), naps)
+    }
+
+    /// That of a caller who plays several actors, the actors of the pages among them: none of its steps are in vain, as it counts
+    /// those that aren't.
+    pub(crate) fn of_many(bells: &Bells) -> Pace {
+        let naps = Naps {
+            first: SHORT_NAP,
+            factor: 2,
+            longest: LONG_SHORT_NAP,
+        };
+        Pace::of(bells, 0, naps)
+    }
+
+    /// How often it waits before it sleeps.
+    fn last_wait(&self) -> u32 {
+        self.patience.spins.saturating_add(self.patience.yields)
+    }
+
+    /// It sleeps no more.
+    pub(crate) fn leave(&mut self, bells: &Bells) {
+        if let Some(call) = self.call {
+            bells.leave(call);
+            self.call = None;
+        }
+    }
+
+    /// It has taken a step. Where it has taken more than it takes in vain, it has gone on, and waits for as short as at first. After a
+    /// long wait it doesn't spin and yield before the next one.
+    pub(crate) fn moves(&mut self, bells: &Bells) {
+        self.steps = self.steps.saturating_add(1);
+        if self.has_waited && self.steps > self.in_vain {
+            self.leave(bells);
+            self.has_waited = false;
+            self.waits = if self.is_long { self.last_wait() } else { 0 };
+            self.is_long = false;
+            self.nap = self.naps.first;
+            self.backoff.reset();
+        }
+    }
+
+    /// It sleeps by the bell at which it is counted, for longer from time to time.
+    fn sleep<R: Wait>(&mut self, rt: &R, bells: &Bells, call: Call) {
+        if call == Call::Room {
+            self.heard = bells.sleep(rt, call, self.heard, Duration::from_micros(SHORT_NAP));
+            return;
+        }
+        let heard = bells.sleep(rt, call, self.heard, Duration::from_micros(self.nap));
+        self.is_long = self.is_long || heard == self.heard;
+        self.heard = heard;
+        self.nap = self
+            .nap
+            .saturating_mul(self.naps.factor)
+            .min(self.naps.longest);
+    }
+
+    /// It waits for this call a little, and longer from time to time.
+    pub(crate) fn waits<R: Wait>(&mut self, rt: &R, bells: &Bells, call: Call) {
+        self.steps = 0;
+        self.has_waited = true;
+        if self.waits < self.patience.spins {
             self.waits += 1;
             self.backoff.spin();
-        } else if self.waits < SPINS + YIELDS {
+        } else if self.waits < self.last_wait() {
             self.waits += 1;
             yield_now();
+        } else if self.call == Some(call) {
+            // it has idled since it was counted
+            self.sleep(rt, bells, call);
         } else {
-            self.parker.park_timeout(rt, Duration::from_micros(NAP));
-        }
-    }
-
-    /// Waits for as short as at first from now on.
-    pub(crate) fn reset(&mut self) {
-        self.waits = 0;
-        self.backoff.reset();
-    }
-
-    /// Waits after a step, if it ended so that there is something to wait for: for as short as at first, if the actor has taken more
-    /// steps since it waited last than it takes in vain.
-    pub(crate) fn follow<R: Wait>(&mut self, rt: &R, step: Step, in_vain: u64) {
-        match step {
-            Step::Idle => {
-                if self.steps > in_vain {
-                    self.reset();
-                }
-                self.steps = 0;
-                self.wait(rt);
-            }
-            _ => self.steps = self.steps.saturating_add(1),
+            self.leave(bells);
+            self.heard = bells.enter(call);
+            self.call = Some(call);
         }
     }
 }

@@ -9,6 +9,7 @@ ghost use Rattle.redo_rule.specs.Reached.{ReachesAll};
 ghost use Rattle.redo_rule.specs.Sharing.{IsUnseated, opened_of, shared_script};
 ghost use Rattle.redo_threads.specs.Ended.{HaveRun};
 
+use crate::bells::Bells;
 use crate::crew::Crew;
 use crate::gate::Gate;
 use crate::starting::play_all;
@@ -17,8 +18,7 @@ use redo_drive::{Actor, Closed};
 use redo_follow::Receiver;
 use redo_rule::Shared;
 use std::sync::Wait;
-use std::sync::atomic::AtomicU64;
-use std::thread::Threads;
+use std::thread::{Threads, available_parallelism};
 
 /// Whether an actor is a user that hasn't ended.
 fn is_open<F: Receiver>(actor: &Actor<F>) -> bool {
@@ -31,6 +31,14 @@ fn is_open<F: Receiver>(actor: &Actor<F>) -> bool {
 /// How many users haven't ended: each of these is counted down by its last Op.
 fn open_users<F: Receiver>(actors: &[Actor<F>]) -> u64 {
     actors.iter().filter(|actor| is_open(actor)).count() as u64
+}
+
+/// How many processors threads may use, at least.
+fn processors<R: Threads>(rt: &R) -> u64 {
+    match available_parallelism(rt) {
+        Ok(count) => count.get() as u64,
+        Err(_) => 1,
+    }
 }
 
 /// Plays the actors of a store that they share, each in a thread of its own where one can be started, until each user has ended
@@ -56,10 +64,10 @@ pub fn run_threads<
     ensures reaches { ReachesAll (views_of result.1.items) result.0 }
     ensures cause { CodeHasCause L.seen D.seen result.0.code (opened_of shared).log result.0.log (opened_of shared).store result.0.store }
 {
-    let running = AtomicU64::new(open_users(actors.as_slice()));
+    let bells = Bells::new(open_users(actors.as_slice()), processors(rt));
     let seats = shared.seats(actors.as_slice());
     let crew = Crew { seats, actors };
-    let Crew { seats, actors } = play_all(rt, shared.ring(), &running, gate, crew);
+    let Crew { seats, actors } = play_all(rt, shared.ring(), &bells, gate, crew);
     let closed = shared.finish(seats, actors.as_slice());
     (closed, actors)
 }

@@ -5,6 +5,7 @@ ghost use Rattle.redo_rule.specs.Seating.{IsSeatOf};
 ghost use Rattle.redo_rule.specs.Sharing.{AreSeatsOf};
 ghost use Rattle.redo_threads.specs.Working.{AreAtEnd, AreSeated, GoOn, GoesOn, KeepOn};
 
+use crate::bells::Bells;
 use crate::crew::{Crew, Worker, play_here, to_ends};
 use crate::gate::Gate;
 use crate::work::work;
@@ -34,7 +35,7 @@ impl<L: Sectors, D: Sectors, F: Receiver> Promise<Worker<L, D, F>> for FromWorke
 fn work_or_return<R: Wait, L: Sectors, D: Sectors, F: Receiver, G: Gate>(
     rt: &R,
     table: &Ring<L, D>,
-    running: &AtomicU64,
+    bells: &Bells,
     refused: &AtomicU64,
     gate: &G,
     number: u64,
@@ -44,14 +45,7 @@ fn work_or_return<R: Wait, L: Sectors, D: Sectors, F: Receiver, G: Gate>(
     ensures { GoesOn F.stands_for table.now.table_id worker.seat worker.actor result.seat result.actor }
 {
     if refused.load(Ordering::SeqCst) != number {
-        work(
-            rt,
-            table,
-            running,
-            gate,
-            &mut worker.seat,
-            &mut worker.actor,
-        );
+        work(rt, table, bells, gate, &mut worker.seat, &mut worker.actor);
     }
     worker
 }
@@ -70,7 +64,7 @@ fn start_one<
     scope: &'s Scope<'s, E>,
     rt: &'s R,
     table: &'s Ring<L, D>,
-    running: &'s AtomicU64,
+    bells: &'s Bells,
     refused: &'s AtomicU64,
     gate: &'s G,
     number: usize,
@@ -90,7 +84,7 @@ fn start_one<
         move || -> Worker<L, D, F>
             requires { IsSeatOf table.now.table_id worker.seat (view_of worker.actor) }
             ensures { GoesOn F.stands_for table.entry.now.table_id worker.seat worker.actor result.seat result.actor }
-        { work_or_return(rt, table, running, refused, gate, number, worker) },
+        { work_or_return(rt, table, bells, refused, gate, number, worker) },
     ) {
         Ok(handle) => Ok(handle),
         Err(error) => {
@@ -114,7 +108,7 @@ fn start<
     scope: &'s Scope<'s, E>,
     rt: &'s R,
     table: &'s Ring<L, D>,
-    running: &'s AtomicU64,
+    bells: &'s Bells,
     refused: &'s AtomicU64,
     gate: &'s G,
     left: usize,
@@ -125,20 +119,20 @@ fn start<
     ensures { KeepOn F.stands_for table.now.table_id crew result }
 {
     if left == 0 {
-        play_here(rt, table, running, gate, &mut crew);
+        play_here(rt, table, bells, gate, &mut crew);
         return crew;
     }
     let number = left - 1;
     let worker = crew.take_out(number);
-    match start_one(scope, rt, table, running, refused, gate, number, worker) {
+    match start_one(scope, rt, table, bells, refused, gate, number, worker) {
         Ok(handle) => {
-            let mut crew = start(scope, rt, table, running, refused, gate, number, crew);
+            let mut crew = start(scope, rt, table, bells, refused, gate, number, crew);
             crew.put_back(number, handle.join(rt));
             crew
         }
         Err(worker) => {
             crew.put_back(number, worker);
-            start(scope, rt, table, running, refused, gate, number, crew)
+            start(scope, rt, table, bells, refused, gate, number, crew)
         }
     }
 }
@@ -150,7 +144,7 @@ pub(crate) fn play_all<
     D: Sectors + Send,
     F: Receiver + Drop + Send,
     G: Gate,
->(rt: &R, table: &Ring<L, D>, running: &AtomicU64, gate: &G, crew: Crew<L, D, F>) -> Crew<L, D, F>
+>(rt: &R, table: &Ring<L, D>, bells: &Bells, gate: &G, crew: Crew<L, D, F>) -> Crew<L, D, F>
     requires { AreSeatsOf table.now.table_id crew.seats.items (views_of crew.actors.items) }
     ensures goes_on { GoOn F.stands_for table.now.table_id crew result }
     ensures at_end { AreAtEnd (views_of result.actors.items) }
@@ -165,9 +159,9 @@ pub(crate) fn play_all<
             ensures { KeepOn F.stands_for table.entry.now.table_id crew result }
         {
             let left = crew.actors.len();
-            start(all, rt, table, running, refused_at, gate, left, crew)
+            start(all, rt, table, bells, refused_at, gate, left, crew)
         },
     );
-    to_ends(rt, table, running, gate, &mut played);
+    to_ends(rt, table, bells, gate, &mut played);
     played
 }

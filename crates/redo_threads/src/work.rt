@@ -2,10 +2,12 @@
 ghost use Rattle.std.specs.Prelude.{true, ◌≡◌};
 ghost use Rattle.model_running.specs.Schedule.{HasEnded};
 ghost use Rattle.redo_drive.specs.Views.{view_of};
+ghost use Rattle.model_core.specs.{next};
 ghost use Rattle.model_core.specs.Hands.{IsFreeToCheck};
 ghost use Rattle.redo_rule.specs.Seating.{IsSeatOf};
 ghost use Rattle.redo_threads.specs.Working.{AtEnd, GoesOn};
 
+use crate::bells::{Bells, call_of};
 use crate::gate::{Gate, point_after};
 use crate::pace::Pace;
 use redo_disk::Sectors;
@@ -15,7 +17,6 @@ use redo_rule::{Ring, Seat, holds_nothing, play};
 use redo_useractor::UserActor;
 use redo_words::{Op, Step};
 use std::sync::Wait;
-use std::sync::atomic::{AtomicU64, Ordering};
 
 /// How many Ops of an actor the caller plays at most before it turns to the next one. An actor that threads keep busy
 /// may never wait, and the next one would never have its turn. It is more than any actor plays in vain.
@@ -28,62 +29,72 @@ pub(crate) fn is_over(user: &UserActor) -> bool
     user.has_ended()
 }
 
-/// Whether an actor has come to its end: a user has ended, and any other holds nothing, and has failed or no user runs.
-fn is_at_end<F: Receiver>(actor: &Actor<F>, running: &AtomicU64) -> bool
+/// Whether an actor has come to its end that asks for this Op: a user has ended, and any other holds nothing, and has failed or no
+/// user runs.
+fn is_at_end<F: Receiver>(actor: &Actor<F>, op: Op, bells: &Bells) -> bool
     requires { IsFreeToCheck (view_of actor.now) }
     ensures { result ≡ true → AtEnd (view_of actor.now) }
 {
     if let Actor::User(user) = actor {
         return is_over(user);
     }
-    holds_nothing(actor)
-        && (running.load(Ordering::SeqCst) == 0 || matches!(actor.next(), Op::Rest))
-}
-
-/// What a user asks for.
-fn user_op<F: Receiver>(actor: &Actor<F>) -> Option<Op> {
-    match actor {
-        Actor::User(user) => Some(user.next()),
-        _ => None,
-    }
+    holds_nothing(actor) && (!bells.has_users() || matches!(op, Op::Rest))
 }
 
 /// What follows an Op of a user: it passes the gate where it has come to a point, and is counted down by its last Op.
-fn leave<G: Gate>(user: &UserActor, done: Op, running: &AtomicU64, gate: &G) {
-    if let Some(point) = point_after(done, user.next()) {
+fn leave<G: Gate>(user: &UserActor, done: Op, now: Op, bells: &Bells, gate: &G) {
+    if let Some(point) = point_after(done, now) {
         gate.pass(user.number(), point);
     }
     if user.has_ended() {
-        running.fetch_sub(1, Ordering::SeqCst);
+        bells.user_ended();
     }
 }
 
-/// One Op of an actor that hasn't come to its end.
+/// What follows an Op of an actor: it wakes those that wait for what that has done. A writer that idles has freed a tail from which
+/// no link led on, and waits for that itself. A user rings where it idles too: the writer may have found held the tail that it has
+/// freed, and the link is stored meanwhile.
+fn tell<F: Receiver, G: Gate>(
+    actor: &Actor<F>,
+    done: Op,
+    step: Step,
+    now: Op,
+    bells: &Bells,
+    gate: &G,
+) {
+    if let Actor::User(user) = actor {
+        bells.ring_after(done);
+        leave(user, done, now, bells, gate);
+    } else if step != Step::Idle {
+        bells.ring_after(done);
+    }
+}
+
+/// An actor that hasn't come to its end plays the Op that it asks for. Answers how its step ended, and the Op that it asks for now.
 fn turn<L: Sectors, D: Sectors, F: Receiver, G: Gate>(
     table: &Ring<L, D>,
-    running: &AtomicU64,
+    bells: &Bells,
     gate: &G,
     seat: &mut Seat<L, D>,
     actor: &mut Actor<F>,
-) -> Step
-    requires { IsSeatOf table.now.table_id seat.old (view_of actor.old) }
-    ensures { GoesOn F.stands_for table.now.table_id seat.old actor.old seat.new actor.new }
+    op: Op,
+) -> (Step, Op)
+    requires seat { IsSeatOf table.now.table_id seat.old (view_of actor.old) }
+    requires asks { next (view_of actor.old) ≡ op }
+    ensures goes_on { GoesOn F.stands_for table.now.table_id seat.old actor.old seat.new actor.new }
+    ensures asks { next (view_of actor.new) ≡ result.1 }
 {
-    let done = user_op(actor);
-    let step = play(table, seat, actor);
-    if let Some(done) = done {
-        if let Actor::User(user) = &*actor {
-            leave(user, done, running, gate);
-        }
-    }
-    step
+    let step = play(table, seat, actor, op);
+    let now = actor.next();
+    tell(&*actor, op, step, now, bells, gate);
+    (step, now)
 }
 
 /// Plays an actor until it waits or has come to its end, or for a stint. `None` where it is at its end already; else
 /// whether it has gone on, and not only looked in vain.
 pub(crate) fn stint<L: Sectors, D: Sectors, F: Receiver, G: Gate>(
     table: &Ring<L, D>,
-    running: &AtomicU64,
+    bells: &Bells,
     gate: &G,
     seat: &mut Seat<L, D>,
     actor: &mut Actor<F>,
@@ -91,13 +102,15 @@ pub(crate) fn stint<L: Sectors, D: Sectors, F: Receiver, G: Gate>(
     requires { IsSeatOf table.now.table_id seat.old (view_of actor.old) }
     ensures { GoesOn F.stands_for table.now.table_id seat.old actor.old seat.new actor.new }
 {
-    if is_at_end(actor, running) {
+    let mut op = actor.next();
+    if is_at_end(actor, op, bells) {
         return None;
     }
     let in_vain = actor.steps_in_vain();
     for steps in 0..STINT {
-        match turn(table, running, gate, seat, actor) {
-            Step::Moved => {}
+        let (step, now) = turn(table, bells, gate, seat, actor, op);
+        match step {
+            Step::Moved => op = now,
             Step::Idle => return Some(steps > in_vain),
             Step::Ended | Step::Failed(_) => return Some(true),
         }
@@ -109,7 +122,7 @@ pub(crate) fn stint<L: Sectors, D: Sectors, F: Receiver, G: Gate>(
 pub(crate) fn work<R: Wait, L: Sectors, D: Sectors, F: Receiver, G: Gate>(
     rt: &R,
     table: &Ring<L, D>,
-    running: &AtomicU64,
+    bells: &Bells,
     gate: &G,
     seat: &mut Seat<L, D>,
     actor: &mut Actor<F>,
@@ -118,16 +131,22 @@ pub(crate) fn work<R: Wait, L: Sectors, D: Sectors, F: Receiver, G: Gate>(
     ensures goes_on { GoesOn F.stands_for table.now.table_id seat.old actor.old seat.new actor.new }
     ensures at_end { AtEnd (view_of actor.new) }
 {
-    let in_vain = actor.steps_in_vain();
-    let mut pace = Pace::new();
+    let mut pace = Pace::new(actor, bells);
+    let mut op = actor.next();
     let mut moved = false;
     for _ in rt.forever() {
-        if !moved && is_at_end(actor, running) {
+        if !moved && is_at_end(actor, op, bells) {
+            pace.leave(bells);
             return;
         }
-        let step = turn(table, running, gate, seat, actor);
+        let (step, now) = turn(table, bells, gate, seat, actor, op);
         moved = step == Step::Moved;
-        pace.follow(rt, step, in_vain);
+        if step == Step::Idle {
+            pace.waits(rt, bells, call_of(actor, op));
+        } else {
+            pace.moves(bells);
+        }
+        op = now;
     }
     unreachable!()
 }

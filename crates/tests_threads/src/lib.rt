@@ -15,4 +15,6 @@ mod text;
 #[cfg(test)]
 mod told;
 #[cfg(test)]
+mod waking;
+#[cfg(test)]
 mod watch;

@@ -4,7 +4,7 @@ use crate::text::{lines_of, user_lines};
 use crate::told::{see_told, told_of};
 use crate::watch::{NOBODY, Watch};
 use redo_drive::{Closed, Driven};
-use redo_threads::drive_in_threads;
+use redo_threads::{Gate, drive_in_threads};
 use std::alloc::Global;
 use std::process::Abort;
 use std::sync::Wait;
@@ -12,12 +12,12 @@ use std::test::Fail;
 use std::thread::Threads;
 
 /// What the run in threads of a script on a new store leaves.
-fn left_by<R: Threads + Wait + Sync>(
+pub fn left_by<R: Threads + Wait + Sync, G: Gate>(
     rt: &R,
     alloc: Global,
     text: &str,
     way: Way,
-    watch: &Watch,
+    gate: &G,
 ) -> Result<Closed<Device, Device>, Fail> {
     let Ready { opened, script } = make_ready(alloc, text.as_bytes(), way)?;
     match drive_in_threads(
@@ -27,7 +27,7 @@ fn left_by<R: Threads + Wait + Sync>(
         &script,
         way.log_only,
         no_followers(alloc),
-        watch,
+        gate,
     ) {
         Ok((Driven { closed, .. }, _)) => Ok(closed),
         Err(_) => Err(Fail::from("no memory")),

@@ -51,7 +51,9 @@ fn turn<L: Sectors, D: Sectors>(
     ensures seats { AreSeatsOf table.now.table_id seats.new.items (views_of actors.new.items) }
     ensures count { length actors.new.items ≡ length actors.old.items }
 {
-    play(table, &mut seats[seat], &mut actors[seat])
+    let actor = &mut actors[seat];
+    let op = actor.next();
+    play(table, &mut seats[seat], actor, op)
 }
 
 /// Gives the actor at a seat turns until one doesn't move it on, at most so many. Answers how many, and how the last ends.

@@ -1,21 +1,28 @@
+use Rattle.std.proofs.Common.{sym}
 use Rattle.redo_threads.proofs.Going.{goes_refl, goes_trans}
 use Rattle.redo_threads.proofs.work.stint.Goals as goal
 
-pub loop-steps-init : goal.loop-steps-init
-loop-steps-init g c = goes_refl g.F.Receiver.stands_for c.args.table.now.table_id c.args.seat.now c.args.actor.now
+pub returns-then-is_at_end : goal.returns-then-is_at_end
+returns-then-is_at_end g c = goes_refl g.F.Receiver.stands_for c.args.table.now.table_id c.args.seat.now c.args.actor.now
     c.requires
+
+pub loop-steps-init : goal.loop-steps-init
+loop-steps-init g c = record {
+  goes_on = goes_refl g.F.Receiver.stands_for c.args.table.now.table_id c.args.seat.now c.args.actor.now c.requires;
+  asks = sym c.next-op.ensures;
+}
 
 pub returns-in-Idle : goal.returns-in-Idle
 returns-in-Idle g c = goes_trans g.F.Receiver.stands_for c.args.table.now.table_id c.args.seat.now c.loop-steps.seat
-    c.turn.new.seat
-    c.args.actor.now c.loop-steps.actor c.turn.new.actor c.loop-steps.invariant c.turn.ensures
+    c.turn-step.new.seat c.args.actor.now c.loop-steps.actor c.turn-step.new.actor c.loop-steps.invariant.goes_on c.turn-step.ensures.goes_on
 
 pub returns-in-Ended : goal.returns-in-Ended
 returns-in-Ended g c = goes_trans g.F.Receiver.stands_for c.args.table.now.table_id c.args.seat.now c.loop-steps.seat
-    c.turn.new.seat
-    c.args.actor.now c.loop-steps.actor c.turn.new.actor c.loop-steps.invariant c.turn.ensures
+    c.turn-step.new.seat c.args.actor.now c.loop-steps.actor c.turn-step.new.actor c.loop-steps.invariant.goes_on c.turn-step.ensures.goes_on
 
 pub loop-steps-preserved : goal.loop-steps-preserved
-loop-steps-preserved g c = goes_trans g.F.Receiver.stands_for c.args.table.now.table_id c.args.seat.now
-    c.loop-steps.seat c.turn.new.seat
-    c.args.actor.now c.loop-steps.actor c.turn.new.actor c.loop-steps.invariant c.turn.ensures
+loop-steps-preserved g c = record {
+  goes_on = goes_trans g.F.Receiver.stands_for c.args.table.now.table_id c.args.seat.now c.loop-steps.seat
+      c.turn-step.new.seat c.args.actor.now c.loop-steps.actor c.turn-step.new.actor c.loop-steps.invariant.goes_on c.turn-step.ensures.goes_on;
+  asks = c.turn-step.ensures.asks;
+}

@@ -7,11 +7,11 @@ use Rattle.redo_rule.proofs.AtRest.{seat_at, turned}
 use Rattle.redo_rule.specs.Sharing.{AreSeatsOf}
 use Rattle.tests_threads.proofs.seats.turns.turn.Goals as goal
 
-pub play-requires : goal.play-requires
-play-requires g c = let actors = c.args.actors.now.items in let seat = c.args.seat in
+pub play-requires-clause-seat : goal.play-requires-clause-seat
+play-requires-clause-seat g c = let actors = c.args.actors.now.items in let seat = c.args.seat in
     seat_at c.args.table.now.table_id c.args.seats.now.items (views_of actors) c.requires.seats seat c.index_mut.result.now
-    (view_of c.index_mut-2.result.now) c.index_mut.ensures.value
-    (ap view_of c.index_mut-2.ensures.value ∙ sym (get_or-map view_of actors seat c.index_mut-2.result.now))
+    (view_of c.index_mut-actor.result.now) c.index_mut.ensures.value
+    (ap view_of c.index_mut-actor.ensures.value ∙ sym (get_or-map view_of actors seat c.index_mut-actor.result.now))
     (subst (λ n. seat < n) (sym (length_views actors)) c.requires.there)
 
 pub returns-clause-seats : goal.returns-clause-seats
@@ -19,7 +19,7 @@ returns-clause-seats g c = let actors = c.args.actors.now.items in let seat = c.
     subst (λ views. AreSeatsOf c.args.table.now.table_id (set c.args.seats.now.items seat c.play.new.seat) views)
     (sym (map-set view_of actors seat c.play.new.actor))
     (turned c.args.table.now.table_id c.args.seats.now.items (views_of actors) c.requires.seats seat c.index_mut.result.now
-    (view_of c.index_mut-2.result.now) c.index_mut.ensures.value
-    (ap view_of c.index_mut-2.ensures.value ∙ sym (get_or-map view_of actors seat c.index_mut-2.result.now))
+    (view_of c.index_mut-actor.result.now) c.index_mut.ensures.value
+    (ap view_of c.index_mut-actor.ensures.value ∙ sym (get_or-map view_of actors seat c.index_mut-actor.result.now))
     (subst (λ n. seat < n) (sym (length_views actors)) c.requires.there)
     c.play.new.seat (view_of c.play.new.actor) c.play.ensures.seat c.play.ensures.same.number)

@@ -1,0 +1,202 @@
+// Who sleeps, and how it is woken.
+use redo_drive::Actor;
+use redo_follow::Receiver;
+use redo_words::{Op, Word};
+use std::sync::Wait;
+use std::sync::atomic::{AtomicU64, Ordering};
+use std::time::Duration;
+
+/// What a thread waits for, by what ends its wait.
+#[derive(Clone, Copy, Debug, PartialEq, Eq)]
+pub(crate) enum Call {
+    /// FLUSHED is stored: a user whose commit waits for it, and a follower.
+    Flushed,
+    /// WRITE is stored: a user whose commit waits for it, and the flusher.
+    Written,
+    /// A link is stored: the writer.
+    Linked,
+    /// DEVICE is given.
+    Device,
+    /// CKPT is stored: a user or the writer that has no space in the log.
+    Space,
+    /// What the closer, the cleaner and the checkpointer wait for. They are called only while others wait for space.
+    Pages,
+    /// What a user waits for in the middle of a group: room in a buffer, a latch or a list. Nobody calls it: it looks again soon.
+    Room,
+    /// Any of these: the caller, who plays several actors.
+    Any,
+}
+
+/// What an actor waits for that has idled by this Op.
+pub(crate) fn call_of<F: Receiver>(actor: &Actor<F>, done: Op) -> Call {
+    match (actor, done) {
+        (Actor::User(_) | Actor::Follower(_), Op::Load(Word::Flushed)) => Call::Flushed,
+        (Actor::User(user), Op::Load(Word::Write)) if user.to_link() == 0 => Call::Written,
+        (Actor::User(_), Op::Load(Word::Sn)) | (Actor::Writer(_), Op::Load(Word::Ckpt)) => {
+            Call::Space
+        }
+        (Actor::User(_), _) => Call::Room,
+        (_, Op::TakeDevice) => Call::Device,
+        (Actor::Writer(_), _) => Call::Linked,
+        (Actor::Flusher(_), _) => Call::Written,
+        _ => Call::Pages,
+    }
+}
+
+/// A bell: how many sleep by it or are about to, and how often it has rung.
+#[derive(Drop)]
+struct Bell {
+    sleepers: AtomicU64,
+    rings: AtomicU64,
+}
+
+impl Bell {
+    fn new() -> Bell {
+        Bell {
+            sleepers: AtomicU64::new(0),
+            rings: AtomicU64::new(0),
+        }
+    }
+
+    fn has_sleepers(&self) -> bool {
+        self.sleepers.load(Ordering::SeqCst) != 0
+    }
+
+    /// Wakes all that sleep by it. Where there are none it is one load.
+    fn ring(&self) {
+        if self.has_sleepers() {
+            self.rings.fetch_add(1, Ordering::SeqCst);
+            self.rings.wake_all();
+        }
+    }
+}
+
+/// How many users run, whether each that is busy has a processor, and a bell for each call.
+///
+/// No ring is lost. Who sleeps is counted first, then reads how often the bell has rung, and then takes its step once more, which
+/// looks at all that it waits for. It sleeps only if that idled and the bell hasn't rung since. Who changes a word does that first,
+/// and then reads the count. All this is sequentially consistent. If the count was 0, the sleeper was counted later, so its last
+/// look came after the change. If it wasn't, the bell rings after the change. Either that is before the sleeper read the rings, and
+/// then its last look came after the change too; or it is after, and then the kernel finds another number of rings, or wakes the
+/// sleeper.
+#[derive(Drop)]
+pub(crate) struct Bells {
+    running: AtomicU64,
+    is_roomy: bool,
+    flushed: Bell,
+    written: Bell,
+    linked: Bell,
+    device: Bell,
+    space: Bell,
+    pages: Bell,
+    room: Bell,
+    any: Bell,
+}
+
+impl Bells {
+    /// Of a run of so many users. It is roomy where these, the writer and the flusher have a processor each.
+    pub(crate) fn new(users: u64, processors: u64) -> Bells {
+        Bells {
+            running: AtomicU64::new(users),
+            is_roomy: users.saturating_add(2) <= processors,
+            flushed: Bell::new(),
+            written: Bell::new(),
+            linked: Bell::new(),
+            device: Bell::new(),
+            space: Bell::new(),
+            pages: Bell::new(),
+            room: Bell::new(),
+            any: Bell::new(),
+        }
+    }
+
+    fn bell(&self, call: Call) -> &Bell {
+        match call {
+            Call::Flushed => &self.flushed,
+            Call::Written => &self.written,
+            Call::Linked => &self.linked,
+            Call::Device => &self.device,
+            Call::Space => &self.space,
+            Call::Pages => &self.pages,
+            Call::Room => &self.room,
+            Call::Any => &self.any,
+        }
+    }
+
+    /// Whether who waits keeps nobody from a processor.
+    pub(crate) fn is_roomy(&self) -> bool {
+        self.is_roomy
+    }
+
+    /// Whether a user runs.
+    pub(crate) fn has_users(&self) -> bool {
+        self.running.load(Ordering::SeqCst) != 0
+    }
+
+    /// A user has ended. The last one wakes all.
+    pub(crate) fn user_ended(&self) {
+        if self.running.fetch_sub(1, Ordering::SeqCst) == 1 {
+            self.ring_all();
+        }
+    }
+
+    /// Counts one more that is about to sleep, and tells how often the bell has rung. Who waits for space wakes those that free it.
+    pub(crate) fn enter(&self, call: Call) -> u64 {
+        let bell = self.bell(call);
+        bell.sleepers.fetch_add(1, Ordering::SeqCst);
+        if call == Call::Space {
+            self.pages.ring();
+        }
+        bell.rings.load(Ordering::SeqCst)
+    }
+
+    /// Sleeps for so long, unless the bell has rung more often than this or rings, and tells how often it has then. The kernel
+    /// compares 32 bits.
+    pub(crate) fn sleep<R: Wait>(&self, rt: &R, call: Call, heard: u64, time: Duration) -> u64 {
+        let rings = &self.bell(call).rings;
+        rings.park_timeout(rt, (heard & 0xffff_ffff) as u32, time);
+        rings.load(Ordering::SeqCst)
+    }
+
+    /// Counts one fewer.
+    pub(crate) fn leave(&self, call: Call) {
+        self.bell(call).sleepers.fetch_sub(1, Ordering::SeqCst);
+    }
+
+    fn ring_all(&self) {
+        self.flushed.ring();
+        self.written.ring();
+        self.linked.ring();
+        self.device.ring();
+        self.space.ring();
+        self.pages.ring();
+        self.any.ring();
+    }
+
+    /// Wakes the actors of the pages, if somebody waits for space.
+    fn ring_pages(&self) {
+        if self.space.has_sleepers() {
+            self.pages.ring();
+        }
+    }
+
+    /// Wakes those that wait for what this Op has done.
+    pub(crate) fn ring_after(&self, done: Op) {
+        match done {
+            // an advance stores 0 where it clears a link
+            Op::Store(Word::Wlink(_), 0) => return,
+            Op::Store(Word::Wlink(_) | Word::Wtail, _) => self.linked.ring(),
+            Op::Store(Word::Write, _) => self.written.ring(),
+            Op::Store(Word::Flushed, _) => {
+                self.flushed.ring();
+                self.ring_pages();
+            }
+            Op::Store(Word::Ctail | Word::Place(_), _) => self.ring_pages(),
+            Op::Store(Word::Ckpt, _) => self.space.ring(),
+            Op::GiveDevice => self.device.ring(),
+            Op::Store(Word::Failed, _) => self.ring_all(),
+            _ => return,
+        }
+        self.any.ring();
+    }
+}
