@@ -38,10 +38,11 @@ fn loses_a_line_whose_sync_fails(rt: HostRuntime) -> Result<(), Fail> {
         &rt,
         early.saturating_add(opening).saturating_add(1),
         "
-log fails @ | crash            | 1 f b1 3 100 7 / 1 f b1 3 100 8 / | 0 | open 8204 / g 8204 8210 1 0 lost / left 1 1 / marks 8210 8210 8204 8192 / recovered 0 8204
-log fails @ | run              | 1 f b1 3 100 7 / 1 f b1 3 100 8 / | 6 | open 8204 / g 8204 8210 1 0 lost / left 1 1 / marks 8210 8210 8204 8192 / fault log device
-log fails @ | crash --log-only | 1 f b1 3 100 7 / 1 f b1 3 100 8 / | 0 | open 8204 / g 8204 8210 1 0 lost / left 1 1 / marks 8210 8210 8204 8192 / recovered 0 8204
-log fails @ | run --log-only   | 1 f b1 3 100 7 / 1 f b1 3 100 8 / | 6 | open 8204 / g 8204 8210 1 0 lost / left 1 1 / marks 8210 8210 8204 8192 / fault log device
+log fails @ | crash             | 1 f b1 3 100 7 / 1 f b1 3 100 8 / | 0 | open 8204 / g 8204 8210 1 0 lost / left 1 1 / marks 8210 8210 8204 8192 / recovered 0 8204
+log fails @ | run               | 1 f b1 3 100 7 / 1 f b1 3 100 8 / | 6 | open 8204 / g 8204 8210 1 0 lost / left 1 1 / marks 8210 8210 8204 8192 / fault log device
+log fails @ | crash --log-only  | 1 f b1 3 100 7 / 1 f b1 3 100 8 / | 0 | open 8204 / g 8204 8210 1 0 lost / left 1 1 / marks 8210 8210 8204 8192 / recovered 0 8204
+log fails @ | run --log-only    | 1 f b1 3 100 7 / 1 f b1 3 100 8 / | 6 | open 8204 / g 8204 8210 1 0 lost / left 1 1 / marks 8210 8210 8204 8192 / fault log device
+log fails @ | run --followers 1 | 1 f b1 3 100 7 / 1 f b1 3 100 8 / | 6 | open 8204 / g 8204 8210 1 0 lost / left 1 1 / marks 8210 8210 8204 8192 / follow 1 0 8204 00000000 / fault log device
 ",
     )
 }
@@ -118,6 +119,18 @@ fn see_failing(
 fn tells_of_each_call_that_failed(rt: HostRuntime) -> Result<(), Fail> {
     see_failing(&rt, "log", "6\n")?;
     see_failing(&rt, "data", "7\n")
+}
+
+/// The run of one line makes no call of the data device after its opening. In this other run the cleaner takes the latch of page 3
+/// behind the first line: the user waits for that until the batch fails, and the follower has the group by then.
+#[test]
+fn tells_of_a_follower_where_a_batch_fails(rt: HostRuntime) -> Result<(), Fail> {
+    let opened = failing_calls(&rt, "data", "7\n")?;
+    play_at(
+        &rt,
+        opened,
+        "data fails @ | run --turns 2 --followers 1 | 1 f b1 3 100 7 / 1 f b1 3 101 8 / 1 f b1 3 102 9 / | 7 | open 8204 / g 8204 8210 1 0 flushed / left 1 2 / marks 8210 8210 8210 8192 / follow 1 1 8210 e4fd66e1 / fault data device",
+    )
 }
 
 #[test]

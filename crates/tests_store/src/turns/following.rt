@@ -2,7 +2,7 @@
 ghost use Rattle.std.specs.Prelude.{◌<◌, ◌^◌, IfOk};
 ghost use Rattle.redo_drive.specs.Startable.{AreNewFollowers};
 
-use super::runs::{NO_TURNS, Run, play, take_turns};
+use super::runs::{NO_TURNS, Run, left_of, play, spelled, take_turns};
 use super::store::{machine_on, opened};
 use redo_drive::{Actor, RunEnd};
 use redo_follow::{Follower, Receiver};
@@ -74,26 +74,71 @@ fn followed(rt: &impl Abort, alloc: Global, most: u64) -> Result<(String, Op), F
     };
     let got = follower.receiver();
     let (spans, texts) = (got.spans.as_slice(), got.texts.as_slice());
-    let told = format!(in alloc; "{taken:?} {spans:?} {texts:?} {}", closed.marks.flushed)?;
+    let (flushed, place) = (closed.marks.flushed, follower.place());
+    let told = format!(in alloc; "{taken:?} {spans:?} {texts:?} of {flushed} up to {place}")?;
     Ok((told, follower.next()))
 }
 
-/// Its receiver gets the group that is flushed, once, and then it waits: its place is FLUSHED.
+/// It loads FLUSHED, takes the log part, reads the block, and gives the part back. By that its receiver has the group that is flushed,
+/// once, and its place is FLUSHED. Then it stores its place, and waits.
 #[test]
 fn a_follower_gets_what_is_flushed(rt: HostRuntime) -> Result<(), Fail> {
-    let (told, next) = followed(&rt, rt.alloc(), u64::MAX)?;
-    let want = "(6, Idle) [(8204, 8210)] [129, 1, 3, 0, 100, 7] 8210";
-    assert!(rt; told.as_str() == want, "{told}");
-    assert_eq!(rt; next, Op::Load(Word::Failed));
+    let group = "[(8204, 8210)] [129, 1, 3, 0, 100, 7] of 8210 up to 8210";
+    for (most, taken, got, asks) in [
+        (3, "(3, Moved)", "[] [] of 8210 up to 8204", Op::GiveDevice),
+        (4, "(4, Moved)", group, Op::Store(Word::Place(1), 8_210)),
+        (u64::MAX, "(6, Idle)", group, Op::Load(Word::Failed)),
+    ] {
+        let (told, next) = followed(&rt, rt.alloc(), most)?;
+        assert!(rt; told.starts_with(taken) && told.ends_with(got), "{told}");
+        assert_eq!(rt; next, asks);
+    }
     Ok(())
 }
 
-/// Once it has handed the group on, it stores its place.
+/// A round of the turns of everyone but the follower, each until it waits.
+const OTHERS: &str = "0-* 1-* 2-* 3-* 4-* 5-* ";
+
+/// A line of a group of 8,192 bytes.
+const FULL: &str = "1 n s 1 38 (55*4050);s 1 38 (55*4050);s 1 38 (55*70)\n";
+
+/// What a run of thirty such lines comes to in which the follower gets no turn but these, at the end: how many groups there are, and
+/// the marks.
+fn held_back(rt: &impl Abort, alloc: Global, last: &str) -> Result<String, Fail> {
+    let opened = opened(alloc, 0)?;
+    let followers = one_follower(alloc, opened.start)?;
+    let text = spelled(alloc, FULL)?.repeat(alloc, 30)?;
+    let mut turns = OTHERS.repeat(alloc, 8)?;
+    turns.push_str(last)?;
+    let run = Run {
+        turns: turns.as_str(),
+        ..NO_TURNS
+    };
+    let mut machine = machine_on(rt, alloc, opened, text.as_bytes(), followers);
+    let ended = play(rt, &mut machine, &run);
+    let (closed, _) = machine.finish();
+    Ok(left_of(alloc, ended, &closed)?)
+}
+
+/// The log has 1,022 blocks, of which 544 are kept free, and the checkpoint stands at 8,192 as long as FOLLOW stands at 8,204: a group
+/// may begin up to 252,928. The k-th one starts at the sn 7,936 + 8,192 * k, from 0: the last that may begin is the one of k = 28, and
+/// it ends at 253,420. Once the follower has had its turns, the checkpoint goes to 252,928, and the last group is reserved.
 #[test]
-fn a_follower_stores_its_place(rt: HostRuntime) -> Result<(), Fail> {
-    let (told, next) = followed(&rt, rt.alloc(), 4)?;
-    let want = "(4, Moved) [(8204, 8210)] [129, 1, 3, 0, 100, 7] 8210";
-    assert!(rt; told.as_str() == want, "{told}");
-    assert_eq!(rt; next, Op::Store(Word::Place(1), 8_210));
+fn a_follower_without_turns_holds_the_users_back(rt: HostRuntime) -> Result<(), Fail> {
+    for (last, ended, marks) in [
+        (
+            "",
+            "Spent { turns: 0, user: 1 } 0 29: ",
+            " (253420, 253420, 253420, 8192)",
+        ),
+        (
+            "6-* 5-* 0.*",
+            "Done 0 30: ",
+            " (253420, 253420, 253420, 252928)",
+        ),
+    ] {
+        let told = held_back(&rt, rt.alloc(), last)?;
+        assert!(rt; told.starts_with(ended) && told.ends_with(marks), "{told}");
+    }
     Ok(())
 }

@@ -123,7 +123,7 @@ pub fn play<L: Sectors, D: Sectors, R: Receiver>(
 }
 
 /// A text with what stands in brackets as often as it says there.
-fn spelled(alloc: Global, text: &str) -> Result<String, Fail> {
+pub fn spelled(alloc: Global, text: &str) -> Result<String, Fail> {
     let mut all = String::new(alloc);
     for piece in text.split('(') {
         let (times, rest) = piece.split_once(')').unwrap_or(("", piece));
