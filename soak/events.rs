@@ -29,7 +29,8 @@ impl Write {
 
 #[derive(PartialEq)]
 pub enum What {
-    Seek,
+    /// A read or write begins, of which a write tells what it wrote.
+    Called,
     Write(Write),
     /// A sync that succeeded.
     Sync,
@@ -53,7 +54,7 @@ pub fn events_of(mut bytes: &[u8]) -> Result<Vec<Event>, String> {
         bytes = &bytes[HEADER..];
         let (at, length) = (number(header, 8..16), number(header, 16..24));
         let what = match header[0] {
-            b's' => What::Seek,
+            b'c' => What::Called,
             b'f' => What::Sync,
             _ => {
                 if !(at.is_multiple_of(512) && length.is_multiple_of(512)) {
@@ -76,7 +77,7 @@ pub fn events_of(mut bytes: &[u8]) -> Result<Vec<Event>, String> {
     Ok(events)
 }
 
-/// How often the device was called: each read and write seeks its place first.
+/// How often the device was called.
 pub fn calls_of(events: &[Event], device: usize) -> u64 {
     let is_call = |event: &&Event| event.device == device && !matches!(event.what, What::Write(_));
     events.iter().filter(is_call).count() as u64

@@ -68,12 +68,11 @@ static int lie(char *bytes, size_t asked, ssize_t *length, off_t at) {
     return 1;
 }
 
-ssize_t read(int file, void *bytes, size_t asked) {
+ssize_t pread(int file, void *bytes, size_t asked, off_t at) {
     int device = device_of(file);
-    if (device < 0) return syscall(SYS_read, file, bytes, asked);
+    if (device < 0) return syscall(SYS_pread64, file, bytes, asked, at);
     pthread_mutex_lock(&turn);
-    off_t at = syscall(SYS_lseek, file, 0, SEEK_CUR);
-    ssize_t length = syscall(SYS_read, file, bytes, asked);
+    ssize_t length = syscall(SYS_pread64, file, bytes, asked, at);
     int error = errno;
     int lied = made++ == number && lie(bytes, asked, &length, at);
     char line[128];
@@ -83,3 +82,5 @@ ssize_t read(int file, void *bytes, size_t asked) {
     errno = error;
     return length;
 }
+
+ssize_t pread64(int file, void *bytes, size_t asked, off_t at) { return pread(file, bytes, asked, at); }

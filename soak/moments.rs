@@ -17,7 +17,7 @@ fn is_write(event: &Event) -> bool {
 
 /// The moments between events that differ: at the start, and after each write and sync.
 pub fn moments_of(events: &[Event]) -> Vec<usize> {
-    let changes = |moment: &usize| !matches!(events[*moment - 1].what, What::Seek);
+    let changes = |moment: &usize| !matches!(events[*moment - 1].what, What::Called);
     let mut moments = vec![0];
     moments.extend((1..=events.len()).filter(changes));
     moments

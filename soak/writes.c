@@ -1,5 +1,5 @@
-// Tells of the calls that a program makes on the files `redo.log` and `redo.data`: each seek, each write with its bytes, each
-// good sync, in their order, whichever thread makes them: those of one device follow each other, and those of both run side
+// Tells of the calls that a program makes on the files `redo.log` and `redo.data`: each read or write with its place, each
+// write with its bytes, each good sync, in their order, whichever thread makes them: those of one device follow each other, and those of both run side
 // by side as the program has them. It is loaded in front of the C library. EVENTS names the file that takes them. FAILS may
 // hold a device (0 or 1), a number and 0 or 1: that write or sync of the device, counted from 0, then fails, and such a write
 // is made all the same where the last number is 1. KILLS may hold a device and two numbers: of that write of the device,
@@ -76,10 +76,9 @@ static void tell(char kind, int name, uint64_t at, const void *bytes, size_t len
     if (syscall(SYS_writev, events, parts, 2) != whole) abort();
 }
 
-static void write_and_die(int name, int file, const void *bytes, size_t length) {
+static void write_and_die(int name, int file, const void *bytes, size_t length, off_t at) {
     size_t part = (size_t)kills_sectors * SECTOR < length ? (size_t)kills_sectors * SECTOR : length;
-    off_t at = syscall(SYS_lseek, file, 0, SEEK_CUR);
-    ssize_t written = part ? syscall(SYS_write, file, bytes, part) : 0;
+    ssize_t written = part ? syscall(SYS_pwrite64, file, bytes, part, at) : 0;
     if (written > 0) tell('w', name, at, bytes, written);
     for (;;) kill(getpid(), SIGKILL);
 }
@@ -89,32 +88,34 @@ static int is_failing(int name) {
     return name - LOG == fails_device && changes[name - LOG]++ == fails_number;
 }
 
-off_t lseek(int file, off_t at, int from) {
+ssize_t pread(int file, void *bytes, size_t length, off_t at) {
     int name = name_of(file);
-    if (name == OTHER) return syscall(SYS_lseek, file, at, from);
+    if (name == OTHER) return syscall(SYS_pread64, file, bytes, length, at);
     pthread_mutex_lock(&turns[name - LOG]);
-    off_t reached = syscall(SYS_lseek, file, at, from);
-    tell('s', name, reached, "", 0);
+    tell('c', name, at, "", 0);
+    ssize_t read = syscall(SYS_pread64, file, bytes, length, at);
     pthread_mutex_unlock(&turns[name - LOG]);
-    return reached;
+    return read;
 }
 
-off_t lseek64(int file, off_t at, int from) { return lseek(file, at, from); }
+ssize_t pread64(int file, void *bytes, size_t length, off_t at) { return pread(file, bytes, length, at); }
 
-ssize_t write(int file, const void *bytes, size_t length) {
+ssize_t pwrite(int file, const void *bytes, size_t length, off_t at) {
     int name = name_of(file);
-    if (name == OTHER) return syscall(SYS_write, file, bytes, length);
+    if (name == OTHER) return syscall(SYS_pwrite64, file, bytes, length, at);
     pthread_mutex_lock(&turns[name - LOG]);
-    if (name - LOG == kills_device && writes[name - LOG]++ == kills_number) write_and_die(name, file, bytes, length);
+    tell('c', name, at, "", 0);
+    if (name - LOG == kills_device && writes[name - LOG]++ == kills_number) write_and_die(name, file, bytes, length, at);
     int fails = is_failing(name);
-    off_t at = syscall(SYS_lseek, file, 0, SEEK_CUR);
-    ssize_t written = fails && !fails_is_made ? 0 : syscall(SYS_write, file, bytes, length);
+    ssize_t written = fails && !fails_is_made ? 0 : syscall(SYS_pwrite64, file, bytes, length, at);
     int error = errno;
     if (written > 0) tell('w', name, at, bytes, written);
     pthread_mutex_unlock(&turns[name - LOG]);
     errno = fails ? EIO : error;
     return fails ? -1 : written;
 }
+
+ssize_t pwrite64(int file, const void *bytes, size_t length, off_t at) { return pwrite(file, bytes, length, at); }
 
 static int sync_by(long call, int file) {
     int name = name_of(file);
