@@ -1,5 +1,5 @@
 #!/bin/sh
-# Five crashes, one after another: runs each script of this folder and says what to look at. From anywhere: examples/tour.sh
+# Five crashes, one after another: runs a script of this folder each and says what to look at. From anywhere: examples/tour.sh
 # It takes the kit's `rt`, which builds the program unproved each time, a minute of one processor. Where REDOLAB names a
 # program, such as crates/redolab/out/redolab that `rt run` leaves, it takes that.
 set -eu
@@ -50,5 +50,6 @@ The page is read from its doublewrite slot and the log: 02 is the last of the tw
 stop log_wraps 32 9 'the log goes round, and a group across its end is lost whole.' \
     "The script is repeated 32 times. Its 124th group begins at 1047567 and lies across the ring's end,
 at 1055744. All of its writes came through, and their sync failed. The pick keeps its first two blocks.
-In the places of the others an older round stands, so the group is not recovered." \
+In the places of the next 14 stand zeros, and in the tail block of its last bytes an older one does. So the
+group is not recovered." \
     crash --stop-log 408 --pick 3
