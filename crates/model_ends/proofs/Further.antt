@@ -21,6 +21,7 @@ use Rattle.model_ends.proofs.UserTurns.{IsLogStep}
 use Rattle.model_core.specs.Actors as actor
 use Rattle.model_core.specs.declared.ops.Answer.TheVariants as answer
 use Rattle.model_core.specs.declared.steps.AdvanceStep.TheVariants as advance_step
+use Rattle.model_core.specs.declared.steps.CheckpointerStep.TheVariants as checkpointer_step
 use Rattle.model_core.specs.declared.steps.FlusherStep.TheVariants as flusher_step
 use Rattle.model_core.specs.declared.steps.UserStep.TheVariants as user_step
 use Rattle.model_core.specs.declared.steps.WriterStep.TheVariants as writer_step
@@ -54,6 +55,7 @@ Told c failed _ = ⊥
 abbrev pub StoresCode : Actor → Type 0
 StoresCode (actor.Writer s) = s.step ≡ writer_step.StoreFailed
 StoresCode (actor.Flusher t) = t.step ≡ flusher_step.StoreFailed
+StoresCode (actor.Checkpointer t) = t.step ≡ checkpointer_step.StoreFailed
 StoresCode _ = ⊥
 
 abbrev pub HasStorer : List Actor → Type 0

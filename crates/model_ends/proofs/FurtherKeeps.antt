@@ -30,7 +30,7 @@ use Rattle.model_core.specs.declared.steps.FlusherStep.TheVariants as flusher_st
 use Rattle.model_core.specs.declared.steps.WriterStep.TheVariants as writer_step
 use Rattle.model_core.specs.declared.words.Word.TheVariants as word
 
-zero_back : (x y : ℕ) → (0 < x → 0 < y) → y ≡ 0 → x ≡ 0
+pub zero_back : (x y : ℕ) → (0 < x → 0 < y) → y ≡ 0 → x ≡ 0
 zero_back x y on is = elim (dec_le 1 x) [
   | yes d ↦ (let z = on d in absurd (omega arith))
   | no d ↦ omega arith
@@ -61,7 +61,7 @@ is_broken false d e = absurd (cc)
 
 -- an actor keeps its kind
 module _ (actors : List Actor) (seat : ℕ) (a b : Actor) (at : get_elem? actors seat ≡ some a) (later : IsSameActor a b) where
-  keeps_writer : HasWriter actors → HasWriter (set actors seat b)
+  pub keeps_writer : HasWriter actors → HasWriter (set actors seat b)
   keeps_writer w = elim (ℕ_discrete w.0 seat) [
     | yes e ↦ (
         let here : get_elem? actors seat ≡ some (actor.Writer w.1) = subst (λ (k : ℕ). get_elem? actors k ≡ some (actor.Writer w.1)) e w.2 in
@@ -81,7 +81,7 @@ module _ (actors : List Actor) (seat : ℕ) (a b : Actor) (at : get_elem? actors
     | no n ↦ (w.0, w.1, set_else actors seat w.0 b n ∙ w.2)
   ]
 
-  keeps_storer : (StoresCode a → ⊥) → HasStorer actors → HasStorer (set actors seat b)
+  pub keeps_storer : (StoresCode a → ⊥) → HasStorer actors → HasStorer (set actors seat b)
   keeps_storer not_this w = (
     w.0,
     w.1,
@@ -154,12 +154,12 @@ module _ (D : LogSide) (L : LogLaws D) (E : DataSide) (c : Setup) (spare : ℕ) 
     told (actor.Joined x) at v on = absurd (F.each seat (actor.Joined x) at)
 
     abbrev PartLeft : Actor → Type 0
-    PartLeft a = Left D L c spare m g p actors seat both.logged F ls (D.failed p) code q (shared_left m (next a)) a (took a (said a))
+    PartLeft a = Left D L c spare m g p actors seat both.logged F.writer F.stable ls (D.failed p) code q (shared_left m (next a)) a (took a (said a))
 
     left : (a : Actor) → get_elem? actors seat ≡ some a → LogServed D p (lent a) (next a) code q → PartLeft a
-    left (actor.User u) at v = user_left D L c spare m g p actors seat both.logged F ls (D.failed p) code q u v (took (actor.User u) (said (actor.User u)))
-    left (actor.Writer s) at v = writer_left D L c spare m g p actors seat both.logged F ls (D.failed p) code q s at v
-    left (actor.Flusher t) at v = flusher_left D L c spare m g p actors seat both.logged F ls (D.failed p) code q t at v
+    left (actor.User u) at v = user_left D L c spare m g p actors seat both.logged F.writer F.stable ls (D.failed p) code q u v (took (actor.User u) (said (actor.User u)))
+    left (actor.Writer s) at v = writer_left D L c spare m g p actors seat both.logged F.writer F.stable ls (D.failed p) code q s at v
+    left (actor.Flusher t) at v = flusher_left D L c spare m g p actors seat both.logged F.writer F.stable ls (D.failed p) code q t at v
     left (actor.Closer x) at v = absurd (F.each seat (actor.Closer x) at)
     left (actor.Cleaner x) at v = absurd (F.each seat (actor.Cleaner x) at)
     left (actor.Checkpointer x) at v = absurd (F.each seat (actor.Checkpointer x) at)

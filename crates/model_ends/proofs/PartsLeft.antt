@@ -5,7 +5,7 @@ use Rattle.std.specs.Prelude.{slice_index, slice_set}
 use lib.ListN.{get_elem?}
 use mathlib.Core.Option.{some, some-injective}
 use Rattle.model_core.proofs.Lsns.{lsn_less}
-use Rattle.model_core.specs.{Actor, Blocks, current_page, flusher_holds, flusher_op, flusher_took, FlusherState, holds, lent, Listed, LogServed, lsn, next, Nothing, page_words_at, shared_answer, shared_left, SharedWords, tail_word, took, user_op, UserState, with_page_words, writer_holds, writer_op, writer_took, WriterState, wrote}
+use Rattle.model_core.specs.{Actor, Blocks, checkpointer_holds, current_page, flusher_holds, flusher_op, flusher_took, FlusherState, holds, lent, Listed, LogServed, lsn, next, Nothing, page_words_at, shared_answer, shared_left, SharedWords, tail_word, took, user_op, UserState, with_page_words, writer_holds, writer_op, writer_took, WriterState, wrote}
 use Rattle.model_core.specs.LogSide.{LogSide}
 use Rattle.model_core.specs.Setup.{Setup}
 use Rattle.model_core.specs.declared.steps.FlusherStep.{FlusherStep}
@@ -15,7 +15,7 @@ use Rattle.model_logcore.proofs.DeviceSteps.{can_write}
 use Rattle.model_logcore.specs.{FlusherAt, FlusherFits, LogGhost, WriterAt, WriterFits}
 use Rattle.model_logcore.specs.LogHalf.{LogHalf}
 use Rattle.model_logcore.specs.LogLaws.{AfterSync, AfterWrite, LogLaws}
-use Rattle.model_ends.proofs.Further.{Further, StoresCode}
+use Rattle.model_ends.proofs.Further.{HasWriter, StoresCode}
 use Rattle.model_core.specs.Actors as actor
 use Rattle.model_core.specs.declared.ops.Answer.TheVariants as answer
 use Rattle.model_core.specs.declared.ops.Op.TheVariants as op
@@ -28,14 +28,15 @@ use Rattle.model_core.specs.declared.words.Word.TheVariants as word
 pub storer_holds : (a : Actor) → StoresCode a → holds a ≡ true
 storer_holds (actor.Writer s) is = ap writer_holds is
 storer_holds (actor.Flusher t) is = ap flusher_holds is
+storer_holds (actor.Checkpointer t) is = ap checkpointer_holds is
 storer_holds _ is = absurd is
 
-module _ (D : LogSide) (L : LogLaws D) (c : Setup) (spare : ℕ) (m : SharedWords) (g : LogGhost) (p : D.Part) (actors : List Actor) (seat : ℕ) (before : LogHalf D c spare m g p actors) (F : Further D c m p actors) (ls : ℕ → List Listed) (broken : Bool) (code : ℕ) (q : D.Part) where
+module _ (D : LogSide) (L : LogLaws D) (c : Setup) (spare : ℕ) (m : SharedWords) (g : LogGhost) (p : D.Part) (actors : List Actor) (seat : ℕ) (before : LogHalf D c spare m g p actors) (W : HasWriter actors) (St : m.failed ≡ 0 → D.stable p ≤ m.write) (ls : ℕ → List Listed) (broken : Bool) (code : ℕ) (q : D.Part) where
   abbrev pub Left : SharedWords → Actor → Actor → Type 0
   Left after a b = after.failed ≡ 0 → (D.stable q ≤ after.write) × ((D.failed q ≡ false) ⊎ (StoresCode b ⊎ ((◌≡◌ {A = D.Part} q p) × (StoresCode a → ⊥))))
 
   still : ◌≡◌ {A = D.Part} q p → m.failed ≡ 0 → D.stable q ≤ m.write
-  still is sound = let z = ap D.stable is in let y = F.stable sound in omega arith
+  still is sound = let z = ap D.stable is in let y = St sound in omega arith
 
   -- of a user
   user_same : (u : UserState) (f : UserStep) → LogServed D p Nothing (user_op u f) code q → ◌≡◌ {A = D.Part} q p
@@ -98,10 +99,10 @@ module _ (D : LogSide) (L : LogLaws D) (c : Setup) (spare : ℕ) (m : SharedWord
         A = L.writes c.blocks c.base g.log g.write g.target code s.kept s.firsts p q before.global.part.holds (can_write D L c spare m g p actors seat s before at h) (subst (λ (t : ℕ). D.Wrote t s.kept s.firsts code p q) fits.tail v)
 
         by : (b : Bool) → eqb code 0 ≡ b → Left m (actor.Writer (writer_at writer_step.WriteTo)) (actor.Writer (writer_took (writer_at writer_step.WriteTo) (cond b (answer.Called 0) (answer.Failed code)) writer_step.WriteTo))
-        by true e = λ sound. (let z = A.stable in let y = F.stable sound in (omega arith, inl (A.sound (eqb-true code 0 e))))
-        by false e = λ sound. (let z = A.stable in let y = F.stable sound in (omega arith, inr (inl refl)))
+        by true e = λ sound. (let z = A.stable in let y = St sound in (omega arith, inl (A.sound (eqb-true code 0 e))))
+        by false e = λ sound. (let z = A.stable in let y = St sound in (omega arith, inr (inl refl)))
     writer_own writer_step.StoreWrite h v = λ sound. (
-      (let z = ap D.stable v in let y = F.stable sound in let w = before.global.order.write_is in let t = fits.tail in let l = lsn_less g.write g.target h.0 in omega arith),
+      (let z = ap D.stable v in let y = St sound in let w = before.global.order.write_is in let t = fits.tail in let l = lsn_less g.write g.target h.0 in omega arith),
       inr (inr (v, λ e. absurd (cc))),
     )
     writer_own writer_step.GiveDevice h v = as_was writer_step.GiveDevice (refl, refl) (λ e. absurd (cc)) v
@@ -143,20 +144,20 @@ module _ (D : LogSide) (L : LogLaws D) (c : Setup) (spare : ℕ) (m : SharedWord
     flusher_at f = record t { checks = false; step = f }
 
     -- the writer doesn't hold the part
-    off : t.step ≡ flusher_step.Sync → writer_holds F.writer.1.step ≡ false
-    off is = by (writer_holds F.writer.1.step) refl
+    off : t.step ≡ flusher_step.Sync → writer_holds W.1.step ≡ false
+    off is = by (writer_holds W.1.step) refl
       where
-        by : (b : Bool) → writer_holds F.writer.1.step ≡ b → b ≡ false
+        by : (b : Bool) → writer_holds W.1.step ≡ b → b ≡ false
         by false e = refl
         by true e =
             let mine = before.turns seat (actor.Flusher t) at (ap flusher_holds is) in
-            let its = before.turns F.writer.0 (actor.Writer F.writer.1) F.writer.2 e in
-            let same : F.writer.0 ≡ seat = its.1 ∙ sym mine.1 in
-            let here : get_elem? actors seat ≡ some (actor.Writer F.writer.1) = subst (λ (k : ℕ). get_elem? actors k ≡ some (actor.Writer F.writer.1)) same F.writer.2 in
-            let z = some-injective (actor.Writer F.writer.1) (actor.Flusher t) (sym here ∙ at) in absurd (cc)
+            let its = before.turns W.0 (actor.Writer W.1) W.2 e in
+            let same : W.0 ≡ seat = its.1 ∙ sym mine.1 in
+            let here : get_elem? actors seat ≡ some (actor.Writer W.1) = subst (λ (k : ℕ). get_elem? actors k ≡ some (actor.Writer W.1)) same W.2 in
+            let z = some-injective (actor.Writer W.1) (actor.Flusher t) (sym here ∙ at) in absurd (cc)
 
     pub written : t.step ≡ flusher_step.Sync → m.failed ≡ 0 → D.written p ≡ m.write
-    written is sound = let f : WriterFits D c m g p F.writer.0 F.writer.1 = before.each F.writer.0 (actor.Writer F.writer.1) F.writer.2 in written_by F.writer.0 F.writer.1 F.writer.1.step f.step (off is) sound
+    written is sound = let f : WriterFits D c m g p W.0 W.1 = before.each W.0 (actor.Writer W.1) W.2 in written_by W.0 W.1 W.1.step f.step (off is) sound
 
     abbrev FlusherLeft : FlusherStep → Type 0
     FlusherLeft f = Left (shared_left m (flusher_op (flusher_at f) f)) (actor.Flusher (flusher_at f)) (actor.Flusher (flusher_took (flusher_at f) (shared_answer ls broken code (D.stable q) m (flusher_op (flusher_at f) f)) f))
@@ -179,7 +180,7 @@ module _ (D : LogSide) (L : LogLaws D) (c : Setup) (spare : ℕ) (m : SharedWord
 
         by : (b : Bool) → eqb code 0 ≡ b → Left m (actor.Flusher (flusher_at flusher_step.Sync)) (actor.Flusher (flusher_took (flusher_at flusher_step.Sync) (cond b (answer.Called (D.stable q)) (answer.Failed code)) flusher_step.Sync))
         by true e = λ sound. (let z = stable_by true e in let y = written is sound in (omega arith, inl (A.sound (eqb-true code 0 e))))
-        by false e = λ sound. (let z = stable_by false e in let y = F.stable sound in (omega arith, inr (inl refl)))
+        by false e = λ sound. (let z = stable_by false e in let y = St sound in (omega arith, inr (inl refl)))
     flusher_own flusher_step.StoreFlushed is h v = flusher_was flusher_step.StoreFlushed (refl, refl) (λ e. absurd (cc)) v
     flusher_own flusher_step.GiveDevice is h v = flusher_was flusher_step.GiveDevice (refl, refl) (λ e. absurd (cc)) v
     flusher_own flusher_step.StoreFailed is h v = λ sound. (let z = h.0 in absurd (omega arith))

@@ -26,7 +26,7 @@ use Rattle.model_core.specs.declared.ops.Op.TheVariants as op
 use Rattle.model_core.specs.declared.words.Word.TheVariants as word
 
 -- the flush lists after an Op depend on the turn words of the lists alone
-lists_same : (ls : ℕ → List Listed) (first second : ℕ → ℕ) → ((i : ℕ) → i < 4 → first i ≡ second i) → (o : Op) → ◌≡◌ {A = ℕ → List Listed} (lists_left ls first o) (lists_left ls second o)
+pub lists_same : (ls : ℕ → List Listed) (first second : ℕ → ℕ) → ((i : ℕ) → i < 4 → first i ≡ second i) → (o : Op) → ◌≡◌ {A = ℕ → List Listed} (lists_left ls first o) (lists_left ls second o)
 lists_same ls first second same (op.TakeAdd p x) = ap {B = ℕ → List Listed} (λ (z : ℕ) (i : ℕ). cond (eqb i (p % 4)) (cond (eqb z 0) (appended (ls i) p x) (ls i)) (ls i)) (same (p % 4) (omega arith))
 lists_same ls first second same (op.TakeRemove p) = ap {B = ℕ → List Listed} (λ (z : ℕ) (i : ℕ). cond (eqb i (p % 4)) (cond (eqb z 0) (without p (ls i)) (ls i)) (ls i)) (same (p % 4) (omega arith))
 lists_same ls first second same _ = refl

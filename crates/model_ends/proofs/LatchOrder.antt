@@ -1,0 +1,102 @@
+-- Latches make no ring: each line names its pages in ascending order, and a user takes their latches so. From a user that
+-- waits for one the holders lead, by ever greater pages, to an actor that waits for none.
+use Rattle.std.proofs.Common.{List, [], arith, inl, inr, length, refl, suc, sym, zero, ℕ, ⊎_elim, ◌+◌, ◌<◌, ◌∙◌, ◌≡◌, ◌≤◌, ◌⊎◌, subst}
+use lib.ListN.{get_elem?}
+use mathlib.Core.Option.{some}
+use native.Mathlib.Decide.{ℕ_discrete}
+use Rattle.model_core.specs.{Actor, changes, current_page, Listed, page_words_at, SharedWords, UserState}
+use Rattle.model_core.specs.DataSide.{DataSide}
+use Rattle.model_core.specs.LogSide.{LogSide}
+use Rattle.model_core.specs.Setup.{Setup}
+use Rattle.model_core.specs.declared.steps.UserStep.{UserStep}
+use Rattle.model_logcore.specs.{LogGhost}
+use Rattle.model_pagecore.specs.{HasLatch, PageGhost, UserPageFits}
+use Rattle.model_pagecore.specs.Latches.{UserHasLatch}
+use Rattle.model_pagecore.specs.PageHalf.{UserPagesAt}
+use Rattle.model_running.specs.RunningStore.{BothHalves}
+use Rattle.model_base.specs.declared.limits.TheConstants.{LSN_LIMIT, MIN_LOG_BLOCKS}
+use Rattle.model_core.specs.{Core, flat, lsn}
+use Rattle.model_logcore.specs.{sum_over_actors}
+use Rattle.model_logcore.specs.LogHalf.{left_to_reserve}
+use Rattle.model_logcore.specs.LogLaws.{LogLaws}
+use Rattle.model_pagecore.specs.DataLaws.{DataLaws}
+use Rattle.model_running.specs.StartStore.{StartStore}
+use Rattle.model_ends.proofs.Beside.{Ascend, Ascends, reached}
+use Rattle.model_ends.proofs.Margin.{is_user}
+use Rattle.model_ends.specs.Alone.{CanReach}
+use Rattle.model_core.specs.Actors as actor
+use Rattle.model_core.specs.declared.steps.UserStep.TheVariants as user_step
+
+-- the actor is at a latch
+abbrev pub IsAtLatch : Actor → Type 0
+IsAtLatch (actor.User u) = u.step ≡ user_step.TakeLatch
+IsAtLatch _ = ⊥
+
+-- the latch of its page is free
+abbrev pub FindsFree : SharedWords → Actor → Type 0
+FindsFree m (actor.User u) = (page_words_at m.page_words (current_page u)).latch ≡ 0
+FindsFree m _ = ⊥
+
+-- it is at a latch that is free; or it holds one, and is at none
+pub record WaitsForNone (m : SharedWords) (actors : List Actor) : Type 0 where
+  pub seat : ℕ
+  pub who : Actor
+  pub at : get_elem? actors seat ≡ some who
+  pub none : (IsAtLatch who × FindsFree m who) ⊎ ((IsAtLatch who → ⊥) × ((p : ℕ) × HasLatch who p))
+
+at_latch : (f : UserStep) → (f ≡ user_step.TakeLatch) ⊎ (f ≡ user_step.TakeLatch → ⊥)
+at_latch user_step.TakeLatch = inl refl
+at_latch _ = inr (λ e. absurd (cc))
+
+module _ (D : LogSide) (E : DataSide) (c : Setup) (spare : ℕ) (m : SharedWords) (g : LogGhost) (h : PageGhost) (ls : ℕ → List Listed) (p : D.Part) (d : E.Part) (actors : List Actor) (both : BothHalves D E c spare m g h ls p d actors) (ascend : (seat : ℕ) (a : Actor) → get_elem? actors seat ≡ some a → Ascends a) where
+  module _ (seat : ℕ) (u : UserState) (at : get_elem? actors seat ≡ some (actor.User u)) (waits : u.step ≡ user_step.TakeLatch) where
+    fits : UserPageFits E c m g.log h ls d seat u
+    fits = both.paged.each seat (actor.User u) at
+
+    within : u.page < length (changes u)
+    within = (subst (UserPagesAt E c m g.log h ls d seat u) waits fits.step).1
+
+    pub there : current_page u < c.pages
+    there = fits.there u.k u.page within
+
+    -- the user holds latches of smaller pages only
+    pub holds_smaller : (q : ℕ) → HasLatch (actor.User u) q → q < current_page u
+    holds_smaller q has = ⊎_elim (λ e. let z : user_step.TakeLatch ≡ user_step.Failed = sym waits ∙ e in absurd (cc))
+        (λ among. by (subst (λ (f : UserStep). UserHasLatch u f q) waits among)) has
+      where
+        by : UserHasLatch u user_step.TakeLatch q → q < current_page u
+        by n = (let up : Ascend u.lines = ascend seat (actor.User u) at in let less = up u.k n.0 u.page n.2 within in let is = n.3 in omega arith)
+
+  -- so the holders lead, within as many steps as there are greater pages, to one that waits for none
+  pub latches_end : (n seat : ℕ) (u : UserState) → get_elem? actors seat ≡ some (actor.User u) → u.step ≡ user_step.TakeLatch → c.pages ≤ current_page u + n → WaitsForNone m actors
+  latches_end zero seat u at waits few = (let z = there seat u at waits in absurd (omega arith))
+  latches_end (suc n) seat u at waits few = elim (ℕ_discrete (page_words_at m.page_words (current_page u)).latch 0) [
+    | yes free ↦ record { seat = seat; who = actor.User u; at = at; none = inl (waits, free) }
+    | no held ↦ (
+        let low = there seat u at waits in
+        let one = (both.paged.paged.each_page (current_page u) low).latch in
+        let k = both.latches (current_page u) low (omega arith) in
+        by (λ v at' is few'. latches_end n (h.holder (current_page u)) v at' is few') k.0 k.1 k.2)
+  ]
+    where
+      by : ((v : UserState) → get_elem? actors (h.holder (current_page u)) ≡ some (actor.User v) → v.step ≡ user_step.TakeLatch → c.pages ≤ current_page v + n → WaitsForNone m actors) → (a : Actor) → get_elem? actors (h.holder (current_page u)) ≡ some a → HasLatch a (current_page u) → WaitsForNone m actors
+      by again (actor.User v) there_is has = ⊎_elim
+          (λ is. again v there_is is (let less = holds_smaller (h.holder (current_page u)) v there_is is (current_page u) has in omega arith))
+          (λ other. record { seat = h.holder (current_page u); who = actor.User v; at = there_is; none = inr (other, (current_page u, has)) })
+          (at_latch v.step)
+      by again (actor.Cleaner v) there_is has = record { seat = h.holder (current_page u); who = actor.Cleaner v; at = there_is; none = inr (λ z. z, (current_page u, has)) }
+      by again (actor.Writer v) there_is has = absurd has
+      by again (actor.Flusher v) there_is has = absurd has
+      by again (actor.Closer v) there_is has = absurd has
+      by again (actor.Checkpointer v) there_is has = absurd has
+      by again (actor.Reader v) there_is has = absurd has
+      by again (actor.Joined v) there_is has = absurd has
+
+-- in each state that any turns reach from the start of a run whose lines name their pages in ascending order
+module _ (D : LogSide) (E : DataSide) (c : Setup) (spare : ℕ) (L : LogLaws D) (EL : DataLaws E) (words : SharedWords) (seat_of : ℕ → ℕ) (writer : ℕ) (first : Core D E) (S : StartStore D E c words first.log_part first.data_part seat_of writer first.actors) (flat_is : first.words ≡ flat words) (lists : ◌≡◌ {A = ℕ → List Listed} first.lists (λ _. []))
+    (short : lsn (c.base + sum_over_actors left_to_reserve first.actors + spare) < LSN_LIMIT) (few : sum_over_actors is_user first.actors ≤ 16) (long : MIN_LOG_BLOCKS ≤ c.blocks) (ascend : (user : ℕ) → Ascend (c.script user)) where
+  pub latches_end_in_run : (k : ℕ) (s : Core D E) (r : CanReach D E k first s) (seat : ℕ) (u : UserState) → get_elem? s.actors seat ≡ some (actor.User u) → u.step ≡ user_step.TakeLatch
+      → WaitsForNone (reached D E c spare L EL words seat_of writer first S flat_is lists short few long ascend k s r).words s.actors
+  latches_end_in_run k s r seat u at waits =
+      let A = reached D E c spare L EL words seat_of writer first S flat_is lists short few long ascend k s r in
+      latches_end D E c spare A.words A.log_ghost A.page_ghost s.lists s.log_part s.data_part s.actors A.both A.holds.ascend c.pages seat u at waits (omega arith)
