@@ -20,13 +20,13 @@ use Rattle.model_running.specs.ReadHalf as read_half
 use Rattle.model_log.specs.{Span, span_of}
 use Rattle.model_log.specs.declared.group.Whole.{Whole}
 use Rattle.model_script.specs.declared.script.ScriptLine.{ScriptLine}
-use Rattle.redo_drive.specs.Followed.{followers_in, given_of, given_upto}
+use Rattle.redo_drive.specs.Followed.{given_of, given_upto}
 use Rattle.redo_drive.specs.Making.{EndsWithFollowers}
 use Rattle.redo_drive.specs.Receiving.{follower_of}
 use Rattle.redo_drive.specs.Setups.{followers_from, other_actors, page_actors, seated_before, start_actors, users_of}
 use Rattle.redo_follow.specs.Handing.{Following}
 use Rattle.redo_drive.proofs.Viewed.{length_views}
-use Rattle.redo_drive.specs.Views.{view_of, views_of}
+use Rattle.redo_drive.specs.Views.{followers_in, view_of, views_of}
 use Rattle.redo_drive.specs.declared.actor.Actor.{Actor}
 use Rattle.redo_drive.specs.declared.actor.Actor.TheVariants as own
 use Rattle.redo_drive.specs.declared.seating.TheConstants.{FIRST_FOLLOWER}

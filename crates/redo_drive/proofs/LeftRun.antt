@@ -60,7 +60,7 @@ use Rattle.redo_drive.specs.Beginning.{HaveBegun}
 use Rattle.redo_drive.specs.Startable.{AreNewFollowers, HasReading, MayBegin}
 use Rattle.redo_drive.specs.Calls.{CallsOn}
 use Rattle.redo_drive.specs.Drive.{ComesToRun, HasMemory, HasMetError, HoldsRun, IsOwedSynced, Owes, ReadsToMarks, closed_run, failed_in}
-use Rattle.redo_drive.specs.Followed.{followers_in, given_upto, HasFollowed, HasSameNumber, HaveFollowed}
+use Rattle.redo_drive.specs.Followed.{given_upto, HasFollowed, HasSameNumber, HaveFollowed}
 use Rattle.redo_drive.specs.Leaving.{LeavesRun}
 use Rattle.redo_drive.specs.Making.{EndsWithFollowers}
 use Rattle.redo_drive.specs.Playing.{RunOf, run_data_side, run_log_side}
@@ -70,7 +70,7 @@ use Rattle.redo_drive.specs.Setups.{start_actors}
 use Rattle.redo_drive.specs.Turning.{core_of}
 use Rattle.redo_follow.specs.Handing.{Following, StandsFor}
 use Rattle.redo_drive.proofs.Viewed.{views_at}
-use Rattle.redo_drive.specs.Views.{views_of}
+use Rattle.redo_drive.specs.Views.{followers_in, views_of}
 use Rattle.redo_drive.specs.declared.actor.Actor.{Actor}
 use Rattle.redo_drive.specs.declared.actor.Actor.TheVariants as own
 use Rattle.redo_drive.specs.declared.drive.Driven.{Driven}

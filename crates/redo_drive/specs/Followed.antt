@@ -8,17 +8,11 @@ use Rattle.model_report.specs.{entry_spans, wholes_of}
 use Rattle.model_script.specs.declared.script.ScriptLine.{ScriptLine}
 use Rattle.redo_disk.specs.Seen.{Seen}
 use Rattle.redo_drive.specs.Drive.{WhereStarted}
+use Rattle.redo_drive.specs.Views.{followers_in}
 use Rattle.redo_drive.specs.declared.actor.Actor.{Actor}
-use Rattle.redo_drive.specs.declared.actor.Actor.TheVariants as own
 use Rattle.redo_drive.specs.declared.closed.Closed.{Closed}
 use Rattle.redo_follow.specs.Handing.{Following, StandsFor}
 use Rattle.redo_store.specs.declared.opened.Opened.{Opened}
-
--- the followers among some actors, in their order
-abbrev pub followers_in : {R : Type 0} → List (Actor R) → List (Following R)
-followers_in [] = []
-followers_in (own.Follower f ∷ actors) = f ∷ followers_in actors
-followers_in (_ ∷ actors) = followers_in actors
 
 -- a group as a receiver gets it, and those that end at or below an lsn, in their order
 abbrev pub given_of : Whole → Given

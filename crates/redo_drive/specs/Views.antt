@@ -1,8 +1,9 @@
 -- The actors as the definitions see them.
-use Rattle.std.specs.Prelude.{List, map}
+use Rattle.std.specs.Prelude.{List, [], map, ◌∷◌}
 use Rattle.model_core.specs.Actors as model
 use Rattle.redo_drive.specs.declared.actor.Actor.{Actor}
 use Rattle.redo_drive.specs.declared.actor.Actor.TheVariants as own
+use Rattle.redo_follow.specs.Handing.{Following}
 
 abbrev pub view_of : {R : Type 0} → Actor R → model.Actor
 view_of (own.User user) = model.User user
@@ -15,3 +16,9 @@ view_of (own.Follower follower) = model.Reader follower.state
 
 abbrev pub views_of : {R : Type 0} → List (Actor R) → List model.Actor
 views_of actors = map view_of actors
+
+-- the followers among some actors, in their order
+abbrev pub followers_in : {R : Type 0} → List (Actor R) → List (Following R)
+followers_in [] = []
+followers_in (own.Follower f ∷ actors) = f ∷ followers_in actors
+followers_in (_ ∷ actors) = followers_in actors

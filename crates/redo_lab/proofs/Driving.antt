@@ -22,9 +22,9 @@ use Rattle.redo_disk.specs.declared.error.DevError.TheVariants as device
 use Rattle.redo_disk.proofs.Made.{may_end}
 use Rattle.redo_drive.specs.{HasMemory, Owes}
 use Rattle.redo_drive.specs.Drive.{ReadsToMarks, failed_in}
-use Rattle.redo_drive.specs.Followed.{followers_in, HasFollowed, HaveFollowed}
+use Rattle.redo_drive.specs.Followed.{HasFollowed, HaveFollowed}
 use Rattle.redo_drive.specs.Startable.{AreNewFollowers, HasReading}
-use Rattle.redo_drive.specs.Views.{views_of}
+use Rattle.redo_drive.specs.Views.{followers_in, views_of}
 use Rattle.redo_drive.specs.declared.actor.Actor.{Actor}
 use Rattle.redo_drive.specs.declared.drive.Driven.{Driven}
 use Rattle.redo_drive.specs.declared.drive.RunEnd.{RunEnd}

@@ -15,7 +15,8 @@ use Rattle.model_report.specs.declared.entry.Followed.{Followed}
 use Rattle.model_script.specs.declared.script.ScriptLine.{ScriptLine}
 use Rattle.model_theorem.specs.{Ran}
 use Rattle.redo_drive.specs.Drive.{closed_run}
-use Rattle.redo_drive.specs.Followed.{followers_in, given_upto, HasFollowed, HasSameNumber}
+use Rattle.redo_drive.specs.Followed.{given_upto, HasFollowed, HasSameNumber}
+use Rattle.redo_drive.specs.Views.{followers_in}
 use Rattle.redo_drive.specs.Startable.{AreNewFollowers}
 use Rattle.redo_drive.specs.declared.actor.Actor.{Actor}
 use Rattle.redo_drive.specs.declared.closed.Closed.{Closed}

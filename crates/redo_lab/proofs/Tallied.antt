@@ -10,7 +10,7 @@ use mathlib.Core.Option.{some}
 use Rattle.model_core.specs.{new_reader}
 use Rattle.model_report.specs.declared.entry.Followed.{Followed}
 use Rattle.redo_drive.proofs.Seats.{at_more}
-use Rattle.redo_drive.specs.Followed.{followers_in}
+use Rattle.redo_drive.specs.Views.{followers_in}
 use Rattle.redo_drive.specs.Receiving.{follower_of}
 use Rattle.redo_drive.specs.declared.actor.Actor.{Actor}
 use Rattle.redo_drive.specs.declared.actor.Actor.TheVariants as own

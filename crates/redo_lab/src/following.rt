@@ -2,7 +2,7 @@
 ghost use Rattle.std.specs.Prelude.{◌<◌, ◌^◌, ◌≡◌, ◌≤◌, ℕ, IfOk, [], length, vec_capacity};
 ghost use Rattle.std.specs.List.{AllZip};
 ghost use Rattle.model_script.specs.declared.words.TheConstants.{MAX_FOLLOWERS};
-ghost use Rattle.redo_drive.specs.Followed.{followers_in};
+ghost use Rattle.redo_drive.specs.Views.{followers_in};
 ghost use Rattle.redo_drive.specs.Startable.{AreNewFollowers};
 ghost use Rattle.redo_lab.specs.Following.{AreUntold, IsToldOf};
 

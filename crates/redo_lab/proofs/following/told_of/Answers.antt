@@ -1,7 +1,7 @@
 use Rattle.std.proofs.Common.{Global, List, Vec, [], ap, arith, drop, length, refl, subst, sym, vec_capacity}
 use Rattle.std.proofs.Common.{◌+◌, ◌++◌, ◌<◌, ◌∙◌, ◌∷◌, ◌≡◌}
 use Rattle.model_report.specs.declared.entry.Followed.{Followed}
-use Rattle.redo_drive.specs.Followed.{followers_in}
+use Rattle.redo_drive.specs.Views.{followers_in}
 use Rattle.redo_follow.specs.Handing.{Following}
 use Rattle.redo_follow.specs.Tallying.{Kept}
 use Rattle.redo_lab.proofs.Tallied.{all-told, AreToldUpto, has-room, next-is, next-none, none-told, one-told}
