@@ -28,9 +28,10 @@ pub struct FileDisk<R: Files, S: Contents> {
     len: u64,
     /// It was made longer since the last sync.
     is_longer: bool,
-    /// A sync has failed. The system may have dropped what was to be synced, and would answer a later sync with Ok.
-    has_failed_sync: bool,
+    /// Why a sync has failed. The system may have dropped what was to be synced, and would answer a later sync with Ok.
+    failed_sync: Option<io::Error>,
     faults: u64,
+    last_error: Option<io::Error>,
     calls: Record,
     start: PhantomData<S>,
 }
@@ -59,11 +60,19 @@ impl<R: DeviceFiles, S: Contents> FileDisk<R, S> {
             file: None,
             len: 0,
             is_longer: false,
-            has_failed_sync: false,
+            failed_sync: None,
             faults: 0,
+            last_error: None,
             calls: Record::new(),
             start: PhantomData,
         }
+    }
+
+    /// Why the last of its calls that failed did.
+    pub fn last_error(&self) -> Option<io::Error>
+        ensures { result ≡ self.now.last_error }
+    {
+        self.last_error
     }
 
     fn opened(&mut self) -> io::Result<R::File>
@@ -135,11 +144,11 @@ impl<R: DeviceFiles, S: Contents> FileDisk<R, S> {
         ensures faults { file_faults self.new ≡ file_faults self.old }
         ensures notes { file_notes self.new ≡ file_notes self.old }
     {
-        if self.has_failed_sync {
-            return Err(io::Error::from(ErrorKind::Other));
+        if let Some(error) = self.failed_sync {
+            return Err(error);
         }
         let done = sync();
-        self.has_failed_sync = done.is_err();
+        self.failed_sync = done.err();
         done
     }
 
@@ -185,11 +194,12 @@ impl<R: DeviceFiles, S: Contents> FileDisk<R, S> {
         ensures cause { HasCause (file_faults self.old) (file_faults self.new) result }
         ensures notes { file_notes self.new ≡ file_notes self.old }
     {
-        if done.is_ok() {
-            return Ok(());
+        if let Err(error) = done {
+            self.last_error = Some(error);
+            self.faults = self.faults.saturating_add(1);
+            return Err(DevError::Failed);
         }
-        self.faults = self.faults.saturating_add(1);
-        Err(DevError::Failed)
+        Ok(())
     }
 }
 

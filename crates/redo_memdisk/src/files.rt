@@ -1,11 +1,14 @@
 // The system's files as a device takes them.
 ghost use Rattle.std.specs.Io.{ReadsAtMost, WritesAtMost};
 
-use std::fs::File;
+use std::fs::{File, TryLockError};
 use std::io;
-use std::io::{Read, Write};
+use std::io::{ErrorKind, Read, Write};
 use std::os::unix::fs::FileExt;
 use std::rt::Files;
+
+/// What is said where another handle has a file.
+const HELD: &str = "held by another process";
 
 /// Files that one handle can have for itself, and that are read and written at an offset, as the system's are.
 pub trait DeviceFiles: Files {
@@ -23,7 +26,10 @@ pub trait DeviceFiles: Files {
 
 impl DeviceFiles for HostRuntime {
     fn try_lock(&self, file: &File) -> io::Result<()> {
-        Ok(file.try_lock()?)
+        match file.try_lock() {
+            Err(TryLockError::WouldBlock) => Err(io::Error::new(ErrorKind::WouldBlock, HELD)),
+            answer => Ok(answer?),
+        }
     }
 
     fn read_at(&self, file: &File, out: &mut [u8], at: u64) -> io::Result<usize> {

@@ -94,6 +94,13 @@ fn run_in_memory(
     Ok(ended.status)
 }
 
+/// Says on standard error why a file failed, if it did, as far as standard error takes it.
+fn print_error(rt: &HostRuntime, name: &str, error: Option<io::Error>) {
+    if let Some(error) = error {
+        let _ = eprintln!(rt; "{name}: {error}");
+    }
+}
+
 /// Runs the command on two files, whatever they hold, and says its status.
 fn run_in_files<H: Contents + Send, K: Contents + Send>(
     rt: &HostRuntime,
@@ -114,6 +121,8 @@ fn run_in_files<H: Contents + Send, K: Contents + Send>(
         store,
         &NoGate,
     );
+    print_error(rt, LOG_FILE, ended.log.into_inner().last_error());
+    print_error(rt, DATA_FILE, ended.store.into_inner().last_error());
     Ok(ended.status)
 }
 

@@ -19,6 +19,18 @@ fn device_at<R: DeviceFiles + Drop>(
     Ok(FileDisk::new(files, String::from_str(alloc, path)?))
 }
 
+/// Whether the last of the device's calls that failed did so for this reason.
+fn failed_since<R: DeviceFiles>(
+    alloc: Global,
+    device: &FileDisk<R, Unread>,
+    reason: &str,
+) -> Result<bool, AllocError> {
+    match device.last_error() {
+        Some(error) => Ok(format!(in alloc; "{error}")?.as_str() == reason),
+        None => Ok(false),
+    }
+}
+
 /// Fills a sector, syncs and crashes.
 fn fill_and_crash<D: Sectors>(device: &mut D, sector: u64) -> Result<(), DevError>
     requires { 512 * sector + 512 ≤ (D.seen device.old).size }
@@ -37,6 +49,10 @@ fn a_file_keeps_what_was_written(rt: HostRuntime) -> Result<(), Fail> {
     let mut again = device_at(rt.clone()?, rt.alloc(), path)?;
     // one device has the file at a time
     assert!(rt; first_byte(&mut again, 3) == Err(DevError::Failed));
+    assert!(rt; failed_since(rt.alloc(), &again, "held by another process")?);
+    let mut folder = device_at(rt.clone()?, rt.alloc(), ".")?;
+    assert!(rt; first_byte(&mut folder, 3) == Err(DevError::Failed));
+    assert!(rt; failed_since(rt.alloc(), &folder, "Is a directory (os error 21)")?);
     let mut nowhere = device_at(rt.clone()?, rt.alloc(), "no/folder")?;
     assert!(rt; first_byte(&mut nowhere, 3) == Err(DevError::Failed));
     drop(device);
