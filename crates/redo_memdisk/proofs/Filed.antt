@@ -12,10 +12,11 @@ use Rattle.model_device.specs.Disk.{Disk}
 use Rattle.model_device.specs.declared.write.Write.{Write}
 use Rattle.model_device.proofs.Valid.{IsValid-failed, IsValid-settled, IsValid-synced, IsValid-written}
 use Rattle.redo_disk.specs.{HasSize, IsRange, OnTold, StillTells, WhereTold, part, write_at}
+use Rattle.redo_memdisk.specs.File.{read_event}
 use Rattle.redo_memdisk.specs.Notes.{Note, after_event, after_put, filled, is_sector_write, missed, note, replay}
 use Rattle.redo_memdisk.specs.declared.file.TheConstants.{FILE_DISK_LEN}
 use Rattle.redo_memdisk.specs.declared.record.Event.{Event}
-use Rattle.redo_memdisk.specs.declared.record.Event.TheVariants.{Read, Written, Missed, Synced, Crashed, Lost}
+use Rattle.redo_memdisk.specs.declared.record.Event.TheVariants.{Read, Unsynced, Written, Missed, Synced, Crashed, Lost}
 use Rattle.redo_memdisk.proofs.Writes.{IsSameBeside-cut}
 
 pub length-filled : (count : ℕ) (bytes : List ℕ) → length (filled count bytes) ≡ count
@@ -61,6 +62,7 @@ after-sized : (event : Event) (bytes : List ℕ) (disk : Disk) → IsSized disk
     → IfSome (after_event event bytes disk) IsSized
 after-sized (Read at) bytes disk sized =
     if-true (bytes_eq bytes (part disk.reads at (length bytes))) disk IsSized (λ _. sized)
+after-sized Unsynced bytes disk sized = tt
 after-sized (Written at) bytes disk sized =
     let write = write_at at bytes in
     put-sized written write disk (λ takes. (IsValid-written disk write sized.0 takes, sized.1))
@@ -100,16 +102,19 @@ replay-size bytes notes = known-size _ (replay-sized bytes notes)
 abbrev pub told_after : Event → List ℕ → Option Disk → Option Disk
 told_after event bytes told = option_and_then (after_event event bytes) told
 
--- a read that answered Ok
-pub read-still : (told : Option Disk) (at : ℕ) (out : List ℕ) → StillTells told (told_after (Read at) out told)
-read-still None at out = tt
-read-still (Some disk) at out =
+-- a read that answered Ok, of a file that could be synced as it was opened, or could not
+pub read-still : (is_synced : Bool) (told : Option Disk) (at : ℕ) (out : List ℕ)
+    → StillTells told (told_after (read_event is_synced at) out told)
+read-still is_synced None at out = tt
+read-still false (Some disk) at out = tt
+read-still true (Some disk) at out =
     if-true (bytes_eq out (part disk.reads at (length out))) disk (λ (now : Disk). Some disk ≡ Some now) (λ _. refl)
 
-pub read-bytes : (told : Option Disk) (at count : ℕ) (out : List ℕ) → length out ≡ count
-    → IfSome (told_after (Read at) out told) (λ disk. out ≡ part disk.reads at count)
-read-bytes None at count out long = tt
-read-bytes (Some disk) at count out long =
+pub read-bytes : (is_synced : Bool) (told : Option Disk) (at count : ℕ) (out : List ℕ) → length out ≡ count
+    → IfSome (told_after (read_event is_synced at) out told) (λ disk. out ≡ part disk.reads at count)
+read-bytes is_synced None at count out long = tt
+read-bytes false (Some disk) at count out long = tt
+read-bytes true (Some disk) at count out long =
     if-true (bytes_eq out (part disk.reads at (length out))) disk (λ (now : Disk). out ≡ part now.reads at count)
     (λ is. (bytes_eq-Decides out _).0 is ∙ ap (part disk.reads at) long)
 

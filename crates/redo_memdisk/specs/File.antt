@@ -1,5 +1,5 @@
 -- What a device in a file shows.
-use Rattle.std.specs.Prelude.{List, ℕ, ◌≡◌, [], ◌∷◌, ◌++◌, Ok, Err}
+use Rattle.std.specs.Prelude.{Bool, true, false, List, ℕ, ◌≡◌, [], ◌∷◌, ◌++◌, Ok, Err}
 use Rattle.redo_io.specs.{saturating_next}
 use Rattle.redo_disk.specs.{Answer, Call, Reads, Syncs, Writes}
 use Rattle.redo_disk.specs.Calls.{device_answer}
@@ -9,7 +9,7 @@ use Rattle.redo_memdisk.specs.Notes.{Note, crash_met, filled, note, replay}
 use Rattle.redo_memdisk.specs.declared.file.FileDisk.{FileDisk}
 use Rattle.redo_memdisk.specs.declared.file.TheConstants.{FILE_DISK_LEN}
 use Rattle.redo_memdisk.specs.declared.record.Event.{Event}
-use Rattle.redo_memdisk.specs.declared.record.Event.TheVariants.{Read, Written, Missed, Synced, Crashed, Lost}
+use Rattle.redo_memdisk.specs.declared.record.Event.TheVariants.{Read, Unsynced, Written, Missed, Synced, Crashed, Lost}
 
 -- how often its calls have failed
 abbrev pub file_faults : {R S F D : Type 0} → FileDisk R S F D → ℕ
@@ -34,20 +34,26 @@ CountsFailure old (Ok done) new = new ≡ old
 CountsFailure old (Err Failed) new = new ≡ saturating_next old
 CountsFailure old (Err NoMemory) new = ⊥
 
--- what is noted of a call; of a write that failed, that so many of its bytes were taken
-abbrev pub notes_of : ℕ → Call → List Note
-notes_of taken (Reads at before (Ok done) after) = note (Read at) after ∷ []
-notes_of taken (Reads at before (Err error) after) = []
-notes_of taken (Writes write (Ok done)) = note (Written write.at) write.bytes ∷ []
-notes_of taken (Writes write (Err error)) = note (Missed write.at taken) write.bytes ∷ []
-notes_of taken (Syncs (Ok done)) = note Synced [] ∷ []
-notes_of taken (Syncs (Err error)) = []
+-- what is noted of a read from this offset on, where the file could be synced as it was opened, and where not
+abbrev pub read_event : Bool → ℕ → Event
+read_event true at = Read at
+read_event false at = Unsynced
 
--- a call
+-- what is noted of a call; of a write that failed, that so many of its bytes were taken
+abbrev pub notes_of : Bool → ℕ → Call → List Note
+notes_of is_synced taken (Reads at before (Ok done) after) = note (read_event is_synced at) after ∷ []
+notes_of is_synced taken (Reads at before (Err error) after) = []
+notes_of is_synced taken (Writes write (Ok done)) = note (Written write.at) write.bytes ∷ []
+notes_of is_synced taken (Writes write (Err error)) = note (Missed write.at taken) write.bytes ∷ []
+notes_of is_synced taken (Syncs (Ok done)) = note Synced [] ∷ []
+notes_of is_synced taken (Syncs (Err error)) = []
+
+-- a call; whether the file could be synced as it was opened, only a read tells
 pub record FileGives {R S F D : Type 0} (old : FileDisk R S F D) (call : Call) (new : FileDisk R S F D) : Type 0 where
   pub counts : CountsFailure old.faults (device_answer call) new.faults
+  pub is_synced : Bool
   pub taken : ℕ
-  pub noted : file_notes new ≡ notes_of taken call ++ file_notes old
+  pub noted : file_notes new ≡ notes_of is_synced taken call ++ file_notes old
 
 -- what is noted of a crash whose sync answered so
 abbrev pub crash_event : Answer → Event

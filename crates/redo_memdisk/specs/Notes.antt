@@ -9,7 +9,7 @@ use Rattle.model_device.specs.Disk.{Disk}
 use Rattle.model_device.specs.declared.write.Write.{Write}
 use Rattle.redo_disk.specs.{part, write_at}
 use Rattle.redo_memdisk.specs.declared.record.Event.{Event}
-use Rattle.redo_memdisk.specs.declared.record.Event.TheVariants.{Read, Written, Missed, Synced, Crashed, Lost}
+use Rattle.redo_memdisk.specs.declared.record.Event.TheVariants.{Read, Unsynced, Written, Missed, Synced, Crashed, Lost}
 
 -- a call with what it came to, and the bytes that it gave or was given
 pub record Note : Type 0 where
@@ -44,6 +44,7 @@ after_put puts write disk = if is_sector_write (length disk.base) write then Som
 -- what the file means after a call with these bytes, if it can have given them
 abbrev pub after_event : Event → List ℕ → Disk → Option Disk
 after_event (Read at) bytes disk = if bytes_eq bytes (part disk.reads at (length bytes)) then Some disk else None
+after_event Unsynced bytes disk = None
 after_event (Written at) bytes disk = after_put written (write_at at bytes) disk
 after_event (Missed at taken) bytes disk = after_put (missed taken) (write_at at bytes) disk
 after_event Synced bytes disk = Some (synced disk)

@@ -2,7 +2,7 @@
 ghost use Rattle.std.specs.Prelude.{◌≡◌, [], length, take, IfSome, OnOk};
 ghost use Rattle.std.specs.Io.KnownBytes.{Appends};
 ghost use Rattle.redo_disk.specs.{HasCause};
-ghost use Rattle.redo_memdisk.specs.File.{CountsFailure, FileCrash, FileGives, file_faults, file_notes, file_seen};
+ghost use Rattle.redo_memdisk.specs.File.{CountsFailure, FileCrash, FileGives, file_faults, file_notes, file_seen, read_event};
 ghost use Rattle.redo_memdisk.specs.Notes.{filled};
 
 use crate::Contents;
@@ -15,17 +15,28 @@ use std::io::{ErrorKind, Read, Seek, SeekFrom, Write};
 use std::marker::PhantomData;
 use std::rt::Files;
 
+/// What a device opens its file for.
+#[derive(Clone, Copy, PartialEq, Eq)]
+pub enum Access {
+    Writing,
+    /// For reading alone where the system refuses writing.
+    Reading,
+}
+
 /// A device in a file of its own, which its first call opens or makes, locks and syncs: while another process holds the
 /// file, that call fails. What stands past the file's end reads as zeros. It tells what a file means that held `S`'s
-/// bytes, by the record of its calls, until a read gives other bytes than that. Its crash keeps every write, by a sync:
-/// a real one is the machine's.
+/// bytes, by the record of its calls, until a read gives other bytes than that, or reads a file that is open for reading
+/// alone and couldn't be synced. Its crash keeps every write, by a sync: a real one is the machine's.
 #[derive(Drop)]
 pub struct FileDisk<R: Files, S: Contents> {
     files: R,
     path: String,
+    access: Access,
     file: Option<R::File>,
     /// How long the file is: its length as it was opened, and what was written past that.
     len: u64,
+    /// It could be synced as it was opened. Only one that is open for reading is read where it couldn't.
+    is_synced: bool,
     /// It was made longer since the last sync.
     is_longer: bool,
     /// Why a sync has failed. The system may have dropped what was to be synced, and would answer a later sync with Ok.
@@ -50,15 +61,17 @@ fn folder_of(path: &str) -> &str {
 
 impl<R: DeviceFiles, S: Contents> FileDisk<R, S> {
     /// The device in the file at this path.
-    pub fn new(files: R, path: String) -> Self
+    pub fn new(files: R, path: String, access: Access) -> Self
         ensures faults { file_faults result ≡ 0 }
         ensures notes { file_notes result ≡ [] }
     {
         FileDisk {
             files,
             path,
+            access,
             file: None,
             len: 0,
+            is_synced: true,
             is_longer: false,
             failed_sync: None,
             faults: 0,
@@ -92,9 +105,31 @@ impl<R: DeviceFiles, S: Contents> FileDisk<R, S> {
         ensures faults { file_faults self.new ≡ file_faults self.old }
         ensures notes { file_notes self.new ≡ file_notes self.old }
     {
-        let mut file = self.open_or_make()?.try_clone()?;
+        let opened = match self.open_or_make() {
+            Err(error) if self.may_read_after(error) => return self.open_to_read(),
+            answer => answer?,
+        };
+        let mut file = opened.try_clone()?;
         self.files.try_lock(&file)?;
         self.sync_file(&file)?;
+        self.len = file.seek(SeekFrom::End(0))?;
+        Ok(file)
+    }
+
+    /// Whether it opens the file for reading after this error: the system refused writing.
+    fn may_read_after(&self, error: io::Error) -> bool {
+        let kinds = [ErrorKind::PermissionDenied, ErrorKind::ReadOnlyFilesystem];
+        self.access == Access::Reading && kinds.contains(&error.kind())
+    }
+
+    /// Opens the file for this device and others that read it.
+    fn open_to_read(&mut self) -> io::Result<R::File>
+        ensures faults { file_faults self.new ≡ file_faults self.old }
+        ensures notes { file_notes self.new ≡ file_notes self.old }
+    {
+        let mut file = File::open(&self.files, self.path.as_str())?.try_clone()?;
+        self.files.try_lock_shared(&file)?;
+        self.is_synced = self.sync_file(&file).is_ok();
         self.len = file.seek(SeekFrom::End(0))?;
         Ok(file)
     }
@@ -188,6 +223,17 @@ impl<R: DeviceFiles, S: Contents> FileDisk<R, S> {
         done
     }
 
+    /// What is noted of a read from this offset on.
+    fn read_event(&self, at: u64) -> Event
+        ensures { result ≡ read_event self.now.is_synced at }
+    {
+        if self.is_synced {
+            Event::Read { at }
+        } else {
+            Event::Unsynced
+        }
+    }
+
     /// What a call answers that came to this, which is counted where it failed.
     fn answer(&mut self, done: io::Result<()>) -> Result<(), DevError>
         ensures counts { CountsFailure (file_faults self.old) result (file_faults self.new) }
@@ -264,7 +310,8 @@ impl<R: DeviceFiles, S: Contents> Sectors for FileDisk<R, S> {
         let done = self.with_file(|files, file| fill_from(&mut Place { files, file, at }, out));
         let answer = self.answer(done);
         if answer.is_ok() {
-            self.calls.note(Event::Read { at }, out);
+            let event = self.read_event(at);
+            self.calls.note(event, out);
         }
         answer
     }

@@ -7,13 +7,24 @@ use std::io::{ErrorKind, Read, Write};
 use std::os::unix::fs::FileExt;
 use std::rt::Files;
 
-/// What is said where another handle has a file.
-const HELD: &str = "held by another process";
+/// What is said where a lock can't be had.
+fn why_held(error: TryLockError) -> io::Error {
+    match error {
+        TryLockError::WouldBlock => io::Error::new(
+            ErrorKind::WouldBlock,
+            "held by another process",
+        ),
+        TryLockError::Error(error) => error,
+    }
+}
 
 /// Files that one handle can have for itself, and that are read and written at an offset, as the system's are.
 pub trait DeviceFiles: Files {
     /// Takes the file for this handle alone for as long as that is open. It fails where another one has it.
     fn try_lock(&self, file: &Self::File) -> io::Result<()>;
+
+    /// Takes the file for this handle and others that take it so. It fails where one has it for itself.
+    fn try_lock_shared(&self, file: &Self::File) -> io::Result<()>;
 
     /// Reads what stands at this offset, by one call, which may give fewer bytes than there is room for.
     fn read_at(&self, file: &Self::File, out: &mut [u8], at: u64) -> io::Result<usize>
@@ -26,10 +37,11 @@ pub trait DeviceFiles: Files {
 
 impl DeviceFiles for HostRuntime {
     fn try_lock(&self, file: &File) -> io::Result<()> {
-        match file.try_lock() {
-            Err(TryLockError::WouldBlock) => Err(io::Error::new(ErrorKind::WouldBlock, HELD)),
-            answer => Ok(answer?),
-        }
+        file.try_lock().map_err(why_held)
+    }
+
+    fn try_lock_shared(&self, file: &File) -> io::Result<()> {
+        file.try_lock_shared().map_err(why_held)
     }
 
     fn read_at(&self, file: &File, out: &mut [u8], at: u64) -> io::Result<usize> {
@@ -44,6 +56,10 @@ impl DeviceFiles for HostRuntime {
 impl<R: DeviceFiles> DeviceFiles for &R {
     fn try_lock(&self, file: &R::File) -> io::Result<()> {
         (**self).try_lock(file)
+    }
+
+    fn try_lock_shared(&self, file: &R::File) -> io::Result<()> {
+        (**self).try_lock_shared(file)
     }
 
     fn read_at(&self, file: &R::File, out: &mut [u8], at: u64) -> io::Result<usize> {

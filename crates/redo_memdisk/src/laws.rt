@@ -1,6 +1,6 @@
 // What calls through a fuse leave, whatever code made them, and when a device in a file tells. Each law is the contract
 // of a function that does nothing.
-ghost use Rattle.std.specs.Prelude.{◌≡◌, ℕ, List, [], length, Ok, Some, IfSome};
+ghost use Rattle.std.specs.Prelude.{◌≡◌, ℕ, true, List, [], length, Ok, Some, IfSome};
 ghost use Rattle.model_device.specs.{settled};
 ghost use Rattle.redo_disk.specs.{Call, changing_calls, failed_calls, Makes, part, Reads};
 ghost use Rattle.redo_memdisk.specs.Counted.{CountsCalls, KeepsBehind, after_calls};
@@ -24,10 +24,11 @@ pub fn a_fuse_counts_calls<D: Sectors>()
         → KeepsBehind D.seen old (failed_calls calls) new }
 {}
 
-/// What is asked of a file can be met: a read that gives what the file meant leaves the device telling that.
+/// What is asked of a file can be met: where it could be synced as it was opened, a read that gives what it meant leaves the
+/// device telling that.
 pub fn a_true_read_is_told<R: DeviceFiles, S: Contents>()
     ensures { (bytes : List ℕ) (old new : FileDisk R S R.File R.Dir) (at : ℕ) (before after : List ℕ) (done : Unit {0})
-        → FileGives old (Reads at before (Ok done) after) new
+        → (given : FileGives old (Reads at before (Ok done) after) new) → given.is_synced ≡ true
         → IfSome (file_seen bytes old).tells (λ disk. after ≡ part disk.reads at (length after))
         → (file_seen bytes new).tells ≡ (file_seen bytes old).tells }
 {}

@@ -18,7 +18,7 @@ mod record;
 
 pub use apply::apply_writes;
 pub use contents::{Contents, Unread};
-pub use file::{FILE_DISK_LEN, FileDisk};
+pub use file::{Access, FILE_DISK_LEN, FileDisk};
 pub use files::DeviceFiles;
 pub use fuse::{Fuse, Stage};
 pub use fused::Fused;

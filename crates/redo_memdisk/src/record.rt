@@ -10,6 +10,8 @@ use std::marker::{Model, PhantomData};
 pub enum Event {
     /// A read from this offset on answered Ok.
     Read { at: u64 },
+    /// A read answered Ok, of a file that could not be synced as it was opened.
+    Unsynced,
     /// A write from this offset on answered Ok.
     Written { at: u64 },
     /// A write from this offset on failed. The system took so many of its bytes before that.

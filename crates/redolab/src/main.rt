@@ -1,20 +1,19 @@
 // The program: the top call on standard input and output, and on two devices in memory or in files.
 #![tactic(auto)]
 
-ghost use Rattle.std.specs.Prelude.{◌≡◌, [], false, map, None, Some, IfErr, IfOk};
+ghost use Rattle.std.specs.Prelude.{◌≡◌, [], map, IfErr, IfOk};
 ghost use Rattle.std.specs.String.{string_bytes};
 ghost use Rattle.model_script.specs.{asked_of};
-ghost use Rattle.model_script.specs.declared.asked.Asked.{Asked};
 ghost use Rattle.model_report.specs.declared.fault.Fault.TheVariants.{Memory};
 ghost use Rattle.redo_memdisk.specs.Memory.{new_memory};
 ghost use Rattle.redo_lab.specs.Files.{IsUncalled};
 ghost use Rattle.redo_lab.specs.declared.shapes.TheConstants.{LOG_LENGTH, STORE_LENGTH};
 
 use model_report::Fault;
-use redo_command::{WordsFault, read_words};
+use redo_command::{Asked, Command, WordsFault, read_words};
 use redo_io::{ReaderSource, WriterSink};
 use redo_lab::{LOG_LENGTH, STORE_LENGTH, lab, lab_in_files, print_fault};
-use redo_memdisk::{Contents, FileDisk, MemDisk, Unread};
+use redo_memdisk::{Access, Contents, FileDisk, MemDisk, Unread};
 use redo_threads::NoGate;
 use std::alloc::{AllocError, Global};
 use std::io::ErrorKind;
@@ -37,17 +36,23 @@ fn words(rt: &HostRuntime) -> Result<Vec<String>, Fault> {
     }
 }
 
-/// Whether the words ask for devices in files. Words that are no command ask for nothing.
-fn asks_for_files(alloc: Global, words: &[String]) -> Result<bool, Fault>
-    ensures files { (asked : Asked) → asked_of (map (λ word. string_bytes word) words.now) ≡ Some asked
-        → IfOk result (λ files. files ≡ asked.files) }
-    ensures none { asked_of (map (λ word. string_bytes word) words.now) ≡ None → IfOk result (λ files. files ≡ false) }
+/// What the words ask for. Words that are no command ask for nothing.
+fn asked(alloc: Global, words: &[String]) -> Result<Option<Asked>, Fault>
+    ensures asked { IfOk result (λ asked. asked ≡ asked_of (map (λ word. string_bytes word) words.now)) }
     ensures memory { IfErr result (λ fault. fault ≡ Memory) }
 {
     match read_words(alloc, words) {
-        Ok(asked) => Ok(asked.files),
-        Err(WordsFault::NotCommand) => Ok(false),
+        Ok(asked) => Ok(Some(asked)),
+        Err(WordsFault::NotCommand) => Ok(None),
         Err(WordsFault::NoMemory) => Err(Fault::Memory),
+    }
+}
+
+/// What a command opens files for.
+fn access_of(command: Command) -> Access {
+    match command {
+        Command::Recover { .. } | Command::Dump { .. } => Access::Reading,
+        _ => Access::Writing,
     }
 }
 
@@ -66,10 +71,11 @@ fn in_memory(alloc: Global) -> Result<(MemDisk, MemDisk), AllocError>
 fn in_file<'a, S: Contents>(
     rt: &'a HostRuntime,
     name: &str,
+    access: Access,
 ) -> Result<FileDisk<&'a HostRuntime, S>, AllocError>
     ensures { IfOk result (λ device. IsUncalled device) }
 {
-    Ok(FileDisk::new(rt, name.to_string(rt.alloc())?))
+    Ok(FileDisk::new(rt, name.to_string(rt.alloc())?, access))
 }
 
 /// Runs the command on two devices in memory, and says its status.
@@ -106,9 +112,10 @@ fn run_in_files<H: Contents + Send, K: Contents + Send>(
     rt: &HostRuntime,
     threads: &(impl Threads + Wait + Sync),
     words: &[String],
+    access: Access,
 ) -> Result<u8, AllocError> {
-    let log = in_file::<H>(rt, LOG_FILE)?;
-    let store = in_file::<K>(rt, DATA_FILE)?;
+    let log = in_file::<H>(rt, LOG_FILE, access)?;
+    let store = in_file::<K>(rt, DATA_FILE, access)?;
     let mut source = ReaderSource::new(rt.stdin());
     let mut sink = WriterSink::new(io::writer(rt));
     let ended = lab_in_files(
@@ -129,10 +136,11 @@ fn run_in_files<H: Contents + Send, K: Contents + Send>(
 /// Runs the command, and says its status.
 fn run(rt: &HostRuntime, threads: &(impl Threads + Wait + Sync)) -> Result<u8, Fault> {
     let words = words(rt)?;
-    let ended = if asks_for_files(rt.alloc(), &words)? {
-        run_in_files::<Unread, Unread>(rt, threads, &words)
-    } else {
-        run_in_memory(rt, threads, &words)
+    let ended = match asked(rt.alloc(), &words)? {
+        Some(asked) if asked.files => {
+            run_in_files::<Unread, Unread>(rt, threads, &words, access_of(asked.command))
+        }
+        _ => run_in_memory(rt, threads, &words),
     };
     ended.map_err(|_| Fault::Memory)
 }

@@ -33,8 +33,8 @@ fn call(
     data_file: &str,
 ) -> Result<(u8, MemSink), AllocError> {
     let alloc = rt.alloc();
-    let log = in_file::<Unread>(rt, log_file)?;
-    let store = in_file::<Unread>(rt, data_file)?;
+    let log = in_file::<Unread>(rt, log_file, Access::Writing)?;
+    let store = in_file::<Unread>(rt, data_file, Access::Writing)?;
     let mut source = MemSource::new(LINE.as_bytes().to_vec(alloc)?);
     let mut sink = MemSink::new(alloc);
     let words = words_of(alloc, text)?;
@@ -141,8 +141,9 @@ fn asks_for_files_where_the_words_do(rt: HostRuntime) -> Result<(), Fail> {
         ("--files run", false),
     ];
     for (text, want) in table {
-        let found = asks_for_files(alloc, &words_of(alloc, text)?).ok();
-        assert_eq!(rt; found, Some(want), "at {text:?}");
+        let found = asked(alloc, &words_of(alloc, text)?).ok();
+        let files = found.flatten().is_some_and(|asked| asked.files);
+        assert_eq!(rt; files, want, "at {text:?}");
     }
     Ok(())
 }

@@ -16,6 +16,7 @@ pub enum Ask {
     SyncFolder,
     Clone,
     Lock,
+    LockShared,
     Seek,
     Sync,
     SyncData,
@@ -79,7 +80,7 @@ impl Calls {
         self.asked.set(asked);
         self.made.set(number.saturating_add(1));
         if self.failing.0 <= number && number < self.failing.1 {
-            Err(io::Error::from(ErrorKind::Other))
+            Err(io::Error::from(ErrorKind::PermissionDenied))
         } else {
             Ok(())
         }
@@ -223,6 +224,10 @@ impl Files for CountedFiles {
 impl DeviceFiles for CountedFiles {
     fn try_lock(&self, _file: &CountedFile) -> io::Result<()> {
         self.calls.count(Ask::Lock)
+    }
+
+    fn try_lock_shared(&self, _file: &CountedFile) -> io::Result<()> {
+        self.calls.count(Ask::LockShared)
     }
 
     fn read_at(&self, _file: &CountedFile, _out: &mut [u8], _at: u64) -> io::Result<usize> {

@@ -4,7 +4,7 @@ ghost use Rattle.std.specs.Prelude.{◌+◌, ◌*◌, ◌≤◌};
 use crate::counted_files::{Ask, Calls, CountedFiles};
 use crate::memdisk::{fill, first_byte};
 use redo_disk::{DevError, Sectors};
-use redo_memdisk::{DeviceFiles, FileDisk, Unread};
+use redo_memdisk::{Access, DeviceFiles, FileDisk, Unread};
 use std::alloc::{AllocError, Global};
 use std::fs;
 use std::rc::Rc;
@@ -16,7 +16,7 @@ fn device_at<R: DeviceFiles + Drop>(
     alloc: Global,
     path: &str,
 ) -> Result<FileDisk<R, Unread>, AllocError> {
-    Ok(FileDisk::new(files, String::from_str(alloc, path)?))
+    Ok(FileDisk::new(files, String::from_str(alloc, path)?, Access::Writing))
 }
 
 /// Whether the last of the device's calls that failed did so for this reason.
@@ -76,6 +76,24 @@ fn told_device(
         calls: calls.clone()?,
     };
     Ok((device_at(files, alloc, "told")?, calls))
+}
+
+// A file that may not be written is opened for reading, by a device that only reads: it shares its lock with others.
+#[test]
+fn a_file_that_may_not_be_written_is_read(rt: HostRuntime) -> Result<(), Fail> {
+    let calls = Rc::new(rt.alloc(), Calls::new(true, (0, 1)))?;
+    let files = CountedFiles {
+        calls: calls.clone()?,
+    };
+    let path = String::from_str(rt.alloc(), "told")?;
+    let mut device = FileDisk::<CountedFiles, Unread>::new(files, path, Access::Reading);
+    assert!(rt; first_byte(&mut device, 0) == Ok(0));
+    let opened = [Ask::Open, Ask::Open, Ask::Clone, Ask::LockShared];
+    let called = [Ask::Sync, Ask::Seek, Ask::Read];
+    let mut want = opened.to_vec(rt.alloc())?;
+    want.extend_from_slice(&called)?;
+    assert!(rt; calls.are(&want));
+    Ok(())
 }
 
 /// Writes, reads, syncs and crashes.
