@@ -1,16 +1,20 @@
 -- Latches make no ring: each line names its pages in ascending order, and a user takes their latches so. From a user that
--- waits for one the holders lead, by ever greater pages, to an actor that waits for none.
-use Rattle.std.proofs.Common.{List, [], arith, inl, inr, length, refl, suc, sym, zero, ℕ, ⊎_elim, ◌+◌, ◌<◌, ◌∙◌, ◌≡◌, ◌≤◌, ◌⊎◌, subst}
+-- waits for one the holders lead, by ever greater pages, to an actor that waits for none: the cleaner tries a latch once, and
+-- never waits for one while it holds another.
+use Rattle.std.proofs.Common.{Bool, List, [], arith, cond, eqb, eqb-true, false, inl, inr, length, refl, suc, sym, true, zero, ℕ, ⊎_elim, ◌+◌, ◌<◌, ◌∙◌, ◌≡◌, ◌≤◌, ◌⊎◌, subst}
 use lib.ListN.{get_elem?}
 use mathlib.Core.Option.{some}
 use native.Mathlib.Decide.{ℕ_discrete}
-use Rattle.model_core.specs.{Actor, changes, current_page, Listed, page_words_at, SharedWords, UserState}
+use Rattle.model_core.proofs.Groups.{at_less}
+use Rattle.model_core.specs.{Actor, changes, CleanerState, current_page, Listed, page_words_at, SharedWords, UserState}
 use Rattle.model_core.specs.DataSide.{DataSide}
 use Rattle.model_core.specs.LogSide.{LogSide}
 use Rattle.model_core.specs.Setup.{Setup}
+use Rattle.model_core.specs.Waiting.{waits}
+use Rattle.model_core.specs.declared.steps.CleanerStep.{CleanerStep}
 use Rattle.model_core.specs.declared.steps.UserStep.{UserStep}
 use Rattle.model_logcore.specs.{LogGhost}
-use Rattle.model_pagecore.specs.{HasLatch, PageGhost, UserPageFits}
+use Rattle.model_pagecore.specs.{CleanerHasLatch, HasLatch, IsInBatch, PageGhost, UserPageFits}
 use Rattle.model_pagecore.specs.Latches.{UserHasLatch}
 use Rattle.model_pagecore.specs.PageHalf.{UserPagesAt}
 use Rattle.model_running.specs.RunningStore.{BothHalves}
@@ -25,11 +29,14 @@ use Rattle.model_ends.proofs.Beside.{Ascend, Ascends, reached}
 use Rattle.model_ends.proofs.Margin.{is_user}
 use Rattle.model_ends.specs.Alone.{CanReach}
 use Rattle.model_core.specs.Actors as actor
+use Rattle.model_core.specs.declared.ops.Answer.TheVariants as answer
+use Rattle.model_core.specs.declared.steps.CleanerStep.TheVariants as cleaner_step
 use Rattle.model_core.specs.declared.steps.UserStep.TheVariants as user_step
 
--- the actor is at a latch
+-- the actor is at a latch, and waits for it where that is held
 abbrev pub IsAtLatch : Actor → Type 0
 IsAtLatch (actor.User u) = u.step ≡ user_step.TakeLatch
+IsAtLatch (actor.Cleaner v) = (v.step ≡ cleaner_step.TakeLatch) × (waits (actor.Cleaner v) (answer.Old 1) ≡ true)
 IsAtLatch _ = ⊥
 
 -- the latch of its page is free
@@ -47,6 +54,19 @@ pub record WaitsForNone (m : SharedWords) (actors : List Actor) : Type 0 where
 at_latch : (f : UserStep) → (f ≡ user_step.TakeLatch) ⊎ (f ≡ user_step.TakeLatch → ⊥)
 at_latch user_step.TakeLatch = inl refl
 at_latch _ = inr (λ e. absurd (cc))
+
+-- the cleaner that holds a latch waits for none: where it tries one with a batch in hand it goes on
+pub cleaner_goes_on : (v : CleanerState) (p : ℕ) → HasLatch (actor.Cleaner v) p → IsAtLatch (actor.Cleaner v) → ⊥
+cleaner_goes_on v p has at = ⊎_elim
+    (λ e. let z : cleaner_step.TakeLatch ≡ cleaner_step.Failed = sym at.0 ∙ e in absurd (cc))
+    (λ held. by (subst (λ (f : CleanerStep). CleanerHasLatch v f p) at.0 held) (subst (λ (f : CleanerStep). waits (actor.Cleaner (record v { step = f })) (answer.Old 1) ≡ true) at.0 at.1)) has
+  where
+    some_batch : (n : IsInBatch v.batch p) (b : Bool) → cond b (eqb (length v.batch) 0) false ≡ true → ⊥
+    some_batch n true e = let less = at_less v.batch n.0 n.1 n.2 in let none = eqb-true (length v.batch) 0 e in absurd (omega arith)
+    some_batch n false e = absurd (cc)
+
+    by : IsInBatch v.batch p → waits (actor.Cleaner (record v { step = cleaner_step.TakeLatch })) (answer.Old 1) ≡ true → ⊥
+    by n e = some_batch n (eqb v.left 1) e
 
 module _ (D : LogSide) (E : DataSide) (c : Setup) (spare : ℕ) (m : SharedWords) (g : LogGhost) (h : PageGhost) (ls : ℕ → List Listed) (p : D.Part) (d : E.Part) (actors : List Actor) (both : BothHalves D E c spare m g h ls p d actors) (ascend : (seat : ℕ) (a : Actor) → get_elem? actors seat ≡ some a → Ascends a) where
   module _ (seat : ℕ) (u : UserState) (at : get_elem? actors seat ≡ some (actor.User u)) (waits : u.step ≡ user_step.TakeLatch) where
@@ -84,7 +104,7 @@ module _ (D : LogSide) (E : DataSide) (c : Setup) (spare : ℕ) (m : SharedWords
           (λ is. again v there_is is (let less = holds_smaller (h.holder (current_page u)) v there_is is (current_page u) has in omega arith))
           (λ other. record { seat = h.holder (current_page u); who = actor.User v; at = there_is; none = inr (other, (current_page u, has)) })
           (at_latch v.step)
-      by again (actor.Cleaner v) there_is has = record { seat = h.holder (current_page u); who = actor.Cleaner v; at = there_is; none = inr (λ z. z, (current_page u, has)) }
+      by again (actor.Cleaner v) there_is has = record { seat = h.holder (current_page u); who = actor.Cleaner v; at = there_is; none = inr (cleaner_goes_on v (current_page u) has, (current_page u, has)) }
       by again (actor.Writer v) there_is has = absurd has
       by again (actor.Flusher v) there_is has = absurd has
       by again (actor.Closer v) there_is has = absurd has
