@@ -5,14 +5,16 @@ use Rattle.model_core.specs.DataSide.{DataSide}
 use Rattle.model_core.specs.LogSide.{LogSide}
 use Rattle.model_core.specs.declared.ops.Answer.{Answer}
 use Rattle.model_core.specs.declared.ops.Step.{Step}
-use Rattle.model_own.specs.OwnTurn.{OwnCore, OwnTurn}
-use Rattle.model_running.specs.Schedule.{seat_of_turn}
+use Rattle.model_own.specs.OwnTurn.{OwnCore, OwnTurn, with_writer}
+use Rattle.model_running.specs.Schedule.{HaveEnded, seat_of_turn}
 use Rattle.model_core.specs.declared.ops.Step.TheVariants as step
 
 module _ (D : LogSide) (E : DataSide) (seed max : ℕ) where
   pub record LastOwnTurn (Earlier : OwnCore D E → Type 0) (n : ℕ) (last : OwnCore D E) : Type 0 where
     pub before : OwnCore D E
     pub earlier : Earlier before
+    -- it is taken only while a user hasn't ended
+    pub open_user : HaveEnded (with_writer before).actors → ⊥
     pub answer : Answer
     pub step : Step
     pub turn : OwnTurn D E before (seat_of_turn seed max (length before.users + length before.others) n) answer step

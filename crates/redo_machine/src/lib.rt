@@ -14,4 +14,8 @@ mod turning;
 pub use drive::{Turns, run_by_turns};
 pub use laws::{running_machine_has_followed, running_machine_has_watermarks, turn_keeps_failed};
 pub use machine::Machine;
+pub use open_users::number_if_open;
+pub use playing::play;
 pub use redo_words::Step as Turned;
+pub use running::seat_of;
+pub use turning::serve;

@@ -16,10 +16,10 @@ use std::alloc::Global;
 /// unless the log runs alone, the closer, the cleaner and the checkpointer, and at last the followers.
 #[derive(Drop)]
 pub struct Machine<L: Sectors, D: Sectors, R: Receiver> {
-    pub(crate) parts: Parts<L, D>,
-    pub(crate) actors: Vec<Actor<R>>,
-    // room for an entry of each line
-    pub(crate) entries: Vec<Entry>,
+    pub parts: Parts<L, D>,
+    pub actors: Vec<Actor<R>>,
+    /// Room for an entry of each line.
+    pub entries: Vec<Entry>,
 }
 
 impl<L: Sectors, D: Sectors, R: Receiver + Drop> Machine<L, D, R> {

@@ -10,7 +10,7 @@ use redo_useractor::UserActor;
 
 /// A user's number, where it hasn't ended.
 #[tactic(auto, using(crate::proofs::Ended::ended_is, crate::proofs::Ended::open_is))]
-fn number_if_open(user: &UserActor) -> Option<u32>
+pub fn number_if_open(user: &UserActor) -> Option<u32>
     ensures { MatchOption result (HasEnded user.now) (IsOpenUser user.now) }
 {
     if user.has_ended() {

@@ -16,7 +16,7 @@ use redo_follow::Receiver;
 use redo_script::Draws;
 
 /// The seat of a turn: as the seed draws in the first half of the turns, then one after another.
-fn seat_of(draws: &mut Draws, turn: u64, max: u64, seats: u64) -> u64
+pub fn seat_of(draws: &mut Draws, turn: u64, max: u64, seats: u64) -> u64
     requires { 0 < seats }
     ensures below { result < seats }
     ensures seat { (seed : ℕ) → IsDrawn seed turn max draws.old → result ≡ seat_of_turn seed max seats turn }

@@ -58,7 +58,10 @@ fn play_next<L: Sectors, D: Sectors, R: Receiver>(
 }
 
 /// Plays the Op that an actor asks for, and gives the actor the answer.
-fn serve<L: Sectors, D: Sectors, R: Receiver>(parts: &mut Parts<L, D>, actor: &mut Actor<R>) -> Step
+pub fn serve<L: Sectors, D: Sectors, R: Receiver>(
+    parts: &mut Parts<L, D>,
+    actor: &mut Actor<R>,
+) -> Step
     requires { MayServe parts.old (view_of actor.old) }
     ensures pages { HasSamePages parts.old parts.new }
     ensures served { (run : RunOf L D) → IsServed L.seen D.seen R.stands_for run parts.old actor.old result parts.new actor.new }

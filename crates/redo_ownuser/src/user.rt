@@ -50,6 +50,20 @@ impl OwnUser {
         }
     }
 
+    /// The user, without its errand.
+    pub fn user(&self) -> &UserActor
+        ensures { result.now ≡ self.now.user }
+    {
+        &self.user
+    }
+
+    /// The user alone: its errand is left out.
+    pub fn into_user(self) -> UserActor
+        ensures { result ≡ self.user }
+    {
+        self.user
+    }
+
     /// The Op that it asks for, with the log's work where that is in its hand.
     pub fn next(&self, work: &LogWork) -> Op
         requires { WorkGoesOn self.now.errand work.now }

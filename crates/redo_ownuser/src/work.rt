@@ -30,6 +30,13 @@ impl LogWork {
         LogWork { writer, flusher }
     }
 
+    /// The writer and the flusher, as far as they have come.
+    pub fn into_actors(self) -> (Writer, Flusher)
+        ensures { result ≡ (self.writer, self.flusher) }
+    {
+        (self.writer, self.flusher)
+    }
+
     /// It is in hand, with the log part.
     pub(crate) fn take_up(&mut self)
         ensures { self.new ≡ taken_up self.old }

@@ -2,6 +2,7 @@
 mod candidate;
 mod following;
 mod log;
+mod own;
 mod pages;
 mod ring;
 mod rounds;

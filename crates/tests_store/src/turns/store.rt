@@ -13,6 +13,7 @@ use redo_follow::{Follower, Receiver, Tally};
 use redo_machine::{Machine, Turns, run_by_turns};
 use redo_memdisk::MemDisk;
 use redo_open::{format, open_store};
+use redo_ownmachine::run_own_by_turns;
 use redo_script::{judge, parse};
 use redo_store::Opened;
 use std::alloc::Global;
@@ -123,6 +124,30 @@ pub fn driven_on<L: Sectors + Drop, D: Sectors + Drop, R: Receiver + Drop>(
         log_only: false,
     };
     match run_by_turns(alloc, opened, &script, &turns, followers) {
+        Ok(left) => left,
+        Err(_) => panic!(rt; "no memory"),
+    }
+}
+
+/// The same where the users write for themselves.
+pub fn own_driven_on<L: Sectors + Drop, D: Sectors + Drop, R: Receiver + Drop>(
+    rt: &impl Abort,
+    alloc: Global,
+    opened: Opened<L, D>,
+    text: &[u8],
+    seed: u64,
+    followers: Vec<Follower<R>>,
+) -> (Driven<L, D>, Vec<Actor<R>>)
+    requires runnable { IsRunnable opened }
+    requires new { AreNewFollowers opened.start followers.items }
+{
+    let script = script_on(rt, alloc, &opened, text);
+    let turns = Turns {
+        seed,
+        max: 100_000_000,
+        log_only: false,
+    };
+    match run_own_by_turns(alloc, opened, &script, &turns, followers) {
         Ok(left) => left,
         Err(_) => panic!(rt; "no memory"),
     }

@@ -1,0 +1,14 @@
+pub mod Begins
+pub mod From
+pub mod Grows
+pub mod OpenLoop
+pub mod OpenSeats
+pub mod Places
+pub mod Putting
+pub mod RunLeft
+pub mod Runs
+pub mod Serves
+pub mod Sorting
+pub mod Starts
+pub mod Turned
+pub mod Unique

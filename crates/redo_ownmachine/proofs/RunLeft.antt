@@ -1,0 +1,246 @@
+-- What a run by turns leaves whose users write for themselves, and so what it comes to.
+use Rattle.std.proofs.Common.{Bool, List, ap, length, slice_index, subst, suc, sym, zero, ⊎_elim, inl, inr, ℕ, ◌∙◌, ◌≡◌}
+use lib.ListN.{get_elem?}
+use Rattle.model_base.specs.declared.shape.Shape.{Shape}
+use Rattle.model_core.specs.{filled, Given, index, lent, lsn, next}
+use Rattle.model_core.specs.Actors as model
+use Rattle.model_core.specs.declared.words.Word.TheVariants as word
+use Rattle.model_own.specs.OwnTurn.{OwnCore, OwnTurn}
+use Rattle.model_own.specs.OwnWrites.{own_lends, own_next}
+use Rattle.model_ownrun.proofs.OwnRuns.{never_idle}
+use Rattle.model_ownrun.specs.OwnRuns.{TakesOwnTurns}
+use Rattle.model_running.proofs.OpenLines as open_lines
+use Rattle.model_running.proofs.Seated.{seated_seats}
+use Rattle.model_running.specs.{HaveEnded, history_of, LeavesOpen, marks_in, word_marks}
+use Rattle.model_report.specs.declared.entry.Entry.{Entry}
+use Rattle.model_script.specs.declared.script.ScriptLine.{ScriptLine}
+use Rattle.redo_disk.specs.{Call}
+use Rattle.redo_disk.specs.Seen.{Seen}
+use Rattle.redo_drive.proofs.LeftRun as left_run
+use Rattle.redo_drive.proofs.ShapeStays.{served_shape}
+use Rattle.redo_drive.specs.Beginning.{StandsAtStart}
+use Rattle.redo_drive.specs.Calls.{CallOnBoth, CallsOn}
+use Rattle.redo_drive.specs.Drive.{HasMetError, Owes}
+use Rattle.redo_drive.specs.Followed.{HaveFollowed}
+use Rattle.redo_drive.specs.History.{ListsInOrder}
+use Rattle.redo_drive.specs.Leaving.{LeavesRun}
+use Rattle.redo_drive.specs.LogPartSide as log_part
+use Rattle.redo_drive.specs.Playing.{RunOf, run_data_side, run_log_side}
+use Rattle.redo_drive.specs.Setups.{start_actors}
+use Rattle.redo_drive.specs.Startable.{AreNewFollowers, MayBegin}
+use Rattle.redo_drive.specs.Views.{views_of}
+use Rattle.redo_drive.specs.declared.actor.Actor.{Actor}
+use Rattle.redo_drive.specs.declared.drive.Driven.{Driven}
+use Rattle.redo_drive.specs.declared.drive.RunEnd.{RunEnd}
+use Rattle.redo_drive.specs.declared.drive.RunEnd.TheVariants as ended
+use Rattle.redo_drive.specs.declared.parts.Parts.{Parts}
+use Rattle.redo_follow.specs.Handing.{Following}
+use Rattle.redo_logdev.specs.Part as log
+use Rattle.redo_machine.specs.declared.drive.Turns.{Turns}
+use Rattle.redo_ownmachine.proofs.Places.{crew_views}
+use Rattle.redo_ownmachine.proofs.Serves.{its_data_laws, its_log_laws}
+use Rattle.redo_ownmachine.specs.OwnBegins.{OwnBeginsRun}
+use Rattle.redo_ownmachine.specs.OwnByTurns.{OwnRunsByTurns}
+use Rattle.redo_ownmachine.specs.OwnSeats.{OwnSeats, actors_of, crew_of, seats_of}
+use Rattle.redo_ownmachine.specs.OwnStore.{OwnAlone, OwnRunsFrom, own_core_of}
+use Rattle.redo_ownmachine.specs.OwnTurns.{NoneWaits, OwnEndsAs, OwnEndsAsking}
+use Rattle.redo_ownmachine.specs.declared.machine.OwnMachine.{OwnMachine}
+use Rattle.redo_store.specs.Part as store
+use Rattle.redo_store.specs.declared.opened.Opened.{Opened}
+
+module _ {L D : Type 0} (log_seen : L → Seen) (data_seen : D → Seen) (run : RunOf L D) where
+  -- No turn changes the shape of the log part.
+  turn_shape : (old new : OwnCore (run_log_side log_seen data_seen run) (run_data_side log_seen data_seen run))
+      (seat : ℕ) (answer : _) (step : _)
+      → OwnTurn (run_log_side log_seen data_seen run) (run_data_side log_seen data_seen run) old seat answer step new
+      → ◌≡◌ {A = Shape} new.log_part.shape old.log_part.shape
+  turn_shape old new seat answer step t = ⊎_elim
+      (λ u. served_shape log_seen (log_seen run.first_log.dev).faults run.first_log.marks.number
+      (log_part.HasBegun log_seen (lsn run.setup.base) run.first_log) old.log_part new.log_part u.code
+      (own_lends u.who old.work) (own_next u.who old.work) u.log_served)
+      (λ o. served_shape log_seen (log_seen run.first_log.dev).faults run.first_log.marks.number
+      (log_part.HasBegun log_seen (lsn run.setup.base) run.first_log) old.log_part new.log_part o.turn.code
+      (lent (filled o.turn.who o.turn.filling)) (next o.turn.who) o.turn.log_served) t
+
+  turns_shape : (seed max n : ℕ)
+      (first last : OwnCore (run_log_side log_seen data_seen run) (run_data_side log_seen data_seen run))
+      → TakesOwnTurns (run_log_side log_seen data_seen run) (run_data_side log_seen data_seen run) seed max n first last
+      → ◌≡◌ {A = Shape} last.log_part.shape first.log_part.shape
+  turns_shape seed max zero first last same =
+      ap (λ (s : OwnCore (run_log_side log_seen data_seen run) (run_data_side log_seen data_seen run)). s.log_part.shape)
+      same
+  turns_shape seed max (suc n) first last r =
+      turn_shape r.before last _ r.answer r.step r.turn ∙ turns_shape seed max n first r.before r.earlier
+
+  -- However a run ended, turns led there.
+  run_shape : (seed max : ℕ) (first : Parts L D) (starts : OwnSeats) (how : RunEnd) (last : Parts L D)
+      (after : OwnSeats) (log_gives : L → Call → L → Type 0) (data_gives : D → Call → D → Type 0)
+      → OwnEndsAs log_seen log_gives data_seen data_gives run seed max first starts how last after
+      → ◌≡◌ {A = Shape} last.log.shape first.log.shape
+  run_shape seed max first starts ended.Done last after log_gives data_gives ends =
+      turns_shape seed max ends.count (own_core_of log_seen data_seen run first starts)
+      (own_core_of log_seen data_seen run last after) ends.turns
+  run_shape seed max first starts (ended.Spent count user) last after log_gives data_gives ends =
+      turns_shape seed max max (own_core_of log_seen data_seen run first starts)
+      (own_core_of log_seen data_seen run last after) ends.1.turns
+
+  -- where one user is alone none of them was idle
+  none_waits : (seed max : ℕ) (first : Parts L D) (starts : OwnSeats) (how : RunEnd) (last : Parts L D)
+      (after : OwnSeats) (log_gives : L → Call → L → Type 0) (data_gives : D → Call → D → Type 0)
+      (ends : OwnEndsAs log_seen log_gives data_seen data_gives run seed max first starts how last after)
+      → OwnAlone log_seen data_seen run first starts
+      → NoneWaits log_seen log_gives data_seen data_gives run seed max first starts how last after ends
+  none_waits seed max first starts ended.Done last after log_gives data_gives ends alone =
+      (never_idle (run_log_side log_seen data_seen run) (its_log_laws log_seen data_seen run)
+      (run_data_side log_seen data_seen run) (its_data_laws log_seen data_seen run) run.setup 0 seed max ends.count
+      (own_core_of log_seen data_seen run first starts) (own_core_of log_seen data_seen run last after) alone
+      ends.turns).1
+  none_waits seed max first starts (ended.Spent count user) last after log_gives data_gives ends alone =
+      (never_idle (run_log_side log_seen data_seen run) (its_log_laws log_seen data_seen run)
+      (run_data_side log_seen data_seen run) (its_data_laws log_seen data_seen run) run.setup 0 seed max max
+      (own_core_of log_seen data_seen run first starts) (own_core_of log_seen data_seen run last after) alone
+      ends.1.turns).1
+
+-- The machine began the run of the script on the store, and the turns of the seed led from there to its end, at which the
+-- invariant holds, with what the followers' receivers have got, and of which the closed run tells.
+pub record OwnTurnsLead {L D R : Type 0} (log_seen : L → Seen) (log_gives : L → Call → L → Type 0)
+    (data_seen : D → Seen) (data_gives : D → Call → D → Type 0) (stands : R → List Given → Type 0)
+    (opened : Opened L D) (script : List ScriptLine) (turns : Turns) (followers : List (Following R))
+    (actors : List (Actor R)) (driven : Driven L D) : Type 0 where
+  pub first : OwnMachine L D R
+  pub start : OwnBeginsRun log_seen data_seen stands opened script turns.log_only followers first
+  pub last : OwnMachine L D R
+  pub actors_are : ◌≡◌ {A = List (Actor R)} actors (crew_of last)
+  pub from : OwnRunsFrom log_seen data_seen stands start.begins.run start.start.actors.items last
+  pub ends : OwnEndsAsking log_seen log_gives data_seen data_gives start.begins.run turns.seed turns.max first.parts
+      (seats_of first) driven.ended last.parts (seats_of last)
+  pub calls : CallOnBoth log_gives data_gives first.parts last.parts
+  pub log : driven.closed.log ≡ last.parts.log
+  pub data_part : driven.closed.store ≡ last.parts.store
+  pub marks : driven.closed.marks ≡ marks_in last.parts.words.words
+  pub code : driven.closed.code ≡ slice_index last.parts.words.words (index word.Failed)
+  pub history : driven.closed.history ≡ history_of from.runs.running.log_ghost.answered
+      (word_marks from.runs.running.shared) from.runs.running.log_ghost.log
+  pub listed : ListsInOrder driven.closed.marks (views_of (crew_of last)) driven.closed.history
+
+module _ {L D R : Type 0} (log_seen : L → Seen) (log_gives : L → Call → L → Type 0) (data_seen : D → Seen)
+    (data_gives : D → Call → D → Type 0) (stands : R → List Given → Type 0) (opened : Opened L D)
+    (script : List ScriptLine) (turns : Turns) (followers : List (Following R)) (actors : List (Actor R))
+    (driven : Driven L D)
+    (by : OwnTurnsLead log_seen log_gives data_seen data_gives stands opened script turns followers actors driven) where
+  abbrev run : RunOf L D
+  run = by.start.begins.run
+
+  abbrev starts : List (Actor R)
+  starts = by.start.start.actors.items
+
+  abbrev ending : List (Actor R)
+  ending = crew_of by.last
+
+  -- the actors at the end, as the definitions see them
+  ending_views : ◌≡◌ {A = List model.Actor} (views_of ending) (actors_of (seats_of by.last))
+  ending_views = crew_views by.last.work by.last.users.items by.last.others.items
+
+  starts_views : ◌≡◌ {A = List model.Actor} (views_of starts) (actors_of (seats_of by.first))
+  starts_views = ap views_of (sym by.start.crew)
+      ∙ crew_views by.first.work by.first.users.items by.first.others.items
+
+  begins_at : StandsAtStart opened script (length followers) run by.first.parts (actors_of (seats_of by.first))
+  begins_at = subst (λ (p : Parts L D). StandsAtStart opened script (length followers) run p
+      (actors_of (seats_of by.first))) (sym by.start.parts)
+      (subst (λ (l : List model.Actor). StandsAtStart opened script (length followers) run by.start.start.parts l)
+      starts_views by.start.begins.stands)
+
+  -- so the run is by turns
+  pub by_turns : OwnRunsByTurns log_seen log_gives data_seen data_gives opened script turns (length followers)
+      (views_of actors) driven
+  by_turns = record {
+    run = run;
+    is_run = by.start.begins.is_run;
+    first = by.first.parts;
+    starts = seats_of by.first;
+    begins = begins_at;
+    at_home = by.start.at_home;
+    last = by.last.parts;
+    after = seats_of by.last;
+    actors_are = ap views_of by.actors_are ∙ ending_views;
+    ends = by.ends.ends;
+    asked = by.ends.asked;
+    log = by.log;
+    data_part = by.data_part;
+    marks = by.marks;
+    code = by.code;
+    history = subst (λ (l : List (Actor R)). ListsInOrder driven.closed.marks (views_of l) driven.closed.history)
+        (sym by.actors_are) by.listed;
+    alone = λ only none user one. none_waits log_seen data_seen run turns.seed turns.max by.first.parts
+        (seats_of by.first) driven.ended by.last.parts (seats_of by.last) log_gives data_gives by.ends.ends
+        (by.start.alone only none user one);
+  }
+
+  log_is : ◌≡◌ {A = log.Part L} by.first.parts.log opened.log
+  log_is = ap (λ (p : Parts L D). p.log) by.start.parts ∙ by.start.begins.log
+
+  data_is : ◌≡◌ {A = store.Part D} by.first.parts.store opened.store
+  data_is = ap (λ (p : Parts L D). p.store) by.start.parts ∙ by.start.begins.data_part
+
+  pub leaves : LeavesRun log_seen log_gives data_seen data_gives stands opened script turns.log_only (length followers)
+      starts ending driven.closed
+  leaves = record {
+    run = run;
+    is_run = by.start.begins.is_run;
+    begun = by.start.begins.begun;
+    last = by.last.parts;
+    from = by.from;
+    log_calls = subst (λ (z : log.Part L). CallsOn log_gives z.dev z.failed by.last.parts.log.dev
+        by.last.parts.log.failed) log_is by.calls.log;
+    data_calls = subst (λ (z : store.Part D). CallsOn data_gives z.dev z.failed by.last.parts.store.dev
+        by.last.parts.store.failed) data_is by.calls.data_part;
+    log_shape = run_shape log_seen data_seen run turns.seed turns.max by.first.parts (seats_of by.first) driven.ended
+        by.last.parts (seats_of by.last) log_gives data_gives by.ends.ends
+        ∙ ap (λ (z : log.Part L). z.shape) log_is;
+    log = by.log;
+    data_part = by.data_part;
+    marks = by.marks;
+    code = by.code;
+    history = by.history;
+  }
+
+  abbrev Ends : RunEnd → Type 0
+  Ends how = OwnEndsAs log_seen log_gives data_seen data_gives run turns.seed turns.max by.first.parts
+      (seats_of by.first) how by.last.parts (seats_of by.last)
+
+  have_ended : driven.ended ≡ ended.Done → HaveEnded (views_of ending)
+  have_ended done = subst HaveEnded (sym ending_views) (subst Ends done by.ends.ends).ended
+
+  leaves_open : (count user : ℕ) → driven.ended ≡ ended.Spent count user
+      → LeavesOpen script driven.closed.history (HasMetError driven.closed) user
+  unfolding leaves
+  leaves_open count user spent =
+      let end = (subst Ends spent by.ends.ends).1 in
+      let c = run.setup in let g = by.from.runs.running.log_ghost in let m = by.from.runs.running.shared in
+      subst (λ (z : List Entry). LeavesOpen script z (HasMetError driven.closed) user) (sym by.history)
+      (open_lines.leaves_open (run_log_side log_seen data_seen run) c 0 m g by.last.parts.log (views_of ending)
+      by.from.runs.running.both.logged (word_marks m) script opened.shape by.start.begins.is_run.of_script
+      (seated_seats c (views_of ending) by.from.runs.seated script opened.shape by.start.begins.is_run.of_script)
+      (HasMetError driven.closed)
+      (λ failed. left_run.met_error log_seen log_gives data_seen data_gives stands opened script turns.log_only
+      (length followers) starts ending driven leaves
+      (⊎_elim (λ cause. (m.failed, inl cause)) (λ cause. (m.failed, inr cause))
+      (by.from.runs.running.both.cause failed))) user end.seat end.state
+      (ap (λ (l : List model.Actor). get_elem? l end.seat) ending_views ∙ end.is) end.number end.not_ended
+      (λ j u there. end.least j u (ap (λ (l : List model.Actor). get_elem? l j) (sym ending_views) ∙ there)))
+
+  pub owes : MayBegin opened script turns.log_only → Owes log_seen log_gives data_seen data_gives opened script driven
+  owes may = left_run.owes log_seen log_gives data_seen data_gives stands opened script turns.log_only
+      (length followers) starts ending driven leaves may have_ended leaves_open
+
+  pub followed : AreNewFollowers opened.start followers → HaveFollowed log_seen data_seen stands opened script
+      followers actors driven.closed
+  followed new = subst (λ (l : List (Actor R)). HaveFollowed log_seen data_seen stands opened script followers l
+      driven.closed) (sym by.actors_are)
+      (left_run.have_followed log_seen log_gives data_seen data_gives stands opened script turns.log_only
+      (length followers) starts ending driven leaves followers new
+      (by.start.begins.stands.are_new
+      ∙ ap (λ (b : Bool). start_actors opened.shape script opened.start b (length followers))
+      by.start.begins.is_run.log_only_is)
+      by.start.begins.followers)

@@ -1,0 +1,194 @@
+-- A run by turns whose users write for themselves, up to one of them.
+use Rattle.std.proofs.Common.{List, [], add-one, ap, arith, length, refl, subst, suc, sym, ℕ, ◌+◌, ◌<◌, ◌∙◌, ◌∷◌, ◌≡◌, ◌≤◌}
+use mathlib.Core.Option.{some-ne-none}
+use Rattle.model_own.specs.OwnWrites.{OwnUser}
+use Rattle.model_core.specs.{Given}
+use Rattle.model_core.specs.declared.ops.Step.{Step}
+use Rattle.model_own.specs.OwnTurn.{OwnCore}
+use Rattle.model_ownrun.specs.OwnRuns.{LastOwnTurn, TakesOwnTurns}
+use Rattle.model_running.specs.{seat_of_turn}
+use Rattle.model_script.specs.{first_state}
+use Rattle.redo_disk.specs.{Call}
+use Rattle.redo_disk.specs.Seen.{Seen}
+use Rattle.redo_drive.proofs.Viewed.{length_views}
+use Rattle.redo_drive.specs.Calls.{CallOnBoth}
+use Rattle.redo_drive.specs.Playing.{RunOf, run_data_side, run_log_side}
+use Rattle.redo_drive.specs.Views.{views_of}
+use Rattle.redo_drive.specs.declared.actor.Actor.{Actor}
+use Rattle.redo_drive.specs.declared.drive.RunEnd.TheVariants as ran
+use Rattle.redo_machine.proofs.UserSeats.{first_is_least}
+use Rattle.redo_machine.specs.Turns.{IsDrawn}
+use Rattle.redo_ownmachine.proofs.OpenSeats.{all_ended, first_open, users_ended}
+use Rattle.redo_ownmachine.specs.OpenOwn.{IsFirstOpenUser, UsersHaveEnded}
+use Rattle.redo_ownmachine.specs.OwnSeats.{actors_of, HasSameSeats, seats_of}
+use Rattle.redo_ownmachine.specs.OwnStore.{OwnIsOnRun, OwnRunsFrom, OwnRunsOn, own_core_of, TakesOwnTurn}
+use Rattle.redo_ownmachine.specs.OwnTurns.{AskInOwnTurns, OwnEndsAsking}
+use Rattle.redo_ownmachine.specs.declared.machine.OwnMachine.{OwnMachine}
+
+module _ {L D : Type 0} (log_seen : L → Seen) (log_gives : L → Call → L → Type 0) (data_seen : D → Seen)
+    (data_gives : D → Call → D → Type 0) where
+  -- so many turns lead from the first state to the last, with what each asked of both devices
+  pub record OwnTurnsAsk (run : RunOf L D) (seed max n : ℕ)
+      (first last : OwnCore (run_log_side log_seen data_seen run) (run_data_side log_seen data_seen run)) : Type 0 where
+    pub turns : TakesOwnTurns (run_log_side log_seen data_seen run) (run_data_side log_seen data_seen run) seed max n
+        first last
+    pub asked : AskInOwnTurns log_seen log_gives data_seen data_gives run seed max n first last turns
+
+  -- so many turns of a run lead from the first machine to this one
+  pub record OwnGoesOn {R : Type 0} (run : RunOf L D) (seed max turn : ℕ) (first now : OwnMachine L D R) : Type 0 where
+    pub runs : OwnRunsOn log_seen data_seen run now.parts (seats_of now)
+    pub taken : OwnTurnsAsk run seed max turn (own_core_of log_seen data_seen run first.parts (seats_of first))
+        (own_core_of log_seen data_seen run now.parts (seats_of now))
+
+  -- A machine in its run, after so many turns. There are so many seats.
+  pub record InOwnRun {R : Type 0} (seed max turn draws seats : ℕ) (first now : OwnMachine L D R) : Type 0 where
+    pub drawn : IsDrawn seed turn max draws
+    pub count : length now.users.items + length now.others.items ≡ seats
+    pub on_run : OwnIsOnRun log_seen data_seen now.parts (seats_of now)
+    pub goes : (run : RunOf L D) → OwnRunsOn log_seen data_seen run first.parts (seats_of first)
+        → OwnGoesOn run seed max turn first now
+
+  -- the same, with what its followers got, and what it leaves
+  pub record InOwnTurns {R : Type 0} (stands : R → List Given → Type 0) (seed max turn draws seats : ℕ)
+      (first now : OwnMachine L D R) : Type 0 where
+    pub run : InOwnRun seed max turn draws seats first now
+    pub from : (run : RunOf L D) (starts : List (Actor R))
+        → OwnRunsOn log_seen data_seen run first.parts (seats_of first)
+        → OwnRunsFrom log_seen data_seen stands run starts first → OwnRunsFrom log_seen data_seen stands run starts now
+    pub calls : CallOnBoth log_gives data_gives first.parts now.parts
+    pub stay : HasSameSeats first now
+
+pub no_change : {L D R : Type 0} (m : OwnMachine L D R) → HasSameSeats m m
+no_change m = record { users = refl; others = refl; entries = refl; room = refl }
+
+pub no_changes : {L D R : Type 0} (a b c : OwnMachine L D R) → HasSameSeats a b → HasSameSeats b c → HasSameSeats a c
+no_changes a b c one two = record {
+  users = two.users ∙ one.users;
+  others = two.others ∙ one.others;
+  entries = two.entries ∙ one.entries;
+  room = two.room ∙ one.room;
+}
+
+module _ {L D : Type 0} (log_seen : L → Seen) (log_gives : L → Call → L → Type 0) (data_seen : D → Seen)
+    (data_gives : D → Call → D → Type 0) (seed max : ℕ) where
+  -- so many turns, and one more
+  one_more : (run : RunOf L D) (n : ℕ)
+      (first last : OwnCore (run_log_side log_seen data_seen run) (run_data_side log_seen data_seen run))
+      (t : LastOwnTurn (run_log_side log_seen data_seen run) (run_data_side log_seen data_seen run) seed max
+      (TakesOwnTurns (run_log_side log_seen data_seen run) (run_data_side log_seen data_seen run) seed max n first) n
+      last)
+      → AskInOwnTurns log_seen log_gives data_seen data_gives run seed max (suc n) first last t
+      → OwnTurnsAsk log_seen log_gives data_seen data_gives run seed max (n + 1) first last
+  one_more run n first last t asked =
+      subst (λ (k : ℕ). OwnTurnsAsk log_seen log_gives data_seen data_gives run seed max k first last)
+      (sym (add-one n)) (record { turns = t; asked = asked })
+
+module _ {L D R : Type 0} (log_seen : L → Seen) (log_gives : L → Call → L → Type 0) (data_seen : D → Seen)
+    (data_gives : D → Call → D → Type 0) (seed max : ℕ) where
+  -- a run before its first turn
+  pub starts_run : (seats : ℕ) (machine : OwnMachine L D R)
+      → OwnIsOnRun log_seen data_seen machine.parts (seats_of machine)
+      → length machine.users.items + length machine.others.items ≡ seats
+      → InOwnRun log_seen log_gives data_seen data_gives seed max 0 (first_state seed) seats machine machine
+  starts_run seats machine on count = record {
+    drawn = λ _. refl;
+    count = count;
+    on_run = on;
+    goes = λ run R. record { runs = R; taken = record { turns = refl; asked = tt } };
+  }
+
+  -- one turn more, of the seat whose turn it is
+  pub goes_on : (turn draws draws_left seats seat : ℕ) (step : Step) (first old new : OwnMachine L D R)
+      → InOwnRun log_seen log_gives data_seen data_gives seed max turn draws seats first old
+      → (UsersHaveEnded old.users.items → ⊥)
+      → seat ≡ seat_of_turn seed max seats turn → IsDrawn seed (turn + 1) max draws_left
+      → ((run : RunOf L D) → OwnRunsOn log_seen data_seen run old.parts (seats_of old)
+      → TakesOwnTurn log_seen log_gives data_seen data_gives run old.parts (seats_of old) seat step new.parts
+      (seats_of new) × OwnRunsOn log_seen data_seen run new.parts (seats_of new))
+      → HasSameSeats old new
+      → InOwnRun log_seen log_gives data_seen data_gives seed max (turn + 1) draws_left seats first new
+  goes_on turn draws draws_left seats seat step first old new I open_user its drawn keeps same = record {
+    drawn = drawn;
+    count = ap (λ (n : ℕ). n + length new.others.items) same.users
+        ∙ ap (λ (n : ℕ). length old.users.items + n) same.others ∙ I.count;
+    on_run = record { run = I.on_run.run; runs = (keeps I.on_run.run I.on_run.runs).1 };
+    goes = λ run R.
+        let before = I.goes run R in
+        let taken = (keeps run before.runs).0 in
+        let count : seats ≡ length old.users.items + length (views_of old.others.items) =
+        sym (ap (λ (n : ℕ). length old.users.items + n) (length_views old.others.items) ∙ I.count) in
+        let its_seat : seat ≡ seat_of_turn seed max (length old.users.items + length (views_of old.others.items)) turn =
+        its ∙ ap (λ (n : ℕ). seat_of_turn seed max n turn) count in
+        let moved = subst (λ (s : ℕ). TakesOwnTurn log_seen log_gives data_seen data_gives run old.parts
+        (seats_of old) s step new.parts (seats_of new)) its_seat taken in
+        record {
+          runs = (keeps run before.runs).1;
+          taken = one_more log_seen log_gives data_seen data_gives seed max run turn
+              (own_core_of log_seen data_seen run first.parts (seats_of first))
+              (own_core_of log_seen data_seen run new.parts (seats_of new))
+              (record {
+                before = own_core_of log_seen data_seen run old.parts (seats_of old);
+                earlier = before.taken.turns;
+                open_user = λ ended.
+                    open_user (users_ended old.users.items old.work (views_of old.others.items) ended);
+                answer = moved.answer;
+                step = step;
+                turn = moved.turn;
+              }) (moved.asked, before.taken.asked);
+        };
+  }
+
+  -- a run in which each user has ended
+  pub ends_done : (turn draws seats : ℕ) (first last : OwnMachine L D R)
+      → InOwnRun log_seen log_gives data_seen data_gives seed max turn draws seats first last → turn ≤ max
+      → UsersHaveEnded last.users.items → (run : RunOf L D)
+      → OwnRunsOn log_seen data_seen run first.parts (seats_of first)
+      → OwnEndsAsking log_seen log_gives data_seen data_gives run seed max first.parts (seats_of first) ran.Done
+      last.parts (seats_of last)
+  ends_done turn draws seats first last I within ended run R =
+      let goes = I.goes run R in record {
+        ends = record {
+          count = turn;
+          within = within;
+          turns = goes.taken.turns;
+          ended = all_ended run.setup last.users.items last.work (views_of last.others.items) goes.runs.runs.seated
+              ended;
+        };
+        asked = goes.taken.asked;
+      }
+
+  -- a run whose turns are spent
+  pub ends_spent : (turn draws seats user : ℕ) (first last : OwnMachine L D R)
+      → InOwnRun log_seen log_gives data_seen data_gives seed max turn draws seats first last → turn ≡ max
+      → IsFirstOpenUser last.users.items user → (run : RunOf L D)
+      → OwnRunsOn log_seen data_seen run first.parts (seats_of first)
+      → OwnEndsAsking log_seen log_gives data_seen data_gives run seed max first.parts (seats_of first)
+      (ran.Spent max user) last.parts (seats_of last)
+  ends_spent turn draws seats user first last I all open_user run R =
+      let goes = I.goes run R in
+      let seated = goes.runs.runs.seated in
+      let found = first_open run.setup last.users.items last.work (views_of last.others.items) seated user open_user in
+      let taken = subst (λ (n : ℕ). OwnTurnsAsk log_seen log_gives data_seen data_gives run seed max n
+      (own_core_of log_seen data_seen run first.parts (seats_of first))
+      (own_core_of log_seen data_seen run last.parts (seats_of last))) all goes.taken in record {
+        ends = (
+          refl,
+          record {
+            turns = taken.turns;
+            seat = found.seat;
+            state = found.state;
+            is = found.is;
+            number = found.open_user.number;
+            not_ended = found.open_user.not_ended;
+            least = first_is_least run.setup (actors_of (seats_of last)) seated user found;
+          },
+        );
+        asked = taken.asked;
+      }
+
+-- where a user hasn't ended there is a seat
+pub some_seat : {R : Type 0} (users : List OwnUser) (others : List (Actor R)) (seats : ℕ)
+    → length users + length others ≡ seats → (UsersHaveEnded users → ⊥) → 0 < seats
+some_seat [] others seats count open_user =
+    absurd (open_user (λ j o at. absurd (some-ne-none o (sym at))))
+some_seat (x ∷ xs) others seats count open_user = omega arith

@@ -1,0 +1,53 @@
+// A store after its run, where users wrote for themselves.
+ghost use Rattle.std.specs.Prelude.{◌≡◌, ◌≤◌, [], length, slice_index, vec_capacity};
+ghost use Rattle.model_core.specs.{index};
+ghost use Rattle.model_core.specs.declared.words.Word.TheVariants as word_is;
+ghost use Rattle.model_running.specs.{history_of, marks_in, word_marks};
+ghost use Rattle.redo_drive.specs.History.{ListsInOrder};
+ghost use Rattle.redo_drive.specs.Playing.{RunOf};
+ghost use Rattle.redo_drive.specs.Running.{RunsOn};
+ghost use Rattle.redo_drive.specs.Views.{views_of};
+ghost use Rattle.redo_ownmachine.specs.OwnSeats.{HasRoom, crew_of, seats_of};
+ghost use Rattle.redo_ownmachine.specs.OwnStore.{OwnIsOnRun};
+
+use crate::machine::OwnMachine;
+use crate::seats::give_seats;
+use redo_disk::Sectors;
+use redo_drive::{Actor, Closed};
+use redo_follow::Receiver;
+use redo_machine::Machine;
+
+impl<L: Sectors, D: Sectors, R: Receiver + Drop> OwnMachine<L, D, R> {
+    /// What the run leaves, as `Machine::finish`: its actors are the users, the writer and the flusher as far as the users have
+    /// brought them, and the others, the followers among them.
+    pub fn finish(self) -> (Closed<L, D>, Vec<Actor<R>>)
+        requires on_run { OwnIsOnRun L.seen D.seen self.parts (seats_of self) }
+        requires room { HasRoom self }
+        ensures parts { (result.0.log ≡ self.parts.log) × (result.0.store ≡ self.parts.store) }
+        ensures actors { result.1.items ≡ crew_of self }
+        ensures code { result.0.code ≡ slice_index self.parts.words.words (index word_is.Failed) }
+        ensures marks { result.0.marks ≡ marks_in self.parts.words.words }
+        ensures history { (run : RunOf L D) (runs : RunsOn L.seen D.seen run self.parts (views_of (crew_of self)))
+            → self.entries.items ≡ [] → length runs.running.log_ghost.log ≤ vec_capacity self.entries
+            → result.0.history ≡ history_of runs.running.log_ghost.answered (word_marks runs.running.shared) runs.running.log_ghost.log }
+        ensures listed { (run : RunOf L D) (runs : RunsOn L.seen D.seen run self.parts (views_of (crew_of self)))
+            → self.entries.items ≡ [] → length runs.running.log_ghost.log ≤ vec_capacity self.entries
+            → ListsInOrder result.0.marks (views_of (crew_of self)) result.0.history }
+    {
+        let OwnMachine {
+            parts,
+            work,
+            users,
+            others,
+            entries,
+            room,
+        } = self;
+        let actors = give_seats(room, users, work, others);
+        Machine {
+            parts,
+            actors,
+            entries,
+        }
+        .finish()
+    }
+}

@@ -1,0 +1,16 @@
+// What holds of a machine in its run. A caller learns it by citing a function that does nothing.
+ghost use Rattle.model_running.specs.{HasWatermarks};
+ghost use Rattle.redo_drive.specs.Playing.{RunOf, run_data_side, run_log_side};
+ghost use Rattle.redo_drive.specs.Turning.{core_of};
+ghost use Rattle.redo_drive.specs.declared.parts.Parts.{Parts};
+ghost use Rattle.redo_ownmachine.specs.OwnSeats.{OwnSeats, actors_of};
+ghost use Rattle.redo_ownmachine.specs.OwnStore.{OwnRunsOn};
+
+use redo_disk::Sectors;
+
+/// A machine in its run has each of the watermarks of a running store, had it a writer and a flusher as far as its users have
+/// brought them.
+pub fn own_machine_has_watermarks<L: Sectors, D: Sectors>()
+    ensures { (run : RunOf L D) (parts : Parts L D) (seats : OwnSeats) → OwnRunsOn L.seen D.seen run parts seats
+        → HasWatermarks (run_log_side L.seen D.seen run) (run_data_side L.seen D.seen run) run.setup (core_of L.seen D.seen run parts (actors_of seats)) }
+{}

@@ -1,0 +1,47 @@
+// A run by turns, where users write for themselves.
+ghost use Rattle.std.specs.Prelude.{List, ◌<◌, ◌+◌, length};
+ghost use Rattle.redo_drive.specs.Calls.{CallOnBoth};
+ghost use Rattle.redo_drive.specs.Playing.{RunOf};
+ghost use Rattle.redo_drive.specs.declared.actor.Actor.{Actor as TheActor};
+ghost use Rattle.redo_ownmachine.specs.OwnSeats.{HasSameSeats, seats_of};
+ghost use Rattle.redo_ownmachine.specs.OwnStore.{OwnIsOnRun, OwnRunsFrom, OwnRunsOn};
+ghost use Rattle.redo_ownmachine.specs.OwnTurns.{OwnEndsAsking};
+
+use crate::machine::OwnMachine;
+use crate::open_users::{open_seat, open_user};
+use redo_disk::Sectors;
+use redo_drive::RunEnd;
+use redo_follow::Receiver;
+use redo_machine::seat_of;
+use redo_script::Draws;
+
+impl<L: Sectors, D: Sectors, R: Receiver> OwnMachine<L, D, R> {
+    /// Gives turns to users and other actors, at most so many, until each user has ended.
+    pub fn run(&mut self, seed: u64, max: u64) -> RunEnd
+        requires { OwnIsOnRun L.seen D.seen self.old.parts (seats_of self.old) }
+        ensures runs { (run : RunOf L D) → OwnRunsOn L.seen D.seen run self.old.parts (seats_of self.old)
+            → OwnRunsOn L.seen D.seen run self.new.parts (seats_of self.new) }
+        ensures from { (run : RunOf L D) (starts : List (TheActor R)) → OwnRunsOn L.seen D.seen run self.old.parts (seats_of self.old)
+            → OwnRunsFrom L.seen D.seen R.stands_for run starts self.old → OwnRunsFrom L.seen D.seen R.stands_for run starts self.new }
+        ensures ends { (run : RunOf L D) → OwnRunsOn L.seen D.seen run self.old.parts (seats_of self.old)
+            → OwnEndsAsking L.seen L.gives D.seen D.gives run seed max self.old.parts (seats_of self.old) result self.new.parts (seats_of self.new) }
+        ensures calls { CallOnBoth L.gives D.gives self.old.parts self.new.parts }
+        ensures seats { HasSameSeats self.old self.new }
+    {
+        let seats = self.seats() as u64;
+        let mut draws = Draws::new(seed);
+        let mut open = 0;
+        for turn in 0..max {
+            match open_seat(self.users.as_slice(), open) {
+                None => return RunEnd::Done,
+                Some(found) => open = found,
+            }
+            let seat = seat_of(&mut draws, turn, max, seats);
+            let _ = self.turn(seat as usize);
+        }
+        match open_user(self.users.as_slice()) {
+            None => RunEnd::Done,
+            Some((_, user)) => RunEnd::Spent { turns: max, user },
+        }
+    }
+}

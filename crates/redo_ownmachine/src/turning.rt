@@ -1,0 +1,65 @@
+// One turn, where users write for themselves.
+ghost use Rattle.std.specs.Prelude.{◌≡◌, ◌≢◌, ◌<◌, ◌+◌, ℕ, List, length};
+ghost use Rattle.model_own.specs.OwnWrites.{own_lends, own_next};
+ghost use Rattle.redo_drive.specs.Asking.{AskOfBoth};
+ghost use Rattle.redo_drive.specs.Calls.{CallOnBoth};
+ghost use Rattle.redo_drive.specs.Playing.{HasSamePages, RunOf};
+ghost use Rattle.redo_drive.specs.declared.actor.Actor.{Actor as TheActor};
+ghost use Rattle.redo_ownmachine.specs.OwnSeats.{HasSameSeats, seats_of};
+ghost use Rattle.redo_ownmachine.specs.OwnStore.{OwnAlone, OwnIsOnRun, OwnRunsFrom, OwnRunsOn, TakesOwnTurn};
+ghost use Rattle.redo_ownmachine.specs.Serving.{IsUserServed, MayServeUser};
+
+use crate::machine::OwnMachine;
+use redo_disk::Sectors;
+use redo_drive::Parts;
+use redo_follow::Receiver;
+use redo_machine::{play, serve};
+use redo_ownuser::{LogWork, OwnUser};
+use redo_words::Step;
+
+/// Plays the Op that a user asks for, its own or one of the log's work, and gives the user the answer.
+fn serve_user<L: Sectors, D: Sectors>(
+    parts: &mut Parts<L, D>,
+    work: &mut LogWork,
+    user: &mut OwnUser,
+) -> Step
+    requires { MayServeUser parts.old user.old work.old }
+    ensures pages { HasSamePages parts.old parts.new }
+    ensures served { (run : RunOf L D) → IsUserServed L.seen D.seen run parts.old user.old work.old result parts.new user.new work.new }
+    ensures asked { AskOfBoth L.gives D.gives (own_lends user.old work.old) (own_next user.old work.old) parts.old parts.new }
+    ensures calls { CallOnBoth L.gives D.gives parts.old parts.new }
+{
+    let answer = play(parts, user.next(work), user.lent(work));
+    user.took(work, answer)
+}
+
+impl<L: Sectors, D: Sectors, R: Receiver> OwnMachine<L, D, R> {
+    /// How many seats there are: those of the users, and behind them those of the other actors.
+    pub fn seats(&self) -> usize
+        ensures { result ≡ length self.now.users.items + length self.now.others.items }
+    {
+        self.users.len() + self.others.len()
+    }
+
+    /// Gives the one at a seat its turn.
+    pub fn turn(&mut self, seat: usize) -> Step
+        requires on_run { OwnIsOnRun L.seen D.seen self.old.parts (seats_of self.old) }
+        requires seat { seat < length self.old.users.items + length self.old.others.items }
+        ensures turn { (run : RunOf L D) → OwnRunsOn L.seen D.seen run self.old.parts (seats_of self.old)
+            → TakesOwnTurn L.seen L.gives D.seen D.gives run self.old.parts (seats_of self.old) seat result self.new.parts (seats_of self.new)
+            × OwnRunsOn L.seen D.seen run self.new.parts (seats_of self.new) }
+        ensures from { (run : RunOf L D) (starts : List (TheActor R)) → OwnRunsOn L.seen D.seen run self.old.parts (seats_of self.old)
+            → OwnRunsFrom L.seen D.seen R.stands_for run starts self.old → OwnRunsFrom L.seen D.seen R.stands_for run starts self.new }
+        ensures alone { (run : RunOf L D) → OwnAlone L.seen D.seen run self.old.parts (seats_of self.old)
+            → (result ≢ Step.Idle) × OwnAlone L.seen D.seen run self.new.parts (seats_of self.new) }
+        ensures calls { CallOnBoth L.gives D.gives self.old.parts self.new.parts }
+        ensures seats { HasSameSeats self.old self.new }
+    {
+        let users = self.users.len();
+        if seat < users {
+            serve_user(&mut self.parts, &mut self.work, &mut self.users[seat])
+        } else {
+            serve(&mut self.parts, &mut self.others[seat - users])
+        }
+    }
+}
