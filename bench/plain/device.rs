@@ -2,7 +2,8 @@
 
 use crate::log::Device;
 use std::fs::{File, OpenOptions};
-use std::io::{self, Seek, SeekFrom, Write};
+use std::io;
+use std::os::unix::fs::FileExt;
 use std::path::Path;
 
 /// A call that its device failed.
@@ -27,29 +28,51 @@ impl Sectors for Device {
     }
 }
 
-/// A device in a file, which is as long as what was written.
-pub struct FileDevice(File);
+/// A device in a file.
+pub struct FileDevice {
+    file: File,
+    /// Whether it is as long as what was written. Else it has its length from the start on, and a sync needn't keep that.
+    grows: bool,
+}
 
 impl FileDevice {
-    /// An empty one.
-    pub fn new(path: &Path) -> io::Result<FileDevice> {
-        let mut options = OpenOptions::new();
-        let file = options.write(true).create(true).truncate(true).open(path)?;
-        Ok(FileDevice(file))
+    /// One of so many zeros, which are written.
+    pub fn new(path: &Path, length: usize) -> io::Result<FileDevice> {
+        let device = FileDevice {
+            file: created(path)?,
+            grows: false,
+        };
+        device.file.write_all_at(&vec![0; length], 0)?;
+        device.file.sync_all()?;
+        Ok(device)
     }
 
-    fn put(&mut self, at: usize, bytes: &[u8]) -> io::Result<()> {
-        self.0.seek(SeekFrom::Start(at as u64))?;
-        self.0.write_all(bytes)
+    /// An empty one.
+    pub fn growing(path: &Path) -> io::Result<FileDevice> {
+        Ok(FileDevice {
+            file: created(path)?,
+            grows: true,
+        })
     }
+}
+
+fn created(path: &Path) -> io::Result<File> {
+    let mut options = OpenOptions::new();
+    options.write(true).create(true).truncate(true).open(path)
 }
 
 impl Sectors for FileDevice {
     fn write(&mut self, at: usize, bytes: &[u8]) -> Result<(), Failure> {
-        self.put(at, bytes).map_err(|_| Failure)
+        let written = self.file.write_all_at(bytes, at as u64);
+        written.map_err(|_| Failure)
     }
 
     fn sync(&mut self) -> Result<(), Failure> {
-        self.0.sync_all().map_err(|_| Failure)
+        let synced = if self.grows {
+            self.file.sync_all()
+        } else {
+            self.file.sync_data()
+        };
+        synced.map_err(|_| Failure)
     }
 }

@@ -75,7 +75,7 @@ pub struct Sizes {
     pub log_only: bool,
 }
 
-const DEFAULT_SIZES: Sizes = Sizes {
+pub const DEFAULT_SIZES: Sizes = Sizes {
     pages: PAGES,
     log_blocks: LOG_BLOCKS,
     log_only: false,
@@ -150,12 +150,12 @@ pub fn log_length(log_blocks: u64) -> usize {
 }
 
 impl Parts {
-    fn new() -> Result<Parts, Failure> {
-        let log = Device::new(log_length(LOG_BLOCKS));
+    fn new(sizes: Sizes) -> Result<Parts, Failure> {
+        let log = Device::new(log_length(sizes.log_blocks));
         Ok(Parts {
-            words: start_words(PAGES),
-            log: LogPart::new(log, LOG_BLOCKS, START)?,
-            data: DataPart::new(Device::new(data_length(PAGES))),
+            words: start_words(sizes.pages),
+            log: LogPart::new(log, sizes.log_blocks, START)?,
+            data: DataPart::new(Device::new(data_length(sizes.pages))),
             lists: Default::default(),
         })
     }
@@ -268,10 +268,10 @@ pub struct Entry {
 
 impl Machine {
     /// A new store as a run of the script begins on it.
-    pub fn new(script: &[ScriptLine]) -> Result<Machine, Failure> {
+    pub fn new(script: &[ScriptLine], sizes: Sizes) -> Result<Machine, Failure> {
         Ok(Machine {
-            parts: Parts::new()?,
-            actors: seat_actors(script, DEFAULT_SIZES),
+            parts: Parts::new(sizes)?,
+            actors: seat_actors(script, sizes),
         })
     }
 

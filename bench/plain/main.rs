@@ -136,7 +136,7 @@ fn number(word: &str) -> u32 {
 
 fn usage() -> ! {
     eprintln!(
-        "usage: plain write|logs|time|script USERS BYTES MODE GROUPS|threads WHAT memory|files SCRIPT ROUNDS"
+        "usage: plain write|logs|time|script USERS BYTES MODE GROUPS|threads WHAT memory|files|growing SCRIPT ROUNDS|syncs FILE COUNT"
     );
     process::exit(2)
 }
@@ -155,6 +155,7 @@ fn main() -> io::Result<()> {
         ["threads", what, place, script, rounds] => {
             threads::time(what, place, script, number(rounds))
         }
+        ["syncs", file, count] => threads::time_syncs(file, number(count)),
         _ => usage(),
     }
 }

@@ -1,5 +1,5 @@
 //! Runs of a script in threads, timed: by the actors of a running store, by the ring written out by hand, and by a log under one
-//! mutex.
+//! mutex. The actors run by turns too.
 
 pub mod backoff;
 mod locked;
@@ -8,10 +8,10 @@ mod ring;
 use crate::device::{Failure, FileDevice, Sectors};
 use crate::generator::Draws;
 use crate::group::encode;
-use crate::log::Device;
+use crate::log::{BLOCK_SIZE, Device, HEADER_BYTES};
 use crate::machine::lsn::lsn_of;
 use crate::machine::threads::Crew;
-use crate::machine::{Sizes, log_length};
+use crate::machine::{Entry, Machine, Sizes, log_length};
 use crate::script::{ScriptLine, parse};
 use locked::Locked;
 use ring::Ring;
@@ -23,6 +23,8 @@ use std::{fs, io, thread};
 /// Bytes of a group of one string besides the string.
 const STRING_FRONT: u32 = 7;
 const PAGES: u32 = 64;
+/// The seed of the runs by turns.
+const SEED: u64 = 7;
 /// Blocks of the log that is written alone, and never freed, and of one with pages, as a store has it by default.
 const LONG_LOG: u64 = 65_536;
 const LOG: u64 = 2_048;
@@ -132,25 +134,40 @@ fn run_ring<D: Sectors + Send>(users: &[Groups], device: D) -> Result<Outcome, F
     play(&log, users, &[&|| log.write_on(), &|| log.flush_on()])
 }
 
+fn sizes_of(log_only: bool) -> Sizes {
+    Sizes {
+        pages: PAGES,
+        log_blocks: if log_only { LONG_LOG } else { LOG },
+        log_only,
+    }
+}
+
+fn outcome_of(start: Instant, entries: &[Entry]) -> Outcome {
+    Outcome {
+        took: start.elapsed(),
+        groups: entries.len(),
+        end: entries.last().map_or(0, |entry| entry.end),
+    }
+}
+
 fn run_crew<D: Sectors + Send>(
     script: &[ScriptLine],
     log_only: bool,
     spread: bool,
     device: impl Fn(&str, usize) -> D,
 ) -> Result<Outcome, Failure> {
-    let sizes = Sizes {
-        pages: PAGES,
-        log_blocks: if log_only { LONG_LOG } else { LOG },
-        log_only,
-    };
-    let mut crew = Crew::new(script, sizes, spread, device)?;
+    let mut crew = Crew::new(script, sizes_of(log_only), spread, device)?;
     let start = Instant::now();
     let entries = crew.run();
-    Ok(Outcome {
-        took: start.elapsed(),
-        groups: entries.len(),
-        end: entries.last().map_or(0, |entry| entry.end),
-    })
+    Ok(outcome_of(start, &entries))
+}
+
+/// By turns, on devices in memory. The making of the actors is timed too, as it is for the proved program.
+fn run_by_turns(script: &[ScriptLine], log_only: bool) -> Result<Outcome, Failure> {
+    let start = Instant::now();
+    let mut machine = Machine::new(script, sizes_of(log_only))?;
+    machine.run(SEED, u64::MAX);
+    Ok(outcome_of(start, &machine.history()))
 }
 
 fn run_on<D: Sectors + Send>(
@@ -160,6 +177,8 @@ fn run_on<D: Sectors + Send>(
 ) -> Result<Outcome, Failure> {
     let log = || device("log", log_length(LONG_LOG));
     match what {
+        "pages-turns" => run_by_turns(script, false),
+        "steps-turns" => run_by_turns(script, true),
         "pages" => run_crew(script, false, false, device),
         "pages-spread" => run_crew(script, false, true, device),
         "steps" => run_crew(script, true, false, device),
@@ -169,15 +188,25 @@ fn run_on<D: Sectors + Send>(
     }
 }
 
-/// Runs the script so often, on new devices in memory or in files, and prints how long each run took.
+/// A file of so many zeros, or one that grows.
+fn file(name: &str, length: Option<usize>) -> FileDevice {
+    let path = Path::new(name);
+    let made = length.map_or_else(
+        || FileDevice::growing(path),
+        |length| FileDevice::new(path, length),
+    );
+    made.expect("a file")
+}
+
+/// Runs the script so often, on new devices in memory, in files that have their length or in files that grow, and prints how long
+/// each run took.
 pub fn time(what: &str, place: &str, script: &str, rounds: u32) -> io::Result<()> {
     let script = parse(&fs::read(script)?).map_err(|_| io::Error::other("no script"))?;
     for _ in 0..rounds {
-        let outcome = if place == "files" {
-            let file = |name: &str, _| FileDevice::new(Path::new(name)).expect("a file");
-            run_on(what, &script, file)
-        } else {
-            run_on(what, &script, |_, length| Device::new(length))
+        let outcome = match place {
+            "files" => run_on(what, &script, |name, length| file(name, Some(length))),
+            "growing" => run_on(what, &script, |name, _| file(name, None)),
+            _ => run_on(what, &script, |_, length| Device::new(length)),
         };
         let outcome = outcome.map_err(|_| io::Error::other("a device failed"))?;
         println!(
@@ -187,5 +216,22 @@ pub fn time(what: &str, place: &str, script: &str, rounds: u32) -> io::Result<()
             outcome.end
         );
     }
+    Ok(())
+}
+
+/// Writes a block of 512 bytes to a file that has its length, and syncs it, so often, as many times as a user that commits alone
+/// has to. Prints how long that took.
+pub fn time_syncs(file: &str, count: u32) -> io::Result<()> {
+    let length = log_length(LONG_LOG);
+    let mut device = FileDevice::new(Path::new(file), length)?;
+    let block = [7; BLOCK_SIZE];
+    let start = Instant::now();
+    for number in 0..count as usize {
+        // forty groups of 12 bytes stand in a block
+        let at = HEADER_BYTES + BLOCK_SIZE * (number / 40 % LONG_LOG as usize);
+        let synced = device.write(at, &block).and_then(|()| device.sync());
+        synced.map_err(|_| io::Error::other("a device failed"))?;
+    }
+    println!("{} {count} 0", start.elapsed().as_nanos());
     Ok(())
 }

@@ -1,6 +1,6 @@
 //! The times of a run by turns, and of the parser of scripts.
 
-use crate::machine::{Entry, Machine, Ran};
+use crate::machine::{DEFAULT_SIZES, Entry, Machine, Ran};
 use crate::script::{Item, ScriptLine, parse};
 use crate::{fastest, report};
 use std::hint::black_box;
@@ -43,7 +43,8 @@ struct Run {
 }
 
 fn run(script: &[ScriptLine], turns: u64) -> Run {
-    let mut machine = Machine::new(script).unwrap_or_else(|_| unreachable!("memory fails no call"));
+    let machine = Machine::new(script, DEFAULT_SIZES);
+    let mut machine = machine.unwrap_or_else(|_| unreachable!("memory fails no call"));
     let ran = machine.run(SEED, turns);
     let entries = machine.history();
     Run {
