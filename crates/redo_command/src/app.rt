@@ -1,6 +1,6 @@
 // The application whose words `clap` reads.
 ghost use Rattle.std.specs.Prelude.{◌≡◌, false, IfOk, codes};
-ghost use Rattle.clap.specs.Words.{rule_of, with_subcommand, app_of};
+ghost use Rattle.clap.specs.Words.{rule_of, with_rule, with_subcommand, app_of};
 ghost use Rattle.model_words.specs.App.{IsApp, IsLocal, crash_app, dump_app, flag_rule, format_app, gen_app, number_rule, plain_app, recover_app, redolab_app, run_app, top_app, value_rule, with_actors, with_drive, with_others, with_runs, with_turns, with_values, with_workers};
 
 use clap::{Arg, ArgAction, Command};
@@ -30,6 +30,42 @@ fn value<'a>(alloc: Global, name: &'a str) -> Arg<'a>
     Arg::new(alloc, name).required(true)
 }
 
+// With one more option, that has a number.
+fn with_number<'a>(
+    alloc: Global,
+    command: Command<'a>,
+    name: &'a str,
+) -> Result<Command<'a>, AllocError>
+    requires { IsLocal command }
+    ensures { IfOk result (IsApp (with_rule (app_of command.entry) (number_rule name.entry.now))) }
+{
+    command.arg(number(alloc, name))
+}
+
+// With one more option, that has none.
+fn with_flag<'a>(
+    alloc: Global,
+    command: Command<'a>,
+    name: &'a str,
+) -> Result<Command<'a>, AllocError>
+    requires { IsLocal command }
+    ensures { IfOk result (IsApp (with_rule (app_of command.entry) (flag_rule name.entry.now))) }
+{
+    command.arg(flag(alloc, name))
+}
+
+// With one more number by itself.
+fn with_value<'a>(
+    alloc: Global,
+    command: Command<'a>,
+    name: &'a str,
+) -> Result<Command<'a>, AllocError>
+    requires { IsLocal command }
+    ensures { IfOk result (IsApp (with_rule (app_of command.entry) (value_rule name.entry.now))) }
+{
+    command.arg(value(alloc, name))
+}
+
 // A command with `--files` alone.
 fn plain<'a>(alloc: Global, name: &'a str) -> Result<Command<'a>, AllocError>
     ensures { IfOk result (IsApp (plain_app name.entry.now)) }
@@ -40,10 +76,10 @@ fn plain<'a>(alloc: Global, name: &'a str) -> Result<Command<'a>, AllocError>
 fn format_command<'a>(alloc: Global) -> Result<Command<'a>, AllocError>
     ensures { IfOk result (IsApp format_app) }
 {
-    plain(alloc, "format")?
-        .arg(number(alloc, "pages"))?
-        .arg(number(alloc, "space"))?
-        .arg(number(alloc, "log-blocks"))
+    let command = plain(alloc, "format")?;
+    let command = with_number(alloc, command, "pages")?;
+    let command = with_number(alloc, command, "space")?;
+    with_number(alloc, command, "log-blocks")
 }
 
 // With the options that say in what order a run's steps are taken.
@@ -51,10 +87,9 @@ fn with_turns<'a>(alloc: Global, command: Command<'a>) -> Result<Command<'a>, Al
     requires { IsLocal command }
     ensures { IfOk result (IsApp (with_turns (app_of command.entry))) }
 {
-    command
-        .arg(number(alloc, "turns"))?
-        .arg(number(alloc, "max"))?
-        .arg(flag(alloc, "threads"))
+    let command = with_number(alloc, command, "turns")?;
+    let command = with_number(alloc, command, "max")?;
+    with_flag(alloc, command, "threads")
 }
 
 // With the options that say which actors take them.
@@ -62,10 +97,9 @@ fn with_actors<'a>(alloc: Global, command: Command<'a>) -> Result<Command<'a>, A
     requires { IsLocal command }
     ensures { IfOk result (IsApp (with_actors (app_of command.entry))) }
 {
-    command
-        .arg(flag(alloc, "log-only"))?
-        .arg(flag(alloc, "own-writes"))?
-        .arg(number(alloc, "followers"))
+    let command = with_flag(alloc, command, "log-only")?;
+    let command = with_flag(alloc, command, "own-writes")?;
+    with_number(alloc, command, "followers")
 }
 
 // With the options of a run.
@@ -82,7 +116,7 @@ fn with_workers<'a>(alloc: Global, command: Command<'a>) -> Result<Command<'a>, 
     requires { IsLocal command }
     ensures { IfOk result (IsApp (with_workers (app_of command.entry))) }
 {
-    command.arg(number(alloc, "workers"))
+    with_number(alloc, command, "workers")
 }
 
 fn run_command<'a>(alloc: Global) -> Result<Command<'a>, AllocError>
@@ -94,11 +128,12 @@ fn run_command<'a>(alloc: Global) -> Result<Command<'a>, AllocError>
 fn crash_command<'a>(alloc: Global) -> Result<Command<'a>, AllocError>
     ensures { IfOk result (IsApp crash_app) }
 {
-    let command = plain(alloc, "crash")?
-        .arg(number(alloc, "stop-log"))?
-        .arg(number(alloc, "stop-data"))?
-        .arg(number(alloc, "pick"))?;
-    with_drive(alloc, with_workers(alloc, command)?)
+    let command = plain(alloc, "crash")?;
+    let command = with_number(alloc, command, "stop-log")?;
+    let command = with_number(alloc, command, "stop-data")?;
+    let command = with_number(alloc, command, "pick")?;
+    let command = with_workers(alloc, command)?;
+    with_drive(alloc, command)
 }
 
 fn recover_command<'a>(alloc: Global) -> Result<Command<'a>, AllocError>
@@ -110,7 +145,8 @@ fn recover_command<'a>(alloc: Global) -> Result<Command<'a>, AllocError>
 fn dump_command<'a>(alloc: Global) -> Result<Command<'a>, AllocError>
     ensures { IfOk result (IsApp dump_app) }
 {
-    plain(alloc, "dump")?.arg(flag(alloc, "why"))
+    let command = plain(alloc, "dump")?;
+    with_flag(alloc, command, "why")
 }
 
 // With the three numbers of a script.
@@ -118,18 +154,17 @@ fn with_values<'a>(alloc: Global, command: Command<'a>) -> Result<Command<'a>, A
     requires { IsLocal command }
     ensures { IfOk result (IsApp (with_values (app_of command.entry))) }
 {
-    command
-        .arg(value(alloc, "seed"))?
-        .arg(value(alloc, "users"))?
-        .arg(value(alloc, "groups"))
+    let command = with_value(alloc, command, "seed")?;
+    let command = with_value(alloc, command, "users")?;
+    with_value(alloc, command, "groups")
 }
 
 fn gen_command<'a>(alloc: Global) -> Result<Command<'a>, AllocError>
     ensures { IfOk result (IsApp gen_app) }
 {
-    let command = plain(alloc, "gen")?
-        .arg(flag(alloc, "run"))?
-        .arg(number(alloc, "max"))?;
+    let command = plain(alloc, "gen")?;
+    let command = with_flag(alloc, command, "run")?;
+    let command = with_number(alloc, command, "max")?;
     with_values(alloc, command)
 }
 
@@ -145,15 +180,26 @@ fn top_command<'a>(alloc: Global) -> Command<'a>
         .subcommand_required(true)
 }
 
+// With one more command.
+fn with_command<'a>(
+    command: Command<'a>,
+    subcommand: Command<'a>,
+) -> Result<Command<'a>, AllocError>
+    requires whole { IsLocal command }
+    requires part { IsLocal subcommand }
+    ensures { IfOk result (IsApp (with_subcommand (app_of command.entry) (app_of subcommand.entry).top)) }
+{
+    command.subcommand(subcommand)
+}
+
 // The three that run.
 fn with_runs<'a>(alloc: Global, command: Command<'a>) -> Result<Command<'a>, AllocError>
     requires { IsLocal command }
     ensures { IfOk result (IsApp (with_runs (app_of command.entry))) }
 {
-    command
-        .subcommand(format_command(alloc)?)?
-        .subcommand(run_command(alloc)?)?
-        .subcommand(crash_command(alloc)?)
+    let command = with_command(command, format_command(alloc)?)?;
+    let command = with_command(command, run_command(alloc)?)?;
+    with_command(command, crash_command(alloc)?)
 }
 
 // The three that don't.
@@ -161,10 +207,9 @@ fn with_others<'a>(alloc: Global, command: Command<'a>) -> Result<Command<'a>, A
     requires { IsLocal command }
     ensures { IfOk result (IsApp (with_others (app_of command.entry))) }
 {
-    command
-        .subcommand(recover_command(alloc)?)?
-        .subcommand(dump_command(alloc)?)?
-        .subcommand(gen_command(alloc)?)
+    let command = with_command(command, recover_command(alloc)?)?;
+    let command = with_command(command, dump_command(alloc)?)?;
+    with_command(command, gen_command(alloc)?)
 }
 
 /// The six commands.
