@@ -7,7 +7,7 @@ use crate::generated;
 use crate::listing::read_of;
 use crate::lsn::start_after;
 use crate::making::{draw_full_script, draw_script, spoil_fit, spoil_text, text_of};
-use crate::options::{Options, draw_followers};
+use crate::options::{Options, draw_followers, draw_own_writes};
 use crate::places::Place;
 use crate::program::{Call, Program, words_of};
 use crate::report::Report;
@@ -26,8 +26,9 @@ pub struct Tally {
     pub threads: u64,
     pub narrow: u64,
     pub refusing: u64,
-    /// Runs with followers.
+    /// Runs with followers, and those whose users write for themselves.
     pub followed: u64,
+    pub own: u64,
     pub chains: u64,
     /// How often a log has gone round.
     pub rounds: u64,
@@ -44,6 +45,7 @@ impl Tally {
         self.narrow += other.narrow;
         self.refusing += other.refusing;
         self.followed += other.followed;
+        self.own += other.own;
         self.chains += other.chains;
         self.rounds += other.rounds;
         self.refused += other.refused;
@@ -59,10 +61,11 @@ pub struct Case<'a> {
     pub seed: u64,
     /// Whether each run is one in threads, of all users.
     pub all_threads: bool,
-    /// Whether each run of a drawn script has followers.
+    /// Whether each run of a drawn script has followers, and users that write for themselves where it is by turns.
     pub all_followers: bool,
+    pub all_own: bool,
     pub draws: Draws,
-    /// What the followers alone are drawn from, so that the draws of all else stay as they are without them.
+    /// What these two alone are drawn from, so that the draws of all else stay as they are without them.
     pub beside: Draws,
     pub tally: Tally,
     pub times: Times,
@@ -153,6 +156,7 @@ impl Case<'_> {
         }
         let options = Options {
             followers: draw_followers(&mut self.beside, self.all_followers),
+            own_writes: draw_own_writes(&mut self.beside, self.all_own, threads),
             ..Options::draw(&mut self.draws, files, threads, script.len())
         };
         let mut text = text_of(&mut self.draws, &script);
@@ -210,6 +214,7 @@ impl Case<'_> {
         self.tally.stops += u64::from(report.tells_failure());
         self.tally.threads += u64::from(options.threads);
         self.tally.followed += u64::from(options.followers > 0);
+        self.tally.own += u64::from(options.own_writes);
         let asked = Asked {
             script,
             stops: options.stops(),
@@ -240,6 +245,8 @@ impl Case<'_> {
         let is_summed = self.draws.once_in(2);
         if is_summed {
             options = Options::of_generated(seed);
+        } else {
+            options.own_writes = draw_own_writes(&mut self.beside, self.all_own, options.threads);
         }
         let call = self.call_run(&options, &text, false)?;
         self.check_call(&Store::default_sizes(), &script, &options, &call)?;
@@ -279,6 +286,8 @@ impl Case<'_> {
             "run --followers 0",
             "crash --followers 5",
             "recover --followers 1",
+            "crash --own-writes --threads",
+            "gen 1 1 1 --own-writes",
             "run --max 1000000000000000001",
             "recover --turns 1",
             "dump 1",

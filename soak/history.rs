@@ -13,7 +13,7 @@ use crate::moments::{
     Stage, after_last_write, draw_moment, draw_moment_before_sync, draw_moment_of_run, opened,
     stage_of,
 };
-use crate::options::{Options, draw_followers, draw_turns};
+use crate::options::{Options, draw_followers, draw_own_writes, draw_turns};
 use crate::program::{Call, words_of};
 use crate::report::Report;
 use crate::script::{DEFAULT_SHAPE, Line, MOST_BYTES, Shape, group_length, misfit};
@@ -572,6 +572,7 @@ impl<'a> History<'a> {
             stop_data: (stops && which % 3 == 0).then(|| self.draw_stop(DATA, is_older)),
             pick: None,
             followers: draw_followers(&mut self.beside, false),
+            own_writes: draw_own_writes(&mut self.beside, false, script.threads),
         }
     }
 

@@ -215,6 +215,7 @@ impl<'a> Lying<'a> {
             crashes,
             files: true,
             log_only: draws.once_in(8),
+            own_writes: false,
             threads,
             turns: draw_turns(draws),
             most_turns: None,

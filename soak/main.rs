@@ -38,6 +38,7 @@ struct Soak {
     refusing: PathBuf,
     all_threads: bool,
     all_followers: bool,
+    all_own: bool,
     next: AtomicU64,
     last: u64,
     failures: AtomicU64,
@@ -54,6 +55,7 @@ impl Soak {
             seed,
             all_threads: self.all_threads,
             all_followers: self.all_followers,
+            all_own: self.all_own,
             draws: Draws::new(seed),
             beside: Draws::beside(seed),
             tally: Tally::default(),
@@ -72,8 +74,9 @@ impl Soak {
             } else {
                 ""
             };
+            let own = if self.all_own { "--own-writes " } else { "" };
             println!(
-                "soak/run {threads}{followers}{seed} 1\n{message}\n{}",
+                "soak/run {threads}{followers}{own}{seed} 1\n{message}\n{}",
                 calls.join("\n")
             );
         }
@@ -94,7 +97,7 @@ impl Soak {
 fn number(word: Option<String>, default: u64) -> u64 {
     let word = word.map_or(Some(default), |word| word.parse().ok());
     word.unwrap_or_else(|| {
-        eprintln!("usage: soak [--threads] [--followers] [FIRST_SEED] [RUNS]");
+        eprintln!("usage: soak [--threads] [--followers] [--own-writes] [FIRST_SEED] [RUNS]");
         process::exit(2)
     })
 }
@@ -113,6 +116,7 @@ fn main() {
     let mut words = env::args().skip(1).peekable();
     let all_threads = words.next_if_eq("--threads").is_some();
     let all_followers = words.next_if_eq("--followers").is_some();
+    let all_own = words.next_if_eq("--own-writes").is_some();
     let first = number(words.next(), 1);
     let runs = number(words.next(), 1_000);
     let start = Instant::now();
@@ -121,6 +125,7 @@ fn main() {
         refusing: named("REFUSING"),
         all_threads,
         all_followers,
+        all_own,
         next: AtomicU64::new(first),
         last: first.saturating_add(runs),
         failures: AtomicU64::new(0),
@@ -149,7 +154,7 @@ fn main() {
     }
     let tally = soak.tally.lock().unwrap();
     println!(
-        "{runs} runs, {} calls, {} groups, {} crashes, {} stops that hit, {} runs in threads, {} of them on one or two processors and {} with refused threads, {} runs with followers, {} chains, {} rounds of a log, {} refused, {failures} failures, {} seconds",
+        "{runs} runs, {} calls, {} groups, {} crashes, {} stops that hit, {} runs in threads, {} of them on one or two processors and {} with refused threads, {} runs with followers, {} of users that write for themselves, {} chains, {} rounds of a log, {} refused, {failures} failures, {} seconds",
         tally.calls,
         tally.groups,
         tally.crashes,
@@ -158,6 +163,7 @@ fn main() {
         tally.narrow,
         tally.refusing,
         tally.followed,
+        tally.own,
         tally.chains,
         tally.rounds,
         tally.refused,

@@ -10,6 +10,7 @@ pub struct Options {
     pub crashes: bool,
     pub files: bool,
     pub log_only: bool,
+    pub own_writes: bool,
     pub threads: bool,
     pub turns: Option<u64>,
     pub most_turns: Option<u64>,
@@ -29,6 +30,7 @@ impl Options {
             crashes,
             files,
             log_only: draws.once_in(6),
+            own_writes: false,
             threads,
             turns: draw_turns(draws),
             most_turns: draws
@@ -47,6 +49,7 @@ impl Options {
             crashes: true,
             files: false,
             log_only: false,
+            own_writes: false,
             threads: false,
             turns: Some(seed),
             most_turns: None,
@@ -72,6 +75,7 @@ impl Options {
         let named = [
             (self.files, " --files"),
             (self.log_only, " --log-only"),
+            (self.own_writes, " --own-writes"),
             (self.threads, " --threads"),
             (is_wide, " of long groups"),
             (self.stops(), " with stops"),
@@ -103,6 +107,7 @@ impl Options {
         let flags = [
             ("--files", self.files),
             ("--log-only", self.log_only),
+            ("--own-writes", self.own_writes),
             ("--threads", self.threads),
         ];
         words.extend(
@@ -119,6 +124,12 @@ impl Options {
 pub fn draw_followers(draws: &mut Draws, always: bool) -> u64 {
     let count = draws.within(1, MOST_FOLLOWERS);
     if always || draws.once_in(3) { count } else { 0 }
+}
+
+/// Whether users write for themselves: by turns in each draw or in one of eight.
+pub fn draw_own_writes(draws: &mut Draws, always: bool, threads: bool) -> bool {
+    let drawn = draws.once_in(8);
+    !threads && (always || drawn)
 }
 
 pub fn draw_turns(draws: &mut Draws) -> Option<u64> {

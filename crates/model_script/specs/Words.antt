@@ -19,6 +19,7 @@ spelling name.Followers = codes "--followers"
 spelling name.LogBlocks = codes "--log-blocks"
 spelling name.LogOnly = codes "--log-only"
 spelling name.Max = codes "--max"
+spelling name.OwnWrites = codes "--own-writes"
 spelling name.Pages = codes "--pages"
 spelling name.Pick = codes "--pick"
 spelling name.Run = codes "--run"
@@ -32,8 +33,8 @@ spelling name.Workers = codes "--workers"
 
 abbrev pub every_name : List Name
 every_name =
-    name.Files ∷ name.Followers ∷ name.LogBlocks ∷ name.LogOnly ∷ name.Max ∷ name.Pages ∷ name.Pick ∷ name.Run
-    ∷ name.Space ∷ name.StopData ∷ name.StopLog ∷ name.Threads ∷ name.Turns ∷ name.Why ∷ name.Workers ∷ []
+    name.Files ∷ name.Followers ∷ name.LogBlocks ∷ name.LogOnly ∷ name.Max ∷ name.OwnWrites ∷ name.Pages ∷ name.Pick
+    ∷ name.Run ∷ name.Space ∷ name.StopData ∷ name.StopLog ∷ name.Threads ∷ name.Turns ∷ name.Why ∷ name.Workers ∷ []
 
 -- the option that is spelled so
 unfoldable pub name_of : List ℕ → Option Name
@@ -43,6 +44,7 @@ name_of text = find (λ name. bytes_eq text (spelling name)) every_name
 abbrev pub is_flag : Name → Bool
 is_flag name.Files = true
 is_flag name.LogOnly = true
+is_flag name.OwnWrites = true
 is_flag name.Run = true
 is_flag name.Threads = true
 is_flag name.Why = true

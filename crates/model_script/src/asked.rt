@@ -11,6 +11,8 @@ pub struct Drive {
     pub threads: bool,
     /// Whether users, writer and flusher run alone: no page changes and no checkpoint is taken.
     pub log_only: bool,
+    /// Whether users write for themselves: neither a writer nor a flusher runs then.
+    pub own_writes: bool,
     /// How many followers read the log back while it runs.
     pub followers: u32,
 }

@@ -19,6 +19,7 @@ pub enum Name {
     LogBlocks,
     LogOnly,
     Max,
+    OwnWrites,
     Pages,
     Pick,
     Run,

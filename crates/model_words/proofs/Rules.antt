@@ -19,6 +19,7 @@ id name.Followers = codes "followers"
 id name.LogBlocks = codes "log-blocks"
 id name.LogOnly = codes "log-only"
 id name.Max = codes "max"
+id name.OwnWrites = codes "own-writes"
 id name.Pages = codes "pages"
 id name.Pick = codes "pick"
 id name.Run = codes "run"
@@ -91,12 +92,12 @@ abbrev pub format_names : List Name
 format_names = name.Files ∷ name.Pages ∷ name.Space ∷ name.LogBlocks ∷ []
 
 abbrev pub run_names : List Name
-run_names = name.Files ∷ name.Turns ∷ name.Max ∷ name.Threads ∷ name.LogOnly ∷ name.Followers ∷ []
+run_names = name.Files ∷ name.Turns ∷ name.Max ∷ name.Threads ∷ name.LogOnly ∷ name.OwnWrites ∷ name.Followers ∷ []
 
 abbrev pub crash_names : List Name
 crash_names =
     name.Files ∷ name.StopLog ∷ name.StopData ∷ name.Pick ∷ name.Workers ∷ name.Turns ∷ name.Max ∷ name.Threads
-    ∷ name.LogOnly ∷ name.Followers ∷ []
+    ∷ name.LogOnly ∷ name.OwnWrites ∷ name.Followers ∷ []
 
 abbrev pub recover_names : List Name
 recover_names = name.Files ∷ name.Workers ∷ []

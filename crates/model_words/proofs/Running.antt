@@ -2,7 +2,7 @@
 use Rattle.std.proofs.Common.{◌≡◌, ◌∙◌, ◌-◌, ◌^◌, inl, inr, refl, sym, ap, ℕ, Bool, true, false, List, map, codes, Option, Some, None, option_map, true≢false}
 use Rattle.std.specs.Prelude.{option_and_then, fold}
 use Rattle.clap.specs.Walk.{Row, Text, first_of, with_default}
-use Rattle.model_script.specs.{are_different, given_crash, given_drive, is_flag, is_given, word_number}
+use Rattle.model_script.specs.{are_different, given_crash, given_drive, is_flag, is_given, where_driven, word_number}
 use Rattle.model_script.specs.declared.asked.Asked.{Asked}
 use Rattle.model_script.specs.declared.asked.Command.TheVariants as asked
 use Rattle.model_script.specs.declared.asked.Drive.{Drive}
@@ -21,23 +21,24 @@ use Rattle.model_words.proofs.Said.{are_members}
 use Rattle.model_words.proofs.Spelled.{is_member}
 use Rattle.model_words.proofs.Uses.{use_row}
 
-abbrev drive_with : Bool → Bool → Option ℕ → Option ℕ → Option ℕ → Option Drive
-drive_with threads log_only seed max followers =
-    option_and_then (λ seed. option_and_then (λ max. option_map (λ followers. record {
+abbrev drive_with : Bool → Bool → Bool → Option ℕ → Option ℕ → Option ℕ → Option Drive
+drive_with threads log_only own_writes seed max followers =
+    option_and_then where_driven (option_and_then (λ seed. option_and_then (λ max. option_map (λ followers. record {
       seed = seed;
       max = max;
       threads = threads;
       log_only = log_only;
+      own_writes = own_writes;
       followers = followers;
-    }) followers) max) seed
+    }) followers) max) seed)
 
-no_drive : (threads log_only : Bool) (seed followers : Option ℕ)
-    → drive_with threads log_only seed None followers ≡ None
-no_drive threads log_only seed followers = none_then seed
+no_drive : (threads log_only own_writes : Bool) (seed followers : Option ℕ)
+    → drive_with threads log_only own_writes seed None followers ≡ None
+no_drive threads log_only own_writes seed followers = ap (option_and_then where_driven) (none_then seed)
 
-no_followers : (threads log_only : Bool) (seed max : Option ℕ) → drive_with threads log_only seed max None ≡ None
-no_followers threads log_only None max = refl
-no_followers threads log_only (Some seed) max = none_then max
+no_followers : (threads log_only own_writes : Bool) (seed max : Option ℕ) → drive_with threads log_only own_writes seed max None ≡ None
+no_followers threads log_only own_writes None max = refl
+no_followers threads log_only own_writes (Some seed) max = ap (option_and_then where_driven) (none_then max)
 
 abbrev run_with : Bool → Option Drive → Option Asked
 run_with files drive = as_asked files (option_map asked.Run drive)
@@ -86,24 +87,24 @@ module _ (names : List Name) (rows0 : List Row) where
   followers_at = text_number_or 1 MAX_FOLLOWERS 0 (at (codes "followers"))
 
   abbrev drive_at : Option Drive
-  drive_at = drive_with (flag_at (codes "threads")) (flag_at (codes "log-only")) seed_at max_at followers_at
+  drive_at = drive_with (flag_at (codes "threads")) (flag_at (codes "log-only")) (flag_at (codes "own-writes")) seed_at max_at followers_at
 
   seed_bad : (t : Text) → at (codes "turns") ≡ Some t → word_number t ≡ None → drive_at ≡ None
   seed_bad t e none =
-      ap (λ o. drive_with (flag_at (codes "threads")) (flag_at (codes "log-only")) o max_at followers_at)
+      ap (λ o. drive_with (flag_at (codes "threads")) (flag_at (codes "log-only")) (flag_at (codes "own-writes")) o max_at followers_at)
       (or_bad 0 (2 ^ 64 - 1) 0 (at (codes "turns")) t e none)
 
   max_bad : (t : Text) → at (codes "max") ≡ Some t → word_number t ≡ None → drive_at ≡ None
   max_bad t e none =
-      ap (λ o. drive_with (flag_at (codes "threads")) (flag_at (codes "log-only")) seed_at o followers_at)
+      ap (λ o. drive_with (flag_at (codes "threads")) (flag_at (codes "log-only")) (flag_at (codes "own-writes")) seed_at o followers_at)
       (or_bad 0 MAX_TURNS DEFAULT_TURNS (at (codes "max")) t e none)
-      ∙ no_drive (flag_at (codes "threads")) (flag_at (codes "log-only")) seed_at followers_at
+      ∙ no_drive (flag_at (codes "threads")) (flag_at (codes "log-only")) (flag_at (codes "own-writes")) seed_at followers_at
 
   followers_bad : (t : Text) → at (codes "followers") ≡ Some t → word_number t ≡ None → drive_at ≡ None
   followers_bad t e none =
-      ap (λ o. drive_with (flag_at (codes "threads")) (flag_at (codes "log-only")) seed_at max_at o)
+      ap (λ o. drive_with (flag_at (codes "threads")) (flag_at (codes "log-only")) (flag_at (codes "own-writes")) seed_at max_at o)
       (or_bad 1 MAX_FOLLOWERS 0 (at (codes "followers")) t e none)
-      ∙ no_followers (flag_at (codes "threads")) (flag_at (codes "log-only")) seed_at max_at
+      ∙ no_followers (flag_at (codes "threads")) (flag_at (codes "log-only")) (flag_at (codes "own-writes")) seed_at max_at
 
 run_bad : (rows0 : List Row) → Bad run_names plain rows0 → read (codes "run") run_names false plain rows0 ≡ None
 run_bad rows0 (inr b) = absurd (true≢false (sym b.2))
@@ -118,6 +119,7 @@ run_bad rows0 (inl b) = go b.0 b.1 b.2 b.3 b.4 b.5
         (followers_bad run_names rows0 t (number_kept (codes "followers") (rules run_names false) rows0 refl ∙ e) none)
     go name.Files t m f e none = absurd (true≢false f)
     go name.LogOnly t m f e none = absurd (true≢false f)
+    go name.OwnWrites t m f e none = absurd (true≢false f)
     go name.Threads t m f e none = absurd (true≢false f)
     go _ t m f e none = absurd (true≢false (sym m))
 
@@ -129,6 +131,7 @@ run_is = record {
       (λ i. run_with (given name.Files refl (flag_kept (codes "files") (rules run_names false) (map use_row us) refl) i)
       (drive_with (given name.Threads refl (flag_kept (codes "threads") (rules run_names false) (map use_row us) refl) i)
       (given name.LogOnly refl (flag_kept (codes "log-only") (rules run_names false) (map use_row us) refl) i)
+      (given name.OwnWrites refl (flag_kept (codes "own-writes") (rules run_names false) (map use_row us) refl) i)
       (whole_is _ _ (text name.Turns refl (number_kept (codes "turns") (rules run_names false) (map use_row us) refl)) i)
       (or_is 0 MAX_TURNS DEFAULT_TURNS _ _
       (text name.Max refl (number_kept (codes "max") (rules run_names false) (map use_row us) refl)) i)
@@ -191,6 +194,7 @@ crash_bad rows0 (inl b) = go b.0 b.1 b.2 b.3 b.4 b.5
         ∙ no_workers fs drive stop_log stop_data pick
     go name.Files t m f e none = absurd (true≢false f)
     go name.LogOnly t m f e none = absurd (true≢false f)
+    go name.OwnWrites t m f e none = absurd (true≢false f)
     go name.Threads t m f e none = absurd (true≢false f)
     go _ t m f e none = absurd (true≢false (sym m))
 
@@ -202,6 +206,7 @@ crash_is = record {
       (λ i. crash_with (given name.Files refl (flag_kept (codes "files") (rules crash_names false) (map use_row us) refl) i)
       (drive_with (given name.Threads refl (flag_kept (codes "threads") (rules crash_names false) (map use_row us) refl) i)
       (given name.LogOnly refl (flag_kept (codes "log-only") (rules crash_names false) (map use_row us) refl) i)
+      (given name.OwnWrites refl (flag_kept (codes "own-writes") (rules crash_names false) (map use_row us) refl) i)
       (whole_is _ _ (text name.Turns refl (number_kept (codes "turns") (rules crash_names false) (map use_row us) refl)) i)
       (or_is 0 MAX_TURNS DEFAULT_TURNS _ _
       (text name.Max refl (number_kept (codes "max") (rules crash_names false) (map use_row us) refl)) i)

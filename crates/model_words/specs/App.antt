@@ -29,13 +29,18 @@ IsApp app command = (app_of command ≡ app) × IsLocal command
 abbrev pub plain_app : Text → App
 plain_app name = with_rule (new_app name) (flag_rule (codes "files"))
 
--- the options that say in what order a run's steps are taken, and whether the log runs alone
+-- the options that say in what order a run's steps are taken
 abbrev pub with_turns : App → App
 with_turns app =
-    with_rule (with_rule (with_rule (with_rule app (number_rule (codes "turns"))) (number_rule (codes "max"))) (flag_rule (codes "threads"))) (flag_rule (codes "log-only"))
+    with_rule (with_rule (with_rule app (number_rule (codes "turns"))) (number_rule (codes "max"))) (flag_rule (codes "threads"))
+
+-- the options that say which actors take them
+abbrev pub with_actors : App → App
+with_actors app =
+    with_rule (with_rule (with_rule app (flag_rule (codes "log-only"))) (flag_rule (codes "own-writes"))) (number_rule (codes "followers"))
 
 abbrev pub with_drive : App → App
-with_drive app = with_rule (with_turns app) (number_rule (codes "followers"))
+with_drive app = with_actors (with_turns app)
 
 abbrev pub with_workers : App → App
 with_workers app = with_rule app (number_rule (codes "workers"))

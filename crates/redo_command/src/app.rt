@@ -1,7 +1,7 @@
 // The application whose words `clap` reads.
 ghost use Rattle.std.specs.Prelude.{◌≡◌, false, IfOk, codes};
 ghost use Rattle.clap.specs.Words.{rule_of, with_rule, with_subcommand, app_of};
-ghost use Rattle.model_words.specs.App.{IsApp, IsLocal, crash_app, dump_app, flag_rule, format_app, gen_app, number_rule, plain_app, recover_app, redolab_app, run_app, top_app, value_rule, with_drive, with_others, with_runs, with_turns, with_values, with_workers};
+ghost use Rattle.model_words.specs.App.{IsApp, IsLocal, crash_app, dump_app, flag_rule, format_app, gen_app, number_rule, plain_app, recover_app, redolab_app, run_app, top_app, value_rule, with_actors, with_drive, with_others, with_runs, with_turns, with_values, with_workers};
 
 use clap::{Arg, ArgAction, Command};
 use std::alloc::{AllocError, Global};
@@ -82,15 +82,24 @@ fn format_command<'a>(alloc: Global) -> Result<Command<'a>, AllocError>
     with_number(alloc, command, "log-blocks")
 }
 
-// With the options that say in what order a run's steps are taken, and whether the log runs alone.
+// With the options that say in what order a run's steps are taken.
 fn with_turns<'a>(alloc: Global, command: Command<'a>) -> Result<Command<'a>, AllocError>
     requires { IsLocal command }
     ensures { IfOk result (IsApp (with_turns (app_of command.entry))) }
 {
     let command = with_number(alloc, command, "turns")?;
     let command = with_number(alloc, command, "max")?;
-    let command = with_flag(alloc, command, "threads")?;
-    with_flag(alloc, command, "log-only")
+    with_flag(alloc, command, "threads")
+}
+
+// With the options that say which actors take them.
+fn with_actors<'a>(alloc: Global, command: Command<'a>) -> Result<Command<'a>, AllocError>
+    requires { IsLocal command }
+    ensures { IfOk result (IsApp (with_actors (app_of command.entry))) }
+{
+    let command = with_flag(alloc, command, "log-only")?;
+    let command = with_flag(alloc, command, "own-writes")?;
+    with_number(alloc, command, "followers")
 }
 
 // With the options of a run.
@@ -99,7 +108,7 @@ fn with_drive<'a>(alloc: Global, command: Command<'a>) -> Result<Command<'a>, Al
     ensures { IfOk result (IsApp (with_drive (app_of command.entry))) }
 {
     let command = with_turns(alloc, command)?;
-    with_number(alloc, command, "followers")
+    with_actors(alloc, command)
 }
 
 // With the number of those that apply the groups of the log.

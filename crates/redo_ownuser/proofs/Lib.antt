@@ -1,1 +1,2 @@
+pub mod StandsStill
 pub mod Stepped

@@ -1,1 +1,2 @@
 pub mod OwnFits
+pub mod OwnLink

@@ -6,6 +6,8 @@ ghost use Rattle.model_core.specs.{heard, step_of, user_took};
 ghost use Rattle.model_own.specs.OwnWrites.{ErrandFits, MayHelpAt, errand_took, errand_waits, has_failed, own_goes_on};
 ghost use Rattle.model_own.specs.OwnWrites.{own_lends, own_next, own_step_of, own_stepped, sets_out, waiting, written};
 ghost use Rattle.redo_ownuser.specs.OwnFits.{ErrandAnswerFits, OwnAnswerFits, WorkGoesOn, ends_as, is_idle};
+ghost use Rattle.redo_ownuser.specs.OwnLink.{ComesNearer, ComesNearerAlone};
+ghost use Rattle.redo_useractor.specs.ToLink.{to_link};
 ghost use Rattle.redo_words.specs.{Lends};
 
 use crate::work::LogWork;
@@ -91,6 +93,13 @@ impl OwnUser {
         }
     }
 
+    /// How many Ops of its own it has to go up to the store of its link, as `UserActor::to_link`. On an errand that stands still.
+    pub fn to_link(&self) -> u64
+        ensures { result ≡ to_link self.now.user }
+    {
+        self.user.to_link()
+    }
+
     /// Its own step was answered: how that ends, and whether it sets out on an errand in place of a wait.
     #[tactic(auto, using(crate::proofs::Stepped::took_is, crate::proofs::Stepped::waits_is))]
     fn takes(&mut self, answer: Answer) -> (Step, bool)
@@ -99,6 +108,7 @@ impl OwnUser {
         ensures user { self.new ≡ record self.old { user = user_took self.old.user (heard answer) self.old.user.step } }
         ensures step { result.0 ≡ step_of (actor.User self.old.user) answer }
         ensures out { result.1 ≡ sets_out self.old (heard answer) }
+        ensures nearer { ComesNearer self.old.user result.0 self.new.user }
     {
         let helps = self.user.helps();
         let step = self.user.took(answer);
@@ -113,6 +123,7 @@ impl OwnUser {
         requires off { self.old.errand ≡ ErrandStep.Done }
         ensures state { self.new ≡ own_stepped self.old (heard answer) }
         ensures step { result ≡ ends_as (errand_waits self.old answer ErrandStep.Done) self.new }
+        ensures nearer { self.new.errand ≡ ErrandStep.Done → ComesNearer self.old.user result self.new.user }
     {
         let begins = self.user.begins_check();
         let (step, sets_out) = self.takes(answer);
@@ -211,6 +222,7 @@ impl OwnUser {
         ensures user { self.new ≡ (errand_took self.old work.old answer self.old.errand).0 }
         ensures work { work.new ≡ (errand_took self.old work.old answer self.old.errand).1 }
         ensures step { result ≡ ends_as (errand_waits self.old answer self.old.errand) self.new }
+        ensures nearer { self.old.errand ≡ ErrandStep.Done → self.new.errand ≡ ErrandStep.Done → ComesNearer self.old.user result self.new.user }
     {
         match self.errand {
             ErrandStep::Done => self.stepped(answer),
@@ -238,13 +250,15 @@ impl OwnUser {
         }
     }
 
-    /// Takes the answer to the Op that it asked for.
+    /// Takes the answer to the Op that it asked for. Only its own Ops bring it nearer to its link.
+    #[tactic(auto, using(crate::proofs::StandsStill::nearer_alone, crate::proofs::StandsStill::checks_only))]
     pub fn took(&mut self, work: &mut LogWork, answer: Answer) -> Step
         requires fits { OwnAnswerFits self.old work.old answer }
         requires stands { ErrandFits self.old.user self.old.errand }
         ensures user { self.new ≡ (own_goes_on self.old work.old answer).0 }
         ensures work { work.new ≡ (own_goes_on self.old work.old answer).1 }
         ensures step { result ≡ own_step_of self.old work.old answer }
+        ensures way { ComesNearerAlone self.old result self.new }
     {
         if self.user.is_checking() {
             let step = self.user.took(answer);

@@ -6,40 +6,46 @@ use std::test::Fail;
 // Each text is that of what some words ask for, with a star for each value. A row of the table below it has the words,
 // and the values in the order of the stars.
 const RUN: &str =
-    "Ok(Asked { command: Run { drive: Drive { seed: *, max: *, threads: *, log_only: *, followers: * } }, files: * })";
+    "Ok(Asked { command: Run { drive: Drive { seed: *, max: *, threads: *, log_only: *, own_writes: *, followers: * } }, files: * })";
 
 const RUNS: &str = "\
-run                              | 0                    100000000           false false 0 false
-run --files                      | 0                    100000000           false false 0 true
-run --turns 7                    | 7                    100000000           false false 0 false
-run --turns 18446744073709551615 | 18446744073709551615 100000000           false false 0 false
-run --turns 007                  | 7                    100000000           false false 0 false
-run --turns=7                    | 7                    100000000           false false 0 false
-run --max 0                      | 0                    0                   false false 0 false
-run --max 1000000000000000000    | 0                    1000000000000000000 false false 0 false
-run --threads                    | 0                    100000000           true  false 0 false
-run --log-only                   | 0                    100000000           false true  0 false
-run --threads --log-only         | 0                    100000000           true  true  0 false
-run --followers 2                | 0                    100000000           false false 2 false
-run --threads --followers=4      | 0                    100000000           true  false 4 false
-run --max 6 --turns 1            | 1                    6                   false false 0 false
-run --turns 1 --max=6 --files    | 1                    6                   false false 0 true
-run --                           | 0                    100000000           false false 0 false
-run --turns 1 --                 | 1                    100000000           false false 0 false
+run                              | 0                    100000000           false false false 0 false
+run --files                      | 0                    100000000           false false false 0 true
+run --turns 7                    | 7                    100000000           false false false 0 false
+run --turns 18446744073709551615 | 18446744073709551615 100000000           false false false 0 false
+run --turns 007                  | 7                    100000000           false false false 0 false
+run --turns=7                    | 7                    100000000           false false false 0 false
+run --max 0                      | 0                    0                   false false false 0 false
+run --max 1000000000000000000    | 0                    1000000000000000000 false false false 0 false
+run --threads                    | 0                    100000000           true  false false 0 false
+run --log-only                   | 0                    100000000           false true  false 0 false
+run --threads --log-only         | 0                    100000000           true  true  false 0 false
+run --followers 2                | 0                    100000000           false false false 2 false
+run --threads --followers=4      | 0                    100000000           true  false false 4 false
+run --own-writes                 | 0                    100000000           false false true  0 false
+run --log-only --own-writes      | 0                    100000000           false true  true  0 false
+run --own-writes --followers 3   | 0                    100000000           false false true  3 false
+run --max=9 --own-writes --files | 0                    9                   false false true  0 true
+run --max 6 --turns 1            | 1                    6                   false false false 0 false
+run --turns 1 --max=6 --files    | 1                    6                   false false false 0 true
+run --                           | 0                    100000000           false false false 0 false
+run --turns 1 --                 | 1                    100000000           false false false 0 false
 ";
 
 const CRASH: &str =
-    "Ok(Asked { command: Crash { drive: Drive { seed: *, max: *, threads: *, log_only: *, followers: * }, stop_log: *, stop_data: *, pick: *, workers: * }, files: * })";
+    "Ok(Asked { command: Crash { drive: Drive { seed: *, max: *, threads: *, log_only: *, own_writes: *, followers: * }, stop_log: *, stop_data: *, pick: *, workers: * }, files: * })";
 
 const CRASHES: &str = "\
-crash                                                                                                | 0 100000000 false false 0 None                       None    0                    1  false
-crash --stop-log 0                                                                                   | 0 100000000 false false 0 Some(0)                    None    0                    1  false
-crash --stop-data 3                                                                                  | 0 100000000 false false 0 None                       Some(3) 0                    1  false
-crash --pick 18446744073709551615                                                                    | 0 100000000 false false 0 None                       None    18446744073709551615 1  false
-crash --stop-log 18446744073709551615                                                                | 0 100000000 false false 0 Some(18446744073709551615) None    0                    1  false
-crash --workers 16                                                                                   | 0 100000000 false false 0 None                       None    0                    16 false
-crash --followers 1 --workers 2                                                                      | 0 100000000 false false 1 None                       None    0                    2  false
-crash --pick=5 --stop-log=1 --stop-data=2 --workers=6 --turns=3 --max=4 --threads --log-only --files | 3 4         true  true  0 Some(1)                    Some(2) 5                    6  true
+crash                                                                                                | 0 100000000 false false false 0 None                       None    0                    1  false
+crash --stop-log 0                                                                                   | 0 100000000 false false false 0 Some(0)                    None    0                    1  false
+crash --stop-data 3                                                                                  | 0 100000000 false false false 0 None                       Some(3) 0                    1  false
+crash --pick 18446744073709551615                                                                    | 0 100000000 false false false 0 None                       None    18446744073709551615 1  false
+crash --stop-log 18446744073709551615                                                                | 0 100000000 false false false 0 Some(18446744073709551615) None    0                    1  false
+crash --own-writes                                                                                   | 0 100000000 false false true  0 None                       None    0                    1  false
+crash --own-writes --log-only --stop-log 4 --pick 9                                                  | 0 100000000 false true  true  0 Some(4)                    None    9                    1  false
+crash --workers 16                                                                                   | 0 100000000 false false false 0 None                       None    0                    16 false
+crash --followers 1 --workers 2                                                                      | 0 100000000 false false false 1 None                       None    0                    2  false
+crash --pick=5 --stop-log=1 --stop-data=2 --workers=6 --turns=3 --max=4 --threads --log-only --files | 3 4         true  true  false 0 Some(1)                    Some(2) 5                    6  true
 ";
 
 const RECOVER: &str = "Ok(Asked { command: Recover { workers: * }, files: * })";
@@ -141,6 +147,7 @@ const SPELLINGS: &str = "\
 run --turns=7                             | run --turns 7
 run --turns=007 --max=0                   | run --max 0 --turns 7
 run --log-only --threads                  | run --threads --log-only
+run --own-writes --log-only --turns=7     | run --turns 7 --log-only --own-writes
 run --followers=03 --turns 2 --           | run --turns 2 --followers 3
 run --                                    | run
 run --max 5 --                            | run --max 5
@@ -154,6 +161,7 @@ crash --workers=2 --pick 1                | crash --pick 1 --workers 2
 crash --                                  | crash
 crash --pick=1 --stop-log=2 --stop-data=3 | crash --stop-log 2 --stop-data 3 --pick 1
 crash --log-only --pick=1 --turns 2       | crash --turns 2 --pick 1 --log-only
+crash --own-writes --pick=1 --            | crash --pick 1 --own-writes
 crash --stop-data=0 --files --stop-log 0  | crash --stop-log 0 --stop-data 0 --files
 format --log-blocks=1024 --pages=64       | format --pages 64 --log-blocks 1024
 format --files --space=0 --               | format --space 0 --files

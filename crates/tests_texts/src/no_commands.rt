@@ -50,6 +50,13 @@ run --threads=1
 run --threads=
 run --threads 1
 run --log-only --log-only
+run --own-writes --own-writes
+run --own-writes=1
+run --own-writes=
+run --own-writes 1
+run --own-writes --threads
+run --threads --own-writes
+run --threads --log-only --followers 2 --own-writes
 run --followers
 run --followers 0
 run --followers 5
@@ -59,11 +66,14 @@ run --followers 1 --followers=2
 run --files --files
 run --files=1
 run --log_only
+run --own_writes
+run --own-write
 run --stop-log 1
 run --pick 1
 run --pages 1
 run --run
 run -- --threads
+run -- --own-writes
 run -- 1
 run --help
 run -h
@@ -85,6 +95,9 @@ crash --why
 crash --workers 0
 crash --workers 17
 crash --workers 1 --workers 1
+crash --own-writes --own-writes
+crash --own-writes --threads
+crash --threads --pick 1 --own-writes
 crash --followers 0
 crash --followers 5
 crash --followers 1 --followers 1
@@ -100,12 +113,14 @@ recover --workers 1 --workers 1
 recover --workers=1 --workers 2
 recover --why
 recover --threads
+recover --own-writes
 recover --followers 1
 recover --turns 1
 recover --files --files
 recover -- 1
 dump 1
 dump --run
+dump --own-writes
 dump --pages 8
 dump --why 1
 dump --why=1
@@ -125,6 +140,7 @@ format --log-blocks
 format --log_blocks 2048
 format --turns 1
 format --max 1
+format --own-writes
 gen
 gen 1
 gen 1 1
@@ -148,6 +164,8 @@ gen 1 1 1 --threads
 gen 1 1 1 -- --
 gen 000000000000000000001 1 1
 gen 1 1 1 --log-only
+gen 1 1 1 --own-writes
+gen 1 1 1 --run --own-writes
 gen 1 2 3 --followers 1
 gen 1 2 3 --run --followers 1
 ";
@@ -187,6 +205,8 @@ run --files true
 run --no-files
 run --threads=true
 run --threads=0
+run --own-writes=true
+run --own writes
 run --log-onl
 run --log only
 run -- --files

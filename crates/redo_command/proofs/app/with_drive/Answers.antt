@@ -1,9 +1,8 @@
-use Rattle.std.proofs.Common.{IfOk, codes, subst}
-use Rattle.clap.specs.Words.{App, with_rule}
-use Rattle.model_words.specs.App.{IsApp, number_rule}
+use Rattle.std.proofs.Common.{IfOk, subst}
+use Rattle.clap.specs.Words.{App}
+use Rattle.model_words.specs.App.{IsApp, with_actors}
 use Rattle.redo_command.proofs.app.with_drive.Goals as goal
 
 pub returns : goal.returns
 returns c =
-    subst (λ (app : App). IfOk c.with_number.result (IsApp (with_rule app (number_rule (codes "followers")))))
-    c.in_ok-command.ensures.0 c.with_number.ensures
+    subst (λ (app : App). IfOk c.with_actors.result (IsApp (with_actors app))) c.in_ok-command.ensures.0 c.with_actors.ensures
