@@ -115,7 +115,7 @@ true-bytes disk at count out long =
     if-true (bytes_eq out (part disk.reads at (length out))) disk (λ (now : Disk). out ≡ part now.reads at count)
     (λ is. (bytes_eq-Decides out _).0 is ∙ ap (part disk.reads at) long)
 
--- a read that answered Ok, as the file was opened
+-- a read that answered Ok, whatever the file is open for
 pub read-still : (opening : Opening) (told : Option Disk) (at : ℕ) (out : List ℕ)
     → StillTells told (told_after (read_event opening at) out told)
 read-still opening None at out = tt
