@@ -13,6 +13,7 @@ use Rattle.redo_memdisk.specs.Fused.{CallsThrough, ReadsThrough, SyncsThrough, W
 use Rattle.redo_memdisk.specs.Memory.{MemGives, MemState, mem_seen}
 use Rattle.redo_memdisk.specs.Notes.{Note, after_event, filled, note, replay}
 use Rattle.redo_memdisk.specs.declared.file.FileDisk.{FileDisk}
+use Rattle.redo_memdisk.specs.declared.file.Opening.{Opening}
 use Rattle.redo_memdisk.specs.declared.file.TheConstants.{FILE_DISK_LEN}
 use Rattle.redo_memdisk.specs.declared.fused.Fused.{Fused}
 use Rattle.redo_memdisk.specs.declared.record.Event.TheVariants.{Written, Missed, Synced}
@@ -58,23 +59,23 @@ note-before : (start : List ℕ) (one : Note) (notes : List Note)
 note-before start one notes now same =
     now (ap (λ (told : Option Disk). option_and_then (after_event one.event one.bytes) told) same)
 
-notes-before : (start : List ℕ) (is_synced : Bool) (taken : ℕ) (call : Call) (notes : List Note)
-    → replay start (notes_of is_synced taken call ++ notes) ≢ None → replay start notes ≢ None
-notes-before start is_synced taken (Reads at before (Ok done) after) notes now =
-    note-before start (note (read_event is_synced at) after) notes now
-notes-before start is_synced taken (Reads at before (Err error) after) notes now = now
-notes-before start is_synced taken (Writes write (Ok done)) notes now =
+notes-before : (start : List ℕ) (opening : Opening) (taken : ℕ) (call : Call) (notes : List Note)
+    → replay start (notes_of opening taken call ++ notes) ≢ None → replay start notes ≢ None
+notes-before start opening taken (Reads at before (Ok done) after) notes now =
+    note-before start (note (read_event opening at) after) notes now
+notes-before start opening taken (Reads at before (Err error) after) notes now = now
+notes-before start opening taken (Writes write (Ok done)) notes now =
     note-before start (note (Written write.at) write.bytes) notes now
-notes-before start is_synced taken (Writes write (Err error)) notes now =
+notes-before start opening taken (Writes write (Err error)) notes now =
     note-before start (note (Missed write.at taken) write.bytes) notes now
-notes-before start is_synced taken (Syncs (Ok done)) notes now = note-before start (note Synced []) notes now
-notes-before start is_synced taken (Syncs (Err error)) notes now = now
+notes-before start opening taken (Syncs (Ok done)) notes now = note-before start (note Synced []) notes now
+notes-before start opening taken (Syncs (Err error)) notes now = now
 
 pub file-before : {R S F D : Type 0} (bytes : List ℕ) (old new : FileDisk R S F D) (call : Call)
     → FileGives old call new → (file_seen bytes new).tells ≢ None → (file_seen bytes old).tells ≢ None
 file-before bytes old new call given told =
     let start = filled FILE_DISK_LEN bytes in
-    notes-before start given.is_synced given.taken call old.calls.notes
+    notes-before start new.opening given.taken call old.calls.notes
     (subst (λ (notes : List Note). replay start notes ≢ None) given.noted told)
 
 module _ {D : Type 0} (seen : D → Seen) (gives : D → Call → D → Type 0) (old new : Fused D) where

@@ -1,12 +1,16 @@
 -- What a device in a file shows.
-use Rattle.std.specs.Prelude.{Bool, true, false, List, ℕ, ◌≡◌, [], ◌∷◌, ◌++◌, Ok, Err}
+use Rattle.std.specs.Prelude.{true, false, List, ℕ, ◌≡◌, [], ◌∷◌, ◌++◌, Ok, Err}
 use Rattle.redo_io.specs.{saturating_next}
 use Rattle.redo_disk.specs.{Answer, Call, Reads, Syncs, Writes}
 use Rattle.redo_disk.specs.Calls.{device_answer}
 use Rattle.redo_disk.specs.declared.error.DevError.TheVariants.{Failed, NoMemory}
 use Rattle.redo_disk.specs.Seen.{Seen}
 use Rattle.redo_memdisk.specs.Notes.{Note, crash_met, filled, note, replay}
+use Rattle.redo_memdisk.specs.declared.file.Access.{Access}
+use Rattle.redo_memdisk.specs.declared.file.Access.TheVariants.{Writing, Reading}
 use Rattle.redo_memdisk.specs.declared.file.FileDisk.{FileDisk}
+use Rattle.redo_memdisk.specs.declared.file.Opening.{Opening}
+use Rattle.redo_memdisk.specs.declared.file.Opening.TheVariants.{ForWriting, ForReading}
 use Rattle.redo_memdisk.specs.declared.file.TheConstants.{FILE_DISK_LEN}
 use Rattle.redo_memdisk.specs.declared.record.Event.{Event}
 use Rattle.redo_memdisk.specs.declared.record.Event.TheVariants.{Read, Unsynced, Written, Missed, Synced, Crashed, Lost}
@@ -14,6 +18,10 @@ use Rattle.redo_memdisk.specs.declared.record.Event.TheVariants.{Read, Unsynced,
 -- how often its calls have failed
 abbrev pub file_faults : {R S F D : Type 0} → FileDisk R S F D → ℕ
 file_faults device = device.faults
+
+-- what it was made for
+abbrev pub file_access : {R S F D : Type 0} → FileDisk R S F D → Access
+file_access device = elim device.opening [ ForWriting ↦ Writing | ForReading is_synced ↦ Reading ]
 
 -- its calls, the newest first
 abbrev pub file_notes : {R S F D : Type 0} → FileDisk R S F D → List Note
@@ -34,26 +42,27 @@ CountsFailure old (Ok done) new = new ≡ old
 CountsFailure old (Err Failed) new = new ≡ saturating_next old
 CountsFailure old (Err NoMemory) new = ⊥
 
--- what is noted of a read from this offset on, where the file could be synced as it was opened, and where not
-abbrev pub read_event : Bool → ℕ → Event
-read_event true at = Read at
-read_event false at = Unsynced
+-- What is noted of a read from this offset on. Only a file for reading may be open that couldn't be synced.
+abbrev pub read_event : Opening → ℕ → Event
+read_event ForWriting at = Read at
+read_event (ForReading true) at = Read at
+read_event (ForReading false) at = Unsynced
 
--- what is noted of a call; of a write that failed, that so many of its bytes were taken
-abbrev pub notes_of : Bool → ℕ → Call → List Note
-notes_of is_synced taken (Reads at before (Ok done) after) = note (read_event is_synced at) after ∷ []
-notes_of is_synced taken (Reads at before (Err error) after) = []
-notes_of is_synced taken (Writes write (Ok done)) = note (Written write.at) write.bytes ∷ []
-notes_of is_synced taken (Writes write (Err error)) = note (Missed write.at taken) write.bytes ∷ []
-notes_of is_synced taken (Syncs (Ok done)) = note Synced [] ∷ []
-notes_of is_synced taken (Syncs (Err error)) = []
+-- what is noted of a call, by what the file is open for; of a write that failed, that so many of its bytes were taken
+abbrev pub notes_of : Opening → ℕ → Call → List Note
+notes_of opening taken (Reads at before (Ok done) after) = note (read_event opening at) after ∷ []
+notes_of opening taken (Reads at before (Err error) after) = []
+notes_of opening taken (Writes write (Ok done)) = note (Written write.at) write.bytes ∷ []
+notes_of opening taken (Writes write (Err error)) = note (Missed write.at taken) write.bytes ∷ []
+notes_of opening taken (Syncs (Ok done)) = note Synced [] ∷ []
+notes_of opening taken (Syncs (Err error)) = []
 
--- a call; whether the file could be synced as it was opened, only a read tells
+-- a call, the first of which opens the file
 pub record FileGives {R S F D : Type 0} (old : FileDisk R S F D) (call : Call) (new : FileDisk R S F D) : Type 0 where
   pub counts : CountsFailure old.faults (device_answer call) new.faults
-  pub is_synced : Bool
+  pub same_access : file_access new ≡ file_access old
   pub taken : ℕ
-  pub noted : file_notes new ≡ notes_of is_synced taken call ++ file_notes old
+  pub noted : file_notes new ≡ notes_of new.opening taken call ++ file_notes old
 
 -- what is noted of a crash whose sync answered so
 abbrev pub crash_event : Answer → Event
@@ -64,4 +73,5 @@ crash_event (Err error) = Lost
 pub record FileCrash {R S F D : Type 0} (old : FileDisk R S F D) (pick : ℕ) (new : FileDisk R S F D) : Type 0 where
   pub synced : Answer
   pub counts : CountsFailure old.faults synced new.faults
+  pub same_access : file_access new ≡ file_access old
   pub noted : file_notes new ≡ note (crash_event synced) [] ∷ file_notes old

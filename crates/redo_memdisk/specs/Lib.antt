@@ -5,6 +5,7 @@ pub mod Fuse
 pub mod Fused
 pub mod Memory
 pub mod Notes
+pub mod WithinCall
 pub use Rattle.redo_memdisk.specs.Counted.{after_calls, after_crash, before_arming, counted, while_stopping}
 pub use Rattle.redo_memdisk.specs.Fuse.{armed, crashed_with, fails_next, fresh, has_passed_all, is_failed, with_change}
 pub use Rattle.redo_memdisk.specs.Fused.{CallsThrough, CrashesThrough, ReadsThrough, SyncsThrough, WritesThrough, armed_at, armed_from, entry_of, fuse_of, inner_of, seen_through}

@@ -2,8 +2,9 @@
 ghost use Rattle.std.specs.Prelude.{◌≡◌, [], length, take, IfSome, OnOk};
 ghost use Rattle.std.specs.Io.KnownBytes.{Appends};
 ghost use Rattle.redo_disk.specs.{HasCause};
-ghost use Rattle.redo_memdisk.specs.File.{CountsFailure, FileCrash, FileGives, file_faults, file_notes, file_seen, read_event};
+ghost use Rattle.redo_memdisk.specs.File.{CountsFailure, FileCrash, FileGives, file_access, file_faults, file_notes, file_seen, read_event};
 ghost use Rattle.redo_memdisk.specs.Notes.{filled};
+ghost use Rattle.redo_memdisk.specs.WithinCall.{IsWithinCall};
 
 use crate::Contents;
 use crate::files::{DeviceFiles, Place};
@@ -23,6 +24,13 @@ pub enum Access {
     Reading,
 }
 
+/// What a device opens its file for. Only one for reading reads a file that couldn't be synced as it was opened.
+#[derive(Clone, Copy)]
+enum Opening {
+    ForWriting,
+    ForReading { is_synced: bool },
+}
+
 /// A device in a file of its own, which its first call opens or makes, locks and syncs: while another process holds the
 /// file, that call fails. What stands past the file's end reads as zeros. It tells what a file means that held `S`'s
 /// bytes, by the record of its calls, until a read gives other bytes than that, or reads a file that is open for reading
@@ -31,12 +39,10 @@ pub enum Access {
 pub struct FileDisk<R: Files, S: Contents> {
     files: R,
     path: String,
-    access: Access,
+    opening: Opening,
     file: Option<R::File>,
     /// How long the file is: its length as it was opened, and what was written past that.
     len: u64,
-    /// It could be synced as it was opened. Only one that is open for reading is read where it couldn't.
-    is_synced: bool,
     /// It was made longer since the last sync.
     is_longer: bool,
     /// Why a sync has failed. The system may have dropped what was to be synced, and would answer a later sync with Ok.
@@ -49,6 +55,11 @@ pub struct FileDisk<R: Files, S: Contents> {
 
 /// Bytes of every device in a file, of which the file holds those up to the last that was written.
 pub const FILE_DISK_LEN: u64 = 1 << 40;
+
+/// Whether the system refused writing.
+fn refuses_writing(error: io::Error) -> bool {
+    [ErrorKind::PermissionDenied, ErrorKind::ReadOnlyFilesystem].contains(&error.kind())
+}
 
 /// The folder that a file of this path stands in.
 fn folder_of(path: &str) -> &str {
@@ -64,14 +75,17 @@ impl<R: DeviceFiles, S: Contents> FileDisk<R, S> {
     pub fn new(files: R, path: String, access: Access) -> Self
         ensures faults { file_faults result ≡ 0 }
         ensures notes { file_notes result ≡ [] }
+        ensures access { file_access result ≡ access }
     {
         FileDisk {
             files,
             path,
-            access,
+            opening: match access {
+                Access::Writing => Opening::ForWriting,
+                Access::Reading => Opening::ForReading { is_synced: true },
+            },
             file: None,
             len: 0,
-            is_synced: true,
             is_longer: false,
             failed_sync: None,
             faults: 0,
@@ -89,8 +103,7 @@ impl<R: DeviceFiles, S: Contents> FileDisk<R, S> {
     }
 
     fn opened(&mut self) -> io::Result<R::File>
-        ensures faults { file_faults self.new ≡ file_faults self.old }
-        ensures notes { file_notes self.new ≡ file_notes self.old }
+        ensures { IsWithinCall self.old self.new }
     {
         match self.file.take() {
             Some(file) => Ok(file),
@@ -102,12 +115,13 @@ impl<R: DeviceFiles, S: Contents> FileDisk<R, S> {
     /// error is closed, the system gives its number to the next file, and what is printed would reach the device. A
     /// duplicate never gets such a number.
     fn open(&mut self) -> io::Result<R::File>
-        ensures faults { file_faults self.new ≡ file_faults self.old }
-        ensures notes { file_notes self.new ≡ file_notes self.old }
+        ensures { IsWithinCall self.old self.new }
     {
-        let opened = match self.open_or_make() {
-            Err(error) if self.may_read_after(error) => return self.open_to_read(),
-            answer => answer?,
+        let opened = match (self.open_or_make(), self.opening) {
+            (Err(error), Opening::ForReading { .. }) if refuses_writing(error) => {
+                return self.open_to_read();
+            }
+            (answer, _) => answer?,
         };
         let mut file = opened.try_clone()?;
         self.files.try_lock(&file)?;
@@ -116,28 +130,22 @@ impl<R: DeviceFiles, S: Contents> FileDisk<R, S> {
         Ok(file)
     }
 
-    /// Whether it opens the file for reading after this error: the system refused writing.
-    fn may_read_after(&self, error: io::Error) -> bool {
-        let kinds = [ErrorKind::PermissionDenied, ErrorKind::ReadOnlyFilesystem];
-        self.access == Access::Reading && kinds.contains(&error.kind())
-    }
-
     /// Opens the file for this device and others that read it.
     fn open_to_read(&mut self) -> io::Result<R::File>
-        ensures faults { file_faults self.new ≡ file_faults self.old }
-        ensures notes { file_notes self.new ≡ file_notes self.old }
+        requires { file_access self.old ≡ Access.Reading }
+        ensures { IsWithinCall self.old self.new }
     {
         let mut file = File::open(&self.files, self.path.as_str())?.try_clone()?;
         self.files.try_lock_shared(&file)?;
-        self.is_synced = self.sync_file(&file).is_ok();
+        let is_synced = self.sync_file(&file).is_ok();
+        self.opening = Opening::ForReading { is_synced };
         self.len = file.seek(SeekFrom::End(0))?;
         Ok(file)
     }
 
     /// Opens the file, or makes it, for good: its name stands in the folder when the first call answers.
     fn open_or_make(&mut self) -> io::Result<R::File>
-        ensures faults { file_faults self.new ≡ file_faults self.old }
-        ensures notes { file_notes self.new ≡ file_notes self.old }
+        ensures { IsWithinCall self.old self.new }
     {
         let mut options = OpenOptions::new();
         options.read(true).write(true);
@@ -154,16 +162,14 @@ impl<R: DeviceFiles, S: Contents> FileDisk<R, S> {
 
     /// Syncs a file or a folder with all that the system knows of it, if no sync has failed.
     fn sync_file(&mut self, file: &R::File) -> io::Result<()>
-        ensures faults { file_faults self.new ≡ file_faults self.old }
-        ensures notes { file_notes self.new ≡ file_notes self.old }
+        ensures { IsWithinCall self.old self.new }
     {
         self.sync_by(|| file.sync_all())
     }
 
     /// Syncs what was written to the file, if no sync has failed: with its length, where that has changed.
     fn sync_written(&mut self, file: &R::File) -> io::Result<()>
-        ensures faults { file_faults self.new ≡ file_faults self.old }
-        ensures notes { file_notes self.new ≡ file_notes self.old }
+        ensures { IsWithinCall self.old self.new }
     {
         if !self.is_longer {
             return self.sync_by(|| file.sync_data());
@@ -176,8 +182,7 @@ impl<R: DeviceFiles, S: Contents> FileDisk<R, S> {
     /// Syncs, if no sync has failed.
     fn sync_by<F: FnOnce() -> io::Result<()> + Drop>(&mut self, sync: F) -> io::Result<()>
         requires { F.IsAlwaysCallable sync }
-        ensures faults { file_faults self.new ≡ file_faults self.old }
-        ensures notes { file_notes self.new ≡ file_notes self.old }
+        ensures { IsWithinCall self.old self.new }
     {
         if let Some(error) = self.failed_sync {
             return Err(error);
@@ -189,8 +194,7 @@ impl<R: DeviceFiles, S: Contents> FileDisk<R, S> {
 
     /// Notes that so many bytes were written from this offset on.
     fn lengthen(&mut self, at: u64, count: usize)
-        ensures faults { file_faults self.new ≡ file_faults self.old }
-        ensures notes { file_notes self.new ≡ file_notes self.old }
+        ensures { IsWithinCall self.old self.new }
     {
         let end = at.saturating_add(count as u64);
         if self.len < end {
@@ -204,8 +208,7 @@ impl<R: DeviceFiles, S: Contents> FileDisk<R, S> {
         act: F,
     ) -> io::Result<()>
         requires { F.IsAlwaysCallable act }
-        ensures faults { file_faults self.new ≡ file_faults self.old }
-        ensures notes { file_notes self.new ≡ file_notes self.old }
+        ensures { IsWithinCall self.old self.new }
     {
         let file = self.opened()?;
         let done = act(&self.files, &file);
@@ -214,8 +217,7 @@ impl<R: DeviceFiles, S: Contents> FileDisk<R, S> {
     }
 
     fn try_sync(&mut self) -> io::Result<()>
-        ensures faults { file_faults self.new ≡ file_faults self.old }
-        ensures notes { file_notes self.new ≡ file_notes self.old }
+        ensures { IsWithinCall self.old self.new }
     {
         let file = self.opened()?;
         let done = self.sync_written(&file);
@@ -225,12 +227,11 @@ impl<R: DeviceFiles, S: Contents> FileDisk<R, S> {
 
     /// What is noted of a read from this offset on.
     fn read_event(&self, at: u64) -> Event
-        ensures { result ≡ read_event self.now.is_synced at }
+        ensures { result ≡ read_event self.now.opening at }
     {
-        if self.is_synced {
-            Event::Read { at }
-        } else {
-            Event::Unsynced
+        match self.opening {
+            Opening::ForReading { is_synced: false } => Event::Unsynced,
+            _ => Event::Read { at },
         }
     }
 
@@ -239,6 +240,7 @@ impl<R: DeviceFiles, S: Contents> FileDisk<R, S> {
         ensures counts { CountsFailure (file_faults self.old) result (file_faults self.new) }
         ensures cause { HasCause (file_faults self.old) (file_faults self.new) result }
         ensures notes { file_notes self.new ≡ file_notes self.old }
+        ensures access { file_access self.new ≡ file_access self.old }
     {
         if let Err(error) = done {
             self.last_error = Some(error);

@@ -1,11 +1,14 @@
 // The program: the top call on standard input and output, and on two devices in memory or in files.
 #![tactic(auto)]
 
-ghost use Rattle.std.specs.Prelude.{◌≡◌, [], map, IfErr, IfOk};
+ghost use Rattle.std.specs.Prelude.{◌≡◌, [], map, true, IfErr, IfOk};
 ghost use Rattle.std.specs.String.{string_bytes};
 ghost use Rattle.model_script.specs.{asked_of};
 ghost use Rattle.model_report.specs.declared.fault.Fault.TheVariants.{Memory};
+ghost use Rattle.redo_memdisk.specs.File.{file_access};
 ghost use Rattle.redo_memdisk.specs.Memory.{new_memory};
+ghost use Rattle.redo_memdisk.specs.declared.file.Access.TheVariants.{Reading};
+ghost use Rattle.redo_lab.specs.Asked.{leaves_devices};
 ghost use Rattle.redo_lab.specs.Files.{IsUncalled};
 ghost use Rattle.redo_lab.specs.declared.shapes.TheConstants.{LOG_LENGTH, STORE_LENGTH};
 
@@ -49,7 +52,9 @@ fn asked(alloc: Global, words: &[String]) -> Result<Option<Asked>, Fault>
 }
 
 /// What a command opens files for.
-fn access_of(command: Command) -> Access {
+fn access_of(command: Command) -> Access
+    ensures { result ≡ Reading → leaves_devices command ≡ true }
+{
     match command {
         Command::Recover { .. } | Command::Dump { .. } => Access::Reading,
         _ => Access::Writing,
@@ -73,7 +78,7 @@ fn in_file<'a, S: Contents>(
     name: &str,
     access: Access,
 ) -> Result<FileDisk<&'a HostRuntime, S>, AllocError>
-    ensures { IfOk result (λ device. IsUncalled device) }
+    ensures { IfOk result (λ device. IsUncalled device × (file_access device ≡ access)) }
 {
     Ok(FileDisk::new(rt, name.to_string(rt.alloc())?, access))
 }

@@ -1,5 +1,5 @@
 -- The write is noted as one that answered Ok, or as one that failed.
-use Rattle.std.proofs.Common.{◌∙◌, ℕ, Ok, Err, true, refl, subst}
+use Rattle.std.proofs.Common.{◌∙◌, ℕ, Ok, Err, refl, subst}
 use Rattle.redo_disk.specs.{HasCause}
 use Rattle.redo_memdisk.specs.File.{CountsFailure}
 use Rattle.redo_memdisk.proofs.Filed.{miss-told, noted-on, write-told}
@@ -38,7 +38,7 @@ returns-in-Err-clause-gives g c =
       given = record {
         counts = subst (λ (n : ℕ). CountsFailure n (Err c.in-Err.field-0) faults) (c.lengthen.ensures.faults ∙ c.with_file-done.ensures.faults)
             c.in-Err.ensures.counts;
-        is_synced = true;
+        same_access = c.answer-answer.ensures.access ∙ c.lengthen.ensures.access ∙ c.with_file-done.ensures.access;
         taken = _;
         noted = noted-on c.note-in-Err.ensures (c.answer-answer.ensures.notes ∙ c.lengthen.ensures.notes ∙ c.with_file-done.ensures.notes);
       };
