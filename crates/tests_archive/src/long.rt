@@ -1,5 +1,9 @@
 // An archive of two pieces and a bit, whose groups run from one piece into the next: what is restored for each lsn at
 // which a group ends, and for the one before it; and which cause is told where there are several.
+ghost use Rattle.std.specs.Prelude.{IfOk};
+ghost use Rattle.model_base.specs.{default_shape};
+ghost use Rattle.redo_apply.specs.{ArePagesOf};
+
 use crate::fold::{Fold, Strings, USER};
 use model_base::{BLOCK_SIZE, Shape};
 use redo_apply::Pages;
@@ -89,7 +93,9 @@ fn blocks(rt: &impl Abort, alloc: Global, bytes: &[u8]) -> Result<Vec<u8>, Alloc
 }
 
 /// The pages as the run is opened.
-fn opened(alloc: Global) -> Result<Pages, NoMemory> {
+fn opened(alloc: Global) -> Result<Pages, NoMemory>
+    ensures { IfOk result (ArePagesOf default_shape) }
+{
     let mut pages = Pages::blank(alloc, &Shape::default_shape())?;
     for page in 0..8u8 {
         pages.put(u32::from(page), OPENED, &[0xa0 + page; USER]);
