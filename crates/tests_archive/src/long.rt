@@ -117,6 +117,7 @@ fn archive(rt: &(impl Abort + AllocGlobal), strange: Option<u8>) -> Result<MemDi
     };
     let bytes = stream(alloc, strange)?;
     let blocks = blocks(rt, alloc, bytes.as_slice())?;
+    assert!(rt; blocks.len() == 512 * BLOCKS);
     let (first, rest) = blocks.as_slice().split_at(512 * FIRST_BLOCKS);
     assert!(rt; part.append(FIRST_MARK, first).is_ok());
     assert!(rt; part.append(MARK, rest).is_ok());
