@@ -11,9 +11,10 @@ use Rattle.model_page.specs.declared.content.Content.{Content}
 use Rattle.model_parts.proofs.Torn.{put-torn}
 use Rattle.model_archive.specs.{after_append, after_asking, ArchiveHolds, archive_length, archive_place, AreArchivedBlocks, AreTexts, base_text, begun_bytes, begun_marks, HasNextMark, IsRunStart, IsSteadyArchive, mark_place, mark_text, next_mark_number, pages_end}
 use Rattle.model_archive.specs.declared.marks.ArchMarks.{ArchMarks}
-use Rattle.model_archive.proofs.Appending.{blocks-put, blocks-sectors, blocks-stand, BlocksStand, blocks-stay, count-later, length-put, mark-put, mark-sectors, mark-stays, MayAppendTo, Step}
-use Rattle.model_archive.proofs.Appending as appending
+use Rattle.model_archive.proofs.Appending.{blocks-put, blocks-sectors, blocks-stand, BlocksStand, blocks-stay, blocks_write, count-later, MayAppendTo, Step}
 use Rattle.model_archive.proofs.Begun.{Begun, begun-archive, begun-stands, length-base_text}
+use Rattle.model_archive.proofs.NextMark.{mark-put, mark-sectors, mark-stays, mark_write}
+use Rattle.model_archive.proofs.Writes.{length-put}
 use Rattle.redo_disk.specs.{HasSize, IsRange, write_at}
 use Rattle.redo_disk.specs.declared.error.DevError.{DevError}
 use Rattle.redo_archive.specs.Calls.{after_two, FailsTwo}
@@ -56,7 +57,7 @@ pub append-range : (size : ℕ) (shape : Shape) (s : ℕ) (marks : ArchMarks) (m
     → length blocks ≡ 512 * blocks_between marks.mark mark → archive_length shape s mark ≤ size
     → IsRange size (archive_place shape s (block_of marks.mark)) (length blocks)
 append-range size shape s marks mark blocks limits start from place later count room =
-    let stands : BlocksStand shape s marks.mark (appending.blocks_write shape s marks.mark blocks) =
+    let stands : BlocksStand shape s marks.mark (blocks_write shape s marks.mark blocks) =
     blocks-stand shape s marks.mark blocks limits start place from in
     let both : blocks_between s mark ≡ blocks_between s marks.mark + blocks_between marks.mark mark =
     count-later s marks.mark mark start place from later in
@@ -88,12 +89,12 @@ next-is number small = omega arith
 
 blocks-same : (shape : Shape) (s : ℕ) (marks : ArchMarks) (mark at next : ℕ) (blocks sector : List ℕ)
     → AreWrites shape s marks mark at next sector
-    → write_at at blocks ≡ appending.blocks_write shape s marks.mark blocks
+    → write_at at blocks ≡ blocks_write shape s marks.mark blocks
 blocks-same shape s marks mark at next blocks sector are = ap (λ n. write_at n blocks) are.at_is
 
 mark-same : (shape : Shape) (s : ℕ) (marks : ArchMarks) (mark at next : ℕ) (sector : List ℕ) → HasNextMark marks
     → AreWrites shape s marks mark at next sector
-    → write_at next sector ≡ appending.mark_write marks mark
+    → write_at next sector ≡ mark_write marks mark
 mark-same shape s marks mark at next sector small are =
     let number : next_mark_number marks.number ≡ marks.number + 1 = next-is marks.number small in
     ap (λ n. write_at n sector) (are.next_is ∙ ap (λ n. 512 * mark_place n) number)
@@ -125,8 +126,8 @@ pub append-made : (size now : ℕ) (shape : Shape) (s : ℕ) (pages : List Conte
     → DiskArchives now shape s pages wholes (after_append mark marks) failed b
 append-made size now shape s pages wholes marks failed mark at next blocks sector a b same_size live asked writes
     before is =
-    let first : Write = appending.blocks_write shape s marks.mark blocks in
-    let second : Write = appending.mark_write marks mark in
+    let first : Write = blocks_write shape s marks.mark blocks in
+    let second : Write = mark_write marks mark in
     let middle : Disk = synced (written a first) in
     let new : Disk = synced (written middle second) in
     let there : b ≡ new = is ∙ ap (λ (w : Write). after_two w (write_at next sector) a)
@@ -162,8 +163,8 @@ pub append-failed : (size now : ℕ) (shape : Shape) (s : ℕ) (pages : List Con
     → DiskArchives now shape s pages wholes (after_asking mark marks) (Some error) b
 append-failed size now shape s pages wholes marks failed error mark at next blocks sector a b same_size live asked
     writes before fails =
-    let first : Write = appending.blocks_write shape s marks.mark blocks in
-    let second : Write = appending.mark_write marks mark in
+    let first : Write = blocks_write shape s marks.mark blocks in
+    let second : Write = mark_write marks mark in
     let middle : Disk = synced (written a first) in
     let one : write_at at blocks ≡ first = blocks-same shape s marks mark at next blocks sector writes in
     let two : write_at next sector ≡ second = mark-same shape s marks mark at next sector asked.next writes in

@@ -1,7 +1,7 @@
 use Rattle.std.proofs.Common.{ap, ap₂, sym, ◌∙◌}
 use Rattle.model_log.specs.{newer}
 use Rattle.model_archive.specs.{read_archive_head, read_mark}
-use Rattle.model_archive.proofs.RoundTrips.{head-passes, IsMarkLsn, mark-passes, newest-passes}
+use Rattle.model_archive.proofs.Passing.{head-passes, IsMarkLsn, mark-passes, newest-passes}
 use Rattle.redo_archive.proofs.extent.extent_in.Goals as goal
 
 pub returns-clause-names : goal.returns-clause-names
