@@ -3,7 +3,7 @@ use redo_drive::Actor;
 use redo_follow::Receiver;
 use redo_words::{Op, Word};
 use std::sync::Wait;
-use std::sync::atomic::{AtomicU64, Ordering};
+use std::sync::atomic::{AtomicBool, AtomicU64, Ordering};
 use std::time::Duration;
 
 /// What a thread waits for, by what ends its wait.
@@ -74,7 +74,8 @@ impl Bell {
 /// How many users run, whether each that is busy has a processor, and a bell for each call.
 ///
 /// No ring is lost. Who sleeps is counted first, then reads how often the bell has rung, and then takes its step once more, which
-/// looks at all that it waits for. It sleeps only if that idled and the bell hasn't rung since. Who changes a word does that first,
+/// looks at all that it waits for. It sleeps only if that idled and the bell hasn't rung since. A cleaner that rests looks then
+/// whether somebody waits for space, or no user runs. Who changes a word does that first,
 /// and then reads the count. All this is sequentially consistent. If the count was 0, the sleeper was counted later, so its last
 /// look came after the change. If it wasn't, the bell rings after the change. Either that is before the sleeper read the rings, and
 /// then its last look came after the change too; or it is after, and then the kernel finds another number of rings, or wakes the
@@ -83,6 +84,8 @@ impl Bell {
 pub(crate) struct Bells {
     running: AtomicU64,
     is_roomy: bool,
+    // whether the caller plays actors too
+    has_stand_in: AtomicBool,
     flushed: Bell,
     written: Bell,
     linked: Bell,
@@ -99,6 +102,7 @@ impl Bells {
         Bells {
             running: AtomicU64::new(users),
             is_roomy: users.saturating_add(2) <= processors,
+            has_stand_in: AtomicBool::new(false),
             flushed: Bell::new(),
             written: Bell::new(),
             linked: Bell::new(),
@@ -131,6 +135,21 @@ impl Bells {
     /// Whether a user runs.
     pub(crate) fn has_users(&self) -> bool {
         self.running.load(Ordering::SeqCst) != 0
+    }
+
+    /// The caller plays actors that got no thread. Which of them waits for space isn't told.
+    pub(crate) fn stand_in(&self) {
+        self.has_stand_in.store(true, Ordering::SeqCst);
+    }
+
+    /// Whether somebody waits for space, or may, or no user runs.
+    pub(crate) fn is_in_haste(&self) -> bool {
+        self.space.has_sleepers() || !self.has_users() || self.has_stand_in.load(Ordering::SeqCst)
+    }
+
+    /// How often those that waited for space have been called.
+    pub(crate) fn space_calls(&self) -> u64 {
+        self.space.rings.load(Ordering::SeqCst)
     }
 
     /// A user has ended. The last one wakes all.

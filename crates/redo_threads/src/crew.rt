@@ -82,6 +82,9 @@ pub(crate) fn play_here<R: Wait, L: Sectors, D: Sectors, F: Receiver, G: Gate>(
     requires { AreSeated table.now.table_id crew.old.seats.items (views_of crew.old.actors.items) }
     ensures { KeepOn F.stands_for table.now.table_id crew.old crew.new }
 {
+    if !crew.actors.is_empty() {
+        bells.stand_in();
+    }
     let mut pace = Pace::of_many(bells);
     for _ in rt.forever() {
         match round(table, bells, gate, crew) {

@@ -36,6 +36,12 @@ const SHORT_NAP: u64 = 50;
 
 const LONG_SHORT_NAP: u64 = 1_600;
 
+/// How many batches the cleaner writes without a rest once somebody has waited for space: each page of the largest store eight
+/// times. And how long it rests then after each, in microseconds.
+const BATCHES_IN_HASTE: u32 = 64;
+
+const REST: u64 = 1_000;
+
 /// How long a thread sleeps at first, how often as long from time to time, and at most.
 #[derive(Clone, Copy)]
 struct Naps {
@@ -63,6 +69,9 @@ pub(crate) struct Pace {
     // how long it sleeps, and how long next
     naps: Naps,
     nap: u64,
+    // how often those that wait for space had been called, and how many batches it has written since
+    space_calls: u64,
+    batches: u32,
 }
 
 impl Pace {
@@ -79,6 +88,8 @@ impl Pace {
             heard: 0,
             naps,
             nap: naps.first,
+            space_calls: 0,
+            batches: 0,
         }
     }
 
@@ -113,6 +124,13 @@ impl Pace {
     /// How often it waits before it sleeps.
     fn last_wait(&self) -> u32 {
         self.patience.spins.saturating_add(self.patience.yields)
+    }
+
+    /// It is counted among those that wait for this call.
+    fn enter(&mut self, bells: &Bells, call: Call) {
+        self.leave(bells);
+        self.heard = bells.enter(call);
+        self.call = Some(call);
     }
 
     /// It sleeps no more.
@@ -152,23 +170,44 @@ impl Pace {
             .min(self.naps.longest);
     }
 
-    /// It waits for this call a little, and longer from time to time.
+    /// It waits for this call a little, and longer from time to time. Where it waits for space it is counted at once, since the
+    /// cleaner may rest.
     pub(crate) fn waits<R: Wait>(&mut self, rt: &R, bells: &Bells, call: Call) {
         self.steps = 0;
         self.has_waited = true;
+        let is_counted = self.call == Some(call);
+        if call == Call::Space && !is_counted {
+            self.enter(bells, call);
+        }
         if self.waits < self.patience.spins {
             self.waits += 1;
             self.backoff.spin();
         } else if self.waits < self.last_wait() {
             self.waits += 1;
             yield_now();
-        } else if self.call == Some(call) {
+        } else if is_counted {
             // it has idled since it was counted
             self.sleep(rt, bells, call);
+        } else if self.call != Some(call) {
+            self.enter(bells, call);
+        }
+    }
+
+    /// It has written a batch of pages, and holds nothing. After many batches for which nobody has waited it sleeps a little: while it
+    /// copies a page nobody else changes that, and in a log that has space pages needn't be written as often as can be.
+    pub(crate) fn rests<R: Wait>(&mut self, rt: &R, bells: &Bells) {
+        let calls = bells.space_calls();
+        if bells.is_in_haste() || calls != self.space_calls {
+            self.space_calls = calls;
+            self.batches = 0;
+        } else if self.batches < BATCHES_IN_HASTE {
+            self.batches += 1;
         } else {
-            self.leave(bells);
-            self.heard = bells.enter(call);
-            self.call = Some(call);
+            let heard = bells.enter(Call::Pages);
+            if !bells.is_in_haste() {
+                bells.sleep(rt, Call::Pages, heard, Duration::from_micros(REST));
+            }
+            bells.leave(Call::Pages);
         }
     }
 }

@@ -15,7 +15,7 @@ use redo_drive::Actor;
 use redo_follow::Receiver;
 use redo_rule::{Ring, Seat, holds_nothing, play};
 use redo_useractor::UserActor;
-use redo_words::{Op, Step};
+use redo_words::{Op, Step, Word};
 use std::sync::Wait;
 
 /// How many Ops of an actor the caller plays at most before it turns to the next one. An actor that threads keep busy
@@ -67,6 +67,35 @@ fn tell<F: Receiver, G: Gate>(
         leave(user, done, now, bells, gate);
     } else if step != Step::Idle {
         bells.ring_after(done);
+    }
+}
+
+/// Whether the cleaner has come to the end of a batch by an Op: it has freed the last latch, and begins a round anew.
+fn has_cleaned<F: Receiver>(actor: &Actor<F>, done: Op, now: Op) -> bool {
+    matches!(actor, Actor::Cleaner(_))
+        && matches!(
+            (done, now),
+            (Op::Store(Word::Latch(_), 0), Op::Load(Word::Flushed))
+        )
+}
+
+/// The pace of an actor whose step has ended so.
+fn follow<R: Wait, F: Receiver>(
+    rt: &R,
+    bells: &Bells,
+    pace: &mut Pace,
+    actor: &Actor<F>,
+    done: Op,
+    step: Step,
+    now: Op,
+) {
+    if step == Step::Idle {
+        pace.waits(rt, bells, call_of(actor, done));
+        return;
+    }
+    pace.moves(bells);
+    if has_cleaned(actor, done, now) {
+        pace.rests(rt, bells);
     }
 }
 
@@ -141,11 +170,7 @@ pub(crate) fn work<R: Wait, L: Sectors, D: Sectors, F: Receiver, G: Gate>(
         }
         let (step, now) = turn(table, bells, gate, seat, actor, op);
         moved = step == Step::Moved;
-        if step == Step::Idle {
-            pace.waits(rt, bells, call_of(actor, op));
-        } else {
-            pace.moves(bells);
-        }
+        follow(rt, bells, &mut pace, &*actor, op, step, now);
         op = now;
     }
     unreachable!()

@@ -14,10 +14,3 @@ loop-preserved g c = record {
       c.turn-step.new.seat c.args.actor.now c.loop.actor c.turn-step.new.actor c.loop.invariant.goes_on c.turn-step.ensures.goes_on;
   asks = c.turn-step.ensures.asks;
 }
-
-pub loop-preserved-then-eq : goal.loop-preserved-then-eq
-loop-preserved-then-eq g c = record {
-  goes_on = goes_trans g.F.Receiver.stands_for c.args.table.now.table_id c.args.seat.now c.loop.seat
-      c.turn-step.new.seat c.args.actor.now c.loop.actor c.turn-step.new.actor c.loop.invariant.goes_on c.turn-step.ensures.goes_on;
-  asks = c.turn-step.ensures.asks;
-}
