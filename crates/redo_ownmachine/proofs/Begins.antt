@@ -37,8 +37,10 @@ use Rattle.redo_ownmachine.proofs.Places.{crew_views}
 use Rattle.redo_ownmachine.proofs.Serves.{its_data_laws, its_log_laws}
 use Rattle.redo_ownmachine.proofs.Sorting.{AreOtherViews, by_views}
 use Rattle.redo_ownmachine.specs.OwnBegins.{OwnBeginsRun}
-use Rattle.redo_ownmachine.specs.OwnSeats.{AreAtHome, HasRoom, HaveWorkers, OwnSeats, actors_of, crew, crew_of, seats_of}
-use Rattle.redo_ownmachine.specs.OwnStore.{OwnAlone, OwnRunsOn, own_core_of}
+use Rattle.redo_ownmachine.specs.OwnCrew.{HasRoom, HaveWorkers, crew, crew_of, seats_of}
+use Rattle.redo_ownmachine.specs.OwnSeats.{AreAtHome, OwnSeats, actors_of}
+use Rattle.redo_ownmachine.specs.OwnAsking.{own_core_of}
+use Rattle.redo_ownmachine.specs.OwnStore.{OwnAlone, OwnRunsOn}
 use Rattle.redo_ownmachine.specs.declared.machine.OwnMachine.{OwnMachine}
 use Rattle.redo_store.specs.declared.opened.Opened.{Opened}
 

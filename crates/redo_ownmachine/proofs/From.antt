@@ -35,7 +35,8 @@ use Rattle.redo_ownmachine.proofs.Grows.{all_no_fewer, groups_sum, no_fewer}
 use Rattle.redo_ownmachine.proofs.Places.{behind, behind_seat, crew_get, crew_length, crew_put, crew_views, Stays, StaysAt, stays_at}
 use Rattle.redo_ownmachine.proofs.Serves.{goes_on, its_data_laws, its_log_laws}
 use Rattle.redo_ownmachine.proofs.Unique.{AtLeast, groups_stay, log_goes_on}
-use Rattle.redo_ownmachine.specs.OwnSeats.{OwnSeats, actors_of, crew}
+use Rattle.redo_ownmachine.specs.OwnCrew.{crew}
+use Rattle.redo_ownmachine.specs.OwnSeats.{OwnSeats, actors_of}
 use Rattle.redo_ownmachine.specs.OwnStore.{OwnRunsOn}
 use Rattle.redo_ownmachine.specs.Serving.{IsUserServed}
 use Rattle.redo_ownuser.specs.OwnFits.{WorkGoesOn}

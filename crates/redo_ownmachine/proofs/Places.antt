@@ -12,7 +12,7 @@ use Rattle.redo_drive.specs.Views.{views_of}
 use Rattle.redo_drive.specs.declared.actor.Actor.{Actor}
 use Rattle.redo_drive.specs.declared.actor.Actor.TheVariants as own
 use Rattle.redo_follow.specs.Handing.{Following}
-use Rattle.redo_ownmachine.specs.OwnSeats.{crew}
+use Rattle.redo_ownmachine.specs.OwnCrew.{crew}
 
 -- whoever sits there
 pub sits : {A : Type 0} (xs : List A) (i : ℕ) (d : A) → i < length xs → get_elem? xs i ≡ some (get_or xs i d)

@@ -7,7 +7,7 @@ use Rattle.model_core.specs.{FlusherState, WriterState}
 use Rattle.model_own.specs.OwnWrites.{LogWork, OwnUser}
 use Rattle.redo_drive.specs.declared.actor.Actor.{Actor}
 use Rattle.redo_drive.specs.declared.actor.Actor.TheVariants as own
-use Rattle.redo_ownmachine.specs.OwnSeats.{crew, users_alone}
+use Rattle.redo_ownmachine.specs.OwnCrew.{crew, users_alone}
 
 pub no_users : (R : Type 0) (users : List OwnUser) → length users ≡ 0
     → length (map {B = Actor R} (λ (o : OwnUser). own.User o.user) users) ≡ 0

@@ -41,8 +41,10 @@ use Rattle.redo_ownmachine.proofs.Places.{crew_views}
 use Rattle.redo_ownmachine.proofs.Serves.{its_data_laws, its_log_laws}
 use Rattle.redo_ownmachine.specs.OwnBegins.{OwnBeginsRun}
 use Rattle.redo_ownmachine.specs.OwnByTurns.{OwnRunsByTurns}
-use Rattle.redo_ownmachine.specs.OwnSeats.{OwnSeats, actors_of, crew_of, seats_of}
-use Rattle.redo_ownmachine.specs.OwnStore.{OwnAlone, OwnRunsFrom, own_core_of}
+use Rattle.redo_ownmachine.specs.OwnCrew.{crew_of, seats_of}
+use Rattle.redo_ownmachine.specs.OwnSeats.{OwnSeats, actors_of}
+use Rattle.redo_ownmachine.specs.OwnAsking.{own_core_of}
+use Rattle.redo_ownmachine.specs.OwnStore.{OwnAlone, OwnRunsFrom}
 use Rattle.redo_ownmachine.specs.OwnTurns.{NoneWaits, OwnEndsAs, OwnEndsAsking}
 use Rattle.redo_ownmachine.specs.declared.machine.OwnMachine.{OwnMachine}
 use Rattle.redo_store.specs.Part as store

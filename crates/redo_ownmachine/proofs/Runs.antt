@@ -20,8 +20,10 @@ use Rattle.redo_machine.proofs.UserSeats.{first_is_least}
 use Rattle.redo_machine.specs.Turns.{IsDrawn}
 use Rattle.redo_ownmachine.proofs.OpenSeats.{all_ended, first_open, users_ended}
 use Rattle.redo_ownmachine.specs.OpenOwn.{IsFirstOpenUser, UsersHaveEnded}
-use Rattle.redo_ownmachine.specs.OwnSeats.{actors_of, HasSameSeats, seats_of}
-use Rattle.redo_ownmachine.specs.OwnStore.{OwnIsOnRun, OwnRunsFrom, OwnRunsOn, own_core_of, TakesOwnTurn}
+use Rattle.redo_ownmachine.specs.OwnCrew.{HasSameSeats, seats_of}
+use Rattle.redo_ownmachine.specs.OwnSeats.{actors_of}
+use Rattle.redo_ownmachine.specs.OwnAsking.{own_core_of}
+use Rattle.redo_ownmachine.specs.OwnStore.{OwnIsOnRun, OwnRunsFrom, OwnRunsOn, TakesOwnTurn}
 use Rattle.redo_ownmachine.specs.OwnTurns.{AskInOwnTurns, OwnEndsAsking}
 use Rattle.redo_ownmachine.specs.declared.machine.OwnMachine.{OwnMachine}
 

@@ -9,7 +9,8 @@ use Rattle.model_own.specs.declared.errand.ErrandStep.TheVariants as errand_step
 use Rattle.redo_drive.specs.Views.{view_of, views_of}
 use Rattle.redo_drive.specs.declared.actor.Actor.{Actor}
 use Rattle.redo_drive.specs.declared.actor.Actor.TheVariants as own
-use Rattle.redo_ownmachine.specs.OwnSeats.{AreAtHome, AreOthers, HaveWorkers, IsOther, crew}
+use Rattle.redo_ownmachine.specs.OwnCrew.{AreOthers, HaveWorkers, IsOther, crew}
+use Rattle.redo_ownmachine.specs.OwnSeats.{AreAtHome}
 
 -- a user as a run begins, on no errand
 abbrev pub fresh : UserState → OwnUser

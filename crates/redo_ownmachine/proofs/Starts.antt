@@ -9,7 +9,7 @@ use Rattle.redo_drive.specs.declared.actor.Actor.{Actor}
 use Rattle.redo_drive.specs.declared.parts.Parts.{Parts}
 use Rattle.redo_follow.specs.Handing.{Following}
 use Rattle.redo_ownmachine.specs.OwnBegins.{OwnBeginsRun}
-use Rattle.redo_ownmachine.specs.OwnSeats.{HasRoom, HasSameSeats, crew_of}
+use Rattle.redo_ownmachine.specs.OwnCrew.{HasRoom, HasSameSeats, crew_of}
 use Rattle.redo_ownmachine.specs.OwnStore.{OwnRunsFrom}
 use Rattle.redo_ownmachine.specs.declared.machine.OwnMachine.{OwnMachine}
 use Rattle.redo_store.specs.declared.opened.Opened.{Opened}

@@ -28,7 +28,8 @@ use Rattle.redo_drive.proofs.Viewed.{view_at}
 use Rattle.redo_ownmachine.proofs.Places.{behind, behind_seat, other_at, other_put, sits_below}
 use Rattle.redo_ownmachine.proofs.Serves.{its_data_laws, its_log_laws}
 use Rattle.redo_ownmachine.specs.OwnSeats.{OwnSeats, actors_of}
-use Rattle.redo_ownmachine.specs.OwnStore.{OwnAlone, OwnRunsOn, TakesOwnTurn, own_core_of}
+use Rattle.redo_ownmachine.specs.OwnAsking.{own_core_of}
+use Rattle.redo_ownmachine.specs.OwnStore.{OwnAlone, OwnRunsOn, TakesOwnTurn}
 use Rattle.redo_ownmachine.specs.Serving.{IsUserServed}
 
 module _ {L D : Type 0} (log_seen : L → Seen) (data_seen : D → Seen) (run : RunOf L D) (old new : Parts L D)

@@ -1,6 +1,8 @@
 pub mod OpenOwn
+pub mod OwnAsking
 pub mod OwnBegins
 pub mod OwnByTurns
+pub mod OwnCrew
 pub mod OwnSeats
 pub mod OwnStore
 pub mod OwnTurns

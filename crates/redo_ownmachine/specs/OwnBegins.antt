@@ -7,7 +7,8 @@ use Rattle.redo_disk.specs.Seen.{Seen}
 use Rattle.redo_drive.specs.Begins.{BeginsRun}
 use Rattle.redo_drive.specs.declared.making.Beginning.{Beginning}
 use Rattle.redo_follow.specs.Handing.{Following}
-use Rattle.redo_ownmachine.specs.OwnSeats.{AreAtHome, HasRoom, crew_of, seats_of}
+use Rattle.redo_ownmachine.specs.OwnCrew.{HasRoom, crew_of, seats_of}
+use Rattle.redo_ownmachine.specs.OwnSeats.{AreAtHome}
 use Rattle.redo_ownmachine.specs.OwnStore.{OwnAlone, OwnRunsOn}
 use Rattle.redo_ownmachine.specs.declared.machine.OwnMachine.{OwnMachine}
 use Rattle.redo_store.specs.declared.opened.Opened.{Opened}

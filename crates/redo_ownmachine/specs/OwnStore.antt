@@ -1,40 +1,24 @@
 -- The invariant of a running store whose users write for themselves, over its parts and seats, in a run that is its own;
 -- and one turn of it.
-use Rattle.std.specs.Prelude.{List, length, ℕ, ◌+◌, ◌≡◌, ◌≤◌}
-use lib.ListN.{get_elem?}
-use mathlib.Core.Option.{some}
-use Rattle.model_core.specs.Actors as model
-use Rattle.model_core.specs.{Given, lent, next}
+use Rattle.std.specs.Prelude.{List, ℕ}
+use Rattle.model_core.specs.{Given}
 use Rattle.model_core.specs.declared.ops.Answer.{Answer}
 use Rattle.model_core.specs.declared.ops.Step.{Step}
-use Rattle.model_own.specs.OwnTurn.{OwnCore, OwnTurn, with_writer}
-use Rattle.model_own.specs.OwnWrites.{OwnUser, own_lends, own_next}
+use Rattle.model_own.specs.OwnTurn.{OwnTurn}
 use Rattle.model_ownrun.specs.Alone.{AloneRunning}
 use Rattle.model_ownrun.specs.OwnRunning.{Errands}
 use Rattle.redo_disk.specs.{Call}
 use Rattle.redo_disk.specs.Seen.{Seen}
-use Rattle.redo_drive.specs.Asking.{AskOfParts}
-use Rattle.redo_drive.specs.Lists.{lists_of}
 use Rattle.redo_drive.specs.Playing.{RunOf, run_data_side, run_log_side}
 use Rattle.redo_drive.specs.Running.{RunsFrom, RunsOn}
 use Rattle.redo_drive.specs.declared.actor.Actor.{Actor}
 use Rattle.redo_drive.specs.declared.parts.Parts.{Parts}
-use Rattle.redo_ownmachine.specs.OwnSeats.{OwnSeats, actors_of, crew_of}
+use Rattle.redo_ownmachine.specs.OwnAsking.{AskAtSeat, own_core_of}
+use Rattle.redo_ownmachine.specs.OwnCrew.{crew_of}
+use Rattle.redo_ownmachine.specs.OwnSeats.{OwnSeats, actors_of}
 use Rattle.redo_ownmachine.specs.declared.machine.OwnMachine.{OwnMachine}
 
 module _ {L D : Type 0} (log_seen : L → Seen) (data_seen : D → Seen) (run : RunOf L D) where
-  abbrev pub own_core_of : Parts L D → OwnSeats
-      → OwnCore (run_log_side log_seen data_seen run) (run_data_side log_seen data_seen run)
-  own_core_of parts seats = record {
-    words = parts.words.words;
-    log_part = parts.log;
-    data_part = parts.store;
-    lists = lists_of parts.lists;
-    users = seats.users;
-    work = seats.work;
-    others = seats.others;
-  }
-
   -- The invariant of a running store holds, had the store a writer and a flusher, in a run that is this one; and one
   -- user at most has the log's work in hand.
   pub record OwnRunsOn (parts : Parts L D) (seats : OwnSeats) : Type 0 where
@@ -44,7 +28,7 @@ module _ {L D : Type 0} (log_seen : L → Seen) (data_seen : D → Seen) (run : 
   -- one user, the log alone and no other actor
   abbrev pub OwnAlone : Parts L D → OwnSeats → Type 0
   OwnAlone parts seats = AloneRunning (run_log_side log_seen data_seen run) (run_data_side log_seen data_seen run)
-      run.setup 0 (own_core_of parts seats)
+      run.setup 0 (own_core_of log_seen data_seen run parts seats)
 
 -- they are on some run
 pub record OwnIsOnRun {L D : Type 0} (log_seen : L → Seen) (data_seen : D → Seen) (parts : Parts L D)
@@ -59,22 +43,11 @@ OwnRunsFrom log_seen data_seen stands run starts m = RunsFrom log_seen data_seen
 
 module _ {L D : Type 0} (log_seen : L → Seen) (log_gives : L → Call → L → Type 0) (data_seen : D → Seen)
     (data_gives : D → Call → D → Type 0) (run : RunOf L D) where
-  -- Both devices were asked for what the Op of the one at the seat asks of them, or up to an error, and for nothing else:
-  -- of a user by its own Op or that of its errand, of another actor by its own.
-  pub record AskAtSeat
-      (old new : OwnCore (run_log_side log_seen data_seen run) (run_data_side log_seen data_seen run)) (seat : ℕ)
-      : Type 0 where
-    pub user : (who : OwnUser) → get_elem? old.users seat ≡ some who → AskOfParts log_gives data_gives
-        (own_lends who old.work) (own_next who old.work) old.log_part new.log_part old.data_part new.data_part
-    pub other : (who : model.Actor) → length old.users ≤ seat
-        → get_elem? (with_writer old).actors (seat + 2) ≡ some who → AskOfParts log_gives data_gives (lent who)
-        (next who) old.log_part new.log_part old.data_part new.data_part
-
   -- one turn of the definition, with some answer, and what it asked of both devices
   pub record TakesOwnTurn (old : Parts L D) (seats : OwnSeats) (seat : ℕ) (step : Step) (new : Parts L D)
       (after : OwnSeats) : Type 0 where
     pub answer : Answer
     pub turn : OwnTurn (run_log_side log_seen data_seen run) (run_data_side log_seen data_seen run)
         (own_core_of log_seen data_seen run old seats) seat answer step (own_core_of log_seen data_seen run new after)
-    pub asked : AskAtSeat (own_core_of log_seen data_seen run old seats) (own_core_of log_seen data_seen run new after)
-        seat
+    pub asked : AskAtSeat log_seen log_gives data_seen data_gives run (own_core_of log_seen data_seen run old seats)
+        (own_core_of log_seen data_seen run new after) seat

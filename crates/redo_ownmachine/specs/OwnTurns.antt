@@ -15,8 +15,8 @@ use Rattle.redo_drive.specs.Playing.{RunOf, run_data_side, run_log_side}
 use Rattle.redo_drive.specs.declared.drive.RunEnd.{RunEnd}
 use Rattle.redo_drive.specs.declared.drive.RunEnd.TheVariants as ran
 use Rattle.redo_drive.specs.declared.parts.Parts.{Parts}
+use Rattle.redo_ownmachine.specs.OwnAsking.{AskAtSeat, own_core_of}
 use Rattle.redo_ownmachine.specs.OwnSeats.{OwnSeats}
-use Rattle.redo_ownmachine.specs.OwnStore.{AskAtSeat, own_core_of}
 
 module _ (D : LogSide) (E : DataSide) (seed max : ℕ) where
   -- the run has ended: each user has

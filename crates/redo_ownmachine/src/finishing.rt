@@ -7,7 +7,7 @@ ghost use Rattle.redo_drive.specs.History.{ListsInOrder};
 ghost use Rattle.redo_drive.specs.Playing.{RunOf};
 ghost use Rattle.redo_drive.specs.Running.{RunsOn};
 ghost use Rattle.redo_drive.specs.Views.{views_of};
-ghost use Rattle.redo_ownmachine.specs.OwnSeats.{HasRoom, crew_of, seats_of};
+ghost use Rattle.redo_ownmachine.specs.OwnCrew.{HasRoom, crew_of, seats_of};
 ghost use Rattle.redo_ownmachine.specs.OwnStore.{OwnIsOnRun};
 
 use crate::machine::OwnMachine;

@@ -3,7 +3,7 @@ ghost use Rattle.std.specs.Prelude.{List, ◌<◌, ◌+◌, length};
 ghost use Rattle.redo_drive.specs.Calls.{CallOnBoth};
 ghost use Rattle.redo_drive.specs.Playing.{RunOf};
 ghost use Rattle.redo_drive.specs.declared.actor.Actor.{Actor as TheActor};
-ghost use Rattle.redo_ownmachine.specs.OwnSeats.{HasSameSeats, seats_of};
+ghost use Rattle.redo_ownmachine.specs.OwnCrew.{HasSameSeats, seats_of};
 ghost use Rattle.redo_ownmachine.specs.OwnStore.{OwnIsOnRun, OwnRunsFrom, OwnRunsOn};
 ghost use Rattle.redo_ownmachine.specs.OwnTurns.{OwnEndsAsking};
 

@@ -1,6 +1,7 @@
 // Users that write for themselves, made of the actors of a run, and made those again.
 ghost use Rattle.std.specs.Prelude.{◌≡◌, ◌≤◌, ◌+◌, ◌++◌, IfOk, [], length, reverse, vec_capacity};
-ghost use Rattle.redo_ownmachine.specs.OwnSeats.{AreAtHome, HaveWorkers, crew, users_alone};
+ghost use Rattle.redo_ownmachine.specs.OwnCrew.{HaveWorkers, crew, users_alone};
+ghost use Rattle.redo_ownmachine.specs.OwnSeats.{AreAtHome};
 
 use redo_drive::Actor;
 use redo_follow::Receiver;

@@ -5,7 +5,7 @@ ghost use Rattle.redo_drive.specs.Asking.{AskOfBoth};
 ghost use Rattle.redo_drive.specs.Calls.{CallOnBoth};
 ghost use Rattle.redo_drive.specs.Playing.{HasSamePages, RunOf};
 ghost use Rattle.redo_drive.specs.declared.actor.Actor.{Actor as TheActor};
-ghost use Rattle.redo_ownmachine.specs.OwnSeats.{HasSameSeats, seats_of};
+ghost use Rattle.redo_ownmachine.specs.OwnCrew.{HasSameSeats, seats_of};
 ghost use Rattle.redo_ownmachine.specs.OwnStore.{OwnAlone, OwnIsOnRun, OwnRunsFrom, OwnRunsOn, TakesOwnTurn};
 ghost use Rattle.redo_ownmachine.specs.Serving.{IsUserServed, MayServeUser};
 

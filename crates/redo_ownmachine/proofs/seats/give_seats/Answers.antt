@@ -4,7 +4,7 @@ use Rattle.redo_drive.specs.declared.actor.Actor.{Actor}
 use Rattle.redo_drive.specs.declared.actor.Actor.TheVariants as own
 use Rattle.redo_ownmachine.proofs.Putting.{turned_round}
 use Rattle.redo_ownmachine.proofs.seats.give_seats.Goals as goal
-use Rattle.redo_ownmachine.specs.OwnSeats.{users_alone}
+use Rattle.redo_ownmachine.specs.OwnCrew.{users_alone}
 
 pub returns : goal.returns
 returns g c =

@@ -5,7 +5,7 @@ use Rattle.redo_drive.specs.declared.actor.Actor.{Actor}
 use Rattle.redo_drive.specs.declared.actor.Actor.TheVariants as own
 use Rattle.redo_ownmachine.proofs.Putting.{no_users, put_all, put_one, user_last}
 use Rattle.redo_ownmachine.proofs.seats.put_users.Goals as goal
-use Rattle.redo_ownmachine.specs.OwnSeats.{users_alone}
+use Rattle.redo_ownmachine.specs.OwnCrew.{users_alone}
 
 pub loop-user-init : goal.loop-user-init
 loop-user-init g c = record { all = refl; enough = c.requires; capacity = refl }

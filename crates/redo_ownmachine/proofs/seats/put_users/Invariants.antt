@@ -1,7 +1,7 @@
 -- Those that are there and those that are still to come, in the order in which they come.
 use Rattle.std.proofs.Common.{length, reverse, vec_capacity, ◌++◌, ◌+◌, ◌≡◌, ◌≤◌}
 use Rattle.redo_ownmachine.proofs.seats.put_users.Given as goal
-use Rattle.redo_ownmachine.specs.OwnSeats.{users_alone}
+use Rattle.redo_ownmachine.specs.OwnCrew.{users_alone}
 
 abbrev pub invariant-loop-user : goal.invariant-loop-user
 invariant-loop-user g l = record {

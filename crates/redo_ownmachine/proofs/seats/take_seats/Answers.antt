@@ -7,7 +7,7 @@ use Rattle.redo_drive.specs.declared.actor.Actor.{Actor}
 use Rattle.redo_drive.specs.declared.actor.Actor.TheVariants as own
 use Rattle.redo_ownmachine.proofs.Sorting.{Sorted, has_flusher, has_writer, its_crew, its_home, none_yet, put_more, put_other, sorted}
 use Rattle.redo_ownmachine.proofs.seats.take_seats.Goals as goal
-use Rattle.redo_ownmachine.specs.OwnSeats.{crew}
+use Rattle.redo_ownmachine.specs.OwnCrew.{crew}
 
 pub loop-actor-preserved-in-Writer : goal.loop-actor-preserved-in-Writer
 loop-actor-preserved-in-Writer g c = put_more _ c.loop-actor.yielded c.in-Some.actor (own.Writer c.in-Writer.found)

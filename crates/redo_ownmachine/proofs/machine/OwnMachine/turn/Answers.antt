@@ -11,7 +11,7 @@ use Rattle.redo_ownmachine.proofs.Places.{sits}
 use Rattle.redo_ownmachine.proofs.Serves.{may_serve_other, may_serve_user}
 use Rattle.redo_ownmachine.proofs.Turned.{alone_then, other_takes, runs_then, user_takes}
 use Rattle.redo_ownmachine.proofs.machine.OwnMachine.turn.Goals as goal
-use Rattle.redo_ownmachine.specs.OwnSeats.{seats_of}
+use Rattle.redo_ownmachine.specs.OwnCrew.{seats_of}
 
 pub serve_user-requires : goal.serve_user-requires
 serve_user-requires g c =

@@ -1,0 +1,40 @@
+-- What a turn of a store whose users write for themselves asks of both devices, over its parts and seats.
+use Rattle.std.specs.Prelude.{length, ℕ, ◌+◌, ◌≡◌, ◌≤◌}
+use lib.ListN.{get_elem?}
+use mathlib.Core.Option.{some}
+use Rattle.model_core.specs.Actors as model
+use Rattle.model_core.specs.{lent, next}
+use Rattle.model_own.specs.OwnTurn.{OwnCore, with_writer}
+use Rattle.model_own.specs.OwnWrites.{OwnUser, own_lends, own_next}
+use Rattle.redo_disk.specs.{Call}
+use Rattle.redo_disk.specs.Seen.{Seen}
+use Rattle.redo_drive.specs.Asking.{AskOfParts}
+use Rattle.redo_drive.specs.Lists.{lists_of}
+use Rattle.redo_drive.specs.Playing.{RunOf, run_data_side, run_log_side}
+use Rattle.redo_drive.specs.declared.parts.Parts.{Parts}
+use Rattle.redo_ownmachine.specs.OwnSeats.{OwnSeats}
+
+-- such a store, as the definitions see it
+abbrev pub own_core_of : {L D : Type 0} (log_seen : L → Seen) (data_seen : D → Seen) (run : RunOf L D) → Parts L D
+    → OwnSeats → OwnCore (run_log_side log_seen data_seen run) (run_data_side log_seen data_seen run)
+own_core_of log_seen data_seen run parts seats = record {
+  words = parts.words.words;
+  log_part = parts.log;
+  data_part = parts.store;
+  lists = lists_of parts.lists;
+  users = seats.users;
+  work = seats.work;
+  others = seats.others;
+}
+
+-- Both devices were asked for what the Op of the one at the seat asks of them, or up to an error, and for nothing else:
+-- of a user by its own Op or that of its errand, of another actor by its own.
+pub record AskAtSeat {L D : Type 0} (log_seen : L → Seen) (log_gives : L → Call → L → Type 0) (data_seen : D → Seen)
+    (data_gives : D → Call → D → Type 0) (run : RunOf L D)
+    (old new : OwnCore (run_log_side log_seen data_seen run) (run_data_side log_seen data_seen run)) (seat : ℕ)
+    : Type 0 where
+  pub user : (who : OwnUser) → get_elem? old.users seat ≡ some who → AskOfParts log_gives data_gives
+      (own_lends who old.work) (own_next who old.work) old.log_part new.log_part old.data_part new.data_part
+  pub other : (who : model.Actor) → length old.users ≤ seat
+      → get_elem? (with_writer old).actors (seat + 2) ≡ some who → AskOfParts log_gives data_gives (lent who)
+      (next who) old.log_part new.log_part old.data_part new.data_part
