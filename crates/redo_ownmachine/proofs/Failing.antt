@@ -1,6 +1,6 @@
 -- A turn that ends by a failure leaves a code in FAILED, and that has a cause; and no turn takes a code from there.
 use Rattle.std.proofs.Common.{Bool, List, ap, arith, cond, false, get_or-set_other, inl, inr, refl, set, subst, sym, true, ℕ}
-use Rattle.std.proofs.Common.{⊎_elim, ◌+◌, ◌<◌, ◌==◌, ◌∙◌, ◌≡◌, ◌≢◌, ◌⊎◌, []}
+use Rattle.std.proofs.Common.{◌+◌, ◌<◌, ◌==◌, ◌∙◌, ◌≡◌, ◌⊎◌, []}
 use Rattle.std.specs.Prelude.{slice_index, slice_set}
 use lib.ListN.{get_elem?}
 use mathlib.Core.Option.{some}
@@ -23,7 +23,7 @@ use Rattle.model_core.specs.declared.steps.UserStep.{UserStep}
 use Rattle.model_core.specs.declared.steps.UserStep.TheVariants as user_step
 use Rattle.model_core.specs.declared.words.Word.TheVariants as word
 use Rattle.model_logcore.specs.LogLaws.{LogLaws}
-use Rattle.model_own.specs.OwnTurn.{OtherTurn, OwnCore, OwnTurn, UserTurn, with_writer}
+use Rattle.model_own.specs.OwnTurn.{OwnCore, OwnTurn, UserTurn, with_writer}
 use Rattle.model_own.specs.OwnWrites.{errand_lends, errand_op, errand_took, errand_waits, has_work, LogWork, own_checked}
 use Rattle.model_own.specs.OwnWrites.{own_goes_on, own_lends, own_next, own_step_of, OwnUser}
 use Rattle.model_own.specs.declared.errand.ErrandStep.{ErrandStep}
