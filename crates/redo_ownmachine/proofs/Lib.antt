@@ -1,4 +1,5 @@
 pub mod Begins
+pub mod Failing
 pub mod From
 pub mod Grows
 pub mod OpenLoop

@@ -20,11 +20,12 @@ use Rattle.redo_disk.specs.{Call}
 use Rattle.redo_disk.specs.Seen.{Seen}
 use Rattle.redo_drive.specs.Asking.{AskOfBoth}
 use Rattle.redo_drive.specs.Playing.{HasSamePages, RunOf, run_data_side, run_log_side}
-use Rattle.redo_drive.specs.Turning.{IsServed, core_of}
+use Rattle.redo_drive.specs.Turning.{FailedHasCause, IsServed, core_of}
 use Rattle.redo_drive.specs.Views.{view_of, views_of}
 use Rattle.redo_drive.specs.declared.actor.Actor.{Actor}
 use Rattle.redo_drive.specs.declared.parts.Parts.{Parts}
 use Rattle.redo_drive.proofs.Viewed.{view_at}
+use Rattle.redo_ownmachine.proofs.Failing.{own_failed_turn_has_cause}
 use Rattle.redo_ownmachine.proofs.Places.{behind, behind_seat, other_at, other_put, sits_below}
 use Rattle.redo_ownmachine.proofs.Serves.{its_data_laws, its_log_laws}
 use Rattle.redo_ownmachine.specs.OwnSeats.{OwnSeats, actors_of}
@@ -75,6 +76,14 @@ module _ {L D : Type 0} (log_seen : L → Seen) (data_seen : D → Seen) (run : 
       run.setup 0 alone.log_only (own_core_of log_seen data_seen run old seats)
       (own_core_of log_seen data_seen run new after) seat answer step alone t in
       (left.1, left.0)
+
+  -- where it ends by a failure, FAILED's code has a cause
+  pub cause_then : HasSamePages old new → ATurn → OwnRunsOn log_seen data_seen run old seats → (code : ℕ)
+      → step ≡ step_is.Failed code → FailedHasCause log_seen data_seen run new
+  cause_then same t R code failed =
+      own_failed_turn_has_cause A (its_log_laws log_seen data_seen run) B (its_data_laws log_seen data_seen run)
+      run.setup 0 (own_core_of log_seen data_seen run old seats) (own_core_of log_seen data_seen run new after) seat
+      answer step (runs_then same t R).runs.running t code failed
 
 -- THE TURN OF A USER.
 module _ {L D : Type 0} (log_seen : L → Seen) (log_gives : L → Call → L → Type 0) (data_seen : D → Seen)

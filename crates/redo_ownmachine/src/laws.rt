@@ -1,10 +1,13 @@
-// What holds of a machine in its run. A caller learns it by citing a function that does nothing.
+// What holds of a machine in its run: the watermarks of the running store, and that a failure stays one. A caller learns it by
+// citing a function that does nothing.
+ghost use Rattle.std.specs.Prelude.{ℕ, ◌<◌};
+ghost use Rattle.model_core.specs.declared.ops.Step.{Step};
 ghost use Rattle.model_running.specs.{HasWatermarks};
 ghost use Rattle.redo_drive.specs.Playing.{RunOf, run_data_side, run_log_side};
-ghost use Rattle.redo_drive.specs.Turning.{core_of};
+ghost use Rattle.redo_drive.specs.Turning.{code_in, core_of};
 ghost use Rattle.redo_drive.specs.declared.parts.Parts.{Parts};
 ghost use Rattle.redo_ownmachine.specs.OwnSeats.{OwnSeats, actors_of};
-ghost use Rattle.redo_ownmachine.specs.OwnStore.{OwnRunsOn};
+ghost use Rattle.redo_ownmachine.specs.OwnStore.{OwnRunsOn, TakesOwnTurn};
 
 use redo_disk::Sectors;
 
@@ -13,4 +16,10 @@ use redo_disk::Sectors;
 pub fn own_machine_has_watermarks<L: Sectors, D: Sectors>()
     ensures { (run : RunOf L D) (parts : Parts L D) (seats : OwnSeats) → OwnRunsOn L.seen D.seen run parts seats
         → HasWatermarks (run_log_side L.seen D.seen run) (run_data_side L.seen D.seen run) run.setup (core_of L.seen D.seen run parts (actors_of seats)) }
+{}
+
+/// Once FAILED has a code, it has one after each turn.
+pub fn own_turn_keeps_failed<L: Sectors, D: Sectors>()
+    ensures { (run : RunOf L D) (old new : Parts L D) (seats after : OwnSeats) (seat : ℕ) (step : Step) → OwnRunsOn L.seen D.seen run old seats
+        → TakesOwnTurn L.seen L.gives D.seen D.gives run old seats seat step new after → 0 < code_in old → 0 < code_in new }
 {}

@@ -13,5 +13,5 @@ mod seats;
 mod turning;
 
 pub use drive::run_own_by_turns;
-pub use laws::own_machine_has_watermarks;
+pub use laws::{own_machine_has_watermarks, own_turn_keeps_failed};
 pub use machine::OwnMachine;

@@ -4,6 +4,7 @@ ghost use Rattle.model_own.specs.OwnWrites.{own_lends, own_next};
 ghost use Rattle.redo_drive.specs.Asking.{AskOfBoth};
 ghost use Rattle.redo_drive.specs.Calls.{CallOnBoth};
 ghost use Rattle.redo_drive.specs.Playing.{HasSamePages, RunOf};
+ghost use Rattle.redo_drive.specs.Turning.{FailedHasCause};
 ghost use Rattle.redo_drive.specs.declared.actor.Actor.{Actor as TheActor};
 ghost use Rattle.redo_ownmachine.specs.OwnCrew.{HasSameSeats, seats_of};
 ghost use Rattle.redo_ownmachine.specs.OwnStore.{OwnAlone, OwnIsOnRun, OwnRunsFrom, OwnRunsOn, TakesOwnTurn};
@@ -50,6 +51,8 @@ impl<L: Sectors, D: Sectors, R: Receiver> OwnMachine<L, D, R> {
             × OwnRunsOn L.seen D.seen run self.new.parts (seats_of self.new) }
         ensures from { (run : RunOf L D) (starts : List (TheActor R)) → OwnRunsOn L.seen D.seen run self.old.parts (seats_of self.old)
             → OwnRunsFrom L.seen D.seen R.stands_for run starts self.old → OwnRunsFrom L.seen D.seen R.stands_for run starts self.new }
+        ensures cause { (run : RunOf L D) (code : ℕ) → OwnRunsOn L.seen D.seen run self.old.parts (seats_of self.old) → result ≡ Step.Failed code
+            → FailedHasCause L.seen D.seen run self.new.parts }
         ensures alone { (run : RunOf L D) → OwnAlone L.seen D.seen run self.old.parts (seats_of self.old)
             → (result ≢ Step.Idle) × OwnAlone L.seen D.seen run self.new.parts (seats_of self.new) }
         ensures calls { CallOnBoth L.gives D.gives self.old.parts self.new.parts }

@@ -42,7 +42,7 @@ pub const NO_TURNS: Run<'static> = Run {
 };
 
 /// The turns that a word spells: the seat, how many, and how the last of them ends.
-fn turns_of(word: &str) -> Option<(usize, u64, Turned)> {
+pub fn turns_of(word: &str) -> Option<(usize, u64, Turned)> {
     for (mark, last) in [
         ('+', Turned::Moved),
         ('-', Turned::Idle),

@@ -1,11 +1,16 @@
 // Machines on stores that were just formatted, over devices in memory that may stop.
-ghost use Rattle.std.specs.Prelude.{false, ℕ, ◌<◌, IfOk};
+ghost use Rattle.std.specs.Prelude.{false, ℕ, ◌<◌, ◌≡◌, ◌≤◌, ◌^◌, IfOk};
+ghost use Rattle.model_base.specs.{IsWithinLimits};
+ghost use Rattle.model_log.specs.declared.layout.TheConstants.{BLOCK_HEADER};
 ghost use Rattle.redo_drive.specs.Running.{IsOnRun};
-ghost use Rattle.redo_drive.specs.Startable.{AreNewFollowers, MayBegin};
+ghost use Rattle.redo_drive.specs.Startable.{AreNewFollowers, MayBegin, room_from};
 ghost use Rattle.redo_drive.specs.Views.{views_of};
+ghost use Rattle.redo_ownmachine.specs.OwnSeats.{HasRoom, seats_of};
+ghost use Rattle.redo_ownmachine.specs.OwnStore.{OwnIsOnRun};
 ghost use Rattle.redo_store.specs.{IsRunnable};
 
-use model_base::Shape;
+use model_base::{BLOCK_SIZE, Shape};
+use model_log::{BLOCK_HEADER, TAIL_BLOCKS};
 use model_script::{Script, fitting_script, read_lines_are_ranged};
 use redo_disk::Sectors;
 use redo_drive::{Actor, Driven};
@@ -13,7 +18,7 @@ use redo_follow::{Follower, Receiver, Tally};
 use redo_machine::{Machine, Turns, run_by_turns};
 use redo_memdisk::MemDisk;
 use redo_open::{format, open_store};
-use redo_ownmachine::run_own_by_turns;
+use redo_ownmachine::{OwnMachine, run_own_by_turns};
 use redo_script::{judge, parse};
 use redo_store::Opened;
 use std::alloc::Global;
@@ -64,22 +69,39 @@ pub fn no_followers(alloc: Global) -> Vec<Follower<Tally>>
     Vec::new(alloc)
 }
 
-/// The script of a text, which fits the store.
+/// How far the log has room where it runs alone: one round from the checkpoint on, which stands where a run begins.
+fn room_end(log_only: bool, shape: &Shape, start: u64) -> Option<u64>
+    requires limits { IsWithinLimits shape.now }
+    requires header { BLOCK_HEADER ≤ start }
+    requires small { start < 2 ^ 61 }
+    ensures { result ≡ room_from log_only shape.now start }
+{
+    if log_only {
+        let blocks = u64::from(shape.log_blocks) - TAIL_BLOCKS;
+        Some(start - BLOCK_HEADER + BLOCK_SIZE * blocks)
+    } else {
+        None
+    }
+}
+
+/// The script of a text, which fits the store, with the log alone or with the pages.
 fn script_on<L: Sectors, D: Sectors>(
     rt: &impl Abort,
     alloc: Global,
     opened: &Opened<L, D>,
     text: &[u8],
+    log_only: bool,
 ) -> Script
     requires { IsRunnable opened.now }
-    ensures { MayBegin opened.now result false }
+    ensures { MayBegin opened.now result log_only }
 {
     fitting_script();
     read_lines_are_ranged();
     let Ok(script) = parse(alloc, text) else {
         panic!(rt; "no script");
     };
-    let Ok(()) = judge(alloc, &opened.shape, opened.start, None, &script) else {
+    let end = room_end(log_only, &opened.shape, opened.start);
+    let Ok(()) = judge(alloc, &opened.shape, opened.start, end, &script) else {
         panic!(rt; "no fit");
     };
     script
@@ -97,7 +119,7 @@ pub fn machine_on<L: Sectors + Drop, D: Sectors + Drop, R: Receiver + Drop>(
     requires new { AreNewFollowers opened.start followers.items }
     ensures { IsOnRun L.seen D.seen result.parts (views_of result.actors.items) }
 {
-    let script = script_on(rt, alloc, &opened, text);
+    let script = script_on(rt, alloc, &opened, text, false);
     match Machine::new(alloc, opened, &script, false, followers) {
         Ok(machine) => machine,
         Err(_) => panic!(rt; "no memory"),
@@ -117,7 +139,7 @@ pub fn driven_on<L: Sectors + Drop, D: Sectors + Drop, R: Receiver + Drop>(
     requires runnable { IsRunnable opened }
     requires new { AreNewFollowers opened.start followers.items }
 {
-    let script = script_on(rt, alloc, &opened, text);
+    let script = script_on(rt, alloc, &opened, text, false);
     let turns = Turns {
         seed,
         max: 100_000_000,
@@ -141,7 +163,7 @@ pub fn own_driven_on<L: Sectors + Drop, D: Sectors + Drop, R: Receiver + Drop>(
     requires runnable { IsRunnable opened }
     requires new { AreNewFollowers opened.start followers.items }
 {
-    let script = script_on(rt, alloc, &opened, text);
+    let script = script_on(rt, alloc, &opened, text, false);
     let turns = Turns {
         seed,
         max: 100_000_000,
@@ -149,6 +171,25 @@ pub fn own_driven_on<L: Sectors + Drop, D: Sectors + Drop, R: Receiver + Drop>(
     };
     match run_own_by_turns(alloc, opened, &script, &turns, followers) {
         Ok(left) => left,
+        Err(_) => panic!(rt; "no memory"),
+    }
+}
+
+/// A machine on an opened store whose users write for themselves, with the log alone and no followers, for the script of a text,
+/// which fits the store.
+pub fn own_machine_on<L: Sectors + Drop, D: Sectors + Drop>(
+    rt: &impl Abort,
+    alloc: Global,
+    opened: Opened<L, D>,
+    text: &[u8],
+) -> OwnMachine<L, D, Tally>
+    requires { IsRunnable opened }
+    ensures on_run { OwnIsOnRun L.seen D.seen result.parts (seats_of result) }
+    ensures room { HasRoom result }
+{
+    let script = script_on(rt, alloc, &opened, text, true);
+    match OwnMachine::new(alloc, opened, &script, true, no_followers(alloc)) {
+        Ok(machine) => machine,
         Err(_) => panic!(rt; "no memory"),
     }
 }
