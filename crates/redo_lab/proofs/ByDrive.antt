@@ -1,6 +1,7 @@
 -- The drives serve what is asked for.
 use Rattle.redo_drive.specs.declared.drive.RunEnd.{RunEnd}
 use Rattle.std.proofs.Common.{ℕ, ◌≡◌, Bool, true, false, List, Option, refl, sym, subst, ◌∙◌}
+use Rattle.std.proofs.lemmas.Bool.{false≢true}
 use Rattle.model_script.specs.declared.asked.Drive.{Drive}
 use Rattle.model_device.specs.Disk.{Disk}
 use Rattle.model_core.specs.Actors as model
@@ -14,9 +15,9 @@ use Rattle.redo_drive.specs.Views.{views_of}
 use Rattle.redo_drive.specs.declared.drive.Driven.{Driven}
 use Rattle.redo_drive.specs.declared.drive.RunEnd.TheVariants.{Done, Spent}
 use Rattle.redo_machine.specs.{RunsByTurns}
-use Rattle.redo_machine.specs.declared.drive.Turns.{Turns}
 use Rattle.redo_memdisk.specs.{CallsThrough, seen_through}
 use Rattle.redo_memdisk.specs.declared.fused.Fused.{Fused}
+use Rattle.redo_ownmachine.specs.OwnByTurns.{OwnRunsByTurns}
 use Rattle.redo_store.specs.declared.opened.Opened.{Opened}
 use Rattle.redo_threads.specs.InThreads.{RunsInThreads}
 use Rattle.redo_lab.specs.Asked.{turns_of}
@@ -59,43 +60,70 @@ driven-later log_seen log_gives data_seen data_gives log_same data_same =
     }
 
 module _ {L D : Type 0} (log_seen : L → Seen) (log_gives : L → Call → L → Type 0) (data_seen : D → Seen) (data_gives : D → Call → D → Type 0) where
-  -- what the drive tells that is in threads or isn't
-  abbrev TellsIn : Bool → Drive → Opened (Fused L) (Fused D) → List ScriptLine → List model.Actor
-      → Driven (Fused L) (Fused D) → Type 0
-  TellsIn threads asked opened script actors driven =
-      TellsOf threads log_seen log_gives data_seen data_gives asked opened script actors driven
+  -- what the drive tells that is in threads or isn't, and whose users write for themselves or don't
+  abbrev TellsIn : (threads own_writes : Bool) → Drive → Opened (Fused L) (Fused D) → List ScriptLine
+      → List model.Actor → Driven (Fused L) (Fused D) → Type 0
+  TellsIn threads own_writes asked opened script actors driven =
+      TellsOf threads own_writes log_seen log_gives data_seen data_gives asked opened script actors driven
 
   -- by turns
-  abbrev ByTurns : Opened (Fused L) (Fused D) → List ScriptLine → List model.Actor → Driven (Fused L) (Fused D)
-      → Turns → ℕ → Type 0
-  ByTurns opened script actors driven turns followers =
-      RunsByTurns (seen_through log_seen) (CallsThrough log_seen log_gives)
-      (seen_through data_seen) (CallsThrough data_seen data_gives) opened script turns followers actors driven
-
-  pub tells-turns : (asked : Drive) (turns : Turns) (followers : ℕ) (opened : Opened (Fused L) (Fused D))
+  pub tells-turns : (asked : Drive) (opened : Opened (Fused L) (Fused D))
       (script : List ScriptLine) (actors : List model.Actor) (driven : Driven (Fused L) (Fused D))
-      → turns ≡ turns_of asked → followers ≡ asked.followers → asked.threads ≡ false
-      → ByTurns opened script actors driven turns followers → TellsIn asked.threads asked opened script actors driven
-  tells-turns asked turns followers opened script actors driven same as_many is told =
-      subst (λ (threads : Bool). TellsIn threads asked opened script actors driven) (sym is)
-      (subst (λ (turns : Turns). ByTurns opened script actors driven turns asked.followers) same
-      (subst (λ (n : ℕ). ByTurns opened script actors driven turns n) as_many told))
+      → asked.threads ≡ false → TellsIn false asked.own_writes asked opened script actors driven
+      → TellsIn asked.threads asked.own_writes asked opened script actors driven
+  tells-turns asked opened script actors driven is told =
+      subst (λ (threads : Bool). TellsIn threads asked.own_writes asked opened script actors driven) (sym is) told
+
+  -- with a writer and a flusher, or by users that write for themselves
+  abbrev Plain : Drive → ℕ → Opened (Fused L) (Fused D) → List ScriptLine → List model.Actor
+      → Driven (Fused L) (Fused D) → Type 0
+  Plain asked followers opened script actors driven = RunsByTurns (seen_through log_seen)
+      (CallsThrough log_seen log_gives) (seen_through data_seen) (CallsThrough data_seen data_gives)
+      opened script (turns_of asked) followers actors driven
+
+  abbrev Own : Drive → ℕ → Opened (Fused L) (Fused D) → List ScriptLine → List model.Actor
+      → Driven (Fused L) (Fused D) → Type 0
+  Own asked followers opened script actors driven = OwnRunsByTurns (seen_through log_seen)
+      (CallsThrough log_seen log_gives) (seen_through data_seen) (CallsThrough data_seen data_gives)
+      opened script (turns_of asked) followers actors driven
+
+  pub tells-plain : (asked : Drive) (followers : ℕ) (opened : Opened (Fused L) (Fused D))
+      (script : List ScriptLine) (actors : List model.Actor) (driven : Driven (Fused L) (Fused D))
+      → asked.own_writes ≡ false → Plain asked followers opened script actors driven → followers ≡ asked.followers
+      → TellsIn false asked.own_writes asked opened script actors driven
+  tells-plain asked followers opened script actors driven is told as_many =
+      subst (λ (own_writes : Bool). TellsIn false own_writes asked opened script actors driven) (sym is)
+      (subst (λ (n : ℕ). Plain asked n opened script actors driven) as_many told)
+
+  pub tells-own : (asked : Drive) (followers : ℕ) (opened : Opened (Fused L) (Fused D))
+      (script : List ScriptLine) (actors : List model.Actor) (driven : Driven (Fused L) (Fused D))
+      → asked.own_writes ≡ true → Own asked followers opened script actors driven → followers ≡ asked.followers
+      → TellsIn false asked.own_writes asked opened script actors driven
+  tells-own asked followers opened script actors driven is told as_many =
+      subst (λ (own_writes : Bool). TellsIn false own_writes asked opened script actors driven) (sym is)
+      (subst (λ (n : ℕ). Own asked n opened script actors driven) as_many told)
 
   -- in threads
   pub tells-threads : (asked : Drive) (log_only : Bool) (opened : Opened (Fused L) (Fused D))
       (script : List ScriptLine) (actors : List model.Actor) (driven : Driven (Fused L) (Fused D))
       → log_only ≡ asked.log_only → asked.threads ≡ true → RunsInThreads opened script log_only actors driven
-      → TellsIn asked.threads asked opened script actors driven
+      → TellsIn asked.threads asked.own_writes asked opened script actors driven
   tells-threads asked log_only opened script actors driven same is told =
-      subst (λ (threads : Bool). TellsIn threads asked opened script actors driven) (sym is)
+      subst (λ (threads : Bool). TellsIn threads asked.own_writes asked opened script actors driven) (sym is)
       (subst (λ (log_only : Bool). RunsInThreads opened script log_only actors driven) same told)
 
-  -- turns are spent by no drive in threads, and with the log alone only where they are few
-  may-spend : (threads : Bool) (asked : Drive) (store : Opened (Fused L) (Fused D)) (script : List ScriptLine)
-      (actors : List model.Actor) (driven : Driven (Fused L) (Fused D)) (turns user : ℕ) → asked.threads ≡ threads
-      → TellsIn threads asked store script actors driven → driven.ended ≡ Spent turns user → MaySpend asked turns
-  may-spend false asked store script actors driven turns user is told ended = record { by_turns = is; few = told.few turns user ended }
-  may-spend true asked store script actors driven turns user is told ended = let same : Done ≡ Spent turns user = sym told.done ∙ ended in absurd (cc)
+  -- turns are spent by no drive in threads, and with the log alone, a writer and a flusher only where they are few
+  may-spend : (threads own_writes : Bool) (asked : Drive) (store : Opened (Fused L) (Fused D))
+      (script : List ScriptLine) (actors : List model.Actor) (driven : Driven (Fused L) (Fused D)) (turns user : ℕ)
+      → asked.threads ≡ threads → asked.own_writes ≡ own_writes
+      → TellsIn threads own_writes asked store script actors driven → driven.ended ≡ Spent turns user
+      → MaySpend asked turns
+  may-spend false false asked store script actors driven turns user is own told ended =
+      record { by_turns = is; few = λ plain. told.few turns user ended }
+  may-spend false true asked store script actors driven turns user is own told ended =
+      record { by_turns = is; few = λ plain. absurd (false≢true (sym plain ∙ own)) }
+  may-spend true own_writes asked store script actors driven turns user is own told ended =
+      let same : Done ≡ Spent turns user = sym told.done ∙ ended in absurd (cc)
 
   pub spends-turns : (log_now : Fused L) (data_now : Fused D) (asked : Drive) (opened : values.Opened)
       (script : List ScriptLine) (run : Ran) (follows : List Followed) (turns user : ℕ) (log_met store_met : Option Disk)
@@ -103,4 +131,4 @@ module _ {L D : Type 0} (log_seen : L → Seen) (log_gives : L → Call → L �
       log_met store_met
       → MaySpend asked turns
   spends-turns log_now data_now asked opened script run follows turns user log_met store_met so =
-      may-spend asked.threads asked so.store script (views_of so.actors) so.driven turns user refl so.told so.ends
+      may-spend asked.threads asked.own_writes asked so.store script (views_of so.actors) so.driven turns user refl refl so.told so.ends

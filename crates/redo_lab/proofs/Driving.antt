@@ -69,7 +69,7 @@ module _ {L D : Type 0} (log_seen : L → Seen) (log_gives : L → Call → L �
     (given : store.Opened (Fused L) (Fused D)) (driven : Driven (Fused L) (Fused D)) (running : CommandRuns source source_now command drive script) (laws : Laws)
     (ready : StandsReady log_seen data_seen (call_on log_seen log_gives data_seen data_gives words source source_now log data_device given.log.dev given.store.dev) drive stops script given)
     (actors : List (Actor Kept))
-    (told : TellsOf drive.threads log_seen log_gives data_seen data_gives drive given script (views_of actors) driven)
+    (told : TellsOf drive.threads drive.own_writes log_seen log_gives data_seen data_gives drive given script (views_of actors) driven)
     (owes : Owes (seen_through log_seen) (CallsThrough log_seen log_gives) (seen_through data_seen) (CallsThrough data_seen data_gives) given script driven)
     (reads : drive.threads ≡ true
     → ReadsToMarks (seen_through log_seen) (seen_through data_seen) given script driven.closed)

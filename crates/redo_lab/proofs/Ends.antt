@@ -93,7 +93,7 @@ runs-script call (Crash asked stop_log stop_data pick workers) drive script is =
     })
 runs-script call (Gen seed users groups true max) drive script is =
     let some = is.asked in
-    let same : record { seed = seed; max = max; threads = false; log_only = false; followers = 0 } ≡ drive = cc in
+    let same : record { seed = seed; max = max; threads = false; log_only = false; own_writes = false; followers = 0 } ≡ drive = cc in
     subst (λ (d : Drive). RunsScript call (Gen seed users groups true max) d script) same (record {
       past = λ reads. absurd (false≢true reads);
       writes = λ leaves. false≢true leaves;

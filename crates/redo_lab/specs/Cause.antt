@@ -102,11 +102,11 @@ IsRefused call (Gen seed users groups true max) refusal =
     IsRefusedAtEntry call refusal ⊎ (BothDevices IsInRun call × WhereToldNow call (AreRefused refusal))
 IsRefused call (Gen seed users groups false max) refusal = ⊥
 
--- A drive may spend so many turns: it runs by turns; and with the log alone, without followers, the greatest number that may be
--- asked for is enough, whatever the devices answer.
+-- A drive may spend so many turns: it runs by turns; and with the log alone, without followers, where writer and flusher have turns,
+-- the greatest number that may be asked for is enough, whatever the devices answer.
 pub record MaySpend (drive : Drive) (turns : ℕ) : Type 0 where
   pub by_turns : drive.threads ≡ false
-  pub few : drive.log_only ≡ true → drive.followers ≡ 0 → turns < MAX_TURNS
+  pub few : drive.own_writes ≡ false → drive.log_only ≡ true → drive.followers ≡ 0 → turns < MAX_TURNS
 
 -- THE TURNS ARE SPENT: the drive's run has taken so many, which are all, and this is the least user that hasn't ended. What is left
 -- is read as a prefix of the run.

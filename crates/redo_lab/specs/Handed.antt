@@ -16,6 +16,7 @@ use Rattle.model_script.specs.declared.script.ScriptLine.{ScriptLine}
 use Rattle.model_theorem.specs.{Ran}
 use Rattle.model_theorem.specs.Values as values
 use Rattle.redo_machine.specs.{RunsByTurns}
+use Rattle.redo_ownmachine.specs.OwnByTurns.{OwnRunsByTurns}
 use Rattle.redo_drive.specs.Views.{followers_in, views_of}
 use Rattle.redo_drive.specs.declared.actor.Actor.{Actor}
 use Rattle.redo_drive.specs.declared.drive.Driven.{Driven}
@@ -35,13 +36,16 @@ pub record IsOpenedAt {L D : Type 0} (opened : values.Opened) (store : Opened L 
   pub runnable : IsRunnable store
 
 -- what the drive tells of the actors that it leaves, on devices behind their fuses: by turns, those of the seed, at most as many as
--- are allowed; or in threads, by which no turns are counted
-abbrev pub TellsOf : {L D : Type 0} → (threads : Bool) → (L → Seen) → (L → device.Call → L → Type 0) → (D → Seen) → (D → device.Call → D → Type 0)
+-- are allowed, of users that write for themselves if they are to; or in threads, by which no turns are counted
+abbrev pub TellsOf : {L D : Type 0} → (threads own_writes : Bool) → (L → Seen) → (L → device.Call → L → Type 0) → (D → Seen) → (D → device.Call → D → Type 0)
     → Drive → Opened (Fused L) (Fused D) → List ScriptLine → List model.Actor → Driven (Fused L) (Fused D) → Type 0
-TellsOf false log_seen log_gives data_seen data_gives drive store script actors driven =
+TellsOf false false log_seen log_gives data_seen data_gives drive store script actors driven =
     RunsByTurns (seen_through log_seen) (CallsThrough log_seen log_gives) (seen_through data_seen) (CallsThrough data_seen data_gives)
     store script (turns_of drive) drive.followers actors driven
-TellsOf true log_seen log_gives data_seen data_gives drive store script actors driven =
+TellsOf false true log_seen log_gives data_seen data_gives drive store script actors driven =
+    OwnRunsByTurns (seen_through log_seen) (CallsThrough log_seen log_gives) (seen_through data_seen) (CallsThrough data_seen data_gives)
+    store script (turns_of drive) drive.followers actors driven
+TellsOf true own_writes log_seen log_gives data_seen data_gives drive store script actors driven =
     RunsInThreads store script drive.log_only actors driven
 
 -- It is one device behind one fuse: handed in once, and armed once, with this limit.
@@ -61,7 +65,7 @@ pub record IsDriven {L D : Type 0} (log_seen : L → Seen) (log_gives : L → de
   pub driven : Driven (Fused L) (Fused D)
   pub driven_on : IsSameFused driven.closed.log.dev log_now × IsSameFused driven.closed.store.dev data_now
   pub actors : List (Actor Kept)
-  pub told : TellsOf drive.threads log_seen log_gives data_seen data_gives drive store script (views_of actors) driven
+  pub told : TellsOf drive.threads drive.own_writes log_seen log_gives data_seen data_gives drive store script (views_of actors) driven
   pub ends : driven.ended ≡ end
   pub run_is : run ≡ record { start = store.start; entries = driven.closed.history; marks = driven.closed.marks }
   pub follows_are : AllZip IsToldOf (followers_in actors) follows

@@ -2,7 +2,7 @@
 ghost use Rattle.std.specs.Prelude.{◌≡◌, ◌⊎◌, Some, None, true, false, IfSome, IfOk, IfErr, map};
 ghost use Rattle.std.specs.String.{string_bytes};
 ghost use Rattle.model_report.specs.declared.fault.Fault.TheVariants.{Memory, Words};
-ghost use Rattle.redo_lab.specs.Asked.{command_of, runs_in_threads, turns_of};
+ghost use Rattle.redo_lab.specs.Asked.{command_of, runs_in_threads};
 ghost use Rattle.redo_lab.specs.Runs.{command_with};
 
 use crate::crash_command::Crashing;
@@ -10,19 +10,7 @@ use crate::playing::Stops;
 use model_report::Fault;
 use model_script::{Command, Drive};
 use redo_command::{WordsFault, read_words};
-use redo_machine::Turns;
 use std::alloc::Global;
-
-/// The turns of a drive.
-pub(crate) fn turns_of(drive: &Drive) -> Turns
-    ensures { result ≡ turns_of drive.now }
-{
-    Turns {
-        seed: drive.seed,
-        max: drive.max,
-        log_only: drive.log_only,
-    }
-}
 
 /// A script to be run so, and whether and how both devices are crashed then.
 #[derive(Clone, Copy)]

@@ -10,7 +10,7 @@ ghost use Rattle.redo_lab.specs.Handed.{AreOf, call_on};
 ghost use Rattle.redo_lab.specs.Ending.{EndsWith};
 ghost use Rattle.redo_lab.specs.Runs.{IsRanBy, command_with, stops_of};
 
-use crate::asked::{Scripted, turns_of};
+use crate::asked::Scripted;
 use crate::crash_command::{Crashing, crash_command};
 use crate::gen_command::gen_command;
 use crate::laws::laws;
@@ -81,10 +81,8 @@ fn source_by_turns<R: Threads + Sync, S: Source, L: Sectors, D: Sectors>(
     read_lines_are_ranged();
     match read_script(alloc, src) {
         Ok(script) => {
-            let turns = turns_of(&asked.drive);
-            let followers = asked.drive.followers;
             let stops = stops_of(asked.crash);
-            let ran = by_turns(alloc, &script, &turns, followers, stops, log, store);
+            let ran = by_turns(alloc, &script, &asked.drive, stops, log, store);
             after_run(rt, alloc, &script, ran, asked.crash)
         }
         Err(fault) => unasked(fault, log, store),

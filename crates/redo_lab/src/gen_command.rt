@@ -9,7 +9,7 @@ ghost use Rattle.model_script.specs.declared.script.ScriptLine.{ScriptLine};
 ghost use Rattle.redo_io.specs.{SourceSeen};
 ghost use Rattle.redo_memdisk.specs.{entry_of};
 ghost use Rattle.redo_recover.specs.{reading_of};
-ghost use Rattle.redo_lab.specs.Asked.{drive_of_seed, turns_of};
+ghost use Rattle.redo_lab.specs.Asked.{drive_of_seed};
 ghost use Rattle.redo_lab.specs.declared.playing.Course.TheVariants as course;
 ghost use Rattle.redo_lab.specs.Handed.{AreOf, call_on};
 ghost use Rattle.redo_lab.specs.Ending.{EndsWith};
@@ -21,11 +21,10 @@ use crate::outcome::{Done, Outcome, unasked};
 use crate::playing::{Course, Played, Ran, Stops, by_turns};
 use crate::reading::contents;
 use model_report::Fault;
-use model_script::Script;
+use model_script::{Drive, Script};
 use redo_disk::Sectors;
 use redo_io::Text;
 use redo_lsn::NoMemory;
-use redo_machine::Turns;
 use redo_memdisk::Fused;
 use redo_recover::{Recovered, recover};
 use redo_report::summary;
@@ -90,32 +89,36 @@ fn read_after<L: Sectors, D: Sectors>(
     }
 }
 
-/// The turns of a run: those of the script's seed.
-fn turns_of_seed(seed: u64, max: u64) -> Turns
-    ensures { result ≡ turns_of (drive_of_seed seed max) }
+/// How the script of a seed is run: by the turns of the same seed.
+fn drive_of_seed(seed: u64, max: u64) -> Drive
+    ensures { result ≡ drive_of_seed seed max }
 {
-    Turns {
+    Drive {
         seed,
         max,
+        threads: false,
         log_only: false,
+        own_writes: false,
+        followers: 0,
     }
 }
 
-/// Runs the script of the seed by these turns, and sums the run up; of a fault there is its line alone.
+/// Runs the script of the seed by its turns, and sums the run up; of a fault there is its line alone.
 fn run_script<L: Sectors, D: Sectors>(
     alloc: Global,
     script: &Script,
-    turns: &Turns,
+    seed: u64,
+    max: u64,
     log: L,
     store: D,
 ) -> Done<L, D>
     requires { AllByRecursion IsScriptLine script.now }
-    ensures ends { (words : List (List ℕ)) (source : SourceSeen) (seed users groups max : ℕ) → script.now ≡ generated_lines seed users groups
-        → turns.now ≡ turns_of (drive_of_seed seed max)
+    ensures ends { (words : List (List ℕ)) (source : SourceSeen) (users groups : ℕ) → script.now ≡ generated_lines seed users groups
         → EndsWith (call_on L.seen L.gives D.seen D.gives words source source log store result.log result.store) (Gen seed users groups true max) result.outcome }
     ensures entered { AreOf log store result.log result.store }
 {
     laws();
+    let drive = drive_of_seed(seed, max);
     let stops = Stops {
         log: None,
         store: None,
@@ -124,7 +127,7 @@ fn run_script<L: Sectors, D: Sectors>(
         course,
         mut log,
         mut store,
-    } = by_turns(alloc, script, turns, 0, stops, log, store);
+    } = by_turns(alloc, script, &drive, stops, log, store);
     let outcome = match course {
         Course::Ended(fault) | Course::Stopped(fault) => Outcome::Fault(fault),
         Course::Played(played, ended) => match ended {
@@ -158,7 +161,7 @@ fn run_seed<L: Sectors, D: Sectors>(
     laws();
     generated_lines_are_ranged();
     match generate_lines(alloc, seed, users, groups) {
-        Ok(script) => run_script(alloc, &script, &turns_of_seed(seed, max), log, store),
+        Ok(script) => run_script(alloc, &script, seed, max, log, store),
         Err(_) => unasked(Fault::Memory, log, store),
     }
 }

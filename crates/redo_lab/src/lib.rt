@@ -22,6 +22,7 @@ mod run_command;
 mod script;
 mod shapes;
 mod simple;
+mod turns;
 
 pub use ended::Ended;
 pub use in_files::lab_in_files;

@@ -14,7 +14,6 @@ ghost use Rattle.redo_io.specs.{SourceSeen};
 ghost use Rattle.redo_memdisk.specs.{entry_of};
 ghost use Rattle.redo_lab.specs.declared.playing.Course.TheVariants as ended;
 ghost use Rattle.redo_lab.specs.declared.playing.Stops.{Stops};
-ghost use Rattle.redo_lab.specs.Asked.{turns_of};
 ghost use Rattle.redo_lab.specs.Devices.{AreArmed, AreAsArmed};
 ghost use Rattle.redo_lab.specs.Handed.{AreOf, call_on};
 ghost use Rattle.redo_lab.specs.Runs.{AreEntered, AreReady, CommandRuns, IsRanBy, course_done, course_of, ended_by, played_of, unopened};
@@ -23,14 +22,14 @@ use crate::faults::fault_of;
 use crate::following::{make_followers, told_of};
 use crate::laws::laws;
 use crate::prepare::prepare;
+use crate::turns::run_turns;
 use model_base::Shape;
 use model_log::BLOCK_HEADER;
 use model_report::{Fault, Followed, History, Marks};
-use model_script::{Script, fitting_script};
+use model_script::{Drive, Script, fitting_script};
 use redo_disk::{DevError, Sectors};
 use redo_drive::{Driven, RunEnd};
 use redo_lsn::{round_of, run_layout};
-use redo_machine::{Turns, run_by_turns};
 use redo_memdisk::Fused;
 use redo_open::open_store;
 use redo_recover::RecFault;
@@ -259,34 +258,33 @@ fn ready<L: Sectors, D: Sectors>(
     open_fitted(alloc, script, log_only, log, store)
 }
 
-/// Runs the lines of a script by these turns, with so many followers: on both devices, prepared, and with these stops once
-/// their fuses are armed.
+/// Runs the lines of a script by the turns of this drive, with its followers: on both devices, prepared, and with these stops
+/// once their fuses are armed.
 pub(crate) fn by_turns<L: Sectors, D: Sectors>(
     alloc: Global,
     script: &Script,
-    turns: &Turns,
-    followers: u32,
+    drive: &Drive,
     stops: Stops,
     log: L,
     store: D,
 ) -> Ran<L, D>
     requires lines { AllByRecursion IsScriptLine script.now }
-    requires few { followers ≤ MAX_FOLLOWERS }
-    ensures comes_to { (words : List (List ℕ)) (source source_now : SourceSeen) (command : Command) (asked : Asked)
-        → CommandRuns source source_now command asked script.now → turns.now ≡ turns_of asked → followers ≡ asked.followers → asked.threads ≡ false
-        → IsRanBy (call_on L.seen L.gives D.seen D.gives words source source_now log store) command asked stops script.now result }
+    requires few { drive.now.followers ≤ MAX_FOLLOWERS }
+    ensures comes_to { (words : List (List ℕ)) (source source_now : SourceSeen) (command : Command)
+        → CommandRuns source source_now command drive.now script.now → drive.now.threads ≡ false
+        → IsRanBy (call_on L.seen L.gives D.seen D.gives words source source_now log store) command drive.now stops script.now result }
     ensures entered { AreOf log store result.log result.store }
 {
     laws();
-    let opened = match ready(alloc, script, turns.log_only, stops, log, store) {
+    let opened = match ready(alloc, script, drive.log_only, stops, log, store) {
         Ok(opened) => opened,
         Err(ran) => return ran,
     };
     let start = opened.start;
-    let Ok((followers, follows)) = make_followers(alloc, followers, start) else {
+    let Ok((followers, follows)) = make_followers(alloc, drive.followers, start) else {
         return unbegun(opened);
     };
-    match run_by_turns(alloc, opened, script, turns, followers) {
+    match run_turns(alloc, opened, script, drive, followers) {
         Ok((driven, actors)) => close(start, driven, told_of(follows, actors.as_slice())),
         Err((_, log, store)) => unplayed(Fault::Memory, log, store),
     }

@@ -129,6 +129,7 @@ fn see_four(
 fn tells_of_four_followers(rt: HostRuntime) -> Result<(), Fail> {
     for words in [
         "run --followers 4",
+        "run --followers 4 --own-writes",
         "run --followers 4 --threads",
         "crash --followers 4 --threads",
         "crash --followers 4 --threads --log-only",

@@ -274,7 +274,7 @@ pub(crate) fn crash_at(
 }
 
 /// Crashes with these stops, where `@` is the number of calls before them: from 0 on, up to where no stop comes before a call.
-fn stop_at_each_call(
+pub(crate) fn stop_at_each_call(
     rt: &(impl Abort + AllocGlobal + Threads + Wait + Sync),
     stops: &str,
 ) -> Result<(), Fail> {

@@ -1,4 +1,4 @@
-use Rattle.std.proofs.Common.{refl, inl, inr, true}
+use Rattle.std.proofs.Common.{refl, inl, inr, lit≤, true}
 use Rattle.model_script.specs.declared.asked.Command.TheVariants.{Gen}
 use Rattle.redo_lab.proofs.Ends.{ends-failed, uncrashing-gen}
 use Rattle.redo_lab.proofs.Entered.{entries-then}
@@ -8,12 +8,17 @@ use Rattle.redo_lab.specs.Runs.{CommandRuns}
 use Rattle.redo_lab.proofs.gen_command.run_script.Goals as goal
 use Rattle.redo_lab.proofs.gen_command.run_script.Goals.{in-Ended2, in-None, in-Played, in-Some}
 
+pub by_turns-course-requires-clause-few : goal.by_turns-course-requires-clause-few
+by_turns-course-requires-clause-few g c = rw c.drive_of_seed-drive.ensures (lit≤ tt)
+
 pub returns-clause-ends : goal.returns-clause-ends
-returns-clause-ends g c = λ words source seed users groups max is turns_are.
+returns-clause-ends g c = λ words source users groups is.
+    let seed = c.args.seed in
+    let max = c.args.max in
     let running : CommandRuns source source (Gen seed users groups true max) (drive_of_seed seed max) c.args.script.now =
     record { asked = refl; is_script = is; unread = λ plain. refl } in
-    let comes_to = c.by_turns-course.ensures.comes_to words source source (Gen seed users groups true max)
-    (drive_of_seed seed max) running turns_are refl refl in
+    let comes_to = rw c.drive_of_seed-drive.ensures at c.by_turns-course.ensures.comes_to words source source
+    (Gen seed users groups true max) running refl in
     elim c.match-course.branch [
       | in-Ended2 w ↦ rw (w.outcome-is, w.log-is, w.store-is) (elim w.in-Ended.is [
         | inl ended ↦ rw ended at comes_to

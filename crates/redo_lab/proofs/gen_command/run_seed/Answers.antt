@@ -3,7 +3,7 @@ use Rattle.redo_lab.proofs.Alone.{gen-unscripted}
 use Rattle.redo_lab.proofs.gen_command.run_seed.Goals as goal
 
 pub returns-in-Ok-clause-ends : goal.returns-in-Ok-clause-ends
-returns-in-Ok-clause-ends g c = λ words source. c.run_script.ensures.ends words source c.args.seed c.args.users c.args.groups c.args.max c.in-Ok.ensures c.turns_of_seed.ensures
+returns-in-Ok-clause-ends g c = λ words source. c.run_script.ensures.ends words source c.args.users c.args.groups c.in-Ok.ensures
 
 pub returns-in-Err-clause-ends : goal.returns-in-Err-clause-ends
 returns-in-Err-clause-ends g c = λ words source.
