@@ -64,25 +64,3 @@ pub fn is_sealed(sector: &[u8; 512]) -> bool
     let (body, checksum) = sector.split_at(CHECKSUM);
     BigEndian::read_u32(checksum) == crc32c(body)
 }
-
-#[cfg(test)]
-mod tests {
-    use super::*;
-
-    #[test]
-    fn a_sealed_sector(rt: HostRuntime) {
-        let mut sector = [0xFF; 512];
-        let at = put(&mut sector, 0, b"redo");
-        assert_eq!(rt; put(&mut sector, at, b"lab"), 7);
-        assert_eq!(rt; field_u16(&sector, 0), 0x7265);
-        assert_eq!(rt; field_u32(&sector, 3), 0x6F6C_6162);
-        assert_eq!(rt; field_u64(&sector, 0), 0x7265_646F_6C61_62FF);
-        assert!(rt; !is_sealed(&sector));
-        seal(&mut sector, 7);
-        assert_eq!(rt; &sector[..8], b"redolab\0".as_slice());
-        assert_eq!(rt; &sector[508..], [0xD2, 0x7C, 0x68, 0x5E].as_slice());
-        assert!(rt; is_sealed(&sector));
-        sector[100] = 1;
-        assert!(rt; !is_sealed(&sector));
-    }
-}

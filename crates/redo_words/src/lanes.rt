@@ -6,9 +6,6 @@ use model_core::{BUFFER_WORDS, WORD_LANES};
 use model_log::BLOCK_DATA;
 use redo_lsn::lsn_of;
 
-#[cfg(test)]
-mod tests;
-
 /// A place of the stream in the log buffer: its word, its lane there, and how many bytes stand there from it on.
 #[derive(Clone, Copy, Debug, PartialEq, Eq)]
 pub struct Spot {

@@ -8,9 +8,6 @@ use model_core::{
     BUFFER_BLOCKS, BUFFER_WORDS, CLOSED_LINKS, FLUSH_LISTS, FRAME_WORDS, READERS, WRITTEN_LINKS,
 };
 
-#[cfg(test)]
-mod tests;
-
 // where each kind of word begins
 const LISTS_AT: u64 = 8;
 

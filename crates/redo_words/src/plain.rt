@@ -9,9 +9,6 @@ use redo_lsn::NoMemory;
 use std::alloc::Global;
 use std::marker::Model;
 
-#[cfg(test)]
-mod tests;
-
 /// The words of a store of so many pages. Contracts see the list of them by their numbers. Only `new` takes memory.
 #[derive(Debug, Drop)]
 pub struct PlainWords {

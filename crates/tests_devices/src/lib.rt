@@ -1,4 +1,4 @@
-//! Tests of the devices, of the two parts over them, and of the actors of the log.
+//! Tests of the devices, of the two parts over them, of the words, and of the actors of the log.
 #![tactic(auto)]
 
 #[cfg(test)]
@@ -21,3 +21,5 @@ mod logs;
 mod memdisk;
 #[cfg(test)]
 mod parts;
+#[cfg(test)]
+mod words;

@@ -1,10 +1,12 @@
-//! The tests of the formats: numbers, lsns, groups, blocks, headers and pages, and pages and lists of them in memory.
+//! The tests of the formats: checksums, numbers, lsns, groups, blocks, headers and pages, and pages and lists of them in memory.
 #![tactic(auto, using(model_base::proofs::ShapeLimits::default_page_size))]
 
 #[cfg(test)]
 mod apply;
 #[cfg(test)]
 mod block;
+#[cfg(test)]
+mod crc;
 #[cfg(test)]
 mod flushlist;
 #[cfg(test)]

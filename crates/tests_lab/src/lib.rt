@@ -10,6 +10,8 @@ mod devices;
 #[cfg(test)]
 mod failures;
 #[cfg(test)]
+mod files;
+#[cfg(test)]
 mod followers;
 #[cfg(test)]
 mod formats;

@@ -1,10 +1,17 @@
-// Calls on devices in files, and the words that ask for them.
-use super::*;
-use redo_io::{MemSink, MemSource};
-use std::fs;
-use std::test::Fail;
+// Calls on devices in files.
+ghost use Rattle.std.specs.Prelude.{IfOk};
+ghost use Rattle.redo_lab.specs.Files.{IsUncalled};
 
-const LINE: &str = "1 f b1 3 100 7";
+use crate::calls::{LINE, words_of};
+use redo_io::{MemSink, MemSource};
+use redo_lab::{LOG_LENGTH, STORE_LENGTH, lab_in_files};
+use redo_memdisk::{Access, FileDisk, Unread};
+use redo_threads::NoGate;
+use std::alloc::AllocError;
+use std::fs;
+use std::sync::Wait;
+use std::test::Fail;
+use std::thread::Threads;
 
 const LINE_RUN: &str = "open 8204\n\
     g 8204 8210 1 0 flushed\n\
@@ -16,12 +23,14 @@ const LINE_READ: &str = "read 1 8722\np 3 8722 \
     00000000000000000000000000000000000000000000000000000000000000\
     07\n";
 
-fn words_of(alloc: Global, text: &str) -> Result<Vec<String>, AllocError> {
-    let mut words = Vec::new(alloc);
-    for word in text.split_whitespace() {
-        words.push(word.to_string(alloc)?)?;
-    }
-    Ok(words)
+/// The device in the file of this name.
+fn device<'a>(
+    rt: &'a HostRuntime,
+    name: &str,
+) -> Result<FileDisk<&'a HostRuntime, Unread>, AllocError>
+    ensures { IfOk result (λ device. IsUncalled device) }
+{
+    Ok(FileDisk::new(rt, name.to_string(rt.alloc())?, Access::Writing))
 }
 
 /// A call on the devices in these files: its status and what was printed.
@@ -33,8 +42,8 @@ fn call(
     data_file: &str,
 ) -> Result<(u8, MemSink), AllocError> {
     let alloc = rt.alloc();
-    let log = in_file::<Unread>(rt, log_file, Access::Writing)?;
-    let store = in_file::<Unread>(rt, data_file, Access::Writing)?;
+    let log = device(rt, log_file)?;
+    let store = device(rt, data_file)?;
     let mut source = MemSource::new(LINE.as_bytes().to_vec(alloc)?);
     let mut sink = MemSink::new(alloc);
     let words = words_of(alloc, text)?;
@@ -72,19 +81,19 @@ fn begins_with(rt: &HostRuntime, file: &str, front: &[u8]) -> Result<(usize, boo
 
 #[test]
 fn keeps_a_store_in_files(rt: HostRuntime) -> Result<(), Fail> {
-    let files = (LOG_FILE, DATA_FILE);
+    let files = ("redo.log", "redo.data");
     assert!(rt; answers(&rt, &rt, "run --files", files, 0, LINE_RUN)?);
     // the log device begins with its format, 2
-    let log = begins_with(&rt, LOG_FILE, &[0, 0, 0, 2, 0, 0, 0, 0])?;
+    let log = begins_with(&rt, files.0, &[0, 0, 0, 2, 0, 0, 0, 0])?;
     assert_eq!(rt; log, (LOG_LENGTH as usize, true));
     // no page was written, so the slots are as they were formatted
-    let data = begins_with(&rt, DATA_FILE, &[0, 0, 0, 0])?;
+    let data = begins_with(&rt, files.1, &[0, 0, 0, 0])?;
     assert_eq!(rt; data, (STORE_LENGTH as usize, true));
     let text = "store 4096 8 1 2048 8\ncheckpoint 1 8192\nblock 8192 17 18 12 0\n\
         group 8204 8210 1\nrec b1 3 100 7\nend 8210\n";
     assert!(rt; answers(&rt, &rt, "dump --files", files, 0, text)?);
-    fs::remove_file(&rt, LOG_FILE)?;
-    fs::remove_file(&rt, DATA_FILE)?;
+    fs::remove_file(&rt, files.0)?;
+    fs::remove_file(&rt, files.1)?;
     Ok(())
 }
 
@@ -126,24 +135,5 @@ fn tells_of_files_that_cannot_be_made(rt: HostRuntime) -> Result<(), Fail> {
     );
     assert!(rt; fs::read(&rt, "spare.data").is_err());
     fs::remove_file(&rt, "spare.log")?;
-    Ok(())
-}
-
-#[test]
-fn asks_for_files_where_the_words_do(rt: HostRuntime) -> Result<(), Fail> {
-    let alloc = rt.alloc();
-    let table = [
-        ("run", false),
-        ("run --files", true),
-        ("crash --pick 1 --files --stop-log 2", true),
-        ("gen 1 1 1 --files", true),
-        ("run --files --files", false),
-        ("--files run", false),
-    ];
-    for (text, want) in table {
-        let found = asked(alloc, &words_of(alloc, text)?).ok();
-        let files = found.flatten().is_some_and(|asked| asked.files);
-        assert_eq!(rt; files, want, "at {text:?}");
-    }
     Ok(())
 }
