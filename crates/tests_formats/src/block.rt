@@ -1,11 +1,12 @@
 // Blocks worked out by hand.
 ghost use Rattle.std.specs.Prelude.{◌<◌, ◌^◌};
 
-use crate::table::{bytes, number, number32, optional};
+use crate::table::{damaged, narrow, number32, optional, see, see_at};
 use model_log::Fit;
 use redo_block::{BlockView, are_firsts, fill, frame, frame_into, read, unframe, why};
-use redo_crc::sector::{put, seal};
+use redo_crc::sector::seal;
 use std::alloc::Global;
+use std::process::Abort;
 use std::str::SplitWhitespace;
 
 fn view(length: u32, first: u32, ckpt: u32) -> Option<BlockView> {
@@ -62,30 +63,20 @@ const DAMAGED: &str = "\
 ";
 
 // What the next words say that is read.
-fn wanted(words: &mut SplitWhitespace<'_>) -> Option<Option<BlockView>> {
-    match optional(words)? {
-        Some(length) => Some(view(
-            u32::try_from(length).ok()?,
-            number32(words)?,
-            number32(words)?,
-        )),
-        None => Some(None),
+fn wanted(rt: &impl Abort, words: &mut SplitWhitespace<'_>) -> Option<BlockView> {
+    match optional(rt, words) {
+        Some(length) => view(narrow(rt, length), number32(rt, words), number32(rt, words)),
+        None => None,
     }
 }
 
 // Once the bytes are written nothing is read; once the checksum fits again, what is said.
-fn is_damaged(alloc: Global, block: &[u8; 512], row: &str) -> Option<bool> {
+fn is_damaged(rt: &(impl Abort + AllocGlobal), block: &[u8; 512], row: &str) -> bool {
     let mut words = row.split_whitespace();
-    let at = number(&mut words)? as usize;
-    let bytes = bytes(alloc, &mut words)?;
-    if at > 508 || bytes.len() > 508 - at {
-        return None;
-    }
-    let mut damaged = *block;
-    put(&mut damaged, at, &bytes);
+    let mut damaged = damaged(rt, block, &mut words);
     let was_read = read(&damaged, 8192);
     seal(&mut damaged, 508);
-    Some(was_read.is_none() && read(&damaged, 8192) == wanted(&mut words)?)
+    was_read.is_none() && read(&damaged, 8192) == wanted(rt, &mut words)
 }
 
 #[test]
@@ -93,12 +84,12 @@ fn damaged_blocks(rt: HostRuntime) {
     let mut block = [0; 512];
     fill(&mut block, 8192, b"\x81\x01\x03\0\x64\x07", 12, 1);
     for row in DAMAGED.lines() {
-        assert!(rt; is_damaged(rt.alloc(), &block, row) == Some(true), "{row}");
+        see(&rt, is_damaged(&rt, &block, row), row);
     }
     for at in 508..512 {
         let mut damaged = block;
         damaged[at] ^= 1;
-        assert!(rt; read(&damaged, 8192).is_none(), "a checksum's byte at {at}");
+        see_at(&rt, read(&damaged, 8192).is_none(), at);
     }
 }
 

@@ -5,38 +5,51 @@
 use crate::table::{bytes, number, number32};
 use model_log::{Group, Rec};
 use redo_lsn::Bytes;
-use std::alloc::Global;
+use std::process::Abort;
+use std::str::SplitWhitespace;
+
+fn num(rt: &impl Abort, words: &mut SplitWhitespace<'_>) -> Rec {
+    Rec::Num {
+        width: number32(rt, words),
+        space: number32(rt, words),
+        page: number32(rt, words),
+        offset: number32(rt, words),
+        value: number(rt, words),
+    }
+}
+
+fn text(rt: &(impl Abort + AllocGlobal), words: &mut SplitWhitespace<'_>) -> Rec {
+    Rec::Text {
+        space: number32(rt, words),
+        page: number32(rt, words),
+        offset: number32(rt, words),
+        bytes: Bytes::new(bytes(rt, words)),
+    }
+}
+
+fn init(rt: &impl Abort, words: &mut SplitWhitespace<'_>) -> Rec {
+    Rec::Init {
+        space: number32(rt, words),
+        page: number32(rt, words),
+    }
+}
 
 /// The record that a text names.
-pub fn record(alloc: Global, text: &str) -> Option<Rec> {
-    let mut words = text.split_whitespace();
-    match words.next()? {
-        "num" => Some(Rec::Num {
-            width: number32(&mut words)?,
-            space: number32(&mut words)?,
-            page: number32(&mut words)?,
-            offset: number32(&mut words)?,
-            value: number(&mut words)?,
-        }),
-        "text" => Some(Rec::Text {
-            space: number32(&mut words)?,
-            page: number32(&mut words)?,
-            offset: number32(&mut words)?,
-            bytes: Bytes::new(bytes(alloc, &mut words)?),
-        }),
-        "init" => Some(Rec::Init {
-            space: number32(&mut words)?,
-            page: number32(&mut words)?,
-        }),
-        _ => None,
+fn record(rt: &(impl Abort + AllocGlobal), row: &str) -> Rec {
+    let mut words = row.split_whitespace();
+    match words.next() {
+        Some("num") => num(rt, &mut words),
+        Some("text") => text(rt, &mut words),
+        Some("init") => init(rt, &mut words),
+        _ => panic!(rt; "no record"),
     }
 }
 
 /// The group of the records that a text names.
-pub fn group(alloc: Global, text: &str) -> Option<Group> {
-    let mut recs = Vec::new(alloc);
-    for part in text.split("+") {
-        recs.push(record(alloc, part)?).ok()?;
+pub fn group(rt: &(impl Abort + AllocGlobal), row: &str) -> Group {
+    let mut recs = Vec::new(rt.alloc());
+    for part in row.split("+") {
+        recs.push(record(rt, part)).expect(rt, "no memory");
     }
-    Some(Group(recs))
+    Group(recs)
 }

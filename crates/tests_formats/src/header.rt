@@ -1,11 +1,11 @@
 // Header blocks worked out by hand, and their fields damaged one by one.
-use crate::table::{bytes, format, number, number32, optional, shape};
+use crate::table::{damaged, format, number, number32, optional, see, shape};
 use redo_crc::sector::{field_u64, put, seal};
 use redo_header::{
     Format, Head, fill_ckpt, fill_head, newer, place_of, read_ckpt, read_head, read_one_head,
 };
 use redo_lsn::{Shape, layout_of};
-use std::alloc::Global;
+use std::process::Abort;
 use std::str::SplitWhitespace;
 
 const SHAPE: Shape = Shape {
@@ -98,35 +98,23 @@ const DAMAGED_HEADS: &str = "\
 507  01                  good 1 4096 8 1 2048 8           the last zero
 ";
 
-// The block with the bytes of the next two words written in it.
-fn damaged(alloc: Global, block: &[u8; 512], words: &mut SplitWhitespace<'_>) -> Option<[u8; 512]> {
-    let at = number(words)? as usize;
-    let bytes = bytes(alloc, words)?;
-    if at > 508 || bytes.len() > 508 - at {
-        return None;
-    }
-    let mut damaged = *block;
-    put(&mut damaged, at, &bytes);
-    Some(damaged)
-}
-
 // What the next words say of a header.
-fn head(words: &mut SplitWhitespace<'_>) -> Option<Head> {
-    match words.next()? {
-        "format" => Some(Head::OtherFormat(number32(words)?)),
-        "good" => Some(Head::Good(format(words)?, shape(words)?)),
-        "unformatted" => Some(Head::Unformatted),
-        _ => None,
+fn head(rt: &impl Abort, words: &mut SplitWhitespace<'_>) -> Head {
+    match words.next() {
+        Some("format") => Head::OtherFormat(number32(rt, words)),
+        Some("good") => Head::Good(format(rt, words), shape(rt, words)),
+        Some("unformatted") => Head::Unformatted,
+        _ => panic!(rt; "no header"),
     }
 }
 
 // With the old checksum the header is unformatted; with one that fits it is what is said.
-fn is_damaged_head(alloc: Global, block: &[u8; 512], row: &str) -> Option<bool> {
+fn is_damaged_head(rt: &(impl Abort + AllocGlobal), block: &[u8; 512], row: &str) -> bool {
     let mut words = row.split_whitespace();
-    let mut damaged = damaged(alloc, block, &mut words)?;
+    let mut damaged = damaged(rt, block, &mut words);
     let was_read = read_one_head(&damaged);
     seal(&mut damaged, 508);
-    Some(was_read == Head::Unformatted && read_one_head(&damaged) == head(&mut words)?)
+    was_read == Head::Unformatted && read_one_head(&damaged) == head(rt, &mut words)
 }
 
 #[test]
@@ -134,10 +122,7 @@ fn damaged_heads(rt: HostRuntime) {
     let mut block = [0; 512];
     fill_head(&mut block, Format::One, &SHAPE);
     for row in DAMAGED_HEADS.lines() {
-        assert!(rt;
-            is_damaged_head(rt.alloc(), &block, row) == Some(true),
-            "{row}"
-        );
+        see(&rt, is_damaged_head(&rt, &block, row), row);
     }
     // A wrong checksum, and zeros.
     block[511] ^= 1;
@@ -145,29 +130,51 @@ fn damaged_heads(rt: HostRuntime) {
     assert!(rt; read_one_head(&[0; 512]) == Head::Unformatted);
 }
 
+fn filled(format: Format) -> [u8; 512] {
+    let mut head = [0; 512];
+    fill_head(&mut head, format, &SHAPE);
+    head
+}
+
+// Of a format that isn't known.
+fn with_other_format() -> [u8; 512] {
+    let mut head = filled(Format::One);
+    put(&mut head, 0, b"\0\0\0\x03");
+    seal(&mut head, 508);
+    head
+}
+
+fn with_other_start() -> [u8; 512] {
+    let mut head = filled(Format::Two);
+    put(&mut head, 8, b"\x01");
+    seal(&mut head, 508);
+    head
+}
+
+// Sees that this is read of two header blocks.
+fn see_head(rt: &impl Abort, first: &[u8; 512], second: &[u8; 512], want: Head) {
+    assert!(rt; read_head(first, second) == want);
+}
+
 // The second header block counts where the first one's checksum fails, and only there.
 #[test]
 fn heads_in_two_blocks(rt: HostRuntime) {
     let broken = [0xFF; 512];
-    let (mut first, mut second) = ([0; 512], [0; 512]);
     for format in [Format::One, Format::Two] {
-        fill_head(&mut second, format, &SHAPE);
-        assert!(rt; read_head(&broken, &second) == Head::Good(format, SHAPE));
-        assert!(rt; read_head(&second, &broken) == Head::Good(format, SHAPE));
-        fill_head(&mut first, Format::One, &SHAPE);
-        assert!(rt; read_head(&first, &second) == Head::Good(Format::One, SHAPE));
-        // Of a format that isn't known.
-        put(&mut first, 0, b"\0\0\0\x03");
-        seal(&mut first, 508);
-        assert!(rt; read_head(&first, &second) == Head::OtherFormat(3));
-        assert!(rt; read_head(&broken, &first) == Head::OtherFormat(3));
-        // With another start.
-        fill_head(&mut first, Format::Two, &SHAPE);
-        put(&mut first, 8, b"\x01");
-        seal(&mut first, 508);
-        assert!(rt; read_head(&first, &second) == Head::Unformatted);
+        let second = filled(format);
+        see_head(&rt, &broken, &second, Head::Good(format, SHAPE));
+        see_head(&rt, &second, &broken, Head::Good(format, SHAPE));
+        see_head(
+            &rt,
+            &filled(Format::One),
+            &second,
+            Head::Good(Format::One, SHAPE),
+        );
+        see_head(&rt, &with_other_format(), &second, Head::OtherFormat(3));
+        see_head(&rt, &broken, &with_other_format(), Head::OtherFormat(3));
+        see_head(&rt, &with_other_start(), &second, Head::Unformatted);
     }
-    assert!(rt; read_head(&broken, &broken) == Head::Unformatted);
+    see_head(&rt, &broken, &broken, Head::Unformatted);
 }
 
 // Checkpoint 4 at lsn 8704 in format 1, read in one of the two blocks: the offset at which other bytes are written, those, the
@@ -197,22 +204,22 @@ const DAMAGED_CHECKPOINTS: &str = "\
 ";
 
 // What the next words say of a checkpoint.
-fn checkpoint(words: &mut SplitWhitespace<'_>) -> Option<Option<(u64, u64)>> {
-    match optional(words)? {
-        Some(ckpt) => Some(Some((ckpt, number(words)?))),
-        None => Some(None),
+fn checkpoint(rt: &impl Abort, words: &mut SplitWhitespace<'_>) -> Option<(u64, u64)> {
+    match optional(rt, words) {
+        Some(ckpt) => Some((ckpt, number(rt, words))),
+        None => None,
     }
 }
 
 // With the old checksum there is no checkpoint; with one that fits it is what is said.
-fn is_damaged_checkpoint(alloc: Global, block: &[u8; 512], row: &str) -> Option<bool> {
+fn is_damaged_checkpoint(rt: &(impl Abort + AllocGlobal), block: &[u8; 512], row: &str) -> bool {
     let mut words = row.split_whitespace();
-    let mut damaged = damaged(alloc, block, &mut words)?;
-    let which = number32(&mut words)?;
+    let mut damaged = damaged(rt, block, &mut words);
+    let which = number32(rt, &mut words);
     let layout = layout_of(Format::One, &SHAPE);
     let was_read = read_ckpt(&damaged, which, &layout);
     seal(&mut damaged, 508);
-    Some(was_read.is_none() && read_ckpt(&damaged, which, &layout) == checkpoint(&mut words)?)
+    was_read.is_none() && read_ckpt(&damaged, which, &layout) == checkpoint(rt, &mut words)
 }
 
 #[test]
@@ -221,10 +228,7 @@ fn damaged_checkpoints(rt: HostRuntime) {
     let mut block = [0; 512];
     fill_ckpt(&mut block, 4, 8704, &layout);
     for row in DAMAGED_CHECKPOINTS.lines() {
-        assert!(rt;
-            is_damaged_checkpoint(rt.alloc(), &block, row) == Some(true),
-            "{row}"
-        );
+        see(&rt, is_damaged_checkpoint(&rt, &block, row), row);
     }
     assert!(rt; read_ckpt(&block, 1, &layout) == Some((4, 8704)));
     // A wrong checksum.

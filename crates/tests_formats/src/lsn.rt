@@ -1,11 +1,11 @@
 // Places worked out by hand, and what is said where memory runs out.
-use crate::table::{format, number, number32, yes};
+use crate::table::{format, number, number32, see, yes};
 use redo_lsn::{
     Format, Limits, NoMemory, Shape, block_of, is_data_lsn, layout_of, log_device_length, lsn_of,
     number_of, offset_of, round_of, sn_of, start_after,
 };
 use std::alloc::AllocError;
-use std::test::Fail;
+use std::process::Abort;
 
 // For each lsn: its block, that block's number, whether it is a byte's place, where a run after it starts, and its sn.
 // The numbers go round at 2^39, 549,755,813,888.
@@ -34,26 +34,27 @@ const PLACES: &str = "\
 549755814412  549755814400  2           yes  549755814412  532575945200
 ";
 
-fn is_placed(row: &str) -> Option<bool> {
+fn is_placed(rt: &impl Abort, row: &str) -> bool {
     let mut words = row.split_whitespace();
-    let lsn = number(&mut words)?;
-    if lsn >= 1 << 60 {
-        return None;
-    }
-    let is_in_block = block_of(lsn) == number(&mut words)?
-        && number_of(lsn) == number32(&mut words)?
-        && is_data_lsn(lsn) == yes(&mut words)?
-        && start_after(lsn) == number(&mut words)?;
-    let sn = number(&mut words)?;
-    let is_counted = sn_of(lsn) == sn && (!is_data_lsn(lsn) || sn < 1 << 60 && lsn_of(sn) == lsn);
-    Some(is_in_block && is_counted)
+    let lsn = number(rt, &mut words);
+    assert!(rt; lsn < 1 << 60);
+    let is_in_block = block_of(lsn) == number(rt, &mut words)
+        && number_of(lsn) == number32(rt, &mut words)
+        && is_data_lsn(lsn) == yes(rt, &mut words)
+        && start_after(lsn) == number(rt, &mut words);
+    is_in_block && is_counted(lsn, number(rt, &mut words))
+}
+
+// The sn of an lsn is this one, and leads back to it where it is a byte's place.
+fn is_counted(lsn: u64, sn: u64) -> bool {
+    lsn < 1 << 60 && sn_of(lsn) == sn && (!is_data_lsn(lsn) || sn < 1 << 60 && lsn_of(sn) == lsn)
 }
 
 #[test]
 fn places(rt: HostRuntime) {
     assert!(rt; Shape::default_shape().is_within_limits());
     for row in PLACES.lines() {
-        assert!(rt; is_placed(row) == Some(true), "{row}");
+        see(&rt, is_placed(&rt, row), row);
     }
 }
 
@@ -87,24 +88,22 @@ const OFFSETS: &str = "\
 2  1048576  536878080     3072
 ";
 
-fn is_at_its_offset(row: &str) -> Option<bool> {
+fn is_at_its_offset(rt: &impl Abort, row: &str) -> bool {
     let mut words = row.split_whitespace();
-    let format = format(&mut words)?;
+    let format = format(rt, &mut words);
     let shape = Shape {
-        log_blocks: number32(&mut words)?,
+        log_blocks: number32(rt, &mut words),
         ..Shape::default_shape()
     };
-    let lsn = number(&mut words)?;
-    if !shape.is_within_limits() || lsn < 8192 || lsn >= 1 << 60 {
-        return None;
-    }
-    Some(offset_of(lsn, &layout_of(format, &shape)) == number(&mut words)?)
+    let lsn = number(rt, &mut words);
+    assert!(rt; shape.is_within_limits() && 8192 <= lsn && lsn < 1 << 60);
+    offset_of(lsn, &layout_of(format, &shape)) == number(rt, &mut words)
 }
 
 #[test]
 fn offsets(rt: HostRuntime) {
     for row in OFFSETS.lines() {
-        assert!(rt; is_at_its_offset(row) == Some(true), "{row}");
+        see(&rt, is_at_its_offset(&rt, row), row);
     }
 }
 
@@ -117,8 +116,7 @@ fn a_log_device_has_room_for_four_blocks_and_the_log(rt: HostRuntime) {
 }
 
 #[test]
-fn no_memory_says_what_it_is(rt: HostRuntime) -> Result<(), Fail> {
-    let text = format!(in rt.alloc(); "{}", NoMemory::from(AllocError))?;
+fn no_memory_says_what_it_is(rt: HostRuntime) {
+    let text = format!(in rt.alloc(); "{}", NoMemory::from(AllocError)).expect(&rt, "no memory");
     assert!(rt; text.as_str() == "out of memory");
-    Ok(())
 }

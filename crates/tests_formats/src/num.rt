@@ -1,7 +1,7 @@
 // The spelling table, row by row and at each of its borders.
-use crate::table::{bytes, number};
+use crate::table::{add, bytes, narrow, number, see, split};
 use redo_num::{Got, get32, get64, put32, put64};
-use std::alloc::Global;
+use std::process::Abort;
 
 // The bits of a number, the number, and its spelling.
 const SPELLED: &str = "\
@@ -25,27 +25,36 @@ const SPELLED: &str = "\
 ";
 
 // The number is written as the bytes, and read off them.
-fn is_spelled(alloc: Global, row: &str) -> Option<bool> {
-    let mut words = row.split_whitespace();
-    let bits = number(&mut words)?;
-    let n = number(&mut words)?;
-    let text = bytes(alloc, &mut words)?;
+fn is_spelled_64(n: u64, text: &[u8]) -> bool {
     let mut out = [0; 16];
-    let (length, is_read) = if bits == 64 {
-        let length = put64(&mut out, 2, n);
-        (length, get64(&text) == Got::Value(n, length))
+    let length = put64(&mut out, 2, n);
+    length == text.len() && out[2..].starts_with(text) && get64(text) == Got::Value(n, length)
+}
+
+// The same of a number of 32 bits.
+fn is_spelled_32(n: u32, text: &[u8]) -> bool {
+    let mut out = [0; 16];
+    let length = put32(&mut out, 2, n);
+    length == text.len() && out[2..].starts_with(text) && get32(text) == Got::Value(n, length)
+}
+
+// The same of a row.
+fn is_spelled(rt: &(impl Abort + AllocGlobal), row: &str) -> bool {
+    let mut words = row.split_whitespace();
+    let bits = number(rt, &mut words);
+    let n = number(rt, &mut words);
+    let text = bytes(rt, &mut words);
+    if bits == 64 {
+        is_spelled_64(n, &text)
     } else {
-        let n = u32::try_from(n).ok()?;
-        let length = put32(&mut out, 2, n);
-        (length, get32(&text) == Got::Value(n, length))
-    };
-    Some(length == text.len() && out[2..].starts_with(&text) && is_read)
+        is_spelled_32(narrow(rt, n), &text)
+    }
 }
 
 #[test]
 fn spellings(rt: HostRuntime) {
     for row in SPELLED.lines() {
-        assert!(rt; is_spelled(rt.alloc(), row) == Some(true), "{row}");
+        see(&rt, is_spelled(&rt, row), row);
     }
 }
 
@@ -85,20 +94,26 @@ bad    FFFFFFFFFF
 ";
 
 // The bytes are short or bad, and what is bad stays so with more after it.
-fn is_no_spelling(alloc: Global, row: &str) -> Option<bool> {
-    let (want, digits) = row.split_once(" ")?;
-    let mut text = bytes(alloc, &mut digits.split_whitespace())?;
+fn is_no_spelling(rt: &(impl Abort + AllocGlobal), row: &str) -> bool {
+    let (want, digits) = split(rt, row, ' ');
+    let text = bytes(rt, &mut digits.split_whitespace());
     if want == "short" {
-        return Some(get32(&text) == Got::Short && get64(&text) == Got::Short);
+        get32(&text) == Got::Short && get64(&text) == Got::Short
+    } else {
+        is_bad(rt, text)
     }
+}
+
+fn is_bad(rt: &impl Abort, text: Vec<u8>) -> bool {
     let is_bad = get32(&text) == Got::Bad && get64(&text) != Got::Short;
-    text.extend_from_slice(b"\0\0\0\0").ok()?;
-    Some(is_bad && get32(&text) == Got::Bad && get64(&text) == Got::Bad)
+    let mut text = text;
+    add(rt, &mut text, b"\0\0\0\0");
+    is_bad && get32(&text) == Got::Bad && get64(&text) == Got::Bad
 }
 
 #[test]
 fn no_spelling(rt: HostRuntime) {
     for row in FRONTS.lines() {
-        assert!(rt; is_no_spelling(rt.alloc(), row) == Some(true), "{row}");
+        see(&rt, is_no_spelling(&rt, row), row);
     }
 }

@@ -1,10 +1,10 @@
 // Pages and images of the data device made by hand. A stretch of page size is named by `blank`, which is nothing, by
 // `page` with a number and an lsn, which is a page of space 1, or by `torn` with the same, which is the first half of
 // one.
-use crate::table::{number, number32, optional};
+use crate::table::{narrow, number, number32, optional, see, see_at};
 use model_base::Shape;
 use redo_page::{PageState, best_copy, check, copy_lsn, kept_page, place_lsn, seal};
-use std::alloc::Global;
+use std::process::Abort;
 use std::str::SplitWhitespace;
 
 /// The user bytes of the pages here.
@@ -19,26 +19,26 @@ fn page_bytes(number: u32, lsn: u64) -> [u8; 4096] {
 }
 
 /// The stretch that the next words name.
-fn stretch(words: &mut SplitWhitespace<'_>) -> Option<[u8; 4096]> {
-    let kind = words.next()?;
+fn stretch(rt: &impl Abort, words: &mut SplitWhitespace<'_>) -> [u8; 4096] {
+    let kind = words.next().expect(rt, "no stretch");
     if kind == "blank" {
-        return Some([0; 4096]);
+        return [0; 4096];
     }
-    let mut page = page_bytes(number32(words)?, number(words)?);
+    let mut page = page_bytes(number32(rt, words), number(rt, words));
     if kind == "torn" {
         page[2048..].fill(0);
     }
-    Some(page)
+    page
 }
 
 /// A data device of 8 slots and 8 places, with nothing on it.
 const BLANK: [[u8; 4096]; 16] = [[0; 4096]; 16];
 
 /// Puts the stretch that the next words name, after its place, on a data device.
-fn put_stretch(image: &mut [[u8; 4096]; 16], words: &mut SplitWhitespace<'_>) -> Option<()> {
-    let place = number(words)? as usize;
-    *image.get_mut(place)? = stretch(words)?;
-    Some(())
+fn put_stretch(rt: &impl Abort, image: &mut [[u8; 4096]; 16], words: &mut SplitWhitespace<'_>) {
+    let place = number(rt, words) as usize;
+    assert!(rt; place < 16);
+    image[place] = stretch(rt, words);
 }
 
 #[test]
@@ -58,7 +58,7 @@ fn a_damaged_page_is_broken(rt: HostRuntime) {
     for at in [0, 7, 100, 4088, 4095] {
         let mut damaged = page;
         damaged[at] ^= 1;
-        assert!(rt; check(&damaged) == PageState::Broken, "at {at}");
+        see_at(&rt, check(&damaged) == PageState::Broken, at);
     }
 }
 
@@ -70,20 +70,18 @@ page 6 9600  -     -
 torn 5 9600  -     -
 ";
 
-fn counts(row: &str) -> Option<bool> {
+fn counts(rt: &impl Abort, row: &str) -> bool {
     let shape = Shape::default_shape();
     let mut words = row.split_whitespace();
-    let bytes = stretch(&mut words)?;
-    Some(
-        place_lsn(&bytes, &shape, 5) == optional(&mut words)?
-            && copy_lsn(&bytes, &shape, 5) == optional(&mut words)?,
-    )
+    let bytes = stretch(rt, &mut words);
+    place_lsn(&bytes, &shape, 5) == optional(rt, &mut words)
+        && copy_lsn(&bytes, &shape, 5) == optional(rt, &mut words)
 }
 
 #[test]
 fn a_copy_is_sound(rt: HostRuntime) {
     for row in SOUND.lines() {
-        assert!(rt; counts(row) == Some(true), "{row}");
+        see(&rt, counts(&rt, row), row);
     }
 }
 
@@ -97,34 +95,43 @@ const COPIES: &str = "\
 ";
 
 // The copy that the next words name.
-fn copy(words: &mut SplitWhitespace<'_>) -> Option<Option<(u32, u64)>> {
-    match optional(words)? {
-        Some(slot) => Some(Some((u32::try_from(slot).ok()?, number(words)?))),
-        None => Some(None),
+fn copy(rt: &impl Abort, words: &mut SplitWhitespace<'_>) -> Option<(u32, u64)> {
+    match optional(rt, words) {
+        Some(slot) => Some((narrow(rt, slot), number(rt, words))),
+        None => None,
     }
 }
 
-fn copy_counts(alloc: Global, row: &str) -> Option<bool> {
+// The image of a data device has this copy of page 5, which is kept.
+fn has_copy(
+    rt: &(impl Abort + AllocGlobal),
+    image: &[[u8; 4096]; 16],
+    want: Option<(u32, u64)>,
+) -> bool {
     let shape = Shape::default_shape();
-    let mut image = BLANK;
-    put_stretch(&mut image, &mut "13 torn 5 9500".split_whitespace())?;
-    let mut words = row.split_whitespace();
-    put_stretch(&mut image, &mut words)?;
-    put_stretch(&mut image, &mut words)?;
-    let want = copy(&mut words)?;
     let image = image.as_flattened();
-    let best = best_copy(image, &shape, 5);
-    match (kept_page(alloc, image, &shape, 5).ok()?, want) {
-        (Some(kept), Some((_, lsn))) => Some(best == want && kept.lsn == lsn),
-        (None, None) => Some(best.is_none()),
-        _ => Some(false),
-    }
+    let kept = kept_page(rt.alloc(), image, &shape, 5).expect(rt, "no memory");
+    let is_kept = match (kept, want) {
+        (Some(kept), Some((_, lsn))) => kept.lsn == lsn,
+        (None, None) => true,
+        _ => false,
+    };
+    is_kept && best_copy(image, &shape, 5) == want
+}
+
+fn copy_counts(rt: &(impl Abort + AllocGlobal), row: &str) -> bool {
+    let mut image = BLANK;
+    put_stretch(rt, &mut image, &mut "13 torn 5 9500".split_whitespace());
+    let mut words = row.split_whitespace();
+    put_stretch(rt, &mut image, &mut words);
+    put_stretch(rt, &mut image, &mut words);
+    has_copy(rt, &image, copy(rt, &mut words))
 }
 
 #[test]
 fn the_best_copy_counts(rt: HostRuntime) {
     for row in COPIES.lines() {
-        assert!(rt; copy_counts(rt.alloc(), row) == Some(true), "{row}");
+        see(&rt, copy_counts(&rt, row), row);
     }
 }
 
@@ -136,21 +143,27 @@ const PLACES: &str = "\
 13 torn 5 9600  9000
 ";
 
-fn is_kept(alloc: Global, row: &str) -> Option<bool> {
+fn is_kept(rt: &(impl Abort + AllocGlobal), row: &str) -> bool {
     let mut image = BLANK;
-    put_stretch(&mut image, &mut "1 page 5 9000".split_whitespace())?;
+    put_stretch(rt, &mut image, &mut "1 page 5 9000".split_whitespace());
     let mut words = row.split_whitespace();
-    put_stretch(&mut image, &mut words)?;
-    let want = number(&mut words)?;
-    let kept = kept_page(alloc, image.as_flattened(), &Shape::default_shape(), 5).ok()??;
-    let user = kept.user.as_slice();
-    Some(kept.lsn == want && user == [user_byte(want); 4050].as_slice())
+    put_stretch(rt, &mut image, &mut words);
+    has_page(rt, &image, number(rt, &mut words))
+}
+
+// What is kept of page 5 of the image of a data device is the page with this lsn.
+fn has_page(rt: &(impl Abort + AllocGlobal), image: &[[u8; 4096]; 16], lsn: u64) -> bool {
+    let kept = kept_page(rt.alloc(), image.as_flattened(), &Shape::default_shape(), 5);
+    match kept.expect(rt, "no memory") {
+        Some(kept) => kept.lsn == lsn && kept.user.as_slice() == [user_byte(lsn); 4050].as_slice(),
+        None => false,
+    }
 }
 
 #[test]
 fn a_place_that_passes_is_kept(rt: HostRuntime) {
     for row in PLACES.lines() {
-        assert!(rt; is_kept(rt.alloc(), row) == Some(true), "{row}");
+        see(&rt, is_kept(&rt, row), row);
     }
 }
 

@@ -1,12 +1,13 @@
 // The texts of groups worked out by hand, and which groups have one and fit a store.
 use crate::groups::group;
-use crate::table::{joined, yes};
+use crate::table::{add, joined, see, split, yes};
 use model_base::MAX_GROUP;
 use model_log::Group;
 use redo_lsn::Shape;
 use redo_num::Got;
 use redo_record::{Fits, Length, decode, encode, has_text, span};
 use std::alloc::Global;
+use std::process::Abort;
 
 // A group, and its text.
 const TEXTS: &str = "\
@@ -63,21 +64,21 @@ fn has_short_fronts(alloc: Global, text: &[u8]) -> Option<bool> {
 }
 
 // The group is written as the text, and read off it, also with two more bytes after it, with which no group goes on.
-fn has_its_text(alloc: Global, row: &str) -> Option<bool> {
-    let (group_text, digits) = row.split_once("=")?;
-    let mut text = joined(alloc, digits)?;
+fn has_its_text(rt: &(impl Abort + AllocGlobal), row: &str) -> bool {
+    let (group_text, digits) = split(rt, row, '=');
+    let mut text = joined(rt, digits);
     let length = text.len();
-    let is_whole = is_written(alloc, &group(alloc, group_text)?, &text)?
-        && is_read(alloc, &text, &text)?
-        && has_short_fronts(alloc, &text)?;
-    text.extend_from_slice(&[31, 0]).ok()?;
-    Some(is_whole && is_read(alloc, &text, front(&text, length))?)
+    let is_whole = is_written(rt.alloc(), &group(rt, group_text), &text) == Some(true)
+        && is_read(rt.alloc(), &text, &text) == Some(true)
+        && has_short_fronts(rt.alloc(), &text) == Some(true);
+    add(rt, &mut text, &[31, 0]);
+    is_whole && is_read(rt.alloc(), &text, front(&text, length)) == Some(true)
 }
 
 #[test]
 fn worked_texts(rt: HostRuntime) {
     for row in TEXTS.lines() {
-        assert!(rt; has_its_text(rt.alloc(), row) == Some(true), "{row}");
+        see(&rt, has_its_text(&rt, row), row);
     }
 }
 
@@ -101,16 +102,16 @@ short  9E0103002600
 bad    9E010300260000
 ";
 
-fn is_short_or_bad(alloc: Global, row: &str) -> Option<bool> {
-    let (want, digits) = row.split_once(" ")?;
-    let text = joined(alloc, digits)?;
-    Some(taken(alloc, &text)? == if want == "bad" { Got::Bad } else { Got::Short })
+fn is_short_or_bad(rt: &(impl Abort + AllocGlobal), row: &str) -> bool {
+    let (want, digits) = split(rt, row, ' ');
+    let want = if want == "bad" { Got::Bad } else { Got::Short };
+    taken(rt.alloc(), &joined(rt, digits)) == Some(want)
 }
 
 #[test]
 fn short_and_bad_bytes(rt: HostRuntime) {
     for row in FRONTS.lines() {
-        assert!(rt; is_short_or_bad(rt.alloc(), row) == Some(true), "{row}");
+        see(&rt, is_short_or_bad(&rt, row), row);
     }
 }
 
@@ -142,16 +143,16 @@ init 1 7                           =  yes
 init 2 7                           =  no
 ";
 
-fn fits_or_not(alloc: Global, row: &str) -> Option<bool> {
-    let (text, want) = row.split_once("=")?;
-    let fits = group(alloc, text)?.fits(&Shape::default_shape());
-    Some(fits == yes(&mut want.split_whitespace())?)
+fn fits_or_not(rt: &(impl Abort + AllocGlobal), row: &str) -> bool {
+    let (text, want) = split(rt, row, '=');
+    let fits = group(rt, text).fits(&Shape::default_shape());
+    fits == yes(rt, &mut want.split_whitespace())
 }
 
 #[test]
 fn what_fits(rt: HostRuntime) {
     for row in FITTING.lines() {
-        assert!(rt; fits_or_not(rt.alloc(), row) == Some(true), "{row}");
+        see(&rt, fits_or_not(&rt, row), row);
     }
 }
 
@@ -164,14 +165,10 @@ text 1 3 38 -
 text 1 3 38 07*65536
 ";
 
-fn has_no_text(alloc: Global, row: &str) -> Option<bool> {
-    Some(!has_text(&group(alloc, row)?))
-}
-
 #[test]
 fn groups_without_text(rt: HostRuntime) {
     assert!(rt; !has_text(&Group(Vec::new(rt.alloc()))));
     for row in WITHOUT.lines() {
-        assert!(rt; has_no_text(rt.alloc(), row) == Some(true), "{row}");
+        see(&rt, !has_text(&group(&rt, row)), row);
     }
 }
