@@ -1,5 +1,5 @@
-// An archive of two pieces and a bit, whose groups run from one piece into the next: what is restored for each lsn at
-// which a group ends, and for the one before it; and which cause is told where there are several.
+// An archive whose blocks `restore` reads in three pieces, with groups that run from one piece into the next: what is
+// restored for each lsn at which a group ends, and for the one before it; and which cause is told where there are several.
 ghost use Rattle.std.specs.Prelude.{IfOk};
 ghost use Rattle.model_base.specs.{default_shape};
 ghost use Rattle.redo_apply.specs.{ArePagesOf};
