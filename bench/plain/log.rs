@@ -1,6 +1,6 @@
 //! The log device as the proved program writes it, over a device in memory: log blocks cut from the data of the groups,
 //! each with its number, length, first offset, checkpoint number and checksum, in one write from mark to mark, and a
-//! sync after each.
+//! sync after each. Each mark is the end of a full block, so none goes to a tail block.
 
 use crate::checksum::crc32c;
 
@@ -12,11 +12,15 @@ pub const MARKS: usize = 4096;
 pub const BLOCK_SIZE: usize = 512;
 pub const BLOCK_HEADER: usize = 12;
 pub const BLOCK_DATA: usize = 496;
-pub const HEADER_BYTES: usize = 2048;
+/// The first of the two tail blocks, and where the ring of the other log blocks begins.
+pub const TAIL_BLOCK: usize = 4;
+pub const RING_START: usize = (TAIL_BLOCK + TAIL_BLOCKS) * BLOCK_SIZE;
+/// How many blocks of the log are tail blocks.
+pub const TAIL_BLOCKS: usize = 2;
 pub const START_LSN: u64 = 8192;
-const LOG_BYTES: usize = 131_073 * BLOCK_SIZE;
+const RING_BYTES: usize = 131_073 * BLOCK_SIZE;
 /// Bytes of the device on which the marks are written.
-pub const LENGTH: usize = HEADER_BYTES + LOG_BYTES;
+pub const LENGTH: usize = RING_START + RING_BYTES;
 
 struct Write {
     at: usize,
@@ -66,17 +70,17 @@ pub fn write_all(device: &mut Device, noise: &[u8]) {
         for (j, (block, bytes)) in blocks.zip(data.chunks(BLOCK_DATA)).enumerate() {
             fill(block, from + (BLOCK_SIZE * j) as u64, bytes, 12, 1);
         }
-        let place = (from - START_LSN) as usize % LOG_BYTES;
-        let (front, back) = buffer[..MARK].split_at(MARK.min(LOG_BYTES - place));
-        device.write(HEADER_BYTES + place, front);
+        let place = (from - START_LSN) as usize % RING_BYTES;
+        let (front, back) = buffer[..MARK].split_at(MARK.min(RING_BYTES - place));
+        device.write(RING_START + place, front);
         if !back.is_empty() {
-            device.write(HEADER_BYTES, back);
+            device.write(RING_START, back);
         }
         device.sync();
     }
 }
 
-/// A log block at this lsn.
+/// A log block at this lsn. A full one has the number of a checkpoint in its header, and one that isn't a part of its lsn.
 pub fn fill(block: &mut [u8], lsn: u64, bytes: &[u8], first: u16, ckpt: u32) {
     let number = 1 + (lsn / BLOCK_SIZE as u64 & 0x3FFF_FFFF) as u32;
     let length = if bytes.len() == BLOCK_DATA {
@@ -87,7 +91,12 @@ pub fn fill(block: &mut [u8], lsn: u64, bytes: &[u8], first: u16, ckpt: u32) {
     block[..4].copy_from_slice(&number.to_be_bytes());
     block[4..6].copy_from_slice(&(length as u16).to_be_bytes());
     block[6..8].copy_from_slice(&first.to_be_bytes());
-    block[8..12].copy_from_slice(&ckpt.to_be_bytes());
+    let word = if length == BLOCK_SIZE {
+        ckpt
+    } else {
+        (lsn >> 39) as u32
+    };
+    block[8..12].copy_from_slice(&word.to_be_bytes());
     let end = BLOCK_HEADER + bytes.len();
     block[BLOCK_HEADER..end].copy_from_slice(bytes);
     block[end..].fill(0);

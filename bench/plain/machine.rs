@@ -15,7 +15,7 @@ mod writer;
 
 use crate::device::Failure;
 use crate::group::{changes, encode};
-use crate::log::{BLOCK_HEADER, BLOCK_SIZE, Device, HEADER_BYTES};
+use crate::log::{BLOCK_HEADER, BLOCK_SIZE, Device, RING_START};
 use crate::script::ScriptLine;
 use checkpointer::Checkpointer;
 use cleaner::Cleaner;
@@ -30,7 +30,7 @@ use writer::Writer;
 
 /// The sizes of a store that is formatted without an option, and where its first run starts.
 const PAGES: u32 = 8;
-const LOG_BLOCKS: u64 = 2_048;
+const RING_BLOCKS: u64 = 2_046;
 pub const START: u64 = 8_204;
 const USERS: u32 = 16;
 
@@ -71,13 +71,13 @@ impl Actor {
 #[derive(Clone, Copy)]
 pub struct Sizes {
     pub pages: u32,
-    pub log_blocks: u64,
+    pub ring_blocks: u64,
     pub log_only: bool,
 }
 
 pub const DEFAULT_SIZES: Sizes = Sizes {
     pages: PAGES,
-    log_blocks: LOG_BLOCKS,
+    ring_blocks: RING_BLOCKS,
     log_only: false,
 };
 
@@ -88,10 +88,10 @@ fn seat_actors(script: &[ScriptLine], sizes: Sizes) -> Vec<Actor> {
         let own = script.iter().filter(|line| line.user == number);
         let lines: Vec<Line> = own.map(|line| line_of(line, sizes.log_only)).collect();
         if !lines.is_empty() {
-            actors.push(Actor::User(User::new(number, lines, sizes.log_blocks)));
+            actors.push(Actor::User(User::new(number, lines, sizes.ring_blocks)));
         }
     }
-    actors.push(Actor::Writer(Writer::new(START, sizes.log_blocks)));
+    actors.push(Actor::Writer(Writer::new(START, sizes.ring_blocks)));
     actors.push(Actor::Flusher(Flusher::new(START)));
     if !sizes.log_only {
         actors.push(Actor::Closer(Closer::new()));
@@ -144,17 +144,17 @@ fn start_words(pages: u32) -> Vec<u64> {
     words
 }
 
-/// Bytes of the log device of so many blocks.
-pub fn log_length(log_blocks: u64) -> usize {
-    HEADER_BYTES + log_blocks as usize * BLOCK_SIZE
+/// Bytes of the log device with so many blocks in its ring.
+pub fn log_length(ring_blocks: u64) -> usize {
+    RING_START + ring_blocks as usize * BLOCK_SIZE
 }
 
 impl Parts {
     fn new(sizes: Sizes) -> Result<Parts, Failure> {
-        let log = Device::new(log_length(sizes.log_blocks));
+        let log = Device::new(log_length(sizes.ring_blocks));
         Ok(Parts {
             words: start_words(sizes.pages),
-            log: LogPart::new(log, sizes.log_blocks, START)?,
+            log: LogPart::new(log, sizes.ring_blocks, START)?,
             data: DataPart::new(Device::new(data_length(sizes.pages))),
             lists: Default::default(),
         })

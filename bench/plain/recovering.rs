@@ -1,14 +1,14 @@
 //! The times of recovery, and of the three things that most of it goes to, over the same bytes.
 
 use crate::checksum::crc32c;
-use crate::log::{BLOCK_DATA, BLOCK_HEADER, BLOCK_SIZE, HEADER_BYTES};
+use crate::log::{BLOCK_DATA, BLOCK_HEADER, BLOCK_SIZE, RING_START};
 use crate::recovery::{Device, Pages, Recovered, apply, blank, fits, recover};
 use crate::{decode_all, report};
 use std::hint::black_box;
 use std::time::Instant;
 
 pub fn time(log: Vec<u8>, data: Vec<u8>) {
-    let length = log.len() - HEADER_BYTES;
+    let length = log.len() - RING_START;
     let (log, data) = (Device(log), Device(data));
     let start = Instant::now();
     let recovered = black_box(recover(black_box(&log), black_box(&data)));
@@ -18,7 +18,7 @@ pub fn time(log: Vec<u8>, data: Vec<u8>) {
         return;
     };
     report("recover", length, took, &outcome(&recovered));
-    let blocks = &log.0[HEADER_BYTES..];
+    let blocks = &log.0[RING_START..];
     let start = Instant::now();
     let sum = black_box(checksums(black_box(blocks)));
     report("-checksum", length, start.elapsed(), &format!("{sum:x}"));
@@ -51,7 +51,7 @@ fn sum_of(pages: &Pages) -> u64 {
     pages.map(|(lsn, user)| lsn + u64::from(crc32c(user))).sum()
 }
 
-/// The sum of the checksums of the blocks.
+/// The sum of the checksums of the blocks of the ring.
 fn checksums(blocks: &[u8]) -> u64 {
     let blocks = blocks.chunks_exact(BLOCK_SIZE);
     blocks
@@ -59,7 +59,7 @@ fn checksums(blocks: &[u8]) -> u64 {
         .sum()
 }
 
-/// The data of the blocks; the unused bytes of the last one stand after the groups.
+/// The data of the blocks of the ring. Where the last one is a tail block, zeros stand after the groups.
 fn joined(blocks: &[u8]) -> Vec<u8> {
     let blocks = blocks.chunks_exact(BLOCK_SIZE);
     blocks

@@ -1,10 +1,13 @@
-//! Recovery as one would write it in Rust: the header, the newest checkpoint, the blocks from there on, the groups in
-//! them, and the pages, to each of which the groups are applied that start at or above its lsn. Both devices are in memory
-//! and are read as the proved program reads them, in pieces of 65,536 bytes.
+//! Recovery as one would write it in Rust: the header, the newest checkpoint, the blocks from there on with the newer tail block
+//! after them, the groups in them, and the pages, to each of which the groups are applied that start at or above its lsn. Both
+//! devices are in memory and are read as the proved program reads them, in pieces of 65,536 bytes.
 
 use crate::checksum::crc32c;
 use crate::decoder::{Got, Rec, decode};
-use crate::log::{BLOCK_DATA, BLOCK_HEADER, BLOCK_SIZE, HEADER_BYTES, START_LSN};
+use crate::log::{
+    BLOCK_DATA, BLOCK_HEADER, BLOCK_SIZE, RING_START, START_LSN, TAIL_BLOCK, TAIL_BLOCKS,
+};
+use crate::store::FORMAT;
 use std::ops::Range;
 
 const PIECE: usize = 65_536;
@@ -28,7 +31,7 @@ pub struct Shape {
     page_size: usize,
     pages: usize,
     space: u32,
-    log_blocks: usize,
+    ring_blocks: usize,
     slots: usize,
 }
 
@@ -61,12 +64,13 @@ pub struct Recovered {
 }
 
 pub fn recover(log: &Device, data: &Device) -> Option<Recovered> {
-    let header = log.read(0, HEADER_BYTES);
+    let header = log.read(0, RING_START);
     let shape = read_shape(&header)?;
     let first = read_checkpoint(&header[BLOCK_SIZE..2 * BLOCK_SIZE], 0, &shape);
-    let second = read_checkpoint(&header[3 * BLOCK_SIZE..], 1, &shape);
+    let second = read_checkpoint(&header[3 * BLOCK_SIZE..TAIL_BLOCK * BLOCK_SIZE], 1, &shape);
     let (_, ckpt) = first.max(second)?;
-    let (views, joined) = read_blocks(log, &shape, ckpt);
+    let tails = &header[TAIL_BLOCK * BLOCK_SIZE..];
+    let (views, joined) = read_blocks(log, tails, &shape, ckpt);
     let (groups, end) = read_groups(&views, &joined, ckpt, &shape)?;
     drop(joined);
     let mut pages = read_pages(data, &shape, end)?;
@@ -94,12 +98,12 @@ fn is_sealed(block: &[u8]) -> bool {
 
 fn read_shape(header: &[u8]) -> Option<Shape> {
     let sizes = |at| field32(header, at) as usize;
-    let is_ours = is_sealed(&header[..BLOCK_SIZE]) && field32(header, 0) == 1;
+    let is_ours = is_sealed(&header[..BLOCK_SIZE]) && field32(header, 0) == FORMAT;
     is_ours.then(|| Shape {
         page_size: sizes(48),
         pages: sizes(52),
         space: field32(header, 56),
-        log_blocks: sizes(60),
+        ring_blocks: sizes(60) - TAIL_BLOCKS,
         slots: sizes(64),
     })
 }
@@ -116,34 +120,52 @@ fn read_checkpoint(block: &[u8], parity: u64, shape: &Shape) -> Option<(u64, u64
 }
 
 fn place_of(lsn: u64, shape: &Shape) -> usize {
-    HEADER_BYTES + (lsn - START_LSN) as usize % (BLOCK_SIZE * shape.log_blocks)
+    RING_START + (lsn - START_LSN) as usize % (BLOCK_SIZE * shape.ring_blocks)
 }
 
 /// The blocks up to the first that isn't full, and their data.
-fn read_blocks(log: &Device, shape: &Shape, ckpt: u64) -> (Vec<View>, Vec<u8>) {
+fn read_blocks(log: &Device, tails: &[u8], shape: &Shape, ckpt: u64) -> (Vec<View>, Vec<u8>) {
     let (mut views, mut joined) = (Vec::new(), Vec::new());
     let (mut from, mut piece) = (0, Vec::new());
-    let log_end = HEADER_BYTES + BLOCK_SIZE * shape.log_blocks;
-    for i in 0..shape.log_blocks {
+    let log_end = RING_START + BLOCK_SIZE * shape.ring_blocks;
+    for i in 0..shape.ring_blocks {
         let lsn = ckpt + (BLOCK_SIZE * i) as u64;
         let at = place_of(lsn, shape);
         if at < from || at + BLOCK_SIZE > from + piece.len() {
-            let end = log_end.min(at + BLOCK_SIZE * (shape.log_blocks - i));
+            let end = log_end.min(at + BLOCK_SIZE * (shape.ring_blocks - i));
             piece = log.read(at, PIECE.min(end - at));
             from = at;
         }
         let block = &piece[at - from..at - from + BLOCK_SIZE];
-        let Some(view) = read_block(block, lsn) else {
+        let full = read_block(block, lsn).filter(|view| view.length == BLOCK_SIZE);
+        let is_full = full.is_some();
+        let taken = full.map(|view| (block, view));
+        let Some((block, view)) = taken.or_else(|| newer_tail(tails, lsn)) else {
             break;
         };
         joined.extend_from_slice(&block[BLOCK_HEADER..view.length.min(DATA_END)]);
-        let is_full = view.length == BLOCK_SIZE;
         views.push(view);
         if !is_full {
             break;
         }
     }
     (views, joined)
+}
+
+/// The tail block of an lsn that isn't full, the longer one where both are of it.
+fn newer_tail(tails: &[u8], lsn: u64) -> Option<(&[u8], View)> {
+    let views = tails.chunks_exact(BLOCK_SIZE).filter_map(|block| {
+        let is_its = u64::from(field32(block, 8)) == lsn >> 39;
+        let view = read_block(block, lsn).filter(|view| is_its && view.length < BLOCK_SIZE);
+        view.map(|view| (block, view))
+    });
+    views.reduce(|first, second| {
+        if second.1.length > first.1.length {
+            second
+        } else {
+            first
+        }
+    })
 }
 
 fn read_block(block: &[u8], lsn: u64) -> Option<View> {

@@ -5,20 +5,23 @@
 use crate::checksum::crc32c;
 use crate::decoder::{Got, decode};
 use crate::generator::{large_groups, small_groups};
-use crate::log::{BLOCK_DATA, BLOCK_HEADER, BLOCK_SIZE, HEADER_BYTES, START_LSN, fill};
+use crate::log::{BLOCK_DATA, BLOCK_HEADER, BLOCK_SIZE, RING_START, START_LSN, TAIL_BLOCKS, fill};
 
-pub const LOG_BLOCKS: usize = 524_288;
+/// The blocks of the log's ring.
+pub const RING_BLOCKS: usize = 524_286;
 pub const PAGES: usize = 64;
 pub const PAGE_SIZE: usize = 4096;
 pub const SLOTS: usize = 8;
 pub const SPACE: u32 = 1;
+/// The format that the header names.
+pub const FORMAT: u32 = 2;
 
-/// The blocks of the longest log.
-const MOST_BLOCKS: usize = 1_048_576;
+/// Those of the longest log.
+const MOST_BLOCKS: usize = 1_048_574;
 
 /// The log device. Its groups end in its last block.
 pub fn log_bytes() -> Vec<u8> {
-    log_of(LOG_BLOCKS, &small_groups(BLOCK_DATA * (LOG_BLOCKS - 1)))
+    log_of(RING_BLOCKS, &small_groups(BLOCK_DATA * (RING_BLOCKS - 1)))
 }
 
 /// The longest log, of small groups.
@@ -31,20 +34,22 @@ pub fn log_of_large() -> Vec<u8> {
     log_of(MOST_BLOCKS, &large_groups(BLOCK_DATA * MOST_BLOCKS))
 }
 
-/// A log device of so many blocks with these groups.
-fn log_of(log_blocks: usize, stream: &[u8]) -> Vec<u8> {
-    let mut log = vec![0; HEADER_BYTES + BLOCK_SIZE * log_blocks];
-    head(&mut log[..BLOCK_SIZE], log_blocks);
-    checkpoint(
-        &mut log[BLOCK_SIZE..2 * BLOCK_SIZE],
-        0,
-        START_LSN,
-        HEADER_BYTES as u64,
-    );
+/// A log device with so many blocks in its ring, and these groups. The last block, if it isn't full, is a tail block.
+fn log_of(ring_blocks: usize, stream: &[u8]) -> Vec<u8> {
+    let mut log = vec![0; RING_START + BLOCK_SIZE * ring_blocks];
+    let (heads, ring) = log.split_at_mut(RING_START);
+    let heads: Vec<&mut [u8]> = heads.chunks_exact_mut(BLOCK_SIZE).collect();
+    let [first_head, even, second_head, _odd, tail, _other] = heads.try_into().unwrap();
+    head(first_head, ring_blocks);
+    head(second_head, ring_blocks);
+    checkpoint(even, 0, START_LSN, RING_START as u64);
     let firsts = firsts_of(stream);
-    let blocks = log[HEADER_BYTES..].chunks_exact_mut(BLOCK_SIZE);
-    for (i, (block, data)) in blocks.zip(stream.chunks(BLOCK_DATA)).enumerate() {
+    let mut places = ring.chunks_exact_mut(BLOCK_SIZE);
+    for (i, data) in stream.chunks(BLOCK_DATA).enumerate() {
         let lsn = START_LSN + (BLOCK_SIZE * i) as u64;
+        let place = places.next().unwrap();
+        let is_full = data.len() == BLOCK_DATA;
+        let block = if is_full { place } else { &mut *tail };
         fill(block, lsn, data, firsts[i], 0);
     }
     log
@@ -73,21 +78,21 @@ fn seal(block: &mut [u8], fields: &[&[u8]]) {
 }
 
 /// The file header.
-fn head(block: &mut [u8], log_blocks: usize) {
+fn head(block: &mut [u8], ring_blocks: usize) {
     let mut creator = [0; 32];
     creator[..9].copy_from_slice(b"redolab 1");
     let sizes = [
         PAGE_SIZE as u32,
         PAGES as u32,
         SPACE,
-        log_blocks as u32,
+        (ring_blocks + TAIL_BLOCKS) as u32,
         SLOTS as u32,
     ];
     let sizes = sizes.map(u32::to_be_bytes).concat();
     seal(
         block,
         &[
-            &1u32.to_be_bytes(),
+            &FORMAT.to_be_bytes(),
             &[0; 4],
             &START_LSN.to_be_bytes(),
             &creator,
@@ -123,7 +128,7 @@ pub fn data_bytes() -> Vec<u8> {
 
 /// An lsn in the middle of the log.
 fn lsn_of(number: usize) -> u64 {
-    START_LSN + (number * LOG_BLOCKS / PAGES * BLOCK_SIZE + BLOCK_HEADER) as u64
+    START_LSN + (number * RING_BLOCKS / PAGES * BLOCK_SIZE + BLOCK_HEADER) as u64
 }
 
 /// Makes these user bytes the page of a number and an lsn.

@@ -8,7 +8,7 @@ mod ring;
 use crate::device::{Failure, FileDevice, Sectors};
 use crate::generator::Draws;
 use crate::group::encode;
-use crate::log::{BLOCK_SIZE, Device, HEADER_BYTES};
+use crate::log::{BLOCK_SIZE, Device, RING_START};
 use crate::machine::lsn::lsn_of;
 use crate::machine::threads::Crew;
 use crate::machine::{Entry, Machine, Sizes, log_length};
@@ -25,9 +25,9 @@ const STRING_FRONT: u32 = 7;
 const PAGES: u32 = 64;
 /// The seed of the runs by turns.
 const SEED: u64 = 7;
-/// Blocks of the log that is written alone, and never freed, and of one with pages, as a store has it by default.
-const LONG_LOG: u64 = 65_536;
-const LOG: u64 = 2_048;
+/// Blocks of the ring of a log that is written alone, and never freed, and of one with pages, as a store has it by default.
+const LONG_LOG: u64 = 65_534;
+const LOG: u64 = 2_046;
 
 /// Lines of the users by turns, each of one string, whose group has so many bytes.
 pub fn script_text(users: u32, bytes: u32, mode: &str, groups: u32) -> String {
@@ -137,7 +137,7 @@ fn run_ring<D: Sectors + Send>(users: &[Groups], device: D) -> Result<Outcome, F
 fn sizes_of(log_only: bool) -> Sizes {
     Sizes {
         pages: PAGES,
-        log_blocks: if log_only { LONG_LOG } else { LOG },
+        ring_blocks: if log_only { LONG_LOG } else { LOG },
         log_only,
     }
 }
@@ -228,7 +228,7 @@ pub fn time_syncs(file: &str, count: u32) -> io::Result<()> {
     let start = Instant::now();
     for number in 0..count as usize {
         // forty groups of 12 bytes stand in a block
-        let at = HEADER_BYTES + BLOCK_SIZE * (number / 40 % LONG_LOG as usize);
+        let at = RING_START + BLOCK_SIZE * (number / 40 % LONG_LOG as usize);
         let synced = device.write(at, &block).and_then(|()| device.sync());
         synced.map_err(|_| io::Error::other("a device failed"))?;
     }

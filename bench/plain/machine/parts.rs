@@ -4,7 +4,9 @@ use super::cleaner::{USER_END, USER_START};
 use super::lsn::floor;
 use super::words::{LOG_BUFFER, PAGE_SIZE};
 use crate::device::{Failure, Sectors};
-use crate::log::{BLOCK_DATA, BLOCK_SIZE, Device, HEADER_BYTES, START_LSN, fill};
+use crate::log::{
+    BLOCK_DATA, BLOCK_SIZE, Device, RING_START, START_LSN, TAIL_BLOCK, TAIL_BLOCKS, fill,
+};
 use crate::store::{SLOTS, checkpoint, seal_page};
 use std::collections::VecDeque;
 
@@ -12,22 +14,29 @@ const USERS: usize = USER_END - USER_START;
 
 pub struct LogPart<D> {
     device: D,
+    // blocks of the ring
     blocks: u64,
     written: u64,
     pub stable: u64,
+    // the tail block of the last good sync, and that of the last write
+    tail: usize,
+    newest: usize,
     number: u64,
     buffer: Vec<u8>,
     pub failed: Option<Failure>,
 }
 
 impl<D: Sectors> LogPart<D> {
-    /// The log part of a run that starts there, on a device with the two checkpoints that formatting and opening leave.
+    /// The log part of a run that starts there, on a device with the two checkpoints that formatting and opening leave, and with
+    /// so many blocks in its ring.
     pub fn new(device: D, blocks: u64, start: u64) -> Result<LogPart<D>, Failure> {
         let mut part = LogPart {
             device,
             blocks,
             written: start,
             stable: start,
+            tail: TAIL_BLOCK + 1,
+            newest: TAIL_BLOCK + 1,
             number: 0,
             buffer: vec![0; LOG_BUFFER as usize],
             failed: None,
@@ -39,7 +48,7 @@ impl<D: Sectors> LogPart<D> {
     }
 
     fn offset_of(&self, lsn: u64) -> usize {
-        HEADER_BYTES + ((floor(lsn) - START_LSN) % (self.blocks * BLOCK_SIZE as u64)) as usize
+        RING_START + ((floor(lsn) - START_LSN) % (self.blocks * BLOCK_SIZE as u64)) as usize
     }
 
     pub fn write_to(&mut self, mark: u64, bytes: &[u8], firsts: &[u16]) -> Result<(), Failure> {
@@ -52,12 +61,18 @@ impl<D: Sectors> LogPart<D> {
         {
             fill(block, lsn, data, *first, self.number as u32);
         }
-        let end = HEADER_BYTES + self.blocks as usize * BLOCK_SIZE;
-        let length = firsts.len() * BLOCK_SIZE;
-        let (front, back) = self.buffer[..length].split_at(length.min(end - at));
-        self.device.write(at, front)?;
-        if !back.is_empty() {
-            self.device.write(HEADER_BYTES, back)?;
+        let full = bytes.len() / BLOCK_DATA * BLOCK_SIZE;
+        let (whole, rest) = self.buffer[..firsts.len() * BLOCK_SIZE].split_at(full);
+        let end = RING_START + self.blocks as usize * BLOCK_SIZE;
+        let (front, back) = whole.split_at(full.min(end - at));
+        let tail = 2 * TAIL_BLOCK + TAIL_BLOCKS - 1 - self.tail;
+        for (at, part) in [(at, front), (RING_START, back), (BLOCK_SIZE * tail, rest)] {
+            if !part.is_empty() {
+                self.device.write(at, part)?;
+            }
+        }
+        if !rest.is_empty() {
+            self.newest = tail;
         }
         self.written = mark;
         Ok(())
@@ -66,6 +81,7 @@ impl<D: Sectors> LogPart<D> {
     pub fn sync(&mut self) -> Result<(), Failure> {
         self.device.sync()?;
         self.stable = self.written;
+        self.tail = self.newest;
         Ok(())
     }
 
@@ -79,7 +95,9 @@ impl<D: Sectors> LogPart<D> {
         checkpoint(&mut block, self.number, lsn, self.offset_of(lsn) as u64);
         let place = if self.number.is_multiple_of(2) { 1 } else { 3 };
         self.device.write(place * BLOCK_SIZE, &block)?;
-        self.device.sync()
+        self.device.sync()?;
+        self.tail = self.newest;
+        Ok(())
     }
 }
 

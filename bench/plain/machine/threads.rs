@@ -165,12 +165,12 @@ impl<D: Sectors + Send> Crew<D> {
         device: impl Fn(&str, usize) -> D,
     ) -> Result<Crew<D>, Failure> {
         let stride = if spread { LINE } else { 1 };
-        let log = device("log", log_length(sizes.log_blocks));
+        let log = device("log", log_length(sizes.ring_blocks));
         let data = device("data", data_length(sizes.pages));
         let shared = Shared {
             words: spread_out(start_words(sizes.pages), stride),
             stride,
-            log: UnsafeCell::new(LogPart::new(log, sizes.log_blocks, START)?),
+            log: UnsafeCell::new(LogPart::new(log, sizes.ring_blocks, START)?),
             data: UnsafeCell::new(DataPart::new(data)),
             lists: Default::default(),
         };

@@ -37,7 +37,7 @@ pub struct Locked<D> {
 }
 
 impl<D: Sectors> Locked<D> {
-    pub fn new(device: D, log_blocks: u64, users: u64) -> Result<Locked<D>, Failure> {
+    pub fn new(device: D, ring_blocks: u64, users: u64) -> Result<Locked<D>, Failure> {
         let state = State {
             bytes: Vec::with_capacity(MOST),
             firsts: vec![(START / BLOCK_SIZE as u64, BLOCK_HEADER as u16)],
@@ -49,7 +49,7 @@ impl<D: Sectors> Locked<D> {
         };
         Ok(Locked {
             state: Mutex::new(state),
-            part: Mutex::new(LogPart::new(device, log_blocks, START)?),
+            part: Mutex::new(LogPart::new(device, ring_blocks, START)?),
             appended: Condvar::new(),
             marked: Condvar::new(),
         })

@@ -29,7 +29,7 @@ pub struct Ring<D> {
     links: Vec<AtomicU64>,
     cells: Vec<AtomicU64>,
     firsts: Vec<AtomicU64>,
-    log_blocks: u64,
+    ring_blocks: u64,
     device: Mutex<LogPart<D>>,
 }
 
@@ -42,7 +42,7 @@ fn hot(number: u64) -> Hot {
 }
 
 impl<D: Sectors> Ring<D> {
-    pub fn new(device: D, log_blocks: u64, users: u64) -> Result<Ring<D>, Failure> {
+    pub fn new(device: D, ring_blocks: u64, users: u64) -> Result<Ring<D>, Failure> {
         let ring = Ring {
             sn: hot(sn_of(START)),
             write: hot(START),
@@ -53,8 +53,8 @@ impl<D: Sectors> Ring<D> {
             links: zeros(WRITTEN_LINKS),
             cells: zeros(LOG_BUFFER / 8),
             firsts: zeros(BUFFER_BLOCKS),
-            log_blocks,
-            device: Mutex::new(LogPart::new(device, log_blocks, START)?),
+            ring_blocks,
+            device: Mutex::new(LogPart::new(device, ring_blocks, START)?),
         };
         ring.first(START).store(BLOCK_HEADER as u64, SeqCst);
         Ok(ring)
@@ -73,7 +73,7 @@ impl<D: Sectors> Ring<D> {
     }
 
     fn has_room(&self, end: u64) -> bool {
-        end + FREE_MARGIN <= floor(START) + self.log_blocks * BLOCK_SIZE as u64
+        end + FREE_MARGIN <= floor(START) + self.ring_blocks * BLOCK_SIZE as u64
     }
 
     fn wait_until(&self, holds: impl Fn() -> bool) -> Result<(), Failure> {
