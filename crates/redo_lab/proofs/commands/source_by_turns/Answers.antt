@@ -1,4 +1,4 @@
-use Rattle.std.proofs.Common.{ap, refl}
+use Rattle.std.proofs.Common.{ap}
 use Rattle.redo_lab.proofs.Alone.{scripted-unscripted}
 use Rattle.redo_lab.proofs.AskedLimits.{within-followers, within-workers}
 use Rattle.redo_lab.proofs.Ends.{runs-scripted}
