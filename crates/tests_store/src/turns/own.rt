@@ -1,5 +1,5 @@
 // Runs by turns whose users write for themselves.
-ghost use Rattle.redo_ownmachine.specs.OwnSeats.{HasRoom, seats_of};
+ghost use Rattle.redo_ownmachine.specs.OwnCrew.{HasRoom, seats_of};
 ghost use Rattle.redo_ownmachine.specs.OwnStore.{OwnIsOnRun};
 
 use super::runs::{left_of, spelled, turns_of};

@@ -5,7 +5,7 @@ ghost use Rattle.model_log.specs.declared.layout.TheConstants.{BLOCK_HEADER};
 ghost use Rattle.redo_drive.specs.Running.{IsOnRun};
 ghost use Rattle.redo_drive.specs.Startable.{AreNewFollowers, MayBegin, room_from};
 ghost use Rattle.redo_drive.specs.Views.{views_of};
-ghost use Rattle.redo_ownmachine.specs.OwnSeats.{HasRoom, seats_of};
+ghost use Rattle.redo_ownmachine.specs.OwnCrew.{HasRoom, seats_of};
 ghost use Rattle.redo_ownmachine.specs.OwnStore.{OwnIsOnRun};
 ghost use Rattle.redo_store.specs.{IsRunnable};
 

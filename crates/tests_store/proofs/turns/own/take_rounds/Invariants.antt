@@ -1,5 +1,5 @@
 -- The machine stays on its run, and has room for all its actors.
-use Rattle.redo_ownmachine.specs.OwnSeats.{HasRoom, seats_of}
+use Rattle.redo_ownmachine.specs.OwnCrew.{HasRoom, seats_of}
 use Rattle.redo_ownmachine.specs.OwnStore.{OwnIsOnRun}
 use Rattle.tests_store.proofs.turns.own.take_rounds.Given as goal
 
