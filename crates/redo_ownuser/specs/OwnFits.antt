@@ -5,6 +5,7 @@ use Rattle.model_core.specs.declared.ops.Step.TheVariants as step
 use Rattle.model_core.specs.{user_ending}
 use Rattle.model_core.specs.AnswerFits.{AnswerFits}
 use Rattle.model_core.specs.declared.ops.Answer.{Answer}
+use Rattle.model_core.specs.declared.ops.Answer.TheVariants as answer
 use Rattle.model_own.specs.OwnWrites.{LogWork, OwnUser}
 use Rattle.model_own.specs.declared.errand.ErrandStep.{ErrandStep}
 use Rattle.model_own.specs.declared.errand.ErrandStep.TheVariants as errand_step
@@ -25,6 +26,14 @@ ErrandAnswerFits o k a _ = Unit {0}
 -- what it is given: of the Op that it has asked for
 abbrev pub OwnAnswerFits : OwnUser → LogWork → Answer → Type 0
 OwnAnswerFits o k a = cond o.user.checks (AnswerFits (actor.User o.user) a) (ErrandAnswerFits o k a o.errand)
+
+-- what it is given while it has no work in hand: where it asked for DEVICE, that was held
+abbrev pub ErrandFitsAlone : OwnUser → Answer → ErrandStep → Type 0
+ErrandFitsAlone o a errand_step.TakeDevice = a ≡ answer.Held
+ErrandFitsAlone o a _ = AnswerFits (actor.User o.user) a
+
+abbrev pub AloneAnswerFits : OwnUser → Answer → Type 0
+AloneAnswerFits o a = cond o.user.checks (AnswerFits (actor.User o.user) a) (ErrandFitsAlone o a o.errand)
 
 -- it waits
 abbrev pub is_idle : Step → Bool

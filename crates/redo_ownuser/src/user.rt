@@ -1,11 +1,13 @@
 // A user that writes for itself.
-ghost use Rattle.std.specs.Prelude.{◌≡◌, cond, false, true};
+ghost use Rattle.std.specs.Prelude.{◌==◌, ◌≡◌, cond, false, true};
 ghost use Rattle.model_core.specs.Actors as actor;
 ghost use Rattle.model_core.specs.AnswerFits.{AnswerFits};
-ghost use Rattle.model_core.specs.{heard, step_of, user_took};
-ghost use Rattle.model_own.specs.OwnWrites.{ErrandFits, MayHelpAt, errand_took, errand_waits, has_failed, own_goes_on};
+ghost use Rattle.model_core.specs.{heard, old_of, step_of, user_took};
+ghost use Rattle.model_own.specs.OwnWrites.{ErrandFits, MayHelpAt, errand_took, errand_waits, has_failed, has_work, own_checked};
+ghost use Rattle.model_own.specs.OwnWrites.{own_goes_on};
+ghost use Rattle.model_own.specs.OwnWrites as own;
 ghost use Rattle.model_own.specs.OwnWrites.{own_lends, own_next, own_step_of, own_stepped, sets_out, waiting, written};
-ghost use Rattle.redo_ownuser.specs.OwnFits.{ErrandAnswerFits, OwnAnswerFits, WorkGoesOn, ends_as, is_idle};
+ghost use Rattle.redo_ownuser.specs.OwnFits.{AloneAnswerFits, ErrandAnswerFits, OwnAnswerFits, WorkGoesOn, ends_as, is_idle};
 ghost use Rattle.redo_words.specs.{Lends};
 
 use crate::work::LogWork;
@@ -79,6 +81,24 @@ impl OwnUser {
             ErrandStep::Write => work.writer.next(),
             ErrandStep::Flush => work.flusher.next(),
         }
+    }
+
+    /// The Op that it asks for while it has no work in hand, whatever the log's work is then.
+    pub fn next_alone(&self) -> Op
+        requires { has_work self.now.errand ≡ false }
+        ensures { (work : own.LogWork) → result ≡ own_next self.now work }
+    {
+        match self.errand {
+            ErrandStep::TakeDevice if !self.user.is_checking() => Op::TakeDevice,
+            _ => self.user.next(),
+        }
+    }
+
+    /// Whether it has the log's work in hand.
+    pub fn has_work(&self) -> bool
+        ensures { result ≡ has_work self.now.errand }
+    {
+        !matches!(self.errand, ErrandStep::Done | ErrandStep::TakeDevice)
     }
 
     /// It lends what the writer has read.
@@ -238,6 +258,36 @@ impl OwnUser {
         }
     }
 
+    /// It has looked for a failure. A code there ends its errand too.
+    fn checked(&mut self, answer: Answer) -> Step
+        requires asks { self.old.user.checks ≡ true }
+        requires fits { AnswerFits (actor.User self.old.user) answer }
+        ensures state { self.new ≡ own_checked self.old (old_of answer) }
+        ensures step { result ≡ cond (old_of answer == 0) Step.Moved (Step.Failed (old_of answer)) }
+    {
+        let step = self.user.took(answer);
+        if old_of(answer) != 0 {
+            self.errand = ErrandStep::Done;
+        }
+        step
+    }
+
+    /// Takes the answer to the Op that it asked for while it had no work in hand: where it asked for DEVICE, somebody else had it.
+    pub fn took_alone(&mut self, answer: Answer) -> Step
+        requires alone { has_work self.old.errand ≡ false }
+        requires fits { AloneAnswerFits self.old answer }
+        ensures user { (work : own.LogWork) → own_goes_on self.old work answer ≡ (self.new, work) }
+        ensures step { (work : own.LogWork) → result ≡ own_step_of self.old work answer }
+    {
+        if self.user.is_checking() {
+            return self.checked(answer);
+        }
+        match self.errand {
+            ErrandStep::TakeDevice => self.wait(),
+            _ => self.stepped(answer),
+        }
+    }
+
     /// Takes the answer to the Op that it asked for.
     pub fn took(&mut self, work: &mut LogWork, answer: Answer) -> Step
         requires fits { OwnAnswerFits self.old work.old answer }
@@ -247,11 +297,7 @@ impl OwnUser {
         ensures step { result ≡ own_step_of self.old work.old answer }
     {
         if self.user.is_checking() {
-            let step = self.user.took(answer);
-            if old_of(answer) != 0 {
-                self.errand = ErrandStep::Done;
-            }
-            return step;
+            return self.checked(answer);
         }
         self.goes_on(work, answer)
     }
