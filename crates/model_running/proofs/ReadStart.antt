@@ -3,7 +3,7 @@ use Rattle.std.proofs.Common.{Bool, List, [], ap, arith, cond, drop, eqb, false,
 use Rattle.std.specs.Prelude.{slice_index}
 use Rattle.model_base.specs.declared.limits.TheConstants.{BLOCK_SIZE}
 use Rattle.model_core.proofs.Lsns.{lsn_block, lsn_offset}
-use Rattle.model_core.specs.{archives, CheckpointerState, floor, IsText, lsn, new_checkpointer, new_reader, ReaderState, SharedWords}
+use Rattle.model_core.specs.{archives, CheckpointerState, floor, IsText, LostAt, lsn, new_checkpointer, new_reader, ReaderState, SharedWords}
 use Rattle.model_core.specs.Setup.{Setup}
 use Rattle.model_core.specs.StartWords.{start_checkpoint}
 use Rattle.model_core.specs.declared.limits.TheConstants.{READERS}
@@ -80,12 +80,14 @@ module _ (c : Setup) (m : SharedWords) (even : c.base % BLOCK_DATA ≡ 0) (flush
   }
 
 -- whatever the log device tells
-pub starts_in_run : (c : Setup) → c.base % BLOCK_DATA ≡ 0 → (r : ReaderState) → r.number < c.last_reader
+pub starts_in_run : (c : Setup) → c.base % BLOCK_DATA ≡ 0 → (r : ReaderState) → c.first_reader ≤ r.number → r.number < c.last_reader
     → ◌≡◌ {A = ReaderState} r (new_reader r.number (lsn c.base)) → ReadsInRun c r
-starts_in_run c even r few is = record {
+starts_in_run c even r first few is = record {
+  first = first;
   few = few;
   from = (let z = ap (λ (x : ReaderState). x.at) is in let b = lsn_block c.base in omega arith);
   block = λ kind. by (archives r) kind (ap (λ (x : ReaderState). x.place) is);
+  lost = subst (LostAt r) (sym (ap (λ (x : ReaderState). x.step) is)) (ap (λ (x : ReaderState). x.lost) is);
 }
   where
     by : (b : Bool) → b ≡ true → r.place ≡ cond b (lsn c.base - 12) (lsn c.base)

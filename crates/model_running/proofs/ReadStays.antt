@@ -6,7 +6,7 @@ use native.Mathlib.Decide.{ℕ_discrete}
 use lib.ListN.{get_elem?}
 use mathlib.Core.Option.{some}
 use Rattle.model_core.proofs.Lists.{at_set}
-use Rattle.model_core.specs.{Actor, Advance, advance_op, archives, AreInFront, checked, checkpointer_op, checkpointer_took, CheckpointerState, cleaner_op, CleanerState, closer_op, CloserState, Entry, entry, floor, flusher_op, FlusherState, IsText, is_above, lent, line, Listed, log_left, LogServed, lowered, next, next_block, old_of, oldest_end, own_took, pending, phase_log, reader_op, reader_took, ReaderState, Room, shared_answer, shared_left, SharedWords, tail_of, tail_word, Tiles, took, user_op, UserState, writer_op, WriterState, wrote}
+use Rattle.model_core.specs.{Actor, Advance, advance_op, archives, AreInFront, checked, checkpointer_op, checkpointer_took, CheckpointerState, cleaner_op, CleanerState, closer_op, CloserState, Entry, entry, floor, flusher_op, FlusherState, IsText, is_above, lent, LostAt, line, Listed, log_left, LogServed, lowered, next, next_block, old_of, oldest_end, own_took, pending, phase_log, reader_op, reader_took, ReaderState, Room, shared_answer, shared_left, SharedWords, tail_of, tail_word, Tiles, took, user_op, UserState, writer_op, WriterState, wrote}
 use Rattle.model_core.specs.DataSide.{DataSide}
 use Rattle.model_core.specs.LogSide.{LogSide}
 use Rattle.model_core.specs.Setup.{Setup}
@@ -43,8 +43,8 @@ use Rattle.model_pagecore.specs.DataLaws.{DataLaws}
 use Rattle.model_running.proofs.LogCalls.{asked_bound}
 use Rattle.model_running.proofs.Following.{AreTexts}
 use Rattle.model_running.proofs.ReadKeeps.{candidate_later, can_read, LogGrows, others_read, reader_goes, reader_later, reads_piece}
-use Rattle.model_running.proofs.ReadTurns.{begins, loads_place, lower, reads_block, reads_flushed, stores_place}
-use Rattle.model_running.specs.ReadHalf.{ArchiverAt, CandidateAt, CandidateFits, FollowerAt, HasMore, ReaderHas, ReadFits, ReadHalf}
+use Rattle.model_running.proofs.ReadTurns.{appends, begins, loads_place, lower, reads_block, reads_flushed, stores_place}
+use Rattle.model_running.specs.ReadHalf.{ArchiverAt, CandidateAt, CandidateFits, FollowerAt, HasMore, ReaderHas, ReadFits, ReadHalf, ReadsInRun}
 use Rattle.model_running.specs.RunningStore.{BothHalves}
 
 -- a reader that is about to give the log part back has the whole groups in front of what it then has
@@ -274,6 +274,14 @@ module _ (D : LogSide) (L : LogLaws D) (E : DataSide) (EL : DataLaws E) (c : Set
     reader_mine reader_step.GiveDevice is k full w = carried (record m { device = 0 }) _ (refl, refl) (reads_block c m g.log m.sn tiles all seat r R is full)
     reader_mine reader_step.StorePlace is k full w = stores_place c m g.log seat r R (let few = R.last in let top = both.script.few_readers in let long = both.logged.sized.places in omega arith)
     reader_mine reader_step.StoreFailed is k full w = carried (record m { failed = r.code }) _ (refl, refl) (plain r.code r.checks reader_step.GiveFailed (λ _. tt) (λ _. tt))
+    reader_mine reader_step.Append is k full w = appends c m g.log seat r R kind is code (eqb code 0)
+      where
+        I : ReadsInRun c r
+        I = both.in_run seat (actor.Reader r) at
+
+        kind : archives r ≡ true
+        kind = let lost : LostAt r reader_step.Append = subst (LostAt r) is I.lost in lost.0
+    reader_mine reader_step.StoreLost is k full w = carried (record m { failed = r.lost }) _ (refl, refl) (plain r.code r.checks reader_step.Failed (λ _. tt) (λ _. tt))
     reader_mine reader_step.GiveFailed is k full w = carried (record m { device = 0 }) _ (refl, refl) (plain r.code r.checks reader_step.Failed (λ _. tt) (λ _. tt))
     reader_mine reader_step.Failed is k full w = R
 
@@ -299,6 +307,8 @@ module _ (D : LogSide) (L : LogLaws D) (E : DataSide) (EL : DataLaws E) (c : Set
     reader_kept reader_step.ReadBlock is k full w under = quiet m g.log _ (same_log g.log m.sn) (refl, refl) under (reader_mine reader_step.ReadBlock is k full w)
     reader_kept reader_step.GiveDevice is k full w under = quiet (record m { device = 0 }) g.log _ (same_log g.log m.sn) (refl, refl) under (reader_mine reader_step.GiveDevice is k full w)
     reader_kept reader_step.StoreFailed is k full w under = quiet (record m { failed = r.code }) g.log _ (same_log g.log m.sn) (refl, refl) under (reader_mine reader_step.StoreFailed is k full w)
+    reader_kept reader_step.Append is k full w under = quiet m g.log _ (same_log g.log m.sn) (refl, refl) under (reader_mine reader_step.Append is k full w)
+    reader_kept reader_step.StoreLost is k full w under = quiet (record m { failed = r.lost }) g.log _ (same_log g.log m.sn) (refl, refl) under (reader_mine reader_step.StoreLost is k full w)
     reader_kept reader_step.GiveFailed is k full w under = quiet (record m { device = 0 }) g.log _ (same_log g.log m.sn) (refl, refl) under (reader_mine reader_step.GiveFailed is k full w)
     reader_kept reader_step.Failed is k full w under = quiet m g.log _ (same_log g.log m.sn) (refl, refl) under (reader_mine reader_step.Failed is k full w)
 
@@ -310,6 +320,8 @@ module _ (D : LogSide) (L : LogLaws D) (E : DataSide) (EL : DataLaws E) (c : Set
         stays_at reader_step.GiveBroken k = k
         stays_at reader_step.ReadBlock k = k
         stays_at reader_step.GiveDevice k = k
+        stays_at reader_step.Append k = k
+        stays_at reader_step.StoreLost k = tt
         stays_at reader_step.LoadFlushed k = tt
         stays_at reader_step.StorePlace k = tt
         stays_at reader_step.StoreFailed k = tt
@@ -327,6 +339,8 @@ module _ (D : LogSide) (L : LogLaws D) (E : DataSide) (EL : DataLaws E) (c : Set
         follower_stays reader_step.LoadFlushed k = tt
         follower_stays reader_step.StorePlace k = tt
         follower_stays reader_step.StoreFailed k = tt
+        follower_stays reader_step.Append k = tt
+        follower_stays reader_step.StoreLost k = tt
         follower_stays reader_step.GiveFailed k = tt
         follower_stays reader_step.Failed k = tt
     reader_hears false = reader_goes c m g.log r r.mark r.block r.texts m.failed false reader_step.Failed seat R (λ _ _. tt) (λ _ _. tt)

@@ -1,0 +1,121 @@
+-- A failed append of the archiver stays the cause that it is.
+use Rattle.std.proofs.Common.{Bool, List, ap, arith, cond, eqb-true, false, refl, set, subst, sym, true, ℕ, ⊎_elim, ◌<◌, ◌==◌, ◌^◌, ◌∙◌, ◌≡◌, ◌≢◌, ◌⊎◌}
+use lib.ListN.{get_elem?}
+use mathlib.Core.Option.{some, some-injective}
+use native.Mathlib.Decide.{ℕ_discrete}
+use Rattle.model_core.proofs.Lists.{set_at, set_else}
+use Rattle.model_core.specs.{Actor, after_of, archives, followed, has_all, HasLost, IsArchiveCode, IsLosing, LostAt, old_of, reader_program, reader_took, ReaderState, to_append, took}
+use Rattle.model_core.specs.Setup.{Setup}
+use Rattle.model_core.specs.declared.ops.Answer.{Answer}
+use Rattle.model_core.specs.declared.steps.ReaderStep.{ReaderStep}
+use Rattle.model_core.specs.declared.steps.ReaderStep.TheVariants as reader_step
+use Rattle.model_core.specs.Actors as actor
+use Rattle.model_running.specs.ReadHalf.{ReadsInRun, StaysInRun}
+
+-- a reader that has lost an append is at its end
+pub losing_at : (r : ReaderState) (st : ReaderStep) → LostAt r st → 0 < r.lost → IsLosing r
+losing_at r reader_step.Append k some_code = let none = k.1 in absurd (omega arith)
+losing_at r reader_step.StoreLost k some_code = k
+losing_at r reader_step.Failed k some_code = ⊎_elim (λ none. absurd (omega arith)) (λ z. z) k
+losing_at r reader_step.LoadFlushed k some_code = absurd (omega arith)
+losing_at r reader_step.TakeDevice k some_code = absurd (omega arith)
+losing_at r reader_step.GiveBroken k some_code = absurd (omega arith)
+losing_at r reader_step.ReadBlock k some_code = absurd (omega arith)
+losing_at r reader_step.GiveDevice k some_code = absurd (omega arith)
+losing_at r reader_step.StorePlace k some_code = absurd (omega arith)
+losing_at r reader_step.StoreFailed k some_code = absurd (omega arith)
+losing_at r reader_step.GiveFailed k some_code = absurd (omega arith)
+
+-- it loses it for good
+lost_for_good : (r : ReaderState) (a : Answer) → LostAt r r.step → 0 < r.lost → (after_of reader_program r a).lost ≡ r.lost
+lost_for_good r a k some_code = by r.checks (old_of a == 0)
+  where
+    goes_on : ReaderState
+    goes_on = record r { checks = false }
+
+    fails : ReaderState
+    fails = record r { checks = false; code = old_of a; step = reader_step.Failed }
+
+    own : (st : ReaderStep) → LostAt r st → (reader_took r a st).lost ≡ r.lost
+    own reader_step.StoreLost k = refl
+    own reader_step.Failed k = refl
+    own reader_step.Append k = let none = k.1 in absurd (omega arith)
+    own reader_step.LoadFlushed k = absurd (omega arith)
+    own reader_step.TakeDevice k = absurd (omega arith)
+    own reader_step.GiveBroken k = absurd (omega arith)
+    own reader_step.ReadBlock k = absurd (omega arith)
+    own reader_step.GiveDevice k = absurd (omega arith)
+    own reader_step.StorePlace k = absurd (omega arith)
+    own reader_step.StoreFailed k = absurd (omega arith)
+    own reader_step.GiveFailed k = absurd (omega arith)
+
+    by : (b n : Bool) → (cond b (cond n goes_on fails) (reader_took r a r.step)).lost ≡ r.lost
+    by true true = refl
+    by true false = refl
+    by false n = own r.step k
+
+-- a reader's turn, as its program has it
+pub took_reader : (r : ReaderState) (a : Answer)
+    → ◌≡◌ {A = Actor} (took (actor.Reader r) a) (actor.Reader (after_of reader_program r a))
+took_reader r a = by r.checks (cond (old_of a == 0) goes_on fails) (reader_took r a r.step)
+  where
+    goes_on : ReaderState
+    goes_on = record r { checks = false }
+
+    fails : ReaderState
+    fails = record r { checks = false; code = old_of a; step = reader_step.Failed }
+
+    by : (b : Bool) (x z : ReaderState)
+        → ◌≡◌ {A = Actor} (cond b (actor.Reader x) (actor.Reader z)) (actor.Reader (cond b x z))
+    by true x z = refl
+    by false x z = refl
+
+-- among actors that stay in the run
+module _ (c : Setup) (actors : List Actor)
+    (in_run : (j : ℕ) (x : Actor) → get_elem? actors j ≡ some x → StaysInRun c x) where
+  pub has_lost : (code : ℕ) (l : HasLost actors code) → IsLosing l.archiver
+  has_lost code l =
+      let I : ReadsInRun c l.archiver = in_run l.seat (actor.Reader l.archiver) l.at in
+      let is = l.lost in
+      let some_code = l.some_code in
+      losing_at l.archiver l.archiver.step I.lost (omega arith)
+
+  pub lost_code : (code : ℕ) → HasLost actors code → IsArchiveCode code
+  lost_code code l = subst IsArchiveCode l.lost (has_lost code l).why
+
+  pub lost_small : (code : ℕ) → HasLost actors code → code < 2 ^ 32
+  lost_small code l = ⊎_elim (λ e. omega arith) (λ e. omega arith) (lost_code code l)
+
+  -- without an archiver none is lost
+  pub none_loses : 0 < c.first_reader → (code : ℕ) → HasLost actors code → ⊥
+  none_loses followers code l =
+      let I : ReadsInRun c l.archiver = in_run l.seat (actor.Reader l.archiver) l.at in
+      let first = I.first in
+      let same = eqb-true l.archiver.number 0 (has_lost code l).archiver in
+      omega arith
+
+  -- no turn takes it back
+  pub lost_stays : (seat : ℕ) (a : Actor) → get_elem? actors seat ≡ some a → (said : Answer) (code : ℕ)
+      → HasLost actors code → HasLost (set actors seat (took a said)) code
+  lost_stays seat a at said code l = elim (ℕ_discrete l.seat seat) [
+    | yes same ↦ (let I : ReadsInRun c l.archiver = in_run l.seat (actor.Reader l.archiver) l.at in
+        let is = l.lost in
+        let some_code = l.some_code in
+        let who : ◌≡◌ {A = Actor} a (actor.Reader l.archiver) =
+        some-injective a (actor.Reader l.archiver) (sym at ∙ ap (get_elem? actors) (sym same) ∙ l.at) in
+        record {
+          seat = seat;
+          archiver = after_of reader_program l.archiver said;
+          at = set_at actors seat a (took a said) at ∙ ap (λ (x : Actor). some (took x said)) who
+              ∙ ap some (took_reader l.archiver said);
+          lost = lost_for_good l.archiver said I.lost (omega arith) ∙ is;
+          some_code = some_code;
+        })
+    | no other ↦ record {
+      seat = l.seat;
+      archiver = l.archiver;
+      at = set_else actors seat l.seat (took a said) other ∙ l.at;
+      lost = l.lost;
+      some_code = l.some_code;
+    }
+  ]
