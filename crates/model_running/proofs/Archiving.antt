@@ -3,6 +3,7 @@ use Rattle.std.proofs.Common.{Bool, List, ap, arith, cond, eqb-true, false, refl
 use lib.ListN.{get_elem?}
 use mathlib.Core.Option.{some, some-injective}
 use native.Mathlib.Decide.{ℕ_discrete}
+use Rattle.model_core.proofs.Later.{took_later}
 use Rattle.model_core.proofs.Lists.{set_at, set_else}
 use Rattle.model_core.specs.{Actor, after_of, archives, followed, has_all, HasLost, IsArchiveCode, IsLosing, LostAt, old_of, reader_program, reader_took, ReaderState, to_append, took}
 use Rattle.model_core.specs.Setup.{Setup}
@@ -69,6 +70,48 @@ took_reader r a = by r.checks (cond (old_of a == 0) goes_on fails) (reader_took 
         → ◌≡◌ {A = Actor} (cond b (actor.Reader x) (actor.Reader z)) (actor.Reader (cond b x z))
     by true x z = refl
     by false x z = refl
+
+abbrev pub IsNoReader : Actor → Type 0
+IsNoReader (actor.Reader r) = ⊥
+IsNoReader _ = Unit {0}
+
+-- no other actor becomes a reader
+pub stays_other : (a : Actor) (y : Answer) → IsNoReader a → (r : ReaderState) → took a y ≡ actor.Reader r → ⊥
+stays_other (actor.Reader x) y other r same = other
+stays_other (actor.User u) y other r same = subst IsNoReader (sym (took_later (actor.User u) y).1 ∙ same) tt
+stays_other (actor.Writer s) y other r same = subst IsNoReader (sym (took_later (actor.Writer s) y).1 ∙ same) tt
+stays_other (actor.Flusher s) y other r same = subst IsNoReader (sym (took_later (actor.Flusher s) y).1 ∙ same) tt
+stays_other (actor.Closer s) y other r same = subst IsNoReader (sym (took_later (actor.Closer s) y).1 ∙ same) tt
+stays_other (actor.Cleaner s) y other r same = subst IsNoReader (sym (took_later (actor.Cleaner s) y).1 ∙ same) tt
+stays_other (actor.Checkpointer s) y other r same = subst IsNoReader (sym (took_later (actor.Checkpointer s) y).1 ∙ same) tt
+stays_other (actor.Joined es) y other r same = subst IsNoReader (sym (took_later (actor.Joined es) y).1 ∙ same) tt
+
+-- a reader's number stays
+pub number_stays : (r : ReaderState) (a : Answer) → (after_of reader_program r a).number ≡ r.number
+number_stays r a = by r.checks (old_of a == 0)
+  where
+    goes_on : ReaderState
+    goes_on = record r { checks = false }
+
+    fails : ReaderState
+    fails = record r { checks = false; code = old_of a; step = reader_step.Failed }
+
+    either : (b : Bool) (x y : ReaderState) → x.number ≡ r.number → y.number ≡ r.number → (cond b x y).number ≡ r.number
+    either true x y one two = one
+    either false x y one two = two
+
+    own : (st : ReaderStep) → (reader_took r a st).number ≡ r.number
+    own reader_step.LoadFlushed = either (has_all r (old_of a)) _ _ refl refl
+    own reader_step.GiveDevice = either (archives r) (to_append r) (followed r) refl refl
+    own _ = refl
+
+    by : (b n : Bool) → (cond b (cond n goes_on fails) (reader_took r a r.step)).number ≡ r.number
+    by true true = refl
+    by true false = refl
+    by false n = own r.step
+
+pub reader_is : (x y : ReaderState) → actor.Reader x ≡ actor.Reader y → ◌≡◌ {A = ReaderState} x y
+reader_is x y e = cc
 
 -- among actors that stay in the run
 module _ (c : Setup) (actors : List Actor)
