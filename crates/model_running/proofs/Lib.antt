@@ -1,4 +1,5 @@
 pub mod AnswersFitAll
+pub mod Appends
 pub mod ArchiverStays
 pub mod Archiving
 pub mod BlockGives
