@@ -12,6 +12,7 @@ use Rattle.model_core.specs.declared.ops.Answer.{Answer}
 use Rattle.model_core.specs.declared.ops.Op.{Op}
 use Rattle.model_core.specs.declared.ops.Op.TheVariants as op
 use Rattle.model_parts.specs.{IsWritable, MayBeNext}
+use Rattle.model_running.specs.Appending.{IsNoAppend}
 use Rattle.model_running.specs.ListReady.{ListReady}
 use Rattle.redo_drive.specs.DataPartSide as data_part
 use Rattle.redo_disk.specs.Seen.{Seen}
@@ -70,6 +71,8 @@ pub record IsPlayable {L D : Type 0} (parts : Parts L D) (o : Op) (l : Lent) : T
   pub real : (i : ℕ) → Each (λ listed. 0 < listed.oldest) (lists_of parts.lists i)
   pub log : LogReady parts.log l o
   pub data_part : DataReady parts.store l o
+  -- there is no archive to append to
+  pub own : IsNoAppend o
 
 -- what the log part's call tells
 abbrev pub told_by : Op → ℕ → ℕ
