@@ -1,5 +1,5 @@
 -- What is left of an append that failed.
-use Rattle.std.specs.Prelude.{List, true, ℕ, ◌<◌, ◌≡◌, ◌⊎◌}
+use Rattle.std.specs.Prelude.{List, false, true, ℕ, ◌<◌, ◌≡◌, ◌⊎◌}
 use lib.ListN.{get_elem?}
 use mathlib.Core.Option.{some}
 use Rattle.model_core.specs.Actors.{Actor}
@@ -19,8 +19,11 @@ pub record HasLost (actors : List Actor) (code : ℕ) : Type 0 where
   pub some_code : 0 < code
 
 -- its append has failed, and by that it ends
-abbrev pub IsLosing : ReaderState → Type 0
-IsLosing r = (archives r ≡ true) × IsArchiveCode r.lost × (r.code ≡ r.lost)
+pub record IsLosing (r : ReaderState) : Type 0 where
+  pub archiver : archives r ≡ true
+  pub why : IsArchiveCode r.lost
+  pub ends : r.code ≡ r.lost
+  pub unchecked : r.checks ≡ false
 
 -- what a reader's step says of that: the archiver alone appends, and no more once an append has failed
 abbrev pub LostAt : ReaderState → ReaderStep → Type 0

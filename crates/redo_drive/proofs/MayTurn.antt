@@ -182,6 +182,8 @@ mark_given ls broken code mark m low r false reader_step.StorePlace = tt
 mark_given ls broken code mark m low r false reader_step.StoreFailed = tt
 mark_given ls broken code mark m low r false reader_step.GiveFailed = tt
 mark_given ls broken code mark m low r false reader_step.Failed = tt
+mark_given ls broken code mark m low r false reader_step.Append = tt
+mark_given ls broken code mark m low r false reader_step.StoreLost = tt
 
 module _ {L D : Type 0} (log_seen : L → Seen) (data_seen : D → Seen) (run : RunOf L D) (parts : Parts L D) (actors : List model.Actor) (R : RunsOn log_seen data_seen run parts actors)
     (log_laws : LogLaws (run_log_side log_seen data_seen run)) (data_laws : DataLaws (run_data_side log_seen data_seen run)) where
