@@ -41,6 +41,7 @@ use Rattle.redo_rule.specs.Sharing.{HaveHeard, heard_by}
 use Rattle.redo_rule.specs.Slots.{IsData, IsLog, IsPages}
 use Rattle.redo_rule.specs.declared.closing.Left.{Left}
 use Rattle.redo_rule.specs.declared.law.About.{About}
+use Rattle.redo_rule.specs.OwnSide.{desk_with}
 use Rattle.redo_rule.specs.declared.law.Desk.{Desk}
 use Rattle.redo_rule.specs.declared.law.Slot.{Slot}
 use Rattle.redo_rule.specs.declared.law.Slot.TheVariants as slot
@@ -119,7 +120,7 @@ module _ {L D : Type 0} (log_seen : L → Seen) (log_gives : L → Call → L �
   module _ (heard : ℕ → List Given) (actors : List model.Actor) (ws : List ℕ) (xs : List (Slot L D)) (E : RunReaches
       log_seen log_gives data_seen data_gives about heard actors ws xs) where
     abbrev desk : Desk L
-    desk = record { part = E.parts.log; block = E.block }
+    desk = desk_with E.parts.log E.beside
 
     pub small : slice_index ws (index word.Failed) < 2 ^ 32
     small = subst (λ (z : List ℕ). slice_index z (index word.Failed) < 2 ^ 32) E.words_are (small_code log_seen data_seen E.run E.parts actors E.runs)

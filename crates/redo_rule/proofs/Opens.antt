@@ -32,8 +32,10 @@ use Rattle.model_core.proofs.FailedCalls.{gives_hand}
 use Rattle.redo_rule.proofs.Holders.{holding}
 use Rattle.model_core.specs.Hands.{HoldsNothing}
 use Rattle.redo_follow.specs.Handing.{Following}
+use Rattle.redo_rule.specs.OwnSide.{Beside, SitsAs}
 use Rattle.redo_rule.specs.Ruled.{first_view, IsNoArchiver, Knows, none_heard, numbered, Ruled, slot_content, starts_about}
 use Rattle.redo_rule.specs.declared.law.About.{About}
+use Rattle.redo_rule.specs.declared.law.Errand.{Errand}
 use Rattle.redo_rule.specs.declared.law.Keeping.{Keeping}
 use Rattle.redo_rule.specs.declared.law.Numbered.{Numbered}
 use Rattle.redo_rule.specs.declared.law.Slot.{Slot}
@@ -53,25 +55,31 @@ is_out (Some k) = k.out
 pub numbered_at : (heard : ℕ → List Given) (k : ℕ) (l : List model.Actor) (i : ℕ) (x : Numbered)
     → get_elem? (numbered heard k l) i ≡ maybe.some x
     → (k + i ≡ x.number) × (get_elem? l i ≡ maybe.some x.actor) × (◌≡◌ {A = List Given} (heard x.number) x.heard)
+    × ◌≡◌ {A = Option Errand} x.errand None
 numbered_at heard k [] i x e = absurd (maybe.some-ne-none x (sym e))
 numbered_at heard k (y ∷ ys) zero x e =
-    let s = maybe.some-injective (record { number = k; actor = y; heard = heard k }) x e in (
+    let s = maybe.some-injective (record { number = k; actor = y; heard = heard k; errand = None }) x e in (
       (let n : k ≡ x.number = ap (λ (z : Numbered). z.number) s in omega arith),
       ap (λ (z : Numbered). maybe.some z.actor) s,
       ap heard (sym (ap (λ (z : Numbered). z.number) s)) ∙ ap (λ (z : Numbered). z.heard) s,
+      sym (ap (λ (z : Numbered). z.errand) s),
     )
 numbered_at heard k (y ∷ ys) (suc i) x e =
-    let r = numbered_at heard (k + 1) ys i x e in ((let n = r.0 in omega arith), r.1, r.2)
+    let r = numbered_at heard (k + 1) ys i x e in ((let n = r.0 in omega arith), r.1, r.2, r.3)
 
 module _ {L D : Type 0} where
   -- what lies in the slots
   abbrev pub slots_of : Parts L D → (block : List ℕ) → List (Slot L D)
-  slots_of parts block = slot.Log (record { part = parts.log; block = block }) ∷ slot.Pages (listing_at
+  slots_of parts block = slot.Log (record { part = parts.log; block = block; work = None }) ∷ slot.Pages (listing_at
       parts.lists.lists 0) ∷ slot.Pages (listing_at parts.lists.lists 1) ∷ slot.Pages (listing_at parts.lists.lists 2)
       ∷ slot.Pages (listing_at parts.lists.lists 3) ∷ slot.Data parts.store ∷ []
 
+  -- nobody writes for itself
+  abbrev ordinary : List ℕ → Beside
+  ordinary block = record { block = block; own = None }
+
   at_home : (parts : Parts L D) (block : List ℕ) (k : ℕ) → k < 5 → get_elem? (map maybe.some (slots_of parts block)) k
-      ≡ maybe.some (maybe.some (slot_content parts block k))
+      ≡ maybe.some (maybe.some (slot_content parts (ordinary block) k))
   at_home parts block zero l = refl
   at_home parts block (suc zero) l = refl
   at_home parts block (suc (suc zero)) l = refl
@@ -122,11 +130,13 @@ module _ {L D R : Type 0} (log_seen : L → Seen) (data_seen : D → Seen) (stan
 
   pub there : (i : ℕ) (x : Numbered) → get_elem? (first_view about).seats i ≡ maybe.some x
       → (get_elem? actors x.number ≡ maybe.some x.actor) × (◌≡◌ {A = List Given} [] x.heard)
+      × ◌≡◌ {A = Option Errand} x.errand None
   there i x e =
       let n = numbered_at none_heard 0 (starts_about about) i x e in (
         ap (get_elem? actors) (let k = n.0 in let z : x.number ≡ i = omega arith in z) ∙ ap (λ (l : List model.Actor).
             get_elem? l i) are ∙ n.1,
         n.2,
+        n.3,
       )
 
 module _ {L D R : Type 0} (log_seen : L → Seen) (log_gives : L → Call → L → Type 0) (data_seen : D → Seen) (data_gives
@@ -144,10 +154,11 @@ module _ {L D R : Type 0} (log_seen : L → Seen) (log_gives : L → Call → L 
 
   abbrev there_one : (i : ℕ) (x : Numbered) → get_elem? (first_view about).seats i ≡ maybe.some x
       → (get_elem? all x.number ≡ maybe.some x.actor) × (◌≡◌ {A = List Given} [] x.heard)
+      × ◌≡◌ {A = Option Errand} x.errand None
   there_one = there log_seen data_seen stands about followers many start B
 
   abbrev Known : ℕ → View L D → Type 0
-  Known j v = Knows about start.parts block all none_heard (λ _. 0) 0 false j v
+  Known j v = Knows about start.parts (record { block = block; own = None }) all none_heard (λ _. 0) 0 false j v
 
   knows_first : Known 0 (first_view about)
   knows_first = record {
@@ -157,6 +168,8 @@ module _ {L D R : Type 0} (log_seen : L → Seen) (log_gives : L → Call → L 
     mine = λ i x e. (refl, (there_one i x e).0, (there_one i x e).1);
     free = λ i x e _. fresh_one x.number x.actor (there_one i x e).0;
     held = λ i x k e h. let z = (fresh_one x.number x.actor (there_one i x e).0).no_slot in absurd (cc);
+    errand = λ i x e. subst (λ (z : Option Errand). SitsAs None z x.number) (sym (there_one i x e).2) tt;
+    work = λ i x g e is has. let none : Some g ≡ None = sym is ∙ (there_one i x e).2 in absurd (cc);
     data_part = λ d e. (refl, sym (ap (λ (o : Option (Keeping D)). part_or about.opened.value.store o) e) ∙ sym B.data_part, ap (λ (o : Option (Keeping D)). is_out o) e);
   }
 
@@ -180,11 +193,12 @@ module _ {L D R : Type 0} (log_seen : L → Seen) (log_gives : L → Call → L 
       begun = B.begun;
     };
     parts = start.parts;
-    block = block;
+    beside = record { block = block; own = None };
     actors = all;
     heard = none_heard;
     words_are = refl;
     lists_are = lists_are;
+    own = tt;
     runs = B.from.runs;
     hears = λ told n a at. sym (none_at_start B.run.setup B.at_start.seat_of B.at_start.writer n
         B.from.runs.running.shared.sn B.from.runs.running.log_ghost.log a
@@ -201,7 +215,7 @@ module _ {L D R : Type 0} (log_seen : L → Seen) (log_gives : L → Call → L 
     keeper = 0;
     out = false;
     data_home = λ z. refl;
-    told = λ n a code at g. let held = (holding log_seen data_seen B.run start.parts all B.from.runs n a at 0
+    told = λ n a code sits at g. let held = (holding log_seen data_seen B.run start.parts all B.from.runs n a at 0
         (gives_hand a code g)).word_is in let free = free_word 0 (omega arith) in absurd (omega arith);
     taken = λ k l busy. absurd (busy (free_word k l));
     knows = one_view;

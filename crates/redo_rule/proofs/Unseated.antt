@@ -21,6 +21,7 @@ use Rattle.redo_store.specs.declared.opened.Opened.{Opened}
 use Rattle.redo_rule.proofs.Opens as opens
 use Rattle.redo_rule.specs.Cutting.{IsFirst}
 use Rattle.redo_follow.specs.Handing.{Following}
+use Rattle.redo_rule.specs.OwnSide.{HasNoWork}
 use Rattle.redo_rule.specs.Ruled.{first_view, none_heard, numbered, starts_about}
 use Rattle.redo_rule.specs.Seating.{IsCleaner}
 use Rattle.redo_rule.specs.Sharing.{IsUnseated}
@@ -76,9 +77,12 @@ module _ {L D R : Type 0} (log_seen : L → Seen) (data_seen : D → Seen) (stan
       words = words ∙ ap word_count (sym pages_are ∙ sym (ap (λ (v : View L D). v.pages) view));
       none = ap (λ (m : Me (Slot L D) (View L D)). m.1) me;
       empty = ap (λ (v : View L D). v.held) view;
-      rest = λ i y e. opens.fresh log_seen data_seen stands about followers many start B y.number y.actor (opens.there
-          log_seen data_seen stands about followers many start B i y (ap (λ (v : View L D). get_elem? v.seats i) (sym
-          view) ∙ e)).0;
+      rest = λ i y e.
+          let there = opens.there log_seen data_seen stands about followers many start B i y
+          (ap (λ (v : View L D). get_elem? v.seats i) (sym view) ∙ e) in (
+            opens.fresh log_seen data_seen stands about followers many start B y.number y.actor there.0,
+            subst HasNoWork (sym there.2) tt,
+          );
       home = λ d has. sym (ap (λ (o : Option (Keeping D)). opens.is_out o) (sym (ap (λ (v : View L D). v.data_part) view) ∙ has));
     }
 

@@ -1,5 +1,5 @@
 // Both parts and the lists in their slots, and a table over them.
-ghost use Rattle.std.specs.Prelude.{[], ◌++◌, ◌<◌, ◌∷◌, ◌≡◌, ◌≤◌, IfErr, IfOk, length, replicate, vec_capacity, vec_len};
+ghost use Rattle.std.specs.Prelude.{[], ◌++◌, ◌<◌, ◌∷◌, ◌≡◌, ◌≤◌, IfErr, IfOk, None, length, replicate, vec_capacity, vec_len};
 ghost use Rattle.model_base.specs.declared.limits.TheConstants.{BLOCK_SIZE};
 ghost use Rattle.atomic_table.specs.Table.{opening};
 ghost use Rattle.redo_drive.specs.Lists.{AreLists, Listings};
@@ -30,7 +30,7 @@ pub(crate) fn lay_out<L: Sectors, D: Sectors>(
     lists: FlushLists,
 ) -> Result<(Vec<Seat<L, D>>, Vec<Slot<L, D>>), (LogPart<L>, DataPart<D>)>
     ensures room { IfOk result (λ made. (made.0.items ≡ []) × (seats ≤ vec_capacity made.0)) }
-    ensures slots { IfOk result (λ made. (made.1.items ≡ laid (record { part = log; block = replicate BLOCK_SIZE 0 }) lists store) × AreLists lists) }
+    ensures slots { IfOk result (λ made. (made.1.items ≡ laid (record { part = log; block = replicate BLOCK_SIZE 0; work = None }) lists store) × AreLists lists) }
     ensures err { IfErr result (λ parts. (parts.0 ≡ log) × (parts.1 ≡ store)) }
 {
     let Ok(room) = Vec::with_capacity(alloc, seats) else {
@@ -47,6 +47,7 @@ pub(crate) fn lay_out<L: Sectors, D: Sectors>(
     slots.push_reserved(Slot::Log(Desk {
         part: log,
         block: [0; 512],
+        work: None,
     }));
     slots.push_reserved(Slot::Pages(a));
     slots.push_reserved(Slot::Pages(b));

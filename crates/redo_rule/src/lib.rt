@@ -20,7 +20,7 @@ mod shared;
 mod slots;
 mod steps;
 
-pub use law::{About, Desk, Heard, Keeping, Law, Numbered, Ring, Seat, Slot, View, Viewed};
+pub use law::{About, Desk, Errand, Heard, Keeping, Law, Numbered, Ring, Seat, Slot, View, Viewed};
 pub use playing::play;
 pub use resting::{all_hold_nothing, holds_nothing};
 pub use shared::{Board, Shared};

@@ -1,5 +1,5 @@
 // Seats are cut off the first one, and taken in again.
-ghost use Rattle.std.specs.Prelude.{[], ◌∷◌, ◌≡◌};
+ghost use Rattle.std.specs.Prelude.{[], ◌∷◌, ◌≡◌, None};
 ghost use Rattle.redo_rule.specs.Mine.{Mine};
 ghost use Rattle.redo_rule.specs.Cutting.{IsFirst, MayCut, MayTakeIn};
 ghost use Rattle.redo_rule.specs.Seats.{cut_left, cut_right, spent, taken_in};
@@ -38,7 +38,7 @@ pub(crate) fn cut_off<L: Sectors, D: Sectors>(
     ensures first { IsFirst table.now.table_id first.new }
     ensures left { first.new.me.0 ≡ cut_left first.old.me.0 }
     ensures right { result.me.0 ≡ cut_right first.old.me.0 }
-    ensures mine { (x : Numbered) → result.me.0.seats ≡ x ∷ [] → Mine table.now.table_id result x.actor }
+    ensures mine { (x : Numbered) → result.me.0.seats ≡ x ∷ [] → x.errand ≡ None → Mine table.now.table_id result x.actor }
 {
     let mut token = table.split_seat::<Cut>(first);
     table.load::<Looked>(&mut token, 0);
