@@ -1,0 +1,3 @@
+pub mod OwnFree
+pub mod OwnKept
+pub mod OwnWords

@@ -1,0 +1,2 @@
+pub mod OwnMine
+pub mod OwnPlays
