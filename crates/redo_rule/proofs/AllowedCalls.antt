@@ -240,6 +240,7 @@ module _ {L D : Type 0} (log_seen : L → Seen) (log_gives : L → Call → L �
         is_about = R.is_about;
         parts = R.parts;
         beside = R.beside;
+        own_is = R.own_is;
         own = R.own;
         actors = R.actors;
         heard = R.heard;

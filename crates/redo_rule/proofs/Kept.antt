@@ -191,6 +191,7 @@ module _ {L D : Type 0} (log_seen : L → Seen) (log_gives : L → Call → L �
       (heard : ℕ → List Given) : Type 0 where
     pub same : HasSamePages R.parts new
     pub runs : RunsOn log_seen data_seen R.run new after
+    pub own_is : is_some beside.own ≡ is_some R.beside.own
     pub own : HasItsWork (run_log_side log_seen data_seen R.run) new.log beside.own after
     pub hears : HaveGroups (run_log_side log_seen data_seen R.run) new.log heard after runs.running.log_ghost.log
     pub count : length after ≡ length R.actors
@@ -286,6 +287,7 @@ module _ {L D : Type 0} (log_seen : L → Seen) (log_gives : L → Call → L �
         heard = heard;
         words_are = refl;
         lists_are = are;
+        own_is = R.own_is ∙ sym left.own_is;
         own = left.own;
         runs = left.runs;
         hears = left.hears;
@@ -459,6 +461,7 @@ module _ {L D : Type 0} (log_seen : L → Seen) (log_gives : L → Call → L �
         leaves = record {
           same = same;
           runs = runs_behind;
+          own_is = ap (λ (z : Option OwnSide). is_some z) same_own;
           own = own_behind;
           hears = hears_behind;
           count = length-set R.actors x.number b;

@@ -40,7 +40,7 @@ in_both (x ∷ xs) ys zero z e = inl (zero, e)
 in_both (x ∷ xs) ys (suc i) z e = ⊎_elim (λ t. inl (suc t.0, t.1)) (λ t. inr t) (in_both xs ys i z e)
 
 -- who has no work of the log in hand has none
-not_working : (own : Option Errand) (e : Errand) → own ≡ Some e → HasNoWork own → has_work e.step ≡ true → ⊥
+pub not_working : (own : Option Errand) (e : Errand) → own ≡ Some e → HasNoWork own → has_work e.step ≡ true → ⊥
 not_working own e is none has = let z : has_work e.step ≡ false = subst HasNoWork is none in absurd (cc)
 
 module _ {L D : Type 0} (log_seen : L → Seen) (log_gives : L → Call → L → Type 0) (data_seen : D → Seen) (data_gives : D → Call → D → Type 0) (about : About L D) where
@@ -126,6 +126,7 @@ module _ {L D : Type 0} (log_seen : L → Seen) (log_gives : L → Call → L �
         is_about = R.is_about;
         parts = R.parts;
         beside = R.beside;
+        own_is = R.own_is;
         own = R.own;
         actors = R.actors;
         heard = R.heard;
@@ -223,6 +224,7 @@ module _ {L D : Type 0} (log_seen : L → Seen) (log_gives : L → Call → L �
         is_about = R.is_about;
         parts = R.parts;
         beside = R.beside;
+        own_is = R.own_is;
         own = R.own;
         actors = R.actors;
         heard = R.heard;

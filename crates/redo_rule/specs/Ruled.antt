@@ -1,12 +1,13 @@
 -- The rule of the table: the invariant of a run, over the words, both parts, the lists and the actors' states, and where
 -- each of these is: in a home slot, or with the seat that holds it.
-use Rattle.std.specs.Prelude.{Bool, IfSome, List, None, Some, [], false, length, slice_index, suc, true, zero, ℕ, ◌+◌, ◌<◌, ◌∷◌, ◌≡◌, ◌≢◌}
+use Rattle.std.specs.Prelude.{Bool, IfSome, List, None, Some, [], cond, false, is_some, length, slice_index, suc, true, zero, ℕ, ◌+◌, ◌<◌, ◌∷◌, ◌≡◌, ◌≢◌}
 use lib.ListN.{get_elem?}
 use mathlib.Core.Option.{some}
 use Rattle.atomic_table.specs.Table.{State}
 use Rattle.model_core.specs.{archives, Entry, Given}
 use Rattle.model_core.specs.LogSide.{LogSide}
 use Rattle.model_own.specs.OwnWrites.{has_work}
+use Rattle.model_own.specs.declared.errand.ErrandStep.TheVariants as errand_step
 use Rattle.model_core.specs.Actors as model
 use Rattle.model_theorem.specs.{IsStart}
 use Rattle.model_store.specs.Reading.{Reading}
@@ -37,6 +38,19 @@ numbered heard k [] = []
 numbered heard k (x ∷ xs) =
     record { number = k; actor = x; heard = heard k; errand = None } ∷ numbered heard (k + 1) xs
 
+-- the same where users write for themselves: each is on no errand, and nobody sits as the writer or the flusher
+abbrev pub own_numbered : ℕ → List model.Actor → List Numbered
+own_numbered k [] = []
+own_numbered k (model.User u ∷ xs) = record {
+  number = k;
+  actor = model.User u;
+  heard = [];
+  errand = Some (record { step = errand_step.Done; helped = false });
+} ∷ own_numbered (k + 1) xs
+own_numbered k (model.Writer s ∷ xs) = own_numbered (k + 1) xs
+own_numbered k (model.Flusher t ∷ xs) = own_numbered (k + 1) xs
+own_numbered k (x ∷ xs) = record { number = k; actor = x; heard = []; errand = None } ∷ own_numbered (k + 1) xs
+
 -- none has handed on anything
 abbrev pub none_heard : ℕ → List Given
 none_heard number = []
@@ -65,12 +79,17 @@ module _ {L D : Type 0} where
   abbrev pub starts_about : About L D → List model.Actor
   starts_about about = start_actors about.opened.value.shape about.script.value about.opened.value.start about.log_only about.followers
 
+  -- who sits in the first seat
+  abbrev pub first_seats : About L D → List Numbered
+  first_seats about = cond about.own_writes (own_numbered 0 (starts_about about))
+      (numbered none_heard 0 (starts_about about))
+
   -- the first seat has all actors and the data part
   abbrev pub first_view : About L D → View L D
   first_view about = record {
     about = Some about;
     pages = about.opened.value.shape.pages;
-    seats = numbered none_heard 0 (starts_about about);
+    seats = first_seats about;
     held = None;
     data_part = Some (record { part = about.opened.value.store; out = false });
   }
@@ -113,6 +132,7 @@ pub record Ruled {L D : Type 0} (log_seen : L → Seen) (log_gives : L → Call 
   pub words_are : parts.words.words ≡ s.words
   pub lists_are : AreLists parts.lists
   -- where users write for themselves, the writer and the flusher among the actors are the log's work
+  pub own_is : about.own_writes ≡ is_some beside.own
   pub own : HasItsWork (run_log_side log_seen data_seen run) parts.log beside.own actors
   pub runs : RunsOn log_seen data_seen run parts actors
   pub hears : HaveGroups (run_log_side log_seen data_seen run) parts.log heard actors runs.running.log_ghost.log
