@@ -2,7 +2,8 @@
 ghost use Rattle.std.specs.Prelude.{◌≡◌, cond, false, true};
 ghost use Rattle.model_core.specs.Actors as actor;
 ghost use Rattle.model_core.specs.AnswerFits.{AnswerFits};
-ghost use Rattle.model_core.specs.{heard, step_of, user_took};
+ghost use Rattle.model_core.specs.{heard, next, step_of, user_took};
+ghost use Rattle.model_core.specs.declared.ops.Op.TheVariants as op;
 ghost use Rattle.model_own.specs.OwnWrites.{ErrandFits, MayHelpAt, errand_took, errand_waits, has_failed, own_goes_on};
 ghost use Rattle.model_own.specs.OwnWrites.{own_lends, own_next, own_step_of, own_stepped, sets_out, waiting, written};
 ghost use Rattle.model_own.specs.OwnWrites as model;
@@ -308,5 +309,26 @@ impl OwnUser {
             ErrandStep::TakeDevice => self.wait(),
             ErrandStep::GiveBroken | ErrandStep::Write | ErrandStep::Flush => unreachable!(),
         }
+    }
+
+    /// Whether it has the log's work in hand.
+    pub fn has_work(&self) -> bool
+        ensures { result ≡ has_work self.now.errand }
+    {
+        match self.errand {
+            ErrandStep::Done | ErrandStep::TakeDevice => false,
+            ErrandStep::GiveBroken | ErrandStep::Write | ErrandStep::Flush => true,
+        }
+    }
+
+    /// It has ended, and so it rests: how its last step ended.
+    #[tactic(auto, using(crate::proofs::Stepped::rests_same))]
+    pub fn rests(&mut self) -> Step
+        requires asks { next (actor.User self.old.user) ≡ op.Rest }
+        requires fits { AnswerFits (actor.User self.old.user) Answer.Rested }
+        ensures same { self.new ≡ self.old }
+        ensures step { result ≡ step_of (actor.User self.old.user) Answer.Rested }
+    {
+        self.user.took(Answer::Rested)
     }
 }

@@ -41,6 +41,7 @@ use Rattle.redo_rule.specs.Sharing.{HaveHeard, heard_by}
 use Rattle.redo_rule.specs.Slots.{IsData, IsLog, IsPages}
 use Rattle.redo_rule.specs.declared.closing.Left.{Left}
 use Rattle.redo_rule.specs.declared.law.About.{About}
+use Rattle.model_own.specs.OwnWrites.{LogWork}
 use Rattle.redo_rule.specs.OwnSide.{desk_with, work_of}
 use Rattle.redo_rule.specs.declared.law.Desk.{Desk}
 use Rattle.redo_rule.specs.declared.law.Slot.{Slot}
@@ -146,10 +147,10 @@ module _ {L D : Type 0} (log_seen : L → Seen) (log_gives : L → Call → L �
     pub data_there : (x : Slot L D) → get_elem? xs 5 ≡ maybe.some x → IsData x (λ d. Unit {0})
     data_there x e = (E.parts.store, in_slot 5 x (slot.Data E.parts.store) e E.data_part, tt)
 
-    pub work_left : (left : Left L D) (x : Slot L D) (found : Desk L) → get_elem? xs 0 ≡ maybe.some x → x ≡ slot.Log found
-        → left.work ≡ found.work → left.work ≡ work_of E.beside.own
-    work_left left x found at is work = work
-        ∙ ap (λ (z : Desk L). z.work) (kept.same_desk found desk (sym is ∙ in_slot 0 x (slot.Log desk) at E.log))
+    pub work_left : (x : Slot L D) (found : Desk L) → get_elem? xs 0 ≡ maybe.some x → x ≡ slot.Log found
+        → ◌≡◌ {A = Option LogWork} found.work (work_of E.beside.own)
+    work_left x found at is =
+        ap (λ (z : Desk L). z.work) (kept.same_desk found desk (sym is ∙ in_slot 0 x (slot.Log desk) at E.log))
 
     pub parts_left : (left : Left L D) (x y : Slot L D) (found : Desk L) → get_elem? xs 0 ≡ maybe.some x → x ≡ slot.Log found
         → left.log ≡ found.part → get_elem? xs 5 ≡ maybe.some y → y ≡ slot.Data left.store

@@ -1,5 +1,5 @@
 -- A store that is shared as its run begins: no actor has a seat, and the first seat knows them all.
-use Rattle.std.proofs.Common.{Bool, cond, false, Bool, List, Option, Some, [], ap, length, refl, subst, sym, true, ℕ, ◌∙◌, ◌≡◌, ◌≤◌}
+use Rattle.std.proofs.Common.{Bool, List, cond, false, Option, Some, [], ap, length, refl, subst, sym, true, ℕ, ◌∙◌, ◌≡◌, ◌≤◌}
 use Rattle.std.specs.Prelude.{IfSome, IsSome, vec_capacity}
 use lib.ListN.{get_elem?}
 use mathlib.Core.Option as maybe

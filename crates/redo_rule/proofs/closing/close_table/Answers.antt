@@ -168,6 +168,6 @@ returns g c = record {
       (c.tail_of.ensures ∙ ap tail_of c.word_in.ensures) c.word_in-2.ensures c.word_in-3.ensures c.word_in-4.ensures c.word_in-code.ensures;
   work = λ heard actors E. work_left g.L.Sectors.seen g.L.Sectors.gives g.D.Sectors.seen g.D.Sectors.gives
       c.args.board.shared.key heard actors (slots_items c.close_with-closed.result.words)
-      (slots_items c.close_with-closed.result.slots) E _ c.take-log.result c.desk_in-part.result c.take-log.ensures.value
-      c.desk_in-part.ensures refl;
+      (slots_items c.close_with-closed.result.slots) E c.take-log.result c.desk_in-part.result c.take-log.ensures.value
+      c.desk_in-part.ensures;
 }
