@@ -1,3 +1,2 @@
 pub mod OwnFree
-pub mod OwnKept
 pub mod OwnWords

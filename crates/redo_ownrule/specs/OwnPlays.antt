@@ -4,8 +4,16 @@ use Rattle.std.specs.Prelude.{List, None, Option, Some, [], cond, true, ℕ, ◌
 use lib.ListN.{get_elem?}
 use mathlib.Core.Option.{some}
 use Rattle.atomic_table.specs.Table.{Me, rest}
-use Rattle.model_core.specs.{OpWords}
+use Rattle.model_core.specs.{OpWords, user_op}
 use Rattle.model_core.specs.Actors as model
+use Rattle.model_core.specs.AnswerFits.{AnswerFits}
+use Rattle.model_core.specs.declared.ops.Op.TheVariants as op
+use Rattle.model_core.specs.declared.steps.FlusherStep.{FlusherStep}
+use Rattle.model_core.specs.declared.steps.FlusherStep.TheVariants as flusher_step
+use Rattle.model_core.specs.declared.steps.WriterStep.{WriterStep}
+use Rattle.model_core.specs.declared.steps.WriterStep.TheVariants as writer_step
+use Rattle.model_own.specs.declared.errand.ErrandStep.{ErrandStep}
+use Rattle.model_own.specs.declared.errand.ErrandStep.TheVariants as errand_step
 use Rattle.model_core.specs.declared.ops.Answer.{Answer}
 use Rattle.model_core.specs.declared.ops.Answer.TheVariants as answer
 use Rattle.model_core.specs.declared.ops.Step.{Step}
@@ -19,7 +27,8 @@ use Rattle.redo_drive.specs.declared.parts.Parts.{Parts}
 use Rattle.redo_ownmachine.specs.OwnSeats.{OwnSeats}
 use Rattle.redo_ownmachine.specs.OwnStore.{own_core_of, OwnRunsOn}
 use Rattle.redo_ownuser.specs.OwnFits.{OwnAnswerFits, WorkGoesOn}
-use Rattle.redo_rule.specs.Plays.{taking}
+use Rattle.redo_flushlist.specs.{Listing}
+use Rattle.redo_rule.specs.Plays.{list_behind, ListFits, TakesList, taking}
 use Rattle.redo_rule.specs.Ruled.{IsRunAbout}
 use Rattle.redo_rule.specs.declared.law.About.{About}
 use Rattle.redo_rule.specs.declared.law.Desk.{Desk}
@@ -48,6 +57,27 @@ own_behind x o = record {
   errand = Some (errand_of o);
 }
 
+-- where the writer and the flusher stand in a user's hand: that has DEVICE, and gives it when all is done
+abbrev pub WriterInHand : WriterStep → Type 0
+WriterInHand writer_step.TakeDevice = ⊥
+WriterInHand writer_step.GiveBroken = ⊥
+WriterInHand writer_step.GiveDevice = ⊥
+WriterInHand writer_step.Failed = ⊥
+WriterInHand _ = Unit {0}
+
+abbrev pub FlusherInHand : FlusherStep → Type 0
+FlusherInHand flusher_step.Sync = Unit {0}
+FlusherInHand flusher_step.StoreFlushed = Unit {0}
+FlusherInHand flusher_step.GiveDevice = Unit {0}
+FlusherInHand flusher_step.StoreFailed = Unit {0}
+FlusherInHand flusher_step.GiveFailed = Unit {0}
+FlusherInHand _ = ⊥
+
+abbrev pub WorkInHand : ErrandStep → LogWork → Type 0
+WorkInHand errand_step.Write k = WriterInHand k.writer.step
+WorkInHand errand_step.Flush k = FlusherInHand k.flusher.step
+WorkInHand _ k = Unit {0}
+
 module _ {L D : Type 0} where
   -- what lies in the log part's slot, with the log's work so far
   abbrev pub with_work : Desk L → LogWork → Desk L
@@ -67,6 +97,9 @@ module _ {L D : Type 0} where
   pub record OwnMayGo (pages : ℕ) (held : Option (Slot L D)) (o : OwnUser) (k : LogWork) : Type 0 where
     pub stands : ErrandFits o.user o.errand
     pub goes_on : WorkGoesOn o.errand k
+    pub in_hand : WorkInHand o.errand k
+    pub rest : own_next o k ≡ op.Rest → AnswerFits (model.User o.user) answer.Rested
+    pub give : own_next o k ≡ op.GiveDevice → OwnAnswerFits o k (answer.Taken None)
     pub there : OpWords pages (own_next o k)
     pub log : (desk : Desk L) → held ≡ Some (slot.Log desk) → has_work o.errand ≡ true → (l : Lent)
         → Lends l (own_lends o k) → LogReady desk.part l (own_next o k)
@@ -97,11 +130,11 @@ module _ {L D : Type 0} (log_seen : L → Seen) (data_seen : D → Seen) where
 
   -- the seat's user took an answer, with the log's work so far, and holds this then
   pub record OwnStepped (x : Numbered) (o : OwnUser) (k : LogWork) (r : Answer) (held : Option (Slot L D))
-      (carried : List (ℕ × Slot L D)) (m m' : Me (Slot L D) (View L D)) : Type 0 where
+      (carried : List (ℕ × Slot L D)) (v : View L D) (m' : Me (Slot L D) (View L D)) : Type 0 where
     pub fits : OwnAnswerFits o k r
-    pub shown : OwnShown m.0.about x.number o k r
-    pub is : m' ≡ (own_view m.0 x (own_goes_on o k r).0 held, carried)
-    pub may : OwnMayGo m.0.pages held (own_goes_on o k r).0 (own_goes_on o k r).1
+    pub shown : OwnShown v.about x.number o k r
+    pub is : m' ≡ (own_view v x (own_goes_on o k r).0 held, carried)
+    pub may : OwnMayGo v.pages held (own_goes_on o k r).0 (own_goes_on o k r).1
 
   -- what it holds after an Op on a word: the log part, if it had that, with the log's work as it is then
   abbrev pub held_behind : Option (Slot L D) → OwnUser → LogWork → Option (Slot L D)
@@ -112,7 +145,7 @@ module _ {L D : Type 0} (log_seen : L → Seen) (data_seen : D → Seen) where
   abbrev pub own_saw : Me (Slot L D) (View L D) → ℕ → Me (Slot L D) (View L D) → Type 0
   own_saw m n m' = (x : Numbered) (o : OwnUser) → m.0.seats ≡ x ∷ [] → IsOwn x o
       → (k : LogWork) × HasWork m.0.held o k
-      × OwnStepped x o k (answer.Old n) (held_behind m.0.held o (own_goes_on o k (answer.Old n)).1) m.1 m m'
+      × OwnStepped x o k (answer.Old n) (held_behind m.0.held o (own_goes_on o k (answer.Old n)).1) m.1 m.0 m'
 
   -- The taking of the log part with the log's work, in which a change is to follow.
   abbrev pub own_seized : Me (Slot L D) (View L D) → ℕ → Me (Slot L D) (View L D) → Type 0
@@ -120,13 +153,13 @@ module _ {L D : Type 0} (log_seen : L → Seen) (data_seen : D → Seen) where
       → (n ≡ 0 → (desk : Desk L) × (k : LogWork) × (desk.work ≡ Some k)
       × OwnStepped x o k (taking (is_some desk.part.failed))
       (Some (slot.Log (with_work desk (own_goes_on o k (taking (is_some desk.part.failed))).1)))
-      ((0, slot.Log desk) ∷ m.1) m m')
-      × (n ≢ 0 → (k : LogWork) × OwnStepped x o k answer.Held m.0.held m.1 m m')
+      ((0, slot.Log desk) ∷ m.1) m.0 m')
+      × (n ≢ 0 → (k : LogWork) × OwnStepped x o k answer.Held m.0.held m.1 m.0 m')
 
   -- The log part is given back with its slot, and with the log's work as the answer has left it.
   abbrev pub own_gave : Me (Slot L D) (View L D) → ℕ → Me (Slot L D) (View L D) → Type 0
   own_gave m n m' = (x : Numbered) (o : OwnUser) (k : LogWork) → m.0.seats ≡ x ∷ [] → IsOwn x o
-      → HasWork m.0.held o k → OwnStepped x o k (answer.Taken None) None (rest m.1) m m'
+      → HasWork m.0.held o k → OwnStepped x o k (answer.Taken None) None (rest m.1) m.0 m'
 
   -- after a call of the log part
   abbrev pub own_called : Me (Slot L D) (View L D) → ℕ → Me (Slot L D) (View L D) → Type 0
@@ -134,4 +167,18 @@ module _ {L D : Type 0} (log_seen : L → Seen) (data_seen : D → Seen) where
       → HasWork m.0.held o k → m.1 ≡ (0, slot.Log desk) ∷ []
       → OwnStepped x o k (call_answer Log desk.part.failed (told_by (own_next o k) desk.part.marks.stable))
       (Some (slot.Log (with_work desk
-      (own_goes_on o k (call_answer Log desk.part.failed (told_by (own_next o k) desk.part.marks.stable))).1))) m.1 m m'
+      (own_goes_on o k (call_answer Log desk.part.failed (told_by (own_next o k) desk.part.marks.stable))).1))) m.1 m.0 m'
+
+  -- the taking of a flush list, whose call is to follow
+  abbrev pub own_seized_list : Me (Slot L D) (View L D) → ℕ → Me (Slot L D) (View L D) → Type 0
+  own_seized_list m n m' = (x : Numbered) (o : OwnUser) (i : ℕ) → m.0.seats ≡ x ∷ [] → IsOwn x o → TakesList (user_op o.user o.user.step) i
+      → (n ≡ 0 → (l : Listing) × (k : LogWork) × ListFits (user_op o.user o.user.step) l
+      × OwnStepped x o k (answer.Taken None) (Some (slot.Pages (list_behind (user_op o.user o.user.step) l)))
+      ((i, slot.Pages l) ∷ m.1) m.0 m')
+      × (n ≢ 0 → (k : LogWork) × OwnStepped x o k answer.Held m.0.held m.1 m.0 m')
+
+  -- a look that changes nothing: what the user may do
+  abbrev pub own_looked : Me (Slot L D) (View L D) → ℕ → Me (Slot L D) (View L D) → Type 0
+  own_looked m n m' = (m' ≡ m) × ((x : Numbered) (o : OwnUser) → m.0.seats ≡ x ∷ [] → IsOwn x o
+      → ErrandFits o.user o.errand
+      × ((k : LogWork) → HasWork m.0.held o k → OwnMayGo m.0.pages m.0.held o k))

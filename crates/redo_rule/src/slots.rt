@@ -55,7 +55,7 @@ pub(crate) fn write_slot<L: Sectors, D: Sectors>(
 }
 
 /// How a sync ended, and the stable mark after it.
-pub(crate) fn sync_slot<L: Sectors, D: Sectors>(
+pub fn sync_slot<L: Sectors, D: Sectors>(
     slot: &mut Slot<L, D>,
 ) -> (Result<(), DevError>, u64)
     requires { IsLog slot.old (λ p. p.failed ≡ None) }
