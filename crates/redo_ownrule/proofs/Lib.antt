@@ -1,2 +1,3 @@
 pub mod OwnFree
+pub mod OwnKept
 pub mod OwnWords

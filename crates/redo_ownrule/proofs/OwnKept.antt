@@ -1,5 +1,5 @@
 -- A turn of a user that writes for itself keeps the rule, whatever it does to the slots.
-use Rattle.std.proofs.Common.{List, None, Option, Some, [], ap, arith, inl, inr, length, length-set, refl, set, subst, suc, sym, zero, ℕ}
+use Rattle.std.proofs.Common.{List, None, Option, Some, [], ap, arith, inl, inr, is_some, length, length-set, refl, set, subst, suc, sym, zero, ℕ}
 use Rattle.std.proofs.Common.{⊎_elim, ◌+◌, ◌∙◌, ◌∷◌, ◌≡◌, ◌≢◌, ◌≤◌, ◌⊎◌}
 use lib.ListN.{get_elem?}
 use mathlib.Core.Option as maybe
@@ -22,7 +22,8 @@ use Rattle.redo_drive.specs.declared.parts.Parts.{Parts}
 use Rattle.redo_ownmachine.proofs.From as from
 use Rattle.redo_ownmachine.proofs.Turned as turned
 use Rattle.redo_ownmachine.specs.OwnSeats.{actors_of, OwnSeats}
-use Rattle.redo_ownmachine.specs.OwnStore.{own_core_of, OwnRunsOn}
+use Rattle.redo_ownmachine.specs.OwnAsking.{own_core_of}
+use Rattle.redo_ownmachine.specs.OwnStore.{OwnRunsOn}
 use Rattle.redo_ownmachine.specs.Serving.{IsUserServed}
 use Rattle.redo_ownrule.specs.OwnPlays.{errand_of, own_behind}
 use Rattle.redo_rule.proofs.Kept as kept
@@ -84,7 +85,7 @@ behind_same (x ∷ xs) [] k k' others same n far = absurd (omega arith)
 behind_same (x ∷ xs) (y ∷ ys) k k' others same zero far = absurd (omega arith)
 behind_same (x ∷ xs) (y ∷ ys) k k' others same (suc n) far = behind_same xs ys k k' others (omega arith) n (omega arith)
 
-user_or : UserState → model.Actor → UserState
+abbrev user_or : UserState → model.Actor → UserState
 user_or d (model.User u) = u
 user_or d _ = d
 
@@ -261,6 +262,7 @@ module _ {L D : Type 0} (log_seen : L → Seen) (log_gives : L → Call → L �
         leaves = record {
           same = same;
           runs = runs_behind.runs;
+          own_is = ap (λ (z : Option OwnSide). is_some z) (sym own_is);
           own = record { others = worked.others; are = refl; errands = runs_behind.errands };
           hears = hears_behind;
           count = all_length now.users left worked.others
