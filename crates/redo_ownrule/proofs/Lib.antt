@@ -3,6 +3,7 @@ pub mod OwnFree
 pub mod OwnHands
 pub mod OwnKept
 pub mod OwnMay
+pub mod OwnOps
 pub mod OwnTurns
 pub mod OwnUserHands
 pub mod OwnWords
