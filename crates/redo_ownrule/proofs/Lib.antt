@@ -1,3 +1,4 @@
+pub mod OwnAllowed
 pub mod OwnDesk
 pub mod OwnFree
 pub mod OwnHands

@@ -20,7 +20,11 @@ use Rattle.model_own.specs.OwnWrites.{after_flusher, after_writer, errand_op, er
 use Rattle.model_own.specs.OwnWrites.{own_goes_on, own_next, OwnUser}
 use Rattle.model_own.specs.declared.errand.ErrandStep.{ErrandStep}
 use Rattle.model_own.specs.declared.errand.ErrandStep.TheVariants as errand_step
-use Rattle.redo_ownrule.specs.OwnPlays.{FlusherInHand, WorkInHand, WriterInHand}
+use Rattle.model_core.specs.{OpWords}
+use Rattle.model_core.specs.AnswerFits.{AnswerFits}
+use Rattle.redo_ownrule.specs.OwnPlays.{FlusherInHand, OwnMayGo, WorkInHand, WriterInHand}
+use Rattle.redo_ownuser.specs.OwnFits.{ErrandAnswerFits, WorkGoesOn}
+use Rattle.redo_rule.specs.declared.law.Slot.{Slot}
 use Rattle.redo_words.specs.{HoldsSum}
 
 -- the Ops of a user's own program, and those of the log's work in its hand
@@ -282,3 +286,52 @@ module _ (o : OwnUser) (k : LogWork) (hold : WorkInHand o.errand k) where
 
   pub no_look : k.flusher.step ≡ flusher_step.LoadWrite → o.errand ≡ errand_step.Flush → ⊥
   no_look looks is = subst FlusherInHand looks (subst (λ (x : ErrandStep). WorkInHand x k) is hold)
+
+-- with no work in hand it may do the same whatever the work is
+module _ {L D : Type 0} (o : OwnUser) (k j : LogWork) (pages : ℕ) (held : Option (Slot L D)) where
+  any_next : has_work o.errand ≡ false → own_next o k ≡ own_next o j
+  any_next none = by o.user.checks o.errand none
+    where
+      by : (b : Bool) (x : ErrandStep) → has_work x ≡ false
+          → cond b (op.Load word.Failed) (errand_op o k x) ≡ cond b (op.Load word.Failed) (errand_op o j x)
+      by true x none = refl
+      by false errand_step.Done none = refl
+      by false errand_step.TakeDevice none = refl
+      by false _ none = absurd (cc)
+
+  aside : has_work o.errand ≡ false → OwnMayGo pages held o k → OwnMayGo pages held o j
+  aside none go =
+      let same = any_next none in record {
+        stands = go.stands;
+        goes_on = goes o.errand none;
+        in_hand = stands o.errand none;
+        rest = λ e. go.rest (same ∙ e);
+        give = λ e. fits o.user.checks o.errand none (go.give (same ∙ e));
+        there = subst (OpWords pages) same go.there;
+        log = λ desk is has. let z : true ≡ false = sym has ∙ none in absurd (cc);
+      }
+    where
+      goes : (x : ErrandStep) → has_work x ≡ false → WorkGoesOn x j
+      goes errand_step.Done none = tt
+      goes errand_step.TakeDevice none = tt
+      goes _ none = absurd (cc)
+
+      stands : (x : ErrandStep) → has_work x ≡ false → WorkInHand x j
+      stands errand_step.Done none = tt
+      stands errand_step.TakeDevice none = tt
+      stands _ none = absurd (cc)
+
+      fits : (b : Bool) (x : ErrandStep) → has_work x ≡ false
+          → cond b (AnswerFits (model.User o.user) (answer.Taken None)) (ErrandAnswerFits o k (answer.Taken None) x)
+          → cond b (AnswerFits (model.User o.user) (answer.Taken None)) (ErrandAnswerFits o j (answer.Taken None) x)
+      fits true x none fit = fit
+      fits false errand_step.Done none fit = fit
+      fits false errand_step.TakeDevice none fit = fit
+      fits false _ none fit = absurd (cc)
+
+  pub any_work : OwnMayGo pages held o k → (has_work o.errand ≡ true → j ≡ k) → OwnMayGo pages held o j
+  any_work go same = by (has_work o.errand) refl
+    where
+      by : (b : Bool) → has_work o.errand ≡ b → OwnMayGo pages held o j
+      by true has = subst (λ (z : LogWork). OwnMayGo pages held o z) (sym (same has)) go
+      by false none = aside none go

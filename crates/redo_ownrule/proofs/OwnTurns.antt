@@ -49,7 +49,7 @@ use Rattle.redo_rule.specs.declared.law.Slot.TheVariants as slot
 use Rattle.redo_rule.specs.declared.law.View.{View}
 use Rattle.redo_store.specs.Part as store
 
-abbrev errand_or : Errand → Option Errand → Errand
+abbrev pub errand_or : Errand → Option Errand → Errand
 errand_or d None = d
 errand_or d (Some e) = e
 

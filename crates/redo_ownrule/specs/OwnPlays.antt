@@ -109,6 +109,11 @@ module _ {L D : Type 0} where
   abbrev pub HasWork : Option (Slot L D) → OwnUser → LogWork → Type 0
   HasWork held o k = has_work o.errand ≡ true → (desk : Desk L) × (held ≡ Some (slot.Log desk)) × (desk.work ≡ Some k)
 
+  -- what it holds after an Op on a word: the log part, if it had that, with the log's work as it is then
+  abbrev pub held_behind : Option (Slot L D) → OwnUser → LogWork → Option (Slot L D)
+  held_behind (Some (slot.Log desk)) o k = cond (has_work o.errand) (Some (slot.Log (with_work desk k))) (Some (slot.Log desk))
+  held_behind held o k = held
+
 module _ {L D : Type 0} (log_seen : L → Seen) (data_seen : D → Seen) where
   -- THERE WAS A MOMENT in the run that the table is about, as its seat was told, at which the invariant of users that write
   -- for themselves held, and one turn of the definition was this user's, with this answer.
@@ -136,11 +141,6 @@ module _ {L D : Type 0} (log_seen : L → Seen) (data_seen : D → Seen) where
     pub shown : OwnShown v.about x.number o k r
     pub is : m' ≡ (own_view v x (own_goes_on o k r).0 held, carried)
     pub may : OwnMayGo v.pages held (own_goes_on o k r).0 (own_goes_on o k r).1
-
-  -- what it holds after an Op on a word: the log part, if it had that, with the log's work as it is then
-  abbrev pub held_behind : Option (Slot L D) → OwnUser → LogWork → Option (Slot L D)
-  held_behind (Some (slot.Log desk)) o k = cond (has_work o.errand) (Some (slot.Log (with_work desk k))) (Some (slot.Log desk))
-  held_behind held o k = held
 
   -- A step on a word: the number found is the answer. The change of the log's work in its hand is to follow.
   abbrev pub own_saw : Me (Slot L D) (View L D) → ℕ → Me (Slot L D) (View L D) → Type 0
