@@ -3,9 +3,12 @@ use Rattle.std.proofs.Common.{Bool, ap, cond, false, refl, subst, sym, true, ℕ
 use Rattle.model_own.proofs.SetsOut.{out_at}
 use Rattle.model_own.specs.OwnWrites.{MayHelpAt, OwnUser, keeps_helped, loads_again, own_stepped, sets_out}
 use Rattle.model_own.specs.declared.errand.ErrandStep.TheVariants as errand_step
-use Rattle.model_core.specs.{Actor, checked_of, heard, old_of, step_of, took, user_ending, user_program, user_took}
+use Rattle.model_core.proofs.Rests.{rests}
+use Rattle.model_core.specs.{Actor, checked_of, heard, next, old_of, step_of, took, user_ending, user_program, user_took}
 use Rattle.model_core.specs.{user_waits, UserState}
 use Rattle.model_core.specs.declared.ops.Answer.{Answer}
+use Rattle.model_core.specs.declared.ops.Answer.TheVariants as answer
+use Rattle.model_core.specs.declared.ops.Op.TheVariants as op
 use Rattle.model_core.specs.declared.ops.Step.{Step}
 use Rattle.model_core.specs.declared.ops.Step.TheVariants as step
 use Rattle.model_core.specs.declared.steps.UserStep.{UserStep}
@@ -94,3 +97,8 @@ pub stepped_on : (o : OwnUser) (r : Answer) → o.user.checks ≡ false → sets
 stepped_on o r asks is =
     subst (λ (b : Bool). step_of (actor.User o.user) r ≡ ends_as (waits o (heard r) b) (state o (heard r) b)) (sym is)
     (step_is o.user r asks)
+
+-- a user that rests stays as it is
+pub rests_same : (u v : UserState) → next (actor.User u) ≡ op.Rest
+    → ◌≡◌ {A = Actor} (actor.User v) (took (actor.User u) answer.Rested) → v ≡ u
+rests_same u v is took_is = ap (user_of u) (took_is ∙ rests (actor.User u) is answer.Rested)

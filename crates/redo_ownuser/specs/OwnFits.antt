@@ -5,6 +5,7 @@ use Rattle.model_core.specs.declared.ops.Step.TheVariants as step
 use Rattle.model_core.specs.{user_ending}
 use Rattle.model_core.specs.AnswerFits.{AnswerFits}
 use Rattle.model_core.specs.declared.ops.Answer.{Answer}
+use Rattle.model_core.specs.declared.ops.Answer.TheVariants as answer
 use Rattle.model_own.specs.OwnWrites.{LogWork, OwnUser}
 use Rattle.model_own.specs.declared.errand.ErrandStep.{ErrandStep}
 use Rattle.model_own.specs.declared.errand.ErrandStep.TheVariants as errand_step
@@ -25,6 +26,20 @@ ErrandAnswerFits o k a _ = Unit {0}
 -- what it is given: of the Op that it has asked for
 abbrev pub OwnAnswerFits : OwnUser → LogWork → Answer → Type 0
 OwnAnswerFits o k a = cond o.user.checks (AnswerFits (actor.User o.user) a) (ErrandAnswerFits o k a o.errand)
+
+-- the same where it hasn't the log's work in hand, and doesn't get it
+abbrev pub IsNotTaken : Answer → Type 0
+IsNotTaken (answer.Taken n) = ⊥
+IsNotTaken answer.Broken = ⊥
+IsNotTaken _ = Unit {0}
+
+abbrev pub AloneErrandFits : OwnUser → Answer → ErrandStep → Type 0
+AloneErrandFits o a errand_step.Done = AnswerFits (actor.User o.user) a
+AloneErrandFits o a errand_step.TakeDevice = IsNotTaken a
+AloneErrandFits o a _ = ⊥
+
+abbrev pub AloneFits : OwnUser → Answer → Type 0
+AloneFits o a = cond o.user.checks (AnswerFits (actor.User o.user) a) (AloneErrandFits o a o.errand)
 
 -- it waits
 abbrev pub is_idle : Step → Bool

@@ -2,10 +2,13 @@
 ghost use Rattle.std.specs.Prelude.{◌≡◌, cond, false, true};
 ghost use Rattle.model_core.specs.Actors as actor;
 ghost use Rattle.model_core.specs.AnswerFits.{AnswerFits};
-ghost use Rattle.model_core.specs.{heard, step_of, user_took};
+ghost use Rattle.model_core.specs.{heard, next, step_of, user_took};
+ghost use Rattle.model_core.specs.declared.ops.Op.TheVariants as op;
 ghost use Rattle.model_own.specs.OwnWrites.{ErrandFits, MayHelpAt, errand_took, errand_waits, has_failed, own_goes_on};
 ghost use Rattle.model_own.specs.OwnWrites.{own_lends, own_next, own_step_of, own_stepped, sets_out, waiting, written};
-ghost use Rattle.redo_ownuser.specs.OwnFits.{ErrandAnswerFits, OwnAnswerFits, WorkGoesOn, ends_as, is_idle};
+ghost use Rattle.model_own.specs.OwnWrites as model;
+ghost use Rattle.model_own.specs.OwnWrites.{has_work};
+ghost use Rattle.redo_ownuser.specs.OwnFits.{AloneFits, ErrandAnswerFits, OwnAnswerFits, WorkGoesOn, ends_as, is_idle};
 ghost use Rattle.redo_ownuser.specs.OwnLink.{ComesNearer, ComesNearerAlone};
 ghost use Rattle.redo_useractor.specs.ToLink.{to_link};
 ghost use Rattle.redo_words.specs.{Lends};
@@ -80,6 +83,21 @@ impl OwnUser {
             ErrandStep::GiveBroken => Op::GiveDevice,
             ErrandStep::Write => work.writer.next(),
             ErrandStep::Flush => work.flusher.next(),
+        }
+    }
+
+    /// The Op that it asks for while it hasn't the log's work in hand.
+    pub fn next_alone(&self) -> Op
+        requires { has_work self.now.errand ≡ false }
+        ensures { (work : model.LogWork) → result ≡ own_next self.now work }
+    {
+        if self.user.is_checking() {
+            return Op::Load(Word::Failed);
+        }
+        match self.errand {
+            ErrandStep::Done => self.user.next(),
+            ErrandStep::TakeDevice => Op::TakeDevice,
+            ErrandStep::GiveBroken | ErrandStep::Write | ErrandStep::Flush => unreachable!(),
         }
     }
 
@@ -268,5 +286,49 @@ impl OwnUser {
             return step;
         }
         self.goes_on(work, answer)
+    }
+
+    /// Takes the answer to the Op that it asked for, where it hasn't the log's work in hand, and doesn't get it either: that stays
+    /// as it is, wherever it lies.
+    #[tactic(auto, using(crate::proofs::Stepped::stands))]
+    pub fn took_alone(&mut self, answer: Answer) -> Step
+        requires fits { AloneFits self.old answer }
+        ensures user { (work : model.LogWork) → self.new ≡ (own_goes_on self.old work answer).0 }
+        ensures work { (work : model.LogWork) → work ≡ (own_goes_on self.old work answer).1 }
+        ensures step { (work : model.LogWork) → result ≡ own_step_of self.old work answer }
+    {
+        if self.user.is_checking() {
+            let step = self.user.took(answer);
+            if old_of(answer) != 0 {
+                self.errand = ErrandStep::Done;
+            }
+            return step;
+        }
+        match self.errand {
+            ErrandStep::Done => self.stepped(answer),
+            ErrandStep::TakeDevice => self.wait(),
+            ErrandStep::GiveBroken | ErrandStep::Write | ErrandStep::Flush => unreachable!(),
+        }
+    }
+
+    /// Whether it has the log's work in hand.
+    pub fn has_work(&self) -> bool
+        ensures { result ≡ has_work self.now.errand }
+    {
+        match self.errand {
+            ErrandStep::Done | ErrandStep::TakeDevice => false,
+            ErrandStep::GiveBroken | ErrandStep::Write | ErrandStep::Flush => true,
+        }
+    }
+
+    /// It has ended, and so it rests: how its last step ended.
+    #[tactic(auto, using(crate::proofs::Stepped::rests_same))]
+    pub fn rests(&mut self) -> Step
+        requires asks { next (actor.User self.old.user) ≡ op.Rest }
+        requires fits { AnswerFits (actor.User self.old.user) Answer.Rested }
+        ensures same { self.new ≡ self.old }
+        ensures step { result ≡ step_of (actor.User self.old.user) Answer.Rested }
+    {
+        self.user.took(Answer::Rested)
     }
 }

@@ -37,9 +37,11 @@ use Rattle.atomic_table.proofs.Lists.{set_here}
 use Rattle.model_core.proofs.Hands.{Handles}
 use Rattle.model_core.specs.Hands.{hand, IsFreeToCheck}
 use Rattle.redo_rule.specs.Plays.{behind, gave, list_behind, list_said, ListFits, looked, no_filling, saw, seized, Stepped, TakesList, taking, view_behind}
+use Rattle.redo_rule.specs.OwnSide.{Beside, desk_with}
 use Rattle.redo_rule.specs.Ruled.{Knows, Ruled, slot_content}
 use Rattle.redo_rule.specs.declared.law.About.{About}
 use Rattle.redo_rule.specs.declared.law.Desk.{Desk}
+use Rattle.redo_rule.specs.declared.law.Errand.{Errand}
 use Rattle.redo_rule.specs.declared.law.Keeping.{Keeping}
 use Rattle.redo_rule.specs.declared.law.Numbered.{Numbered}
 use Rattle.redo_rule.specs.declared.law.Slot.{Slot}
@@ -49,10 +51,10 @@ use Rattle.redo_store.specs.Part as store
 use Rattle.redo_words.specs.{HoldsSum}
 
 -- what a slot has depends on the log part and the lists alone
-pub same_content : {L D : Type 0} (p q : Parts L D) (block : List ℕ) → p.log ≡ q.log → p.lists ≡ q.lists → (k : ℕ)
-    → ◌≡◌ {A = Slot L D} (slot_content p block k) (slot_content q block k)
-same_content p q block e f zero = ap (λ (z : log.Part _). slot.Log (record { part = z; block = block })) e
-same_content p q block e f (suc i) = ap (λ (z : Listings). slot.Pages (listing_at z.lists i)) f
+pub same_content : {L D : Type 0} (p q : Parts L D) (beside : Beside) → p.log ≡ q.log → p.lists ≡ q.lists → (k : ℕ)
+    → ◌≡◌ {A = Slot L D} (slot_content p beside k) (slot_content q beside k)
+same_content p q beside e f zero = ap (λ (z : log.Part _). slot.Log (desk_with z beside)) e
+same_content p q beside e f (suc i) = ap (λ (z : Listings). slot.Pages (listing_at z.lists i)) f
 
 -- an Op on a word leaves what its actor holds
 pub word_hand : (o : Op) → OnWord o → (before : Option ℕ) (behind : Answer → Option ℕ) → Handles o before behind → (n : ℕ) → behind (answer.Old n) ≡ before
@@ -62,7 +64,31 @@ word_hand (op.Add w x) on before behind h n = h n
 word_hand (op.Swap w x y) on before behind h n = h n
 word_hand _ on before behind h n = absurd on
 
-module _ {L D : Type 0} (log_seen : L → Seen) (log_gives : L → Call → L → Type 0) (data_seen : D → Seen) (data_gives : D → Call → D → Type 0) (about : About L D) (slots id : ℕ) (me : Me (Slot L D) (View L D)) (x : Numbered) (one : me.0.seats ≡ x ∷ []) where
+module _ {L D : Type 0} (log_seen : L → Seen) (log_gives : L → Call → L → Type 0) (data_seen : D → Seen)
+    (data_gives : D → Call → D → Type 0) (about : About L D) (slots id : ℕ) (me : Me (Slot L D) (View L D)) where
+  -- a look
+  pub allows_look : (i : ℕ) → Allows (Ruled log_seen log_gives data_seen data_gives about) slots id me i (λ n. n) (looked log_seen data_seen me)
+  allows_look i s R wide at small =
+      let e : slice_set s.words i (slice_index s.words i) ≡ s.words = set-get_or s.words i 0 in
+      let f : ◌≡◌ {A = List (View L D)} (slice_set s.views id me.0) s.views = set_again s.views id me.0 at in (
+        me.0,
+        keeps,
+        tt,
+        subst (λ (ws : List ℕ). Ruled log_seen log_gives data_seen data_gives about (record { words = ws; homes = s.homes; views = slice_set s.views id me.0 })) (sym e) (subst (λ (vs : List (View L D)). Ruled log_seen log_gives data_seen data_gives about (record { words = s.words; homes = s.homes; views = vs })) (sym f) R),
+        (
+          refl,
+          λ y is. let known = kept.known log_seen log_gives data_seen data_gives about s R id me.0 y is at in
+              kept.may_go log_seen data_seen R.run R.parts R.actors R.runs y.number y.actor (kept.here log_seen
+              log_gives data_seen data_gives about s R id me.0 y is at) me.0.pages me.0.held me.0.data_part
+              (kept.count log_seen log_gives data_seen data_gives about s R id me.0 y is at)
+              (λ desk h mine. kept.same_log desk (desk_with R.parts.log R.beside) (kept.same_slot (slot.Log desk) (slot.Log (desk_with R.parts.log R.beside)) (sym h ∙ kept.holds_content log_seen log_gives data_seen data_gives about s R id me.0 y is at 0
+              mine)))
+              (λ d h. (known.data_part d h).1) (kept.is_free log_seen log_gives data_seen data_gives about s R id me.0 y is at),
+        ),
+      )
+
+module _ {L D : Type 0} (log_seen : L → Seen) (log_gives : L → Call → L → Type 0) (data_seen : D → Seen) (data_gives : D → Call → D → Type 0) (about : About L D) (slots id : ℕ) (me : Me (Slot L D) (View L D)) (x : Numbered) (one : me.0.seats ≡ x ∷ [])
+    (plain_one : ◌≡◌ {A = Option Errand} x.errand None) where
   abbrev pub Law : State (Slot L D) (View L D) → Type 0
   Law = Ruled log_seen log_gives data_seen data_gives about
 
@@ -95,7 +121,7 @@ module _ {L D : Type 0} (log_seen : L → Seen) (log_gives : L → Call → L �
       let ws : List ℕ = slice_set s.words i (f n) in
       let new : Parts L D = record { words = record { pages = R.parts.words.pages; words = ws }; log = R.parts.log; store = R.parts.store; lists = R.parts.lists } in
       let e : R.parts.words.words ≡ s.words = R.words_are in
-      let known : Knows about R.parts R.block R.actors R.heard R.seat_of R.keeper R.out id me.0 =
+      let known : Knows about R.parts R.beside R.actors R.heard R.seat_of R.keeper R.out id me.0 =
       kept.known log_seen log_gives data_seen data_gives about s R id me.0 x one at in
       let sum : HoldsSum o s.words = subst (HoldsSum o) e (subst (λ (p : Op). HoldsSum p R.parts.words.words) is
       (holds_sum (lists_of R.parts.lists) (is_some R.parts.log.failed) 0 0 R.parts.words.words a (kept.fits log_seen log_gives data_seen data_gives about s R id me.0 x one at 0 0).log)) in
@@ -107,20 +133,20 @@ module _ {L D : Type 0} (log_seen : L → Seen) (log_gives : L → Call → L �
       let goes : Handles o (hand a) (λ (z : Answer). hand (took plain z)) = subst (λ (p : Op). Handles p (hand a) (λ
       (z : Answer). hand (took plain z))) is (handles_filled a no_filling (kept.is_free log_seen log_gives
       data_seen data_gives about s R id me.0 x one at)) in
-      let own : (k : ℕ) → hand (took plain r) ≡ Some k → me.0.held ≡ Some (slot_content new R.block k) = λ k h.
+      let own : (k : ℕ) → hand (took plain r) ≡ Some k → me.0.held ≡ Some (slot_content new R.beside k) = λ k h.
       kept.holds_content log_seen log_gives data_seen data_gives about s R id me.0 x one at k (sym (word_hand o on
       (hand a) (λ (z : Answer). hand (took plain z)) goes n) ∙ h) ∙ ap (λ (z : Slot L D). Some z) (same_content
-      R.parts new R.block refl refl k) in (
+      R.parts new R.beside refl refl k) in (
         viewed no_filling r me.0.held me.0.data_part,
         keeps,
         tt,
-        kept.kept log_seen log_gives data_seen data_gives about s R id me.0 x one at no_filling fills r new R.block
-            same done
-            (viewed no_filling r me.0.held me.0.data_part) R.out refl refl refl own (λ d h. known.data_part d h)
-            (λ j c k ne h hold. same_content R.parts new R.block refl refl k) (λ j u d ne h stored. (R.knows j u
+        kept.kept log_seen log_gives data_seen data_gives about s R id me.0 x one at no_filling fills r new R.beside
+            same done plain_one
+            (viewed no_filling r me.0.held me.0.data_part) R.out refl refl refl refl own (λ d h. known.data_part d h)
+            (λ j c k ne h hold. same_content R.parts new R.beside refl refl k) (λ j u d ne h stored. (R.knows j u
             h).data_part d stored) s.homes R.lists_are R.log_calls R.data_calls refl R.slots
             (λ k l z. R.home k l (sym (get_or-set_other s.words i (7 + k) (f n) 0 (off k l)) ∙ z) ∙ ap (λ (y : Slot L
-            D). maybe.some (maybe.some y)) (same_content R.parts new R.block refl refl k))
+            D). maybe.some (maybe.some y)) (same_content R.parts new R.beside refl refl k))
             R.data_home
             (λ k l z. inr (
               (λ q. z (get_or-set_other s.words i (7 + k) (f n) 0 (off k l) ∙ q)),
@@ -133,7 +159,7 @@ module _ {L D : Type 0} (log_seen : L → Seen) (log_gives : L → Call → L �
           me.1,
         ))
             (kept.steps log_seen log_gives data_seen data_gives about s R id me.0 x one at no_filling fills r new
-            R.block same done me.1 me.0.held me.0.data_part me.1 own (λ d h. (known.data_part d h).1)),
+            R.beside same done plain_one me.1 me.0.held me.0.data_part me.1 own (λ d h. (known.data_part d h).1)),
       )
 
   pub allows_load : (w : Word) → next a ≡ op.Load w → Allows Law slots id me (index w) (λ n. n) (saw log_seen data_seen me)
@@ -165,29 +191,7 @@ module _ {L D : Type 0} (log_seen : L → Seen) (log_gives : L → Call → L �
 
   -- what lies in the log part's slot
   abbrev desk_of : (s : State (Slot L D) (View L D)) → Law s → Desk L
-  desk_of s R = record { part = R.parts.log; block = R.block }
-
-  -- a look
-  pub allows_look : (i : ℕ) → Allows Law slots id me i (λ n. n) (looked log_seen data_seen me)
-  allows_look i s R wide at small =
-      let e : slice_set s.words i (slice_index s.words i) ≡ s.words = set-get_or s.words i 0 in
-      let f : ◌≡◌ {A = List (View L D)} (slice_set s.views id me.0) s.views = set_again s.views id me.0 at in (
-        me.0,
-        keeps,
-        tt,
-        subst (λ (ws : List ℕ). Law (record { words = ws; homes = s.homes; views = slice_set s.views id me.0 })) (sym e) (subst (λ (vs : List (View L D)). Law (record { words = s.words; homes = s.homes; views = vs })) (sym f) R),
-        (
-          refl,
-          λ y is. let known = kept.known log_seen log_gives data_seen data_gives about s R id me.0 y is at in
-              kept.may_go log_seen data_seen R.run R.parts R.actors R.runs y.number y.actor (kept.here log_seen
-              log_gives data_seen data_gives about s R id me.0 y is at) me.0.pages me.0.held me.0.data_part
-              (kept.count log_seen log_gives data_seen data_gives about s R id me.0 y is at)
-              (λ desk h mine. kept.same_log desk (desk_of s R) (kept.same_slot (slot.Log desk) (slot.Log (desk_of s
-              R)) (sym h ∙ kept.holds_content log_seen log_gives data_seen data_gives about s R id me.0 y is at 0
-              mine)))
-              (λ d h. (known.data_part d h).1) (kept.is_free log_seen log_gives data_seen data_gives about s R id me.0 y is at),
-        ),
-      )
+  desk_of s R = desk_with R.parts.log R.beside
 
   -- whoever takes a turn word that is held
   finds_held : (o : Op) (k : ℕ) → next a ≡ o → IsNoGive o → k < 5 → (hand a ≡ None) → hand (took plain answer.Held) ≡
@@ -208,26 +212,26 @@ module _ {L D : Type 0} (log_seen : L → Seen) (log_gives : L → Call → L �
       let fills = fills_none o is other (kept.is_free log_seen log_gives data_seen data_gives about s R id me.0 x one
       at) in
       let new : Parts L D = record { words = record { pages = R.parts.words.pages; words = ws }; log = R.parts.log; store = R.parts.store; lists = R.parts.lists } in
-      let known : Knows about R.parts R.block R.actors R.heard R.seat_of R.keeper R.out id me.0 =
+      let known : Knows about R.parts R.beside R.actors R.heard R.seat_of R.keeper R.out id me.0 =
       kept.known log_seen log_gives data_seen data_gives about s R id me.0 x one at in
       let same : HasSamePages R.parts new = record { words = refl; lists = refl } in
       let done : IsPlayed log_seen data_seen R.run (next a) (lent plain) R.parts answer.Held new = subst (λ (p : Op).
       IsPlayed log_seen data_seen R.run p (lent plain) R.parts answer.Held new) (sym is) (plays s R new busy (e ∙
       sym R.words_are) refl refl refl) in
-      let own : (j : ℕ) → hand (took plain answer.Held) ≡ Some j → me.0.held ≡ Some (slot_content new R.block j) = λ j
+      let own : (j : ℕ) → hand (took plain answer.Held) ≡ Some j → me.0.held ≡ Some (slot_content new R.beside j) = λ j
       h. absurd (cc) in (
         kept.kept log_seen log_gives data_seen data_gives about s R id me.0 x one at no_filling fills answer.Held new
-            R.block same done
-            (viewed no_filling answer.Held me.0.held me.0.data_part) R.out refl refl refl own (λ d h. known.data_part
+            R.beside same done plain_one
+            (viewed no_filling answer.Held me.0.held me.0.data_part) R.out refl refl refl refl own (λ d h. known.data_part
             d h)
-            (λ j c i ne h hold. same_content R.parts new R.block refl refl i) (λ j u d ne h stored. (R.knows j u
+            (λ j c i ne h hold. same_content R.parts new R.beside refl refl i) (λ j u d ne h stored. (R.knows j u
             h).data_part d stored) s.homes R.lists_are R.log_calls R.data_calls refl R.slots
             (λ i l z. R.home i l (sym (ap (λ (y : List ℕ). slice_index y (7 + i)) e) ∙ z) ∙ ap (λ (y : Slot L D).
-            maybe.some (maybe.some y)) (same_content R.parts new R.block refl refl i))
+            maybe.some (maybe.some y)) (same_content R.parts new R.beside refl refl i))
             R.data_home
             (λ j l z. inr ((λ q. z (ap (λ (y : List ℕ). slice_index y (7 + j)) e ∙ q)), λ q. absurd (cc))),
         kept.steps log_seen log_gives data_seen data_gives about s R id me.0 x one at no_filling fills answer.Held new
-            R.block same done me.1 me.0.held me.0.data_part me.1 own (λ d h. (known.data_part d h).1),
+            R.beside same done plain_one me.1 me.0.held me.0.data_part me.1 own (λ d h. (known.data_part d h).1),
       )
 
   -- whoever takes one that is free, and so its slot, in which he makes a change that is to follow
@@ -235,43 +239,43 @@ module _ {L D : Type 0} (log_seen : L → Seen) (log_gives : L → Call → L �
       Some k → ((j : ℕ) → hand (took plain r) ≡ Some j → j ≡ k)
       → (s : State (Slot L D) (View L D)) (R : Law s) (new : Parts L D) → get_elem? s.views id ≡ maybe.some me.0 → slice_index s.words (7 + k) ≡ 0
       → new.words.words ≡ slice_set s.words (7 + k) 1 → new.words.pages ≡ R.parts.words.pages → new.lists.pages ≡ R.parts.lists.pages → new.log ≡ R.parts.log → new.store ≡ R.parts.store → AreLists new.lists
-      → ((j : ℕ) → j ≢ k → ◌≡◌ {A = Slot L D} (slot_content R.parts R.block j) (slot_content new R.block j))
+      → ((j : ℕ) → j ≢ k → ◌≡◌ {A = Slot L D} (slot_content R.parts R.beside j) (slot_content new R.beside j))
       → IsPlayed log_seen data_seen R.run o (lent plain) R.parts r new
       → Law (record {
         words = new.words.words;
         homes = slice_set s.homes k maybe.none;
         views = slice_set s.views id
-            (viewed no_filling r (Some (slot_content new R.block k)) me.0.data_part);
+            (viewed no_filling r (Some (slot_content new R.beside k)) me.0.data_part);
       })
-      × Stepped log_seen data_seen x no_filling r (Some (slot_content new R.block k)) me.0.data_part ((
+      × Stepped log_seen data_seen x no_filling r (Some (slot_content new R.beside k)) me.0.data_part ((
         k,
         slot_content
-            R.parts R.block k,
+            R.parts R.beside k,
       ) ∷ me.1) me (
-        viewed no_filling r (Some (slot_content new R.block k)) me.0.data_part,
+        viewed no_filling r (Some (slot_content new R.beside k)) me.0.data_part,
         (
           k,
-          slot_content R.parts R.block k,
+          slot_content R.parts R.beside k,
         ) ∷ me.1,
       )
   finds_free o k r is other below free_hand gets mine s R new at free words count list_count log_same store_same are
       others plays =
       let fills = fills_none o is other (kept.is_free log_seen log_gives data_seen data_gives about s R id me.0 x one
       at) in
-      let known : Knows about R.parts R.block R.actors R.heard R.seat_of R.keeper R.out id me.0 =
+      let known : Knows about R.parts R.beside R.actors R.heard R.seat_of R.keeper R.out id me.0 =
       kept.known log_seen log_gives data_seen data_gives about s R id me.0 x one at in
       let same : HasSamePages R.parts new = record { words = count; lists = list_count } in
       let done : IsPlayed log_seen data_seen R.run (next a) (lent plain) R.parts r new = subst (λ (p : Op). IsPlayed
       log_seen data_seen R.run p (lent plain) R.parts r new) (sym is) plays in
-      let own : (j : ℕ) → hand (took plain r) ≡ Some j → Some (slot_content new R.block k) ≡ Some (slot_content new
-      R.block j) = λ j h. ap (λ (i : ℕ). Some (slot_content new R.block i)) (sym (mine j h)) in
+      let own : (j : ℕ) → hand (took plain r) ≡ Some j → Some (slot_content new R.beside k) ≡ Some (slot_content new
+      R.beside j) = λ j h. ap (λ (i : ℕ). Some (slot_content new R.beside i)) (sym (mine j h)) in
       -- nobody else holds it, since its word was 0
       let not_held : (n : ℕ) (c : model.Actor) → get_elem? R.actors n ≡ maybe.some c → hand c ≡ Some k → ⊥ = λ n c
       there held.
       let t = (holders.holding log_seen data_seen R.run R.parts R.actors R.runs n c there k held).word_is in let z : slice_index R.parts.words.words (7 + k) ≡ 0 = ap (λ (y : List ℕ). slice_index y (7 + k)) R.words_are ∙ free in omega arith in (
-        kept.kept log_seen log_gives data_seen data_gives about s R id me.0 x one at no_filling fills r new R.block
-            same done
-            (viewed no_filling r (Some (slot_content new R.block k)) me.0.data_part) R.out refl refl refl own
+        kept.kept log_seen log_gives data_seen data_gives about s R id me.0 x one at no_filling fills r new R.beside
+            same done plain_one
+            (viewed no_filling r (Some (slot_content new R.beside k)) me.0.data_part) R.out refl refl refl refl own
             (λ d h. let t = known.data_part d h in (t.0, t.1 ∙ sym store_same, t.2))
             (λ n c j ne there hold. others j (λ z. not_held n c there (hold ∙ ap (λ (i : ℕ). Some i) z))) (λ j u d ne h stored. let t = (R.knows j u h).data_part d stored in (t.0, t.1 ∙ sym store_same, t.2))
             (slice_set s.homes k maybe.none) are (subst (λ (z : log.Part L). CallsOn log_gives about.opened.value.log.dev about.opened.value.log.failed z.dev z.failed) (sym log_same) R.log_calls) (subst (λ (z : store.Part D). CallsOn data_gives about.opened.value.store.dev about.opened.value.store.failed z.dev z.failed) (sym store_same) R.data_calls)
@@ -286,8 +290,8 @@ module _ {L D : Type 0} (log_seen : L → Seen) (log_gives : L → Call → L �
               | yes here ↦ inl (gets ∙ ap (λ (i : ℕ). Some i) (sym here))
               | no far ↦ inr ((λ q. z (ap (λ (y : List ℕ). slice_index y (7 + j)) words ∙ get_or-set_other s.words (7 + k) (7 + j) 1 0 (λ e. far (omega arith)) ∙ q)), λ q. absurd (cc))
             ]),
-        kept.steps log_seen log_gives data_seen data_gives about s R id me.0 x one at no_filling fills r new R.block
-            same done me.1 (Some (slot_content new R.block k)) me.0.data_part ((k, slot_content R.parts R.block k) ∷
+        kept.steps log_seen log_gives data_seen data_gives about s R id me.0 x one at no_filling fills r new R.beside
+            same done plain_one me.1 (Some (slot_content new R.beside k)) me.0.data_part ((k, slot_content R.parts R.beside k) ∷
             me.1) own (λ d h. (known.data_part d h).1 ∙ sym store_same),
       )
     where
@@ -303,7 +307,7 @@ module _ {L D : Type 0} (log_seen : L → Seen) (log_gives : L → Call → L �
     pub log_same : new.log ≡ R.parts.log
     pub store_same : new.store ≡ R.parts.store
     pub are : AreLists new.lists
-    pub others : (j : ℕ) → j ≢ suc i → ◌≡◌ {A = Slot L D} (slot_content R.parts R.block j) (slot_content new R.block j)
+    pub others : (j : ℕ) → j ≢ suc i → ◌≡◌ {A = Slot L D} (slot_content R.parts R.beside j) (slot_content new R.beside j)
     pub own : listing_at new.lists.lists i ≡ list_behind o (listing_at R.parts.lists.lists i)
     pub fits : ListFits o (listing_at R.parts.lists.lists i)
     pub plays : IsPlayed log_seen data_seen R.run o (lent plain) R.parts (answer.Taken (list_said o (listing_at
@@ -329,7 +333,7 @@ module _ {L D : Type 0} (log_seen : L → Seen) (log_gives : L → Call → L �
         let k = finds_free op.TakeDevice 0 r is tt (omega arith) goes.0 (took_hand (is_some R.parts.log.failed) (λ (z
         : Answer). hand (took plain z)) goes.1 (goes.2, goes.3)) (λ j h. taken_hand (is_some R.parts.log.failed)
         (λ (z : Answer). hand (took plain z)) goes.1 (goes.2, goes.3) j h) s R new at free words refl refl refl
-        refl R.lists_are (λ j ne. same_content R.parts new R.block refl refl j) plays in (
+        refl R.lists_are (λ j ne. same_content R.parts new R.beside refl refl j) plays in (
           viewed no_filling r (Some (slot.Log (desk_of s R))) me.0.data_part,
           takes 0 (slot.Log (desk_of s R)),
           R.home 0 (omega arith) free,
@@ -401,38 +405,38 @@ module _ {L D : Type 0} (log_seen : L → Seen) (log_gives : L → Call → L �
       let r : Answer = answer.Taken None in
       let ws : List ℕ = slice_set s.words (7 + k) 0 in
       let new : Parts L D = record { words = record { pages = R.parts.words.pages; words = ws }; log = R.parts.log; store = R.parts.store; lists = R.parts.lists } in
-      let known : Knows about R.parts R.block R.actors R.heard R.seat_of R.keeper R.out id me.0 =
+      let known : Knows about R.parts R.beside R.actors R.heard R.seat_of R.keeper R.out id me.0 =
       kept.known log_seen log_gives data_seen data_gives about s R id me.0 x one at in
       let same : HasSamePages R.parts new = record { words = refl; lists = refl } in
       let done : (g : Filling) → IsPlayed log_seen data_seen R.run (next a) (lent (filled a g)) R.parts r new = λ g.
       subst (λ (p : Op). IsPlayed log_seen data_seen R.run p (lent (filled a g)) R.parts r new) (sym is) (plays s
       R new (ap (λ (y : List ℕ). slice_set y (7 + k) 0) (sym R.words_are)) refl refl refl (lent (filled a g))) in
-      let own : (g : Filling) (j : ℕ) → hand (took (filled a g) r) ≡ Some j → None ≡ Some (slot_content new R.block j)
+      let own : (g : Filling) (j : ℕ) → hand (took (filled a g) r) ≡ Some j → None ≡ Some (slot_content new R.beside j)
       = λ g j h. let n = none g in absurd (cc) in
       let free = kept.is_free log_seen log_gives data_seen data_gives about s R id me.0 x one at in
       let follows = kept.follows log_seen log_gives data_seen data_gives about s R id me.0 x one at in
       let one_way : (g : Filling) → Fills a g → ◌≡◌ {A = model.Actor} (filled a g) (filled a f) = λ g p. one_filling a
       g f follows free (subst IsNoRead (sym is) other) p fills in
-      let mine : ◌≡◌ {A = Slot L D} own_slot (slot_content R.parts R.block k) = kept.same_slot own_slot (slot_content
-      R.parts R.block k) (sym held ∙ kept.holds_content log_seen log_gives data_seen data_gives about s R id me.0
+      let mine : ◌≡◌ {A = Slot L D} own_slot (slot_content R.parts R.beside k) = kept.same_slot own_slot (slot_content
+      R.parts R.beside k) (sym held ∙ kept.holds_content log_seen log_gives data_seen data_gives about s R id me.0
       x one at k held_k) in
       let back : put_back s.homes me.1 ≡ slice_set s.homes k (maybe.some own_slot) = ap (put_back s.homes) carried in (
         viewed f r None me.0.data_part,
         gives,
         tt,
-        kept.kept log_seen log_gives data_seen data_gives about s R id me.0 x one at f fills r new R.block same (done f)
-            (viewed f r None me.0.data_part) R.out refl refl refl (own f) (λ d h. known.data_part d h)
-            (λ n c j ne h hold. same_content R.parts new R.block refl refl j) (λ j u d ne h stored. (R.knows j u
+        kept.kept log_seen log_gives data_seen data_gives about s R id me.0 x one at f fills r new R.beside same (done f) plain_one
+            (viewed f r None me.0.data_part) R.out refl refl refl refl (own f) (λ d h. known.data_part d h)
+            (λ n c j ne h hold. same_content R.parts new R.beside refl refl j) (λ j u d ne h stored. (R.knows j u
             h).data_part d stored) (put_back s.homes me.1) R.lists_are R.log_calls R.data_calls refl
             (ap length back ∙ length-set s.homes k (maybe.some own_slot) ∙ R.slots)
             (λ j l z. ap (λ (y : List (maybe.Option (Slot L D))). get_elem? y j) back ∙ elim (ℕ_discrete j k) [
               | yes here ↦ (ap (get_elem? (slice_set s.homes k (maybe.some own_slot))) here ∙ set_here s.homes k
                   (maybe.some own_slot) (let n = R.slots in omega arith) ∙ ap (λ (y : Slot L D). maybe.some
-                  (maybe.some y)) (mine ∙ ap (slot_content R.parts R.block) (sym here) ∙ same_content R.parts new
-                  R.block refl refl j))
+                  (maybe.some y)) (mine ∙ ap (slot_content R.parts R.beside) (sym here) ∙ same_content R.parts new
+                  R.beside refl refl j))
               | no far ↦ set_else s.homes k j (maybe.some own_slot) far ∙ R.home j l (sym (get_or-set_other s.words (7
                   + k) (7 + j) 0 0 (λ e. far (omega arith))) ∙ z) ∙ ap (λ (y : Slot L D). maybe.some (maybe.some y))
-                  (same_content R.parts new R.block refl refl j)
+                  (same_content R.parts new R.beside refl refl j)
             ])
             (λ z. ap (λ (y : List (maybe.Option (Slot L D))). get_elem? y 5) back ∙ set_else s.homes k 5 (maybe.some own_slot) (λ e. omega arith) ∙ R.data_home z)
             (λ j l z. elim (ℕ_discrete j k) [
@@ -446,8 +450,8 @@ module _ {L D : Type 0} (log_seen : L → Seen) (log_gives : L → Call → L �
             ))
             (λ p. subst (Stepped log_seen data_seen x g r None me.0.data_part (rest me.1) me)
             (ap (λ (z : model.Actor). left z) (one_way g p))
-            (kept.steps log_seen log_gives data_seen data_gives about s R id me.0 x one at g p r new R.block same
-            (done g) me.1 None me.0.data_part (rest me.1) (own g) (λ d h. (known.data_part d h).1)))
+            (kept.steps log_seen log_gives data_seen data_gives about s R id me.0 x one at g p r new R.beside same
+            (done g) plain_one me.1 None me.0.data_part (rest me.1) (own g) (λ d h. (known.data_part d h).1)))
             y e fills_y,
       )
     where
@@ -456,8 +460,12 @@ module _ {L D : Type 0} (log_seen : L → Seen) (log_gives : L → Call → L �
         record {
           about = me.0.about;
           pages = me.0.pages;
-          seats = (record { number = x.number; actor = took z (answer.Taken None); heard = x.heard ++ handed_by z }) ∷
-              [];
+          seats = (record {
+            number = x.number;
+            actor = took z (answer.Taken None);
+            heard = x.heard ++ handed_by z;
+            errand = x.errand;
+          }) ∷ [];
           held = None;
           data_part = me.0.data_part;
         },
@@ -533,7 +541,7 @@ module _ {L D : Type 0} (log_seen : L → Seen) (log_gives : L → Call → L �
             holders.same_number j (suc i) (sym h ∙ goes.1 (list_said o l))) s R new at (ap (slice_index s.words) word
             ∙ free) (g.words ∙ words ∙ ap (λ (n : ℕ). slice_set s.words n 1) (sym word)) g.count g.list_count
             g.log_same g.store_same g.are g.others g.plays in
-            let held : ◌≡◌ {A = Slot L D} (slot_content new R.block (suc i)) (slot.Pages (list_behind o l)) = ap
+            let held : ◌≡◌ {A = Slot L D} (slot_content new R.beside (suc i)) (slot.Pages (list_behind o l)) = ap
             slot.Pages g.own in (
               viewed no_filling r (Some (slot.Pages (list_behind o l))) me.0.data_part,
               takes (suc i) (slot.Pages l),

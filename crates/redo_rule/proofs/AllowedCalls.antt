@@ -13,6 +13,7 @@ use Rattle.model_core.specs.declared.ops.Answer.{Answer}
 use Rattle.model_core.specs.declared.ops.Answer.TheVariants as answer
 use Rattle.model_core.specs.declared.ops.Op.{Op}
 use Rattle.model_core.specs.declared.ops.Op.TheVariants as op
+use Rattle.model_own.specs.OwnWrites.{LogWork}
 use Rattle.redo_disk.specs.{Call, EndWith, MakesCalls}
 use Rattle.redo_disk.specs.Seen.{Seen}
 use Rattle.redo_disk.specs.declared.error.DevError.{DevError}
@@ -35,10 +36,12 @@ use Rattle.redo_rule.proofs.Kept as kept
 use Rattle.redo_rule.proofs.Retook.{one_head}
 use Rattle.model_core.proofs.Hands.{Handles}
 use Rattle.model_core.specs.Hands.{hand, IsFreeToCheck}
+use Rattle.redo_rule.specs.OwnSide.{Beside, desk_with}
 use Rattle.redo_rule.specs.Plays.{batched, block_filling, called, no_filling, reached, Stepped, view_behind, view_reaching}
 use Rattle.redo_rule.specs.Ruled.{Knows, Ruled, slot_content}
 use Rattle.redo_rule.specs.declared.law.About.{About}
 use Rattle.redo_rule.specs.declared.law.Desk.{Desk}
+use Rattle.redo_rule.specs.declared.law.Errand.{Errand}
 use Rattle.redo_rule.specs.declared.law.Keeping.{Keeping}
 use Rattle.redo_rule.specs.declared.law.Numbered.{Numbered}
 use Rattle.redo_rule.specs.declared.law.Slot.{Slot}
@@ -71,7 +74,8 @@ abbrev is_out : {D : Type 0} → Option (Keeping D) → Bool
 is_out None = false
 is_out (Some k) = k.out
 
-module _ {L D : Type 0} (log_seen : L → Seen) (log_gives : L → Call → L → Type 0) (data_seen : D → Seen) (data_gives : D → Call → D → Type 0) (about : About L D) (slots id : ℕ) (me : Me (Slot L D) (View L D)) (x : Numbered) (one : me.0.seats ≡ x ∷ []) where
+module _ {L D : Type 0} (log_seen : L → Seen) (log_gives : L → Call → L → Type 0) (data_seen : D → Seen) (data_gives : D → Call → D → Type 0) (about : About L D) (slots id : ℕ) (me : Me (Slot L D) (View L D)) (x : Numbered) (one : me.0.seats ≡ x ∷ [])
+    (plain_one : ◌≡◌ {A = Option Errand} x.errand None) where
   abbrev Law : State (Slot L D) (View L D) → Type 0
   Law = Ruled log_seen log_gives data_seen data_gives about
 
@@ -85,23 +89,25 @@ module _ {L D : Type 0} (log_seen : L → Seen) (log_gives : L → Call → L �
       (slot.Log p) → me.1 ≡ (0, slot.Log q) ∷ []
       → ((run : RunOf L D) → LogServed (run_log_side log_seen data_seen run) p.part (lent (filled a (block_filling
       q.block))) o (call_code Log q.part.failed) q.part) → MakesCalls log_gives p.part.dev q.part.dev (EndWith
-      q.part.failed) → p.part.failed ≡ None
+      q.part.failed) → p.part.failed ≡ None → ◌≡◌ {A = Option LogWork} q.work p.work
       → Allows Law slots id me i (λ n. n) (called log_seen data_seen me)
-  allows_called i o p q is calls_log free held carried served calls live s R wide at small =
+  allows_called i o p q is calls_log free held carried served calls live work s R wide at small =
       let f : Filling = block_filling q.block in
       let b : model.Actor = filled a f in
       let goes : Handles o (hand a) (λ (z : Answer). hand (took b z)) = subst (λ (j : Op). Handles j (hand a) (λ (z :
       Answer). hand (took b z))) is (handles_filled a f free) in
       let fills = fills_block a f free (subst IsNoGive (sym is) (no_give o calls_log)) in
       let mine = hand_of o calls_log (hand a) (λ (z : Answer). hand (took b z)) goes in
-      let known : Knows about R.parts R.block R.actors R.heard R.seat_of R.keeper R.out id me.0 =
+      let known : Knows about R.parts R.beside R.actors R.heard R.seat_of R.keeper R.out id me.0 =
       kept.known log_seen log_gives data_seen data_gives about s R id me.0 x one at in
-      let was : ◌≡◌ {A = log.Part L} p.part R.parts.log = kept.same_log p (record {
-        part = R.parts.log;
-        block =
-            R.block;
-      }) (kept.same_slot (slot.Log p) (slot.Log (record { part = R.parts.log; block = R.block })) (sym
-      held ∙ kept.holds_content log_seen log_gives data_seen data_gives about s R id me.0 x one at 0 mine.0)) in
+      let its_desk : ◌≡◌ {A = Slot L D} (slot.Log p) (slot.Log (desk_with R.parts.log R.beside)) =
+      kept.same_slot (slot.Log p) (slot.Log (desk_with R.parts.log R.beside))
+      (sym held ∙ kept.holds_content log_seen log_gives data_seen data_gives about s R id me.0 x one at 0 mine.0) in
+      let was : ◌≡◌ {A = log.Part L} p.part R.parts.log = kept.same_log p (desk_with R.parts.log R.beside) its_desk in
+      let beside : Beside = record { block = q.block; own = R.beside.own } in
+      let q_is : ◌≡◌ {A = Desk L} q (desk_with q.part beside) =
+      ap (λ (k : Option LogWork). record { part = q.part; block = q.block; work = k })
+      (work ∙ ap (λ (z : Desk L). z.work) (kept.same_desk p (desk_with R.parts.log R.beside) its_desk)) in
       let e : slice_set s.words i (slice_index s.words i) ≡ s.words = set-get_or s.words i 0 in
       let new : Parts L D = record {
         words = record {
@@ -121,22 +127,23 @@ module _ {L D : Type 0} (log_seen : L → Seen) (log_gives : L → Call → L �
       (served R.run)) refl in
       let done : IsPlayed log_seen data_seen R.run (next a) (lent b) R.parts r new = subst (λ (j : Op). IsPlayed
       log_seen data_seen R.run j (lent b) R.parts r new) (sym is) done_o in
-      let own : (k : ℕ) → hand (took b r) ≡ Some k → Some (slot.Log q) ≡ Some (slot_content new q.block k) = λ k h.
-      ap (λ (j : ℕ). Some (slot_content new q.block j)) (holders.same_number 0 k (sym (mine.1 q.part.failed (told_by o
+      let own : (k : ℕ) → hand (took b r) ≡ Some k → Some (slot.Log q) ≡ Some (slot_content new beside k) = λ k h.
+      ap (λ (z : Desk L). Some (slot.Log z)) q_is
+      ∙ ap (λ (j : ℕ). Some (slot_content new beside j)) (holders.same_number 0 k (sym (mine.1 q.part.failed (told_by o
       q.part.marks.stable)) ∙ h)) in
       let holder = holders.holding log_seen data_seen R.run R.parts R.actors R.runs x.number a (kept.here log_seen
       log_gives data_seen data_gives about s R id me.0 x one at) 0 mine.0 in
       let others : (n : ℕ) (c : model.Actor) (k : ℕ) → n ≢ x.number → get_elem? R.actors n ≡ maybe.some c → hand c ≡
-      Some k → ◌≡◌ {A = Slot L D} (slot_content R.parts R.block k) (slot_content new q.block k) = λ n c k ne there
-      hold. by_slot R.parts new R.block q.block refl k
+      Some k → ◌≡◌ {A = Slot L D} (slot_content R.parts R.beside k) (slot_content new beside k) = λ n c k ne there
+      hold. by_slot R.parts new R.beside beside refl k
       (λ z. ne (holders.one_holder log_seen data_seen R.run R.parts R.actors R.runs n x.number c a 0 there (kept.here
       log_seen log_gives data_seen data_gives about s R id me.0 x one at) (hold ∙ ap (λ (j : ℕ). Some j) z)
       mine.0)) in (
         view_behind me.0 x f r (Some (slot.Log q)) me.0.data_part,
         keeps,
         tt,
-        kept.kept log_seen log_gives data_seen data_gives about s R id me.0 x one at f fills r new q.block same done
-            (view_behind me.0 x f r (Some (slot.Log q)) me.0.data_part) R.out refl refl refl own
+        kept.kept log_seen log_gives data_seen data_gives about s R id me.0 x one at f fills r new beside same done plain_one
+            (view_behind me.0 x f r (Some (slot.Log q)) me.0.data_part) R.out refl refl refl refl own
             (λ d h. known.data_part d h)
             others (λ j u d ne h stored. (R.knows j u h).data_part d stored) s.homes R.lists_are
             (calls_then log_gives about.opened.value.log.dev R.parts.log.dev q.part.dev about.opened.value.log.failed
@@ -151,7 +158,7 @@ module _ {L D : Type 0} (log_seen : L → Seen) (log_gives : L → Call → L �
             (log_part.HasBegun log_seen (lsn R.run.setup.base) R.run.first_log) p.part q.part (call_code Log
             q.part.failed) (lent b) o (served R.run) ∙ ap (λ (z : log.Part L). z.shape) was)
             R.slots
-            (λ k l z. home_of s R new q.block refl k l holder.word_is (sym (ap (λ (y : List ℕ). slice_index y (7 + k))
+            (λ k l z. home_of s R new beside refl k l holder.word_is (sym (ap (λ (y : List ℕ). slice_index y (7 + k))
             e) ∙ z))
             R.data_home
             (λ k l z. inr (
@@ -175,60 +182,66 @@ module _ {L D : Type 0} (log_seen : L → Seen) (log_gives : L → Call → L �
             q.part.marks.stable))
             (Some (slot.Log q)) me.0.data_part me.1 me
             (view_behind me.0 x f r (Some (slot.Log q)) me.0.data_part, me.1)) (sym is)
-            (kept.steps log_seen log_gives data_seen data_gives about s R id me.0 x one at f fills r new q.block same
-            done me.1 (Some (slot.Log q)) me.0.data_part me.1 own (λ d h. (known.data_part d h).1)))),
+            (kept.steps log_seen log_gives data_seen data_gives about s R id me.0 x one at f fills r new beside same
+            done plain_one me.1 (Some (slot.Log q)) me.0.data_part me.1 own (λ d h. (known.data_part d h).1)))),
       )
     where
       no_give : (o : Op) → CallsLog o → IsNoGive o
       no_give op.GiveDevice calls = absurd calls
       no_give _ calls = tt
 
-      by_slot : (old new : Parts L D) (was now : List ℕ) → new.lists ≡ old.lists → (k : ℕ) → (k ≡ 0 → ⊥)
+      by_slot : (old new : Parts L D) (was now : Beside) → new.lists ≡ old.lists → (k : ℕ) → (k ≡ 0 → ⊥)
           → ◌≡◌ {A = Slot L D} (slot_content old was k) (slot_content new now k)
       by_slot old new was now same zero ne = absurd (ne refl)
       by_slot old new was now same (suc j) ne = ap (λ (z : Listings). slot.Pages (listing_at z.lists j)) (sym same)
 
-      home_of : (s : State (Slot L D) (View L D)) (R : Law s) (new : Parts L D) (now : List ℕ) → new.lists ≡
+      home_of : (s : State (Slot L D) (View L D)) (R : Law s) (new : Parts L D) (now : Beside) → new.lists ≡
           R.parts.lists → (k : ℕ) → k < 5 → slice_index R.parts.words.words (7 + 0) ≡ 1 → slice_index s.words (7 + k)
           ≡ 0 → get_elem? s.homes k ≡ maybe.some (maybe.some (slot_content new now k))
       home_of s R new now same zero l taken z = let t : slice_index s.words 7 ≡ 1 = sym (ap (λ (y : List ℕ).
           slice_index y 7) R.words_are) ∙ taken in absurd (omega arith)
       home_of s R new now same (suc j) l taken z = R.home (suc j) l z ∙ ap (λ (y : Slot L D). maybe.some (maybe.some
-          y)) (by_slot R.parts new R.block now same (suc j) (λ e. omega arith))
+          y)) (by_slot R.parts new R.beside now same (suc j) (λ e. omega arith))
 
   -- WriteBatch: the data part is taken out of its slot
   pub allows_reach : (i : ℕ) (d : store.Part D) → me.0.data_part ≡ Some (record { part = d; out = false }) → Allows Law slots id me i (λ n. n) (reached me)
   allows_reach i d has s R wide at small =
       let e : slice_set s.words i (slice_index s.words i) ≡ s.words = set-get_or s.words i 0 in
-      let K : Knows about R.parts R.block R.actors R.heard R.seat_of R.keeper R.out id me.0 =
+      let K : Knows about R.parts R.beside R.actors R.heard R.seat_of R.keeper R.out id me.0 =
       kept.known log_seen log_gives data_seen data_gives about s R id me.0 x one at in
       let mine = K.data_part (record { part = d; out = false }) has in
       let w : View L D = view_reaching me.0 d in
       let out_is : (f : Keeping D) → Some (record { part = d; out = true }) ≡ Some f → (◌≡◌ {A = store.Part D} d f.part) × (true ≡ f.out) = λ f h.
       (ap (λ (o : Option (Keeping D)). part_or d o) h, ap (λ (o : Option (Keeping D)). is_out o) h) in
-      let here : Knows about R.parts R.block R.actors R.heard R.seat_of R.keeper true id w = record {
+      let here : Knows about R.parts R.beside R.actors R.heard R.seat_of R.keeper true id w = record {
         told = K.told;
         pages = K.pages;
         mine = K.mine;
         free = K.free;
         held = K.held;
+        errand = K.errand;
+        work = K.work;
         data_part = λ f h. (mine.0, sym (out_is f h).0 ∙ mine.1, (out_is f h).1);
       } in
       let others : (j : ℕ) (u : View L D) → j ≢ id → get_elem? s.views j ≡ maybe.some u
-      → Knows about R.parts R.block R.actors R.heard R.seat_of R.keeper true j u = λ j u ne h. let N = R.knows j u h
+      → Knows about R.parts R.beside R.actors R.heard R.seat_of R.keeper true j u = λ j u ne h. let N = R.knows j u h
       in record {
         told = N.told;
         pages = N.pages;
         mine = N.mine;
         free = N.free;
         held = N.held;
+        errand = N.errand;
+        work = N.work;
         data_part = λ f g. absurd (ne (sym (N.data_part f g).0 ∙ mine.0));
       } in
       let new : Law (record { words = s.words; homes = slice_set s.homes 5 maybe.none; views = slice_set s.views id w }) = record {
         run = R.run;
         is_about = R.is_about;
         parts = R.parts;
-        block = R.block;
+        beside = R.beside;
+        own_is = R.own_is;
+        own = R.own;
         actors = R.actors;
         heard = R.heard;
         words_are = R.words_are;
@@ -248,9 +261,9 @@ module _ {L D : Type 0} (log_seen : L → Seen) (log_gives : L → Call → L �
         data_home = λ z. absurd (cc);
         told = R.told;
         taken = R.taken;
-        knows = λ j u h. ⊎_elim (λ t. subst (λ (z : View L D). Knows about R.parts R.block R.actors R.heard R.seat_of
+        knows = λ j u h. ⊎_elim (λ t. subst (λ (z : View L D). Knows about R.parts R.beside R.actors R.heard R.seat_of
             R.keeper true j z)
-            t.1 (subst (λ (n : ℕ). Knows about R.parts R.block R.actors R.heard R.seat_of R.keeper true n w) (sym t.0)
+            t.1 (subst (λ (n : ℕ). Knows about R.parts R.beside R.actors R.heard R.seat_of R.keeper true n w) (sym t.0)
             here))
             (λ t. others j u t.0 t.1) (at_set s.views id j w u h);
       } in (
@@ -272,7 +285,7 @@ module _ {L D : Type 0} (log_seen : L → Seen) (log_gives : L → Call → L �
       let goes : Handles op.WriteBatch (hand a) (λ (z : Answer). hand (took plain z)) = subst (λ (j : Op). Handles j
       (hand a) (λ (z : Answer). hand (took plain z))) is (handles_filled a no_filling free) in
       let fills = fills_block a no_filling free (subst IsNoGive (sym is) tt) in
-      let known : Knows about R.parts R.block R.actors R.heard R.seat_of R.keeper R.out id me.0 =
+      let known : Knows about R.parts R.beside R.actors R.heard R.seat_of R.keeper R.out id me.0 =
       kept.known log_seen log_gives data_seen data_gives about s R id me.0 x one at in
       let mine = known.data_part (record { part = d; out = true }) has in
       let was : ◌≡◌ {A = store.Part D} d R.parts.store = mine.1 in
@@ -287,7 +300,7 @@ module _ {L D : Type 0} (log_seen : L → Seen) (log_gives : L → Call → L �
       plain) op.WriteBatch (call_code Data e.failed) e) was (served R.run)) refl) in
       let kept_now : Option (Keeping D) = Some (record { part = e; out = false }) in
       let w : View L D = view_behind me.0 x no_filling r me.0.held kept_now in
-      let own : (k : ℕ) → hand (took plain r) ≡ Some k → me.0.held ≡ Some (slot_content new R.block k) = λ k h. let n
+      let own : (k : ℕ) → hand (took plain r) ≡ Some k → me.0.held ≡ Some (slot_content new R.beside k) = λ k h. let n
       = goes.1 r in absurd (cc) in
       let left : (z : Keeping D) → kept_now ≡ Some z → (◌≡◌ {A = store.Part D} z.part e) × (false ≡ z.out) = λ z h.
       (sym (ap (λ (o : Option (Keeping D)). part_or e o) h), ap (λ (o : Option (Keeping D)). is_out o) h) in
@@ -295,10 +308,10 @@ module _ {L D : Type 0} (log_seen : L → Seen) (log_gives : L → Call → L �
         w,
         gives,
         tt,
-        kept.kept log_seen log_gives data_seen data_gives about s R id me.0 x one at no_filling fills r new R.block
-            same done w false refl refl
-            refl own (λ z h. (mine.0, (left z h).0, (left z h).1))
-            (λ n c k ne h hold. allowed.same_content R.parts new R.block refl refl k) (λ j u z ne h stored. absurd (ne
+        kept.kept log_seen log_gives data_seen data_gives about s R id me.0 x one at no_filling fills r new R.beside
+            same done plain_one w false refl refl
+            refl refl own (λ z h. (mine.0, (left z h).0, (left z h).1))
+            (λ n c k ne h hold. allowed.same_content R.parts new R.beside refl refl k) (λ j u z ne h stored. absurd (ne
             (sym ((R.knows j u h).data_part z stored).0 ∙ mine.0))) (put_back s.homes me.1) R.lists_are
             R.log_calls
             (calls_then data_gives about.opened.value.store.dev R.parts.store.dev e.dev about.opened.value.store.failed R.parts.store.failed e.failed R.data_calls
@@ -306,7 +319,7 @@ module _ {L D : Type 0} (log_seen : L → Seen) (log_gives : L → Call → L �
             refl (ap length back ∙ length-set s.homes 5 (maybe.some (slot.Data e)) ∙ R.slots)
             (λ k l z. ap (λ (y : List (maybe.Option (Slot L D))). get_elem? y k) back ∙ set_else s.homes 5 k (maybe.some (slot.Data e)) (λ f. omega arith)
             ∙ R.home k l (sym (ap (λ (y : List ℕ). slice_index y (7 + k)) q) ∙ z) ∙ ap (λ (y : Slot L D). maybe.some
-            (maybe.some y)) (allowed.same_content R.parts new R.block refl refl k))
+            (maybe.some y)) (allowed.same_content R.parts new R.beside refl refl k))
             (λ z. ap (λ (y : List (maybe.Option (Slot L D))). get_elem? y 5) back ∙ set_here s.homes 5 (maybe.some (slot.Data e)) (let n = R.slots in omega arith))
             (λ k l z. inr ((λ u. z (ap (λ (y : List ℕ). slice_index y (7 + k)) q ∙ u)), λ u. let n = goes.0 in absurd (cc))),
         λ y f one_y carries. subst (λ (j : store.Part D). Stepped log_seen data_seen y no_filling (call_answer Data
@@ -315,5 +328,5 @@ module _ {L D : Type 0} (log_seen : L → Seen) (log_gives : L → Call → L �
             (subst (λ (j : Numbered). Stepped log_seen data_seen j no_filling r me.0.held kept_now (rest me.1) me
             (view_behind me.0 x no_filling r me.0.held kept_now, rest me.1)) (one_head me.0.seats x y one one_y)
             (kept.steps log_seen log_gives data_seen data_gives about s R id me.0 x one at no_filling fills r new
-            R.block same done me.1 me.0.held kept_now (rest me.1) own (λ z h. (left z h).0))),
+            R.beside same done plain_one me.1 me.0.held kept_now (rest me.1) own (λ z h. (left z h).0))),
       )

@@ -1,5 +1,5 @@
 -- The steps that take a flush list keep the rule.
-use Rattle.std.proofs.Common.{Bool, List, None, Some, [], ap, arith, cond, eq-eqb, eqb, get_or-set_other, get_or-set_same, length-set, ne_eqb, refl, set, subst, suc, sym, zero, ℕ, ◌%◌, ◌++◌, ◌+◌, ◌<◌, ◌∙◌, ◌∷◌, ◌≡◌, ◌≢◌}
+use Rattle.std.proofs.Common.{Bool, List, None, Option, Some, [], ap, arith, cond, eq-eqb, eqb, get_or-set_other, get_or-set_same, length-set, ne_eqb, refl, set, subst, suc, sym, zero, ℕ, ◌%◌, ◌++◌, ◌+◌, ◌<◌, ◌∙◌, ◌∷◌, ◌≡◌, ◌≢◌}
 use Rattle.std.specs.Prelude.{slice_index, slice_set}
 use lib.ListN.{get_elem?}
 use mathlib.Core.Option as maybe
@@ -30,8 +30,10 @@ use Rattle.redo_rule.proofs.Retook.{one_head}
 use Rattle.model_core.proofs.Hands.{Handles}
 use Rattle.model_core.specs.Hands.{hand, IsFreeToCheck}
 use Rattle.redo_rule.specs.Plays.{list_behind, list_said, ListFits, no_filling, seized_list, Stepped, TakesList}
+use Rattle.redo_rule.specs.OwnSide.{Beside, desk_with}
 use Rattle.redo_rule.specs.Ruled.{Ruled, slot_content}
 use Rattle.redo_rule.specs.declared.law.About.{About}
+use Rattle.redo_rule.specs.declared.law.Errand.{Errand}
 use Rattle.redo_rule.specs.declared.law.Numbered.{Numbered}
 use Rattle.redo_rule.specs.declared.law.Slot.{Slot}
 use Rattle.redo_rule.specs.declared.law.Slot.TheVariants as slot
@@ -49,19 +51,20 @@ with_are listings i entries are below = record {
 }
 
 module _ {L D : Type 0} where
-  with_others : (old new : Parts L D) (block : List ℕ) (i : ℕ) (entries : List Dirty) → new.log ≡ old.log → ◌≡◌ {A =
+  with_others : (old new : Parts L D) (beside : Beside) (i : ℕ) (entries : List Dirty) → new.log ≡ old.log → ◌≡◌ {A =
       Listings} new.lists (with_list old.lists i entries) → (j : ℕ) → j ≢ suc i → ◌≡◌ {A = Slot L D} (slot_content old
-      block j) (slot_content new block j)
-  with_others old new block i entries log_same lists zero far =
-      ap (λ (z : log.Part L). slot.Log (record { part = z; block = block })) (sym log_same)
-  with_others old new block i entries log_same lists (suc j) far = ap slot.Pages (sym (ap (λ (z : Listings).
+      beside j) (slot_content new beside j)
+  with_others old new beside i entries log_same lists zero far =
+      ap (λ (z : log.Part L). slot.Log (desk_with z beside)) (sym log_same)
+  with_others old new beside i entries log_same lists (suc j) far = ap slot.Pages (sym (ap (λ (z : Listings).
       listing_at z.lists j) lists ∙ get_or-set_other old.lists.lists i j (record {
         pages = (listing_at old.lists.lists
             i).pages;
         entries = entries;
       }) no_list (λ z. far (ap suc z))))
 
-module _ {L D : Type 0} (log_seen : L → Seen) (log_gives : L → Call → L → Type 0) (data_seen : D → Seen) (data_gives : D → Call → D → Type 0) (about : About L D) (slots id : ℕ) (me : Me (Slot L D) (View L D)) (x : Numbered) (one : me.0.seats ≡ x ∷ []) where
+module _ {L D : Type 0} (log_seen : L → Seen) (log_gives : L → Call → L → Type 0) (data_seen : D → Seen) (data_gives : D → Call → D → Type 0) (about : About L D) (slots id : ℕ) (me : Me (Slot L D) (View L D)) (x : Numbered) (one : me.0.seats ≡ x ∷ [])
+    (plain_one : ◌≡◌ {A = Option Errand} x.errand None) where
   abbrev Law : State (Slot L D) (View L D) → Type 0
   Law = Ruled log_seen log_gives data_seen data_gives about
 
@@ -110,7 +113,7 @@ module _ {L D : Type 0} (log_seen : L → Seen) (log_gives : L → Call → L �
       let goes : Handles (op.TakeAdd p y) (hand a) (λ (z : Answer). hand (took plain z)) = subst (λ (o : Op). Handles
       o (hand a) (λ (z : Answer). hand (took plain z))) is (handles_filled a no_filling free) in
       weaker (8 + p % 4) (λ n. either (eqb n 0) 1 n) (Told (op.TakeAdd p y) (p % 4)) (seized_list log_seen data_seen me) (tells (op.TakeAdd p y) (p % 4) is (λ k e. e))
-      (allowed.takes_list log_seen log_gives data_seen data_gives about slots id me x one (op.TakeAdd p y) (p % 4) is
+      (allowed.takes_list log_seen log_gives data_seen data_gives about slots id me x one plain_one (op.TakeAdd p y) (p % 4) is
       tt refl (omega arith) goes
       (λ s R new busy words log_same store_same lists_same. let word : 7 + suc (p % 4) ≡ 8 + p % 4 = omega arith in
       let busy_p : slice_index R.parts.words.words (8 + p % 4) ≢ 0 = λ z. busy (ap (slice_index s.words) word ∙ sym (ap (λ (w : List ℕ). slice_index w (8 + p % 4)) R.words_are) ∙ z) in
@@ -134,7 +137,7 @@ module _ {L D : Type 0} (log_seen : L → Seen) (log_gives : L → Call → L �
         log_same = refl;
         store_same = refl;
         are = with_are R.parts.lists (p % 4) entries R.lists_are (omega arith);
-        others = with_others R.parts new R.block (p % 4) entries refl refl;
+        others = with_others R.parts new R.beside (p % 4) entries refl refl;
         own = get_or-set_same R.parts.lists.lists (p % 4) (record { pages = (listing_at R.parts.lists.lists (p % 4)).pages; entries = entries }) no_list (let n = R.lists_are.count in omega arith);
         fits = ((let a1 = may.0 in let a2 = R.lists_are.its_pages (p % 4) (omega arith) in let a3 = R.runs.list_pages in omega arith), may.1, may.2, R.runs.running.both.paged.paged.lists.real (p % 4));
         plays = played.took_add log_seen data_seen R.run (lent plain) R.parts new (answer.Taken None) (record {
@@ -151,7 +154,7 @@ module _ {L D : Type 0} (log_seen : L → Seen) (log_gives : L → Call → L �
       let goes : Handles (op.TakeRemove p) (hand a) (λ (z : Answer). hand (took plain z)) = subst (λ (o : Op). Handles
       o (hand a) (λ (z : Answer). hand (took plain z))) is (handles_filled a no_filling free) in
       weaker (8 + p % 4) (λ n. either (eqb n 0) 1 n) (Told (op.TakeRemove p) (p % 4)) (seized_list log_seen data_seen me) (tells (op.TakeRemove p) (p % 4) is (λ k e. e))
-      (allowed.takes_list log_seen log_gives data_seen data_gives about slots id me x one (op.TakeRemove p) (p % 4) is
+      (allowed.takes_list log_seen log_gives data_seen data_gives about slots id me x one plain_one (op.TakeRemove p) (p % 4) is
       tt refl (omega arith) goes
       (λ s R new busy words log_same store_same lists_same. let word : 7 + suc (p % 4) ≡ 8 + p % 4 = omega arith in
       let busy_p : slice_index R.parts.words.words (8 + p % 4) ≢ 0 = λ z. busy (ap (slice_index s.words) word ∙ sym (ap (λ (w : List ℕ). slice_index w (8 + p % 4)) R.words_are) ∙ z) in
@@ -175,7 +178,7 @@ module _ {L D : Type 0} (log_seen : L → Seen) (log_gives : L → Call → L �
         log_same = refl;
         store_same = refl;
         are = with_are R.parts.lists (p % 4) entries R.lists_are (omega arith);
-        others = with_others R.parts new R.block (p % 4) entries refl refl;
+        others = with_others R.parts new R.beside (p % 4) entries refl refl;
         own = get_or-set_same R.parts.lists.lists (p % 4) (record { pages = (listing_at R.parts.lists.lists (p % 4)).pages; entries = entries }) no_list (let n = R.lists_are.count in omega arith);
         fits = may;
         plays = played.took_remove log_seen data_seen R.run (lent plain) R.parts new (answer.Taken None) (record {
@@ -192,7 +195,7 @@ module _ {L D : Type 0} (log_seen : L → Seen) (log_gives : L → Call → L �
       let goes : Handles (op.TakeOldest i) (hand a) (λ (z : Answer). hand (took plain z)) = subst (λ (o : Op). Handles
       o (hand a) (λ (z : Answer). hand (took plain z))) is (handles_filled a no_filling free) in
       weaker (8 + i) (λ n. either (eqb n 0) 1 n) (Told (op.TakeOldest i) i) (seized_list log_seen data_seen me) (tells (op.TakeOldest i) i is (λ k e. e))
-      (allowed.takes_list log_seen log_gives data_seen data_gives about slots id me x one (op.TakeOldest i) i is tt
+      (allowed.takes_list log_seen log_gives data_seen data_gives about slots id me x one plain_one (op.TakeOldest i) i is tt
       refl below goes
       (λ s R new busy words log_same store_same lists_same. let word : 7 + suc i ≡ 8 + i = omega arith in
       let busy_p : slice_index R.parts.words.words (8 + i) ≢ 0 = λ z. busy (ap (slice_index s.words) word ∙ sym (ap (λ (w : List ℕ). slice_index w (8 + i)) R.words_are) ∙ z) in
@@ -218,7 +221,7 @@ module _ {L D : Type 0} (log_seen : L → Seen) (log_gives : L → Call → L �
         log_same = refl;
         store_same = refl;
         are = R.lists_are;
-        others = λ j far. allowed.same_content R.parts new R.block refl refl j;
+        others = λ j far. allowed.same_content R.parts new R.beside refl refl j;
         own = refl;
         fits = tt;
         plays = record {

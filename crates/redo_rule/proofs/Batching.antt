@@ -57,7 +57,7 @@ module _ {L D R : Type 0} (table : TableId) (seat : Seat (Slot L D) (View L D)) 
 
   pub reach_ok : (log_seen : L → Seen) (log_gives : L → Call → L → Type 0) (data_seen : D → Seen) (data_gives : D → Call → D → Type 0) (about : About L D)
       → (seat.table_id ≡ table) × (0 < table.words) × Allows (Ruled log_seen log_gives data_seen data_gives about) table.slots seat.id seat.me 0 (λ n. n) (reached seat.me)
-  reach_ok log_seen log_gives data_seen data_gives about = (mine.of, (let w = mine.words in omega arith), allows_reach log_seen log_gives data_seen data_gives about table.slots seat.id seat.me mine.who mine.one 0 d has)
+  reach_ok log_seen log_gives data_seen data_gives about = (mine.of, (let w = mine.words in omega arith), allows_reach log_seen log_gives data_seen data_gives about table.slots seat.id seat.me mine.who mine.one mine.plain 0 d has)
 
   none : seat.me.1 ≡ []
   none = let g = stepping.goes table seat a mine op.WriteBatch is no_filling in subst (λ (h : Option ℕ). Carries h
@@ -120,7 +120,7 @@ module _ {L D R : Type 0} (table : TableId) (seat : Seat (Slot L D) (View L D)) 
             let keeps : out.me.0.data_part ≡ Some (record { part = p; out = true }) = ap (λ (m : Me (Slot L D) (View L D)). m.0.data_part) out_is ∙ ap (λ (w : store.Part D). Some (record { part = w; out = true })) (sym was) in (
               out_table ∙ mine.of,
               (let w = mine.words in omega arith),
-              allows_batched log_seen log_gives data_seen data_gives about table.slots out.id (out.me.0, (5, z) ∷ rest out.me.1) mine.who one 0 p e asks free keeps bare done calls (live_of p l (may_p l lends)),
+              allows_batched log_seen log_gives data_seen data_gives about table.slots out.id (out.me.0, (5, z) ∷ rest out.me.1) mine.who one mine.plain 0 p e asks free keeps bare done calls (live_of p l (may_p l lends)),
             )
 
         module _ (log_seen : L → Seen) (data_seen : D → Seen) (after : Seat (Slot L D) (View L D)) (same : after.table_id ≡ out.table_id) (m : ℕ) (told_after : batched log_seen data_seen (out.me.0, (5, z) ∷ rest out.me.1) m after.me)
@@ -155,7 +155,7 @@ module _ {L D R : Type 0} (table : TableId) (seat : Seat (Slot L D) (View L D)) 
                 in
                 leaves table log_seen data_seen stands out.me.0 mine.who old new step no_filling r out.me.0.held
                 (Some (record { part = e; out = false })) (rest out.me.1) ((5, z) ∷ rest out.me.1) after.me mine.slots
-                (mine.words ∙ ap word_count (sym pages)) one mine.state stepped
+                (mine.words ∙ ap word_count (sym pages)) one mine.state mine.plain stepped
                 (took_plain stands r step new no_filling old op.WriteBatch is tt mine.may.free h) after
                 (same ∙ out_table ∙ mine.of) (ap (λ (w : Me (Slot L D) (View L D)). w.0) stepped.is)
                 (subst (λ (w : Option ℕ). Carries w after.me) (sym (g.1 r))

@@ -11,6 +11,7 @@ use Rattle.model_core.specs.declared.ops.Answer.{Answer}
 use Rattle.model_core.specs.declared.ops.Op.{Op}
 use Rattle.model_core.specs.declared.ops.Op.TheVariants as op
 use Rattle.model_core.specs.declared.ops.Step.{Step}
+use Rattle.model_own.specs.OwnWrites.{LogWork}
 use Rattle.redo_disk.specs.{Call, EndWith, MakesCalls}
 use Rattle.redo_disk.specs.Seen.{Seen}
 use Rattle.redo_disk.specs.declared.error.DevError.{DevError}
@@ -92,8 +93,8 @@ module _ {L D R : Type 0} (table : TableId) (seat : Seat (Slot L D) (View L D)) 
           → ((faults start : ℕ) (first : log.Part L) → LogServed (log_part.log_side log_seen faults first.marks.number
           (log_part.HasBegun log_seen start first)) p.part (lent (filled a f)) o (call_code Log q.part.failed)
           q.part) → MakesCalls log_gives p.part.dev q.part.dev (EndWith q.part.failed)
-          → (seat.table_id ≡ table) × (0 < table.words) × Allows (Ruled log_seen log_gives data_seen data_gives about) table.slots seat.id (seat.me.0, (0, z) ∷ rest seat.me.1) 0 (λ n. n) (called log_seen data_seen (seat.me.0, (0, z) ∷ rest seat.me.1))
-      called_ok log_seen log_gives data_seen data_gives about l lends served calls =
+          → ◌≡◌ {A = Option LogWork} q.work p.work → (seat.table_id ≡ table) × (0 < table.words) × Allows (Ruled log_seen log_gives data_seen data_gives about) table.slots seat.id (seat.me.0, (0, z) ∷ rest seat.me.1) 0 (λ n. n) (called log_seen data_seen (seat.me.0, (0, z) ∷ rest seat.me.1))
+      called_ok log_seen log_gives data_seen data_gives about l lends served calls work =
           let asks : next mine.who.actor ≡ o = ap next mine.state ∙ is in
           let free : IsFreeToCheck mine.who.actor = subst IsFreeToCheck (sym mine.state) mine.may.free in
           let live : p.part.failed ≡ None = live_of p.part o l calls_log (subst (λ (w : Desk L). LogReady w.part l o)
@@ -106,7 +107,7 @@ module _ {L D R : Type 0} (table : TableId) (seat : Seat (Slot L D) (View L D)) 
           let held : seat.me.0.held ≡ Some (slot.Log p) = own.2 ∙ ap (λ (w : Desk L). Some (slot.Log w)) (sym was) in (
             mine.of,
             (let w = mine.words in omega arith),
-            allows_called log_seen log_gives data_seen data_gives about table.slots seat.id (seat.me.0, (0, z) ∷ rest seat.me.1) mine.who mine.one 0 o p q asks calls_log free held bare done calls live,
+            allows_called log_seen log_gives data_seen data_gives about table.slots seat.id (seat.me.0, (0, z) ∷ rest seat.me.1) mine.who mine.one mine.plain 0 o p q asks calls_log free held bare done calls live work,
           )
 
       module _ (log_seen : L → Seen) (data_seen : D → Seen) (after : Seat (Slot L D) (View L D)) (same : after.table_id ≡ seat.table_id) (n : ℕ) (told : called log_seen data_seen (seat.me.0, (0, z) ∷ rest seat.me.1) n after.me)
@@ -131,7 +132,7 @@ module _ {L D R : Type 0} (table : TableId) (seat : Seat (Slot L D) (View L D)) 
             steps table log_seen data_seen stands seat.me.0 mine.who old new step f r (Some (slot.Log q))
             seat.me.0.data_part ((0, z) ∷ rest seat.me.1) ((0, z) ∷ rest seat.me.1) after.me mine.slots mine.words
             mine.one
-            mine.state stepped t after (same ∙ mine.of) (ap (λ (m : Me (Slot L D) (View L D)). m.0) stepped.is)
+            mine.state mine.plain stepped t after (same ∙ mine.of) (ap (λ (m : Me (Slot L D) (View L D)). m.0) stepped.is)
             (subst (λ (w : Option ℕ). Carries w after.me) (sym still) (
               q,
               ap (λ (m : Me (Slot L D) (View L D)). m.1) stepped.is ∙ bare,

@@ -18,6 +18,7 @@ use Rattle.redo_rule.specs.Plays.{Carries, looked}
 use Rattle.redo_rule.specs.Ruled.{Ruled}
 use Rattle.redo_rule.specs.Seats.{cut_left, cut_right, first_numbered, first_some, heads_cleaner, rest_numbered, spent, taken_in}
 use Rattle.redo_rule.specs.declared.law.About.{About}
+use Rattle.redo_rule.specs.declared.law.Errand.{Errand}
 use Rattle.redo_rule.specs.declared.law.Keeping.{Keeping}
 use Rattle.redo_rule.specs.declared.law.Numbered.{Numbered}
 use Rattle.redo_rule.specs.declared.law.Slot.{Slot}
@@ -53,15 +54,16 @@ module _ {L D : Type 0} (log_seen : L → Seen) (log_gives : L → Call → L �
       one = ap (λ (m : Me (Slot L D) (View L D)). m.0.seats) me_is ∙ ap first_numbered M.are
 
       pub look_ok : (token.table_id ≡ table) × (0 < table.words) × Allows (Ruled log_seen log_gives data_seen data_gives about) table.slots token.id token.me 0 (λ n. n) (looked log_seen data_seen token.me)
-      look_ok = (of ∙ F.of, some_words, allows_look log_seen log_gives data_seen data_gives about table.slots token.id token.me M.head one 0)
+      look_ok = (of ∙ F.of, some_words, allows_look log_seen log_gives data_seen data_gives about table.slots token.id token.me 0)
 
       pub cut_mine : (after : Seat (Slot L D) (View L D)) → after.table_id ≡ token.table_id → (n : ℕ) → looked
-          log_seen data_seen token.me n after.me → (x : Numbered) → after.me.0.seats ≡ x ∷ [] → Mine table after x.actor
-      cut_mine after same n told x seats =
+          log_seen data_seen token.me n after.me → (x : Numbered) → after.me.0.seats ≡ x ∷ []
+          → ◌≡◌ {A = Option Errand} x.errand None → Mine table after x.actor
+      cut_mine after same n told x seats plain =
           let back : after.me ≡ token.me = told.0 in
           let seats_t : token.me.0.seats ≡ x ∷ [] = ap (λ (m : Me (Slot L D) (View L D)). m.0.seats) (sym back) ∙ seats in
           let rest : hand x.actor ≡ None = (F.rest 0 x (ap (λ (l : List Numbered). get_elem? l 0) M.are ∙ ap (λ (z :
-          Numbered). maybe.some z) (one_head token.me.0.seats M.head x one seats_t))).no_slot in
+          Numbered). maybe.some z) (one_head token.me.0.seats M.head x one seats_t))).0.no_slot in
           subst (λ (m : Me (Slot L D) (View L D)). Mine table (record {
             marker = after.marker;
             table_id =
@@ -76,6 +78,7 @@ module _ {L D : Type 0} (log_seen : L → Seen) (log_gives : L → Call → L �
             who = x;
             one = seats_t;
             state = refl;
+            plain = plain;
             carries = subst (λ (h : Option ℕ). Carries h token.me) (sym rest) (ap (λ (m : Me (Slot L D) (View L D)). m.1) me_is);
             may = told.1 x seats_t;
           })

@@ -18,6 +18,7 @@ use Rattle.redo_drive.specs.Running.{RunsOn}
 use Rattle.redo_drive.specs.declared.parts.Parts.{Parts}
 use Rattle.redo_rule.specs.Ending.{RunReaches}
 use Rattle.model_core.specs.Hands.{hand, HoldsNothing}
+use Rattle.redo_rule.specs.OwnSide.{desk_with}
 use Rattle.redo_rule.specs.Ruled.{HaveGroups, Knows, numbered, Ruled, starts_about}
 use Rattle.redo_rule.specs.Seating.{HasPart, IsCleaner}
 use Rattle.redo_rule.specs.declared.law.About.{About}
@@ -35,15 +36,15 @@ same_list (x ∷ xs) (y ∷ ys) e h = λ k. maybe.some-injective x y (h 0 y refl
 
 number_there : (heard : ℕ → List Given) (k : ℕ) (l : List model.Actor) (i : ℕ) (a : model.Actor) → get_elem? l i ≡
     maybe.some a
-    → get_elem? (numbered heard k l) i ≡ maybe.some (record { number = k + i; actor = a; heard = heard (k + i) })
+    → get_elem? (numbered heard k l) i ≡ maybe.some (record { number = k + i; actor = a; heard = heard (k + i); errand = None })
 number_there heard k [] i a e = absurd (maybe.some-ne-none a (sym e))
 number_there heard k (x ∷ xs) zero a e =
-    ap (λ (z : model.Actor). maybe.some (record { number = k; actor = z; heard = heard k })) (maybe.some-injective x a
+    ap (λ (z : model.Actor). maybe.some (record { number = k; actor = z; heard = heard k; errand = None })) (maybe.some-injective x a
     e)
-    ∙ ap (λ (n : ℕ). maybe.some (record { number = n; actor = a; heard = heard n })) (let z : k ≡ k + 0 = omega arith
+    ∙ ap (λ (n : ℕ). maybe.some (record { number = n; actor = a; heard = heard n; errand = None })) (let z : k ≡ k + 0 = omega arith
     in z)
 number_there heard k (x ∷ xs) (suc i) a e = number_there heard (k + 1) xs i a e
-    ∙ ap (λ (n : ℕ). maybe.some (record { number = n; actor = a; heard = heard n })) (let z : k + 1 + i ≡ k + suc i =
+    ∙ ap (λ (n : ℕ). maybe.some (record { number = n; actor = a; heard = heard n; errand = None })) (let z : k + 1 + i ≡ k + suc i =
     omega arith in z)
 
 -- but where the log runs alone there is a cleaner
@@ -73,10 +74,10 @@ module _ {L D : Type 0} (log_seen : L → Seen) (log_gives : L → Call → L �
       let s = final.0 in
       let R = final.1.0 in
       let at = final.1.1 in
-      let K : Knows about R.parts R.block R.actors R.heard R.seat_of R.keeper R.out id v = R.knows id v at in
+      let K : Knows about R.parts R.beside R.actors R.heard R.seat_of R.keeper R.out id v = R.knows id v at in
       let known : (i : ℕ) (a : model.Actor) → get_elem? actors i ≡ maybe.some a
       → (get_elem? R.actors i ≡ maybe.some a) × (R.heard i ≡ heard i) = λ i a e.
-      let m = K.mine i (record { number = 0 + i; actor = a; heard = heard (0 + i) })
+      let m = K.mine i (record { number = 0 + i; actor = a; heard = heard (0 + i); errand = None })
       (ap (λ (l : List Numbered). get_elem? l i) seats ∙ number_there heard 0 actors i a e) in
       let z : i ≡ 0 + i = omega arith in (ap (get_elem? R.actors) z ∙ m.1, ap R.heard z ∙ m.2 ∙ ap heard (sym z)) in
       let all : ◌≡◌ {A = List model.Actor} R.actors actors =
@@ -100,8 +101,8 @@ module _ {L D : Type 0} (log_seen : L → Seen) (log_gives : L → Call → L �
         runs = runs;
         hears = λ told n a at. sym (known n a at).1 ∙ now.hears told n a at;
         words_are = R.words_are ∙ final.2;
-        block = R.block;
-        log = final.4 0 (slot.Log (record { part = R.parts.log; block = R.block })) (R.home 0 (omega arith) (free 0
+        beside = R.beside;
+        log = final.4 0 (slot.Log (desk_with R.parts.log R.beside)) (R.home 0 (omega arith) (free 0
             (omega arith)));
         lists = λ i l. final.4 (suc i) (slot.Pages (listing_at R.parts.lists.lists i)) (R.home (suc i) (omega arith) (free (suc i) (omega arith)));
         data_part = final.4 5 (slot.Data R.parts.store) (R.data_home (K.data_part (record { part = part.0; out = false }) part.1).2);

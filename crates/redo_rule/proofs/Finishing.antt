@@ -41,6 +41,8 @@ use Rattle.redo_rule.specs.Sharing.{HaveHeard, heard_by}
 use Rattle.redo_rule.specs.Slots.{IsData, IsLog, IsPages}
 use Rattle.redo_rule.specs.declared.closing.Left.{Left}
 use Rattle.redo_rule.specs.declared.law.About.{About}
+use Rattle.model_own.specs.OwnWrites.{LogWork}
+use Rattle.redo_rule.specs.OwnSide.{desk_with, work_of}
 use Rattle.redo_rule.specs.declared.law.Desk.{Desk}
 use Rattle.redo_rule.specs.declared.law.Slot.{Slot}
 use Rattle.redo_rule.specs.declared.law.Slot.TheVariants as slot
@@ -119,7 +121,7 @@ module _ {L D : Type 0} (log_seen : L → Seen) (log_gives : L → Call → L �
   module _ (heard : ℕ → List Given) (actors : List model.Actor) (ws : List ℕ) (xs : List (Slot L D)) (E : RunReaches
       log_seen log_gives data_seen data_gives about heard actors ws xs) where
     abbrev desk : Desk L
-    desk = record { part = E.parts.log; block = E.block }
+    desk = desk_with E.parts.log E.beside
 
     pub small : slice_index ws (index word.Failed) < 2 ^ 32
     small = subst (λ (z : List ℕ). slice_index z (index word.Failed) < 2 ^ 32) E.words_are (small_code log_seen data_seen E.run E.parts actors E.runs)
@@ -145,12 +147,17 @@ module _ {L D : Type 0} (log_seen : L → Seen) (log_gives : L → Call → L �
     pub data_there : (x : Slot L D) → get_elem? xs 5 ≡ maybe.some x → IsData x (λ d. Unit {0})
     data_there x e = (E.parts.store, in_slot 5 x (slot.Data E.parts.store) e E.data_part, tt)
 
-    pub parts_left : (left : Left L D) (x y : Slot L D) → get_elem? xs 0 ≡ maybe.some x → IsLog x (λ p. p ≡ left.log)
-        → get_elem? xs 5 ≡ maybe.some y → y ≡ slot.Data left.store
+    pub work_left : (x : Slot L D) (found : Desk L) → get_elem? xs 0 ≡ maybe.some x → x ≡ slot.Log found
+        → ◌≡◌ {A = Option LogWork} found.work (work_of E.beside.own)
+    work_left x found at is =
+        ap (λ (z : Desk L). z.work) (kept.same_desk found desk (sym is ∙ in_slot 0 x (slot.Log desk) at E.log))
+
+    pub parts_left : (left : Left L D) (x y : Slot L D) (found : Desk L) → get_elem? xs 0 ≡ maybe.some x → x ≡ slot.Log found
+        → left.log ≡ found.part → get_elem? xs 5 ≡ maybe.some y → y ≡ slot.Data left.store
         → left.marks.wtail ≡ tail_of (slice_index ws (index word.Wtail)) → left.marks.write ≡ slice_index ws (index word.Write) → left.marks.flushed ≡ slice_index ws (index word.Flushed) → left.marks.ckpt ≡ slice_index ws (index word.Ckpt)
         → left.code ≡ slice_index ws (index word.Failed) → LeavesParts log_seen log_gives data_seen data_gives about
         heard actors left
-    parts_left left x y at_log log_is at_data store_is wtail write flushed ckpt code = record {
+    parts_left left x y found at_log is log_is at_data store_is wtail write flushed ckpt code = record {
       run = E.run;
       is_about = E.is_about;
       last = E.parts;
@@ -159,7 +166,7 @@ module _ {L D : Type 0} (log_seen : L → Seen) (log_gives : L → Call → L �
       log_calls = E.log_calls;
       data_calls = E.data_calls;
       log_shape = E.log_shape;
-      log = sym log_is.2 ∙ kept.same_log log_is.0 desk (sym log_is.1 ∙ in_slot 0 x (slot.Log desk) at_log E.log);
+      log = log_is ∙ kept.same_log found desk (sym is ∙ in_slot 0 x (slot.Log desk) at_log E.log);
       data_part = kept.same_data left.store E.parts.store (sym store_is ∙ in_slot 5 y (slot.Data E.parts.store) at_data E.data_part);
       marks = marks_are left.marks.wtail left.marks.write left.marks.flushed left.marks.ckpt wtail write flushed ckpt;
       code = code ∙ ap (λ (z : List ℕ). slice_index z (index word.Failed)) (sym E.words_are);

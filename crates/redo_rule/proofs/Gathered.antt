@@ -15,12 +15,14 @@ use Rattle.redo_rule.specs.Gathering.{AreHandedOut, HasOneCleaner, PartIsKept}
 use Rattle.model_core.specs.Hands.{HoldsNothing}
 use Rattle.redo_rule.specs.Mine.{heard_in, heard_of, Mine, number_in, number_of}
 use Rattle.redo_rule.specs.Plays.{Carries}
+use Rattle.redo_rule.specs.OwnSide.{HasNoWork}
 use Rattle.redo_rule.specs.Ruled.{numbered}
 use Rattle.redo_rule.specs.Seating.{HasPart, IsCleaner, IsSeatOf}
 use Rattle.redo_rule.specs.Seats.{cut_left, cut_right, first_numbered, first_some, heads_cleaner, is_cleaner, rest_numbered, taken_in}
 use Rattle.redo_rule.specs.Sharing.{heard_by}
 use Rattle.redo_rule.specs.declared.law.About.{About}
 use Rattle.redo_rule.specs.declared.law.Keeping.{Keeping}
+use Rattle.redo_rule.specs.declared.law.Errand.{Errand}
 use Rattle.redo_rule.specs.declared.law.Numbered.{Numbered}
 use Rattle.redo_rule.specs.declared.law.Slot.{Slot}
 use Rattle.redo_rule.specs.declared.law.View.{View}
@@ -76,7 +78,7 @@ module _ {L D : Type 0} (table : TableId) (heard : ℕ → List Given) (actors :
     next_at = (there actors (length seats) less).1
 
     abbrev head : Numbered
-    head = record { number = length seats; actor = next_actor; heard = heard (length seats) }
+    head = record { number = length seats; actor = next_actor; heard = heard (length seats); errand = None }
 
     abbrev others : List Numbered
     others = numbered heard (length seats + 1) (drop (suc (length seats)) actors)
@@ -94,7 +96,8 @@ module _ {L D : Type 0} (table : TableId) (heard : ℕ → List Given) (actors :
     }
 
     module _ (after token : Seat (Slot L D) (View L D)) (is_first : IsFirst table after) (left : after.me.0 ≡ cut_left first.me.0) (right : token.me.0 ≡ cut_right first.me.0)
-        (mine : (x : Numbered) → token.me.0.seats ≡ x ∷ [] → Mine table token x.actor) (one : HasOneCleaner actors)
+        (mine : (x : Numbered) → token.me.0.seats ≡ x ∷ [] → ◌≡◌ {A = Option Errand} x.errand None
+        → Mine table token x.actor) (one : HasOneCleaner actors)
         (part : PartIsKept (length seats) actors first) where
       token_seats : token.me.0.seats ≡ head ∷ []
       token_seats = ap (λ (v : View L D). v.seats) right ∙ ap first_numbered are
@@ -109,7 +112,7 @@ module _ {L D : Type 0} (table : TableId) (heard : ℕ → List Given) (actors :
 
       cut_seat : IsSeatOf table token next_actor
       cut_seat = record {
-        mine = mine head token_seats;
+        mine = mine head token_seats refl;
         home = λ d has. A.is_first.home d (cut_part_is (heads_cleaner first.me.0.seats) first.me.0.data_part d (sym (ap (λ (v : View L D). v.data_part) right) ∙ has));
         cleaner = keeps_part;
       }
@@ -181,14 +184,22 @@ module _ {L D : Type 0} (table : TableId) (heard : ℕ → List Given) (actors :
     who = own_seat.mine.who
 
     abbrev last_who : Numbered
-    last_who = record { number = length before; actor = last_actor; heard = heard (length before) }
+    last_who = record {
+      number = length before;
+      actor = last_actor;
+      heard = heard (length before);
+      errand = None;
+    }
 
     who_is : ◌≡◌ {A = Numbered} who last_who
     who_is =
-        ap (λ (n : ℕ). record { number = n; actor = who.actor; heard = who.heard }) (sym (ap number_in
-        own_seat.mine.one) ∙ its_number)
-        ∙ ap (λ (a : model.Actor). record { number = length before; actor = a; heard = who.heard }) own_seat.mine.state
-        ∙ ap (λ (l : List Given). record { number = length before; actor = last_actor; heard = l })
+        ap (λ (e : Option Errand). record { number = who.number; actor = who.actor; heard = who.heard; errand = e })
+        own_seat.mine.plain
+        ∙ ap (λ (n : ℕ). record { number = n; actor = who.actor; heard = who.heard; errand = None })
+        (sym (ap number_in own_seat.mine.one) ∙ its_number)
+        ∙ ap (λ (a : model.Actor). record { number = length before; actor = a; heard = who.heard; errand = None })
+        own_seat.mine.state
+        ∙ ap (λ (l : List Given). record { number = length before; actor = last_actor; heard = l; errand = None })
         (sym (ap heard_in own_seat.mine.one) ∙ its_heard)
 
     same_count : (p q : ℕ) → word_count p ≡ word_count q → p ≡ q
@@ -200,8 +211,11 @@ module _ {L D : Type 0} (table : TableId) (heard : ℕ → List Given) (actors :
       pages = same_count first.me.0.pages seat.me.0.pages (sym A.is_first.words ∙ own_seat.mine.words);
       none = subst (λ (h : Option ℕ). Carries h seat.me) free.no_slot own_seat.mine.carries;
       some = (who, ap (λ (l : List Numbered). get_elem? l 0) own_seat.mine.one);
-      rest = λ i y e. subst (λ (z : Numbered). HoldsNothing z.actor) (in_one who i y (sym (ap (λ (l : List Numbered).
-          get_elem? l i) own_seat.mine.one) ∙ e)) (subst HoldsNothing (sym own_seat.mine.state) free);
+      rest = λ i y e. subst (λ (z : Numbered). HoldsNothing z.actor × HasNoWork z.errand)
+          (in_one who i y (sym (ap (λ (l : List Numbered). get_elem? l i) own_seat.mine.one) ∙ e)) (
+            subst HoldsNothing (sym own_seat.mine.state) free,
+            subst HasNoWork (sym own_seat.mine.plain) tt,
+          );
       home = own_seat.home;
     }
       where

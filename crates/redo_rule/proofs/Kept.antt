@@ -1,5 +1,5 @@
 -- A turn of one actor keeps the rule, whatever it does to the slots.
-use Rattle.std.proofs.Common.{Bool, List, None, Option, Some, [], ap, false, length, length-set, refl, set, subst, suc, sym, zero, ℕ, ⊎_elim, ◌++◌, ◌+◌, ◌<◌, ◌∙◌, ◌∷◌, ◌≡◌, ◌≢◌, ◌⊎◌, is_some}
+use Rattle.std.proofs.Common.{Bool, List, None, Option, Some, [], ap, arith, false, length, length-set, refl, set, subst, suc, sym, true, zero, ℕ, ⊎_elim, ◌++◌, ◌+◌, ◌<◌, ◌∙◌, ◌∷◌, ◌≡◌, ◌≢◌, ◌⊎◌, is_some}
 use Rattle.std.specs.Prelude.{slice_index, slice_set}
 use lib.ListN.{get_elem?}
 use mathlib.Core.Option as maybe
@@ -19,6 +19,7 @@ use Rattle.model_core.specs.declared.steps.UserStep.TheVariants as user_step
 use Rattle.model_logcore.proofs.Failures.{stored_cause}
 use Rattle.model_logcore.specs.{LogGhost, UserAt, UserFits}
 use Rattle.model_logcore.specs.LogLaws.{LogLaws}
+use Rattle.model_own.specs.OwnWrites.{has_work}
 use Rattle.model_pagecore.specs.DataLaws.{DataLaws}
 use Rattle.model_running.proofs.Archiving.{none_appends}
 use Rattle.model_running.proofs.Filling.{next_filled}
@@ -45,10 +46,13 @@ use Rattle.model_core.proofs.Hands.{stays_free}
 use Rattle.redo_rule.proofs.Filled.{free_filled, stored_before, turn_follows}
 use Rattle.redo_rule.proofs.Hearing.{hears_then, heard_else, heard_here, heard_then}
 use Rattle.model_core.specs.Hands.{GivesFailed, hand, IsFreeToCheck}
+use Rattle.redo_rule.proofs.OwnStays.{work_stays, worker_holds}
+use Rattle.redo_rule.specs.OwnSide.{Beside, desk_with, HasItsWork, OwnSide, SitsAs}
 use Rattle.redo_rule.specs.Plays.{behind, MayGo, Shown, Stepped, view_behind}
 use Rattle.redo_rule.specs.Ruled.{HaveGroups, IsNoArchiver, IsSlotHeld, Knows, Ruled, slot_content}
 use Rattle.redo_rule.specs.declared.law.About.{About}
 use Rattle.redo_rule.specs.declared.law.Desk.{Desk}
+use Rattle.redo_rule.specs.declared.law.Errand.{Errand}
 use Rattle.redo_rule.specs.declared.law.Keeping.{Keeping}
 use Rattle.redo_rule.specs.declared.law.Numbered.{Numbered}
 use Rattle.redo_rule.specs.declared.law.Slot.{Slot}
@@ -157,7 +161,7 @@ module _ {L D : Type 0} (log_seen : L → Seen) (log_gives : L → Call → L �
   abbrev a : model.Actor
   a = x.actor
 
-  pub known : Knows about R.parts R.block R.actors R.heard R.seat_of R.keeper R.out id v
+  pub known : Knows about R.parts R.beside R.actors R.heard R.seat_of R.keeper R.out id v
   known = R.knows id v at
 
   pub first : get_elem? v.seats 0 ≡ maybe.some x
@@ -178,15 +182,144 @@ module _ {L D : Type 0} (log_seen : L → Seen) (log_gives : L → Call → L �
   pub is_free : IsFreeToCheck a
   is_free = known.free 0 x first
 
-  pub holds_content : (k : ℕ) → hand a ≡ Some k → v.held ≡ Some (slot_content R.parts R.block k)
+  pub holds_content : (k : ℕ) → hand a ≡ Some k → v.held ≡ Some (slot_content R.parts R.beside k)
   holds_content k e = known.held 0 x k first e
 
   pub fits : (code mark : ℕ) → AnswerFits a (answer_of (lists_of R.parts.lists) (is_some R.parts.log.failed) code mark R.parts.words.words (next a))
   fits code mark = (serves log_seen data_seen R.run R.parts R.actors R.runs x.number a here).fits code mark
 
-  module _ (f : Filling) (fills : Fills a f) (r : Answer) (new : Parts L D) (block : List ℕ) (same : HasSamePages
+  -- WHAT A TURN LEAVES OF THE RUN, by which the seat's actor comes to this state: all but where the slots are.
+  pub record Leaves (then : Numbered) (new : Parts L D) (beside : Beside) (after : List model.Actor)
+      (heard : ℕ → List Given) : Type 0 where
+    pub same : HasSamePages R.parts new
+    pub runs : RunsOn log_seen data_seen R.run new after
+    pub own_is : is_some beside.own ≡ is_some R.beside.own
+    pub own : HasItsWork (run_log_side log_seen data_seen R.run) new.log beside.own after
+    pub hears : HaveGroups (run_log_side log_seen data_seen R.run) new.log heard after runs.running.log_ghost.log
+    pub count : length after ≡ length R.actors
+    pub follow : (n : ℕ) (c : model.Actor) → get_elem? after n ≡ maybe.some c → IsNoArchiver c
+    pub told : (n : ℕ) (c : model.Actor) (code : ℕ) → SitsAs beside.own None n → get_elem? after n ≡ maybe.some c
+        → GivesFailed c code → (run_log_side log_seen data_seen R.run).Cause new.log code
+    pub number : then.number ≡ x.number
+    pub here : get_elem? after x.number ≡ maybe.some then.actor
+    pub its_heard : ◌≡◌ {A = List Given} (heard x.number) then.heard
+    pub free : IsFreeToCheck then.actor
+    pub sits : SitsAs beside.own then.errand x.number
+    -- whoever else has a seat is as it was
+    pub others : (n : ℕ) (e : Option Errand) → n ≢ x.number → SitsAs R.beside.own e n
+        → (get_elem? after n ≡ get_elem? R.actors n) × (◌≡◌ {A = List Given} (heard n) (R.heard n))
+        × SitsAs beside.own e n
+
+  module _ (then : Numbered) (new : Parts L D) (beside : Beside) (after : List model.Actor) (heard : ℕ → List Given)
+      (left : Leaves then new beside after heard) (w : View L D) (out : Bool) (about_w : w.about ≡ v.about)
+      (pages_w : w.pages ≡ v.pages) (seats_w : w.seats ≡ then ∷ [])
+      (own : (k : ℕ) → hand then.actor ≡ Some k → w.held ≡ Some (slot_content new beside k))
+      (own_work : (e : Errand) → then.errand ≡ Some e → has_work e.step ≡ true
+      → w.held ≡ Some (slot_content new beside 0))
+      (data_w : (d : Keeping D) → w.data_part ≡ Some d
+      → (R.keeper ≡ id) × ◌≡◌ {A = store.Part D} d.part new.store × (out ≡ d.out)) where
+    sits_at : (y : Numbered) → ◌≡◌ {A = Numbered} then y → (R.seat_of y.number ≡ id)
+        × (get_elem? after y.number ≡ maybe.some y.actor) × ◌≡◌ {A = List Given} (heard y.number) y.heard
+    sits_at y is = subst (λ (z : Numbered). (R.seat_of z.number ≡ id)
+        × (get_elem? after z.number ≡ maybe.some z.actor) × ◌≡◌ {A = List Given} (heard z.number) z.heard) is
+        (subst (λ (n : ℕ). (R.seat_of n ≡ id) × (get_elem? after n ≡ maybe.some then.actor)
+        × ◌≡◌ {A = List Given} (heard n) then.heard) (sym left.number) (seated, left.here, left.its_heard))
+
+    knows_then : Knows about new beside after heard R.seat_of R.keeper out id w
+    knows_then = record {
+      told = λ i y e. about_w ∙ known.told 0 x first;
+      pages = λ i y e. pages_w ∙ count ∙ sym left.same.words;
+      mine = λ i y e. sits_at y (only w.seats then i y seats_w e);
+      free = λ i y e. subst (λ (z : Numbered). IsFreeToCheck z.actor) (only w.seats then i y seats_w e) left.free;
+      held = λ i y k e held. own k (ap (λ (z : Numbered). hand z.actor) (only w.seats then i y seats_w e) ∙ held);
+      errand = λ i y e. subst (λ (z : Numbered). SitsAs beside.own z.errand z.number) (only w.seats then i y seats_w e)
+          (subst (SitsAs beside.own then.errand) (sym left.number) left.sits);
+      work = λ i y g e is has. own_work g (ap (λ (z : Numbered). z.errand) (only w.seats then i y seats_w e) ∙ is) has;
+      data_part = data_w;
+    }
+
+    module _ (others : (n : ℕ) (c : model.Actor) (k : ℕ) (e : Option Errand) → n ≢ x.number → SitsAs R.beside.own e n
+        → get_elem? R.actors n ≡ maybe.some c → hand c ≡ Some k
+        → ◌≡◌ {A = Slot L D} (slot_content R.parts R.beside k) (slot_content new beside k))
+        (others_work : (n : ℕ) (g : Errand) → n ≢ x.number → SitsAs R.beside.own (Some g) n → has_work g.step ≡ true
+        → ◌≡◌ {A = Slot L D} (slot_content R.parts R.beside 0) (slot_content new beside 0))
+        (data_others : (j : ℕ) (u : View L D) (d : Keeping D) → j ≢ id → get_elem? s.views j ≡ maybe.some u
+        → u.data_part ≡ Some d → (R.keeper ≡ j) × ◌≡◌ {A = store.Part D} d.part new.store × (out ≡ d.out)) where
+      knows_others : (j : ℕ) (u : View L D) → j ≢ id → get_elem? s.views j ≡ maybe.some u
+          → Knows about new beside after heard R.seat_of R.keeper out j u
+      knows_others j u ne e =
+          let K = R.knows j u e in
+          let far : (i : ℕ) (y : Numbered) → get_elem? u.seats i ≡ maybe.some y → y.number ≢ x.number = λ i y at z.
+          ne (sym (K.mine i y at).0 ∙ ap R.seat_of z ∙ seated) in
+          let still = λ (i : ℕ) (y : Numbered) (at : get_elem? u.seats i ≡ maybe.some y).
+          left.others y.number y.errand (far i y at) (K.errand i y at) in record {
+            told = K.told;
+            pages = λ i y e. K.pages i y e ∙ sym left.same.words;
+            mine = λ i y e. (
+              (K.mine i y e).0,
+              (still i y e).0 ∙ (K.mine i y e).1,
+              (still i y e).1 ∙ (K.mine i y e).2,
+            );
+            free = K.free;
+            held = λ i y k e held. K.held i y k e held ∙ ap (λ (z : Slot L D). Some z) (others y.number y.actor k
+                y.errand (far i y e) (K.errand i y e) (K.mine i y e).1 held);
+            errand = λ i y e. (still i y e).2;
+            work = λ i y g e is has. K.work i y g e is has ∙ ap (λ (z : Slot L D). Some z)
+                (others_work y.number g (far i y e)
+                (subst (λ (z : Option Errand). SitsAs R.beside.own z y.number) is (K.errand i y e)) has);
+            data_part = λ d h. data_others j u d ne e h;
+          }
+
+      -- THE RULE after a turn, over any homes of the slots
+      pub kept_then : (hs : List (maybe.Option (Slot L D))) → AreLists new.lists
+          → CallsOn log_gives about.opened.value.log.dev about.opened.value.log.failed new.log.dev new.log.failed
+          → CallsOn data_gives about.opened.value.store.dev about.opened.value.store.failed new.store.dev new.store.failed
+          → new.log.shape ≡ R.parts.log.shape → length hs ≡ 6
+          → ((k : ℕ) → k < 5 → slice_index new.words.words (7 + k) ≡ 0
+          → get_elem? hs k ≡ maybe.some (maybe.some (slot_content new beside k)))
+          → (out ≡ false → get_elem? hs 5 ≡ maybe.some (maybe.some (slot.Data new.store)))
+          → ((k : ℕ) → k < 5 → slice_index new.words.words (7 + k) ≢ 0 → IsSlotHeld after k)
+          → Ruled log_seen log_gives data_seen data_gives about (record { words = new.words.words; homes = hs; views = slice_set s.views id w })
+      kept_then hs are log_calls data_calls shape long home data_home taken = record {
+        run = R.run;
+        is_about = R.is_about;
+        parts = new;
+        beside = beside;
+        actors = after;
+        heard = heard;
+        words_are = refl;
+        lists_are = are;
+        own_is = R.own_is ∙ sym left.own_is;
+        own = left.own;
+        runs = left.runs;
+        hears = left.hears;
+        count = left.count ∙ R.count;
+        follow = left.follow;
+        log_calls = log_calls;
+        data_calls = data_calls;
+        log_shape = shape ∙ R.log_shape;
+        slots = long;
+        home = home;
+        seat_of = R.seat_of;
+        keeper = R.keeper;
+        out = out;
+        data_home = data_home;
+        told = left.told;
+        taken = taken;
+        knows = λ j u e. ⊎_elim (λ t. subst (λ (z : View L D). Knows about new beside after heard R.seat_of R.keeper
+            out j z) t.1
+            (subst (λ (i : ℕ). Knows about new beside after heard R.seat_of R.keeper out i w) (sym t.0) knows_then))
+            (λ t. knows_others j u t.0 t.1) (at_set s.views id j w u e);
+      }
+
+  module _ (f : Filling) (fills : Fills a f) (r : Answer) (new : Parts L D) (beside : Beside) (same : HasSamePages
       R.parts new)
-      (played : IsPlayed log_seen data_seen R.run (next a) (lent (filled a f)) R.parts r new) where
+      (played : IsPlayed log_seen data_seen R.run (next a) (lent (filled a f)) R.parts r new)
+      (plain : ◌≡◌ {A = Option Errand} x.errand None) where
+    -- it plays by its own program, and so it sits behind those that have the log's work, if users have that
+    pub sits_plain : SitsAs R.beside.own None x.number
+    sits_plain = subst (λ (e : Option Errand). SitsAs R.beside.own e x.number) plain (known.errand 0 x first)
+
     abbrev b : model.Actor
     b = took (filled a f) r
 
@@ -233,7 +366,7 @@ module _ {L D : Type 0} (log_seen : L → Seen) (log_gives : L → Call → L �
       runs_on = runs_behind;
       at = here;
       hears = λ told. sym (known.mine 0 x first).2 ∙ R.hears told x.number a here;
-      has_cause = λ code gives. R.told x.number a code here gives;
+      has_cause = λ code gives. R.told x.number a code sits_plain here gives;
       ends = step_of (filled a f) r;
       turn = turn;
     }
@@ -288,100 +421,84 @@ module _ {L D : Type 0} (log_seen : L → Seen) (log_gives : L → Call → L �
         here_behind v.pages held stored (count ∙ sym same.words) with_log with_data (stays_free (filled a f) r)
 
     module _ (w : View L D) (out : Bool) (about_w : w.about ≡ v.about) (pages_w : w.pages ≡ v.pages)
-        (seats_w : w.seats ≡ behind x f r ∷ []) (own : (k : ℕ) → hand b ≡ Some k → w.held ≡ Some (slot_content new
-        block k))
+        (seats_w : w.seats ≡ behind x f r ∷ [])
+        (same_own : ◌≡◌ {A = Option OwnSide} beside.own R.beside.own) (own : (k : ℕ) → hand b ≡ Some k → w.held ≡ Some (slot_content new
+        beside k))
         (data_w : (d : Keeping D) → w.data_part ≡ Some d → (R.keeper ≡ id) × ◌≡◌ {A = store.Part D} d.part new.store × (out ≡ d.out)) where
-      knows_w : Knows about new block after heard R.seat_of R.keeper out id w
-      knows_w = record {
-        told = λ i y e. about_w ∙ known.told 0 x first;
-        pages = λ i y e. pages_w ∙ count ∙ sym same.words;
-        mine = λ i y e. subst (λ (z : Numbered). (R.seat_of z.number ≡ id) × (get_elem? after z.number ≡ maybe.some
-            z.actor)
-            × (heard z.number ≡ z.heard)) (only w.seats (behind x f r) i y seats_w e) (
-              seated,
-              here_behind,
-              heard_here R.heard x.number (handed_by (filled a f))
-                  ∙ ap (λ (l : List Given). l ++ handed_by (filled a f)) (known.mine 0 x first).2,
-            );
-        free = λ i y e. subst (λ (z : Numbered). IsFreeToCheck z.actor) (only w.seats (behind x f r) i y seats_w e)
-            (stays_free (filled a f) r);
-        held = λ i y k e held. own k (ap (λ (z : Numbered). hand z.actor) (only w.seats (behind x f r) i y seats_w e)
-            ∙ held);
-        data_part = data_w;
-      }
+      own_behind : HasItsWork (run_log_side log_seen data_seen R.run) new.log beside.own after
+      own_behind = subst (λ (z : Option OwnSide). HasItsWork (run_log_side log_seen data_seen R.run) new.log z after)
+          (sym same_own)
+          (work_stays log_seen data_seen R.run R.parts R.actors R.runs (laws_of_log log_seen data_seen R.run)
+          (laws_of_data log_seen data_seen R.run) x.number a b here (lent (filled a f)) played.code new.log
+          played.log_served R.beside.own sits_plain R.own)
+
+      no_work : (e : Errand) → x.errand ≡ Some e → has_work e.step ≡ true → w.held ≡ Some (slot_content new beside 0)
+      no_work e is has = let none : Some e ≡ None = sym is ∙ plain in absurd (cc)
 
       module _ (others : (n : ℕ) (c : model.Actor) (k : ℕ) → n ≢ x.number → get_elem? R.actors n ≡ maybe.some c → hand
-          c ≡ Some k → ◌≡◌ {A = Slot L D} (slot_content R.parts R.block k) (slot_content new block k))
+          c ≡ Some k → ◌≡◌ {A = Slot L D} (slot_content R.parts R.beside k) (slot_content new beside k))
           (data_others : (j : ℕ) (u : View L D) (d : Keeping D) → j ≢ id → get_elem? s.views j ≡ maybe.some u → u.data_part ≡ Some d → (R.keeper ≡ j) × ◌≡◌ {A = store.Part D} d.part new.store × (out ≡ d.out)) where
-        knows_others : (j : ℕ) (u : View L D) → j ≢ id → get_elem? s.views j ≡ maybe.some u
-            → Knows about new block after heard R.seat_of R.keeper out j u
-        knows_others j u ne e =
-            let K = R.knows j u e in
-            let far : (i : ℕ) (y : Numbered) → get_elem? u.seats i ≡ maybe.some y → y.number ≢ x.number = λ i y at z.
-            ne (sym (K.mine i y at).0 ∙ ap R.seat_of z ∙ seated) in record {
-              told = K.told;
-              pages = λ i y e. K.pages i y e ∙ sym same.words;
-              mine = λ i y e. (
-                (K.mine i y e).0,
-                set_else R.actors x.number y.number b (far i y e) ∙ (K.mine i y e).1,
-                heard_else R.heard x.number (handed_by (filled a f)) y.number (far i y e) ∙ (K.mine i y e).2,
-              );
-              free = K.free;
-              held = λ i y k e held. K.held i y k e held ∙ ap (λ (z : Slot L D). Some z) (others y.number y.actor k
-                  (far i y e) (K.mine i y e).1 held);
-              data_part = λ d h. data_others j u d ne e h;
-            }
+        -- whoever has the log's work in hand has the log part as it was: one of the others holds that, for these actors
+        in_hand_still : (o : Option OwnSide)
+            → HasItsWork (run_log_side log_seen data_seen R.run) R.parts.log o R.actors → SitsAs o None x.number
+            → (n : ℕ) (g : Errand) → n ≢ x.number → SitsAs o (Some g) n → has_work g.step ≡ true
+            → ◌≡◌ {A = Slot L D} (slot_content R.parts R.beside 0) (slot_content new beside 0)
+        in_hand_still None W far n g ne sits has = absurd sits
+        in_hand_still (Some side) W far n g ne sits has =
+            let h = worker_holds (run_log_side log_seen data_seen R.run) R.parts.log side R.actors W n
+            (record { user = sits.0; errand = g.step; helped = g.helped }) sits.1 has in
+            let low = h.worker in
+            others h.seat h.who 0 (λ e. omega arith) h.there h.holds
 
-        told_behind : (n : ℕ) (c : model.Actor) (code : ℕ) → get_elem? after n ≡ maybe.some c → GivesFailed c code →
-            (run_log_side log_seen data_seen R.run).Cause new.log code
-        told_behind n c code e gives = ⊎_elim
+        told_behind : (n : ℕ) (c : model.Actor) (code : ℕ) → SitsAs beside.own None n → get_elem? after n ≡ maybe.some c
+            → GivesFailed c code → (run_log_side log_seen data_seen R.run).Cause new.log code
+        told_behind n c code sits e gives = ⊎_elim
             (λ t. told_here code (subst (λ (z : model.Actor). GivesFailed z code) (sym t.1) gives))
             (λ t. subst (λ (p : log.Part L). (run_log_side log_seen data_seen R.run).Cause p code)
-            (same_log (record { part = R.parts.log; block = R.block }) (record { part = new.log; block = block })
+            (same_log (desk_with R.parts.log R.beside) (desk_with new.log beside)
             (others n c 0 t.0 t.1 (gives_hand c code gives)))
-            (R.told n c code t.1 gives))
+            (R.told n c code (subst (λ (z : Option OwnSide). SitsAs z None n) same_own sits) t.1 gives))
             (at_set R.actors x.number n b c e)
+
+        leaves : Leaves (behind x f r) new beside after heard
+        leaves = record {
+          same = same;
+          runs = runs_behind;
+          own_is = ap (λ (z : Option OwnSide). is_some z) same_own;
+          own = own_behind;
+          hears = hears_behind;
+          count = length-set R.actors x.number b;
+          follow = follow_behind;
+          told = told_behind;
+          number = refl;
+          here = here_behind;
+          its_heard = heard_here R.heard x.number (handed_by (filled a f))
+              ∙ ap (λ (l : List Given). l ++ handed_by (filled a f)) (known.mine 0 x first).2;
+          free = stays_free (filled a f) r;
+          sits = subst (λ (z : Option OwnSide). SitsAs z x.errand x.number) (sym same_own) (known.errand 0 x first);
+          others = λ n e far sits. (
+            set_else R.actors x.number n b far,
+            heard_else R.heard x.number (handed_by (filled a f)) n far,
+            subst (λ (z : Option OwnSide). SitsAs z e n) (sym same_own) sits,
+          );
+        }
 
         pub kept : (hs : List (maybe.Option (Slot L D))) → AreLists new.lists
             → CallsOn log_gives about.opened.value.log.dev about.opened.value.log.failed new.log.dev new.log.failed → CallsOn data_gives about.opened.value.store.dev about.opened.value.store.failed new.store.dev new.store.failed
             → new.log.shape ≡ R.parts.log.shape → length hs ≡ 6 → ((k : ℕ) → k < 5 → slice_index new.words.words (7 +
-            k) ≡ 0 → get_elem? hs k ≡ maybe.some (maybe.some (slot_content new block k)))
+            k) ≡ 0 → get_elem? hs k ≡ maybe.some (maybe.some (slot_content new beside k)))
             → (out ≡ false → get_elem? hs 5 ≡ maybe.some (maybe.some (slot.Data new.store)))
             → ((k : ℕ) → k < 5 → slice_index new.words.words (7 + k) ≢ 0 → (hand b ≡ Some k) ⊎ ((slice_index s.words (7 + k) ≢ 0) × (hand a ≡ Some k → hand b ≡ Some k)))
             → Ruled log_seen log_gives data_seen data_gives about (record { words = new.words.words; homes = hs; views = slice_set s.views id w })
-        kept hs are log_calls data_calls shape long home data_home turned = record {
-          run = R.run;
-          is_about = R.is_about;
-          parts = new;
-          block = block;
-          actors = after;
-          heard = heard;
-          words_are = refl;
-          lists_are = are;
-          runs = runs_behind;
-          hears = hears_behind;
-          count = length-set R.actors x.number b ∙ R.count;
-          follow = follow_behind;
-          log_calls = log_calls;
-          data_calls = data_calls;
-          log_shape = shape ∙ R.log_shape;
-          slots = long;
-          home = home;
-          seat_of = R.seat_of;
-          keeper = R.keeper;
-          out = out;
-          data_home = data_home;
-          told = told_behind;
-          taken = λ k l busy. ⊎_elim (λ t. holds_behind k t) (λ t. held_still k (R.taken k l t.0) t.1) (turned k l busy);
-          knows = λ j u e. ⊎_elim (λ t. subst (λ (z : View L D). Knows about new block after heard R.seat_of R.keeper
-              out j z) t.1
-              (subst (λ (i : ℕ). Knows about new block after heard R.seat_of R.keeper out i w) (sym t.0) knows_w))
-              (λ t. knows_others j u t.0 t.1) (at_set s.views id j w u e);
-        }
+        kept hs are log_calls data_calls shape long home data_home turned = kept_then (behind x f r) new beside after heard
+            leaves w out about_w pages_w seats_w own no_work data_w (λ n c k e ne sits at held. others n c k ne at held)
+            (in_hand_still R.beside.own R.own sits_plain) data_others hs are log_calls data_calls shape long home
+            data_home
+            (λ k l busy. ⊎_elim (λ t. holds_behind k t) (λ t. held_still k (R.taken k l t.0) t.1) (turned k l busy))
 
     -- what the step tells
     pub steps : (carried : List (ℕ × Slot L D)) (held : Option (Slot L D)) (stored : Option (Keeping D))
-        (after_carried : List (ℕ × Slot L D)) → ((k : ℕ) → hand b ≡ Some k → held ≡ Some (slot_content new block k)) →
+        (after_carried : List (ℕ × Slot L D)) → ((k : ℕ) → hand b ≡ Some k → held ≡ Some (slot_content new beside k)) →
         ((d : Keeping D) → stored ≡ Some d → ◌≡◌ {A = store.Part D} d.part new.store)
         → Stepped log_seen data_seen x f r held stored after_carried (v, carried)
         (view_behind v x f r held stored, after_carried)
@@ -393,7 +510,7 @@ module _ {L D : Type 0} (log_seen : L → Seen) (log_gives : L → Call → L �
           shown = shown;
           filling = refl;
           is = refl;
-          may = goes_on held stored (λ desk e mine. same_log desk (record { part = new.log; block = block })
-              (same_slot (slot.Log desk) (slot.Log (record { part = new.log; block = block })) (sym e ∙ own 0 mine)))
+          may = goes_on held stored (λ desk e mine. same_log desk (desk_with new.log beside)
+              (same_slot (slot.Log desk) (slot.Log (desk_with new.log beside)) (sym e ∙ own 0 mine)))
               data_is;
         }

@@ -17,6 +17,7 @@ pub mod Holders
 pub mod Kept
 pub mod Laid
 pub mod Opens
+pub mod OwnStays
 pub mod Reached
 pub mod Retook
 pub mod Seated

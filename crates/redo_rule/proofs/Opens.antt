@@ -1,5 +1,5 @@
 -- The rule holds of a table that was made of parts and actors at the beginning of a run.
-use Rattle.std.proofs.Common.{Bool, List, None, Option, Some, [], ap, arith, cond, false, length, map, ne_eqb, refl, subst, suc, sym, true, zero, ℕ, ◌+◌, ◌<◌, ◌∙◌, ◌∷◌, ◌≡◌, ◌≤◌}
+use Rattle.std.proofs.Common.{Bool, List, None, Option, Some, [], ap, arith, cond, false, is_some, length, map, ne_eqb, refl, subst, suc, sym, true, zero, ℕ, ◌+◌, ◌<◌, ◌∙◌, ◌∷◌, ◌≡◌, ◌≤◌}
 use Rattle.std.specs.Prelude.{slice_index}
 use lib.ListN.{get_elem?}
 use mathlib.Core.Option as maybe
@@ -32,8 +32,12 @@ use Rattle.model_core.proofs.FailedCalls.{gives_hand}
 use Rattle.redo_rule.proofs.Holders.{holding}
 use Rattle.model_core.specs.Hands.{HoldsNothing}
 use Rattle.redo_follow.specs.Handing.{Following}
-use Rattle.redo_rule.specs.Ruled.{first_view, IsNoArchiver, Knows, none_heard, numbered, Ruled, slot_content, starts_about}
+use Rattle.redo_rule.proofs.Seated.{not_working}
+use Rattle.redo_drive.specs.Playing.{run_log_side}
+use Rattle.redo_rule.specs.OwnSide.{Beside, desk_with, HasItsWork, HasNoWork, OwnSide, SitsAs}
+use Rattle.redo_rule.specs.Ruled.{first_view, IsNoArchiver, Knows, none_heard, numbered, own_numbered, Ruled, slot_content, starts_about}
 use Rattle.redo_rule.specs.declared.law.About.{About}
+use Rattle.redo_rule.specs.declared.law.Errand.{Errand}
 use Rattle.redo_rule.specs.declared.law.Keeping.{Keeping}
 use Rattle.redo_rule.specs.declared.law.Numbered.{Numbered}
 use Rattle.redo_rule.specs.declared.law.Slot.{Slot}
@@ -53,31 +57,33 @@ is_out (Some k) = k.out
 pub numbered_at : (heard : ℕ → List Given) (k : ℕ) (l : List model.Actor) (i : ℕ) (x : Numbered)
     → get_elem? (numbered heard k l) i ≡ maybe.some x
     → (k + i ≡ x.number) × (get_elem? l i ≡ maybe.some x.actor) × (◌≡◌ {A = List Given} (heard x.number) x.heard)
+    × ◌≡◌ {A = Option Errand} x.errand None
 numbered_at heard k [] i x e = absurd (maybe.some-ne-none x (sym e))
 numbered_at heard k (y ∷ ys) zero x e =
-    let s = maybe.some-injective (record { number = k; actor = y; heard = heard k }) x e in (
+    let s = maybe.some-injective (record { number = k; actor = y; heard = heard k; errand = None }) x e in (
       (let n : k ≡ x.number = ap (λ (z : Numbered). z.number) s in omega arith),
       ap (λ (z : Numbered). maybe.some z.actor) s,
       ap heard (sym (ap (λ (z : Numbered). z.number) s)) ∙ ap (λ (z : Numbered). z.heard) s,
+      sym (ap (λ (z : Numbered). z.errand) s),
     )
 numbered_at heard k (y ∷ ys) (suc i) x e =
-    let r = numbered_at heard (k + 1) ys i x e in ((let n = r.0 in omega arith), r.1, r.2)
+    let r = numbered_at heard (k + 1) ys i x e in ((let n = r.0 in omega arith), r.1, r.2, r.3)
 
 module _ {L D : Type 0} where
   -- what lies in the slots
-  abbrev pub slots_of : Parts L D → (block : List ℕ) → List (Slot L D)
-  slots_of parts block = slot.Log (record { part = parts.log; block = block }) ∷ slot.Pages (listing_at
+  abbrev pub slots_of : Parts L D → Beside → List (Slot L D)
+  slots_of parts beside = slot.Log (desk_with parts.log beside) ∷ slot.Pages (listing_at
       parts.lists.lists 0) ∷ slot.Pages (listing_at parts.lists.lists 1) ∷ slot.Pages (listing_at parts.lists.lists 2)
       ∷ slot.Pages (listing_at parts.lists.lists 3) ∷ slot.Data parts.store ∷ []
 
-  at_home : (parts : Parts L D) (block : List ℕ) (k : ℕ) → k < 5 → get_elem? (map maybe.some (slots_of parts block)) k
-      ≡ maybe.some (maybe.some (slot_content parts block k))
-  at_home parts block zero l = refl
-  at_home parts block (suc zero) l = refl
-  at_home parts block (suc (suc zero)) l = refl
-  at_home parts block (suc (suc (suc zero))) l = refl
-  at_home parts block (suc (suc (suc (suc zero)))) l = refl
-  at_home parts block (suc (suc (suc (suc (suc k))))) l = absurd (omega arith)
+  at_home : (parts : Parts L D) (beside : Beside) (k : ℕ) → k < 5 → get_elem? (map maybe.some (slots_of parts beside)) k
+      ≡ maybe.some (maybe.some (slot_content parts beside k))
+  at_home parts beside zero l = refl
+  at_home parts beside (suc zero) l = refl
+  at_home parts beside (suc (suc zero)) l = refl
+  at_home parts beside (suc (suc (suc zero))) l = refl
+  at_home parts beside (suc (suc (suc (suc zero)))) l = refl
+  at_home parts beside (suc (suc (suc (suc (suc k))))) l = absurd (omega arith)
 
 -- an actor that begins follows, if it is a reader of the log, and stands at the run's base
 follows_at_start : (c : Setup) (seat_of : ℕ → ℕ) (writer n : ℕ) (a : model.Actor) → 0 < c.first_reader
@@ -98,6 +104,16 @@ none_at_start c seat_of writer n sn log (model.Reader r) tiles is =
     pick true l e = refl
     pick false l e = e
 none_at_start c seat_of writer n sn log _ tiles is = refl
+
+-- WHO SITS IN THE FIRST SEAT as a run begins: an actor of that number, which has handed on nothing, and on no errand
+pub record Stands (own : Option OwnSide) (actors : List model.Actor) (x : Numbered) : Type 0 where
+  pub here : get_elem? actors x.number ≡ maybe.some x.actor
+  pub silent : ◌≡◌ {A = List Given} [] x.heard
+  pub sits : SitsAs own x.errand x.number
+  pub idle : HasNoWork x.errand
+
+abbrev pub AllStand : Option OwnSide → List model.Actor → List Numbered → Type 0
+AllStand own actors seats = (i : ℕ) (x : Numbered) → get_elem? seats i ≡ maybe.some x → Stands own actors x
 
 module _ {L D R : Type 0} (log_seen : L → Seen) (data_seen : D → Seen) (stands : R → List Given → Type 0) (about :
     About L D)
@@ -120,14 +136,18 @@ module _ {L D R : Type 0} (log_seen : L → Seen) (data_seen : D → Seen) (stan
   pub fresh : (n : ℕ) (a : model.Actor) → get_elem? actors n ≡ maybe.some a → HoldsNothing a
   fresh n a at = start_empty B.run.setup B.at_start.seat_of B.at_start.writer n a (begun n a at)
 
-  pub there : (i : ℕ) (x : Numbered) → get_elem? (first_view about).seats i ≡ maybe.some x
-      → (get_elem? actors x.number ≡ maybe.some x.actor) × (◌≡◌ {A = List Given} [] x.heard)
-  there i x e =
-      let n = numbered_at none_heard 0 (starts_about about) i x e in (
-        ap (get_elem? actors) (let k = n.0 in let z : x.number ≡ i = omega arith in z) ∙ ap (λ (l : List model.Actor).
-            get_elem? l i) are ∙ n.1,
-        n.2,
-      )
+  -- so who sits in the first seat where nobody writes for itself
+  pub there : about.own_writes ≡ false → AllStand None actors (first_view about).seats
+  there plain i x e =
+      let n = numbered_at none_heard 0 (starts_about about) i x
+      (ap (λ (b : Bool). get_elem? (cond b (own_numbered 0 (starts_about about))
+      (numbered none_heard 0 (starts_about about))) i) (sym plain) ∙ e) in record {
+        here = ap (get_elem? actors) (let k = n.0 in let z : x.number ≡ i = omega arith in z)
+            ∙ ap (λ (l : List model.Actor). get_elem? l i) are ∙ n.1;
+        silent = n.2;
+        sits = subst (λ (z : Option Errand). SitsAs None z x.number) (sym n.3) tt;
+        idle = subst HasNoWork (sym n.3) tt;
+      }
 
 module _ {L D R : Type 0} (log_seen : L → Seen) (log_gives : L → Call → L → Type 0) (data_seen : D → Seen) (data_gives
     : D → Call → D → Type 0)
@@ -135,28 +155,29 @@ module _ {L D R : Type 0} (log_seen : L → Seen) (log_gives : L → Call → L 
     length followers)
     (start : Beginning L D R) (B : BeginsRun log_seen data_seen stands about.opened.value about.script.value
     about.log_only followers start)
-    (lists_are : AreLists start.parts.lists) (block : List ℕ) where
+    (lists_are : AreLists start.parts.lists) (beside : Beside) (own_is : about.own_writes ≡ is_some beside.own)
+    (worked : HasItsWork (run_log_side log_seen data_seen B.run) start.parts.log beside.own
+    (views_of start.actors.items))
+    (stand : AllStand beside.own (views_of start.actors.items) (first_view about).seats) where
   abbrev all : List model.Actor
   all = views_of start.actors.items
 
   abbrev fresh_one : (n : ℕ) (a : model.Actor) → get_elem? all n ≡ maybe.some a → HoldsNothing a
   fresh_one = fresh log_seen data_seen stands about followers many start B
 
-  abbrev there_one : (i : ℕ) (x : Numbered) → get_elem? (first_view about).seats i ≡ maybe.some x
-      → (get_elem? all x.number ≡ maybe.some x.actor) × (◌≡◌ {A = List Given} [] x.heard)
-  there_one = there log_seen data_seen stands about followers many start B
-
   abbrev Known : ℕ → View L D → Type 0
-  Known j v = Knows about start.parts block all none_heard (λ _. 0) 0 false j v
+  Known j v = Knows about start.parts beside all none_heard (λ _. 0) 0 false j v
 
   knows_first : Known 0 (first_view about)
   knows_first = record {
     told = λ i x e. refl;
     pages = λ i x e. ap (λ (z : Shape). z.pages) (sym B.is_run.shape) ∙ B.from.runs.its_pages ∙ sym
         B.from.runs.word_pages;
-    mine = λ i x e. (refl, (there_one i x e).0, (there_one i x e).1);
-    free = λ i x e _. fresh_one x.number x.actor (there_one i x e).0;
-    held = λ i x k e h. let z = (fresh_one x.number x.actor (there_one i x e).0).no_slot in absurd (cc);
+    mine = λ i x e. (refl, (stand i x e).here, (stand i x e).silent);
+    free = λ i x e _. fresh_one x.number x.actor (stand i x e).here;
+    held = λ i x k e h. let z = (fresh_one x.number x.actor (stand i x e).here).no_slot in absurd (cc);
+    errand = λ i x e. (stand i x e).sits;
+    work = λ i x g e is has. absurd (not_working x.errand g is (stand i x e).idle has);
     data_part = λ d e. (refl, sym (ap (λ (o : Option (Keeping D)). part_or about.opened.value.store o) e) ∙ sym B.data_part, ap (λ (o : Option (Keeping D)). is_out o) e);
   }
 
@@ -171,7 +192,7 @@ module _ {L D R : Type 0} (log_seen : L → Seen) (log_gives : L → Call → L 
       ∙ flat_read B.run.setup.pages B.at_start.words B.at_start.starts.words.sized (word.List i) (omega arith) ∙ B.at_start.starts.words.lists i
 
   opens_one : Ruled log_seen log_gives data_seen data_gives about (opening start.parts.words.words (slots_of
-      start.parts block) (first_view about))
+      start.parts beside) (first_view about))
   opens_one = record {
     run = B.run;
     is_about = record {
@@ -180,11 +201,13 @@ module _ {L D R : Type 0} (log_seen : L → Seen) (log_gives : L → Call → L 
       begun = B.begun;
     };
     parts = start.parts;
-    block = block;
+    beside = beside;
     actors = all;
     heard = none_heard;
     words_are = refl;
     lists_are = lists_are;
+    own_is = own_is;
+    own = worked;
     runs = B.from.runs;
     hears = λ told n a at. sym (none_at_start B.run.setup B.at_start.seat_of B.at_start.writer n
         B.from.runs.running.shared.sn B.from.runs.running.log_ghost.log a
@@ -196,19 +219,19 @@ module _ {L D R : Type 0} (log_seen : L → Seen) (log_gives : L → Call → L 
     data_calls = subst (λ (z : store.Part D). CallsOn data_gives about.opened.value.store.dev about.opened.value.store.failed z.dev z.failed) (sym B.data_part) (not_called data_gives about.opened.value.store.dev about.opened.value.store.failed);
     log_shape = ap (λ (z : log.Part L). z.shape) B.log;
     slots = refl;
-    home = λ k l z. at_home start.parts block k l;
+    home = λ k l z. at_home start.parts beside k l;
     seat_of = λ _. 0;
     keeper = 0;
     out = false;
     data_home = λ z. refl;
-    told = λ n a code at g. let held = (holding log_seen data_seen B.run start.parts all B.from.runs n a at 0
+    told = λ n a code sits at g. let held = (holding log_seen data_seen B.run start.parts all B.from.runs n a at 0
         (gives_hand a code g)).word_is in let free = free_word 0 (omega arith) in absurd (omega arith);
     taken = λ k l busy. absurd (busy (free_word k l));
     knows = one_view;
   }
 
   pub opens_ok : (ws : List ℕ) (xs : List (Slot L D)) → ws ≡ start.parts.words.words → ◌≡◌ {A = List (Slot L D)} xs
-      (slots_of start.parts block) → Ruled log_seen log_gives data_seen data_gives about (opening ws xs (first_view
+      (slots_of start.parts beside) → Ruled log_seen log_gives data_seen data_gives about (opening ws xs (first_view
       about))
   opens_ok ws xs words slots_are = subst (λ (z : List ℕ). Ruled log_seen log_gives data_seen data_gives about (opening z xs (first_view about))) (sym words)
       (subst (λ (z : List (Slot L D)). Ruled log_seen log_gives data_seen data_gives about (opening start.parts.words.words z (first_view about))) (sym slots_are) opens_one)

@@ -5,14 +5,17 @@ use lib.ListN.{get_elem?}
 use mathlib.Core.Option as maybe
 use Rattle.atomic_table.specs.Table.{Joins, Splits, State}
 use Rattle.model_core.proofs.Lists.{at_set}
+use Rattle.model_own.specs.OwnWrites.{has_work}
 use Rattle.redo_disk.specs.{Call}
 use Rattle.redo_disk.specs.Seen.{Seen}
 use Rattle.redo_rule.proofs.Kept.{only}
 use Rattle.redo_rule.specs.Cutting.{AreAtRest, IsApart}
 use Rattle.model_core.specs.Hands.{hand, IsFreeToCheck}
+use Rattle.redo_rule.specs.OwnSide.{HasNoWork, SitsAs}
 use Rattle.redo_rule.specs.Ruled.{Knows, Ruled}
 use Rattle.redo_rule.specs.Seats.{cut_left, cut_right, first_numbered, first_some, heads_cleaner, rest_numbered, spent, taken_in}
 use Rattle.redo_rule.specs.declared.law.About.{About}
+use Rattle.redo_rule.specs.declared.law.Errand.{Errand}
 use Rattle.redo_rule.specs.declared.law.Keeping.{Keeping}
 use Rattle.redo_rule.specs.declared.law.Numbered.{Numbered}
 use Rattle.redo_rule.specs.declared.law.Slot.{Slot}
@@ -35,6 +38,10 @@ in_both : {A : Type 0} (xs ys : List A) (i : ℕ) (z : A) → get_elem? (xs ++ y
 in_both [] ys i z e = inr (i, e)
 in_both (x ∷ xs) ys zero z e = inl (zero, e)
 in_both (x ∷ xs) ys (suc i) z e = ⊎_elim (λ t. inl (suc t.0, t.1)) (λ t. inr t) (in_both xs ys i z e)
+
+-- who has no work of the log in hand has none
+pub not_working : (own : Option Errand) (e : Errand) → own ≡ Some e → HasNoWork own → has_work e.step ≡ true → ⊥
+not_working own e is none has = let z : has_work e.step ≡ false = subst HasNoWork is none in absurd (cc)
 
 module _ {L D : Type 0} (log_seen : L → Seen) (log_gives : L → Call → L → Type 0) (data_seen : D → Seen) (data_gives : D → Call → D → Type 0) (about : About L D) where
   abbrev Law : State (Slot L D) (View L D) → Type 0
@@ -61,7 +68,7 @@ module _ {L D : Type 0} (log_seen : L → Seen) (log_gives : L → Call → L �
       let old_seat : (n : ℕ) → n ≢ x.number → seat_of n ≡ R.seat_of n = λ n ne. ap (λ (t : Bool). cond t fresh (R.seat_of n)) (ne_eqb n x.number ne) in
       let first : get_elem? v.seats 0 ≡ maybe.some x = ap (λ (l : List Numbered). get_elem? l 0) seats in
       let in_right : (i : ℕ) (y : Numbered) → get_elem? (cut_right v).seats i ≡ maybe.some y → ◌≡◌ {A = Numbered} x y = λ i y e. only (cut_right v).seats x i y (ap first_numbered seats) e in
-      let left : Knows about R.parts R.block R.actors R.heard seat_of keeper R.out id (cut_left v) = record {
+      let left : Knows about R.parts R.beside R.actors R.heard seat_of keeper R.out id (cut_left v) = record {
         told = λ i y e. K.told 0 x first;
         pages = λ i y e. K.pages (suc i) y (in_left i y e);
         mine = λ i y e. let far : y.number ≢ x.number = apart i y (sym (ap (λ (l : List Numbered). get_elem?
@@ -73,9 +80,11 @@ module _ {L D : Type 0} (log_seen : L → Seen) (log_gives : L → Call → L �
             );
         free = λ i y e. K.free (suc i) y (in_left i y e);
         held = λ i y k e h. K.held (suc i) y k (in_left i y e) h;
+        errand = λ i y e. K.errand (suc i) y (in_left i y e);
+        work = λ i y g e is has. K.work (suc i) y g (in_left i y e) is has;
         data_part = λ d e. let t = part_left b v.data_part d e in let m = K.data_part d t.1 in (ap (λ (z : Bool). cond z (cond (R.keeper == id) fresh R.keeper) R.keeper) t.0 ∙ m.0, m.1, m.2);
       } in
-      let right : Knows about R.parts R.block R.actors R.heard seat_of keeper R.out fresh (cut_right v) = record {
+      let right : Knows about R.parts R.beside R.actors R.heard seat_of keeper R.out fresh (cut_right v) = record {
         told = λ i y e. K.told 0 x first;
         pages = λ i y e. K.pages 0 x first;
         mine = λ i y e. subst (λ (z : Numbered). (seat_of z.number ≡ fresh) × (get_elem? R.actors z.number ≡
@@ -88,11 +97,15 @@ module _ {L D : Type 0} (log_seen : L → Seen) (log_gives : L → Call → L �
         free = λ i y e. subst (λ (z : Numbered). IsFreeToCheck z.actor) (in_right i y e) (K.free 0 x first);
         held = λ i y k e h. let t = K.held 0 x k first (ap (λ (z : Numbered). hand z.actor) (in_right i y e) ∙ h) in
             absurd (cc);
+        errand = λ i y e. subst (λ (z : Numbered). SitsAs R.beside.own z.errand z.number) (in_right i y e)
+            (K.errand 0 x first);
+        work = λ i y g e is has.
+            let t = K.work 0 x g first (ap (λ (z : Numbered). z.errand) (in_right i y e) ∙ is) has in absurd (cc);
         data_part = λ d e. let t = part_right b v.data_part d e in let m = K.data_part d t.1 in
             (ap (λ (z : Bool). cond z (cond (R.keeper == id) fresh R.keeper) R.keeper) t.0 ∙ ap (λ (z : Bool). cond z fresh R.keeper) (eq-eqb R.keeper id m.0), m.1, m.2);
       } in
       let others : (j : ℕ) (u : View L D) → j ≢ id → get_elem? s.views j ≡ maybe.some u
-      → Knows about R.parts R.block R.actors R.heard seat_of keeper R.out j u = λ j u ne e. let N = R.knows j u e in
+      → Knows about R.parts R.beside R.actors R.heard seat_of keeper R.out j u = λ j u ne e. let N = R.knows j u e in
       record {
         told = N.told;
         pages = N.pages;
@@ -104,13 +117,17 @@ module _ {L D : Type 0} (log_seen : L → Seen) (log_gives : L → Call → L �
         );
         free = N.free;
         held = N.held;
+        errand = N.errand;
+        work = N.work;
         data_part = λ d f. let m = N.data_part d f in (keeper_same b R.keeper fresh id (λ z. ne (sym m.0 ∙ z)) ∙ m.0, m.1, m.2);
       } in
       record {
         run = R.run;
         is_about = R.is_about;
         parts = R.parts;
-        block = R.block;
+        beside = R.beside;
+        own_is = R.own_is;
+        own = R.own;
         actors = R.actors;
         heard = R.heard;
         words_are = R.words_are;
@@ -131,13 +148,13 @@ module _ {L D : Type 0} (log_seen : L → Seen) (log_gives : L → Call → L �
         told = R.told;
         taken = R.taken;
         knows = λ j u e. ⊎_elim
-            (λ t. ⊎_elim (λ q. subst (λ (z : View L D). Knows about R.parts R.block R.actors R.heard seat_of keeper
+            (λ t. ⊎_elim (λ q. subst (λ (z : View L D). Knows about R.parts R.beside R.actors R.heard seat_of keeper
             R.out j z) q.1
-            (subst (λ (i : ℕ). Knows about R.parts R.block R.actors R.heard seat_of keeper R.out i (cut_left v)) (sym
+            (subst (λ (i : ℕ). Knows about R.parts R.beside R.actors R.heard seat_of keeper R.out i (cut_left v)) (sym
             q.0) left))
             (λ q. others j u q.0 q.1) (at_set s.views id j (cut_left v) u t.1))
-            (λ t. subst (λ (z : View L D). Knows about R.parts R.block R.actors R.heard seat_of keeper R.out j z) t.1
-            (subst (λ (i : ℕ). Knows about R.parts R.block R.actors R.heard seat_of keeper R.out i (cut_right v))
+            (λ t. subst (λ (z : View L D). Knows about R.parts R.beside R.actors R.heard seat_of keeper R.out j z) t.1
+            (subst (λ (i : ℕ). Knows about R.parts R.beside R.actors R.heard seat_of keeper R.out i (cut_right v))
             (sym (t.0 ∙ length-set s.views id (cut_left v))) right))
             (at_end (slice_set s.views id (cut_left v)) (cut_right v) u j e);
       }
@@ -162,7 +179,7 @@ module _ {L D : Type 0} (log_seen : L → Seen) (log_gives : L → Call → L �
       let keeper : ℕ = cond (R.keeper == other) id R.keeper in
       let moved : (n : ℕ) → n ≡ other → cond (n == other) id n ≡ id = λ n e. ap (λ (t : Bool). cond t id n) (eq-eqb n other e) in
       let stays : (n : ℕ) → n ≢ other → cond (n == other) id n ≡ n = λ n far. ap (λ (t : Bool). cond t id n) (ne_eqb n other far) in
-      let here : Knows about R.parts R.block R.actors R.heard seat_of keeper R.out id both = record {
+      let here : Knows about R.parts R.beside R.actors R.heard seat_of keeper R.out id both = record {
         told = λ i y e. N.told 0 some.0 some.1;
         pages = λ i y e. ⊎_elim (λ t. same_pages ∙ N.pages t.0 y t.1) (λ t. K.pages t.0 y t.1) (in_both w.seats v.seats i y e);
         mine = λ i y e. ⊎_elim
@@ -170,34 +187,45 @@ module _ {L D : Type 0} (log_seen : L → Seen) (log_gives : L → Call → L �
             (λ t. let m = K.mine t.0 y t.1 in (stays (R.seat_of y.number) (λ z. ne (sym z ∙ m.0)) ∙ m.0, m.1, m.2))
             (in_both w.seats v.seats i y e);
         free = λ i y e. ⊎_elim (λ t. N.free t.0 y t.1) (λ t. K.free t.0 y t.1) (in_both w.seats v.seats i y e);
-        held = λ i y k e h. ⊎_elim (λ t. let z = (free_w t.0 y t.1).no_slot in absurd (cc)) (λ t. let z = (free_v t.0 y t.1).no_slot in absurd (cc)) (in_both w.seats v.seats i y e);
+        held = λ i y k e h. ⊎_elim (λ t. let z = (free_w t.0 y t.1).0.no_slot in absurd (cc))
+            (λ t. let z = (free_v t.0 y t.1).0.no_slot in absurd (cc)) (in_both w.seats v.seats i y e);
+        errand = λ i y e. ⊎_elim (λ t. N.errand t.0 y t.1) (λ t. K.errand t.0 y t.1)
+            (in_both w.seats v.seats i y e);
+        work = λ i y g e is has. ⊎_elim (λ t. absurd (not_working y.errand g is (free_w t.0 y t.1).1 has))
+            (λ t. absurd (not_working y.errand g is (free_v t.0 y t.1).1 has)) (in_both w.seats v.seats i y e);
         data_part = λ d e. ⊎_elim
             (λ t. let m = K.data_part d t in (stays R.keeper (λ z. ne (sym z ∙ m.0)) ∙ m.0, m.1, m.2))
             (λ t. let m = N.data_part d t in (moved R.keeper m.0, m.1, m.2)) (first_is v.data_part w.data_part d e);
       } in
-      let gone : Knows about R.parts R.block R.actors R.heard seat_of keeper R.out other spent = record {
+      let gone : Knows about R.parts R.beside R.actors R.heard seat_of keeper R.out other spent = record {
         told = λ i y e. absurd (maybe.some-ne-none y (sym e));
         pages = λ i y e. absurd (maybe.some-ne-none y (sym e));
         mine = λ i y e. absurd (maybe.some-ne-none y (sym e));
         free = λ i y e. absurd (maybe.some-ne-none y (sym e));
         held = λ i y k e h. absurd (maybe.some-ne-none y (sym e));
+        errand = λ i y e. absurd (maybe.some-ne-none y (sym e));
+        work = λ i y g e is has. absurd (maybe.some-ne-none y (sym e));
         data_part = λ d e. absurd (cc);
       } in
       let others : (j : ℕ) (u : View L D) → j ≢ other → get_elem? s.views j ≡ maybe.some u
-      → Knows about R.parts R.block R.actors R.heard seat_of keeper R.out j u = λ j u far e. let M = R.knows j u e in
+      → Knows about R.parts R.beside R.actors R.heard seat_of keeper R.out j u = λ j u far e. let M = R.knows j u e in
       record {
         told = M.told;
         pages = M.pages;
         mine = λ i y f. let m = M.mine i y f in (stays (R.seat_of y.number) (λ z. far (sym m.0 ∙ z)) ∙ m.0, m.1, m.2);
         free = M.free;
         held = M.held;
+        errand = M.errand;
+        work = M.work;
         data_part = λ d f. let m = M.data_part d f in (stays R.keeper (λ z. far (sym m.0 ∙ z)) ∙ m.0, m.1, m.2);
       } in
       record {
         run = R.run;
         is_about = R.is_about;
         parts = R.parts;
-        block = R.block;
+        beside = R.beside;
+        own_is = R.own_is;
+        own = R.own;
         actors = R.actors;
         heard = R.heard;
         words_are = R.words_are;
@@ -218,12 +246,12 @@ module _ {L D : Type 0} (log_seen : L → Seen) (log_gives : L → Call → L �
         told = R.told;
         taken = R.taken;
         knows = λ j u e. ⊎_elim
-            (λ t. subst (λ (z : View L D). Knows about R.parts R.block R.actors R.heard seat_of keeper R.out j z) t.1
-            (subst (λ (i : ℕ). Knows about R.parts R.block R.actors R.heard seat_of keeper R.out i spent) (sym t.0)
+            (λ t. subst (λ (z : View L D). Knows about R.parts R.beside R.actors R.heard seat_of keeper R.out j z) t.1
+            (subst (λ (i : ℕ). Knows about R.parts R.beside R.actors R.heard seat_of keeper R.out i spent) (sym t.0)
             gone))
-            (λ t. ⊎_elim (λ q. subst (λ (z : View L D). Knows about R.parts R.block R.actors R.heard seat_of keeper
+            (λ t. ⊎_elim (λ q. subst (λ (z : View L D). Knows about R.parts R.beside R.actors R.heard seat_of keeper
             R.out j z) q.1
-            (subst (λ (i : ℕ). Knows about R.parts R.block R.actors R.heard seat_of keeper R.out i both) (sym q.0)
+            (subst (λ (i : ℕ). Knows about R.parts R.beside R.actors R.heard seat_of keeper R.out i both) (sym q.0)
             here))
             (λ q. others j u t.0 q.1) (at_set s.views id j both u t.1))
             (at_set (slice_set s.views id both) other j spent u e);

@@ -143,16 +143,16 @@ module _ {L D : Type 0} (table : TableId) (seat : Seat (Slot L D) (View L D)) (a
     asks_word o w i f is names e allows = (mine.of, (let b = word_below o w is names in omega arith), subst (λ (k : ℕ). Allows (Ruled log_seen log_gives data_seen data_gives about) table.slots seat.id seat.me k f (saw log_seen data_seen seat.me)) (sym e) allows)
 
     pub load_ok : (w : Word) (i : ℕ) → next a ≡ op.Load w → i ≡ index w → Asks i (λ n. n) (saw log_seen data_seen seat.me)
-    load_ok w i is e = asks_word (op.Load w) w i (λ n. n) is (λ z. z) e (allows_load log_seen log_gives data_seen data_gives about table.slots seat.id seat.me mine.who mine.one w (asks (op.Load w) is))
+    load_ok w i is e = asks_word (op.Load w) w i (λ n. n) is (λ z. z) e (allows_load log_seen log_gives data_seen data_gives about table.slots seat.id seat.me mine.who mine.one mine.plain w (asks (op.Load w) is))
 
     pub store_ok : (w : Word) (x i : ℕ) → next a ≡ op.Store w x → i ≡ index w → Asks i (λ _. x) (saw log_seen data_seen seat.me)
-    store_ok w x i is e = asks_word (op.Store w x) w i (λ _. x) is (λ z. z) e (allows_store log_seen log_gives data_seen data_gives about table.slots seat.id seat.me mine.who mine.one w x (asks (op.Store w x) is))
+    store_ok w x i is e = asks_word (op.Store w x) w i (λ _. x) is (λ z. z) e (allows_store log_seen log_gives data_seen data_gives about table.slots seat.id seat.me mine.who mine.one mine.plain w x (asks (op.Store w x) is))
 
     pub add_ok : (w : Word) (x i : ℕ) → next a ≡ op.Add w x → i ≡ index w → Asks i (λ n. (n + x) % 2 ^ 64) (saw log_seen data_seen seat.me)
-    add_ok w x i is e = asks_word (op.Add w x) w i (λ n. (n + x) % 2 ^ 64) is (λ z. z) e (allows_add log_seen log_gives data_seen data_gives about table.slots seat.id seat.me mine.who mine.one w x (asks (op.Add w x) is))
+    add_ok w x i is e = asks_word (op.Add w x) w i (λ n. (n + x) % 2 ^ 64) is (λ z. z) e (allows_add log_seen log_gives data_seen data_gives about table.slots seat.id seat.me mine.who mine.one mine.plain w x (asks (op.Add w x) is))
 
     pub swap_ok : (w : Word) (x y i : ℕ) → next a ≡ op.Swap w x y → i ≡ index w → Asks i (λ n. either (n == x) y n) (saw log_seen data_seen seat.me)
-    swap_ok w x y i is e = asks_word (op.Swap w x y) w i (λ n. either (n == x) y n) is (λ z. z) e (allows_swap log_seen log_gives data_seen data_gives about table.slots seat.id seat.me mine.who mine.one w x y (asks (op.Swap w x y) is))
+    swap_ok w x y i is e = asks_word (op.Swap w x y) w i (λ n. either (n == x) y n) is (λ z. z) e (allows_swap log_seen log_gives data_seen data_gives about table.slots seat.id seat.me mine.who mine.one mine.plain w x y (asks (op.Swap w x y) is))
 
     pub give_ok : next a ≡ op.GiveDevice → (f : Filling) → Fills a f → Asks 7 (λ _. 0) (gave log_seen data_seen seat.me)
     give_ok is f fills = let c : Carries (Some 0) seat.me = subst (λ (h : Option ℕ). Carries h seat.me) (goes
@@ -160,7 +160,7 @@ module _ {L D : Type 0} (table : TableId) (seat : Seat (Slot L D) (View L D)) (a
           mine.of,
           (let w = mine.words in omega arith),
           allows_give log_seen log_gives data_seen data_gives about
-              table.slots seat.id seat.me mine.who mine.one (slot.Log c.0) f (subst (λ (z : model.Actor). Fills z f)
+              table.slots seat.id seat.me mine.who mine.one mine.plain (slot.Log c.0) f (subst (λ (z : model.Actor). Fills z f)
               (sym mine.state) fills) (asks op.GiveDevice is) (subst IsFreeToCheck (sym mine.state) mine.may.free) c.2
               c.1,
         )
@@ -171,7 +171,7 @@ module _ {L D : Type 0} (table : TableId) (seat : Seat (Slot L D) (View L D)) (a
           mine.of,
           (let w = mine.words in omega arith),
           subst (λ (n : ℕ). Allows (Ruled log_seen log_gives data_seen data_gives about) table.slots seat.id seat.me n (λ _. 0) (gave log_seen data_seen seat.me)) (sym e)
-              (allows_give_list log_seen log_gives data_seen data_gives about table.slots seat.id seat.me mine.who mine.one i (slot.Pages c.0) (asks (op.GiveList i) is) below (subst IsFreeToCheck (sym mine.state) mine.may.free) c.2 c.1),
+              (allows_give_list log_seen log_gives data_seen data_gives about table.slots seat.id seat.me mine.who mine.one mine.plain i (slot.Pages c.0) (asks (op.GiveList i) is) below (subst IsFreeToCheck (sym mine.state) mine.may.free) c.2 c.1),
         )
 
     pub take_add_ok : (p y k : ℕ) → next a ≡ op.TakeAdd p y → k ≡ 8 + p % 4 → Asks k (λ n. either (n == 0) 1 n) (seized_list log_seen data_seen seat.me)
@@ -179,7 +179,7 @@ module _ {L D : Type 0} (table : TableId) (seat : Seat (Slot L D) (View L D)) (a
       mine.of,
       (let w = mine.words in omega arith),
       subst (λ (n : ℕ). Allows (Ruled log_seen log_gives data_seen data_gives about) table.slots seat.id seat.me n (λ n. either (n == 0) 1 n) (seized_list log_seen data_seen seat.me)) (sym e)
-          (allows_take_add log_seen log_gives data_seen data_gives about table.slots seat.id seat.me mine.who mine.one p y (asks (op.TakeAdd p y) is) (subst IsFreeToCheck (sym mine.state) mine.may.free)),
+          (allows_take_add log_seen log_gives data_seen data_gives about table.slots seat.id seat.me mine.who mine.one mine.plain p y (asks (op.TakeAdd p y) is) (subst IsFreeToCheck (sym mine.state) mine.may.free)),
     )
 
     pub take_remove_ok : (p k : ℕ) → next a ≡ op.TakeRemove p → k ≡ 8 + p % 4 → Asks k (λ n. either (n == 0) 1 n) (seized_list log_seen data_seen seat.me)
@@ -187,7 +187,7 @@ module _ {L D : Type 0} (table : TableId) (seat : Seat (Slot L D) (View L D)) (a
       mine.of,
       (let w = mine.words in omega arith),
       subst (λ (n : ℕ). Allows (Ruled log_seen log_gives data_seen data_gives about) table.slots seat.id seat.me n (λ n. either (n == 0) 1 n) (seized_list log_seen data_seen seat.me)) (sym e)
-          (allows_take_remove log_seen log_gives data_seen data_gives about table.slots seat.id seat.me mine.who mine.one p (asks (op.TakeRemove p) is) (subst IsFreeToCheck (sym mine.state) mine.may.free)),
+          (allows_take_remove log_seen log_gives data_seen data_gives about table.slots seat.id seat.me mine.who mine.one mine.plain p (asks (op.TakeRemove p) is) (subst IsFreeToCheck (sym mine.state) mine.may.free)),
     )
 
     pub take_oldest_ok : (i k : ℕ) → next a ≡ op.TakeOldest i → k ≡ 8 + i → i < 4 → Asks k (λ n. either (n == 0) 1 n) (seized_list log_seen data_seen seat.me)
@@ -195,11 +195,11 @@ module _ {L D : Type 0} (table : TableId) (seat : Seat (Slot L D) (View L D)) (a
       mine.of,
       (let w = mine.words in omega arith),
       subst (λ (n : ℕ). Allows (Ruled log_seen log_gives data_seen data_gives about) table.slots seat.id seat.me n (λ n. either (n == 0) 1 n) (seized_list log_seen data_seen seat.me)) (sym e)
-          (allows_take_oldest log_seen log_gives data_seen data_gives about table.slots seat.id seat.me mine.who mine.one i (asks (op.TakeOldest i) is) below (subst IsFreeToCheck (sym mine.state) mine.may.free)),
+          (allows_take_oldest log_seen log_gives data_seen data_gives about table.slots seat.id seat.me mine.who mine.one mine.plain i (asks (op.TakeOldest i) is) below (subst IsFreeToCheck (sym mine.state) mine.may.free)),
     )
 
     pub take_ok : next a ≡ op.TakeDevice → Asks 7 (λ n. either (n == 0) 1 n) (seized log_seen data_seen seat.me)
-    take_ok is = (mine.of, (let w = mine.words in omega arith), allows_take log_seen log_gives data_seen data_gives about table.slots seat.id seat.me mine.who mine.one (asks op.TakeDevice is))
+    take_ok is = (mine.of, (let w = mine.words in omega arith), allows_take log_seen log_gives data_seen data_gives about table.slots seat.id seat.me mine.who mine.one mine.plain (asks op.TakeDevice is))
 
 -- a turn word of a list is given back: nothing is put into the actor
 module _ {L D R : Type 0} (table : TableId) (seat : Seat (Slot L D) (View L D)) (old : Actor R)
@@ -231,7 +231,7 @@ module _ {L D R : Type 0} (table : TableId) (seat : Seat (Slot L D) (View L D)) 
       → Steps table log_seen data_seen stands seat.me.0 old step after new
   step_leaves f r held carried stepped carries t = steps table log_seen data_seen stands seat.me.0 mine.who old new
       step f r
-      held seat.me.0.data_part carried seat.me.1 after.me mine.slots mine.words mine.one mine.state stepped t after
+      held seat.me.0.data_part carried seat.me.1 after.me mine.slots mine.words mine.one mine.state mine.plain stepped t after
       (same ∙ mine.of) (ap (λ (m : Me (Slot L D) (View L D)). m.0) stepped.is)
       (subst (Carries (hand (took (filled (view_of old) f) r))) (sym stepped.is) carries) refl
 

@@ -69,7 +69,7 @@ module _ {L D R : Type 0} (table : TableId) (seat : Seat (Slot L D) (View L D)) 
   taken_leaves w w_is j holds carries o is plain said said_is h =
       let me' : Me (Slot L D) (View L D) = (after.me.0, (k, w) ∷ rest after.me.1) in
       steps table log_seen data_seen stands seat.me.0 mine.who old new step no_filling r (Some z) seat.me.0.data_part
-      ((k, x) ∷ seat.me.1) seat.me.1 after.me mine.slots mine.words mine.one mine.state stepped
+      ((k, x) ∷ seat.me.1) seat.me.1 after.me mine.slots mine.words mine.one mine.state mine.plain stepped
       (took_plain stands r step new no_filling old o is plain mine.may.free
       (subst (λ (z : Answer). HasTaken stands old z step new) said_is h)) (seat_with after k w) (same ∙ mine.of)
       (ap (λ (m : Me (Slot L D) (View L D)). m.0) stepped.is)

@@ -21,6 +21,7 @@ use Rattle.redo_follow.specs.Lending.{with_block}
 use Rattle.redo_rule.proofs.Filled.{IsPlainOp, plain_filled, read_filled}
 use Rattle.redo_rule.specs.Mine.{HasPlayed, heard_in, heard_of, IsSameSeat, KeepsSeat, Mine, number_in, number_of}
 use Rattle.redo_rule.specs.Plays.{behind, block_filling, Carries, MayGo, Shown, Stepped, view_behind}
+use Rattle.redo_rule.specs.declared.law.Errand.{Errand}
 use Rattle.redo_rule.specs.declared.law.Keeping.{Keeping}
 use Rattle.redo_rule.specs.declared.law.Numbered.{Numbered}
 use Rattle.redo_rule.specs.declared.law.Slot.{Slot}
@@ -116,6 +117,7 @@ module _ {L D R : Type 0} (table : TableId) (log_seen : L → Seen) (data_seen :
     (r : Answer) (held : Option (Slot L D)) (stored : Option (Keeping D)) (carried had : List (ℕ × Slot L D))
     (m' : Me (Slot L D) (View L D)) (slots : table.slots ≡ 6) (words : table.words ≡ word_count v.pages)
     (one : v.seats ≡ x ∷ []) (state : x.actor ≡ view_of old)
+    (plain : ◌≡◌ {A = Option Errand} x.errand None)
     (stepped : Stepped log_seen data_seen x f r held stored carried (v, had) m') (t : TookWith stands f old r step new)
     (last : Seat (Slot L D) (View L D)) (of : last.table_id ≡ table) (view : last.me.0 ≡ view_behind v x f r held
     stored)
@@ -131,6 +133,7 @@ module _ {L D R : Type 0} (table : TableId) (log_seen : L → Seen) (data_seen :
     who = behind x f r;
     one = ap (λ (w : View L D). w.seats) view;
     state = then;
+    plain = plain;
     carries = subst (λ (h : Option ℕ). Carries h last.me) (ap hand (sym t.state)) carries;
     may = subst (λ (w : View L D). MayGo w.pages w.held w.data_part (view_of new)) (sym view)
         (subst (λ (z : model.Actor). MayGo v.pages held stored z) then stepped.may);

@@ -1,5 +1,5 @@
 -- A store that is shared as its run begins: no actor has a seat, and the first seat knows them all.
-use Rattle.std.proofs.Common.{Bool, List, Option, Some, [], ap, length, refl, subst, sym, true, ℕ, ◌∙◌, ◌≡◌, ◌≤◌}
+use Rattle.std.proofs.Common.{Bool, List, cond, false, Option, Some, [], ap, length, refl, subst, sym, true, ℕ, ◌∙◌, ◌≡◌, ◌≤◌}
 use Rattle.std.specs.Prelude.{IfSome, IsSome, vec_capacity}
 use lib.ListN.{get_elem?}
 use mathlib.Core.Option as maybe
@@ -21,7 +21,8 @@ use Rattle.redo_store.specs.declared.opened.Opened.{Opened}
 use Rattle.redo_rule.proofs.Opens as opens
 use Rattle.redo_rule.specs.Cutting.{IsFirst}
 use Rattle.redo_follow.specs.Handing.{Following}
-use Rattle.redo_rule.specs.Ruled.{first_view, none_heard, numbered, starts_about}
+use Rattle.redo_rule.specs.OwnSide.{HasNoWork}
+use Rattle.redo_rule.specs.Ruled.{first_view, none_heard, numbered, own_numbered, starts_about}
 use Rattle.redo_rule.specs.Seating.{IsCleaner}
 use Rattle.redo_rule.specs.Sharing.{IsUnseated}
 use Rattle.redo_rule.specs.declared.law.About.{About}
@@ -49,7 +50,7 @@ module _ {L D R : Type 0} (log_seen : L → Seen) (data_seen : D → Seen) (stan
     About L D)
     (followers : List (Following R)) (many : about.followers ≡ length followers) (start : Beginning L D R)
     (B : BeginsRun log_seen data_seen stands about.opened.value about.script.value about.log_only followers start)
-    (may : MayBegin about.opened.value about.script.value about.log_only) where
+    (may : MayBegin about.opened.value about.script.value about.log_only) (plain : about.own_writes ≡ false) where
   abbrev actors : List model.Actor
   actors = views_of start.actors.items
 
@@ -67,7 +68,10 @@ module _ {L D R : Type 0} (log_seen : L → Seen) (data_seen : D → Seen) (stan
     view = ap (λ (m : Me (Slot L D) (View L D)). m.0) me
 
     known : shared.first.me.0.seats ≡ numbered none_heard 0 actors
-    known = ap (λ (v : View L D). v.seats) view ∙ ap (numbered none_heard 0) (sym are)
+    known = ap (λ (v : View L D). v.seats) view
+        ∙ ap (λ (b : Bool). cond b (own_numbered 0 (starts_about about)) (numbered none_heard 0 (starts_about about)))
+        plain
+        ∙ ap (numbered none_heard 0) (sym are)
 
     first_is : IsFirst shared.board.shared.table_id shared.first
     first_is = record {
@@ -76,9 +80,12 @@ module _ {L D R : Type 0} (log_seen : L → Seen) (data_seen : D → Seen) (stan
       words = words ∙ ap word_count (sym pages_are ∙ sym (ap (λ (v : View L D). v.pages) view));
       none = ap (λ (m : Me (Slot L D) (View L D)). m.1) me;
       empty = ap (λ (v : View L D). v.held) view;
-      rest = λ i y e. opens.fresh log_seen data_seen stands about followers many start B y.number y.actor (opens.there
-          log_seen data_seen stands about followers many start B i y (ap (λ (v : View L D). get_elem? v.seats i) (sym
-          view) ∙ e)).0;
+      rest = λ i y e.
+          let there = opens.there log_seen data_seen stands about followers many start B plain i y
+          (ap (λ (v : View L D). get_elem? v.seats i) (sym view) ∙ e) in (
+            opens.fresh log_seen data_seen stands about followers many start B y.number y.actor there.here,
+            there.idle,
+          );
       home = λ d has. sym (ap (λ (o : Option (Keeping D)). opens.is_out o) (sym (ap (λ (v : View L D). v.data_part) view) ∙ has));
     }
 

@@ -3,6 +3,7 @@ use Rattle.std.specs.Prelude.{List, length, slice_index, true, ℕ, ◌≡◌}
 use lib.ListN.{get_elem?}
 use mathlib.Core.Option.{some}
 use Rattle.atomic_table.specs.Seated.{TableId}
+use Rattle.atomic_table.specs.Table.{Final, Seen as SeenBy, State}
 use Rattle.atomic_table.specs.declared.shared.Seat.{Seat}
 use Rattle.model_core.specs.{Given, index}
 use Rattle.model_core.specs.Actors as model
@@ -21,7 +22,9 @@ use Rattle.redo_drive.specs.declared.drive.RunEnd.TheVariants as ended
 use Rattle.redo_drive.specs.declared.closed.Closed.{Closed}
 use Rattle.redo_store.specs.declared.opened.Opened.{Opened}
 use Rattle.redo_rule.specs.Cutting.{HoldNothing, IsFirst}
-use Rattle.redo_rule.specs.Ruled.{HaveGroups, IsRunAbout, numbered, starts_about}
+use Rattle.redo_rule.specs.Ending.{RunReaches}
+use Rattle.redo_rule.specs.OwnSide.{work_of}
+use Rattle.redo_rule.specs.Ruled.{HaveGroups, IsRunAbout, numbered, Ruled, starts_about}
 use Rattle.redo_rule.specs.Seating.{HasPart, IsCleaner}
 use Rattle.redo_rule.specs.declared.closing.Left.{Left}
 use Rattle.redo_rule.specs.declared.law.About.{About}
@@ -57,6 +60,27 @@ module _ {L D : Type 0} (log_seen : L → Seen) (log_gives : L → Call → L �
     pub data_part : left.store ≡ last.store
     pub marks : left.marks ≡ marks_in last.words.words
     pub code : left.code ≡ slice_index last.words.words (index word.Failed)
+
+  -- what a table is as it is closed is what a run of some actors has come to
+  abbrev pub Holds : About L D → State (Slot L D) (View L D) → Type 0
+  Holds = Ruled log_seen log_gives data_seen data_gives
+
+  abbrev pub EndsRun : About L D → Seat (Slot L D) (View L D) → Type 0
+  EndsRun about first = (words : List ℕ) (slots : List (Slot L D)) → Final (SeenBy (Holds about) first.id first.me.0) words slots
+      → (heard : ℕ → List Given) × (actors : List model.Actor)
+      × RunReaches log_seen log_gives data_seen data_gives about heard actors words slots
+
+  -- The table was closed with these words and slots; to whatever actors a run has come with these, its parts tell this.
+  pub record LeavesTable (about : About L D) (first : Seat (Slot L D) (View L D)) (left : Left L D) : Type 0 where
+    pub words : List ℕ
+    pub slots : List (Slot L D)
+    pub final : Final (SeenBy (Holds about) first.id first.me.0) words slots
+    pub leaves : (heard : ℕ → List Given) (actors : List model.Actor)
+        → RunReaches log_seen log_gives data_seen data_gives about heard actors words slots
+        → LeavesParts about heard actors left
+    pub work : (heard : ℕ → List Given) (actors : List model.Actor)
+        → (E : RunReaches log_seen log_gives data_seen data_gives about heard actors words slots)
+        → left.work ≡ work_of E.beside.own
 
   -- WHAT EVERY DRIVE OWES: both devices hold the run; and where all users have ended, it is a closed one.
   pub record IsOwedRun (opened : Opened L D) (script : List ScriptLine) (actors : List model.Actor) (closed : Closed L D) : Type 0 where

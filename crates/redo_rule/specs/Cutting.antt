@@ -7,6 +7,7 @@ use Rattle.atomic_table.specs.declared.shared.Seat.{Seat}
 use Rattle.model_core.specs.Actors as model
 use Rattle.model_core.specs.{word_count}
 use Rattle.model_core.specs.Hands.{HoldsNothing, IsFreeToCheck}
+use Rattle.redo_rule.specs.OwnSide.{HasNoWork}
 use Rattle.redo_rule.specs.declared.law.Keeping.{Keeping}
 use Rattle.redo_rule.specs.declared.law.Numbered.{Numbered}
 use Rattle.redo_rule.specs.declared.law.Slot.{Slot}
@@ -18,7 +19,7 @@ IsApart n l = (i : ℕ) (y : Numbered) → get_elem? l i ≡ some y → y.number
 
 -- nothing is held by any of these
 abbrev pub AreAtRest : List Numbered → Type 0
-AreAtRest l = (i : ℕ) (y : Numbered) → get_elem? l i ≡ some y → HoldsNothing y.actor
+AreAtRest l = (i : ℕ) (y : Numbered) → get_elem? l i ≡ some y → HoldsNothing y.actor × HasNoWork y.errand
 
 abbrev pub HoldNothing : List model.Actor → Type 0
 HoldNothing actors = (i : ℕ) (a : model.Actor) → get_elem? actors i ≡ some a → HoldsNothing a

@@ -11,6 +11,7 @@ use Rattle.redo_drive.specs.Lists.{listing_at}
 use Rattle.redo_drive.specs.Playing.{RunOf, run_log_side}
 use Rattle.redo_drive.specs.Running.{RunsOn}
 use Rattle.redo_drive.specs.declared.parts.Parts.{Parts}
+use Rattle.redo_rule.specs.OwnSide.{Beside, desk_with}
 use Rattle.redo_rule.specs.Ruled.{HaveGroups, IsRunAbout}
 use Rattle.redo_rule.specs.declared.law.About.{About}
 use Rattle.redo_rule.specs.declared.law.Slot.{Slot}
@@ -26,8 +27,8 @@ pub record RunReaches {L D : Type 0} (log_seen : L → Seen) (log_gives : L → 
   pub runs : RunsOn log_seen data_seen run parts actors
   pub hears : HaveGroups (run_log_side log_seen data_seen run) parts.log heard actors runs.running.log_ghost.log
   pub words_are : parts.words.words ≡ words
-  pub block : List ℕ
-  pub log : get_elem? slots 0 ≡ some (slot.Log (record { part = parts.log; block = block }))
+  pub beside : Beside
+  pub log : get_elem? slots 0 ≡ some (slot.Log (desk_with parts.log beside))
   pub lists : (i : ℕ) → i < 4 → get_elem? slots (suc i) ≡ some (slot.Pages (listing_at parts.lists.lists i))
   pub data_part : get_elem? slots 5 ≡ some (slot.Data parts.store)
   pub log_calls : CallsOn log_gives about.opened.value.log.dev about.opened.value.log.failed parts.log.dev parts.log.failed

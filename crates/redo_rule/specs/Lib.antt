@@ -5,6 +5,7 @@ pub mod Ending
 pub mod Failing
 pub mod Gathering
 pub mod Mine
+pub mod OwnSide
 pub mod Plays
 pub mod Reached
 pub mod Ruled

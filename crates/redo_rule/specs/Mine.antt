@@ -1,5 +1,5 @@
 -- A seat of this table, whose view is the actor's state.
-use Rattle.std.specs.Prelude.{List, [], ℕ, ◌++◌, ◌∷◌, ◌≡◌, ◌⊎◌}
+use Rattle.std.specs.Prelude.{List, None, Option, [], ℕ, ◌++◌, ◌∷◌, ◌≡◌, ◌⊎◌}
 use Rattle.atomic_table.specs.Seated.{TableId}
 use Rattle.atomic_table.specs.declared.shared.Seat.{Seat}
 use Rattle.model_core.specs.Actors as model
@@ -13,6 +13,7 @@ use Rattle.model_core.specs.Hands.{hand}
 use Rattle.redo_drive.specs.Receiving.{follower_of, HasGot, IsSameFollower}
 use Rattle.redo_drive.specs.declared.actor.Actor.{Actor}
 use Rattle.redo_rule.specs.Plays.{Carries, MayGo, Shown}
+use Rattle.redo_rule.specs.declared.law.Errand.{Errand}
 use Rattle.redo_rule.specs.declared.law.Numbered.{Numbered}
 use Rattle.redo_rule.specs.declared.law.Slot.{Slot}
 use Rattle.redo_rule.specs.declared.law.View.{View}
@@ -48,7 +49,8 @@ pub record KeepsSeat {L D R : Type 0} (stands : R → List Given → Type 0) (v 
   pub seat : IsSameSeat stands v a w b
   pub data_part : w.data_part ≡ v.data_part
 
--- THE SEAT IS AT THIS TABLE, its view is the actor's state, it has the slot that the actor holds, and the actor may go on.
+-- THE SEAT IS AT THIS TABLE, its view is the actor's state, it has the slot that the actor holds, and the actor may go on. It
+-- plays by its own program alone.
 pub record Mine {L D : Type 0} (table : TableId) (seat : Seat (Slot L D) (View L D)) (a : model.Actor) : Type 0 where
   pub of : seat.table_id ≡ table
   pub slots : table.slots ≡ 6
@@ -56,6 +58,7 @@ pub record Mine {L D : Type 0} (table : TableId) (seat : Seat (Slot L D) (View L
   pub who : Numbered
   pub one : seat.me.0.seats ≡ who ∷ []
   pub state : who.actor ≡ a
+  pub plain : ◌≡◌ {A = Option Errand} who.errand None
   pub carries : Carries (hand a) seat.me
   pub may : MayGo seat.me.0.pages seat.me.0.held seat.me.0.data_part a
 

@@ -47,6 +47,7 @@ behind x f r = record {
   number = x.number;
   actor = took (filled x.actor f) r;
   heard = x.heard ++ handed_by (filled x.actor f);
+  errand = x.errand;
 }
 
 -- a turn put nothing into an actor, or this block alone

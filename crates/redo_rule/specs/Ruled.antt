@@ -1,11 +1,13 @@
 -- The rule of the table: the invariant of a run, over the words, both parts, the lists and the actors' states, and where
 -- each of these is: in a home slot, or with the seat that holds it.
-use Rattle.std.specs.Prelude.{Bool, IfSome, List, None, Some, [], false, length, slice_index, suc, zero, ℕ, ◌+◌, ◌<◌, ◌∷◌, ◌≡◌, ◌≢◌}
+use Rattle.std.specs.Prelude.{Bool, IfSome, List, None, Some, [], cond, false, is_some, length, slice_index, suc, true, zero, ℕ, ◌+◌, ◌<◌, ◌∷◌, ◌≡◌, ◌≢◌}
 use lib.ListN.{get_elem?}
 use mathlib.Core.Option.{some}
 use Rattle.atomic_table.specs.Table.{State}
 use Rattle.model_core.specs.{archives, Entry, Given}
 use Rattle.model_core.specs.LogSide.{LogSide}
+use Rattle.model_own.specs.OwnWrites.{has_work}
+use Rattle.model_own.specs.declared.errand.ErrandStep.TheVariants as errand_step
 use Rattle.model_core.specs.Actors as model
 use Rattle.model_theorem.specs.{IsStart}
 use Rattle.model_store.specs.Reading.{Reading}
@@ -20,17 +22,34 @@ use Rattle.redo_drive.specs.Running.{groups_of, RunsOn}
 use Rattle.redo_drive.specs.Setups.{start_actors}
 use Rattle.redo_drive.specs.declared.parts.Parts.{Parts}
 use Rattle.model_core.specs.Hands.{GivesFailed, hand, IsFreeToCheck}
+use Rattle.redo_rule.specs.OwnSide.{Beside, desk_with, HasItsWork, SitsAs}
 use Rattle.redo_rule.specs.declared.law.About.{About}
+use Rattle.redo_rule.specs.declared.law.Errand.{Errand}
 use Rattle.redo_rule.specs.declared.law.Keeping.{Keeping}
 use Rattle.redo_rule.specs.declared.law.Numbered.{Numbered}
 use Rattle.redo_rule.specs.declared.law.Slot.{Slot}
 use Rattle.redo_rule.specs.declared.law.Slot.TheVariants as slot
 use Rattle.redo_rule.specs.declared.law.View.{View}
 
--- the actors, each with its number and with what one of this number has handed on
+-- the actors, each with its number and with what one of this number has handed on, and no user that writes for itself among
+-- them
 abbrev pub numbered : (ℕ → List Given) → ℕ → List model.Actor → List Numbered
 numbered heard k [] = []
-numbered heard k (x ∷ xs) = record { number = k; actor = x; heard = heard k } ∷ numbered heard (k + 1) xs
+numbered heard k (x ∷ xs) =
+    record { number = k; actor = x; heard = heard k; errand = None } ∷ numbered heard (k + 1) xs
+
+-- the same where users write for themselves: each is on no errand, and nobody sits as the writer or the flusher
+abbrev pub own_numbered : ℕ → List model.Actor → List Numbered
+own_numbered k [] = []
+own_numbered k (model.User u ∷ xs) = record {
+  number = k;
+  actor = model.User u;
+  heard = [];
+  errand = Some (record { step = errand_step.Done; helped = false });
+} ∷ own_numbered (k + 1) xs
+own_numbered k (model.Writer s ∷ xs) = own_numbered (k + 1) xs
+own_numbered k (model.Flusher t ∷ xs) = own_numbered (k + 1) xs
+own_numbered k (x ∷ xs) = record { number = k; actor = x; heard = []; errand = None } ∷ own_numbered (k + 1) xs
 
 -- none has handed on anything
 abbrev pub none_heard : ℕ → List Given
@@ -51,21 +70,26 @@ HaveGroups D part heard actors log =
     D.Tells part → (n : ℕ) (a : model.Actor) → get_elem? actors n ≡ some a → heard n ≡ groups_of a log
 
 module _ {L D : Type 0} where
-  -- what belongs in a slot that has a turn word: the log part, with the block that was read last, or a flush list
-  abbrev pub slot_content : Parts L D → (block : List ℕ) → ℕ → Slot L D
-  slot_content parts block zero = slot.Log (record { part = parts.log; block = block })
-  slot_content parts block (suc i) = slot.Pages (listing_at parts.lists.lists i)
+  -- what belongs in a slot that has a turn word: the log part, with what lies beside it, or a flush list
+  abbrev pub slot_content : Parts L D → Beside → ℕ → Slot L D
+  slot_content parts beside zero = slot.Log (desk_with parts.log beside)
+  slot_content parts beside (suc i) = slot.Pages (listing_at parts.lists.lists i)
 
   -- the actors of a table's run as it begins
   abbrev pub starts_about : About L D → List model.Actor
   starts_about about = start_actors about.opened.value.shape about.script.value about.opened.value.start about.log_only about.followers
+
+  -- who sits in the first seat
+  abbrev pub first_seats : About L D → List Numbered
+  first_seats about = cond about.own_writes (own_numbered 0 (starts_about about))
+      (numbered none_heard 0 (starts_about about))
 
   -- the first seat has all actors and the data part
   abbrev pub first_view : About L D → View L D
   first_view about = record {
     about = Some about;
     pages = about.opened.value.shape.pages;
-    seats = numbered none_heard 0 (starts_about about);
+    seats = first_seats about;
     held = None;
     data_part = Some (record { part = about.opened.value.store; out = false });
   }
@@ -73,13 +97,17 @@ module _ {L D : Type 0} where
   -- What a seat knows of its table, and of a run with these parts and actors, each of which has handed on what `heard` has
   -- of its number. `seat_of` gives the seat of an actor, `keeper` that of the data part, and `out` tells whether that is out
   -- of its slot.
-  pub record Knows (about : About L D) (parts : Parts L D) (block : List ℕ) (actors : List model.Actor) (heard : ℕ → List Given)
+  pub record Knows (about : About L D) (parts : Parts L D) (beside : Beside) (actors : List model.Actor) (heard : ℕ → List Given)
       (seat_of : ℕ → ℕ) (keeper : ℕ) (out : Bool) (id : ℕ) (v : View L D) : Type 0 where
     pub told : (i : ℕ) (x : Numbered) → get_elem? v.seats i ≡ some x → v.about ≡ Some about
     pub pages : (i : ℕ) (x : Numbered) → get_elem? v.seats i ≡ some x → v.pages ≡ parts.words.pages
     pub mine : (i : ℕ) (x : Numbered) → get_elem? v.seats i ≡ some x → (seat_of x.number ≡ id) × (get_elem? actors x.number ≡ some x.actor) × (heard x.number ≡ x.heard)
     pub free : (i : ℕ) (x : Numbered) → get_elem? v.seats i ≡ some x → IsFreeToCheck x.actor
-    pub held : (i : ℕ) (x : Numbered) (k : ℕ) → get_elem? v.seats i ≡ some x → hand x.actor ≡ Some k → v.held ≡ Some (slot_content parts block k)
+    pub held : (i : ℕ) (x : Numbered) (k : ℕ) → get_elem? v.seats i ≡ some x → hand x.actor ≡ Some k → v.held ≡ Some (slot_content parts beside k)
+    -- a user that writes for itself, and has the log's work in hand, has it with the log part
+    pub errand : (i : ℕ) (x : Numbered) → get_elem? v.seats i ≡ some x → SitsAs beside.own x.errand x.number
+    pub work : (i : ℕ) (x : Numbered) (e : Errand) → get_elem? v.seats i ≡ some x → x.errand ≡ Some e
+        → has_work e.step ≡ true → v.held ≡ Some (slot_content parts beside 0)
     pub data_part : (d : Keeping D) → v.data_part ≡ Some d → (keeper ≡ id) × (d.part ≡ parts.store) × (out ≡ d.out)
 
 module _ {L D : Type 0} (log_seen : L → Seen) (data_seen : D → Seen) where
@@ -96,13 +124,16 @@ pub record Ruled {L D : Type 0} (log_seen : L → Seen) (log_gives : L → Call 
   pub is_about : IsRunAbout log_seen data_seen about run
   -- both parts and the lists, wherever they are, and the actors' states
   pub parts : Parts L D
-  -- the block that was read last
-  pub block : List ℕ
+  -- what lies beside the log part
+  pub beside : Beside
   pub actors : List model.Actor
   -- all that each has handed on
   pub heard : ℕ → List Given
   pub words_are : parts.words.words ≡ s.words
   pub lists_are : AreLists parts.lists
+  -- where users write for themselves, the writer and the flusher among the actors are the log's work
+  pub own_is : about.own_writes ≡ is_some beside.own
+  pub own : HasItsWork (run_log_side log_seen data_seen run) parts.log beside.own actors
   pub runs : RunsOn log_seen data_seen run parts actors
   pub hears : HaveGroups (run_log_side log_seen data_seen run) parts.log heard actors runs.running.log_ghost.log
   pub count : length actors ≡ length (starts_about about)
@@ -112,13 +143,14 @@ pub record Ruled {L D : Type 0} (log_seen : L → Seen) (log_gives : L → Call 
   pub log_shape : parts.log.shape ≡ about.opened.value.log.shape
   -- what isn't held is at home
   pub slots : length s.homes ≡ 6
-  pub home : (k : ℕ) → k < 5 → slice_index s.words (7 + k) ≡ 0 → get_elem? s.homes k ≡ some (some (slot_content parts block k))
-  -- who gives the log part back after a failed call has a code that the part has
-  pub told : (n : ℕ) (a : model.Actor) (code : ℕ) → get_elem? actors n ≡ some a → GivesFailed a code → (run_log_side log_seen data_seen run).Cause parts.log code
+  pub home : (k : ℕ) → k < 5 → slice_index s.words (7 + k) ≡ 0 → get_elem? s.homes k ≡ some (some (slot_content parts beside k))
+  -- who plays by its own program, and gives the log part back after a failed call, has a code that the part has
+  pub told : (n : ℕ) (a : model.Actor) (code : ℕ) → SitsAs beside.own None n → get_elem? actors n ≡ some a
+      → GivesFailed a code → (run_log_side log_seen data_seen run).Cause parts.log code
   -- a turn word that isn't 0 has an actor that holds it
   pub taken : (k : ℕ) → k < 5 → slice_index s.words (7 + k) ≢ 0 → IsSlotHeld actors k
   pub seat_of : ℕ → ℕ
   pub keeper : ℕ
   pub out : Bool
   pub data_home : out ≡ false → get_elem? s.homes 5 ≡ some (some (slot.Data parts.store))
-  pub knows : (id : ℕ) (v : View L D) → get_elem? s.views id ≡ some v → Knows about parts block actors heard seat_of keeper out id v
+  pub knows : (id : ℕ) (v : View L D) → get_elem? s.views id ≡ some v → Knows about parts beside actors heard seat_of keeper out id v

@@ -28,6 +28,8 @@ module _ {L D : Type 0} where
     pub new_is : new ≡ slot.Log now
     pub served : Served was.part now.part
     pub told : now.part.failed ≡ error_of ended
+    -- the log's work stays beside it as it was
+    pub work : now.work ≡ was.work
     pub calls : MakesCalls gives was.part.dev now.part.dev (EndWith now.part.failed)
 
   -- the block that was read last

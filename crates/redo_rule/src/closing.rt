@@ -1,21 +1,21 @@
 // A store after its run.
-ghost use Rattle.std.specs.Prelude.{◌<◌, ◌≡◌, List, ℕ, length, slice_index};
+ghost use Rattle.std.specs.Prelude.{◌<◌, ◌≡◌, List, length, slice_index};
 ghost use Rattle.std.specs.Slots.{IsFull, slots_items, slots_len};
-ghost use Rattle.model_core.specs.{Given, index};
+ghost use Rattle.model_core.specs.{index};
 ghost use Rattle.redo_drive.specs.History.{ListsInOrder};
 ghost use Rattle.redo_drive.specs.Leaving.{LeavesRun};
 ghost use Rattle.redo_drive.specs.Views.{views_of};
 ghost use Rattle.redo_drive.specs.declared.actor.Actor.{Actor as TheActor};
-ghost use Rattle.redo_rule.specs.Closing.{IsOwedRun, LeavesParts, MayClose};
-ghost use Rattle.redo_rule.specs.Cutting.{HoldNothing};
+ghost use Rattle.redo_rule.specs.Closing.{EndsRun, IsOwedRun, LeavesTable};
+ghost use Rattle.redo_rule.specs.Cutting.{HoldNothing, IsFirst};
 ghost use Rattle.redo_rule.specs.Failing.{CodeHasCause};
 ghost use Rattle.redo_rule.specs.Reached.{ReachesAll};
 ghost use Rattle.redo_rule.specs.Sharing.{AreSeatsOf, HaveHeard, IsSeated, opened_of, shared_script, starts_of, table_of};
 
-use crate::law::{Seat, Slot};
+use crate::law::{Desk, Seat, Slot};
 use crate::seats::take_all;
 use crate::shared::{Board, Shared};
-use crate::slots::{data_in, drop_list, log_in};
+use crate::slots::{data_in, desk_in, drop_list};
 use atomic_table::Closed as ClosedTable;
 use model_report::Marks;
 use redo_disk::Sectors;
@@ -23,16 +23,18 @@ use redo_drive::{Actor, Closed, history_of};
 use redo_follow::Receiver;
 use redo_link::tail_of;
 use redo_logdev::LogPart;
+use redo_ownuser::LogWork;
 use redo_store::DataPart;
 use redo_words::{Word, number_of};
 use std::alloc::Global;
 
-/// What a table leaves but for the history.
-pub(crate) struct Left<L: Sectors, D: Sectors> {
-    pub(crate) marks: Marks,
-    pub(crate) log: LogPart<L>,
-    pub(crate) store: DataPart<D>,
-    pub(crate) code: u32,
+/// What a table leaves but for the history: with the log's work, if users wrote for themselves.
+pub struct Left<L: Sectors, D: Sectors> {
+    pub marks: Marks,
+    pub log: LogPart<L>,
+    pub store: DataPart<D>,
+    pub code: u32,
+    pub work: Option<LogWork>,
 }
 
 /// What stands in a word.
@@ -45,14 +47,10 @@ fn word_in<L: Sectors, D: Sectors>(closed: &ClosedTable<Slot<L, D>, Global>, wor
 }
 
 /// Closes a table, given the seat that knows all actors, of which none holds anything.
-fn close_table<L: Sectors, D: Sectors, R: Receiver>(
-    board: Board<L, D>,
-    first: Seat<L, D>,
-    actors: &[Actor<R>],
-) -> Left<L, D>
-    requires { (heard : ℕ → List Given) × MayClose board.shared.key board.shared.table_id heard (views_of actors.now) first }
-    ensures { (heard : ℕ → List Given) → MayClose board.shared.key board.shared.table_id heard (views_of actors.now) first
-        → LeavesParts L.seen L.gives D.seen D.gives board.shared.key heard (views_of actors.now) result }
+pub fn close_table<L: Sectors, D: Sectors>(board: Board<L, D>, first: Seat<L, D>) -> Left<L, D>
+    requires first { IsFirst board.shared.table_id first }
+    requires ends { EndsRun L.seen L.gives D.seen D.gives board.shared.key first }
+    ensures { LeavesTable L.seen L.gives D.seen D.gives board.shared.key first result }
 {
     let mut closed = board.close_with(first);
     let marks = Marks {
@@ -73,11 +71,17 @@ fn close_table<L: Sectors, D: Sectors, R: Receiver>(
     drop_list(b);
     drop_list(c);
     drop_list(d);
+    let Desk {
+        part,
+        block: _,
+        work,
+    } = desk_in(log);
     Left {
         marks,
-        log: log_in(log),
+        log: part,
         store: data_in(data),
         code,
+        work,
     }
 }
 
@@ -109,7 +113,8 @@ impl<L: Sectors, D: Sectors> Shared<L, D> {
             log,
             store,
             code,
-        } = close_table(board, first, actors);
+            work: _work,
+        } = close_table(board, first);
         let history = history_of(entries, actors, &marks);
         Closed {
             history,

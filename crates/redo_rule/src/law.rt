@@ -1,21 +1,24 @@
 // The rule of the table, and what a seat knows.
 use atomic_table::{Shared, TableRule};
+use model_own::ErrandStep;
 use model_script::Script;
 use redo_disk::Sectors;
 use redo_drive::Actor;
 use redo_flushlist::FlushList;
 use redo_follow::Tally;
 use redo_logdev::LogPart;
+use redo_ownuser::LogWork;
 use redo_store::{DataPart, Opened};
 use std::collections::LinkedList;
 use std::marker::Model;
 use std::snapshot::Snapshot;
 
-/// The log part, and the block that was read last off its device.
+/// The log part, the block that was read last off its device, and the log's work where users write for themselves.
 #[derive(Drop)]
 pub struct Desk<L: Sectors> {
     pub part: LogPart<L>,
     pub block: [u8; 512],
+    pub work: Option<LogWork>,
 }
 
 /// What lies in a slot: the log part in slot 0, a flush list in each of slots 1 to 4, and the data part in slot 5.
@@ -64,12 +67,21 @@ impl Model for Heard {
     ghost view = { λ heard. map (λ group. record { start = group.start; end = group.end; text = group.text }) heard.groups };
 }
 
-/// An actor's state, with its number among the actors, and with all that it has handed on.
+/// Of a user that writes for itself: where it is on its errand, and whether it has been on one for its condition.
+#[derive(Drop)]
+pub struct Errand {
+    pub step: ErrandStep,
+    pub helped: bool,
+}
+
+/// An actor's state, with its number among the actors, with all that it has handed on, and with its errand, if it is a user that
+/// writes for itself.
 #[derive(Drop)]
 pub struct Numbered {
     pub number: u64,
     pub actor: Viewed,
     pub heard: Heard,
+    pub errand: Option<Errand>,
 }
 
 /// The data part as the seat that keeps it knows it, and whether it is out of its slot, with that seat.
@@ -90,14 +102,15 @@ pub struct View<L: Sectors, D: Sectors> {
     pub data_part: Option<Keeping<D>>,
 }
 
-/// What a table is told once: the opened store, the script, and how many followers there are. The actors as they begin follow
-/// from that.
+/// What a table is told once: the opened store, the script, how many followers there are, and whether users write for
+/// themselves. The actors as they begin follow from that.
 #[derive(Drop)]
 pub struct About<L: Sectors, D: Sectors> {
     pub opened: Snapshot<Opened<L, D>>,
     pub script: Snapshot<Script>,
     pub log_only: bool,
     pub followers: u64,
+    pub own_writes: bool,
 }
 
 pub struct Law;

@@ -10,27 +10,29 @@ ghost use Rattle.redo_store.specs.Part as store_dev;
 
 use crate::law::{About, Desk, Seat, Slot};
 use crate::shared::Board;
-use crate::slots::{data_in, drop_list, log_in};
+use crate::slots::{data_in, desk_in, drop_list};
 use atomic_table::Table;
 use redo_disk::Sectors;
 use redo_drive::FlushLists;
 use redo_logdev::LogPart;
+use redo_ownuser::LogWork;
 use redo_store::DataPart;
 use std::alloc::Global;
 
 /// How many slots there are.
 const SLOTS: usize = 6;
 
-/// Both parts and the lists, in their slots, and room for so many seats.
-pub(crate) fn lay_out<L: Sectors, D: Sectors>(
+/// Both parts, with the log's work if users write for themselves, and the lists, in their slots, and room for so many seats.
+pub fn lay_out<L: Sectors, D: Sectors>(
     alloc: Global,
     seats: usize,
     log: LogPart<L>,
     store: DataPart<D>,
     lists: FlushLists,
+    work: Option<LogWork>,
 ) -> Result<(Vec<Seat<L, D>>, Vec<Slot<L, D>>), (LogPart<L>, DataPart<D>)>
     ensures room { IfOk result (λ made. (made.0.items ≡ []) × (seats ≤ vec_capacity made.0)) }
-    ensures slots { IfOk result (λ made. (made.1.items ≡ laid (record { part = log; block = replicate BLOCK_SIZE 0 }) lists store) × AreLists lists) }
+    ensures slots { IfOk result (λ made. (made.1.items ≡ laid (record { part = log; block = replicate BLOCK_SIZE 0; work = work }) lists store) × AreLists lists) }
     ensures err { IfErr result (λ parts. (parts.0 ≡ log) × (parts.1 ≡ store)) }
 {
     let Ok(room) = Vec::with_capacity(alloc, seats) else {
@@ -47,6 +49,7 @@ pub(crate) fn lay_out<L: Sectors, D: Sectors>(
     slots.push_reserved(Slot::Log(Desk {
         part: log,
         block: [0; 512],
+        work,
     }));
     slots.push_reserved(Slot::Pages(a));
     slots.push_reserved(Slot::Pages(b));
@@ -57,7 +60,7 @@ pub(crate) fn lay_out<L: Sectors, D: Sectors>(
 }
 
 /// The table over words and slots on which the rule holds.
-pub(crate) fn make_board<L: Sectors, D: Sectors>(
+pub fn make_board<L: Sectors, D: Sectors>(
     alloc: Global,
     words: &[u64],
     slots: Vec<Slot<L, D>>,
@@ -89,7 +92,7 @@ fn last_slot<L: Sectors, D: Sectors>(slots: &mut Vec<Slot<L, D>>) -> Slot<L, D>
 }
 
 /// Both parts, out of their slots.
-pub(crate) fn parts_in<L: Sectors, D: Sectors>(
+pub fn parts_in<L: Sectors, D: Sectors>(
     mut slots: Vec<Slot<L, D>>,
 ) -> (LogPart<L>, DataPart<D>)
     requires { AreLaid slots.items }
@@ -106,5 +109,5 @@ pub(crate) fn parts_in<L: Sectors, D: Sectors>(
     drop_list(b);
     drop_list(c);
     drop_list(d);
-    (log_in(log), data_in(data))
+    (desk_in(log).part, data_in(data))
 }

@@ -20,7 +20,13 @@ mod shared;
 mod slots;
 mod steps;
 
-pub use law::{About, Desk, Heard, Keeping, Law, Numbered, Ring, Seat, Slot, View, Viewed};
+pub use closing::{Left, close_table};
+pub use laying::{lay_out, make_board, parts_in};
+pub use listing::{list_slot, list_turn};
+pub use law::{About, Desk, Errand, Heard, Keeping, Law, Numbered, Ring, Seat, Slot, View, Viewed};
 pub use playing::play;
+pub use plays::Looked;
 pub use resting::{all_hold_nothing, holds_nothing};
+pub use seating::{cut_off, cut_seat, take_in};
 pub use shared::{Board, Shared};
+pub use slots::{add_slot, sync_slot, taken_answer};

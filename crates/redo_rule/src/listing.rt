@@ -16,14 +16,15 @@ use redo_follow::Receiver;
 use redo_words::{Answer, Step, Word, number_of};
 
 /// The turn word of a flush list, and its slot.
-fn turn_of(list: u32) -> usize
+pub fn list_turn(list: u32) -> usize
     requires { list < FLUSH_LISTS }
     ensures { result ≡ 8 + list }
 {
     number_of(Word::List(list)) as usize
 }
 
-fn slot_of(list: u32) -> usize
+/// The slot of a flush list.
+pub fn list_slot(list: u32) -> usize
     ensures { result ≡ suc list }
 {
     list as usize + 1
@@ -45,10 +46,10 @@ pub(crate) fn take_add<L: Sectors, D: Sectors, R: Receiver>(
     ensures stays { KeepsSeat R.stands_for token.old.me.0 actor.old token.new.me.0 actor.new }
 {
     let list = page % FLUSH_LISTS as u32;
-    if table.compare_exchange::<SeizedList>(token, turn_of(list), 0, 1) != 0 {
+    if table.compare_exchange::<SeizedList>(token, list_turn(list), 0, 1) != 0 {
         return actor.took(Answer::Held);
     }
-    add_slot(token.slot_mut(table, slot_of(list)), page, oldest);
+    add_slot(token.slot_mut(table, list_slot(list)), page, oldest);
     actor.took(Answer::Taken(None))
 }
 
@@ -67,10 +68,10 @@ pub(crate) fn take_remove<L: Sectors, D: Sectors, R: Receiver>(
     ensures stays { KeepsSeat R.stands_for token.old.me.0 actor.old token.new.me.0 actor.new }
 {
     let list = page % FLUSH_LISTS as u32;
-    if table.compare_exchange::<SeizedList>(token, turn_of(list), 0, 1) != 0 {
+    if table.compare_exchange::<SeizedList>(token, list_turn(list), 0, 1) != 0 {
         return actor.took(Answer::Held);
     }
-    remove_slot(token.slot_mut(table, slot_of(list)), page);
+    remove_slot(token.slot_mut(table, list_slot(list)), page);
     actor.took(Answer::Taken(None))
 }
 
@@ -88,10 +89,10 @@ pub(crate) fn take_oldest<L: Sectors, D: Sectors, R: Receiver>(
     ensures seat { token.new.id ≡ token.old.id }
     ensures stays { KeepsSeat R.stands_for token.old.me.0 actor.old token.new.me.0 actor.new }
 {
-    if table.compare_exchange::<SeizedList>(token, turn_of(list), 0, 1) != 0 {
+    if table.compare_exchange::<SeizedList>(token, list_turn(list), 0, 1) != 0 {
         return actor.took(Answer::Held);
     }
-    let oldest = oldest_slot(token.slot_mut(table, slot_of(list)), list);
+    let oldest = oldest_slot(token.slot_mut(table, list_slot(list)), list);
     actor.took(Answer::Taken(oldest))
 }
 
@@ -109,6 +110,6 @@ pub(crate) fn give_list<L: Sectors, D: Sectors, R: Receiver>(
     ensures seat { token.new.id ≡ token.old.id }
     ensures stays { KeepsSeat R.stands_for token.old.me.0 actor.old token.new.me.0 actor.new }
 {
-    table.store::<Gave>(token, turn_of(list), 0);
+    table.store::<Gave>(token, list_turn(list), 0);
     actor.took(Answer::Taken(None))
 }

@@ -41,7 +41,7 @@ impl<L: Sectors, D: Sectors> Play<Slot<L, D>, View<L, D>> for Called {
 }
 
 /// A look at what the seat's actor may do.
-pub(crate) struct Looked;
+pub struct Looked;
 
 impl<L: Sectors, D: Sectors> Play<Slot<L, D>, View<L, D>> for Looked {
     ghost then = { λ _. looked L.seen D.seen };

@@ -1,5 +1,5 @@
 // Seats are cut off the first one, and taken in again.
-ghost use Rattle.std.specs.Prelude.{[], ◌∷◌, ◌≡◌};
+ghost use Rattle.std.specs.Prelude.{[], ◌∷◌, ◌≡◌, None};
 ghost use Rattle.redo_rule.specs.Mine.{Mine};
 ghost use Rattle.redo_rule.specs.Cutting.{IsFirst, MayCut, MayTakeIn};
 ghost use Rattle.redo_rule.specs.Seats.{cut_left, cut_right, spent, taken_in};
@@ -28,8 +28,22 @@ impl<L: Sectors, D: Sectors> Join<View<L, D>> for Gather {
     ghost spent = { spent };
 }
 
-/// A seat for the first of the actors that have none.
-pub(crate) fn cut_off<L: Sectors, D: Sectors>(
+/// Cuts a seat off for the first of the actors that have none.
+pub fn cut_seat<L: Sectors, D: Sectors>(
+    table: &Ring<L, D>,
+    first: &mut Seat<L, D>,
+) -> Seat<L, D>
+    requires first { IsFirst table.now.table_id first.old }
+    requires head { MayCut first.old.me.0 }
+    ensures first { IsFirst table.now.table_id first.new }
+    ensures left { first.new.me.0 ≡ cut_left first.old.me.0 }
+    ensures right { (result.table_id ≡ table.now.table_id) × (result.me ≡ (cut_right first.old.me.0, [])) }
+{
+    table.split_seat::<Cut>(first)
+}
+
+/// The same for an actor that plays by its own program: it may go on.
+pub fn cut_off<L: Sectors, D: Sectors>(
     table: &Ring<L, D>,
     first: &mut Seat<L, D>,
 ) -> Seat<L, D>
@@ -38,15 +52,15 @@ pub(crate) fn cut_off<L: Sectors, D: Sectors>(
     ensures first { IsFirst table.now.table_id first.new }
     ensures left { first.new.me.0 ≡ cut_left first.old.me.0 }
     ensures right { result.me.0 ≡ cut_right first.old.me.0 }
-    ensures mine { (x : Numbered) → result.me.0.seats ≡ x ∷ [] → Mine table.now.table_id result x.actor }
+    ensures mine { (x : Numbered) → result.me.0.seats ≡ x ∷ [] → x.errand ≡ None → Mine table.now.table_id result x.actor }
 {
-    let mut token = table.split_seat::<Cut>(first);
+    let mut token = cut_seat(table, first);
     table.load::<Looked>(&mut token, 0);
     token
 }
 
 /// Takes in a seat whose actors hold nothing.
-pub(crate) fn take_in<L: Sectors, D: Sectors>(
+pub fn take_in<L: Sectors, D: Sectors>(
     table: &Ring<L, D>,
     first: &mut Seat<L, D>,
     other: Seat<L, D>,

@@ -59,6 +59,7 @@ impl<L: Sectors, D: Sectors> Shared<L, D> {
             script: Snapshot::of(script),
             log_only,
             followers: count,
+            own_writes: false,
         };
         let Parts {
             words,
@@ -66,7 +67,7 @@ impl<L: Sectors, D: Sectors> Shared<L, D> {
             store,
             lists,
         } = parts;
-        match lay_out(alloc, actors.len(), log, store, lists) {
+        match lay_out(alloc, actors.len(), log, store, lists, None) {
             Err((log, store)) => Err((NoMemory, log.into_dev(), store.into_dev())),
             Ok((room, slots)) => match make_board(alloc, words.as_slice(), slots, &about) {
                 Ok((board, first)) => {

@@ -18,15 +18,14 @@ ghost use Rattle.redo_rule.specs.declared.law.Desk.{Desk};
 ghost use Rattle.redo_store.specs.Part as store_dev;
 ghost use Rattle.redo_words.specs.{Lends};
 
-use crate::law::Slot;
+use crate::law::{Desk, Slot};
 use redo_disk::{DevError, Sectors};
 use redo_drive::{call_batch, call_checkpoint, call_read, call_sync, call_write};
-use redo_logdev::LogPart;
 use redo_store::DataPart;
 use redo_words::{Answer, Lent};
 
 /// The answer to whoever has taken the log part.
-pub(crate) fn taken_answer<L: Sectors, D: Sectors>(slot: &Slot<L, D>) -> Answer
+pub fn taken_answer<L: Sectors, D: Sectors>(slot: &Slot<L, D>) -> Answer
     requires { IsLog slot.now (λ p. Unit {0}) }
     ensures { (desk : Desk L) → slot.now ≡ Slot.Log desk → result ≡ taking (is_some desk.part.failed) }
 {
@@ -56,7 +55,7 @@ pub(crate) fn write_slot<L: Sectors, D: Sectors>(
 }
 
 /// How a sync ended, and the stable mark after it.
-pub(crate) fn sync_slot<L: Sectors, D: Sectors>(
+pub fn sync_slot<L: Sectors, D: Sectors>(
     slot: &mut Slot<L, D>,
 ) -> (Result<(), DevError>, u64)
     requires { IsLog slot.old (λ p. p.failed ≡ None) }
@@ -126,7 +125,7 @@ pub(crate) fn batch_slot<L: Sectors, D: Sectors>(
 }
 
 /// Lists a page.
-pub(crate) fn add_slot<L: Sectors, D: Sectors>(slot: &mut Slot<L, D>, page: u32, oldest: u64)
+pub fn add_slot<L: Sectors, D: Sectors>(slot: &mut Slot<L, D>, page: u32, oldest: u64)
     requires { IsPages slot.old (ListFits (op.TakeAdd page oldest)) }
     ensures { IsPages slot.old (λ l. slot.new ≡ Slot.Pages (list_behind (op.TakeAdd page oldest) l)) }
 {
@@ -158,13 +157,13 @@ pub(crate) fn oldest_slot<L: Sectors, D: Sectors>(slot: &Slot<L, D>, list: u32) 
     }
 }
 
-/// The log part that lies in a slot.
-pub(crate) fn log_in<L: Sectors, D: Sectors>(slot: Slot<L, D>) -> LogPart<L>
+/// What lies in the log part's slot.
+pub(crate) fn desk_in<L: Sectors, D: Sectors>(slot: Slot<L, D>) -> Desk<L>
     requires { IsLog slot (λ p. Unit {0}) }
-    ensures { IsLog slot (λ p. p ≡ result) }
+    ensures { slot ≡ Slot.Log result }
 {
     match slot {
-        Slot::Log(desk) => desk.part,
+        Slot::Log(desk) => desk,
         Slot::Pages(_list) => unreachable!(),
         Slot::Data(_part) => unreachable!(),
     }

@@ -1,64 +1,61 @@
-use Rattle.std.proofs.Common.{ap, arith, sym, List, ◌∙◌}
+use Rattle.std.proofs.Common.{ap, arith, refl, sym, List, ◌∙◌}
 use Rattle.std.specs.Slots.{slots_filled, slots_items}
 use lib.ListN.{get_elem?}
 use Rattle.model_core.specs.{tail_of}
-use Rattle.redo_drive.specs.Views.{views_of}
-use Rattle.redo_rule.proofs.Finishing.{all_empty, data_there, ends_with, list_there, log_there, parts_left, small, still_there}
+use Rattle.redo_rule.proofs.Finishing.{all_empty, data_there, list_there, log_there, parts_left, small, still_there, work_left}
 use Rattle.redo_rule.specs.declared.law.Slot.{Slot}
 use Rattle.redo_rule.proofs.closing.close_table.Goals as goal
 
 pub close_with-closed-requires : goal.close_with-closed-requires
-close_with-closed-requires g c = c.requires.1.is_first.of
+close_with-closed-requires g c = c.requires.first.of
 
 pub word_in-requires-clause-there : goal.word_in-requires-clause-there
 word_in-requires-clause-there g c = let n = c.close_with-closed.ensures.counts.0 in let w =
-    c.requires.1.is_first.words in omega arith
+    c.requires.first.words in omega arith
 
 pub word_in-code-requires-clause-there : goal.word_in-code-requires-clause-there
 word_in-code-requires-clause-there g c = let n = c.close_with-closed.ensures.counts.0 in let w =
-    c.requires.1.is_first.words in omega arith
+    c.requires.first.words in omega arith
 
 pub overflow_cast-code : goal.overflow_cast-code
-overflow_cast-code g c = let n = small g.L.Sectors.seen g.L.Sectors.gives g.D.Sectors.seen g.D.Sectors.gives
-    c.args.board.shared.key c.requires.0 (views_of c.args.actors.now) (slots_items c.close_with-closed.result.words)
-    (slots_items c.close_with-closed.result.slots) (ends_with g.L.Sectors.seen g.L.Sectors.gives g.D.Sectors.seen
-    g.D.Sectors.gives c.args.board.shared.key c.args.board.shared.table_id c.requires.0 (views_of c.args.actors.now)
-    c.args.first c.requires.1 (slots_items c.close_with-closed.result.words) (slots_items
-    c.close_with-closed.result.slots) c.close_with-closed.ensures.values.2) in let e = c.word_in-code.ensures in omega
+overflow_cast-code g c = let end = c.requires.ends (slots_items c.close_with-closed.result.words)
+    (slots_items c.close_with-closed.result.slots) c.close_with-closed.ensures.values.2 in let n = small g.L.Sectors.seen g.L.Sectors.gives g.D.Sectors.seen g.D.Sectors.gives
+    c.args.board.shared.key end.0 end.1 (slots_items c.close_with-closed.result.words)
+    (slots_items c.close_with-closed.result.slots) end.2 in let e = c.word_in-code.ensures in omega
     arith
 
 pub take-log-requires : goal.take-log-requires
 take-log-requires g c = (
-  (let n = c.close_with-closed.ensures.counts.1 in let m = c.requires.1.is_first.slots in omega
+  (let n = c.close_with-closed.ensures.counts.1 in let m = c.requires.first.slots in omega
       arith),
   (c.close_with-closed.ensures.values.1 0 (omega arith) (let n = c.close_with-closed.ensures.counts.1 in let
-      m = c.requires.1.is_first.slots in omega arith)),
+      m = c.requires.first.slots in omega arith)),
 )
 
 pub take-a-requires : goal.take-a-requires
 take-a-requires g c = (
-  (let n = c.close_with-closed.ensures.counts.1 in let m = c.requires.1.is_first.slots in let l1
+  (let n = c.close_with-closed.ensures.counts.1 in let m = c.requires.first.slots in let l1
       = c.take-log.ensures.others.2 in omega arith),
   (still_there (slots_filled c.close_with-closed.result.slots)
       (slots_filled c.take-log.new.self.slots) 0 1 c.take-log.ensures.others.1 (λ e. omega arith)
       (c.close_with-closed.ensures.values.1 1 (omega arith) (let n = c.close_with-closed.ensures.counts.1 in let m =
-      c.requires.1.is_first.slots in omega arith))),
+      c.requires.first.slots in omega arith))),
 )
 
 pub take-b-requires : goal.take-b-requires
 take-b-requires g c = (
-  (let n = c.close_with-closed.ensures.counts.1 in let m = c.requires.1.is_first.slots in let l1
+  (let n = c.close_with-closed.ensures.counts.1 in let m = c.requires.first.slots in let l1
       = c.take-log.ensures.others.2 in let l2 = c.take-a.ensures.others.2 in omega arith),
   (still_there (slots_filled
       c.take-log.new.self.slots) (slots_filled c.take-a.new.self.slots) 1 2 c.take-a.ensures.others.1 (λ e. omega arith)
       (still_there (slots_filled c.close_with-closed.result.slots) (slots_filled c.take-log.new.self.slots) 0 2
       c.take-log.ensures.others.1 (λ e. omega arith) (c.close_with-closed.ensures.values.1 2 (omega arith) (let n =
-      c.close_with-closed.ensures.counts.1 in let m = c.requires.1.is_first.slots in omega arith)))),
+      c.close_with-closed.ensures.counts.1 in let m = c.requires.first.slots in omega arith)))),
 )
 
 pub take-c-requires : goal.take-c-requires
 take-c-requires g c = (
-  (let n = c.close_with-closed.ensures.counts.1 in let m = c.requires.1.is_first.slots in let l1
+  (let n = c.close_with-closed.ensures.counts.1 in let m = c.requires.first.slots in let l1
       = c.take-log.ensures.others.2 in let l2 = c.take-a.ensures.others.2 in let l3 = c.take-b.ensures.others.2 in omega
       arith),
   (still_there (slots_filled c.take-a.new.self.slots) (slots_filled c.take-b.new.self.slots) 2 3
@@ -66,12 +63,12 @@ take-c-requires g c = (
       c.take-a.new.self.slots) 1 3 c.take-a.ensures.others.1 (λ e. omega arith) (still_there (slots_filled
       c.close_with-closed.result.slots) (slots_filled c.take-log.new.self.slots) 0 3 c.take-log.ensures.others.1 (λ e.
       omega arith) (c.close_with-closed.ensures.values.1 3 (omega arith) (let n = c.close_with-closed.ensures.counts.1
-      in let m = c.requires.1.is_first.slots in omega arith))))),
+      in let m = c.requires.first.slots in omega arith))))),
 )
 
 pub take-d-requires : goal.take-d-requires
 take-d-requires g c = (
-  (let n = c.close_with-closed.ensures.counts.1 in let m = c.requires.1.is_first.slots in let l1
+  (let n = c.close_with-closed.ensures.counts.1 in let m = c.requires.first.slots in let l1
       = c.take-log.ensures.others.2 in let l2 = c.take-a.ensures.others.2 in let l3 = c.take-b.ensures.others.2 in let
       l4 = c.take-c.ensures.others.2 in omega arith),
   (still_there (slots_filled c.take-b.new.self.slots) (slots_filled
@@ -81,12 +78,12 @@ take-d-requires g c = (
       c.take-a.ensures.others.1 (λ e. omega arith) (still_there (slots_filled c.close_with-closed.result.slots)
       (slots_filled c.take-log.new.self.slots) 0 4 c.take-log.ensures.others.1 (λ e. omega arith)
       (c.close_with-closed.ensures.values.1 4 (omega arith) (let n = c.close_with-closed.ensures.counts.1 in let m =
-      c.requires.1.is_first.slots in omega arith)))))),
+      c.requires.first.slots in omega arith)))))),
 )
 
 pub take-data-requires : goal.take-data-requires
 take-data-requires g c = (
-  (let n = c.close_with-closed.ensures.counts.1 in let m = c.requires.1.is_first.slots in let
+  (let n = c.close_with-closed.ensures.counts.1 in let m = c.requires.first.slots in let
       l1 = c.take-log.ensures.others.2 in let l2 = c.take-a.ensures.others.2 in let l3 = c.take-b.ensures.others.2 in
       let l4 = c.take-c.ensures.others.2 in let l5 = c.take-d.ensures.others.2 in omega arith),
   (still_there
@@ -97,7 +94,7 @@ take-data-requires g c = (
       c.take-log.new.self.slots) (slots_filled c.take-a.new.self.slots) 1 5 c.take-a.ensures.others.1 (λ e. omega arith)
       (still_there (slots_filled c.close_with-closed.result.slots) (slots_filled c.take-log.new.self.slots) 0 5
       c.take-log.ensures.others.1 (λ e. omega arith) (c.close_with-closed.ensures.values.1 5 (omega arith) (let n =
-      c.close_with-closed.ensures.counts.1 in let m = c.requires.1.is_first.slots in omega arith))))))),
+      c.close_with-closed.ensures.counts.1 in let m = c.requires.first.slots in omega arith))))))),
 )
 
 pub free-requires : goal.free-requires
@@ -106,76 +103,71 @@ free-requires g c = λ k l. all_empty (slots_filled c.close_with-closed.result.s
     (slots_filled c.take-c.new.self.slots) (slots_filled c.take-d.new.self.slots) (slots_filled
     c.take-data.new.self.slots) c.take-log.ensures.others.1 c.take-a.ensures.others.1 c.take-b.ensures.others.1
     c.take-c.ensures.others.1 c.take-d.ensures.others.1 c.take-data.ensures.others.1 k (let n =
-    c.close_with-closed.ensures.counts.1 in let m = c.requires.1.is_first.slots in let l1 =
+    c.close_with-closed.ensures.counts.1 in let m = c.requires.first.slots in let l1 =
     c.take-log.ensures.others.2 in let l2 = c.take-a.ensures.others.2 in let l3 = c.take-b.ensures.others.2 in let l4
     = c.take-c.ensures.others.2 in let l5 = c.take-d.ensures.others.2 in let l6 = c.take-data.ensures.others.2 in
     omega arith)
 
 pub drop_list-requires : goal.drop_list-requires
-drop_list-requires g c = list_there g.L.Sectors.seen g.L.Sectors.gives g.D.Sectors.seen g.D.Sectors.gives
-    c.args.board.shared.key c.requires.0 (views_of c.args.actors.now) (slots_items c.close_with-closed.result.words)
-    (slots_items c.close_with-closed.result.slots) (ends_with g.L.Sectors.seen g.L.Sectors.gives g.D.Sectors.seen
-    g.D.Sectors.gives c.args.board.shared.key c.args.board.shared.table_id c.requires.0 (views_of c.args.actors.now)
-    c.args.first c.requires.1 (slots_items c.close_with-closed.result.words) (slots_items
-    c.close_with-closed.result.slots) c.close_with-closed.ensures.values.2) 0 c.take-a.result (omega arith) (ap (λ (l
+drop_list-requires g c = let end = c.requires.ends (slots_items c.close_with-closed.result.words)
+    (slots_items c.close_with-closed.result.slots) c.close_with-closed.ensures.values.2 in list_there g.L.Sectors.seen g.L.Sectors.gives g.D.Sectors.seen g.D.Sectors.gives
+    c.args.board.shared.key end.0 end.1 (slots_items c.close_with-closed.result.words)
+    (slots_items c.close_with-closed.result.slots) end.2 0 c.take-a.result (omega arith) (ap (λ (l
     : List (Slot _ _)). get_elem? l 1) (sym (c.take-log.ensures.others.0)) ∙ c.take-a.ensures.value)
 
 pub drop_list-requires-2 : goal.drop_list-requires-2
-drop_list-requires-2 g c = list_there g.L.Sectors.seen g.L.Sectors.gives g.D.Sectors.seen g.D.Sectors.gives
-    c.args.board.shared.key c.requires.0 (views_of c.args.actors.now) (slots_items c.close_with-closed.result.words)
-    (slots_items c.close_with-closed.result.slots) (ends_with g.L.Sectors.seen g.L.Sectors.gives g.D.Sectors.seen
-    g.D.Sectors.gives c.args.board.shared.key c.args.board.shared.table_id c.requires.0 (views_of c.args.actors.now)
-    c.args.first c.requires.1 (slots_items c.close_with-closed.result.words) (slots_items
-    c.close_with-closed.result.slots) c.close_with-closed.ensures.values.2) 1 c.take-b.result (omega arith) (ap (λ (l
+drop_list-requires-2 g c = let end = c.requires.ends (slots_items c.close_with-closed.result.words)
+    (slots_items c.close_with-closed.result.slots) c.close_with-closed.ensures.values.2 in list_there g.L.Sectors.seen g.L.Sectors.gives g.D.Sectors.seen g.D.Sectors.gives
+    c.args.board.shared.key end.0 end.1 (slots_items c.close_with-closed.result.words)
+    (slots_items c.close_with-closed.result.slots) end.2 1 c.take-b.result (omega arith) (ap (λ (l
     : List (Slot _ _)). get_elem? l 2) (sym (c.take-a.ensures.others.0 ∙ c.take-log.ensures.others.0)) ∙
     c.take-b.ensures.value)
 
 pub drop_list-requires-3 : goal.drop_list-requires-3
-drop_list-requires-3 g c = list_there g.L.Sectors.seen g.L.Sectors.gives g.D.Sectors.seen g.D.Sectors.gives
-    c.args.board.shared.key c.requires.0 (views_of c.args.actors.now) (slots_items c.close_with-closed.result.words)
-    (slots_items c.close_with-closed.result.slots) (ends_with g.L.Sectors.seen g.L.Sectors.gives g.D.Sectors.seen
-    g.D.Sectors.gives c.args.board.shared.key c.args.board.shared.table_id c.requires.0 (views_of c.args.actors.now)
-    c.args.first c.requires.1 (slots_items c.close_with-closed.result.words) (slots_items
-    c.close_with-closed.result.slots) c.close_with-closed.ensures.values.2) 2 c.take-c.result (omega arith) (ap (λ (l
+drop_list-requires-3 g c = let end = c.requires.ends (slots_items c.close_with-closed.result.words)
+    (slots_items c.close_with-closed.result.slots) c.close_with-closed.ensures.values.2 in list_there g.L.Sectors.seen g.L.Sectors.gives g.D.Sectors.seen g.D.Sectors.gives
+    c.args.board.shared.key end.0 end.1 (slots_items c.close_with-closed.result.words)
+    (slots_items c.close_with-closed.result.slots) end.2 2 c.take-c.result (omega arith) (ap (λ (l
     : List (Slot _ _)). get_elem? l 3) (sym (c.take-b.ensures.others.0 ∙ c.take-a.ensures.others.0 ∙
     c.take-log.ensures.others.0)) ∙ c.take-c.ensures.value)
 
 pub drop_list-requires-4 : goal.drop_list-requires-4
-drop_list-requires-4 g c = list_there g.L.Sectors.seen g.L.Sectors.gives g.D.Sectors.seen g.D.Sectors.gives
-    c.args.board.shared.key c.requires.0 (views_of c.args.actors.now) (slots_items c.close_with-closed.result.words)
-    (slots_items c.close_with-closed.result.slots) (ends_with g.L.Sectors.seen g.L.Sectors.gives g.D.Sectors.seen
-    g.D.Sectors.gives c.args.board.shared.key c.args.board.shared.table_id c.requires.0 (views_of c.args.actors.now)
-    c.args.first c.requires.1 (slots_items c.close_with-closed.result.words) (slots_items
-    c.close_with-closed.result.slots) c.close_with-closed.ensures.values.2) 3 c.take-d.result (omega arith) (ap (λ (l
+drop_list-requires-4 g c = let end = c.requires.ends (slots_items c.close_with-closed.result.words)
+    (slots_items c.close_with-closed.result.slots) c.close_with-closed.ensures.values.2 in list_there g.L.Sectors.seen g.L.Sectors.gives g.D.Sectors.seen g.D.Sectors.gives
+    c.args.board.shared.key end.0 end.1 (slots_items c.close_with-closed.result.words)
+    (slots_items c.close_with-closed.result.slots) end.2 3 c.take-d.result (omega arith) (ap (λ (l
     : List (Slot _ _)). get_elem? l 4) (sym (c.take-c.ensures.others.0 ∙ c.take-b.ensures.others.0 ∙
     c.take-a.ensures.others.0 ∙ c.take-log.ensures.others.0)) ∙ c.take-d.ensures.value)
 
-pub log_in-requires : goal.log_in-requires
-log_in-requires g c = log_there g.L.Sectors.seen g.L.Sectors.gives g.D.Sectors.seen g.D.Sectors.gives
-    c.args.board.shared.key c.requires.0 (views_of c.args.actors.now) (slots_items c.close_with-closed.result.words)
-    (slots_items c.close_with-closed.result.slots) (ends_with g.L.Sectors.seen g.L.Sectors.gives g.D.Sectors.seen
-    g.D.Sectors.gives c.args.board.shared.key c.args.board.shared.table_id c.requires.0 (views_of c.args.actors.now)
-    c.args.first c.requires.1 (slots_items c.close_with-closed.result.words) (slots_items
-    c.close_with-closed.result.slots) c.close_with-closed.ensures.values.2) c.take-log.result c.take-log.ensures.value
+pub desk_in-part-requires : goal.desk_in-part-requires
+desk_in-part-requires g c = let end = c.requires.ends (slots_items c.close_with-closed.result.words)
+    (slots_items c.close_with-closed.result.slots) c.close_with-closed.ensures.values.2 in log_there g.L.Sectors.seen g.L.Sectors.gives g.D.Sectors.seen g.D.Sectors.gives
+    c.args.board.shared.key end.0 end.1 (slots_items c.close_with-closed.result.words)
+    (slots_items c.close_with-closed.result.slots) end.2 c.take-log.result c.take-log.ensures.value
 
 pub data_in-requires : goal.data_in-requires
-data_in-requires g c = data_there g.L.Sectors.seen g.L.Sectors.gives g.D.Sectors.seen g.D.Sectors.gives
-    c.args.board.shared.key c.requires.0 (views_of c.args.actors.now) (slots_items c.close_with-closed.result.words)
-    (slots_items c.close_with-closed.result.slots) (ends_with g.L.Sectors.seen g.L.Sectors.gives g.D.Sectors.seen
-    g.D.Sectors.gives c.args.board.shared.key c.args.board.shared.table_id c.requires.0 (views_of c.args.actors.now)
-    c.args.first c.requires.1 (slots_items c.close_with-closed.result.words) (slots_items
-    c.close_with-closed.result.slots) c.close_with-closed.ensures.values.2) c.take-data.result (ap (λ (l : List (Slot
+data_in-requires g c = let end = c.requires.ends (slots_items c.close_with-closed.result.words)
+    (slots_items c.close_with-closed.result.slots) c.close_with-closed.ensures.values.2 in data_there g.L.Sectors.seen g.L.Sectors.gives g.D.Sectors.seen g.D.Sectors.gives
+    c.args.board.shared.key end.0 end.1 (slots_items c.close_with-closed.result.words)
+    (slots_items c.close_with-closed.result.slots) end.2 c.take-data.result (ap (λ (l : List (Slot
     _ _)). get_elem? l 5) (sym (c.take-d.ensures.others.0 ∙ c.take-c.ensures.others.0 ∙ c.take-b.ensures.others.0 ∙
     c.take-a.ensures.others.0 ∙ c.take-log.ensures.others.0)) ∙ c.take-data.ensures.value)
 
 pub returns : goal.returns
-returns g c = λ heard may. parts_left g.L.Sectors.seen g.L.Sectors.gives g.D.Sectors.seen g.D.Sectors.gives
-    c.args.board.shared.key heard (views_of c.args.actors.now) (slots_items c.close_with-closed.result.words)
-    (slots_items c.close_with-closed.result.slots) (ends_with g.L.Sectors.seen g.L.Sectors.gives g.D.Sectors.seen
-    g.D.Sectors.gives c.args.board.shared.key c.args.board.shared.table_id heard (views_of c.args.actors.now)
-    c.args.first may (slots_items c.close_with-closed.result.words) (slots_items c.close_with-closed.result.slots)
-    c.close_with-closed.ensures.values.2) _ c.take-log.result c.take-data.result c.take-log.ensures.value
-    c.log_in.ensures (ap (λ (l : List (Slot _ _)). get_elem? l 5) (sym (c.take-d.ensures.others.0 ∙
+returns g c = record {
+  words = slots_items c.close_with-closed.result.words;
+  slots = slots_items c.close_with-closed.result.slots;
+  final = c.close_with-closed.ensures.values.2;
+  leaves = λ heard actors E. parts_left g.L.Sectors.seen g.L.Sectors.gives g.D.Sectors.seen g.D.Sectors.gives
+      c.args.board.shared.key heard actors (slots_items c.close_with-closed.result.words)
+      (slots_items c.close_with-closed.result.slots) E _ c.take-log.result c.take-data.result c.desk_in-part.result
+      c.take-log.ensures.value c.desk_in-part.ensures refl
+      (ap (λ (l : List (Slot _ _)). get_elem? l 5) (sym (c.take-d.ensures.others.0 ∙
     c.take-c.ensures.others.0 ∙ c.take-b.ensures.others.0 ∙ c.take-a.ensures.others.0 ∙ c.take-log.ensures.others.0))
     ∙ c.take-data.ensures.value) c.data_in.ensures
-    (c.tail_of.ensures ∙ ap tail_of c.word_in.ensures) c.word_in-2.ensures c.word_in-3.ensures c.word_in-4.ensures c.word_in-code.ensures
+      (c.tail_of.ensures ∙ ap tail_of c.word_in.ensures) c.word_in-2.ensures c.word_in-3.ensures c.word_in-4.ensures c.word_in-code.ensures;
+  work = λ heard actors E. work_left g.L.Sectors.seen g.L.Sectors.gives g.D.Sectors.seen g.D.Sectors.gives
+      c.args.board.shared.key heard actors (slots_items c.close_with-closed.result.words)
+      (slots_items c.close_with-closed.result.slots) E c.take-log.result c.desk_in-part.result c.take-log.ensures.value
+      c.desk_in-part.ensures;
+}

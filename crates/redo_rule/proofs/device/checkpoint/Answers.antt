@@ -31,7 +31,7 @@ load-requires g c = let e = c.checkpoint_slot-ended.ensures in let given = some_
     c.slot_mut.result.now c.slot_mut.ensures.value c.checkpoint_slot-ended.new.slot e.was e.now e.old_is e.new_is
     g.L.Sectors.seen g.L.Sectors.gives g.D.Sectors.seen g.D.Sectors.gives c.args.table.now.key given.0 given.1
     (λ faults start first. e.served faults start first (lent (filled (view_of c.args.actor.now) (block_filling
-    e.now.block)))) e.calls
+    e.now.block)))) e.calls e.work
 
 pub took-requires : goal.took-requires
 took-requires g c =

@@ -45,7 +45,7 @@ load-requires g c =
     (λ faults start first. subst (λ (l : model.Lent).
     LogServed (log_part.log_side g.L.Sectors.seen faults first.marks.number (log_part.HasBegun g.L.Sectors.seen start
     first)) e.was.part l (op.ReadBlock c.args.lsn) (call_code Log e.now.part.failed) e.now.part)
-    (sym put) (e.served faults start first)) e.calls
+    (sym put) (e.served faults start first)) e.calls e.work
 
 pub returns : goal.returns
 returns g c =

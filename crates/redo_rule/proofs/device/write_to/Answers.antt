@@ -35,7 +35,7 @@ load-requires g c = let e = c.write_slot-ended.ensures in called_ok c.args.table
     let same = plain_filled a (block_filling e.now.block) c.requires.mine.may.free (subst IsPlainOp (sym
     c.requires.asks) tt) in
     e.served faults start first (lent (filled a (block_filling e.now.block)))
-    (subst (λ (z : model.Actor). Lends c.lent.result (lent z)) (sym same) c.lent.ensures)) e.calls
+    (subst (λ (z : model.Actor). Lends c.lent.result (lent z)) (sym same) c.lent.ensures)) e.calls e.work
 
 pub took-requires : goal.took-requires
 took-requires g c =

@@ -15,7 +15,7 @@ use Rattle.redo_rule.proofs.listing.take_oldest.Goals as goal
 pub compare_exchange-requires : goal.compare_exchange-requires
 compare_exchange-requires g c = take_oldest_ok c.args.table.now.table_id c.args.token.now (view_of c.args.actor.now)
     c.requires.mine g.L.Sectors.seen g.L.Sectors.gives g.D.Sectors.seen g.D.Sectors.gives c.args.table.now.key
-    c.args.list c.turn_of.result c.requires.asks c.turn_of.ensures
+    c.args.list c.list_turn.result c.requires.asks c.list_turn.ensures
     (oldest_below c.args.table.now.table_id c.args.token.now (view_of c.args.actor.now) c.requires.mine c.args.list
     c.requires.asks)
 
@@ -54,7 +54,7 @@ slot_mut-requires g c =
     (op.TakeOldest c.args.list) c.requires.asks no_filling in
     list_lent c.args.table.now.table_id c.args.token.now c.args.actor.now c.requires.mine g.L.Sectors.seen
     g.D.Sectors.seen
-    (op.TakeOldest c.args.list) c.requires.asks h.0 c.slot_of.result c.slot_of.ensures c.compare_exchange.new.seat
+    (op.TakeOldest c.args.list) c.requires.asks h.0 c.list_slot.result c.list_slot.ensures c.compare_exchange.new.seat
     c.compare_exchange.ensures.0 c.compare_exchange.result c.compare_exchange.ensures.2
     c.if-compare_exchange-ne0.false
 
@@ -63,12 +63,12 @@ oldest_slot-oldest-requires g c =
     let h = goes c.args.table.now.table_id c.args.token.now (view_of c.args.actor.now) c.requires.mine
     (op.TakeOldest c.args.list) c.requires.asks no_filling in (
       its c.args.table.now.table_id c.args.token.now c.args.actor.now c.requires.mine g.L.Sectors.seen g.D.Sectors.seen
-          (op.TakeOldest c.args.list) c.requires.asks h.0 c.slot_of.result c.slot_of.ensures c.compare_exchange.new.seat
+          (op.TakeOldest c.args.list) c.requires.asks h.0 c.list_slot.result c.list_slot.ensures c.compare_exchange.new.seat
           c.compare_exchange.ensures.0 c.compare_exchange.result c.compare_exchange.ensures.2
           c.if-compare_exchange-ne0.false,
       list_is c.args.table.now.table_id c.args.token.now c.args.actor.now c.requires.mine g.L.Sectors.seen
           g.D.Sectors.seen
-          (op.TakeOldest c.args.list) c.requires.asks h.0 c.slot_of.result c.slot_of.ensures c.compare_exchange.new.seat
+          (op.TakeOldest c.args.list) c.requires.asks h.0 c.list_slot.result c.list_slot.ensures c.compare_exchange.new.seat
           c.compare_exchange.ensures.0 c.compare_exchange.result c.compare_exchange.ensures.2
           c.if-compare_exchange-ne0.false
           c.slot_mut.result.now c.slot_mut.ensures.value,
@@ -82,17 +82,17 @@ took-requires-2 g c =
     let e = c.oldest_slot-oldest.ensures in
     let y = list_is c.args.table.now.table_id c.args.token.now c.args.actor.now c.requires.mine g.L.Sectors.seen
     g.D.Sectors.seen
-    (op.TakeOldest c.args.list) c.requires.asks h.0 c.slot_of.result c.slot_of.ensures c.compare_exchange.new.seat
+    (op.TakeOldest c.args.list) c.requires.asks h.0 c.list_slot.result c.list_slot.ensures c.compare_exchange.new.seat
     c.compare_exchange.ensures.0 c.compare_exchange.result c.compare_exchange.ensures.2
     c.if-compare_exchange-ne0.false c.slot_mut.result.now c.slot_mut.ensures.value in
     let said = ap answer.Taken (e.2 ∙ ap (list_said (op.TakeOldest c.args.list)) (same_pages e.0 (its
     c.args.table.now.table_id c.args.token.now c.args.actor.now c.requires.mine g.L.Sectors.seen g.D.Sectors.seen
-    (op.TakeOldest c.args.list) c.requires.asks h.0 c.slot_of.result c.slot_of.ensures c.compare_exchange.new.seat
+    (op.TakeOldest c.args.list) c.requires.asks h.0 c.list_slot.result c.list_slot.ensures c.compare_exchange.new.seat
     c.compare_exchange.ensures.0 c.compare_exchange.result c.compare_exchange.ensures.2
     c.if-compare_exchange-ne0.false) (sym e.1 ∙ y))) in
     let may = list_fits c.args.table.now.table_id c.args.token.now c.args.actor.now c.requires.mine g.L.Sectors.seen
     g.D.Sectors.seen
-    (op.TakeOldest c.args.list) c.requires.asks h.0 c.slot_of.result c.slot_of.ensures c.compare_exchange.new.seat
+    (op.TakeOldest c.args.list) c.requires.asks h.0 c.list_slot.result c.list_slot.ensures c.compare_exchange.new.seat
     c.compare_exchange.ensures.0 c.compare_exchange.result c.compare_exchange.ensures.2
     c.if-compare_exchange-ne0.false in
     record {
@@ -107,20 +107,20 @@ returns g c =
     let e = c.oldest_slot-oldest.ensures in
     let y = list_is c.args.table.now.table_id c.args.token.now c.args.actor.now c.requires.mine g.L.Sectors.seen
     g.D.Sectors.seen
-    (op.TakeOldest c.args.list) c.requires.asks h.0 c.slot_of.result c.slot_of.ensures c.compare_exchange.new.seat
+    (op.TakeOldest c.args.list) c.requires.asks h.0 c.list_slot.result c.list_slot.ensures c.compare_exchange.new.seat
     c.compare_exchange.ensures.0 c.compare_exchange.result c.compare_exchange.ensures.2
     c.if-compare_exchange-ne0.false c.slot_mut.result.now c.slot_mut.ensures.value in
     let said = ap answer.Taken (e.2 ∙ ap (list_said (op.TakeOldest c.args.list)) (same_pages e.0 (its
     c.args.table.now.table_id c.args.token.now c.args.actor.now c.requires.mine g.L.Sectors.seen g.D.Sectors.seen
-    (op.TakeOldest c.args.list) c.requires.asks h.0 c.slot_of.result c.slot_of.ensures c.compare_exchange.new.seat
+    (op.TakeOldest c.args.list) c.requires.asks h.0 c.list_slot.result c.list_slot.ensures c.compare_exchange.new.seat
     c.compare_exchange.ensures.0 c.compare_exchange.result c.compare_exchange.ensures.2
     c.if-compare_exchange-ne0.false) (sym e.1 ∙ y))) in
     let l = list_leaves c.args.table.now.table_id c.args.token.now c.args.actor.now c.requires.mine g.L.Sectors.seen
     g.D.Sectors.seen
-    (op.TakeOldest c.args.list) c.requires.asks h.0 c.slot_of.result c.slot_of.ensures c.compare_exchange.new.seat
+    (op.TakeOldest c.args.list) c.requires.asks h.0 c.list_slot.result c.list_slot.ensures c.compare_exchange.new.seat
     c.compare_exchange.ensures.0 c.compare_exchange.result c.compare_exchange.ensures.2
     c.if-compare_exchange-ne0.false
-    g.R.Receiver.stands_for c.took-2.result c.took-2.new.self c.slot_mut.result.now y c.args.list c.slot_of.ensures
+    g.R.Receiver.stands_for c.took-2.result c.took-2.new.self c.slot_mut.result.now y c.args.list c.list_slot.ensures
     h.1 tt (answer.Taken c.oldest_slot-oldest.result) said
     c.took-2.ensures in
     record { mine = l.mine; played = l.played; seat = c.compare_exchange.ensures.1; stays = l.stays }

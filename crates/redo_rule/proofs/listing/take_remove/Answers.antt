@@ -11,7 +11,7 @@ use Rattle.redo_rule.proofs.listing.take_remove.Goals as goal
 pub compare_exchange-requires : goal.compare_exchange-requires
 compare_exchange-requires g c = take_remove_ok c.args.table.now.table_id c.args.token.now (view_of c.args.actor.now)
     c.requires.mine g.L.Sectors.seen g.L.Sectors.gives g.D.Sectors.seen g.D.Sectors.gives c.args.table.now.key
-    c.args.page c.turn_of.result c.requires.asks c.turn_of.ensures
+    c.args.page c.list_turn.result c.requires.asks c.list_turn.ensures
 
 pub took-requires : goal.took-requires
 took-requires g c =
@@ -48,7 +48,7 @@ slot_mut-requires g c =
     (op.TakeRemove c.args.page) c.requires.asks no_filling in
     list_lent c.args.table.now.table_id c.args.token.now c.args.actor.now c.requires.mine g.L.Sectors.seen
     g.D.Sectors.seen
-    (op.TakeRemove c.args.page) c.requires.asks h.0 c.slot_of.result c.slot_of.ensures c.compare_exchange.new.seat
+    (op.TakeRemove c.args.page) c.requires.asks h.0 c.list_slot.result c.list_slot.ensures c.compare_exchange.new.seat
     c.compare_exchange.ensures.0 c.compare_exchange.result c.compare_exchange.ensures.2
     c.if-compare_exchange-ne0.false
 
@@ -57,18 +57,18 @@ remove_slot-requires g c =
     let h = goes c.args.table.now.table_id c.args.token.now (view_of c.args.actor.now) c.requires.mine
     (op.TakeRemove c.args.page) c.requires.asks no_filling in (
       its c.args.table.now.table_id c.args.token.now c.args.actor.now c.requires.mine g.L.Sectors.seen g.D.Sectors.seen
-          (op.TakeRemove c.args.page) c.requires.asks h.0 c.slot_of.result c.slot_of.ensures c.compare_exchange.new.seat
+          (op.TakeRemove c.args.page) c.requires.asks h.0 c.list_slot.result c.list_slot.ensures c.compare_exchange.new.seat
           c.compare_exchange.ensures.0 c.compare_exchange.result c.compare_exchange.ensures.2
           c.if-compare_exchange-ne0.false,
       list_is c.args.table.now.table_id c.args.token.now c.args.actor.now c.requires.mine g.L.Sectors.seen
           g.D.Sectors.seen
-          (op.TakeRemove c.args.page) c.requires.asks h.0 c.slot_of.result c.slot_of.ensures c.compare_exchange.new.seat
+          (op.TakeRemove c.args.page) c.requires.asks h.0 c.list_slot.result c.list_slot.ensures c.compare_exchange.new.seat
           c.compare_exchange.ensures.0 c.compare_exchange.result c.compare_exchange.ensures.2
           c.if-compare_exchange-ne0.false
           c.slot_mut.result.now c.slot_mut.ensures.value,
       its_fits c.args.table.now.table_id c.args.token.now c.args.actor.now c.requires.mine g.L.Sectors.seen
           g.D.Sectors.seen
-          (op.TakeRemove c.args.page) c.requires.asks h.0 c.slot_of.result c.slot_of.ensures c.compare_exchange.new.seat
+          (op.TakeRemove c.args.page) c.requires.asks h.0 c.list_slot.result c.list_slot.ensures c.compare_exchange.new.seat
           c.compare_exchange.ensures.0 c.compare_exchange.result c.compare_exchange.ensures.2
           c.if-compare_exchange-ne0.false,
     )
@@ -79,7 +79,7 @@ took-requires-2 g c =
     (op.TakeRemove c.args.page) c.requires.asks no_filling in
     let may = list_fits c.args.table.now.table_id c.args.token.now c.args.actor.now c.requires.mine g.L.Sectors.seen
     g.D.Sectors.seen
-    (op.TakeRemove c.args.page) c.requires.asks h.0 c.slot_of.result c.slot_of.ensures c.compare_exchange.new.seat
+    (op.TakeRemove c.args.page) c.requires.asks h.0 c.list_slot.result c.list_slot.ensures c.compare_exchange.new.seat
     c.compare_exchange.ensures.0 c.compare_exchange.result c.compare_exchange.ensures.2
     c.if-compare_exchange-ne0.false in
     record { fits = may.0; mark = may.1 }
@@ -91,15 +91,15 @@ returns g c =
     let e = c.remove_slot.ensures in
     let left = list_left c.args.table.now.table_id c.args.token.now c.args.actor.now c.requires.mine g.L.Sectors.seen
     g.D.Sectors.seen
-    (op.TakeRemove c.args.page) c.requires.asks h.0 c.slot_of.result c.slot_of.ensures c.compare_exchange.new.seat
+    (op.TakeRemove c.args.page) c.requires.asks h.0 c.list_slot.result c.list_slot.ensures c.compare_exchange.new.seat
     c.compare_exchange.ensures.0 c.compare_exchange.result c.compare_exchange.ensures.2
     c.if-compare_exchange-ne0.false c.slot_mut.result.now c.remove_slot.new.slot e.0 c.slot_mut.ensures.value e.1 e.2 in
     let l = list_leaves c.args.table.now.table_id c.args.token.now c.args.actor.now c.requires.mine g.L.Sectors.seen
     g.D.Sectors.seen
-    (op.TakeRemove c.args.page) c.requires.asks h.0 c.slot_of.result c.slot_of.ensures c.compare_exchange.new.seat
+    (op.TakeRemove c.args.page) c.requires.asks h.0 c.list_slot.result c.list_slot.ensures c.compare_exchange.new.seat
     c.compare_exchange.ensures.0 c.compare_exchange.result c.compare_exchange.ensures.2
     c.if-compare_exchange-ne0.false
     g.R.Receiver.stands_for c.took-2.result c.took-2.new.self c.remove_slot.new.slot left (c.args.page % 4)
-    c.slot_of.ensures h.1 tt (answer.Taken None) refl
+    c.list_slot.ensures h.1 tt (answer.Taken None) refl
     c.took-2.ensures in
     record { mine = l.mine; played = l.played; seat = c.compare_exchange.ensures.1; stays = l.stays }

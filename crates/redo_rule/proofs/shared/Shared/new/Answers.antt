@@ -1,6 +1,8 @@
-use Rattle.std.proofs.Common.{Some, ap, arith, length, refl, ◌∙◌}
+use Rattle.std.proofs.Common.{None, Some, ap, arith, false, length, refl, ◌∙◌}
+use Rattle.std.specs.Prelude.{replicate}
+use Rattle.model_base.specs.declared.limits.TheConstants.{BLOCK_SIZE}
 use Rattle.redo_drive.proofs.Viewed.{length_views}
-use Rattle.redo_rule.proofs.Opens.{opens_ok}
+use Rattle.redo_rule.proofs.Opens.{opens_ok, there}
 use Rattle.redo_rule.proofs.Unseated.{about_begins, about_may, unseated}
 use Rattle.redo_rule.specs.declared.law.About.{About}
 use Rattle.redo_rule.proofs.shared.Shared.new.Goals as goal
@@ -13,6 +15,7 @@ make_board-requires g c = opens_ok g.L.Sectors.seen g.L.Sectors.gives g.D.Sector
       log_only =
           c.args.log_only;
       followers = c.len-count.result;
+      own_writes = false;
     })
     c.args.followers.items (let n = c.len-count.ensures in omega arith) _ (about_begins g.L.Sectors.seen
     g.D.Sectors.seen g.R.Receiver.stands_for (record {
@@ -20,10 +23,27 @@ make_board-requires g c = opens_ok g.L.Sectors.seen g.L.Sectors.gives g.D.Sector
       script = c.of.result;
       log_only = c.args.log_only;
       followers = c.len-count.result;
+      own_writes = false;
     })
     c.args.followers.items c.args.opened c.args.script.now c.args.log_only c.of-opened_is.ensures c.of.ensures refl
     c.in_ok-parts.field-0 c.in_ok-parts.ensures.begins)
-    c.in-Ok.ensures.slots.1 _ _ _ c.as_slice.ensures.words c.in-Ok.ensures.slots.0
+    c.in-Ok.ensures.slots.1 (record { block = replicate BLOCK_SIZE 0; own = None }) refl tt
+    (there g.L.Sectors.seen g.D.Sectors.seen g.R.Receiver.stands_for (record {
+      opened = c.of-opened_is.result;
+      script = c.of.result;
+      log_only = c.args.log_only;
+      followers = c.len-count.result;
+      own_writes = false;
+    }) c.args.followers.items (let n = c.len-count.ensures in omega arith) _ (about_begins g.L.Sectors.seen
+    g.D.Sectors.seen g.R.Receiver.stands_for (record {
+      opened = c.of-opened_is.result;
+      script = c.of.result;
+      log_only = c.args.log_only;
+      followers = c.len-count.result;
+      own_writes = false;
+    })
+    c.args.followers.items c.args.opened c.args.script.now c.args.log_only c.of-opened_is.ensures c.of.ensures refl
+    c.in_ok-parts.field-0 c.in_ok-parts.ensures.begins) refl) _ _ c.as_slice.ensures.words c.in-Ok.ensures.slots.0
 
 pub parts_in-log-requires : goal.parts_in-log-requires
 parts_in-log-requires g c = (
@@ -46,6 +66,7 @@ returns-in-Ok-make_board-clause-new g c = record {
     script = c.of.result;
     log_only = c.args.log_only;
     followers = c.len-count.result;
+      own_writes = false;
   })
       c.args.followers.items (let n = c.len-count.ensures in omega arith) c.in_ok-parts.field-0
       (about_begins g.L.Sectors.seen g.D.Sectors.seen g.R.Receiver.stands_for (record {
@@ -54,6 +75,7 @@ returns-in-Ok-make_board-clause-new g c = record {
         script = c.of.result;
         log_only = c.args.log_only;
         followers = c.len-count.result;
+      own_writes = false;
       })
       c.args.followers.items c.args.opened c.args.script.now c.args.log_only c.of-opened_is.ensures c.of.ensures refl
       c.in_ok-parts.field-0 c.in_ok-parts.ensures.begins)
@@ -62,9 +84,10 @@ returns-in-Ok-make_board-clause-new g c = record {
         script = c.of.result;
         log_only = c.args.log_only;
         followers = c.len-count.result;
+      own_writes = false;
       })
       c.args.followers.items c.args.opened c.args.script.now c.args.log_only c.of-opened_is.ensures c.of.ensures refl
-      c.requires.may)
+      c.requires.may) refl
       (record { board = c.in-Ok-make_board.board; first = c.in-Ok-make_board.first; room = Some c.in-Ok.room; entries = c.in_ok-parts.field-0.entries })
       c.in-Ok-make_board.ensures.key
       c.in-Ok-make_board.ensures.ids

@@ -1,0 +1,10 @@
+pub mod OwnAllowed
+pub mod OwnDesk
+pub mod OwnFree
+pub mod OwnHands
+pub mod OwnKept
+pub mod OwnMay
+pub mod OwnOps
+pub mod OwnTurns
+pub mod OwnUserHands
+pub mod OwnWords

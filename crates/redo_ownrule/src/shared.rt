@@ -1,0 +1,105 @@
+// A store that its players share, each in a thread of its own.
+ghost use Rattle.std.specs.Prelude.{◌≡◌, IfErr, IfOk};
+ghost use Rattle.redo_drive.specs.Startable.{AreNewFollowers, MayBegin};
+ghost use Rattle.redo_ownrule.specs.Sharing.{IsNewlyShared};
+
+use crate::player::Player;
+use crate::staffing::{Staff, take_staff};
+use model_report::Entry;
+use model_script::Script;
+use redo_disk::Sectors;
+use redo_drive::{Actor, Beginning, Parts, begin_run};
+use redo_follow::{Follower, Receiver};
+use redo_lsn::NoMemory;
+use redo_rule::{About, Board, Ring, Seat, lay_out, make_board, parts_in};
+use redo_store::Opened;
+use std::alloc::Global;
+use std::snapshot::Snapshot;
+
+/// A store that its players share.
+pub struct Shared<L: Sectors, D: Sectors, R: Receiver> {
+    pub(crate) board: Board<L, D>,
+    // the seat of all players that have none of their own
+    pub(crate) first: Seat<L, D>,
+    // room for a seat of each player, until they have theirs
+    pub(crate) seats: Option<Vec<Seat<L, D>>>,
+    // room for the actors that the run leaves
+    pub(crate) actors: Vec<Actor<R>>,
+    // room for an entry of each line
+    pub(crate) entries: Vec<Entry>,
+}
+
+impl<L: Sectors, D: Sectors, R: Receiver + Drop> Shared<L, D, R> {
+    /// The store as the run of a script begins, with the log alone or with the pages, and its players, these followers among
+    /// them, none of which has a seat yet. Where `own_writes` is set its users write for themselves. It takes all memory; where
+    /// there is none it gives both devices back as they were.
+    pub fn new(
+        alloc: Global,
+        opened: Opened<L, D>,
+        script: &Script,
+        log_only: bool,
+        own_writes: bool,
+        followers: Vec<Follower<R>>,
+    ) -> Result<(Shared<L, D, R>, Vec<Player<R>>), (NoMemory, L, D)>
+        requires may { MayBegin opened script.now log_only }
+        requires new { AreNewFollowers opened.start followers.items }
+        ensures err { IfErr result (λ error. (error.1 ≡ opened.log.dev) × (error.2 ≡ opened.store.dev)) }
+        ensures new { IfOk result (λ made. IsNewlyShared opened script.now log_only own_writes followers.items made.0 made.1.items) }
+    {
+        let opened_is = Snapshot::of(&opened);
+        let count = followers.len() as u64;
+        let Beginning {
+            parts,
+            actors,
+            entries,
+        } = begin_run(alloc, opened, script, log_only, followers)?;
+        let about = About {
+            opened: opened_is,
+            script: Snapshot::of(script),
+            log_only,
+            followers: count,
+            own_writes,
+        };
+        let Parts {
+            words,
+            log,
+            store,
+            lists,
+        } = parts;
+        let Ok(
+            Staff {
+                players,
+                work,
+                room,
+            },
+        ) = take_staff(alloc, actors, own_writes) else {
+            return Err((NoMemory, log.into_dev(), store.into_dev()));
+        };
+        match lay_out(alloc, players.len(), log, store, lists, work) {
+            Err((log, store)) => Err((NoMemory, log.into_dev(), store.into_dev())),
+            Ok((seats, slots)) => match make_board(alloc, words.as_slice(), slots, &about) {
+                Ok((board, first)) => {
+                    let shared = Shared {
+                        board,
+                        first,
+                        seats: Some(seats),
+                        actors: room,
+                        entries,
+                    };
+                    Ok((shared, players))
+                }
+                Err(slots) => {
+                    let (log, store) = parts_in(slots);
+                    Err((NoMemory, log.into_dev(), store.into_dev()))
+                }
+            },
+        }
+    }
+
+    /// The words and slots, which threads may be lent.
+    pub fn ring(&self) -> &Ring<L, D>
+        ensures { result.now ≡ self.now.board.shared }
+    {
+        &self.board.shared
+    }
+}
