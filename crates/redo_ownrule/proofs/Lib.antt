@@ -5,6 +5,7 @@ pub mod OwnHands
 pub mod OwnKept
 pub mod OwnMay
 pub mod OwnOps
+pub mod OwnTakes
 pub mod OwnTurns
 pub mod OwnUserHands
 pub mod OwnWords
