@@ -1,6 +1,7 @@
 pub mod OwnAllowed
 pub mod OwnDesk
 pub mod OwnFree
+pub mod OwnGives
 pub mod OwnHands
 pub mod OwnKept
 pub mod OwnMay
