@@ -1,9 +1,11 @@
 pub mod OwnAllowed
+pub mod OwnCalls
 pub mod OwnDesk
 pub mod OwnFree
 pub mod OwnGives
 pub mod OwnHands
 pub mod OwnKept
+pub mod OwnListed
 pub mod OwnMay
 pub mod OwnOps
 pub mod OwnTakes
