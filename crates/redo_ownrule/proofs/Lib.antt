@@ -1,4 +1,5 @@
 pub mod OwnAllowed
+pub mod OwnAnswers
 pub mod OwnCalls
 pub mod OwnDesk
 pub mod OwnFree
