@@ -1,10 +1,15 @@
 pub mod OwnAllowed
+pub mod OwnAnswers
+pub mod OwnCalls
 pub mod OwnDesk
 pub mod OwnFree
+pub mod OwnGives
 pub mod OwnHands
 pub mod OwnKept
+pub mod OwnListed
 pub mod OwnMay
 pub mod OwnOps
+pub mod OwnTakes
 pub mod OwnTurns
 pub mod OwnUserHands
 pub mod OwnWords

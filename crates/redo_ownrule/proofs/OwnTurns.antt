@@ -1,14 +1,15 @@
 -- A turn of a user that writes for itself, on the shared table: what it knows, what keeps the rule, and what the turn tells
 -- its seat.
-use Rattle.std.proofs.Common.{Bool, List, None, Option, Some, ap, arith, false, inl, inr, length, refl, set, subst, suc, sym, true, zero, ℕ}
-use Rattle.std.proofs.Common.{⊎_elim, ◌+◌, ◌<◌, ◌∙◌, ◌∷◌, ◌≡◌, ◌≢◌, ◌≤◌, ◌⊎◌}
-use Rattle.std.specs.Prelude.{slice_index, slice_set, [], length}
+use Rattle.std.proofs.Common.{Bool, List, None, Option, Some, ap, arith, false, inl, inr, length, length-append, refl, set, subst, suc, sym, true, zero, ℕ}
+use Rattle.std.proofs.Common.{⊎_elim, ◌++◌, ◌+◌, ◌<◌, ◌∙◌, ◌∷◌, ◌≡◌, ◌≢◌, ◌≤◌, ◌⊎◌}
+use Rattle.std.specs.Prelude.{slice_index, slice_set, []}
 use lib.ListN.{get_elem?}
 use mathlib.Core.Option as maybe
 use native.Mathlib.Decide.{ℕ_discrete}
 use Rattle.atomic_table.specs.Table.{State}
 use Rattle.model_core.proofs.FailedCalls.{gives_hand}
 use Rattle.model_core.proofs.Lists.{set_at}
+use Rattle.model_core.specs.{flat, flat_page_words}
 use Rattle.model_core.specs.Actors as model
 use Rattle.model_core.specs.DataSide.{DataSide}
 use Rattle.model_core.specs.Hands.{GivesFailed, hand}
@@ -52,6 +53,18 @@ use Rattle.redo_store.specs.Part as store
 abbrev pub errand_or : Errand → Option Errand → Errand
 errand_or d None = d
 errand_or d (Some e) = e
+
+-- there are words enough
+pub many : {L D : Type 0} (log_seen : L → Seen) (log_gives : L → Call → L → Type 0) (data_seen : D → Seen)
+    (data_gives : D → Call → D → Type 0) (about : About L D) (s : State (Slot L D) (View L D))
+    (R : Ruled log_seen log_gives data_seen data_gives about s) (k : ℕ) → k < 5 → 7 + k < length s.words
+many log_seen log_gives data_seen data_gives about s R k below =
+    let m = R.runs.running.shared in
+    let n : length s.words ≡ length (flat m) = ap length (sym R.words_are ∙ R.runs.running.flat_is) in
+    let after_cells : List ℕ = m.firsts ++ (m.places ++ flat_page_words m.page_words) in
+    let rows = length-append m.lists (m.wlinks ++ (m.clinks ++ (m.cells ++ after_cells))) in
+    let lists = R.runs.running.both.logged.sized.lists in
+    omega arith
 
 module _ {L D : Type 0} (log_seen : L → Seen) (log_gives : L → Call → L → Type 0) (data_seen : D → Seen)
     (data_gives : D → Call → D → Type 0) (about : About L D) (s : State (Slot L D) (View L D))

@@ -62,7 +62,7 @@ loads_there user_step.AwaitMark may = tt
 loads_there _ may = absurd may
 
 -- only its own step takes or gives a list, and there it doesn't set out
-add_helps : (u : UserState) (s : UserStep) (p x : ℕ) → user_op u s ≡ op.TakeAdd p x → helps_at s ≡ false
+pub add_helps : (u : UserState) (s : UserStep) (p x : ℕ) → user_op u s ≡ op.TakeAdd p x → helps_at s ≡ false
 add_helps u (user_step.AdvanceWritten v) p x e =
     absurd (advance_asks link_buffer.Written u.advance v (op.TakeAdd p x) e)
 add_helps u user_step.LoadSn p x e = absurd (cc)
@@ -71,7 +71,7 @@ add_helps u user_step.ReloadWtail p x e = absurd (cc)
 add_helps u user_step.AwaitMark p x e = absurd (cc)
 add_helps u _ p x e = refl
 
-give_helps : (u : UserState) (s : UserStep) (i : ℕ) → user_op u s ≡ op.GiveList i → helps_at s ≡ false
+pub give_helps : (u : UserState) (s : UserStep) (i : ℕ) → user_op u s ≡ op.GiveList i → helps_at s ≡ false
 give_helps u (user_step.AdvanceWritten v) i e =
     absurd (advance_asks link_buffer.Written u.advance v (op.GiveList i) e)
 give_helps u user_step.LoadSn i e = absurd (cc)
