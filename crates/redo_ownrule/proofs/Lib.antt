@@ -1,3 +1,4 @@
+pub mod Crews
 pub mod OwnFree
 pub mod OwnKept
 pub mod OwnWords
