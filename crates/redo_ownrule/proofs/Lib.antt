@@ -2,3 +2,4 @@ pub mod Crews
 pub mod OwnFree
 pub mod OwnKept
 pub mod OwnWords
+pub mod Players
