@@ -2,4 +2,5 @@ pub mod Crews
 pub mod OwnFree
 pub mod OwnKept
 pub mod OwnWords
+pub mod Placed
 pub mod Players
