@@ -1,4 +1,6 @@
 pub mod Crews
+pub mod Ended
+pub mod Matched
 pub mod OwnFree
 pub mod OwnKept
 pub mod OwnWords

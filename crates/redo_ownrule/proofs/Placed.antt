@@ -35,7 +35,7 @@ place_more {R} s first ps p q so is = ap (λ (z : Player R). place_one s z) (sym
 
 module _ {R : Type 0} where
   -- with no work left to place there are only their own actors
-  alone : (ps : List (Player R)) → ◌≡◌ {A = List (Actor R)} (map actor_of ps) (crew None ps)
+  pub alone : (ps : List (Player R)) → ◌≡◌ {A = List (Actor R)} (map actor_of ps) (crew None ps)
   alone [] = refl
   alone (player.Own o ∷ ps) = ap (λ (l : List (Actor R)). actor.User o.user ∷ l) (alone ps)
   alone (player.Plain a ∷ ps) = refl
@@ -50,7 +50,7 @@ module _ {R : Type 0} where
       ∙ append_assoc s.actors (workers_of s.work) (a ∷ crew None ps)
       ∙ ap (λ (l : List (Actor R)). s.actors ++ (workers_of s.work ++ a ∷ l)) (sym (alone ps))
 
-  length_crew : (work : Option LogWork) (ps : List (Player R))
+  pub length_crew : (work : Option LogWork) (ps : List (Player R))
       → length (crew work ps) ≡ length (workers_of {R = R} work) + length ps
   length_crew work [] = omega arith
   length_crew work (player.Own o ∷ ps) = let n = length_crew work ps in omega arith
