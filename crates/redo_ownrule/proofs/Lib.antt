@@ -1,5 +1,6 @@
 pub mod Crews
 pub mod Ended
+pub mod Left
 pub mod Matched
 pub mod OwnFree
 pub mod OwnKept
