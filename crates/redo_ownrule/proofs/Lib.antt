@@ -2,6 +2,10 @@ pub mod OwnAllowed
 pub mod OwnAnswers
 pub mod OwnCalls
 pub mod OwnDesk
+pub mod Crews
+pub mod Ended
+pub mod Left
+pub mod Matched
 pub mod OwnFree
 pub mod OwnGives
 pub mod OwnHands
@@ -13,3 +17,5 @@ pub mod OwnTakes
 pub mod OwnTurns
 pub mod OwnUserHands
 pub mod OwnWords
+pub mod Placed
+pub mod Players
