@@ -1,2 +1,5 @@
+pub mod OwnDesk
 pub mod OwnFree
+pub mod OwnKept
+pub mod OwnMay
 pub mod OwnWords

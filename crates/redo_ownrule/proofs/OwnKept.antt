@@ -1,5 +1,5 @@
 -- A turn of a user that writes for itself keeps the rule, whatever it does to the slots.
-use Rattle.std.proofs.Common.{List, None, Option, Some, [], ap, arith, inl, inr, length, length-set, refl, set, subst, suc, sym, zero, ℕ}
+use Rattle.std.proofs.Common.{List, None, Option, Some, [], ap, arith, inl, inr, is_some, length, length-set, refl, set, subst, suc, sym, zero, ℕ}
 use Rattle.std.proofs.Common.{⊎_elim, ◌+◌, ◌∙◌, ◌∷◌, ◌≡◌, ◌≢◌, ◌≤◌, ◌⊎◌}
 use lib.ListN.{get_elem?}
 use mathlib.Core.Option as maybe
@@ -22,7 +22,8 @@ use Rattle.redo_drive.specs.declared.parts.Parts.{Parts}
 use Rattle.redo_ownmachine.proofs.From as from
 use Rattle.redo_ownmachine.proofs.Turned as turned
 use Rattle.redo_ownmachine.specs.OwnSeats.{actors_of, OwnSeats}
-use Rattle.redo_ownmachine.specs.OwnStore.{own_core_of, OwnRunsOn}
+use Rattle.redo_ownmachine.specs.OwnAsking.{own_core_of}
+use Rattle.redo_ownmachine.specs.OwnStore.{OwnRunsOn}
 use Rattle.redo_ownmachine.specs.Serving.{IsUserServed}
 use Rattle.redo_ownrule.specs.OwnPlays.{errand_of, own_behind}
 use Rattle.redo_rule.proofs.Kept as kept
@@ -84,7 +85,7 @@ behind_same (x ∷ xs) [] k k' others same n far = absurd (omega arith)
 behind_same (x ∷ xs) (y ∷ ys) k k' others same zero far = absurd (omega arith)
 behind_same (x ∷ xs) (y ∷ ys) k k' others same (suc n) far = behind_same xs ys k k' others (omega arith) n (omega arith)
 
-user_or : UserState → model.Actor → UserState
+abbrev user_or : UserState → model.Actor → UserState
 user_or d (model.User u) = u
 user_or d _ = d
 
@@ -118,10 +119,10 @@ all_length [] k others = omega arith
 all_length (x ∷ xs) k others = let e = all_length xs k others in omega arith
 
 -- the run goes on, and each has handed on its groups
-record RunsSo {L D : Type 0} (log_seen : L → Seen) (data_seen : D → Seen) (run : RunOf L D) (parts : Parts L D)
+pub record RunsSo {L D : Type 0} (log_seen : L → Seen) (data_seen : D → Seen) (run : RunOf L D) (parts : Parts L D)
     (heard : ℕ → List Given) (actors : List model.Actor) : Type 0 where
-  runs : RunsOn log_seen data_seen run parts actors
-  hears : HaveGroups (run_log_side log_seen data_seen run) parts.log heard actors runs.running.log_ghost.log
+  pub runs : RunsOn log_seen data_seen run parts actors
+  pub hears : HaveGroups (run_log_side log_seen data_seen run) parts.log heard actors runs.running.log_ghost.log
 
 module _ {L D : Type 0} (log_seen : L → Seen) (log_gives : L → Call → L → Type 0) (data_seen : D → Seen)
     (data_gives : D → Call → D → Type 0) (about : About L D) (s : State (Slot L D) (View L D))
@@ -148,11 +149,11 @@ module _ {L D : Type 0} (log_seen : L → Seen) (log_gives : L → Call → L �
   seats = record { users = side.users; work = side.work; others = worked.others }
 
   -- the same run, by the list of its users, of the log's work and of the others
-  by_seats : RunsSo log_seen data_seen R.run R.parts R.heard (actors_of seats)
+  abbrev by_seats : RunsSo log_seen data_seen R.run R.parts R.heard (actors_of seats)
   by_seats = subst (RunsSo log_seen data_seen R.run R.parts R.heard) worked.are
       (record { runs = R.runs; hears = R.hears })
 
-  pub before : OwnRunsOn log_seen data_seen R.run R.parts seats
+  abbrev pub before : OwnRunsOn log_seen data_seen R.run R.parts seats
   before = record { runs = by_seats.runs; errands = worked.errands }
 
   module _ (r : Answer) (new : Parts L D) (same : HasSamePages R.parts new)
@@ -193,7 +194,7 @@ module _ {L D : Type 0} (log_seen : L → Seen) (log_gives : L → Call → L �
       ends = refl;
     }
 
-    pub runs_behind : OwnRunsOn log_seen data_seen R.run new after
+    abbrev pub runs_behind : OwnRunsOn log_seen data_seen R.run new after
     runs_behind = turned.runs_then log_seen data_seen R.run R.parts new seats after x.number r
         (own_step_of o side.work r) same (inl turn) before
 
@@ -261,6 +262,7 @@ module _ {L D : Type 0} (log_seen : L → Seen) (log_gives : L → Call → L �
         leaves = record {
           same = same;
           runs = runs_behind.runs;
+          own_is = ap (λ (z : Option OwnSide). is_some z) (sym own_is);
           own = record { others = worked.others; are = refl; errands = runs_behind.errands };
           hears = hears_behind;
           count = all_length now.users left worked.others

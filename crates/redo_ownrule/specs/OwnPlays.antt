@@ -25,7 +25,8 @@ use Rattle.redo_drive.specs.Playing.{LogReady, run_data_side, run_log_side, RunO
 use Rattle.redo_drive.specs.declared.device.Device.TheVariants.{Log}
 use Rattle.redo_drive.specs.declared.parts.Parts.{Parts}
 use Rattle.redo_ownmachine.specs.OwnSeats.{OwnSeats}
-use Rattle.redo_ownmachine.specs.OwnStore.{own_core_of, OwnRunsOn}
+use Rattle.redo_ownmachine.specs.OwnAsking.{own_core_of}
+use Rattle.redo_ownmachine.specs.OwnStore.{OwnRunsOn}
 use Rattle.redo_ownuser.specs.OwnFits.{OwnAnswerFits, WorkGoesOn}
 use Rattle.redo_flushlist.specs.{Listing}
 use Rattle.redo_rule.specs.Plays.{list_behind, ListFits, TakesList, taking}
@@ -78,11 +79,11 @@ WorkInHand errand_step.Write k = WriterInHand k.writer.step
 WorkInHand errand_step.Flush k = FlusherInHand k.flusher.step
 WorkInHand _ k = Unit {0}
 
-module _ {L D : Type 0} where
-  -- what lies in the log part's slot, with the log's work so far
-  abbrev pub with_work : Desk L → LogWork → Desk L
-  with_work desk k = record { part = desk.part; block = desk.block; work = Some k }
+-- what lies in the log part's slot, with the log's work so far
+abbrev pub with_work : {L : Type 0} → Desk L → LogWork → Desk L
+with_work desk k = record { part = desk.part; block = desk.block; work = Some k }
 
+module _ {L D : Type 0} where
   -- what a seat knows once its user took an answer
   abbrev pub own_view : View L D → Numbered → OwnUser → Option (Slot L D) → View L D
   own_view v x o held = record {

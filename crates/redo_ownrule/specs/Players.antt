@@ -14,6 +14,11 @@ use Rattle.redo_ownrule.specs.declared.player.Player.{Player}
 use Rattle.redo_ownrule.specs.declared.player.Player.TheVariants as player
 use Rattle.redo_rule.specs.declared.law.Numbered.{Numbered}
 
+-- how many actors have no seat
+abbrev pub workers : Bool → ℕ
+workers true = 2
+workers false = 0
+
 module _ {R : Type 0} where
   -- the actor that it is, without its errand
   abbrev pub actor_of : Player R → Actor R
@@ -70,11 +75,6 @@ module _ {R : Type 0} where
   abbrev pub place : Bool → List (Player R) → ℕ → ℕ
   place true ps i = place_behind ps i
   place false ps i = i
-
-  -- how many have no seat
-  abbrev pub workers : Bool → ℕ
-  workers true = 2
-  workers false = 0
 
   -- the players as a seat knows them, each with its number and with what it has handed on
   abbrev pub numbered_as : ℕ → List Given → Player R → Numbered

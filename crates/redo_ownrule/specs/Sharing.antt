@@ -26,6 +26,16 @@ use Rattle.redo_rule.specs.declared.law.Slot.{Slot}
 use Rattle.redo_rule.specs.declared.law.View.{View}
 use Rattle.redo_store.specs.declared.opened.Opened.{Opened}
 
+-- each of them is at rest
+abbrev pub AllAtRest : {R : Type 0} → List (Player R) → Type 0
+AllAtRest {R} players = (i : ℕ) (p : Player R) → get_elem? players i ≡ some p → IsAtRest p
+
+-- The actors that the run leaves are those of the players, with the log's work, wherever that came to.
+pub record AreActorsOf {R : Type 0} (own : Bool) (players : List (Player R)) (actors : List (Actor R)) : Type 0 where
+  pub work : Option LogWork
+  pub works : is_some work ≡ own
+  pub are : ◌≡◌ {A = List (Actor R)} actors (crew work players)
+
 module _ {L D R : Type 0} where
   -- what a store that is shared was told
   abbrev pub key_of : Shared L D R → About L D
@@ -52,9 +62,6 @@ module _ {L D R : Type 0} where
     pub each : (i : ℕ) (seat : Seat (Slot L D) (View L D)) (p : Player R) → get_elem? seats i ≡ some seat
         → get_elem? players i ≡ some p → IsPlayerSeat table seat p × (number_of seat.me.0 ≡ place own players i)
 
-  abbrev pub AllAtRest : List (Player R) → Type 0
-  AllAtRest players = (i : ℕ) (p : Player R) → get_elem? players i ≡ some p → IsAtRest p
-
   -- the run may begin, and there is room for its history and for the actors that it leaves
   pub record HasRoomToBegin (shared : Shared L D R) : Type 0 where
     pub may : MayBegin (opened_of shared) (shared_script shared) shared.board.shared.key.log_only
@@ -67,7 +74,7 @@ module _ {L D R : Type 0} where
   pub record IsUnseated (shared : Shared L D R) (players : List (Player R)) : Type 0 where
     pub ready : HasRoomToBegin shared
     pub order : AreInOrder (own_of shared) players
-    pub count : length players + workers {R} (own_of shared) ≡ length (starts_of shared)
+    pub count : length players + workers (own_of shared) ≡ length (starts_of shared)
     pub one_cleaner : HasOneCleaner (views_of (map actor_of players))
     pub no_cleaner : shared.board.shared.key.log_only ≡ true → (i : ℕ) (a : model.Actor)
         → get_elem? (views_of (map actor_of players)) i ≡ some a → IsCleaner a → ⊥
@@ -99,9 +106,3 @@ module _ {L D R : Type 0} where
     pub first : IsFirst (table_of shared) shared.first
     pub none : shared.first.me.0.seats ≡ []
     pub alone : shared.board.shared.key.log_only ≡ true → HasPart shared.first.me.0
-
-  -- The actors that the run leaves are those of the players, with the log's work, wherever that came to.
-  pub record AreActorsOf (own : Bool) (players : List (Player R)) (actors : List (Actor R)) : Type 0 where
-    pub work : Option LogWork
-    pub works : is_some work ≡ own
-    pub are : ◌≡◌ {A = List (Actor R)} actors (crew work players)

@@ -1,5 +1,5 @@
 -- The players of a run, made of its actors.
-use Rattle.std.specs.Prelude.{Bool, List, Some, [], false, is_some, length, vec_capacity, ◌≡◌, ◌≤◌}
+use Rattle.std.specs.Prelude.{Bool, List, [], false, is_some, length, vec_capacity, ◌∷◌, ◌≡◌, ◌≤◌}
 use lib.ListN.{get_elem?}
 use mathlib.Core.Option.{some}
 use Rattle.model_own.specs.OwnWrites.{OwnUser}

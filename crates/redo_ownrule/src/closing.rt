@@ -33,7 +33,7 @@ impl<L: Sectors, D: Sectors, R: Receiver + Drop> Shared<L, D, R> {
         requires seated { IsSeated self }
         requires seats { AreSeatsOf (table_of self) (own_of self) seats.items players.items }
         requires order { AreInOrder (own_of self) players.items }
-        requires all { length players.items + workers {R} (own_of self) ≡ length (starts_of self) }
+        requires all { length players.items + workers (own_of self) ≡ length (starts_of self) }
         requires rest { AllAtRest players.items }
         ensures actors { AreActorsOf (own_of self) players.items result.1.items }
         ensures leaves { (work : Option LogWork) (starts : List (ThePlayer R)) → is_some work ≡ own_of self

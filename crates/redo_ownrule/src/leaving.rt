@@ -1,5 +1,5 @@
 // The actors that a run leaves, made of its players.
-ghost use Rattle.std.specs.Prelude.{◌≡◌, ◌≤◌, ◌+◌, ◌++◌, [], length, vec_capacity};
+ghost use Rattle.std.specs.Prelude.{◌≡◌, ◌≤◌, ◌++◌, [], length, vec_capacity};
 ghost use Rattle.redo_ownrule.specs.Players.{crew, workers_of};
 
 use crate::player::Player;
@@ -9,7 +9,7 @@ use redo_ownuser::LogWork;
 
 /// Puts the writer and the flusher behind the users, as far as the log's work has come, if they are to stand there still.
 fn put_workers<R: Receiver + Drop>(room: &mut Vec<Actor<R>>, work: Option<LogWork>)
-    requires { length room.old.items + length (workers_of work) ≤ vec_capacity room.old }
+    requires { length (room.old.items ++ workers_of work) ≤ vec_capacity room.old }
     ensures items { room.new.items ≡ room.old.items ++ workers_of work }
     ensures capacity { vec_capacity room.new ≡ vec_capacity room.old }
 {

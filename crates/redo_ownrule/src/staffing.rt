@@ -1,5 +1,5 @@
 // The players of a run, made of its actors.
-ghost use Rattle.std.specs.Prelude.{◌≡◌, ◌≤◌, IfOk, [], is_some, length, vec_capacity};
+ghost use Rattle.std.specs.Prelude.{◌≡◌, ◌≤◌, IfOk, [], false, true, is_some, length, vec_capacity};
 ghost use Rattle.redo_ownrule.specs.Staffing.{AreStaffOf, HaveKinds};
 
 use crate::player::Player;
