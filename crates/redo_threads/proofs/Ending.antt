@@ -1,6 +1,6 @@
 -- Players that have come to their ends, and the actors that they leave.
 use Rattle.std.proofs.Common.{List, None, Option, Some, [], ap, arith, length, map, refl, set, slice_index, subst, suc}
-use Rattle.std.proofs.Common.{sym, zero, ℕ, ⊎_elim, ◌++◌, ◌+◌, ◌<◌, ◌∙◌, ◌∷◌, ◌≡◌, ◌≢◌, ◌≤◌}
+use Rattle.std.proofs.Common.{sym, zero, ℕ, ⊎_elim, ◌++◌, ◌+◌, ◌<◌, ◌∙◌, ◌∷◌, ◌≡◌, ◌≤◌}
 use lib.ListN.{get_elem?}
 use mathlib.Core.Option as maybe
 use Rattle.atomic_table.proofs.Lists.{at_set}
@@ -12,7 +12,7 @@ use Rattle.model_core.specs.declared.steps.UserStep.TheVariants as user_step
 use Rattle.model_core.specs.declared.words.Word.TheVariants as word
 use Rattle.model_logcore.specs.LogFits.{UserAt}
 use Rattle.model_own.specs.OwnWrites.{LogWork}
-use Rattle.model_running.specs.Schedule.{HasEnded, HaveEnded}
+use Rattle.model_running.specs.Schedule.{HaveEnded}
 use Rattle.redo_disk.specs.{Call}
 use Rattle.redo_disk.specs.Seen.{Seen}
 use Rattle.redo_drive.specs.Leaving.{LeavesRun}
@@ -29,20 +29,6 @@ use Rattle.model_script.specs.declared.script.ScriptLine.{ScriptLine}
 use Rattle.redo_threads.specs.Ended.{HaveAnswered}
 use Rattle.redo_threads.specs.Working.{AreAtEnd, AtEnd, IsOver, IsUserOver}
 use Rattle.std.specs.Prelude.{Bool}
-
--- who is no user needn't have ended
-pub over_other : (a : model.Actor) → ((u : UserState) → a ≢ model.User u) → IsUserOver a
-over_other (model.User u) other = absurd (other u refl)
-over_other (model.Writer s) other = tt
-over_other (model.Flusher s) other = tt
-over_other (model.Closer s) other = tt
-over_other (model.Cleaner s) other = tt
-over_other (model.Checkpointer s) other = tt
-over_other (model.Reader s) other = tt
-over_other (model.Joined s) other = tt
-
-pub over_user : (a : model.Actor) (u : UserState) → a ≡ model.User u → HasEnded u → IsUserOver a
-over_user a u is ended = subst IsUserOver (sym is) ended
 
 module _ {F : Type 0} where
   -- below this number each has come to its end
@@ -72,7 +58,7 @@ module _ {F : Type 0} where
   all_rest players ends i p at = (ends i p at).rests
 
   -- each user of these has ended
-  AreOver : List (Actor F) → Type 0
+  abbrev AreOver : List (Actor F) → Type 0
   AreOver [] = Unit {0}
   AreOver (a ∷ actors) = IsUserOver (view_of a) × AreOver actors
 
@@ -84,16 +70,17 @@ module _ {F : Type 0} where
   over_mapped [] ends = tt
   over_mapped (p ∷ ps) ends = ((ends zero p refl).over, over_mapped ps (λ i q at. ends (suc i) q at))
 
-  over_workers : (work : Option LogWork) → AreOver (workers_of work)
-  over_workers None = tt
-  over_workers (Some k) = (tt, tt, tt)
+over_workers : (F : Type 0) (work : Option LogWork) → AreOver (workers_of {R = F} work)
+over_workers F None = tt
+over_workers F (Some k) = (tt, (tt, tt))
 
+module _ {F : Type 0} where
   over_crew : (work : Option LogWork) (players : List (Player F)) → AreAtEnd players → AreOver (crew work players)
-  over_crew work [] ends = over_workers work
+  over_crew work [] ends = over_workers F work
   over_crew work (player.Own o ∷ ps) ends =
       ((ends zero (player.Own o) refl).over, over_crew work ps (λ i q at. ends (suc i) q at))
   over_crew work (player.Plain a ∷ ps) ends =
-      over_joined (workers_of work) (a ∷ map actor_of ps) (over_workers work)
+      over_joined (workers_of work) (a ∷ map actor_of ps) (over_workers F work)
       ((ends zero (player.Plain a) refl).over, over_mapped ps (λ i q at. ends (suc i) q at))
 
   all_over : (actors : List (Actor F)) → AreOver actors → HaveEnded (views_of actors)

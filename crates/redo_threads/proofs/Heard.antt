@@ -67,9 +67,9 @@ module _ {F : Type 0} where
   same_order false ps qs h k = same_plain ps qs h k
 
   -- the actors that they leave are the same too, the writer and the flusher among them
-  SameActors : List (Actor F) → List (Actor F) → Type 0
+  abbrev SameActors : List (Actor F) → List (Actor F) → Type 0
   SameActors [] [] = Unit {0}
-  SameActors (a ∷ as) (b ∷ bs) = IsSameActor (view_of a) (view_of b) × SameActors as bs
+  SameActors (x ∷ xs) (y ∷ ys) = IsSameActor (view_of x) (view_of y) × SameActors xs ys
   SameActors _ _ = ⊥
 
   same_joined : (xs ys us vs : List (Actor F)) → SameActors xs ys → SameActors us vs → SameActors (xs ++ us) (ys ++ vs)
@@ -90,19 +90,21 @@ module _ {F : Type 0} where
   same_mapped (p ∷ ps) [] h = absurd h
   same_mapped (p ∷ ps) (q ∷ qs) h = (same_one p q h.0, same_mapped ps qs h.1)
 
-  same_workers : (k l : Option LogWork) → is_some k ≡ is_some l → SameActors (workers_of k) (workers_of l)
-  same_workers None None e = tt
-  same_workers None (Some l) e = absurd (cc)
-  same_workers (Some k) None e = absurd (cc)
-  same_workers (Some k) (Some l) e = ((l.writer, refl), (l.flusher, refl), tt)
+same_workers : (F : Type 0) (k l : Option LogWork) → is_some k ≡ is_some l
+    → SameActors (workers_of {R = F} k) (workers_of {R = F} l)
+same_workers F None None e = tt
+same_workers F None (Some l) e = absurd (cc)
+same_workers F (Some k) None e = absurd (cc)
+same_workers F (Some k) (Some l) e = ((l.writer, refl), ((l.flusher, refl), tt))
 
+module _ {F : Type 0} where
   same_crew : (k l : Option LogWork) → is_some k ≡ is_some l → (ps qs : List (Player F)) → AllZip IsSamePlayer ps qs
       → SameActors (crew k ps) (crew l qs)
-  same_crew k l e [] [] h = same_workers k l e
+  same_crew k l e [] [] h = same_workers F k l e
   same_crew k l e [] (q ∷ qs) h = absurd h
   same_crew k l e (p ∷ ps) [] h = absurd h
   same_crew k l e (player.Plain a ∷ ps) (player.Plain b ∷ qs) h =
-      same_joined (workers_of k) (workers_of l) (a ∷ map actor_of ps) (b ∷ map actor_of qs) (same_workers k l e)
+      same_joined (workers_of k) (workers_of l) (a ∷ map actor_of ps) (b ∷ map actor_of qs) (same_workers F k l e)
       (h.0, same_mapped ps qs h.1)
   same_crew k l e (player.Plain a ∷ ps) (player.Own b ∷ qs) h = absurd h.0
   same_crew k l e (player.Own a ∷ ps) (player.Plain b ∷ qs) h = absurd h.0

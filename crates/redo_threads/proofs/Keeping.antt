@@ -35,7 +35,7 @@ module _ {L D F : Type 0} (stands : F → List Given → Type 0) (table : TableI
 
   pub as_many : (seats : List (Seat (Slot L D) (View L D))) (players : List (Player F))
       → AreSeated table seats players → length seats ≡ length players
-  as_many seats players A = AllZip-long (IsPlayerSeat table) seats players A
+  as_many seats players A = sym (AllZip-long (IsPlayerSeat table) seats players A)
 
   -- each is in its seat as it was, and as it has gone on
   all_refl : (seats : List (Seat (Slot L D) (View L D))) (players : List (Player F))

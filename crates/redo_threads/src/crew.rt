@@ -91,7 +91,7 @@ pub(crate) fn play_here<R: Wait, L: Sectors, D: Sectors, F: Receiver, G: Gate>(
                 pace.leave(bells);
                 return;
             }
-            Some(true) => pace.moves(bells, true),
+            Some(true) => pace.goes_on(bells),
             Some(false) => pace.waits(rt, bells, Call::Any),
         }
     }

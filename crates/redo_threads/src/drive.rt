@@ -49,8 +49,7 @@ pub fn drive_in_threads<
     ensures cause { IfOk result (λ left. CodeHasCause L.seen D.seen left.0.closed.code opened.log left.0.closed.log opened.store left.0.closed.store) }
     ensures followed { IfOk result (λ left. HaveFollowed L.seen D.seen F.stands_for opened script.now followers.items left.1.items left.0.closed) }
 {
-    let (shared, players) =
-        Shared::new(alloc, opened, script, log_only, own_writes, followers)?;
+    let (shared, players) = Shared::new(alloc, opened, script, log_only, own_writes, followers)?;
     let (closed, actors) = run_threads(rt, shared, players, gate);
     let driven = Driven {
         ended: RunEnd::Done,

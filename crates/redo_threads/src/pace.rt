@@ -57,12 +57,13 @@ pub(crate) fn steps_in_vain<F: Receiver>(player: &Player<F>) -> u64 {
     }
 }
 
-/// Whether an Op that a player has gone on from is surely none in vain: it reserves, copies, links, writes or syncs.
-pub(crate) fn is_going_on(done: Op) -> bool {
+/// Whether a player has gone on by an Op, after so many others since it waited: it reserves, copies, links, writes or syncs, or
+/// has taken more steps than it takes in vain.
+pub(crate) fn has_gone_on(done: Op, others: u64, in_vain: u64) -> bool {
     match done {
-        Op::Store(Word::Wlink(_) | Word::Clink(_), length) => length != 0,
+        Op::Store(Word::Wlink(_) | Word::Clink(_), length) if length != 0 => true,
         Op::Add(_, _) | Op::WriteTo(_) | Op::Sync => true,
-        _ => false,
+        _ => others >= in_vain,
     }
 }
 
@@ -134,8 +135,7 @@ impl Pace {
         Pace::of(bells, steps_in_vain(player), naps)
     }
 
-    /// That of a caller who plays for several, the actors of the pages among them: none of its steps are in vain, as it counts
-    /// those that aren't.
+    /// That of a caller who plays for several, the actors of the pages among them.
     pub(crate) fn of_many(bells: &Bells) -> Pace {
         let naps = Naps {
             first: SHORT_NAP,
@@ -165,11 +165,17 @@ impl Pace {
         }
     }
 
-    /// It has taken a step. Where that surely goes on, or it has taken more steps than it takes in vain, it has gone on, and waits
-    /// for as short as at first. After a long wait it doesn't spin and yield before the next one.
-    pub(crate) fn moves(&mut self, bells: &Bells, goes_on: bool) {
+    /// It has taken a step. Where it has gone on by that, it waits for as short as at first.
+    pub(crate) fn steps_on(&mut self, bells: &Bells, done: Op) {
+        if self.has_waited && has_gone_on(done, self.steps, self.in_vain) {
+            self.goes_on(bells);
+        }
         self.steps = self.steps.saturating_add(1);
-        if self.has_waited && (goes_on || self.steps > self.in_vain) {
+    }
+
+    /// It has gone on. After a long wait it doesn't spin and yield before the next one.
+    pub(crate) fn goes_on(&mut self, bells: &Bells) {
+        if self.has_waited {
             self.leave(bells);
             self.has_waited = false;
             self.waits = if self.is_long { self.last_wait() } else { 0 };

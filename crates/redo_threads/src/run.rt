@@ -38,7 +38,9 @@ fn open_users<F: Receiver>(players: &[Player<F>]) -> u64 {
 
 /// Whether users write for themselves.
 fn write_for_themselves<F: Receiver>(players: &[Player<F>]) -> bool {
-    players.iter().any(|player| matches!(player, Player::Own(_)))
+    players
+        .iter()
+        .any(|player| matches!(player, Player::Own(_)))
 }
 
 /// How many processors threads may use, at least.

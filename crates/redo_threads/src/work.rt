@@ -7,7 +7,7 @@ ghost use Rattle.redo_threads.specs.Working.{AtEnd, GoesOn, IsOver};
 
 use crate::bells::{Bells, call_of};
 use crate::gate::{Gate, point_after};
-use crate::pace::{Pace, is_going_on, steps_in_vain};
+use crate::pace::{Pace, has_gone_on, steps_in_vain};
 use redo_disk::Sectors;
 use redo_drive::Actor;
 use redo_follow::Receiver;
@@ -103,7 +103,7 @@ fn follow<R: Wait, F: Receiver>(
         pace.waits(rt, bells, call_of(player, done));
         return;
     }
-    pace.moves(bells, is_going_on(done));
+    pace.steps_on(bells, done);
     if has_cleaned(player, done, now) {
         pace.rests(rt, bells);
     }
@@ -146,15 +146,15 @@ pub(crate) fn stint<L: Sectors, D: Sectors, F: Receiver, G: Gate>(
         return None;
     }
     let in_vain = steps_in_vain(&*player);
-    let mut goes_on = false;
+    let mut went_on = false;
     for steps in 0..STINT {
         let (step, now) = turn(table, bells, gate, seat, player, op);
         match step {
             Step::Moved => {
-                goes_on = goes_on || steps >= in_vain || is_going_on(op);
+                went_on = went_on | has_gone_on(op, steps, in_vain);
                 op = now;
             }
-            Step::Idle => return Some(goes_on),
+            Step::Idle => return Some(went_on),
             Step::Ended | Step::Failed(_) => return Some(true),
         }
     }
