@@ -9,6 +9,7 @@ ghost use Rattle.redo_ownrule.specs.Players.{AreInOrder, IsSamePlayer, actor_of,
 ghost use Rattle.redo_ownrule.specs.Sharing.{AllAtRest, AreActorsOf, AreSeatsOf, IsSeated, opened_of, own_of, shared_script, starts_of, table_of};
 ghost use Rattle.redo_ownrule.specs.declared.player.Player.{Player as ThePlayer};
 ghost use Rattle.redo_rule.specs.Closing.{IsOwedRun};
+ghost use Rattle.redo_rule.specs.Cutting.{HoldNothing};
 ghost use Rattle.redo_rule.specs.Failing.{CodeHasCause};
 ghost use Rattle.redo_rule.specs.Reached.{ReachesAll};
 ghost use Rattle.redo_rule.specs.Sharing.{HaveHeard};
@@ -41,6 +42,7 @@ impl<L: Sectors, D: Sectors, R: Receiver + Drop> Shared<L, D, R> {
             → HaveHeard R.stands_for (map actor_of starts) seats.items (map actor_of players.items)
             → LeavesRun L.seen L.gives D.seen D.gives R.stands_for (opened_of self) (shared_script self) self.board.shared.key.log_only
             self.board.shared.key.followers (crew work starts) result.1.items result.0 }
+        ensures rest { HoldNothing (views_of result.1.items) }
         ensures listed { ListsInOrder result.0.marks (views_of result.1.items) result.0.history }
         ensures owed { IsOwedRun L.seen L.gives D.seen D.gives (opened_of self) (shared_script self) (views_of result.1.items) result.0 }
         ensures reaches { ReachesAll (views_of result.1.items) result.0 }
