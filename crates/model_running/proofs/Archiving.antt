@@ -3,10 +3,27 @@ use Rattle.std.proofs.Common.{Bool, List, ap, arith, cond, eqb-true, false, refl
 use lib.ListN.{get_elem?}
 use mathlib.Core.Option.{some, some-injective}
 use native.Mathlib.Decide.{ℕ_discrete}
+use Rattle.model_core.proofs.Later.{took_later}
 use Rattle.model_core.proofs.Lists.{set_at, set_else}
-use Rattle.model_core.specs.{Actor, after_of, archives, followed, has_all, HasLost, IsArchiveCode, IsLosing, LostAt, old_of, reader_program, reader_took, ReaderState, to_append, took}
+use Rattle.model_core.specs.{Actor, after_of, archives, checkpointer_op, CheckpointerState, cleaner_op, CleanerState, closer_op, CloserState, flusher_op, FlusherState, followed, has_all, HasLost, is_checking, IsArchiveCode, IsLosing, LostAt, next, old_of, own_op, OwnServed, reader_op, reader_program, reader_took, ReaderState, to_append, took, user_op, UserState, writer_op, WriterState}
 use Rattle.model_core.specs.Setup.{Setup}
 use Rattle.model_core.specs.declared.ops.Answer.{Answer}
+use Rattle.model_core.specs.declared.ops.Op.{Op}
+use Rattle.model_core.specs.declared.ops.Op.TheVariants as op
+use Rattle.model_core.specs.declared.steps.AdvanceStep.TheVariants as advance_step
+use Rattle.model_core.specs.declared.steps.CheckpointerStep.{CheckpointerStep}
+use Rattle.model_core.specs.declared.steps.CheckpointerStep.TheVariants as checkpointer_step
+use Rattle.model_core.specs.declared.steps.CleanerStep.{CleanerStep}
+use Rattle.model_core.specs.declared.steps.CleanerStep.TheVariants as cleaner_step
+use Rattle.model_core.specs.declared.steps.CloserStep.{CloserStep}
+use Rattle.model_core.specs.declared.steps.CloserStep.TheVariants as closer_step
+use Rattle.model_core.specs.declared.steps.FlusherStep.{FlusherStep}
+use Rattle.model_core.specs.declared.steps.FlusherStep.TheVariants as flusher_step
+use Rattle.model_core.specs.declared.steps.UserStep.{UserStep}
+use Rattle.model_core.specs.declared.steps.UserStep.TheVariants as user_step
+use Rattle.model_core.specs.declared.steps.WriterStep.{WriterStep}
+use Rattle.model_core.specs.declared.steps.WriterStep.TheVariants as writer_step
+use Rattle.model_core.specs.declared.words.Word.TheVariants as word
 use Rattle.model_core.specs.declared.steps.ReaderStep.{ReaderStep}
 use Rattle.model_core.specs.declared.steps.ReaderStep.TheVariants as reader_step
 use Rattle.model_core.specs.Actors as actor
@@ -69,6 +86,110 @@ took_reader r a = by r.checks (cond (old_of a == 0) goes_on fails) (reader_took 
         → ◌≡◌ {A = Actor} (cond b (actor.Reader x) (actor.Reader z)) (actor.Reader (cond b x z))
     by true x z = refl
     by false x z = refl
+
+abbrev pub IsNoReader : Actor → Type 0
+IsNoReader (actor.Reader r) = ⊥
+IsNoReader _ = Unit {0}
+
+-- no other actor calls a device of its own
+user_calls : (u : UserState) (f : UserStep) (code : ℕ) → OwnServed (user_op u f) code
+user_calls u (user_step.AdvanceWritten advance_step.LoadTail) code = tt
+user_calls u (user_step.AdvanceClosed advance_step.LoadTail) code = tt
+user_calls u _ code = tt
+
+writer_calls : (s : WriterState) (f : WriterStep) (code : ℕ) → OwnServed (writer_op s f) code
+writer_calls s (writer_step.Advance advance_step.LoadTail) code = tt
+writer_calls s _ code = tt
+
+flusher_calls : (t : FlusherState) (f : FlusherStep) (code : ℕ) → OwnServed (flusher_op t f) code
+flusher_calls t flusher_step.LoadWrite code = tt
+flusher_calls t _ code = tt
+
+closer_calls : (t : CloserState) (f : CloserStep) (code : ℕ) → OwnServed (closer_op t f) code
+closer_calls t (closer_step.Advance advance_step.LoadTail) code = tt
+closer_calls t _ code = tt
+
+cleaner_calls : (v : CleanerState) (f : CleanerStep) (code : ℕ) → OwnServed (cleaner_op v f) code
+cleaner_calls v cleaner_step.LoadFlushed code = tt
+cleaner_calls v _ code = tt
+
+checkpointer_calls : (t : CheckpointerState) (f : CheckpointerStep) (code : ℕ) → OwnServed (checkpointer_op t f) code
+checkpointer_calls t checkpointer_step.LoadCtail code = tt
+checkpointer_calls t _ code = tt
+
+-- nor does a reader but at its append
+reader_calls : (r : ReaderState) (f : ReaderStep) (code : ℕ) → (f ≡ reader_step.Append → ⊥) → OwnServed (reader_op r f) code
+reader_calls r reader_step.Append code other = absurd (other refl)
+reader_calls r reader_step.LoadFlushed code other = tt
+reader_calls r _ code other = tt
+
+own_calls : (a : Actor) → IsNoReader a → (code : ℕ) → OwnServed (own_op a) code
+own_calls (actor.User u) other code = user_calls u u.step code
+own_calls (actor.Writer s) other code = writer_calls s s.step code
+own_calls (actor.Flusher t) other code = flusher_calls t t.step code
+own_calls (actor.Closer t) other code = closer_calls t t.step code
+own_calls (actor.Cleaner v) other code = cleaner_calls v v.step code
+own_calls (actor.Checkpointer t) other code = checkpointer_calls t t.step code
+own_calls (actor.Reader r) other code = absurd other
+own_calls (actor.Joined es) other code = tt
+
+checking_calls : (b : Bool) (o : Op) (code : ℕ) → OwnServed o code → OwnServed (cond b (op.Load word.Failed) o) code
+checking_calls true o code served = tt
+checking_calls false o code served = served
+
+pub calls_none : (a : Actor) → IsNoReader a → (code : ℕ) → OwnServed (next a) code
+calls_none a other code = checking_calls (is_checking a) (own_op a) code (own_calls a other code)
+
+-- nor a follower
+pub follower_calls_none : (c : Setup) (r : ReaderState) → ReadsInRun c r → 0 < c.first_reader → (code : ℕ)
+    → OwnServed (next (actor.Reader r)) code
+follower_calls_none c r I followers code = checking_calls r.checks (reader_op r r.step) code
+    (reader_calls r r.step code appends_not)
+  where
+    appends_not : r.step ≡ reader_step.Append → ⊥
+    appends_not is =
+        let k : LostAt r reader_step.Append = subst (LostAt r) is I.lost in
+        let first = I.first in
+        let same = eqb-true r.number 0 k.0 in
+        omega arith
+
+-- no other actor becomes a reader
+pub stays_other : (a : Actor) (y : Answer) → IsNoReader a → (r : ReaderState) → took a y ≡ actor.Reader r → ⊥
+stays_other (actor.Reader x) y other r same = other
+stays_other (actor.User u) y other r same = subst IsNoReader (sym (took_later (actor.User u) y).1 ∙ same) tt
+stays_other (actor.Writer s) y other r same = subst IsNoReader (sym (took_later (actor.Writer s) y).1 ∙ same) tt
+stays_other (actor.Flusher s) y other r same = subst IsNoReader (sym (took_later (actor.Flusher s) y).1 ∙ same) tt
+stays_other (actor.Closer s) y other r same = subst IsNoReader (sym (took_later (actor.Closer s) y).1 ∙ same) tt
+stays_other (actor.Cleaner s) y other r same = subst IsNoReader (sym (took_later (actor.Cleaner s) y).1 ∙ same) tt
+stays_other (actor.Checkpointer s) y other r same = subst IsNoReader (sym (took_later (actor.Checkpointer s) y).1 ∙ same) tt
+stays_other (actor.Joined es) y other r same = subst IsNoReader (sym (took_later (actor.Joined es) y).1 ∙ same) tt
+
+-- a reader's number stays
+pub number_stays : (r : ReaderState) (a : Answer) → (after_of reader_program r a).number ≡ r.number
+number_stays r a = by r.checks (old_of a == 0)
+  where
+    goes_on : ReaderState
+    goes_on = record r { checks = false }
+
+    fails : ReaderState
+    fails = record r { checks = false; code = old_of a; step = reader_step.Failed }
+
+    either : (b : Bool) (x y : ReaderState) → x.number ≡ r.number → y.number ≡ r.number → (cond b x y).number ≡ r.number
+    either true x y one two = one
+    either false x y one two = two
+
+    own : (st : ReaderStep) → (reader_took r a st).number ≡ r.number
+    own reader_step.LoadFlushed = either (has_all r (old_of a)) _ _ refl refl
+    own reader_step.GiveDevice = either (archives r) (to_append r) (followed r) refl refl
+    own _ = refl
+
+    by : (b n : Bool) → (cond b (cond n goes_on fails) (reader_took r a r.step)).number ≡ r.number
+    by true true = refl
+    by true false = refl
+    by false n = own r.step
+
+pub reader_is : (x y : ReaderState) → actor.Reader x ≡ actor.Reader y → ◌≡◌ {A = ReaderState} x y
+reader_is x y e = cc
 
 -- among actors that stay in the run
 module _ (c : Setup) (actors : List Actor)

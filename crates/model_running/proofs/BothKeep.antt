@@ -1,12 +1,12 @@
 -- Whatever an actor's next Op is, its turn keeps the page half.
 use Rattle.model_running.proofs.ReadStays.{given_to, IsFilled, read_kept}
-use Rattle.model_running.specs.ReadHalf.{HaveRunBlocks, ReadHalf, StaysInRun}
+use Rattle.model_running.specs.ReadHalf.{ArchiverHas, HaveRunBlocks, ReadHalf, StaysInRun}
 use Rattle.model_core.specs.Actors.{Room}
 use Rattle.std.proofs.Common.{Bool, List, arith, cond, false, refl, set, subst, sym, true, ℕ, ◌≡◌, ⊎_elim}
 use Rattle.std.specs.Prelude.{slice_index}
 use lib.ListN.{get_elem?}
 use mathlib.Core.Option.{some}
-use Rattle.model_core.specs.{Actor, Blocks, checked, DataServed, Entry, flusher_op, lent, Listed, lists_left, log_left, LogServed, next, Nothing, old_of, OwnServed, own_took, shared_answer, shared_left, SharedWords, took, writer_op}
+use Rattle.model_core.specs.{Actor, archives, Blocks, checked, DataServed, Entry, flusher_op, lent, Listed, lists_left, log_left, LogServed, next, Nothing, old_of, OwnServed, own_took, ReaderState, shared_answer, shared_left, SharedWords, took, writer_op}
 use Rattle.model_core.specs.{reader_op}
 use Rattle.model_core.specs.DataSide.{DataSide}
 use Rattle.model_core.specs.declared.ops.Answer.{Answer}
@@ -26,6 +26,7 @@ use Rattle.model_core.specs.declared.words.LinkBuffer.TheVariants as link_buffer
 use Rattle.model_core.specs.Actors as actor
 use Rattle.model_core.specs.declared.words.Word.TheVariants as word
 use Rattle.model_core.specs.declared.ops.Op.TheVariants as op
+use Rattle.model_running.proofs.ArchiverStays.{archiver_kept}
 use Rattle.model_running.proofs.Archiving.{lost_stays}
 use Rattle.model_running.proofs.LogCalls.{asked_bound, told_before}
 use Rattle.model_running.proofs.RunBlocks.{blocks_kept}
@@ -127,6 +128,9 @@ module _ (D : LogSide) (L : LogLaws D) (E : DataSide) (EL : DataLaws E) (c : Set
               let before = told_before D L E EL c spare m g h ls p d actors seat both code q told a at w in
               subst (λ (l : List Entry). ReadHalf D c words l q now) same
               (read_kept D L E EL c spare m g h ls p d actors seat both code q told before a at full w);
+          archiver = subst (λ (l : List Entry). (j : ℕ) (r : ReaderState) → get_elem? now j ≡ some (actor.Reader r)
+              → archives r ≡ true → ArchiverHas c words l r) same
+              (archiver_kept D E c spare m g h ls p d actors seat both code q a at);
           blocks = λ told.
               let before = told_before D L E EL c spare m g h ls p d actors seat both code q told a at w in
               subst (λ (l : List Entry). HaveRunBlocks D c l now) same

@@ -26,7 +26,7 @@ use Rattle.model_pagecore.specs.PageHalf.{PageFits}
 use Rattle.model_running.proofs.InRun.{lost_same}
 use Rattle.model_running.proofs.ReadKeeps.{reader_goes}
 use Rattle.model_running.proofs.ReadStays.{IsFilled, ReaderIsFilled}
-use Rattle.model_running.specs.ReadHalf.{ArchiverAt, FollowerAt, HasMore, HasRunBlock, ReaderHas, ReadFits, ReadsInRun, RunBlockAt, StaysInRun}
+use Rattle.model_running.specs.ReadHalf.{ArchiverAt, ArchiverHas, FollowerAt, HasMore, HasRunBlock, ReaderHas, ReadFits, ReadsInRun, RunBlockAt, StaysInRun}
 use Rattle.model_running.specs.RunningStore.{BothHalves}
 
 module _ (D : LogSide) (E : DataSide) (c : Setup) (spare : ℕ) (m : SharedWords) (g : LogGhost) (h : PageGhost) (ls : ℕ → List Listed) (p : D.Part) (d : E.Part) (actors : List Actor) (seat : ℕ) (both : BothHalves D E c spare m g h ls p d actors) where
@@ -43,11 +43,13 @@ module _ (D : LogSide) (E : DataSide) (c : Setup) (spare : ℕ) (m : SharedWords
 
     put_reader : reader_holds w.step ≡ reader_holds r.step → ReaderFits D c m g p seat w
         → (D.Tells p → ReaderHas c m g.log seat w) → w.number ≡ r.number → w.at ≡ r.at → w.place ≡ r.place
-        → w.lost ≡ r.lost → LostAt w w.step → (D.Tells p → archives w ≡ true → RunBlockAt D c g.log w w.step)
+        → w.lost ≡ r.lost → LostAt w w.step → (archives w ≡ true → ArchiverHas c m g.log w) → (D.Tells p → archives w ≡ true → RunBlockAt D c g.log w w.step)
         → BothHalves D E c spare m g h ls p d (set actors seat (actor.Reader w))
-    put_reader keep fit has number_is at_is place_is lost_is lost_at has_block = record {
+    put_reader keep fit has number_is at_is place_is lost_is lost_at still_archives has_block = record {
       script = both.script;
       cause = λ failed. ⊎_elim (λ z. inl z) (⊎_elim (λ z. inr (inl z)) (λ l. inr (inr (still_lost m.failed l)))) (both.cause failed);
+      archiver = λ j x e. ⊎_elim (λ t. subst (λ (z : ReaderState). archives z ≡ true → ArchiverHas c m g.log z) (the_reader w x t.1) still_archives)
+          (λ t. both.archiver j x t.1) (at_set actors seat j (actor.Reader w) (actor.Reader x) e);
       blocks = λ told j x e. ⊎_elim (λ t. subst (λ (z : ReaderState). archives z ≡ true → RunBlockAt D c g.log z z.step) (the_reader w x t.1) (has_block told))
           (λ t. both.blocks told j x t.1) (at_set actors seat j (actor.Reader w) (actor.Reader x) e);
       logged = reads_on D c spare m g p actors seat r both.logged at w keep fit (λ held. holder_stays link_buffer.Written (both.logged.advanced held))
@@ -140,6 +142,7 @@ module _ (D : LogSide) (E : DataSide) (c : Setup) (spare : ℕ) (m : SharedWords
         (λ _ F. subst (FollowerAt c m g.log (record r { block = f.block })) (sym is)
         (again (subst (FollowerAt c m g.log r) is F.step)))) refl refl refl refl
         (lost_same r (record r { block = f.block }) refl refl refl (λ z. z) r.step I.lost)
+        (λ kind. let A = both.archiver seat r at kind in record { aligned = A.aligned; below = A.below; own_aligned = A.own_aligned; step = subst (ArchiverAt c m g.log (record r { block = f.block })) (sym is) (subst (ArchiverAt c m g.log r) is A.step) })
         (λ _ _. subst (RunBlockAt D c g.log (record r { block = f.block })) (sym is) tt)
       where
         again : HasMore c m g.log r → HasMore c m g.log (record r { block = f.block })
@@ -150,6 +153,7 @@ module _ (D : LogSide) (E : DataSide) (c : Setup) (spare : ℕ) (m : SharedWords
         (λ _ F. subst (FollowerAt c m g.log (record r { texts = f.texts })) (sym is)
         (again (subst (FollowerAt c m g.log r) is F.step)))) refl refl refl refl
         (lost_same r (record r { texts = f.texts }) refl refl refl (λ z. z) r.step I.lost)
+        (λ kind. let A = both.archiver seat r at kind in record { aligned = A.aligned; below = A.below; own_aligned = A.own_aligned; step = subst (ArchiverAt c m g.log (record r { texts = f.texts })) (sym is) (subst (ArchiverAt c m g.log r) is A.step) })
         (λ told kind. subst (RunBlockAt D c g.log (record r { texts = f.texts })) (sym is) (still_has (subst (RunBlockAt D c g.log r) is (both.blocks told seat r at kind))))
       where
         still_has : HasRunBlock D c g.log r → HasRunBlock D c g.log (record r { texts = f.texts })

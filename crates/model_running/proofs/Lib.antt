@@ -1,4 +1,6 @@
 pub mod AnswersFitAll
+pub mod Appends
+pub mod ArchiverStays
 pub mod Archiving
 pub mod BlockGives
 pub mod BothKeep

@@ -10,7 +10,7 @@ use Rattle.model_core.specs.declared.limits.TheConstants.{READERS}
 use Rattle.model_core.specs.declared.steps.ReaderStep.TheVariants as reader_step
 use Rattle.model_log.specs.declared.layout.TheConstants.{BLOCK_DATA}
 use Rattle.model_running.proofs.Following.{text_some}
-use Rattle.model_running.specs.ReadHalf.{ArchiverAt, CandidateAt, CandidateFits, FollowerAt, HasByKind, ReaderHas, ReadsInRun}
+use Rattle.model_running.specs.ReadHalf.{ArchiverAt, ArchiverHas, CandidateAt, CandidateFits, FollowerAt, HasByKind, ReaderHas, ReadsInRun}
 
 module _ (c : Setup) (m : SharedWords) (even : c.base % BLOCK_DATA ≡ 0) (flushed : m.flushed ≡ lsn c.base)
     (places : (i : ℕ) → i < READERS → slice_index m.places i ≡ cond (eqb i 0) (start_checkpoint c) (lsn c.base)) where
@@ -80,6 +80,19 @@ module _ (c : Setup) (m : SharedWords) (even : c.base % BLOCK_DATA ≡ 0) (flush
   }
 
 -- whatever the log device tells
+pub archiver_starts : (c : Setup) (m : SharedWords) → c.base % BLOCK_DATA ≡ 0 → m.flushed ≡ lsn c.base → (r : ReaderState)
+    → ◌≡◌ {A = ReaderState} r (new_reader r.number (lsn c.base)) → archives r ≡ true → ArchiverHas c m [] r
+archiver_starts c m even flushed r is kind = by (archives r) kind (ap (λ (x : ReaderState). x.place) is) (ap (λ (x : ReaderState). x.own) is)
+  where
+    by : (b : Bool) → b ≡ true → r.place ≡ cond b (lsn c.base - 12) (lsn c.base) → r.own ≡ cond b (lsn c.base - 12) (lsn c.base) → ArchiverHas c m [] r
+    by true k place own = let o = lsn_offset c.base in record {
+      aligned = omega arith;
+      below = omega arith;
+      own_aligned = omega arith;
+      step = subst (ArchiverAt c m [] r) (sym (ap (λ (x : ReaderState). x.step) is)) tt;
+    }
+    by false k place own = absurd (cc)
+
 pub starts_in_run : (c : Setup) → c.base % BLOCK_DATA ≡ 0 → (r : ReaderState) → c.first_reader ≤ r.number → r.number < c.last_reader
     → ◌≡◌ {A = ReaderState} r (new_reader r.number (lsn c.base)) → ReadsInRun c r
 starts_in_run c even r first few is = record {

@@ -57,18 +57,18 @@ IsFilled (actor.Reader r) = ReaderIsFilled r r.step
 IsFilled _ = Unit {0}
 
 -- WHICH OPS LEAVE FLUSHED AND THE READERS' PLACES
-abbrev IsElse : Word → Type 0
+abbrev pub IsElse : Word → Type 0
 IsElse word.Flushed = ⊥
 IsElse (word.Place i) = ⊥
 IsElse _ = Unit {0}
 
-abbrev LeavesReads : Op → Type 0
+abbrev pub LeavesReads : Op → Type 0
 LeavesReads (op.Store w x) = IsElse w
 LeavesReads (op.Add w k) = IsElse w
 LeavesReads (op.Swap w a b) = IsElse w
 LeavesReads _ = Unit {0}
 
-abbrev SameReads : SharedWords → SharedWords → Type 0
+abbrev pub SameReads : SharedWords → SharedWords → Type 0
 SameReads m m' = (m'.places ≡ m.places) × (m'.flushed ≡ m.flushed)
 
 wrote_else : (m : SharedWords) (w : Word) (x : ℕ) → IsElse w → SameReads m (wrote m w x)
@@ -80,7 +80,7 @@ either_words : (m a b : SharedWords) (t : Bool) → SameReads m a → SameReads 
 either_words m a b true x y = x
 either_words m a b false x y = y
 
-left_reads : (m : SharedWords) (o : Op) → LeavesReads o → SameReads m (shared_left m o)
+pub left_reads : (m : SharedWords) (o : Op) → LeavesReads o → SameReads m (shared_left m o)
 left_reads m op.TakeDevice e = either_words m _ m (eqb m.device 0) (refl, refl) (refl, refl)
 left_reads m op.GiveDevice e = (refl, refl)
 left_reads m (op.TakeAdd p x) e = either_words m _ m _ (refl, refl) (refl, refl)
@@ -104,29 +104,29 @@ advance_leaves link_buffer.Closed v advance_step.LoadLink = tt
 advance_leaves link_buffer.Closed v advance_step.ClearLink = tt
 advance_leaves link_buffer.Closed v advance_step.FreeTail = tt
 
-user_leaves : (u : UserState) (f : UserStep) → LeavesReads (user_op u f)
+pub user_leaves : (u : UserState) (f : UserStep) → LeavesReads (user_op u f)
 user_leaves u user_step.LoadCheckpoint = tt
 user_leaves u (user_step.AdvanceWritten s) = advance_leaves link_buffer.Written u.advance s
 user_leaves u (user_step.AdvanceClosed s) = advance_leaves link_buffer.Closed u.advance s
 user_leaves u _ = tt
 
-writer_leaves : (s : WriterState) (f : WriterStep) → LeavesReads (writer_op s f)
+pub writer_leaves : (s : WriterState) (f : WriterStep) → LeavesReads (writer_op s f)
 writer_leaves s (writer_step.Advance v) = advance_leaves link_buffer.Written s.advance v
 writer_leaves s _ = tt
 
-closer_leaves : (t : CloserState) (f : CloserStep) → LeavesReads (closer_op t f)
+pub closer_leaves : (t : CloserState) (f : CloserStep) → LeavesReads (closer_op t f)
 closer_leaves t (closer_step.Advance v) = advance_leaves link_buffer.Closed t.advance v
 closer_leaves t closer_step.Failed = tt
 
-cleaner_leaves : (v : CleanerState) (f : CleanerStep) → LeavesReads (cleaner_op v f)
+pub cleaner_leaves : (v : CleanerState) (f : CleanerStep) → LeavesReads (cleaner_op v f)
 cleaner_leaves v cleaner_step.LoadFlushed = tt
 cleaner_leaves v _ = tt
 
-checkpointer_leaves : (t : CheckpointerState) (f : CheckpointerStep) → LeavesReads (checkpointer_op t f)
+pub checkpointer_leaves : (t : CheckpointerState) (f : CheckpointerStep) → LeavesReads (checkpointer_op t f)
 checkpointer_leaves t checkpointer_step.LoadCtail = tt
 checkpointer_leaves t _ = tt
 
-asks : (b : Bool) (o : Op) → LeavesReads o → LeavesReads (cond b (op.Load word.Failed) o)
+pub asks : (b : Bool) (o : Op) → LeavesReads o → LeavesReads (cond b (op.Load word.Failed) o)
 asks true o e = tt
 asks false o e = e
 

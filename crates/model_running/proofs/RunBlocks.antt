@@ -24,7 +24,7 @@ use Rattle.model_logcore.specs.LogLaws.{LogLaws}
 use Rattle.model_logcore.specs.LogFits as marks
 use Rattle.model_pagecore.specs.{PageGhost}
 use Rattle.model_pagecore.specs.DataLaws.{DataLaws}
-use Rattle.model_running.proofs.Archiving.{took_reader}
+use Rattle.model_running.proofs.Archiving.{number_stays, reader_is, stays_other, took_reader}
 use Rattle.model_running.proofs.ReadKeeps.{can_read, LogGrows}
 use Rattle.model_running.proofs.ReadStays.{reserved, same_log, texts_of_log}
 use Rattle.model_running.specs.ReadHalf.{ArchiverAt, ArchiverHas, HasByKind, HasRunBlock, HaveRunBlocks, ReaderHas, RunBlockAt}
@@ -51,45 +51,6 @@ module _ (D : LogSide) (c : Setup) (log log' : List Entry) (sn : ℕ) (grows : L
   at_later r w place block reader_step.GiveDevice k = has_later r w place block k
   at_later r w place block reader_step.Append k = has_later r w place block k
   at_later r w place block _ k = tt
-
-abbrev IsNoReader : Actor → Type 0
-IsNoReader (actor.Reader r) = ⊥
-IsNoReader _ = Unit {0}
-
--- no other actor becomes a reader
-stays_other : (a : Actor) (y : Answer) → IsNoReader a → (r : ReaderState) → took a y ≡ actor.Reader r → ⊥
-stays_other (actor.Reader x) y other r same = other
-stays_other (actor.User u) y other r same = subst IsNoReader (sym (took_later (actor.User u) y).1 ∙ same) tt
-stays_other (actor.Writer s) y other r same = subst IsNoReader (sym (took_later (actor.Writer s) y).1 ∙ same) tt
-stays_other (actor.Flusher s) y other r same = subst IsNoReader (sym (took_later (actor.Flusher s) y).1 ∙ same) tt
-stays_other (actor.Closer s) y other r same = subst IsNoReader (sym (took_later (actor.Closer s) y).1 ∙ same) tt
-stays_other (actor.Cleaner s) y other r same = subst IsNoReader (sym (took_later (actor.Cleaner s) y).1 ∙ same) tt
-stays_other (actor.Checkpointer s) y other r same = subst IsNoReader (sym (took_later (actor.Checkpointer s) y).1 ∙ same) tt
-stays_other (actor.Joined es) y other r same = subst IsNoReader (sym (took_later (actor.Joined es) y).1 ∙ same) tt
-
--- a reader's number stays
-number_stays : (r : ReaderState) (a : Answer) → (after_of reader_program r a).number ≡ r.number
-number_stays r a = by r.checks (old_of a == 0)
-  where
-    goes_on : ReaderState
-    goes_on = record r { checks = false }
-
-    fails : ReaderState
-    fails = record r { checks = false; code = old_of a; step = reader_step.Failed }
-
-    either : (b : Bool) (x y : ReaderState) → x.number ≡ r.number → y.number ≡ r.number → (cond b x y).number ≡ r.number
-    either true x y one two = one
-    either false x y one two = two
-
-    own : (st : ReaderStep) → (reader_took r a st).number ≡ r.number
-    own reader_step.LoadFlushed = either (has_all r (old_of a)) _ _ refl refl
-    own reader_step.GiveDevice = either (archives r) (to_append r) (followed r) refl refl
-    own _ = refl
-
-    by : (b n : Bool) → (cond b (cond n goes_on fails) (reader_took r a r.step)).number ≡ r.number
-    by true true = refl
-    by true false = refl
-    by false n = own r.step
 
 module _ (D : LogSide) (L : LogLaws D) (E : DataSide) (EL : DataLaws E) (c : Setup) (spare : ℕ) (m : SharedWords)
     (g : LogGhost) (h : PageGhost) (ls : ℕ → List Listed) (p : D.Part) (d : E.Part) (actors : List Actor) (seat : ℕ)
@@ -204,9 +165,6 @@ module _ (D : LogSide) (L : LogLaws D) (E : DataSide) (EL : DataLaws E) (c : Set
 
   abbrev said_to : Actor → Answer
   said_to a = shared_answer ls (D.failed p) code (D.stable q) m (next a)
-
-  reader_is : (x y : ReaderState) → actor.Reader x ≡ actor.Reader y → ◌≡◌ {A = ReaderState} x y
-  reader_is x y e = cc
 
   -- what the turn leaves a reader at its seat
   left : (a : Actor) → get_elem? actors seat ≡ some a → LogServed D p (lent a) (next a) code q → (r : ReaderState)

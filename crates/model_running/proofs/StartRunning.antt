@@ -1,5 +1,5 @@
 -- A run's start: both halves of the invariant hold.
-use Rattle.model_running.proofs.ReadStart.{candidate_starts, reader_starts, starts_in_run, starts_under}
+use Rattle.model_running.proofs.ReadStart.{archiver_starts, candidate_starts, reader_starts, starts_in_run, starts_under}
 use Rattle.model_running.specs.ReadHalf.{NumberAt, ReadFits, RunBlockAt, StaysInRun}
 use Rattle.std.proofs.Common.{List, [], ap, arith, false, get_or, length, refl, subst, sym, ℕ, ◌+◌, ◌<◌, ◌≡◌, ◌≢◌}
 use lib.ListN.{get_elem?}
@@ -115,6 +115,8 @@ module _ (D : LogSide) (E : DataSide) (c : Setup) (m : SharedWords) (p : D.Part)
       asked = λ i low high. (let z = S.log_part.asked in let few = S.script.few_readers in let u = starts_under c m w.even w.flushed w.places i (omega arith) in omega arith);
       each = λ seat a at. read_fits seat a (S.each seat a at);
     };
+    archiver = λ seat r at kind. let h : StartActor c seat_of writer seat (actor.Reader r) = S.each seat (actor.Reader r) at in
+        archiver_starts c m w.even w.flushed r h.3 kind;
     blocks = λ _ seat r at _. let h : StartActor c seat_of writer seat (actor.Reader r) = S.each seat (actor.Reader r) at in
         subst (RunBlockAt D c [] r) (sym (ap (λ (x : ReaderState). x.step) h.3)) tt;
     stays = λ _. w.ckpt;
