@@ -5,7 +5,7 @@ use Rattle.model_core.specs.Setup.{Setup}
 use Rattle.model_page.specs.declared.content.Content.{Content}
 use Rattle.model_script.specs.declared.script.ScriptLine.{ScriptLine}
 use Rattle.redo_drive.specs.Lists.{empty_lists}
-use Rattle.redo_drive.specs.Setups.{start_actors}
+use Rattle.redo_drive.specs.Setups.{seated_actors}
 use Rattle.redo_drive.specs.StartWords.{HoldBytes, StartsOn}
 use Rattle.redo_drive.specs.FirstWords.{AreStartWords}
 use Rattle.redo_drive.specs.Views.{views_of}
@@ -21,13 +21,13 @@ EndsWithFollowers {R} actors followers =
 
 -- The words of the run's start, empty lists, new actors in their seats, the last of which are these followers, and room
 -- for an entry of each line.
-pub record IsOwnOf {R : Type 0} (shape : Shape) (pages : List Content) (script : List ScriptLine) (start : ℕ) (log_only : Bool)
-    (new_followers : List (Following R)) (own : Own R) : Type 0 where
+pub record IsOwnOf {R : Type 0} (shape : Shape) (pages : List Content) (script : List ScriptLine) (start : ℕ)
+    (log_only archive : Bool) (new_followers : List (Following R)) (own : Own R) : Type 0 where
   pub word_pages : own.words.pages ≡ length pages
   pub bytes : HoldBytes shape pages
   pub words : (c : Setup) → StartsOn start shape pages c → AreStartWords own.words.words c
   pub lists : own.lists ≡ empty_lists shape.pages
-  pub actors : views_of own.actors.items ≡ start_actors shape script start log_only (length new_followers)
+  pub actors : views_of own.actors.items ≡ seated_actors shape script start log_only archive (length new_followers)
   pub followers : EndsWithFollowers own.actors.items new_followers
   pub no_entries : own.entries.items ≡ []
   pub room : length script ≤ vec_capacity own.entries
