@@ -360,12 +360,14 @@ module _ {L D R : Type 0} (log_seen : L → Seen) (log_gives : L → Call → L 
         pair i (own.Follower f) (own.Closer t) at there same = absurd same
         pair i (own.Follower f) (own.Cleaner v) at there same = absurd same
         pair i (own.Follower f) (own.Checkpointer t) at there same = absurd same
+        pair i (own.Follower f) (own.Archiver r) at there same = absurd same
         pair i (own.User u) (own.Follower g) at there same = absurd same
         pair i (own.Writer s) (own.Follower g) at there same = absurd same
         pair i (own.Flusher t) (own.Follower g) at there same = absurd same
         pair i (own.Closer t) (own.Follower g) at there same = absurd same
         pair i (own.Cleaner v) (own.Follower g) at there same = absurd same
         pair i (own.Checkpointer t) (own.Follower g) at there same = absurd same
+        pair i (own.Archiver r) (own.Follower g) at there same = absurd same
         pair i _ _ at there same = tt
 
     module _ (told : logs.Tells by.last.log) where

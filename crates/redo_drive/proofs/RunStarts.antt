@@ -49,7 +49,7 @@ use Rattle.redo_drive.proofs.StartWordsPages.{has_opened_pages}
 use Rattle.redo_drive.proofs.UserLines.{of_script, of_user}
 use Rattle.redo_drive.specs.Beginning.{HaveBegun}
 use Rattle.redo_drive.specs.Startable.{AreNewFollowers, HasReading, MayBegin}
-use Rattle.redo_drive.specs.Begins.{BeginsRun}
+use Rattle.redo_drive.specs.Begins.{BeginsWith}
 use Rattle.redo_drive.specs.Lists.{Listings, empty_lists, lists_of}
 use Rattle.redo_drive.specs.Making.{IsOwnOf}
 use Rattle.redo_drive.specs.Playing.{RunOf, run_data_side, run_log_side}
@@ -142,12 +142,12 @@ got_none stands None = tt
 got_none stands (Some f) = λ before is. subst (λ (l : List Given). stands f.receiver l) (sym (append-nil before)) is
 
 module _ {L D R : Type 0} (log_seen : L → Seen) (data_seen : D → Seen) (stands : R → List Given → Type 0)
-    (opened : Opened L D) (script : List ScriptLine) (log_only : Bool) (followers : List (Following R))
+    (opened : Opened L D) (script : List ScriptLine) (log_only archive : Bool) (followers : List (Following R))
     (may : MayBegin opened script log_only) (new : AreNewFollowers opened.start followers) (own : Own R)
-    (owns : IsOwnOf opened.shape opened.pages script opened.start log_only followers own) where
+    (owns : IsOwnOf opened.shape opened.pages script opened.start log_only archive followers own) where
   -- the run
   abbrev setup : Setup
-  setup = setup_of opened.shape opened.pages opened.start script log_only (length followers)
+  setup = setup_of opened.shape opened.pages opened.start script log_only archive (length followers)
 
   abbrev run : RunOf L D
   run = record { setup = setup; shape = opened.shape; first_log = opened.log; first_data = opened.store }
@@ -194,7 +194,7 @@ module _ {L D R : Type 0} (log_seen : L → Seen) (data_seen : D → Seen) (stan
   fit user k one at = (of_user (LineFits opened.shape) script user k one may.fits.lines at).0
 
   new_actors : (seat : ℕ) (a : Actor) → get_elem? (views_of own.actors.items) seat ≡ some a → IsNew setup seat_of writer seat a
-  new_actors seat a at = are_new opened.shape opened.pages opened.start script log_only (length followers)
+  new_actors seat a at = are_new opened.shape opened.pages opened.start script log_only archive (length followers)
       new.few may.lines may.fits.lines place seat a
       (subst (λ (actors : List Actor). get_elem? actors seat ≡ some a) owns.actors at)
 
@@ -211,7 +211,7 @@ module _ {L D R : Type 0} (log_seen : L → Seen) (data_seen : D → Seen) (stan
   -- what stands at its start
   store_start : StartStore log_part data_part setup words.by_name opened.log opened.store seat_of writer (views_of own.actors.items)
   store_start = record {
-    script = scripted setup script opened.shape may.runnable.limits refl refl (of_script opened.shape opened.pages opened.start script log_only (length followers) new.few) fit;
+    script = scripted setup script opened.shape may.runnable.limits refl refl (of_script opened.shape opened.pages opened.start script log_only archive (length followers) new.few) fit;
     some_page = may.runnable.limits.some_pages;
     words = words.of_log;
     page_words = words.of_pages;
@@ -230,7 +230,7 @@ module _ {L D R : Type 0} (log_seen : L → Seen) (data_seen : D → Seen) (stan
   is_running =
       let room : lsn (setup.base + sum_over_actors left_to_reserve (views_of own.actors.items) + 0) < LSN_LIMIT =
       subst (λ (actors : List Actor). lsn (setup.base + sum_over_actors left_to_reserve actors + 0) < LSN_LIMIT) (sym owns.actors)
-      (room_for_all opened.shape script opened.start log_only (length followers) may.fits.lines may.fits.end) in
+      (room_for_all opened.shape script opened.start log_only archive (length followers) may.fits.lines may.fits.end) in
       let none : ◌≡◌ {A = ℕ → List Listed} (lists_of own.lists) (λ _. []) = λ k i. none_at i k in
       subst (λ (lists : ℕ → List Listed). RunningStore log_part data_part setup 0 own.words.words lists opened.log opened.store (views_of own.actors.items)) (sym none)
       (store_starts log_part data_part setup words.by_name opened.log opened.store seat_of writer (views_of own.actors.items) store_start 0 own.words.words words.in_order room)
@@ -245,7 +245,7 @@ module _ {L D R : Type 0} (log_seen : L → Seen) (data_seen : D → Seen) (stan
     word_pages = owns.word_pages ∙ may.runnable.its_pages.count;
     list_pages = ap (λ (lists : Listings). lists.pages) owns.lists;
     running = is_running;
-    seated = subst (AreSeated setup) (sym owns.actors) (are_seated opened.shape opened.pages opened.start script log_only (length followers)
+    seated = subst (AreSeated setup) (sym owns.actors) (are_seated opened.shape opened.pages opened.start script log_only archive (length followers)
         new.few may.lines may.fits.lines);
   }
 
@@ -283,7 +283,7 @@ module _ {L D R : Type 0} (log_seen : L → Seen) (data_seen : D → Seen) (stan
       }
 
   -- its parts and actors stand at the beginning of the run
-  pub begins : BeginsRun log_seen data_seen stands opened script log_only followers start
+  pub begins : BeginsWith log_seen data_seen stands opened script log_only archive followers start
   begins = record {
     run = run;
     is_run = record {
@@ -292,9 +292,9 @@ module _ {L D R : Type 0} (log_seen : L → Seen) (data_seen : D → Seen) (stan
       first_data = refl;
       start = place;
       log_only_is = refl;
-      first_reader = refl;
+      first_is = refl;
       last_reader = refl;
-      of_script = of_script opened.shape opened.pages opened.start script log_only (length followers) new.few;
+      of_script = of_script opened.shape opened.pages opened.start script log_only archive (length followers) new.few;
       its_pages = has_opened_pages setup (record { shape = opened.shape; pages = opened.pages; end = 0 }) may.runnable.limits may.runnable.its_pages (sym may.runnable.its_pages.count) refl (λ p there. refl);
     };
     at_start = record {
@@ -313,7 +313,7 @@ module _ {L D R : Type 0} (log_seen : L → Seen) (data_seen : D → Seen) (stan
       none_listed = none_at;
     };
     from = from;
-    followers = owns.followers;
+    followers = owns.readers;
     log = refl;
     data_part = refl;
     no_entries = owns.no_entries;

@@ -1,5 +1,5 @@
 -- The followers in their seats, after the other actors.
-use Rattle.std.proofs.Common.{Bool, Err, List, Ok, Result, [], ap, arith, length, length-append, map, refl, suc}
+use Rattle.std.proofs.Common.{Bool, Err, List, Ok, Result, [], ap, append_assoc, arith, length, length-append, map, refl, suc, true}
 use Rattle.std.proofs.Common.{ℕ, ◌++◌, ◌+◌, ◌-◌, ◌∙◌, ◌∷◌, ◌≡◌}
 use Rattle.std.specs.Prelude.{IfOk}
 use Rattle.std.proofs.lemmas.List.{drop_at, length-map, map-append}
@@ -10,7 +10,7 @@ use Rattle.model_core.specs.Actors as model
 use Rattle.model_core.specs.{new_reader}
 use Rattle.model_script.specs.declared.script.ScriptLine.{ScriptLine}
 use Rattle.redo_drive.specs.Making.{EndsWithFollowers}
-use Rattle.redo_drive.specs.Setups.{followers_from, seated_before, start_actors}
+use Rattle.redo_drive.specs.Setups.{followers_from, seated_actors, seated_before}
 use Rattle.redo_drive.specs.Startable.{AreNewFollowers}
 use Rattle.redo_drive.specs.Views.{view_of, views_of}
 use Rattle.redo_drive.specs.declared.actor.Actor.{Actor}
@@ -31,13 +31,28 @@ followers_seen start number (f ∷ fs) each =
     ∙ ap (λ (n : ℕ). new_reader n start) (let e : number + suc i ≡ number + 1 + i = omega arith in e)))
 
 module _ {R : Type 0} (before : List (Actor R)) (fs : List (Following R)) where
-  pub all_seated : (shape : Shape) (script : List ScriptLine) (start : ℕ) (log_only : Bool) → AreNewFollowers start fs
-      → views_of before ≡ seated_before shape script start log_only (length fs)
-      → views_of (before ++ map own.Follower fs) ≡ start_actors shape script start log_only (length fs)
-  all_seated shape script start log_only new are =
+  -- the followers sit right behind the other actors,
+  pub all_seated : (shape : Shape) (script : List ScriptLine) (start : ℕ) (log_only archive : Bool) → AreNewFollowers start fs
+      → views_of before ≡ seated_before shape script start log_only archive (length fs)
+      → views_of (before ++ map own.Follower fs)
+      ≡ seated_before shape script start log_only archive (length fs) ++ followers_from start FIRST_FOLLOWER (length fs)
+  all_seated shape script start log_only archive new are =
       map-append view_of before (map own.Follower fs)
       ∙ ap (λ (l : List model.Actor). l ++ views_of (map own.Follower fs)) are
-      ∙ ap (λ (l : List model.Actor). seated_before shape script start log_only (length fs) ++ l)
+      ∙ ap (λ (l : List model.Actor). seated_before shape script start log_only archive (length fs) ++ l)
+      (followers_seen start FIRST_FOLLOWER fs new.each)
+
+  -- or behind the archiver
+  pub seated_behind : (shape : Shape) (script : List ScriptLine) (start : ℕ) (log_only : Bool) → AreNewFollowers start fs
+      → views_of before ≡ seated_before shape script start log_only true (length fs)
+      → views_of ((before ++ own.Archiver (new_reader 0 start) ∷ []) ++ map own.Follower fs)
+      ≡ seated_actors shape script start log_only true (length fs)
+  seated_behind shape script start log_only new are =
+      ap views_of (append_assoc before (own.Archiver (new_reader 0 start) ∷ []) (map own.Follower fs))
+      ∙ map-append view_of before (own.Archiver (new_reader 0 start) ∷ map own.Follower fs)
+      ∙ ap (λ (l : List model.Actor). l ++ views_of (own.Archiver (new_reader 0 start) ∷ map own.Follower fs)) are
+      ∙ ap (λ (l : List model.Actor). seated_before shape script start log_only true (length fs)
+      ++ model.Reader (new_reader 0 start) ∷ l)
       (followers_seen start FIRST_FOLLOWER fs new.each)
 
   pub ends_so : EndsWithFollowers (before ++ map own.Follower fs) fs

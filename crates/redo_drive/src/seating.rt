@@ -7,7 +7,7 @@ ghost use Rattle.model_core.specs.declared.limits.TheConstants.{READERS};
 ghost use Rattle.model_log.specs.{IsAtDataStart};
 ghost use Rattle.model_base.specs.declared.limits.TheConstants.{FIRST_DATA_LSN};
 ghost use Rattle.model_script.specs.{IsScriptLine, LineFits};
-ghost use Rattle.redo_drive.specs.Making.{EndsWithFollowers};
+ghost use Rattle.redo_drive.specs.Making.{EndsWithReaders};
 ghost use Rattle.redo_drive.specs.Setups.{first_reader, seated_actors, seated_before, user_lines, users_of};
 ghost use Rattle.redo_drive.specs.Startable.{AreNewFollowers};
 ghost use Rattle.redo_drive.specs.Views.{views_of};
@@ -147,7 +147,7 @@ pub fn seat_actors<R: Receiver + Drop>(
     requires small { start < 2 ^ 61 }
     requires new { AreNewFollowers start followers.items }
     ensures actors { IfOk result (λ actors. views_of actors.items ≡ seated_actors shape.now script.now start log_only archive (length followers.items)) }
-    ensures followers { IfOk result (λ actors. EndsWithFollowers actors.items followers.items) }
+    ensures readers { IfOk result (λ actors. EndsWithReaders start archive actors.items followers.items) }
 {
     let count = followers.len() as u32;
     let mut actors = seat_others(alloc, script, shape, start, log_only, archive, count)?;
