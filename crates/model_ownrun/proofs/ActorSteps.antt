@@ -6,7 +6,7 @@ use lib.ListN.{get_elem?}
 use mathlib.Core.Option.{some}
 use Rattle.model_core.proofs.Lists.{set_at}
 use Rattle.model_core.specs.{Actor, Batch, Blocks, checked, checked_of, DataServed, flusher_op, flusher_took, heard}
-use Rattle.model_core.specs.{is_checking, Lent, lent, Listed, LogServed, Nothing, old_of, own_op, own_took, SharedWords}
+use Rattle.model_core.specs.{is_checking, Lent, lent, Listed, LogServed, next, Nothing, old_of, own_op, own_took, SharedWords}
 use Rattle.model_core.specs.{user_op, user_program, user_took, UserState, writer_op, writer_took}
 use Rattle.model_core.specs.DataSide.{DataSide}
 use Rattle.model_core.specs.LogSide.{LogSide}
@@ -32,7 +32,7 @@ use Rattle.model_own.specs.OwnWrites.{MayHelpAt}
 use Rattle.model_pagecore.specs.{PageGhost, UserHasLatch}
 use Rattle.model_pagecore.specs.DataLaws.{DataLaws}
 use Rattle.model_pagecore.specs.PageHalf.{UserPageFits, UserPagesAt}
-use Rattle.model_running.proofs.Archiving.{calls_none, IsNoReader}
+use Rattle.model_running.proofs.Archiving.{IsNoReader, others_append_not, served_none}
 use Rattle.model_running.proofs.BothKeep.{keeps_both}
 use Rattle.model_running.proofs.ReadStays.{IsFilled}
 use Rattle.model_running.specs.RunningStore.{BothHalves}
@@ -60,7 +60,7 @@ module _ (D : LogSide) (L : LogLaws D) (E : DataSide) (EL : DataLaws E) (c : Set
     taken : IsFilled a → IsNoReader a → (code : ℕ) (q : D.Part) (e : E.Part) → Taken (is_checking a) code q e
     taken full other code q e served stored =
         let left = keeps_both D L E EL c spare m runs.0 runs.1 ls p d actors seat runs.2 code q e a at full served
-        stored (calls_none a other code) in
+        stored (served_none (next a) (others_append_not a other) code) in
         (left.log_ghost, left.page_ghost, left.both)
 
     -- the turn of an actor that doesn't check for a failure

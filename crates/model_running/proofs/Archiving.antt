@@ -5,7 +5,7 @@ use mathlib.Core.Option.{some, some-injective}
 use native.Mathlib.Decide.{ℕ_discrete}
 use Rattle.model_core.proofs.Later.{took_later}
 use Rattle.model_core.proofs.Lists.{set_at, set_else}
-use Rattle.model_core.specs.{Actor, after_of, archives, checkpointer_op, CheckpointerState, cleaner_op, CleanerState, closer_op, CloserState, flusher_op, FlusherState, followed, has_all, HasLost, is_checking, IsArchiveCode, IsLosing, LostAt, next, old_of, own_op, OwnServed, reader_op, reader_program, reader_took, ReaderState, to_append, took, user_op, UserState, writer_op, WriterState}
+use Rattle.model_core.specs.{Actor, after_of, archives, checkpointer_op, CheckpointerState, cleaner_op, CleanerState, closer_op, CloserState, flusher_op, FlusherState, followed, has_all, HasLost, IsArchiveCode, IsLosing, LostAt, next, old_of, OwnServed, reader_op, reader_program, reader_took, ReaderState, to_append, took, user_op, UserState, writer_op, WriterState}
 use Rattle.model_core.specs.Setup.{Setup}
 use Rattle.model_core.specs.declared.ops.Answer.{Answer}
 use Rattle.model_core.specs.declared.ops.Op.{Op}
@@ -27,6 +27,7 @@ use Rattle.model_core.specs.declared.words.Word.TheVariants as word
 use Rattle.model_core.specs.declared.steps.ReaderStep.{ReaderStep}
 use Rattle.model_core.specs.declared.steps.ReaderStep.TheVariants as reader_step
 use Rattle.model_core.specs.Actors as actor
+use Rattle.model_running.specs.Appending.{IsNoAppend}
 use Rattle.model_running.specs.ReadHalf.{ReadsInRun, StaysInRun}
 
 -- a reader that has lost an append is at its end
@@ -91,60 +92,62 @@ abbrev pub IsNoReader : Actor → Type 0
 IsNoReader (actor.Reader r) = ⊥
 IsNoReader _ = Unit {0}
 
--- no other actor calls a device of its own
-user_calls : (u : UserState) (f : UserStep) (code : ℕ) → OwnServed (user_op u f) code
-user_calls u (user_step.AdvanceWritten advance_step.LoadTail) code = tt
-user_calls u (user_step.AdvanceClosed advance_step.LoadTail) code = tt
-user_calls u _ code = tt
+-- THE ARCHIVER ALONE APPENDS: any other Op calls no device of its actor's own
+pub served_none : (o : Op) → IsNoAppend o → (code : ℕ) → OwnServed o code
+served_none (op.Append x) other code = absurd other
+served_none (op.Load w) other code = tt
+served_none _ other code = tt
 
-writer_calls : (s : WriterState) (f : WriterStep) (code : ℕ) → OwnServed (writer_op s f) code
-writer_calls s (writer_step.Advance advance_step.LoadTail) code = tt
-writer_calls s _ code = tt
+user_appends : (u : UserState) (f : UserStep) → IsNoAppend (user_op u f)
+user_appends u (user_step.AdvanceWritten advance_step.LoadTail) = tt
+user_appends u (user_step.AdvanceClosed advance_step.LoadTail) = tt
+user_appends u _ = tt
 
-flusher_calls : (t : FlusherState) (f : FlusherStep) (code : ℕ) → OwnServed (flusher_op t f) code
-flusher_calls t flusher_step.LoadWrite code = tt
-flusher_calls t _ code = tt
+writer_appends : (s : WriterState) (f : WriterStep) → IsNoAppend (writer_op s f)
+writer_appends s (writer_step.Advance advance_step.LoadTail) = tt
+writer_appends s _ = tt
 
-closer_calls : (t : CloserState) (f : CloserStep) (code : ℕ) → OwnServed (closer_op t f) code
-closer_calls t (closer_step.Advance advance_step.LoadTail) code = tt
-closer_calls t _ code = tt
+flusher_appends : (t : FlusherState) (f : FlusherStep) → IsNoAppend (flusher_op t f)
+flusher_appends t flusher_step.LoadWrite = tt
+flusher_appends t _ = tt
 
-cleaner_calls : (v : CleanerState) (f : CleanerStep) (code : ℕ) → OwnServed (cleaner_op v f) code
-cleaner_calls v cleaner_step.LoadFlushed code = tt
-cleaner_calls v _ code = tt
+closer_appends : (t : CloserState) (f : CloserStep) → IsNoAppend (closer_op t f)
+closer_appends t (closer_step.Advance advance_step.LoadTail) = tt
+closer_appends t _ = tt
 
-checkpointer_calls : (t : CheckpointerState) (f : CheckpointerStep) (code : ℕ) → OwnServed (checkpointer_op t f) code
-checkpointer_calls t checkpointer_step.LoadCtail code = tt
-checkpointer_calls t _ code = tt
+cleaner_appends : (v : CleanerState) (f : CleanerStep) → IsNoAppend (cleaner_op v f)
+cleaner_appends v cleaner_step.LoadFlushed = tt
+cleaner_appends v _ = tt
 
--- nor does a reader but at its append
-reader_calls : (r : ReaderState) (f : ReaderStep) (code : ℕ) → (f ≡ reader_step.Append → ⊥) → OwnServed (reader_op r f) code
-reader_calls r reader_step.Append code other = absurd (other refl)
-reader_calls r reader_step.LoadFlushed code other = tt
-reader_calls r _ code other = tt
+checkpointer_appends : (t : CheckpointerState) (f : CheckpointerStep) → IsNoAppend (checkpointer_op t f)
+checkpointer_appends t checkpointer_step.LoadCtail = tt
+checkpointer_appends t _ = tt
 
-own_calls : (a : Actor) → IsNoReader a → (code : ℕ) → OwnServed (own_op a) code
-own_calls (actor.User u) other code = user_calls u u.step code
-own_calls (actor.Writer s) other code = writer_calls s s.step code
-own_calls (actor.Flusher t) other code = flusher_calls t t.step code
-own_calls (actor.Closer t) other code = closer_calls t t.step code
-own_calls (actor.Cleaner v) other code = cleaner_calls v v.step code
-own_calls (actor.Checkpointer t) other code = checkpointer_calls t t.step code
-own_calls (actor.Reader r) other code = absurd other
-own_calls (actor.Joined es) other code = tt
+reader_appends : (r : ReaderState) (f : ReaderStep) → (f ≡ reader_step.Append → ⊥) → IsNoAppend (reader_op r f)
+reader_appends r reader_step.Append other = absurd (other refl)
+reader_appends r reader_step.LoadFlushed other = tt
+reader_appends r _ other = tt
 
-checking_calls : (b : Bool) (o : Op) (code : ℕ) → OwnServed o code → OwnServed (cond b (op.Load word.Failed) o) code
-checking_calls true o code served = tt
-checking_calls false o code served = served
+checking_appends : (b : Bool) (o : Op) → IsNoAppend o → IsNoAppend (cond b (op.Load word.Failed) o)
+checking_appends true o none = tt
+checking_appends false o none = none
 
-pub calls_none : (a : Actor) → IsNoReader a → (code : ℕ) → OwnServed (next a) code
-calls_none a other code = checking_calls (is_checking a) (own_op a) code (own_calls a other code)
+-- neither does an actor that is no reader, nor a follower
+pub others_append_not : (a : Actor) → IsNoReader a → IsNoAppend (next a)
+others_append_not (actor.User u) other = checking_appends u.checks (user_op u u.step) (user_appends u u.step)
+others_append_not (actor.Writer s) other = checking_appends s.checks (writer_op s s.step) (writer_appends s s.step)
+others_append_not (actor.Flusher t) other = checking_appends t.checks (flusher_op t t.step) (flusher_appends t t.step)
+others_append_not (actor.Closer t) other = checking_appends t.checks (closer_op t t.step) (closer_appends t t.step)
+others_append_not (actor.Cleaner v) other = checking_appends v.checks (cleaner_op v v.step) (cleaner_appends v v.step)
+others_append_not (actor.Checkpointer t) other =
+    checking_appends t.checks (checkpointer_op t t.step) (checkpointer_appends t t.step)
+others_append_not (actor.Reader r) other = absurd other
+others_append_not (actor.Joined es) other = tt
 
--- nor a follower
-pub follower_calls_none : (c : Setup) (r : ReaderState) → ReadsInRun c r → 0 < c.first_reader → (code : ℕ)
-    → OwnServed (next (actor.Reader r)) code
-follower_calls_none c r I followers code = checking_calls r.checks (reader_op r r.step) code
-    (reader_calls r r.step code appends_not)
+pub followers_append_not : (c : Setup) (r : ReaderState) → ReadsInRun c r → 0 < c.first_reader
+    → IsNoAppend (next (actor.Reader r))
+followers_append_not c r I followers =
+    checking_appends r.checks (reader_op r r.step) (reader_appends r r.step appends_not)
   where
     appends_not : r.step ≡ reader_step.Append → ⊥
     appends_not is =
@@ -152,6 +155,17 @@ follower_calls_none c r I followers code = checking_calls r.checks (reader_op r 
         let first = I.first in
         let same = eqb-true r.number 0 k.0 in
         omega arith
+
+-- so in a run without an archiver none does
+pub none_appends : (c : Setup) (a : Actor) → StaysInRun c a → 0 < c.first_reader → IsNoAppend (next a)
+none_appends c (actor.Reader r) I followers = followers_append_not c r I followers
+none_appends c (actor.User u) I followers = others_append_not (actor.User u) tt
+none_appends c (actor.Writer s) I followers = others_append_not (actor.Writer s) tt
+none_appends c (actor.Flusher t) I followers = others_append_not (actor.Flusher t) tt
+none_appends c (actor.Closer t) I followers = others_append_not (actor.Closer t) tt
+none_appends c (actor.Cleaner v) I followers = others_append_not (actor.Cleaner v) tt
+none_appends c (actor.Checkpointer t) I followers = others_append_not (actor.Checkpointer t) tt
+none_appends c (actor.Joined es) I followers = tt
 
 -- no other actor becomes a reader
 pub stays_other : (a : Actor) (y : Answer) → IsNoReader a → (r : ReaderState) → took a y ≡ actor.Reader r → ⊥

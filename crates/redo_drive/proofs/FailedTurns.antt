@@ -1,5 +1,5 @@
 -- A turn that ends by a failure leaves a code in FAILED, and that has a cause.
-use Rattle.std.proofs.Common.{List, ap, subst, sym, ℕ, ◌<◌, ◌∙◌, ◌≡◌, ◌⊎◌}
+use Rattle.std.proofs.Common.{List, ap, inl, inr, subst, sym, ℕ, ⊎_elim, ◌<◌, ◌∙◌, ◌≡◌, ◌⊎◌}
 use Rattle.std.specs.Prelude.{slice_index}
 use lib.ListN.{get_elem?}
 use mathlib.Core.Option.{some}
@@ -15,10 +15,11 @@ use Rattle.model_core.proofs.Lists.{set_at}
 use Rattle.model_logcore.specs.LogLaws.{LogLaws}
 use Rattle.model_logcore.proofs.Failures.{met}
 use Rattle.model_pagecore.specs.DataLaws.{DataLaws}
+use Rattle.model_running.proofs.Archiving.{none_loses}
 use Rattle.model_running.proofs.Watermarks.{has_watermarks}
 use Rattle.model_running.specs.{IsRunning}
 
-module _ (D : LogSide) (L : LogLaws D) (E : DataSide) (EL : DataLaws E) (c : Setup) (spare : ℕ) (old new : Core D E) (seat : ℕ) (answer : Answer) (ends : Step) (running : IsRunning D E c spare new) (t : Turn D E old seat answer ends new) where
+module _ (D : LogSide) (L : LogLaws D) (E : DataSide) (EL : DataLaws E) (c : Setup) (spare : ℕ) (old new : Core D E) (seat : ℕ) (answer : Answer) (ends : Step) (running : IsRunning D E c spare new) (followers : 0 < c.first_reader) (t : Turn D E old seat answer ends new) where
   pub failed_turn_has_cause : (code : ℕ) → ends ≡ step.Failed code → D.Cause new.log_part (slice_index new.words 6) ⊎ E.Cause new.data_part (slice_index new.words 6)
   failed_turn_has_cause code is =
       let W = has_watermarks D L E EL c spare new running in
@@ -28,4 +29,7 @@ module _ (D : LogSide) (L : LogLaws D) (E : DataSide) (EL : DataLaws E) (c : Set
       subst (λ (actors : List Actor). get_elem? actors seat ≡ some who) (sym t.actors) (set_at old.actors seat t.who who t.who_is) in
       let shown : 0 < W.0.failed = W.2.of_log.failures_show seat who there (met with answer code (sym t.ends ∙ is)) in
       let same : slice_index new.words 6 ≡ W.0.failed = ap (λ (ws : List ℕ). slice_index ws 6) W.1 in
-      subst (λ (n : ℕ). D.Cause new.log_part n ⊎ E.Cause new.data_part n) (sym same) (W.2.failure_has_cause.cause shown)
+      subst (λ (n : ℕ). D.Cause new.log_part n ⊎ E.Cause new.data_part n) (sym same)
+      (⊎_elim (λ cause. inl cause) (⊎_elim (λ cause. inr cause)
+      (λ lost. absurd (none_loses c new.actors running.both.in_run followers W.0.failed lost)))
+      (W.2.failure_has_cause.cause shown))

@@ -3,6 +3,7 @@ use Rattle.std.proofs.Common.{List, ap, arith, slice_index, ℕ, ⊎_elim, ◌<�
 use native.Mathlib.Decide.{dec_le}
 use Rattle.model_core.specs.{Actor, index}
 use Rattle.model_core.specs.declared.words.Word.TheVariants as word
+use Rattle.model_running.proofs.Archiving.{lost_small}
 use Rattle.redo_disk.specs.Seen.{Seen}
 use Rattle.redo_drive.proofs.Devices.{code_is_small}
 use Rattle.redo_drive.specs.Playing.{RunOf}
@@ -17,7 +18,9 @@ small_code log_seen data_seen run parts actors runs =
     elim (dec_le 1 m.failed) [
       | yes met ↦ ⊎_elim
           (λ cause. let z = (code_is_small Log cause.fault).1 in let e = cause.code_is in omega arith)
+          (⊎_elim
           (λ cause. let z = (code_is_small Data cause.fault).1 in let e = cause.code_is in omega arith)
+          (λ cause. let z = lost_small run.setup actors runs.running.both.in_run m.failed cause in omega arith))
           (runs.running.both.cause met)
       | no none ↦ omega arith
     ]

@@ -55,6 +55,8 @@ lent_by r texts reader_step.StorePlace = refl
 lent_by r texts reader_step.StoreFailed = refl
 lent_by r texts reader_step.GiveFailed = refl
 lent_by r texts reader_step.Failed = refl
+lent_by r texts reader_step.Append = refl
+lent_by r texts reader_step.StoreLost = refl
 
 pub lent_filled : (who : model.Actor) (texts : List (List ℕ))
     → ◌≡◌ {A = model.Lent} (lent (filled who (filling_of who texts))) (lent who)
@@ -83,6 +85,8 @@ read_at r x = by r.checks r.step
     by false reader_step.StoreFailed is = absurd (cc)
     by false reader_step.GiveFailed is = absurd (cc)
     by false reader_step.Failed is = absurd (cc)
+    by false reader_step.Append is = absurd (cc)
+    by false reader_step.StoreLost is = absurd (cc)
 
 filled_at : (r : ReaderState) (f : Filling) → r.step ≡ reader_step.ReadBlock
     → ◌≡◌ {A = model.Actor} (filled (model.Reader r) f) (model.Reader (record r { block = f.block }))

@@ -13,11 +13,12 @@ use Rattle.model_base.specs.declared.shape.Shape.{Shape}
 use Rattle.model_core.specs.DataSide.{DataSide}
 use Rattle.model_core.specs.LogSide.{LogSide}
 use Rattle.model_core.proofs.Lsns.{lsn_le}
-use Rattle.model_core.specs.{archives, Given, lsn, ReaderState, SharedWords}
+use Rattle.model_core.specs.{archives, Given, HasLost, lsn, ReaderState, SharedWords}
 use Rattle.model_core.specs.Actors as model
 use Rattle.model_core.specs.Hands.{HoldsNothing}
 use Rattle.model_device.specs.{synced}
 use Rattle.model_device.specs.Disk.{Disk}
+use Rattle.model_running.proofs.Archiving.{none_loses}
 use Rattle.model_running.proofs.ClosedStore.{held_run}
 use Rattle.model_running.proofs.Finished.{finished_groups, finished_losses, finished_run, marks_same}
 use Rattle.model_running.proofs.Places.{bound_spans, history_spans}
@@ -126,10 +127,15 @@ module _ {L D R : Type 0} (log_seen : L → Seen) (log_gives : L → Call → L 
       subst (IsRun script was) ran_is
       (finished_run logs run.setup 0 by.from.runs.running.shared by.from.runs.running.log_ghost by.last.log (views_of actors) by.from.runs.running.both.logged script was by.is_run.of_script (by.is_run.start ∙ start))
 
-  causes : HasMemory driven.closed → CausesAreFailures logs datas (failed_in driven.closed) by.last.log by.last.store
+  -- there is no archiver
+  none_lost : (code : ℕ) → HasLost (views_of actors) code → ⊥
+  none_lost = none_loses run.setup (views_of actors) by.from.runs.running.both.in_run by.from.runs.followers
+
+  causes : HasMemory driven.closed → CausesAreFailures logs datas (failed_in driven.closed) by.last.log by.last.store (views_of actors)
   causes memory = record {
     log = λ code cause. failure_counts cause.fault driven.closed.log.failed driven.closed.store.failed (ap (λ (z : log.Part L). z.failed) by.log ∙ cause.failed) (λ none. memory (inl none));
     data_part = λ code cause. let n = failure_counts cause.fault driven.closed.store.failed driven.closed.log.failed (ap (λ (z : store.Part D). z.failed) by.data_part ∙ cause.failed) (λ none. let m = memory (inr none) in omega arith) in omega arith;
+    archive = λ code lost. absurd (none_lost code lost);
   }
 
   loses : (left : List (ℕ × ℕ)) → HaveEnded (views_of actors) → HasMemory driven.closed → IsLeft script driven.closed.history left → LosesOnlyByFailure (failed_in driven.closed) (Some ran) left
@@ -138,7 +144,7 @@ module _ {L D R : Type 0} (log_seen : L → Seen) (log_gives : L → Call → L 
       subst (λ (z : theorem.Ran). LosesOnlyByFailure (failed_in driven.closed) (Some z) left) ran_is
       (finished_losses logs run.setup 0 by.from.runs.running.shared by.from.runs.running.log_ghost by.last.log (views_of actors) by.from.runs.running.both.logged script opened.shape (failed_in driven.closed) left
       (seated_end run.setup (views_of actors) by.from.runs.seated ended) by.is_run.of_script (seated_seats run.setup (views_of actors) by.from.runs.seated script opened.shape by.is_run.of_script)
-      (λ failed. ⊎_elim (λ c. cause.log by.from.runs.running.shared.failed c) (λ c. cause.data_part by.from.runs.running.shared.failed c) (by.from.runs.running.both.cause failed)) (left_of_run left left_is))
+      (λ failed. ⊎_elim (λ c. cause.log by.from.runs.running.shared.failed c) (⊎_elim (λ c. cause.data_part by.from.runs.running.shared.failed c) (λ c. cause.archive by.from.runs.running.shared.failed c)) (by.from.runs.running.both.cause failed)) (left_of_run left left_is))
 
   -- the devices came here by calls, the log's and the data's
   log_calls : MayBegin opened script log_only → CallsOn log_gives opened.log.dev None driven.closed.log.dev driven.closed.log.failed
@@ -160,10 +166,12 @@ module _ {L D R : Type 0} (log_seen : L → Seen) (log_gives : L → Call → L 
   }
 
   -- FAILED's code comes of an error that a device's call answered
-  pub met_error : HasFailedPart logs datas by.last.log by.last.store → HasMetError driven.closed
+  pub met_error : HasFailedPart logs datas by.last.log by.last.store (views_of actors) → HasMetError driven.closed
   met_error (code, cause) = ⊎_elim
       (λ c. inl (λ none. let is : driven.closed.log.failed ≡ Some c.fault = ap (λ (z : log.Part L). z.failed) by.log ∙ c.failed in absurd (cc)))
-      (λ c. inr (λ none. let is : driven.closed.store.failed ≡ Some c.fault = ap (λ (z : store.Part D). z.failed) by.data_part ∙ c.failed in absurd (cc))) cause
+      (⊎_elim
+      (λ c. inr (λ none. let is : driven.closed.store.failed ≡ Some c.fault = ap (λ (z : store.Part D). z.failed) by.data_part ∙ c.failed in absurd (cc)))
+      (λ lost. absurd (none_lost code lost))) cause
 
   module _ (may : MayBegin opened script log_only) (reading : Reading) (as_read : HasReading reading opened) where
     its_pages : HasItsPages run.setup (opened_as reading)
@@ -257,8 +265,10 @@ module _ {L D R : Type 0} (log_seen : L → Seen) (log_gives : L → Call → L 
     | yes positive ↦ ⊎_elim
         (λ c. let is : driven.closed.log.failed ≡ Some c.fault = ap (λ (z : log.Part L). z.failed) by.log ∙ c.failed in
         absurd (cc))
+        (⊎_elim
         (λ c. let is : driven.closed.store.failed ≡ Some c.fault = ap (λ (z : store.Part D). z.failed) by.data_part
         ∙ c.failed in absurd (cc))
+        (λ lost. absurd (none_lost by.from.runs.running.shared.failed lost)))
         (by.from.runs.running.both.cause positive)
     | no none ↦ omega arith
   ]

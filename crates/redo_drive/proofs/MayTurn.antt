@@ -26,6 +26,7 @@ use Rattle.model_logcore.specs.Ready.{Ready}
 use Rattle.model_pagecore.specs.{CanBatch}
 use Rattle.model_pagecore.specs.DataLaws.{DataLaws}
 use Rattle.model_running.proofs.AnswersFitAll.{answer_fits}
+use Rattle.model_running.proofs.Archiving.{none_appends}
 use Rattle.model_running.proofs.BothReady as both_ready
 use Rattle.model_running.proofs.FlatWords.{flat_answer}
 use Rattle.model_running.proofs.InRun.{next_in_run}
@@ -182,6 +183,8 @@ mark_given ls broken code mark m low r false reader_step.StorePlace = tt
 mark_given ls broken code mark m low r false reader_step.StoreFailed = tt
 mark_given ls broken code mark m low r false reader_step.GiveFailed = tt
 mark_given ls broken code mark m low r false reader_step.Failed = tt
+mark_given ls broken code mark m low r false reader_step.Append = tt
+mark_given ls broken code mark m low r false reader_step.StoreLost = tt
 
 module _ {L D : Type 0} (log_seen : L → Seen) (data_seen : D → Seen) (run : RunOf L D) (parts : Parts L D) (actors : List model.Actor) (R : RunsOn log_seen data_seen run parts actors)
     (log_laws : LogLaws (run_log_side log_seen data_seen run)) (data_laws : DataLaws (run_data_side log_seen data_seen run)) where
@@ -273,6 +276,7 @@ module _ {L D : Type 0} (log_seen : L → Seen) (data_seen : D → Seen) (run : 
       log = log_call log_seen (log_seen run.first_log.dev).faults run.first_log.marks.number (log_part.HasBegun log_seen (lsn c.base) run.first_log) c W.log_ghost parts.log who W.both.logged.global.part.holds low_stable (next who) l lends
           (both_ready.log_ready A log_laws B data_laws c 0 W.shared W.log_ghost W.page_ghost ls parts.log parts.store
           actors seat W.both who at) reads;
+      own = none_appends c who (R.running.both.in_run seat who at) R.followers;
       data_part = data_call data_seen (data_seen run.first_data.dev).faults run.shape (data_part.HasBegun data_seen c.opened run.first_data) c R.its_pages R.its_page_size R.limits W.page_ghost.kept_page parts.store (next who) (lent who) l lends data_can;
     }
 

@@ -241,6 +241,7 @@ module _ {L D R : Type 0} (log_seen : L → Seen) (data_seen : D → Seen) (stan
     started = (let low = may.runnable.first in omega (arith, place));
     its_pages = refl;
     its_page_size = refl;
+    followers = omega arith;
     bytes = record { opened = owns.bytes; cells = λ user j k i. lines_get_bytes opened.shape opened.pages opened.start script log_only may.fits.lines user j k i };
     word_pages = owns.word_pages ∙ may.runnable.its_pages.count;
     list_pages = ap (λ (lists : Listings). lists.pages) owns.lists;

@@ -3,10 +3,10 @@ use Rattle.std.proofs.Common.{Bool, List, [], ap, append-nil, arith, cond, eqb, 
 use Rattle.std.proofs.Common.{true, ℕ, ◌<◌, ◌∙◌, ◌≡◌}
 use Rattle.std.proofs.lemmas.Bool.{ne_eqb}
 use Rattle.model_core.specs.Actors as model
-use Rattle.model_core.specs.{after_of, archived, archives, checked_of, filled, Filling, Fills, followed, Given}
+use Rattle.model_core.specs.{after_of, archives, checked_of, filled, Filling, Fills, followed, Given}
 use Rattle.model_core.specs.{has_all, is_none, old_of}
 use Rattle.model_core.specs.{placed_at, reader_ending, reader_holds, reader_program, reader_took, ReaderState}
-use Rattle.model_core.specs.{step_of, took}
+use Rattle.model_core.specs.{step_of, to_append, took}
 use Rattle.model_core.specs.ReaderProgram.{reader_filled, reader_fills}
 use Rattle.model_core.specs.declared.ops.Answer.{Answer}
 use Rattle.model_core.specs.declared.ops.Step.{Step}
@@ -95,11 +95,13 @@ number_took r a reader_step.TakeDevice = refl
 number_took r a reader_step.GiveBroken = refl
 number_took r a reader_step.ReadBlock = refl
 number_took r a reader_step.GiveDevice =
-    number_either (archives r) (archived r) (followed r) r.number refl refl
+    number_either (archives r) (to_append r) (followed r) r.number refl refl
 number_took r a reader_step.StorePlace = refl
 number_took r a reader_step.StoreFailed = refl
 number_took r a reader_step.GiveFailed = refl
 number_took r a reader_step.Failed = refl
+number_took r a reader_step.Append = refl
+number_took r a reader_step.StoreLost = refl
 
 pub number_kept : (r : ReaderState) (a : Answer) → (after_of reader_program r a).number ≡ r.number
 number_kept r a = number_either r.checks (checked_of reader_program r (old_of a)) (reader_took r a r.step) r.number
@@ -112,7 +114,7 @@ goes_on code true = refl
 goes_on code false = refl
 
 moved : (b : Bool) (r : ReaderState)
-    → (let w : ReaderState = cond b (archived r) (followed r) in reader_ending w.code w.step) ≡ step.Moved
+    → (let w : ReaderState = cond b (to_append r) (followed r) in reader_ending w.code w.step) ≡ step.Moved
 moved true r = refl
 moved false r = goes_on r.code (is_none r.texts)
 
@@ -136,7 +138,7 @@ module _ {R : Type 0} (stands : R → List Given → Type 0) (g : Following R) (
           texts = texts;
           fills = λ _. did.1;
           state = ap model.Reader is
-              ∙ sym (ap (λ (b : Bool). model.Reader (cond b (archived w) (followed w))) kind);
+              ∙ sym (ap (λ (b : Bool). model.Reader (cond b (to_append w) (followed w))) kind);
           ends = ends_so ∙ moved (archives s) s ∙ sym (moved (archives w) w);
           same = ap (λ (r : ReaderState). r.number) is;
           got = subst (λ (b : Bool). StandsFor stands f.receiver (cond b [] (placed_at s.at texts)) g.receiver)
@@ -169,6 +171,8 @@ module _ {R : Type 0} (stands : R → List Given → Type 0) (g : Following R) (
     no_texts reader_step.StoreFailed is = tt
     no_texts reader_step.GiveFailed is = tt
     no_texts reader_step.Failed is = tt
+    no_texts reader_step.Append is = tt
+    no_texts reader_step.StoreLost is = tt
 
     same_state : (st : ReaderStep) → s.step ≡ st
         → ◌≡◌ {A = model.Actor} (model.Reader (reader_filled s nothing st)) (model.Reader s)
@@ -181,6 +185,8 @@ module _ {R : Type 0} (stands : R → List Given → Type 0) (g : Following R) (
     same_state reader_step.StoreFailed is = refl
     same_state reader_step.GiveFailed is = refl
     same_state reader_step.Failed is = refl
+    same_state reader_step.Append is = refl
+    same_state reader_step.StoreLost is = refl
 
     none_handed : (b c : Bool) (st : ReaderStep) → s.step ≡ st
         → ◌≡◌ {A = List Given} (cond b [] (cond c [] (handed_at s st))) []
@@ -195,6 +201,8 @@ module _ {R : Type 0} (stands : R → List Given → Type 0) (g : Following R) (
     none_handed false false reader_step.StoreFailed is = refl
     none_handed false false reader_step.GiveFailed is = refl
     none_handed false false reader_step.Failed is = refl
+    none_handed false false reader_step.Append is = refl
+    none_handed false false reader_step.StoreLost is = refl
 
     goes : (g.state ≡ after_of reader_program s a) → g.receiver ≡ f.receiver
         → ends ≡ step_of (model.Reader s) a → Took f
@@ -246,3 +254,5 @@ module _ {R : Type 0} (stands : R → List Given → Type 0) (g : Following R) (
       by false reader_step.StoreFailed checks at went = still reader_step.StoreFailed at (λ e. absurd (cc)) went
       by false reader_step.GiveFailed checks at went = still reader_step.GiveFailed at (λ e. absurd (cc)) went
       by false reader_step.Failed checks at went = still reader_step.Failed at (λ e. absurd (cc)) went
+      by false reader_step.Append checks at went = still reader_step.Append at (λ e. absurd (cc)) went
+      by false reader_step.StoreLost checks at went = still reader_step.StoreLost at (λ e. absurd (cc)) went

@@ -114,6 +114,8 @@ filled_number r f reader_step.StorePlace = refl
 filled_number r f reader_step.StoreFailed = refl
 filled_number r f reader_step.GiveFailed = refl
 filled_number r f reader_step.Failed = refl
+filled_number r f reader_step.Append = refl
+filled_number r f reader_step.StoreLost = refl
 
 took_kind : (a : model.Actor) (f : Filling) (y : Answer) → IsKind a (took (filled a f) y)
 took_kind (model.Reader r) f y =
@@ -173,6 +175,7 @@ module _ {L D : Type 0} (log_seen : L → Seen) (data_seen : D → Seen) (run : 
           started = R.started;
           its_pages = R.its_pages;
           its_page_size = R.its_page_size;
+          followers = R.followers;
           bytes = R.bytes;
           word_pages = same.words ∙ R.word_pages;
           list_pages = same.lists ∙ R.list_pages;
@@ -324,6 +327,7 @@ module _ {L D R : Type 0} (log_seen : L → Seen) (data_seen : D → Seen) (stan
     code = played.code;
     log_served = played.log_served;
     data_served = played.data_served;
+    own_served = played.own_served;
     words = played.words;
     lists = played.lists;
     answered = played.answered;
