@@ -242,9 +242,15 @@ reader_or_no_read (model.Checkpointer t) =
     inr (checking_reads_not t.checks (checkpointer_op t t.step) (checkpointer_reads_not t t.step))
 reader_or_no_read (model.Joined es) = inr tt
 
--- and among a run's actors the followers alone
-pub asks_no_read : {R : Type 0} (a : Actor R) → follower_of a ≡ None → IsNoRead (next (view_of a))
-asks_no_read (own.Follower f) none = absurd (cc)
+-- and among a run's actors the archiver and the followers alone
+abbrev pub ReadsNoLog : {R : Type 0} → Actor R → Type 0
+ReadsNoLog (own.Archiver r) = ⊥
+ReadsNoLog (own.Follower f) = ⊥
+ReadsNoLog _ = Unit {0}
+
+pub asks_no_read : {R : Type 0} (a : Actor R) → ReadsNoLog a → IsNoRead (next (view_of a))
+asks_no_read (own.Archiver r) none = absurd none
+asks_no_read (own.Follower f) none = absurd none
 asks_no_read (own.User u) none = checking_reads_not u.checks (user_op u u.step) (user_reads_not u u.step)
 asks_no_read (own.Writer s) none = checking_reads_not s.checks (writer_op s s.step) (writer_reads_not s s.step)
 asks_no_read (own.Flusher t) none = checking_reads_not t.checks (flusher_op t t.step) (flusher_reads_not t t.step)

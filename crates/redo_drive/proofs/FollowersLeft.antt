@@ -132,6 +132,7 @@ none_among (own.Flusher t ∷ xs) none = none_among xs none
 none_among (own.Closer t ∷ xs) none = none_among xs none
 none_among (own.Cleaner v ∷ xs) none = none_among xs none
 none_among (own.Checkpointer t ∷ xs) none = none_among xs none
+none_among (own.Archiver r ∷ xs) none = absurd none
 
 after_users : (users : List UserState) (others : List model.Actor) → NoReaders others
     → NoReaders (map model.User users ++ others)

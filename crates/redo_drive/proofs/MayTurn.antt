@@ -36,7 +36,7 @@ use Rattle.model_core.specs.declared.steps.ReaderStep.{ReaderStep}
 use Rattle.model_core.specs.declared.steps.ReaderStep.TheVariants as reader_step
 use Rattle.model_running.proofs.ListsReady.{list_ready}
 use Rattle.model_running.proofs.Turns.{next_words}
-use Rattle.model_running.specs.{HaveSmallCodes}
+use Rattle.model_running.specs.{HaveSmallCodes, IsNoAppend}
 use Rattle.model_running.specs.DataReady as running
 use Rattle.model_running.specs.ListReady.{ListReady}
 use Rattle.redo_drive.proofs.Lent.{lent_batch}
@@ -224,7 +224,7 @@ module _ {L D : Type 0} (log_seen : L → Seen) (data_seen : D → Seen) (run : 
         ap (λ (ws : List ℕ). answer_of ls (is_some parts.log.failed) code mark ws (next who)) W.flat_is
         ∙ flat_answer c.pages W.shared W.both.logged.sized ls (is_some parts.log.failed) code mark (next who) words
 
-    fits : (code mark : ℕ) → AnswerFits who (answer_of ls (is_some parts.log.failed) code mark parts.words.words (next who))
+    pub fits : (code mark : ℕ) → AnswerFits who (answer_of ls (is_some parts.log.failed) code mark parts.words.words (next who))
     fits code mark = let W = R.running in
         subst (λ (r : Answer). AnswerFits who r) (sym (answer_is code mark))
         (answer_fits A B c 0 W.shared W.log_ghost W.page_ghost ls parts.log parts.store actors seat W.both R.bytes codes (is_some parts.log.failed) code mark who at)
@@ -267,8 +267,12 @@ module _ {L D : Type 0} (log_seen : L → Seen) (data_seen : D → Seen) (run : 
         (reads_none (next who))
         (reader_or_no_read who)
 
-    playable : (l : Lent) → Lends l (lent who) → IsPlayable parts (next who) l
-    playable l lends = let W = R.running in record {
+    -- where no actor archives, it asks for no append
+    pub asks_none : 0 < c.first_reader → IsNoAppend (next who)
+    asks_none = none_appends c who (R.running.both.in_run seat who at)
+
+    playable : IsNoAppend (next who) → (l : Lent) → Lends l (lent who) → IsPlayable parts (next who) l
+    playable none l lends = let W = R.running in record {
       there = subst (λ (n : ℕ). OpWords n (next who)) (sym R.word_pages) words;
       sum = holds_sum ls (is_some parts.log.failed) 0 0 parts.words.words who (fits 0 0).log;
       listing = subst (λ (n : ℕ). ListReady n ls (next who)) (sym R.list_pages) (list_ready A B c 0 W.shared W.log_ghost W.page_ghost ls parts.log parts.store actors seat W.both who at);
@@ -276,13 +280,13 @@ module _ {L D : Type 0} (log_seen : L → Seen) (data_seen : D → Seen) (run : 
       log = log_call log_seen (log_seen run.first_log.dev).faults run.first_log.marks.number (log_part.HasBegun log_seen (lsn c.base) run.first_log) c W.log_ghost parts.log who W.both.logged.global.part.holds low_stable (next who) l lends
           (both_ready.log_ready A log_laws B data_laws c 0 W.shared W.log_ghost W.page_ghost ls parts.log parts.store
           actors seat W.both who at) reads;
-      own = none_appends c who (R.running.both.in_run seat who at) R.followers;
+      own = none;
       data_part = data_call data_seen (data_seen run.first_data.dev).faults run.shape (data_part.HasBegun data_seen c.opened run.first_data) c R.its_pages R.its_page_size R.limits W.page_ghost.kept_page parts.store (next who) (lent who) l lends data_can;
     }
 
-    pub may_serve : MayServe parts who
-    may_serve = record {
-      playable = playable;
+    pub may_serve : IsNoAppend (next who) → MayServe parts who
+    may_serve none = record {
+      playable = playable none;
       whole = whole_pages data_seen (data_seen run.first_data.dev).faults run.shape (data_part.HasBegun data_seen c.opened run.first_data) c R.its_pages R.its_page_size R.limits R.running.page_ghost.kept_page parts.store (next who) (lent who) data_can;
       fits = fits;
       mark = mark_fits;

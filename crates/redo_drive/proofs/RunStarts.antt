@@ -95,7 +95,7 @@ lines_get_bytes : (shape : Shape) (pages : List Content) (start : ℕ) (script :
 lines_get_bytes shape pages start script log_only fits user j k = elim (dec_le (length (programs_of shape log_only script user)) j) [
   | yes past ↦ subst (λ (line : Line). GetsBytes (change_at line.changes k)) (sym (get_or_past (programs_of shape log_only script user) j (record { mode = 0; bytes = []; changes = [] }) past)) (λ i. omega arith)
   | no there ↦ (
-      let is = of_script shape pages start script log_only 0 (omega arith) in
+      let is = of_script shape pages start script log_only false 0 (omega arith) in
       let count = is.count user in
       let one = line_below (lines_of_user user script) j (omega arith) in
       subst (λ (line : Line). GetsBytes (change_at line.changes k)) (sym (is.each user j one.0 one.1)) (by log_only one.0 (of_user (LineFits shape) script user j one.0 fits one.1).0))
@@ -241,7 +241,6 @@ module _ {L D R : Type 0} (log_seen : L → Seen) (data_seen : D → Seen) (stan
     started = (let low = may.runnable.first in omega (arith, place));
     its_pages = refl;
     its_page_size = refl;
-    followers = omega arith;
     bytes = record { opened = owns.bytes; cells = λ user j k i. lines_get_bytes opened.shape opened.pages opened.start script log_only may.fits.lines user j k i };
     word_pages = owns.word_pages ∙ may.runnable.its_pages.count;
     list_pages = ap (λ (lists : Listings). lists.pages) owns.lists;

@@ -175,7 +175,6 @@ module _ {L D : Type 0} (log_seen : L → Seen) (data_seen : D → Seen) (run : 
           started = R.started;
           its_pages = R.its_pages;
           its_page_size = R.its_page_size;
-          followers = R.followers;
           bytes = R.bytes;
           word_pages = same.words ∙ R.word_pages;
           list_pages = same.lists ∙ R.list_pages;

@@ -20,6 +20,11 @@ abbrev pub EndsWithFollowers : {R : Type 0} → List (Actor R) → List (Followi
 EndsWithFollowers {R} actors followers =
     ◌≡◌ {A = List (Actor R)} (drop (length actors - length followers) actors) (map own.Follower followers)
 
+-- a new archiver, if the run is archived
+abbrev pub new_archiver : {R : Type 0} → (start : ℕ) → (archive : Bool) → List (Actor R)
+new_archiver start true = own.Archiver (new_reader 0 start) ∷ []
+new_archiver start false = []
+
 -- the last actors are the readers of the log: a new archiver, if the run is archived, and these followers
 abbrev pub EndsWithReaders : {R : Type 0} → (start : ℕ) → (archive : Bool) → List (Actor R) → List (Following R) → Type 0
 EndsWithReaders {R} start true actors followers =

@@ -1,5 +1,5 @@
 -- The invariant of a running store over its parts and actors, in a run that is its own, and what followers' receivers have got.
-use Rattle.std.specs.Prelude.{List, [], cond, length, ℕ, ◌<◌, ◌≡◌, ◌≤◌}
+use Rattle.std.specs.Prelude.{List, [], cond, length, ℕ, ◌≡◌, ◌≤◌}
 use lib.ListN.{get_elem?}
 use mathlib.Core.Option.{some}
 use Rattle.model_base.specs.{IsWithinLimits}
@@ -23,8 +23,6 @@ module _ {L D : Type 0} (log_seen : L → Seen) (data_seen : D → Seen) (run : 
     pub started : START_LSN ≤ lsn run.setup.base
     pub its_pages : run.shape.pages ≡ run.setup.pages
     pub its_page_size : run.shape.page_size ≡ run.setup.page_size
-    -- no archiver is among the actors
-    pub followers : 0 < run.setup.first_reader
     pub bytes : HasBytes run.setup
     pub word_pages : parts.words.pages ≡ run.setup.pages
     pub list_pages : parts.lists.pages ≡ run.setup.pages

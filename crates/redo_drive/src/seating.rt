@@ -7,7 +7,7 @@ ghost use Rattle.model_core.specs.declared.limits.TheConstants.{READERS};
 ghost use Rattle.model_log.specs.{IsAtDataStart};
 ghost use Rattle.model_base.specs.declared.limits.TheConstants.{FIRST_DATA_LSN};
 ghost use Rattle.model_script.specs.{IsScriptLine, LineFits};
-ghost use Rattle.redo_drive.specs.Making.{EndsWithReaders};
+ghost use Rattle.redo_drive.specs.Making.{EndsWithReaders, new_archiver};
 ghost use Rattle.redo_drive.specs.Setups.{first_reader, seated_actors, seated_before, user_lines, users_of};
 ghost use Rattle.redo_drive.specs.Startable.{AreNewFollowers};
 ghost use Rattle.redo_drive.specs.Views.{views_of};
@@ -115,6 +115,21 @@ fn seat_others<R: Receiver + Drop>(
     Ok(actors)
 }
 
+/// The archiver after the other actors, if the run is archived.
+fn seat_archiver<R: Receiver + Drop>(
+    mut actors: Vec<Actor<R>>,
+    start: u64,
+    archive: bool,
+) -> Result<Vec<Actor<R>>, NoMemory>
+    requires { IsAtDataStart start }
+    ensures { IfOk result (λ seated. seated.items ≡ actors.items ++ new_archiver start archive) }
+{
+    if archive {
+        actors.push(Actor::Archiver(Archiver::new(start)))?;
+    }
+    Ok(actors)
+}
+
 /// These followers after the other actors, in their order.
 fn seat_followers<R: Receiver + Drop>(
     mut actors: Vec<Actor<R>>,
@@ -150,9 +165,7 @@ pub fn seat_actors<R: Receiver + Drop>(
     ensures readers { IfOk result (λ actors. EndsWithReaders start archive actors.items followers.items) }
 {
     let count = followers.len() as u32;
-    let mut actors = seat_others(alloc, script, shape, start, log_only, archive, count)?;
-    if archive {
-        actors.push(Actor::Archiver(Archiver::new(start)))?;
-    }
+    let before = seat_others(alloc, script, shape, start, log_only, archive, count)?;
+    let actors = seat_archiver(before, start, archive)?;
     seat_followers(actors, followers)
 }
