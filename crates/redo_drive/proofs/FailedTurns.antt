@@ -35,9 +35,12 @@ module _ (D : LogSide) (L : LogLaws D) (E : DataSide) (EL : DataLaws E) (c : Set
       subst (λ (n : ℕ). D.Cause new.log_part n ⊎ E.Cause new.data_part n ⊎ HasLost new.actors n) (sym same)
       (W.2.failure_has_cause.cause shown)
 
-  -- a call of a part, where no actor archives
-  pub failed_turn_has_cause : 0 < c.first_reader → (code : ℕ) → ends ≡ step.Failed code
-      → D.Cause new.log_part (slice_index new.words 6) ⊎ E.Cause new.data_part (slice_index new.words 6)
-  failed_turn_has_cause followers code is = ⊎_elim (λ cause. inl cause) (⊎_elim (λ cause. inr cause)
-      (λ lost. absurd (none_loses c new.actors running.both.in_run followers (slice_index new.words 6) lost)))
-      (failed_turn_has_some code is)
+-- a call of a part, where no actor archives
+pub failed_turn_has_cause : (D : LogSide) → LogLaws D → (E : DataSide) → DataLaws E → (c : Setup) (spare : ℕ)
+    (old new : Core D E) (seat : ℕ) (answer : Answer) (ends : Step) → IsRunning D E c spare new → 0 < c.first_reader
+    → Turn D E old seat answer ends new → (code : ℕ) → ends ≡ step.Failed code
+    → D.Cause new.log_part (slice_index new.words 6) ⊎ E.Cause new.data_part (slice_index new.words 6)
+failed_turn_has_cause D L E EL c spare old new seat answer ends running followers t code is =
+    ⊎_elim (λ cause. inl cause) (⊎_elim (λ cause. inr cause)
+    (λ lost. absurd (none_loses c new.actors running.both.in_run followers (slice_index new.words 6) lost)))
+    (failed_turn_has_some D L E EL c spare old new seat answer ends running t code is)

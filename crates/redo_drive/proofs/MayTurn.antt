@@ -53,7 +53,7 @@ use Rattle.redo_drive.specs.LogPartSide as log_part
 use Rattle.redo_drive.specs.Lists.{lists_of}
 use Rattle.redo_drive.specs.Playing.{DataReady, HasWholePages, IsPlayable, LogReady, MayBatchLent, MayWriteLent, RunOf, run_data_side, run_log_side}
 use Rattle.redo_drive.specs.Receiving.{MarkFits}
-use Rattle.redo_drive.specs.Running.{RunsOn}
+use Rattle.redo_drive.specs.Running.{RunsOn, RunsWith}
 use Rattle.redo_drive.specs.Turning.{MayServe}
 use Rattle.redo_drive.specs.declared.device.Device.TheVariants.{Data, Log}
 use Rattle.redo_drive.specs.declared.parts.Parts.{Parts}
@@ -186,7 +186,7 @@ mark_given ls broken code mark m low r false reader_step.Failed = tt
 mark_given ls broken code mark m low r false reader_step.Append = tt
 mark_given ls broken code mark m low r false reader_step.StoreLost = tt
 
-module _ {L D : Type 0} (log_seen : L → Seen) (data_seen : D → Seen) (run : RunOf L D) (parts : Parts L D) (actors : List model.Actor) (R : RunsOn log_seen data_seen run parts actors)
+module _ {L D : Type 0} {archive : Bool} (log_seen : L → Seen) (data_seen : D → Seen) (run : RunOf L D) (parts : Parts L D) (actors : List model.Actor) (R : RunsWith log_seen data_seen run archive parts actors)
     (log_laws : LogLaws (run_log_side log_seen data_seen run)) (data_laws : DataLaws (run_data_side log_seen data_seen run)) where
   abbrev A : LogSide
   A = run_log_side log_seen data_seen run
@@ -267,10 +267,6 @@ module _ {L D : Type 0} (log_seen : L → Seen) (data_seen : D → Seen) (run : 
         (reads_none (next who))
         (reader_or_no_read who)
 
-    -- where no actor archives, it asks for no append
-    pub asks_none : 0 < c.first_reader → IsNoAppend (next who)
-    asks_none = none_appends c who (R.running.both.in_run seat who at)
-
     playable : IsNoAppend (next who) → (l : Lent) → Lends l (lent who) → IsPlayable parts (next who) l
     playable none l lends = let W = R.running in record {
       there = subst (λ (n : ℕ). OpWords n (next who)) (sym R.word_pages) words;
@@ -284,10 +280,19 @@ module _ {L D : Type 0} (log_seen : L → Seen) (data_seen : D → Seen) (run : 
       data_part = data_call data_seen (data_seen run.first_data.dev).faults run.shape (data_part.HasBegun data_seen c.opened run.first_data) c R.its_pages R.its_page_size R.limits W.page_ghost.kept_page parts.store (next who) (lent who) l lends data_can;
     }
 
-    pub may_serve : IsNoAppend (next who) → MayServe parts who
-    may_serve none = record {
+    pub serves_other : IsNoAppend (next who) → MayServe parts who
+    serves_other none = record {
       playable = playable none;
       whole = whole_pages data_seen (data_seen run.first_data.dev).faults run.shape (data_part.HasBegun data_seen c.opened run.first_data) c R.its_pages R.its_page_size R.limits R.running.page_ghost.kept_page parts.store (next who) (lent who) data_can;
       fits = fits;
       mark = mark_fits;
     }
+
+-- where nothing is archived each actor may
+pub may_serve : {L D : Type 0} (log_seen : L → Seen) (data_seen : D → Seen) (run : RunOf L D) (parts : Parts L D)
+    (actors : List model.Actor) (R : RunsOn log_seen data_seen run parts actors)
+    → LogLaws (run_log_side log_seen data_seen run) → DataLaws (run_data_side log_seen data_seen run)
+    → (seat : ℕ) (who : model.Actor) → get_elem? actors seat ≡ some who → MayServe parts who
+may_serve log_seen data_seen run parts actors R log_laws data_laws seat who at =
+    serves_other log_seen data_seen run parts actors R log_laws data_laws seat who at
+    (none_appends run.setup who (R.running.both.in_run seat who at) R.followers)

@@ -54,9 +54,9 @@ use Rattle.redo_drive.specs.Lists.{Listings, empty_lists, lists_of}
 use Rattle.redo_drive.specs.Making.{IsOwnOf}
 use Rattle.redo_drive.specs.Playing.{RunOf, run_data_side, run_log_side}
 use Rattle.redo_drive.specs.Receiving.{follower_of, HasGot, IsSameFollower}
-use Rattle.redo_drive.specs.Running.{groups_of, RunsFrom, RunsOn}
+use Rattle.redo_drive.specs.Running.{groups_of, RunsFromWith, RunsWith}
 use Rattle.redo_drive.specs.Turning.{core_of}
-use Rattle.redo_drive.specs.Setups.{programs_of}
+use Rattle.redo_drive.specs.Setups.{first_reader, programs_of}
 use Rattle.redo_drive.specs.StartWords.{setup_of}
 use Rattle.redo_drive.specs.StartWords.{StartsOn}
 use Rattle.redo_drive.specs.FirstWords.{AreStartWords}
@@ -235,12 +235,13 @@ module _ {L D R : Type 0} (log_seen : L → Seen) (data_seen : D → Seen) (stan
       subst (λ (lists : ℕ → List Listed). RunningStore log_part data_part setup 0 own.words.words lists opened.log opened.store (views_of own.actors.items)) (sym none)
       (store_starts log_part data_part setup words.by_name opened.log opened.store seat_of writer (views_of own.actors.items) store_start 0 own.words.words words.in_order room)
 
-  runs : RunsOn log_seen data_seen run start.parts (views_of own.actors.items)
+  runs : RunsWith log_seen data_seen run archive start.parts (views_of own.actors.items)
   runs = record {
     limits = may.runnable.limits;
     started = (let low = may.runnable.first in omega (arith, place));
     its_pages = refl;
     its_page_size = refl;
+    followers = none_archives archive;
     bytes = record { opened = owns.bytes; cells = λ user j k i. lines_get_bytes opened.shape opened.pages opened.start script log_only may.fits.lines user j k i };
     word_pages = owns.word_pages ∙ may.runnable.its_pages.count;
     list_pages = ap (λ (lists : Listings). lists.pages) owns.lists;
@@ -248,6 +249,11 @@ module _ {L D R : Type 0} (log_seen : L → Seen) (data_seen : D → Seen) (stan
     seated = subst (AreSeated setup) (sym owns.actors) (are_seated opened.shape opened.pages opened.start script log_only archive (length followers)
         new.few may.lines may.fits.lines);
   }
+
+    where
+      none_archives : (b : Bool) → cond b (Unit {0}) (0 < first_reader b)
+      none_archives true = tt
+      none_archives false = omega arith
 
   -- nothing has been handed on
   empty : ◌≡◌ {A = List Entry} runs.running.log_ghost.log []
@@ -257,7 +263,7 @@ module _ {L D R : Type 0} (log_seen : L → Seen) (data_seen : D → Seen) (stan
       let sn : W.shared.sn ≡ words.by_name.sn = ap (λ (ws : List ℕ). slice_index ws 0) words_same in
       no_log setup.base W.shared.sn W.log_ghost.log W.both.logged.global.tiled.tiles (sn ∙ words.of_log.sn)
 
-  from : RunsFrom log_seen data_seen stands run own.actors.items start.parts own.actors.items
+  from : RunsFromWith log_seen data_seen stands run archive own.actors.items start.parts own.actors.items
   from = record {
     runs = runs;
     count = refl;

@@ -1,5 +1,5 @@
 -- The archive beside the actors of a run, from turn to turn.
-use Rattle.std.specs.Prelude.{List, [], None, Option, Some, false, slice_index, true, ℕ, ◌≡◌, ◌≤◌}
+use Rattle.std.specs.Prelude.{Bool, List, [], None, Option, Some, false, slice_index, true, ℕ, ◌≡◌, ◌≤◌}
 use lib.ListN.{get_elem?}
 use mathlib.Core.Option.{some}
 use Rattle.model_base.specs.{HasRisen}
@@ -16,7 +16,7 @@ use Rattle.redo_archiver.specs.{KeepsPace}
 use Rattle.redo_disk.specs.Seen.{Seen}
 use Rattle.redo_disk.specs.declared.error.DevError.TheVariants.{Failed}
 use Rattle.redo_drive.specs.Playing.{RunOf, run_log_side}
-use Rattle.redo_drive.specs.Running.{RunsOn}
+use Rattle.redo_drive.specs.Running.{RunsWith}
 use Rattle.redo_drive.specs.declared.parts.Parts.{Parts}
 
 -- none of the actors archives
@@ -51,8 +51,9 @@ pub record IsSameArchive {A : Type 0} (seen : A → Seen) (before after : Part A
   pub later : (seen before.dev).faults ≤ (seen after.dev).faults
   pub risen : after.failed ≡ Some Failed → HasRisen (seen before.dev).faults (seen after.dev).faults
 
-module _ {L D A : Type 0} (log_seen : L → Seen) (data_seen : D → Seen) (arch_seen : A → Seen) (run : RunOf L D)
-    (parts : Parts L D) (actors : List model.Actor) (runs : RunsOn log_seen data_seen run parts actors) where
+module _ {L D A : Type 0} {archive : Bool} (log_seen : L → Seen) (data_seen : D → Seen) (arch_seen : A → Seen)
+    (run : RunOf L D) (parts : Parts L D) (actors : List model.Actor)
+    (runs : RunsWith log_seen data_seen run archive parts actors) where
   -- The run that began with the first of these archives has come to the other. It stands beside the actors; and where the log
   -- device tells, it archives the groups of the log, if it was begun as an archive.
   pub record HasCome (before after : Part A) : Type 0 where

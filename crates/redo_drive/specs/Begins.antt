@@ -11,7 +11,7 @@ use Rattle.redo_drive.specs.Startable.{HasReading}
 use Rattle.redo_drive.specs.Lists.{lists_of}
 use Rattle.redo_drive.specs.Making.{EndsWithReaders}
 use Rattle.redo_drive.specs.Playing.{RunOf, run_data_side, run_log_side}
-use Rattle.redo_drive.specs.Running.{RunsFrom}
+use Rattle.redo_drive.specs.Running.{RunsFromWith}
 use Rattle.redo_drive.specs.Views.{views_of}
 use Rattle.redo_drive.specs.declared.making.Beginning.{Beginning}
 use Rattle.redo_follow.specs.Handing.{Following}
@@ -35,7 +35,7 @@ pub record BeginsWith {L D R : Type 0} (log_seen : L → Seen) (data_seen : D �
   pub is_run : IsRunWith opened script log_only archive (length new_followers) run
   pub at_start : IsAtStart log_seen data_seen run start
   pub stands : StandsWith opened script archive (length new_followers) run start.parts (views_of start.actors.items)
-  pub from : RunsFrom log_seen data_seen stands_for run start.actors.items start.parts start.actors.items
+  pub from : RunsFromWith log_seen data_seen stands_for run archive start.actors.items start.parts start.actors.items
   pub followers : EndsWithReaders opened.start archive start.actors.items new_followers
   pub log : start.parts.log ≡ opened.log
   pub data_part : start.parts.store ≡ opened.store

@@ -13,7 +13,7 @@ use Rattle.redo_drive.specs.Beginning.{HaveBegun, IsRunWith}
 use Rattle.redo_drive.specs.Startable.{HasReading}
 use Rattle.redo_drive.specs.Calls.{CallsOn}
 use Rattle.redo_drive.specs.Playing.{RunOf}
-use Rattle.redo_drive.specs.Running.{RunsFrom}
+use Rattle.redo_drive.specs.Running.{RunsFromWith}
 use Rattle.redo_drive.specs.Views.{views_of}
 use Rattle.redo_drive.specs.declared.actor.Actor.{Actor}
 use Rattle.redo_drive.specs.declared.parts.Parts.{Parts}
@@ -31,7 +31,7 @@ pub record LeavesWith {L D R : Type 0} (log_seen : L → Seen) (log_gives : L �
       → IfSome (log_seen opened.log.dev).tells (λ log_disk. IfSome (data_seen opened.store.dev).tells (λ data_disk.
       IsStart reading script log_disk data_disk → HaveBegun log_seen data_seen run))
   pub last : Parts L D
-  pub from : RunsFrom log_seen data_seen stands run starts last actors
+  pub from : RunsFromWith log_seen data_seen stands run archive starts last actors
   pub log_calls : CallsOn log_gives opened.log.dev opened.log.failed last.log.dev last.log.failed
   pub data_calls : CallsOn data_gives opened.store.dev opened.store.failed last.store.dev last.store.failed
   pub log_shape : last.log.shape ≡ opened.log.shape
