@@ -229,7 +229,7 @@ module _ {L D : Type 0} {archive : Bool} (log_seen : L → Seen) (data_seen : D 
         subst (λ (r : Answer). AnswerFits who r) (sym (answer_is code mark))
         (answer_fits A B c 0 W.shared W.log_ghost W.page_ghost ls parts.log parts.store actors seat W.both R.bytes codes (is_some parts.log.failed) code mark who at)
 
-    mark_fits : (code mark : ℕ)
+    pub mark_fits : (code mark : ℕ)
         → MarkFits who (answer_of ls (is_some parts.log.failed) code mark parts.words.words (next who))
     mark_fits code mark = let W = R.running in
         subst (λ (r : Answer). MarkFits who r) (sym (answer_is code mark)) (by who at)

@@ -34,6 +34,12 @@ module _ {L D : Type 0} (log_seen : L → Seen) (data_seen : D → Seen) (run : 
   abbrev pub RunsOn : Parts L D → List model.Actor → Type 0
   RunsOn parts actors = RunsWith false parts actors
 
+-- they are on some run
+pub record AreOnRun {L D : Type 0} (log_seen : L → Seen) (data_seen : D → Seen) (parts : Parts L D) (actors : List model.Actor) : Type 0 where
+  pub run : RunOf L D
+  pub archive : Bool
+  pub runs : RunsWith log_seen data_seen run archive parts actors
+
 -- the groups of a log up to a follower's place
 abbrev pub groups_of : model.Actor → List Entry → List Given
 groups_of (model.Reader r) log = cond (archives r) [] (groups_upto r.at log)
