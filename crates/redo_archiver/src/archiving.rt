@@ -3,7 +3,7 @@ ghost use Rattle.std.specs.Prelude.{◌≡◌, ◌≤◌, ◌<◌, ◌^◌, ◌=
 ghost use Rattle.std.specs.Borrow.{sem};
 ghost use Rattle.model_core.specs.Actors as actor;
 ghost use Rattle.model_core.specs.AnswerFits.{AnswerFits};
-ghost use Rattle.model_core.specs.{after_of, archived, checked_of, lent, next, reader_ending, reader_program, step_of};
+ghost use Rattle.model_core.specs.{after_of, archived, archives, checked_of, lent, next, reader_ending, reader_program, step_of};
 ghost use Rattle.redo_archiver.specs.Lending.{LendsRoom};
 ghost use Rattle.redo_archiver.specs.Rounds.{last_block};
 ghost use Rattle.redo_words.specs.{Lends};
@@ -119,6 +119,7 @@ impl Archiver {
         requires { AnswerFits (actor.Reader self.old) answer }
         ensures state { self.new ≡ after_of reader_program self.old answer }
         ensures step { result ≡ step_of (actor.Reader self.old) answer }
+        ensures kind { archives self.old ≡ true }
     {
         if self.checks {
             return self.checked(old_of(answer));

@@ -26,8 +26,9 @@ pub wrapped : {S : Type 0} (wrap : S → model.Actor) (b : Bool) (x y : S)
 wrapped wrap true x y = refl
 wrapped wrap false x y = refl
 
--- AN ACTOR THAT IS NO FOLLOWER gets nothing put into it.
+-- AN ACTOR THAT READS NO LOG gets nothing put into it.
 abbrev IsOther : {R : Type 0} → Actor R → Type 0
+IsOther (own.Archiver r) = ⊥
 IsOther (own.Follower f) = ⊥
 IsOther _ = Unit {0}
 
@@ -39,6 +40,7 @@ module _ {R : Type 0} (stands : R → List Given → Type 0) where
   no_fill (own.Closer t) other = tt
   no_fill (own.Cleaner v) other = tt
   no_fill (own.Checkpointer t) other = tt
+  no_fill (own.Archiver r) other = absurd other
   no_fill (own.Follower f) other = absurd other
 
   as_it_was : (a : Actor R) → IsOther a
@@ -49,6 +51,7 @@ module _ {R : Type 0} (stands : R → List Given → Type 0) where
   as_it_was (own.Closer t) other = refl
   as_it_was (own.Cleaner v) other = refl
   as_it_was (own.Checkpointer t) other = refl
+  as_it_was (own.Archiver r) other = absurd other
   as_it_was (own.Follower f) other = absurd other
 
   both_other : (a b : Actor R) → IsOther a → IsOther b → IsSameFollower (follower_of a) (follower_of b)
@@ -117,6 +120,42 @@ moved : (b : Bool) (r : ReaderState)
     → (let w : ReaderState = cond b (to_append r) (followed r) in reader_ending w.code w.step) ≡ step.Moved
 moved true r = refl
 moved false r = goes_on r.code (is_none r.texts)
+
+-- THE ARCHIVER hands nothing on.
+module _ {R : Type 0} (stands : R → List Given → Type 0) (r w : ReaderState) (a : Answer) (ends : Step) where
+  as_filled : (st : ReaderStep) → ◌≡◌ {A = ReaderState} (reader_filled r (record { block = r.block; texts = r.texts }) st) r
+  as_filled reader_step.LoadFlushed = refl
+  as_filled reader_step.TakeDevice = refl
+  as_filled reader_step.GiveBroken = refl
+  as_filled reader_step.ReadBlock = refl
+  as_filled reader_step.GiveDevice = refl
+  as_filled reader_step.Append = refl
+  as_filled reader_step.StorePlace = refl
+  as_filled reader_step.StoreFailed = refl
+  as_filled reader_step.GiveFailed = refl
+  as_filled reader_step.StoreLost = refl
+  as_filled reader_step.Failed = refl
+
+  no_texts_in : (st : ReaderStep) → archives r ≡ true → reader_fills r (record { block = r.block; texts = r.texts }) st
+  no_texts_in reader_step.GiveDevice kind = λ other. let z : true ≡ false = sym kind ∙ other in absurd (cc)
+  no_texts_in reader_step.LoadFlushed kind = tt
+  no_texts_in _ kind = tt
+
+  pub archiver_took : archives r ≡ true → w ≡ after_of reader_program r a → ends ≡ step_of (model.Reader r) a
+      → HasTaken stands (own.Archiver r) a ends (own.Archiver w)
+  archiver_took kind state ends_so =
+      let same : ◌≡◌ {A = model.Actor} (filled (model.Reader r) (filling_of (model.Reader r) r.texts)) (model.Reader r) =
+      ap model.Reader (as_filled r.step) in
+      record {
+        texts = r.texts;
+        fills = no_texts_in r.step kind;
+        state = subst (λ (z : model.Actor). model.Reader w ≡ took z a) (sym same)
+            (ap model.Reader state
+            ∙ wrapped model.Reader r.checks (checked_of reader_program r (old_of a)) (reader_took r a r.step));
+        ends = subst (λ (z : model.Actor). ends ≡ step_of z a) (sym same) ends_so;
+        same = tt;
+        got = tt;
+      }
 
 module _ {R : Type 0} (stands : R → List Given → Type 0) (g : Following R) (a : Answer) (ends : Step) where
   abbrev Took : Following R → Type 0
