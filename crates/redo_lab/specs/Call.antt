@@ -28,15 +28,14 @@ pub record Guarded : Type 0 where
 abbrev pub guarded : {D : Type 0} → (D → Seen) → D → Fused D → Guarded
 guarded seen device fused = record { entry = seen device; now = seen (inner_of fused); fuse = fuse_of fused; armed_from = armed_from seen fused }
 
--- The archive's device of a call, which has no fuse: as it was handed in, and as it is now; and that no call has reached it.
-pub record Unfused : Type 1 where
+-- The archive's device of a call, which has no fuse: as it was handed in, and as it is now.
+pub record Unfused : Type 0 where
   pub entry : Seen
   pub now : Seen
-  pub untouched : Type 0
 
 -- what is seen from outside of the device that was handed in, and is given back
 abbrev pub unfused : {A : Type 0} → (A → Seen) → A → A → Unfused
-unfused seen device now = record { entry = seen device; now = seen now; untouched = now ≡ device }
+unfused seen device now = record { entry = seen device; now = seen now }
 
 -- What a call was handed, and what has become of it. `drives` says that the run of this script on this opened store is the one to
 -- which the drive leads, that this is told of the followers that it leaves, that it ended so, and what both devices meant then: the

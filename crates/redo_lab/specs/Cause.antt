@@ -101,6 +101,7 @@ IsRefused call (Crash drive stop_log stop_data pick workers) refusal =
     ⊎ (AreCrashedAs stop_log stop_data pick call × WhereToldNow call (AreRefused refusal))
 IsRefused call (Recover workers) refusal = WhereToldAtEntry call (AreRefused refusal)
 IsRefused call (Dump why) refusal = WhereToldAtEntry call (AreRefused refusal)
+IsRefused call (Restore to) refusal = ⊥
 IsRefused call (Gen seed users groups true max) refusal =
     IsRefusedAtEntry call refusal ⊎ (BothDevices IsInRun call × WhereToldNow call (AreRefused refusal))
 IsRefused call (Gen seed users groups false max) refusal = ⊥

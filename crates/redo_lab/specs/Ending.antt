@@ -80,20 +80,17 @@ pub record EndsWith (call : LabCall) (command : Command) (outcome : Outcome) : T
   pub complete : IsPossible call command → (HasRisen call.source.faults call.source_now.faults → ⊥) → AreUnfailedFor command call
       → IsDoneOrKeptFrom command outcome
 
--- WHICH DEVICES ARE LEFT ALONE. `restore` reads the archive's and calls no other; but for it, and for a run that is archived, no
--- command calls the archive's.
-abbrev pub LeavesAlone : LabCall → Command → Type 0
-LeavesAlone call (Restore to) =
+-- the archive's device was only read, and no other was called
+abbrev pub OnlyReadsArchive : LabCall → Type 0
+OnlyReadsArchive call =
     StillTells call.archive.entry.tells call.archive.now.tells × BothDevices (λ device. device.now ≡ device.entry) call
-LeavesAlone call (Run drive) = drive.archive ≡ false → call.archive.untouched
-LeavesAlone call command = call.archive.untouched
 
 -- the words ask for this command, which comes to an outcome that is printed
 pub record EndsCommand (call : LabCall) (sink sink_now : SinkSeen) (status : ℕ) (command : Command) : Type 0 where
   pub asked : command_of call.words ≡ Some command
   pub outcome : Outcome
   pub ends : EndsWith call command outcome
-  pub alone : LeavesAlone call command
+  pub restores : (to : ℕ) → command ≡ Restore to → OnlyReadsArchive call
   pub printed : IsOutcomePrinted outcome status sink sink_now
 
 -- the words are no command, or there was no memory to read them, and nothing was done
@@ -103,7 +100,7 @@ pub record HasNoCommand (call : LabCall) (sink sink_now : SinkSeen) (status : �
   pub printed : IsFaultPrinted [] fault status sink sink_now
   pub unread : call.source_now ≡ call.source
   pub unwritten : BothDevices IsUnwritten call
-  pub untouched : call.archive.untouched
+  pub untouched : call.archive.now ≡ call.archive.entry
   pub left : (command : Command) → command_of call.words ≡ Some command → runs_script command ≡ true → LeavesStore call
 
 -- the call had this sink, which is this now, and ended with this status

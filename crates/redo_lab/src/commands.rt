@@ -1,14 +1,15 @@
 // A command, done on its devices.
-ghost use Rattle.std.specs.Prelude.{ℕ, List, ◌≡◌, ◌+◌, ◌≤◌, true, false, IfSome};
+ghost use Rattle.std.specs.Prelude.{ℕ, List, ◌≡◌, ◌+◌, ◌≤◌, true, false, IfSome, Some};
 ghost use Rattle.model_base.specs.declared.limits.TheConstants.{MAX_SCRIPT};
+ghost use Rattle.model_script.specs.declared.asked.Command.TheVariants.{Restore};
 ghost use Rattle.model_script.specs.declared.asked.Drive.{Drive as Asked};
 ghost use Rattle.model_script.specs.declared.words.TheConstants.{MAX_WORKERS};
 ghost use Rattle.redo_io.specs.{SourceSeen, TakesAtMost};
 ghost use Rattle.redo_io.specs.declared.read.TheConstants.{PIECE};
-ghost use Rattle.redo_lab.specs.Asked.{HasAllowedNumbers, IsScriptRead, runs_in_threads};
+ghost use Rattle.redo_lab.specs.Asked.{HasAllowedNumbers, IsScriptRead, calls_archive, runs_in_threads};
 ghost use Rattle.redo_lab.specs.Call.{Unfused, unfused};
 ghost use Rattle.redo_lab.specs.Handed.{AreOf, call_on};
-ghost use Rattle.redo_lab.specs.Ending.{EndsWith, LeavesAlone};
+ghost use Rattle.redo_lab.specs.Ending.{EndsWith, OnlyReadsArchive};
 ghost use Rattle.redo_lab.specs.Runs.{IsRanBy, command_with, stops_of};
 
 use crate::asked::Scripted;
@@ -137,8 +138,9 @@ pub(crate) fn done<R: Threads + Sync, S: Source, L: Sectors, D: Sectors, A: Sect
     ensures ends { (words : List (List ℕ))
         → EndsWith (call_on L.seen L.gives D.seen D.gives words (unfused A.seen arch result.1) (S.seen src.old) (S.seen src.new) log store result.0.log result.0.store)
         command result.0.outcome }
-    ensures alone { (words : List (List ℕ))
-        → LeavesAlone (call_on L.seen L.gives D.seen D.gives words (unfused A.seen arch result.1) (S.seen src.old) (S.seen src.new) log store result.0.log result.0.store) command }
+    ensures restores { (words : List (List ℕ)) (to : ℕ) → command ≡ Restore to
+        → OnlyReadsArchive (call_on L.seen L.gives D.seen D.gives words (unfused A.seen arch result.1) (S.seen src.old) (S.seen src.new) log store result.0.log result.0.store) }
+    ensures untouched { calls_archive (Some command) ≡ false → result.1 ≡ arch }
     ensures entered { AreOf log store result.0.log result.0.store }
     ensures taken { TakesAtMost (MAX_SCRIPT + PIECE) (S.seen src.old).left (S.seen src.new).left }
 {

@@ -1,7 +1,7 @@
 // The top call.
 ghost use Rattle.std.specs.Prelude.{ℕ, ◌≡◌, Some, false, List, map};
 ghost use Rattle.std.specs.String.{string_bytes};
-ghost use Rattle.redo_lab.specs.Asked.{HasAllowedNumbers, command_of, runs_in_threads};
+ghost use Rattle.redo_lab.specs.Asked.{HasAllowedNumbers, calls_archive, command_of, runs_in_threads};
 ghost use Rattle.redo_lab.specs.Ending.{IsCallOf};
 ghost use Rattle.redo_lab.specs.Call.{unfused};
 ghost use Rattle.redo_lab.specs.Handed.{AreOf, call_on};
@@ -43,6 +43,7 @@ pub fn lab_turns<
     ensures call { (words : List (List ℕ)) → command_of words ≡ Some command
         → IsCallOf (call_on L.seen L.gives D.seen D.gives words (unfused A.seen arch result.arch) (S.seen src.old) (S.seen src.new) log store result.log result.store)
         (O.seen out.old) (O.seen out.new) result.status }
+    ensures untouched { calls_archive (Some command) ≡ false → result.arch ≡ arch }
     ensures entered { AreOf log store result.log result.store }
 {
     let (done, arch) = done(rt, alloc, command, src, log, store, arch);
@@ -72,6 +73,7 @@ pub fn lab<
 ) -> Ended<L, D, A>
     ensures call { IsCallOf (call_on L.seen L.gives D.seen D.gives (map (λ word. string_bytes word) words.now) (unfused A.seen arch result.arch) (S.seen src.old) (S.seen src.new)
         log store result.log result.store) (O.seen out.old) (O.seen out.new) result.status }
+    ensures untouched { calls_archive (command_of (map (λ word. string_bytes word) words.now)) ≡ false → result.arch ≡ arch }
     ensures entered { AreOf log store result.log result.store }
 {
     laws();

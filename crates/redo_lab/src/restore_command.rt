@@ -1,11 +1,11 @@
 // The command `restore`.
-ghost use Rattle.std.specs.Prelude.{ℕ, List, ◌≤◌, IfOk, length};
+ghost use Rattle.std.specs.Prelude.{ℕ, List, ◌≡◌, ◌≤◌, IfOk, length};
 ghost use Rattle.model_report.specs.{restored_text};
 ghost use Rattle.model_base.specs.declared.limits.TheConstants.{MAX_PAGES};
 ghost use Rattle.model_script.specs.declared.asked.Command.TheVariants.{Restore};
 ghost use Rattle.redo_io.specs.{SourceSeen};
 ghost use Rattle.redo_lab.specs.Call.{unfused};
-ghost use Rattle.redo_lab.specs.Ending.{EndsWith, LeavesAlone};
+ghost use Rattle.redo_lab.specs.Ending.{EndsWith, OnlyReadsArchive};
 ghost use Rattle.redo_lab.specs.Handed.{AreOf, call_on};
 
 use crate::faults::unrestored;
@@ -39,20 +39,22 @@ pub(crate) fn restore_command<L: Sectors, D: Sectors, A: Sectors>(
 ) -> (Done<L, D>, A)
     ensures ends { (words : List (List ℕ)) (source : SourceSeen)
         → EndsWith (call_on L.seen L.gives D.seen D.gives words (unfused A.seen arch result.1) source source log store result.0.log result.0.store) (Restore to) result.0.outcome }
-    ensures alone { (words : List (List ℕ)) (source : SourceSeen)
-        → LeavesAlone (call_on L.seen L.gives D.seen D.gives words (unfused A.seen arch result.1) source source log store result.0.log result.0.store) (Restore to) }
+    ensures restores { (words : List (List ℕ)) (source source_now : SourceSeen)
+        → OnlyReadsArchive (call_on L.seen L.gives D.seen D.gives words (unfused A.seen arch result.1) source source_now log store result.0.log result.0.store) }
     ensures entered { AreOf log store result.0.log result.0.store }
 {
     one_restore();
     let mut arch = arch;
+    let log = Fused::plain(log);
+    let store = Fused::plain(store);
     let outcome = match restore(alloc, &mut arch, to) {
         Ok(found) => Outcome::of_text(text_of(alloc, &found)),
         Err(fault) => Outcome::Fault(unrestored(fault)),
     };
     let done = Done {
         outcome,
-        log: Fused::plain(log),
-        store: Fused::plain(store),
+        log,
+        store,
     };
     (done, arch)
 }
