@@ -58,7 +58,7 @@ fn sink_of(alloc: Global, way: &str) -> Result<MemSink, AllocError> {
 
 /// Makes the call of these words with this source and this sink on these devices and an archive's that holds zeros, whose users this
 /// gate may hold.
-fn ended_of<L: Sectors + Send, D: Sectors + Send, G: Gate>(
+fn ended_of<L: Sectors + Send + Drop, D: Sectors + Send + Drop, G: Gate>(
     rt: &(impl AllocGlobal + Threads + Wait + Sync),
     words: &[String],
     source: &mut MemSource,
@@ -96,7 +96,7 @@ impl Call {
     }
 
     /// Makes the call on these devices, whose users this gate may hold; the devices after it.
-    pub(crate) fn make<L: Sectors + Send, D: Sectors + Send, G: Gate>(
+    pub(crate) fn make<L: Sectors + Send + Drop, D: Sectors + Send + Drop, G: Gate>(
         &mut self,
         rt: &(impl AllocGlobal + Threads + Wait + Sync),
         devices: Devices<L, D>,
