@@ -9,6 +9,7 @@ pub mod OwnKept
 pub mod OwnListed
 pub mod OwnMay
 pub mod OwnOps
+pub mod OwnStepping
 pub mod OwnTakes
 pub mod OwnTurns
 pub mod OwnUserHands
