@@ -2,6 +2,7 @@ pub mod OwnAllowed
 pub mod OwnAnswers
 pub mod OwnCalls
 pub mod OwnDesk
+pub mod OwnDevice
 pub mod OwnFree
 pub mod OwnGives
 pub mod OwnHands

@@ -60,7 +60,7 @@ use Rattle.std.proofs.lemmas.List.{set-get_or}
 use Rattle.std.specs.Prelude.{slice_index, slice_set}
 
 -- which answers it takes without the log's work
-alone_fits : (o : OwnUser) (k : LogWork) (r : Answer) → has_work o.errand ≡ false
+pub alone_fits : (o : OwnUser) (k : LogWork) (r : Answer) → has_work o.errand ≡ false
     → (o.errand ≡ errand_step.TakeDevice → o.user.checks ≡ false → IsNotTaken r) → OwnAnswerFits o k r → AloneFits o r
 alone_fits o k r none takes fits = by o.user.checks o.errand refl refl none fits
   where
