@@ -7,6 +7,7 @@ pub mod OwnFree
 pub mod OwnGives
 pub mod OwnHands
 pub mod OwnKept
+pub mod OwnList
 pub mod OwnListed
 pub mod OwnMay
 pub mod OwnOps

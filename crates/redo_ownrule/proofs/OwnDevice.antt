@@ -381,3 +381,9 @@ module _ {L D : Type 0} (table : TableId) (seat : Seat (Slot L D) (View L D)) (o
         ready op.Sync tt asks lent.Nothing
             (subst (λ (x : ErrandStep). Lends lent.Nothing (errand_lends (w h).1 x)) (sym is) tt),
       )
+
+  pub sync_live : (asks : OwnAsks seat.me.0 o op.Sync) (y : Slot L D) → seat.me.1 ≡ (0, y) ∷ rest seat.me.1 → (p : Desk L)
+      → y ≡ slot.Log p → p.part.failed ≡ None
+  sync_live asks y there p is =
+      let s = sync_takes asks y there in
+      ap (λ (e : Desk L). e.part.failed) (same_desk p s.0 (sym is ∙ s.1)) ∙ s.2
