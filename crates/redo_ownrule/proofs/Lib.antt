@@ -1,5 +1,6 @@
 pub mod Crews
 pub mod Ended
+pub mod Finished
 pub mod Left
 pub mod Matched
 pub mod OwnFree
