@@ -6,5 +6,7 @@ pub mod Matched
 pub mod OwnFree
 pub mod OwnKept
 pub mod OwnWords
+pub mod Opened
 pub mod Placed
+pub mod Standing
 pub mod Players

@@ -9,7 +9,7 @@ use Rattle.redo_drive.specs.declared.actor.Actor.TheVariants as actor
 use Rattle.redo_ownmachine.proofs.Sorting.{fresh}
 use Rattle.redo_ownmachine.specs.OwnCrew.{AreOthers, HaveWorkers, IsOther}
 use Rattle.redo_ownrule.specs.Players.{actor_of, ArePlain, crew, UsersFirst}
-use Rattle.redo_ownrule.specs.Staffing.{StandAtHome}
+use Rattle.redo_ownrule.specs.Staffing.{HaveOthers, StandAtHome}
 use Rattle.redo_ownrule.specs.declared.player.Player.{Player}
 use Rattle.redo_ownrule.specs.declared.player.Player.TheVariants as player
 
@@ -122,6 +122,11 @@ module _ {R : Type 0} where
   stand_at_home [] os = plain_home os
   stand_at_home (u ∷ us) os = (refl, refl, stand_at_home us os)
 
+  have_others : (us : List UserState) (os : List (Actor R)) → AreOthers os → HaveOthers (own us ++ plain os)
+  have_others [] [] are = tt
+  have_others [] (a ∷ os) are = (are.0, have_others [] os are.1)
+  have_others (u ∷ us) os are = have_others us os are
+
   crew_is : (us : List UserState) (w : WriterState) (f : FlusherState) (os : List (Actor R))
       → ◌≡◌ {A = List (Actor R)} (crew (Some (record { writer = w; flusher = f })) (own us ++ plain os))
       (map actor.User us ++ actor.Writer w ∷ actor.Flusher f ∷ os)
@@ -154,6 +159,9 @@ module _ {R : Type 0} (actors : List (Actor R)) (h : HaveWorkers actors) (player
 
   pub its_home : StandAtHome players
   its_home = subst StandAtHome (sym its_players) (stand_at_home h.users h.others)
+
+  pub its_others : HaveOthers players
+  its_others = subst HaveOthers (sym its_players) (have_others h.users h.others h.kinds)
 
   pub its_crew : (w : WriterState) (f : FlusherState) → writer ≡ Some w → flusher ≡ Some f
       → ◌≡◌ {A = List (Actor R)} (crew (Some (record { writer = w; flusher = f })) players) actors

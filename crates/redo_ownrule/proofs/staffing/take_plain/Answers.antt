@@ -23,6 +23,7 @@ returns g c =
       order = subst ArePlain (sym players) (are_plain c.args.actors.items);
       are = ap (λ (l : List (Player g.row.R.Denot)). crew None l) players ∙ plain_crew c.args.actors.items;
       at_home = subst StandAtHome (sym players) (plain_home c.args.actors.items);
+      others = λ is. absurd (cc);
       empty = search rules;
       room = let n = c.len.ensures in let k = c.in_ok-room.ensures.capacity in omega arith;
     }
