@@ -88,7 +88,7 @@ module _ {L D R : Type 0} (log_seen : L → Seen) (data_seen : D → Seen) (stan
   crew_is : ◌≡◌ {A = List model.Actor} actors (views_of (crew staff.work ps))
   crew_is = ap (λ (l : List (Actor R)). views_of l) (sym S.are)
 
-  starts_are : ◌≡◌ {A = List model.Actor} (starts_about about) (views_of (crew staff.work ps))
+  pub starts_are : ◌≡◌ {A = List model.Actor} (starts_about about) (views_of (crew staff.work ps))
   starts_are = sym (opens.are log_seen data_seen stands about followers many start B) ∙ crew_is
 
   first_is_seated : ◌≡◌ {A = List Numbered} (first_view about).seats (seated (place about.own_writes ps) none_heard 0 ps)
