@@ -8,7 +8,6 @@ use Rattle.atomic_table.specs.Table.{Me, opening}
 use Rattle.model_base.specs.declared.shape.Shape.{Shape}
 use Rattle.model_core.specs.{CleanerState, Given, word_count}
 use Rattle.model_core.specs.Actors as model
-use Rattle.model_core.specs.LogSide.{LogSide}
 use Rattle.model_core.specs.Setup.{Setup}
 use Rattle.model_logcore.specs.{StartActor}
 use Rattle.model_own.specs.OwnWrites.{LogWork}
@@ -33,14 +32,14 @@ use Rattle.redo_ownrule.proofs.Left.{many_workers}
 use Rattle.redo_ownrule.proofs.Placed.{length_crew}
 use Rattle.redo_ownrule.proofs.Standing.{all_stand, crew_there, first_seated, places_apart, plain_actors, same_crew, side_is, side_of, users_home}
 use Rattle.redo_ownrule.specs.Players.{actor_of, AreInOrder, crew, place, seated, UsersFirst, workers}
-use Rattle.redo_ownrule.specs.Sharing.{IsUnseated, starts_of}
-use Rattle.redo_ownrule.specs.Staffing.{AreStaffOf, HaveOthers, StandAtHome}
+use Rattle.redo_ownrule.specs.Sharing.{IsUnseated}
+use Rattle.redo_ownrule.specs.Staffing.{AreStaffOf}
 use Rattle.redo_ownrule.specs.declared.player.Player.{Player}
 use Rattle.redo_ownrule.specs.declared.shared.Shared.{Shared}
 use Rattle.redo_ownrule.specs.declared.staffing.Staff.{Staff}
 use Rattle.redo_rule.proofs.Opens as opens
 use Rattle.redo_rule.specs.Cutting.{IsFirst}
-use Rattle.redo_rule.specs.OwnSide.{Beside, HasItsWork}
+use Rattle.redo_rule.specs.OwnSide.{HasItsWork}
 use Rattle.redo_rule.specs.Ruled.{first_view, none_heard, numbered, own_numbered, Ruled, starts_about}
 use Rattle.redo_rule.specs.Seating.{IsCleaner}
 use Rattle.redo_rule.specs.declared.law.About.{About}

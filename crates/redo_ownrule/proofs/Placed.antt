@@ -1,5 +1,5 @@
 -- The actors that a run leaves, put into their places one by one.
-use Rattle.std.proofs.Common.{List, None, Option, Some, [], ap, append-nil, append_assoc, arith, length, length-append, map, refl, sym, ℕ, ◌+◌, ◌++◌, ◌∙◌, ◌∷◌, ◌≡◌, ◌≤◌}
+use Rattle.std.proofs.Common.{List, None, Option, [], ap, append_assoc, arith, length, length-append, map, refl, sym, ℕ, ◌+◌, ◌++◌, ◌∙◌, ◌∷◌, ◌≡◌, ◌≤◌}
 use Rattle.std.proofs.lemmas.List.{length-map}
 use Rattle.model_own.specs.OwnWrites.{LogWork}
 use Rattle.redo_drive.specs.declared.actor.Actor.{Actor}

@@ -2,7 +2,6 @@
 use Rattle.std.proofs.Common.{Bool, List, None, Option, Some, [], ap, arith, cond, false, is_some, length, map, refl, subst, suc, sym, true, zero, ℕ, ◌+◌, ◌∙◌, ◌∷◌, ◌≡◌, ◌≤◌}
 use lib.ListN.{get_elem?}
 use mathlib.Core.Option as maybe
-use Rattle.model_core.specs.{Given}
 use Rattle.model_core.specs.Actors as model
 use Rattle.model_own.specs.OwnWrites.{has_work, LogWork, OwnUser}
 use Rattle.model_own.specs.declared.errand.ErrandStep.{ErrandStep}
@@ -15,15 +14,13 @@ use Rattle.redo_ownmachine.specs.OwnCrew as own_crew
 use Rattle.redo_ownmachine.specs.OwnSeats.{AreAtHome}
 use Rattle.redo_ownrule.proofs.Crews.{own_users}
 use Rattle.redo_ownrule.proofs.Placed.{alone}
-use Rattle.redo_ownrule.specs.OwnPlays.{errand_of}
 use Rattle.redo_ownrule.specs.Players.{actor_of, AreInOrder, ArePlain, crew, numbered_as, place, place_behind, seated, UsersFirst}
 use Rattle.redo_ownrule.specs.Staffing.{HaveOthers, StandAtHome}
 use Rattle.redo_ownrule.specs.declared.player.Player.{Player}
 use Rattle.redo_ownrule.specs.declared.player.Player.TheVariants as player
 use Rattle.redo_rule.proofs.Opens.{AllStand, Stands}
-use Rattle.redo_rule.specs.OwnSide.{HasNoWork, OwnSide, SitsAs, work_of}
+use Rattle.redo_rule.specs.OwnSide.{OwnSide, work_of}
 use Rattle.redo_rule.specs.Ruled.{none_heard, numbered, own_numbered}
-use Rattle.redo_rule.specs.declared.law.Errand.{Errand}
 use Rattle.redo_rule.specs.declared.law.Numbered.{Numbered}
 
 -- users that write for themselves lie beside the log part with its work

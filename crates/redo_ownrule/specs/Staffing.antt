@@ -1,8 +1,5 @@
 -- The players of a run, made of its actors.
 use Rattle.std.specs.Prelude.{Bool, List, [], false, is_some, length, true, vec_capacity, ◌∷◌, ◌≡◌, ◌≤◌}
-use lib.ListN.{get_elem?}
-use mathlib.Core.Option.{some}
-use Rattle.model_own.specs.OwnWrites.{OwnUser}
 use Rattle.model_own.specs.declared.errand.ErrandStep.TheVariants as errand_step
 use Rattle.redo_drive.specs.declared.actor.Actor.{Actor}
 use Rattle.redo_ownmachine.specs.OwnCrew.{HaveWorkers, IsOther}

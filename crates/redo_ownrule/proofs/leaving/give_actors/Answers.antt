@@ -1,4 +1,4 @@
-use Rattle.std.proofs.Common.{List, None, Option, ap, arith, length, refl, sym, ◌++◌, ◌∙◌, ◌∷◌, ◌≡◌, []}
+use Rattle.std.proofs.Common.{List, Option, ap, arith, length, sym, ◌++◌, ◌∙◌, ◌∷◌, ◌≡◌, []}
 use Rattle.std.proofs.lemmas.Iterator.Adapters.{YieldsList-from_vec}
 use Rattle.std.proofs.lemmas.Iterator.Consumers.{YieldsList-end, YieldsList-turn}
 use Rattle.std.proofs.lemmas.List.{length-append, map-id}
@@ -9,7 +9,6 @@ use Rattle.redo_drive.specs.declared.actor.Actor.TheVariants as actor
 use Rattle.redo_ownrule.proofs.Placed.{Placed, place_more, placed, room_left, whole_crew}
 use Rattle.redo_ownrule.proofs.leaving.give_actors.Goals as goal
 use Rattle.redo_ownrule.specs.Players.{workers_of}
-use Rattle.redo_ownrule.specs.declared.player.Player.{Player}
 use Rattle.redo_ownrule.specs.declared.player.Player.TheVariants as player
 
 pub push_reserved-requires : goal.push_reserved-requires

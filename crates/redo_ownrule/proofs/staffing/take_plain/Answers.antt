@@ -2,7 +2,6 @@ use Rattle.std.proofs.Common.{None, List, ap, arith, refl, rules, subst, sym, â—
 use Rattle.std.proofs.lemmas.Iterator.Adapters.{YieldsList-from_vec}
 use Rattle.std.proofs.lemmas.Iterator.Consumers.{YieldsList-end}
 use Rattle.std.proofs.lemmas.List.{map-id}
-use Rattle.redo_drive.specs.declared.actor.Actor.{Actor}
 use Rattle.redo_ownrule.proofs.Players.{are_plain, plain, plain_crew, plain_home}
 use Rattle.redo_ownrule.proofs.staffing.take_plain.Goals as goal
 use Rattle.redo_ownrule.specs.Players.{ArePlain, crew}

@@ -3,7 +3,6 @@ use Rattle.std.specs.Prelude.{replicate}
 use Rattle.model_base.specs.declared.limits.TheConstants.{BLOCK_SIZE}
 use Rattle.model_own.specs.OwnWrites.{LogWork}
 use Rattle.redo_drive.specs.Making.{EndsWithFollowers}
-use Rattle.redo_drive.specs.Views.{views_of}
 use Rattle.redo_drive.specs.declared.actor.Actor.{Actor}
 use Rattle.redo_ownmachine.proofs.Begins.{have_workers}
 use Rattle.redo_ownrule.proofs.Opened.{opens_players, starts_are, unseated}
