@@ -1,5 +1,6 @@
 -- A store is finished: its seats are taken in, its table is closed, and its players leave their actors.
-use Rattle.std.proofs.Common.{Bool, List, Option, [], ap, arith, drop, get_or, is_some, length, map, refl, subst, sym, true, ℕ, ◌+◌, ◌<◌, ◌∙◌, ◌≡◌, ◌≤◌}
+use Rattle.std.proofs.Common.{Bool, List, Option, [], ap, arith, drop, get_or, is_some, length, map, refl, subst, sym}
+use Rattle.std.proofs.Common.{true, ℕ, ◌+◌, ◌<◌, ◌∙◌, ◌≡◌, ◌≤◌}
 use lib.ListN.{get_elem?}
 use mathlib.Core.Option as maybe
 use Rattle.atomic_table.specs.Seated.{TableId}
@@ -59,7 +60,8 @@ pub closes : {L D R : Type 0} (log_seen : L → Seen) (log_gives : L → Call �
     → (ws : List ℕ) (xs : List (Slot L D))
     → Final (SeenBy (Ruled log_seen log_gives data_seen data_gives about) first.id first.me.0) ws xs
     → EndsAs log_seen log_gives data_seen data_gives about about.own_writes heard players ws xs
-closes {L} {D} {R} log_seen log_gives data_seen data_gives about heard players slice is first all count rest cleaner alone ws xs final =
+closes {L} {D} {R} log_seen log_gives data_seen data_gives about heard players slice is first all count rest cleaner
+    alone ws xs final =
     ends_as log_seen log_gives data_seen data_gives about about.own_writes refl heard players first.id first.me.0 ws xs
     final
     (subst (λ (l : List (Player R)). first.me.0.seats ≡ seated (place about.own_writes l) heard 0 l) is all)
@@ -102,7 +104,7 @@ module _ {L D R : Type 0} (log_seen : L → Seen) (log_gives : L → Call → L 
         → Finished log_seen log_gives data_seen data_gives about own heard players left actors
     finished actors is =
         let are : ◌≡◌ {A = List (Actor R)} actors (crew E.work players) =
-            is ∙ ap (λ (k : Option LogWork). crew k players) work_left in record {
+        is ∙ ap (λ (k : Option LogWork). crew k players) work_left in record {
           all_heard = E.all_heard;
           heard_is = E.heard_is;
           work = E.work;

@@ -1,6 +1,6 @@
--- A store that is shared as its run begins: the rule holds of its table, no player has a seat, and the first seat knows them
--- all.
-use Rattle.std.proofs.Common.{Bool, Global, List, None, Option, Some, Vec, [], ap, arith, cond, false, is_some, length, map, refl, subst, suc, sym, true, zero, ℕ, ◌+◌, ◌∙◌, ◌∷◌, ◌≡◌, ◌≤◌}
+-- A store that is shared as its run begins: the rule holds of its table, and the first seat knows all players.
+use Rattle.std.proofs.Common.{Bool, Global, List, None, Option, Some, Vec, [], ap, arith, cond, false, is_some, length}
+use Rattle.std.proofs.Common.{map, refl, subst, suc, sym, true, zero, ℕ, ◌+◌, ◌∙◌, ◌∷◌, ◌≡◌, ◌≤◌}
 use Rattle.std.specs.Prelude.{IfSome, IsSome, vec_capacity}
 use lib.ListN.{get_elem?}
 use mathlib.Core.Option as maybe
@@ -30,7 +30,8 @@ use Rattle.redo_ownmachine.proofs.Places.{crew_views}
 use Rattle.redo_ownrule.proofs.Crews.{own_users}
 use Rattle.redo_ownrule.proofs.Left.{many_workers}
 use Rattle.redo_ownrule.proofs.Placed.{length_crew}
-use Rattle.redo_ownrule.proofs.Standing.{all_stand, crew_there, first_seated, places_apart, plain_actors, same_crew, side_is, side_of, users_home}
+use Rattle.redo_ownrule.proofs.Standing.{all_stand, crew_there, first_seated, places_apart, plain_actors, same_crew}
+use Rattle.redo_ownrule.proofs.Standing.{side_is, side_of, users_home}
 use Rattle.redo_ownrule.specs.Players.{actor_of, AreInOrder, crew, place, seated, UsersFirst, workers}
 use Rattle.redo_ownrule.specs.Sharing.{IsUnseated}
 use Rattle.redo_ownrule.specs.Staffing.{AreStaffOf}
@@ -90,8 +91,10 @@ module _ {L D R : Type 0} (log_seen : L → Seen) (data_seen : D → Seen) (stan
   pub starts_are : ◌≡◌ {A = List model.Actor} (starts_about about) (views_of (crew staff.work ps))
   starts_are = sym (opens.are log_seen data_seen stands about followers many start B) ∙ crew_is
 
-  first_is_seated : ◌≡◌ {A = List Numbered} (first_view about).seats (seated (place about.own_writes ps) none_heard 0 ps)
-  first_is_seated = ap (λ (l : List model.Actor). cond about.own_writes (own_numbered 0 l) (numbered none_heard 0 l)) starts_are
+  first_is_seated : ◌≡◌ {A = List Numbered} (first_view about).seats
+      (seated (place about.own_writes ps) none_heard 0 ps)
+  first_is_seated =
+      ap (λ (l : List model.Actor). cond about.own_writes (own_numbered 0 l) (numbered none_heard 0 l)) starts_are
       ∙ first_seated about.own_writes staff.work S.works ps S.order S.others S.at_home
 
   stand : opens.AllStand (side_of staff.work ps) actors (first_view about).seats
@@ -103,7 +106,7 @@ module _ {L D R : Type 0} (log_seen : L → Seen) (data_seen : D → Seen) (stan
       → HasItsWork (run_log_side log_seen data_seen B.run) start.parts.log (side_of (Some k) ps) actors
   own_works k are first =
       let same : ◌≡◌ {A = List (Actor R)} (own_crew.crew (own_users ps) k (plain_actors ps)) start.actors.items =
-          sym (same_crew k ps first) ∙ are in record {
+      sym (same_crew k ps first) ∙ are in record {
         others = views_of (plain_actors ps);
         are = ap (λ (l : List (Actor R)). views_of l) (sym same) ∙ crew_views k (own_users ps) (plain_actors ps);
         errands = (own_begins.runs log_seen data_seen stands about.opened.value about.script.value about.log_only
@@ -136,7 +139,8 @@ module _ {L D R : Type 0} (log_seen : L → Seen) (data_seen : D → Seen) (stan
       (words : shared.board.shared.table_id.words ≡ word_count start.parts.words.pages)
       (me : shared.first.me ≡ (first_view about, [])) (no_entries : shared.entries.items ≡ [])
       (room : length about.script.value ≤ vec_capacity shared.entries) (room_is : shared.actors ≡ staff.room)
-      (has_room : IsSome shared.seats) (fits : IfSome shared.seats (λ v. (v.items ≡ []) × (length ps ≤ vec_capacity v))) where
+      (has_room : IsSome shared.seats)
+      (fits : IfSome shared.seats (λ v. (v.items ≡ []) × (length ps ≤ vec_capacity v))) where
     view : shared.first.me.0 ≡ first_view about
     view = ap (λ (m : Me (Slot L D) (View L D)). m.0) me
 
@@ -168,7 +172,8 @@ module _ {L D R : Type 0} (log_seen : L → Seen) (data_seen : D → Seen) (stan
 
     fit : length (starts_about about) ≤ vec_capacity shared.actors
     fit =
-        let s = ap (λ (l : List model.Actor). length l) (sym (opens.are log_seen data_seen stands about followers many start B)) in
+        let s = ap (λ (l : List model.Actor). length l)
+        (sym (opens.are log_seen data_seen stands about followers many start B)) in
         let m = length_views start.actors.items in
         let r = S.room in
         let same = ap vec_capacity room_is in omega arith

@@ -80,7 +80,8 @@ module _ {R : Type 0} where
   others_found : (s : Found R) (os : List (Actor R)) → AreOthers os
       → ◌≡◌ {A = Found R} (found s os) (record s { players = s.players ++ plain os })
   others_found s [] are = ap (λ (l : List (Player R)). record s { players = l }) (sym (append-nil s.players))
-  others_found s (a ∷ os) are = first a are.0 ∙ others_found (record s { players = s.players ++ player.Plain a ∷ [] }) os are.1
+  others_found s (a ∷ os) are = first a are.0
+      ∙ others_found (record s { players = s.players ++ player.Plain a ∷ [] }) os are.1
       ∙ ap (λ (l : List (Player R)). record s { players = l }) (append_assoc s.players (player.Plain a ∷ []) (plain os))
     where
       first : (b : Actor R) → IsOther b
@@ -95,8 +96,10 @@ module _ {R : Type 0} where
   own us = map (λ u. player.Own (fresh u)) us
 
   users_found : (s : Found R) (us : List UserState) (rest : List (Actor R))
-      → ◌≡◌ {A = Found R} (found s (map actor.User us ++ rest)) (found (record s { players = s.players ++ own us }) rest)
-  users_found s [] rest = ap (λ (l : List (Player R)). found (record s { players = l }) rest) (sym (append-nil s.players))
+      → ◌≡◌ {A = Found R} (found s (map actor.User us ++ rest))
+      (found (record s { players = s.players ++ own us }) rest)
+  users_found s [] rest =
+      ap (λ (l : List (Player R)). found (record s { players = l }) rest) (sym (append-nil s.players))
   users_found s (u ∷ us) rest = users_found (record s { players = s.players ++ player.Own (fresh u) ∷ [] }) us rest
       ∙ ap (λ (l : List (Player R)). found (record s { players = l }) rest)
       (append_assoc s.players (player.Own (fresh u) ∷ []) (own us))
@@ -135,7 +138,8 @@ module _ {R : Type 0} where
 -- what all of them come to
 module _ {R : Type 0} (actors : List (Actor R)) (h : HaveWorkers actors) (players : List (Player R))
     (writer : Option WriterState) (flusher : Option FlusherState)
-    (are : ◌≡◌ {A = Found R} (record { players = players; writer = writer; flusher = flusher }) (found none_yet actors)) where
+    (are : ◌≡◌ {A = Found R} (record { players = players; writer = writer; flusher = flusher })
+    (found none_yet actors)) where
   abbrev all : Found R
   all = record { players = players; writer = writer; flusher = flusher }
 
@@ -170,5 +174,6 @@ module _ {R : Type 0} (actors : List (Actor R)) (h : HaveWorkers actors) (player
       let e_f : f ≡ h.flusher = cc in
       ap (λ (l : List (Player R)). crew (Some (record { writer = w; flusher = f })) l) its_players
       ∙ ap (λ (x : WriterState). crew (Some (record { writer = x; flusher = f })) (own h.users ++ plain h.others)) e_w
-      ∙ ap (λ (x : FlusherState). crew (Some (record { writer = h.writer; flusher = x })) (own h.users ++ plain h.others)) e_f
+      ∙ ap (λ (x : FlusherState). crew (Some (record { writer = h.writer; flusher = x }))
+      (own h.users ++ plain h.others)) e_f
       ∙ crew_is h.users h.writer h.flusher h.others ∙ sym h.are

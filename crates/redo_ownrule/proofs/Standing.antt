@@ -1,5 +1,6 @@
 -- Players as a run begins: who sits in the first seat, and where each is among the actors of the run.
-use Rattle.std.proofs.Common.{Bool, List, None, Option, Some, [], ap, arith, cond, false, is_some, length, map, refl, subst, suc, sym, true, zero, ℕ, ◌+◌, ◌∙◌, ◌∷◌, ◌≡◌, ◌≤◌}
+use Rattle.std.proofs.Common.{Bool, List, None, Option, Some, [], ap, arith, cond, false, is_some, length, map, refl}
+use Rattle.std.proofs.Common.{subst, suc, sym, true, zero, ℕ, ◌+◌, ◌∙◌, ◌∷◌, ◌≡◌, ◌≤◌}
 use lib.ListN.{get_elem?}
 use mathlib.Core.Option as maybe
 use Rattle.model_core.specs.Actors as model
@@ -12,9 +13,10 @@ use Rattle.redo_drive.specs.declared.actor.Actor.TheVariants as actor
 use Rattle.redo_ownmachine.specs.OwnCrew.{IsOther}
 use Rattle.redo_ownmachine.specs.OwnCrew as own_crew
 use Rattle.redo_ownmachine.specs.OwnSeats.{AreAtHome}
-use Rattle.redo_ownrule.proofs.Crews.{own_users}
+use Rattle.redo_ownrule.proofs.Crews.{own_users, plain_users}
 use Rattle.redo_ownrule.proofs.Placed.{alone}
-use Rattle.redo_ownrule.specs.Players.{actor_of, AreInOrder, ArePlain, crew, numbered_as, place, place_behind, seated, UsersFirst}
+use Rattle.redo_ownrule.specs.Players.{actor_of, AreInOrder, ArePlain, crew, numbered_as, place, place_behind, seated}
+use Rattle.redo_ownrule.specs.Players.{UsersFirst}
 use Rattle.redo_ownrule.specs.Staffing.{HaveOthers, StandAtHome}
 use Rattle.redo_ownrule.specs.declared.player.Player.{Player}
 use Rattle.redo_ownrule.specs.declared.player.Player.TheVariants as player
@@ -28,7 +30,8 @@ abbrev pub side_of : {R : Type 0} → Option LogWork → List (Player R) → Opt
 side_of None ps = None
 side_of (Some k) ps = Some (record { users = own_users ps; work = k })
 
-pub work_back : {R : Type 0} (work : Option LogWork) (ps : List (Player R)) → ◌≡◌ {A = Option LogWork} (work_of (side_of work ps)) work
+pub work_back : {R : Type 0} (work : Option LogWork) (ps : List (Player R))
+    → ◌≡◌ {A = Option LogWork} (work_of (side_of work ps)) work
 work_back None ps = refl
 work_back (Some k) ps = refl
 
@@ -42,20 +45,27 @@ plain_actors [] = []
 plain_actors (player.Own o ∷ ps) = plain_actors ps
 plain_actors (player.Plain a ∷ ps) = a ∷ plain_actors ps
 
-home_is : (R : Type 0) (n : ℕ) (o : OwnUser) → o.errand ≡ errand_step.Done → o.helped ≡ false → ◌≡◌ {A = Numbered}
-    (record { number = n; actor = model.User o.user; heard = []; errand = Some (record { step = errand_step.Done; helped = false }) })
-    (numbered_as {R = R} n [] (player.Own o))
+-- as its seat has a user that is on an errand
+abbrev on_errand : ℕ → OwnUser → ErrandStep → Bool → Numbered
+on_errand n o step helped = record {
+  number = n;
+  actor = model.User o.user;
+  heard = [];
+  errand = Some (record { step = step; helped = helped });
+}
+
+home_is : (R : Type 0) (n : ℕ) (o : OwnUser) → o.errand ≡ errand_step.Done → o.helped ≡ false
+    → ◌≡◌ {A = Numbered} (on_errand n o errand_step.Done false) (numbered_as {R = R} n [] (player.Own o))
 home_is R n o done none =
-    ap (λ (e : ErrandStep). record { number = n; actor = model.User o.user; heard = []; errand = Some (record { step = e; helped = false }) }) (sym done)
-    ∙ ap (λ (b : Bool). record { number = n; actor = model.User o.user; heard = []; errand = Some (record { step = o.errand; helped = b }) }) (sym none)
+    ap (λ (e : ErrandStep). on_errand n o e false) (sym done) ∙ ap (on_errand n o o.errand) (sym none)
+
+-- the user, if it is one
+abbrev user_or : {R : Type 0} → OwnUser → Player R → OwnUser
+user_or d (player.Own o) = o
+user_or d (player.Plain a) = d
 
 module _ {R : Type 0} where
   -- THE CREW is that of a machine whose users write for themselves
-  plain_users : (ps : List (Player R)) → ArePlain ps → own_users ps ≡ []
-  plain_users [] plain = refl
-  plain_users (player.Plain a ∷ ps) plain = plain_users ps plain
-  plain_users (player.Own o ∷ ps) plain = absurd plain
-
   plain_same : (ps : List (Player R)) → ArePlain ps → ◌≡◌ {A = List (Actor R)} (map actor_of ps) (plain_actors ps)
   plain_same [] plain = refl
   plain_same (player.Plain a ∷ ps) plain = ap (λ (l : List (Actor R)). a ∷ l) (plain_same ps plain)
@@ -72,7 +82,8 @@ module _ {R : Type 0} where
   pub users_home : (ps : List (Player R)) → StandAtHome ps → AreAtHome (own_users ps)
   users_home [] home n o at = absurd (maybe.some-ne-none o (sym at))
   users_home (player.Own x ∷ ps) home zero o at =
-      subst (λ (z : OwnUser). (z.errand ≡ errand_step.Done) × (z.helped ≡ false)) (maybe.some-injective x o at) (home.0, home.1)
+      subst (λ (z : OwnUser). (z.errand ≡ errand_step.Done) × (z.helped ≡ false)) (maybe.some-injective x o at)
+      (home.0, home.1)
   users_home (player.Own x ∷ ps) home (suc n) o at = users_home ps home.2 n o at
   users_home (player.Plain a ∷ ps) home n o at = users_home ps home n o at
 
@@ -140,7 +151,8 @@ module _ {R : Type 0} where
       ∙ ap (λ (l : List Numbered). numbered_as (number k) [] (player.Plain a) ∷ l)
       (others_numbered number (n + 1) (k + 1) ps plain others.1 (λ i.
       let z = by (suc i) in
-      let same : number (k + suc i) ≡ number (k + 1 + i) = ap number (let e : k + suc i ≡ k + 1 + i = omega arith in e) in
+      let same : number (k + suc i) ≡ number (k + 1 + i) =
+      ap number (let e : k + suc i ≡ k + 1 + i = omega arith in e) in
       omega arith))
   others_numbered number n k (player.Own o ∷ ps) plain others by = absurd plain
 
@@ -158,7 +170,8 @@ module _ {R : Type 0} where
       ∙ ap (λ (l : List Numbered). numbered_as {R = R} (number k) [] (player.Own o) ∷ l)
       (own_is_numbered w number (n + 1) (k + 1) ps first others home.2 (λ i.
       let z = by (suc i) in
-      let same : number (k + suc i) ≡ number (k + 1 + i) = ap number (let e : k + suc i ≡ k + 1 + i = omega arith in e) in
+      let same : number (k + suc i) ≡ number (k + 1 + i) =
+      ap number (let e : k + suc i ≡ k + 1 + i = omega arith in e) in
       omega arith))
 
   pub first_seated : (own : Bool) (work : Option LogWork) → is_some work ≡ own → (ps : List (Player R))
@@ -168,7 +181,8 @@ module _ {R : Type 0} where
   first_seated true None works ps order others home = absurd (cc)
   first_seated true (Some k) works ps order others home =
       own_is_numbered k (place_behind ps) 0 0 ps order (others refl) home
-      (λ i. let same : place_behind ps (0 + i) ≡ place_behind ps i = ap (place_behind ps) (let e : 0 + i ≡ i = omega arith in e) in
+      (λ i. let same : place_behind ps (0 + i) ≡ place_behind ps i =
+      ap (place_behind ps) (let e : 0 + i ≡ i = omega arith in e) in
       omega arith)
   first_seated false None works ps order others home =
       ap (λ (l : List (Actor R)). numbered none_heard 0 (views_of l)) (sym (alone ps)) ∙ numbered_plain 0 ps order
@@ -179,12 +193,18 @@ module _ {R : Type 0} where
       → get_elem? (seated number none_heard k ps) i ≡ maybe.some x
       → (p : Player R) × (get_elem? ps i ≡ maybe.some p) × ◌≡◌ {A = Numbered} (numbered_as (number (k + i)) [] p) x
   seat_is number k [] i x at = absurd (maybe.some-ne-none x (sym at))
-  seat_is number k (q ∷ ps) zero x at = (q, refl,
-      ap (λ (n : ℕ). numbered_as (number n) [] q) (let e : k + 0 ≡ k = omega arith in e)
-      ∙ maybe.some-injective (numbered_as (number k) [] q) x at)
+  seat_is number k (q ∷ ps) zero x at = (
+    q,
+    refl,
+    ap (λ (n : ℕ). numbered_as (number n) [] q) (let e : k + 0 ≡ k = omega arith in e)
+        ∙ maybe.some-injective (numbered_as (number k) [] q) x at,
+  )
   seat_is number k (q ∷ ps) (suc i) x at =
-      let r = seat_is number (k + 1) ps i x at in (r.0, r.1,
-      ap (λ (n : ℕ). numbered_as (number n) [] r.0) (let e : k + suc i ≡ k + 1 + i = omega arith in e) ∙ r.2)
+      let r = seat_is number (k + 1) ps i x at in (
+        r.0,
+        r.1,
+        ap (λ (n : ℕ). numbered_as (number n) [] r.0) (let e : k + suc i ≡ k + 1 + i = omega arith in e) ∙ r.2,
+      )
 
   sits_first : (ps : List (Player R)) → UsersFirst ps → (i : ℕ) (a : Actor R)
       → get_elem? ps i ≡ maybe.some (player.Plain a) → length (own_users ps) + 2 ≤ place_behind ps i
@@ -195,24 +215,23 @@ module _ {R : Type 0} where
       absurd (let e = maybe.some-injective (player.Own o) (player.Plain a) at in cc)
   sits_first (player.Own o ∷ ps) first (suc i) a at = let l = sits_first ps first i a at in omega arith
 
-  no_user : (ps : List (Player R)) → ArePlain ps → (i : ℕ) (o : OwnUser) → get_elem? ps i ≡ maybe.some (player.Own o) → ⊥
+  no_user : (ps : List (Player R)) → ArePlain ps → (i : ℕ) (o : OwnUser)
+      → get_elem? ps i ≡ maybe.some (player.Own o) → ⊥
   no_user [] plain i o at = maybe.some-ne-none (player.Own o) (sym at)
   no_user (player.Plain b ∷ ps) plain zero o at =
       let e = maybe.some-injective (player.Plain b) (player.Own o) at in cc
   no_user (player.Plain b ∷ ps) plain (suc i) o at = no_user ps plain i o at
   no_user (player.Own x ∷ ps) plain i o at = plain
 
-  user_first : (ps : List (Player R)) → UsersFirst ps → (i : ℕ) (o : OwnUser) → get_elem? ps i ≡ maybe.some (player.Own o)
+  user_first : (ps : List (Player R)) → UsersFirst ps → (i : ℕ) (o : OwnUser)
+      → get_elem? ps i ≡ maybe.some (player.Own o)
       → get_elem? (own_users ps) (place_behind ps i) ≡ maybe.some o
   user_first [] first i o at = absurd (maybe.some-ne-none (player.Own o) (sym at))
   user_first (player.Plain b ∷ ps) first zero o at =
       absurd (let e = maybe.some-injective (player.Plain b) (player.Own o) at in cc)
   user_first (player.Plain b ∷ ps) first (suc i) o at = absurd (no_user ps first i o at)
-  user_first (player.Own x ∷ ps) first zero o at = ap (λ (p : Player R). maybe.some (user_or x p)) (maybe.some-injective (player.Own x) (player.Own o) at)
-    where
-      user_or : OwnUser → Player R → OwnUser
-      user_or d (player.Own o) = o
-      user_or d (player.Plain a) = d
+  user_first (player.Own x ∷ ps) first zero o at =
+      ap (λ (p : Player R). maybe.some (user_or x p)) (maybe.some-injective (player.Own x) (player.Own o) at)
   user_first (player.Own x ∷ ps) first (suc i) o at = user_first ps first i o at
 
   idle : (ps : List (Player R)) → StandAtHome ps → (i : ℕ) (o : OwnUser) → get_elem? ps i ≡ maybe.some (player.Own o)
@@ -223,11 +242,7 @@ module _ {R : Type 0} where
   idle (player.Plain b ∷ ps) home (suc i) o at = idle ps home i o at
   idle (player.Own x ∷ ps) home zero o at =
       let e = maybe.some-injective (player.Own x) (player.Own o) at in
-      ap (λ (p : Player R). has_work (errand_or x p).errand) (sym e) ∙ ap has_work home.0
-    where
-      errand_or : OwnUser → Player R → OwnUser
-      errand_or d (player.Own o) = o
-      errand_or d (player.Plain a) = d
+      ap (λ (p : Player R). has_work (user_or x p).errand) (sym e) ∙ ap has_work home.0
   idle (player.Own x ∷ ps) home (suc i) o at = idle ps home.2 i o at
 
   stands_at : (own : Bool) (work : Option LogWork) → is_some work ≡ own → (ps : List (Player R)) → AreInOrder own ps

@@ -60,7 +60,7 @@ push_reserved-requires-in-Plain g c =
     (record { actors = c.args.room.items; work = c.args.work }) c.loop-player.yielded c.args.players.items _
     c.loop-player.invariant.so c.requires.empty c.requires.enough in
     let long = ap (λ (l : List (Actor g.row.R.Denot)). length l) c.put_workers.ensures.items
-        ∙ length-append c.loop-player.room.items (workers_of {R = g.row.R.Denot} c.take.result) in
+    ∙ length-append c.loop-player.room.items (workers_of {R = g.row.R.Denot} c.take.result) in
     let taken = ap (λ (k : Option LogWork). length (workers_of {R = g.row.R.Denot} k)) c.take.ensures.value in
     let same = c.loop-player.invariant.capacity in
     let kept = c.put_workers.ensures.capacity in omega arith
@@ -88,8 +88,8 @@ pub put_workers-requires-2 : goal.put_workers-requires-2
 put_workers-requires-2 g c =
     let gives = c.into_iter-player-iterator.ensures.into_iter_gives in
     let end = YieldsList-end (YieldsList-from_vec c.args.players.items gives.0 (gives.1 ∙ c.args.players.ok.0))
-    c.loop-player.yielded c.loop-player.player-iterator c.loop-player.yielded_by c.next.result c.next.new.self c.in-None.is
-    c.next.ensures.steps in
+    c.loop-player.yielded c.loop-player.player-iterator c.loop-player.yielded_by c.next.result c.next.new.self
+    c.in-None.is c.next.ensures.steps in
     let all = end.1 in
     let left = room_left (record { actors = c.loop-player.room.items; work = c.loop-player.work })
     (record { actors = c.args.room.items; work = c.args.work }) c.loop-player.yielded c.args.players.items _
@@ -101,8 +101,8 @@ pub returns : goal.returns
 returns g c =
     let gives = c.into_iter-player-iterator.ensures.into_iter_gives in
     let end = YieldsList-end (YieldsList-from_vec c.args.players.items gives.0 (gives.1 ∙ c.args.players.ok.0))
-    c.loop-player.yielded c.loop-player.player-iterator c.loop-player.yielded_by c.next.result c.next.new.self c.in-None.is
-    c.next.ensures.steps in
+    c.loop-player.yielded c.loop-player.player-iterator c.loop-player.yielded_by c.next.result c.next.new.self
+    c.in-None.is c.next.ensures.steps in
     let whole : c.loop-player.yielded ≡ c.args.players.items = sym (map-id c.loop-player.yielded) ∙ end.0 in
     c.put_workers-2.ensures.items
     ∙ whole_crew (record { actors = c.loop-player.room.items; work = c.loop-player.work })

@@ -16,7 +16,7 @@ returns g c =
     c.next.ensures.steps in
     let whole : c.loop-actor.yielded ≡ c.args.actors.items = sym (map-id c.loop-actor.yielded) ∙ end.0 in
     let players : ◌≡◌ {A = List (Player g.row.R.Denot)} c.loop-actor.players.items (plain c.args.actors.items) =
-        c.loop-actor.invariant ∙ ap plain whole in
+    c.loop-actor.invariant ∙ ap plain whole in
     record {
       works = refl;
       order = subst ArePlain (sym players) (are_plain c.args.actors.items);

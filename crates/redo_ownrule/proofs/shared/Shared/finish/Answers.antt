@@ -84,7 +84,8 @@ returns g c =
     let listed = its_list g.L.Sectors.seen g.L.Sectors.gives g.D.Sectors.seen g.D.Sectors.gives
     c.args.self.board.shared.key (own_of c.args.self) (heard_by c.args.seats.items) c.args.players.items
     c.close_table-log.result c.give_actors-actors.result.items F c.as_slice-2.result.now c.as_slice-2.ensures.value _
-    c.requires.seated.ready.room c.history_of-history.result (c.history_of-history.ensures c.requires.seated.ready.no_entries) in
+    c.requires.seated.ready.room c.history_of-history.result
+    (c.history_of-history.ensures c.requires.seated.ready.no_entries) in
     let own = leaves_own g.L.Sectors.seen g.L.Sectors.gives g.D.Sectors.seen g.D.Sectors.gives
     c.args.self.board.shared.key F.all_heard c.give_actors-actors.result.items c.close_table-log.result F.parts _ refl
     refl refl refl listed in

@@ -98,7 +98,8 @@ returns-in-Ok-make_board-clause-new g c =
 pub returns-in-Err-make_board-clause-err : goal.returns-in-Err-make_board-clause-err
 returns-in-Err-make_board-clause-err g c =
     let p = c.in_ok-parts.field-0.parts in
-    let both = c.parts_in-log.ensures _ p.lists p.store (c.in-Err-make_board.ensures.err ∙ c.in-Ok-lay_out.ensures.slots.0) in
+    let both = c.parts_in-log.ensures _ p.lists p.store
+    (c.in-Err-make_board.ensures.err ∙ c.in-Ok-lay_out.ensures.slots.0) in
     let B = c.in_ok-parts.ensures.begins in (
       c.into_dev-in-Err-make_board.ensures ∙ ap (λ z. z.dev) (both.0 ∙ B.log),
       c.into_dev-in-Err-make_board-2.ensures ∙ ap (λ z. z.dev) (both.1 ∙ B.data_part),
