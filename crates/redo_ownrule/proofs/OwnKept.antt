@@ -119,10 +119,10 @@ all_length [] k others = omega arith
 all_length (x ∷ xs) k others = let e = all_length xs k others in omega arith
 
 -- the run goes on, and each has handed on its groups
-record RunsSo {L D : Type 0} (log_seen : L → Seen) (data_seen : D → Seen) (run : RunOf L D) (parts : Parts L D)
+pub record RunsSo {L D : Type 0} (log_seen : L → Seen) (data_seen : D → Seen) (run : RunOf L D) (parts : Parts L D)
     (heard : ℕ → List Given) (actors : List model.Actor) : Type 0 where
-  runs : RunsOn log_seen data_seen run parts actors
-  hears : HaveGroups (run_log_side log_seen data_seen run) parts.log heard actors runs.running.log_ghost.log
+  pub runs : RunsOn log_seen data_seen run parts actors
+  pub hears : HaveGroups (run_log_side log_seen data_seen run) parts.log heard actors runs.running.log_ghost.log
 
 module _ {L D : Type 0} (log_seen : L → Seen) (log_gives : L → Call → L → Type 0) (data_seen : D → Seen)
     (data_gives : D → Call → D → Type 0) (about : About L D) (s : State (Slot L D) (View L D))
@@ -149,11 +149,11 @@ module _ {L D : Type 0} (log_seen : L → Seen) (log_gives : L → Call → L �
   seats = record { users = side.users; work = side.work; others = worked.others }
 
   -- the same run, by the list of its users, of the log's work and of the others
-  by_seats : RunsSo log_seen data_seen R.run R.parts R.heard (actors_of seats)
+  abbrev by_seats : RunsSo log_seen data_seen R.run R.parts R.heard (actors_of seats)
   by_seats = subst (RunsSo log_seen data_seen R.run R.parts R.heard) worked.are
       (record { runs = R.runs; hears = R.hears })
 
-  pub before : OwnRunsOn log_seen data_seen R.run R.parts seats
+  abbrev pub before : OwnRunsOn log_seen data_seen R.run R.parts seats
   before = record { runs = by_seats.runs; errands = worked.errands }
 
   module _ (r : Answer) (new : Parts L D) (same : HasSamePages R.parts new)
@@ -194,7 +194,7 @@ module _ {L D : Type 0} (log_seen : L → Seen) (log_gives : L → Call → L �
       ends = refl;
     }
 
-    pub runs_behind : OwnRunsOn log_seen data_seen R.run new after
+    abbrev pub runs_behind : OwnRunsOn log_seen data_seen R.run new after
     runs_behind = turned.runs_then log_seen data_seen R.run R.parts new seats after x.number r
         (own_step_of o side.work r) same (inl turn) before
 

@@ -1,5 +1,14 @@
 -- The log's work, where it lies beside the log part in a slot.
-use Rattle.std.specs.Prelude.{Some, ℕ, ◌≡◌}
+use Rattle.std.specs.Prelude.{None, Result, Some, ℕ, ◌≡◌}
+use Rattle.model_core.specs.{LogServed}
+use Rattle.model_core.specs.declared.ops.Op.TheVariants as op
+use Rattle.redo_disk.specs.{Call, EndWith, error_of, MakesCalls}
+use Rattle.redo_disk.specs.Seen.{Seen}
+use Rattle.redo_disk.specs.declared.error.DevError.{DevError}
+use Rattle.redo_drive.specs.Devices.{call_code}
+use Rattle.redo_drive.specs.LogPartSide as log_part
+use Rattle.redo_drive.specs.declared.device.Device.TheVariants.{Log}
+use Rattle.redo_logdev.specs.Part as log
 use Rattle.model_core.specs.declared.ops.Answer.{Answer}
 use Rattle.model_core.specs.declared.ops.Step.{Step}
 use Rattle.model_own.specs.OwnWrites.{ErrandFits, LogWork, own_goes_on, own_lends, own_step_of, OwnUser}
@@ -11,6 +20,23 @@ use Rattle.redo_rule.specs.declared.law.Slot.{Slot}
 use Rattle.redo_rule.specs.declared.law.Slot.TheVariants as slot
 use Rattle.redo_words.specs.{Lends}
 use Rattle.redo_words.specs.declared.lent.Lent.{Lent}
+
+-- it may be written up to this mark, with what the work beside it lends
+pub record MayWriteOf {L : Type 0} (desk : Desk L) (o : OwnUser) (mark : ℕ) : Type 0 where
+  pub work : LogWork
+  pub its : desk.work ≡ Some work
+  pub may : (l : Lent) → Lends l (own_lends o work) → MayWriteLent desk.part mark l
+
+pub record IsWritten {L : Type 0} (log_seen : L → Seen) (log_gives : L → Call → L → Type 0) (old new : Desk L) (o : OwnUser)
+    (mark : ℕ) (work : LogWork) (ended : Result (Unit {0}) DevError) : Type 0 where
+  pub live : old.part.failed ≡ None
+  pub served : (faults start : ℕ) (first : log.Part L)
+      → LogServed (log_part.log_side log_seen faults first.marks.number (log_part.HasBegun log_seen start first)) old.part
+      (own_lends o work) (op.WriteTo mark) (call_code Log new.part.failed) new.part
+  pub told : new.part.failed ≡ error_of ended
+  -- the log's work stays beside it as it was
+  pub work_stays : new.work ≡ old.work
+  pub calls : MakesCalls log_gives old.part.dev new.part.dev (EndWith new.part.failed)
 
 module _ {L D : Type 0} where
   -- the log part lies in it, with this work beside it
@@ -31,9 +57,18 @@ module _ {L D : Type 0} where
     pub stands : ErrandFits o.user o.errand
 
   pub record MayWriteIn (s : Slot L D) (o : OwnUser) (mark : ℕ) : Type 0 where
-    pub work : LogWork
-    pub lies : LiesIn s work
-    pub may : (l : Lent) → Lends l (own_lends o work) → MayWriteLent lies.desk.part mark l
+    pub desk : Desk L
+    pub is : s ≡ slot.Log desk
+    pub may : MayWriteOf desk o mark
+
+  -- the log was written up to a mark, with what the work lends
+  pub record WroteIn (log_seen : L → Seen) (log_gives : L → Call → L → Type 0) (old new : Slot L D) (o : OwnUser) (mark : ℕ)
+      (ended : Result (Unit {0}) DevError) : Type 0 where
+    pub was : Desk L
+    pub now : Desk L
+    pub old_is : old ≡ slot.Log was
+    pub new_is : new ≡ slot.Log now
+    pub written : (work : LogWork) → was.work ≡ Some work → IsWritten log_seen log_gives was now o mark work ended
 
   -- the user took an answer, and the work with it
   pub record TookIn (old new : Slot L D) (o then : OwnUser) (r : Answer) (step : Step) : Type 0 where

@@ -1,19 +1,12 @@
 // The log's work, where it lies beside the log part in a slot.
-ghost use Rattle.std.specs.Prelude.{◌≡◌, ℕ};
-ghost use Rattle.model_core.specs.{LogServed};
-ghost use Rattle.model_core.specs.declared.ops.Op.TheVariants as op;
-ghost use Rattle.model_own.specs.OwnWrites.{ErrandFits, LogWork, own_lends, own_next};
-ghost use Rattle.redo_drive.specs.Devices.{call_code};
-ghost use Rattle.redo_drive.specs.declared.device.Device.TheVariants as device;
-ghost use Rattle.redo_drive.specs.LogPartSide as log_part;
-ghost use Rattle.redo_logdev.specs.Part as log_dev;
-ghost use Rattle.redo_ownrule.specs.OwnSlots.{GoesOnIn, LiesIn, MayTakeIn, MayWriteIn, TookIn};
-ghost use Rattle.redo_rule.specs.Slots.{IsCalled};
+ghost use Rattle.std.specs.Prelude.{Some, ◌≡◌};
+ghost use Rattle.model_own.specs.OwnWrites.{LogWork, own_next};
+ghost use Rattle.redo_ownrule.specs.OwnSlots.{GoesOnIn, IsWritten, LiesIn, MayTakeIn, MayWriteIn, MayWriteOf, TookIn, WroteIn};
 
 use redo_disk::{DevError, Sectors};
 use redo_drive::call_write;
 use redo_ownuser::OwnUser;
-use redo_rule::Slot;
+use redo_rule::{Desk, Slot};
 use redo_words::{Answer, Op, Step};
 
 /// The Op that a user asks for that has the log's work in hand.
@@ -49,20 +42,36 @@ pub(crate) fn took_at<L: Sectors, D: Sectors>(
 }
 
 /// Writes the log up to a mark, with what the log's work lends.
+fn write_desk<L: Sectors>(
+    desk: &mut Desk<L>,
+    user: &OwnUser,
+    mark: u64,
+) -> Result<(), DevError>
+    requires { MayWriteOf desk.old user.now mark }
+    ensures { (work : LogWork) → desk.old.work ≡ Some work → IsWritten L.seen L.gives desk.old desk.new user.now mark work result }
+{
+    let Desk {
+        part,
+        block: _,
+        work,
+    } = desk;
+    match &*work {
+        Some(work) => call_write(part, mark, user.lent(work)),
+        None => unreachable!(),
+    }
+}
+
+/// The same where that lies in a slot.
 pub(crate) fn write_at<L: Sectors, D: Sectors>(
     slot: &mut Slot<L, D>,
     user: &OwnUser,
     mark: u64,
 ) -> Result<(), DevError>
     requires { MayWriteIn slot.old user.now mark }
-    ensures { (work : LogWork) → LiesIn slot.old work → IsCalled L.gives slot.old slot.new result (λ p q. (faults start : ℕ) (first : log_dev.Part L)
-        → LogServed (log_part.log_side L.seen faults first.marks.number (log_part.HasBegun L.seen start first)) p (own_lends user.now work) (op.WriteTo mark) (call_code device.Log q.failed) q) }
+    ensures { WroteIn L.seen L.gives slot.old slot.new user.now mark result }
 {
     match slot {
-        Slot::Log(desk) => match &desk.work {
-            Some(work) => call_write(&mut desk.part, mark, user.lent(work)),
-            None => unreachable!(),
-        },
+        Slot::Log(desk) => write_desk(desk, user, mark),
         Slot::Pages(_) | Slot::Data(_) => unreachable!(),
     }
 }
