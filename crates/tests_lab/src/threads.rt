@@ -161,7 +161,12 @@ fn keeps_flushed_lines_where_a_call_of_the_log_device_fails_threads(
     rt: HostRuntime,
 ) -> Result<(), Fail> {
     fail_each_call(&rt, "--threads", "log", "6\nfault log device\n")?;
-    fail_each_call(&rt, "--threads --own-writes", "log", "6\nfault log device\n")
+    fail_each_call(
+        &rt,
+        "--threads --own-writes",
+        "log",
+        "6\nfault log device\n",
+    )
 }
 
 #[test]
