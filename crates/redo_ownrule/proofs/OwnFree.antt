@@ -43,7 +43,7 @@ no_tail user_step.AwaitMark may link_buffer.Written = refl
 no_tail user_step.AwaitMark may link_buffer.Closed = refl
 no_tail _ may b = absurd may
 
-no_slot : (u : UserState) (s : UserStep) → MayHelpAt s → user_hand u s ≡ None
+pub no_slot : (u : UserState) (s : UserStep) → MayHelpAt s → user_hand u s ≡ None
 no_slot u user_step.LoadCheckpoint may = refl
 no_slot u user_step.LoadWrite may = refl
 no_slot u user_step.LoadWtail may = refl
@@ -54,7 +54,7 @@ no_slot u _ may = absurd may
 rests : (u : UserState) (s : UserStep) → MayHelpAt s → Free (record u { checks = true; step = s })
 rests u s may checks = record { no_slot = no_slot (record u { checks = true; step = s }) s may; no_tail = no_tail s may }
 
-begins : (s : UserStep) → MayHelpAt s → MayHelpAt (begins_again s)
+pub begins : (s : UserStep) → MayHelpAt s → MayHelpAt (begins_again s)
 begins user_step.LoadCheckpoint may = tt
 begins user_step.LoadWrite may = tt
 begins user_step.LoadWtail may = tt

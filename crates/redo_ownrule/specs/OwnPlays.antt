@@ -109,6 +109,11 @@ module _ {L D : Type 0} where
   abbrev pub HasWork : Option (Slot L D) → OwnUser → LogWork → Type 0
   HasWork held o k = has_work o.errand ≡ true → (desk : Desk L) × (held ≡ Some (slot.Log desk)) × (desk.work ≡ Some k)
 
+  -- what it holds after an Op on a word: the log part, if it had that, with the log's work as it is then
+  abbrev pub held_behind : Option (Slot L D) → OwnUser → LogWork → Option (Slot L D)
+  held_behind (Some (slot.Log desk)) o k = cond (has_work o.errand) (Some (slot.Log (with_work desk k))) (Some (slot.Log desk))
+  held_behind held o k = held
+
 module _ {L D : Type 0} (log_seen : L → Seen) (data_seen : D → Seen) where
   -- THERE WAS A MOMENT in the run that the table is about, as its seat was told, at which the invariant of users that write
   -- for themselves held, and one turn of the definition was this user's, with this answer.
@@ -137,11 +142,6 @@ module _ {L D : Type 0} (log_seen : L → Seen) (data_seen : D → Seen) where
     pub is : m' ≡ (own_view v x (own_goes_on o k r).0 held, carried)
     pub may : OwnMayGo v.pages held (own_goes_on o k r).0 (own_goes_on o k r).1
 
-  -- what it holds after an Op on a word: the log part, if it had that, with the log's work as it is then
-  abbrev pub held_behind : Option (Slot L D) → OwnUser → LogWork → Option (Slot L D)
-  held_behind (Some (slot.Log desk)) o k = cond (has_work o.errand) (Some (slot.Log (with_work desk k))) (Some (slot.Log desk))
-  held_behind held o k = held
-
   -- A step on a word: the number found is the answer. The change of the log's work in its hand is to follow.
   abbrev pub own_saw : Me (Slot L D) (View L D) → ℕ → Me (Slot L D) (View L D) → Type 0
   own_saw m n m' = (x : Numbered) (o : OwnUser) → m.0.seats ≡ x ∷ [] → IsOwn x o
@@ -157,16 +157,17 @@ module _ {L D : Type 0} (log_seen : L → Seen) (data_seen : D → Seen) where
       ((0, slot.Log desk) ∷ m.1) m.0 m')
       × (n ≢ 0 → (k : LogWork) × OwnStepped x o k answer.Held m.0.held m.1 m.0 m')
 
-  -- The log part is given back with its slot, and with the log's work as the answer has left it.
+  -- Whatever it has taken is given back with its slot, the log part with the log's work as the answer has left it.
   abbrev pub own_gave : Me (Slot L D) (View L D) → ℕ → Me (Slot L D) (View L D) → Type 0
-  own_gave m n m' = (x : Numbered) (o : OwnUser) (k : LogWork) → m.0.seats ≡ x ∷ [] → IsOwn x o
-      → HasWork m.0.held o k → OwnStepped x o k (answer.Taken None) None (rest m.1) m.0 m'
+  own_gave m n m' = (x : Numbered) (o : OwnUser) → m.0.seats ≡ x ∷ [] → IsOwn x o
+      → (k : LogWork) × HasWork m.0.held o k × OwnStepped x o k (answer.Taken None) None (rest m.1) m.0 m'
 
   -- after a call of the log part
   abbrev pub own_called : Me (Slot L D) (View L D) → ℕ → Me (Slot L D) (View L D) → Type 0
-  own_called m n m' = (x : Numbered) (o : OwnUser) (k : LogWork) (desk : Desk L) → m.0.seats ≡ x ∷ [] → IsOwn x o
-      → HasWork m.0.held o k → m.1 ≡ (0, slot.Log desk) ∷ []
-      → OwnStepped x o k (call_answer Log desk.part.failed (told_by (own_next o k) desk.part.marks.stable))
+  own_called m n m' = (x : Numbered) (o : OwnUser) (desk : Desk L) → m.0.seats ≡ x ∷ [] → IsOwn x o
+      → m.1 ≡ (0, slot.Log desk) ∷ []
+      → (k : LogWork) × HasWork m.0.held o k
+      × OwnStepped x o k (call_answer Log desk.part.failed (told_by (own_next o k) desk.part.marks.stable))
       (Some (slot.Log (with_work desk
       (own_goes_on o k (call_answer Log desk.part.failed (told_by (own_next o k) desk.part.marks.stable))).1))) m.1 m.0 m'
 

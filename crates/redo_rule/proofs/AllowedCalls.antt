@@ -62,7 +62,7 @@ hand_of (op.ReadBlock x) calls before after h = (h.0, by_answer after h.1 h.2)
 hand_of _ calls before after h = absurd calls
 
 -- what is in a list of one slot
-one_slot : {L D : Type 0} (k : ℕ) (x y : Slot L D) (l : List (ℕ × Slot L D)) → l ≡ (k, x) ∷ [] → l ≡ (k, y) ∷ [] → ◌≡◌ {A = Slot L D} x y
+pub one_slot : {L D : Type 0} (k : ℕ) (x y : Slot L D) (l : List (ℕ × Slot L D)) → l ≡ (k, x) ∷ [] → l ≡ (k, y) ∷ [] → ◌≡◌ {A = Slot L D} x y
 one_slot {L} {D} k x y l e f = ap (λ (z : List (ℕ × Slot L D)). (get_or z 0 (k, x)).1) (sym e ∙ f)
 
 -- what is known of the data part

@@ -40,7 +40,7 @@ use Rattle.redo_rule.specs.declared.law.Slot.TheVariants as slot
 use Rattle.redo_rule.specs.declared.law.View.{View}
 
 -- lists of which one is replaced by another of as many pages
-with_are : (listings : Listings) (i : ℕ) (entries : List Dirty) → AreLists listings → i < 4 → AreLists (with_list listings i entries)
+pub with_are : (listings : Listings) (i : ℕ) (entries : List Dirty) → AreLists listings → i < 4 → AreLists (with_list listings i entries)
 with_are listings i entries are below = record {
   count = length-set listings.lists i (record { pages = (listing_at listings.lists i).pages; entries = entries }) ∙ are.count;
   its_pages = λ j l. elim (ℕ_discrete j i) [
@@ -51,7 +51,7 @@ with_are listings i entries are below = record {
 }
 
 module _ {L D : Type 0} where
-  with_others : (old new : Parts L D) (beside : Beside) (i : ℕ) (entries : List Dirty) → new.log ≡ old.log → ◌≡◌ {A =
+  pub with_others : (old new : Parts L D) (beside : Beside) (i : ℕ) (entries : List Dirty) → new.log ≡ old.log → ◌≡◌ {A =
       Listings} new.lists (with_list old.lists i entries) → (j : ℕ) → j ≢ suc i → ◌≡◌ {A = Slot L D} (slot_content old
       beside j) (slot_content new beside j)
   with_others old new beside i entries log_same lists zero far =
