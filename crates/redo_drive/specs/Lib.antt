@@ -1,3 +1,5 @@
+pub mod Archived
+pub mod Archiving
 pub mod Asking
 pub mod Beginning
 pub mod Begins

@@ -5,13 +5,14 @@ use mathlib.Core.Option.{some}
 use Rattle.model_base.specs.declared.shape.Shape.{Shape}
 use Rattle.model_core.specs.Actors as model
 use Rattle.model_core.specs.DataSide.{DataSide}
-use Rattle.model_core.specs.{answer_of, BatchPage, DataServed, Each, list_word, lists_left, LogServed, lsn, OpWords, words_left}
+use Rattle.model_core.specs.{answer_of, BatchPage, DataServed, Each, list_word, lists_left, LogServed, lsn, OpWords, OwnServed, words_left}
 use Rattle.model_core.specs.LogSide.{LogSide}
 use Rattle.model_core.specs.Setup.{Setup}
 use Rattle.model_core.specs.declared.ops.Answer.{Answer}
 use Rattle.model_core.specs.declared.ops.Op.{Op}
 use Rattle.model_core.specs.declared.ops.Op.TheVariants as op
 use Rattle.model_parts.specs.{IsWritable, MayBeNext}
+use Rattle.model_running.specs.Appending.{IsNoAppend}
 use Rattle.model_running.specs.ListReady.{ListReady}
 use Rattle.redo_drive.specs.DataPartSide as data_part
 use Rattle.redo_disk.specs.Seen.{Seen}
@@ -70,6 +71,8 @@ pub record IsPlayable {L D : Type 0} (parts : Parts L D) (o : Op) (l : Lent) : T
   pub real : (i : ℕ) → Each (λ listed. 0 < listed.oldest) (lists_of parts.lists i)
   pub log : LogReady parts.log l o
   pub data_part : DataReady parts.store l o
+  -- there is no archive to append to
+  pub own : IsNoAppend o
 
 -- what the log part's call tells
 abbrev pub told_by : Op → ℕ → ℕ
@@ -86,6 +89,7 @@ pub record IsPlayed {L D : Type 0} (log_seen : L → Seen) (data_seen : D → Se
   pub code : ℕ
   pub log_served : LogServed (run_log_side log_seen data_seen run) old.log l o code new.log
   pub data_served : DataServed (run_data_side log_seen data_seen run) old.store l o code new.store
+  pub own_served : OwnServed o code
   pub words : new.words.words ≡ words_left old.words.words o
   pub lists : lists_of new.lists ≡ lists_left (lists_of old.lists) (list_word old.words.words) o
   pub answered : answer ≡ answer_of (lists_of old.lists) (is_some old.log.failed) code new.log.marks.stable old.words.words o

@@ -4,6 +4,7 @@
 #![tactic(auto)]
 
 mod actor;
+mod archiving;
 mod asking;
 mod calling;
 mod closed;
@@ -19,6 +20,7 @@ mod seating;
 mod start_words;
 
 pub use actor::Actor;
+pub use archiving::finish_archive;
 pub use calling::{call_batch, call_checkpoint, call_read, call_sync, call_write};
 pub use closed::Closed;
 pub use data_laws::{data_part_meets_laws, data_part_tells, held_pages_are_stored};
@@ -29,6 +31,6 @@ pub use lists::FlushLists;
 pub use log_laws::{
     log_half_has_watermarks, log_part_keeps_its_shape, log_part_meets_laws, log_part_tells,
 };
-pub use making::{Beginning, begin_run};
+pub use making::{Beginning, begin_run, begin_run_with};
 pub use parts::Parts;
 pub use seating::FIRST_FOLLOWER;

@@ -49,7 +49,7 @@ use Rattle.redo_lab.proofs.Rereading.{armed-as}
 use Rattle.redo_lab.proofs.SomeLeft.{some-left}
 use Rattle.redo_disk.proofs.Told.{still-same}
 use Rattle.redo_lab.proofs.Told.{both-told, one-told, some-told, weaker-both}
-use Rattle.redo_lab.specs.Call.{LabCall, WhereOpened, WhereToldNow, mids}
+use Rattle.redo_lab.specs.Call.{LabCall, WhereOpened, WhereToldNow, mids, Unfused}
 use Rattle.redo_lab.specs.Following.{AreUntold, IsToldOf}
 use Rattle.redo_lab.specs.Handed.{TellsOf, call_on}
 use Rattle.redo_lab.specs.Laws.{Laws}
@@ -65,9 +65,9 @@ synced-fair disk = record {
 }
 
 module _ {L D : Type 0} (log_seen : L → Seen) (log_gives : L → Call → L → Type 0) (data_seen : D → Seen) (data_gives : D → Call → D → Type 0)
-    (words : List (List ℕ)) (source source_now : SourceSeen) (log : L) (data_device : D) (command : Command) (drive : Drive) (stops : Stops) (script : List ScriptLine)
+    (words : List (List ℕ)) (archive : Unfused) (source source_now : SourceSeen) (log : L) (data_device : D) (command : Command) (drive : Drive) (stops : Stops) (script : List ScriptLine)
     (given : store.Opened (Fused L) (Fused D)) (driven : Driven (Fused L) (Fused D)) (running : CommandRuns source source_now command drive script) (laws : Laws)
-    (ready : StandsReady log_seen data_seen (call_on log_seen log_gives data_seen data_gives words source source_now log data_device given.log.dev given.store.dev) drive stops script given)
+    (ready : StandsReady log_seen data_seen (call_on log_seen log_gives data_seen data_gives words archive source source_now log data_device given.log.dev given.store.dev) drive stops script given)
     (actors : List (Actor Kept))
     (told : TellsOf drive.threads drive.own_writes log_seen log_gives data_seen data_gives drive given script (views_of actors) driven)
     (owes : Owes (seen_through log_seen) (CallsThrough log_seen log_gives) (seen_through data_seen) (CallsThrough data_seen data_gives) given script driven)
@@ -78,12 +78,12 @@ module _ {L D : Type 0} (log_seen : L → Seen) (log_gives : L → Call → L �
     (followed : HaveFollowed (seen_through log_seen) (seen_through data_seen) HasTally given script followers actors
     driven.closed)
     (of_followers : AllZip IsToldOf (followers_in actors) follows.items)
-    (spends : SpendsTurns (call_on log_seen log_gives data_seen data_gives words source source_now log data_device driven.closed.log.dev driven.closed.store.dev) drive) where
+    (spends : SpendsTurns (call_on log_seen log_gives data_seen data_gives words archive source source_now log data_device driven.closed.log.dev driven.closed.store.dev) drive) where
   abbrev opening : LabCall
-  opening = call_on log_seen log_gives data_seen data_gives words source source_now log data_device given.log.dev given.store.dev
+  opening = call_on log_seen log_gives data_seen data_gives words archive source source_now log data_device given.log.dev given.store.dev
 
   abbrev call : LabCall
-  call = call_on log_seen log_gives data_seen data_gives words source source_now log data_device driven.closed.log.dev driven.closed.store.dev
+  call = call_on log_seen log_gives data_seen data_gives words archive source source_now log data_device driven.closed.log.dev driven.closed.store.dev
 
   abbrev played : Played
   played = played_of given.start driven.closed follows
@@ -176,7 +176,7 @@ module _ {L D : Type 0} (log_seen : L → Seen) (log_gives : L → Call → L �
       let same : record { shape = given.shape; pages = given.pages; end = ready.opened.end } ≡ ready.opened =
       λ i. record { shape = is.shape i; pages = is.pages i; end = ready.opened.end } in
       record {
-        armed = armed-after words source source_now log data_device ready.armed log-none data-none log-made data-made;
+        armed = armed-after words archive source source_now log data_device ready.armed log-none data-none log-made data-made;
         counted = (let some = (counts-calls log_seen log_gives given.log.dev driven.closed.log.dev log-made.calls log-made.made).passed (omega (arith, ready.counted, log-none)) in omega arith);
         opened = ready.opened;
         ran = record {

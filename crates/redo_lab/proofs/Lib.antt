@@ -21,9 +21,11 @@ pub mod Plain
 pub mod Prepared
 pub mod Printed
 pub mod Rereading
+pub mod Restoring
 pub mod RunEnds
 pub mod Sizes
 pub mod SomeLeft
 pub mod Telling
 pub mod Tallied
 pub mod Told
+pub mod Unarchived

@@ -9,7 +9,7 @@ use Rattle.model_log.specs.{block_of, IsAtDataStart, start_after}
 use Rattle.model_log.specs.declared.layout.TheConstants.{BLOCK_HEADER}
 use Rattle.model_parts.specs.{formatted_store, IsOpenable, KeepsOpened}
 use Rattle.model_report.specs.declared.fault.Fault.TheVariants as fault
-use Rattle.model_script.specs.{first_misfit}
+use Rattle.model_script.specs.{ArchiveFits, first_misfit}
 use Rattle.model_script.specs.declared.asked.Command.{Command}
 use Rattle.model_script.specs.declared.asked.Drive.{Drive}
 use Rattle.model_script.specs.declared.misfit.Misfit.{Misfit}
@@ -30,7 +30,7 @@ use Rattle.redo_lab.proofs.Found.{found-armed, one-opened, prefix-opened, stoppe
 use Rattle.redo_lab.proofs.Told.{both-told, on-contents}
 use Rattle.redo_lab.proofs.Told.{some-tells, some-told}
 use Rattle.redo_lab.specs.Call.{HaveSameContents, LabCall, WhereToldAtEntry}
-use Rattle.redo_lab.specs.Cause.{CanPlay}
+use Rattle.redo_lab.specs.Cause.{archive_size, CanPlay}
 use Rattle.redo_lab.specs.Devices.{AreArmed}
 use Rattle.redo_lab.specs.Laws.{Laws}
 use Rattle.redo_lab.specs.Runs.{CommandRuns}
@@ -193,7 +193,7 @@ module _ (call : LabCall) (command : Command) (drive : Drive) (stops : Stops) (s
       (λ can unfailed. tt)
 
   pub unplayed-misfit : (opened : Opened) (misfit : Misfit) → call.log.fuse.mid ≡ 0 → call.store.fuse.mid ≡ 0 → WhereToldAtEntry call (DevicesOpenAs opened)
-      → first_misfit opened.shape (start_after opened.end) (room_of drive.log_only opened) script ≡ Some misfit → EndsWith call command (outcome.Fault (fault.Fit misfit))
+      → first_misfit opened.shape (start_after opened.end) (room_of drive.log_only opened) (archive_size call.archive drive) script ≡ Some misfit → EndsWith call command (outcome.Fault (fault.Fit misfit))
   unplayed-misfit opened misfit log_none data_none opens first = ends-with call command drive script running laws (outcome.Fault (fault.Fit misfit)) (tells-armed armed)
       (leaves-read call script None reads)
       (inr (
@@ -212,11 +212,12 @@ module _ (call : LabCall) (command : Command) (drive : Drive) (stops : Stops) (s
       ))
       (λ can unfailed. absurd (misfits can))
     where
-      misfits : CanPlay call drive.log_only script → ⊥
+      misfits : CanPlay call drive script → ⊥
       misfits can =
           let same : opened ≡ can.opened = one-opened laws can.log can.store opened can.opened (opens can.log can.store can.log_tells can.store_tells can.log_still can.store_still) can.opens in
           let fits : FitsOpened drive.log_only opened script = subst (λ (o : Opened). FitsOpened drive.log_only o script) (sym same) can.fits in
-          let none = sym first ∙ laws.no_misfit opened.shape (start_after opened.end) (room_of drive.log_only opened) script fits in
+          let archive_fits = subst (λ (o : Opened). ArchiveFits o.shape (start_after o.end) (archive_size call.archive drive) script) (sym same) can.archive_fits in
+          let none = sym first ∙ laws.no_misfit opened.shape (start_after opened.end) (room_of drive.log_only opened) (archive_size call.archive drive) script fits archive_fits in
           cc
 
   pub unplayed-refused : (cause : Refusal) → call.log.fuse.mid ≡ 0 → call.store.fuse.mid ≡ 0

@@ -168,7 +168,7 @@ module _ (call : LabCall) (drives : Drives) (later : DrivesLater drives call.dri
   }
 
   -- A STORE THAT CAN BE RUN ON is not refused after the run.
-  possible-read-after : (cause : Refusal) → Since 0 0 → WhereToldNow call (AreRefused cause) → CanPlay call false script → ⊥
+  possible-read-after : (cause : Refusal) → Since 0 0 → WhereToldNow call (AreRefused cause) → CanPlay call (drive_of_seed seed max) script → ⊥
   possible-read-after cause since refused can =
       let log_left = some-told call.log.now.tells can.log_still in
       let data_left = some-told call.store.now.tells can.store_still in

@@ -3,10 +3,11 @@ use Rattle.std.specs.Prelude.{ℕ, ◌≡◌, ◌≢◌, ◌<◌, ◌+◌, ◌�
 use Rattle.model_base.specs.{HasRisen}
 use Rattle.model_base.specs.declared.limits.TheConstants.{MAX_SCRIPT}
 use Rattle.model_script.specs.declared.asked.Command.{Command}
-use Rattle.model_script.specs.declared.asked.Command.TheVariants.{Run}
+use Rattle.model_script.specs.declared.asked.Command.TheVariants.{Restore, Run}
 use Rattle.model_report.specs.{fault_line, status_of}
 use Rattle.model_report.specs.declared.fault.Fault.{Fault}
 use Rattle.model_report.specs.declared.fault.Fault.TheVariants.{Memory, Sink, LogDevice, DataDevice, Words}
+use Rattle.redo_disk.specs.Seen.{StillTells}
 use Rattle.redo_io.specs.{SinkSeen, TakesAtMost, TakesPart, with_taken}
 use Rattle.redo_io.specs.declared.read.TheConstants.{PIECE}
 use Rattle.redo_lab.specs.declared.outcome.Outcome.{Outcome}
@@ -79,11 +80,17 @@ pub record EndsWith (call : LabCall) (command : Command) (outcome : Outcome) : T
   pub complete : IsPossible call command → (HasRisen call.source.faults call.source_now.faults → ⊥) → AreUnfailedFor command call
       → IsDoneOrKeptFrom command outcome
 
+-- the archive's device was only read, and no other was called
+abbrev pub OnlyReadsArchive : LabCall → Type 0
+OnlyReadsArchive call =
+    StillTells call.archive.entry.tells call.archive.now.tells × BothDevices (λ device. device.now ≡ device.entry) call
+
 -- the words ask for this command, which comes to an outcome that is printed
 pub record EndsCommand (call : LabCall) (sink sink_now : SinkSeen) (status : ℕ) (command : Command) : Type 0 where
   pub asked : command_of call.words ≡ Some command
   pub outcome : Outcome
   pub ends : EndsWith call command outcome
+  pub restores : (to : ℕ) → command ≡ Restore to → OnlyReadsArchive call
   pub printed : IsOutcomePrinted outcome status sink sink_now
 
 -- the words are no command, or there was no memory to read them, and nothing was done
@@ -93,6 +100,7 @@ pub record HasNoCommand (call : LabCall) (sink sink_now : SinkSeen) (status : �
   pub printed : IsFaultPrinted [] fault status sink sink_now
   pub unread : call.source_now ≡ call.source
   pub unwritten : BothDevices IsUnwritten call
+  pub untouched : call.archive.now ≡ call.archive.entry
   pub left : (command : Command) → command_of call.words ≡ Some command → runs_script command ≡ true → LeavesStore call
 
 -- the call had this sink, which is this now, and ended with this status

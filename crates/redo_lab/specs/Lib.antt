@@ -8,6 +8,7 @@ pub mod Files
 pub mod Following
 pub mod Handed
 pub mod Laws
+pub mod Restoring
 pub mod Runs
 pub mod Store
 pub mod Told

@@ -102,6 +102,7 @@ module _ {L D : Type 0} (parts : Parts L D) (o : OwnUser) (k : LogWork) (goes : 
     real = (as_user.playable given lends).real;
     log = tt;
     data_part = tt;
+    own = tt;
   }) tt tt
 
   gives_device : Asks op.GiveDevice model.Nothing (λ r. Unit {0})
@@ -112,6 +113,7 @@ module _ {L D : Type 0} (parts : Parts L D) (o : OwnUser) (k : LogWork) (goes : 
     real = (as_user.playable given lends).real;
     log = tt;
     data_part = tt;
+    own = tt;
   }) tt tt
 
   writer_asks : k.writer.checks ≡ false → Asks (writer_op k.writer k.writer.step)

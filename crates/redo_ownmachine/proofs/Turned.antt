@@ -58,6 +58,7 @@ module _ {L D : Type 0} (log_seen : L → Seen) (data_seen : D → Seen) (run : 
           started = R.runs.started;
           its_pages = R.runs.its_pages;
           its_page_size = R.runs.its_page_size;
+          followers = R.runs.followers;
           bytes = R.runs.bytes;
           word_pages = same.words ∙ R.runs.word_pages;
           list_pages = same.lists ∙ R.runs.list_pages;
@@ -83,7 +84,7 @@ module _ {L D : Type 0} (log_seen : L → Seen) (data_seen : D → Seen) (run : 
   cause_then same t R code failed =
       own_failed_turn_has_cause A (its_log_laws log_seen data_seen run) B (its_data_laws log_seen data_seen run)
       run.setup 0 (own_core_of log_seen data_seen run old seats) (own_core_of log_seen data_seen run new after) seat
-      answer step (runs_then same t R).runs.running t code failed
+      answer step (runs_then same t R).runs.running R.runs.followers t code failed
 
 -- THE TURN OF A USER.
 module _ {L D : Type 0} (log_seen : L → Seen) (log_gives : L → Call → L → Type 0) (data_seen : D → Seen)
@@ -160,6 +161,7 @@ module _ {L D R : Type 0} (log_seen : L → Seen) (log_gives : L → Call → L 
     code = played.code;
     log_served = played.log_served;
     data_served = played.data_served;
+    own_served = played.own_served;
     words = played.words;
     lists = played.lists;
     answered = played.answered;

@@ -483,6 +483,7 @@ module _ {L D : Type 0} (log_seen : L → Seen) (log_gives : L → Call → L �
       (λ s R new words log_same store_same lists_same l. record {
         code = 0;
         log_served = log_same;
+        own_served = tt;
         data_served =
             played.untouched (run_data_side log_seen data_seen R.run) R.parts.store new.store l op.GiveDevice 0 tt
             store_same;
@@ -503,6 +504,7 @@ module _ {L D : Type 0} (log_seen : L → Seen) (log_gives : L → Call → L �
       (λ s R new words log_same store_same lists_same l. record {
         code = 0;
         log_served = log_same;
+        own_served = tt;
         data_served = played.untouched (run_data_side log_seen data_seen R.run) R.parts.store new.store l (op.GiveList
             i) 0 tt store_same;
         words = words ∙ ap (λ (n : ℕ). slice_set R.parts.words.words n 0) word;

@@ -1,12 +1,12 @@
 -- Why an answer of `play` came: a wait met its condition, an end was one, and a failure had a cause.
-use Rattle.std.proofs.Common.{Bool, List, ap, cond, false, inl, inr, length, refl, subst, sym, true, ℕ, ⊎_elim, ◌∙◌, ◌≡◌, ◌⊎◌, is_some}
+use Rattle.std.proofs.Common.{Bool, List, ap, arith, cond, eqb-true, false, inl, inr, length, refl, subst, sym, true, ℕ, ⊎_elim, ◌∙◌, ◌≡◌, ◌⊎◌, is_some}
 use lib.ListN.{get_elem?}
 use mathlib.Core.Option.{some, some-injective}
 use Rattle.model_core.proofs.Endings.{ended_of, ended_well, idle_of, quiet, resting_code, resting_free, turn_ends}
 use Rattle.model_core.proofs.FailedSteps.{turn_fails}
 use Rattle.model_core.proofs.Lists.{set_at}
 use Rattle.model_core.proofs.Rests.{rests}
-use Rattle.model_core.specs.{answer_of, filled, Filling, is_checking, next, old_of, own_op, step_of, took, UserState}
+use Rattle.model_core.specs.{answer_of, filled, Filling, is_checking, LostAt, next, old_of, own_op, step_of, took, UserState}
 use Rattle.model_core.specs.Actors as model
 use Rattle.model_core.specs.Hands.{GivesFailed, StoresFailed}
 use Rattle.model_core.specs.Waiting.{ending}
@@ -18,6 +18,8 @@ use Rattle.model_core.specs.declared.ops.Step.TheVariants as step
 use Rattle.model_core.specs.declared.steps.UserStep.TheVariants as user_step
 use Rattle.model_core.specs.declared.words.Word.TheVariants as word
 use Rattle.model_running.proofs.Filling.{next_filled}
+use Rattle.model_running.specs.ReadHalf.{ReadsInRun}
+use Rattle.model_core.specs.declared.steps.ReaderStep.TheVariants as reader_step
 use Rattle.redo_disk.specs.Seen.{Seen}
 use Rattle.redo_drive.proofs.Viewed.{not_joined}
 use Rattle.redo_drive.specs.Lists.{lists_of}
@@ -80,6 +82,13 @@ module _ {L D : Type 0} (log_seen : L → Seen) (data_seen : D → Seen) (v : Vi
   batch_cause : (b : model.Actor) (code : ℕ) → get_elem? s.actors number ≡ some b → StoresFailed b code →
       (run_data_side log_seen data_seen s.run).Cause s.old.store code
   batch_cause (model.Cleaner v) code at h = subst ((run_data_side log_seen data_seen s.run).Cause s.old.store) h.1 ((s.runs.running.both.paged.each number (model.Cleaner v) at).cause h.0)
+  batch_cause (model.Reader x) code at h =
+      let I : ReadsInRun s.run.setup x = s.runs.running.both.in_run number (model.Reader x) at in
+      let lost : LostAt x reader_step.StoreLost = subst (LostAt x) h.0 I.lost in
+      let first = I.first in
+      let followers = s.runs.followers in
+      let archives_it = eqb-true x.number 0 lost.archiver in
+      absurd (omega arith)
   batch_cause _ code at h = absurd h
 
   found_failure : (code : ℕ) → is_checking a ≡ true → old_of r ≡ code → HasFailureCode log_seen data_seen v a code

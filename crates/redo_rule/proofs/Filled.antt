@@ -9,7 +9,7 @@ use Rattle.model_core.proofs.Later.{took_later}
 use Rattle.model_core.specs.Actors as model
 use Rattle.model_core.specs.Hands.{GivesFailed, hand, IsFreeToCheck, reader_hand, StoresFailed}
 use Rattle.model_core.specs.Waiting.{ending, waits}
-use Rattle.model_core.specs.{archived, archives, AreInFront, filled, Filling, Fills, followed, Given, has_all, holds_tail, is_checking, IsText, joined_texts, lent, next, old_of, pending, reader_op, reader_took, ReaderState, took}
+use Rattle.model_core.specs.{archives, AreInFront, filled, Filling, Fills, followed, Given, has_all, holds_tail, is_checking, IsText, joined_texts, lent, next, old_of, pending, reader_op, reader_took, ReaderState, to_append, took}
 use Rattle.model_core.specs.ReaderProgram.{reader_filled, reader_fills, reader_waits}
 use Rattle.model_core.specs.declared.ops.Answer.{Answer}
 use Rattle.model_core.specs.declared.ops.Op.{Op}
@@ -110,7 +110,12 @@ stored_before (model.Joined es) f code g = g
 
 pub stores_filled : (a : model.Actor) (f : Filling) (code : ℕ) → StoresFailed (filled a f) code → StoresFailed a code
 stores_filled (model.Cleaner s) f code g = g
-stores_filled (model.Reader r) f code g = absurd g
+stores_filled (model.Reader r) f code g = by r.step g
+  where
+    by : (st : ReaderStep) → StoresFailed (model.Reader (reader_filled r f st)) code → StoresFailed (model.Reader r) code
+    by reader_step.ReadBlock g = g
+    by reader_step.GiveDevice g = g
+    by _ g = g
 stores_filled (model.User u) f code g = g
 stores_filled (model.Writer s) f code g = g
 stores_filled (model.Flusher s) f code g = g
@@ -178,6 +183,8 @@ read_step r x reader_step.StorePlace is = absurd (cc)
 read_step r x reader_step.StoreFailed is = absurd (cc)
 read_step r x reader_step.GiveFailed is = absurd (cc)
 read_step r x reader_step.Failed is = absurd (cc)
+read_step r x reader_step.Append is = absurd (cc)
+read_step r x reader_step.StoreLost is = absurd (cc)
 
 asks_read : (r : ReaderState) (x : ℕ) (b : Bool) → cond b (op.Load word.Failed) (reader_op r r.step) ≡ op.ReadBlock x
     → r.step ≡ reader_step.ReadBlock
@@ -292,7 +299,7 @@ took_reader r y follows = by r.checks (old_of y == 0)
     loaded true = follows
     loaded false = follows
 
-    given : (b : Bool) → IsNoArchiver (model.Reader (cond b (archived r) (followed r)))
+    given : (b : Bool) → IsNoArchiver (model.Reader (cond b (to_append r) (followed r)))
     given true = follows
     given false = follows
 

@@ -21,6 +21,7 @@ use Rattle.model_logcore.specs.{LogGhost, UserAt, UserFits}
 use Rattle.model_logcore.specs.LogLaws.{LogLaws}
 use Rattle.model_own.specs.OwnWrites.{has_work}
 use Rattle.model_pagecore.specs.DataLaws.{DataLaws}
+use Rattle.model_running.proofs.Archiving.{none_appends}
 use Rattle.model_running.proofs.Filling.{next_filled}
 use Rattle.model_running.proofs.Turns.{next_words}
 use Rattle.redo_drive.proofs.DataPartLaws.{data_laws}
@@ -137,6 +138,7 @@ module _ {L D : Type 0} (log_seen : L → Seen) (data_seen : D → Seen) (run : 
       → ((d : Keeping D) → stored ≡ Some d → ◌≡◌ {A = store.Part D} d.part parts.store) → IsFreeToCheck a → MayGo pages held stored a
   may_go pages held stored count with_log with_data free = record {
     there = subst (λ (k : ℕ). OpWords k (next a)) (sym count) words_there;
+    own = none_appends run.setup a (runs.running.both.in_run n a at) runs.followers;
     log = λ p is mine l lends. subst (λ (q : log.Part L). LogReady q l (next a)) (sym (with_log p is mine)) ((serves.playable l lends).log);
     data_part = λ d is l lends. subst (λ (e : store.Part D). DataReady e l (next a)) (sym (with_data d is)) ((serves.playable l lends).data_part);
     whole = λ d is. subst (λ (e : store.Part D). HasWholePages e.shape (next a) (lent a)) (sym (with_data d is)) serves.whole;
@@ -338,6 +340,7 @@ module _ {L D : Type 0} (log_seen : L → Seen) (log_gives : L → Call → L �
       code = played.code;
       log_served = played.log_served;
       data_served = played.data_served;
+      own_served = played.own_served;
       words = played.words;
       lists = played.lists;
       answered = played.answered;

@@ -6,6 +6,7 @@ use mathlib.Core.Option as maybe
 use Rattle.model_core.specs.{Given, index, SharedWords}
 use Rattle.model_core.specs.Actors as model
 use Rattle.model_core.specs.declared.words.Word.TheVariants as word
+use Rattle.model_running.proofs.Archiving.{none_loses}
 use Rattle.model_running.proofs.Finished.{marks_same}
 use Rattle.model_running.specs.{marks_in}
 use Rattle.model_report.specs.declared.entry.Marks.{Marks}
@@ -58,7 +59,9 @@ module _ {L D : Type 0} (log_seen : L → Seen) (data_seen : D → Seen) (run : 
   has_cause code is some =
       let same : code ≡ m.failed = is ∙ its_code in
       subst (λ (n : ℕ). HasFailedBy log_seen Log (log_seen run.first_log.dev).faults parts.log.dev parts.log.failed n ⊎ HasFailedBy data_seen Data (data_seen run.first_data.dev).faults parts.store.dev parts.store.failed n) (sym same)
-      (has_marks.2.failure_has_cause.cause (subst (λ (n : ℕ). 0 < n) same some))
+      (⊎_elim (λ h. inl h) (⊎_elim (λ h. inr h)
+      (λ lost. absurd (none_loses run.setup actors runs.running.both.in_run runs.followers m.failed lost)))
+      (has_marks.2.failure_has_cause.cause (subst (λ (n : ℕ). 0 < n) same some)))
 
 module _ {L D R : Type 0} (log_seen : L → Seen) (log_gives : L → Call → L → Type 0) (data_seen : D → Seen) (data_gives
     : D → Call → D → Type 0) (stands : R → List Given → Type 0) (opened : Opened L D) (script : List ScriptLine)

@@ -14,6 +14,7 @@ use Rattle.model_core.specs.declared.ops.Op.{Op}
 use Rattle.model_core.specs.declared.ops.Op.TheVariants as op
 use Rattle.model_core.specs.declared.ops.Step.{Step}
 use Rattle.model_core.specs.declared.steps.UserStep.TheVariants as user_step
+use Rattle.model_running.specs.Appending.{IsNoAppend}
 use Rattle.redo_disk.specs.Seen.{Seen}
 use Rattle.redo_flushlist.specs.{Listing, without_page}
 use Rattle.redo_drive.specs.Devices.{call_answer}
@@ -106,6 +107,8 @@ module _ {L D : Type 0} where
   -- what an actor may do next, with what its seat has
   pub record MayGo (pages : ℕ) (held : Option (Slot L D)) (stored : Option (Keeping D)) (a : model.Actor) : Type 0 where
     pub there : OpWords pages (next a)
+    -- there is no archive to append to
+    pub own : IsNoAppend (next a)
     pub log : (desk : Desk L) → held ≡ Some (slot.Log desk) → hand a ≡ Some 0 → (l : Lent) → Lends l (lent a) → LogReady desk.part l (next a)
     pub data_part : (d : Keeping D) → stored ≡ Some d → (l : Lent) → Lends l (lent a) → DataReady d.part l (next a)
     pub whole : (d : Keeping D) → stored ≡ Some d → HasWholePages d.part.shape (next a) (lent a)

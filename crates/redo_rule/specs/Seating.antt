@@ -19,6 +19,7 @@ IsCleaner _ = ⊥
 abbrev pub IsBare : Op → Type 0
 IsBare op.WriteBatch = ⊥
 IsBare op.Rest = ⊥
+IsBare (op.Append x) = ⊥
 IsBare _ = Unit {0}
 
 module _ {L D : Type 0} where

@@ -46,7 +46,7 @@ fn play_token<L: Sectors, D: Sectors, R: Receiver>(
         Op::Checkpoint(lsn) => checkpoint(table, token, actor, lsn),
         Op::ReadBlock(lsn) => read_block(table, token, actor, lsn),
         // these aren't bare
-        Op::WriteBatch | Op::Rest => unreachable!(),
+        Op::WriteBatch | Op::Append(_) | Op::Rest => unreachable!(),
     }
 }
 
@@ -66,6 +66,8 @@ fn play_next<L: Sectors, D: Sectors, R: Receiver>(
     match op {
         Op::WriteBatch => write_batch(table, seat, actor),
         Op::Rest => actor.took(Answer::Rested),
+        // there is no archiver among the actors
+        Op::Append(_) => unreachable!(),
         _ => play_token(table, seat, actor, op),
     }
 }

@@ -80,4 +80,4 @@ returns-clause-cause g c = λ run code R failed.
     (core_of g.L.Sectors.seen g.D.Sectors.seen run old (views_of actors))
     (core_of g.L.Sectors.seen g.D.Sectors.seen run c.serve.new.parts
     (views_of (set actors c.args.seat c.serve.new.actor)))
-    c.args.seat t.answer c.serve.result R'.running t.turn code failed
+    c.args.seat t.answer c.serve.result R'.running R.followers t.turn code failed
