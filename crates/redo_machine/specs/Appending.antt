@@ -5,6 +5,7 @@ use Rattle.model_core.specs.Actors as model
 use Rattle.model_core.specs.AnswerFits.{AnswerFits}
 use Rattle.model_core.specs.declared.ops.Answer.{Answer}
 use Rattle.model_core.specs.declared.ops.Op.TheVariants as op
+use Rattle.model_core.specs.declared.ops.Step.{Step}
 use Rattle.model_running.specs.{IsNoAppend}
 use Rattle.redo_archive.specs.Part.{Part}
 use Rattle.redo_archiver.specs.{MayAppendBlock}
@@ -15,7 +16,7 @@ use Rattle.redo_drive.specs.Lists.{lists_of}
 use Rattle.redo_drive.specs.Playing.{RunOf}
 use Rattle.redo_drive.specs.Receiving.{MarkFits}
 use Rattle.redo_drive.specs.Running.{RunsFromWith, RunsWith}
-use Rattle.redo_drive.specs.Turning.{MayServe}
+use Rattle.redo_drive.specs.Turning.{IsServed, MayServe}
 use Rattle.redo_drive.specs.Views.{view_of, views_of}
 use Rattle.redo_drive.specs.declared.actor.Actor.{Actor}
 use Rattle.redo_drive.specs.declared.actor.Actor.TheVariants as own
@@ -46,11 +47,17 @@ pub record HasAppended {A R : Type 0} (seen : A → Seen) (old : Option (Part A)
   pub after_is : new ≡ Some after
   pub appends : Appends seen archiver before answer after
 
--- the archive was appended to for an actor, with some answer; or the actor asked for something else, and the archive is the same
-abbrev pub ServesArchive : {A R : Type 0} → (A → Seen) → Option (Part A) → Actor R → Option (Part A) → Type 0
-ServesArchive seen old actor new =
-    ((answer : Answer) × HasAppended seen old actor answer new)
-    ⊎ (IsNoAppend (next (view_of actor)) × (new ≡ old))
+-- the archive was appended to for an actor, with this answer; or the actor asked for something else, and the archive is the same
+abbrev pub ServesArchive : {A R : Type 0} → (A → Seen) → Option (Part A) → Actor R → Answer → Option (Part A) → Type 0
+ServesArchive seen old actor answer new =
+    HasAppended seen old actor answer new ⊎ (IsNoAppend (next (view_of actor)) × (new ≡ old))
+
+-- An actor has had its turn beside an archive.
+pub record IsServedWith {L D A R : Type 0} (log_seen : L → Seen) (data_seen : D → Seen) (arch_seen : A → Seen)
+    (stands : R → List Given → Type 0) (run : RunOf L D) (old : Parts L D) (before : Option (Part A)) (actor : Actor R) (step : Step)
+    (new : Parts L D) (archive : Option (Part A)) (after : Actor R) : Type 0 where
+  pub served : IsServed log_seen data_seen stands run old actor step new after
+  pub archives : ServesArchive arch_seen before actor served.answer archive
 
 -- what a call of the archive answered that failed, if there is one
 abbrev pub lost_by : {A : Type 0} → Option (Part A) → Option DevError
