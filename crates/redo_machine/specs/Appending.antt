@@ -5,17 +5,18 @@ use Rattle.model_core.specs.Actors as model
 use Rattle.model_core.specs.AnswerFits.{AnswerFits}
 use Rattle.model_core.specs.declared.ops.Answer.{Answer}
 use Rattle.model_core.specs.declared.ops.Op.TheVariants as op
+use Rattle.model_core.specs.declared.ops.Step.{Step}
 use Rattle.model_running.specs.{IsNoAppend}
 use Rattle.redo_archive.specs.Part.{Part}
-use Rattle.redo_archiver.specs.{IsAppended, KeepsBlock, MayAppendBlock}
+use Rattle.redo_archiver.specs.{MayAppendBlock}
 use Rattle.redo_disk.specs.Seen.{Seen}
 use Rattle.redo_disk.specs.declared.error.DevError.{DevError}
-use Rattle.redo_drive.specs.Archiving.{HasComeTo, IsBeside}
+use Rattle.redo_drive.specs.Archiving.{Appends, HasComeTo, IsBeside}
 use Rattle.redo_drive.specs.Lists.{lists_of}
 use Rattle.redo_drive.specs.Playing.{RunOf}
 use Rattle.redo_drive.specs.Receiving.{MarkFits}
 use Rattle.redo_drive.specs.Running.{RunsFromWith, RunsWith}
-use Rattle.redo_drive.specs.Turning.{MayServe}
+use Rattle.redo_drive.specs.Turning.{IsServed, MayServe}
 use Rattle.redo_drive.specs.Views.{view_of, views_of}
 use Rattle.redo_drive.specs.declared.actor.Actor.{Actor}
 use Rattle.redo_drive.specs.declared.actor.Actor.TheVariants as own
@@ -35,24 +36,28 @@ pub record MayServeWith {L D A : Type 0} (seen : A → Seen) (parts : Parts L D)
   pub fits : (code mark : ℕ) → AnswerFits who (answer_of (lists_of parts.lists) (is_some parts.log.failed) code mark parts.words.words (next who))
   pub mark : (code mark : ℕ) → MarkFits who (answer_of (lists_of parts.lists) (is_some parts.log.failed) code mark parts.words.words (next who))
 
--- THE BLOCK THAT THE ARCHIVER HAS READ WAS APPENDED, up to this mark, with this answer.
-pub record HasAppended {A R : Type 0} (seen : A → Seen) (mark : ℕ) (old : Option (Part A)) (actor : Actor R) (answer : Answer)
+-- THE BLOCK THAT THE ARCHIVER HAS READ WAS APPENDED, with this answer.
+pub record HasAppended {A R : Type 0} (seen : A → Seen) (old : Option (Part A)) (actor : Actor R) (answer : Answer)
     (new : Option (Part A)) : Type 0 where
-  pub asks : next (view_of actor) ≡ op.Append mark
   pub archiver : ReaderState
   pub is : ◌≡◌ {A = Actor R} actor (own.Archiver archiver)
   pub before : Part A
   pub before_is : old ≡ Some before
   pub after : Part A
   pub after_is : new ≡ Some after
-  pub appended : IsAppended seen before mark answer after
-  pub holds : KeepsBlock seen before mark archiver.block after
+  pub appends : Appends seen archiver before answer after
 
--- the archive was appended to for an actor, with some answer; or the actor asked for something else, and the archive is the same
-abbrev pub ServesArchive : {A R : Type 0} → (A → Seen) → Option (Part A) → Actor R → Option (Part A) → Type 0
-ServesArchive seen old actor new =
-    ((mark : ℕ) × (answer : Answer) × HasAppended seen mark old actor answer new)
-    ⊎ (IsNoAppend (next (view_of actor)) × (new ≡ old))
+-- the archive was appended to for an actor, with this answer; or the actor asked for something else, and the archive is the same
+abbrev pub ServesArchive : {A R : Type 0} → (A → Seen) → Option (Part A) → Actor R → Answer → Option (Part A) → Type 0
+ServesArchive seen old actor answer new =
+    HasAppended seen old actor answer new ⊎ (IsNoAppend (next (view_of actor)) × (new ≡ old))
+
+-- An actor has had its turn beside an archive.
+pub record IsServedWith {L D A R : Type 0} (log_seen : L → Seen) (data_seen : D → Seen) (arch_seen : A → Seen)
+    (stands : R → List Given → Type 0) (run : RunOf L D) (old : Parts L D) (before : Option (Part A)) (actor : Actor R) (step : Step)
+    (new : Parts L D) (archive : Option (Part A)) (after : Actor R) : Type 0 where
+  pub served : IsServed log_seen data_seen stands run old actor step new after
+  pub archives : ServesArchive arch_seen before actor served.answer archive
 
 -- what a call of the archive answered that failed, if there is one
 abbrev pub lost_by : {A : Type 0} → Option (Part A) → Option DevError
