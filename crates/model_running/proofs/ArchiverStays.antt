@@ -3,14 +3,14 @@
 use Rattle.std.proofs.Common.{Bool, List, None, ap, arith, cond, eqb, false, refl, set, subst, sym, true, ℕ, ⊎_elim}
 use Rattle.std.proofs.Common.{◌%◌, ◌+◌, ◌<◌, ◌==◌, ◌∙◌, ◌≡◌, ◌≤◌}
 use Rattle.std.proofs.lemmas.Bool.Decides.{nat_tests}
-use Rattle.std.specs.Prelude.{nat_le, slice_set}
+use Rattle.std.specs.Prelude.{nat_le}
 use lib.ListN.{get_elem?}
 use mathlib.Core.Option.{some}
 use Rattle.model_base.specs.declared.limits.TheConstants.{BLOCK_SIZE}
 use Rattle.model_core.proofs.Lists.{at_set}
 use Rattle.model_core.proofs.Lsns.{floor_grows}
-use Rattle.model_core.specs.{Actor, after_of, archives, Entry, floor, flusher_op, FlusherState, followed, has_all}
-use Rattle.model_core.specs.{Listed, log_left, lsn, next, old_of, own_op, read_to, reader_op, reader_program}
+use Rattle.model_core.specs.{Actor, after_of, archives, Entry, floor, flusher_op, followed, has_all}
+use Rattle.model_core.specs.{Listed, log_left, next, old_of, own_op, reader_op, reader_program}
 use Rattle.model_core.specs.{reader_took, ReaderState, shared_answer, shared_left, SharedWords, to_append, took}
 use Rattle.model_core.specs.DataSide.{DataSide}
 use Rattle.model_core.specs.LogSide.{LogSide}

@@ -1,6 +1,6 @@
 -- A failed append of the archiver stays the cause that it is.
 use Rattle.std.proofs.Common.{Bool, List, ap, arith, cond, eqb-true, false, refl, set, subst, sym, true, ℕ, ⊎_elim}
-use Rattle.std.proofs.Common.{◌<◌, ◌==◌, ◌^◌, ◌∙◌, ◌≡◌, ◌≢◌, ◌⊎◌}
+use Rattle.std.proofs.Common.{◌<◌, ◌==◌, ◌^◌, ◌∙◌, ◌≡◌}
 use lib.ListN.{get_elem?}
 use mathlib.Core.Option.{some, some-injective}
 use native.Mathlib.Decide.{ℕ_discrete}

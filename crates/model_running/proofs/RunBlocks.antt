@@ -1,15 +1,12 @@
 -- The block that the archiver has read is the run's, and stays that while the log grows.
 use Rattle.std.proofs.Common.{Bool, List, [], None, ap, arith, cond, eqb, eqb-true, false, refl, set, subst, sym}
-use Rattle.std.proofs.Common.{true, ℕ, ⊎_elim, ◌+◌, ◌++◌, ◌==◌, ◌∙◌, ◌∷◌, ◌≡◌, ◌≤◌}
+use Rattle.std.proofs.Common.{true, ℕ, ⊎_elim, ◌++◌, ◌==◌, ◌∙◌, ◌∷◌, ◌≡◌}
 use Rattle.std.proofs.lemmas.List.{append_assoc, append-nil}
 use lib.ListN.{get_elem?}
 use mathlib.Core.Option.{some}
-use Rattle.model_base.specs.declared.limits.TheConstants.{BLOCK_SIZE}
-use Rattle.model_log.specs.declared.layout.TheConstants.{BLOCK_HEADER}
-use Rattle.model_core.proofs.Later.{took_later}
 use Rattle.model_core.proofs.Lists.{at_set}
 use Rattle.model_core.proofs.Lsns.{floor_grows, lsn_offset}
-use Rattle.model_core.specs.{Actor, after_of, archives, Entry, floor, followed, has_all, is_none, lent, Listed}
+use Rattle.model_core.specs.{Actor, after_of, archives, Entry, floor, followed, has_all, lent, Listed}
 use Rattle.model_core.specs.{log_left, LogServed, lsn, next, next_block, old_of, read_to, reader_op, reader_program}
 use Rattle.model_core.specs.{reader_took, ReaderState, Room, shared_answer, SharedWords, to_append, took}
 use Rattle.model_core.specs.DataSide.{DataSide}
