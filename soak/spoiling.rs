@@ -18,10 +18,13 @@ pub fn text_of(ops: Vec<Op>, space: u32) -> Vec<u8> {
     group_text(&line, space)
 }
 
-/// Changes a text, or puts one between them that is no group of the store.
+/// Changes a text, puts one between them that is no group of the store, or the front of one behind them.
 pub fn spoil_texts(draws: &mut Draws, texts: &mut Vec<Vec<u8>>, shape: &Shape) {
     let place = draws.below(texts.len() as u64 + 1) as usize;
-    if place == texts.len() || draws.once_in(2) {
+    if draws.once_in(4) {
+        let text = draw_front(draws, shape);
+        texts.push(text);
+    } else if place == texts.len() || draws.once_in(2) {
         let text = draw_misfit(draws, shape);
         texts.insert(place, text);
     } else {
@@ -90,7 +93,10 @@ fn draw_misfit(draws: &mut Draws, shape: &Shape) -> Vec<u8> {
             string(page, 4_087, draws.one_of(&[1, 2])),
             string(page, 37, 1),
         ],
-        9 => return draw_long(draws, page, shape.space),
+        9 => {
+            let length = MOST_BYTES as usize - 1 + draws.below(4) as usize;
+            return long(page, shape.space, length);
+        }
         10 => return draw_unlike(draws, page, shape.space),
         _ => {
             let space = shape.space.wrapping_add(draws.one_of(&[1, 128, u32::MAX]));
@@ -100,28 +106,27 @@ fn draw_misfit(draws: &mut Draws, shape: &Shape) -> Vec<u8> {
     text_of(ops, shape.space)
 }
 
-/// A group a little shorter or longer than the longest, or so many records without an end.
-fn draw_long(draws: &mut Draws, page: u32, space: u32) -> Vec<u8> {
-    let two = vec![string(page, 38, 4_050), string(page, 38, 1)];
-    let length = text_of(two.clone(), space).len();
-    let lacking = (MOST_BYTES as usize).saturating_sub(length) as u64;
-    let last = (lacking + draws.below(5)).saturating_sub(1) as usize;
-    let mut text = text_of(
-        vec![two[0].clone(), string(page, 38, last.clamp(1, 4_090))],
-        space,
-    );
-    match draws.below(3) {
-        0 => {
-            text.pop();
-            text.truncate(MOST_BYTES as usize - draws.below(3) as usize);
-        }
-        1 => {
-            // three records, of which the last is short
-            text.pop();
-            text.extend([1]);
-        }
-        _ => {}
-    }
+/// A group of this length: three strings.
+fn long(page: u32, space: u32, length: usize) -> Vec<u8> {
+    let text = |last| {
+        let ops = [3_000, 3_000, last].map(|bytes| string(page, 38, bytes));
+        text_of(ops.to_vec(), space)
+    };
+    let least = text(1).len();
+    text(1 + length - least)
+}
+
+/// The front of a group, as long as what ends a log may be, or a little longer.
+fn draw_front(draws: &mut Draws, shape: &Shape) -> Vec<u8> {
+    let page = draws.below(u64::from(shape.pages)) as u32;
+    let most = MOST_BYTES as usize;
+    let mut text = long(page, shape.space, most + 40);
+    let length = match draws.below(3) {
+        0 => draws.within(1, 40) as usize,
+        1 => draws.within(1, most as u64) as usize,
+        _ => most - 2 + draws.below(4) as usize,
+    };
+    text.truncate(length);
     text
 }
 
