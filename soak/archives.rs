@@ -33,8 +33,9 @@ use std::{env, fs, process, thread};
 const MOST_FAILURES: u64 = 10;
 /// So many calls are made side by side.
 const MOST_WORKERS: usize = 2;
-/// For so many lsns an archive is restored in the mean.
+/// For so many lsns an archive is restored in the mean, and one that is refused whatever the lsn is.
 const LSNS: u64 = 8;
+const FEW_LSNS: u64 = 3;
 const FILE: &str = "redo.archive";
 /// The other files, which `restore` may make and doesn't call.
 const OTHERS: [&str; 2] = ["redo.log", "redo.data"];
@@ -91,7 +92,8 @@ fn draw_lsns(draws: &mut Draws, archive: &Archive, reading: &Reading) -> Vec<u64
     let found = reading.ends();
     let ends = if found.is_empty() { &made } else { &found };
     let mut lsns = vec![mark];
-    for _ in 0..draws.within(LSNS / 2, 3 * LSNS / 2) {
+    let mean = if reading.is_refused() { FEW_LSNS } else { LSNS } - 1;
+    for _ in 0..draws.within(mean / 2, mean + mean / 2) {
         let lsn = match draws.below(16) {
             0 => start,
             1 => start - 1,

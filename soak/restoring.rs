@@ -247,6 +247,11 @@ impl Reading {
         Reading { extent, found }
     }
 
+    /// Whether nothing is restored for any lsn.
+    pub fn is_refused(&self) -> bool {
+        self.found.is_err()
+    }
+
     /// Where the groups end that were read.
     pub fn ends(&self) -> Vec<u64> {
         let wholes = self.found.iter().flat_map(|(_, wholes)| wholes);
