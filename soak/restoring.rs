@@ -50,6 +50,7 @@ impl fmt::Display for Refusal {
 }
 
 /// A group that an archive holds.
+#[derive(Clone)]
 pub struct Whole {
     pub ops: Vec<Op>,
     pub end: u64,
@@ -68,7 +69,7 @@ pub struct Reading {
     /// Nothing where there is none.
     pub extent: Option<Extent>,
     /// Its pages and its groups, or why there are none.
-    found: Result<(Pages, Vec<Whole>), Refusal>,
+    pub found: Result<(Pages, Vec<Whole>), Refusal>,
 }
 
 /// So many bytes of a device from there on, whose file holds these. What stands past the file's end reads as zeros.
