@@ -39,8 +39,8 @@ abbrev pub DataServed : (E : DataSide) → E.Part → Lent → Op → ℕ → E.
 DataServed E d (Batch b) op.WriteBatch code e = E.Batched b code d e
 DataServed E d l o code e = ◌≡◌ {A = E.Part} e d
 
--- The codes that a call of an actor's own device may have, 0 for Ok: the archive part lies in the archiver, and no
--- other actor comes to it. Any other Op calls none.
+-- The codes that a call of an actor's own device may have, 0 for Ok: the archive part lies in the archiver, and no other
+-- actor comes to it. Any other Op calls none.
 abbrev pub OwnServed : Op → ℕ → Type 0
 OwnServed (op.Append x) code = (code ≡ 0) ⊎ IsArchiveCode code
 OwnServed o code = Unit {0}
