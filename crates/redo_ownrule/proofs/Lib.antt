@@ -14,6 +14,7 @@ pub mod OwnGives
 pub mod OwnHands
 pub mod OwnKept
 pub mod OwnList
+pub mod OwnLater
 pub mod OwnListed
 pub mod OwnMay
 pub mod OwnOps
