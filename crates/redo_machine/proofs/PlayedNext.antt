@@ -17,6 +17,7 @@ use Rattle.redo_drive.specs.Views.{view_of}
 use Rattle.redo_drive.specs.declared.actor.Actor.{Actor}
 use Rattle.redo_drive.specs.declared.actor.Actor.TheVariants as own
 use Rattle.redo_drive.specs.declared.parts.Parts.{Parts}
+use Rattle.redo_follow.specs.Handing.{Following}
 use Rattle.redo_logdev.specs.{MayRead}
 use Rattle.redo_machine.specs.Reading.{HasBlock, HasPlayed, HasPlayedOther, HasRead}
 use Rattle.redo_words.specs.{Lends}
@@ -39,6 +40,17 @@ reader_reads (own.Closer t) lsn asks = absurd (other_reads_not (model.Closer t) 
 reader_reads (own.Cleaner v) lsn asks = absurd (other_reads_not (model.Cleaner v) (λ r e. absurd (cc)) lsn asks)
 reader_reads (own.Checkpointer t) lsn asks =
     absurd (other_reads_not (model.Checkpointer t) (λ r e. absurd (cc)) lsn asks)
+
+pub no_other_reads : {R : Type 0} (a : Actor R) (lsn : ℕ) → next (view_of a) ≡ op.ReadBlock lsn
+    → ((r : ReaderState) → a ≡ own.Archiver r → ⊥) → ((f : Following R) → a ≡ own.Follower f → ⊥) → ⊥
+no_other_reads (own.Archiver r) lsn asks one two = one r refl
+no_other_reads (own.Follower f) lsn asks one two = two f refl
+no_other_reads (own.User u) lsn asks one two = other_reads_not (model.User u) (λ r e. absurd (cc)) lsn asks
+no_other_reads (own.Writer s) lsn asks one two = other_reads_not (model.Writer s) (λ r e. absurd (cc)) lsn asks
+no_other_reads (own.Flusher t) lsn asks one two = other_reads_not (model.Flusher t) (λ r e. absurd (cc)) lsn asks
+no_other_reads (own.Closer t) lsn asks one two = other_reads_not (model.Closer t) (λ r e. absurd (cc)) lsn asks
+no_other_reads (own.Cleaner v) lsn asks one two = other_reads_not (model.Cleaner v) (λ r e. absurd (cc)) lsn asks
+no_other_reads (own.Checkpointer t) lsn asks one two = other_reads_not (model.Checkpointer t) (λ r e. absurd (cc)) lsn asks
 
 -- so a read that an actor asks for may be made
 pub may_read : {L D R : Type 0} (parts : Parts L D) (a : Actor R) (lsn : ℕ) → MayServe parts (view_of a)
