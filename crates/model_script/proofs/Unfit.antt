@@ -55,7 +55,7 @@ pub room-fits : (shape : Shape) (start room : ℕ) (log_only : Bool) (archive : 
     → Fits shape start room log_only archive script → log_only ≡ true → script_end shape start script + MARGIN ≤ room
 room-fits shape start room log_only archive script fits is =
     let P : Bool → Type 0 = λ log_only.
-        first_misfit shape start (if log_only then Some room else None) archive script ≡ None in
+    first_misfit shape start (if log_only then Some room else None) archive script ≡ None in
     (end_fits shape start (Some room) archive script (subst P is fits.no_misfit)).room
 
 pub archive-fits : (shape : Shape) (start room size : ℕ) (log_only : Bool) (script : List ScriptLine)

@@ -13,7 +13,8 @@ mod words;
 pub use asked::{Asked, Command, Drive};
 pub use item::{Item, Items};
 pub use laws::{
-    fit_as_facts, fitting_archive, fitting_script, fitting_text, read_lines_are_ranged, unfit_is_misfit,
+    fit_as_facts, fitting_archive, fitting_script, fitting_text, read_lines_are_ranged,
+    unfit_is_misfit,
 };
 pub use misfit::{MARGIN, MAX_USERS, Misfit, Quantity};
 pub use script::{Script, ScriptLine};
