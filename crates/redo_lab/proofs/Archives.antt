@@ -30,7 +30,7 @@ block-rises low high less = omega arith
 
 module _ {A : Type 0} (seen : A → Seen) (reads : ArchiveReads) (script : List ScriptLine) (opened : Opened) (run : Ran) (part : Part A)
     (disk : Disk) (image : List ℕ) (told : (seen part.dev).tells ≡ Some disk) (fair : IsFairArchive disk image) where
-  wholes : List Whole
+  abbrev wholes : List Whole
   wholes = wholes_of script opened.shape.space run.entries
 
   archived-disk : ArchivesRan seen script opened run part

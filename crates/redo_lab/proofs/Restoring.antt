@@ -75,5 +75,5 @@ module _ (call : LabCall) (to : ℕ) (unread : call.source_now ≡ call.source) 
   unrestored-ends one (Page p) cause risen = refused-ends one (refusal.Page p) cause
   unrestored-ends one (Block lsn) cause risen = refused-ends one (refusal.Block lsn) cause
   unrestored-ends one (Record lsn) cause risen = refused-ends one (refusal.Record lsn) cause
-  unrestored-ends one Dev cause risen = restore-ends (outcome.Fault fault.ArchiveDevice) (risen refl) (λ can. can.unfailed (risen refl))
+  unrestored-ends one Dev cause risen = restore-ends (outcome.Fault fault.ArchiveDevice) (risen refl, tt) (λ can. can.unfailed (risen refl))
   unrestored-ends one NoMemory cause risen = restore-ends (outcome.Fault fault.Memory) (λ runs. absurd (false≢true runs)) (λ can. tt)

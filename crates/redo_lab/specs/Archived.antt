@@ -4,10 +4,12 @@ use Rattle.model_archive.specs.{IsFairArchive, newest_mark, RestoresUpTo}
 use Rattle.model_device.specs.Disk.{Disk}
 use Rattle.model_log.specs.{block_of}
 use Rattle.model_report.specs.{wholes_of}
+use Rattle.model_report.specs.declared.entry.Followed.{Followed}
 use Rattle.model_script.specs.declared.asked.Drive.{Drive}
 use Rattle.model_script.specs.declared.script.ScriptLine.{ScriptLine}
 use Rattle.model_theorem.specs.{Opened, Ran}
 use Rattle.redo_lab.specs.Call.{LabCall, WhereOpened}
+use Rattle.redo_lab.specs.Told.{IsReportText}
 
 -- THE ARCHIVE OF A RUN: for each lsn from its start up to the newest mark on the image the opened pages are restored, with exactly
 -- the groups of the run applied that end at or below the lsn. No checkpoint is above the block of the mark.
@@ -24,3 +26,8 @@ pub record IsArchiveOf (IsUpTo : (mark flushed : ℕ) → Type 0) (script : List
 abbrev pub IsArchived : (IsUpTo : (mark flushed : ℕ) → Type 0) → LabCall → Drive → List ScriptLine → Ran → Type 0
 IsArchived IsUpTo call drive script run = drive.archive ≡ true → (opened : Opened) → WhereOpened call opened
     ((disk : Disk) (image : List ℕ) → call.archive.now.tells ≡ Some disk → IsFairArchive disk image → IsArchiveOf IsUpTo script opened run image)
+
+-- the report of a run, and its archive, if it has one
+abbrev pub IsReportWith : (IsUpTo : (mark flushed : ℕ) → Type 0) → LabCall → Drive → List ScriptLine → Ran → List (ℕ × ℕ) → List Followed → List ℕ → Type 0
+IsReportWith IsUpTo call drive script run left follows text =
+    IsReportText script run left follows text × IsArchived IsUpTo call drive script run
