@@ -18,3 +18,4 @@ pub mod OwnTakes
 pub mod OwnTurns
 pub mod OwnUserHands
 pub mod OwnWords
+pub mod Seatings
