@@ -13,8 +13,8 @@ pub mod OwnFree
 pub mod OwnGives
 pub mod OwnHands
 pub mod OwnKept
-pub mod OwnList
 pub mod OwnLater
+pub mod OwnList
 pub mod OwnListed
 pub mod OwnMay
 pub mod OwnOps
@@ -25,4 +25,5 @@ pub mod OwnUserHands
 pub mod OwnWords
 pub mod Placed
 pub mod Players
+pub mod Seatings
 pub mod Standing
