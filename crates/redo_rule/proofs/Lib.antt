@@ -1,4 +1,5 @@
 pub mod Allowed
+pub mod AllowedAppends
 pub mod AllowedCalls
 pub mod AllowedLists
 pub mod AtRest
