@@ -5,7 +5,7 @@
 //! of the table is the invariant of the running store, and holds between any two steps of any threads.
 #![tactic(auto)]
 
-mod append;
+mod appending;
 mod batch;
 mod closing;
 mod device;
@@ -21,7 +21,7 @@ mod shared;
 mod slots;
 mod steps;
 
-pub use append::append;
+pub use appending::append;
 pub use closing::{Left, close_table};
 pub use laying::{lay_out, make_board, parts_in};
 pub use listing::{list_slot, list_turn};

@@ -6,7 +6,7 @@ ghost use Rattle.redo_rule.specs.Causes.{EndsSo};
 ghost use Rattle.redo_rule.specs.Mine.{HasGone, HasPlayed, IsSameSeat, KeepsSeat, Mine};
 ghost use Rattle.redo_rule.specs.Seating.{IsBare, IsSeatOf};
 
-use crate::append::append;
+use crate::appending::append;
 use crate::batch::write_batch;
 use crate::device::{checkpoint, give_device, read_block, sync, take_device, write_to};
 use crate::law::{Ring, Seat};

@@ -6,4 +6,4 @@ use Rattle.redo_disk.specs.declared.error.DevError.TheVariants.{Failed, NoMemory
 use Rattle.redo_drive.specs.Views.{view_of}
 use Rattle.redo_rule.proofs.Behind.{seat_behind, was_cleaner}
 use Rattle.redo_rule.proofs.Stepping.{append_fits, append_leaves, append_ok, append_took}
-use Rattle.redo_rule.proofs.append.append.Goals as goal
+use Rattle.redo_rule.proofs.appending.append.Goals as goal
