@@ -11,8 +11,9 @@ use Rattle.model_core.specs.declared.ops.Step.{Step}
 use Rattle.model_own.specs.OwnWrites.{has_work, LogWork, own_goes_on, own_step_of, OwnUser}
 use Rattle.redo_disk.specs.Seen.{Seen}
 use Rattle.redo_ownrule.proofs.OwnDesk.{same_work}
+use Rattle.redo_ownrule.proofs.OwnFree.{own_free}
 use Rattle.redo_ownrule.proofs.OwnOps as ops
-use Rattle.redo_ownrule.specs.OwnMine.{CarriesWork, IsAnswering, KeepsOwnSeat, OwnHasPlayed, OwnMine}
+use Rattle.redo_ownrule.specs.OwnMine.{CarriesWork, HasStepped, IsAnswering, KeepsOwnSeat, OwnHasPlayed, OwnMine}
 use Rattle.redo_ownrule.specs.OwnPlays.{HasWork, own_behind, own_view, OwnMayGo, OwnShown, with_work}
 use Rattle.redo_ownrule.specs.OwnSlots.{LiesIn, MayTakeIn, TookIn}
 use Rattle.redo_rule.proofs.Kept.{same_desk, same_slot}
@@ -34,9 +35,9 @@ pub head_is : {L D : Type 0} (k : ℕ) (x y : Slot L D) (l : List (ℕ × Slot L
 head_is {L} {D} k x y l e f = sym (ap (λ (z : List (ℕ × Slot L D)). (get_or z 0 (k, y)).1) e)
     ∙ ap (λ (z : List (ℕ × Slot L D)). (get_or z 0 (k, y)).1) f
 
-module _ {L D : Type 0} (log_seen : L → Seen) (data_seen : D → Seen) (table : TableId) (b : Bool) (v : View L D)
+module _ {L D : Type 0} (log_seen : L → Seen) (data_seen : D → Seen) (table : TableId) (v : View L D)
     (token : Seat (Slot L D) (View L D)) (o : OwnUser) (r : Answer)
-    (I : IsAnswering log_seen data_seen table b v token o r) where
+    (I : HasStepped log_seen data_seen table v token o r) where
   abbrev then : OwnUser
   then = (own_goes_on o I.work r).0
 
@@ -76,7 +77,7 @@ module _ {L D : Type 0} (log_seen : L → Seen) (data_seen : D → Seen) (table 
     ends = ends;
   }
 
-  mine_with : (carried : List (ℕ × Slot L D)) → CarriesWork (has_work then.errand) (model.User then.user) (token.me.0, carried)
+  pub mine_with : (carried : List (ℕ × Slot L D)) → CarriesWork (has_work then.errand) (model.User then.user) (token.me.0, carried)
       → ((j : LogWork) → HasWork token.me.0.held then j → has_work then.errand ≡ true → j ≡ left)
       → OwnMine table (seat_with token carried) then
   mine_with carried carries only = record {
@@ -88,6 +89,7 @@ module _ {L D : Type 0} (log_seen : L → Seen) (data_seen : D → Seen) (table 
     own = record { state = refl; errand = refl };
     carries = carries;
     stands = I.stepped.may.stands;
+    free = own_free o I.work r I.stands;
     may = λ j has. ops.any_work then left j token.me.0.pages token.me.0.held go (only j has);
   }
 
@@ -95,13 +97,13 @@ module _ {L D : Type 0} (log_seen : L → Seen) (data_seen : D → Seen) (table 
 module _ {L D : Type 0} (log_seen : L → Seen) (data_seen : D → Seen) (table : TableId) (v : View L D)
     (token : Seat (Slot L D) (View L D)) (o : OwnUser) (r : Answer)
     (I : IsAnswering log_seen data_seen table false v token o r) (x : OwnUser)
-    (x_is : x ≡ (own_goes_on o I.work r).0) where
+    (x_is : x ≡ (own_goes_on o I.step.work r).0) where
   pub mine_alone : OwnMine table token x
   mine_alone =
       let none = I.has.2 in
       subst (OwnMine table token) (sym x_is)
-      (mine_with log_seen data_seen table false v token o r I token.me.1
-      (subst (λ (c : Bool). CarriesWork c (model.User (own_goes_on o I.work r).0.user) token.me) (sym none) I.has.1)
+      (mine_with log_seen data_seen table v token o r I.step token.me.1
+      (subst (λ (c : Bool). CarriesWork c (model.User (own_goes_on o I.step.work r).0.user) token.me) (sym none) I.has.1)
       (λ j has with. let z : true ≡ false = sym with ∙ none in absurd (cc)))
 
 -- with it
@@ -112,11 +114,11 @@ module _ {L D : Type 0} (log_seen : L → Seen) (data_seen : D → Seen) (table 
   desk = I.has.0
 
   carries_desk : token.me.1 ≡ (0, slot.Log desk) ∷ []
-  carries_desk = carried_is log_seen data_seen table true v token o r I ∙ I.has.2
+  carries_desk = carried_is log_seen data_seen table v token o r I.step ∙ I.has.2
 
   pub lends_slot : (token.table_id ≡ table) × ((y : Slot L D) × (token.me.1 ≡ (0, y) ∷ rest token.me.1))
   lends_slot = (
-    I.of,
+    I.step.of,
     (slot.Log desk, carries_desk ∙ ap (λ (l : List (ℕ × Slot L D)). (0, slot.Log desk) ∷ rest l) (sym carries_desk)),
   )
 
@@ -126,27 +128,27 @@ module _ {L D : Type 0} (log_seen : L → Seen) (data_seen : D → Seen) (table 
 
     pub may_take : MayTakeIn y o r
     may_take = record {
-      work = I.work;
+      work = I.step.work;
       lies = record { desk = desk; is = y_is; its = I.has.1 };
-      fits = I.stepped.fits;
-      stands = I.stands;
+      fits = I.step.stepped.fits;
+      stands = I.step.stands;
     }
 
     module _ (z : Slot L D) (x : OwnUser) (step : Step) (T : TookIn y z o x r step) where
       pub desk_same : ◌≡◌ {A = Desk L} T.lies.desk desk
       desk_same = same_desk T.lies.desk desk (sym T.lies.is ∙ y_is)
 
-      work_same : T.work ≡ I.work
-      work_same = same_work T.work I.work (sym T.lies.its ∙ ap (λ (d : Desk L). d.work) desk_same ∙ I.has.1)
+      work_same : T.work ≡ I.step.work
+      work_same = same_work T.work I.step.work (sym T.lies.its ∙ ap (λ (d : Desk L). d.work) desk_same ∙ I.has.1)
 
-      pub x_is : x ≡ (own_goes_on o I.work r).0
+      pub x_is : x ≡ (own_goes_on o I.step.work r).0
       x_is = T.user ∙ ap (λ (k : LogWork). (own_goes_on o k r).0) work_same
 
-      pub ends_so : step ≡ own_step_of o I.work r
+      pub ends_so : step ≡ own_step_of o I.step.work r
       ends_so = T.ends ∙ ap (λ (k : LogWork). own_step_of o k r) work_same
 
       abbrev now : Desk L
-      now = with_work desk (own_goes_on o I.work r).1
+      now = with_work desk (own_goes_on o I.step.work r).1
 
       z_is : ◌≡◌ {A = Slot L D} z (slot.Log now)
       z_is = T.now
@@ -157,7 +159,7 @@ module _ {L D : Type 0} (log_seen : L → Seen) (data_seen : D → Seen) (table 
       rest_none = ap rest carries_desk
 
       held_now : token.me.0.held ≡ Some (slot.Log now)
-      held_now = held_is log_seen data_seen table true v token o r I ∙ I.has.3
+      held_now = held_is log_seen data_seen table v token o r I.step ∙ I.has.3
 
       abbrev carried : List (ℕ × Slot L D)
       carried = (0, z) ∷ rest token.me.1
@@ -168,9 +170,9 @@ module _ {L D : Type 0} (log_seen : L → Seen) (data_seen : D → Seen) (table 
 
       pub mine_at : OwnMine table (seat_with token carried) x
       mine_at = subst (OwnMine table (seat_with token carried)) (sym x_is)
-          (mine_with log_seen data_seen table true v token o r I carried
-          (subst (λ (c : Bool). CarriesWork c (model.User (own_goes_on o I.work r).0.user) (token.me.0, carried))
-          (sym I.has.4) (now, (own_goes_on o I.work r).1, refl, carried_now, held_now))
+          (mine_with log_seen data_seen table v token o r I.step carried
+          (subst (λ (c : Bool). CarriesWork c (model.User (own_goes_on o I.step.work r).0.user) (token.me.0, carried))
+          (sym I.has.4) (now, (own_goes_on o I.step.work r).1, refl, carried_now, held_now))
           (λ j has with. let d = has with in
-          same_work j (own_goes_on o I.work r).1 (sym d.2
+          same_work j (own_goes_on o I.step.work r).1 (sym d.2
           ∙ ap (λ (q : Desk L). q.work) (same_desk d.0 now (same_slot (slot.Log d.0) (slot.Log now) (sym d.1 ∙ held_now))))))

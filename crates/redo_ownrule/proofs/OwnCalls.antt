@@ -78,13 +78,13 @@ calls_log (op.WriteTo t) is = tt
 calls_log op.Sync is = tt
 calls_log _ is = absurd is
 
-call_work : (o : OwnUser) (k : LogWork) → WorkInHand o.errand k → (a : Op) → IsWorkCall a → own_next o k ≡ a
+pub call_work : (o : OwnUser) (k : LogWork) → WorkInHand o.errand k → (a : Op) → IsWorkCall a → own_next o k ≡ a
     → has_work o.errand ≡ true
 call_work o k hold (op.WriteTo t) is e = (ops.part_work o k hold (op.WriteTo t) tt e).0
 call_work o k hold op.Sync is e = (ops.part_work o k hold op.Sync tt e).0
 call_work o k hold _ is e = absurd is
 
-call_keeps : (o : OwnUser) (k : LogWork) → WorkInHand o.errand k → (a : Op) → IsWorkCall a → own_next o k ≡ a
+pub call_keeps : (o : OwnUser) (k : LogWork) → WorkInHand o.errand k → (a : Op) → IsWorkCall a → own_next o k ≡ a
     → (r : Answer) → has_work (own_goes_on o k r).0.errand ≡ true
 call_keeps o k hold (op.WriteTo t) is e r = ops.write_keeps o k hold t r e
 call_keeps o k hold op.Sync is e r = ops.sync_keeps o k hold r e

@@ -251,6 +251,19 @@ module _ (o : OwnUser) (k : LogWork) (hold : WorkInHand o.errand k) where
       by false errand_step.Write is on e = absurd (subst IsWriterOp e (writer_ops k.writer k.writer.step on))
       by false errand_step.Flush is on e = calls_flusher k.flusher k.flusher.step r (ap has_work is) e
 
+  -- it syncs as the flusher
+  pub sync_errand : own_next o k ≡ op.Sync → o.errand ≡ errand_step.Flush
+  sync_errand e = by o.user.checks o.errand refl hold e
+    where
+      by : (b : Bool) (x : ErrandStep) → o.errand ≡ x → WorkInHand x k → asked b x ≡ op.Sync
+          → o.errand ≡ errand_step.Flush
+      by true x is on e = absurd (cc)
+      by false errand_step.Done is on e = absurd (subst IsUserOp e (user_ops o.user o.user.step))
+      by false errand_step.TakeDevice is on e = absurd (cc)
+      by false errand_step.GiveBroken is on e = absurd (cc)
+      by false errand_step.Write is on e = absurd (subst IsWriterOp e (writer_ops k.writer k.writer.step on))
+      by false errand_step.Flush is on e = is
+
   -- the sum of an Add stays within a word
   plain_sum : (a : Op) (words : List ℕ) → IsWriterOp a → HoldsSum a words
   plain_sum (op.Add w x) words is = absurd is

@@ -58,7 +58,7 @@ use Rattle.redo_ownrule.proofs.OwnTurns.{many}
 use Rattle.model_own.specs.OwnWrites.{taken_up, waiting}
 
 -- what DEVICE's answer leads to: it has the work then, as it is taken up
-took : (o : OwnUser) (k : LogWork) (b : Bool) → o.user.checks ≡ false → o.errand ≡ errand_step.TakeDevice
+pub took : (o : OwnUser) (k : LogWork) (b : Bool) → o.user.checks ≡ false → o.errand ≡ errand_step.TakeDevice
     → (has_work (own_goes_on o k (taking b)).0.errand ≡ true)
 took o k b asks is =
     ap (λ (c : Bool). has_work (cond c (own_checked o (old_of (taking b)), k) (errand_took o k (taking b) o.errand)).0.errand)
@@ -70,7 +70,7 @@ took o k b asks is =
     by false = refl
 
 -- and where it is held, it waits
-waits : (o : OwnUser) (k : LogWork) → o.user.checks ≡ false → o.errand ≡ errand_step.TakeDevice
+pub waits : (o : OwnUser) (k : LogWork) → o.user.checks ≡ false → o.errand ≡ errand_step.TakeDevice
     → own_goes_on o k answer.Held ≡ (waiting o, k)
 waits o k asks is = ap (λ (c : Bool). cond c (own_checked o 0, k) (errand_took o k answer.Held o.errand)) asks
     ∙ ap (λ (x : ErrandStep). errand_took o k answer.Held x) is

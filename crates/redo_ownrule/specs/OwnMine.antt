@@ -5,7 +5,7 @@ use Rattle.atomic_table.specs.Table.{Me}
 use Rattle.atomic_table.specs.declared.shared.Seat.{Seat}
 use Rattle.model_core.specs.{next, step_of, word_count}
 use Rattle.model_core.specs.Actors as model
-use Rattle.model_core.specs.Hands.{hand}
+use Rattle.model_core.specs.Hands.{hand, IsFreeToCheck}
 use Rattle.model_core.specs.declared.ops.Answer.{Answer}
 use Rattle.model_core.specs.declared.ops.Answer.TheVariants as answer
 use Rattle.model_core.specs.declared.ops.Op.TheVariants as op
@@ -42,6 +42,7 @@ pub record OwnMine {L D : Type 0} (table : TableId) (seat : Seat (Slot L D) (Vie
   pub own : IsOwn who o
   pub carries : CarriesWork (has_work o.errand) (model.User o.user) seat.me
   pub stands : ErrandFits o.user o.errand
+  pub free : IsFreeToCheck (model.User o.user)
   pub may : (k : LogWork) → HasWork seat.me.0.held o k → OwnMayGo seat.me.0.pages seat.me.0.held o k
 
 -- it has nothing to do with the data part
@@ -56,10 +57,9 @@ pub record KeepsOwnSeat {L D : Type 0} (v w : View L D) : Type 0 where
   pub heard : heard_of w ≡ heard_of v
   pub data_part : w.data_part ≡ v.data_part
 
--- A user is to take an answer with this seat: the table's step is made, and the view is what follows from the answer. Where
--- the log's work is in hand, that has the change still to come.
-pub record IsAnswering {L D : Type 0} (log_seen : L → Seen) (data_seen : D → Seen) (table : TableId) (carries_work : Bool)
-    (v : View L D) (token : Seat (Slot L D) (View L D)) (o : OwnUser) (r : Answer) : Type 0 where
+-- The table's step is made for a user: its seat's view is what follows from this answer.
+pub record HasStepped {L D : Type 0} (log_seen : L → Seen) (data_seen : D → Seen) (table : TableId) (v : View L D)
+    (token : Seat (Slot L D) (View L D)) (o : OwnUser) (r : Answer) : Type 0 where
   pub of : token.table_id ≡ table
   pub slots : table.slots ≡ 6
   pub words : table.words ≡ word_count v.pages
@@ -70,11 +70,17 @@ pub record IsAnswering {L D : Type 0} (log_seen : L → Seen) (data_seen : D →
   pub held : Option (Slot L D)
   pub carried : List (ℕ × Slot L D)
   pub stepped : OwnStepped log_seen data_seen who o work r held carried v token.me
+
+-- The user is to take the answer now. Where the log's work is in its hand then, that has the change still to come.
+pub record IsAnswering {L D : Type 0} (log_seen : L → Seen) (data_seen : D → Seen) (table : TableId) (carries_work : Bool)
+    (v : View L D) (token : Seat (Slot L D) (View L D)) (o : OwnUser) (r : Answer) : Type 0 where
+  pub step : HasStepped log_seen data_seen table v token o r
   pub has : cond carries_work
-      ((desk : Desk L) × (desk.work ≡ Some work) × (carried ≡ (0, slot.Log desk) ∷ [])
-      × (held ≡ Some (slot.Log (with_work desk (own_goes_on o work r).1))) × (has_work (own_goes_on o work r).0.errand ≡ true))
-      (AloneFits o r × Carries (hand (model.User (own_goes_on o work r).0.user)) token.me
-      × (has_work (own_goes_on o work r).0.errand ≡ false))
+      ((desk : Desk L) × (desk.work ≡ Some step.work) × (step.carried ≡ (0, slot.Log desk) ∷ [])
+      × (step.held ≡ Some (slot.Log (with_work desk (own_goes_on o step.work r).1)))
+      × (has_work (own_goes_on o step.work r).0.errand ≡ true))
+      (AloneFits o r × Carries (hand (model.User (own_goes_on o step.work r).0.user)) token.me
+      × (has_work (own_goes_on o step.work r).0.errand ≡ false))
 
 -- The user of this seat has had a turn of its own, with some answer and with the log's work as it was then; its step ended
 -- so.

@@ -1,5 +1,5 @@
 -- The log's work, where it lies beside the log part in a slot.
-use Rattle.std.specs.Prelude.{Result, Some, ℕ, ◌≡◌}
+use Rattle.std.specs.Prelude.{None, Result, Some, ℕ, ◌≡◌}
 use Rattle.model_core.specs.{LogServed}
 use Rattle.model_core.specs.declared.ops.Op.TheVariants as op
 use Rattle.redo_disk.specs.{Call, EndWith, error_of, MakesCalls}
@@ -29,6 +29,7 @@ pub record MayWriteOf {L : Type 0} (desk : Desk L) (o : OwnUser) (mark : ℕ) : 
 
 pub record IsWritten {L : Type 0} (log_seen : L → Seen) (log_gives : L → Call → L → Type 0) (old new : Desk L) (o : OwnUser)
     (mark : ℕ) (work : LogWork) (ended : Result (Unit {0}) DevError) : Type 0 where
+  pub live : old.part.failed ≡ None
   pub served : (faults start : ℕ) (first : log.Part L)
       → LogServed (log_part.log_side log_seen faults first.marks.number (log_part.HasBegun log_seen start first)) old.part
       (own_lends o work) (op.WriteTo mark) (call_code Log new.part.failed) new.part

@@ -40,7 +40,7 @@ use Rattle.redo_words.specs.{Lends}
 use Rattle.redo_words.specs.declared.lent.Lent.{Lent}
 use Rattle.redo_words.specs.declared.lent.Lent.TheVariants as lending
 
-write_live : {L : Type 0} (p : log.Part L) (t : ℕ) (l : Lent) → MayWriteLent p t l → p.failed ≡ None
+pub write_live : {L : Type 0} (p : log.Part L) (t : ℕ) (l : Lent) → MayWriteLent p t l → p.failed ≡ None
 write_live p t (lending.Blocks bytes firsts) may = may.live
 write_live p t lending.Nothing may = absurd may
 write_live p t (lending.Batch pages frames) may = absurd may

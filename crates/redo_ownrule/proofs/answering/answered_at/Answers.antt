@@ -17,14 +17,14 @@ returns-clause-mine g c = mine_at g.L.Sectors.seen g.D.Sectors.seen c.args.table
 
 pub returns-clause-played : goal.returns-clause-played
 returns-clause-played g c = λ v I. (
-  has_played g.L.Sectors.seen g.D.Sectors.seen c.args.table.now.table_id true v c.args.token.now c.args.user.now
-      c.args.answer I c.took_at.new.user c.took_at.result
+  has_played g.L.Sectors.seen g.D.Sectors.seen c.args.table.now.table_id v c.args.token.now c.args.user.now
+      c.args.answer I.step c.took_at.new.user c.took_at.result
       (x_is g.L.Sectors.seen g.D.Sectors.seen c.args.table.now.table_id v c.args.token.now c.args.user.now c.args.answer I
       c.slot_mut.result.now c.slot_mut.ensures.value c.took_at.new.slot c.took_at.new.user c.took_at.result
       c.took_at.ensures)
       (ends_so g.L.Sectors.seen g.D.Sectors.seen c.args.table.now.table_id v c.args.token.now c.args.user.now
       c.args.answer I c.slot_mut.result.now c.slot_mut.ensures.value c.took_at.new.slot c.took_at.new.user c.took_at.result
       c.took_at.ensures),
-  keeps_seat g.L.Sectors.seen g.D.Sectors.seen c.args.table.now.table_id true v c.args.token.now c.args.user.now
-      c.args.answer I,
+  keeps_seat g.L.Sectors.seen g.D.Sectors.seen c.args.table.now.table_id v c.args.token.now c.args.user.now
+      c.args.answer I.step,
 )
