@@ -1,5 +1,6 @@
 -- The players of a table, later, and the actors that they leave.
-use Rattle.std.proofs.Common.{Bool, List, None, Option, Some, [], ap, false, map, refl, suc, sym, true, zero, ℕ, ◌++◌, ◌∙◌, ◌∷◌, ◌≡◌}
+use Rattle.std.proofs.Common.{Bool, List, None, Option, Some, [], ap, false, map, refl, suc, sym, true, zero, ℕ, ◌++◌}
+use Rattle.std.proofs.Common.{◌∙◌, ◌∷◌, ◌≡◌}
 use Rattle.std.specs.List.{AllZip}
 use Rattle.std.specs.Prelude.{is_some}
 use Rattle.atomic_table.specs.Seated.{TableId}
@@ -10,7 +11,8 @@ use Rattle.model_own.specs.OwnTurn.{all_actors}
 use Rattle.model_own.specs.OwnWrites.{LogWork, OwnUser}
 use Rattle.redo_drive.specs.Views.{view_of, views_of}
 use Rattle.redo_drive.specs.declared.actor.Actor.{Actor}
-use Rattle.redo_ownrule.specs.Players.{actor_of, AreInOrder, ArePlain, crew, IsSamePlayer, MayRest, place, place_behind, UsersFirst, workers_of}
+use Rattle.redo_ownrule.specs.Players.{actor_of, AreInOrder, ArePlain, crew, IsSamePlayer, MayRest, place, place_behind}
+use Rattle.redo_ownrule.specs.Players.{UsersFirst, workers_of}
 use Rattle.redo_ownrule.specs.Playing.{IsPlayerSeat}
 use Rattle.redo_ownrule.specs.declared.player.Player.{Player}
 use Rattle.redo_ownrule.specs.declared.player.Player.TheVariants as player
@@ -115,7 +117,7 @@ module _ {R : Type 0} where
   others_of (player.Own o ∷ ps) = others_of ps
   others_of (player.Plain a ∷ ps) = view_of a ∷ others_of ps
 
-  plain_users : (ps : List (Player R)) → ArePlain ps → own_users ps ≡ []
+  pub plain_users : (ps : List (Player R)) → ArePlain ps → own_users ps ≡ []
   plain_users [] plain = refl
   plain_users (player.Plain a ∷ ps) plain = plain_users ps plain
   plain_users (player.Own o ∷ ps) plain = absurd plain
@@ -130,6 +132,7 @@ module _ {R : Type 0} where
       → ◌≡◌ {A = List model.Actor} (views_of (crew (Some k) ps)) (all_actors (own_users ps) k (others_of ps))
   own_views k [] first = refl
   own_views k (player.Plain a ∷ ps) first =
-      ap (λ (l : List model.Actor). model.Writer k.writer ∷ model.Flusher k.flusher ∷ view_of a ∷ l) (plain_others ps first)
+      ap (λ (l : List model.Actor). model.Writer k.writer ∷ model.Flusher k.flusher ∷ view_of a ∷ l)
+      (plain_others ps first)
       ∙ ap (λ (l : List OwnUser). all_actors l k (view_of a ∷ others_of ps)) (sym (plain_users ps first))
   own_views k (player.Own o ∷ ps) first = ap (λ (l : List model.Actor). model.User o.user ∷ l) (own_views k ps first)

@@ -1,5 +1,6 @@
 -- What the rule says at the end, once all seats are taken in: what the run has come to, its players and the log's work.
-use Rattle.std.proofs.Common.{Bool, List, None, Option, Some, [], ap, arith, false, is_some, length, map, refl, subst, suc, sym, true, zero, ℕ, ⊎_elim, ◌+◌, ◌<◌, ◌∙◌, ◌∷◌, ◌≡◌, ◌⊎◌}
+use Rattle.std.proofs.Common.{Bool, List, None, Option, Some, [], ap, arith, false, is_some, length, map, refl, subst}
+use Rattle.std.proofs.Common.{suc, sym, true, zero, ℕ, ⊎_elim, ◌+◌, ◌<◌, ◌∙◌, ◌∷◌, ◌≡◌, ◌⊎◌}
 use Rattle.std.specs.Prelude.{slice_index}
 use lib.ListN.{get_elem?}
 use mathlib.Core.Option as maybe
@@ -89,14 +90,16 @@ works_is : (own : Option OwnSide) → is_some (work_of own) ≡ is_some own
 works_is None = refl
 works_is (Some side) = refl
 
-sits_here : {R : Type 0} (side : OwnSide) (n : ℕ) (p : Player R) → SitsAs (Some side) (its_errand p) n → SitsHere side.users n p
+sits_here : {R : Type 0} (side : OwnSide) (n : ℕ) (p : Player R)
+    → SitsAs (Some side) (its_errand p) n → SitsHere side.users n p
 sits_here side n (player.Plain a) sits = sits
 sits_here side n (player.Own o) sits = sits
 
 are_actors : {R : Type 0} (D : LogSide) (part : D.Part) (own : Bool) (side : Option OwnSide) (actors : List model.Actor)
     (all_heard heard : ℕ → List Given) (ps : List (Player R)) → own ≡ is_some side → HasItsWork D part side actors
     → length actors ≡ length ps + workers own
-    → ((i : ℕ) (p : Player R) → get_elem? ps i ≡ maybe.some p → IsKnown side actors all_heard heard (place own ps i) i p)
+    → ((i : ℕ) (p : Player R) → get_elem? ps i ≡ maybe.some p
+    → IsKnown side actors all_heard heard (place own ps i) i p)
     → AllAtRest ps → AreActors side actors ps
 are_actors {R} D part true None actors all_heard heard ps is W count known rest = absurd (cc)
 are_actors {R} D part false (Some side) actors all_heard heard ps is W count known rest = absurd (cc)
@@ -108,7 +111,8 @@ are_actors {R} D part false None actors all_heard heard ps is W count known rest
 are_actors {R} D part true (Some side) actors all_heard heard ps is W count known rest =
     let M : AreMatched side.users side.work W.others ps = record {
       count = ap (λ (l : List model.Actor). length l) (sym W.are) ∙ count;
-      there = λ i p at. ap (λ (l : List model.Actor). get_elem? l (place_behind ps i)) (sym W.are) ∙ (known i p at).there;
+      there = λ i p at. ap (λ (l : List model.Actor). get_elem? l (place_behind ps i)) (sym W.are)
+          ∙ (known i p at).there;
       sits = λ i p at. sits_here side (place_behind ps i) p (known i p at).sits;
     } in record {
       are = W.are ∙ own_match side.users side.work W.others ps M;
@@ -150,7 +154,8 @@ module _ {L D R : Type 0} (log_seen : L → Seen) (log_gives : L → Call → L 
   seat_at i p at = ap (λ (l : List Numbered). get_elem? l i) all ∙ seated_there (place own ps) heard 0 ps i p at
       ∙ ap (λ (n : ℕ). maybe.some (numbered_as (place own ps n) (heard n) p)) (let z : 0 + i ≡ i = omega arith in z)
 
-  known : (i : ℕ) (p : Player R) → get_elem? ps i ≡ maybe.some p → IsKnown Q.beside.own Q.actors Q.heard heard (place own ps i) i p
+  known : (i : ℕ) (p : Player R) → get_elem? ps i ≡ maybe.some p
+      → IsKnown Q.beside.own Q.actors Q.heard heard (place own ps i) i p
   known i (player.Plain a) at =
       let x = whom i (player.Plain a) in
       let m = K.mine i x (seat_at i (player.Plain a) at) in
@@ -168,7 +173,8 @@ module _ {L D R : Type 0} (log_seen : L → Seen) (log_gives : L → Call → L 
   ends_as =
       let s = final.0 in
       let A = its_actors in
-      let now = subst (RunsWith log_seen data_seen Q.run Q.parts Q.heard) A.are (record { runs = Q.runs; hears = Q.hears }) in
+      let now = subst (RunsWith log_seen data_seen Q.run Q.parts Q.heard) A.are
+      (record { runs = Q.runs; hears = Q.hears }) in
       let free : (k : ℕ) → k < 5 → slice_index s.words (7 + k) ≡ 0 = λ k l.
       elim (ℕ_discrete (slice_index s.words (7 + k)) 0) [
         | yes z ↦ z

@@ -1,5 +1,6 @@
 -- What a closed table leaves, in terms of its players: the run that every drive owes.
-use Rattle.std.proofs.Common.{Bool, List, None, Option, Some, [], ap, arith, inl, inr, is_some, length, map, refl, subst, suc, sym, true, zero, ℕ, ⊎_elim, ◌+◌, ◌<◌, ◌∙◌, ◌∷◌, ◌≡◌, ◌⊎◌}
+use Rattle.std.proofs.Common.{Bool, List, None, Option, Some, [], ap, arith, inl, inr, is_some, length, map, refl}
+use Rattle.std.proofs.Common.{subst, suc, sym, zero, ℕ, ⊎_elim, ◌<◌, ◌∙◌, ◌∷◌, ◌≡◌, ◌⊎◌}
 use Rattle.std.proofs.lemmas.List.{length-map}
 use Rattle.std.specs.List.{AllZip}
 use lib.ListN.{get_elem?}
@@ -48,7 +49,9 @@ module _ {R : Type 0} where
       → (n : ℕ) (a b : Actor R) → get_elem? (crew j ss) n ≡ maybe.some a → get_elem? (crew k ps) n ≡ maybe.some b
       → InBoth k ss ps n a b ⊎ ((follower_of a ≡ None) × (follower_of b ≡ None))
   in_both None None works ss ps same n a b at bt =
-      inl (n, ap (λ (l : List (Actor R)). get_elem? l n) (alone ss) ∙ at, ap (λ (l : List (Actor R)). get_elem? l n) (alone ps) ∙ bt, refl)
+      let now : (qs : List (Player R)) → get_elem? (map actor_of qs) n ≡ get_elem? (crew None qs) n =
+      λ qs. ap (λ (l : List (Actor R)). get_elem? l n) (alone qs) in
+      inl (n, now ss ∙ at, now ps ∙ bt, refl)
   in_both None (Some k) works ss ps same n a b at bt = absurd (cc)
   in_both (Some j) None works ss ps same n a b at bt = absurd (cc)
   in_both (Some j) (Some k) works [] [] same zero a b at bt = inr (
@@ -104,7 +107,8 @@ module _ {L D R : Type 0} (log_seen : L → Seen) (log_gives : L → Call → L 
     → ◌≡◌ {A = List Given} (all_heard (place own ps i)) (heard_by seats i))
     (work : Option LogWork) (works : is_some work ≡ own) (actors : List (Actor R))
     (are : ◌≡◌ {A = List (Actor R)} actors (crew work ps)) (left : Left L D)
-    (P : LeavesParts log_seen log_gives data_seen data_gives about all_heard (views_of actors) left) (closed : Closed L D)
+    (P : LeavesParts log_seen log_gives data_seen data_gives about all_heard (views_of actors) left)
+    (closed : Closed L D)
     (log_is : closed.log ≡ left.log) (store_is : closed.store ≡ left.store)
     (marks_is : ◌≡◌ {A = Marks} closed.marks left.marks) (code_is : closed.code ≡ left.code)
     (listed : ListsInOrder left.marks (views_of actors) closed.history) where
@@ -135,8 +139,8 @@ module _ {L D R : Type 0} (log_seen : L → Seen) (log_gives : L → Call → L 
           let p = player_of ps z.0 b z.2 in
           let s = there seats z.0 (let l = p.2 in omega arith) in
           let heard : ◌≡◌ {A = List Given} (heard_of s.0.me.0) (all_heard n) =
-              heard_at seats z.0 s.0 s.1 ∙ sym (heard_is z.0 p.0 p.1)
-              ∙ ap all_heard (ap (λ (o : Bool). place o ps z.0) (sym works) ∙ sym z.3) in
+          heard_at seats z.0 s.0 s.1 ∙ sym (heard_is z.0 p.0 p.1)
+          ∙ ap all_heard (ap (λ (o : Bool). place o ps z.0) (sym works) ∙ sym z.3) in
           subst (λ (l : List Given). HasGot stands (follower_of a) l (follower_of b))
           (heard ∙ P.hears told n (view_of b) (views_at actors n b bt)) (H.got z.0 s.0 a b s.1 z.1 z.2))
           (λ z. got_none stands (follower_of a) _ (follower_of b) z.0)
@@ -149,10 +153,12 @@ module _ {L D R : Type 0} (log_seen : L → Seen) (log_gives : L → Call → L 
     data_part = store_is ∙ P.data_part;
     marks = marks_is ∙ P.marks;
     code = code_is ∙ P.code;
-    history = its_history log_seen log_gives data_seen data_gives about all_heard (views_of actors) left P closed.history listed;
+    history = its_history log_seen log_gives data_seen data_gives about all_heard (views_of actors) left P
+        closed.history listed;
   }
     where
-      pair : (n : ℕ) (a b : Actor R) → get_elem? (crew first starts) n ≡ maybe.some a → get_elem? actors n ≡ maybe.some b
+      pair : (n : ℕ) (a b : Actor R) → get_elem? (crew first starts) n ≡ maybe.some a
+          → get_elem? actors n ≡ maybe.some b
           → InBoth work starts ps n a b ⊎ ((follower_of a ≡ None) × (follower_of b ≡ None))
       pair n a b at bt = in_both first work (works_first ∙ sym works) starts ps same n a b at
           (ap (λ (l : List (Actor R)). get_elem? l n) (sym are) ∙ bt)

@@ -1,7 +1,9 @@
 pub mod Crews
 pub mod Ended
+pub mod Finished
 pub mod Left
 pub mod Matched
+pub mod Opened
 pub mod OwnAllowed
 pub mod OwnAnswers
 pub mod OwnCalls
@@ -23,3 +25,4 @@ pub mod OwnUserHands
 pub mod OwnWords
 pub mod Placed
 pub mod Players
+pub mod Standing

@@ -1,5 +1,6 @@
 -- The actors of a run, as players who have seats know them.
-use Rattle.std.proofs.Common.{Bool, List, None, Option, Some, [], ap, arith, false, length, length-append, map, refl, subst, suc, sym, true, zero, ℕ, ⊎_elim, ◌+◌, ◌++◌, ◌∙◌, ◌∷◌, ◌≡◌, ◌≤◌}
+use Rattle.std.proofs.Common.{Bool, List, None, Option, Some, [], ap, arith, false, length, length-append, map, refl}
+use Rattle.std.proofs.Common.{subst, suc, sym, true, zero, ℕ, ⊎_elim, ◌+◌, ◌++◌, ◌∙◌, ◌∷◌, ◌≡◌, ◌≤◌}
 use Rattle.std.proofs.lemmas.List.{length-map}
 use lib.ListN.{get_elem?}
 use mathlib.Core.Option as maybe
@@ -35,7 +36,8 @@ SitsHere users n (player.Own o) =
     (u : UserState) × (get_elem? users n ≡ maybe.some (record { user = u; errand = o.errand; helped = o.helped }))
 
 -- each player is the actor of its number, and there are no others but the writer and the flusher
-pub record AreMatched {R : Type 0} (users : List OwnUser) (k : LogWork) (others : List model.Actor) (ps : List (Player R)) : Type 0 where
+pub record AreMatched {R : Type 0} (users : List OwnUser) (k : LogWork) (others : List model.Actor)
+    (ps : List (Player R)) : Type 0 where
   pub count : length (all_actors users k others) ≡ length ps + 2
   pub there : (i : ℕ) (p : Player R) → get_elem? ps i ≡ maybe.some p
       → get_elem? (all_actors users k others) (place_behind ps i) ≡ maybe.some (view_of (actor_of p))
@@ -50,10 +52,12 @@ module _ {R : Type 0} where
       ap (λ (x : Player R). maybe.some (numbered_as (number k) (heard k) x)) (maybe.some-injective q p at)
       ∙ ap (λ (n : ℕ). maybe.some (numbered_as (number n) (heard n) p)) (let z : k ≡ k + 0 = omega arith in z)
   seated_there number heard k (q ∷ ps) (suc i) p at = seated_there number heard (k + 1) ps i p at
-      ∙ ap (λ (n : ℕ). maybe.some (numbered_as (number n) (heard n) p)) (let z : k + 1 + i ≡ k + suc i = omega arith in z)
+      ∙ ap (λ (n : ℕ). maybe.some (numbered_as (number n) (heard n) p))
+      (let z : k + 1 + i ≡ k + suc i = omega arith in z)
 
   pub all_views : (actors : List model.Actor) (ps : List (Player R)) → length actors ≡ length ps
-      → ((i : ℕ) (p : Player R) → get_elem? ps i ≡ maybe.some p → get_elem? actors i ≡ maybe.some (view_of (actor_of p)))
+      → ((i : ℕ) (p : Player R) → get_elem? ps i ≡ maybe.some p
+      → get_elem? actors i ≡ maybe.some (view_of (actor_of p)))
       → ◌≡◌ {A = List model.Actor} actors (views_of (map actor_of ps))
   all_views [] [] count there = refl
   all_views [] (p ∷ ps) count there = absurd (omega arith)
@@ -153,16 +157,20 @@ module _ (D : LogSide) (p : D.Part) where
     where
       both : (s : WriterStep) → IsWriterAtRest D p s
           → (writer_hand s ≡ None) × ((b : LinkBuffer) → writer_holds_tail b s ≡ false)
-      both (writer_step.Advance advance_step.LoadTail) z =
-          (refl, λ b. elim b as (λ k. writer_holds_tail k (writer_step.Advance advance_step.LoadTail) ≡ false) [
-            | link_buffer.Written ↦ refl
-            | link_buffer.Closed ↦ refl
-          ])
-      both writer_step.Failed z =
-          (refl, λ b. elim b as (λ k. writer_holds_tail k writer_step.Failed ≡ false) [
-            | link_buffer.Written ↦ refl
-            | link_buffer.Closed ↦ refl
-          ])
+      both (writer_step.Advance advance_step.LoadTail) z = (
+        refl,
+        λ b. elim b as (λ k. writer_holds_tail k (writer_step.Advance advance_step.LoadTail) ≡ false) [
+          | link_buffer.Written ↦ refl
+          | link_buffer.Closed ↦ refl
+        ],
+      )
+      both writer_step.Failed z = (
+        refl,
+        λ b. elim b as (λ k. writer_holds_tail k writer_step.Failed ≡ false) [
+          | link_buffer.Written ↦ refl
+          | link_buffer.Closed ↦ refl
+        ],
+      )
       both (writer_step.Advance advance_step.TakeTail) z = absurd z
       both (writer_step.Advance advance_step.LoadLink) z = absurd z
       both (writer_step.Advance advance_step.ClearLink) z = absurd z

@@ -1,5 +1,6 @@
 -- The actors that a run leaves, put into their places one by one.
-use Rattle.std.proofs.Common.{List, None, Option, Some, [], ap, append-nil, append_assoc, arith, length, length-append, map, refl, sym, ℕ, ◌+◌, ◌++◌, ◌∙◌, ◌∷◌, ◌≡◌, ◌≤◌}
+use Rattle.std.proofs.Common.{List, None, Option, [], ap, append_assoc, arith, length, length-append, map, refl, sym, ℕ}
+use Rattle.std.proofs.Common.{◌+◌, ◌++◌, ◌∙◌, ◌∷◌, ◌≡◌, ◌≤◌}
 use Rattle.std.proofs.lemmas.List.{length-map}
 use Rattle.model_own.specs.OwnWrites.{LogWork}
 use Rattle.redo_drive.specs.declared.actor.Actor.{Actor}
@@ -59,14 +60,15 @@ module _ {R : Type 0} where
       let k = length-map ps actor_of in omega arith
 
   -- there is room for all that are still to come
-  pub room_left : (s first : Placed R) (ps all : List (Player R)) (capacity : ℕ) → ◌≡◌ {A = Placed R} s (placed first ps)
+  pub room_left : (s first : Placed R) (ps all : List (Player R)) (capacity : ℕ)
+      → ◌≡◌ {A = Placed R} s (placed first ps)
       → first.actors ≡ [] → length (crew first.work all) ≤ capacity
       → length s.actors + length (workers_of {R = R} s.work) + length all ≤ capacity + length ps
   room_left s first ps all capacity so empty enough =
       let now = sym (length-append s.actors (workers_of s.work))
-          ∙ ap (λ (z : Placed R). length (z.actors ++ workers_of z.work)) so
-          ∙ ap (λ (l : List (Actor R)). length l) (all_placed first ps)
-          ∙ ap (λ (l : List (Actor R)). length (l ++ crew first.work ps)) empty in
+      ∙ ap (λ (z : Placed R). length (z.actors ++ workers_of z.work)) so
+      ∙ ap (λ (l : List (Actor R)). length l) (all_placed first ps)
+      ∙ ap (λ (l : List (Actor R)). length (l ++ crew first.work ps)) empty in
       let n = length_crew first.work ps in
       let m = length_crew first.work all in omega arith
 

@@ -1,15 +1,13 @@
 -- The actors of a run are made its players, and the writer and the flusher among them the log's work.
-use Rattle.std.proofs.Common.{Bool, List, None, Option, Some, [], ap, append-nil, append_assoc, false, length, map, refl}
-use Rattle.std.proofs.Common.{subst, suc, sym, true, zero, ℕ, ◌++◌, ◌∙◌, ◌∷◌, ◌≡◌}
+use Rattle.std.proofs.Common.{List, None, Option, Some, [], ap, append-nil, append_assoc, map, refl}
+use Rattle.std.proofs.Common.{subst, sym, ◌++◌, ◌∙◌, ◌∷◌, ◌≡◌}
 use Rattle.model_core.specs.{FlusherState, UserState, WriterState}
-use Rattle.model_own.specs.OwnWrites.{LogWork, OwnUser}
-use Rattle.model_own.specs.declared.errand.ErrandStep.TheVariants as errand_step
 use Rattle.redo_drive.specs.declared.actor.Actor.{Actor}
 use Rattle.redo_drive.specs.declared.actor.Actor.TheVariants as actor
 use Rattle.redo_ownmachine.proofs.Sorting.{fresh}
 use Rattle.redo_ownmachine.specs.OwnCrew.{AreOthers, HaveWorkers, IsOther}
 use Rattle.redo_ownrule.specs.Players.{actor_of, ArePlain, crew, UsersFirst}
-use Rattle.redo_ownrule.specs.Staffing.{StandAtHome}
+use Rattle.redo_ownrule.specs.Staffing.{HaveOthers, StandAtHome}
 use Rattle.redo_ownrule.specs.declared.player.Player.{Player}
 use Rattle.redo_ownrule.specs.declared.player.Player.TheVariants as player
 
@@ -82,7 +80,8 @@ module _ {R : Type 0} where
   others_found : (s : Found R) (os : List (Actor R)) → AreOthers os
       → ◌≡◌ {A = Found R} (found s os) (record s { players = s.players ++ plain os })
   others_found s [] are = ap (λ (l : List (Player R)). record s { players = l }) (sym (append-nil s.players))
-  others_found s (a ∷ os) are = first a are.0 ∙ others_found (record s { players = s.players ++ player.Plain a ∷ [] }) os are.1
+  others_found s (a ∷ os) are = first a are.0
+      ∙ others_found (record s { players = s.players ++ player.Plain a ∷ [] }) os are.1
       ∙ ap (λ (l : List (Player R)). record s { players = l }) (append_assoc s.players (player.Plain a ∷ []) (plain os))
     where
       first : (b : Actor R) → IsOther b
@@ -97,8 +96,10 @@ module _ {R : Type 0} where
   own us = map (λ u. player.Own (fresh u)) us
 
   users_found : (s : Found R) (us : List UserState) (rest : List (Actor R))
-      → ◌≡◌ {A = Found R} (found s (map actor.User us ++ rest)) (found (record s { players = s.players ++ own us }) rest)
-  users_found s [] rest = ap (λ (l : List (Player R)). found (record s { players = l }) rest) (sym (append-nil s.players))
+      → ◌≡◌ {A = Found R} (found s (map actor.User us ++ rest))
+      (found (record s { players = s.players ++ own us }) rest)
+  users_found s [] rest =
+      ap (λ (l : List (Player R)). found (record s { players = l }) rest) (sym (append-nil s.players))
   users_found s (u ∷ us) rest = users_found (record s { players = s.players ++ player.Own (fresh u) ∷ [] }) us rest
       ∙ ap (λ (l : List (Player R)). found (record s { players = l }) rest)
       (append_assoc s.players (player.Own (fresh u) ∷ []) (own us))
@@ -122,6 +123,11 @@ module _ {R : Type 0} where
   stand_at_home [] os = plain_home os
   stand_at_home (u ∷ us) os = (refl, refl, stand_at_home us os)
 
+  have_others : (us : List UserState) (os : List (Actor R)) → AreOthers os → HaveOthers (own us ++ plain os)
+  have_others [] [] are = tt
+  have_others [] (a ∷ os) are = (are.0, have_others [] os are.1)
+  have_others (u ∷ us) os are = have_others us os are
+
   crew_is : (us : List UserState) (w : WriterState) (f : FlusherState) (os : List (Actor R))
       → ◌≡◌ {A = List (Actor R)} (crew (Some (record { writer = w; flusher = f })) (own us ++ plain os))
       (map actor.User us ++ actor.Writer w ∷ actor.Flusher f ∷ os)
@@ -132,7 +138,8 @@ module _ {R : Type 0} where
 -- what all of them come to
 module _ {R : Type 0} (actors : List (Actor R)) (h : HaveWorkers actors) (players : List (Player R))
     (writer : Option WriterState) (flusher : Option FlusherState)
-    (are : ◌≡◌ {A = Found R} (record { players = players; writer = writer; flusher = flusher }) (found none_yet actors)) where
+    (are : ◌≡◌ {A = Found R} (record { players = players; writer = writer; flusher = flusher })
+    (found none_yet actors)) where
   abbrev all : Found R
   all = record { players = players; writer = writer; flusher = flusher }
 
@@ -155,6 +162,9 @@ module _ {R : Type 0} (actors : List (Actor R)) (h : HaveWorkers actors) (player
   pub its_home : StandAtHome players
   its_home = subst StandAtHome (sym its_players) (stand_at_home h.users h.others)
 
+  pub its_others : HaveOthers players
+  its_others = subst HaveOthers (sym its_players) (have_others h.users h.others h.kinds)
+
   pub its_crew : (w : WriterState) (f : FlusherState) → writer ≡ Some w → flusher ≡ Some f
       → ◌≡◌ {A = List (Actor R)} (crew (Some (record { writer = w; flusher = f })) players) actors
   its_crew w f is_w is_f =
@@ -164,5 +174,6 @@ module _ {R : Type 0} (actors : List (Actor R)) (h : HaveWorkers actors) (player
       let e_f : f ≡ h.flusher = cc in
       ap (λ (l : List (Player R)). crew (Some (record { writer = w; flusher = f })) l) its_players
       ∙ ap (λ (x : WriterState). crew (Some (record { writer = x; flusher = f })) (own h.users ++ plain h.others)) e_w
-      ∙ ap (λ (x : FlusherState). crew (Some (record { writer = h.writer; flusher = x })) (own h.users ++ plain h.others)) e_f
+      ∙ ap (λ (x : FlusherState). crew (Some (record { writer = h.writer; flusher = x }))
+      (own h.users ++ plain h.others)) e_f
       ∙ crew_is h.users h.writer h.flusher h.others ∙ sym h.are

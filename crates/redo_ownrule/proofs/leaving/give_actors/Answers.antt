@@ -1,4 +1,4 @@
-use Rattle.std.proofs.Common.{List, None, Option, ap, arith, length, refl, sym, ◌++◌, ◌∙◌, ◌∷◌, ◌≡◌, []}
+use Rattle.std.proofs.Common.{List, Option, ap, arith, length, sym, ◌++◌, ◌∙◌, ◌∷◌, ◌≡◌, []}
 use Rattle.std.proofs.lemmas.Iterator.Adapters.{YieldsList-from_vec}
 use Rattle.std.proofs.lemmas.Iterator.Consumers.{YieldsList-end, YieldsList-turn}
 use Rattle.std.proofs.lemmas.List.{length-append, map-id}
@@ -9,7 +9,6 @@ use Rattle.redo_drive.specs.declared.actor.Actor.TheVariants as actor
 use Rattle.redo_ownrule.proofs.Placed.{Placed, place_more, placed, room_left, whole_crew}
 use Rattle.redo_ownrule.proofs.leaving.give_actors.Goals as goal
 use Rattle.redo_ownrule.specs.Players.{workers_of}
-use Rattle.redo_ownrule.specs.declared.player.Player.{Player}
 use Rattle.redo_ownrule.specs.declared.player.Player.TheVariants as player
 
 pub push_reserved-requires : goal.push_reserved-requires
@@ -61,7 +60,7 @@ push_reserved-requires-in-Plain g c =
     (record { actors = c.args.room.items; work = c.args.work }) c.loop-player.yielded c.args.players.items _
     c.loop-player.invariant.so c.requires.empty c.requires.enough in
     let long = ap (λ (l : List (Actor g.row.R.Denot)). length l) c.put_workers.ensures.items
-        ∙ length-append c.loop-player.room.items (workers_of {R = g.row.R.Denot} c.take.result) in
+    ∙ length-append c.loop-player.room.items (workers_of {R = g.row.R.Denot} c.take.result) in
     let taken = ap (λ (k : Option LogWork). length (workers_of {R = g.row.R.Denot} k)) c.take.ensures.value in
     let same = c.loop-player.invariant.capacity in
     let kept = c.put_workers.ensures.capacity in omega arith
@@ -89,8 +88,8 @@ pub put_workers-requires-2 : goal.put_workers-requires-2
 put_workers-requires-2 g c =
     let gives = c.into_iter-player-iterator.ensures.into_iter_gives in
     let end = YieldsList-end (YieldsList-from_vec c.args.players.items gives.0 (gives.1 ∙ c.args.players.ok.0))
-    c.loop-player.yielded c.loop-player.player-iterator c.loop-player.yielded_by c.next.result c.next.new.self c.in-None.is
-    c.next.ensures.steps in
+    c.loop-player.yielded c.loop-player.player-iterator c.loop-player.yielded_by c.next.result c.next.new.self
+    c.in-None.is c.next.ensures.steps in
     let all = end.1 in
     let left = room_left (record { actors = c.loop-player.room.items; work = c.loop-player.work })
     (record { actors = c.args.room.items; work = c.args.work }) c.loop-player.yielded c.args.players.items _
@@ -102,8 +101,8 @@ pub returns : goal.returns
 returns g c =
     let gives = c.into_iter-player-iterator.ensures.into_iter_gives in
     let end = YieldsList-end (YieldsList-from_vec c.args.players.items gives.0 (gives.1 ∙ c.args.players.ok.0))
-    c.loop-player.yielded c.loop-player.player-iterator c.loop-player.yielded_by c.next.result c.next.new.self c.in-None.is
-    c.next.ensures.steps in
+    c.loop-player.yielded c.loop-player.player-iterator c.loop-player.yielded_by c.next.result c.next.new.self
+    c.in-None.is c.next.ensures.steps in
     let whole : c.loop-player.yielded ≡ c.args.players.items = sym (map-id c.loop-player.yielded) ∙ end.0 in
     c.put_workers-2.ensures.items
     ∙ whole_crew (record { actors = c.loop-player.room.items; work = c.loop-player.work })

@@ -3,9 +3,9 @@ use Rattle.std.proofs.lemmas.Iterator.Adapters.{YieldsList-from_vec}
 use Rattle.std.proofs.lemmas.Iterator.Consumers.{YieldsList-end}
 use Rattle.std.proofs.lemmas.List.{map-id}
 use Rattle.model_own.specs.OwnWrites.{LogWork, OwnUser}
-use Rattle.redo_drive.specs.declared.actor.Actor.{Actor}
 use Rattle.redo_drive.specs.declared.actor.Actor.TheVariants as actor
-use Rattle.redo_ownrule.proofs.Players.{Found, found, has_flusher, has_writer, its_crew, its_home, its_order, none_yet, put_more, put_other}
+use Rattle.redo_ownrule.proofs.Players.{Found, found, has_flusher, has_writer, its_crew, its_home, its_order}
+use Rattle.redo_ownrule.proofs.Players.{its_others, none_yet, put_more, put_other}
 use Rattle.redo_ownrule.proofs.staffing.take_own.Goals as goal
 use Rattle.redo_ownrule.specs.Players.{crew}
 use Rattle.redo_ownrule.specs.declared.player.Player.{Player}
@@ -80,6 +80,7 @@ returns g c =
           ∙ its_crew c.args.actors.items c.requires players c.loop-actor.writer c.loop-actor.flusher all
           c.in-Some-writer.writer c.in-Some-flusher.flusher c.in-Some-writer.is c.in-Some-flusher.is;
       at_home = its_home c.args.actors.items c.requires players c.loop-actor.writer c.loop-actor.flusher all;
+      others = λ is. its_others c.args.actors.items c.requires players c.loop-actor.writer c.loop-actor.flusher all;
       empty = search rules;
       room = let n = c.len.ensures in let k = c.in_ok-room.ensures.capacity in omega arith;
     }

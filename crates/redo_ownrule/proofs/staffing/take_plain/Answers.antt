@@ -2,7 +2,6 @@ use Rattle.std.proofs.Common.{None, List, ap, arith, refl, rules, subst, sym, �
 use Rattle.std.proofs.lemmas.Iterator.Adapters.{YieldsList-from_vec}
 use Rattle.std.proofs.lemmas.Iterator.Consumers.{YieldsList-end}
 use Rattle.std.proofs.lemmas.List.{map-id}
-use Rattle.redo_drive.specs.declared.actor.Actor.{Actor}
 use Rattle.redo_ownrule.proofs.Players.{are_plain, plain, plain_crew, plain_home}
 use Rattle.redo_ownrule.proofs.staffing.take_plain.Goals as goal
 use Rattle.redo_ownrule.specs.Players.{ArePlain, crew}
@@ -17,12 +16,13 @@ returns g c =
     c.next.ensures.steps in
     let whole : c.loop-actor.yielded ≡ c.args.actors.items = sym (map-id c.loop-actor.yielded) ∙ end.0 in
     let players : ◌≡◌ {A = List (Player g.row.R.Denot)} c.loop-actor.players.items (plain c.args.actors.items) =
-        c.loop-actor.invariant ∙ ap plain whole in
+    c.loop-actor.invariant ∙ ap plain whole in
     record {
       works = refl;
       order = subst ArePlain (sym players) (are_plain c.args.actors.items);
       are = ap (λ (l : List (Player g.row.R.Denot)). crew None l) players ∙ plain_crew c.args.actors.items;
       at_home = subst StandAtHome (sym players) (plain_home c.args.actors.items);
+      others = λ is. absurd (cc);
       empty = search rules;
       room = let n = c.len.ensures in let k = c.in_ok-room.ensures.capacity in omega arith;
     }
