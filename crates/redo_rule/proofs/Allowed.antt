@@ -401,7 +401,7 @@ module _ {L D : Type 0} (log_seen : L → Seen) (log_gives : L → Call → L �
       R.parts.words.words (7 + k) 0 → new.log ≡ R.parts.log → new.store ≡ R.parts.store → new.lists ≡
       R.parts.lists → (l : model.Lent) → IsPlayed log_seen data_seen R.run o l R.parts (answer.Taken None) new)
       → Allows Law slots id me (7 + k) (λ _. 0) (gave log_seen data_seen me)
-  gives_back o k own_slot f fills keeps is other below held_k none held carried plays s R wide at small =
+  gives_back o k own_slot f fills keeps_f is other below held_k none held carried plays s R wide at small =
       let r : Answer = answer.Taken None in
       let ws : List ℕ = slice_set s.words (7 + k) 0 in
       let new : Parts L D = record { words = record { pages = R.parts.words.pages; words = ws }; log = R.parts.log; store = R.parts.store; lists = R.parts.lists } in
@@ -415,7 +415,7 @@ module _ {L D : Type 0} (log_seen : L → Seen) (log_gives : L → Call → L �
       = λ g j h. let n = none g in absurd (cc) in
       let free = kept.is_free log_seen log_gives data_seen data_gives about s R id me.0 x one at in
       let one_way : (g : Filling) → Fills a g → KeepsTexts a g → ◌≡◌ {A = model.Actor} (filled a g) (filled a f) =
-      λ g p q. one_filling a g f free (subst IsNoRead (sym is) other) p q fills keeps in
+      λ g p q. one_filling a g f free (subst IsNoRead (sym is) other) p q fills keeps_f in
       let mine : ◌≡◌ {A = Slot L D} own_slot (slot_content R.parts R.beside k) = kept.same_slot own_slot (slot_content
       R.parts R.beside k) (sym held ∙ kept.holds_content log_seen log_gives data_seen data_gives about s R id me.0
       x one at k held_k) in

@@ -57,7 +57,7 @@ read_at (y ∷ ys) zero x e = sym (maybe.some-injective y x e)
 read_at (y ∷ ys) (suc i) x e = read_at ys i x e
 
 -- what a run tells of the append that failed
-its_loss : (archive : Bool) (actors : List model.Actor) (lost : Option DevError) → TellsLoss archive actors lost
+pub its_loss : (archive : Bool) (actors : List model.Actor) (lost : Option DevError) → TellsLoss archive actors lost
     → cond archive ((code : ℕ) → HasLost actors code → code ≡ append_code lost) (Unit {0})
 its_loss true actors lost loss = loss
 its_loss false actors lost loss = tt

@@ -2,6 +2,7 @@ pub mod Allowed
 pub mod AllowedAppends
 pub mod AllowedCalls
 pub mod AllowedLists
+pub mod Appended
 pub mod AtRest
 pub mod Batching
 pub mod Behind
