@@ -1,12 +1,11 @@
 -- The step that ends an append to the archive keeps the rule: it changes no word, no part and no list.
-use Rattle.std.proofs.Common.{List, None, Option, Some, [], ap, inl, inr, refl, subst, sym, ℕ, ◌+◌, ◌<◌, ◌∙◌, ◌∷◌, ◌≡◌}
+use Rattle.std.proofs.Common.{List, None, Option, Some, [], ap, inl, inr, refl, subst, sym, ℕ, ◌+◌, ◌∙◌, ◌∷◌, ◌≡◌}
 use Rattle.std.proofs.lemmas.List.{set-get_or}
 use Rattle.std.specs.Prelude.{slice_index, slice_set}
-use lib.ListN.{get_elem?}
 use mathlib.Core.Option as maybe
 use Rattle.atomic_table.specs.Table.{Allows, keeps, Me}
 use Rattle.model_core.proofs.Hands.{Handles}
-use Rattle.model_core.specs.{filled, lent, next, OwnServed, took}
+use Rattle.model_core.specs.{filled, lent, next, took}
 use Rattle.model_core.specs.Actors as model
 use Rattle.model_core.specs.Hands.{hand}
 use Rattle.model_core.specs.declared.ops.Answer.{Answer}
@@ -18,7 +17,6 @@ use Rattle.redo_disk.specs.Seen.{Seen}
 use Rattle.redo_disk.specs.declared.error.DevError.{DevError}
 use Rattle.redo_disk.specs.declared.error.DevError.TheVariants.{Failed, NoMemory}
 use Rattle.redo_drive.proofs.Played.{untouched}
-use Rattle.redo_drive.specs.Lists.{lists_of}
 use Rattle.redo_drive.specs.Playing.{HasSamePages, IsPlayed, run_data_side, RunOf}
 use Rattle.redo_drive.specs.declared.parts.Parts.{Parts}
 use Rattle.redo_rule.proofs.Allowed.{same_content}

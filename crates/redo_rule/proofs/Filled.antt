@@ -1,14 +1,14 @@
 -- What a turn puts into an actor changes neither what it asks for nor what it holds. Where it gives something back, all that a
 -- turn may put into it is one.
 use Rattle.std.proofs.Common.{Bool, List, Option, Some, [], ap, append_assoc, arith, cond, false, length, length-append, refl, subst, sym, take, true}
-use Rattle.std.proofs.Common.{ℕ, ⊎_elim, ◌++◌, ◌==◌, ◌∙◌, ◌∷◌, ◌≡◌}
+use Rattle.std.proofs.Common.{ℕ, ⊎_elim, ◌++◌, ◌∙◌, ◌∷◌, ◌≡◌}
 use Rattle.std.proofs.lemmas.List.{take_at}
 use Rattle.model_core.proofs.FailedCalls.{HasStored}
 use Rattle.model_core.proofs.Hands.{handles, Handles}
 use Rattle.model_core.specs.Actors as model
 use Rattle.model_core.specs.Hands.{GivesFailed, hand, IsFreeToCheck, reader_hand, StoresFailed}
 use Rattle.model_core.specs.Waiting.{ending, waits}
-use Rattle.model_core.specs.{archives, AreInFront, filled, Filling, Fills, followed, Given, has_all, holds_tail, is_checking, IsText, joined_texts, lent, next, old_of, pending, reader_op, reader_took, ReaderState, to_append, took}
+use Rattle.model_core.specs.{archives, AreInFront, filled, Filling, Fills, Given, holds_tail, is_checking, IsText, joined_texts, lent, next, pending, reader_op, ReaderState, took}
 use Rattle.model_core.specs.ReaderProgram.{reader_filled, reader_fills, reader_waits}
 use Rattle.model_core.specs.declared.ops.Answer.{Answer}
 use Rattle.model_core.specs.declared.ops.Op.{Op}

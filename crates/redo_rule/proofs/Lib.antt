@@ -14,6 +14,7 @@ pub mod Failing
 pub mod Filled
 pub mod Finishing
 pub mod Gathered
+pub mod GivenBack
 pub mod Hearing
 pub mod Holders
 pub mod Kept

@@ -4,7 +4,7 @@ use Rattle.std.proofs.Common.{Bool, List, None, Option, Some, [], ap, arith, len
 use Rattle.std.proofs.Common.{inl, inr, ◌+◌, ◌<◌, ◌∙◌, ◌∷◌, ◌≡◌, ◌≤◌, ◌⊎◌}
 use lib.ListN.{get_elem?}
 use mathlib.Core.Option as maybe
-use Rattle.model_core.specs.{lent, LogServed, Lent, next}
+use Rattle.model_core.specs.{LogServed, Lent, next}
 use Rattle.model_core.specs.Actors as model
 use Rattle.model_core.specs.DataSide.{DataSide}
 use Rattle.model_core.specs.Hands.{hand}
@@ -23,7 +23,7 @@ use Rattle.model_ownrun.proofs.Errands.{in_hand, other_keeps}
 use Rattle.model_ownrun.proofs.Moves.{Runs}
 use Rattle.model_ownrun.proofs.Seats.{flusher_seat, flusher_seat_is, flusher_there, writer_seat, writer_seat_is}
 use Rattle.model_ownrun.proofs.Seats.{writer_there}
-use Rattle.model_ownrun.specs.OwnRunning.{Errands, FlushesAt, WorkAt, WritesAt}
+use Rattle.model_ownrun.specs.OwnRunning.{FlushesAt, WorkAt, WritesAt}
 use Rattle.model_pagecore.specs.DataLaws.{DataLaws}
 use Rattle.redo_disk.specs.Seen.{Seen}
 use Rattle.redo_drive.specs.Lists.{lists_of}
@@ -32,7 +32,6 @@ use Rattle.redo_drive.specs.Running.{RunsWith}
 use Rattle.redo_drive.specs.declared.parts.Parts.{Parts}
 use Rattle.redo_logdev.specs.Part as log
 use Rattle.redo_rule.specs.OwnSide.{HasItsWork, IsWorked, OwnSide, SitsAs}
-use Rattle.redo_rule.specs.declared.law.Errand.{Errand}
 
 -- the actors once one behind the users, the writer and the flusher has changed
 abbrev PutBehind : List OwnUser → LogWork → List model.Actor → ℕ → model.Actor → Type 0

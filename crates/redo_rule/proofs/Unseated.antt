@@ -21,7 +21,6 @@ use Rattle.redo_store.specs.declared.opened.Opened.{Opened}
 use Rattle.redo_rule.proofs.Opens as opens
 use Rattle.redo_rule.specs.Cutting.{IsFirst}
 use Rattle.redo_follow.specs.Handing.{Following}
-use Rattle.redo_rule.specs.OwnSide.{HasNoWork}
 use Rattle.redo_rule.specs.Ruled.{first_view, none_heard, numbered, own_numbered, starts_about}
 use Rattle.redo_rule.specs.Seating.{IsCleaner}
 use Rattle.redo_rule.specs.Sharing.{IsUnseated}

@@ -23,9 +23,9 @@ mod steps;
 
 pub use appending::append;
 pub use closing::{Left, close_table};
+pub use law::{About, Desk, Errand, Heard, Keeping, Law, Numbered, Ring, Seat, Slot, View, Viewed};
 pub use laying::{lay_out, make_board, parts_in};
 pub use listing::{list_slot, list_turn};
-pub use law::{About, Desk, Errand, Heard, Keeping, Law, Numbered, Ring, Seat, Slot, View, Viewed};
 pub use playing::play;
 pub use plays::Looked;
 pub use resting::{all_hold_nothing, holds_nothing};

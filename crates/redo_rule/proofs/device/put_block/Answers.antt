@@ -1,1 +1,0 @@
-use Rattle.redo_rule.proofs.device.put_block.Goals as goal

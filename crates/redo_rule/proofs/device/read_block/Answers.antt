@@ -1,5 +1,5 @@
 use Rattle.std.proofs.Common.{List, Option, ap, subst, sym, ℕ, ◌∙◌}
-use Rattle.model_core.specs.{lent, LogServed, next}
+use Rattle.model_core.specs.{lent, LogServed}
 use Rattle.model_core.specs.Actors as model
 use Rattle.model_core.specs.declared.ops.Op.TheVariants as op
 use Rattle.redo_disk.specs.declared.error.DevError.{DevError}
