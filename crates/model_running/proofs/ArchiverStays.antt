@@ -57,7 +57,7 @@ module _ (D : LogSide) (E : DataSide) (c : Setup) (spare : ℕ) (m : SharedWords
     (ls : ℕ → List Listed) (p : D.Part) (d : E.Part) (actors : List Actor) (seat : ℕ)
     (both : BothHalves D E c spare m g h ls p d actors) (code : ℕ) (q : D.Part) where
   -- no Op takes FLUSHED back
-  rises : (a : Actor) → get_elem? actors seat ≡ some a → m.flushed ≤ (shared_left m (next a)).flushed
+  pub rises : (a : Actor) → get_elem? actors seat ≡ some a → m.flushed ≤ (shared_left m (next a)).flushed
   rises (actor.User u) at =
       let z = left_reads m (next (actor.User u)) (asks u.checks (own_op (actor.User u)) (user_leaves u u.step)) in
       let y = z.1 in omega arith

@@ -57,7 +57,7 @@ module _ (D : LogSide) (L : LogLaws D) (E : DataSide) (EL : DataLaws E) (c : Set
     (both : BothHalves D E c spare m g h ls p d actors) (code : ℕ) (q : D.Part)
     (told : D.Tells q) (before : D.Tells p) where
   -- the log that an actor's Op leaves
-  grown : (a : Actor) → get_elem? actors seat ≡ some a → LogGrows g.log (log_left g.log m.sn a) m.sn
+  pub grown : (a : Actor) → get_elem? actors seat ≡ some a → LogGrows g.log (log_left g.log m.sn a) m.sn
   grown (actor.User u) at = reserved D L E EL c spare m g h ls p d actors seat both code q told before u at u.checks refl
   grown (actor.Writer s) at = same_log g.log m.sn
   grown (actor.Flusher s) at = same_log g.log m.sn

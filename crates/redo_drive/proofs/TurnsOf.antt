@@ -82,11 +82,11 @@ module _ {L D : Type 0} (log_seen : L → Seen) (data_seen : D → Seen) (run : 
       subst (λ (z : Answer). MarkFits who z) (sym (said l played)) (may.mark played.code new.log.marks.stable)
 
 -- an actor stays what it is, and a reader keeps its number
-abbrev NoReader : model.Actor → Type 0
+abbrev pub NoReader : model.Actor → Type 0
 NoReader (model.Reader r) = ⊥
 NoReader _ = Unit {0}
 
-abbrev IsKind : model.Actor → model.Actor → Type 0
+abbrev pub IsKind : model.Actor → model.Actor → Type 0
 IsKind (model.Reader r) b = (w : ReaderState) × (b ≡ model.Reader w) × (w.number ≡ r.number)
 IsKind _ b = NoReader b
 
@@ -195,7 +195,7 @@ module _ {L D : Type 0} {archive : Bool} (log_seen : L → Seen) (data_seen : D 
   told_earlier told = told_then A log_laws B data_laws run.setup 0 (core_of log_seen data_seen run old actors)
       (core_of log_seen data_seen run new after) seat answer step R.running t told
 
-  kept_kind : (j : ℕ) (a b : model.Actor) → get_elem? actors j ≡ some a → get_elem? after j ≡ some b → IsKind a b
+  pub kept_kind : (j : ℕ) (a b : model.Actor) → get_elem? actors j ≡ some a → get_elem? after j ≡ some b → IsKind a b
   kept_kind j a b there later =
       let who : model.Actor = took (filled t.who t.filling) answer in
       ⊎_elim

@@ -1,18 +1,22 @@
 -- The archive beside the actors of a run, from turn to turn.
-use Rattle.std.specs.Prelude.{Bool, List, [], None, Option, Some, false, slice_index, true, ℕ, ◌≡◌, ◌≤◌}
+use Rattle.std.specs.Prelude.{Bool, List, [], None, Option, Some, false, slice_index, true, ℕ, ◌++◌, ◌≡◌, ◌≤◌}
 use lib.ListN.{get_elem?}
 use mathlib.Core.Option.{some}
 use Rattle.model_base.specs.{HasRisen}
-use Rattle.model_core.specs.{archives, index, lsn, ReaderState}
+use Rattle.model_core.specs.{after_of, archives, index, lsn, next, reader_program, ReaderState}
+use Rattle.model_core.specs.ReaderProgram.{Filling, reader_filled}
+use Rattle.model_core.specs.declared.ops.Answer.{Answer}
+use Rattle.model_core.specs.declared.ops.Op.TheVariants as op
 use Rattle.model_core.specs.Actors as model
 use Rattle.model_core.specs.Setup.{Setup}
 use Rattle.model_core.specs.declared.words.Word.TheVariants as word
 use Rattle.model_ends.specs.Bound.{last_lsn}
+use Rattle.model_log.specs.{IsRunOf}
 use Rattle.model_log.specs.declared.group.Whole.{Whole}
 use Rattle.model_page.specs.declared.content.Content.{Content}
 use Rattle.model_running.specs.History.{AreWholesOf}
 use Rattle.redo_archive.specs.Part.{Part, PartArchives}
-use Rattle.redo_archiver.specs.{KeepsPace}
+use Rattle.redo_archiver.specs.{IsAppended, IsFullBlock, KeepsPace}
 use Rattle.redo_disk.specs.Seen.{Seen}
 use Rattle.redo_disk.specs.declared.error.DevError.TheVariants.{Failed}
 use Rattle.redo_drive.specs.Playing.{RunOf, run_log_side}
@@ -42,6 +46,18 @@ pub record StandsBeside {A : Type 0} (seen : A → Seen) (c : Setup) (words : Li
 abbrev pub IsBeside : {A : Type 0} → (A → Seen) → Setup → List ℕ → List model.Actor → Option (Part A) → Type 0
 IsBeside seen c words actors None = HasNoArchiver actors
 IsBeside seen c words actors (Some part) = StandsBeside seen c words actors part
+
+-- AN APPEND of the block that the archiver has read, with this answer. The archive is again as far as the archiver; and it
+-- archives what it did of a run, if the block was the run's for its groups at an earlier time.
+pub record Appends {A : Type 0} (seen : A → Seen) (archiver : ReaderState) (before : Part A) (answer : Answer) (after : Part A) : Type 0 where
+  pub mark : ℕ
+  pub asks : next (model.Reader archiver) ≡ op.Append mark
+  pub appended : IsAppended seen before mark answer after
+  pub pace : (limit flushed : ℕ) (filling : Filling) → KeepsPace seen limit flushed archiver before
+      → KeepsPace seen limit flushed (after_of reader_program (reader_filled archiver filling archiver.step) answer) after
+  pub archives : (limit flushed : ℕ) (pages : List Content) (early late : List Whole) → KeepsPace seen limit flushed archiver before
+      → IsRunOf before.start (early ++ late) → IsFullBlock before.start early archiver.place archiver.block
+      → PartArchives seen pages (early ++ late) before → PartArchives seen pages (early ++ late) after
 
 -- the same archive on the same device, later: the device has failed if a call of it has
 pub record IsSameArchive {A : Type 0} (seen : A → Seen) (before after : Part A) : Type 0 where

@@ -4,7 +4,6 @@
 #![tactic(auto)]
 
 mod actor;
-mod archiving;
 mod asking;
 mod calling;
 mod closed;
@@ -20,7 +19,6 @@ mod seating;
 mod start_words;
 
 pub use actor::Actor;
-pub use archiving::finish_archive;
 pub use calling::{call_batch, call_checkpoint, call_read, call_sync, call_write};
 pub use closed::Closed;
 pub use data_laws::{data_part_meets_laws, data_part_tells, held_pages_are_stored};

@@ -12,13 +12,13 @@ ghost use Rattle.redo_drive.specs.declared.actor.Actor.{Actor as TheActor};
 ghost use Rattle.redo_logdev.specs.{MayRead};
 ghost use Rattle.model_core.specs.{HasLost};
 ghost use Rattle.redo_archive.specs.Part.{Part};
-ghost use Rattle.redo_machine.specs.Appending.{ComesFrom, HasAppended, IsOnRun, MayAppendTo, MayServeWith, ServesArchive};
+ghost use Rattle.redo_machine.specs.Appending.{ComesFrom, HasAppended, IsArchiver, IsOnRun, IsServedWith, MayAppendTo, MayServeWith};
 ghost use Rattle.redo_machine.specs.Reading.{HasPlayed, HasRead};
 
 use crate::machine::Machine;
 use crate::playing::play;
 use redo_archive::ArchPart;
-use redo_archiver::append_block;
+use redo_archiver::{append_block, archiver_appends, archiver_may_append};
 use redo_disk::Sectors;
 use redo_drive::{Actor, Device, Parts, answer_of, call_read};
 use redo_follow::Receiver;
@@ -37,12 +37,17 @@ fn read_block<L: Sectors, D: Sectors, R: Receiver>(
     ensures asked { AskOfBoth L.gives D.gives (lent (view_of actor.old)) (op.ReadBlock lsn) parts.old parts.new }
     ensures calls { CallOnBoth L.gives D.gives parts.old parts.new }
 {
-    let ended = match actor {
-        Actor::Archiver(archiver) => call_read(&mut parts.log, lsn, archiver.room()),
-        Actor::Follower(follower) => call_read(&mut parts.log, lsn, follower.room()),
+    match actor {
+        Actor::Archiver(archiver) => {
+            let ended = call_read(&mut parts.log, lsn, archiver.room());
+            answer_of(Device::Log, ended, 0)
+        }
+        Actor::Follower(follower) => {
+            let ended = call_read(&mut parts.log, lsn, follower.room());
+            answer_of(Device::Log, ended, 0)
+        }
         _ => unreachable!(),
-    };
-    answer_of(Device::Log, ended, 0)
+    }
 }
 
 /// Plays the Op that an actor asks for: a read of the log into the room that a reader has for it, any other Op with what the
@@ -86,8 +91,10 @@ fn append<A: Sectors, R: Receiver>(
 ) -> Answer
     requires asks { next (view_of actor.now) ≡ op.Append mark }
     requires may { MayAppendTo A.seen archive.old mark }
-    ensures { HasAppended A.seen mark archive.old actor.now result archive.new }
+    requires archiver { IsArchiver actor.now }
+    ensures { HasAppended A.seen archive.old actor.now result archive.new }
 {
+    archiver_appends::<A>();
     let Actor::Archiver(archiver) = actor else {
         unreachable!()
     };
@@ -103,10 +110,10 @@ fn serve_with<L: Sectors, D: Sectors, A: Sectors, R: Receiver>(
     archive: &mut Option<ArchPart<A>>,
     actor: &mut Actor<R>,
 ) -> Step
-    requires { MayServeWith A.seen parts.old archive.old (view_of actor.old) }
+    requires { MayServeWith A.seen parts.old archive.old actor.old }
     ensures pages { HasSamePages parts.old parts.new }
-    ensures served { (run : RunOf L D) → IsServed L.seen D.seen R.stands_for run parts.old actor.old result parts.new actor.new }
-    ensures archive { ServesArchive A.seen archive.old actor.old archive.new }
+    ensures served { (run : RunOf L D)
+        → IsServedWith L.seen D.seen A.seen R.stands_for run parts.old archive.old actor.old result parts.new archive.new actor.new }
     ensures asked { AskOfBoth L.gives D.gives (lent (view_of actor.old)) (next (view_of actor.old)) parts.old parts.new }
     ensures calls { CallOnBoth L.gives D.gives parts.old parts.new }
 {
@@ -146,6 +153,7 @@ impl<L: Sectors, D: Sectors, A: Sectors, R: Receiver> Machine<L, D, A, R> {
         ensures calls { CallOnBoth L.gives D.gives self.old.parts self.new.parts }
         ensures entries { self.new.entries ≡ self.old.entries }
     {
+        archiver_may_append::<A>();
         serve_with(&mut self.parts, &mut self.archive, &mut self.actors[seat])
     }
 }
