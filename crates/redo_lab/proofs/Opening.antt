@@ -198,15 +198,17 @@ module _ (call : LabCall) (command : Command) (drive : Drive) (stops : Stops) (s
   pub unplayed-archive : (asked : Drive) → command ≡ Run asked → asked ≡ drive → drive.archive ≡ true → call.log.fuse.mid ≡ 0 → call.store.fuse.mid ≡ 0
       → HasRisen call.archive.entry.faults call.archive.now.faults → EndsWith call command (outcome.Fault fault.ArchiveDevice)
   unplayed-archive asked is same archived log_none data_none risen = ends-with call command drive script running laws (outcome.Fault fault.ArchiveDevice) (tells-armed armed)
-      (leaves-read call script None reads)
-      (risen, subst (EndsBefore call) (sym (is ∙ ap Run same)) (record {
-        asked = archived;
-        script = script;
-        is_script = subst (λ (c : Command). IsScriptFor c call.source call.source_now script) (is ∙ ap Run same) running.is_script;
-        unfailed = unfailed-armed armed log_none data_none;
-        in_run = in-run armed;
-        reads = reads;
-      }))
+      (leaves-read call script None reads) (
+        risen,
+        subst (EndsBefore call) (sym (is ∙ ap Run same)) (record {
+          asked = archived;
+          script = script;
+          is_script = subst (λ (c : Command). IsScriptFor c call.source call.source_now script) (is ∙ ap Run same) running.is_script;
+          unfailed = unfailed-armed armed log_none data_none;
+          in_run = in-run armed;
+          reads = reads;
+        }),
+      )
       (λ can unfailed. absurd (can.archive_unfailed archived risen))
 
   pub unplayed-misfit : (opened : Opened) (misfit : Misfit) → call.log.fuse.mid ≡ 0 → call.store.fuse.mid ≡ 0 → WhereToldAtEntry call (DevicesOpenAs opened)

@@ -49,14 +49,16 @@ module _ (call : LabCall) (to : ℕ) (unread : call.source_now ≡ call.source) 
   pub restored-ends : {E : Type 0} (r : Result (List ℕ) E) (n end : ℕ) (pages : List Content)
       → IfSome call.archive.now.tells (λ disk. IsRestored disk.reads to n end pages) → IfOk r (λ text. text ≡ restored_text n end pages)
       → EndsWith call (Restore to) (outcome_of r)
-  restored-ends (Ok text) n end pages is text_is = restore-ends (outcome.Text text)
-      (unfailed-alone call alone, record {
-        n = n;
-        end = end;
-        pages = pages;
-        is_restored = at-entry (λ disk. IsRestored disk.reads to n end pages) is;
-        text_is = text_is;
-      })
+  restored-ends (Ok text) n end pages is text_is = restore-ends (outcome.Text text) (
+    unfailed-alone call alone,
+    record {
+      n = n;
+      end = end;
+      pages = pages;
+      is_restored = at-entry (λ disk. IsRestored disk.reads to n end pages) is;
+      text_is = text_is;
+    },
+  )
       (λ can. tt)
   restored-ends (Err error) n end pages is text_is = restore-ends (outcome.Fault fault.Memory) (λ runs. absurd (false≢true runs)) (λ can. tt)
 

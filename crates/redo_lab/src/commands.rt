@@ -150,7 +150,10 @@ pub(crate) fn done<R: Threads + Sync, S: Source, L: Sectors, D: Sectors, A: Sect
             pages,
             space,
             log_blocks,
-        } => (format_devices(alloc, pages, space, log_blocks, log, store), arch),
+        } => (
+            format_devices(alloc, pages, space, log_blocks, log, store),
+            arch,
+        ),
         Command::Run { drive } => {
             let asked = Scripted { drive, crash: None };
             (source_by_turns(rt, alloc, src, asked, log, store), arch)

@@ -214,14 +214,7 @@ fn open_fitted<L: Sectors, D: Sectors>(
     };
     let start = opened.start;
     let room_end = room_from(log_only, &opened.shape, start);
-    match judge(
-        alloc,
-        &opened.shape,
-        start,
-        room_end,
-        archive_len,
-        script,
-    ) {
+    match judge(alloc, &opened.shape, start, room_end, archive_len, script) {
         Ok(()) => Ok(opened),
         Err(Unfit::Misfit(misfit)) => Err(unplayed(
             Fault::Fit(misfit),
