@@ -1,5 +1,6 @@
 -- The machine begins the run, its turns lead to the end, and what `finish` tells of that end is what the run comes to.
-use Rattle.std.proofs.Common.{List, Option, arith, is_some, length, refl, rules, subst, sym}
+use Rattle.std.proofs.Common.{Global, List, Option, Vec, arith, is_some, length, refl, rules, subst, sym, vec_capacity, ◌≤◌}
+use Rattle.model_report.specs.declared.entry.Entry.{Entry}
 use Rattle.redo_archive.specs.Part.{Part}
 use Rattle.redo_drive.proofs.LogCount.{log_within_script}
 use Rattle.redo_drive.specs.Archiving.{HasComeTo}
@@ -51,6 +52,8 @@ leads g c =
     let E = c.run-ended.ensures.ends B.run (is_some c.args.archive) B.from.runs in
     let within = log_within_script B.run.setup c.args.script.now c.args.opened.shape R.running.shared.sn
     R.running.log_ghost.log R.running.log_ghost.place R.running.both.logged.global.tiled B.is_run.of_script in
+    let room = subst (λ (entries : Vec Entry Global). length R.running.log_ghost.log ≤ vec_capacity entries)
+    (sym c.run-ended.ensures.entries) (omega arith) in
     record {
       first = record {
         parts = c.in_ok-machine.machine.parts;
@@ -70,9 +73,9 @@ leads g c =
       marks = c.finish-closed.ensures.marks;
       code = c.finish-closed.ensures.code;
       history = c.finish-closed.ensures.history B.run (is_some c.args.archive) R
-          (rw c.run-ended.ensures.entries B.no_entries) (rw c.run-ended.ensures.entries (omega arith));
+          (rw c.run-ended.ensures.entries B.no_entries) room;
       listed = c.finish-closed.ensures.listed B.run (is_some c.args.archive) R
-          (rw c.run-ended.ensures.entries B.no_entries) (rw c.run-ended.ensures.entries (omega arith));
+          (rw c.run-ended.ensures.entries B.no_entries) room;
     }
 
 pub returns-in_err-machine : goal.returns-in_err-machine
