@@ -166,6 +166,10 @@ module _ {L D A R : Type 0} (log_seen : L → Seen) (data_seen : D → Seen) (se
       limit = script_end opened.shape opened.start script;
       all = lines_end log_seen data_seen stands opened script log_only archive followers start begins may;
       pace = pace;
+      asked = (let flushed = flushed_is in
+          let mark : part.marks.mark ≡ opened.start = ap (λ (z : _). z.mark) new.begun in
+          let last : part.marks.asked ≡ opened.start = ap (λ (z : _). z.asked) new.begun in
+          record { later = omega arith; most = omega arith });
     }
 
     has_come : HasCome log_seen data_seen seen run start.parts actors begins.from.runs part part
