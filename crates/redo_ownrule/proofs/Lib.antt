@@ -4,6 +4,7 @@ pub mod Finished
 pub mod Left
 pub mod Matched
 pub mod Opened
+pub mod Losses
 pub mod OwnAllowed
 pub mod OwnAnswers
 pub mod OwnCalls
