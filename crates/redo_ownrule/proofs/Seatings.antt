@@ -25,6 +25,7 @@ use Rattle.redo_ownrule.specs.Playing.{IsPlayerSeat}
 use Rattle.redo_ownrule.specs.Sharing.{AllAtRest}
 use Rattle.redo_ownrule.specs.declared.player.Player.{Player}
 use Rattle.redo_ownrule.specs.declared.player.Player.TheVariants as player
+use Rattle.redo_rule.proofs.AtRest.{at_or}
 use Rattle.redo_rule.proofs.Gathered.{there}
 use Rattle.redo_rule.proofs.Seated.{at_end}
 use Rattle.redo_rule.specs.Cutting.{IsApart, IsFirst, IsHome, MayTakeIn}
@@ -115,6 +116,12 @@ module _ {R : Type 0} where
         r.1,
         ap (λ (n : ℕ). numbered_as (number n) (heard n) r.0) (let z : k + suc i ≡ k + 1 + i = omega arith in z) ∙ r.2,
       )
+
+  -- the player that was read
+  pub players_at : (players : List (Player R)) (at n : ℕ) (p : Player R) → ◌≡◌ {A = Player R} p (get_or players at p) → at ≡ n
+      → n < length players → get_elem? players n ≡ maybe.some p
+  players_at players at n p is same less = subst (λ (m : ℕ). get_elem? players m ≡ maybe.some p) same
+      (at_or players at p (let e = same in omega arith) ∙ ap (λ (q : Player R). maybe.some q) (sym is))
 
   -- the numbers are apart
   pub one_place : (own : Bool) (ps : List (Player R)) (i j : ℕ) → place own ps i ≡ place own ps j → i ≡ j
@@ -382,6 +389,17 @@ module _ {L D R : Type 0} where
         below [] i a e = absurd (maybe.some-ne-none a (sym e))
         below (x ∷ xs) zero a e = omega arith
         below (x ∷ xs) (suc i) a e = let r = below xs i a e in omega arith
+
+    -- the first seat has all players where no seat is left
+    pub all_back : seats ≡ [] → first.me.0.seats ≡ seated number heard 0 players
+    all_back none = A.others
+        ∙ ap (λ (l : List (Seat (Slot L D) (View L D))). seated number heard (length l) (drop (length l) players)) none
+
+  -- where nobody is the cleaner, the first seat has kept the data part
+  pub one_part : (players : List (Player R)) (first : Seat (Slot L D) (View L D))
+      → PartIsKept (length players) (views players) first
+      → ((i : ℕ) (a : model.Actor) → get_elem? (views players) i ≡ maybe.some a → IsCleaner a → ⊥) → HasPart first.me.0
+  one_part players first part none = ⊎_elim (λ p. p) (λ t. absurd (none t.0 t.1 t.3 t.4)) part
 
   -- nobody has a seat yet, and each has
   module _ (table : TableId) (number : ℕ → ℕ) (heard : ℕ → List Given) (players : List (Player R))
