@@ -1,3 +1,9 @@
+pub mod Crews
+pub mod Ended
+pub mod Finished
+pub mod Left
+pub mod Matched
+pub mod Opened
 pub mod OwnAllowed
 pub mod OwnAnswers
 pub mod OwnCalls
@@ -7,8 +13,8 @@ pub mod OwnFree
 pub mod OwnGives
 pub mod OwnHands
 pub mod OwnKept
-pub mod OwnList
 pub mod OwnLater
+pub mod OwnList
 pub mod OwnListed
 pub mod OwnMay
 pub mod OwnOps
@@ -18,4 +24,7 @@ pub mod OwnTakes
 pub mod OwnTurns
 pub mod OwnUserHands
 pub mod OwnWords
+pub mod Placed
+pub mod Players
 pub mod Seatings
+pub mod Standing

@@ -9,6 +9,7 @@ ghost use Rattle.redo_ownrule.specs.Players.{AreInOrder, IsSamePlayer, actor_of,
 ghost use Rattle.redo_ownrule.specs.Sharing.{AllAtRest, AreActorsOf, AreSeatsOf, IsSeated, opened_of, own_of, shared_script, starts_of, table_of};
 ghost use Rattle.redo_ownrule.specs.declared.player.Player.{Player as ThePlayer};
 ghost use Rattle.redo_rule.specs.Closing.{IsOwedRun};
+ghost use Rattle.redo_rule.specs.Cutting.{HoldNothing};
 ghost use Rattle.redo_rule.specs.Failing.{CodeHasCause};
 ghost use Rattle.redo_rule.specs.Reached.{ReachesAll};
 ghost use Rattle.redo_rule.specs.Sharing.{HaveHeard};
@@ -36,6 +37,7 @@ impl<L: Sectors, D: Sectors, R: Receiver + Drop> Shared<L, D, R> {
         requires all { length players.items + workers (own_of self) ≡ length (starts_of self) }
         requires rest { AllAtRest players.items }
         ensures actors { AreActorsOf (own_of self) players.items result.1.items }
+        ensures rest { HoldNothing (views_of result.1.items) }
         ensures leaves { (work : Option LogWork) (starts : List (ThePlayer R)) → is_some work ≡ own_of self
             → AllZip IsSamePlayer starts players.items
             → HaveHeard R.stands_for (map actor_of starts) seats.items (map actor_of players.items)

@@ -72,7 +72,8 @@ impl<L: Sectors, D: Sectors, R: Receiver + Drop> Shared<L, D, R> {
                 work,
                 room,
             },
-        ) = take_staff(alloc, actors, own_writes) else {
+        ) = take_staff(alloc, actors, own_writes)
+        else {
             return Err((NoMemory, log.into_dev(), store.into_dev()));
         };
         match lay_out(alloc, players.len(), log, store, lists, work) {

@@ -37,10 +37,7 @@ fn take_plain<R: Receiver + Drop>(
 }
 
 /// Users write for themselves, and the writer and the flusher become the log's work.
-fn take_own<R: Receiver + Drop>(
-    alloc: Global,
-    actors: Vec<Actor<R>>,
-) -> Result<Staff<R>, NoMemory>
+fn take_own<R: Receiver + Drop>(alloc: Global, actors: Vec<Actor<R>>) -> Result<Staff<R>, NoMemory>
     requires { HaveKinds actors.items }
     ensures { IfOk result (AreStaffOf true actors.items) }
 {
