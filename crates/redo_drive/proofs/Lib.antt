@@ -1,3 +1,5 @@
+pub mod ArchiveGroups
+pub mod ArchiveTurns
 pub mod Asked
 pub mod Batches
 pub mod Begun

@@ -128,7 +128,7 @@ module _ (call : LabCall) (drives : Drives) (later : DrivesLater drives call.dri
         inr is
 
     -- an outcome of the crash
-    ends-crash : (o : Outcome) → IsOutcome call asked o → (CanPlay call drive.log_only script → BothDevices IsUnfailedAside call → IsDoneOrKeptFrom asked o) → EndsWith call asked o
+    ends-crash : (o : Outcome) → IsOutcome call asked o → (CanPlay call drive script → BothDevices IsUnfailedAside call → IsDoneOrKeptFrom asked o) → EndsWith call asked o
     ends-crash o means complete = ends-with call asked drive script (record { asked = refl; is_script = read; unread = λ plain. absurd (false≢true (sym plain)) }) laws o
         (since.0.armed.same.tells, since.1.armed.same.tells) crash-leaves means complete
 
@@ -304,7 +304,7 @@ module _ (call : LabCall) (drives : Drives) (later : DrivesLater drives call.dri
     }
 
   -- A STORE THAT CAN BE RUN ON is not refused after the crash.
-  possible-read-back : {log_failed data_failed : ℕ} (cause : Refusal) → Since log_failed data_failed → WhereToldNow call (AreRefused cause) → CanPlay call drive.log_only script → ⊥
+  possible-read-back : {log_failed data_failed : ℕ} (cause : Refusal) → Since log_failed data_failed → WhereToldNow call (AreRefused cause) → CanPlay call drive script → ⊥
   possible-read-back cause since refused can =
       let log_left = some-told call.log.now.tells can.log_still in
       let data_left = some-told call.store.now.tells can.store_still in

@@ -1,5 +1,5 @@
 -- The run of a script on a store that stands opened, by a drive, and what it leaves.
-use Rattle.std.proofs.Common.{Global, Vec}
+use Rattle.std.proofs.Common.{Global, Vec, false}
 use Rattle.std.proofs.Common.{ℕ, ◌≡◌, ◌+◌, ◌<◌, true, List, Option, Some, None, refl, sym, ap, subst, ◌∙◌, inl, ⊎_elim, arith, ◌≢◌}
 use Rattle.std.specs.List.{AllByRecursion, AllZip}
 use Rattle.model_base.specs.declared.shape.Shape.{Shape}
@@ -37,6 +37,9 @@ use Rattle.redo_memdisk.specs.{CallsThrough, seen_through}
 use Rattle.redo_memdisk.specs.declared.fused.Fused.{Fused}
 use Rattle.redo_open.specs.{WhereBothTell}
 use Rattle.redo_store.specs.declared.opened.Opened as store
+use Rattle.std.proofs.lemmas.Bool.{false≢true}
+use Rattle.model_report.specs.declared.fault.Fault.{Fault}
+use Rattle.model_report.specs.declared.fault.Fault.TheVariants as fault
 use Rattle.redo_lab.specs.declared.playing.Played.{Played}
 use Rattle.redo_lab.specs.declared.playing.Stops.{Stops}
 use Rattle.redo_lab.proofs.Behind.{calls-same, same-fused}
@@ -49,11 +52,11 @@ use Rattle.redo_lab.proofs.Rereading.{armed-as}
 use Rattle.redo_lab.proofs.SomeLeft.{some-left}
 use Rattle.redo_disk.proofs.Told.{still-same}
 use Rattle.redo_lab.proofs.Told.{both-told, one-told, some-told, weaker-both}
-use Rattle.redo_lab.specs.Call.{LabCall, WhereOpened, WhereToldNow, mids}
+use Rattle.redo_lab.specs.Call.{LabCall, WhereOpened, WhereToldNow, mids, Unfused}
 use Rattle.redo_lab.specs.Following.{AreUntold, IsToldOf}
 use Rattle.redo_lab.specs.Handed.{TellsOf, call_on}
 use Rattle.redo_lab.specs.Laws.{Laws}
-use Rattle.redo_lab.specs.Runs.{ComesTo, CommandRuns, IsLeftBy, IsToldRightly, StandsReady, course_done, course_of, ended_by, played_of, ran_of}
+use Rattle.redo_lab.specs.Runs.{ComesTo, CommandRuns, IsArchivedTo, IsLeftBy, IsToldRightly, StandsReady, course_done, course_of, ended_by, played_of, ran_of}
 use Rattle.redo_lab.specs.Store.{AreReadAsPrefix}
 use Rattle.redo_lab.specs.Told.{AreFollowed, AreLeftRead, AreMarksRead, IsFollowed, IsOpenedFirst}
 
@@ -65,9 +68,9 @@ synced-fair disk = record {
 }
 
 module _ {L D : Type 0} (log_seen : L → Seen) (log_gives : L → Call → L → Type 0) (data_seen : D → Seen) (data_gives : D → Call → D → Type 0)
-    (words : List (List ℕ)) (source source_now : SourceSeen) (log : L) (data_device : D) (command : Command) (drive : Drive) (stops : Stops) (script : List ScriptLine)
+    (words : List (List ℕ)) (archive : Unfused) (source source_now : SourceSeen) (log : L) (data_device : D) (command : Command) (drive : Drive) (stops : Stops) (script : List ScriptLine)
     (given : store.Opened (Fused L) (Fused D)) (driven : Driven (Fused L) (Fused D)) (running : CommandRuns source source_now command drive script) (laws : Laws)
-    (ready : StandsReady log_seen data_seen (call_on log_seen log_gives data_seen data_gives words source source_now log data_device given.log.dev given.store.dev) drive stops script given)
+    (ready : StandsReady log_seen data_seen (call_on log_seen log_gives data_seen data_gives words archive source source_now log data_device given.log.dev given.store.dev) drive stops script given)
     (actors : List (Actor Kept))
     (told : TellsOf drive.threads drive.own_writes log_seen log_gives data_seen data_gives drive given script (views_of actors) driven)
     (owes : Owes (seen_through log_seen) (CallsThrough log_seen log_gives) (seen_through data_seen) (CallsThrough data_seen data_gives) given script driven)
@@ -78,12 +81,13 @@ module _ {L D : Type 0} (log_seen : L → Seen) (log_gives : L → Call → L �
     (followed : HaveFollowed (seen_through log_seen) (seen_through data_seen) HasTally given script followers actors
     driven.closed)
     (of_followers : AllZip IsToldOf (followers_in actors) follows.items)
-    (spends : SpendsTurns (call_on log_seen log_gives data_seen data_gives words source source_now log data_device driven.closed.log.dev driven.closed.store.dev) drive) where
+    (spends : SpendsTurns (call_on log_seen log_gives data_seen data_gives words archive source source_now log data_device driven.closed.log.dev driven.closed.store.dev) drive)
+    (unarchived : drive.archive ≡ false) where
   abbrev opening : LabCall
-  opening = call_on log_seen log_gives data_seen data_gives words source source_now log data_device given.log.dev given.store.dev
+  opening = call_on log_seen log_gives data_seen data_gives words archive source source_now log data_device given.log.dev given.store.dev
 
   abbrev call : LabCall
-  call = call_on log_seen log_gives data_seen data_gives words source source_now log data_device driven.closed.log.dev driven.closed.store.dev
+  call = call_on log_seen log_gives data_seen data_gives words archive source source_now log data_device driven.closed.log.dev driven.closed.store.dev
 
   abbrev played : Played
   played = played_of given.start driven.closed follows
@@ -176,7 +180,7 @@ module _ {L D : Type 0} (log_seen : L → Seen) (log_gives : L → Call → L �
       let same : record { shape = given.shape; pages = given.pages; end = ready.opened.end } ≡ ready.opened =
       λ i. record { shape = is.shape i; pages = is.pages i; end = ready.opened.end } in
       record {
-        armed = armed-after words source source_now log data_device ready.armed log-none data-none log-made data-made;
+        armed = armed-after words archive source source_now log data_device ready.armed log-none data-none log-made data-made;
         counted = (let some = (counts-calls log_seen log_gives given.log.dev driven.closed.log.dev log-made.calls log-made.made).passed (omega (arith, ready.counted, log-none)) in omega arith);
         opened = ready.opened;
         ran = record {
@@ -300,6 +304,11 @@ module _ {L D : Type 0} (log_seen : L → Seen) (log_gives : L → Call → L �
     followers = followers-told;
   }
 
+  -- its drive archives nothing
+  archived-none : (cut : Option Fault) → IsArchivedTo call drive script run cut
+  archived-none None = λ archived. absurd (false≢true (sym unarchived ∙ archived))
+  archived-none (Some f) = λ archived. absurd (false≢true (sym unarchived ∙ archived))
+
   -- by what a call of each device answered that failed
   done-by : (log_error data_error : Option DevError) → driven.closed.log.failed ≡ log_error → driven.closed.store.failed ≡ data_error → driven.ended ≡ Done
       → ComesTo call command drive stops script (course_done played (ended_by log_error data_error))
@@ -308,21 +317,22 @@ module _ {L D : Type 0} (log_seen : L → Seen) (log_gives : L → Call → L �
         left-so Done done,
         told-unfailed done memory log_is data_is,
         (omega (arith, log-mid, data-mid, ap failures log_is, ap failures data_is), read-now done memory log_is data_is),
+        archived-none None,
       )
   done-by (Some device.Failed) data_error log_is data_is done =
       let some = ap failures log_is in
       let failed = told-failed done (λ lacks. omega (arith, some)) (omega (arith, log-mid, some)) in
-      (left-so Done done, failed, omega (arith, log-mid, some))
+      (left-so Done done, failed, omega (arith, log-mid, some), archived-none (Some fault.LogDevice))
   done-by None (Some device.Failed) log_is data_is done =
       let none = ap failures log_is in
       let some = ap failures data_is in
       let failed = told-failed done (λ lacks. omega (arith, some)) (omega (arith, data-mid, some)) in
-      (left-so Done done, failed, (omega (arith, data-mid, some), omega (arith, log-mid, none)))
+      (left-so Done done, failed, (omega (arith, data-mid, some), omega (arith, log-mid, none)), archived-none (Some fault.DataDevice))
   done-by (Some device.NoMemory) (Some device.Failed) log_is data_is done =
       let none = ap failures log_is in
       let some = ap failures data_is in
       let failed = told-failed done (λ lacks. omega (arith, some)) (omega (arith, data-mid, some)) in
-      (left-so Done done, failed, (omega (arith, data-mid, some), omega (arith, log-mid, none)))
+      (left-so Done done, failed, (omega (arith, data-mid, some), omega (arith, log-mid, none)), archived-none (Some fault.DataDevice))
   done-by (Some device.NoMemory) None log_is data_is done = left-memory call command drive script running laws (left-so Done done)
   done-by (Some device.NoMemory) (Some device.NoMemory) log_is data_is done = left-memory call command drive script running laws (left-so Done done)
   done-by None (Some device.NoMemory) log_is data_is done = left-memory call command drive script running laws (left-so Done done)

@@ -1,4 +1,5 @@
 mod Alone
+pub mod Beside
 pub mod Ended
 pub mod FollowsRun
 pub mod PlayedNext

@@ -60,7 +60,7 @@ module _ {L D R : Type 0} (log_seen : L → Seen) (data_seen : D → Seen) (stan
   c = run.setup
 
   abbrev pages : Bool → List model.Actor
-  pages b = page_actors opened.shape opened.start b (length followers)
+  pages b = page_actors opened.shape opened.start b false (length followers)
       ++ followers_from opened.start FIRST_FOLLOWER (length followers)
 
   pages_other : (b : Bool) → AreOtherViews (pages b)
@@ -80,7 +80,7 @@ module _ {L D R : Type 0} (log_seen : L → Seen) (data_seen : D → Seen) (stan
       (map model.User users ++ model.Writer writer ∷ model.Flusher flusher ∷ pages c.log_only)
   views_are = begins.stands.are_new ∙ append_assoc (map model.User users)
       (model.Writer writer ∷ model.Flusher flusher
-      ∷ page_actors opened.shape opened.start c.log_only (length followers))
+      ∷ page_actors opened.shape opened.start c.log_only false (length followers))
       (followers_from opened.start FIRST_FOLLOWER (length followers))
 
   pub have_workers : HaveWorkers start.actors.items
@@ -114,7 +114,7 @@ module _ {L D R : Type 0} (log_seen : L → Seen) (data_seen : D → Seen) (stan
     reserve : sum_over_actors left_to_reserve (actors_of seats)
         ≡ length (stream_of (map (group_of opened.shape.space) script))
     reserve = ap (sum_over_actors left_to_reserve) (sym views ∙ begins.stands.are_new)
-        ∙ actors_reserve opened.shape script opened.start c.log_only (length followers) may.fits.lines
+        ∙ actors_reserve opened.shape script opened.start c.log_only false (length followers) may.fits.lines
 
     own_start : OwnStart (run_log_side log_seen data_seen run) (run_data_side log_seen data_seen run) c 0
         (own_core_of log_seen data_seen run start.parts seats)
@@ -130,7 +130,7 @@ module _ {L D R : Type 0} (log_seen : L → Seen) (data_seen : D → Seen) (stan
       room = subst (λ (n : ℕ). lsn (n + sum_over_actors left_to_reserve (actors_of seats) + 0) < LSN_LIMIT) (sym base)
           (subst (λ (l : List model.Actor). lsn (sn_of opened.start + sum_over_actors left_to_reserve l + 0) < LSN_LIMIT)
           (sym begins.stands.are_new ∙ views)
-          (room_for_all opened.shape script opened.start c.log_only (length followers) may.fits.lines may.fits.end));
+          (room_for_all opened.shape script opened.start c.log_only false (length followers) may.fits.lines may.fits.end));
     }
 
     pub runs : OwnRunsOn log_seen data_seen run start.parts seats

@@ -18,7 +18,7 @@ use redo_follow::Receiver;
 use redo_machine::Machine;
 
 impl<L: Sectors, D: Sectors, R: Receiver + Drop> OwnMachine<L, D, R> {
-    /// What the run leaves, as `Machine::finish`: its actors are the users, the writer and the flusher as far as the users have
+    /// What the run leaves, as `Machine::finish` without an archive: its actors are the users, the writer and the flusher as far as the users have
     /// brought them, and the others, the followers among them.
     pub fn finish(self) -> (Closed<L, D>, Vec<Actor<R>>)
         requires on_run { OwnIsOnRun L.seen D.seen self.parts (seats_of self) }
@@ -43,11 +43,17 @@ impl<L: Sectors, D: Sectors, R: Receiver + Drop> OwnMachine<L, D, R> {
             room,
         } = self;
         let actors = give_seats(room, users, work, others);
-        Machine {
+        let machine: Machine<L, D, L, R> = Machine {
             parts,
             actors,
             entries,
+            archive: None,
+        };
+        let (closed, actors, archive) = machine.finish();
+        match archive {
+            None => {}
+            Some(_part) => unreachable!(),
         }
-        .finish()
+        (closed, actors)
     }
 }

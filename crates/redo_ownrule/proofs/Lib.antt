@@ -18,7 +18,6 @@ pub mod OwnList
 pub mod OwnListed
 pub mod OwnMay
 pub mod OwnOps
-pub mod OwnPlaying
 pub mod OwnStepping
 pub mod OwnTakes
 pub mod OwnTurns

@@ -27,15 +27,14 @@ use Rattle.model_ownrun.proofs.OwnKeeps.{own_words}
 use Rattle.model_ownrun.proofs.Seats.{user_there}
 use Rattle.model_ownrun.specs.OwnRunning.{FlushesAt, WorkAt, WritesAt}
 use Rattle.redo_disk.specs.Seen.{Seen}
-use Rattle.redo_drive.proofs.MayTurn.{may_serve}
 use Rattle.redo_drive.specs.Lists.{lists_of}
 use Rattle.redo_drive.specs.Playing.{LogReady, run_data_side, run_log_side, RunOf}
 use Rattle.redo_drive.specs.Turning.{MayServe}
 use Rattle.redo_drive.specs.declared.parts.Parts.{Parts}
 use Rattle.redo_logdev.specs.Part as log
-use Rattle.redo_ownmachine.proofs.Serves.{its_data_laws, its_log_laws, may_serve_user}
+use Rattle.redo_ownmachine.proofs.Serves.{its_data_laws, its_log_laws, may_at, may_serve_user}
 use Rattle.redo_ownmachine.specs.OwnSeats.{actors_of, OwnSeats}
-use Rattle.redo_ownmachine.specs.OwnStore.{OwnRunsOn}
+use Rattle.redo_ownmachine.specs.OwnStore.{OwnRunsWith}
 use Rattle.redo_ownmachine.specs.Serving.{MayServeUser}
 use Rattle.redo_ownrule.specs.OwnPlays.{FlusherInHand, OwnMayGo, WorkInHand, WriterInHand}
 use Rattle.redo_ownuser.specs.OwnFits.{OwnAnswerFits}
@@ -90,8 +89,8 @@ own_rests o k on e = by o.user.checks o.errand on e
     by false errand_step.Write on e = absurd (writer_asks k.writer k.writer.step on e)
     by false errand_step.Flush on e = absurd (flusher_asks k.flusher k.flusher.step on e)
 
-module _ {L D : Type 0} (log_seen : L → Seen) (data_seen : D → Seen) (run : RunOf L D) (parts : Parts L D)
-    (seats : OwnSeats) (R : OwnRunsOn log_seen data_seen run parts seats) (n : ℕ) (o : OwnUser)
+module _ {L D : Type 0} {archive : Bool} (log_seen : L → Seen) (data_seen : D → Seen) (run : RunOf L D) (parts : Parts L D)
+    (seats : OwnSeats) (R : OwnRunsWith log_seen data_seen run archive parts seats) (n : ℕ) (o : OwnUser)
     (at : get_elem? seats.users n ≡ maybe.some o) where
   abbrev A : LogSide
   A = run_log_side log_seen data_seen run
@@ -103,8 +102,8 @@ module _ {L D : Type 0} (log_seen : L → Seen) (data_seen : D → Seen) (run : 
   serves = may_serve_user log_seen data_seen run parts seats R n o at
 
   pub as_user : MayServe parts (model.User o.user)
-  as_user = may_serve log_seen data_seen run parts (actors_of seats) R.runs (its_log_laws log_seen data_seen run)
-      (its_data_laws log_seen data_seen run) n (model.User o.user) (user_there seats.users seats.work seats.others n o at)
+  as_user = may_at log_seen data_seen run parts seats R n (model.User o.user)
+      (user_there seats.users seats.work seats.others n o at) (others_append_not (model.User o.user) tt)
 
   pub its_words : OpWords parts.words.pages (own_next o seats.work)
   its_words =

@@ -25,7 +25,7 @@ use Rattle.redo_drive.specs.Playing.{HasSamePages, IsPlayed, run_data_side, run_
 use Rattle.redo_drive.specs.declared.parts.Parts.{Parts}
 use Rattle.redo_logdev.specs.Part as log
 use Rattle.redo_ownmachine.specs.OwnSeats.{actors_of, OwnSeats}
-use Rattle.redo_ownmachine.specs.OwnStore.{OwnRunsOn}
+use Rattle.redo_ownmachine.specs.OwnStore.{OwnRunsWith}
 use Rattle.redo_ownmachine.specs.Serving.{MayServeUser}
 use Rattle.redo_ownrule.proofs.OwnDesk.{same_work}
 use Rattle.redo_ownrule.proofs.OwnFree.{own_free}
@@ -105,7 +105,7 @@ module _ {L D : Type 0} (log_seen : L → Seen) (log_gives : L → Call → L �
   abbrev pub seats : OwnSeats
   seats = turns.seats log_seen log_gives data_seen data_gives about s R id v x one at side own_is o there
 
-  abbrev pub before : OwnRunsOn log_seen data_seen R.run R.parts seats
+  abbrev pub before : OwnRunsWith log_seen data_seen R.run about.archive R.parts seats
   before = turns.before log_seen log_gives data_seen data_gives about s R id v x one at side own_is o there
 
   pub serves : MayServeUser R.parts o work
@@ -222,7 +222,7 @@ module _ {L D : Type 0} (log_seen : L → Seen) (log_gives : L → Call → L �
     after = turns.after log_seen log_gives data_seen data_gives about s R id v x one at side own_is o there r new same
         played block
 
-    abbrev pub runs_behind : OwnRunsOn log_seen data_seen R.run new after
+    abbrev pub runs_behind : OwnRunsWith log_seen data_seen R.run about.archive new after
     runs_behind = turns.runs_behind log_seen log_gives data_seen data_gives about s R id v x one at side own_is o there r
         new same played block
 

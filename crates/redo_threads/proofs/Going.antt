@@ -1,16 +1,20 @@
--- An actor in its seat that goes on.
+-- A player in its seat that goes on.
 use Rattle.std.proofs.Common.{List, None, Option, Some, [], ap, append_assoc, append-nil, refl, subst, sym, ◌++◌}
 use Rattle.std.proofs.Common.{◌∙◌, ◌≡◌}
 use Rattle.atomic_table.specs.Seated.{TableId}
 use Rattle.atomic_table.specs.declared.shared.Seat.{Seat}
 use Rattle.model_core.proofs.Later.{later_refl, later_trans}
 use Rattle.model_core.specs.{Given}
+use Rattle.model_core.specs.Actors as model
 use Rattle.redo_drive.specs.Receiving.{follower_of, HasGot, IsSameFollower}
 use Rattle.redo_drive.specs.Views.{view_of}
 use Rattle.redo_drive.specs.declared.actor.Actor.{Actor}
 use Rattle.redo_follow.specs.Handing.{Following}
+use Rattle.redo_ownrule.specs.Players.{actor_of, IsSamePlayer, MayRest}
+use Rattle.redo_ownrule.specs.Playing.{IsPlayerSeat}
+use Rattle.redo_ownrule.specs.declared.player.Player.{Player}
+use Rattle.redo_ownrule.specs.declared.player.Player.TheVariants as player
 use Rattle.redo_rule.specs.Mine.{heard_of, IsSameSeat}
-use Rattle.redo_rule.specs.Seating.{IsSeatOf}
 use Rattle.redo_rule.specs.declared.law.Slot.{Slot}
 use Rattle.redo_rule.specs.declared.law.View.{View}
 use Rattle.redo_threads.specs.Working.{GoesOn}
@@ -46,6 +50,31 @@ module _ {F : Type 0} where
         λ before is. subst (λ (l : List Given). stands h.receiver l) (append_assoc before groups more)
         (then (before ++ groups) (got before is))
 
+-- the same player, later
+module _ {F : Type 0} where
+  same_refl : (p : Player F) → IsSamePlayer p p
+  same_refl (player.Plain a) = later_refl (view_of a)
+  same_refl (player.Own o) = later_refl (model.User o.user)
+
+  same_trans : (p q r : Player F) → IsSamePlayer p q → IsSamePlayer q r → IsSamePlayer p r
+  same_trans (player.Plain a) (player.Plain b) (player.Plain c) h k = later_trans (view_of a) (view_of b) (view_of c) h k
+  same_trans (player.Plain a) (player.Plain b) (player.Own c) h k = absurd k
+  same_trans (player.Plain a) (player.Own b) r h k = absurd h
+  same_trans (player.Own a) (player.Plain b) r h k = absurd h
+  same_trans (player.Own a) (player.Own b) (player.Plain c) h k = absurd k
+  same_trans (player.Own a) (player.Own b) (player.Own c) h k =
+      later_trans (model.User a.user) (model.User b.user) (model.User c.user) h k
+
+-- in its seat it may rest, and the seat is at this table
+module _ {L D F : Type 0} (table : TableId) where
+  pub may_rest : (s : Seat (Slot L D) (View L D)) (p : Player F) → IsPlayerSeat table s p → MayRest p
+  may_rest s (player.Plain a) h = h.mine.may.free
+  may_rest s (player.Own o) h = h.mine.stands
+
+  at_table : (s : Seat (Slot L D) (View L D)) (p : Player F) → IsPlayerSeat table s p → s.table_id ≡ table
+  at_table s (player.Plain a) h = h.mine.of
+  at_table s (player.Own o) h = h.mine.of
+
 module _ {L D F : Type 0} (stands : F → List Given → Type 0) where
   seat_refl : (v : View L D) (a : Actor F) → IsSameSeat stands v a v a
   seat_refl v a = record {
@@ -69,22 +98,32 @@ module _ {L D F : Type 0} (stands : F → List Given → Type 0) where
   }
 
   module _ (table : TableId) where
-    pub goes_refl : (s : Seat (Slot L D) (View L D)) (a : Actor F) → IsSeatOf table s (view_of a)
-        → GoesOn stands table s a s a
-    goes_refl s a h = record { seat = h; same = seat_refl s.me.0 a; actor = later_refl (view_of a) }
+    pub goes_refl : (s : Seat (Slot L D) (View L D)) (p : Player F) → IsPlayerSeat table s p
+        → GoesOn stands table s p s p
+    goes_refl s p h = record { seat = h; same = seat_refl s.me.0 (actor_of p); player = same_refl p }
 
-    pub goes_trans : (s t u : Seat (Slot L D) (View L D)) (a b c : Actor F) → GoesOn stands table s a t b
-        → GoesOn stands table t b u c → GoesOn stands table s a u c
-    goes_trans s t u a b c h k = record {
+    -- it has been asked for its Op
+    pub goes_asked : (s t : Seat (Slot L D) (View L D)) (p : Player F) → IsPlayerSeat table t p → t.me ≡ s.me
+        → GoesOn stands table s p t p
+    goes_asked s t p h e = record {
+      seat = h;
+      same = subst (λ m. IsSameSeat stands s.me.0 (actor_of p) m.0 (actor_of p)) (sym e) (seat_refl s.me.0 (actor_of p));
+      player = same_refl p;
+    }
+
+    pub goes_trans : (s t u : Seat (Slot L D) (View L D)) (p q r : Player F) → GoesOn stands table s p t q
+        → GoesOn stands table t q u r → GoesOn stands table s p u r
+    goes_trans s t u p q r h k = record {
       seat = k.seat;
-      same = seat_trans s.me.0 t.me.0 u.me.0 a b c h.same k.same;
-      actor = later_trans (view_of a) (view_of b) (view_of c) h.actor k.actor;
+      same = seat_trans s.me.0 t.me.0 u.me.0 (actor_of p) (actor_of q) (actor_of r) h.same k.same;
+      player = same_trans p q r h.player k.player;
     }
 
     -- what the promise of a worker in its seat says
-    pub goes_promised : (p w v : Worker L D F) → p ≡ w → IsSeatOf table w.seat (view_of w.actor)
-        → GoesOn stands p.seat.table_id p.seat p.actor v.seat v.actor
-        → GoesOn stands table w.seat w.actor v.seat v.actor
+    pub goes_promised : (p w v : Worker L D F) → p ≡ w → IsPlayerSeat table w.seat w.player
+        → GoesOn stands p.seat.table_id p.seat p.player v.seat v.player
+        → GoesOn stands table w.seat w.player v.seat v.player
     goes_promised p w v e sits h =
-        subst (λ (m : TableId). GoesOn stands m w.seat w.actor v.seat v.actor) sits.mine.of
-        (subst (λ (q : Worker L D F). GoesOn stands q.seat.table_id q.seat q.actor v.seat v.actor) e h)
+        subst (λ (m : TableId). GoesOn stands m w.seat w.player v.seat v.player)
+        (at_table table w.seat w.player sits)
+        (subst (λ (q : Worker L D F). GoesOn stands q.seat.table_id q.seat q.player v.seat v.player) e h)

@@ -1,94 +1,194 @@
--- Actors that kept on in the seats of a table: these are its seats still, and what they have heard, the receivers got.
-use Rattle.std.proofs.Common.{List, Option, ap, arith, length, subst, sym, ℕ, ◌++◌, ◌∙◌}
-use Rattle.std.proofs.Common.{◌≡◌}
+-- Players that kept on in the seats of a table: these are its seats still, and what they have heard, the receivers got.
+use Rattle.std.proofs.Common.{Bool, List, None, Option, Some, [], ap, arith, false, is_some, length, map, refl, subst}
+use Rattle.std.proofs.Common.{suc, sym, true, zero, ℕ, ◌++◌, ◌+◌, ◌∙◌, ◌∷◌, ◌≡◌}
 use Rattle.std.specs.List.{AllZip}
 use lib.ListN.{get_elem?}
 use mathlib.Core.Option as maybe
 use Rattle.atomic_table.specs.Seated.{TableId}
 use Rattle.atomic_table.specs.declared.shared.Seat.{Seat}
-use Rattle.model_core.specs.Actors as model
 use Rattle.model_core.specs.{Given}
 use Rattle.model_core.specs.Later.{IsSameActor}
-use Rattle.redo_drive.proofs.Viewed.{length_views, views_at}
-use Rattle.redo_drive.specs.Receiving.{follower_of, HasGot}
+use Rattle.model_own.specs.OwnWrites.{LogWork}
+use Rattle.redo_drive.specs.Receiving.{follower_of, HasGot, IsSameFollower}
 use Rattle.redo_drive.specs.Views.{view_of, views_of}
 use Rattle.redo_drive.specs.declared.actor.Actor.{Actor}
+use Rattle.redo_ownrule.specs.Players.{actor_of, AreInOrder, ArePlain, crew, IsSamePlayer, place, place_behind, UsersFirst, workers_of}
+use Rattle.redo_ownrule.specs.Playing.{IsPlayerSeat}
+use Rattle.redo_ownrule.specs.Sharing.{AreSeatsOf}
+use Rattle.redo_ownrule.specs.declared.player.Player.{Player}
+use Rattle.redo_ownrule.specs.declared.player.Player.TheVariants as player
 use Rattle.redo_rule.proofs.Gathered.{there}
 use Rattle.redo_rule.specs.Mine.{heard_of}
-use Rattle.redo_rule.specs.Seating.{IsSeatOf}
-use Rattle.redo_rule.specs.Sharing.{AreFresh, AreSeatsOf, HaveHeard}
+use Rattle.redo_rule.specs.Sharing.{AreFresh, HaveHeard}
 use Rattle.redo_rule.specs.declared.law.About.{About}
 use Rattle.redo_rule.specs.declared.law.Slot.{Slot}
 use Rattle.redo_rule.specs.declared.law.View.{View}
-use Rattle.redo_threads.proofs.Ending.{past, seen_at}
+use Rattle.redo_threads.proofs.Ending.{past}
 use Rattle.redo_threads.proofs.Keeping.{gone_at, keep_long}
 use Rattle.redo_threads.proofs.Zips.{zip_of}
-use Rattle.redo_threads.specs.Working.{AreSeated, GoesOn, GoOn, KeepOn}
+use Rattle.redo_threads.specs.Working.{AreSeated, GoesOn, KeepOn}
 use Rattle.redo_threads.specs.declared.crew.Crew.{Crew}
+
+module _ {F : Type 0} where
+  -- the same players have the same places, and stand in the same order
+  same_behind : (ps qs : List (Player F)) → AllZip IsSamePlayer ps qs → (i : ℕ) → place_behind qs i ≡ place_behind ps i
+  same_behind [] [] h i = refl
+  same_behind [] (q ∷ qs) h i = absurd h
+  same_behind (p ∷ ps) [] h i = absurd h
+  same_behind (player.Plain a ∷ ps) (player.Plain b ∷ qs) h i = refl
+  same_behind (player.Plain a ∷ ps) (player.Own b ∷ qs) h i = absurd h.0
+  same_behind (player.Own a ∷ ps) (player.Plain b ∷ qs) h i = absurd h.0
+  same_behind (player.Own a ∷ ps) (player.Own b ∷ qs) h zero = refl
+  same_behind (player.Own a ∷ ps) (player.Own b ∷ qs) h (suc i) = ap suc (same_behind ps qs h.1 i)
+
+  same_place : (own : Bool) (ps qs : List (Player F)) → AllZip IsSamePlayer ps qs → (i : ℕ) → place own qs i ≡ place own ps i
+  same_place true ps qs h i = same_behind ps qs h i
+  same_place false ps qs h i = refl
+
+  same_plain : (ps qs : List (Player F)) → AllZip IsSamePlayer ps qs → ArePlain ps → ArePlain qs
+  same_plain [] [] h k = tt
+  same_plain [] (q ∷ qs) h k = absurd h
+  same_plain (p ∷ ps) [] h k = absurd h
+  same_plain (player.Plain a ∷ ps) (player.Plain b ∷ qs) h k = same_plain ps qs h.1 k
+  same_plain (player.Plain a ∷ ps) (player.Own b ∷ qs) h k = absurd h.0
+  same_plain (player.Own a ∷ ps) (q ∷ qs) h k = absurd k
+
+  same_first : (ps qs : List (Player F)) → AllZip IsSamePlayer ps qs → UsersFirst ps → UsersFirst qs
+  same_first [] [] h k = tt
+  same_first [] (q ∷ qs) h k = absurd h
+  same_first (p ∷ ps) [] h k = absurd h
+  same_first (player.Plain a ∷ ps) (player.Plain b ∷ qs) h k = same_plain ps qs h.1 k
+  same_first (player.Plain a ∷ ps) (player.Own b ∷ qs) h k = absurd h.0
+  same_first (player.Own a ∷ ps) (player.Plain b ∷ qs) h k = absurd h.0
+  same_first (player.Own a ∷ ps) (player.Own b ∷ qs) h k = same_first ps qs h.1 k
+
+  pub same_order : (own : Bool) (ps qs : List (Player F)) → AllZip IsSamePlayer ps qs → AreInOrder own ps → AreInOrder own qs
+  same_order true ps qs h k = same_first ps qs h k
+  same_order false ps qs h k = same_plain ps qs h k
+
+  -- the actors that they leave are the same too, the writer and the flusher among them
+  abbrev SameActors : List (Actor F) → List (Actor F) → Type 0
+  SameActors [] [] = Unit {0}
+  SameActors (x ∷ xs) (y ∷ ys) = IsSameActor (view_of x) (view_of y) × SameActors xs ys
+  SameActors _ _ = ⊥
+
+  same_joined : (xs ys us vs : List (Actor F)) → SameActors xs ys → SameActors us vs → SameActors (xs ++ us) (ys ++ vs)
+  same_joined [] [] us vs h k = k
+  same_joined [] (y ∷ ys) us vs h k = absurd h
+  same_joined (x ∷ xs) [] us vs h k = absurd h
+  same_joined (x ∷ xs) (y ∷ ys) us vs h k = (h.0, same_joined xs ys us vs h.1 k)
+
+  same_one : (p q : Player F) → IsSamePlayer p q → IsSameActor (view_of (actor_of p)) (view_of (actor_of q))
+  same_one (player.Plain a) (player.Plain b) h = h
+  same_one (player.Plain a) (player.Own b) h = absurd h
+  same_one (player.Own a) (player.Plain b) h = absurd h
+  same_one (player.Own a) (player.Own b) h = h
+
+  same_mapped : (ps qs : List (Player F)) → AllZip IsSamePlayer ps qs → SameActors (map actor_of ps) (map actor_of qs)
+  same_mapped [] [] h = tt
+  same_mapped [] (q ∷ qs) h = absurd h
+  same_mapped (p ∷ ps) [] h = absurd h
+  same_mapped (p ∷ ps) (q ∷ qs) h = (same_one p q h.0, same_mapped ps qs h.1)
+
+same_workers : (F : Type 0) (k l : Option LogWork) → is_some k ≡ is_some l
+    → SameActors (workers_of {R = F} k) (workers_of {R = F} l)
+same_workers F None None e = tt
+same_workers F None (Some l) e = absurd (cc)
+same_workers F (Some k) None e = absurd (cc)
+same_workers F (Some k) (Some l) e = ((l.writer, refl), ((l.flusher, refl), tt))
+
+module _ {F : Type 0} where
+  same_crew : (k l : Option LogWork) → is_some k ≡ is_some l → (ps qs : List (Player F)) → AllZip IsSamePlayer ps qs
+      → SameActors (crew k ps) (crew l qs)
+  same_crew k l e [] [] h = same_workers F k l e
+  same_crew k l e [] (q ∷ qs) h = absurd h
+  same_crew k l e (p ∷ ps) [] h = absurd h
+  same_crew k l e (player.Plain a ∷ ps) (player.Plain b ∷ qs) h =
+      same_joined (workers_of k) (workers_of l) (a ∷ map actor_of ps) (b ∷ map actor_of qs) (same_workers F k l e)
+      (h.0, same_mapped ps qs h.1)
+  same_crew k l e (player.Plain a ∷ ps) (player.Own b ∷ qs) h = absurd h.0
+  same_crew k l e (player.Own a ∷ ps) (player.Plain b ∷ qs) h = absurd h.0
+  same_crew k l e (player.Own a ∷ ps) (player.Own b ∷ qs) h = (h.0, same_crew k l e ps qs h.1)
+
+  same_views : (xs ys : List (Actor F)) → SameActors xs ys → AllZip IsSameActor (views_of xs) (views_of ys)
+  same_views [] [] h = tt
+  same_views [] (y ∷ ys) h = absurd h
+  same_views (x ∷ xs) [] h = absurd h
+  same_views (x ∷ xs) (y ∷ ys) h = (h.0, same_views xs ys h.1)
+
+  pub crew_later : (k l : Option LogWork) → is_some k ≡ is_some l → (ps qs : List (Player F)) → AllZip IsSamePlayer ps qs
+      → AllZip IsSameActor (views_of (crew k ps)) (views_of (crew l qs))
+  crew_later k l e ps qs h = same_views (crew k ps) (crew l qs) (same_crew k l e ps qs h)
+
+  -- the player whose actor stands there
+  played_at : (ps : List (Player F)) (i : ℕ) (a : Actor F) → get_elem? (map actor_of ps) i ≡ maybe.some a
+      → (p : Player F) × (get_elem? ps i ≡ maybe.some p) × (actor_of p ≡ a)
+  played_at [] i a at = absurd (maybe.some-ne-none a (sym at))
+  played_at (p ∷ ps) zero a at = (p, refl, maybe.some-injective (actor_of p) a at)
+  played_at (p ∷ ps) (suc i) a at = played_at ps i a at
+
+  many_mapped : (ps : List (Player F)) → length (map actor_of ps) ≡ length ps
+  many_mapped [] = refl
+  many_mapped (p ∷ ps) = ap suc (many_mapped ps)
 
 module _ {L D F : Type 0} (stands : F → List Given → Type 0) (table : TableId) where
   -- seats in their order are seats
-  pub seated : (x : Crew L D F) → AreSeatsOf table x.seats.items (views_of x.actors.items)
-      → AreSeated table x.seats.items (views_of x.actors.items)
-  seated x A = zip_of (IsSeatOf table) x.seats.items (views_of x.actors.items) A.count
-      (λ i s a at bt. (A.each i s a at bt).0)
+  pub seated : (own : Bool) (x : Crew L D F) → AreSeatsOf table own x.seats.items x.players.items
+      → AreSeated table x.seats.items x.players.items
+  seated own x A = zip_of (IsPlayerSeat table) x.seats.items x.players.items A.count
+      (λ i s p at bt. (A.each i s p at bt).0)
 
-  pub many_seats : (x : Crew L D F) → AreSeatsOf table x.seats.items (views_of x.actors.items)
-      → length x.seats.items ≡ length x.actors.items
-  many_seats x A = A.count ∙ length_views x.actors.items
-
-  -- and stay in it
-  pub in_order : (x y : Crew L D F) → AreSeatsOf table x.seats.items (views_of x.actors.items)
-      → KeepOn stands table x y → GoOn stands table x y
-  in_order x y A h = record {
-    seats = record {
-      count = h.count ∙ sym (length_views y.actors.items);
-      each = λ i t who at bt.
-          let b = seen_at y.actors.items i who bt in
-          let m = many_seats x A in
-          let k = keep_long stands table x y m h in
-          let l = past y.actors.items i b.0 b.1 in
-          let a = there x.actors.items i (omega arith) in
-          let s = gone_at stands table x y h i t a.0 b.0 at a.1 b.1 in
-          let was = A.each i s.0 (view_of a.0) s.1 (views_at x.actors.items i a.0 a.1) in
-          (subst (IsSeatOf table t) b.2 s.2.seat, s.2.same.number ∙ was.1);
-    };
-    keep = h;
-  }
-
-  module _ (x y : Crew L D F) (many : length x.seats.items ≡ length x.actors.items) (h : KeepOn stands table x y) where
+  module _ (x y : Crew L D F) (many : length x.seats.items ≡ length x.players.items) (h : KeepOn stands table x y) where
     -- each with the seats that it had and has
-    gone : (i : ℕ) (a b : Actor F) → get_elem? x.actors.items i ≡ maybe.some a
-        → get_elem? y.actors.items i ≡ maybe.some b
-        → (s : Seat (Slot L D) (View L D)) × (t : Seat (Slot L D) (View L D)) × GoesOn stands table s a t b
-    gone i a b began at =
-        let l = past y.actors.items i b at in
+    gone : (i : ℕ) (p q : Player F) → get_elem? x.players.items i ≡ maybe.some p
+        → get_elem? y.players.items i ≡ maybe.some q
+        → (s : Seat (Slot L D) (View L D)) × (t : Seat (Slot L D) (View L D)) × GoesOn stands table s p t q
+    gone i p q began at =
+        let l = past y.players.items i q at in
         let c = h.count in
         let t = there y.seats.items i (omega arith) in
-        let s = gone_at stands table x y h i t.0 a b t.1 began at in
+        let s = gone_at stands table x y h i t.0 p q t.1 began at in
         (s.0, t.0, s.2)
 
-    pub all_later : AllZip IsSameActor (views_of x.actors.items) (views_of y.actors.items)
-    all_later =
+    pub all_same : AllZip IsSamePlayer x.players.items y.players.items
+    all_same =
         let k = keep_long stands table x y many h in
-        let m = length_views x.actors.items in
-        let n = length_views y.actors.items in
-        zip_of IsSameActor (views_of x.actors.items) (views_of y.actors.items) (omega arith)
-        (λ i u v began at.
-        let a = seen_at x.actors.items i u began in
-        let b = seen_at y.actors.items i v at in
-        subst (λ (z : model.Actor). IsSameActor z v) a.2
-        (subst (λ (z : model.Actor). IsSameActor (view_of a.0) z) b.2 (gone i a.0 b.0 a.1 b.1).2.actor))
+        zip_of IsSamePlayer x.players.items y.players.items (omega arith)
+        (λ i p q began at. (gone i p q began at).2.player)
+
+    -- they stay in order
+    pub in_order : (own : Bool) → AreSeatsOf table own x.seats.items x.players.items
+        → AreSeatsOf table own y.seats.items y.players.items
+    in_order own A = record {
+      count = h.count;
+      each = λ i t q at bt.
+          let k = keep_long stands table x y many h in
+          let l = past y.players.items i q bt in
+          let p = there x.players.items i (omega arith) in
+          let s = gone_at stands table x y h i t p.0 q at p.1 bt in
+          let was = A.each i s.0 p.0 s.1 p.1 in
+          (s.2.seat, s.2.same.number ∙ was.1 ∙ sym (same_place own x.players.items y.players.items all_same i));
+    }
 
     -- from seats that have heard nothing
     pub have_heard : (told : Option (About L D)) → AreFresh told x.seats.items
-        → HaveHeard stands x.actors.items y.seats.items y.actors.items
+        → HaveHeard stands (map actor_of x.players.items) y.seats.items (map actor_of y.players.items)
     have_heard told fresh = record {
-      count = keep_long stands table x y many h;
-      same = λ i a b began at. (gone i a b began at).2.same.same;
+      count = many_mapped y.players.items ∙ keep_long stands table x y many h ∙ sym (many_mapped x.players.items);
+      same = λ i a b began at.
+          let p = played_at x.players.items i a began in
+          let q = played_at y.players.items i b at in
+          subst (λ (z : Actor F). IsSameFollower (follower_of z) (follower_of b)) p.2
+          (subst (λ (z : Actor F). IsSameFollower (follower_of (actor_of p.0)) (follower_of z)) q.2
+          (gone i p.0 q.0 p.1 q.1).2.same.same);
       got = λ i t a b sits began at.
-          let s = gone_at stands table x y h i t a b sits began at in
+          let p = played_at x.players.items i a began in
+          let q = played_at y.players.items i b at in
+          let s = gone_at stands table x y h i t p.0 q.0 sits p.1 q.1 in
           let all : heard_of t.me.0 ≡ s.2.same.since =
           s.2.same.heard ∙ ap (λ (l : List Given). l ++ s.2.same.since) (fresh.none i s.0 s.1) in
-          subst (λ (l : List Given). HasGot stands (follower_of a) l (follower_of b)) (sym all) s.2.same.got;
+          subst (λ (z : Actor F). HasGot stands (follower_of z) (heard_of t.me.0) (follower_of b)) p.2
+          (subst (λ (z : Actor F). HasGot stands (follower_of (actor_of p.0)) (heard_of t.me.0) (follower_of z)) q.2
+          (subst (λ (l : List Given). HasGot stands (follower_of (actor_of p.0)) l (follower_of (actor_of q.0)))
+          (sym all) s.2.same.got));
     }

@@ -3,7 +3,6 @@ pub mod Ending
 pub mod Going
 pub mod Heard
 pub mod Keeping
-pub mod Later
 pub mod Scripted
 pub mod Workers
 pub mod Zips

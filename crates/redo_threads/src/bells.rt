@@ -1,6 +1,7 @@
 // Who sleeps, and how it is woken.
 use redo_drive::Actor;
 use redo_follow::Receiver;
+use redo_ownrule::Player;
 use redo_words::{Op, Word};
 use std::sync::Wait;
 use std::sync::atomic::{AtomicBool, AtomicU64, Ordering};
@@ -19,6 +20,9 @@ pub(crate) enum Call {
     Device,
     /// CKPT is stored: a user or the writer that has no space in the log.
     Space,
+    /// A link, WRITE, FLUSHED or CKPT is stored: a user that writes for itself and has been on an errand in vain. There may be
+    /// something new to write or to flush, or another has done that.
+    Errand,
     /// What the closer, the cleaner and the checkpointer wait for. They are called only while others wait for space.
     Pages,
     /// What a user waits for in the middle of a group: room in a buffer, a latch or a list. Nobody calls it: it looks again soon.
@@ -28,7 +32,7 @@ pub(crate) enum Call {
 }
 
 /// What an actor waits for that has idled by this Op.
-pub(crate) fn call_of<F: Receiver>(actor: &Actor<F>, done: Op) -> Call {
+fn call_of_actor<F: Receiver>(actor: &Actor<F>, done: Op) -> Call {
     match (actor, done) {
         (Actor::User(_) | Actor::Follower(_), Op::Load(Word::Flushed)) => Call::Flushed,
         (Actor::User(user), Op::Load(Word::Write)) if user.to_link() == 0 => Call::Written,
@@ -40,6 +44,24 @@ pub(crate) fn call_of<F: Receiver>(actor: &Actor<F>, done: Op) -> Call {
         (Actor::Writer(_), _) => Call::Linked,
         (Actor::Flusher(_), _) => Call::Written,
         _ => Call::Pages,
+    }
+}
+
+/// What a user that writes for itself waits for that has idled by this Op.
+fn call_of_own(done: Op) -> Call {
+    match done {
+        Op::TakeDevice => Call::Device,
+        Op::Load(Word::Sn) => Call::Space,
+        Op::Load(Word::Flushed | Word::Write | Word::Wtail) => Call::Errand,
+        _ => Call::Room,
+    }
+}
+
+/// What a player waits for that has idled by this Op.
+pub(crate) fn call_of<F: Receiver>(player: &Player<F>, done: Op) -> Call {
+    match player {
+        Player::Plain(actor) => call_of_actor(actor, done),
+        Player::Own(_) => call_of_own(done),
     }
 }
 
@@ -80,34 +102,46 @@ impl Bell {
 /// look came after the change. If it wasn't, the bell rings after the change. Either that is before the sleeper read the rings, and
 /// then its last look came after the change too; or it is after, and then the kernel finds another number of rings, or wakes the
 /// sleeper.
+///
+/// The last look of a user that writes for itself is a whole errand. Where it finds DEVICE held it sleeps until that is given. Where
+/// it finds WTAIL held by another user, that one looks itself: its advance moves the tail, or it goes on an errand next. So
+/// somebody comes to each link, and stores WRITE. A user that waits for space may have to flush before a checkpoint can free
+/// that, and is called by links too.
 #[derive(Drop)]
 pub(crate) struct Bells {
     running: AtomicU64,
     is_roomy: bool,
-    // whether the caller plays actors too
+    // whether users write for themselves
+    own_writes: bool,
+    // whether the caller plays too
     has_stand_in: AtomicBool,
     flushed: Bell,
     written: Bell,
     linked: Bell,
     device: Bell,
     space: Bell,
+    errand: Bell,
     pages: Bell,
     room: Bell,
     any: Bell,
 }
 
 impl Bells {
-    /// Of a run of so many users. It is roomy where these, the writer and the flusher have a processor each.
-    pub(crate) fn new(users: u64, processors: u64) -> Bells {
+    /// Of a run of so many users, which write for themselves or don't. It is roomy where these, and the writer and the flusher,
+    /// if they play, have a processor each.
+    pub(crate) fn new(users: u64, own_writes: bool, processors: u64) -> Bells {
+        let others = if own_writes { 0 } else { 2 };
         Bells {
             running: AtomicU64::new(users),
-            is_roomy: users.saturating_add(2) <= processors,
+            is_roomy: users.saturating_add(others) <= processors,
+            own_writes,
             has_stand_in: AtomicBool::new(false),
             flushed: Bell::new(),
             written: Bell::new(),
             linked: Bell::new(),
             device: Bell::new(),
             space: Bell::new(),
+            errand: Bell::new(),
             pages: Bell::new(),
             room: Bell::new(),
             any: Bell::new(),
@@ -121,6 +155,7 @@ impl Bells {
             Call::Linked => &self.linked,
             Call::Device => &self.device,
             Call::Space => &self.space,
+            Call::Errand => &self.errand,
             Call::Pages => &self.pages,
             Call::Room => &self.room,
             Call::Any => &self.any,
@@ -188,8 +223,18 @@ impl Bells {
         self.linked.ring();
         self.device.ring();
         self.space.ring();
+        self.errand.ring();
         self.pages.ring();
         self.any.ring();
+    }
+
+    /// Wakes users that write for themselves, since there may be something new to write or to flush. Who waits for space then may
+    /// have to do that, before a checkpoint frees it.
+    fn ring_own(&self) {
+        if self.own_writes {
+            self.errand.ring();
+            self.space.ring();
+        }
     }
 
     /// Wakes the actors of the pages, if somebody waits for space.
@@ -204,14 +249,25 @@ impl Bells {
         match done {
             // an advance stores 0 where it clears a link
             Op::Store(Word::Wlink(_), 0) => return,
-            Op::Store(Word::Wlink(_) | Word::Wtail, _) => self.linked.ring(),
-            Op::Store(Word::Write, _) => self.written.ring(),
+            Op::Store(Word::Wlink(_), _) => {
+                self.linked.ring();
+                self.ring_own();
+            }
+            Op::Store(Word::Wtail, _) => self.linked.ring(),
+            Op::Store(Word::Write, _) => {
+                self.written.ring();
+                self.ring_own();
+            }
             Op::Store(Word::Flushed, _) => {
                 self.flushed.ring();
+                self.ring_own();
                 self.ring_pages();
             }
             Op::Store(Word::Ctail | Word::Place(_), _) => self.ring_pages(),
-            Op::Store(Word::Ckpt, _) => self.space.ring(),
+            Op::Store(Word::Ckpt, _) => {
+                self.space.ring();
+                self.errand.ring();
+            }
             Op::GiveDevice => self.device.ring(),
             Op::Store(Word::Failed, _) => self.ring_all(),
             _ => return,

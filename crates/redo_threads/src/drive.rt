@@ -14,14 +14,15 @@ use redo_disk::Sectors;
 use redo_drive::{Actor, Driven, RunEnd};
 use redo_follow::{Follower, Receiver};
 use redo_lsn::NoMemory;
-use redo_rule::Shared;
+use redo_ownrule::Shared;
 use redo_store::Opened;
 use std::alloc::Global;
 use std::sync::Wait;
 use std::thread::Threads;
 
-/// Runs a script on an opened store in threads, one for each actor, with the log alone or with the pages, and with these
-/// followers. With what the run leaves it gives the actors back, the followers among them. Where there is no memory it gives both
+/// Runs a script on an opened store in threads, one for each player, with the log alone or with the pages, and with these
+/// followers. Where `own_writes` is set, users write for themselves, and there is no thread of a writer and none of a flusher.
+/// With what the run leaves it gives the actors back, the followers among them. Where there is no memory it gives both
 /// devices back as they were.
 pub fn drive_in_threads<
     R: Threads + Wait + Sync,
@@ -35,6 +36,7 @@ pub fn drive_in_threads<
     opened: Opened<L, D>,
     script: &Script,
     log_only: bool,
+    own_writes: bool,
     followers: Vec<Follower<F>>,
     gate: &G,
 ) -> Result<(Driven<L, D>, Vec<Actor<F>>), (NoMemory, L, D)>
@@ -47,8 +49,8 @@ pub fn drive_in_threads<
     ensures cause { IfOk result (λ left. CodeHasCause L.seen D.seen left.0.closed.code opened.log left.0.closed.log opened.store left.0.closed.store) }
     ensures followed { IfOk result (λ left. HaveFollowed L.seen D.seen F.stands_for opened script.now followers.items left.1.items left.0.closed) }
 {
-    let (shared, actors) = Shared::new(alloc, opened, script, log_only, followers)?;
-    let (closed, actors) = run_threads(rt, shared, actors, gate);
+    let (shared, players) = Shared::new(alloc, opened, script, log_only, own_writes, followers)?;
+    let (closed, actors) = run_threads(rt, shared, players, gate);
     let driven = Driven {
         ended: RunEnd::Done,
         closed,

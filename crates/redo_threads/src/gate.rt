@@ -1,4 +1,4 @@
-// Where a test may hold a user, and refuse an actor its thread.
+// Where a test may hold a user, and refuse a player its thread.
 use redo_words::{Op, Word};
 
 /// A point in each group of a user, right after the step that it is named for.
@@ -14,7 +14,7 @@ pub enum Point {
 pub trait Gate: Sync {
     fn pass(&self, who: u32, point: Point);
 
-    /// Whether the actor with this number gets no thread.
+    /// Whether the player with this number gets no thread.
     fn refuses(&self, _number: usize) -> bool {
         false
     }

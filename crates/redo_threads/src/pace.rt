@@ -3,6 +3,8 @@ use crate::bells::{Bells, Call};
 use crossbeam_utils::Backoff;
 use redo_drive::Actor;
 use redo_follow::Receiver;
+use redo_ownrule::Player;
+use redo_words::{Op, Word};
 use std::sync::Wait;
 use std::thread::yield_now;
 use std::time::Duration;
@@ -42,6 +44,29 @@ const BATCHES_IN_HASTE: u32 = 64;
 
 const REST: u64 = 1_000;
 
+/// How many steps a user that writes for itself takes at most from one wait to the next where it comes to nothing: FAILED, a
+/// tail loaded twice, taken, without a link, and freed; DEVICE, the tail loaded, taken, without a link, and freed, CKPT, and
+/// DEVICE given.
+const STEPS_OF_ERRAND: u64 = 13;
+
+/// How many steps a player takes at most from one wait to the next where it comes to nothing.
+pub(crate) fn steps_in_vain<F: Receiver>(player: &Player<F>) -> u64 {
+    match player {
+        Player::Plain(actor) => actor.steps_in_vain(),
+        Player::Own(_) => STEPS_OF_ERRAND,
+    }
+}
+
+/// Whether a player has gone on by an Op, after so many others since it waited: it reserves, copies, links, writes or syncs, or
+/// has taken more steps than it takes in vain.
+pub(crate) fn has_gone_on(done: Op, others: u64, in_vain: u64) -> bool {
+    match done {
+        Op::Store(Word::Wlink(_) | Word::Clink(_), length) if length != 0 => true,
+        Op::Add(_, _) | Op::WriteTo(_) | Op::Sync => true,
+        _ => others >= in_vain,
+    }
+}
+
 /// How long a thread sleeps at first, how often as long from time to time, and at most.
 #[derive(Clone, Copy)]
 struct Naps {
@@ -60,7 +85,7 @@ pub(crate) struct Pace {
     has_waited: bool,
     waits: u32,
     is_long: bool,
-    // how many steps its actors take in vain, and have taken since it waited last
+    // how many steps its player takes in vain, and has taken since it waited last
     in_vain: u64,
     steps: u64,
     // the bell at which it is counted, and how often that had rung
@@ -93,10 +118,10 @@ impl Pace {
         }
     }
 
-    /// That of an actor.
-    pub(crate) fn new<F: Receiver>(actor: &Actor<F>, bells: &Bells) -> Pace {
-        let naps = match actor {
-            Actor::Closer(_) | Actor::Cleaner(_) | Actor::Checkpointer(_) => Naps {
+    /// That of a player.
+    pub(crate) fn new<F: Receiver>(player: &Player<F>, bells: &Bells) -> Pace {
+        let naps = match player {
+            Player::Plain(Actor::Closer(_) | Actor::Cleaner(_) | Actor::Checkpointer(_)) => Naps {
                 first: SHORT_NAP,
                 factor: 2,
                 longest: LONG_SHORT_NAP,
@@ -107,11 +132,10 @@ impl Pace {
                 longest: LONG_NAP,
             },
         };
-        Pace::of(bells, actor.steps_in_vain(), naps)
+        Pace::of(bells, steps_in_vain(player), naps)
     }
 
-    /// That of a caller who plays several actors, the actors of the pages among them: none of its steps are in vain, as it counts
-    /// those that aren't.
+    /// That of a caller who plays for several, the actors of the pages among them.
     pub(crate) fn of_many(bells: &Bells) -> Pace {
         let naps = Naps {
             first: SHORT_NAP,
@@ -141,11 +165,17 @@ impl Pace {
         }
     }
 
-    /// It has taken a step. Where it has taken more than it takes in vain, it has gone on, and waits for as short as at first. After a
-    /// long wait it doesn't spin and yield before the next one.
-    pub(crate) fn moves(&mut self, bells: &Bells) {
+    /// It has taken a step. Where it has gone on by that, it waits for as short as at first.
+    pub(crate) fn steps_on(&mut self, bells: &Bells, done: Op) {
+        if self.has_waited && has_gone_on(done, self.steps, self.in_vain) {
+            self.goes_on(bells);
+        }
         self.steps = self.steps.saturating_add(1);
-        if self.has_waited && self.steps > self.in_vain {
+    }
+
+    /// It has gone on. After a long wait it doesn't spin and yield before the next one.
+    pub(crate) fn goes_on(&mut self, bells: &Bells) {
+        if self.has_waited {
             self.leave(bells);
             self.has_waited = false;
             self.waits = if self.is_long { self.last_wait() } else { 0 };

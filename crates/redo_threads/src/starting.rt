@@ -1,9 +1,7 @@
-// A thread for each actor, where one can be started.
+// A thread for each player, where one can be started.
 ghost use Rattle.std.specs.Prelude.{IfErr, IfOk, length, ◌≡◌, ◌≤◌};
-ghost use Rattle.redo_drive.specs.Views.{view_of, views_of};
-ghost use Rattle.redo_rule.specs.Seating.{IsSeatOf};
-ghost use Rattle.redo_rule.specs.Sharing.{AreSeatsOf};
-ghost use Rattle.redo_threads.specs.Working.{AreAtEnd, AreSeated, GoOn, GoesOn, KeepOn};
+ghost use Rattle.redo_ownrule.specs.Playing.{IsPlayerSeat};
+ghost use Rattle.redo_threads.specs.Working.{AreAtEnd, AreSeated, GoesOn, KeepOn};
 
 use crate::bells::Bells;
 use crate::crew::{Crew, Worker, play_here, to_ends};
@@ -17,21 +15,21 @@ use std::sync::Wait;
 use std::sync::atomic::{AtomicU64, Ordering};
 use std::thread::{Promise, PromisedHandle, Scope, Threads, scope, scope_env};
 
-/// No actor's number.
+/// No player's number.
 const NOBODY: u64 = u64::MAX;
 
-/// The promise of an actor's thread: what it gives back has gone on from what it was given.
+/// The promise of a player's thread: what it gives back has gone on from what it was given.
 #[derive(Drop)]
 pub(crate) struct FromWorker<L: Sectors, D: Sectors, F: Receiver>(Snapshot<Worker<L, D, F>>);
 
 impl<L: Sectors, D: Sectors, F: Receiver> Promise<Worker<L, D, F>> for FromWorker<L, D, F> {
     ghost use Rattle.redo_threads.specs.Working.{GoesOn};
 
-    ghost kept_by = { λ p r. GoesOn F.stands_for p.0.value.seat.table_id p.0.value.seat p.0.value.actor r.seat r.actor };
+    ghost kept_by = { λ p r. GoesOn F.stands_for p.0.value.seat.table_id p.0.value.seat p.0.value.player r.seat r.player };
 }
 
-/// What a thread does: it plays its actor up to the end. Where the thread couldn't be started, the caller has noted its number
-/// and calls this itself, to get the actor back as it was.
+/// What a thread does: it lets its player play up to the end. Where the thread couldn't be started, the caller has noted its
+/// number and calls this itself, to get the player back as it was.
 fn work_or_return<R: Wait, L: Sectors, D: Sectors, F: Receiver, G: Gate>(
     rt: &R,
     table: &Ring<L, D>,
@@ -41,17 +39,17 @@ fn work_or_return<R: Wait, L: Sectors, D: Sectors, F: Receiver, G: Gate>(
     number: u64,
     mut worker: Worker<L, D, F>,
 ) -> Worker<L, D, F>
-    requires { IsSeatOf table.now.table_id worker.seat (view_of worker.actor) }
-    ensures { GoesOn F.stands_for table.now.table_id worker.seat worker.actor result.seat result.actor }
+    requires { IsPlayerSeat table.now.table_id worker.seat worker.player }
+    ensures { GoesOn F.stands_for table.now.table_id worker.seat worker.player result.seat result.player }
 {
     if refused.load(Ordering::SeqCst) != number {
-        work(rt, table, bells, gate, &mut worker.seat, &mut worker.actor);
+        work(rt, table, bells, gate, &mut worker.seat, &mut worker.player);
     }
     worker
 }
 
-/// Starts a thread for the actor with this number. Where it can't be started, or the gate refuses it, the actor comes
-/// back.
+/// Starts a thread for the player with this number. Where it can't be started, or the gate refuses it, the player
+/// comes back.
 fn start_one<
     's,
     E,
@@ -70,9 +68,9 @@ fn start_one<
     number: usize,
     worker: Worker<L, D, F>,
 ) -> Result<PromisedHandle<Worker<L, D, F>, FromWorker<L, D, F>>, Worker<L, D, F>>
-    requires { IsSeatOf table.now.table_id worker.seat (view_of worker.actor) }
+    requires { IsPlayerSeat table.now.table_id worker.seat worker.player }
     ensures ok { IfOk result (λ handle. handle.promise.0.value ≡ worker) }
-    ensures err { IfErr result (λ back. GoesOn F.stands_for table.now.table_id worker.seat worker.actor back.seat back.actor) }
+    ensures err { IfErr result (λ back. GoesOn F.stands_for table.now.table_id worker.seat worker.player back.seat back.player) }
 {
     if gate.refuses(number) {
         return Err(worker);
@@ -82,8 +80,8 @@ fn start_one<
     match scope.spawn_with(
         promise,
         move || -> Worker<L, D, F>
-            requires { IsSeatOf table.now.table_id worker.seat (view_of worker.actor) }
-            ensures { GoesOn F.stands_for table.entry.now.table_id worker.seat worker.actor result.seat result.actor }
+            requires { IsPlayerSeat table.now.table_id worker.seat worker.player }
+            ensures { GoesOn F.stands_for table.entry.now.table_id worker.seat worker.player result.seat result.player }
         { work_or_return(rt, table, bells, refused, gate, number, worker) },
     ) {
         Ok(handle) => Ok(handle),
@@ -94,7 +92,7 @@ fn start_one<
     }
 }
 
-/// Starts threads for the first actors, as many as are left, the last of them first, and joins them. Who gets no
+/// Starts threads for the first players, as many as are left, the last of them first, and joins them. Who gets no
 /// thread stays behind those that are left: it plays these itself, once each of the others has been tried.
 fn start<
     's,
@@ -114,8 +112,8 @@ fn start<
     left: usize,
     mut crew: Crew<L, D, F>,
 ) -> Crew<L, D, F>
-    requires seated { AreSeated table.now.table_id crew.seats.items (views_of crew.actors.items) }
-    requires left { left ≤ length crew.actors.items }
+    requires seated { AreSeated table.now.table_id crew.seats.items crew.players.items }
+    requires left { left ≤ length crew.players.items }
     ensures { KeepOn F.stands_for table.now.table_id crew result }
 {
     if left == 0 {
@@ -137,7 +135,7 @@ fn start<
     }
 }
 
-/// Plays all actors at once, up to their ends.
+/// All players play at once, up to their ends.
 pub(crate) fn play_all<
     R: Threads + Wait + Sync,
     L: Sectors + Send,
@@ -145,9 +143,9 @@ pub(crate) fn play_all<
     F: Receiver + Drop + Send,
     G: Gate,
 >(rt: &R, table: &Ring<L, D>, bells: &Bells, gate: &G, crew: Crew<L, D, F>) -> Crew<L, D, F>
-    requires { AreSeatsOf table.now.table_id crew.seats.items (views_of crew.actors.items) }
-    ensures goes_on { GoOn F.stands_for table.now.table_id crew result }
-    ensures at_end { AreAtEnd (views_of result.actors.items) }
+    requires { AreSeated table.now.table_id crew.seats.items crew.players.items }
+    ensures goes_on { KeepOn F.stands_for table.now.table_id crew result }
+    ensures at_end { AreAtEnd result.players.items }
 {
     let refused = AtomicU64::new(NOBODY);
     let refused_at = &refused;
@@ -155,10 +153,10 @@ pub(crate) fn play_all<
         scope_env(),
         rt,
         |all| -> Crew<L, D, F>
-            requires { AreSeatsOf table.now.table_id crew.seats.items (views_of crew.actors.items) }
+            requires { AreSeated table.now.table_id crew.seats.items crew.players.items }
             ensures { KeepOn F.stands_for table.entry.now.table_id crew result }
         {
-            let left = crew.actors.len();
+            let left = crew.players.len();
             start(all, rt, table, bells, refused_at, gate, left, crew)
         },
     );

@@ -1,44 +1,54 @@
-// One actor in its seat, played up to its end.
-ghost use Rattle.std.specs.Prelude.{true, ◌≡◌};
+// One player in its seat, which plays up to its end.
+ghost use Rattle.std.specs.Prelude.{MatchOption, true, ◌≡◌};
 ghost use Rattle.model_running.specs.Schedule.{HasEnded};
-ghost use Rattle.redo_drive.specs.Views.{view_of};
-ghost use Rattle.model_core.specs.{next};
-ghost use Rattle.model_core.specs.Hands.{IsFreeToCheck};
-ghost use Rattle.redo_rule.specs.Seating.{IsSeatOf};
-ghost use Rattle.redo_threads.specs.Working.{AtEnd, GoesOn};
+ghost use Rattle.redo_ownrule.specs.Players.{MayRest};
+ghost use Rattle.redo_ownrule.specs.Playing.{IsPlayerSeat, PlayerAsks};
+ghost use Rattle.redo_threads.specs.Working.{AtEnd, GoesOn, IsOver};
 
 use crate::bells::{Bells, call_of};
 use crate::gate::{Gate, point_after};
-use crate::pace::Pace;
+use crate::pace::{Pace, has_gone_on, steps_in_vain};
 use redo_disk::Sectors;
 use redo_drive::Actor;
 use redo_follow::Receiver;
-use redo_rule::{Ring, Seat, holds_nothing, play};
+use redo_ownrule::{Player, ask, is_at_rest, play};
+use redo_rule::{Ring, Seat};
 use redo_useractor::UserActor;
 use redo_words::{Op, Step, Word};
 use std::sync::Wait;
 
-/// How many Ops of an actor the caller plays at most before it turns to the next one. An actor that threads keep busy
-/// may never wait, and the next one would never have its turn. It is more than any actor plays in vain.
+/// How many Ops of a player the caller plays at most before it turns to the next one. One that threads keep busy may never
+/// wait, and the next one would never have its turn. It is more than any plays in vain.
 const STINT: u64 = 1_024;
 
+/// The user that plays, if it is one.
+pub(crate) fn user_of<F: Receiver>(player: &Player<F>) -> Option<&UserActor>
+    ensures { MatchOption result (IsOver player.now) (λ user. HasEnded user.now → IsOver player.now) }
+{
+    match player {
+        Player::Plain(actor) => actor.user(),
+        Player::Own(own) => Some(own.user()),
+    }
+}
+
 /// Whether a user has ended.
-pub(crate) fn is_over(user: &UserActor) -> bool
+fn is_over(user: &UserActor) -> bool
     ensures { result ≡ true → HasEnded user.now }
 {
     user.has_ended()
 }
 
-/// Whether an actor has come to its end that asks for this Op: a user has ended, and any other holds nothing, and has failed or no
-/// user runs.
-fn is_at_end<F: Receiver>(actor: &Actor<F>, op: Op, bells: &Bells) -> bool
-    requires { IsFreeToCheck (view_of actor.now) }
-    ensures { result ≡ true → AtEnd (view_of actor.now) }
+/// Whether a player has come to its end that asks for this Op: a user has ended, and any other holds nothing, and has failed
+/// or no user runs.
+fn is_at_end<F: Receiver>(player: &Player<F>, op: Op, bells: &Bells) -> bool
+    requires { MayRest player.now }
+    ensures { result ≡ true → AtEnd player.now }
 {
-    if let Actor::User(user) = actor {
-        return is_over(user);
-    }
-    holds_nothing(actor) && (!bells.has_users() || matches!(op, Op::Rest))
+    let is_over = match user_of(player) {
+        Some(user) => is_over(user),
+        None => !bells.has_users() || matches!(op, Op::Rest),
+    };
+    is_over && is_at_rest(player)
 }
 
 /// What follows an Op of a user: it passes the gate where it has come to a point, and is counted down by its last Op.
@@ -51,18 +61,18 @@ fn leave<G: Gate>(user: &UserActor, done: Op, now: Op, bells: &Bells, gate: &G) 
     }
 }
 
-/// What follows an Op of an actor: it wakes those that wait for what that has done. A writer that idles has freed a tail from which
+/// What follows an Op of a player: it wakes those that wait for what that has done. A writer that idles has freed a tail from which
 /// no link led on, and waits for that itself. A user rings where it idles too: the writer may have found held the tail that it has
 /// freed, and the link is stored meanwhile.
 fn tell<F: Receiver, G: Gate>(
-    actor: &Actor<F>,
+    player: &Player<F>,
     done: Op,
     step: Step,
     now: Op,
     bells: &Bells,
     gate: &G,
 ) {
-    if let Actor::User(user) = actor {
+    if let Some(user) = user_of(player) {
         bells.ring_after(done);
         leave(user, done, now, bells, gate);
     } else if step != Step::Idle {
@@ -71,106 +81,110 @@ fn tell<F: Receiver, G: Gate>(
 }
 
 /// Whether the cleaner has come to the end of a batch by an Op: it has freed the last latch, and begins a round anew.
-fn has_cleaned<F: Receiver>(actor: &Actor<F>, done: Op, now: Op) -> bool {
-    matches!(actor, Actor::Cleaner(_))
+fn has_cleaned<F: Receiver>(player: &Player<F>, done: Op, now: Op) -> bool {
+    matches!(player, Player::Plain(Actor::Cleaner(_)))
         && matches!(
             (done, now),
             (Op::Store(Word::Latch(_), 0), Op::Load(Word::Flushed))
         )
 }
 
-/// The pace of an actor whose step has ended so.
+/// The pace of a player whose step has ended so.
 fn follow<R: Wait, F: Receiver>(
     rt: &R,
     bells: &Bells,
     pace: &mut Pace,
-    actor: &Actor<F>,
+    player: &Player<F>,
     done: Op,
     step: Step,
     now: Op,
 ) {
     if step == Step::Idle {
-        pace.waits(rt, bells, call_of(actor, done));
+        pace.waits(rt, bells, call_of(player, done));
         return;
     }
-    pace.moves(bells);
-    if has_cleaned(actor, done, now) {
+    pace.steps_on(bells, done);
+    if has_cleaned(player, done, now) {
         pace.rests(rt, bells);
     }
 }
 
-/// An actor that hasn't come to its end plays the Op that it asks for. Answers how its step ended, and the Op that it asks for now.
+/// A player that hasn't come to its end plays the Op that it asks for. Answers how its step ended, and the Op that it asks for now.
 fn turn<L: Sectors, D: Sectors, F: Receiver, G: Gate>(
     table: &Ring<L, D>,
     bells: &Bells,
     gate: &G,
     seat: &mut Seat<L, D>,
-    actor: &mut Actor<F>,
+    player: &mut Player<F>,
     op: Op,
 ) -> (Step, Op)
-    requires seat { IsSeatOf table.now.table_id seat.old (view_of actor.old) }
-    requires asks { next (view_of actor.old) ≡ op }
-    ensures goes_on { GoesOn F.stands_for table.now.table_id seat.old actor.old seat.new actor.new }
-    ensures asks { next (view_of actor.new) ≡ result.1 }
+    requires seat { IsPlayerSeat table.now.table_id seat.old player.old }
+    requires asks { PlayerAsks seat.old.me.0 player.old op }
+    ensures goes_on { GoesOn F.stands_for table.now.table_id seat.old player.old seat.new player.new }
+    ensures asks { PlayerAsks seat.new.me.0 player.new result.1 }
 {
-    let step = play(table, seat, actor, op);
-    let now = actor.next();
-    tell(&*actor, op, step, now, bells, gate);
+    let step = play(table, seat, player, op);
+    let now = ask(table, seat, &*player);
+    tell(&*player, op, step, now, bells, gate);
     (step, now)
 }
 
-/// Plays an actor until it waits or has come to its end, or for a stint. `None` where it is at its end already; else
+/// Plays until the player waits or has come to its end, or for a stint. `None` where it is at its end already; else
 /// whether it has gone on, and not only looked in vain.
 pub(crate) fn stint<L: Sectors, D: Sectors, F: Receiver, G: Gate>(
     table: &Ring<L, D>,
     bells: &Bells,
     gate: &G,
     seat: &mut Seat<L, D>,
-    actor: &mut Actor<F>,
+    player: &mut Player<F>,
 ) -> Option<bool>
-    requires { IsSeatOf table.now.table_id seat.old (view_of actor.old) }
-    ensures { GoesOn F.stands_for table.now.table_id seat.old actor.old seat.new actor.new }
+    requires { IsPlayerSeat table.now.table_id seat.old player.old }
+    ensures { GoesOn F.stands_for table.now.table_id seat.old player.old seat.new player.new }
 {
-    let mut op = actor.next();
-    if is_at_end(actor, op, bells) {
+    let mut op = ask(table, seat, &*player);
+    if is_at_end(&*player, op, bells) {
         return None;
     }
-    let in_vain = actor.steps_in_vain();
+    let in_vain = steps_in_vain(&*player);
+    let mut went_on = false;
     for steps in 0..STINT {
-        let (step, now) = turn(table, bells, gate, seat, actor, op);
+        let (step, now) = turn(table, bells, gate, seat, player, op);
         match step {
-            Step::Moved => op = now,
-            Step::Idle => return Some(steps > in_vain),
+            Step::Moved => {
+                went_on = went_on | has_gone_on(op, steps, in_vain);
+                op = now;
+            }
+            Step::Idle => return Some(went_on),
             Step::Ended | Step::Failed(_) => return Some(true),
         }
     }
     Some(true)
 }
 
-/// Plays an actor up to its end.
+/// Plays until the player has come to its end.
 pub(crate) fn work<R: Wait, L: Sectors, D: Sectors, F: Receiver, G: Gate>(
     rt: &R,
     table: &Ring<L, D>,
     bells: &Bells,
     gate: &G,
     seat: &mut Seat<L, D>,
-    actor: &mut Actor<F>,
+    player: &mut Player<F>,
 )
-    requires { IsSeatOf table.now.table_id seat.old (view_of actor.old) }
-    ensures goes_on { GoesOn F.stands_for table.now.table_id seat.old actor.old seat.new actor.new }
-    ensures at_end { AtEnd (view_of actor.new) }
+    requires { IsPlayerSeat table.now.table_id seat.old player.old }
+    ensures goes_on { GoesOn F.stands_for table.now.table_id seat.old player.old seat.new player.new }
+    ensures at_end { AtEnd player.new }
 {
-    let mut pace = Pace::new(actor, bells);
-    let mut op = actor.next();
+    let mut pace = Pace::new(&*player, bells);
+    let mut op = ask(table, seat, &*player);
     let mut moved = false;
     for _ in rt.forever() {
-        if !moved && is_at_end(actor, op, bells) {
+        if !moved && is_at_end(&*player, op, bells) {
             pace.leave(bells);
             return;
         }
-        let (step, now) = turn(table, bells, gate, seat, actor, op);
+        let (step, now) = turn(table, bells, gate, seat, player, op);
         moved = step == Step::Moved;
-        follow(rt, bells, &mut pace, &*actor, op, step, now);
+        follow(rt, bells, &mut pace, &*player, op, step, now);
         op = now;
     }
     unreachable!()

@@ -101,7 +101,7 @@ fn script_on<L: Sectors, D: Sectors>(
         panic!(rt; "no script");
     };
     let end = room_end(log_only, &opened.shape, opened.start);
-    let Ok(()) = judge(alloc, &opened.shape, opened.start, end, &script) else {
+    let Ok(()) = judge(alloc, &opened.shape, opened.start, end, None, &script) else {
         panic!(rt; "no fit");
     };
     script

@@ -6,21 +6,22 @@ use Rattle.redo_lab.proofs.Entered.{both-same, entries-then, owed-entries}
 use Rattle.redo_lab.proofs.Followers.{told-in-room}
 use Rattle.redo_lab.proofs.Opening.{unplayed-memory}
 use Rattle.redo_lab.specs.Following.{AreUntold}
+use Rattle.redo_lab.proofs.Unarchived.{no-archive}
 use Rattle.redo_lab.proofs.playing.in_threads.Goals as goal
 
 pub returns-in-Err-clause-comes_to : goal.returns-in-Err-clause-comes_to
-returns-in-Err-clause-comes_to g c = λ words source source_now command asked running same few is.
-    c.in-Err.ensures.ready words source source_now command asked running same
+returns-in-Err-clause-comes_to g c = λ words archive source source_now command asked running same few is none.
+    c.in-Err.ensures.ready words archive source source_now command asked running same (no-archive archive asked none)
 
 pub returns-in-Err-clause-entered : goal.returns-in-Err-clause-entered
 returns-in-Err-clause-entered g c = c.in-Err.ensures.entered
 
 pub returns-in-Ok-drive_in_threads-clause-comes_to : goal.returns-in-Ok-drive_in_threads-clause-comes_to
-returns-in-Ok-drive_in_threads-clause-comes_to g c = λ words source source_now command asked running same few is.
+returns-in-Ok-drive_in_threads-clause-comes_to g c = λ words archive source source_now command asked running same few is none.
     rw (c.close.ensures.course, c.close.ensures.log, c.close.ensures.store)
-    (driven-comes g.L.Sectors.seen g.L.Sectors.gives g.D.Sectors.seen g.D.Sectors.gives words source source_now c.args.log c.args.store command asked c.args.stops c.args.script.now
+    (driven-comes g.L.Sectors.seen g.L.Sectors.gives g.D.Sectors.seen g.D.Sectors.gives words archive source source_now c.args.log c.args.store command asked c.args.stops c.args.script.now
     c.in-Ok.opened c.in-Ok-drive_in_threads.driven running c.laws.ensures
-    (c.in-Ok.ensures.ready words source source_now command asked running same)
+    (c.in-Ok.ensures.ready words archive source source_now command asked running same (no-archive archive asked none))
     c.in-Ok-drive_in_threads.actors.items
     (tells-threads g.L.Sectors.seen g.L.Sectors.gives g.D.Sectors.seen g.D.Sectors.gives asked c.args.log_only c.in-Ok.opened c.args.script.now
     (views_of c.in-Ok-drive_in_threads.actors.items) c.in-Ok-drive_in_threads.driven same is
@@ -34,11 +35,12 @@ returns-in-Ok-drive_in_threads-clause-comes_to g c = λ words source source_now 
     c.in-Ok-drive_in_threads.actors.items c.told_of.result.items c.as_slice.ensures.value
     c.in-Ok-make_followers.ensures.untold c.in-Ok-drive_in_threads.ensures.followed.same
     c.in-Ok-make_followers.ensures.room.1 (c.told_of.ensures c.in-Ok-make_followers.ensures.room.0))
-    (spends-turns g.L.Sectors.seen g.L.Sectors.gives g.D.Sectors.seen g.D.Sectors.gives _ _ asked))
+    (spends-turns g.L.Sectors.seen g.L.Sectors.gives g.D.Sectors.seen g.D.Sectors.gives _ _ asked)
+    none)
 
 pub returns-in-Err-drive_in_threads-clause-comes_to : goal.returns-in-Err-drive_in_threads-clause-comes_to
-returns-in-Err-drive_in_threads-clause-comes_to g c = λ words source source_now command asked running same few is.
-    let ready = c.in-Ok.ensures.ready words source source_now command asked running same in
+returns-in-Err-drive_in_threads-clause-comes_to g c = λ words archive source source_now command asked running same few is none.
+    let ready = c.in-Ok.ensures.ready words archive source source_now command asked running same (no-archive archive asked none) in
     rw (c.unplayed.ensures.course, c.unplayed.ensures.log, c.unplayed.ensures.store, c.in-Err-drive_in_threads.ensures.err.0, c.in-Err-drive_in_threads.ensures.err.1)
     (unplayed-memory _ command asked c.args.stops c.args.script.now running c.laws.ensures ready.armed ready.reads)
 
@@ -51,8 +53,8 @@ returns-in-Err-drive_in_threads-clause-entered g c = rw (c.unplayed.ensures.log,
     (entries-then c.in-Ok.ensures.entered (both-same c.in-Err-drive_in_threads.ensures.err.0 c.in-Err-drive_in_threads.ensures.err.1))
 
 pub returns-in_default-clause-comes_to : goal.returns-in_default-clause-comes_to
-returns-in_default-clause-comes_to g c = λ words source source_now command asked running same few is.
-    let ready = c.in-Ok.ensures.ready words source source_now command asked running same in
+returns-in_default-clause-comes_to g c = λ words archive source source_now command asked running same few is none.
+    let ready = c.in-Ok.ensures.ready words archive source source_now command asked running same (no-archive archive asked none) in
     rw (c.unbegun.ensures.course, c.unbegun.ensures.log, c.unbegun.ensures.store)
     (unplayed-memory _ command asked c.args.stops c.args.script.now running c.laws.ensures ready.armed ready.reads)
 

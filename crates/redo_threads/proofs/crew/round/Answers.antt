@@ -8,21 +8,21 @@ loop-k-init g c = keep_refl g.F.Receiver.stands_for c.args.table.now.table_id c.
 pub index_mut-requires : goal.index_mut-requires
 index_mut-requires g c =
     let was = c.args.crew.now in
-    let count = as_many g.F.Receiver.stands_for c.args.table.now.table_id was.seats.items was.actors.items c.requires in
+    let count = as_many g.F.Receiver.stands_for c.args.table.now.table_id was.seats.items was.players.items c.requires in
     let m = keep_long g.F.Receiver.stands_for c.args.table.now.table_id was c.loop-k.crew count c.loop-k.invariant in
     let n = c.loop-k.invariant.count in grind rules
 
 pub index_mut-requires-in-loop-k : goal.index_mut-requires-in-loop-k
 index_mut-requires-in-loop-k g c =
     let was = c.args.crew.now in
-    let count = as_many g.F.Receiver.stands_for c.args.table.now.table_id was.seats.items was.actors.items c.requires in
+    let count = as_many g.F.Receiver.stands_for c.args.table.now.table_id was.seats.items was.players.items c.requires in
     let m = keep_long g.F.Receiver.stands_for c.args.table.now.table_id was c.loop-k.crew count c.loop-k.invariant in
     grind rules
 
 pub stint-requires-after_bounds : goal.stint-requires-after_bounds
 stint-requires-after_bounds g c κs within =
     let was = c.args.crew.now in
-    let count = as_many g.F.Receiver.stands_for c.args.table.now.table_id was.seats.items was.actors.items c.requires in
+    let count = as_many g.F.Receiver.stands_for c.args.table.now.table_id was.seats.items was.players.items c.requires in
     let m = keep_long g.F.Receiver.stands_for c.args.table.now.table_id was c.loop-k.crew count c.loop-k.invariant in
     sits_at g.F.Receiver.stands_for c.args.table.now.table_id was c.loop-k.crew c.loop-k.k
     c.index_mut.result.now c.index_mut-in-loop-k.result.now c.loop-k.invariant (grind rules)
@@ -31,9 +31,9 @@ stint-requires-after_bounds g c κs within =
 pub loop-k-preserved : goal.loop-k-preserved
 loop-k-preserved g c =
     let was = c.args.crew.now in
-    let count = as_many g.F.Receiver.stands_for c.args.table.now.table_id was.seats.items was.actors.items c.requires in
+    let count = as_many g.F.Receiver.stands_for c.args.table.now.table_id was.seats.items was.players.items c.requires in
     let m = keep_long g.F.Receiver.stands_for c.args.table.now.table_id was c.loop-k.crew count c.loop-k.invariant in
     keep_set g.F.Receiver.stands_for c.args.table.now.table_id was c.loop-k.crew _ c.loop-k.k
-    c.index_mut.result.now c.stint.new.seat c.index_mut-in-loop-k.result.now c.stint.new.actor
+    c.index_mut.result.now c.stint.new.seat c.index_mut-in-loop-k.result.now c.stint.new.player
     c.loop-k.invariant (grind rules) c.index_mut.ensures.value c.index_mut-in-loop-k.ensures.value
     c.stint.ensures refl refl refl refl

@@ -6,14 +6,14 @@ use Rattle.redo_threads.proofs.crew.to_ends.Goals as goal
 pub loop-number-init : goal.loop-number-init
 loop-number-init g c = record {
   goes_on = keep_refl g.F.Receiver.stands_for c.args.table.now.table_id c.args.crew.now c.requires;
-  ended = none_below c.args.crew.now.actors.items;
+  ended = none_below c.args.crew.now.players.items;
 }
 
 pub index_mut-requires : goal.index_mut-requires
 index_mut-requires g c =
     let was = c.args.crew.now in
     let on = c.loop-number.invariant.goes_on in
-    let count = as_many g.F.Receiver.stands_for c.args.table.now.table_id was.seats.items was.actors.items c.requires in
+    let count = as_many g.F.Receiver.stands_for c.args.table.now.table_id was.seats.items was.players.items c.requires in
     let m = keep_long g.F.Receiver.stands_for c.args.table.now.table_id was c.loop-number.crew count on in
     let n = on.count in grind rules
 
@@ -21,14 +21,14 @@ pub index_mut-requires-in-loop-number : goal.index_mut-requires-in-loop-number
 index_mut-requires-in-loop-number g c =
     let was = c.args.crew.now in
     let on = c.loop-number.invariant.goes_on in
-    let count = as_many g.F.Receiver.stands_for c.args.table.now.table_id was.seats.items was.actors.items c.requires in
+    let count = as_many g.F.Receiver.stands_for c.args.table.now.table_id was.seats.items was.players.items c.requires in
     let m = keep_long g.F.Receiver.stands_for c.args.table.now.table_id was c.loop-number.crew count on in grind rules
 
 pub work-requires-after_bounds : goal.work-requires-after_bounds
 work-requires-after_bounds g c κs within =
     let was = c.args.crew.now in
     let on = c.loop-number.invariant.goes_on in
-    let count = as_many g.F.Receiver.stands_for c.args.table.now.table_id was.seats.items was.actors.items c.requires in
+    let count = as_many g.F.Receiver.stands_for c.args.table.now.table_id was.seats.items was.players.items c.requires in
     let m = keep_long g.F.Receiver.stands_for c.args.table.now.table_id was c.loop-number.crew count on in
     sits_at g.F.Receiver.stands_for c.args.table.now.table_id was c.loop-number.crew c.loop-number.number
     c.index_mut.result.now c.index_mut-in-loop-number.result.now on (grind rules)
@@ -38,13 +38,13 @@ pub loop-number-preserved : goal.loop-number-preserved
 loop-number-preserved g c =
     let was = c.args.crew.now in
     let on = c.loop-number.invariant.goes_on in
-    let count = as_many g.F.Receiver.stands_for c.args.table.now.table_id was.seats.items was.actors.items c.requires in
+    let count = as_many g.F.Receiver.stands_for c.args.table.now.table_id was.seats.items was.players.items c.requires in
     let m = keep_long g.F.Receiver.stands_for c.args.table.now.table_id was c.loop-number.crew count on in
     record {
       goes_on = keep_set g.F.Receiver.stands_for c.args.table.now.table_id was c.loop-number.crew _ c.loop-number.number
-          c.index_mut.result.now c.work.new.seat c.index_mut-in-loop-number.result.now c.work.new.actor on (grind rules)
+          c.index_mut.result.now c.work.new.seat c.index_mut-in-loop-number.result.now c.work.new.player on (grind rules)
           c.index_mut.ensures.value c.index_mut-in-loop-number.ensures.value c.work.ensures.goes_on refl refl refl refl;
-      ended = one_more c.loop-number.crew.actors.items c.loop-number.number c.work.new.actor
+      ended = one_more c.loop-number.crew.players.items c.loop-number.number c.work.new.player
           c.loop-number.invariant.ended c.work.ensures.at_end;
     }
 
@@ -52,6 +52,6 @@ pub returns-clause-at_end : goal.returns-clause-at_end
 returns-clause-at_end g c =
     let was = c.args.crew.now in
     let on = c.loop-number.invariant.goes_on in
-    let count = as_many g.F.Receiver.stands_for c.args.table.now.table_id was.seats.items was.actors.items c.requires in
+    let count = as_many g.F.Receiver.stands_for c.args.table.now.table_id was.seats.items was.players.items c.requires in
     let m = keep_long g.F.Receiver.stands_for c.args.table.now.table_id was c.loop-number.crew count on in
-    all_end c.loop-number.crew.actors.items c.loop-number.number (grind rules) c.loop-number.invariant.ended
+    all_end c.loop-number.crew.players.items c.loop-number.number (grind rules) c.loop-number.invariant.ended

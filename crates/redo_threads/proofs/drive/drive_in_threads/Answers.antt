@@ -1,5 +1,7 @@
+use Rattle.std.proofs.Common.{sym, ◌∙◌}
 use Rattle.redo_drive.specs.Views.{views_of}
-use Rattle.redo_rule.specs.Sharing.{opened_of, shared_script}
+use Rattle.redo_ownrule.specs.Players.{crew}
+use Rattle.redo_ownrule.specs.Sharing.{opened_of, shared_script}
 use Rattle.redo_threads.proofs.Driving.{followed, has_cause, owes, reads_so, runs_in_threads}
 use Rattle.redo_threads.proofs.drive.drive_in_threads.Goals as goal
 
@@ -9,7 +11,7 @@ returns-clause-owed g c =
     let new = c.in_ok-shared.ensures.new in
     owes g.L.Sectors.seen g.L.Sectors.gives g.D.Sectors.seen g.D.Sectors.gives (opened_of shared) c.args.opened
     (shared_script shared) c.args.script.now c.run_threads-closed.result.0 new.opened_is new.script_is
-    (views_of c.run_threads-closed.result.1.items) c.run_threads-closed.ensures.run.ended
+    (views_of c.run_threads-closed.result.1.items) (c.run_threads-closed.ensures.run new.work (new.works ∙ sym new.own_is)).ended
     c.run_threads-closed.ensures.owed
 
 pub returns-clause-says : goal.returns-clause-says
@@ -19,8 +21,8 @@ returns-clause-says g c =
     runs_in_threads g.L.Sectors.seen g.L.Sectors.gives g.D.Sectors.seen g.D.Sectors.gives (opened_of shared)
     c.args.opened (shared_script shared) c.args.script.now c.run_threads-closed.result.0 new.opened_is new.script_is
     g.F.Receiver.stands_for shared.board.shared.key.log_only shared.board.shared.key.followers
-    c.in_ok-shared.actors.items c.run_threads-closed.result.1.items c.run_threads-closed.ensures.leaves
-    c.args.log_only new.log_only_is c.run_threads-closed.ensures.run
+    (crew new.work c.in_ok-shared.players.items) c.run_threads-closed.result.1.items (c.run_threads-closed.ensures.leaves new.work (new.works ∙ sym new.own_is))
+    c.args.log_only new.log_only_is (c.run_threads-closed.ensures.run new.work (new.works ∙ sym new.own_is))
 
 pub returns-clause-reads : goal.returns-clause-reads
 returns-clause-reads g c =
@@ -45,5 +47,5 @@ returns-clause-followed g c =
     followed g.L.Sectors.seen g.L.Sectors.gives g.D.Sectors.seen g.D.Sectors.gives (opened_of shared) c.args.opened
     (shared_script shared) c.args.script.now c.run_threads-closed.result.0 new.opened_is new.script_is
     g.F.Receiver.stands_for shared.board.shared.key.log_only shared.board.shared.key.followers
-    c.in_ok-shared.actors.items c.run_threads-closed.result.1.items c.run_threads-closed.ensures.leaves
-    c.args.followers.items c.requires.new c.in_ok-shared.ensures.followers new.unseated.actors_are new.followers_are
+    (crew new.work c.in_ok-shared.players.items) c.run_threads-closed.result.1.items (c.run_threads-closed.ensures.leaves new.work (new.works ∙ sym new.own_is))
+    c.args.followers.items c.requires.new new.follow new.actors_are new.followers_are

@@ -1,77 +1,109 @@
-use Rattle.std.proofs.Common.{ap, length, subst, sym, ◌∙◌}
+use Rattle.std.proofs.Common.{ap, is_some, length, subst, sym, ◌+◌, ◌∙◌, ◌≡◌}
+use Rattle.std.specs.List.{AllZip}
+use Rattle.model_core.specs.Later.{IsSameActor}
 use Rattle.redo_drive.proofs.LeftRun.{reads_to_marks}
-use Rattle.redo_drive.proofs.Viewed.{length_views}
-use Rattle.redo_drive.specs.History.{ListsInOrder}
 use Rattle.redo_drive.specs.Leaving.{LeavesRun}
 use Rattle.redo_drive.specs.Views.{views_of}
+use Rattle.redo_ownrule.specs.Players.{AreInOrder, crew, workers}
+use Rattle.redo_ownrule.specs.Sharing.{AreSeatsOf, opened_of, own_of, shared_script, table_of}
 use Rattle.redo_rule.specs.Closing.{done_with}
-use Rattle.redo_rule.specs.Cutting.{HoldNothing}
 use Rattle.redo_rule.specs.Ruled.{starts_about}
-use Rattle.redo_rule.specs.Sharing.{HaveHeard, opened_of, shared_script}
-use Rattle.redo_threads.proofs.Ending.{have_answered, have_ended, hold_nothing}
-use Rattle.redo_threads.proofs.Heard.{all_later, have_heard}
+use Rattle.redo_threads.proofs.Ending.{all_rest, have_answered, have_ended}
+use Rattle.redo_threads.proofs.Heard.{all_same, crew_later, have_heard, in_order, same_order, seated}
 use Rattle.redo_threads.proofs.Keeping.{keep_long}
+use Rattle.redo_threads.specs.Working.{AreSeated, KeepOn}
+use Rattle.redo_threads.specs.declared.crew.Crew.{Crew}
 use Rattle.redo_threads.proofs.run.run_threads.Goals as goal
 
-pub finish-closed-requires-clause-rest : goal.finish-closed-requires-clause-rest
-finish-closed-requires-clause-rest g c = subst HoldNothing (ap views_of (sym c.as_slice-3.ensures.value))
-    (hold_nothing (views_of c.play_all-seats.result.actors.items) c.play_all-seats.ensures.at_end)
+pub play_all-seats-requires-after_bounds : goal.play_all-seats-requires-after_bounds
+play_all-seats-requires-after_bounds g c κs within =
+    let S = c.seats-seats.new.self in
+    let x : Crew g.row.L.Denot g.row.D.Denot g.row.F.Denot = record { seats = c.seats-seats.result; players = c.args.players } in
+    let at = subst (λ l. AreSeatsOf (table_of S) (own_of S) c.seats-seats.result.items l) c.as_slice-3.ensures.value
+    c.seats-seats.ensures.seats in
+    subst (λ s. AreSeated s.table_id c.seats-seats.result.items c.args.players.items) (sym c.ring.ensures)
+    (seated g.F.Receiver.stands_for (table_of S) (own_of S) x at)
 
-pub finish-closed-requires-clause-all : goal.finish-closed-requires-clause-all
-finish-closed-requires-clause-all g c =
-    let many = c.seats-seats.ensures.seats.count ∙ length_views c.as_slice-2.result.now
-    ∙ ap length c.as_slice-2.ensures.value in
-    ap length c.as_slice-3.ensures.value
-    ∙ keep_long g.F.Receiver.stands_for c.ring.result.now.table_id
-    (record { seats = c.seats-seats.result; actors = c.args.actors }) c.play_all-seats.result many
-    c.play_all-seats.ensures.goes_on.keep
-    ∙ sym (length_views c.args.actors.items) ∙ ap length (sym c.requires.actors_are)
-    ∙ ap (λ b. length (starts_about b.shared.key)) (sym c.seats-seats.ensures.same)
+pub finish-requires-clause-seats : goal.finish-requires-clause-seats
+finish-requires-clause-seats g c =
+    let S = c.seats-seats.new.self in
+    let x : Crew g.row.L.Denot g.row.D.Denot g.row.F.Denot = record { seats = c.seats-seats.result; players = c.args.players } in
+    let y = c.play_all-seats.result in
+    let at = subst (λ l. AreSeatsOf (table_of S) (own_of S) c.seats-seats.result.items l) c.as_slice-3.ensures.value
+    c.seats-seats.ensures.seats in
+    let keep = subst (λ s. KeepOn g.F.Receiver.stands_for s.table_id x y) c.ring.ensures
+    c.play_all-seats.ensures.goes_on in
+    in_order g.F.Receiver.stands_for (table_of S) x y at.count keep (own_of S) at
+
+pub finish-requires-clause-order : goal.finish-requires-clause-order
+finish-requires-clause-order g c =
+    let S = c.seats-seats.new.self in
+    let x : Crew g.row.L.Denot g.row.D.Denot g.row.F.Denot = record { seats = c.seats-seats.result; players = c.args.players } in
+    let y = c.play_all-seats.result in
+    let many = c.seats-seats.ensures.seats.count ∙ ap length c.as_slice-3.ensures.value in
+    let order = subst (λ b. AreInOrder b.shared.key.own_writes c.args.players.items) (sym c.seats-seats.ensures.same)
+    c.requires.order in
+    same_order (own_of S) c.args.players.items y.players.items
+    (all_same g.F.Receiver.stands_for c.ring.result.now.table_id x y many c.play_all-seats.ensures.goes_on) order
+
+pub finish-requires-clause-all : goal.finish-requires-clause-all
+finish-requires-clause-all g c =
+    let S = c.seats-seats.new.self in
+    let x : Crew g.row.L.Denot g.row.D.Denot g.row.F.Denot = record { seats = c.seats-seats.result; players = c.args.players } in
+    let y = c.play_all-seats.result in
+    let many = c.seats-seats.ensures.seats.count ∙ ap length c.as_slice-3.ensures.value in
+    ap (λ n. n + workers (own_of S))
+    (keep_long g.F.Receiver.stands_for c.ring.result.now.table_id x y many c.play_all-seats.ensures.goes_on)
+    ∙ subst (λ b. length c.args.players.items + workers b.shared.key.own_writes ≡ length (starts_about b.shared.key))
+    (sym c.seats-seats.ensures.same) c.requires.count
+
+pub finish-requires-clause-rest : goal.finish-requires-clause-rest
+finish-requires-clause-rest g c = all_rest c.play_all-seats.result.players.items c.play_all-seats.ensures.at_end
 
 pub returns-clause-leaves : goal.returns-clause-leaves
-returns-clause-leaves g c =
-    let starts = c.args.actors.items in
-    let seats = c.play_all-seats.result.seats.items in
-    let many = c.seats-seats.ensures.seats.count ∙ length_views c.as_slice-2.result.now
-    ∙ ap length c.as_slice-2.ensures.value in
-    let heard = have_heard g.F.Receiver.stands_for c.ring.result.now.table_id
-    (record { seats = c.seats-seats.result; actors = c.args.actors }) c.play_all-seats.result many
-    c.play_all-seats.ensures.goes_on.keep _ c.seats-seats.ensures.fresh in
-    let left = c.finish-closed.ensures.leaves starts
-    (subst (λ l. HaveHeard g.F.Receiver.stands_for starts seats l) (sym c.as_slice-3.ensures.value) heard) in
+returns-clause-leaves g c work works =
+    let x : Crew g.row.L.Denot g.row.D.Denot g.row.F.Denot = record { seats = c.seats-seats.result; players = c.args.players } in
+    let y = c.play_all-seats.result in
+    let starts = c.args.players.items in
+    let table = c.ring.result.now.table_id in
+    let many = c.seats-seats.ensures.seats.count ∙ ap length c.as_slice-3.ensures.value in
+    let keep = c.play_all-seats.ensures.goes_on in
+    let same = c.seats-seats.ensures.same in
+    let left = c.finish.ensures.leaves work starts (works ∙ ap (λ b. b.shared.key.own_writes) (sym same))
+    (all_same g.F.Receiver.stands_for table x y many keep)
+    (have_heard g.F.Receiver.stands_for table x y many keep _ c.seats-seats.ensures.fresh) in
     subst (λ b. LeavesRun g.L.Sectors.seen g.L.Sectors.gives g.D.Sectors.seen g.D.Sectors.gives
     g.F.Receiver.stands_for b.shared.key.opened.value b.shared.key.script.value b.shared.key.log_only
-    b.shared.key.followers starts c.play_all-seats.result.actors.items c.finish-closed.result)
-    c.seats-seats.ensures.same
-    (subst (λ l. LeavesRun g.L.Sectors.seen g.L.Sectors.gives g.D.Sectors.seen g.D.Sectors.gives
-    g.F.Receiver.stands_for (opened_of c.seats-seats.new.self) (shared_script c.seats-seats.new.self)
-    c.seats-seats.new.self.board.shared.key.log_only c.seats-seats.new.self.board.shared.key.followers starts l
-    c.finish-closed.result) c.as_slice-3.ensures.value left)
+    b.shared.key.followers (crew work starts) c.finish.result.1.items c.finish.result.0) same left
 
 pub returns-clause-run : goal.returns-clause-run
-returns-clause-run g c =
-    let actors = c.play_all-seats.result.actors.items in
-    let many = c.seats-seats.ensures.seats.count ∙ length_views c.as_slice-2.result.now
-    ∙ ap length c.as_slice-2.ensures.value in
-    let ended = have_ended (views_of actors) c.play_all-seats.ensures.at_end in
+returns-clause-run g c work works =
+    let x : Crew g.row.L.Denot g.row.D.Denot g.row.F.Denot = record { seats = c.seats-seats.result; players = c.args.players } in
+    let y = c.play_all-seats.result in
+    let starts = c.args.players.items in
+    let many = c.seats-seats.ensures.seats.count ∙ ap length c.as_slice-3.ensures.value in
     let key = c.args.shared.board.shared.key in
+    let end = c.finish.ensures.actors in
+    let ended = have_ended end.work y.players.items c.finish.result.1.items end.are c.play_all-seats.ensures.at_end in
+    let alike = works ∙ ap (λ b. b.shared.key.own_writes) (sym c.seats-seats.ensures.same) ∙ sym end.works in
+    let same = all_same g.F.Receiver.stands_for c.ring.result.now.table_id x y many
+    c.play_all-seats.ensures.goes_on in
     record {
-      each = all_later g.F.Receiver.stands_for c.ring.result.now.table_id
-          (record { seats = c.seats-seats.result; actors = c.args.actors }) c.play_all-seats.result many
-          c.play_all-seats.ensures.goes_on.keep;
+      each = subst (λ l. AllZip IsSameActor (views_of (crew work starts)) (views_of l)) (sym end.are)
+          (crew_later work end.work alike starts y.players.items same);
       ended = ended;
       answered = have_answered g.L.Sectors.seen g.L.Sectors.gives g.D.Sectors.seen g.D.Sectors.gives
           g.F.Receiver.stands_for (opened_of c.args.shared) (shared_script c.args.shared) key.log_only key.followers
-          c.args.actors.items actors c.finish-closed.result (returns-clause-leaves g c) ended;
-      listed = subst (λ l. ListsInOrder c.finish-closed.result.marks (views_of l) c.finish-closed.result.history)
-          c.as_slice-3.ensures.value c.finish-closed.ensures.listed;
+          (crew work starts) c.finish.result.1.items c.finish.result.0 (returns-clause-leaves g c work works) ended;
+      listed = c.finish.ensures.listed;
     }
 
 pub returns-clause-reads : goal.returns-clause-reads
 returns-clause-reads g c =
-    let actors = c.play_all-seats.result.actors.items in
     let key = c.args.shared.board.shared.key in
+    let end = c.finish.ensures.actors in
+    let works = end.works ∙ ap (λ b. b.shared.key.own_writes) c.seats-seats.ensures.same in
     reads_to_marks g.L.Sectors.seen g.L.Sectors.gives g.D.Sectors.seen g.D.Sectors.gives g.F.Receiver.stands_for
-    (opened_of c.args.shared) (shared_script c.args.shared) key.log_only key.followers c.args.actors.items actors
-    (done_with c.finish-closed.result) (returns-clause-leaves g c) c.requires.ready.may
-    (hold_nothing (views_of actors) c.play_all-seats.ensures.at_end)
+    (opened_of c.args.shared) (shared_script c.args.shared) key.log_only key.followers
+    (crew end.work c.args.players.items) c.finish.result.1.items (done_with c.finish.result.0)
+    (returns-clause-leaves g c end.work works) c.requires.ready.may c.finish.ensures.rest

@@ -6,7 +6,7 @@ use Rattle.redo_threads.proofs.starting.+start.Goals as goal
 
 pub take_out-worker-requires-clause-seated : goal.take_out-worker-requires-clause-seated
 take_out-worker-requires-clause-seated g t c =
-    as_many g.F.Receiver.stands_for c.args.table.now.table_id c.args.crew.seats.items c.args.crew.actors.items
+    as_many g.F.Receiver.stands_for c.args.table.now.table_id c.args.crew.seats.items c.args.crew.players.items
     c.requires.seated
 
 pub start_one-requires-after_bounds : goal.start_one-requires-after_bounds

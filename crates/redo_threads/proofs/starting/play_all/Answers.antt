@@ -1,5 +1,4 @@
 use Rattle.std.proofs.Common.{rules}
-use Rattle.redo_threads.proofs.Heard.{in_order}
 use Rattle.redo_threads.proofs.Keeping.{keep_seated, keep_trans}
 use Rattle.redo_threads.proofs.starting.play_all.Goals as goal
 
@@ -28,6 +27,5 @@ to_ends-requires-after_bounds g c κs within =
 
 pub returns-clause-goes_on : goal.returns-clause-goes_on
 returns-clause-goes_on g c =
-    in_order g.F.Receiver.stands_for c.args.table.now.table_id c.args.crew c.to_ends.new.crew c.requires
-    (keep_trans g.F.Receiver.stands_for c.args.table.now.table_id c.args.crew c.scoped-played.result c.to_ends.new.crew
-    c.scoped-played.ensures.1 c.to_ends.ensures.goes_on)
+    keep_trans g.F.Receiver.stands_for c.args.table.now.table_id c.args.crew c.scoped-played.result c.to_ends.new.crew
+    c.scoped-played.ensures.1 c.to_ends.ensures.goes_on

@@ -1,11 +1,9 @@
-use Rattle.std.proofs.Common.{◌≡◌}
-use Rattle.model_core.specs.{next}
-use Rattle.redo_drive.specs.Views.{view_of}
+use Rattle.redo_ownrule.specs.Playing.{PlayerAsks}
 use Rattle.redo_threads.specs.Working.{GoesOn}
 use Rattle.redo_threads.proofs.work.stint.Given as goal
 
 abbrev pub invariant-loop-steps : goal.invariant-loop-steps
 invariant-loop-steps g l = record {
-  goes_on : GoesOn g.F.Receiver.stands_for l.table.table_id l.fn.seat l.fn.actor l.seat l.actor;
-  asks : next (view_of l.actor) ≡ l.op;
+  goes_on : GoesOn g.F.Receiver.stands_for l.table.table_id l.fn.seat l.fn.player l.seat l.player;
+  asks : PlayerAsks l.seat.me.0 l.player l.op;
 }
