@@ -1,11 +1,10 @@
 -- What the archiver's append asks for holds, and the block that it has read is the run's.
-use Rattle.std.proofs.Common.{List, ap, arith, subst, sym, true, ℕ, ◌≡◌, ◌≤◌}
+use Rattle.std.proofs.Common.{List, ap, arith, subst, sym, ℕ, ◌≡◌, ◌≤◌}
 use Rattle.std.specs.Prelude.{slice_index}
 use lib.ListN.{get_elem?}
 use mathlib.Core.Option.{some}
-use Rattle.model_base.specs.declared.limits.TheConstants.{BLOCK_SIZE}
 use Rattle.model_core.proofs.Lsns.{floor_grows, lsn_le, lsn_offset}
-use Rattle.model_core.specs.{archives, Core, LostAt, lsn, ReaderState, SharedWords}
+use Rattle.model_core.specs.{Core, LostAt, lsn, ReaderState, SharedWords}
 use Rattle.model_core.specs.Actors as actor
 use Rattle.model_core.specs.DataSide.{DataSide}
 use Rattle.model_core.specs.LogSide.{LogSide}

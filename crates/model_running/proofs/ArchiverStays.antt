@@ -1,14 +1,17 @@
--- The archiver's place, whatever the log device tells: it stays below FLUSHED's block, and up to its append below that of
--- the mark that it has loaded.
-use Rattle.std.proofs.Common.{Bool, List, None, ap, arith, cond, eqb, false, refl, set, subst, sym, true, ℕ, ⊎_elim, ◌%◌, ◌+◌, ◌<◌, ◌==◌, ◌∙◌, ◌≡◌, ◌≤◌}
+-- The archiver's place, whatever the log device tells: it stays below FLUSHED's block, and up to its append below that
+-- of the mark that it has loaded.
+use Rattle.std.proofs.Common.{Bool, List, None, ap, arith, cond, eqb, false, refl, set, subst, sym, true, ℕ, ⊎_elim}
+use Rattle.std.proofs.Common.{◌%◌, ◌+◌, ◌<◌, ◌==◌, ◌∙◌, ◌≡◌, ◌≤◌}
 use Rattle.std.proofs.lemmas.Bool.Decides.{nat_tests}
-use Rattle.std.specs.Prelude.{nat_le, slice_set}
+use Rattle.std.specs.Prelude.{nat_le}
 use lib.ListN.{get_elem?}
 use mathlib.Core.Option.{some}
 use Rattle.model_base.specs.declared.limits.TheConstants.{BLOCK_SIZE}
 use Rattle.model_core.proofs.Lists.{at_set}
 use Rattle.model_core.proofs.Lsns.{floor_grows}
-use Rattle.model_core.specs.{Actor, after_of, archives, Entry, floor, flusher_op, FlusherState, followed, has_all, Listed, log_left, lsn, next, old_of, own_op, read_to, reader_op, reader_program, reader_took, ReaderState, shared_answer, shared_left, SharedWords, to_append, took}
+use Rattle.model_core.specs.{Actor, after_of, archives, Entry, floor, flusher_op, followed, has_all}
+use Rattle.model_core.specs.{Listed, log_left, next, old_of, own_op, reader_op, reader_program}
+use Rattle.model_core.specs.{reader_took, ReaderState, shared_answer, shared_left, SharedWords, to_append, took}
 use Rattle.model_core.specs.DataSide.{DataSide}
 use Rattle.model_core.specs.LogSide.{LogSide}
 use Rattle.model_core.specs.Setup.{Setup}
@@ -26,7 +29,8 @@ use Rattle.model_logcore.specs.{LogGhost}
 use Rattle.model_logcore.specs.LogFits as marks
 use Rattle.model_pagecore.specs.{PageGhost}
 use Rattle.model_running.proofs.Archiving.{reader_is, number_stays, stays_other, took_reader}
-use Rattle.model_running.proofs.ReadStays.{asks, checkpointer_leaves, cleaner_leaves, closer_leaves, left_reads, user_leaves, writer_leaves}
+use Rattle.model_running.proofs.ReadStays.{asks, checkpointer_leaves, cleaner_leaves, closer_leaves, left_reads}
+use Rattle.model_running.proofs.ReadStays.{user_leaves, writer_leaves}
 use Rattle.model_running.specs.ReadHalf.{ArchiverAt, ArchiverHas}
 use Rattle.model_running.specs.RunningStore.{BothHalves}
 
@@ -68,15 +72,18 @@ module _ (D : LogSide) (E : DataSide) (c : Setup) (spare : ℕ) (m : SharedWords
       let z = left_reads m (next (actor.Closer s)) (asks s.checks (own_op (actor.Closer s)) (closer_leaves s s.step)) in
       let y = z.1 in omega arith
   rises (actor.Cleaner s) at =
-      let z = left_reads m (next (actor.Cleaner s)) (asks s.checks (own_op (actor.Cleaner s)) (cleaner_leaves s s.step)) in
+      let own : Op = own_op (actor.Cleaner s) in
+      let z = left_reads m (next (actor.Cleaner s)) (asks s.checks own (cleaner_leaves s s.step)) in
       let y = z.1 in omega arith
   rises (actor.Checkpointer s) at =
-      let z = left_reads m (next (actor.Checkpointer s)) (asks s.checks (own_op (actor.Checkpointer s)) (checkpointer_leaves s s.step)) in
+      let own : Op = own_op (actor.Checkpointer s) in
+      let z = left_reads m (next (actor.Checkpointer s)) (asks s.checks own (checkpointer_leaves s s.step)) in
       let y = z.1 in omega arith
   rises (actor.Joined es) at = omega arith
   rises (actor.Reader r) at = by r.checks r.step
     where
-      by : (b : Bool) (st : ReaderStep) → m.flushed ≤ (shared_left m (cond b (op.Load word.Failed) (reader_op r st))).flushed
+      by : (b : Bool) (st : ReaderStep)
+          → m.flushed ≤ (shared_left m (cond b (op.Load word.Failed) (reader_op r st))).flushed
       by true st = omega arith
       by false reader_step.TakeDevice = either (eqb m.device 0)
         where
@@ -109,7 +116,8 @@ module _ (D : LogSide) (E : DataSide) (c : Setup) (spare : ℕ) (m : SharedWords
     A : ArchiverHas c m g.log r
     A = both.archiver seat r at kind
 
-    goes : (w : ReaderState) → w.place ≡ r.place → w.own ≡ r.own → ArchiverAt c m g.log w w.step → ArchiverHas c m g.log w
+    goes : (w : ReaderState) → w.place ≡ r.place → w.own ≡ r.own → ArchiverAt c m g.log w w.step
+        → ArchiverHas c m g.log w
     goes w place own step = record {
       aligned = subst (λ (x : ℕ). x % BLOCK_SIZE ≡ 0) (sym place) A.aligned;
       below = subst (λ (x : ℕ). x ≤ floor m.flushed) (sym place) A.below;
@@ -140,14 +148,16 @@ module _ (D : LogSide) (E : DataSide) (c : Setup) (spare : ℕ) (m : SharedWords
         by false e = goes reads refl refl (omega arith, more e)
     own reader_step.TakeDevice is k = by (eqb m.device 0) (D.failed p)
       where
-        by : (b e : Bool) → ArchiverHas c m g.log (reader_took r (cond b (cond e answer.Broken (answer.Taken None)) answer.Held) reader_step.TakeDevice)
+        by : (b e : Bool) → ArchiverHas c m g.log
+            (reader_took r (cond b (cond e answer.Broken (answer.Taken None)) answer.Held) reader_step.TakeDevice)
         by true true = goes (reader_took r answer.Broken reader_step.TakeDevice) refl refl k
         by true false = goes (reader_took r (answer.Taken None) reader_step.TakeDevice) refl refl k
         by false e = goes (reader_took r answer.Held reader_step.TakeDevice) refl refl k
     own reader_step.GiveBroken is k = goes (record r { checks = true; step = reader_step.TakeDevice }) refl refl k
     own reader_step.ReadBlock is k = by (eqb code 0)
       where
-        by : (b : Bool) → ArchiverHas c m g.log (reader_took r (cond b (answer.Called 0) (answer.Failed code)) reader_step.ReadBlock)
+        by : (b : Bool) → ArchiverHas c m g.log
+            (reader_took r (cond b (answer.Called 0) (answer.Failed code)) reader_step.ReadBlock)
         by true = goes (reader_took r (answer.Called 0) reader_step.ReadBlock) refl refl k
         by false = goes (reader_took r (answer.Failed code) reader_step.ReadBlock) refl refl tt
     own reader_step.GiveDevice is k = by (archives r) refl
@@ -157,7 +167,8 @@ module _ (D : LogSide) (E : DataSide) (c : Setup) (spare : ℕ) (m : SharedWords
         by false e = let z : false ≡ true = sym e ∙ kind in absurd (cc)
     own reader_step.Append is k = by (eqb code 0)
       where
-        by : (b : Bool) → ArchiverHas c m g.log (reader_took r (cond b (answer.Called 0) (answer.Failed code)) reader_step.Append)
+        by : (b : Bool) → ArchiverHas c m g.log
+            (reader_took r (cond b (answer.Called 0) (answer.Failed code)) reader_step.Append)
         by true =
             let k0 = k.0 in let k1 = k.1 in
             let up = floor_grows r.mark m.flushed k0 in
@@ -168,7 +179,8 @@ module _ (D : LogSide) (E : DataSide) (c : Setup) (spare : ℕ) (m : SharedWords
               step = tt;
             }
         by false = goes (reader_took r (answer.Failed code) reader_step.Append) refl refl tt
-    own reader_step.StorePlace is k = record { aligned = A.aligned; below = A.below; own_aligned = A.aligned; step = tt }
+    own reader_step.StorePlace is k =
+        record { aligned = A.aligned; below = A.below; own_aligned = A.aligned; step = tt }
     own reader_step.StoreFailed is k = goes (record r { step = reader_step.GiveFailed }) refl refl tt
     own reader_step.GiveFailed is k = goes (record r { step = reader_step.Failed }) refl refl tt
     own reader_step.StoreLost is k = goes (record r { step = reader_step.Failed }) refl refl tt

@@ -1,11 +1,15 @@
 -- A failed append of the archiver stays the cause that it is.
-use Rattle.std.proofs.Common.{Bool, List, ap, arith, cond, eqb-true, false, refl, set, subst, sym, true, ℕ, ⊎_elim, ◌<◌, ◌==◌, ◌^◌, ◌∙◌, ◌≡◌, ◌≢◌, ◌⊎◌}
+use Rattle.std.proofs.Common.{Bool, List, ap, arith, cond, eqb-true, false, refl, set, subst, sym, true, ℕ, ⊎_elim}
+use Rattle.std.proofs.Common.{◌<◌, ◌==◌, ◌^◌, ◌∙◌, ◌≡◌}
 use lib.ListN.{get_elem?}
 use mathlib.Core.Option.{some, some-injective}
 use native.Mathlib.Decide.{ℕ_discrete}
 use Rattle.model_core.proofs.Later.{took_later}
 use Rattle.model_core.proofs.Lists.{set_at, set_else}
-use Rattle.model_core.specs.{Actor, after_of, archives, checkpointer_op, CheckpointerState, cleaner_op, CleanerState, closer_op, CloserState, flusher_op, FlusherState, followed, has_all, HasLost, IsArchiveCode, IsLosing, LostAt, next, old_of, OwnServed, reader_op, reader_program, reader_took, ReaderState, to_append, took, user_op, UserState, writer_op, WriterState}
+use Rattle.model_core.specs.{Actor, after_of, archives, checkpointer_op, CheckpointerState, cleaner_op, CleanerState}
+use Rattle.model_core.specs.{closer_op, CloserState, flusher_op, FlusherState, followed, has_all, HasLost}
+use Rattle.model_core.specs.{IsArchiveCode, IsLosing, LostAt, next, old_of, OwnServed, reader_op, reader_program}
+use Rattle.model_core.specs.{reader_took, ReaderState, to_append, took, user_op, UserState, writer_op, WriterState}
 use Rattle.model_core.specs.Setup.{Setup}
 use Rattle.model_core.specs.declared.ops.Answer.{Answer}
 use Rattle.model_core.specs.declared.ops.Op.{Op}
@@ -45,7 +49,8 @@ losing_at r reader_step.StoreFailed k some_code = absurd (omega arith)
 losing_at r reader_step.GiveFailed k some_code = absurd (omega arith)
 
 -- it loses it for good
-lost_for_good : (r : ReaderState) (a : Answer) → LostAt r r.step → 0 < r.lost → (after_of reader_program r a).lost ≡ r.lost
+lost_for_good : (r : ReaderState) (a : Answer) → LostAt r r.step → 0 < r.lost
+    → (after_of reader_program r a).lost ≡ r.lost
 lost_for_good r a k some_code = by r.checks (old_of a == 0)
   where
     goes_on : ReaderState
@@ -175,7 +180,8 @@ stays_other (actor.Writer s) y other r same = subst IsNoReader (sym (took_later 
 stays_other (actor.Flusher s) y other r same = subst IsNoReader (sym (took_later (actor.Flusher s) y).1 ∙ same) tt
 stays_other (actor.Closer s) y other r same = subst IsNoReader (sym (took_later (actor.Closer s) y).1 ∙ same) tt
 stays_other (actor.Cleaner s) y other r same = subst IsNoReader (sym (took_later (actor.Cleaner s) y).1 ∙ same) tt
-stays_other (actor.Checkpointer s) y other r same = subst IsNoReader (sym (took_later (actor.Checkpointer s) y).1 ∙ same) tt
+stays_other (actor.Checkpointer s) y other r same =
+    subst IsNoReader (sym (took_later (actor.Checkpointer s) y).1 ∙ same) tt
 stays_other (actor.Joined es) y other r same = subst IsNoReader (sym (took_later (actor.Joined es) y).1 ∙ same) tt
 
 -- a reader's number stays

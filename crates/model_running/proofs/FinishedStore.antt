@@ -1,5 +1,5 @@
 -- A running store stands for a run; one all users of which have ended is a finished run.
-use Rattle.std.proofs.Common.{List, arith, inl, inr, length, subst, sym, ℕ, ⊎_elim, ◌<◌, ◌≡◌, ap}
+use Rattle.std.proofs.Common.{List, arith, length, subst, sym, ℕ, ⊎_elim, ◌<◌, ◌≡◌, ap}
 use Rattle.std.specs.Prelude.{slice_index}
 use Rattle.model_core.specs.DataSide.{DataSide}
 use Rattle.model_core.specs.{Core, lsn, Tiles}

@@ -1,14 +1,18 @@
--- Whatever the log device tells, the numbers of readers are those of words, they read blocks of the run, and the archiver
--- alone appends.
-use Rattle.std.proofs.Common.{Bool, List, ap, arith, cond, eqb, false, inl, inr, refl, subst, sym, true, ℕ, ⊎_elim, ◌%◌, ◌+◌, ◌<◌, ◌==◌, ◌∙◌, ◌≡◌, ◌≤◌}
+-- Whatever the log device tells, the numbers of readers are those of words, they read blocks of the run, and the
+-- archiver alone appends.
+use Rattle.std.proofs.Common.{Bool, List, ap, arith, cond, eqb, false, inl, inr, refl, subst, sym, true, ℕ, ⊎_elim}
+use Rattle.std.proofs.Common.{◌%◌, ◌+◌, ◌<◌, ◌==◌, ◌∙◌, ◌≡◌, ◌≤◌}
 use Rattle.std.proofs.lemmas.Bool.{eqb-false}
 use lib.ListN.{get_elem?}
 use mathlib.Core.Option.{some}
 use Rattle.model_core.specs.Answers.{oldest_in}
 use Rattle.model_base.specs.declared.limits.TheConstants.{BLOCK_SIZE, START_LSN}
 use Rattle.model_core.proofs.Lsns.{floor_grows, lsn_le}
-use Rattle.model_core.specs.{Actor, archived, archives, candidate, checkpointer_took, CheckpointerState, Core, floor, followed, has_all}
-use Rattle.model_core.specs.{has_taken, is_none, IsArchiveCode, IsLosing, is_above, Listed, LostAt, lowered, lsn, next, next_block, old_of, OwnServed, read_to, reader_op, reader_took, ReaderState, shared_answer, SharedWords, to_append, took}
+use Rattle.model_core.specs.{Actor, archived, archives, candidate, checkpointer_took, CheckpointerState, Core, floor}
+use Rattle.model_core.specs.{followed, has_all}
+use Rattle.model_core.specs.{has_taken, is_none, IsArchiveCode, IsLosing, is_above, Listed, LostAt, lowered, lsn}
+use Rattle.model_core.specs.{next, next_block, old_of, OwnServed, read_to, reader_op, reader_took, ReaderState}
+use Rattle.model_core.specs.{shared_answer, SharedWords, to_append, took}
 use Rattle.model_core.specs.Actors as actor
 use Rattle.model_core.specs.DataSide.{DataSide}
 use Rattle.model_core.specs.LogSide.{LogSide}
@@ -85,7 +89,8 @@ none_lost r reader_step.GiveFailed k checks = k
 -- A READER goes on from its place, or stays there.
 module _ (c : Setup) (r : ReaderState) (k : ReadsInRun c r) where
   -- but for what it hands on or archives
-  stays_put : (w : ReaderState) → w.number ≡ r.number → w.at ≡ r.at → w.place ≡ r.place → LostAt w w.step → ReadsInRun c w
+  stays_put : (w : ReaderState) → w.number ≡ r.number → w.at ≡ r.at → w.place ≡ r.place → LostAt w w.step
+      → ReadsInRun c w
   stays_put w number at place lost = record {
     first = (let z = k.first in omega arith);
     few = (let z = k.few in omega arith);
@@ -134,21 +139,36 @@ module _ (c : Setup) (r : ReaderState) (k : ReadsInRun c r) where
       by : (b : Bool) → ReadsInRun c (cond b waits more)
       by true = stays_put waits refl refl refl lost
       by false = stays_put more refl refl refl lost
-  of_reader free (answer.Old n) reader_step.TakeDevice is lost fits = stays_put (reader_took r (answer.Old n) reader_step.TakeDevice) refl refl refl lost
-  of_reader free (answer.Taken n) reader_step.TakeDevice is lost fits = stays_put (reader_took r (answer.Taken n) reader_step.TakeDevice) refl refl refl lost
-  of_reader free answer.Held reader_step.TakeDevice is lost fits = stays_put (reader_took r answer.Held reader_step.TakeDevice) refl refl refl lost
-  of_reader free answer.Broken reader_step.TakeDevice is lost fits = stays_put (reader_took r answer.Broken reader_step.TakeDevice) refl refl refl lost
-  of_reader free (answer.Called n) reader_step.TakeDevice is lost fits = stays_put (reader_took r (answer.Called n) reader_step.TakeDevice) refl refl refl lost
-  of_reader free (answer.Failed n) reader_step.TakeDevice is lost fits = stays_put (reader_took r (answer.Failed n) reader_step.TakeDevice) refl refl refl lost
-  of_reader free answer.Rested reader_step.TakeDevice is lost fits = stays_put (reader_took r answer.Rested reader_step.TakeDevice) refl refl refl lost
-  of_reader free a reader_step.GiveBroken is lost fits = stays_put (reader_took r a reader_step.GiveBroken) refl refl refl lost
-  of_reader free (answer.Failed n) reader_step.ReadBlock is lost fits = stays_put (reader_took r (answer.Failed n) reader_step.ReadBlock) refl refl refl lost
-  of_reader free (answer.Old n) reader_step.ReadBlock is lost fits = stays_put (reader_took r (answer.Old n) reader_step.ReadBlock) refl refl refl lost
-  of_reader free (answer.Taken n) reader_step.ReadBlock is lost fits = stays_put (reader_took r (answer.Taken n) reader_step.ReadBlock) refl refl refl lost
-  of_reader free answer.Held reader_step.ReadBlock is lost fits = stays_put (reader_took r answer.Held reader_step.ReadBlock) refl refl refl lost
-  of_reader free answer.Broken reader_step.ReadBlock is lost fits = stays_put (reader_took r answer.Broken reader_step.ReadBlock) refl refl refl lost
-  of_reader free (answer.Called n) reader_step.ReadBlock is lost fits = stays_put (reader_took r (answer.Called n) reader_step.ReadBlock) refl refl refl lost
-  of_reader free answer.Rested reader_step.ReadBlock is lost fits = stays_put (reader_took r answer.Rested reader_step.ReadBlock) refl refl refl lost
+  of_reader free (answer.Old n) reader_step.TakeDevice is lost fits =
+      stays_put (reader_took r (answer.Old n) reader_step.TakeDevice) refl refl refl lost
+  of_reader free (answer.Taken n) reader_step.TakeDevice is lost fits =
+      stays_put (reader_took r (answer.Taken n) reader_step.TakeDevice) refl refl refl lost
+  of_reader free answer.Held reader_step.TakeDevice is lost fits =
+      stays_put (reader_took r answer.Held reader_step.TakeDevice) refl refl refl lost
+  of_reader free answer.Broken reader_step.TakeDevice is lost fits =
+      stays_put (reader_took r answer.Broken reader_step.TakeDevice) refl refl refl lost
+  of_reader free (answer.Called n) reader_step.TakeDevice is lost fits =
+      stays_put (reader_took r (answer.Called n) reader_step.TakeDevice) refl refl refl lost
+  of_reader free (answer.Failed n) reader_step.TakeDevice is lost fits =
+      stays_put (reader_took r (answer.Failed n) reader_step.TakeDevice) refl refl refl lost
+  of_reader free answer.Rested reader_step.TakeDevice is lost fits =
+      stays_put (reader_took r answer.Rested reader_step.TakeDevice) refl refl refl lost
+  of_reader free a reader_step.GiveBroken is lost fits =
+      stays_put (reader_took r a reader_step.GiveBroken) refl refl refl lost
+  of_reader free (answer.Failed n) reader_step.ReadBlock is lost fits =
+      stays_put (reader_took r (answer.Failed n) reader_step.ReadBlock) refl refl refl lost
+  of_reader free (answer.Old n) reader_step.ReadBlock is lost fits =
+      stays_put (reader_took r (answer.Old n) reader_step.ReadBlock) refl refl refl lost
+  of_reader free (answer.Taken n) reader_step.ReadBlock is lost fits =
+      stays_put (reader_took r (answer.Taken n) reader_step.ReadBlock) refl refl refl lost
+  of_reader free answer.Held reader_step.ReadBlock is lost fits =
+      stays_put (reader_took r answer.Held reader_step.ReadBlock) refl refl refl lost
+  of_reader free answer.Broken reader_step.ReadBlock is lost fits =
+      stays_put (reader_took r answer.Broken reader_step.ReadBlock) refl refl refl lost
+  of_reader free (answer.Called n) reader_step.ReadBlock is lost fits =
+      stays_put (reader_took r (answer.Called n) reader_step.ReadBlock) refl refl refl lost
+  of_reader free answer.Rested reader_step.ReadBlock is lost fits =
+      stays_put (reader_took r answer.Rested reader_step.ReadBlock) refl refl refl lost
   of_reader free a reader_step.GiveDevice is lost fits = by (archives r) refl
     where
       goes_on : (b : Bool) → LostAt (followed r) (cond b reader_step.LoadFlushed reader_step.StorePlace)
@@ -165,9 +185,12 @@ module _ (c : Setup) (r : ReaderState) (k : ReadsInRun c r) where
         lost = goes_on (is_none r.texts);
       }
   of_reader free a reader_step.Append is lost fits = of_append free lost a fits
-  of_reader free a reader_step.StorePlace is lost fits = stays_put (reader_took r a reader_step.StorePlace) refl refl refl lost
-  of_reader free a reader_step.StoreFailed is lost fits = stays_put (reader_took r a reader_step.StoreFailed) refl refl refl lost
-  of_reader free a reader_step.GiveFailed is lost fits = stays_put (reader_took r a reader_step.GiveFailed) refl refl refl (inl lost)
+  of_reader free a reader_step.StorePlace is lost fits =
+      stays_put (reader_took r a reader_step.StorePlace) refl refl refl lost
+  of_reader free a reader_step.StoreFailed is lost fits =
+      stays_put (reader_took r a reader_step.StoreFailed) refl refl refl lost
+  of_reader free a reader_step.GiveFailed is lost fits =
+      stays_put (reader_took r a reader_step.GiveFailed) refl refl refl (inl lost)
   of_reader free a reader_step.StoreLost is lost fits = stays_put (reader_took r a reader_step.StoreLost) refl refl refl
       (inr (record { archiver = lost.archiver; why = lost.why; ends = lost.ends; unchecked = lost.unchecked }))
   of_reader free a reader_step.Failed is lost fits = k
@@ -183,7 +206,8 @@ module _ (c : Setup) (r : ReaderState) (k : ReadsInRun c r) where
 
       by : (b n : Bool) → r.checks ≡ b → AppendFits (cond b (op.Load word.Failed) (reader_op r r.step)) a
           → StaysInRun c (cond b (actor.Reader (cond n goes_on fails)) (actor.Reader (reader_took r a r.step)))
-      by true true is fits = stays_put goes_on refl refl refl (lost_same r goes_on refl refl refl (λ _. refl) r.step k.lost)
+      by true true is fits = stays_put goes_on refl refl refl
+          (lost_same r goes_on refl refl refl (λ _. refl) r.step k.lost)
       by true false is fits = stays_put fails refl refl refl (inl (none_lost r r.step k.lost is))
       by false n is fits = of_reader is a r.step refl k.lost fits
 

@@ -1,14 +1,14 @@
 -- The block that the archiver has read is the run's, and stays that while the log grows.
-use Rattle.std.proofs.Common.{Bool, List, [], None, ap, arith, cond, eqb, eqb-true, false, refl, set, subst, sym, true, ℕ, ⊎_elim, ◌+◌, ◌++◌, ◌==◌, ◌∙◌, ◌∷◌, ◌≡◌, ◌≤◌}
+use Rattle.std.proofs.Common.{Bool, List, [], None, ap, arith, cond, eqb, eqb-true, false, refl, set, subst, sym}
+use Rattle.std.proofs.Common.{true, ℕ, ⊎_elim, ◌++◌, ◌==◌, ◌∙◌, ◌∷◌, ◌≡◌}
 use Rattle.std.proofs.lemmas.List.{append_assoc, append-nil}
 use lib.ListN.{get_elem?}
 use mathlib.Core.Option.{some}
-use Rattle.model_base.specs.declared.limits.TheConstants.{BLOCK_SIZE}
-use Rattle.model_log.specs.declared.layout.TheConstants.{BLOCK_HEADER}
-use Rattle.model_core.proofs.Later.{took_later}
 use Rattle.model_core.proofs.Lists.{at_set}
 use Rattle.model_core.proofs.Lsns.{floor_grows, lsn_offset}
-use Rattle.model_core.specs.{Actor, after_of, archives, Entry, floor, followed, has_all, is_none, lent, Listed, log_left, LogServed, lsn, next, next_block, old_of, read_to, reader_op, reader_program, reader_took, ReaderState, Room, shared_answer, SharedWords, to_append, took}
+use Rattle.model_core.specs.{Actor, after_of, archives, Entry, floor, followed, has_all, lent, Listed}
+use Rattle.model_core.specs.{log_left, LogServed, lsn, next, next_block, old_of, read_to, reader_op, reader_program}
+use Rattle.model_core.specs.{reader_took, ReaderState, Room, shared_answer, SharedWords, to_append, took}
 use Rattle.model_core.specs.DataSide.{DataSide}
 use Rattle.model_core.specs.LogSide.{LogSide}
 use Rattle.model_core.specs.Setup.{Setup}
@@ -27,12 +27,14 @@ use Rattle.model_pagecore.specs.DataLaws.{DataLaws}
 use Rattle.model_running.proofs.Archiving.{number_stays, reader_is, stays_other, took_reader}
 use Rattle.model_running.proofs.ReadKeeps.{can_read, LogGrows}
 use Rattle.model_running.proofs.ReadStays.{reserved, same_log, texts_of_log}
-use Rattle.model_running.specs.ReadHalf.{ArchiverAt, ArchiverHas, HasByKind, HasRunBlock, HaveRunBlocks, ReaderHas, RunBlockAt}
+use Rattle.model_running.specs.ReadHalf.{ArchiverAt, ArchiverHas, HasByKind, HasRunBlock, HaveRunBlocks, ReaderHas}
+use Rattle.model_running.specs.ReadHalf.{RunBlockAt}
 use Rattle.model_running.specs.RunningStore.{BothHalves}
 
 -- a reader's block is as it was, and the log may have grown
 module _ (D : LogSide) (c : Setup) (log log' : List Entry) (sn : ℕ) (grows : LogGrows log log' sn) where
-  has_later : (r w : ReaderState) → w.place ≡ r.place → w.block ≡ r.block → HasRunBlock D c log r → HasRunBlock D c log' w
+  has_later : (r w : ReaderState) → w.place ≡ r.place → w.block ≡ r.block → HasRunBlock D c log r
+      → HasRunBlock D c log' w
   has_later r w place block k =
       let same : D.IsRunBlock c.base k.early w.place w.block =
       subst (λ (b : List ℕ). D.IsRunBlock c.base k.early w.place b) (sym block)
@@ -58,7 +60,8 @@ module _ (D : LogSide) (L : LogLaws D) (E : DataSide) (EL : DataLaws E) (c : Set
     (told : D.Tells q) (before : D.Tells p) where
   -- the log that an actor's Op leaves
   pub grown : (a : Actor) → get_elem? actors seat ≡ some a → LogGrows g.log (log_left g.log m.sn a) m.sn
-  grown (actor.User u) at = reserved D L E EL c spare m g h ls p d actors seat both code q told before u at u.checks refl
+  grown (actor.User u) at =
+      reserved D L E EL c spare m g h ls p d actors seat both code q told before u at u.checks refl
   grown (actor.Writer s) at = same_log g.log m.sn
   grown (actor.Flusher s) at = same_log g.log m.sn
   grown (actor.Closer s) at = same_log g.log m.sn
@@ -183,7 +186,8 @@ module _ (D : LogSide) (L : LogLaws D) (E : DataSide) (EL : DataLaws E) (c : Set
   left (actor.Flusher s) at w r same kind = absurd (stays_other (actor.Flusher s) (said_to (actor.Flusher s)) tt r same)
   left (actor.Closer s) at w r same kind = absurd (stays_other (actor.Closer s) (said_to (actor.Closer s)) tt r same)
   left (actor.Cleaner s) at w r same kind = absurd (stays_other (actor.Cleaner s) (said_to (actor.Cleaner s)) tt r same)
-  left (actor.Checkpointer s) at w r same kind = absurd (stays_other (actor.Checkpointer s) (said_to (actor.Checkpointer s)) tt r same)
+  left (actor.Checkpointer s) at w r same kind =
+      absurd (stays_other (actor.Checkpointer s) (said_to (actor.Checkpointer s)) tt r same)
   left (actor.Joined es) at w r same kind = absurd (stays_other (actor.Joined es) (said_to (actor.Joined es)) tt r same)
 
   -- EACH TURN keeps the archiver's block

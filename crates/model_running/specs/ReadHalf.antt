@@ -121,8 +121,8 @@ module _ (c : Setup) (m : SharedWords) (log : List Entry) where
   ReadFits seat (actor.Reader r) = ReaderHas seat r
   ReadFits seat _ = Unit {0}
 
--- WHATEVER THE LOG DEVICE TELLS, the numbers of readers are those of words, the block that a reader needs next is one of
--- the run, and the archiver alone appends.
+-- WHATEVER THE LOG DEVICE TELLS, the numbers of readers are those of words, the block that a reader needs next is one
+-- of the run, and the archiver alone appends.
 pub record ReadsInRun (c : Setup) (r : ReaderState) : Type 0 where
   pub first : c.first_reader ≤ r.number
   pub few : r.number < c.last_reader
@@ -158,4 +158,5 @@ RunBlockAt D c log r reader_step.Append = HasRunBlock D c log r
 RunBlockAt D c log r _ = Unit {0}
 
 abbrev pub HaveRunBlocks : (D : LogSide) → Setup → List Entry → List Actor → Type 0
-HaveRunBlocks D c log actors = (seat : ℕ) (r : ReaderState) → get_elem? actors seat ≡ some (actor.Reader r) → archives r ≡ true → RunBlockAt D c log r r.step
+HaveRunBlocks D c log actors = (seat : ℕ) (r : ReaderState) → get_elem? actors seat ≡ some (actor.Reader r)
+    → archives r ≡ true → RunBlockAt D c log r r.step

@@ -54,10 +54,7 @@ given_followers options = number_or 1 MAX_FOLLOWERS 0 (given_number name.Followe
 
 -- options that don't go together
 abbrev pub is_no_drive : Drive → Bool
-is_no_drive drive =
-    drive.threads && drive.own_writes
-    || drive.threads && drive.archive
-    || drive.own_writes && drive.archive
+is_no_drive drive = drive.threads && drive.archive || drive.own_writes && drive.archive
 
 -- the drive, if its options go together
 abbrev pub where_driven : Drive → Option Drive

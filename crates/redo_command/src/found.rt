@@ -106,9 +106,7 @@ fn read_followers(found: &ArgMatches<'_>) -> Option<u32>
 fn is_no_drive(drive: &Drive) -> bool
     ensures { result ≡ is_no_drive drive.now }
 {
-    drive.threads && drive.own_writes
-        || drive.threads && drive.archive
-        || drive.own_writes && drive.archive
+    drive.threads && drive.archive || drive.own_writes && drive.archive
 }
 
 // The drive, if its options go together.

@@ -91,7 +91,8 @@ module _ {L D : Type 0} (log_seen : L → Seen) (data_seen : D → Seen) (run : 
       code = call_code Log new.log.failed;
       log_served = served;
       data_served = untouched (run_data_side log_seen data_seen run) old.store new.store l (op.ReadBlock y)
-          (call_code Log new.log.failed) tt same; own_served = tt;
+          (call_code Log new.log.failed) tt same;
+      own_served = tt;
       words = words;
       lists = ap lists_of lists;
       answered = told ∙ answer_by_code Log new.log.failed 0;

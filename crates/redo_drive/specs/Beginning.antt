@@ -7,7 +7,7 @@ use Rattle.redo_drive.specs.DataPartSide as data_part
 use Rattle.redo_disk.specs.Seen.{Seen}
 use Rattle.redo_drive.specs.LogPartSide as log_part
 use Rattle.redo_drive.specs.Lists.{lists_of}
-use Rattle.redo_drive.specs.Playing.{RunOf}
+use Rattle.redo_drive.specs.Sides.{RunOf}
 use Rattle.redo_drive.specs.Setups.{first_reader, seated_actors}
 use Rattle.redo_drive.specs.FirstWords.{AreStartWords}
 use Rattle.redo_drive.specs.declared.parts.Parts.{Parts}

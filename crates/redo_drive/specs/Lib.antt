@@ -19,6 +19,7 @@ pub mod Receiving
 pub mod Requests
 pub mod Running
 pub mod Setups
+pub mod Sides
 pub mod Startable
 pub mod StartWords
 pub mod Steps

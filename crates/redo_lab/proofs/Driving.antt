@@ -1,5 +1,5 @@
 -- The run of a script on a store that stands opened, by a drive, and what it leaves.
-use Rattle.std.proofs.Common.{Global, Vec}
+use Rattle.std.proofs.Common.{Global, Vec, false}
 use Rattle.std.proofs.Common.{ℕ, ◌≡◌, ◌+◌, ◌<◌, true, List, Option, Some, None, refl, sym, ap, subst, ◌∙◌, inl, ⊎_elim, arith, ◌≢◌}
 use Rattle.std.specs.List.{AllByRecursion, AllZip}
 use Rattle.model_base.specs.declared.shape.Shape.{Shape}
@@ -37,6 +37,9 @@ use Rattle.redo_memdisk.specs.{CallsThrough, seen_through}
 use Rattle.redo_memdisk.specs.declared.fused.Fused.{Fused}
 use Rattle.redo_open.specs.{WhereBothTell}
 use Rattle.redo_store.specs.declared.opened.Opened as store
+use Rattle.std.proofs.lemmas.Bool.{false≢true}
+use Rattle.model_report.specs.declared.fault.Fault.{Fault}
+use Rattle.model_report.specs.declared.fault.Fault.TheVariants as fault
 use Rattle.redo_lab.specs.declared.playing.Played.{Played}
 use Rattle.redo_lab.specs.declared.playing.Stops.{Stops}
 use Rattle.redo_lab.proofs.Behind.{calls-same, same-fused}
@@ -53,7 +56,7 @@ use Rattle.redo_lab.specs.Call.{LabCall, WhereOpened, WhereToldNow, mids, Unfuse
 use Rattle.redo_lab.specs.Following.{AreUntold, IsToldOf}
 use Rattle.redo_lab.specs.Handed.{TellsOf, call_on}
 use Rattle.redo_lab.specs.Laws.{Laws}
-use Rattle.redo_lab.specs.Runs.{ComesTo, CommandRuns, IsLeftBy, IsToldRightly, StandsReady, course_done, course_of, ended_by, played_of, ran_of}
+use Rattle.redo_lab.specs.Runs.{ComesTo, CommandRuns, IsArchivedTo, IsLeftBy, IsToldRightly, StandsReady, course_done, course_of, ended_by, played_of, ran_of}
 use Rattle.redo_lab.specs.Store.{AreReadAsPrefix}
 use Rattle.redo_lab.specs.Told.{AreFollowed, AreLeftRead, AreMarksRead, IsFollowed, IsOpenedFirst}
 
@@ -78,7 +81,8 @@ module _ {L D : Type 0} (log_seen : L → Seen) (log_gives : L → Call → L �
     (followed : HaveFollowed (seen_through log_seen) (seen_through data_seen) HasTally given script followers actors
     driven.closed)
     (of_followers : AllZip IsToldOf (followers_in actors) follows.items)
-    (spends : SpendsTurns (call_on log_seen log_gives data_seen data_gives words archive source source_now log data_device driven.closed.log.dev driven.closed.store.dev) drive) where
+    (spends : SpendsTurns (call_on log_seen log_gives data_seen data_gives words archive source source_now log data_device driven.closed.log.dev driven.closed.store.dev) drive)
+    (unarchived : drive.archive ≡ false) where
   abbrev opening : LabCall
   opening = call_on log_seen log_gives data_seen data_gives words archive source source_now log data_device given.log.dev given.store.dev
 
@@ -300,6 +304,11 @@ module _ {L D : Type 0} (log_seen : L → Seen) (log_gives : L → Call → L �
     followers = followers-told;
   }
 
+  -- its drive archives nothing
+  archived-none : (cut : Option Fault) → IsArchivedTo call drive script run cut
+  archived-none None = λ archived. absurd (false≢true (sym unarchived ∙ archived))
+  archived-none (Some f) = λ archived. absurd (false≢true (sym unarchived ∙ archived))
+
   -- by what a call of each device answered that failed
   done-by : (log_error data_error : Option DevError) → driven.closed.log.failed ≡ log_error → driven.closed.store.failed ≡ data_error → driven.ended ≡ Done
       → ComesTo call command drive stops script (course_done played (ended_by log_error data_error))
@@ -308,21 +317,22 @@ module _ {L D : Type 0} (log_seen : L → Seen) (log_gives : L → Call → L �
         left-so Done done,
         told-unfailed done memory log_is data_is,
         (omega (arith, log-mid, data-mid, ap failures log_is, ap failures data_is), read-now done memory log_is data_is),
+        archived-none None,
       )
   done-by (Some device.Failed) data_error log_is data_is done =
       let some = ap failures log_is in
       let failed = told-failed done (λ lacks. omega (arith, some)) (omega (arith, log-mid, some)) in
-      (left-so Done done, failed, omega (arith, log-mid, some))
+      (left-so Done done, failed, omega (arith, log-mid, some), archived-none (Some fault.LogDevice))
   done-by None (Some device.Failed) log_is data_is done =
       let none = ap failures log_is in
       let some = ap failures data_is in
       let failed = told-failed done (λ lacks. omega (arith, some)) (omega (arith, data-mid, some)) in
-      (left-so Done done, failed, (omega (arith, data-mid, some), omega (arith, log-mid, none)))
+      (left-so Done done, failed, (omega (arith, data-mid, some), omega (arith, log-mid, none)), archived-none (Some fault.DataDevice))
   done-by (Some device.NoMemory) (Some device.Failed) log_is data_is done =
       let none = ap failures log_is in
       let some = ap failures data_is in
       let failed = told-failed done (λ lacks. omega (arith, some)) (omega (arith, data-mid, some)) in
-      (left-so Done done, failed, (omega (arith, data-mid, some), omega (arith, log-mid, none)))
+      (left-so Done done, failed, (omega (arith, data-mid, some), omega (arith, log-mid, none)), archived-none (Some fault.DataDevice))
   done-by (Some device.NoMemory) None log_is data_is done = left-memory call command drive script running laws (left-so Done done)
   done-by (Some device.NoMemory) (Some device.NoMemory) log_is data_is done = left-memory call command drive script running laws (left-so Done done)
   done-by None (Some device.NoMemory) log_is data_is done = left-memory call command drive script running laws (left-so Done done)

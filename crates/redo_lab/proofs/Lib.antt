@@ -1,4 +1,5 @@
 pub mod Alone
+pub mod Archives
 pub mod AskedLimits
 pub mod AtRest
 pub mod Behind

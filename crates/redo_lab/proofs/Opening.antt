@@ -1,8 +1,8 @@
 -- Two devices from the arming of their fuses on, while a store is opened on them.
-use Rattle.std.proofs.Common.{ℕ, ◌≡◌, ◌+◌, ◌⊎◌, cond, List, Option, Some, None, IfSome, sym, ap, subst, ◌∙◌, inl, inr, ⊎_elim, ◌≢◌, refl}
+use Rattle.std.proofs.Common.{ℕ, ◌≡◌, ◌+◌, ◌⊎◌, cond, List, Option, Some, None, IfSome, sym, ap, subst, ◌∙◌, inl, inr, ⊎_elim, ◌≢◌, refl, true, ◌≤◌, ◌<◌}
 use Rattle.std.proofs.lemmas.Bool.{eq-eqb}
 use Rattle.model_base.proofs.ShapeLimits.{default_within}
-use Rattle.model_base.specs.{default_shape}
+use Rattle.model_base.specs.{default_shape, HasRisen}
 use Rattle.model_base.specs.declared.limits.TheConstants.{BLOCK_SIZE}
 use Rattle.model_device.specs.Disk.{Disk}
 use Rattle.model_log.specs.{block_of, IsAtDataStart, start_after}
@@ -23,6 +23,8 @@ use Rattle.redo_open.specs.Opening.{WhereStillTold}
 use Rattle.redo_store.specs.{IsRunnable}
 use Rattle.redo_store.specs.declared.opened.Opened as store
 use Rattle.redo_recover.specs.{OnContents}
+use Rattle.model_script.specs.declared.asked.Command.TheVariants.{Run}
+use Rattle.redo_lab.specs.Asked.{IsScriptFor}
 use Rattle.redo_lab.specs.declared.outcome.Outcome.TheVariants as outcome
 use Rattle.redo_lab.specs.declared.playing.Stops.{Stops}
 use Rattle.redo_lab.proofs.Ends.{ends-refused, ends-with, in-run, leaves-read, leaves-run, left-read, runs-script, tells-armed, unfailed-armed}
@@ -30,7 +32,7 @@ use Rattle.redo_lab.proofs.Found.{found-armed, one-opened, prefix-opened, stoppe
 use Rattle.redo_lab.proofs.Told.{both-told, on-contents}
 use Rattle.redo_lab.proofs.Told.{some-tells, some-told}
 use Rattle.redo_lab.specs.Call.{HaveSameContents, LabCall, WhereToldAtEntry}
-use Rattle.redo_lab.specs.Cause.{archive_size, CanPlay}
+use Rattle.redo_lab.specs.Cause.{archive_size, CanPlay, EndsBefore}
 use Rattle.redo_lab.specs.Devices.{AreArmed}
 use Rattle.redo_lab.specs.Laws.{Laws}
 use Rattle.redo_lab.specs.Runs.{CommandRuns}
@@ -191,6 +193,23 @@ module _ (call : LabCall) (command : Command) (drive : Drive) (stops : Stops) (s
       (leaves-run call command (runs-script call command drive script running).runs (inr (left-read call command drive script running laws None (in-run armed)
       (λ store log data_disk log_is data_is log_on data_on log_fresh data_fresh opens. tt) reads)))
       (λ can unfailed. tt)
+
+  -- of a run whose archive wasn't begun
+  pub unplayed-archive : (asked : Drive) → command ≡ Run asked → asked ≡ drive → drive.archive ≡ true → call.log.fuse.mid ≡ 0 → call.store.fuse.mid ≡ 0
+      → HasRisen call.archive.entry.faults call.archive.now.faults → EndsWith call command (outcome.Fault fault.ArchiveDevice)
+  unplayed-archive asked is same archived log_none data_none risen = ends-with call command drive script running laws (outcome.Fault fault.ArchiveDevice) (tells-armed armed)
+      (leaves-read call script None reads) (
+        risen,
+        subst (EndsBefore call) (sym (is ∙ ap Run same)) (record {
+          asked = archived;
+          script = script;
+          is_script = subst (λ (c : Command). IsScriptFor c call.source call.source_now script) (is ∙ ap Run same) running.is_script;
+          unfailed = unfailed-armed armed log_none data_none;
+          in_run = in-run armed;
+          reads = reads;
+        }),
+      )
+      (λ can unfailed. absurd (can.archive_unfailed archived risen))
 
   pub unplayed-misfit : (opened : Opened) (misfit : Misfit) → call.log.fuse.mid ≡ 0 → call.store.fuse.mid ≡ 0 → WhereToldAtEntry call (DevicesOpenAs opened)
       → first_misfit opened.shape (start_after opened.end) (room_of drive.log_only opened) (archive_size call.archive drive) script ≡ Some misfit → EndsWith call command (outcome.Fault (fault.Fit misfit))

@@ -49,14 +49,16 @@ module _ (call : LabCall) (to : ℕ) (unread : call.source_now ≡ call.source) 
   pub restored-ends : {E : Type 0} (r : Result (List ℕ) E) (n end : ℕ) (pages : List Content)
       → IfSome call.archive.now.tells (λ disk. IsRestored disk.reads to n end pages) → IfOk r (λ text. text ≡ restored_text n end pages)
       → EndsWith call (Restore to) (outcome_of r)
-  restored-ends (Ok text) n end pages is text_is = restore-ends (outcome.Text text)
-      (unfailed-alone call alone, record {
-        n = n;
-        end = end;
-        pages = pages;
-        is_restored = at-entry (λ disk. IsRestored disk.reads to n end pages) is;
-        text_is = text_is;
-      })
+  restored-ends (Ok text) n end pages is text_is = restore-ends (outcome.Text text) (
+    unfailed-alone call alone,
+    record {
+      n = n;
+      end = end;
+      pages = pages;
+      is_restored = at-entry (λ disk. IsRestored disk.reads to n end pages) is;
+      text_is = text_is;
+    },
+  )
       (λ can. tt)
   restored-ends (Err error) n end pages is text_is = restore-ends (outcome.Fault fault.Memory) (λ runs. absurd (false≢true runs)) (λ can. tt)
 
@@ -75,5 +77,5 @@ module _ (call : LabCall) (to : ℕ) (unread : call.source_now ≡ call.source) 
   unrestored-ends one (Page p) cause risen = refused-ends one (refusal.Page p) cause
   unrestored-ends one (Block lsn) cause risen = refused-ends one (refusal.Block lsn) cause
   unrestored-ends one (Record lsn) cause risen = refused-ends one (refusal.Record lsn) cause
-  unrestored-ends one Dev cause risen = restore-ends (outcome.Fault fault.ArchiveDevice) (risen refl) (λ can. can.unfailed (risen refl))
+  unrestored-ends one Dev cause risen = restore-ends (outcome.Fault fault.ArchiveDevice) (risen refl, tt) (λ can. can.unfailed (risen refl))
   unrestored-ends one NoMemory cause risen = restore-ends (outcome.Fault fault.Memory) (λ runs. absurd (false≢true runs)) (λ can. tt)

@@ -21,7 +21,8 @@ use Rattle.redo_memdisk.specs.declared.fuse.Fuse.{Fuse}
 use Rattle.redo_lab.specs.Asked.{drive_of_seed}
 use Rattle.redo_lab.specs.Call.{Guarded, LabCall, WhereArchiveTold, WhereToldAtEntry, WhereToldNow}
 use Rattle.redo_lab.specs.Store.{AreBlank}
-use Rattle.redo_lab.specs.Told.{IsAccount, IsReportText, IsRunText, IsSummaryText}
+use Rattle.redo_lab.specs.Archived.{IsReportWith}
+use Rattle.redo_lab.specs.Told.{IsAccount, IsRunText, IsSummaryText}
 
 -- the sizes that the words of `format` ask for
 abbrev pub asked_shape : (pages space log_blocks : ℕ) → Shape
@@ -114,7 +115,7 @@ pub record IsCrashText (call : LabCall) (drive : Drive) (stop_log stop_data : Op
 -- A command that was done has this text to print.
 abbrev pub IsAnswer : LabCall → Command → List ℕ → Type 0
 IsAnswer call (Format pages space log_blocks) text = IsFormatAnswer call (asked_shape pages space log_blocks) text
-IsAnswer call (Run drive) text = IsRunText call (Run drive) drive IsReportText text
+IsAnswer call (Run drive) text = IsRunText call (Run drive) drive (IsReportWith (λ mark flushed. mark ≡ flushed) call drive) text
 IsAnswer call (Crash drive stop_log stop_data pick workers) text = IsCrashText call drive stop_log stop_data pick workers text
 IsAnswer call (Recover workers) text = IsReadOff call (λ reading text. text ≡ recover_text reading) text
 IsAnswer call (Dump why) text = IsReadOff call (IsListing call why) text

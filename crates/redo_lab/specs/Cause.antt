@@ -146,10 +146,20 @@ pub record IsMisfit (call : LabCall) (command : Command) (misfit : Misfit) : Typ
 abbrev pub IsUnscripted : LabCall → Command → Type 0 → Type 0
 IsUnscripted call command Cause = (reads_script command ≡ true) × Cause × BothDevices IsUnwritten call
 
--- the archive's device failed, which `restore` reads
-abbrev pub IsArchiveFault : LabCall → Command → Type 0
-IsArchiveFault call (Restore to) = HasRisen call.archive.entry.faults call.archive.now.faults
-IsArchiveFault call command = ⊥
+-- No archive was begun for the run. The store that was opened is read as it was.
+pub record IsUnarchived (call : LabCall) (drive : Drive) : Type 0 where
+  pub asked : drive.archive ≡ true
+  pub script : List ScriptLine
+  pub is_script : IsScriptRead call.source call.source_now script
+  pub unfailed : BothDevices IsUnfailed call
+  pub in_run : BothDevices IsInRun call
+  pub reads : AreLeftRead call script None
+
+-- which command the archive's device ended: `restore`, or a run before its first line
+abbrev pub EndsBefore : LabCall → Command → Type 0
+EndsBefore call (Restore to) = ⊤
+EndsBefore call (Run drive) = IsUnarchived call drive
+EndsBefore call command = ⊥
 
 -- nothing is restored, for this cause, from what reads of the archive's device gave at entry
 abbrev pub IsUnrestored : LabCall → Command → RestoreRefusal → Type 0
@@ -165,7 +175,7 @@ IsCauseOf call command LogDevice =
     IsPastSource call command × IsDeviceFault command call.log × IsUnbegun call command × LeavesFailed call command
 IsCauseOf call command DataDevice =
     IsPastSource call command × IsDeviceFault command call.store × IsUnbegun call command × LeavesFailed call command
-IsCauseOf call command ArchiveDevice = IsArchiveFault call command
+IsCauseOf call command ArchiveDevice = HasRisen call.archive.entry.faults call.archive.now.faults × EndsBefore call command
 IsCauseOf call command (Archive refusal) = IsUnrestored call command refusal
 IsCauseOf call command (Store refusal) = IsPastSource call command × AreUnfailedFor command call × IsRefused call command refusal
 IsCauseOf call command (Turns turns user) = AreTurnsSpent call command turns user
@@ -178,7 +188,7 @@ pub record AreLongEnough (shape : Shape) (log_size store_size : ℕ) : Type 0 wh
   pub log_long : log_device_length shape ≤ log_size
   pub data_long : data_device_length shape ≤ store_size
 
--- The script fits the store that fresh devices open, its archive has room, and what a crash left is fair.
+-- The script fits the store that fresh devices open, its archive has room on a device that doesn't fail, and what a crash left is fair.
 pub record CanPlay (call : LabCall) (drive : Drive) (script : List ScriptLine) : Type 0 where
   pub log : Disk
   pub store : Disk
@@ -193,6 +203,7 @@ pub record CanPlay (call : LabCall) (drive : Drive) (script : List ScriptLine) :
   pub long : IsUnused log.reads → AreLongEnough default_shape call.log.entry.size call.store.entry.size
   pub fits : FitsOpened drive.log_only opened script
   pub archive_fits : ArchiveFits opened.shape (start_after opened.end) (archive_size call.archive drive) script
+  pub archive_unfailed : drive.archive ≡ true → HasRisen call.archive.entry.faults call.archive.now.faults → ⊥
   pub fair : IsLeftFair call opened
 
 -- The source holds such a script.

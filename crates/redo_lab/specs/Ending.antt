@@ -1,12 +1,12 @@
 -- THE CONTRACT OF THE TOP CALL: what each ending means.
-use Rattle.std.specs.Prelude.{ℕ, ◌≡◌, ◌≢◌, ◌<◌, ◌+◌, ◌⊎◌, true, false, List, [], ◌++◌, Some, None, ⊤}
+use Rattle.std.specs.Prelude.{ℕ, ◌≡◌, ◌≢◌, ◌≤◌, ◌<◌, ◌+◌, ◌⊎◌, true, false, List, [], ◌++◌, Some, None, ⊤}
 use Rattle.model_base.specs.{HasRisen}
 use Rattle.model_base.specs.declared.limits.TheConstants.{MAX_SCRIPT}
 use Rattle.model_script.specs.declared.asked.Command.{Command}
 use Rattle.model_script.specs.declared.asked.Command.TheVariants.{Restore, Run}
 use Rattle.model_report.specs.{fault_line, status_of}
 use Rattle.model_report.specs.declared.fault.Fault.{Fault}
-use Rattle.model_report.specs.declared.fault.Fault.TheVariants.{Memory, Sink, LogDevice, DataDevice, Words}
+use Rattle.model_report.specs.declared.fault.Fault.TheVariants.{Memory, Sink, LogDevice, DataDevice, ArchiveDevice, Words}
 use Rattle.redo_disk.specs.Seen.{StillTells}
 use Rattle.redo_io.specs.{SinkSeen, TakesAtMost, TakesPart, with_taken}
 use Rattle.redo_io.specs.declared.read.TheConstants.{PIECE}
@@ -14,9 +14,10 @@ use Rattle.redo_lab.specs.declared.outcome.Outcome.{Outcome}
 use Rattle.redo_lab.specs.declared.outcome.Outcome.TheVariants as outcome
 use Rattle.redo_lab.specs.Answer.{IsAnswer}
 use Rattle.redo_lab.specs.Asked.{command_of, leaves_devices, reads_script, runs_script}
-use Rattle.redo_lab.specs.Call.{AreUnfailedFor, BothDevices, IsUnfailedAside, IsUnwritten, LabCall}
+use Rattle.redo_lab.specs.Call.{AreUnfailedFor, BothDevices, IsUnfailedAside, IsUnwritten, LabCall, mids}
 use Rattle.redo_lab.specs.Cause.{IsCauseOf, IsPossible, MayKeepFrom}
-use Rattle.redo_lab.specs.Told.{IsReportText, IsRunText, LeavesStore}
+use Rattle.redo_lab.specs.Archived.{IsReportWith}
+use Rattle.redo_lab.specs.Told.{IsRunText, LeavesStore}
 
 -- the status of a call that did what it was asked
 abbrev pub success : ℕ
@@ -38,16 +39,18 @@ IsTextPrinted text status sink sink_now =
 abbrev pub IsFaultPrinted : List ℕ → Fault → ℕ → SinkSeen → SinkSeen → Type 0
 IsFaultPrinted text fault status sink sink_now = (status ≡ status_of fault) × IsPutOut (text ++ fault_line fault) sink sink_now
 
--- which device ended a run: the log device where both failed
+-- which device ended a run: the log device where more failed, and the archive's where no other did
 abbrev pub EndsRun : LabCall → Fault → Type 0
 EndsRun call LogDevice = HasRisen call.log.entry.faults call.log.now.faults × (0 < call.log.fuse.mid)
 EndsRun call DataDevice =
     HasRisen call.store.entry.faults call.store.now.faults × (0 < call.store.fuse.mid) × (call.log.fuse.mid ≡ 0)
+EndsRun call ArchiveDevice = HasRisen call.archive.entry.faults call.archive.now.faults × (mids call ≡ 0)
 EndsRun call _ = ⊥
 
 -- a device ended the run, which is reported before the fault's line
 abbrev pub IsReported : LabCall → Command → List ℕ → Fault → Type 0
-IsReported call (Run drive) text fault = IsRunText call (Run drive) drive IsReportText text × EndsRun call fault × BothDevices IsUnfailedAside call
+IsReported call (Run drive) text fault =
+    IsRunText call (Run drive) drive (IsReportWith (λ mark flushed. mark ≤ flushed) call drive) text × EndsRun call fault × BothDevices IsUnfailedAside call
 IsReported call command text fault = ⊥
 
 -- WHAT THE COMMAND COMES TO: its text, where no device failed that keeps the command from it; or a report of the run that a device ended; or a fault alone, with its cause

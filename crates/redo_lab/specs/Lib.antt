@@ -1,4 +1,6 @@
 pub mod Answer
+pub mod Archived
+pub mod Archiving
 pub mod Asked
 pub mod Call
 pub mod Cause

@@ -1,5 +1,5 @@
 -- A command that runs a script: how far its run came, and what that leaves of the two devices.
-use Rattle.std.specs.Prelude.{ℕ, ◌≡◌, ◌≢◌, ◌<◌, ◌+◌, false, List, [], Option, Some, None, IfSome, Result, Ok, Err, length}
+use Rattle.std.specs.Prelude.{ℕ, ◌≡◌, ◌≢◌, ◌≤◌, ◌<◌, ◌+◌, false, List, [], Option, Some, None, IfSome, Result, Ok, Err, length}
 use Rattle.std.specs.Prelude.{Vec}
 use Rattle.std.specs.Borrow.{Bor}
 use Rattle.std.specs.declared.alloc.Global.{Global}
@@ -40,6 +40,7 @@ use Rattle.redo_lab.specs.declared.playing.Course.TheVariants as course
 use Rattle.redo_lab.specs.declared.playing.Played.{Played}
 use Rattle.redo_lab.specs.declared.playing.Ran as declared
 use Rattle.redo_lab.specs.declared.playing.Stops.{Stops}
+use Rattle.redo_lab.specs.Archived.{IsArchived}
 use Rattle.redo_lab.specs.Asked.{IsScriptFor, drive_of, reads_script}
 use Rattle.redo_lab.specs.Call.{BothDevices, LabCall, WhereOpened, WhereToldAtEntry, WhereToldNow, mids}
 use Rattle.redo_lab.specs.Devices.{AreArmed, ArePrepared, IsUnarmed, to_be_armed}
@@ -110,6 +111,11 @@ IsPlayedTo call None = (mids call ≡ 0) × ((store : Opened) → WhereOpened ca
     (reading : Reading) × IsReading log_disk.reads data_disk.reads reading)))
 IsPlayedTo call (Some fault) = HasFailed call fault
 
+-- what its archive is left with, if it has one: the run up to FLUSHED, if no device failed
+abbrev pub IsArchivedTo : LabCall → Drive → List ScriptLine → Ran → Option Fault → Type 0
+IsArchivedTo call drive script run None = IsArchived (λ mark flushed. mark ≡ flushed) call drive script run
+IsArchivedTo call drive script run (Some fault) = IsArchived (λ mark flushed. mark ≤ flushed) call drive script run
+
 -- the run, as the theorem has it
 abbrev pub ran_of : Played → Ran
 ran_of played = record { start = played.start; entries = played.history; marks = played.marks }
@@ -122,6 +128,7 @@ ComesTo call command drive stops script (course.Stopped fault) =
 ComesTo call command drive stops script (course.Played played fault) =
     IsLeftBy call command drive stops script (Some (ran_of played)) played.follows.items ended.Done
     × IsToldRightly call drive script (Some (ran_of played)) played.follows.items × IsPlayedTo call fault
+    × IsArchivedTo call drive script (ran_of played) fault
 
 -- the same of the devices that are given back, with which the call is this
 abbrev pub IsRanBy : {L D : Type 0} → (Fused L → Fused D → LabCall) → Command → Drive → Stops → List ScriptLine → declared.Ran L D → Type 0

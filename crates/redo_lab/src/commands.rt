@@ -112,10 +112,11 @@ pub(crate) fn source_in_threads<
     match read_script(alloc, src) {
         Ok(script) => {
             let log_only = asked.drive.log_only;
+            let own_writes = asked.drive.own_writes;
             let followers = asked.drive.followers;
             let stops = stops_of(asked.crash);
             let ran = in_threads(
-                rt, alloc, &script, log_only, followers, gate, stops, log, store,
+                rt, alloc, &script, log_only, own_writes, followers, gate, stops, log, store,
             );
             after_run(rt, alloc, &script, ran, asked.crash)
         }
@@ -149,7 +150,10 @@ pub(crate) fn done<R: Threads + Sync, S: Source, L: Sectors, D: Sectors, A: Sect
             pages,
             space,
             log_blocks,
-        } => (format_devices(alloc, pages, space, log_blocks, log, store), arch),
+        } => (
+            format_devices(alloc, pages, space, log_blocks, log, store),
+            arch,
+        ),
         Command::Run { drive } => {
             let asked = Scripted { drive, crash: None };
             (source_by_turns(rt, alloc, src, asked, log, store), arch)

@@ -21,14 +21,7 @@ use std::thread::Threads;
 
 /// Does a command that runs nothing in threads on the two devices, with the script of the source where it takes one, and prints
 /// what came of it. Threads may still help to read the store.
-pub fn lab_turns<
-    R: Threads + Sync,
-    S: Source,
-    O: Sink,
-    L: Sectors,
-    D: Sectors,
-    A: Sectors,
->(
+pub fn lab_turns<R: Threads + Sync, S: Source, O: Sink, L: Sectors, D: Sectors, A: Sectors>(
     rt: &R,
     alloc: Global,
     command: Command,

@@ -2,6 +2,7 @@
 //! means, carries the crash theorem, of a run that is the drive's, and says that whatever the status what is left is accepted.
 #![tactic(auto)]
 
+mod archiving;
 mod asked;
 mod commands;
 mod crash_command;

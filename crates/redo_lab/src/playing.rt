@@ -214,14 +214,7 @@ fn open_fitted<L: Sectors, D: Sectors>(
     };
     let start = opened.start;
     let room_end = room_from(log_only, &opened.shape, start);
-    match judge(
-        alloc,
-        &opened.shape,
-        start,
-        room_end,
-        archive_len,
-        script,
-    ) {
+    match judge(alloc, &opened.shape, start, room_end, archive_len, script) {
         Ok(()) => Ok(opened),
         Err(Unfit::Misfit(misfit)) => Err(unplayed(
             Fault::Fit(misfit),
@@ -310,6 +303,7 @@ pub(crate) fn in_threads<R: Threads + Wait + Sync, L: Sectors + Send, D: Sectors
     alloc: Global,
     script: &Script,
     log_only: bool,
+    own_writes: bool,
     followers: u32,
     gate: &G,
     stops: Stops,
@@ -333,7 +327,7 @@ pub(crate) fn in_threads<R: Threads + Wait + Sync, L: Sectors + Send, D: Sectors
     let Ok((followers, follows)) = make_followers(alloc, followers, start) else {
         return unbegun(opened);
     };
-    match drive_in_threads(rt, alloc, opened, script, log_only, followers, gate) {
+    match drive_in_threads(rt, alloc, opened, script, log_only, own_writes, followers, gate) {
         Ok((driven, actors)) => close(start, driven, told_of(follows, actors.as_slice())),
         Err((_, log, store)) => unplayed(Fault::Memory, log, store),
     }

@@ -69,9 +69,7 @@ fn ended_of<L: Sectors + Send + Drop, D: Sectors + Send + Drop, G: Gate>(
 ) -> Result<Ended<L, D, MemDisk>, AllocError> {
     let alloc = rt.alloc();
     let arch = MemDisk::new(alloc, ARCHIVE)?;
-    Ok(lab(
-        rt, alloc, words, source, sink, log, store, arch, gate,
-    ))
+    Ok(lab(rt, alloc, words, source, sink, log, store, arch, gate))
 }
 
 impl Call {

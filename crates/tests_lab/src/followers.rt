@@ -131,6 +131,7 @@ fn tells_of_four_followers(rt: HostRuntime) -> Result<(), Fail> {
         "run --followers 4",
         "run --followers 4 --own-writes",
         "run --followers 4 --threads",
+        "run --followers 4 --threads --own-writes",
         "crash --followers 4 --threads",
         "crash --followers 4 --threads --log-only",
     ] {
@@ -142,8 +143,14 @@ fn tells_of_four_followers(rt: HostRuntime) -> Result<(), Fail> {
 /// So many lines of 8,192 bytes are more than one round of the least log.
 #[test]
 fn followers_let_checkpoints_free_the_log(rt: HostRuntime) -> Result<(), Fail> {
-    let devices = left_by(&rt, "new | format --log-blocks 1024 | | 0 | formatted 8192")?;
     let lines = "[1 f s 3 38 (07*4050);s 3 38 (07*4050);s 3 38 (07*70) / *65]";
     let script = spelled(rt.alloc(), lines)?;
-    see_four(&rt, "run --followers 4 --threads", &script, 65, devices)
+    for words in [
+        "run --followers 4 --threads",
+        "run --followers 4 --threads --own-writes",
+    ] {
+        let devices = left_by(&rt, "new | format --log-blocks 1024 | | 0 | formatted 8192")?;
+        see_four(&rt, words, &script, 65, devices)?;
+    }
+    Ok(())
 }

@@ -20,6 +20,8 @@ mod invalid_disk;
 #[cfg(test)]
 mod logs;
 #[cfg(test)]
+mod own_writes;
+#[cfg(test)]
 mod premises;
 #[cfg(test)]
 mod rounds;

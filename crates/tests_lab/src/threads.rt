@@ -109,7 +109,12 @@ fn see_gated(
 /// goes on. Each user waits for the other, so that the test fails where the actors play one after another.
 #[test]
 fn gate_two_users(rt: HostRuntime) -> Result<(), Fail> {
-    for words in ["crash --threads", "crash --threads --log-only"] {
+    for words in [
+        "crash --threads",
+        "crash --threads --log-only",
+        "crash --threads --own-writes",
+        "crash --threads --own-writes --log-only",
+    ] {
         let reserved = TwoUsers::new(Point::Reserved, Point::Linked, 1);
         see_gated(&rt, words, &reserved)?;
         let linked = TwoUsers::new(Point::Linked, Point::Reserved, 2);
@@ -131,6 +136,12 @@ fn stop_threads(
 }
 
 #[test]
+fn keeps_flushed_lines_where_a_device_stops_users_in_threads(rt: HostRuntime) -> Result<(), Fail> {
+    stop_threads(&rt, "--threads --own-writes --stop-log @")?;
+    stop_threads(&rt, "--threads --own-writes --stop-data @")
+}
+
+#[test]
 fn keeps_flushed_lines_where_the_log_device_stops_threads(rt: HostRuntime) -> Result<(), Fail> {
     stop_threads(&rt, "--threads --stop-log @")
 }
@@ -149,7 +160,13 @@ fn keeps_flushed_lines_where_both_devices_stop_threads(rt: HostRuntime) -> Resul
 fn keeps_flushed_lines_where_a_call_of_the_log_device_fails_threads(
     rt: HostRuntime,
 ) -> Result<(), Fail> {
-    fail_each_call(&rt, "--threads", "log", "6\nfault log device\n")
+    fail_each_call(&rt, "--threads", "log", "6\nfault log device\n")?;
+    fail_each_call(
+        &rt,
+        "--threads --own-writes",
+        "log",
+        "6\nfault log device\n",
+    )
 }
 
 #[test]

@@ -54,9 +54,6 @@ run --own-writes --own-writes
 run --own-writes=1
 run --own-writes=
 run --own-writes 1
-run --own-writes --threads
-run --threads --own-writes
-run --threads --log-only --followers 2 --own-writes
 run --archive --archive
 run --archive=1
 run --archive 1
@@ -104,8 +101,6 @@ crash --workers 0
 crash --workers 17
 crash --workers 1 --workers 1
 crash --own-writes --own-writes
-crash --own-writes --threads
-crash --threads --pick 1 --own-writes
 crash --archive
 crash --archive --pick 1
 crash --to 8210

@@ -1,5 +1,5 @@
 // Runs in threads: that they end, and where users pass the gate.
-use crate::store::{Device, LOG_ALONE, LOG_CALLS, PAGES, Ready, Way, make_ready, no_followers};
+use crate::store::{Device, LOG_CALLS, Ready, WAYS, Way, make_ready, no_followers};
 use crate::text::{lines_of, user_lines};
 use crate::told::{see_told, told_of};
 use crate::watch::{NOBODY, Watch};
@@ -26,6 +26,7 @@ pub fn left_by<R: Threads + Wait + Sync, G: Gate>(
         opened,
         &script,
         way.log_only,
+        way.own_writes,
         no_followers(alloc),
         gate,
     ) {
@@ -60,7 +61,7 @@ fn see_users_end<R: Abort + AllocGlobal + Threads + Wait + Sync>(
     let text = lines_of(rt.alloc(), users, "f", lines, 8)?;
     let groups = (users as usize).saturating_mul(lines);
     let groups = format!(in rt.alloc(); "all flushed true groups {groups}: ")?;
-    for way in [LOG_ALONE, PAGES] {
+    for way in WAYS {
         let watch = Watch::new(false, refused);
         see(rt, &text, way, &watch, &["code 0 ", &groups])?;
     }
@@ -75,8 +76,8 @@ fn users_end(rt: HostRuntime) -> Result<(), Fail> {
     see_users_end(&rt, 16, 3, NOBODY)
 }
 
-/// The caller plays an actor whose thread is refused, beside the threads of the others: of two users, writer, flusher,
-/// closer, cleaner and checkpointer each one alone, several and all.
+/// The caller plays in place of a thread that is refused, beside the threads of the others: of two users, writer and flusher, if
+/// they play, closer, cleaner and checkpointer each one alone, several and all.
 #[test]
 fn an_actor_with_no_thread_is_played(rt: HostRuntime) -> Result<(), Fail> {
     for number in 0..7 {
@@ -89,13 +90,16 @@ fn an_actor_with_no_thread_is_played(rt: HostRuntime) -> Result<(), Fail> {
 /// The log device fails where the group is written: the user is never answered.
 #[test]
 fn a_failure_ends_all(rt: HostRuntime) -> Result<(), Fail> {
-    let way = Way {
-        log_calls: Some(LOG_CALLS),
-        ..PAGES
-    };
-    let watch = Watch::new(false, NOBODY);
-    let wants = ["code 1 ", " groups 1: (1, 0, 8204, 8210, Lost);"];
-    see(&rt, "1 f b1 3 100 7\n", way, &watch, &wants)
+    for way in WAYS {
+        let failing = Way {
+            log_calls: Some(LOG_CALLS),
+            ..way
+        };
+        let watch = Watch::new(false, NOBODY);
+        let wants = ["code 1 ", " groups 1: (1, 0, 8204, 8210, Lost);"];
+        see(&rt, "1 f b1 3 100 7\n", failing, &watch, &wants)?;
+    }
+    Ok(())
 }
 
 /// Sees that so many groups pass each point once, of which the last is for pages alone.
@@ -106,8 +110,11 @@ fn see_points<R: Abort + AllocGlobal + Threads + Wait + Sync>(
 ) -> Result<(), Fail> {
     let alone = format!(in rt.alloc(); "passed {:?}", (groups, groups, groups, 0u64))?;
     let pages = format!(in rt.alloc(); "passed {:?}", (groups, groups, groups, groups))?;
-    see(rt, text, LOG_ALONE, &Watch::new(false, NOBODY), &[&alone])?;
-    see(rt, text, PAGES, &Watch::new(false, NOBODY), &[&pages])
+    for way in WAYS {
+        let want = if way.log_only { &alone } else { &pages };
+        see(rt, text, way, &Watch::new(false, NOBODY), &[want])?;
+    }
+    Ok(())
 }
 
 /// The first of three groups is on one page, the second on two, and the third has 600 bytes: so it ends in another
@@ -128,10 +135,10 @@ fn clearing_links_passes_no_point(rt: HostRuntime) -> Result<(), Fail> {
     see_points(&rt, &text, 48)
 }
 
-/// While user 1 is held with its reserved place, user 2 links its group.
+/// While user 1 is held with its reserved place, user 2 links its group. Where it writes for itself, it can't write that yet.
 #[test]
 fn a_user_links_beside_another(rt: HostRuntime) -> Result<(), Fail> {
-    for way in [LOG_ALONE, PAGES] {
+    for way in WAYS {
         let watch = Watch::new(true, NOBODY);
         let wants = ["code 0 ", "all flushed true groups 2: "];
         see(&rt, "1 f b1 3 100 7\n2 f b1 4 100 8\n", way, &watch, &wants)?;

@@ -34,11 +34,12 @@ const DATA: u64 = 65_536;
 /// How many calls of the data device it makes: the slots and eight places are read, and there is a sync.
 pub const DATA_CALLS: u64 = (1 + 8) + 1;
 
-/// How a store is run: with the log alone or with the pages, on devices that pass so many calls from the first of
-/// opening on.
+/// How a store is run: with the log alone or with the pages, by users that write for themselves or don't, on devices that
+/// pass so many calls from the first of opening on.
 #[derive(Clone, Copy)]
 pub struct Way {
     pub log_only: bool,
+    pub own_writes: bool,
     pub log_calls: Option<u64>,
     pub data_calls: Option<u64>,
 }
@@ -46,6 +47,7 @@ pub struct Way {
 /// With the pages, on devices that pass all calls.
 pub const PAGES: Way = Way {
     log_only: false,
+    own_writes: false,
     log_calls: None,
     data_calls: None,
 };
@@ -55,6 +57,20 @@ pub const LOG_ALONE: Way = Way {
     log_only: true,
     ..PAGES
 };
+
+/// Each where users write for themselves, and where they don't.
+pub const WAYS: [Way; 4] = [
+    LOG_ALONE,
+    PAGES,
+    Way {
+        own_writes: true,
+        ..LOG_ALONE
+    },
+    Way {
+        own_writes: true,
+        ..PAGES
+    },
+];
 
 /// A store on which the run of a script may begin.
 pub struct Ready {

@@ -1,6 +1,6 @@
 // A slow user: all that wait for it sleep, and what it does wakes them.
 use crate::runs::left_by;
-use crate::store::LOG_ALONE;
+use crate::store::{LOG_ALONE, Way};
 use crate::text::lines_of;
 use redo_threads::{Gate, Point};
 use std::sync::atomic::{AtomicU64, Ordering};
@@ -44,18 +44,24 @@ impl<R: Clock + Sync> Gate for SlowUser<'_, R> {
 
 /// User 2 waits for FLUSHED behind each of 48 groups of user 1. While that is held, the writer, the flusher and user 2 fall
 /// asleep, each for a second if it isn't woken. So a ring that wakes nobody costs up to a second for each group; else the run takes 48
-/// times 10 milliseconds and a little.
+/// times 10 milliseconds and a little. Where users write for themselves, user 2 has been on an errand in vain.
 #[test]
 fn who_waits_for_a_slow_user_is_woken(rt: HostRuntime) -> Result<(), Fail> {
     let text = lines_of(rt.alloc(), 2, "f", 48, 12)?;
-    let gate = SlowUser {
-        rt: &rt,
-        reserved: AtomicU64::new(0),
-        linked: AtomicU64::new(0),
-    };
-    let start = Instant::now(&rt)?;
-    left_by(&rt, rt.alloc(), &text, LOG_ALONE, &gate)?;
-    let took = start.elapsed(&rt)?;
-    assert!(&rt; took < Duration::from_secs(40), "{took:?}");
+    for own_writes in [false, true] {
+        let way = Way {
+            own_writes,
+            ..LOG_ALONE
+        };
+        let gate = SlowUser {
+            rt: &rt,
+            reserved: AtomicU64::new(0),
+            linked: AtomicU64::new(0),
+        };
+        let start = Instant::now(&rt)?;
+        left_by(&rt, rt.alloc(), &text, way, &gate)?;
+        let took = start.elapsed(&rt)?;
+        assert!(&rt; took < Duration::from_secs(40), "{took:?}");
+    }
     Ok(())
 }

@@ -3,13 +3,16 @@ use Rattle.redo_lab.proofs.lab_call.lab_turns.Goals as goal
 
 pub returns-clause-call : goal.returns-clause-call
 returns-clause-call g c = λ words asked. rw (c.end.ensures.log, c.end.ensures.store, c.end.ensures.arch) (record {
-  way = inr (c.args.command, record {
-    asked = asked;
-    outcome = c.done-done.result.0.outcome;
-    ends = c.done-done.ensures.ends words;
-    restores = c.done-done.ensures.restores words;
-    printed = c.end.ensures.printed;
-  });
+  way = inr (
+    c.args.command,
+    record {
+      asked = asked;
+      outcome = c.done-done.result.0.outcome;
+      ends = c.done-done.ensures.ends words;
+      restores = c.done-done.ensures.restores words;
+      printed = c.end.ensures.printed;
+    },
+  );
   reads_little = c.done-done.ensures.taken;
 })
 

@@ -35,7 +35,8 @@ returns-in-Ok-run_turns-clause-comes_to g c = λ words archive source source_now
     c.in-Ok-run_turns.actors.items c.told_of.result.items c.as_slice.ensures.value
     c.in-Ok-make_followers.ensures.untold c.in-Ok-run_turns.ensures.followed.same
     c.in-Ok-make_followers.ensures.room.1 (c.told_of.ensures c.in-Ok-make_followers.ensures.room.0))
-    (spends-turns g.L.Sectors.seen g.L.Sectors.gives g.D.Sectors.seen g.D.Sectors.gives _ _ c.args.drive.now))
+    (spends-turns g.L.Sectors.seen g.L.Sectors.gives g.D.Sectors.seen g.D.Sectors.gives _ _ c.args.drive.now)
+    c.requires.unarchived)
 
 pub returns-in-Err-run_turns-clause-comes_to : goal.returns-in-Err-run_turns-clause-comes_to
 returns-in-Err-run_turns-clause-comes_to g c = λ words archive source source_now command running is.
