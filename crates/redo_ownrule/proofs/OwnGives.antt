@@ -260,6 +260,7 @@ module _ {L D : Type 0} (log_seen : L → Seen) (log_gives : L → Call → L �
         log_served = refl;
         data_served = played.untouched (run_data_side log_seen data_seen R.run) R.parts.store R.parts.store l (op.GiveList i) 0
             tt refl;
+        own_served = tt;
         words = ap (λ (y : List ℕ). slice_set y (7 + suc i) 0) (sym R.words_are)
             ∙ ap (λ (n : ℕ). slice_set R.parts.words.words n 0) word;
         lists = refl;

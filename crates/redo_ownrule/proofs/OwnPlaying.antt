@@ -74,6 +74,7 @@ module _ {L D : Type 0} (table : TableId) (seat : Seat (Slot L D) (View L D)) (o
     NoOp (op.Checkpoint x) = Unit {0}
     NoOp (op.ReadBlock b) = Unit {0}
     NoOp op.WriteBatch = Unit {0}
+    NoOp (op.Append x) = Unit {0}
     NoOp _ = ⊥
 
     pub no_such : (b : Op) → NoOp b → a ≡ b → ⊥
@@ -86,5 +87,7 @@ module _ {L D : Type 0} (table : TableId) (seat : Seat (Slot L D) (View L D)) (o
     no_such (op.ReadBlock b) none is = never o k (stepping.go table seat o mine).in_hand (op.ReadBlock b) (asked ∙ is)
         (λ z. z) (λ z. z) (λ z. z) (λ e. absurd (cc)) (λ e. absurd (cc)) (λ e. absurd (cc))
     no_such op.WriteBatch none is = never o k (stepping.go table seat o mine).in_hand op.WriteBatch (asked ∙ is)
+        (λ z. z) (λ z. z) (λ z. z) (λ e. absurd (cc)) (λ e. absurd (cc)) (λ e. absurd (cc))
+    no_such (op.Append x) none is = never o k (stepping.go table seat o mine).in_hand (op.Append x) (asked ∙ is)
         (λ z. z) (λ z. z) (λ z. z) (λ e. absurd (cc)) (λ e. absurd (cc)) (λ e. absurd (cc))
     no_such _ none is = absurd none
