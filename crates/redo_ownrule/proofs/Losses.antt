@@ -2,7 +2,7 @@
 use Rattle.std.proofs.Common.{Bool, List, None, Option, Some, [], ap, false, map, suc, sym, true, zero, ℕ, ◌∙◌, ◌∷◌, ◌≡◌}
 use lib.ListN.{get_elem?}
 use mathlib.Core.Option as maybe
-use Rattle.model_core.specs.{HasLost, ReaderState}
+use Rattle.model_core.specs.{ReaderState}
 use Rattle.model_core.specs.Actors as model
 use Rattle.model_own.specs.OwnWrites.{LogWork}
 use Rattle.redo_disk.specs.declared.error.DevError.{DevError}

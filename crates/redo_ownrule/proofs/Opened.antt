@@ -111,7 +111,7 @@ module _ {L D R : Type 0} (log_seen : L → Seen) (data_seen : D → Seen) (stan
         others = views_of (plain_actors ps);
         are = ap (λ (l : List (Actor R)). views_of l) (sym same) ∙ crew_views k (own_users ps) (plain_actors ps);
         errands = (own_begins.runs log_seen data_seen stands about.opened.value about.script.value about.log_only
-            about.archive followers start B may (own_users ps) k (plain_actors ps) same (users_home ps S.at_home)).errands;
+            followers start B may (own_users ps) k (plain_actors ps) same (users_home ps S.at_home)).errands;
       }
 
   works : (own : Bool) (work : Option LogWork) → is_some work ≡ own → AreInOrder own ps

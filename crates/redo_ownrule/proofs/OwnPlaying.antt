@@ -1,5 +1,5 @@
 -- A user's seat after an Op, and what it asks for.
-use Rattle.std.proofs.Common.{Bool, List, Option, Some, [], ap, refl, subst, sym, true, ℕ, ◌∙◌, ◌∷◌, ◌≡◌}
+use Rattle.std.proofs.Common.{List, Some, [], ap, subst, sym, true, ℕ, ◌∙◌, ◌∷◌, ◌≡◌}
 use Rattle.atomic_table.specs.Seated.{TableId}
 use Rattle.atomic_table.specs.Table.{rest}
 use Rattle.atomic_table.specs.declared.shared.Seat.{Seat}
@@ -16,7 +16,6 @@ use Rattle.redo_ownrule.proofs.OwnMay.{own_rests}
 use Rattle.redo_ownrule.proofs.OwnOps.{never}
 use Rattle.redo_ownrule.proofs.OwnStepping as stepping
 use Rattle.redo_ownrule.specs.OwnMine.{IsOwnSeat, KeepsOwnSeat, OwnMine}
-use Rattle.redo_ownrule.specs.OwnPlays.{HasWork}
 use Rattle.redo_ownrule.specs.OwnSlots.{GoesOnIn, LiesIn}
 use Rattle.redo_ownrule.specs.Playing.{OwnAsks}
 use Rattle.redo_rule.specs.declared.law.Desk.{Desk}

@@ -1,6 +1,4 @@
-use Rattle.std.proofs.Common.{List, ap, length, refl, subst, sym, ◌∙◌, ◌≡◌}
-use Rattle.redo_drive.specs.Views.{views_of}
-use Rattle.redo_drive.specs.declared.actor.Actor.{Actor}
+use Rattle.std.proofs.Common.{List, ap, length, refl, subst, sym, ◌∙◌}
 use Rattle.redo_ownrule.proofs.Finished.{actors_fit, actors_of, all_groups, all_out, closes, finished, its_list}
 use Rattle.redo_ownrule.proofs.Left.{leaves_players}
 use Rattle.redo_ownrule.proofs.Losses.{its_losses}

@@ -15,7 +15,7 @@ use Rattle.redo_rule.specs.declared.law.About.{About}
 
 pub take_staff-requires : goal.take_staff-requires
 take_staff-requires g c = have_workers g.L.Sectors.seen g.D.Sectors.seen g.R.Receiver.stands_for c.args.opened
-    c.args.script.now c.args.log_only c.args.archive c.args.followers.items c.in_ok-parts.field-0 c.in_ok-parts.ensures.begins
+    c.args.script.now c.args.log_only c.args.followers.items c.in_ok-parts.field-0 c.in_ok-parts.ensures.begins
 
 pub make_board-requires : goal.make_board-requires
 make_board-requires g c =
