@@ -119,7 +119,7 @@ module _ {L D : Type 0} (log_seen : L → Seen) (log_gives : L → Call → L �
       → TellsIn threads own_writes asked store script actors driven → driven.ended ≡ Spent turns user
       → MaySpend asked turns
   may-spend false false asked store script actors driven turns user is own told ended =
-      record { by_turns = is; few = λ plain. told.few turns user ended }
+      record { by_turns = is; few = λ plain alone unarchived. told.few turns user ended alone }
   may-spend false true asked store script actors driven turns user is own told ended =
       record { by_turns = is; few = λ plain. absurd (false≢true (sym plain ∙ own)) }
   may-spend true own_writes asked store script actors driven turns user is own told ended =

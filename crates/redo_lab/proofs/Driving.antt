@@ -58,7 +58,7 @@ use Rattle.redo_lab.specs.Handed.{TellsOf, call_on}
 use Rattle.redo_lab.specs.Laws.{Laws}
 use Rattle.redo_lab.specs.Runs.{ComesTo, CommandRuns, IsArchivedTo, IsLeftBy, IsToldRightly, StandsReady, course_done, course_of, ended_by, played_of, ran_of}
 use Rattle.redo_lab.specs.Store.{AreReadAsPrefix}
-use Rattle.redo_lab.specs.Told.{AreFollowed, AreLeftRead, AreMarksRead, IsFollowed, IsOpenedFirst}
+use Rattle.redo_lab.specs.Told.{AreFollowed, AreLeftRead, AreMarksRead, IsFollowed, IsOpenedFirst, LosesOnlyBy}
 
 -- what reads give of a log device that was synced is fair
 synced-fair : (disk : Disk) → IsFairLog (synced disk) disk.reads
@@ -209,10 +209,10 @@ module _ {L D : Type 0} (log_seen : L → Seen) (log_gives : L → Call → L �
 
   -- ALL USERS ENDED: something is lost only where a device failed.
   loses-so : driven.ended ≡ Done → HasMemory driven.closed → (left : List (ℕ × ℕ)) → IsLeft script run.entries left
-      → LosesOnlyByFailure (mids call) (Some run) left
+      → LosesOnlyBy call drive (Some run) left
   loses-so done memory left left_is =
       let counted : failed_in driven.closed ≡ mids call = omega (arith, log-mid, data-mid) in
-      subst (λ (n : ℕ). LosesOnlyByFailure n (Some run) left) counted (owes.comes_to.loses left done memory left_is)
+      inl (subst (λ (n : ℕ). LosesOnlyByFailure n (Some run) left) counted (owes.comes_to.loses left done memory left_is))
 
   -- and where no call answered an error, what reads give is read
   read-now : driven.ended ≡ Done → HasMemory driven.closed → driven.closed.log.failed ≡ None → driven.closed.store.failed ≡ None
@@ -340,6 +340,7 @@ module _ {L D : Type 0} (log_seen : L → Seen) (log_gives : L → Call → L �
   ended-so : (how : RunEnd) → driven.ended ≡ how → ComesTo call command drive stops script (course_of how played (ended_by driven.closed.log.failed driven.closed.store.failed))
   ended-so Done how = done-by driven.closed.log.failed driven.closed.store.failed refl refl how
   ended-so (Spent turns user) how = left-spent call command drive script running laws turns user spends (left-so (Spent turns user) how)
+      (λ archived. absurd (false≢true (sym unarchived ∙ archived)))
 
   -- WHAT THE RUN COMES TO.
   pub driven-comes : ComesTo call command drive stops script (course_of driven.ended played (ended_by driven.closed.log.failed driven.closed.store.failed))
