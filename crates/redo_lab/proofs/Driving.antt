@@ -82,7 +82,7 @@ module _ {L D : Type 0} (log_seen : L → Seen) (log_gives : L → Call → L �
     driven.closed)
     (of_followers : AllZip IsToldOf (followers_in actors) follows.items)
     (spends : SpendsTurns (call_on log_seen log_gives data_seen data_gives words archive source source_now log data_device driven.closed.log.dev driven.closed.store.dev) drive)
-    (unarchived : drive.archive ≡ false) where
+    (unarchived : drive.archive ≡ false) (unlost : driven.closed.lost ≡ None) where
   abbrev opening : LabCall
   opening = call_on log_seen log_gives data_seen data_gives words archive source source_now log data_device given.log.dev given.store.dev
 
@@ -211,7 +211,7 @@ module _ {L D : Type 0} (log_seen : L → Seen) (log_gives : L → Call → L �
   loses-so : driven.ended ≡ Done → HasMemory driven.closed → (left : List (ℕ × ℕ)) → IsLeft script run.entries left
       → LosesOnlyBy call drive (Some run) left
   loses-so done memory left left_is =
-      let counted : failed_in driven.closed ≡ mids call = omega (arith, log-mid, data-mid) in
+      let counted : failed_in driven.closed ≡ mids call = omega (arith, log-mid, data-mid, ap failures unlost) in
       inl (subst (λ (n : ℕ). LosesOnlyByFailure n (Some run) left) counted (owes.comes_to.loses left done memory left_is))
 
   -- and where no call answered an error, what reads give is read
@@ -313,7 +313,8 @@ module _ {L D : Type 0} (log_seen : L → Seen) (log_gives : L → Call → L �
   done-by : (log_error data_error : Option DevError) → driven.closed.log.failed ≡ log_error → driven.closed.store.failed ≡ data_error → driven.ended ≡ Done
       → ComesTo call command drive stops script (course_done played (ended_by log_error data_error))
   done-by None None log_is data_is done =
-      let memory : HasMemory driven.closed = λ lacks. ⊎_elim (λ log. let e = sym log_is ∙ log in absurd (cc)) (λ store. let e = sym data_is ∙ store in absurd (cc)) lacks in (
+      let memory : HasMemory driven.closed = λ lacks. ⊎_elim (λ log. let e = sym log_is ∙ log in absurd (cc)) (λ others.
+      ⊎_elim (λ store. let e = sym data_is ∙ store in absurd (cc)) (λ lost. let e = sym unlost ∙ lost in absurd (cc)) others) lacks in (
         left-so Done done,
         told-unfailed done memory log_is data_is,
         (omega (arith, log-mid, data-mid, ap failures log_is, ap failures data_is), read-now done memory log_is data_is),

@@ -1,8 +1,9 @@
 // The drive by turns: beside a writer and a flusher, or of users that write for themselves.
-ghost use Rattle.std.specs.Prelude.{◌≡◌, IfErr, IfOk, false, length};
+ghost use Rattle.std.specs.Prelude.{◌≡◌, IfErr, IfOk, IfSome, None, false, is_some, length, true};
 ghost use Rattle.redo_drive.specs.{Owes};
+ghost use Rattle.redo_drive.specs.Archived.{HaveArchived};
 ghost use Rattle.redo_drive.specs.Followed.{HaveFollowed};
-ghost use Rattle.redo_drive.specs.Startable.{AreNewFollowers, MayBegin};
+ghost use Rattle.redo_drive.specs.Startable.{AreNewFollowers, IsNewArchive, MayBegin};
 ghost use Rattle.redo_drive.specs.Views.{views_of};
 ghost use Rattle.redo_follow.specs.Tallying.{HasTally};
 ghost use Rattle.redo_memdisk.specs.{CallsThrough, seen_through};
@@ -10,6 +11,7 @@ ghost use Rattle.redo_lab.specs.Asked.{turns_of};
 ghost use Rattle.redo_lab.specs.Handed.{TellsOf};
 
 use model_script::{Drive, Script};
+use redo_archive::ArchPart;
 use redo_disk::Sectors;
 use redo_drive::{Actor, Driven};
 use redo_follow::{Follower, Tally};
@@ -31,34 +33,45 @@ fn turns_of(drive: &Drive) -> Turns
     }
 }
 
-/// What the drive by turns leaves: the run, and the actors, the followers among them; or both devices as they were, where there
-/// was no memory.
-pub(crate) type Turned<L, D> = Result<
-    (Driven<Fused<L>, Fused<D>>, Vec<Actor<Tally>>),
-    (NoMemory, Fused<L>, Fused<D>),
+/// What the drive by turns leaves: the run, the actors, the followers among them, and the archive, if it has one; or both devices
+/// and the archive as they were, where there was no memory.
+pub(crate) type Turned<L, D, A> = Result<
+    (
+        Driven<Fused<L>, Fused<D>>,
+        Vec<Actor<Tally>>,
+        Option<ArchPart<A>>,
+    ),
+    (NoMemory, Fused<L>, Fused<D>, Option<ArchPart<A>>),
 >;
 
-/// Runs the lines of a script on an opened store by the turns of this drive, with these followers.
-pub(crate) fn run_turns<L: Sectors, D: Sectors>(
+/// Runs the lines of a script on an opened store by the turns of this drive, with this archive or none, and with these followers.
+pub(crate) fn run_turns<L: Sectors, D: Sectors, A: Sectors>(
     alloc: Global,
     opened: Opened<Fused<L>, Fused<D>>,
     script: &Script,
     drive: &Drive,
+    archive: Option<ArchPart<A>>,
     followers: Vec<Follower<Tally>>,
-) -> Turned<L, D>
+) -> Turned<L, D, A>
     requires may { MayBegin opened script.now drive.now.log_only }
+    requires archive { IfSome archive (IsNewArchive A.seen opened script.now) }
+    requires apart { drive.now.own_writes ≡ true → archive ≡ None }
     requires new { AreNewFollowers opened.start followers.items }
-    ensures err { IfErr result (λ error. (error.1 ≡ opened.log.dev) × (error.2 ≡ opened.store.dev)) }
+    ensures err { IfErr result (λ error. (error.1 ≡ opened.log.dev) × (error.2 ≡ opened.store.dev) × (error.3 ≡ archive)) }
     ensures owed { IfOk result (λ left. Owes (seen_through L.seen) (CallsThrough L.seen L.gives) (seen_through D.seen) (CallsThrough D.seen D.gives)
         opened script.now left.0) }
     ensures followed { IfOk result (λ left. HaveFollowed (seen_through L.seen) (seen_through D.seen) HasTally opened script.now followers.items left.1.items left.0.closed) }
-    ensures tells { length followers.items ≡ drive.now.followers
+    ensures archived { IfOk result (λ left. HaveArchived (seen_through L.seen) (seen_through D.seen) A.seen opened script.now left.0.closed archive left.2) }
+    ensures tells { length followers.items ≡ drive.now.followers → is_some archive ≡ drive.now.archive
         → IfOk result (λ left. TellsOf false drive.now.own_writes L.seen L.gives D.seen D.gives drive.now opened script.now (views_of left.1.items) left.0) }
 {
     let turns = turns_of(drive);
     if drive.own_writes {
-        run_own_by_turns(alloc, opened, script, &turns, followers)
+        match run_own_by_turns(alloc, opened, script, &turns, followers) {
+            Ok((driven, actors)) => Ok((driven, actors, archive)),
+            Err((fault, log, store)) => Err((fault, log, store, archive)),
+        }
     } else {
-        run_by_turns(alloc, opened, script, &turns, followers)
+        run_by_turns(alloc, opened, script, &turns, archive, followers)
     }
 }
