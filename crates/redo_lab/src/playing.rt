@@ -29,7 +29,6 @@ use model_base::Shape;
 use model_log::BLOCK_HEADER;
 use model_report::{Fault, Followed, History, Marks};
 use model_script::{Drive, Script, fitting_archive, fitting_script};
-use redo_archive::ArchPart;
 use redo_disk::{DevError, Sectors};
 use redo_drive::{Driven, RunEnd};
 use redo_lsn::{round_of, run_layout};
@@ -293,10 +292,9 @@ pub(crate) fn by_turns<L: Sectors, D: Sectors>(
     let Ok((followers, follows)) = make_followers(alloc, drive.followers, start) else {
         return unbegun(opened);
     };
-    let unarchived: Option<ArchPart<L>> = None;
-    match run_turns(alloc, opened, script, drive, unarchived, followers) {
-        Ok((driven, actors, _)) => close(start, driven, told_of(follows, actors.as_slice())),
-        Err((_, log, store, _)) => unplayed(Fault::Memory, log, store),
+    match run_turns(alloc, opened, script, drive, followers) {
+        Ok((driven, actors)) => close(start, driven, told_of(follows, actors.as_slice())),
+        Err((_, log, store)) => unplayed(Fault::Memory, log, store),
     }
 }
 
