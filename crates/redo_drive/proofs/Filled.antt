@@ -95,21 +95,29 @@ filled_at r f is = ap (λ (s : ReaderStep). model.Reader (reader_filled r f s)) 
 
 module _ {L D R : Type 0} (log_seen : L → Seen) (data_seen : D → Seen) (stands : R → List Given → Type 0)
     (run : RunOf L D) (old new : Parts L D) where
-  -- So what was played for an actor, with what it lends, and with what it makes of the answer, serves it.
+  -- So what was played for an actor, with what it lends, and with what it makes of the answer, serves it, by that answer.
+  pub serves_by : (a b : Actor R) (r : Answer) (step : Step)
+      → IsPlayed log_seen data_seen run (next (view_of a)) (lent (view_of a)) old r new → HasTaken stands a r step b
+      → (served : IsServed log_seen data_seen stands run old a step new b) × (served.answer ≡ r)
+  serves_by a b r step played taken = (
+    record {
+      filling = filling_of (view_of a) taken.texts;
+      fills = taken.fills;
+      answer = r;
+      played = subst (λ (l : model.Lent). IsPlayed log_seen data_seen run (next (view_of a)) l old r new)
+          (sym (lent_filled (view_of a) taken.texts)) played;
+      took = taken.state;
+      ends = taken.ends;
+      same = taken.same;
+      got = taken.got;
+    },
+    refl,
+  )
+
   pub serves : (a b : Actor R) (r : Answer) (step : Step)
       → IsPlayed log_seen data_seen run (next (view_of a)) (lent (view_of a)) old r new → HasTaken stands a r step b
       → IsServed log_seen data_seen stands run old a step new b
-  serves a b r step played taken = record {
-    filling = filling_of (view_of a) taken.texts;
-    fills = taken.fills;
-    answer = r;
-    played = subst (λ (l : model.Lent). IsPlayed log_seen data_seen run (next (view_of a)) l old r new)
-        (sym (lent_filled (view_of a) taken.texts)) played;
-    took = taken.state;
-    ends = taken.ends;
-    same = taken.same;
-    got = taken.got;
-  }
+  serves a b r step played taken = (serves_by a b r step played taken).0
 
   same_number : (f : Following R) (bytes : List ℕ) (g : Option (Following R))
       → IsSameFollower (Some (with_block f bytes)) g → IsSameFollower (Some f) g

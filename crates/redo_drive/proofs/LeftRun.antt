@@ -83,7 +83,7 @@ use Rattle.redo_store.specs.Part as store
 use Rattle.redo_drive.proofs.FollowersLeft.{all_pairs, among, groups_are, Pair, starts_with}
 
 -- where a device tells
-if_told : (tells : Option Disk) (Is : Disk → Type 0) → ((disk : Disk) → tells ≡ Some disk → Is disk) → IfSome tells Is
+pub if_told : (tells : Option Disk) (Is : Disk → Type 0) → ((disk : Disk) → tells ≡ Some disk → Is disk) → IfSome tells Is
 if_told None Is each = tt
 if_told (Some disk) Is each = each disk refl
 
@@ -256,7 +256,7 @@ module _ {L D R : Type 0} {archive : Bool} (log_seen : L → Seen) (log_gives : 
       (as_told (log_seen opened.log.dev).tells (λ disk. IfSome (data_seen opened.store.dev).tells (λ other. IsStart reading script disk other → HaveBegun log_seen data_seen run)) log_disk log_told (by.begun reading as_read))
 
   -- where both devices told, and the store was ready
-  where_started : (reading : Reading) → HasReading reading opened → (Is : Type 0)
+  pub where_started : (reading : Reading) → HasReading reading opened → (Is : Type 0)
       → ((log_disk data_disk : Disk) → IsStart reading script log_disk data_disk → HaveBegun log_seen data_seen run → Is)
       → IfSome (log_seen opened.log.dev).tells (λ log_disk. IfSome (data_seen opened.store.dev).tells (λ data_disk.
       IsStart reading script log_disk data_disk → Is))

@@ -1,4 +1,5 @@
 pub mod ArchiveGroups
+pub mod ArchiveLeft
 pub mod ArchiveTurns
 pub mod Asked
 pub mod Batches

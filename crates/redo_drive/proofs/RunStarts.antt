@@ -113,7 +113,7 @@ if_told (Some log_disk) None P is = tt
 if_told (Some log_disk) (Some data_disk) P is = is log_disk data_disk refl refl
 
 -- a log that ends where it begins has no group
-no_log : (s n : ℕ) (log : List Entry) → Tiles s log n → n ≡ s → ◌≡◌ {A = List Entry} log []
+pub no_log : (s n : ℕ) (log : List Entry) → Tiles s log n → n ≡ s → ◌≡◌ {A = List Entry} log []
 no_log s n [] tiles is = refl
 no_log s n (e ∷ es) tiles is =
     absurd (let some = tiles.1 in let up = tiles_le es (s + length e.bytes) n tiles.3 in omega arith)

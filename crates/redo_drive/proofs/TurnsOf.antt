@@ -353,7 +353,7 @@ module _ {L D R : Type 0} (log_seen : L → Seen) (data_seen : D → Seen) (stan
       mine_at : get_elem? actors seat ≡ some mine
       mine_at = own_at actors seat d below
 
-      still : (j : ℕ) (a b : Actor R) → get_elem? starts j ≡ some a → get_elem? (set actors seat who) j ≡ some b
+      pub still : (j : ℕ) (a b : Actor R) → get_elem? starts j ≡ some a → get_elem? (set actors seat who) j ≡ some b
           → IsSameFollower (follower_of a) (follower_of b)
       still j a b began at = ⊎_elim
           (λ here. subst (λ (z : Actor R). IsSameFollower (follower_of a) (follower_of z)) here.1
@@ -378,7 +378,7 @@ module _ {L D R : Type 0} (log_seen : L → Seen) (data_seen : D → Seen) (stan
             (views_of (set actors seat who)) seat served.answer step log_laws data_laws same F.runs its_turn told j
             (view_of a) (view_of b) (views_at actors j a there) (views_at (set actors seat who) j b later)
 
-        has_got : (j : ℕ) (a b : Actor R) → get_elem? starts j ≡ some a → get_elem? (set actors seat who) j ≡ some b
+        pub has_got : (j : ℕ) (a b : Actor R) → get_elem? starts j ≡ some a → get_elem? (set actors seat who) j ≡ some b
             → HasGot stands (follower_of a) (groups_of (view_of b) log_now) (follower_of b)
         has_got j a b began at = ⊎_elim here other (at_set actors seat j who b at)
           where
@@ -409,7 +409,7 @@ module _ {L D R : Type 0} (log_seen : L → Seen) (data_seen : D → Seen) (stan
                 ∙ append-nil old_groups in
                 subst (Got b) (sym grown) (F.got before j a b began is.1)
 
-      pub runs_from : RunsFromWith log_seen data_seen stands run archive starts new (set actors seat who)
+      abbrev pub runs_from : RunsFromWith log_seen data_seen stands run archive starts new (set actors seat who)
       runs_from = record {
         runs = runs_on F.runs;
         count = length-set actors seat who ∙ F.count;

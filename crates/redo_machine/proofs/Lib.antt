@@ -7,3 +7,4 @@ pub mod RunLeft
 pub mod Runs
 pub mod UserSeats
 pub mod WriteAsks
+mod TurnBeside
