@@ -14,8 +14,8 @@ returns-clause-call g c = λ words asked. rw (c.end.ensures.log, c.end.ensures.s
       outcome = c.done-done.result.0.outcome;
       ends = c.done-done.ensures.ends words;
       restores = c.done-done.ensures.restores words;
-    spares = λ drive run. spares-untouched (unfused g.A.Sectors.seen c.args.arch c.done-done.result.1) _ (ap g.A.Sectors.seen (c.done-done.ensures.untouched
-        (ap (λ (command : Command). calls_archive (Some command)) run ∙ (subst HasAllowedNumbers run c.requires.within).1)));
+      spares = λ drive run. spares-untouched (unfused g.A.Sectors.seen c.args.arch c.done-done.result.1) _ (ap g.A.Sectors.seen (c.done-done.ensures.untouched
+          (ap (λ (command : Command). calls_archive (Some command)) run ∙ (subst HasAllowedNumbers run c.requires.within).1)));
       printed = c.end.ensures.printed;
     },
   );
