@@ -1,15 +1,9 @@
 -- What a command leaves alone that archives no run.
-use Rattle.std.proofs.Common.{ℕ, ◌≡◌, false, if◌then◌else◌, Bool, List, Option, Some, None, refl, sym, ap}
+use Rattle.std.proofs.Common.{ℕ, ◌≡◌, false, if◌then◌else◌, Bool, Option, Some, None, refl, sym, ap}
 use Rattle.model_report.specs.declared.fault.Fault.TheVariants as fault
 use Rattle.model_script.specs.declared.asked.Command.TheVariants.{Restore}
 use Rattle.model_script.specs.declared.asked.Drive.{Drive}
 use Rattle.redo_lab.specs.Ending.{SparesArchive}
-use Rattle.model_script.specs.declared.script.ScriptLine.{ScriptLine}
-use Rattle.redo_archive.specs.Part.{Part}
-use Rattle.redo_disk.specs.Seen.{Seen}
-use Rattle.redo_drive.specs.Archived.{HaveArchived}
-use Rattle.redo_drive.specs.declared.closed.Closed.{Closed}
-use Rattle.redo_store.specs.declared.opened.Opened.{Opened}
 use Rattle.redo_lab.specs.declared.crash_command.Crashing.{Crashing}
 use Rattle.redo_lab.specs.declared.outcome.Outcome.{Outcome}
 use Rattle.redo_lab.specs.declared.outcome.Outcome.TheVariants as outcome
@@ -35,11 +29,3 @@ spares-untouched archive (outcome.Fault fault.Memory) same = tt
 spares-untouched archive (outcome.Fault fault.ArchiveDevice) same = tt
 spares-untouched archive (outcome.Fault (fault.Turns turns user)) same = tt
 spares-untouched archive (outcome.Fault f) same = same
-
--- a run without an archive has lost none
-module _ {L D A : Type 0} {log_seen : L → Seen} {data_seen : D → Seen} {arch_seen : A → Seen} {opened : Opened L D}
-    {script : List ScriptLine} (closed : Closed L D) where
-  pub none-lost : (after : Option (Part A)) → HaveArchived log_seen data_seen arch_seen opened script closed None after
-      → closed.lost ≡ None
-  none-lost None none = none
-  none-lost (Some part) none = absurd none
