@@ -43,7 +43,8 @@ module _ {L D : Type 0} (log_seen : L → Seen) (data_seen : D → Seen) (run : 
   -- one turn of the definition, with some answer
   pub record TakesTurn (old : Parts L D) (actors : List model.Actor) (seat : ℕ) (step : Step) (new : Parts L D) (after : List model.Actor) : Type 0 where
     pub answer : Answer
-    pub turn : Turn (run_log_side log_seen data_seen run) (run_data_side log_seen data_seen run) (core_of log_seen data_seen run old actors) seat answer step (core_of log_seen data_seen run new after)
+    pub turn : Turn (run_log_side log_seen data_seen run) (run_data_side log_seen data_seen run)
+        (core_of log_seen data_seen run old actors) seat answer step (core_of log_seen data_seen run new after)
 
 -- the code in FAILED
 abbrev pub code_in : {L D : Type 0} → Parts L D → ℕ
