@@ -32,7 +32,7 @@ use Rattle.redo_disk.specs.declared.error.DevError.TheVariants.{Failed, NoMemory
 use Rattle.redo_drive.proofs.ArchiveTurns.{flushed_place, one_reader}
 use Rattle.redo_drive.proofs.LeftRun.{if_told, where_started}
 use Rattle.redo_drive.specs.Archived.{ArchivesRun, HasArchived, HoldsFrom}
-use Rattle.redo_drive.specs.Archiving.{HasCome, StandsBeside}
+use Rattle.redo_drive.specs.Archiving.{AsksUpTo, HasCome, StandsBeside}
 use Rattle.redo_drive.specs.Beginning.{HaveBegun}
 use Rattle.redo_drive.specs.Devices.{code_of}
 use Rattle.redo_drive.specs.Leaving.{LeavesWith}
@@ -69,10 +69,10 @@ module _ {L D A : Type 0} {archive : Bool} (log_seen : L → Seen) (data_seen : 
       (some-injective (model.Reader S.archiver) (model.Reader r) (sym S.at ∙ ap (get_elem? actors) (sym here) ∙ lost.at)) in
       sym is ∙ ap (λ (x : ReaderState). x.lost) (sym mine) ∙ S.pace.lost
 
-module _ {L D A R : Type 0} (log_seen : L → Seen) (log_gives : L → Call → L → Type 0) (data_seen : D → Seen)
+module _ {L D A R : Type 0} {archive : Bool} (log_seen : L → Seen) (log_gives : L → Call → L → Type 0) (data_seen : D → Seen)
     (data_gives : D → Call → D → Type 0) (seen : A → Seen) (stands : R → List Given → Type 0) (opened : Opened L D)
     (script : List ScriptLine) (log_only : Bool) (followers : ℕ) (starts actors : List (Actor R)) (driven : Driven L D)
-    (by : LeavesWith log_seen log_gives data_seen data_gives stands opened script log_only true followers starts actors
+    (by : LeavesWith log_seen log_gives data_seen data_gives stands opened script log_only archive followers starts actors
     driven.closed) (before after : Part A)
     (C : HasCome log_seen data_seen seen by.run by.last (views_of actors) by.from.runs before after)
     (failed : after.failed ≡ driven.closed.lost) where
@@ -191,6 +191,7 @@ module _ {L D A R : Type 0} (log_seen : L → Seen) (log_gives : L → Call → 
     failed = failed;
     code = code;
     flushed = (let e = flushed_same in let up = S.pace.up_to in omega arith);
+    asked = subst (λ (n : ℕ). AsksUpTo n after) (sym flushed_same) S.asked;
     to_finish = to_finish;
     run = λ begun_so reading as_read. where_started log_seen log_gives data_seen data_gives stands opened script log_only
         followers starts actors driven by reading as_read _ (λ log_disk data_disk start begun.

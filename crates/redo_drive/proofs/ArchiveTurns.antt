@@ -22,7 +22,7 @@ use Rattle.model_core.specs.declared.ops.Step.{Step}
 use Rattle.model_core.specs.declared.steps.ReaderStep.{ReaderStep}
 use Rattle.model_core.specs.declared.steps.ReaderStep.TheVariants as reader_step
 use Rattle.model_core.specs.declared.words.Word.TheVariants as word
-use Rattle.model_core.specs.{after_of, answer_of, archives, Entry, filled, flat, index, Listed, LostAt, lsn, next, old_of, reader_op, reader_program, ReaderState}
+use Rattle.model_core.specs.{after_of, answer_of, archives, Entry, filled, flat, index, Listed, LostAt, lsn, next, next_mark, old_of, reader_op, reader_program, ReaderState}
 use Rattle.model_core.specs.{shared_left, SharedWords, took, words_left}
 use Rattle.model_ends.proofs.Sizes.{all_bytes, bytes_same, sn_within}
 use Rattle.model_ends.specs.Bound.{bytes_of, last_lsn}
@@ -39,11 +39,13 @@ use Rattle.model_running.specs.{IsNoAppend}
 use Rattle.model_running.specs.ReadHalf.{ReadsInRun}
 use Rattle.redo_archive.specs.Part.{Part}
 use Rattle.redo_archiver.proofs.Turning.{pace-turns}
-use Rattle.redo_archiver.specs.Archived.{appends_at, heard_at}
-use Rattle.redo_archiver.specs.{AppendsNothing, HearsFlushed, KeepsPace}
+use Rattle.redo_archiver.specs.Archived.{appends_at, heard_at, RoundAt}
+use Rattle.redo_archiver.specs.{AppendsNothing, HearsFlushed, KeepsPace, marks_after}
 use Rattle.redo_disk.specs.Seen.{Seen}
+use Rattle.redo_disk.specs.declared.error.DevError.{DevError}
+use Rattle.model_archive.specs.declared.marks.ArchMarks.{ArchMarks}
 use Rattle.redo_drive.proofs.TurnsOf.{IsKind, kept_kind, NoReader, runs_then}
-use Rattle.redo_drive.specs.Archiving.{Appends, HasNoArchiver, IsBeside, StandsBeside}
+use Rattle.redo_drive.specs.Archiving.{Appends, AsksUpTo, HasNoArchiver, IsBeside, StandsBeside}
 use Rattle.redo_drive.specs.Lists.{lists_of}
 use Rattle.redo_drive.specs.Playing.{HasSamePages, RunOf, run_data_side, run_log_side}
 use Rattle.redo_drive.specs.Running.{RunsWith}
@@ -162,6 +164,39 @@ step_appends r mark asks = by r.checks r.step refl asks
     by false reader_step.GiveFailed is e = absurd (cc)
     by false reader_step.StoreLost is e = absurd (cc)
     by false reader_step.Failed is e = absurd (cc)
+
+-- up to the end of its next block
+mark_appends : (r : ReaderState) (mark : ℕ) → next (model.Reader r) ≡ op.Append mark → mark ≡ next_mark r
+mark_appends r mark asks = by r.checks r.step asks
+  where
+    by : (b : Bool) (st : ReaderStep) → cond b (op.Load word.Failed) (reader_op r st) ≡ op.Append mark → mark ≡ next_mark r
+    by true st e = absurd (cc)
+    by false reader_step.Append e = cc
+    by false reader_step.LoadFlushed e = absurd (cc)
+    by false reader_step.TakeDevice e = absurd (cc)
+    by false reader_step.GiveBroken e = absurd (cc)
+    by false reader_step.ReadBlock e = absurd (cc)
+    by false reader_step.GiveDevice e = absurd (cc)
+    by false reader_step.StorePlace e = absurd (cc)
+    by false reader_step.StoreFailed e = absurd (cc)
+    by false reader_step.GiveFailed e = absurd (cc)
+    by false reader_step.StoreLost e = absurd (cc)
+    by false reader_step.Failed e = absurd (cc)
+
+-- an append asks for a mark
+pub asked_then : {A : Type 0} (flushed mark : ℕ) (old new : Part A) → new.marks ≡ marks_after mark new.failed old.marks
+    → old.marks.mark ≤ mark → mark ≤ flushed → AsksUpTo flushed new
+asked_then {A} flushed mark old new is low high = by new.failed is
+  where
+    by : (failed : Option DevError) → new.marks ≡ marks_after mark failed old.marks → AsksUpTo flushed new
+    by None e =
+        let one : new.marks.mark ≡ mark = ap (λ (z : ArchMarks). z.mark) e in
+        let two : new.marks.asked ≡ mark = ap (λ (z : ArchMarks). z.asked) e in
+        record { later = omega arith; most = omega arith }
+    by (Some error) e =
+        let one : new.marks.mark ≡ old.marks.mark = ap (λ (z : ArchMarks). z.mark) e in
+        let two : new.marks.asked ≡ mark = ap (λ (z : ArchMarks). z.asked) e in
+        record { later = omega arith; most = omega arith }
 
 pub one_reader : (x y : ReaderState) → model.Reader x ≡ model.Reader y → ◌≡◌ {A = ReaderState} x y
 one_reader x y e = cc
@@ -301,9 +336,10 @@ module _ {L D : Type 0} {archive : Bool} (log_seen : L → Seen) (data_seen : D 
         who = took (filled t.who t.filling) answer
 
         make : (next_part : Part A) (w : ReaderState) → get_elem? after S.seat ≡ some (model.Reader w)
-            → KeepsPace seen S.limit before_flushed w next_part → next_part.start ≡ part.start
+            → KeepsPace seen S.limit before_flushed w next_part → AsksUpTo before_flushed next_part
+            → next_part.start ≡ part.start
             → StandsBeside seen run.setup new.words.words after next_part
-        make next_part w at pace start = record {
+        make next_part w at pace asked start = record {
           seat = S.seat;
           archiver = w;
           at = at;
@@ -312,6 +348,7 @@ module _ {L D : Type 0} {archive : Bool} (log_seen : L → Seen) (data_seen : D 
           limit = S.limit;
           all = (let e = lines_same in let z = S.all in omega arith);
           pace = flushed_later seen S.limit before_flushed now_flushed w next_part up (within S.limit S.all) pace;
+          asked = record { later = asked.later; most = (let high = asked.most in let risen = up in omega arith) };
         }
 
         -- its own turn
@@ -325,6 +362,12 @@ module _ {L D : Type 0} {archive : Bool} (log_seen : L → Seen) (data_seen : D 
             let pace = subst (λ (x : ReaderState). KeepsPace seen S.limit before_flushed x part) same S.pace in
             make later (after_of reader_program (reader_filled r t.filling r.step) answer)
             (ap (get_elem? after) here ∙ reader_then r is) (appends.pace S.limit before_flushed t.filling pace)
+            (let here = subst (RoundAt r) (step_appends r appends.mark appends.asks) pace.round in
+            let mark = mark_appends r appends.mark appends.asks in
+            let at = pace.mark in
+            let loaded = pace.loaded in
+            let next = here.1 in
+            asked_then before_flushed appends.mark part later appends.appended.marks (omega arith) (omega arith))
             appends.appended.start
 
         turned : S.seat ≡ seat → IsNoAppend (next t.who) → StandsBeside seen run.setup new.words.words after part
@@ -342,13 +385,13 @@ module _ {L D : Type 0} {archive : Bool} (log_seen : L → Seen) (data_seen : D 
             make part (after_of reader_program (reader_filled r t.filling r.step) answer)
             (ap (get_elem? after) here ∙ reader_then r is)
             (pace-turns seen S.limit before_flushed part r t.filling answer
-            (appends_none r (subst (λ (a : model.Actor). IsNoAppend (next a)) is none)) heard S.pace) refl
+            (appends_none r (subst (λ (a : model.Actor). IsNoAppend (next a)) is none)) heard S.pace) S.asked refl
 
         -- another's turn
         left : S.seat ≢ seat → StandsBeside seen run.setup new.words.words after part
         left other = make part S.archiver
             (ap (λ (l : List model.Actor). get_elem? l S.seat) t.actors ∙ set_else actors seat S.seat who other ∙ S.at)
-            S.pace refl
+            S.pace S.asked refl
 
         none_else : S.seat ≢ seat → (r : ReaderState) → t.who ≡ model.Reader r → Appends seen r part answer later → ⊥
         none_else other r is appends =

@@ -11,7 +11,7 @@ use Rattle.redo_archiver.specs.{IsToFinish}
 use Rattle.redo_disk.specs.{Call}
 use Rattle.redo_disk.specs.Seen.{Seen, StillTells}
 use Rattle.redo_disk.specs.declared.error.DevError.TheVariants.{Failed}
-use Rattle.redo_drive.specs.Archiving.{IsSameArchive}
+use Rattle.redo_drive.specs.Archiving.{AsksUpTo, IsSameArchive}
 use Rattle.redo_drive.specs.Calls.{CallsOn}
 use Rattle.redo_drive.specs.Drive.{WhereStarted}
 use Rattle.redo_drive.specs.declared.closed.Closed.{Closed}
@@ -38,7 +38,8 @@ pub record ArchivesRun {L D A : Type 0} (log_seen : L → Seen) (arch_seen : A �
       (block_of part.marks.mark) closed.marks.flushed closed.log
 
 -- WHAT A DRIVE LEAVES OF AN ARCHIVE that was begun for its run. It is the same archive, later; it has failed as the closed run
--- tells, and FAILED is 4 only by a failure of its device. Its mark is at most FLUSHED, up to where it may be finished. And
+-- tells, and FAILED is 4 only by a failure of its device. Its mark, and the one that it was asked for last, are at most FLUSHED,
+-- up to where it may be finished. And
 -- where both devices told before the run, of a store that was ready, and the log device tells after it, it archives the run,
 -- if it was begun with the opened pages.
 pub record HasArchived {L D A : Type 0} (log_seen : L → Seen) (data_seen : D → Seen) (arch_seen : A → Seen)
@@ -47,6 +48,7 @@ pub record HasArchived {L D A : Type 0} (log_seen : L → Seen) (data_seen : D �
   pub failed : after.failed ≡ closed.lost
   pub code : closed.code ≡ archive_device_code → after.failed ≡ Some Failed
   pub flushed : after.marks.mark ≤ closed.marks.flushed
+  pub asked : AsksUpTo closed.marks.flushed after
   pub to_finish : IsToFinish arch_seen closed.marks.flushed after
   pub run : PartArchives arch_seen opened.pages [] before
       → WhereStarted log_seen data_seen opened script (λ was. IfSome (log_seen closed.log.dev).tells (λ log_now.

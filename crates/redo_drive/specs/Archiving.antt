@@ -28,6 +28,11 @@ abbrev pub HasNoArchiver : List model.Actor → Type 0
 HasNoArchiver actors =
     (seat : ℕ) (r : ReaderState) → get_elem? actors seat ≡ some (model.Reader r) → archives r ≡ false
 
+-- the mark that an archive was asked for last is at most this, and no earlier than the newest
+pub record AsksUpTo {A : Type 0} (flushed : ℕ) (part : Part A) : Type 0 where
+  pub later : part.marks.mark ≤ part.marks.asked
+  pub most : part.marks.asked ≤ flushed
+
 -- AN ARCHIVE BESIDE THE ACTORS OF A RUN. One of them archives, and the archive is as far as that one; it has room for all
 -- that the lines of the actors come to.
 pub record StandsBeside {A : Type 0} (seen : A → Seen) (c : Setup) (words : List ℕ) (actors : List model.Actor)
@@ -41,6 +46,7 @@ pub record StandsBeside {A : Type 0} (seen : A → Seen) (c : Setup) (words : Li
   pub limit : ℕ
   pub all : last_lsn c actors ≤ limit
   pub pace : KeepsPace seen limit (slice_index words (index word.Flushed)) archiver part
+  pub asked : AsksUpTo (slice_index words (index word.Flushed)) part
 
 -- the same where there is an archive; else no actor archives
 abbrev pub IsBeside : {A : Type 0} → (A → Seen) → Setup → List ℕ → List model.Actor → Option (Part A) → Type 0

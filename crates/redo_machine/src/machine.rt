@@ -1,7 +1,8 @@
 // A running store.
-ghost use Rattle.std.specs.Prelude.{◌≡◌, IfErr, IfOk, is_some};
-ghost use Rattle.redo_drive.specs.Startable.{AreNewFollowers, MayBegin};
+ghost use Rattle.std.specs.Prelude.{◌≡◌, IfErr, IfOk, IfSome, is_some};
+ghost use Rattle.redo_drive.specs.Startable.{AreNewFollowers, IsNewArchive, MayBegin};
 ghost use Rattle.redo_drive.specs.Begins.{BeginsWith};
+ghost use Rattle.redo_machine.specs.Appending.{IsOnRun};
 
 use model_report::Entry;
 use model_script::Script;
@@ -38,11 +39,13 @@ impl<L: Sectors, D: Sectors, A: Sectors, R: Receiver + Drop> Machine<L, D, A, R>
         followers: Vec<Follower<R>>,
     ) -> Result<Machine<L, D, A, R>, (NoMemory, L, D, Option<ArchPart<A>>)>
         requires may { MayBegin opened script.now log_only }
+        requires archive { IfSome archive (IsNewArchive A.seen opened script.now) }
         requires new { AreNewFollowers opened.start followers.items }
         ensures err { IfErr result (λ error. (error.1 ≡ opened.log.dev) × (error.2 ≡ opened.store.dev) × (error.3 ≡ archive)) }
         ensures begins { IfOk result (λ machine. BeginsWith L.seen D.seen R.stands_for opened script.now log_only (is_some archive) followers.items
             (record { parts = machine.parts; actors = machine.actors; entries = machine.entries })) }
         ensures archive { IfOk result (λ machine. machine.archive ≡ archive) }
+        ensures on_run { IfOk result (λ machine. IsOnRun L.seen D.seen A.seen machine) }
     {
         let archives = archive.is_some();
         match begin_run_with(alloc, opened, script, log_only, archives, followers) {
