@@ -41,7 +41,7 @@ use Rattle.redo_drive.specs.declared.parts.Parts.{Parts}
 -- a count that has risen since a later time has risen
 pub risen_since : (first mid last : ℕ) → first ≤ mid → mid ≤ last → HasRisen mid last → HasRisen first last
 risen_since first mid last low high risen = ⊎_elim (λ more. inl (omega arith))
-    (λ full. elim (dec_le (first + 1) last) [ | yes less ↦ inl (omega arith) | no same ↦ inr (omega arith) ]) risen
+    (λ full. elim (dec_le (first + 1) last) [ yes less ↦ inl (omega arith) | no same ↦ inr (omega arith) ]) risen
 
 -- the groups of a log, and those of its front
 pub record Front (log : List Entry) (wholes : List Whole) : Type 0 where

@@ -249,7 +249,6 @@ module _ {L D R : Type 0} (log_seen : L → Seen) (data_seen : D → Seen) (stan
     seated = subst (AreSeated setup) (sym owns.actors) (are_seated opened.shape opened.pages opened.start script log_only archive (length followers)
         new.few may.lines may.fits.lines);
   }
-
     where
       none_archives : (b : Bool) → cond b (Unit {0}) (0 < first_reader b)
       none_archives true = tt

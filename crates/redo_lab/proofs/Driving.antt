@@ -58,7 +58,7 @@ use Rattle.redo_lab.specs.Handed.{TellsOf, call_on}
 use Rattle.redo_lab.specs.Laws.{Laws}
 use Rattle.redo_lab.specs.Runs.{ComesTo, CommandRuns, IsArchivedTo, IsLeftBy, IsToldRightly, StandsReady, course_done, course_of, ended_by, played_of, ran_of}
 use Rattle.redo_lab.specs.Store.{AreReadAsPrefix}
-use Rattle.redo_lab.specs.Told.{AreFollowed, AreLeftRead, AreMarksRead, IsFollowed, IsOpenedFirst}
+use Rattle.redo_lab.specs.Told.{AreFollowed, AreLeftRead, AreMarksRead, IsFollowed, IsOpenedFirst, LosesOnlyBy}
 
 -- what reads give of a log device that was synced is fair
 synced-fair : (disk : Disk) → IsFairLog (synced disk) disk.reads
@@ -82,7 +82,7 @@ module _ {L D : Type 0} (log_seen : L → Seen) (log_gives : L → Call → L �
     driven.closed)
     (of_followers : AllZip IsToldOf (followers_in actors) follows.items)
     (spends : SpendsTurns (call_on log_seen log_gives data_seen data_gives words archive source source_now log data_device driven.closed.log.dev driven.closed.store.dev) drive)
-    (unarchived : drive.archive ≡ false) where
+    (unarchived : drive.archive ≡ false) (unlost : driven.closed.lost ≡ None) where
   abbrev opening : LabCall
   opening = call_on log_seen log_gives data_seen data_gives words archive source source_now log data_device given.log.dev given.store.dev
 
@@ -209,10 +209,10 @@ module _ {L D : Type 0} (log_seen : L → Seen) (log_gives : L → Call → L �
 
   -- ALL USERS ENDED: something is lost only where a device failed.
   loses-so : driven.ended ≡ Done → HasMemory driven.closed → (left : List (ℕ × ℕ)) → IsLeft script run.entries left
-      → LosesOnlyByFailure (mids call) (Some run) left
+      → LosesOnlyBy call drive (Some run) left
   loses-so done memory left left_is =
-      let counted : failed_in driven.closed ≡ mids call = omega (arith, log-mid, data-mid) in
-      subst (λ (n : ℕ). LosesOnlyByFailure n (Some run) left) counted (owes.comes_to.loses left done memory left_is)
+      let counted : failed_in driven.closed ≡ mids call = omega (arith, log-mid, data-mid, ap failures unlost) in
+      inl (subst (λ (n : ℕ). LosesOnlyByFailure n (Some run) left) counted (owes.comes_to.loses left done memory left_is))
 
   -- and where no call answered an error, what reads give is read
   read-now : driven.ended ≡ Done → HasMemory driven.closed → driven.closed.log.failed ≡ None → driven.closed.store.failed ≡ None
@@ -313,7 +313,8 @@ module _ {L D : Type 0} (log_seen : L → Seen) (log_gives : L → Call → L �
   done-by : (log_error data_error : Option DevError) → driven.closed.log.failed ≡ log_error → driven.closed.store.failed ≡ data_error → driven.ended ≡ Done
       → ComesTo call command drive stops script (course_done played (ended_by log_error data_error))
   done-by None None log_is data_is done =
-      let memory : HasMemory driven.closed = λ lacks. ⊎_elim (λ log. let e = sym log_is ∙ log in absurd (cc)) (λ store. let e = sym data_is ∙ store in absurd (cc)) lacks in (
+      let memory : HasMemory driven.closed = λ lacks. ⊎_elim (λ log. let e = sym log_is ∙ log in absurd (cc)) (λ others.
+      ⊎_elim (λ store. let e = sym data_is ∙ store in absurd (cc)) (λ lost. let e = sym unlost ∙ lost in absurd (cc)) others) lacks in (
         left-so Done done,
         told-unfailed done memory log_is data_is,
         (omega (arith, log-mid, data-mid, ap failures log_is, ap failures data_is), read-now done memory log_is data_is),
@@ -340,6 +341,7 @@ module _ {L D : Type 0} (log_seen : L → Seen) (log_gives : L → Call → L �
   ended-so : (how : RunEnd) → driven.ended ≡ how → ComesTo call command drive stops script (course_of how played (ended_by driven.closed.log.failed driven.closed.store.failed))
   ended-so Done how = done-by driven.closed.log.failed driven.closed.store.failed refl refl how
   ended-so (Spent turns user) how = left-spent call command drive script running laws turns user spends (left-so (Spent turns user) how)
+      (λ archived. absurd (false≢true (sym unarchived ∙ archived)))
 
   -- WHAT THE RUN COMES TO.
   pub driven-comes : ComesTo call command drive stops script (course_of driven.ended played (ended_by driven.closed.log.failed driven.closed.store.failed))

@@ -1,5 +1,5 @@
 -- A command that runs a script: what it comes to, by what is left of both devices.
-use Rattle.std.proofs.Common.{ℕ, ◌≡◌, ◌≢◌, ◌<◌, Bool, true, false, List, [], Option, Some, None, IfSome, refl, sym, ap, subst, ◌⊎◌, inl, inr, ⊎_elim, arith, ◌∙◌}
+use Rattle.std.proofs.Common.{ℕ, ◌≡◌, ◌≢◌, ◌<◌, Bool, true, false, List, [], Option, Some, None, IfSome, refl, sym, ap, subst, ◌⊎◌, inl, inr, ⊎_elim, arith, ◌∙◌, ◌≤◌}
 use Rattle.std.proofs.lemmas.Bool.{false≢true}
 use Rattle.model_base.specs.{HasRisen}
 use Rattle.model_base.specs.declared.shape.Shape.{Shape}
@@ -20,6 +20,7 @@ use Rattle.model_theorem.specs.{IsRun, Opened, Ran}
 use Rattle.redo_drive.specs.declared.drive.RunEnd.{RunEnd}
 use Rattle.redo_drive.specs.declared.drive.RunEnd.TheVariants.{Spent}
 use Rattle.redo_io.specs.{SourceSeen}
+use Rattle.redo_lab.specs.Archived.{IsArchived}
 use Rattle.redo_lab.specs.declared.crash_command.Crashing.{Crashing}
 use Rattle.redo_lab.specs.declared.outcome.Outcome.{Outcome}
 use Rattle.redo_lab.specs.declared.outcome.Outcome.TheVariants as outcome
@@ -261,8 +262,9 @@ module _ (call : LabCall) (command : Command) (drive : Drive) (script : List Scr
   -- ITS TURNS ARE SPENT.
   pub left-spent : {stops : Stops} {run : Ran} {follows : List Followed} (turns user : ℕ) → SpendsTurns call drive
       → IsLeftBy call command drive stops script (Some run) follows (Spent turns user)
+      → IsArchived (λ mark flushed. mark ≤ flushed) call drive script run
       → EndsWith call command (outcome.Fault (fault.Turns turns user))
-  left-spent {run = run} {follows = follows} turns user spends is = ends-left is (outcome.Fault (fault.Turns turns user)) (record {
+  left-spent {run = run} {follows = follows} turns user spends is archived = ends-left is (outcome.Fault (fault.Turns turns user)) (record {
     drive = drive;
     asked = running.asked;
     may_spend = spends is.opened script run follows turns user _ _ is.ran.driven;
@@ -273,6 +275,7 @@ module _ (call : LabCall) (command : Command) (drive : Drive) (script : List Scr
     is_run = is.ran;
     in_run = in-run is.armed;
     reads = is.reads;
+    archived = archived;
   })
       (λ can unfailed. (drive, running.asked, spends is.opened script run follows turns user _ _ is.ran.driven))
 

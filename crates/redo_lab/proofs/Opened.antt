@@ -5,7 +5,7 @@ use Rattle.model_device.specs.Disk.{Disk}
 use Rattle.model_log.specs.declared.layout.TheConstants.{HEADER_BYTES}
 use Rattle.model_parts.specs.{formatted_store, IsOpenable, KeepsOpened}
 use Rattle.model_report.specs.declared.fault.Fault.TheVariants as fault
-use Rattle.model_script.specs.{first_misfit, ScriptFits}
+use Rattle.model_script.specs.{ArchiveFits, first_misfit, ScriptFits}
 use Rattle.model_script.specs.declared.asked.Command.{Command}
 use Rattle.model_script.specs.declared.asked.Drive.{Drive}
 use Rattle.model_script.specs.declared.misfit.Misfit.{Misfit}
@@ -204,8 +204,9 @@ module _ {L D : Type 0} (log_seen : L → Seen) (data_seen : D → Seen) (call :
   pub stands-ready : ((reading : Reading) → WhereStillTold call.log.now.tells call.store.now.tells (WhereBothTell log data_told (λ log_disk data_disk. IsOpenable reading log_disk data_disk
       → IsOpenedReady (seen_through log_seen) (seen_through data_seen) reading given)))
       → ScriptFits given.shape given.start (room_from drive.log_only given.shape given.start) script
+      → ArchiveFits given.shape given.start (archive_size call.archive drive) script
       → StandsReady log_seen data_seen call drive stops script given
-  stands-ready ready fits = record {
+  stands-ready ready fits archive_fits = record {
     armed = is.armed;
     counted = is.counted;
     unfailed = omega (arith, is.log_mid, is.data_mid);
@@ -213,6 +214,7 @@ module _ {L D : Type 0} (log_seen : L → Seen) (data_seen : D → Seen) (call :
     is_opened = record { shape = refl; pages = refl; start = ends.start; runnable = runnable };
     opens = opens-as call stops is.armed laws log data_told is.log_as is.data_as given ends;
     fits = subst (λ start. ScriptFits given.shape start (room_from drive.log_only given.shape start) script) ends.start fits;
+    archive_fits = subst (λ start. ArchiveFits given.shape start (archive_size call.archive drive) script) ends.start archive_fits;
     reads = opened-reads call stops is.armed laws log data_told is.log_as is.data_as keeps script;
     ready = λ reading log_disk data_disk log_is data_is log_on data_on. both-told log data_told
         (λ log_disk data_disk. IsOpenable reading log_disk data_disk → IsOpenedReady (seen_through log_seen) (seen_through data_seen) reading given)

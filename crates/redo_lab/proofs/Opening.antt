@@ -196,14 +196,20 @@ module _ (call : LabCall) (command : Command) (drive : Drive) (stops : Stops) (s
 
   -- of a run whose archive wasn't begun
   pub unplayed-archive : (asked : Drive) → command ≡ Run asked → asked ≡ drive → drive.archive ≡ true → call.log.fuse.mid ≡ 0 → call.store.fuse.mid ≡ 0
+      → (opened : Opened) → WhereToldAtEntry call (DevicesOpenAs opened) → FitsOpened drive.log_only opened script
+      → ArchiveFits opened.shape (start_after opened.end) (archive_size call.archive drive) script
       → HasRisen call.archive.entry.faults call.archive.now.faults → EndsWith call command (outcome.Fault fault.ArchiveDevice)
-  unplayed-archive asked is same archived log_none data_none risen = ends-with call command drive script running laws (outcome.Fault fault.ArchiveDevice) (tells-armed armed)
+  unplayed-archive asked is same archived log_none data_none opened opens fits archive_fits risen = ends-with call command drive script running laws (outcome.Fault fault.ArchiveDevice) (tells-armed armed)
       (leaves-read call script None reads) (
         risen,
         subst (EndsBefore call) (sym (is ∙ ap Run same)) (record {
           asked = archived;
           script = script;
           is_script = subst (λ (c : Command). IsScriptFor c call.source call.source_now script) (is ∙ ap Run same) running.is_script;
+          opened = opened;
+          opens = opens;
+          fits = fits;
+          archive_fits = archive_fits;
           unfailed = unfailed-armed armed log_none data_none;
           in_run = in-run armed;
           reads = reads;

@@ -32,7 +32,8 @@ IsOneRestore = (image : List ℕ) (lsn n end : ℕ) (pages : List Content) (refu
 
 module _ (call : LabCall) (to : ℕ) (unread : call.source_now ≡ call.source) (alone : BothDevices IsLeftAlone call)
     (still : StillTells call.archive.entry.tells call.archive.now.tells) where
-  restore-ends : (o : Outcome) → IsOutcome call (Restore to) o → (CanRestore call to → IsDoneOrKeptFrom (Restore to) o) → EndsWith call (Restore to) o
+  restore-ends : (o : Outcome) → IsOutcome call (Restore to) o → (CanRestore call to → IsDoneOrKeptFrom (Restore to) o)
+      → EndsWith call (Restore to) o
   restore-ends o means complete = record {
     means = means;
     unread = λ plain. unread;
@@ -47,7 +48,8 @@ module _ (call : LabCall) (to : ℕ) (unread : call.source_now ≡ call.source) 
   at-entry P holds disk is on = at-some call.archive.now.tells P disk holds (still-equal _ _ still on ∙ is)
 
   pub restored-ends : {E : Type 0} (r : Result (List ℕ) E) (n end : ℕ) (pages : List Content)
-      → IfSome call.archive.now.tells (λ disk. IsRestored disk.reads to n end pages) → IfOk r (λ text. text ≡ restored_text n end pages)
+      → IfSome call.archive.now.tells (λ disk. IsRestored disk.reads to n end pages)
+      → IfOk r (λ text. text ≡ restored_text n end pages)
       → EndsWith call (Restore to) (outcome_of r)
   restored-ends (Ok text) n end pages is text_is = restore-ends (outcome.Text text) (
     unfailed-alone call alone,
@@ -60,7 +62,8 @@ module _ (call : LabCall) (to : ℕ) (unread : call.source_now ≡ call.source) 
     },
   )
       (λ can. tt)
-  restored-ends (Err error) n end pages is text_is = restore-ends (outcome.Fault fault.Memory) (λ runs. absurd (false≢true runs)) (λ can. tt)
+  restored-ends (Err error) n end pages is text_is = restore-ends (outcome.Fault fault.Memory)
+      (λ runs. absurd (false≢true runs)) (λ can. tt)
 
   -- nothing is restored, for a cause that the device has
   refused-ends : IsOneRestore → (r : RestoreRefusal) → IfSome call.archive.now.tells (λ disk. RefusesRestore disk.reads to r)
@@ -68,14 +71,18 @@ module _ (call : LabCall) (to : ℕ) (unread : call.source_now ≡ call.source) 
   refused-ends one r cause =
       let refused = at-entry (λ disk. RefusesRestore disk.reads to r) cause in
       restore-ends (outcome.Fault (fault.Archive r)) refused
-      (λ can. absurd (one can.archive.reads to can.n can.end can.pages r can.is_restored (refused can.archive can.tells can.still)))
+      (λ can. absurd (one can.archive.reads to can.n can.end can.pages r can.is_restored
+      (refused can.archive can.tells can.still)))
 
   pub unrestored-ends : IsOneRestore → (f : RestoreFault) → HasRestoreCause call.archive.now.tells to f
-      → (f ≡ Dev → HasRisen call.archive.entry.faults call.archive.now.faults) → EndsWith call (Restore to) (outcome.Fault (unrestored f))
+      → (f ≡ Dev → HasRisen call.archive.entry.faults call.archive.now.faults)
+      → EndsWith call (Restore to) (outcome.Fault (unrestored f))
   unrestored-ends one Missing cause risen = refused-ends one refusal.Missing cause
   unrestored-ends one (To lsn) cause risen = refused-ends one (refusal.To lsn) cause
   unrestored-ends one (Page p) cause risen = refused-ends one (refusal.Page p) cause
   unrestored-ends one (Block lsn) cause risen = refused-ends one (refusal.Block lsn) cause
   unrestored-ends one (Record lsn) cause risen = refused-ends one (refusal.Record lsn) cause
-  unrestored-ends one Dev cause risen = restore-ends (outcome.Fault fault.ArchiveDevice) (risen refl, tt) (λ can. can.unfailed (risen refl))
-  unrestored-ends one NoMemory cause risen = restore-ends (outcome.Fault fault.Memory) (λ runs. absurd (false≢true runs)) (λ can. tt)
+  unrestored-ends one Dev cause risen = restore-ends (outcome.Fault fault.ArchiveDevice) (risen refl, tt)
+      (λ can. can.unfailed (risen refl))
+  unrestored-ends one NoMemory cause risen = restore-ends (outcome.Fault fault.Memory)
+      (λ runs. absurd (false≢true runs)) (λ can. tt)

@@ -1,5 +1,5 @@
 -- What `run` and `gen --run` come to whose run a device stopped in opening, or whose lines were run.
-use Rattle.std.proofs.Common.{ℕ, ◌≡◌, ◌≤◌, ◌<◌, ◌+◌, true, false, List, [], Option, Some, None, sym, subst, ◌∙◌, inr, ⊎_elim, arith}
+use Rattle.std.proofs.Common.{ℕ, ◌≡◌, ◌≤◌, ◌<◌, ◌+◌, true, false, List, [], Option, Some, None, sym, subst, ◌∙◌, inr, ⊎_elim, arith, inl}
 use Rattle.std.proofs.lemmas.Bool.{false≢true}
 use Rattle.model_base.specs.{HasRisen}
 use Rattle.model_report.specs.{IsLeft}
@@ -156,7 +156,7 @@ module _ (call : LabCall) (drives : Drives) (later : DrivesLater drives call.dri
   told-still since = record {
     loses = λ left left_is. (let counted : log_was.fuse.mid + data_was.fuse.mid ≡ mids call =
         omega (arith, played.0, since.0.mid, since.1.mid) in
-        subst (λ (n : ℕ). LosesOnlyByFailure n (Some run) left) counted (told.loses left left_is));
+        ⊎_elim (λ lost. inl (subst (λ (n : ℕ). LosesOnlyByFailure n (Some run) left) counted lost)) (λ archived. inr archived) (told.loses left left_is));
     marks = λ threads. absurd (false≢true threads);
     followers = record {
       count = told.followers.count;

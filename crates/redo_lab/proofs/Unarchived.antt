@@ -1,8 +1,12 @@
 -- What a command leaves alone that archives no run.
 use Rattle.std.proofs.Common.{ℕ, ◌≡◌, false, if◌then◌else◌, Bool, Option, Some, None, refl, sym, ap}
+use Rattle.model_report.specs.declared.fault.Fault.TheVariants as fault
 use Rattle.model_script.specs.declared.asked.Command.TheVariants.{Restore}
 use Rattle.model_script.specs.declared.asked.Drive.{Drive}
+use Rattle.redo_lab.specs.Ending.{SparesArchive}
 use Rattle.redo_lab.specs.declared.crash_command.Crashing.{Crashing}
+use Rattle.redo_lab.specs.declared.outcome.Outcome.{Outcome}
+use Rattle.redo_lab.specs.declared.outcome.Outcome.TheVariants as outcome
 use Rattle.redo_lab.specs.Asked.{HasAllowedNumbers, calls_archive}
 use Rattle.redo_lab.specs.Call.{Unfused}
 use Rattle.redo_lab.specs.Cause.{archive_size}
@@ -17,8 +21,11 @@ pub never-restores : (drive : Drive) (crash : Option Crashing) (to : ℕ) → co
 never-restores drive None to is = cc
 never-restores drive (Some crash) to is = cc
 
--- a command that runs its script in threads doesn't call the archive's device
-pub scripted-archive : (drive : Drive) (crash : Option Crashing) → HasAllowedNumbers (command_with drive crash)
-    → calls_archive (Some (command_with drive crash)) ≡ false
-scripted-archive drive None is = is.1
-scripted-archive drive (Some crash) is = refl
+-- an archive's device that is as it was is spared
+pub spares-untouched : (archive : Unfused) (o : Outcome) → archive.now ≡ archive.entry → SparesArchive archive o
+spares-untouched archive (outcome.Text text) same = tt
+spares-untouched archive (outcome.Report text f) same = tt
+spares-untouched archive (outcome.Fault fault.Memory) same = tt
+spares-untouched archive (outcome.Fault fault.ArchiveDevice) same = tt
+spares-untouched archive (outcome.Fault (fault.Turns turns user)) same = tt
+spares-untouched archive (outcome.Fault f) same = same

@@ -25,6 +25,7 @@ use Rattle.model_store.specs.declared.refusal.Refusal.TheVariants.{SmallLog}
 use Rattle.model_theorem.specs.{Opened, Ran, room_of, FitsOpened, IsSettledAtEntry, IsRun}
 use Rattle.redo_drive.specs.declared.drive.RunEnd.TheVariants.{Spent}
 use Rattle.redo_memdisk.specs.declared.fuse.Stage.TheVariants.{Before}
+use Rattle.redo_lab.specs.Archived.{IsArchived}
 use Rattle.redo_lab.specs.Answer.{AreCrashedAs, asked_shape}
 use Rattle.redo_lab.specs.Asked.{IsBadLine, IsLongScript, IsScriptFor, IsScriptRead, drive_of, drive_of_seed, reads_script, runs_script}
 use Rattle.redo_lab.specs.Call.{HaveSameContents, AreUnfailedFor, LabCall, BothDevices, Guarded, IsInRun, IsUnfailed, IsUnwritten, Unfused, WhereArchiveTold, WhereToldAtEntry, WhereToldNow, IsLeftFair, WhereOpened}
@@ -106,11 +107,11 @@ IsRefused call (Gen seed users groups true max) refusal =
     IsRefusedAtEntry call refusal ⊎ (BothDevices IsInRun call × WhereToldNow call (AreRefused refusal))
 IsRefused call (Gen seed users groups false max) refusal = ⊥
 
--- A drive may spend so many turns: it runs by turns; and with the log alone, without followers, where writer and flusher have turns,
+-- A drive may spend so many turns: it runs by turns; and with the log alone, unarchived and without followers, where writer and flusher have turns,
 -- the greatest number that may be asked for is enough, whatever the devices answer.
 pub record MaySpend (drive : Drive) (turns : ℕ) : Type 0 where
   pub by_turns : drive.threads ≡ false
-  pub few : drive.own_writes ≡ false → drive.log_only ≡ true → drive.followers ≡ 0 → turns < MAX_TURNS
+  pub few : drive.own_writes ≡ false → drive.log_only ≡ true → drive.archive ≡ false → drive.followers ≡ 0 → turns < MAX_TURNS
 
 -- THE TURNS ARE SPENT: the drive's run has taken so many, which are all, and this is the least user that hasn't ended. What is left
 -- is read as a prefix of the run.
@@ -125,6 +126,7 @@ pub record AreTurnsSpent (call : LabCall) (command : Command) (turns user : ℕ)
   pub is_run : HasRunScript call command drive opened script run follows (Spent turns user) call.log.now.tells call.store.now.tells
   pub in_run : BothDevices IsInRun call
   pub reads : AreLeftRead call script (Some run)
+  pub archived : IsArchived (λ mark flushed. mark ≤ flushed) call drive script run
 
 -- how many bytes the archive's device has, where the drive archives its run
 abbrev pub archive_size : Unfused → Drive → Option ℕ
@@ -146,11 +148,15 @@ pub record IsMisfit (call : LabCall) (command : Command) (misfit : Misfit) : Typ
 abbrev pub IsUnscripted : LabCall → Command → Type 0 → Type 0
 IsUnscripted call command Cause = (reads_script command ≡ true) × Cause × BothDevices IsUnwritten call
 
--- No archive was begun for the run. The store that was opened is read as it was.
+-- No archive was begun for the run of a script that fits. The store that was opened is read as it was.
 pub record IsUnarchived (call : LabCall) (drive : Drive) : Type 0 where
   pub asked : drive.archive ≡ true
   pub script : List ScriptLine
   pub is_script : IsScriptRead call.source call.source_now script
+  pub opened : Opened
+  pub opens : WhereToldAtEntry call (DevicesOpenAs opened)
+  pub fits : FitsOpened drive.log_only opened script
+  pub archive_fits : ArchiveFits opened.shape (start_after opened.end) (archive_size call.archive drive) script
   pub unfailed : BothDevices IsUnfailed call
   pub in_run : BothDevices IsInRun call
   pub reads : AreLeftRead call script None

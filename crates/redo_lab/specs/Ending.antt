@@ -6,15 +6,16 @@ use Rattle.model_script.specs.declared.asked.Command.{Command}
 use Rattle.model_script.specs.declared.asked.Command.TheVariants.{Restore, Run}
 use Rattle.model_report.specs.{fault_line, status_of}
 use Rattle.model_report.specs.declared.fault.Fault.{Fault}
-use Rattle.model_report.specs.declared.fault.Fault.TheVariants.{Memory, Sink, LogDevice, DataDevice, ArchiveDevice, Words}
+use Rattle.model_report.specs.declared.fault.Fault.TheVariants.{Memory, Sink, LogDevice, DataDevice, ArchiveDevice, Turns, Words}
 use Rattle.redo_disk.specs.Seen.{StillTells}
 use Rattle.redo_io.specs.{SinkSeen, TakesAtMost, TakesPart, with_taken}
 use Rattle.redo_io.specs.declared.read.TheConstants.{PIECE}
+use Rattle.model_script.specs.declared.asked.Drive.{Drive}
 use Rattle.redo_lab.specs.declared.outcome.Outcome.{Outcome}
 use Rattle.redo_lab.specs.declared.outcome.Outcome.TheVariants as outcome
 use Rattle.redo_lab.specs.Answer.{IsAnswer}
 use Rattle.redo_lab.specs.Asked.{command_of, leaves_devices, reads_script, runs_script}
-use Rattle.redo_lab.specs.Call.{AreUnfailedFor, BothDevices, IsUnfailedAside, IsUnwritten, LabCall, mids}
+use Rattle.redo_lab.specs.Call.{AreUnfailedFor, BothDevices, IsUnfailedAside, IsUnwritten, LabCall, Unfused, mids}
 use Rattle.redo_lab.specs.Cause.{IsCauseOf, IsPossible, MayKeepFrom}
 use Rattle.redo_lab.specs.Archived.{IsReportWith}
 use Rattle.redo_lab.specs.Told.{IsRunText, LeavesStore}
@@ -88,12 +89,21 @@ abbrev pub OnlyReadsArchive : LabCall → Type 0
 OnlyReadsArchive call =
     StillTells call.archive.entry.tells call.archive.now.tells × BothDevices (λ device. device.now ≡ device.entry) call
 
+-- the archive's device is as it was, where a run is ended before its archive is begun
+abbrev pub SparesArchive : Unfused → Outcome → Type 0
+SparesArchive archive (outcome.Fault Memory) = ⊤
+SparesArchive archive (outcome.Fault ArchiveDevice) = ⊤
+SparesArchive archive (outcome.Fault (Turns turns user)) = ⊤
+SparesArchive archive (outcome.Fault fault) = archive.now ≡ archive.entry
+SparesArchive archive done = ⊤
+
 -- the words ask for this command, which comes to an outcome that is printed
 pub record EndsCommand (call : LabCall) (sink sink_now : SinkSeen) (status : ℕ) (command : Command) : Type 0 where
   pub asked : command_of call.words ≡ Some command
   pub outcome : Outcome
   pub ends : EndsWith call command outcome
   pub restores : (to : ℕ) → command ≡ Restore to → OnlyReadsArchive call
+  pub spares : (drive : Drive) → command ≡ Run drive → SparesArchive call.archive outcome
   pub printed : IsOutcomePrinted outcome status sink sink_now
 
 -- the words are no command, or there was no memory to read them, and nothing was done

@@ -41,7 +41,7 @@ abbrev pub TellsOf : {L D : Type 0} → (threads own_writes : Bool) → (L → S
     → Drive → Opened (Fused L) (Fused D) → List ScriptLine → List model.Actor → Driven (Fused L) (Fused D) → Type 0
 TellsOf false false log_seen log_gives data_seen data_gives drive store script actors driven =
     RunsByTurns (seen_through log_seen) (CallsThrough log_seen log_gives) (seen_through data_seen) (CallsThrough data_seen data_gives)
-    store script (turns_of drive) drive.followers actors driven
+    store script (turns_of drive) drive.archive drive.followers actors driven
 TellsOf false true log_seen log_gives data_seen data_gives drive store script actors driven =
     OwnRunsByTurns (seen_through log_seen) (CallsThrough log_seen log_gives) (seen_through data_seen) (CallsThrough data_seen data_gives)
     store script (turns_of drive) drive.followers actors driven

@@ -32,6 +32,9 @@ use Rattle.redo_store.specs.declared.opened.Opened as store
 use Rattle.redo_recover.specs.declared.fault.RecFault.{RecFault}
 use Rattle.redo_recover.specs.declared.fault.RecFault.TheVariants.{LogDev, DataDev}
 use Rattle.redo_recover.specs.{refusal_of}
+use Rattle.model_script.specs.{ArchiveFits}
+use Rattle.model_log.specs.{start_after}
+use Rattle.redo_lab.specs.Cause.{archive_size}
 use Rattle.redo_lab.specs.declared.crash_command.Crashing.{Crashing}
 use Rattle.redo_lab.specs.declared.outcome.Outcome.{Outcome}
 use Rattle.redo_lab.specs.declared.outcome.Outcome.TheVariants as outcome
@@ -47,7 +50,7 @@ use Rattle.redo_lab.specs.Devices.{AreArmed, ArePrepared, IsUnarmed, to_be_armed
 use Rattle.redo_lab.specs.Handed.{AreOf, IsOpenedAt}
 use Rattle.redo_lab.specs.Ending.{EndsWith}
 use Rattle.redo_lab.specs.Store.{DevicesOpenAs}
-use Rattle.redo_lab.specs.Told.{AreToldOf, AreLeftRead, AreMarksRead, HasRunScript, IsOpenedFirst}
+use Rattle.redo_lab.specs.Told.{AreToldOf, AreLeftRead, AreMarksRead, HasRunScript, IsOpenedFirst, LosesOnlyBy}
 
 -- the fault of a call whose store isn't formatted, read or opened
 abbrev pub fault_of : RecFault → Fault
@@ -95,7 +98,7 @@ pub record IsLeftBy (call : LabCall) (command : Command) (drive : Drive) (stops 
 
 -- What is told of it is so: something is lost only where a device failed, and its marks are read.
 pub record IsToldRightly (call : LabCall) (drive : Drive) (script : List ScriptLine) (run : Option Ran) (follows : List Followed) : Type 0 where
-  pub loses : (left : List (ℕ × ℕ)) → IsLeft script (entries_of run) left → LosesOnlyByFailure (mids call) run left
+  pub loses : (left : List (ℕ × ℕ)) → IsLeft script (entries_of run) left → LosesOnlyBy call drive run left
   pub marks : AreMarksRead call drive run call.log.now.tells call.store.now.tells
   pub followers : AreToldOf call drive script run follows call.log.now.tells call.store.now.tells
 
@@ -144,6 +147,7 @@ pub record StandsReady {L D : Type 0} (log_seen : L → Seen) (data_seen : D →
   pub is_opened : IsOpenedAt opened given
   pub opens : WhereToldAtEntry call (DevicesOpenAs opened)
   pub fits : FitsOpened drive.log_only opened script
+  pub archive_fits : ArchiveFits opened.shape (start_after opened.end) (archive_size call.archive drive) script
   pub reads : AreLeftRead call script None
   pub ready : (reading : Reading) (log store : Disk) → call.log.armed_from ≡ Some log → call.store.armed_from ≡ Some store
       → call.log.now.tells ≢ None → call.store.now.tells ≢ None → IsOpenable reading log store → IsOpenedReady (seen_through log_seen) (seen_through data_seen) reading given

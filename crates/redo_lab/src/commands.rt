@@ -54,7 +54,7 @@ fn after_run<R: Threads + Sync, L: Sectors, D: Sectors>(
     requires workers { IfSome crash (λ crash. (1 ≤ crash.workers) × (crash.workers ≤ MAX_WORKERS)) }
     ensures ends { (asked : Asked) (words : List (List ℕ)) (archive : Unfused) (source source_now : SourceSeen) (log : L) (store : D)
         → IsRanBy (call_on L.seen L.gives D.seen D.gives words archive source source_now log store) (command_with asked crash) asked (stops_of crash) script.now ran
-        → IsScriptRead source source_now script.now
+        → IsScriptRead source source_now script.now → HasAllowedNumbers (command_with asked crash)
         → EndsWith (call_on L.seen L.gives D.seen D.gives words archive source source_now log store result.log result.store) (command_with asked crash) result.outcome }
     ensures entered { (log : L) (store : D) → AreOf log store ran.log ran.store → AreOf log store result.log result.store }
 {

@@ -28,7 +28,7 @@ use crate::turns::run_turns;
 use model_base::Shape;
 use model_log::BLOCK_HEADER;
 use model_report::{Fault, Followed, History, Marks};
-use model_script::{Drive, Script, fitting_script};
+use model_script::{Drive, Script, fitting_archive, fitting_script};
 use redo_disk::{DevError, Sectors};
 use redo_drive::{Driven, RunEnd};
 use redo_lsn::{round_of, run_layout};
@@ -202,6 +202,7 @@ fn open_fitted<L: Sectors, D: Sectors>(
 {
     laws();
     fitting_script();
+    fitting_archive();
     let opened = match open_store(alloc, log, store) {
         Ok(opened) => opened,
         Err((fault, log, store)) => {
@@ -327,7 +328,9 @@ pub(crate) fn in_threads<R: Threads + Wait + Sync, L: Sectors + Send, D: Sectors
     let Ok((followers, follows)) = make_followers(alloc, followers, start) else {
         return unbegun(opened);
     };
-    match drive_in_threads(rt, alloc, opened, script, log_only, own_writes, followers, gate) {
+    match drive_in_threads(
+        rt, alloc, opened, script, log_only, own_writes, followers, gate,
+    ) {
         Ok((driven, actors)) => close(start, driven, told_of(follows, actors.as_slice())),
         Err((_, log, store)) => unplayed(Fault::Memory, log, store),
     }

@@ -1,5 +1,5 @@
 // A store after its run, where users wrote for themselves.
-ghost use Rattle.std.specs.Prelude.{◌≡◌, ◌≤◌, [], length, slice_index, vec_capacity};
+ghost use Rattle.std.specs.Prelude.{◌≡◌, ◌≤◌, [], None, length, slice_index, vec_capacity};
 ghost use Rattle.model_core.specs.{index};
 ghost use Rattle.model_core.specs.declared.words.Word.TheVariants as word_is;
 ghost use Rattle.model_running.specs.{history_of, marks_in, word_marks};
@@ -25,6 +25,7 @@ impl<L: Sectors, D: Sectors, R: Receiver + Drop> OwnMachine<L, D, R> {
         requires room { HasRoom self }
         ensures parts { (result.0.log ≡ self.parts.log) × (result.0.store ≡ self.parts.store) }
         ensures actors { result.1.items ≡ crew_of self }
+        ensures lost { result.0.lost ≡ None }
         ensures code { result.0.code ≡ slice_index self.parts.words.words (index word_is.Failed) }
         ensures marks { result.0.marks ≡ marks_in self.parts.words.words }
         ensures history { (run : RunOf L D) (runs : RunsOn L.seen D.seen run self.parts (views_of (crew_of self)))

@@ -20,7 +20,7 @@ after_run-requires-clause-workers g c = λ κs live. within-workers c.args.asked
 pub returns-in-Ok-clause-ends : goal.returns-in-Ok-clause-ends
 returns-in-Ok-clause-ends g c = λ words archive. c.after_run.ensures.ends c.args.asked.drive words archive _ _ c.args.log c.args.store
     (rw c.stops_of-stops.ensures at c.by_turns-ran.ensures.comes_to words archive _ _ _
-    (runs-scripted c.args.asked.drive c.args.asked.crash c.in-Ok.ensures.script) c.requires.by_turns) c.in-Ok.ensures.script
+    (runs-scripted c.args.asked.drive c.args.asked.crash c.in-Ok.ensures.script) c.requires.by_turns) c.in-Ok.ensures.script c.requires.within
 
 pub returns-in-Err-clause-ends : goal.returns-in-Err-clause-ends
 returns-in-Err-clause-ends g c = λ words archive.

@@ -1,8 +1,9 @@
 use Rattle.std.proofs.Common.{ap, inr, refl, subst, sym, ◌∙◌}
+use Rattle.redo_lab.specs.Call.{unfused}
 use Rattle.redo_lab.proofs.AskedLimits.{command-of-within}
 use Rattle.redo_lab.specs.Asked.{HasAllowedNumbers}
 use Rattle.redo_lab.proofs.Alone.{all-left, nothing-ends}
-use Rattle.redo_lab.proofs.Unarchived.{never-restores, scripted-archive}
+use Rattle.redo_lab.proofs.Unarchived.{never-restores, spares-untouched}
 use Rattle.redo_lab.proofs.lab_call.lab.Goals as goal
 
 pub source_in_threads-done-requires-clause-within : goal.source_in_threads-done-requires-clause-within
@@ -34,6 +35,7 @@ returns-in-Some-clause-call g c =
           outcome = c.source_in_threads-done.result.outcome;
           ends = rw is.0 (c.source_in_threads-done.ensures.ends _ _);
           restores = λ to restore. absurd (never-restores c.in-Some.asked.drive c.in-Some.asked.crash to (sym is.0 ∙ restore));
+          spares = λ drive run. spares-untouched (unfused g.A.Sectors.seen c.args.arch c.args.arch) _ refl;
           printed = c.end-in-Some.ensures.printed;
         },
       );

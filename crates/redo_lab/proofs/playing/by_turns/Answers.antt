@@ -25,7 +25,7 @@ returns-in-Ok-run_turns-clause-comes_to g c = λ words archive source source_now
     c.in-Ok-run_turns.actors.items
     (tells-turns g.L.Sectors.seen g.L.Sectors.gives g.D.Sectors.seen g.D.Sectors.gives c.args.drive.now c.in-Ok.opened c.args.script.now
     (views_of c.in-Ok-run_turns.actors.items) c.in-Ok-run_turns.driven is
-    (c.in-Ok-run_turns.ensures.tells c.in-Ok-make_followers.ensures.untold.count_is))
+    (c.in-Ok-run_turns.ensures.tells c.in-Ok-make_followers.ensures.untold.count_is c.requires.unarchived))
     c.in-Ok-run_turns.ensures.owed (λ threads. absurd (false≢true (sym is ∙ threads)))
     c.in-Ok-make_followers.followers.items c.told_of.result
     c.in-Ok-make_followers.ensures.new
@@ -36,7 +36,7 @@ returns-in-Ok-run_turns-clause-comes_to g c = λ words archive source source_now
     c.in-Ok-make_followers.ensures.untold c.in-Ok-run_turns.ensures.followed.same
     c.in-Ok-make_followers.ensures.room.1 (c.told_of.ensures c.in-Ok-make_followers.ensures.room.0))
     (spends-turns g.L.Sectors.seen g.L.Sectors.gives g.D.Sectors.seen g.D.Sectors.gives _ _ c.args.drive.now)
-    c.requires.unarchived)
+    c.requires.unarchived c.in-Ok-run_turns.ensures.lost)
 
 pub returns-in-Err-run_turns-clause-comes_to : goal.returns-in-Err-run_turns-clause-comes_to
 returns-in-Err-run_turns-clause-comes_to g c = λ words archive source source_now command running is.

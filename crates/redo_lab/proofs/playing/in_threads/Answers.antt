@@ -36,7 +36,7 @@ returns-in-Ok-drive_in_threads-clause-comes_to g c = λ words archive source sou
     c.in-Ok-make_followers.ensures.untold c.in-Ok-drive_in_threads.ensures.followed.same
     c.in-Ok-make_followers.ensures.room.1 (c.told_of.ensures c.in-Ok-make_followers.ensures.room.0))
     (spends-turns g.L.Sectors.seen g.L.Sectors.gives g.D.Sectors.seen g.D.Sectors.gives _ _ asked)
-    none)
+    none c.in-Ok-drive_in_threads.ensures.lost)
 
 pub returns-in-Err-drive_in_threads-clause-comes_to : goal.returns-in-Err-drive_in_threads-clause-comes_to
 returns-in-Err-drive_in_threads-clause-comes_to g c = λ words archive source source_now command asked running same few is none.

@@ -17,6 +17,7 @@ returns-in-Ok-judge-clause-ready g c = λ words archive source source_now log_en
     stands-ready g.L.Sectors.seen g.D.Sectors.seen _ command asked stops c.args.script.now running c.laws.ensures _ _ c.in-Ok.opened
     (is-opening words archive source source_now log_entry data_entry armed uncalled c.in-Ok.ensures.called.log_calls c.in-Ok.ensures.called.data_calls)
     (opens-keeps _ _ _ _ _ c.in-Ok.ensures.safely) c.in-Ok.ensures.runnable c.in-Ok.ensures.read (opens-ready _ _ _ _ c.in-Ok.opened c.in-Ok.ensures.safely) (rw same at fits)
+    (rw room at (c.fitting_archive.ensures _ _ _ _ _ c.in-Ok-judge.ensures.fits))
 
 pub returns-in-Err-Misfit-clause-ready : goal.returns-in-Err-Misfit-clause-ready
 returns-in-Err-Misfit-clause-ready g c = λ words archive source source_now log_entry data_entry command asked stops running same room armed uncalled.
