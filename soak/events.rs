@@ -88,8 +88,14 @@ pub enum Archiving {
     Begun,
 }
 
+/// The place of the first write to the archive.
+pub fn first_archived(events: &[Event]) -> Option<usize> {
+    let is_write = |event: &Event| event.device == ARCHIVE && matches!(event.what, What::Write(_));
+    events.iter().position(is_write)
+}
+
 pub fn archiving_of(events: &[Event]) -> Archiving {
-    if writes_of(events, ARCHIVE).next().is_none() {
+    if first_archived(events).is_none() {
         return Archiving::Untouched;
     }
     let is_head = |event: &Event| match &event.what {

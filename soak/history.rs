@@ -4,7 +4,9 @@ use crate::archived::Archived;
 use crate::checking::{Asked, Store, check, check_read, ensure};
 use crate::crc::SECTOR;
 use crate::draws::Draws;
-use crate::events::{ARCHIVE, Archiving, DATA, DEVICES, Event, LOG, What, archiving_of, calls_of};
+use crate::events::{
+    ARCHIVE, Archiving, DATA, DEVICES, Event, LOG, What, archiving_of, calls_of, first_archived,
+};
 use crate::files::{Asking, Files, Kill, On};
 use crate::layout::{HEADS, in_format_1, is_unused};
 use crate::listing::{check_dump, check_recover, read_of};
@@ -516,6 +518,10 @@ impl<'a> History<'a> {
         self.learn(&events);
         let moment = if fate.is_told() {
             events.len()
+        } else if let Some(begun) = first_archived(&events)
+            && self.beside.once_in(2)
+        {
+            begun + draw_moment(&mut self.beside, &events[begun..])
         } else {
             self.draw_moment(&events, is_older, report.tells_failure())
         };

@@ -9,6 +9,32 @@ const TELLING: [u8; 16] = [
     0, 1, 8, 0x1E, 0x1F, 0x3B, 0x7F, 0x80, 0x81, 0x9E, 0xBB, 0xF0, 0xF8, 0xFC, 0xFE, 0xFF,
 ];
 
+/// Numbers at the edges of what each length spells, and bytes beside them that spell none.
+const SPELLED: [&[u8]; 22] = [
+    &[0x7F],
+    &[0x80, 0x7F],
+    &[0x80, 0x80],
+    &[0xBF, 0xFF],
+    &[0xC0, 0x3F, 0xFF],
+    &[0xC0, 0x40, 0x00],
+    &[0xDF, 0xFF, 0xFF],
+    &[0xE0, 0x1F, 0xFF, 0xFF],
+    &[0xE0, 0x20, 0x00, 0x00],
+    &[0xEF, 0xFF, 0xFF, 0xFF],
+    &[0xF0, 0x0F, 0xFF, 0xFF, 0xFF],
+    &[0xF0, 0x10, 0x00, 0x00, 0x00],
+    &[0xF0, 0xFE, 0xFF, 0xFF, 0xFF],
+    &[0xF0, 0xFF, 0x00, 0x00, 0x00],
+    &[0xF1, 0x20, 0x00, 0x00, 0x00],
+    &[0xF8, 0x00],
+    &[0xFB, 0xFF],
+    &[0xFC, 0x00, 0x00],
+    &[0xFD, 0xFB, 0xFF],
+    &[0xFD, 0xFC, 0x00],
+    &[0xFE, 0xFD, 0xFF, 0xFF],
+    &[0xFE, 0xFE, 0x00, 0x00],
+];
+
 pub fn text_of(ops: Vec<Op>, space: u32) -> Vec<u8> {
     let line = Line {
         user: 1,
@@ -80,7 +106,7 @@ fn string(page: u32, offset: u32, length: usize) -> Op {
 fn draw_misfit(draws: &mut Draws, shape: &Shape) -> Vec<u8> {
     let page = draws.below(u64::from(shape.pages)) as u32;
     let offset = draws.one_of(&[0, 37, 4_088, 4_095, 65_535]);
-    let ops = match draws.below(12) {
+    let ops = match draws.below(15) {
         0 => vec![number(1, shape.pages, 100, 7)],
         1 => vec![number(4, u32::MAX - draws.below(2_000) as u32, 100, 7)],
         2 => vec![Op::Clear { page: shape.pages }],
@@ -98,6 +124,7 @@ fn draw_misfit(draws: &mut Draws, shape: &Shape) -> Vec<u8> {
             return long(page, shape.space, length);
         }
         10 => return draw_unlike(draws, page, shape.space),
+        11..=13 => return draw_spelled(draws, page, shape.space),
         _ => {
             let space = shape.space.wrapping_add(draws.one_of(&[1, 128, u32::MAX]));
             return text_of(vec![number(1, page, 100, 7)], space);
@@ -127,6 +154,17 @@ fn draw_front(draws: &mut Draws, shape: &Shape) -> Vec<u8> {
         _ => most - 2 + draws.below(4) as usize,
     };
     text.truncate(length);
+    text
+}
+
+/// A record whose value is spelled so, or the front of one.
+fn draw_spelled(draws: &mut Draws, page: u32, space: u32) -> Vec<u8> {
+    let mut text = text_of(vec![number(4, page, 100, 0)], space);
+    text.pop();
+    text.extend(draws.one_of(&SPELLED));
+    if draws.once_in(3) {
+        text.pop();
+    }
     text
 }
 
