@@ -13,10 +13,12 @@ pub mod OwnFree
 pub mod OwnGives
 pub mod OwnHands
 pub mod OwnKept
+pub mod OwnLater
 pub mod OwnList
 pub mod OwnListed
 pub mod OwnMay
 pub mod OwnOps
+pub mod OwnPlaying
 pub mod OwnStepping
 pub mod OwnTakes
 pub mod OwnTurns
@@ -24,4 +26,5 @@ pub mod OwnUserHands
 pub mod OwnWords
 pub mod Placed
 pub mod Players
+pub mod Seatings
 pub mod Standing
