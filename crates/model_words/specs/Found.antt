@@ -6,7 +6,7 @@ use Rattle.clap.specs.Words.{Row, Text, fault_of, first_of, subcommand_of}
 use Rattle.clap.specs.Walk.{is_empty}
 use Rattle.model_base.specs.declared.limits.TheConstants.{DEFAULT_LOG_BLOCKS, DEFAULT_PAGES, DEFAULT_SPACE, MAX_LOG_BLOCKS, MAX_PAGES, MIN_LOG_BLOCKS}
 use Rattle.model_script.specs.declared.misfit.TheConstants.{MAX_USERS}
-use Rattle.model_script.specs.{number_within, where_driven, word_number}
+use Rattle.model_script.specs.{number_within, word_number}
 use Rattle.model_script.specs.declared.asked.Asked.{Asked}
 use Rattle.model_script.specs.declared.asked.Command.{Command}
 use Rattle.model_script.specs.declared.asked.Command.TheVariants.{Format, Run, Crash, Recover, Dump, Gen}
@@ -39,7 +39,7 @@ followers_from rows = text_number_or 1 MAX_FOLLOWERS 0 (first_of (codes "followe
 
 abbrev pub drive_from : List Row → Option Drive
 drive_from rows =
-    option_and_then where_driven (option_and_then (λ seed. option_and_then (λ max. option_map (λ followers. record {
+    option_and_then (λ seed. option_and_then (λ max. option_map (λ followers. record {
       seed = seed;
       max = max;
       threads = is_true (first_of (codes "threads") rows);
@@ -48,7 +48,7 @@ drive_from rows =
       followers = followers;
     }) (followers_from rows))
     (text_number_or 0 MAX_TURNS DEFAULT_TURNS (first_of (codes "max") rows)))
-    (text_number_or 0 (2 ^ 64 - 1) 0 (first_of (codes "turns") rows)))
+    (text_number_or 0 (2 ^ 64 - 1) 0 (first_of (codes "turns") rows))
 
 abbrev pub format_from : List Row → Option Command
 format_from rows =

@@ -2,7 +2,7 @@
 ghost use Rattle.std.specs.Prelude.{◌≡◌, codes, option_and_then, option_map};
 ghost use Rattle.clap.specs.Words.{first_of, found_of, rows_of};
 ghost use Rattle.model_base.specs.declared.limits.TheConstants.{DEFAULT_LOG_BLOCKS, DEFAULT_PAGES, DEFAULT_SPACE, MAX_LOG_BLOCKS, MAX_PAGES, MIN_LOG_BLOCKS};
-ghost use Rattle.model_script.specs.{number_within, where_driven, word_number};
+ghost use Rattle.model_script.specs.{number_within, word_number};
 ghost use Rattle.model_words.specs.Found.{asked_with, command_from, crash_from, drive_from, followers_from, format_from, gen_from, is_true, text_number, text_number_or, text_number_within, workers_from};
 
 use clap::ArgMatches;
@@ -102,21 +102,13 @@ fn read_followers(found: &ArgMatches<'_>) -> Option<u32>
     Some(followers as u32)
 }
 
-// The drive, if there is one.
-fn driven(drive: Drive) -> Option<Drive>
-    ensures { result ≡ where_driven drive }
-{
-    let is_none = drive.threads && drive.own_writes;
-    (!is_none).then_some(drive)
-}
-
 fn read_drive(found: &ArgMatches<'_>) -> Option<Drive>
     ensures { result ≡ drive_from (rows_of (found_of found.now)) }
 {
     let seed = number_or(found, "turns", 0, u64::MAX, 0)?;
     let max = turns_of(found)?;
     let followers = read_followers(found)?;
-    driven(Drive {
+    Some(Drive {
         seed,
         max,
         threads: is_given(found, "threads"),

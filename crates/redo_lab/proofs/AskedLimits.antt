@@ -4,7 +4,7 @@ use Rattle.std.specs.Option.{option_map, option_and_then}
 use Rattle.std.specs.Str.{bytes_eq}
 use Rattle.model_base.specs.declared.limits.TheConstants.{DEFAULT_LOG_BLOCKS, DEFAULT_PAGES, DEFAULT_SPACE, MAX_LOG_BLOCKS, MAX_PAGES, MIN_LOG_BLOCKS}
 use Rattle.model_script.specs.Commands as commands
-use Rattle.model_script.specs.{are_among, are_different, asked_of, given_crash, drive_names, given_drive, given_followers, given_format, given_gen, given_number, number_or, number_within, is_given, plain_command, said_from, where_allowed, where_driven, given_workers}
+use Rattle.model_script.specs.{are_among, are_different, asked_of, given_crash, drive_names, given_drive, given_followers, given_format, given_gen, given_number, number_or, number_within, is_given, plain_command, said_from, where_allowed, given_workers}
 use Rattle.model_script.specs.declared.asked.Asked.{Asked}
 use Rattle.model_script.specs.declared.asked.Command.{Command}
 use Rattle.model_script.specs.declared.asked.Command.TheVariants.{Run, Recover, Dump}
@@ -76,20 +76,12 @@ format-within options command is =
     or-between MIN_LOG_BLOCKS MAX_LOG_BLOCKS DEFAULT_LOG_BLOCKS blocks.0 (given_number name.LogBlocks options) (lit≤ tt, lit≤ tt) blocks.1 in
     subst HasAllowedNumbers blocks.2 (some.0, some.1, many.0, many.1)
 
--- a drive that there is
-driven-some : (threads own_writes : Bool) (given drive : Drive)
-    → (if threads && own_writes then None else Some given) ≡ Some drive → given ≡ drive
-driven-some true true given drive is = cc
-driven-some true false given drive is = cc
-driven-some false own_writes given drive is = cc
-
 drive-within : (options : List Given) (drive : Drive) → given_drive options ≡ Some drive
     → drive.followers ≤ MAX_FOLLOWERS
 drive-within options drive is =
-    let given = and_then-some where_driven _ drive is in
-    let max = and_then-some _ (number_or 0 MAX_TURNS DEFAULT_TURNS (given_number name.Max options)) given.0 given.1 in
-    let followers = map-some _ (given_followers options) given.0 max.2 in
-    subst (λ (drive : Drive). drive.followers ≤ MAX_FOLLOWERS) (followers.2 ∙ driven-some given.0.threads given.0.own_writes given.0 drive given.2)
+    let max = and_then-some _ (number_or 0 MAX_TURNS DEFAULT_TURNS (given_number name.Max options)) drive is in
+    let followers = map-some _ (given_followers options) drive max.2 in
+    subst (λ (drive : Drive). drive.followers ≤ MAX_FOLLOWERS) followers.2
     (or-at-most 1 MAX_FOLLOWERS 0 followers.0 (given_number name.Followers options) (lit≤ tt) followers.1)
 
 run-within : (options : List Given) (command : Command) → option_map Run (given_drive options) ≡ Some command → HasAllowedNumbers command

@@ -43,7 +43,6 @@ impl<L: Sectors, D: Sectors, R: Receiver + Drop> Shared<L, D, R> {
             → HaveHeard R.stands_for (map actor_of starts) seats.items (map actor_of players.items)
             → LeavesRun L.seen L.gives D.seen D.gives R.stands_for (opened_of self) (shared_script self) self.board.shared.key.log_only
             self.board.shared.key.followers (crew work starts) result.1.items result.0 }
-        ensures rest { HoldNothing (views_of result.1.items) }
         ensures listed { ListsInOrder result.0.marks (views_of result.1.items) result.0.history }
         ensures owed { IsOwedRun L.seen L.gives D.seen D.gives (opened_of self) (shared_script self) (views_of result.1.items) result.0 }
         ensures reaches { ReachesAll (views_of result.1.items) result.0 }

@@ -25,6 +25,7 @@ run --threads --followers=4      | 0                    100000000           true
 run --own-writes                 | 0                    100000000           false false true  0 false
 run --log-only --own-writes      | 0                    100000000           false true  true  0 false
 run --own-writes --followers 3   | 0                    100000000           false false true  3 false
+run --own-writes --threads       | 0                    100000000           true  false true  0 false
 run --max=9 --own-writes --files | 0                    9                   false false true  0 true
 run --max 6 --turns 1            | 1                    6                   false false false 0 false
 run --turns 1 --max=6 --files    | 1                    6                   false false false 0 true
@@ -43,6 +44,7 @@ crash --pick 18446744073709551615                                               
 crash --stop-log 18446744073709551615                                                                | 0 100000000 false false false 0 Some(18446744073709551615) None    0                    1  false
 crash --own-writes                                                                                   | 0 100000000 false false true  0 None                       None    0                    1  false
 crash --own-writes --log-only --stop-log 4 --pick 9                                                  | 0 100000000 false true  true  0 Some(4)                    None    9                    1  false
+crash --threads --own-writes                                                                         | 0 100000000 true  false true  0 None                       None    0                    1  false
 crash --workers 16                                                                                   | 0 100000000 false false false 0 None                       None    0                    16 false
 crash --followers 1 --workers 2                                                                      | 0 100000000 false false false 1 None                       None    0                    2  false
 crash --pick=5 --stop-log=1 --stop-data=2 --workers=6 --turns=3 --max=4 --threads --log-only --files | 3 4         true  true  false 0 Some(1)                    Some(2) 5                    6  true

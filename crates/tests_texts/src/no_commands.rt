@@ -54,9 +54,6 @@ run --own-writes --own-writes
 run --own-writes=1
 run --own-writes=
 run --own-writes 1
-run --own-writes --threads
-run --threads --own-writes
-run --threads --log-only --followers 2 --own-writes
 run --followers
 run --followers 0
 run --followers 5
@@ -96,8 +93,6 @@ crash --workers 0
 crash --workers 17
 crash --workers 1 --workers 1
 crash --own-writes --own-writes
-crash --own-writes --threads
-crash --threads --pick 1 --own-writes
 crash --followers 0
 crash --followers 5
 crash --followers 1 --followers 1

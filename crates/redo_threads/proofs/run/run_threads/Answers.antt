@@ -1,15 +1,16 @@
-use Rattle.std.proofs.Common.{ap, is_some, length, subst, sym, ◌+◌, ◌∙◌, ◌≡◌}
+use Rattle.std.proofs.Common.{ap, length, subst, sym, ◌+◌, ◌∙◌, ◌≡◌}
 use Rattle.std.specs.List.{AllZip}
 use Rattle.model_core.specs.Later.{IsSameActor}
 use Rattle.redo_drive.proofs.LeftRun.{reads_to_marks}
 use Rattle.redo_drive.specs.Leaving.{LeavesRun}
 use Rattle.redo_drive.specs.Views.{views_of}
+use Rattle.redo_ownrule.proofs.Crews.{crew_later, same_order}
 use Rattle.redo_ownrule.specs.Players.{AreInOrder, crew, workers}
 use Rattle.redo_ownrule.specs.Sharing.{AreSeatsOf, opened_of, own_of, shared_script, table_of}
 use Rattle.redo_rule.specs.Closing.{done_with}
 use Rattle.redo_rule.specs.Ruled.{starts_about}
 use Rattle.redo_threads.proofs.Ending.{all_rest, have_answered, have_ended}
-use Rattle.redo_threads.proofs.Heard.{all_same, crew_later, have_heard, in_order, same_order, seated}
+use Rattle.redo_threads.proofs.Heard.{all_same, have_heard, in_order, seated}
 use Rattle.redo_threads.proofs.Keeping.{keep_long}
 use Rattle.redo_threads.specs.Working.{AreSeated, KeepOn}
 use Rattle.redo_threads.specs.declared.crew.Crew.{Crew}
