@@ -319,7 +319,9 @@ pub(crate) fn in_threads<R: Threads + Wait + Sync, L: Sectors + Send, D: Sectors
     let Ok((followers, follows)) = make_followers(alloc, followers, start) else {
         return unbegun(opened);
     };
-    match drive_in_threads(rt, alloc, opened, script, log_only, own_writes, followers, gate) {
+    match drive_in_threads(
+        rt, alloc, opened, script, log_only, own_writes, followers, gate,
+    ) {
         Ok((driven, actors)) => close(start, driven, told_of(follows, actors.as_slice())),
         Err((_, log, store)) => unplayed(Fault::Memory, log, store),
     }

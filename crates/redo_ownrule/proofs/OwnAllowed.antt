@@ -168,9 +168,11 @@ module _ {L D : Type 0} (log_seen : L → Seen) (log_gives : L → Call → L �
         (
           refl,
           of_own (λ (y : Numbered) (p : OwnUser). ErrandFits p.user p.errand
-              × ((k : LogWork) → HasWork me.0.held p k → OwnMayGo me.0.pages me.0.held p k))
-              (go.stands, λ k has. ops.any_work o W k me.0.pages me.0.held go
-              (λ with. turns.the_work log_seen log_gives data_seen data_gives about s R id me.0 x one at o its k has with)),
+              × ((k : LogWork) → HasWork me.0.held p k → OwnMayGo me.0.pages me.0.held p k)) (
+                go.stands,
+                λ k has. ops.any_work o W k me.0.pages me.0.held go
+                    (λ with. turns.the_work log_seen log_gives data_seen data_gives about s R id me.0 x one at o its k has with),
+              ),
         ),
       )
 

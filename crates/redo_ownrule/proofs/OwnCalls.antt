@@ -225,8 +225,10 @@ module _ {L D : Type 0} (log_seen : L → Seen) (log_gives : L → Call → L �
                 q.block j)
                 (λ b. still 0 ∙ allowed.busy_device log_seen log_gives data_seen data_gives about slots id me x one o its s
                 R at (λ z. b (still 0 ∙ z)))
-                (λ i b. inr ((λ z. b (still (suc i) ∙ z)),
-                λ h. let z : None ≡ Some (suc i) = sym none_now ∙ h in absurd (cc))) k b),
+                (λ i b. inr (
+                  (λ z. b (still (suc i) ∙ z)),
+                  λ h. let z : None ≡ Some (suc i) = sym none_now ∙ h in absurd (cc),
+                )) k b),
             turns.steps log_seen log_gives data_seen data_gives about s R id me.0 x one at o its r new same done_by
                 q.block held_now me.1
                 (λ d is has. kept.same_log d (with_work q left)

@@ -258,8 +258,10 @@ module _ {L D : Type 0} (log_seen : L → Seen) (log_gives : L → Call → L �
             me x one o its s R at (λ z. busy (far 0 (λ e. omega arith) ∙ z)))
             (λ j busy. elim (ℕ_discrete j i) [
               | yes here ↦ inl (has_then r ∙ handles.1 None ∙ ap (λ (n : ℕ). Some (suc n)) (sym here))
-              | no ne ↦ inr ((λ z. busy (far (suc j) (λ e. ne (omega arith)) ∙ z)),
-                  λ h. let z : None ≡ Some (suc j) = sym handles.0 ∙ h in absurd (cc))
+              | no ne ↦ inr (
+                (λ z. busy (far (suc j) (λ e. ne (omega arith)) ∙ z)),
+                λ h. let z : None ≡ Some (suc j) = sym handles.0 ∙ h in absurd (cc),
+              )
             ]) k busy),
         turns.steps log_seen log_gives data_seen data_gives about s R id me.0 x one at o its r new same done
             R.beside.block held ((suc i, slot.Pages l) ∷ me.1)
@@ -338,8 +340,10 @@ module _ {L D : Type 0} (log_seen : L → Seen) (log_gives : L → Call → L �
             same_held done_held R.beside.block j)
             (λ b. word_still 0 ∙ allowed.busy_device log_seen log_gives data_seen data_gives about slots id me x one o its
             s R at (λ z. b (word_still 0 ∙ z)))
-            (λ j b. inr ((λ z. b (word_still (suc j) ∙ z)),
-            λ h. let z : None ≡ Some (suc j) = sym handles.0 ∙ h in absurd (cc))) k b),
+            (λ j b. inr (
+              (λ z. b (word_still (suc j) ∙ z)),
+              λ h. let z : None ≡ Some (suc j) = sym handles.0 ∙ h in absurd (cc),
+            )) k b),
         turns.steps log_seen log_gives data_seen data_gives about s R id me.0 x one at o its answer.Held new_held
             same_held done_held R.beside.block me.0.held me.1
             (λ d is has. let z : true ≡ false = sym has ∙ goes answer.Held in absurd (cc)),

@@ -277,8 +277,10 @@ module _ {L D : Type 0} (log_seen : L → Seen) (log_gives : L → Call → L �
             done_held R.beside.block j)
             (λ b. word_still 0 ∙ allowed.busy_device log_seen log_gives data_seen data_gives about slots id me x one o its
             s R at busy)
-            (λ i b. inr ((λ z. b (word_still (suc i) ∙ z)),
-            λ h. let z : None ≡ Some (suc i) = sym none_before ∙ h in absurd (cc))) k b),
+            (λ i b. inr (
+              (λ z. b (word_still (suc i) ∙ z)),
+              λ h. let z : None ≡ Some (suc i) = sym none_before ∙ h in absurd (cc),
+            )) k b),
         turns.steps log_seen log_gives data_seen data_gives about s R id me.0 x one at o its answer.Held new same
             done_held R.beside.block me.0.held me.1
             (λ d is has. let z : true ≡ false = sym has ∙ has_none in absurd (cc)),

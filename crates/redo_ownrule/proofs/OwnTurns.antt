@@ -295,21 +295,21 @@ module _ {L D : Type 0} (log_seen : L → Seen) (log_gives : L → Call → L �
         → IsSlotHeld (actors_of after) (suc j)
     list_behind j t keeps = elim (ℕ_discrete t.0 x.number) [
       | yes is ↦ (
-          x.number,
-          model.User then.user,
-          then_here,
-          keeps (ap hand (maybe.some-injective (model.User o.user) t.1
-              (sym here ∙ ap (get_elem? R.actors) (sym is) ∙ t.2)) ∙ t.3),
-        )
+        x.number,
+        model.User then.user,
+        then_here,
+        keeps (ap hand (maybe.some-injective (model.User o.user) t.1
+            (sym here ∙ ap (get_elem? R.actors) (sym is) ∙ t.2)) ∙ t.3),
+      )
       | no far ↦ (
-          t.0,
-          t.1,
-          held_still work left after.others j t.1 t.3 side.users x.number then t.0 far
-              (sym (ap (λ (l : List model.Actor). get_elem? l t.0)
-              (turns.worked log_seen log_gives data_seen data_gives about s R id v x one at side own_is o there).are)
-              ∙ t.2),
-          t.3,
-        )
+        t.0,
+        t.1,
+        held_still work left after.others j t.1 t.3 side.users x.number then t.0 far
+            (sym (ap (λ (l : List model.Actor). get_elem? l t.0)
+            (turns.worked log_seen log_gives data_seen data_gives about s R id v x one at side own_is o there).are)
+            ∙ t.2),
+        t.3,
+      )
     ]
 
     -- what has become of a turn word

@@ -225,8 +225,11 @@ module _ {L D R : Type 0} where
 
         keeps_part : IsCleaner (seen p) → HasPart token.me.0
         keeps_part is = ⊎_elim
-            (λ q. (q.0, ap (λ (v : View L D). v.data_part) right
-            ∙ ap (λ (b : Bool). cond b first.me.0.data_part None) (heads ∙ cleaner_true (seen p) is) ∙ q.1))
+            (λ q. (
+              q.0,
+              ap (λ (v : View L D). v.data_part) right
+                  ∙ ap (λ (b : Bool). cond b first.me.0.data_part None) (heads ∙ cleaner_true (seen p) is) ∙ q.1,
+            ))
             (λ t. let same : t.0 ≡ n = one t.0 n t.1 (seen p) t.3 p_view t.4 is in let l = t.2 in absurd (omega arith)) part
 
         cut_seat : IsPlayerSeat table token p
@@ -273,8 +276,11 @@ module _ {L D R : Type 0} where
         cut_part = ⊎_elim
             (λ c. inr (n, seen p, (let m = long in omega arith), p_view, c.0))
             (λ none. ⊎_elim
-            (λ q. inl (q.0, ap (λ (v : View L D). v.data_part) left
-            ∙ ap (λ (b : Bool). cond b None first.me.0.data_part) (heads ∙ none) ∙ q.1))
+            (λ q. inl (
+              q.0,
+              ap (λ (v : View L D). v.data_part) left
+                  ∙ ap (λ (b : Bool). cond b None first.me.0.data_part) (heads ∙ none) ∙ q.1,
+            ))
             (λ t. inr (t.0, t.1, (let m = long in let l = t.2 in omega arith), t.3, t.4)) part)
             (told_cleaner (seen p))
 
@@ -355,14 +361,23 @@ module _ {L D R : Type 0} where
         part_of o q d e = ap (λ (z : Option (Keeping D)). first_some z q) e
 
         pub taken_part : HasPart first.me.0 → HasPart after.me.0
-        taken_part q = (q.0, ap (λ (v : View L D). v.data_part) both
-            ∙ part_of first.me.0.data_part seat.me.0.data_part (record { part = q.0; out = false }) q.1)
+        taken_part q = (
+          q.0,
+          ap (λ (v : View L D). v.data_part) both
+              ∙ part_of first.me.0.data_part seat.me.0.data_part (record { part = q.0; out = false }) q.1,
+        )
 
         either_part : (o : Option (Keeping D)) → first.me.0.data_part ≡ o → HasPart seat.me.0 → HasPart after.me.0
-        either_part None e q = (q.0, ap (λ (v : View L D). v.data_part) both
-            ∙ ap (λ (z : Option (Keeping D)). first_some z seat.me.0.data_part) e ∙ q.1)
-        either_part (Some d) e q = taken_part (d.part, e
-            ∙ ap (λ (b : Bool). Some (record { part = d.part; out = b })) (A.is_first.home d e))
+        either_part None e q = (
+          q.0,
+          ap (λ (v : View L D). v.data_part) both
+              ∙ ap (λ (z : Option (Keeping D)). first_some z seat.me.0.data_part) e ∙ q.1,
+        )
+        either_part (Some d) e q = taken_part (
+          d.part,
+          e
+              ∙ ap (λ (b : Bool). Some (record { part = d.part; out = b })) (A.is_first.home d e),
+        )
 
         pub taken_cleaner : ((i : ℕ) (a : model.Actor) → length seats ≤ i → get_elem? (views players) i ≡ maybe.some a
             → IsCleaner a → HasPart first.me.0)

@@ -92,9 +92,7 @@ fn last_slot<L: Sectors, D: Sectors>(slots: &mut Vec<Slot<L, D>>) -> Slot<L, D>
 }
 
 /// Both parts, out of their slots.
-pub fn parts_in<L: Sectors, D: Sectors>(
-    mut slots: Vec<Slot<L, D>>,
-) -> (LogPart<L>, DataPart<D>)
+pub fn parts_in<L: Sectors, D: Sectors>(mut slots: Vec<Slot<L, D>>) -> (LogPart<L>, DataPart<D>)
     requires { AreLaid slots.items }
     ensures { (desk : Desk L) (lists : Listings) (stored : store_dev.Part D) → slots.items ≡ laid desk lists stored → (result.0 ≡ desk.part) × (result.1 ≡ stored) }
 {

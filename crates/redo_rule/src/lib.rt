@@ -21,9 +21,9 @@ mod slots;
 mod steps;
 
 pub use closing::{Left, close_table};
+pub use law::{About, Desk, Errand, Heard, Keeping, Law, Numbered, Ring, Seat, Slot, View, Viewed};
 pub use laying::{lay_out, make_board, parts_in};
 pub use listing::{list_slot, list_turn};
-pub use law::{About, Desk, Errand, Heard, Keeping, Law, Numbered, Ring, Seat, Slot, View, Viewed};
 pub use playing::play;
 pub use plays::Looked;
 pub use resting::{all_hold_nothing, holds_nothing};

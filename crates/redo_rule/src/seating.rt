@@ -29,10 +29,7 @@ impl<L: Sectors, D: Sectors> Join<View<L, D>> for Gather {
 }
 
 /// Cuts a seat off for the first of the actors that have none.
-pub fn cut_seat<L: Sectors, D: Sectors>(
-    table: &Ring<L, D>,
-    first: &mut Seat<L, D>,
-) -> Seat<L, D>
+pub fn cut_seat<L: Sectors, D: Sectors>(table: &Ring<L, D>, first: &mut Seat<L, D>) -> Seat<L, D>
     requires first { IsFirst table.now.table_id first.old }
     requires head { MayCut first.old.me.0 }
     ensures first { IsFirst table.now.table_id first.new }
@@ -43,10 +40,7 @@ pub fn cut_seat<L: Sectors, D: Sectors>(
 }
 
 /// The same for an actor that plays by its own program: it may go on.
-pub fn cut_off<L: Sectors, D: Sectors>(
-    table: &Ring<L, D>,
-    first: &mut Seat<L, D>,
-) -> Seat<L, D>
+pub fn cut_off<L: Sectors, D: Sectors>(table: &Ring<L, D>, first: &mut Seat<L, D>) -> Seat<L, D>
     requires first { IsFirst table.now.table_id first.old }
     requires head { MayCut first.old.me.0 }
     ensures first { IsFirst table.now.table_id first.new }

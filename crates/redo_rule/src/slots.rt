@@ -55,9 +55,7 @@ pub(crate) fn write_slot<L: Sectors, D: Sectors>(
 }
 
 /// How a sync ended, and the stable mark after it.
-pub fn sync_slot<L: Sectors, D: Sectors>(
-    slot: &mut Slot<L, D>,
-) -> (Result<(), DevError>, u64)
+pub fn sync_slot<L: Sectors, D: Sectors>(slot: &mut Slot<L, D>) -> (Result<(), DevError>, u64)
     requires { IsLog slot.old (λ p. p.failed ≡ None) }
     ensures called { IsCalled L.gives slot.old slot.new result.0 (λ p q. (faults start : ℕ) (first : log_dev.Part L) (l : model.Lent)
         → LogServed (log_part.log_side L.seen faults first.marks.number (log_part.HasBegun L.seen start first)) p l op.Sync (call_code device.Log q.failed) q) }

@@ -14,9 +14,9 @@ abbrev pub invariant-loop-seat : goal.invariant-loop-seat
 invariant-loop-seat g l = record {
   apart : (own : Bool)
       → AreHandedOut l.table.table_id (place own l.players) (heard_by l.initial.seats.items) l.players l.initial.first
-        l.initial.seats.items
+      l.initial.seats.items
       → AreHandedOut l.table.table_id (place own l.players) (heard_by l.initial.seats.items) l.players l.first
-        l.seats.items;
+      l.seats.items;
   part : HasPart l.initial.first.me.0 → HasPart l.first.me.0;
   cleaner : (i : ℕ) (a : model.Actor) → length l.seats.items ≤ i
       → get_elem? (views_of (map actor_of l.players)) i ≡ some a → IsCleaner a → HasPart l.first.me.0;

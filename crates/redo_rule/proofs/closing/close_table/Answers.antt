@@ -163,8 +163,8 @@ returns g c = record {
       (slots_items c.close_with-closed.result.slots) E _ c.take-log.result c.take-data.result c.desk_in-part.result
       c.take-log.ensures.value c.desk_in-part.ensures refl
       (ap (λ (l : List (Slot _ _)). get_elem? l 5) (sym (c.take-d.ensures.others.0 ∙
-    c.take-c.ensures.others.0 ∙ c.take-b.ensures.others.0 ∙ c.take-a.ensures.others.0 ∙ c.take-log.ensures.others.0))
-    ∙ c.take-data.ensures.value) c.data_in.ensures
+      c.take-c.ensures.others.0 ∙ c.take-b.ensures.others.0 ∙ c.take-a.ensures.others.0 ∙ c.take-log.ensures.others.0))
+      ∙ c.take-data.ensures.value) c.data_in.ensures
       (c.tail_of.ensures ∙ ap tail_of c.word_in.ensures) c.word_in-2.ensures c.word_in-3.ensures c.word_in-4.ensures c.word_in-code.ensures;
   work = λ heard actors E. work_left g.L.Sectors.seen g.L.Sectors.gives g.D.Sectors.seen g.D.Sectors.gives
       c.args.board.shared.key heard actors (slots_items c.close_with-closed.result.words)

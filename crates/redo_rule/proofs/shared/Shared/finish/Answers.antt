@@ -32,13 +32,13 @@ close_table-log-requires-clause-ends g c = λ words slots final. (
   ends_with g.L.Sectors.seen g.L.Sectors.gives g.D.Sectors.seen g.D.Sectors.gives c.args.self.board.shared.key
       c.args.self.board.shared.table_id (heard_by c.args.seats.items) (views_of c.args.actors.now)
       c.take_all.new.first (record {
-    is_first = c.take_all.ensures.first;
-    all = c.take_all.ensures.all;
-    count = length_views c.args.actors.now ∙ c.requires.all;
-    rest = c.requires.rest;
-    cleaner = c.take_all.ensures.cleaner;
-    alone = λ alone. c.take_all.ensures.part (c.requires.seated.alone alone);
-  }) words slots final,
+        is_first = c.take_all.ensures.first;
+        all = c.take_all.ensures.all;
+        count = length_views c.args.actors.now ∙ c.requires.all;
+        rest = c.requires.rest;
+        cleaner = c.take_all.ensures.cleaner;
+        alone = λ alone. c.take_all.ensures.part (c.requires.seated.alone alone);
+      }) words slots final,
 )
 
 pub history_of-history-requires : goal.history_of-history-requires

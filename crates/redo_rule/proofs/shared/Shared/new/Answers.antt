@@ -66,7 +66,7 @@ returns-in-Ok-make_board-clause-new g c = record {
     script = c.of.result;
     log_only = c.args.log_only;
     followers = c.len-count.result;
-      own_writes = false;
+    own_writes = false;
   })
       c.args.followers.items (let n = c.len-count.ensures in omega arith) c.in_ok-parts.field-0
       (about_begins g.L.Sectors.seen g.D.Sectors.seen g.R.Receiver.stands_for (record {
@@ -75,7 +75,7 @@ returns-in-Ok-make_board-clause-new g c = record {
         script = c.of.result;
         log_only = c.args.log_only;
         followers = c.len-count.result;
-      own_writes = false;
+        own_writes = false;
       })
       c.args.followers.items c.args.opened c.args.script.now c.args.log_only c.of-opened_is.ensures c.of.ensures refl
       c.in_ok-parts.field-0 c.in_ok-parts.ensures.begins)
@@ -84,7 +84,7 @@ returns-in-Ok-make_board-clause-new g c = record {
         script = c.of.result;
         log_only = c.args.log_only;
         followers = c.len-count.result;
-      own_writes = false;
+        own_writes = false;
       })
       c.args.followers.items c.args.opened c.args.script.now c.args.log_only c.of-opened_is.ensures c.of.ensures refl
       c.requires.may) refl
