@@ -17,6 +17,7 @@ use crate::device::Failure;
 use crate::group::{changes, encode};
 use crate::log::{BLOCK_HEADER, BLOCK_SIZE, Device, RING_START};
 use crate::script::ScriptLine;
+use crate::store::head;
 use checkpointer::Checkpointer;
 use cleaner::Cleaner;
 use closer::Closer;
@@ -151,7 +152,11 @@ pub fn log_length(ring_blocks: u64) -> usize {
 
 impl Parts {
     fn new(sizes: Sizes) -> Result<Parts, Failure> {
-        let log = Device::new(log_length(sizes.ring_blocks));
+        let mut log = Device::new(log_length(sizes.ring_blocks));
+        // the second header; a sum over the device leaves out the first
+        let mut block = [0; BLOCK_SIZE];
+        head(&mut block, sizes.ring_blocks as usize, sizes.pages as usize);
+        log.write(2 * BLOCK_SIZE, &block);
         Ok(Parts {
             words: start_words(sizes.pages),
             log: LogPart::new(log, sizes.ring_blocks, START)?,

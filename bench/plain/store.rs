@@ -40,8 +40,8 @@ fn log_of(ring_blocks: usize, stream: &[u8]) -> Vec<u8> {
     let (heads, ring) = log.split_at_mut(RING_START);
     let heads: Vec<&mut [u8]> = heads.chunks_exact_mut(BLOCK_SIZE).collect();
     let [first_head, even, second_head, _odd, tail, _other] = heads.try_into().unwrap();
-    head(first_head, ring_blocks);
-    head(second_head, ring_blocks);
+    head(first_head, ring_blocks, PAGES);
+    head(second_head, ring_blocks, PAGES);
     checkpoint(even, 0, START_LSN, RING_START as u64);
     let firsts = firsts_of(stream);
     let mut places = ring.chunks_exact_mut(BLOCK_SIZE);
@@ -77,13 +77,13 @@ fn seal(block: &mut [u8], fields: &[&[u8]]) {
     block[508..].copy_from_slice(&checksum.to_be_bytes());
 }
 
-/// The file header.
-fn head(block: &mut [u8], ring_blocks: usize) {
+/// The header of a store with so many blocks in its ring, and so many pages.
+pub fn head(block: &mut [u8], ring_blocks: usize, pages: usize) {
     let mut creator = [0; 32];
     creator[..9].copy_from_slice(b"redolab 1");
     let sizes = [
         PAGE_SIZE as u32,
-        PAGES as u32,
+        pages as u32,
         SPACE,
         (ring_blocks + TAIL_BLOCKS) as u32,
         SLOTS as u32,
