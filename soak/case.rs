@@ -61,7 +61,7 @@ pub struct Case<'a> {
     pub seed: u64,
     /// Whether each run is one in threads, of all users.
     pub all_threads: bool,
-    /// Whether each run of a drawn script has followers, and users that write for themselves where it is by turns.
+    /// Whether each run of a drawn script has followers, and users that write for themselves.
     pub all_followers: bool,
     pub all_own: bool,
     pub draws: Draws,

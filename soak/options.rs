@@ -126,10 +126,10 @@ pub fn draw_followers(draws: &mut Draws, always: bool) -> u64 {
     if always || draws.once_in(3) { count } else { 0 }
 }
 
-/// Whether users write for themselves: by turns in each draw or in one of eight.
+/// Whether users write for themselves: in each draw, or by turns in one of eight and in threads in one of three.
 pub fn draw_own_writes(draws: &mut Draws, always: bool, threads: bool) -> bool {
-    let drawn = draws.once_in(8);
-    !threads && (always || drawn)
+    let drawn = draws.once_in(if threads { 3 } else { 8 });
+    always || drawn
 }
 
 pub fn draw_turns(draws: &mut Draws) -> Option<u64> {
