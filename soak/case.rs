@@ -286,7 +286,6 @@ impl Case<'_> {
             "run --followers 0",
             "crash --followers 5",
             "recover --followers 1",
-            "crash --own-writes --threads",
             "gen 1 1 1 --own-writes",
             "run --max 1000000000000000001",
             "recover --turns 1",
