@@ -351,7 +351,6 @@ impl Case<'_> {
             "run --followers 0",
             "crash --followers 5",
             "recover --followers 1",
-            "crash --own-writes --threads",
             "crash --archive",
             "gen 1 1 1 --run --archive",
             "restore",

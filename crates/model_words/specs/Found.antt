@@ -6,7 +6,7 @@ use Rattle.clap.specs.Words.{Row, Text, fault_of, first_of, subcommand_of}
 use Rattle.clap.specs.Walk.{is_empty}
 use Rattle.model_base.specs.declared.limits.TheConstants.{DEFAULT_LOG_BLOCKS, DEFAULT_PAGES, DEFAULT_SPACE, MAX_LOG_BLOCKS, MAX_PAGES, MIN_LOG_BLOCKS}
 use Rattle.model_script.specs.declared.misfit.TheConstants.{MAX_USERS}
-use Rattle.model_script.specs.{number_within, where_driven, word_number}
+use Rattle.model_script.specs.{number_within, word_number}
 use Rattle.model_script.specs.declared.asked.Asked.{Asked}
 use Rattle.model_script.specs.declared.asked.Command.{Command}
 use Rattle.model_script.specs.declared.asked.Command.TheVariants.{Format, Run, Crash, Recover, Dump, Restore, Gen}
@@ -49,7 +49,7 @@ drive_from archive rows =
       archive = archive;
     }) (followers_from rows))
     (text_number_or 0 MAX_TURNS DEFAULT_TURNS (first_of (codes "max") rows)))
-    (text_number_or 0 (2 ^ 64 - 1) 0 (first_of (codes "turns") rows)))
+    (text_number_or 0 (2 ^ 64 - 1) 0 (first_of (codes "turns") rows))
 
 abbrev pub run_from : List Row → Option Command
 run_from rows = option_map Run (drive_from (is_true (first_of (codes "archive") rows)) rows)

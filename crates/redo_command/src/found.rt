@@ -122,7 +122,7 @@ fn read_drive(found: &ArgMatches<'_>, archive: bool) -> Option<Drive>
     let seed = number_or(found, "turns", 0, u64::MAX, 0)?;
     let max = turns_of(found)?;
     let followers = read_followers(found)?;
-    driven(Drive {
+    Some(Drive {
         seed,
         max,
         threads: is_given(found, "threads"),

@@ -6,7 +6,6 @@ use mathlib.Core.Option as maybe
 use Rattle.atomic_table.proofs.Lists.{at_set}
 use Rattle.model_core.specs.{Given, index}
 use Rattle.model_core.specs.Actors as model
-use Rattle.model_core.specs.States.{UserState}
 use Rattle.model_core.specs.declared.steps.UserStep.{UserStep}
 use Rattle.model_core.specs.declared.steps.UserStep.TheVariants as user_step
 use Rattle.model_core.specs.declared.words.Word.TheVariants as word
@@ -27,7 +26,7 @@ use Rattle.redo_ownrule.specs.declared.player.Player.TheVariants as player
 use Rattle.redo_store.specs.declared.opened.Opened.{Opened}
 use Rattle.model_script.specs.declared.script.ScriptLine.{ScriptLine}
 use Rattle.redo_threads.specs.Ended.{HaveAnswered}
-use Rattle.redo_threads.specs.Working.{AreAtEnd, AtEnd, IsOver, IsUserOver}
+use Rattle.redo_threads.specs.Working.{AreAtEnd, AtEnd, IsUserOver}
 use Rattle.std.specs.Prelude.{Bool}
 
 module _ {F : Type 0} where

@@ -10,7 +10,7 @@ use Rattle.redo_drive.specs.Receiving.{follower_of, HasGot, IsSameFollower}
 use Rattle.redo_drive.specs.Views.{view_of}
 use Rattle.redo_drive.specs.declared.actor.Actor.{Actor}
 use Rattle.redo_follow.specs.Handing.{Following}
-use Rattle.redo_ownrule.specs.Players.{actor_of, IsSamePlayer, MayRest}
+use Rattle.redo_ownrule.specs.Players.{actor_of, IsSamePlayer}
 use Rattle.redo_ownrule.specs.Playing.{IsPlayerSeat}
 use Rattle.redo_ownrule.specs.declared.player.Player.{Player}
 use Rattle.redo_ownrule.specs.declared.player.Player.TheVariants as player
@@ -65,12 +65,8 @@ module _ {F : Type 0} where
   same_trans (player.Own a) (player.Own b) (player.Own c) h k =
       later_trans (model.User a.user) (model.User b.user) (model.User c.user) h k
 
--- in its seat it may rest, and the seat is at this table
+-- its seat is at this table
 module _ {L D F : Type 0} (table : TableId) where
-  pub may_rest : (s : Seat (Slot L D) (View L D)) (p : Player F) → IsPlayerSeat table s p → MayRest p
-  may_rest s (player.Plain a) h = h.mine.may.free
-  may_rest s (player.Own o) h = h.mine.stands
-
   at_table : (s : Seat (Slot L D) (View L D)) (p : Player F) → IsPlayerSeat table s p → s.table_id ≡ table
   at_table s (player.Plain a) h = h.mine.of
   at_table s (player.Own o) h = h.mine.of

@@ -1,22 +1,19 @@
 -- Players that kept on in the seats of a table: these are its seats still, and what they have heard, the receivers got.
-use Rattle.std.proofs.Common.{Bool, List, None, Option, Some, [], ap, arith, false, is_some, length, map, refl, subst}
-use Rattle.std.proofs.Common.{suc, sym, true, zero, ℕ, ◌++◌, ◌+◌, ◌∙◌, ◌∷◌, ◌≡◌}
+use Rattle.std.proofs.Common.{Bool, List, Option, [], ap, arith, length, map, refl, subst, suc, sym, zero, ℕ, ◌++◌}
+use Rattle.std.proofs.Common.{◌∙◌, ◌∷◌, ◌≡◌}
 use Rattle.std.specs.List.{AllZip}
 use lib.ListN.{get_elem?}
 use mathlib.Core.Option as maybe
 use Rattle.atomic_table.specs.Seated.{TableId}
 use Rattle.atomic_table.specs.declared.shared.Seat.{Seat}
 use Rattle.model_core.specs.{Given}
-use Rattle.model_core.specs.Later.{IsSameActor}
-use Rattle.model_own.specs.OwnWrites.{LogWork}
 use Rattle.redo_drive.specs.Receiving.{follower_of, HasGot, IsSameFollower}
-use Rattle.redo_drive.specs.Views.{view_of, views_of}
 use Rattle.redo_drive.specs.declared.actor.Actor.{Actor}
-use Rattle.redo_ownrule.specs.Players.{actor_of, AreInOrder, ArePlain, crew, IsSamePlayer, place, place_behind, UsersFirst, workers_of}
+use Rattle.redo_ownrule.proofs.Crews.{same_place}
+use Rattle.redo_ownrule.specs.Players.{actor_of, IsSamePlayer}
 use Rattle.redo_ownrule.specs.Playing.{IsPlayerSeat}
 use Rattle.redo_ownrule.specs.Sharing.{AreSeatsOf}
 use Rattle.redo_ownrule.specs.declared.player.Player.{Player}
-use Rattle.redo_ownrule.specs.declared.player.Player.TheVariants as player
 use Rattle.redo_rule.proofs.Gathered.{there}
 use Rattle.redo_rule.specs.Mine.{heard_of}
 use Rattle.redo_rule.specs.Sharing.{AreFresh, HaveHeard}
@@ -30,96 +27,6 @@ use Rattle.redo_threads.specs.Working.{AreSeated, GoesOn, KeepOn}
 use Rattle.redo_threads.specs.declared.crew.Crew.{Crew}
 
 module _ {F : Type 0} where
-  -- the same players have the same places, and stand in the same order
-  same_behind : (ps qs : List (Player F)) → AllZip IsSamePlayer ps qs → (i : ℕ) → place_behind qs i ≡ place_behind ps i
-  same_behind [] [] h i = refl
-  same_behind [] (q ∷ qs) h i = absurd h
-  same_behind (p ∷ ps) [] h i = absurd h
-  same_behind (player.Plain a ∷ ps) (player.Plain b ∷ qs) h i = refl
-  same_behind (player.Plain a ∷ ps) (player.Own b ∷ qs) h i = absurd h.0
-  same_behind (player.Own a ∷ ps) (player.Plain b ∷ qs) h i = absurd h.0
-  same_behind (player.Own a ∷ ps) (player.Own b ∷ qs) h zero = refl
-  same_behind (player.Own a ∷ ps) (player.Own b ∷ qs) h (suc i) = ap suc (same_behind ps qs h.1 i)
-
-  same_place : (own : Bool) (ps qs : List (Player F)) → AllZip IsSamePlayer ps qs → (i : ℕ) → place own qs i ≡ place own ps i
-  same_place true ps qs h i = same_behind ps qs h i
-  same_place false ps qs h i = refl
-
-  same_plain : (ps qs : List (Player F)) → AllZip IsSamePlayer ps qs → ArePlain ps → ArePlain qs
-  same_plain [] [] h k = tt
-  same_plain [] (q ∷ qs) h k = absurd h
-  same_plain (p ∷ ps) [] h k = absurd h
-  same_plain (player.Plain a ∷ ps) (player.Plain b ∷ qs) h k = same_plain ps qs h.1 k
-  same_plain (player.Plain a ∷ ps) (player.Own b ∷ qs) h k = absurd h.0
-  same_plain (player.Own a ∷ ps) (q ∷ qs) h k = absurd k
-
-  same_first : (ps qs : List (Player F)) → AllZip IsSamePlayer ps qs → UsersFirst ps → UsersFirst qs
-  same_first [] [] h k = tt
-  same_first [] (q ∷ qs) h k = absurd h
-  same_first (p ∷ ps) [] h k = absurd h
-  same_first (player.Plain a ∷ ps) (player.Plain b ∷ qs) h k = same_plain ps qs h.1 k
-  same_first (player.Plain a ∷ ps) (player.Own b ∷ qs) h k = absurd h.0
-  same_first (player.Own a ∷ ps) (player.Plain b ∷ qs) h k = absurd h.0
-  same_first (player.Own a ∷ ps) (player.Own b ∷ qs) h k = same_first ps qs h.1 k
-
-  pub same_order : (own : Bool) (ps qs : List (Player F)) → AllZip IsSamePlayer ps qs → AreInOrder own ps → AreInOrder own qs
-  same_order true ps qs h k = same_first ps qs h k
-  same_order false ps qs h k = same_plain ps qs h k
-
-  -- the actors that they leave are the same too, the writer and the flusher among them
-  abbrev SameActors : List (Actor F) → List (Actor F) → Type 0
-  SameActors [] [] = Unit {0}
-  SameActors (x ∷ xs) (y ∷ ys) = IsSameActor (view_of x) (view_of y) × SameActors xs ys
-  SameActors _ _ = ⊥
-
-  same_joined : (xs ys us vs : List (Actor F)) → SameActors xs ys → SameActors us vs → SameActors (xs ++ us) (ys ++ vs)
-  same_joined [] [] us vs h k = k
-  same_joined [] (y ∷ ys) us vs h k = absurd h
-  same_joined (x ∷ xs) [] us vs h k = absurd h
-  same_joined (x ∷ xs) (y ∷ ys) us vs h k = (h.0, same_joined xs ys us vs h.1 k)
-
-  same_one : (p q : Player F) → IsSamePlayer p q → IsSameActor (view_of (actor_of p)) (view_of (actor_of q))
-  same_one (player.Plain a) (player.Plain b) h = h
-  same_one (player.Plain a) (player.Own b) h = absurd h
-  same_one (player.Own a) (player.Plain b) h = absurd h
-  same_one (player.Own a) (player.Own b) h = h
-
-  same_mapped : (ps qs : List (Player F)) → AllZip IsSamePlayer ps qs → SameActors (map actor_of ps) (map actor_of qs)
-  same_mapped [] [] h = tt
-  same_mapped [] (q ∷ qs) h = absurd h
-  same_mapped (p ∷ ps) [] h = absurd h
-  same_mapped (p ∷ ps) (q ∷ qs) h = (same_one p q h.0, same_mapped ps qs h.1)
-
-same_workers : (F : Type 0) (k l : Option LogWork) → is_some k ≡ is_some l
-    → SameActors (workers_of {R = F} k) (workers_of {R = F} l)
-same_workers F None None e = tt
-same_workers F None (Some l) e = absurd (cc)
-same_workers F (Some k) None e = absurd (cc)
-same_workers F (Some k) (Some l) e = ((l.writer, refl), ((l.flusher, refl), tt))
-
-module _ {F : Type 0} where
-  same_crew : (k l : Option LogWork) → is_some k ≡ is_some l → (ps qs : List (Player F)) → AllZip IsSamePlayer ps qs
-      → SameActors (crew k ps) (crew l qs)
-  same_crew k l e [] [] h = same_workers F k l e
-  same_crew k l e [] (q ∷ qs) h = absurd h
-  same_crew k l e (p ∷ ps) [] h = absurd h
-  same_crew k l e (player.Plain a ∷ ps) (player.Plain b ∷ qs) h =
-      same_joined (workers_of k) (workers_of l) (a ∷ map actor_of ps) (b ∷ map actor_of qs) (same_workers F k l e)
-      (h.0, same_mapped ps qs h.1)
-  same_crew k l e (player.Plain a ∷ ps) (player.Own b ∷ qs) h = absurd h.0
-  same_crew k l e (player.Own a ∷ ps) (player.Plain b ∷ qs) h = absurd h.0
-  same_crew k l e (player.Own a ∷ ps) (player.Own b ∷ qs) h = (h.0, same_crew k l e ps qs h.1)
-
-  same_views : (xs ys : List (Actor F)) → SameActors xs ys → AllZip IsSameActor (views_of xs) (views_of ys)
-  same_views [] [] h = tt
-  same_views [] (y ∷ ys) h = absurd h
-  same_views (x ∷ xs) [] h = absurd h
-  same_views (x ∷ xs) (y ∷ ys) h = (h.0, same_views xs ys h.1)
-
-  pub crew_later : (k l : Option LogWork) → is_some k ≡ is_some l → (ps qs : List (Player F)) → AllZip IsSamePlayer ps qs
-      → AllZip IsSameActor (views_of (crew k ps)) (views_of (crew l qs))
-  crew_later k l e ps qs h = same_views (crew k ps) (crew l qs) (same_crew k l e ps qs h)
-
   -- the player whose actor stands there
   played_at : (ps : List (Player F)) (i : ℕ) (a : Actor F) → get_elem? (map actor_of ps) i ≡ maybe.some a
       → (p : Player F) × (get_elem? ps i ≡ maybe.some p) × (actor_of p ≡ a)
@@ -167,7 +74,7 @@ module _ {L D F : Type 0} (stands : F → List Given → Type 0) (table : TableI
           let p = there x.players.items i (omega arith) in
           let s = gone_at stands table x y h i t p.0 q at p.1 bt in
           let was = A.each i s.0 p.0 s.1 p.1 in
-          (s.2.seat, s.2.same.number ∙ was.1 ∙ sym (same_place own x.players.items y.players.items all_same i));
+          (s.2.seat, s.2.same.number ∙ was.1 ∙ same_place own x.players.items y.players.items all_same i);
     }
 
     -- from seats that have heard nothing

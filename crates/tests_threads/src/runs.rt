@@ -146,3 +146,17 @@ fn a_user_links_beside_another(rt: HostRuntime) -> Result<(), Fail> {
     }
     Ok(())
 }
+
+/// Beside two users play writer, flusher, and with the pages closer, cleaner and checkpointer. Where users write for themselves,
+/// nobody plays the writer or the flusher.
+#[test]
+fn users_that_write_have_no_writer(rt: HostRuntime) -> Result<(), Fail> {
+    let players = [4, 7, 2, 5];
+    for (way, players) in WAYS.into_iter().zip(players) {
+        let watch = Watch::new(false, NOBODY);
+        let text = "1 f b1 3 100 7\n2 f b1 4 100 8\n";
+        see(&rt, text, way, &watch, &["code 0 "])?;
+        assert!(rt; watch.players() == players);
+    }
+    Ok(())
+}

@@ -6,7 +6,8 @@ use std::thread::yield_now;
 /// No thread is refused.
 pub const NOBODY: (usize, usize) = (0, 0);
 
-/// Counts how often each point is passed. It may hold two users beside one another, and refuse threads.
+/// Counts how often each point is passed, and the players that ask for a thread. It may hold two users beside one another, and
+/// refuse threads.
 #[derive(Drop)]
 pub struct Watch {
     reserved: AtomicU64,
@@ -18,6 +19,7 @@ pub struct Watch {
     holds: bool,
     /// How often a user that was held has seen what it waited for.
     seen: AtomicU64,
+    players: AtomicU64,
     /// The threads of the actors from the first number up to the second are refused.
     refused: (usize, usize),
 }
@@ -42,6 +44,7 @@ impl Watch {
             closed: AtomicU64::new(0),
             holds,
             seen: AtomicU64::new(0),
+            players: AtomicU64::new(0),
             refused,
         }
     }
@@ -69,6 +72,11 @@ impl Watch {
     pub fn seen(&self) -> u64 {
         self.seen.load(Ordering::SeqCst)
     }
+
+    /// How many players asked for a thread.
+    pub fn players(&self) -> u64 {
+        self.players.load(Ordering::SeqCst)
+    }
 }
 
 impl Gate for Watch {
@@ -86,6 +94,7 @@ impl Gate for Watch {
     }
 
     fn refuses(&self, number: usize) -> bool {
+        self.players.fetch_add(1, Ordering::SeqCst);
         self.refused.0 <= number && number < self.refused.1
     }
 }

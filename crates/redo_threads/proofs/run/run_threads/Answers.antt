@@ -9,7 +9,7 @@ use Rattle.redo_ownrule.specs.Sharing.{AreSeatsOf, opened_of, own_of, shared_scr
 use Rattle.redo_rule.specs.Closing.{done_with, TellsLoss}
 use Rattle.redo_rule.specs.Ruled.{starts_about}
 use Rattle.redo_threads.proofs.Ending.{all_rest, have_answered, have_ended}
-use Rattle.redo_threads.proofs.Heard.{all_same, crew_later, have_heard, in_order, same_order, seated}
+use Rattle.redo_threads.proofs.Heard.{all_same, have_heard, in_order, seated}
 use Rattle.redo_threads.proofs.Keeping.{keep_long}
 use Rattle.redo_threads.specs.Working.{AreSeated, KeepOn}
 use Rattle.redo_threads.specs.declared.crew.Crew.{Crew}

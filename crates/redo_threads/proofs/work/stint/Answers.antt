@@ -1,4 +1,4 @@
-use Rattle.redo_threads.proofs.Going.{goes_asked, goes_trans, may_rest}
+use Rattle.redo_threads.proofs.Going.{goes_asked, goes_trans}
 use Rattle.redo_threads.proofs.work.stint.Goals as goal
 
 pub returns-then-is_at_end : goal.returns-then-is_at_end

@@ -1,4 +1,4 @@
-use Rattle.redo_threads.proofs.Going.{goes_asked, goes_trans, may_rest}
+use Rattle.redo_threads.proofs.Going.{goes_asked, goes_trans}
 use Rattle.redo_threads.proofs.work.work.Goals as goal
 
 pub loop-init : goal.loop-init
