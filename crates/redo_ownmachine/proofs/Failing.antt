@@ -1,5 +1,5 @@
 -- A turn that ends by a failure leaves a code in FAILED, and that has a cause; and no turn takes a code from there.
-use Rattle.std.proofs.Common.{Bool, List, ap, arith, cond, false, get_or-set_other, inl, inr, refl, set, subst, sym, true, ℕ, ⊎_elim}
+use Rattle.std.proofs.Common.{Bool, List, ap, arith, cond, false, get_or-set_other, inl, inr, refl, subst, sym, true, ℕ, ⊎_elim}
 use Rattle.std.proofs.Common.{◌+◌, ◌<◌, ◌==◌, ◌∙◌, ◌≡◌, ◌⊎◌, []}
 use Rattle.std.specs.Prelude.{slice_index, slice_set}
 use lib.ListN.{get_elem?}

@@ -1,6 +1,6 @@
 -- What the rule says at the end, once all seats are taken in: what the run has come to, its players and the log's work.
 use Rattle.std.proofs.Common.{Bool, List, None, Option, Some, [], ap, arith, false, is_some, length, map, refl, subst}
-use Rattle.std.proofs.Common.{suc, sym, true, zero, ℕ, ⊎_elim, ◌+◌, ◌<◌, ◌∙◌, ◌∷◌, ◌≡◌, ◌⊎◌}
+use Rattle.std.proofs.Common.{suc, sym, true, zero, ℕ, ◌+◌, ◌<◌, ◌∙◌, ◌∷◌, ◌≡◌}
 use Rattle.std.specs.Prelude.{slice_index}
 use lib.ListN.{get_elem?}
 use mathlib.Core.Option as maybe
@@ -29,7 +29,7 @@ use Rattle.redo_ownrule.specs.declared.player.Player.{Player}
 use Rattle.redo_ownrule.specs.declared.player.Player.TheVariants as player
 use Rattle.redo_rule.specs.Cutting.{HoldNothing}
 use Rattle.redo_rule.specs.Ending.{RunReaches}
-use Rattle.redo_rule.specs.OwnSide.{Beside, desk_with, HasItsWork, IsWorked, OwnSide, SitsAs, work_of}
+use Rattle.redo_rule.specs.OwnSide.{desk_with, HasItsWork, OwnSide, SitsAs, work_of}
 use Rattle.redo_rule.specs.Ruled.{HaveGroups, Knows, Ruled, starts_about}
 use Rattle.redo_rule.specs.Seating.{HasPart, IsCleaner}
 use Rattle.redo_rule.specs.declared.law.About.{About}

@@ -156,6 +156,7 @@ module _ {L D R : Type 0} (log_seen : L → Seen) (log_gives : L → Call → L 
     code = code_is ∙ P.code;
     history = its_history log_seen log_gives data_seen data_gives about all_heard (views_of actors) left P
         closed.history listed;
+    lost = its_loss about.archive (views_of actors) closed.lost loss;
   }
     where
       pair : (n : ℕ) (a b : Actor R) → get_elem? (crew first starts) n ≡ maybe.some a

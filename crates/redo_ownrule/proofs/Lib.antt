@@ -2,6 +2,7 @@ pub mod Crews
 pub mod Ended
 pub mod Finished
 pub mod Left
+pub mod Losses
 pub mod Matched
 pub mod Opened
 pub mod OwnAllowed
@@ -18,6 +19,7 @@ pub mod OwnList
 pub mod OwnListed
 pub mod OwnMay
 pub mod OwnOps
+pub mod OwnPlaying
 pub mod OwnStepping
 pub mod OwnTakes
 pub mod OwnTurns

@@ -1,57 +1,40 @@
 -- A user that writes for itself takes a flush list as any user, and that keeps the rule.
-use Rattle.std.proofs.Common.{Bool, List, None, Option, Some, [], ap, arith, cond, eq-eqb, eqb, false, get_or-set_other, get_or-set_same, inl, inr, is_some}
-use Rattle.std.proofs.Common.{length, length-set, ne_eqb, refl, subst, suc, sym, true, zero, ℕ, ◌%◌, ◌+◌, ◌<◌, ◌==◌, ◌^◌, ◌∙◌, ◌∷◌, ◌≡◌, ◌≢◌, ◌⊎◌}
-use Rattle.std.proofs.lemmas.List.{set-get_or}
+use Rattle.std.proofs.Common.{Bool, List, None, Option, Some, [], ap, arith, cond, eq-eqb, eqb, false, get_or-set_other, get_or-set_same, inl, inr}
+use Rattle.std.proofs.Common.{length-set, ne_eqb, refl, subst, suc, sym, true, zero, ℕ, ◌%◌, ◌+◌, ◌==◌, ◌∙◌, ◌∷◌, ◌≡◌, ◌≢◌}
 use Rattle.std.specs.Prelude.{slice_index, slice_set}
 use lib.ListN.{get_elem?}
 use mathlib.Core.Option as maybe
 use native.Mathlib.Decide.{ℕ_discrete}
 use prog.Atomic.{either}
 use Rattle.atomic_table.specs.Table.{Allows, keeps, Me, State, takes}
-use Rattle.model_core.proofs.Lists.{set_again, set_else}
-use Rattle.model_core.proofs.TurnWords.{IsOffTurns}
-use Rattle.model_core.specs.{index, next, OnWord, word_found, words_after}
+use Rattle.model_core.proofs.Lists.{set_else}
 use Rattle.model_core.specs.Actors as model
-use Rattle.model_core.specs.Hands.{hand, IsFreeToCheck}
+use Rattle.model_core.specs.Hands.{hand}
 use Rattle.model_core.specs.declared.ops.Answer.{Answer}
 use Rattle.model_core.specs.declared.ops.Answer.TheVariants as answer
 use Rattle.model_core.specs.declared.ops.Op.{Op}
 use Rattle.model_core.specs.declared.ops.Op.TheVariants as op
-use Rattle.model_core.specs.declared.words.Word.{Word}
-use Rattle.model_own.specs.OwnWrites.{ErrandFits, has_work, LogWork, own_checked, own_goes_on, own_lends, own_next, OwnUser, errand_took}
-use Rattle.model_own.specs.declared.errand.ErrandStep.{ErrandStep}
-use Rattle.model_own.specs.declared.errand.ErrandStep.TheVariants as errand_step
+use Rattle.model_own.specs.OwnWrites.{has_work, LogWork, own_goes_on, own_lends, own_next, OwnUser}
 use Rattle.redo_disk.specs.{Call}
 use Rattle.redo_disk.specs.Seen.{Seen}
-use Rattle.redo_drive.proofs.MayTurn.{holds_sum}
 use Rattle.redo_drive.proofs.Played as played
-use Rattle.redo_drive.specs.Lists.{listing_at, Listings, lists_of}
+use Rattle.redo_drive.specs.Lists.{listing_at, lists_of}
 use Rattle.redo_drive.specs.Playing.{HasSamePages, IsPlayed}
 use Rattle.redo_drive.specs.declared.parts.Parts.{Parts}
-use Rattle.redo_logdev.specs.Part as log
-use Rattle.redo_ownrule.proofs.OwnMay as may
 use Rattle.redo_ownrule.proofs.OwnOps as ops
 use Rattle.redo_ownrule.proofs.OwnTurns as turns
 use Rattle.redo_ownrule.proofs.OwnUserHands as hands
-use Rattle.redo_ownrule.proofs.OwnWords.{keeps_work, stays_aside}
-use Rattle.redo_ownrule.specs.OwnPlays.{errand_of, HasWork, held_behind, IsOwn, own_looked, own_saw, own_seized, own_view, OwnMayGo, WorkInHand}
-use Rattle.redo_ownrule.specs.OwnPlays.{OwnStepped, with_work}
+use Rattle.redo_ownrule.specs.OwnPlays.{HasWork, IsOwn, own_view, WorkInHand}
+use Rattle.redo_ownrule.specs.OwnPlays.{OwnStepped}
 use Rattle.redo_rule.proofs.Holders as holders
-use Rattle.redo_rule.proofs.Kept as kept
-use Rattle.redo_rule.proofs.Retook.{one_head}
 use Rattle.redo_rule.proofs.Words.{swapped}
-use Rattle.redo_rule.specs.OwnSide.{Beside, desk_with, work_of}
-use Rattle.redo_rule.specs.Plays.{taking}
+use Rattle.redo_rule.specs.OwnSide.{Beside, work_of}
 use Rattle.redo_rule.specs.Ruled.{Ruled, slot_content}
 use Rattle.redo_rule.specs.declared.law.About.{About}
-use Rattle.redo_rule.specs.declared.law.Desk.{Desk}
-use Rattle.redo_rule.specs.declared.law.Errand.{Errand}
-use Rattle.redo_rule.specs.declared.law.Keeping.{Keeping}
 use Rattle.redo_rule.specs.declared.law.Numbered.{Numbered}
 use Rattle.redo_rule.specs.declared.law.Slot.{Slot}
 use Rattle.redo_rule.specs.declared.law.Slot.TheVariants as slot
 use Rattle.redo_rule.specs.declared.law.View.{View}
-use Rattle.redo_words.specs.{HoldsSum}
 use Rattle.std.specs.Prelude.{◌++◌}
 use Rattle.model_core.proofs.Hands.{Handles}
 use Rattle.model_core.specs.{list_word, took, user_op}
@@ -59,7 +42,7 @@ use Rattle.model_own.specs.OwnWrites.{helps_at}
 use Rattle.model_running.proofs.ListsReady.{list_ready}
 use Rattle.model_running.specs.ListReady.{ListReady}
 use Rattle.redo_drive.proofs.Listings.{add_left}
-use Rattle.redo_drive.specs.Lists.{added, AreLists, no_list}
+use Rattle.redo_drive.specs.Lists.{added, no_list}
 use Rattle.redo_drive.specs.Playing.{run_data_side, run_log_side}
 use Rattle.redo_flushlist.specs.{Listing}
 use Rattle.redo_flushlist.specs.declared.dirty.Dirty.{Dirty}
@@ -258,8 +241,10 @@ module _ {L D : Type 0} (log_seen : L → Seen) (log_gives : L → Call → L �
             me x one o its s R at (λ z. busy (far 0 (λ e. omega arith) ∙ z)))
             (λ j busy. elim (ℕ_discrete j i) [
               | yes here ↦ inl (has_then r ∙ handles.1 None ∙ ap (λ (n : ℕ). Some (suc n)) (sym here))
-              | no ne ↦ inr ((λ z. busy (far (suc j) (λ e. ne (omega arith)) ∙ z)),
-                  λ h. let z : None ≡ Some (suc j) = sym handles.0 ∙ h in absurd (cc))
+              | no ne ↦ inr (
+                (λ z. busy (far (suc j) (λ e. ne (omega arith)) ∙ z)),
+                λ h. let z : None ≡ Some (suc j) = sym handles.0 ∙ h in absurd (cc),
+              )
             ]) k busy),
         turns.steps log_seen log_gives data_seen data_gives about s R id me.0 x one at o its r new same done
             R.beside.block held ((suc i, slot.Pages l) ∷ me.1)
@@ -338,8 +323,10 @@ module _ {L D : Type 0} (log_seen : L → Seen) (log_gives : L → Call → L �
             same_held done_held R.beside.block j)
             (λ b. word_still 0 ∙ allowed.busy_device log_seen log_gives data_seen data_gives about slots id me x one o its
             s R at (λ z. b (word_still 0 ∙ z)))
-            (λ j b. inr ((λ z. b (word_still (suc j) ∙ z)),
-            λ h. let z : None ≡ Some (suc j) = sym handles.0 ∙ h in absurd (cc))) k b),
+            (λ j b. inr (
+              (λ z. b (word_still (suc j) ∙ z)),
+              λ h. let z : None ≡ Some (suc j) = sym handles.0 ∙ h in absurd (cc),
+            )) k b),
         turns.steps log_seen log_gives data_seen data_gives about s R id me.0 x one at o its answer.Held new_held
             same_held done_held R.beside.block me.0.held me.1
             (λ d is has. let z : true ≡ false = sym has ∙ goes answer.Held in absurd (cc)),

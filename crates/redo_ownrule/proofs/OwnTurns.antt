@@ -1,6 +1,6 @@
 -- A turn of a user that writes for itself, on the shared table: what it knows, what keeps the rule, and what the turn tells
 -- its seat.
-use Rattle.std.proofs.Common.{Bool, List, None, Option, Some, ap, arith, false, inl, inr, length, length-append, refl, set, subst, suc, sym, true, zero, ℕ}
+use Rattle.std.proofs.Common.{Bool, List, None, Option, Some, ap, arith, false, length, length-append, refl, set, subst, suc, sym, true, zero, ℕ}
 use Rattle.std.proofs.Common.{⊎_elim, ◌++◌, ◌+◌, ◌<◌, ◌∙◌, ◌∷◌, ◌≡◌, ◌≢◌, ◌≤◌, ◌⊎◌}
 use Rattle.std.specs.Prelude.{slice_index, slice_set, []}
 use lib.ListN.{get_elem?}
@@ -11,7 +11,6 @@ use Rattle.model_core.proofs.FailedCalls.{gives_hand}
 use Rattle.model_core.proofs.Lists.{set_at}
 use Rattle.model_core.specs.{flat, flat_page_words}
 use Rattle.model_core.specs.Actors as model
-use Rattle.model_core.specs.DataSide.{DataSide}
 use Rattle.model_core.specs.Hands.{GivesFailed, hand}
 use Rattle.model_core.specs.LogSide.{LogSide}
 use Rattle.model_core.specs.declared.ops.Answer.{Answer}
@@ -21,7 +20,7 @@ use Rattle.redo_disk.specs.{Call}
 use Rattle.redo_disk.specs.Seen.{Seen}
 use Rattle.redo_drive.specs.Calls.{CallsOn}
 use Rattle.redo_drive.specs.Lists.{AreLists}
-use Rattle.redo_drive.specs.Playing.{HasSamePages, IsPlayed, run_data_side, run_log_side}
+use Rattle.redo_drive.specs.Playing.{HasSamePages, IsPlayed, run_log_side}
 use Rattle.redo_drive.specs.declared.parts.Parts.{Parts}
 use Rattle.redo_logdev.specs.Part as log
 use Rattle.redo_ownmachine.specs.OwnSeats.{actors_of, OwnSeats}
@@ -295,21 +294,21 @@ module _ {L D : Type 0} (log_seen : L → Seen) (log_gives : L → Call → L �
         → IsSlotHeld (actors_of after) (suc j)
     list_behind j t keeps = elim (ℕ_discrete t.0 x.number) [
       | yes is ↦ (
-          x.number,
-          model.User then.user,
-          then_here,
-          keeps (ap hand (maybe.some-injective (model.User o.user) t.1
-              (sym here ∙ ap (get_elem? R.actors) (sym is) ∙ t.2)) ∙ t.3),
-        )
+        x.number,
+        model.User then.user,
+        then_here,
+        keeps (ap hand (maybe.some-injective (model.User o.user) t.1
+            (sym here ∙ ap (get_elem? R.actors) (sym is) ∙ t.2)) ∙ t.3),
+      )
       | no far ↦ (
-          t.0,
-          t.1,
-          held_still work left after.others j t.1 t.3 side.users x.number then t.0 far
-              (sym (ap (λ (l : List model.Actor). get_elem? l t.0)
-              (turns.worked log_seen log_gives data_seen data_gives about s R id v x one at side own_is o there).are)
-              ∙ t.2),
-          t.3,
-        )
+        t.0,
+        t.1,
+        held_still work left after.others j t.1 t.3 side.users x.number then t.0 far
+            (sym (ap (λ (l : List model.Actor). get_elem? l t.0)
+            (turns.worked log_seen log_gives data_seen data_gives about s R id v x one at side own_is o there).are)
+            ∙ t.2),
+        t.3,
+      )
     ]
 
     -- what has become of a turn word

@@ -1,6 +1,6 @@
 -- A player more gets its seat, and the last seat is taken in.
 use Rattle.std.proofs.Common.{Bool, List, None, Option, Some, [], ap, arith, cond, drop, false, inl, inr, length, length-append, map, refl, subst, suc, sym, true, zero, ℕ}
-use Rattle.std.proofs.Common.{⊎_elim, ◌++◌, ◌+◌, ◌<◌, ◌∙◌, ◌∷◌, ◌≡◌, ◌≢◌, ◌≤◌, ◌⊎◌, get_or}
+use Rattle.std.proofs.Common.{⊎_elim, ◌++◌, ◌+◌, ◌<◌, ◌∙◌, ◌∷◌, ◌≡◌, ◌≤◌, ◌⊎◌, get_or}
 use lib.ListN.{get_elem?}
 use mathlib.Core.Option as maybe
 use native.Mathlib.Decide.{ℕ_discrete}
@@ -10,30 +10,30 @@ use Rattle.atomic_table.specs.Table.{Allows, Me}
 use Rattle.atomic_table.specs.declared.shared.Seat.{Seat}
 use Rattle.model_core.specs.{Given, word_count}
 use Rattle.model_core.specs.Actors as model
-use Rattle.model_core.specs.Hands.{hand, HoldsNothing}
+use Rattle.model_core.specs.Hands.{HoldsNothing}
 use Rattle.model_own.specs.OwnWrites.{has_work, OwnUser}
 use Rattle.redo_disk.specs.{Call}
 use Rattle.redo_disk.specs.Seen.{Seen}
 use Rattle.redo_drive.specs.Views.{view_of, views_of}
-use Rattle.redo_drive.specs.declared.actor.Actor.{Actor}
 use Rattle.redo_ownrule.proofs.OwnAllowed.{own_look}
 use Rattle.redo_ownrule.specs.Gathering.{AreHandedOut, HasPlayer, IsHeadOf}
-use Rattle.redo_ownrule.specs.OwnMine.{CarriesWork, IsOwnSeat, OwnMine}
+use Rattle.redo_ownrule.specs.OwnMine.{CarriesWork, OwnMine}
 use Rattle.redo_ownrule.specs.OwnPlays.{errand_of, IsOwn, own_looked}
 use Rattle.redo_ownrule.specs.Players.{actor_of, IsAtRest, numbered_as, place, place_behind, seated}
 use Rattle.redo_ownrule.specs.Playing.{IsPlayerSeat}
 use Rattle.redo_ownrule.specs.Sharing.{AllAtRest}
 use Rattle.redo_ownrule.specs.declared.player.Player.{Player}
 use Rattle.redo_ownrule.specs.declared.player.Player.TheVariants as player
+use Rattle.redo_rule.proofs.AtRest.{at_or}
 use Rattle.redo_rule.proofs.Gathered.{there}
 use Rattle.redo_rule.proofs.Seated.{at_end}
-use Rattle.redo_rule.specs.Cutting.{IsApart, IsFirst, IsHome, MayTakeIn}
+use Rattle.redo_rule.specs.Cutting.{IsFirst, IsHome, MayTakeIn}
 use Rattle.redo_rule.specs.Gathering.{HasOneCleaner, PartIsKept}
-use Rattle.redo_rule.specs.Mine.{heard_in, heard_of, Mine, number_in, number_of}
+use Rattle.redo_rule.specs.Mine.{heard_in, heard_of, number_in, number_of}
 use Rattle.redo_rule.specs.OwnSide.{HasNoWork}
 use Rattle.redo_rule.specs.Plays.{Carries}
 use Rattle.redo_rule.specs.Ruled.{Ruled}
-use Rattle.redo_rule.specs.Seating.{HasPart, IsCleaner, IsSeatOf}
+use Rattle.redo_rule.specs.Seating.{HasPart, IsCleaner}
 use Rattle.redo_rule.specs.Seats.{cut_left, cut_right, first_numbered, first_some, heads_cleaner, is_cleaner, rest_numbered, taken_in}
 use Rattle.redo_rule.specs.declared.law.About.{About}
 use Rattle.redo_rule.specs.declared.law.Errand.{Errand}
@@ -115,6 +115,12 @@ module _ {R : Type 0} where
         r.1,
         ap (λ (n : ℕ). numbered_as (number n) (heard n) r.0) (let z : k + suc i ≡ k + 1 + i = omega arith in z) ∙ r.2,
       )
+
+  -- the player that was read
+  pub players_at : (players : List (Player R)) (at n : ℕ) (p : Player R) → ◌≡◌ {A = Player R} p (get_or players at p) → at ≡ n
+      → n < length players → get_elem? players n ≡ maybe.some p
+  players_at players at n p is same less = subst (λ (m : ℕ). get_elem? players m ≡ maybe.some p) same
+      (at_or players at p (let e = same in omega arith) ∙ ap (λ (q : Player R). maybe.some q) (sym is))
 
   -- the numbers are apart
   pub one_place : (own : Bool) (ps : List (Player R)) (i j : ℕ) → place own ps i ≡ place own ps j → i ≡ j
@@ -218,8 +224,11 @@ module _ {L D R : Type 0} where
 
         keeps_part : IsCleaner (seen p) → HasPart token.me.0
         keeps_part is = ⊎_elim
-            (λ q. (q.0, ap (λ (v : View L D). v.data_part) right
-            ∙ ap (λ (b : Bool). cond b first.me.0.data_part None) (heads ∙ cleaner_true (seen p) is) ∙ q.1))
+            (λ q. (
+              q.0,
+              ap (λ (v : View L D). v.data_part) right
+                  ∙ ap (λ (b : Bool). cond b first.me.0.data_part None) (heads ∙ cleaner_true (seen p) is) ∙ q.1,
+            ))
             (λ t. let same : t.0 ≡ n = one t.0 n t.1 (seen p) t.3 p_view t.4 is in let l = t.2 in absurd (omega arith)) part
 
         cut_seat : IsPlayerSeat table token p
@@ -266,8 +275,11 @@ module _ {L D R : Type 0} where
         cut_part = ⊎_elim
             (λ c. inr (n, seen p, (let m = long in omega arith), p_view, c.0))
             (λ none. ⊎_elim
-            (λ q. inl (q.0, ap (λ (v : View L D). v.data_part) left
-            ∙ ap (λ (b : Bool). cond b None first.me.0.data_part) (heads ∙ none) ∙ q.1))
+            (λ q. inl (
+              q.0,
+              ap (λ (v : View L D). v.data_part) left
+                  ∙ ap (λ (b : Bool). cond b None first.me.0.data_part) (heads ∙ none) ∙ q.1,
+            ))
             (λ t. inr (t.0, t.1, (let m = long in let l = t.2 in omega arith), t.3, t.4)) part)
             (told_cleaner (seen p))
 
@@ -348,14 +360,23 @@ module _ {L D R : Type 0} where
         part_of o q d e = ap (λ (z : Option (Keeping D)). first_some z q) e
 
         pub taken_part : HasPart first.me.0 → HasPart after.me.0
-        taken_part q = (q.0, ap (λ (v : View L D). v.data_part) both
-            ∙ part_of first.me.0.data_part seat.me.0.data_part (record { part = q.0; out = false }) q.1)
+        taken_part q = (
+          q.0,
+          ap (λ (v : View L D). v.data_part) both
+              ∙ part_of first.me.0.data_part seat.me.0.data_part (record { part = q.0; out = false }) q.1,
+        )
 
         either_part : (o : Option (Keeping D)) → first.me.0.data_part ≡ o → HasPart seat.me.0 → HasPart after.me.0
-        either_part None e q = (q.0, ap (λ (v : View L D). v.data_part) both
-            ∙ ap (λ (z : Option (Keeping D)). first_some z seat.me.0.data_part) e ∙ q.1)
-        either_part (Some d) e q = taken_part (d.part, e
-            ∙ ap (λ (b : Bool). Some (record { part = d.part; out = b })) (A.is_first.home d e))
+        either_part None e q = (
+          q.0,
+          ap (λ (v : View L D). v.data_part) both
+              ∙ ap (λ (z : Option (Keeping D)). first_some z seat.me.0.data_part) e ∙ q.1,
+        )
+        either_part (Some d) e q = taken_part (
+          d.part,
+          e
+              ∙ ap (λ (b : Bool). Some (record { part = d.part; out = b })) (A.is_first.home d e),
+        )
 
         pub taken_cleaner : ((i : ℕ) (a : model.Actor) → length seats ≤ i → get_elem? (views players) i ≡ maybe.some a
             → IsCleaner a → HasPart first.me.0)
@@ -382,6 +403,17 @@ module _ {L D R : Type 0} where
         below [] i a e = absurd (maybe.some-ne-none a (sym e))
         below (x ∷ xs) zero a e = omega arith
         below (x ∷ xs) (suc i) a e = let r = below xs i a e in omega arith
+
+    -- the first seat has all players where no seat is left
+    pub all_back : seats ≡ [] → first.me.0.seats ≡ seated number heard 0 players
+    all_back none = A.others
+        ∙ ap (λ (l : List (Seat (Slot L D) (View L D))). seated number heard (length l) (drop (length l) players)) none
+
+  -- where nobody is the cleaner, the first seat has kept the data part
+  pub one_part : (players : List (Player R)) (first : Seat (Slot L D) (View L D))
+      → PartIsKept (length players) (views players) first
+      → ((i : ℕ) (a : model.Actor) → get_elem? (views players) i ≡ maybe.some a → IsCleaner a → ⊥) → HasPart first.me.0
+  one_part players first part none = ⊎_elim (λ p. p) (λ t. absurd (none t.0 t.1 t.3 t.4)) part
 
   -- nobody has a seat yet, and each has
   module _ (table : TableId) (number : ℕ → ℕ) (heard : ℕ → List Given) (players : List (Player R))

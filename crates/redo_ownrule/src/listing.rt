@@ -6,11 +6,11 @@ ghost use Rattle.redo_ownrule.specs.Playing.{OwnAsks};
 
 use crate::answering::answered_alone;
 use crate::plays::{OwnGave, OwnSeizedList};
+use model_core::FLUSH_LISTS;
 use redo_disk::Sectors;
 use redo_ownuser::OwnUser;
 use redo_rule::{Ring, Seat, add_slot, list_slot, list_turn};
 use redo_words::{Answer, Step};
-use model_core::FLUSH_LISTS;
 
 /// `TakeAdd page oldest`.
 pub(crate) fn take_add<L: Sectors, D: Sectors>(

@@ -42,11 +42,7 @@ pub(crate) fn took_at<L: Sectors, D: Sectors>(
 }
 
 /// Writes the log up to a mark, with what the log's work lends.
-fn write_desk<L: Sectors>(
-    desk: &mut Desk<L>,
-    user: &OwnUser,
-    mark: u64,
-) -> Result<(), DevError>
+fn write_desk<L: Sectors>(desk: &mut Desk<L>, user: &OwnUser, mark: u64) -> Result<(), DevError>
     requires { MayWriteOf desk.old user.now mark }
     ensures { (work : LogWork) → desk.old.work ≡ Some work → IsWritten L.seen L.gives desk.old desk.new user.now mark work result }
 {

@@ -6,9 +6,12 @@ compare_exchange-requires g c = take_ok c.args.table.now.table_id c.args.token.n
     c.requires.asks g.L.Sectors.seen g.L.Sectors.gives g.D.Sectors.seen g.D.Sectors.gives c.args.table.now.key
 
 pub answered_alone-requires : goal.answered_alone-requires
-answered_alone-requires g c = (c.args.token.now.me.0, took_held c.args.table.now.table_id c.args.token.now
-    c.args.user.now c.requires.mine c.requires.asks g.L.Sectors.seen g.D.Sectors.seen c.compare_exchange.new.seat
-    c.compare_exchange.ensures.0 c.compare_exchange.result c.compare_exchange.ensures.2 c.if-compare_exchange-ne0.true)
+answered_alone-requires g c = (
+  c.args.token.now.me.0,
+  took_held c.args.table.now.table_id c.args.token.now
+      c.args.user.now c.requires.mine c.requires.asks g.L.Sectors.seen g.D.Sectors.seen c.compare_exchange.new.seat
+      c.compare_exchange.ensures.0 c.compare_exchange.result c.compare_exchange.ensures.2 c.if-compare_exchange-ne0.true,
+)
 
 pub returns-then-compare_exchange-ne0-clause-played : goal.returns-then-compare_exchange-ne0-clause-played
 returns-then-compare_exchange-ne0-clause-played g c = (c.answered_alone.ensures.played c.args.token.now.me.0
@@ -34,10 +37,13 @@ taken_answer-answer-requires g c = is_log c.args.table.now.table_id c.args.token
     c.slot_mut.ensures.value
 
 pub answered_at-requires : goal.answered_at-requires
-answered_at-requires g c = (c.args.token.now.me.0, took_free c.args.table.now.table_id c.args.token.now c.args.user.now
-    c.requires.mine c.requires.asks g.L.Sectors.seen g.D.Sectors.seen c.compare_exchange.new.seat
-    c.compare_exchange.ensures.0 c.compare_exchange.result c.compare_exchange.ensures.2 c.if-compare_exchange-ne0.false
-    c.slot_mut.result.now c.slot_mut.ensures.value c.taken_answer-answer.result c.taken_answer-answer.ensures)
+answered_at-requires g c = (
+  c.args.token.now.me.0,
+  took_free c.args.table.now.table_id c.args.token.now c.args.user.now
+      c.requires.mine c.requires.asks g.L.Sectors.seen g.D.Sectors.seen c.compare_exchange.new.seat
+      c.compare_exchange.ensures.0 c.compare_exchange.result c.compare_exchange.ensures.2 c.if-compare_exchange-ne0.false
+      c.slot_mut.result.now c.slot_mut.ensures.value c.taken_answer-answer.result c.taken_answer-answer.ensures,
+)
 
 pub returns-clause-played : goal.returns-clause-played
 returns-clause-played g c = (c.answered_at.ensures.played c.args.token.now.me.0 (took_free c.args.table.now.table_id

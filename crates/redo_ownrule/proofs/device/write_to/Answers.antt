@@ -35,10 +35,10 @@ answered_at-requires g c =
     let d = e.written _ work in (
       c.args.token.now.me.0,
       called c.args.table.now.table_id c.args.token.now c.args.user.now c.requires.mine (op.WriteTo c.args.mark) tt c.requires.asks
-      c.slot_mut.result.now c.slot_mut.ensures.value c.write_at-ended.new.slot e.was e.now e.old_is e.new_is
-      g.L.Sectors.seen g.D.Sectors.seen c.load.new.seat c.load.ensures.0 c.load.result c.load.ensures.2 d.work_stays
-      c.answer_of.result
-      (c.answer_of.ensures ∙ ap (λ (met : Option DevError). call_answer Log met 0) (sym d.told)),
+          c.slot_mut.result.now c.slot_mut.ensures.value c.write_at-ended.new.slot e.was e.now e.old_is e.new_is
+          g.L.Sectors.seen g.D.Sectors.seen c.load.new.seat c.load.ensures.0 c.load.result c.load.ensures.2 d.work_stays
+          c.answer_of.result
+          (c.answer_of.ensures ∙ ap (λ (met : Option DevError). call_answer Log met 0) (sym d.told)),
     )
 
 pub returns-clause-played : goal.returns-clause-played
@@ -49,10 +49,10 @@ returns-clause-played g c =
     in
     let d = e.written _ work in
     (c.answered_at.ensures.played c.args.token.now.me.0 (called c.args.table.now.table_id c.args.token.now c.args.user.now c.requires.mine (op.WriteTo c.args.mark) tt c.requires.asks
-      c.slot_mut.result.now c.slot_mut.ensures.value c.write_at-ended.new.slot e.was e.now e.old_is e.new_is
-      g.L.Sectors.seen g.D.Sectors.seen c.load.new.seat c.load.ensures.0 c.load.result c.load.ensures.2 d.work_stays
-      c.answer_of.result
-      (c.answer_of.ensures ∙ ap (λ (met : Option DevError). call_answer Log met 0) (sym d.told)))).0
+    c.slot_mut.result.now c.slot_mut.ensures.value c.write_at-ended.new.slot e.was e.now e.old_is e.new_is
+    g.L.Sectors.seen g.D.Sectors.seen c.load.new.seat c.load.ensures.0 c.load.result c.load.ensures.2 d.work_stays
+    c.answer_of.result
+    (c.answer_of.ensures ∙ ap (λ (met : Option DevError). call_answer Log met 0) (sym d.told)))).0
 
 pub returns-clause-keeps : goal.returns-clause-keeps
 returns-clause-keeps g c =
@@ -62,7 +62,7 @@ returns-clause-keeps g c =
     in
     let d = e.written _ work in
     (c.answered_at.ensures.played c.args.token.now.me.0 (called c.args.table.now.table_id c.args.token.now c.args.user.now c.requires.mine (op.WriteTo c.args.mark) tt c.requires.asks
-      c.slot_mut.result.now c.slot_mut.ensures.value c.write_at-ended.new.slot e.was e.now e.old_is e.new_is
-      g.L.Sectors.seen g.D.Sectors.seen c.load.new.seat c.load.ensures.0 c.load.result c.load.ensures.2 d.work_stays
-      c.answer_of.result
-      (c.answer_of.ensures ∙ ap (λ (met : Option DevError). call_answer Log met 0) (sym d.told)))).1
+    c.slot_mut.result.now c.slot_mut.ensures.value c.write_at-ended.new.slot e.was e.now e.old_is e.new_is
+    g.L.Sectors.seen g.D.Sectors.seen c.load.new.seat c.load.ensures.0 c.load.result c.load.ensures.2 d.work_stays
+    c.answer_of.result
+    (c.answer_of.ensures ∙ ap (λ (met : Option DevError). call_answer Log met 0) (sym d.told)))).1

@@ -11,8 +11,11 @@ store-requires g c = give_list_ok c.args.table.now.table_id c.args.token.now c.a
     c.list_turn.result c.list_turn.ensures
 
 pub answered_alone-requires : goal.answered_alone-requires
-answered_alone-requires g c = (c.args.token.now.me.0, list_given c.args.table.now.table_id c.args.token.now c.args.user.now c.requires.mine
-    c.args.list c.requires.asks g.L.Sectors.seen g.D.Sectors.seen c.store.new.seat c.store.ensures.0 0 c.store.ensures.2)
+answered_alone-requires g c = (
+  c.args.token.now.me.0,
+  list_given c.args.table.now.table_id c.args.token.now c.args.user.now c.requires.mine
+      c.args.list c.requires.asks g.L.Sectors.seen g.D.Sectors.seen c.store.new.seat c.store.ensures.0 0 c.store.ensures.2,
+)
 
 pub returns-clause-played : goal.returns-clause-played
 returns-clause-played g c = (c.answered_alone.ensures.played c.args.token.now.me.0 (list_given c.args.table.now.table_id c.args.token.now c.args.user.now c.requires.mine

@@ -7,9 +7,12 @@ compare_exchange-requires g c = take_add_ok c.args.table.now.table_id c.args.tok
     c.list_turn.result c.list_turn.ensures
 
 pub answered_alone-requires : goal.answered_alone-requires
-answered_alone-requires g c = (c.args.token.now.me.0, list_held c.args.table.now.table_id c.args.token.now c.args.user.now c.requires.mine
-    c.args.page c.args.oldest c.requires.asks g.L.Sectors.seen g.D.Sectors.seen c.compare_exchange.new.seat
-    c.compare_exchange.ensures.0 c.compare_exchange.result c.compare_exchange.ensures.2 c.if-compare_exchange-ne0.true)
+answered_alone-requires g c = (
+  c.args.token.now.me.0,
+  list_held c.args.table.now.table_id c.args.token.now c.args.user.now c.requires.mine
+      c.args.page c.args.oldest c.requires.asks g.L.Sectors.seen g.D.Sectors.seen c.compare_exchange.new.seat
+      c.compare_exchange.ensures.0 c.compare_exchange.result c.compare_exchange.ensures.2 c.if-compare_exchange-ne0.true,
+)
 
 pub returns-then-compare_exchange-ne0-clause-played : goal.returns-then-compare_exchange-ne0-clause-played
 returns-then-compare_exchange-ne0-clause-played g c = (c.answered_alone.ensures.played c.args.token.now.me.0
@@ -37,11 +40,14 @@ add_slot-requires g c = list_fits c.args.table.now.table_id c.args.token.now c.a
     c.slot_mut.result.now c.slot_mut.ensures.value
 
 pub answered_alone-requires-2 : goal.answered_alone-requires-2
-answered_alone-requires-2 g c = (c.args.token.now.me.0, list_taken c.args.table.now.table_id c.args.token.now c.args.user.now c.requires.mine
-    c.args.page c.args.oldest c.requires.asks g.L.Sectors.seen g.D.Sectors.seen c.compare_exchange.new.seat
-    c.compare_exchange.ensures.0 c.compare_exchange.result c.compare_exchange.ensures.2 c.if-compare_exchange-ne0.false
-    c.list_slot.result c.list_slot.ensures c.slot_mut.result.now c.slot_mut.ensures.value
-    c.add_slot.new.slot c.add_slot.ensures)
+answered_alone-requires-2 g c = (
+  c.args.token.now.me.0,
+  list_taken c.args.table.now.table_id c.args.token.now c.args.user.now c.requires.mine
+      c.args.page c.args.oldest c.requires.asks g.L.Sectors.seen g.D.Sectors.seen c.compare_exchange.new.seat
+      c.compare_exchange.ensures.0 c.compare_exchange.result c.compare_exchange.ensures.2 c.if-compare_exchange-ne0.false
+      c.list_slot.result c.list_slot.ensures c.slot_mut.result.now c.slot_mut.ensures.value
+      c.add_slot.new.slot c.add_slot.ensures,
+)
 
 pub returns-clause-played : goal.returns-clause-played
 returns-clause-played g c = (c.answered_alone-2.ensures.played c.args.token.now.me.0 (list_taken c.args.table.now.table_id c.args.token.now c.args.user.now c.requires.mine

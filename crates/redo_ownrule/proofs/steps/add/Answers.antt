@@ -8,9 +8,12 @@ fetch_add-n-requires g c = add_ok c.args.table.now.table_id c.args.token.now c.a
     c.number_of.result c.requires.asks c.number_of.ensures
 
 pub saw-requires : goal.saw-requires
-saw-requires g c = (c.args.token.now.me.0, sees c.args.table.now.table_id c.args.token.now c.args.user.now
-    c.requires.mine g.L.Sectors.seen g.D.Sectors.seen c.fetch_add-n.new.seat c.fetch_add-n.ensures.0 (op.Add c.args.word c.args.number) c.requires.asks tt
-    c.fetch_add-n.result c.fetch_add-n.ensures.2)
+saw-requires g c = (
+  c.args.token.now.me.0,
+  sees c.args.table.now.table_id c.args.token.now c.args.user.now
+      c.requires.mine g.L.Sectors.seen g.D.Sectors.seen c.fetch_add-n.new.seat c.fetch_add-n.ensures.0 (op.Add c.args.word c.args.number) c.requires.asks tt
+      c.fetch_add-n.result c.fetch_add-n.ensures.2,
+)
 
 pub returns-clause-played : goal.returns-clause-played
 returns-clause-played g c = (c.saw.ensures.played c.args.token.now.me.0 (sees c.args.table.now.table_id

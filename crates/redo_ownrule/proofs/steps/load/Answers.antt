@@ -8,9 +8,12 @@ load-n-requires g c = load_ok c.args.table.now.table_id c.args.token.now c.args.
     c.number_of.result c.requires.asks c.number_of.ensures
 
 pub saw-requires : goal.saw-requires
-saw-requires g c = (c.args.token.now.me.0, sees c.args.table.now.table_id c.args.token.now c.args.user.now
-    c.requires.mine g.L.Sectors.seen g.D.Sectors.seen c.load-n.new.seat c.load-n.ensures.0 (op.Load c.args.word) c.requires.asks tt
-    c.load-n.result c.load-n.ensures.2)
+saw-requires g c = (
+  c.args.token.now.me.0,
+  sees c.args.table.now.table_id c.args.token.now c.args.user.now
+      c.requires.mine g.L.Sectors.seen g.D.Sectors.seen c.load-n.new.seat c.load-n.ensures.0 (op.Load c.args.word) c.requires.asks tt
+      c.load-n.result c.load-n.ensures.2,
+)
 
 pub returns-clause-played : goal.returns-clause-played
 returns-clause-played g c = (c.saw.ensures.played c.args.token.now.me.0 (sees c.args.table.now.table_id

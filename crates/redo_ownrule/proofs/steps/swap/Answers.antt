@@ -8,9 +8,12 @@ compare_exchange-n-requires g c = swap_ok c.args.table.now.table_id c.args.token
     c.number_of.result c.requires.asks c.number_of.ensures
 
 pub saw-requires : goal.saw-requires
-saw-requires g c = (c.args.token.now.me.0, sees c.args.table.now.table_id c.args.token.now c.args.user.now
-    c.requires.mine g.L.Sectors.seen g.D.Sectors.seen c.compare_exchange-n.new.seat c.compare_exchange-n.ensures.0 (op.Swap c.args.word c.args.old c.args.new) c.requires.asks tt
-    c.compare_exchange-n.result c.compare_exchange-n.ensures.2)
+saw-requires g c = (
+  c.args.token.now.me.0,
+  sees c.args.table.now.table_id c.args.token.now c.args.user.now
+      c.requires.mine g.L.Sectors.seen g.D.Sectors.seen c.compare_exchange-n.new.seat c.compare_exchange-n.ensures.0 (op.Swap c.args.word c.args.old c.args.new) c.requires.asks tt
+      c.compare_exchange-n.result c.compare_exchange-n.ensures.2,
+)
 
 pub returns-clause-played : goal.returns-clause-played
 returns-clause-played g c = (c.saw.ensures.played c.args.token.now.me.0 (sees c.args.table.now.table_id

@@ -9,8 +9,8 @@ use Rattle.redo_drive.specs.declared.actor.Actor.{Actor}
 use Rattle.redo_ownmachine.proofs.Places.{crew_views}
 use Rattle.redo_ownmachine.proofs.machine.OwnMachine.finish.Goals as goal
 
-pub finish-requires : goal.finish-requires
-finish-requires g c =
+pub finish-closed-requires : goal.finish-closed-requires
+finish-closed-requires g c =
     let m = c.args.self in let R = c.requires.on_run in record {
       run = R.run;
       archive = false;
@@ -20,20 +20,20 @@ finish-requires g c =
     }
 
 pub returns-clause-actors : goal.returns-clause-actors
-returns-clause-actors g c = c.finish.ensures.kept.0 ∙ c.give_seats-actors.ensures
+returns-clause-actors g c = c.finish-closed.ensures.kept.0 ∙ c.give_seats-actors.ensures
 
 pub returns-clause-history : goal.returns-clause-history
 returns-clause-history g c = λ run. let m = c.args.self in
     subst (λ (l : List (Actor g.row.R.Denot)).
     (runs : RunsOn g.L.Sectors.seen g.D.Sectors.seen run m.parts (views_of l)) → m.entries.items ≡ []
     → length runs.running.log_ghost.log ≤ vec_capacity m.entries
-    → c.finish.result.0.history ≡ history_of runs.running.log_ghost.answered (word_marks runs.running.shared)
-    runs.running.log_ghost.log) c.give_seats-actors.ensures (c.finish.ensures.history run false)
+    → c.finish-closed.result.0.history ≡ history_of runs.running.log_ghost.answered (word_marks runs.running.shared)
+    runs.running.log_ghost.log) c.give_seats-actors.ensures (c.finish-closed.ensures.history run false)
 
 pub returns-clause-listed : goal.returns-clause-listed
 returns-clause-listed g c = λ run. let m = c.args.self in
     subst (λ (l : List (Actor g.row.R.Denot)).
     (runs : RunsOn g.L.Sectors.seen g.D.Sectors.seen run m.parts (views_of l)) → m.entries.items ≡ []
     → length runs.running.log_ghost.log ≤ vec_capacity m.entries
-    → ListsInOrder c.finish.result.0.marks (views_of l) c.finish.result.0.history) c.give_seats-actors.ensures
-    (c.finish.ensures.listed run false)
+    → ListsInOrder c.finish-closed.result.0.marks (views_of l) c.finish-closed.result.0.history) c.give_seats-actors.ensures
+    (c.finish-closed.ensures.listed run false)

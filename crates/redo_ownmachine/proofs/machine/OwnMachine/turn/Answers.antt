@@ -1,4 +1,4 @@
-use Rattle.std.proofs.Common.{ap, arith, subst, sym, ◌-◌, ◌∙◌}
+use Rattle.std.proofs.Common.{ap, arith, refl, subst, sym, ◌-◌, ◌∙◌}
 use mathlib.Core.Option.{some}
 use Rattle.model_core.specs.{lent, next}
 use Rattle.redo_drive.proofs.Viewed.{view_at}
