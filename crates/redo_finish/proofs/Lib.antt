@@ -1,1 +1,1 @@
-pub mod Finishing
+pub mod Blocks

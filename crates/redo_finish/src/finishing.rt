@@ -1,5 +1,6 @@
 // After a run: what its archive lacks.
 ghost use Rattle.std.specs.Prelude.{◌≡◌, ◌≤◌, ◌<◌, None, false, true};
+ghost use Rattle.model_base.specs.declared.limits.TheConstants.{START_LSN};
 ghost use Rattle.redo_archiver.specs.{IsToFinish};
 ghost use Rattle.redo_finish.specs.{Finishes};
 
@@ -19,6 +20,7 @@ fn append_next<L: Sectors, A: Sectors>(
     flushed: u64,
 ) -> bool
     requires finish { IsToFinish A.seen flushed part.old }
+    requires started { START_LSN ≤ part.old.start }
     requires lacks { part.old.marks.mark < flushed }
     ensures finishes { Finishes L.seen L.gives A.seen flushed log.old log.new part.old part.new }
     ensures on { result ≡ true → part.old.marks.mark < part.new.marks.mark }
@@ -46,7 +48,8 @@ pub fn finish_archive<L: Sectors, A: Sectors>(
     part: &mut ArchPart<A>,
     flushed: u64,
 )
-    requires { IsToFinish A.seen flushed part.old }
+    requires finish { IsToFinish A.seen flushed part.old }
+    requires started { START_LSN ≤ part.old.start }
     ensures done { log.new.failed ≡ None → part.new.failed ≡ None → part.new.marks.mark ≡ flushed }
     ensures finishes { Finishes L.seen L.gives A.seen flushed log.old log.new part.old part.new }
 {
