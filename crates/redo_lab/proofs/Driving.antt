@@ -20,7 +20,7 @@ use Rattle.redo_disk.specs.Seen.{Seen}
 use Rattle.redo_disk.specs.declared.error.DevError.{DevError}
 use Rattle.redo_disk.specs.declared.error.DevError.TheVariants as device
 use Rattle.redo_disk.proofs.Made.{may_end}
-use Rattle.redo_drive.specs.{HasMemory, Owes}
+use Rattle.redo_drive.specs.{HasMemory}
 use Rattle.redo_drive.specs.Drive.{ReadsToMarks, failed_in}
 use Rattle.redo_drive.specs.Followed.{HasFollowed, HaveFollowed}
 use Rattle.redo_drive.specs.Startable.{AreNewFollowers, HasReading}
@@ -42,15 +42,15 @@ use Rattle.model_report.specs.declared.fault.Fault.{Fault}
 use Rattle.model_report.specs.declared.fault.Fault.TheVariants as fault
 use Rattle.redo_lab.specs.declared.playing.Played.{Played}
 use Rattle.redo_lab.specs.declared.playing.Stops.{Stops}
-use Rattle.redo_lab.proofs.Behind.{calls-same, same-fused}
+use Rattle.redo_lab.proofs.Behind.{calls-same}
 use Rattle.redo_lab.proofs.Ends.{SpendsTurns, left-memory, left-spent}
 use Rattle.redo_lab.proofs.Followers.{as-many, followed-all, numbered-so}
 use Rattle.redo_lab.proofs.Found.{WasFound, found-armed, held-older, one-opened}
 use Rattle.redo_lab.proofs.Fuses.{armed-calls}
 use Rattle.redo_lab.proofs.Opened.{armed-after}
+use Rattle.redo_lab.proofs.Owed.{IsOwed, IsReadAfter}
 use Rattle.redo_lab.proofs.Rereading.{armed-as}
 use Rattle.redo_lab.proofs.SomeLeft.{some-left}
-use Rattle.redo_disk.proofs.Told.{still-same}
 use Rattle.redo_lab.proofs.Told.{both-told, one-told, some-told, weaker-both}
 use Rattle.redo_lab.specs.Call.{LabCall, WhereOpened, WhereToldNow, mids, Unfused}
 use Rattle.redo_lab.specs.Following.{AreUntold, IsToldOf}
@@ -69,11 +69,12 @@ synced-fair disk = record {
 
 module _ {L D : Type 0} (log_seen : L → Seen) (log_gives : L → Call → L → Type 0) (data_seen : D → Seen) (data_gives : D → Call → D → Type 0)
     (words : List (List ℕ)) (archive : Unfused) (source source_now : SourceSeen) (log : L) (data_device : D) (command : Command) (drive : Drive) (stops : Stops) (script : List ScriptLine)
-    (given : store.Opened (Fused L) (Fused D)) (driven : Driven (Fused L) (Fused D)) (running : CommandRuns source source_now command drive script) (laws : Laws)
+    (given : store.Opened (Fused L) (Fused D)) (first driven : Driven (Fused L) (Fused D)) (running : CommandRuns source source_now command drive script) (laws : Laws)
     (ready : StandsReady log_seen data_seen (call_on log_seen log_gives data_seen data_gives words archive source source_now log data_device given.log.dev given.store.dev) drive stops script given)
     (actors : List (Actor Kept))
-    (told : TellsOf drive.threads drive.own_writes log_seen log_gives data_seen data_gives drive given script (views_of actors) driven)
-    (owes : Owes (seen_through log_seen) (CallsThrough log_seen log_gives) (seen_through data_seen) (CallsThrough data_seen data_gives) given script driven)
+    (told : TellsOf drive.threads drive.own_writes log_seen log_gives data_seen data_gives drive given script (views_of actors) first)
+    (after : IsReadAfter log_seen data_seen given.start first driven)
+    (owes : IsOwed (seen_through log_seen) (CallsThrough log_seen log_gives) (seen_through data_seen) (CallsThrough data_seen data_gives) given script driven)
     (reads : drive.threads ≡ true
     → ReadsToMarks (seen_through log_seen) (seen_through data_seen) given script driven.closed)
     (followers : List (Following Kept)) (follows : Vec Followed Global)
@@ -96,10 +97,10 @@ module _ {L D : Type 0} (log_seen : L → Seen) (log_gives : L → Call → L �
   run = ran_of played
 
   abbrev log-made : MakesCalls (CallsThrough log_seen log_gives) given.log.dev driven.closed.log.dev (MayEndWith driven.closed.log.failed)
-  log-made = may_end (owes.comes_to.log_calls.live refl)
+  log-made = may_end (owes.log_calls.live refl)
 
   abbrev data-made : MakesCalls (CallsThrough data_seen data_gives) given.store.dev driven.closed.store.dev (MayEndWith driven.closed.store.failed)
-  data-made = may_end (owes.comes_to.data_calls.live refl)
+  data-made = may_end (owes.data_calls.live refl)
 
   log-before : call.log.now.tells ≢ None → opening.log.now.tells ≢ None
   log-before = (keeps-behind log_seen log_gives given.log.dev driven.closed.log.dev log-made.calls log-made.made).told
@@ -187,20 +188,20 @@ module _ {L D : Type 0} (log_seen : L → Seen) (log_gives : L → Call → L �
           is_script = running.is_script;
           opens = λ log_disk data_disk log_is data_is log_on data_on. ready.opens log_disk data_disk log_is data_is (log-before log_on) (data-before data_on);
           fits = ready.fits;
-          in_lsn_order = subst (λ (o : Opened). IsRun script o run) same (owes.comes_to.is_run ready.opened.end is.start);
+          in_lsn_order = subst (λ (o : Opened). IsRun script o run) same (owes.is_run ready.opened.end is.start);
           driven = record {
             store = given;
             is_opened = is;
             opened_on = (calls-same log-made, calls-same data-made);
-            driven = driven;
-            driven_on = (same-fused driven.closed.log.dev, same-fused driven.closed.store.dev);
+            driven = first;
+            driven_on = (after.log_device, after.data_device);
             actors = actors;
             told = told;
-            ends = ends;
-            run_is = refl;
+            ends = after.ends ∙ ends;
+            run_is = after.run;
             follows_are = of_followers;
-            log_is = still-same _ _ refl;
-            store_is = still-same _ _ refl;
+            log_is = after.log_tells;
+            store_is = after.store_tells;
           };
         };
         opened_first = run-first;
@@ -212,7 +213,7 @@ module _ {L D : Type 0} (log_seen : L → Seen) (log_gives : L → Call → L �
       → LosesOnlyBy call drive (Some run) left
   loses-so done memory left left_is =
       let counted : failed_in driven.closed ≡ mids call = omega (arith, log-mid, data-mid, ap failures unlost) in
-      inl (subst (λ (n : ℕ). LosesOnlyByFailure n (Some run) left) counted (owes.comes_to.loses left done memory left_is))
+      inl (subst (λ (n : ℕ). LosesOnlyByFailure n (Some run) left) counted (owes.loses left done memory left_is))
 
   -- and where no call answered an error, what reads give is read
   read-now : driven.ended ≡ Done → HasMemory driven.closed → driven.closed.log.failed ≡ None → driven.closed.store.failed ≡ None
@@ -252,7 +253,7 @@ module _ {L D : Type 0} (log_seen : L → Seen) (log_gives : L → Call → L �
 
   -- the run is a legal one of the store that was opened
   legal-run : IsLegal script given.shape.space given.start driven.closed.marks driven.closed.history
-  legal-run = (owes.comes_to.is_run ready.opened.end ready.is_opened.start).legal
+  legal-run = (owes.is_run ready.opened.end ready.is_opened.start).legal
 
   -- its followers have followed, where the log device tells, and so where both do
   abbrev Followed-all : Type 0

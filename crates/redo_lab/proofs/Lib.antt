@@ -18,6 +18,7 @@ pub mod Fronts
 pub mod Fuses
 pub mod Opened
 pub mod Opening
+pub mod Owed
 pub mod Plain
 pub mod Prepared
 pub mod Printed

@@ -6,6 +6,8 @@ use Rattle.redo_lab.proofs.Driving.{driven-comes}
 use Rattle.redo_lab.proofs.Entered.{both-same, entries-then, owed-entries}
 use Rattle.redo_lab.proofs.Followers.{told-in-room}
 use Rattle.redo_lab.proofs.Opening.{unplayed-memory}
+use Rattle.redo_lab.proofs.Owed.{as-owed, read-none}
+use Rattle.redo_memdisk.specs.{CallsThrough, seen_through}
 use Rattle.redo_lab.proofs.Unarchived.{no-archive}
 use Rattle.redo_lab.proofs.playing.by_turns.Goals as goal
 
@@ -20,13 +22,16 @@ pub returns-in-Ok-run_turns-clause-comes_to : goal.returns-in-Ok-run_turns-claus
 returns-in-Ok-run_turns-clause-comes_to g c = λ words archive source source_now command running is.
     rw (c.close.ensures.course, c.close.ensures.log, c.close.ensures.store)
     (driven-comes g.L.Sectors.seen g.L.Sectors.gives g.D.Sectors.seen g.D.Sectors.gives words archive source source_now c.args.log c.args.store command c.args.drive.now c.args.stops c.args.script.now
-    c.in-Ok.opened c.in-Ok-run_turns.driven running c.laws.ensures
+    c.in-Ok.opened c.in-Ok-run_turns.driven c.in-Ok-run_turns.driven running c.laws.ensures
     (c.in-Ok.ensures.ready words archive source source_now command c.args.drive.now running refl (no-archive archive c.args.drive.now c.requires.unarchived))
     c.in-Ok-run_turns.actors.items
     (tells-turns g.L.Sectors.seen g.L.Sectors.gives g.D.Sectors.seen g.D.Sectors.gives c.args.drive.now c.in-Ok.opened c.args.script.now
     (views_of c.in-Ok-run_turns.actors.items) c.in-Ok-run_turns.driven is
     (c.in-Ok-run_turns.ensures.tells c.in-Ok-make_followers.ensures.untold.count_is c.requires.unarchived))
-    c.in-Ok-run_turns.ensures.owed (λ threads. absurd (false≢true (sym is ∙ threads)))
+    (read-none g.L.Sectors.seen g.D.Sectors.seen c.in-Ok.opened.start c.in-Ok-run_turns.driven)
+    (as-owed (seen_through g.L.Sectors.seen) (CallsThrough g.L.Sectors.seen g.L.Sectors.gives) (seen_through g.D.Sectors.seen) (CallsThrough g.D.Sectors.seen g.D.Sectors.gives)
+    c.in-Ok.opened c.args.script.now c.in-Ok-run_turns.driven c.in-Ok-run_turns.ensures.owed)
+    (λ threads. absurd (false≢true (sym is ∙ threads)))
     c.in-Ok-make_followers.followers.items c.told_of.result
     c.in-Ok-make_followers.ensures.new
     c.in-Ok-make_followers.ensures.untold

@@ -5,6 +5,8 @@ use Rattle.redo_lab.proofs.Driving.{driven-comes}
 use Rattle.redo_lab.proofs.Entered.{both-same, entries-then, owed-entries}
 use Rattle.redo_lab.proofs.Followers.{told-in-room}
 use Rattle.redo_lab.proofs.Opening.{unplayed-memory}
+use Rattle.redo_lab.proofs.Owed.{as-owed, read-none}
+use Rattle.redo_memdisk.specs.{CallsThrough, seen_through}
 use Rattle.redo_lab.specs.Following.{AreUntold}
 use Rattle.redo_lab.proofs.Unarchived.{no-archive}
 use Rattle.redo_lab.proofs.playing.in_threads.Goals as goal
@@ -20,13 +22,16 @@ pub returns-in-Ok-drive_in_threads-clause-comes_to : goal.returns-in-Ok-drive_in
 returns-in-Ok-drive_in_threads-clause-comes_to g c = λ words archive source source_now command asked running same few is none.
     rw (c.close.ensures.course, c.close.ensures.log, c.close.ensures.store)
     (driven-comes g.L.Sectors.seen g.L.Sectors.gives g.D.Sectors.seen g.D.Sectors.gives words archive source source_now c.args.log c.args.store command asked c.args.stops c.args.script.now
-    c.in-Ok.opened c.in-Ok-drive_in_threads.driven running c.laws.ensures
+    c.in-Ok.opened c.in-Ok-drive_in_threads.driven c.in-Ok-drive_in_threads.driven running c.laws.ensures
     (c.in-Ok.ensures.ready words archive source source_now command asked running same (no-archive archive asked none))
     c.in-Ok-drive_in_threads.actors.items
     (tells-threads g.L.Sectors.seen g.L.Sectors.gives g.D.Sectors.seen g.D.Sectors.gives asked c.args.log_only c.in-Ok.opened c.args.script.now
     (views_of c.in-Ok-drive_in_threads.actors.items) c.in-Ok-drive_in_threads.driven same is
     c.in-Ok-drive_in_threads.ensures.says)
-    c.in-Ok-drive_in_threads.ensures.owed (λ threads. c.in-Ok-drive_in_threads.ensures.reads)
+    (read-none g.L.Sectors.seen g.D.Sectors.seen c.in-Ok.opened.start c.in-Ok-drive_in_threads.driven)
+    (as-owed (seen_through g.L.Sectors.seen) (CallsThrough g.L.Sectors.seen g.L.Sectors.gives) (seen_through g.D.Sectors.seen) (CallsThrough g.D.Sectors.seen g.D.Sectors.gives)
+    c.in-Ok.opened c.args.script.now c.in-Ok-drive_in_threads.driven c.in-Ok-drive_in_threads.ensures.owed)
+    (λ threads. c.in-Ok-drive_in_threads.ensures.reads)
     c.in-Ok-make_followers.followers.items c.told_of.result
     c.in-Ok-make_followers.ensures.new
     (subst (λ (n : ℕ). AreUntold n c.in-Ok-make_followers.followers.items) few c.in-Ok-make_followers.ensures.untold)
