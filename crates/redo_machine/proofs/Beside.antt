@@ -70,7 +70,6 @@ module _ {L D A : Type 0} {archive : Bool} (log_seen : L → Seen) (data_seen : 
       (some-injective (model.Reader S.archiver) (model.Reader r.0) (sym S.at ∙ ap (get_elem? actors) (sym here) ∙ there)) in
       law S.limit _ mark r.0 part own (subst (λ (x : ReaderState). KeepsPace seen S.limit _ x part) mine S.pace)
 
-
 -- the code that an append has
 own_code : (mark : ℕ) (met : Option DevError) → OwnServed (op.Append mark) (append_code met)
 own_code mark None = inl refl

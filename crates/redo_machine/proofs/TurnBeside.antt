@@ -82,9 +82,12 @@ module _ {L D A R : Type 0} (log_seen : L → Seen) (data_seen : D → Seen) (se
       (λ h.
       let one = one_part h.before part (sym h.before_is ∙ was) in
       let two = one_part h.after later (sym h.after_is ∙ is) in
-      inl (h.archiver, ap view_of h.is,
-      subst (λ (p : Part A). Appends seen h.archiver part S.served.answer p) two
-      (subst (λ (p : Part A). Appends seen h.archiver p S.served.answer h.after) one h.appends)))
+      inl (
+        h.archiver,
+        ap view_of h.is,
+        subst (λ (p : Part A). Appends seen h.archiver part S.served.answer p) two
+            (subst (λ (p : Part A). Appends seen h.archiver p S.served.answer h.after) one h.appends),
+      ))
       (λ z. inr (z.0, one_part later part (sym is ∙ z.1 ∙ was))) S.archives
 
   module _ {archive : Bool} (runs : RunsWith log_seen data_seen run archive old (views_of actors)) where

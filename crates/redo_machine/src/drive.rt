@@ -35,7 +35,10 @@ pub fn run_by_turns<L: Sectors, D: Sectors, A: Sectors, R: Receiver + Drop>(
     turns: &Turns,
     archive: Option<ArchPart<A>>,
     followers: Vec<Follower<R>>,
-) -> Result<(Driven<L, D>, Vec<Actor<R>>, Option<ArchPart<A>>), (NoMemory, L, D, Option<ArchPart<A>>)>
+) -> Result<
+    (Driven<L, D>, Vec<Actor<R>>, Option<ArchPart<A>>),
+    (NoMemory, L, D, Option<ArchPart<A>>),
+>
     requires may { MayBegin opened script.now turns.now.log_only }
     requires archive { IfSome archive (IsNewArchive A.seen opened script.now) }
     requires new { AreNewFollowers opened.start followers.items }

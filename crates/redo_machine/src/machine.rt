@@ -50,11 +50,13 @@ impl<L: Sectors, D: Sectors, A: Sectors, R: Receiver + Drop> Machine<L, D, A, R>
         let archives = archive.is_some();
         match begin_run_with(alloc, opened, script, log_only, archives, followers) {
             Err((error, log, store)) => Err((error, log, store, archive)),
-            Ok(Beginning {
-                parts,
-                actors,
-                entries,
-            }) => Ok(Machine {
+            Ok(
+                Beginning {
+                    parts,
+                    actors,
+                    entries,
+                },
+            ) => Ok(Machine {
                 parts,
                 actors,
                 entries,
