@@ -1,19 +1,24 @@
 //! The call or the calls of one seed, and what they have to print.
 
+use crate::archived::{Archived, check_spent as check_spent_archive};
 use crate::chain::Chain;
-use crate::checking::{Asked, Store, check, check_read};
+use crate::checking::{Asked, Store, check, check_read, ensure};
 use crate::draws::Draws;
 use crate::generated;
 use crate::listing::read_of;
 use crate::lsn::start_after;
 use crate::making::{draw_full_script, draw_script, spoil_fit, spoil_text, text_of};
-use crate::options::{Options, draw_followers, draw_own_writes};
+use crate::options::{Options, draw_archive, draw_followers, draw_own_writes};
 use crate::places::Place;
 use crate::program::{Call, Program, words_of};
 use crate::report::Report;
 use crate::script::{Line, misfit};
 use crate::times::Times;
+use std::fs;
 use std::path::Path;
+
+/// The file of the archive's device.
+pub const ARCHIVE_FILE: &str = "redo.archive";
 
 /// What was run.
 #[derive(Clone, Copy, Default)]
@@ -29,6 +34,9 @@ pub struct Tally {
     /// Runs with followers, and those whose users write for themselves.
     pub followed: u64,
     pub own: u64,
+    /// Runs that are archived, and what was restored of them.
+    pub archived: u64,
+    pub restored: u64,
     pub chains: u64,
     /// How often a log has gone round.
     pub rounds: u64,
@@ -46,6 +54,8 @@ impl Tally {
         self.refusing += other.refusing;
         self.followed += other.followed;
         self.own += other.own;
+        self.archived += other.archived;
+        self.restored += other.restored;
         self.chains += other.chains;
         self.rounds += other.rounds;
         self.refused += other.refused;
@@ -64,8 +74,10 @@ pub struct Case<'a> {
     /// Whether each run of a drawn script has followers, and users that write for themselves.
     pub all_followers: bool,
     pub all_own: bool,
+    /// Whether each run in files by turns is archived.
+    pub all_archive: bool,
     pub draws: Draws,
-    /// What these two alone are drawn from, so that the draws of all else stay as they are without them.
+    /// What these alone are drawn from, so that the draws of all else stay as they are without them.
     pub beside: Draws,
     pub tally: Tally,
     pub times: Times,
@@ -88,6 +100,11 @@ pub enum Left {
 impl Case<'_> {
     pub fn run(&mut self) -> Result<(), String> {
         match self.draws.below(32) {
+            // there are files in chains alone
+            _ if self.all_archive => {
+                self.tally.chains += 1;
+                Chain::new(self).run()
+            }
             0 => self.run_generated(),
             1 => self.run_words(),
             2..=4 => {
@@ -154,27 +171,75 @@ impl Case<'_> {
         if self.draws.once_in(24) {
             spoil_fit(&mut self.draws, &mut script, &store.shape);
         }
-        let options = Options {
-            followers: draw_followers(&mut self.beside, self.all_followers),
-            own_writes: draw_own_writes(&mut self.beside, self.all_own, threads),
+        let followers = draw_followers(&mut self.beside, self.all_followers);
+        let own_writes = draw_own_writes(&mut self.beside, self.all_own, threads);
+        let archive = draw_archive(&mut self.beside, self.all_archive, files && !threads);
+        let mut options = Options {
+            followers,
+            own_writes: own_writes && !archive,
             ..Options::draw(&mut self.draws, files, threads, script.len())
         };
+        if archive {
+            options = options.archived();
+        }
+        let before = self.archive_file();
         let mut text = text_of(&mut self.draws, &script);
         if self.draws.once_in(24) {
             let line = spoil_text(&mut self.draws, &mut text);
             let call = self.call(&options.words(), &text)?;
             self.tally.refused += 1;
             call.answers(3, &format!("fault script line {line}\n"))?;
+            self.archive_stays(before)?;
             return Ok(Left::Unread);
         }
         let call = self.call_run(&options, &text, is_wide)?;
         let left = self.check_call(store, &script, &options, &call)?;
+        if archive && !matches!(left, Left::Unrun) {
+            self.check_archive(store, &script, &call)?;
+        } else {
+            self.archive_stays(before)?;
+        }
         if !files && !threads && self.draws.once_in(50) {
             // the turns are those of the seed, so the same call prints the same
             self.call(&options.words(), &text)?
                 .answers(call.status, &call.printed)?;
         }
         Ok(left)
+    }
+
+    /// What the archive's file holds, if it is there.
+    pub fn archive_file(&self) -> Option<Vec<u8>> {
+        fs::read(self.folder.join(ARCHIVE_FILE)).ok()
+    }
+
+    /// Only a run that is archived writes there, and none that doesn't begin.
+    pub fn archive_stays(&self, before: Option<Vec<u8>>) -> Result<(), String> {
+        ensure(self.archive_file() == before, || {
+            "the archive has changed".to_string()
+        })
+    }
+
+    /// What is restored of a run that came to its end, or that spent its turns.
+    fn check_archive(&mut self, store: &Store, script: &[Line], call: &Call) -> Result<(), String> {
+        let file = self.archive_file().ok_or("there is no archive's file")?;
+        self.tally.archived += 1;
+        let answers = if call.status == 0 {
+            let report = Report::of(&call.printed)?;
+            let archived = Archived::of(store, script, &report).ok_or("the run has no start")?;
+            let archived = archived.ended().told(&report);
+            let mark = archived.mark(&file)?;
+            let lsns = archived.lsns(&mut self.beside, mark);
+            let answer = |lsn| (lsn, archived.answer(lsn, mark));
+            lsns.into_iter().map(answer).collect()
+        } else {
+            check_spent_archive(&mut self.beside, store, script, &file)?
+        };
+        for (lsn, (status, text)) in answers {
+            let words = format!("restore --files --to {lsn}");
+            self.call(&words_of(&words), "")?.answers(status, &text)?;
+            self.tally.restored += 1;
+        }
+        self.archive_stays(Some(file))
     }
 
     fn check_call(
@@ -286,6 +351,13 @@ impl Case<'_> {
             "run --followers 0",
             "crash --followers 5",
             "recover --followers 1",
+            "crash --archive",
+            "gen 1 1 1 --run --archive",
+            "restore",
+            "restore --to",
+            "restore --to 18446744073709551616",
+            "restore --to 1 --turns 1",
+            "run --to 1",
             "gen 1 1 1 --own-writes",
             "run --max 1000000000000000001",
             "recover --turns 1",

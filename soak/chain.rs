@@ -1,6 +1,6 @@
 //! Calls on one store in files, of which each opens what the last one left.
 
-use crate::case::{Case, Left};
+use crate::case::{ARCHIVE_FILE, Case, Left};
 use crate::checking::Store;
 use crate::listing::{check_dump, check_recover, read_of};
 use crate::program::words_of;
@@ -16,7 +16,7 @@ pub struct Chain<'a, 'b> {
     is_wide: bool,
 }
 
-const FILES: [&str; 2] = ["redo.log", "redo.data"];
+const FILES: [&str; 3] = ["redo.log", "redo.data", ARCHIVE_FILE];
 
 impl<'a, 'b> Chain<'a, 'b> {
     pub fn new(case: &'a mut Case<'b>) -> Chain<'a, 'b> {

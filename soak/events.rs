@@ -1,11 +1,12 @@
-//! The calls that a program made on its two files, as `writes.c` tells of them.
+//! The calls that a program made on its files, as `writes.c` tells of them.
 
 use crate::layout::Block;
 use std::ops::Range;
 
 pub const LOG: usize = 0;
 pub const DATA: usize = 1;
-pub const DEVICES: [usize; 2] = [LOG, DATA];
+pub const ARCHIVE: usize = 2;
+pub const DEVICES: [usize; 3] = [LOG, DATA, ARCHIVE];
 
 /// The bytes of each event before those of its write.
 const HEADER: usize = 24;
@@ -75,6 +76,40 @@ pub fn events_of(mut bytes: &[u8]) -> Result<Vec<Event>, String> {
         });
     }
     Ok(events)
+}
+
+/// What events have done to the archive.
+#[derive(Clone, Copy, PartialEq)]
+pub enum Archiving {
+    /// Nothing was written.
+    Untouched,
+    /// A new one was begun, but its head wasn't synced.
+    Unbegun,
+    Begun,
+}
+
+/// The place of the first write to the archive.
+pub fn first_archived(events: &[Event]) -> Option<usize> {
+    let is_write = |event: &Event| event.device == ARCHIVE && matches!(event.what, What::Write(_));
+    events.iter().position(is_write)
+}
+
+pub fn archiving_of(events: &[Event]) -> Archiving {
+    if first_archived(events).is_none() {
+        return Archiving::Untouched;
+    }
+    let is_head = |event: &Event| match &event.what {
+        What::Write(write) => {
+            event.device == ARCHIVE
+                && write.at == 0
+                && write.bytes[..512].iter().any(|byte| *byte != 0)
+        }
+        _ => false,
+    };
+    match events.iter().position(is_head) {
+        Some(head) if synced(&events[head..], ARCHIVE) > 0 => Archiving::Begun,
+        _ => Archiving::Unbegun,
+    }
 }
 
 /// How often the device was called.

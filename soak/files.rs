@@ -1,4 +1,4 @@
-//! The two files of a store, copies of them, and calls of the program on either.
+//! The files of a store and of an archive, copies of them, and calls of the program on either.
 
 use crate::checking::ensure;
 use crate::crc::SECTOR;
@@ -9,7 +9,7 @@ use crate::program::{Call, Program, words_of};
 use std::fs;
 use std::path::{Path, PathBuf};
 
-const FILES: [&str; 2] = ["redo.log", "redo.data"];
+const FILES: [&str; 3] = ["redo.log", "redo.data", "redo.archive"];
 /// A folder for copies of the files, on which calls change nothing of the store.
 const ASIDE: &str = "aside";
 /// The file that `writes.c` writes.
@@ -25,7 +25,7 @@ pub struct Files<'a> {
     /// The library that `writes.c` makes.
     watching: &'a Path,
     /// What the files hold, as a call sees them.
-    pub contents: [Vec<u8>; 2],
+    pub contents: [Vec<u8>; 3],
     /// What was done, to be shown where it fails a check.
     pub told: Vec<String>,
     pub calls: u64,
@@ -93,7 +93,7 @@ impl<'a> Files<'a> {
             program,
             folder,
             watching,
-            contents: [Vec::new(), Vec::new()],
+            contents: [Vec::new(), Vec::new(), Vec::new()],
             told: Vec::new(),
             calls: 0,
         }

@@ -1,9 +1,12 @@
-//! Calls upon calls on one store in files, and power cuts after or within some of them.
+//! Calls upon calls on one store in files, and on an archive, and power cuts after or within some of them.
 
+use crate::archived::Archived;
 use crate::checking::{Asked, Store, check, check_read, ensure};
 use crate::crc::SECTOR;
 use crate::draws::Draws;
-use crate::events::{DATA, DEVICES, Event, LOG, What, calls_of};
+use crate::events::{
+    ARCHIVE, Archiving, DATA, DEVICES, Event, LOG, What, archiving_of, calls_of, first_archived,
+};
 use crate::files::{Asking, Files, Kill, On};
 use crate::layout::{HEADS, in_format_1, is_unused};
 use crate::listing::{check_dump, check_recover, read_of};
@@ -13,18 +16,25 @@ use crate::moments::{
     Stage, after_last_write, draw_moment, draw_moment_before_sync, draw_moment_of_run, opened,
     stage_of,
 };
-use crate::options::{Options, draw_followers, draw_own_writes, draw_turns};
+use crate::options::{Options, draw_archive, draw_followers, draw_own_writes, draw_turns};
 use crate::program::{Call, words_of};
 use crate::report::Report;
+use crate::restoring::Reading;
 use crate::script::{DEFAULT_SHAPE, Line, MOST_BYTES, Shape, group_length, misfit};
 use crate::since::{Run, Since};
 use crate::tally::Tally;
 use crate::tears::{Cut, draw_junk};
 
 /// The files as the last cut left them.
-const BEFORE: [&str; 2] = ["before.log", "before.data"];
+const BEFORE: [&str; 3] = ["before.log", "before.data", "before.archive"];
 const UNFORMATTED: &str = "fault store unformatted\n";
-const FAULTS: [&str; 2] = ["fault log device\n", "fault data device\n"];
+/// What a call ends with when a device failed.
+const FAULTS: [&str; 3] = [
+    "fault log device\n",
+    "fault data device\n",
+    "fault archive device\n",
+];
+const STATUSES: [i32; 3] = [6, 7, 11];
 /// So many runs a store has in the mean, and so many more or fewer at the most.
 pub const RUNS_OF_A_STORE: u64 = 110;
 const SPREAD: u64 = 90;
@@ -38,17 +48,21 @@ pub struct History<'a> {
     /// Whether sectors stay whole.
     is_whole: bool,
     draws: Draws,
-    /// What the followers alone are drawn from, so that the draws of all else stay as they are without them.
+    /// What followers and archives alone are drawn from, so that the draws of all else stay as they are without them.
     beside: Draws,
     /// Nothing where the log device holds no store.
     store: Option<Store>,
+    /// What the archive has to hold. Nothing where there is none, or one that wasn't begun to the end.
+    archived: Option<Archived>,
+    /// Whether each run is archived that may be.
+    all_archive: bool,
     since: Since,
     /// Whether half of its scripts are long ones, which bring a small log round.
     is_wide: bool,
     /// Whether some of its runs are in threads; else the seed says all that comes.
     has_threads: bool,
     /// How many calls of each device the last opening took.
-    opening: [u64; 2],
+    opening: [u64; 3],
 }
 
 /// What becomes of a call.
@@ -80,7 +94,7 @@ struct RunScript {
 }
 
 impl<'a> History<'a> {
-    pub fn new(files: Files<'a>, is_whole: bool, seed: u64) -> History<'a> {
+    pub fn new(files: Files<'a>, is_whole: bool, all_archive: bool, seed: u64) -> History<'a> {
         let mut draws = Draws::new(seed);
         let is_wide = draws.once_in(2);
         let has_threads = draws.once_in(4);
@@ -91,10 +105,12 @@ impl<'a> History<'a> {
             draws,
             beside: Draws::beside(seed),
             store: None,
-            since: Since::new(None, [Vec::new(), Vec::new()]),
+            archived: None,
+            all_archive,
+            since: Since::new(None, [Vec::new(), Vec::new(), Vec::new()]),
             is_wide,
             has_threads,
-            opening: [20, 4],
+            opening: [20, 4, 1],
         }
     }
 
@@ -186,7 +202,11 @@ impl<'a> History<'a> {
         self.tally.pendings += u64::from(DEVICES.iter().any(is_pending));
         for device in DEVICES {
             let cut = Cut::after(self.since.file(device), &self.since.events, device);
-            let (mut content, torn) = cut.torn(&mut self.draws, self.is_whole);
+            let draws = match device {
+                ARCHIVE => &mut self.beside,
+                _ => &mut self.draws,
+            };
+            let (mut content, torn) = cut.torn(draws, self.is_whole);
             self.tally.torn += torn;
             let length = self.files.contents[device].len().max(content.len());
             content.resize(length, 0);
@@ -197,7 +217,31 @@ impl<'a> History<'a> {
             Some(known) => self.take(known, &call)?,
             None => self.store = None,
         }
+        self.restore()?;
         self.begin_anew()
+    }
+
+    /// Checks what is restored of the archive on the copies. One that wasn't begun to the end may be anything.
+    fn restore(&mut self) -> Result<(), String> {
+        let file = &self.files.contents[ARCHIVE];
+        let Some(archived) = self.archived.clone() else {
+            if !file.is_empty() && self.beside.once_in(4) {
+                let to = self.beside.one_of(&[0, 8_204, 9_000]);
+                let call = self.files.call_on_copies(&restore_words(to))?;
+                ensure([0, 10, 12].contains(&call.status), || {
+                    format!("status {} of an archive that wasn't begun", call.status)
+                })?;
+            }
+            return self.files.copies_are_unchanged();
+        };
+        let mark = archived.mark(file)?;
+        for to in archived.lsns(&mut self.beside, mark) {
+            let (status, text) = archived.answer(to, mark);
+            let call = self.files.call_on_copies(&restore_words(to))?;
+            call.answers(status, &text)?;
+            self.tally.restored += 1;
+        }
+        self.files.copies_are_unchanged()
     }
 
     /// The store that `recover` has read, if it is one that may be there.
@@ -235,6 +279,7 @@ impl<'a> History<'a> {
             known = check_read(store, asked, report, read.end, read.pages)?;
         }
         self.take(known, &call)?;
+        self.restore()?;
         if !self.since.may_have_head() {
             self.since.forget_formatting();
         }
@@ -440,8 +485,9 @@ impl<'a> History<'a> {
         let plan = self.draw_plan(old.is_some());
         let Plan { fate, fails, .. } = plan;
         let options = self.draw_options(&store, &script, plan, is_older);
+        let fails = fails || options.archive && self.may_fail(plan, old.is_some());
         let words = options.words();
-        let failing = fails.then(|| self.draw_failing());
+        let failing = fails.then(|| self.draw_failing(&options));
         let asking = || Asking {
             words: &words,
             script: &text,
@@ -450,13 +496,14 @@ impl<'a> History<'a> {
         let head = self.files.first_block();
         let (call, events) = self.files.watched(on(fate), asking())?;
         self.tally.runs += 1;
-        if let Some((device, _)) = &failing
-            && call.status != 0
+        let failed = failing.as_ref().map(|(device, _)| *device);
+        let failed = failed.filter(|_| call.status != 0);
+        if let Some(device) = failed
+            && !options.archive
         {
-            return self.take_unopened(&call, events, *device);
+            return self.take_unopened(&call, events, device);
         }
-        call.has_succeeded()?;
-        let report = Report::of(&call.printed)?;
+        let report = report_of(&call, failed)?;
         let asked = Asked {
             script: &script.lines,
             stops: options.stops() || fails,
@@ -464,11 +511,17 @@ impl<'a> History<'a> {
             keeps_all: true,
             followers: options.followers,
         };
-        // as printed it was read from files that lost nothing
-        check(&store, asked, &report)?;
+        // as printed it was read from files that lost nothing; only a run that failed while it was opened has no start
+        if report.start.is_some() || failed.is_none() {
+            check(&store, asked, &report)?;
+        }
         self.learn(&events);
         let moment = if fate.is_told() {
             events.len()
+        } else if let Some(begun) = first_archived(&events)
+            && self.beside.once_in(2)
+        {
+            begun + draw_moment(&mut self.beside, &events[begun..])
         } else {
             self.draw_moment(&events, is_older, report.tells_failure())
         };
@@ -485,7 +538,25 @@ impl<'a> History<'a> {
             self.since.begin_formatting(DEFAULT_SHAPE, head);
         }
         let first = self.since.events.len();
+        let kept = match fate {
+            Fate::Within => moment,
+            _ => events.len(),
+        };
+        let archiving = archiving_of(&events[..kept]);
         self.since.events.extend(events);
+        if archiving != Archiving::Untouched {
+            let made = Archived::of(&store, &script.lines, &report);
+            let made = made.filter(|_| archiving == Archiving::Begun);
+            // what the archive lacks is appended after the run, also where the data device has failed
+            let is_whole = failed.is_none_or(|device| device == DATA);
+            self.archived = made.map(|archived| match fate.is_told() {
+                true if is_whole => archived.ended().told(&report),
+                true => archived.told(&report),
+                false => archived,
+            });
+            self.count_archive(&archiving, fate);
+        }
+        self.learn_mark(first + kept);
         self.since.add_run(Run {
             store: store.clone(),
             lines: script.lines.clone(),
@@ -494,6 +565,7 @@ impl<'a> History<'a> {
             events: first..self.since.events.len(),
         });
         match fate {
+            Fate::Stays if report.start.is_none() && failed.is_some() => self.see(None)?,
             Fate::Stays => self.see(Some((&store, asked, &report)))?,
             Fate::Killed => self.see(None)?,
             Fate::Ends | Fate::Within => self.cut(first, moment)?,
@@ -514,6 +586,25 @@ impl<'a> History<'a> {
         Ok(())
     }
 
+    /// The archive's mark that a good sync has made stable before this event is the least that it can have.
+    fn learn_mark(&mut self, until: usize) {
+        let Some(archived) = &mut self.archived else {
+            return;
+        };
+        let events = &self.since.events[..until];
+        let cut = Cut::after(self.since.file(ARCHIVE), events, ARCHIVE);
+        if let Some(extent) = Reading::of(cut.base()).extent {
+            archived.least = archived.least.max(extent.mark);
+        }
+    }
+
+    fn count_archive(&mut self, archiving: &Archiving, fate: Fate) {
+        self.tally.archived += 1;
+        let is_cut = !fate.is_told();
+        self.tally.archives_cut += u64::from(is_cut);
+        self.tally.unbegun += u64::from(*archiving == Archiving::Unbegun);
+    }
+
     fn count_run(&mut self, report: &Report, options: &Options) {
         self.tally.groups += report.entries.len() as u64;
         self.tally.threads += u64::from(options.threads);
@@ -528,7 +619,7 @@ impl<'a> History<'a> {
         events: Vec<Event>,
         device: usize,
     ) -> Result<(), String> {
-        call.answers(6 + device as i32, FAULTS[device])?;
+        call.answers(STATUSES[device], FAULTS[device])?;
         only_reads(&events)?;
         self.since.events.extend(events);
         Ok(())
@@ -560,7 +651,10 @@ impl<'a> History<'a> {
     ) -> Options {
         let which = if is_older { 1 } else { self.draws.below(4) };
         let start = start_after(store.end);
-        Options {
+        let followers = draw_followers(&mut self.beside, false);
+        let own_writes = draw_own_writes(&mut self.beside, false, script.threads);
+        let archive = draw_archive(&mut self.beside, self.all_archive, !script.threads);
+        let options = Options {
             crashes,
             files: true,
             log_only: self.draws.once_in(8)
@@ -571,9 +665,16 @@ impl<'a> History<'a> {
             stop_log: (stops && which != 0).then(|| self.draw_stop(LOG, is_older)),
             stop_data: (stops && which % 3 == 0).then(|| self.draw_stop(DATA, is_older)),
             pick: None,
-            followers: draw_followers(&mut self.beside, false),
-            own_writes: draw_own_writes(&mut self.beside, false, script.threads),
-        }
+            followers,
+            own_writes: own_writes && !archive,
+            archive: false,
+        };
+        if archive { options.archived() } else { options }
+    }
+
+    /// Whether a device fails in a run that is archived, also where its plan doesn't say so.
+    fn may_fail(&mut self, plan: Plan, has_store: bool) -> bool {
+        has_store && plan.fate != Fate::Killed && self.beside.once_in(4)
     }
 
     /// After so many calls a device stops: at the end of opening, somewhere in it, or in the run.
@@ -592,9 +693,13 @@ impl<'a> History<'a> {
     }
 
     /// One write or sync of a device, which fails while all others succeed.
-    fn draw_failing(&mut self) -> (usize, String) {
+    fn draw_failing(&mut self, options: &Options) -> (usize, String) {
+        let is_archive = options.archive && self.beside.once_in(2);
         let draws = &mut self.draws;
-        let device = draws.one_of(&[LOG, LOG, DATA]);
+        let mut device = draws.one_of(&[LOG, LOG, DATA]);
+        if is_archive {
+            device = ARCHIVE;
+        }
         let most = 2 << draws.below(7);
         let fails = format!("{device} {} {}", draws.below(most), draws.below(2));
         (device, fails)
@@ -621,6 +726,25 @@ fn on(fate: Fate) -> On {
         Fate::Killed => On::Copies,
         _ => On::Files,
     }
+}
+
+/// The report of a run. One that is archived prints it before the fault of a device, and none where opening failed.
+fn report_of(call: &Call, failed: Option<usize>) -> Result<Report, String> {
+    let Some(device) = failed else {
+        call.has_succeeded()?;
+        return Report::of(&call.printed);
+    };
+    let text = call.printed.strip_suffix(FAULTS[device]);
+    let text = text.filter(|_| call.status == STATUSES[device]);
+    let text = text.ok_or_else(|| format!("status {} after a fault", call.status))?;
+    match text {
+        "" => Ok(Report::default()),
+        text => Report::of(text),
+    }
+}
+
+fn restore_words(to: u64) -> String {
+    format!("restore --files --to {to}")
 }
 
 fn only_reads(events: &[Event]) -> Result<(), String> {

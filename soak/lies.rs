@@ -5,9 +5,13 @@ mod lying;
 mod reads;
 mod unlike;
 
+#[allow(dead_code)]
+mod archived;
 mod checking;
 #[allow(dead_code)]
 mod crc;
+#[allow(dead_code)]
+mod decoding;
 mod draws;
 mod events;
 mod files;
@@ -27,6 +31,8 @@ mod pages;
 #[allow(dead_code)]
 mod program;
 mod report;
+#[allow(dead_code)]
+mod restoring;
 mod script;
 mod since;
 #[allow(dead_code)]

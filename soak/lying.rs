@@ -16,9 +16,9 @@ use crate::unlike::prepare;
 use std::fs;
 use std::path::{Path, PathBuf};
 
-const FILES: [&str; 2] = ["redo.log", "redo.data"];
+const FILES: [&str; 3] = ["redo.log", "redo.data", "redo.archive"];
 /// The files as the last call found them of which a read lied.
-const BEFORE: [&str; 2] = ["before.log", "before.data"];
+const BEFORE: [&str; 3] = ["before.log", "before.data", "before.archive"];
 /// The file that `lies.c` writes.
 const READS: &str = "reads";
 /// A store comes from so many steps at the most, and so many calls on it lie.
@@ -80,7 +80,7 @@ impl<'a> Lying<'a> {
 
     /// Makes a store by a history of the seed, and then calls that lie.
     pub fn run(&mut self, files: Files, seed: u64) -> Result<(), String> {
-        let mut history = History::new(files, false, seed);
+        let mut history = History::new(files, false, false, seed);
         history.files.clear()?;
         for _ in 0..self.draws.below(MOST_STEPS + 1) {
             let outcome = history.step();
@@ -217,6 +217,7 @@ impl<'a> Lying<'a> {
             log_only: draws.once_in(8),
             own_writes: false,
             threads,
+            archive: false,
             turns: draw_turns(draws),
             most_turns: None,
             stop_log,
@@ -304,12 +305,12 @@ impl<'a> Lying<'a> {
         Ok(call)
     }
 
-    fn contents(&self) -> [Vec<u8>; 2] {
+    fn contents(&self) -> [Vec<u8>; 3] {
         DEVICES.map(|device| fs::read(self.folder.join(FILES[device])).unwrap_or_default())
     }
 
     /// Puts files of these names there, or none where nothing would be in it.
-    fn put(&self, names: [&str; 2], contents: &[Vec<u8>; 2]) -> Result<(), String> {
+    fn put(&self, names: [&str; 3], contents: &[Vec<u8>; 3]) -> Result<(), String> {
         for device in DEVICES {
             let path = self.folder.join(names[device]);
             if contents[device].is_empty() {

@@ -1,10 +1,13 @@
 //! Runs scripts by seeds through the program, and checks each report against the crash theorem.
 
+mod archived;
 mod case;
 mod chain;
 mod checking;
 #[allow(dead_code)]
 mod crc;
+#[allow(dead_code)]
+mod decoding;
 mod draws;
 mod following;
 mod generated;
@@ -16,6 +19,8 @@ mod pages;
 mod places;
 mod program;
 mod report;
+#[allow(dead_code)]
+mod restoring;
 mod script;
 mod texts;
 mod times;
@@ -39,6 +44,7 @@ struct Soak {
     all_threads: bool,
     all_followers: bool,
     all_own: bool,
+    all_archive: bool,
     next: AtomicU64,
     last: u64,
     failures: AtomicU64,
@@ -56,6 +62,7 @@ impl Soak {
             all_threads: self.all_threads,
             all_followers: self.all_followers,
             all_own: self.all_own,
+            all_archive: self.all_archive,
             draws: Draws::new(seed),
             beside: Draws::beside(seed),
             tally: Tally::default(),
@@ -75,8 +82,9 @@ impl Soak {
                 ""
             };
             let own = if self.all_own { "--own-writes " } else { "" };
+            let archive = if self.all_archive { "--archive " } else { "" };
             println!(
-                "soak/run {threads}{followers}{own}{seed} 1\n{message}\n{}",
+                "soak/run {threads}{followers}{own}{archive}{seed} 1\n{message}\n{}",
                 calls.join("\n")
             );
         }
@@ -97,7 +105,9 @@ impl Soak {
 fn number(word: Option<String>, default: u64) -> u64 {
     let word = word.map_or(Some(default), |word| word.parse().ok());
     word.unwrap_or_else(|| {
-        eprintln!("usage: soak [--threads] [--followers] [--own-writes] [FIRST_SEED] [RUNS]");
+        eprintln!(
+            "usage: soak [--threads] [--followers] [--own-writes] [--archive] [FIRST_SEED] [RUNS]"
+        );
         process::exit(2)
     })
 }
@@ -117,6 +127,7 @@ fn main() {
     let all_threads = words.next_if_eq("--threads").is_some();
     let all_followers = words.next_if_eq("--followers").is_some();
     let all_own = words.next_if_eq("--own-writes").is_some();
+    let all_archive = words.next_if_eq("--archive").is_some();
     let first = number(words.next(), 1);
     let runs = number(words.next(), 1_000);
     let start = Instant::now();
@@ -126,6 +137,7 @@ fn main() {
         all_threads,
         all_followers,
         all_own,
+        all_archive,
         next: AtomicU64::new(first),
         last: first.saturating_add(runs),
         failures: AtomicU64::new(0),
@@ -154,7 +166,7 @@ fn main() {
     }
     let tally = soak.tally.lock().unwrap();
     println!(
-        "{runs} runs, {} calls, {} groups, {} crashes, {} stops that hit, {} runs in threads, {} of them on one or two processors and {} with refused threads, {} runs with followers, {} of users that write for themselves, {} chains, {} rounds of a log, {} refused, {failures} failures, {} seconds",
+        "{runs} runs, {} calls, {} groups, {} crashes, {} stops that hit, {} runs in threads, {} of them on one or two processors and {} with refused threads, {} runs with followers, {} of users that write for themselves, {} that are archived with {} restored lsns, {} chains, {} rounds of a log, {} refused, {failures} failures, {} seconds",
         tally.calls,
         tally.groups,
         tally.crashes,
@@ -164,6 +176,8 @@ fn main() {
         tally.refusing,
         tally.followed,
         tally.own,
+        tally.archived,
+        tally.restored,
         tally.chains,
         tally.rounds,
         tally.refused,

@@ -12,6 +12,8 @@ pub struct Options {
     pub log_only: bool,
     pub own_writes: bool,
     pub threads: bool,
+    /// Whether the run is archived.
+    pub archive: bool,
     pub turns: Option<u64>,
     pub most_turns: Option<u64>,
     pub stop_log: Option<u64>,
@@ -32,6 +34,7 @@ impl Options {
             log_only: draws.once_in(6),
             own_writes: false,
             threads,
+            archive: false,
             turns: draw_turns(draws),
             most_turns: draws
                 .once_in(40)
@@ -51,12 +54,25 @@ impl Options {
             log_only: false,
             own_writes: false,
             threads: false,
+            archive: false,
             turns: Some(seed),
             most_turns: None,
             stop_log: None,
             stop_data: None,
             pick: Some(u64::MAX),
             followers: 0,
+        }
+    }
+
+    /// The same as a run that is archived, which has no crash and no stops.
+    pub fn archived(self) -> Options {
+        Options {
+            crashes: false,
+            archive: true,
+            stop_log: None,
+            stop_data: None,
+            pick: None,
+            ..self
         }
     }
 
@@ -80,6 +96,7 @@ impl Options {
             (is_wide, " of long groups"),
             (self.stops(), " with stops"),
             (self.followers > 0, " with followers"),
+            (self.archive, " with an archive"),
         ];
         let named = named.iter().filter(|(is, _)| *is);
         let named: String = named.map(|(_, name)| *name).collect();
@@ -109,6 +126,7 @@ impl Options {
             ("--log-only", self.log_only),
             ("--own-writes", self.own_writes),
             ("--threads", self.threads),
+            ("--archive", self.archive),
         ];
         words.extend(
             flags
@@ -130,6 +148,12 @@ pub fn draw_followers(draws: &mut Draws, always: bool) -> u64 {
 pub fn draw_own_writes(draws: &mut Draws, always: bool, threads: bool) -> bool {
     let drawn = draws.once_in(if threads { 3 } else { 8 });
     always || drawn
+}
+
+/// Whether a run is archived, where it may be: in each draw or in one of three.
+pub fn draw_archive(draws: &mut Draws, always: bool, may_be: bool) -> bool {
+    let drawn = draws.once_in(3);
+    may_be && (always || drawn)
 }
 
 pub fn draw_turns(draws: &mut Draws) -> Option<u64> {

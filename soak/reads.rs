@@ -51,7 +51,7 @@ pub struct Lie {
 
 impl Lie {
     /// A lie of one of these reads, of files that hold this: mostly where something else than zeros is read.
-    pub fn draw(draws: &mut Draws, reads: &[Read], contents: &[Vec<u8>; 2]) -> Option<Lie> {
+    pub fn draw(draws: &mut Draws, reads: &[Read], contents: &[Vec<u8>; 3]) -> Option<Lie> {
         let number = draw_number(draws, reads)?;
         let read = &reads[number];
         let change = draw_change(draws);

@@ -31,7 +31,7 @@ pub enum Step {
 pub struct Since {
     /// Nothing where it left no store.
     left: Option<Store>,
-    files: [Vec<u8>; 2],
+    files: [Vec<u8>; 3],
     pub events: Vec<Event>,
     steps: Vec<Step>,
     /// Where the events of formatting begin, and what stood in the log's first block then.
@@ -74,7 +74,7 @@ impl Run {
 
 impl Since {
     /// Nothing came since the cut that left this.
-    pub fn new(left: Option<Store>, files: [Vec<u8>; 2]) -> Since {
+    pub fn new(left: Option<Store>, files: [Vec<u8>; 3]) -> Since {
         Since {
             left,
             files,

@@ -11,6 +11,12 @@ pub struct Tally {
     pub threads: u64,
     /// Runs with followers.
     pub followed: u64,
+    /// Runs that wrote to an archive, those of them that were cut or killed, and those whose archive wasn't begun to the end.
+    pub archived: u64,
+    pub archives_cut: u64,
+    pub unbegun: u64,
+    /// Lsns that were restored.
+    pub restored: u64,
     /// Cuts at the end of a call, and within one.
     pub ends: u64,
     pub withins: u64,
@@ -40,6 +46,10 @@ impl Tally {
         self.dropped += other.dropped;
         self.threads += other.threads;
         self.followed += other.followed;
+        self.archived += other.archived;
+        self.archives_cut += other.archives_cut;
+        self.unbegun += other.unbegun;
+        self.restored += other.restored;
         self.ends += other.ends;
         self.withins += other.withins;
         self.pendings += other.pendings;

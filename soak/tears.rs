@@ -1,10 +1,13 @@
 //! What a power cut leaves of a device: each sector that was written since the last good sync may hold any bytes, but for
-//! such as pass a checksum by chance.
+//! such as pass a checksum by chance. Of an archive that is said of its marks alone.
 
-use crate::crc::{PAGE, SECTOR, fits_page, fits_sector};
+use crate::crc::{PAGE, SECTOR, fits_page, fits_sector, seal_sector};
 use crate::draws::Draws;
-use crate::events::{DATA, Event, Write, synced, writes_of};
+use crate::events::{ARCHIVE, DATA, Event, Write, synced, writes_of};
 use std::collections::{BTreeMap, BTreeSet};
+
+/// The sectors of an archive's marks.
+const MARKS: std::ops::RangeInclusive<usize> = 1..=2;
 
 /// A device at a power cut: what stood there at its last good sync, and the writes since.
 pub struct Cut<'a> {
@@ -97,6 +100,11 @@ impl<'a> Cut<'a> {
             base,
             writes,
         }
+    }
+
+    /// What stood there at the last good sync.
+    pub fn base(&self) -> &[u8] {
+        &self.base
     }
 
     /// What the cut leaves, and how many sectors hold what was never written as a whole.
@@ -195,7 +203,14 @@ impl<'a> Cut<'a> {
             }
             Fate::Junk => draw_junk(draws, drawn),
         };
-        if self.device == DATA || !fits_sector(&bytes) || self.is_version(number, &bytes) {
+        let is_free = self.device == ARCHIVE && !MARKS.contains(&number);
+        if is_free && draws.once_in(3) {
+            let mut sealed = bytes;
+            seal_sector(&mut sealed);
+            return sealed;
+        }
+        let may_fit = is_free || self.device == DATA;
+        if may_fit || !fits_sector(&bytes) || self.is_version(number, &bytes) {
             bytes
         } else {
             draw_junk(draws, drawn)

@@ -1,6 +1,10 @@
 //! Makes runs upon runs on stores in files, cuts the power in them so that sectors tear, and checks what each cut leaves.
 
+#[allow(dead_code)]
+mod archived;
 mod crc;
+#[allow(dead_code)]
+mod decoding;
 mod events;
 mod files;
 mod heads;
@@ -25,6 +29,8 @@ mod pages;
 #[allow(dead_code)]
 mod program;
 mod report;
+#[allow(dead_code)]
+mod restoring;
 mod script;
 mod texts;
 
@@ -45,6 +51,7 @@ struct Soak {
     program: Program,
     watching: PathBuf,
     is_whole: bool,
+    all_archive: bool,
     next: AtomicU64,
     last: u64,
     failures: AtomicU64,
@@ -54,7 +61,7 @@ struct Soak {
 impl Soak {
     fn run_seed(&self, seed: u64, folder: &Path) {
         let files = Files::new(&self.program, folder, &self.watching);
-        let mut history = History::new(files, self.is_whole, seed);
+        let mut history = History::new(files, self.is_whole, self.all_archive, seed);
         let outcome = history.run();
         history.tally.calls = history.files.calls;
         self.tally.lock().unwrap().add(history.tally);
@@ -62,8 +69,9 @@ impl Soak {
             self.failures.fetch_add(1, Ordering::Relaxed);
             let kept = keep(folder, seed);
             let whole = if self.is_whole { "--whole " } else { "" };
+            let archive = if self.all_archive { "--archive " } else { "" };
             println!(
-                "soak/torn {whole}{seed} 1\n{message}\nrun {} of the store; its files are in {}\n{}",
+                "soak/torn {whole}{archive}{seed} 1\n{message}\nrun {} of the store; its files are in {}\n{}",
                 history.tally.runs,
                 kept.display(),
                 history.files.told.join("\n")
@@ -94,7 +102,7 @@ fn keep(folder: &Path, seed: u64) -> PathBuf {
 }
 
 fn usage() -> ! {
-    eprintln!("usage: torn [--whole] [FIRST_SEED] [RUNS]");
+    eprintln!("usage: torn [--whole] [--archive] [FIRST_SEED] [RUNS]");
     process::exit(2)
 }
 
@@ -116,6 +124,7 @@ fn named(variable: &str) -> PathBuf {
 fn main() {
     let mut words = env::args().skip(1).peekable();
     let is_whole = words.next_if_eq("--whole").is_some();
+    let all_archive = words.next_if_eq("--archive").is_some();
     let first = number(words.next(), 1);
     let runs = number(words.next(), 1_000);
     let start = Instant::now();
@@ -123,6 +132,7 @@ fn main() {
         program: Program::new(named("REDOLAB")),
         watching: named("WATCHING"),
         is_whole,
+        all_archive,
         next: AtomicU64::new(first),
         last: first.saturating_add(runs.div_ceil(RUNS_OF_A_STORE)),
         failures: AtomicU64::new(0),
@@ -147,7 +157,7 @@ fn main() {
     let failures = soak.failures.load(Ordering::Relaxed);
     let tally = soak.tally.lock().unwrap();
     println!(
-        "{} runs on {} stores, {} calls, {} groups, {} of them dropped; {} in threads; {} with followers; {} cuts after a run, {} within one, {} of them with writes of an earlier call pending; {} calls without a cut, {} killed; {} stops that hit; cuts and stops: {} in formatting, {} in opening, {} of them in a migration; {} migrations; {} torn sectors; {} wraps of the ring; {failures} failures; {} seconds",
+        "{} runs on {} stores, {} calls, {} groups, {} of them dropped; {} in threads; {} with followers; {} archived, {} of them cut or killed and {} not begun to the end, {} restored lsns; {} cuts after a run, {} within one, {} of them with writes of an earlier call pending; {} calls without a cut, {} killed; {} stops that hit; cuts and stops: {} in formatting, {} in opening, {} of them in a migration; {} migrations; {} torn sectors; {} wraps of the ring; {failures} failures; {} seconds",
         tally.runs,
         tally.stores,
         tally.calls,
@@ -155,6 +165,10 @@ fn main() {
         tally.dropped,
         tally.threads,
         tally.followed,
+        tally.archived,
+        tally.archives_cut,
+        tally.unbegun,
+        tally.restored,
         tally.ends,
         tally.withins,
         tally.pendings,

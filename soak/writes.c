@@ -1,9 +1,9 @@
-// Tells of the calls that a program makes on the files `redo.log` and `redo.data`: each read or write with its place, each
-// write with its bytes, each good sync, in their order, whichever thread makes them: those of one device follow each other, and those of both run side
-// by side as the program has them. It is loaded in front of the C library. EVENTS names the file that takes them. FAILS may
-// hold a device (0 or 1), a number and 0 or 1: that write or sync of the device, counted from 0, then fails, and such a write
-// is made all the same where the last number is 1. KILLS may hold a device and two numbers: of that write of the device,
-// counted from 0, so many of the first sectors are made, and then the process is killed.
+// Tells of the calls that a program makes on the files `redo.log`, `redo.data` and `redo.archive`: each read or write with its
+// place, each write with its bytes, each good sync, in their order, whichever thread makes them: those of one device follow each
+// other, and those of all run side by side as the program has them. It is loaded in front of the C library. EVENTS names the
+// file that takes them. FAILS may hold a device (0, 1 or 2), a number and 0 or 1: that write or sync of the device, counted from
+// 0, then fails, and such a write is made all the same where the last number is 1. KILLS may hold a device and two numbers: of
+// that write of the device, counted from 0, so many of the first sectors are made, and then the process is killed.
 #define _GNU_SOURCE
 #include <errno.h>
 #include <fcntl.h>
@@ -17,8 +17,8 @@
 #include <sys/uio.h>
 #include <unistd.h>
 
-enum { UNKNOWN, OTHER, LOG, DATA };
-enum { FILES = 1024, FIRST_FREE = 500, SECTOR = 512 };
+enum { UNKNOWN, OTHER, LOG, DATA, ARCHIVE };
+enum { DEVICES = 3, FILES = 1024, FIRST_FREE = 500, SECTOR = 512 };
 
 struct event {
     uint8_t kind, device, zeros, unused[5];
@@ -27,10 +27,10 @@ struct event {
 
 static uint8_t names[FILES];
 static int events = -1;
-static long fails_device = -1, fails_number, fails_is_made, changes[2];
-static long kills_device = -1, kills_number, kills_sectors, writes[2];
+static long fails_device = -1, fails_number, fails_is_made, changes[DEVICES];
+static long kills_device = -1, kills_number, kills_sectors, writes[DEVICES];
 // a lock for each device: an event is told before the next call of its device, and no later than the call returns
-static pthread_mutex_t turns[2] = {PTHREAD_MUTEX_INITIALIZER, PTHREAD_MUTEX_INITIALIZER};
+static pthread_mutex_t turns[DEVICES] = {PTHREAD_MUTEX_INITIALIZER, PTHREAD_MUTEX_INITIALIZER, PTHREAD_MUTEX_INITIALIZER};
 
 __attribute__((constructor)) static void begin(void) {
     const char *path = getenv("EVENTS"), *fails = getenv("FAILS"), *kills = getenv("KILLS");
@@ -56,10 +56,11 @@ static int name_of(int file) {
     if (length < 0) return OTHER;
     path[length] = 0;
     const char *name = strrchr(path, '/');
-    int found = !name                           ? OTHER
-                : !strcmp(name + 1, "redo.log")  ? LOG
-                : !strcmp(name + 1, "redo.data") ? DATA
-                                                 : OTHER;
+    int found = !name                              ? OTHER
+                : !strcmp(name + 1, "redo.log")     ? LOG
+                : !strcmp(name + 1, "redo.data")    ? DATA
+                : !strcmp(name + 1, "redo.archive") ? ARCHIVE
+                                                    : OTHER;
     set_name(file, found);
     return found;
 }

@@ -1,7 +1,8 @@
 //! The same work as the proved programs, in plain Rust. `plain write` leaves the bytes that both work on in the current
 //! folder, and `plain time` times the work over them. `plain script` prints a script, and `plain threads` times its runs in
-//! threads.
+//! threads. `plain archive` leaves an archive and prints its mark, and `plain sums` reads one.
 
+mod archive;
 mod checksum;
 mod decoder;
 mod device;
@@ -136,7 +137,7 @@ fn number(word: &str) -> u32 {
 
 fn usage() -> ! {
     eprintln!(
-        "usage: plain write|logs|time|script USERS BYTES MODE GROUPS|threads WHAT memory|files|growing SCRIPT ROUNDS|syncs FILE COUNT"
+        "usage: plain write|logs|time|archive FILE small|large BYTES|sums FILE|script USERS BYTES MODE GROUPS|threads WHAT memory|files|growing SCRIPT ROUNDS|syncs FILE COUNT"
     );
     process::exit(2)
 }
@@ -148,6 +149,16 @@ fn main() -> io::Result<()> {
         ["write"] => write(),
         ["logs"] => write_logs(),
         ["time"] => time(),
+        ["archive", file, kind @ ("small" | "large"), length] => {
+            let (bytes, mark) = archive::archive(kind, number(length) as usize);
+            println!("{mark}");
+            fs::write(file, bytes)
+        }
+        ["sums", file] => {
+            let (length, sum) = archive::sums(file)?;
+            println!("{length} {sum:x}");
+            Ok(())
+        }
         ["script", users, bytes, mode, groups] => {
             let text = threads::script_text(number(users), number(bytes), mode, number(groups));
             io::stdout().write_all(text.as_bytes())

@@ -55,6 +55,18 @@ fn log_of(ring_blocks: usize, stream: &[u8]) -> Vec<u8> {
     log
 }
 
+/// The blocks of a log that begins with this stream, the last of them as full as it is.
+pub fn blocks_of(stream: &[u8]) -> Vec<u8> {
+    let firsts = firsts_of(stream);
+    let mut blocks = vec![0; BLOCK_SIZE * firsts.len()];
+    let places = blocks.chunks_exact_mut(BLOCK_SIZE);
+    for (i, (place, data)) in places.zip(stream.chunks(BLOCK_DATA)).enumerate() {
+        let lsn = START_LSN + (BLOCK_SIZE * i) as u64;
+        fill(place, lsn, data, firsts[i], 0);
+    }
+    blocks
+}
+
 /// The offset in each block of the first group that starts there, 0 where none does.
 fn firsts_of(stream: &[u8]) -> Vec<u16> {
     let mut firsts = vec![0; stream.len().div_ceil(BLOCK_DATA)];
@@ -70,7 +82,7 @@ fn firsts_of(stream: &[u8]) -> Vec<u16> {
     firsts
 }
 
-fn seal(block: &mut [u8], fields: &[&[u8]]) {
+pub fn seal(block: &mut [u8], fields: &[&[u8]]) {
     let joined = fields.concat();
     block[..joined.len()].copy_from_slice(&joined);
     let checksum = crc32c(&block[..508]);

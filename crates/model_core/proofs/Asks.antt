@@ -61,6 +61,7 @@ reader_frees t reader_step.StorePlace is = absurd is
 reader_frees t reader_step.GiveDevice is = absurd is
 reader_frees t reader_step.StoreFailed is = absurd is
 reader_frees t reader_step.GiveFailed is = absurd is
+reader_frees t reader_step.StoreLost is = absurd is
 reader_frees t _ is = refl
 
 cleaner_frees : (v : CleanerState) (f : CleanerStep) → IsFreeOp (cleaner_op v f) → cleaner_hand v f ≡ None

@@ -96,7 +96,8 @@ reader_stored s r code g =
     (λ near. absurd (reader_loud (reader_took s r s.step).step (reader_on s r s.step near) g.0))
     (λ t. ⊎_elim
     (λ q. (q, sym (ap (λ (f : ReaderStep). (reader_took s r f).code) q) ∙ g.1))
-    (λ u. ⊎_elim (λ q. absurd (reader_apart (sym (ap W q) ∙ g.0))) (λ q. absurd (reader_apart (sym q ∙ (sym (ap W q) ∙ g.0)))) u)
+    (λ u. ⊎_elim (λ q. absurd (reader_apart (sym (ap W q) ∙ g.0)))
+    (λ v. ⊎_elim (λ q. absurd (reader_apart (sym (ap W q) ∙ g.0))) (λ q. absurd (reader_apart (sym q ∙ (sym (ap W q) ∙ g.0)))) v) u)
     t)
     (reader_near_or s.step)
 

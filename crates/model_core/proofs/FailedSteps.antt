@@ -2,7 +2,7 @@
 use Rattle.std.proofs.Common.{Bool, List, [], ap, cond, false, inl, inr, length, refl, sym, true, ℕ, ⊎_elim, ◌*◌, ◌++◌, ◌+◌, ◌-◌, ◌/◌, ◌==◌, ◌∙◌, ◌∷◌, ◌≡◌, ◌⊎◌}
 use Rattle.std.specs.Prelude.{nat_le, nat_lt}
 use Rattle.model_core.specs.FlusherProgram.{flusher_ending}
-use Rattle.model_core.specs.ReaderProgram.{archived, archives, followed, has_all, is_none, reader_ending}
+use Rattle.model_core.specs.ReaderProgram.{archives, followed, has_all, is_none, reader_ending, to_append}
 use Rattle.model_core.specs.CloserProgram.{closer_ending}
 use Rattle.model_core.specs.CleanerProgram.{cleaner_ending}
 use Rattle.model_core.specs.CheckpointerProgram.{checkpointer_ending}
@@ -133,6 +133,7 @@ flusher_near _ = Unit {0}
 abbrev pub reader_near : ReaderStep → Type 0
 reader_near reader_step.StoreFailed = ⊥
 reader_near reader_step.GiveFailed = ⊥
+reader_near reader_step.StoreLost = ⊥
 reader_near reader_step.Failed = ⊥
 reader_near _ = Unit {0}
 
@@ -233,10 +234,12 @@ reader_on t r reader_step.LoadFlushed near = either_one quiet_reader (has_all t 
 reader_on t r reader_step.TakeDevice near = on_take_one reader_quiet r reader_step.ReadBlock reader_step.GiveBroken reader_step.TakeDevice tt tt tt
 reader_on t r reader_step.GiveBroken near = tt
 reader_on t r reader_step.ReadBlock near = on_call_one reader_quiet r reader_step.GiveDevice reader_step.StoreFailed tt tt
+reader_on t r reader_step.Append near = on_call_one reader_quiet r reader_step.StorePlace reader_step.StoreLost tt tt
 reader_on t r reader_step.StorePlace near = tt
-reader_on t r reader_step.GiveDevice near = either_one quiet_reader (archives t) (archived t) (followed t) tt (either_one reader_quiet (is_none t.texts) reader_step.LoadFlushed reader_step.StorePlace tt tt)
+reader_on t r reader_step.GiveDevice near = either_one quiet_reader (archives t) (to_append t) (followed t) tt (either_one reader_quiet (is_none t.texts) reader_step.LoadFlushed reader_step.StorePlace tt tt)
 reader_on t r reader_step.StoreFailed near = absurd near
 reader_on t r reader_step.GiveFailed near = absurd near
+reader_on t r reader_step.StoreLost near = absurd near
 reader_on t r reader_step.Failed near = absurd near
 
 round_on : (v : CleanerState) → quiet_cleaner (next_in_round v)
@@ -330,10 +333,11 @@ flusher_near_or flusher_step.GiveFailed = inr (inr (inl refl))
 flusher_near_or flusher_step.Failed = inr (inr (inr refl))
 flusher_near_or _ = inl tt
 
-pub reader_near_or : (f : ReaderStep) → reader_near f ⊎ ((f ≡ reader_step.StoreFailed) ⊎ ((f ≡ reader_step.GiveFailed) ⊎ (f ≡ reader_step.Failed)))
+pub reader_near_or : (f : ReaderStep) → reader_near f ⊎ ((f ≡ reader_step.StoreFailed) ⊎ ((f ≡ reader_step.GiveFailed) ⊎ ((f ≡ reader_step.StoreLost) ⊎ (f ≡ reader_step.Failed))))
 reader_near_or reader_step.StoreFailed = inr (inl refl)
 reader_near_or reader_step.GiveFailed = inr (inr (inl refl))
-reader_near_or reader_step.Failed = inr (inr (inr refl))
+reader_near_or reader_step.StoreLost = inr (inr (inr (inl refl)))
+reader_near_or reader_step.Failed = inr (inr (inr (inr refl)))
 reader_near_or _ = inl tt
 
 closer_near_or : (t : CloserState) (r : Answer) (code : ℕ) (f : CloserStep) → closer_ending (closer_took t r f).code (closer_took t r f).step ≡ step.Failed code → f ≡ closer_step.Failed
@@ -352,7 +356,7 @@ checkpointer_near_or checkpointer_step.Failed = inr (inr (inr refl))
 checkpointer_near_or _ = inl tt
 
 -- A step of an actor's own that ends by this code: the actor gives the log part back after its failed call, or stores the code
--- of a batch's, or had ended before.
+-- of a batch's or an append's, or had ended before.
 abbrev pub HadEnded : Actor → ℕ → Type 0
 HadEnded a code = (own_op a ≡ op.Rest) × (ending a ≡ step.Failed code)
 
@@ -401,7 +405,10 @@ own_fails (actor.Reader s) r code e =
     (λ q. absurd (moved_not code (sym (ap W q) ∙ e)))
     (λ u. ⊎_elim
     (λ q. inl (q, same_code s.code code (sym (ap W q) ∙ e)))
+    (λ v. ⊎_elim
+    (λ q. inr (inl (q, same_code s.code code (sym (ap W q) ∙ e))))
     (λ q. inr (inr (ap (reader_op s) q, sym (ap W q) ∙ e)))
+    v)
     u)
     t)
     (reader_near_or s.step)

@@ -5,7 +5,7 @@ use Rattle.model_core.specs.Answers.{on_take}
 use Rattle.model_core.specs.declared.limits.TheConstants.{FLUSH_LISTS, WORD_LANES}
 use Rattle.model_core.specs.Groups.{CellWrite}
 use Rattle.model_core.specs.{Actor, Advance, after_link, answered, can_close, can_link, cells_of, change_at, changes, checkpointer_op, checkpointer_took, CheckpointerState, cleaner_op, cleaner_took, CleanerState, closer_op, closer_took, CloserState, candidate, end_round, flusher_op, flusher_took, FlusherState, group_bytes, group_end, frame_count, has_log_space, has_passed, has_room, has_space, has_taken, has_whole_word, is_whole, lane_of, lanes, left_in_word, next_count, word_end, word_step, heard, is_above, is_checking, lowered, lsn, mode, next, next_in_round, old_of, oldest_in, page_loaded, read_place, stands_outside, to_next_page, took, user_op, user_took, UserState, with_mark, writer_op, writer_took, WriterState}
-use Rattle.model_core.specs.ReaderProgram.{archived, archives, followed, has_all, is_none}
+use Rattle.model_core.specs.ReaderProgram.{archives, followed, has_all, is_none, to_append}
 use Rattle.model_core.specs.{reader_op, reader_took, ReaderState}
 use Rattle.model_core.specs.Actors as actor
 use Rattle.model_core.proofs.TailsFree.{took_free}
@@ -53,6 +53,7 @@ Handles (op.ReadBlock b) before behind = (before ≡ Some 0) × ((n : ℕ) → b
 Handles op.Sync before behind = (before ≡ Some 0) × ((n : ℕ) → behind (answer.Called n) ≡ Some 0) × ((c : ℕ) → behind (answer.Failed c) ≡ Some 0)
 Handles (op.Checkpoint x) before behind = (before ≡ Some 0) × ((n : ℕ) → behind (answer.Called n) ≡ Some 0) × ((c : ℕ) → behind (answer.Failed c) ≡ Some 0)
 Handles op.WriteBatch before behind = (before ≡ None) × ((r : Answer) → behind r ≡ None)
+Handles (op.Append x) before behind = (before ≡ None) × ((n : ℕ) → behind (answer.Called n) ≡ None) × ((c : ℕ) → behind (answer.Failed c) ≡ None)
 Handles op.Rest before behind = Unit {0}
 Handles _ before behind = (n : ℕ) → behind (answer.Old n) ≡ before
 
@@ -176,10 +177,12 @@ reader_own t reader_step.LoadFlushed = λ n. pick (λ (z : ReaderState). reader_
 reader_own t reader_step.TakeDevice = (refl, λ n. refl, refl, refl)
 reader_own t reader_step.GiveBroken = (refl, refl)
 reader_own t reader_step.ReadBlock = (refl, λ n. refl, λ c. refl)
+reader_own t reader_step.Append = (refl, λ n. refl, λ c. refl)
 reader_own t reader_step.StorePlace = λ n. refl
-reader_own t reader_step.GiveDevice = (refl, pick (λ (z : ReaderState). reader_hand z.step) None (archives t) (archived t) (followed t) refl (pick reader_hand None (is_none t.texts) reader_step.LoadFlushed reader_step.StorePlace refl refl))
+reader_own t reader_step.GiveDevice = (refl, pick (λ (z : ReaderState). reader_hand z.step) None (archives t) (to_append t) (followed t) refl (pick reader_hand None (is_none t.texts) reader_step.LoadFlushed reader_step.StorePlace refl refl))
 reader_own t reader_step.StoreFailed = λ n. refl
 reader_own t reader_step.GiveFailed = (refl, refl)
+reader_own t reader_step.StoreLost = λ n. refl
 reader_own t reader_step.Failed = tt
 
 closer_own : (t : CloserState) (f : CloserStep) → Handles (closer_op t f) None (λ r. None)
@@ -323,7 +326,7 @@ reader_free : (t : ReaderState) → t.checks ≡ false → (r : Answer) (f : Rea
 reader_free t quiet r reader_step.LoadFlushed = choose (λ (z : ReaderState). z.checks) (λ (z : ReaderState). reader_hand z.step) (has_all t (old_of r)) (record t { mark = old_of r; checks = true; step = reader_step.LoadFlushed }) (record t { mark = old_of r; step = reader_step.TakeDevice }) (inr refl) (inr refl)
 reader_free t quiet r reader_step.TakeDevice = on_take_free r (λ z. reader_hand (on_take z reader_step.ReadBlock reader_step.GiveBroken reader_step.TakeDevice)) refl (λ n. refl) (λ n. refl) (λ n. refl) refl
 reader_free t quiet r reader_step.GiveBroken = inr refl
-reader_free t quiet r reader_step.GiveDevice = choose (λ (z : ReaderState). z.checks) (λ (z : ReaderState). reader_hand z.step) (archives t) (archived t) (followed t) (inl quiet) (inl quiet)
+reader_free t quiet r reader_step.GiveDevice = choose (λ (z : ReaderState). z.checks) (λ (z : ReaderState). reader_hand z.step) (archives t) (to_append t) (followed t) (inl quiet) (inl quiet)
 reader_free t quiet r _ = inl quiet
 
 cleaner_free : (v : CleanerState) → v.checks ≡ false → (r : Answer) (f : CleanerStep) → IsFree (cleaner_took v r f).checks (of_cleaner (cleaner_took v r f))

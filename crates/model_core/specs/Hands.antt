@@ -114,7 +114,8 @@ GivesFailed (actor.Checkpointer t) code = (t.step ≡ checkpointer_step.GiveFail
 GivesFailed (actor.Reader r) code = (r.step ≡ reader_step.GiveFailed) × (r.code ≡ code)
 GivesFailed _ code = ⊥
 
--- its call of the data device has failed with this code, and it stores that in FAILED
+-- its call of the data device, or of its own, has failed with this code, and it stores that in FAILED
 abbrev pub StoresFailed : Actor → ℕ → Type 0
 StoresFailed (actor.Cleaner v) code = (v.step ≡ cleaner_step.StoreFailed) × (v.code ≡ code)
+StoresFailed (actor.Reader r) code = (r.step ≡ reader_step.StoreLost) × (r.code ≡ code)
 StoresFailed _ code = ⊥

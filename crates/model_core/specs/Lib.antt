@@ -3,6 +3,7 @@ pub mod Actors
 pub mod Advancing
 pub mod AnswerFits
 pub mod Answers
+pub mod Archiving
 pub mod Changes
 pub mod CheckpointerProgram
 pub mod CleanerProgram
@@ -40,12 +41,13 @@ pub use Rattle.model_core.specs.Actors.{Actor, Batch, Blocks, Lent, Nothing, Roo
 pub use Rattle.model_core.specs.Advancing.{advance_holds, advance_next, advance_op, advance_took, ends, frees, loaded_tail, slot_at, stays_put, tail_at}
 pub use Rattle.model_core.specs.AnswerFits.{PageFitting, cleaner_fits, closer_fits, user_page_fits}
 pub use Rattle.model_core.specs.Answers.{code_of, has_taken, heard, old_of, oldest_in}
+pub use Rattle.model_core.specs.Archiving.{HasLost, IsLosing, LostAt}
 pub use Rattle.model_core.specs.Changes.{after_from, cell_where_same, change_on, changed_cells, changes_of, line_of, value_at, writes}
 unfoldable pub use Rattle.model_core.specs.Changes.{collected}
 pub use Rattle.model_core.specs.CheckpointerProgram.{candidate, checkpointer_ending, checkpointer_op, checkpointer_program, checkpointer_took, checkpointer_waits, is_above, lowered}
 pub use Rattle.model_core.specs.CleanerProgram.{cleaner_ending, cleaner_op, cleaner_program, cleaner_took, cleaner_waits, end_round, finds_none, first_of_batch, next_in_round, no_page, page_loaded}
 pub use Rattle.model_core.specs.CloserProgram.{closer_ending, closer_op, closer_program, closer_took, closer_waits}
-pub use Rattle.model_core.specs.FailureCodes.{IsDataCode, IsLogCode, data_device_code, log_device_code, no_memory_code}
+pub use Rattle.model_core.specs.FailureCodes.{IsArchiveCode, IsDataCode, IsLogCode, archive_device_code, data_device_code, log_device_code, no_memory_code}
 pub use Rattle.model_core.specs.Fitting.{advance_fits, answer_limit, user_fits, writer_fits}
 pub use Rattle.model_core.specs.FlushLists.{Each, Listed, Relaxed, appended, oldest_end, oldest_of, without}
 pub use Rattle.model_core.specs.FlusherProgram.{flusher_ending, flusher_op, flusher_program, flusher_took, flusher_waits}
@@ -60,11 +62,11 @@ pub use Rattle.model_core.specs.Lsn.{ceiling, floor}
 unfoldable pub use Rattle.model_core.specs.Lsn.{lsn}
 pub use Rattle.model_core.specs.NewActors.{new_checkpointer, new_cleaner, new_closer, new_flusher, new_reader, new_user, new_writer}
 pub use Rattle.model_core.specs.Program.{checked, entries, entries_from, entry, filled, Fills, is_checking, lent, log_left, next, own_op, own_took, phase_log, took}
-pub use Rattle.model_core.specs.ReaderProgram.{AreInFront, archived, archives, block_end, Filling, followed, has_all, is_none, IsText, joined_texts, next_block, next_piece, pending, placed_at, read_to, reader_ending, reader_op, reader_program, reader_took, reader_waits}
+pub use Rattle.model_core.specs.ReaderProgram.{AreInFront, archived, archives, block_end, Filling, followed, has_all, is_none, IsText, joined_texts, next_block, next_mark, next_piece, pending, placed_at, read_to, reader_ending, reader_op, reader_program, reader_took, reader_waits, to_append}
 pub use Rattle.model_core.specs.Setup.{IsScripted}
 pub use Rattle.model_core.specs.States.{Advance, BatchPage, CheckpointerState, CleanerState, CloserState, FlusherState, Given, Line, LoadedMarks, ReaderState, UserState, WriterState, no_advance, none_loaded}
 pub use Rattle.model_core.specs.Tails.{is_held, tail_of, tail_word}
-pub use Rattle.model_core.specs.Turn.{Core, DataServed, LogServed, list_word}
+pub use Rattle.model_core.specs.Turn.{Core, DataServed, LogServed, OwnServed, list_word}
 pub use Rattle.model_core.specs.UserProgram.{after_link, answered, can_close, can_link, cells_of, change_at, changes, copy_place, current_page, frame_count, frame_word, group_bytes, group_end, has_passed, has_room, has_space, is_whole, line, line_at, mode, next_bytes, next_count, next_puts, put_lanes, put_of, same_word, stored_word, to_next_page, user_advanced, user_ending, user_op, user_program, user_took, user_waits, with_close_room, with_link_room, with_mark, without_close_room, without_link_room, word_step}
 pub use Rattle.model_core.specs.Waiting.{step_of}
 pub use Rattle.model_core.specs.WordTurn.{answer_of, list_answer, lists_left, word_found, words_after, words_left}

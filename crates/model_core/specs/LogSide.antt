@@ -24,5 +24,7 @@ pub record LogSide : Type 1 where
   pub Checkpointed : ℕ → ℕ → Part → Part → Type 0
   -- a read of the block at an lsn, that gave these bytes
   pub Read : ℕ → List ℕ → ℕ → Part → Part → Type 0
+  -- the bytes are the block at an lsn of the run that starts at an sn and has these groups, full, as an archive has it
+  pub IsRunBlock : ℕ → List Entry → ℕ → List ℕ → Type 0
   -- the part's device tells what it means, and held what it should as the run began
   pub Tells : Part → Type 0

@@ -65,6 +65,7 @@ shared_answer ls broken code mark m (op.GiveList i) = answer.Taken None
 shared_answer ls broken code mark m (op.Checkpoint x) = cond (code == 0) (answer.Called 0) (answer.Failed code)
 shared_answer ls broken code mark m (op.ReadBlock b) = cond (code == 0) (answer.Called 0) (answer.Failed code)
 shared_answer ls broken code mark m op.WriteBatch = cond (code == 0) (answer.Called 0) (answer.Failed code)
+shared_answer ls broken code mark m (op.Append x) = cond (code == 0) (answer.Called 0) (answer.Failed code)
 shared_answer ls broken code mark m (op.WriteTo t) = cond (code == 0) (answer.Called 0) (answer.Failed code)
 shared_answer ls broken code mark m op.Sync = cond (code == 0) (answer.Called mark) (answer.Failed code)
 shared_answer ls broken code mark m op.Rest = answer.Rested

@@ -98,6 +98,7 @@ new_reader number start = record {
   at = start / BLOCK_SIZE * BLOCK_DATA;
   kept = [];
   texts = [];
+  lost = 0;
   code = 0;
   checks = false;
   step = reader_step.LoadFlushed;

@@ -5,7 +5,7 @@ use Rattle.std.specs.List.{AllByRecursion}
 use Rattle.model_base.specs.declared.limits.TheConstants.{BLOCK_SIZE, MAX_GROUP}
 use Rattle.model_log.specs.{IsGroupText, sn_of}
 use Rattle.model_log.specs.Block.{block_view, data_of, is_block_at}
-use Rattle.model_log.specs.declared.layout.TheConstants.{BLOCK_DATA}
+use Rattle.model_log.specs.declared.layout.TheConstants.{BLOCK_DATA, BLOCK_HEADER}
 use Rattle.model_log.specs.declared.rec.Rec.{Rec}
 use Rattle.model_core.specs.ActorProgram.{ActorProgram}
 use Rattle.model_core.specs.Answers.{on_call, code_of, old_of, on_take}
@@ -85,9 +85,21 @@ followed r = record r {
   step = cond (is_none r.texts) reader_step.LoadFlushed reader_step.StorePlace;
 }
 
--- it has the block
-abbrev pub archived : ReaderState → ReaderState
-archived r = record r { place = r.place + BLOCK_SIZE; step = reader_step.StorePlace }
+-- the place of the first data byte after the archiver's block
+abbrev pub next_mark : ReaderState → ℕ
+next_mark r = r.place + BLOCK_SIZE + BLOCK_HEADER
+
+-- the archiver has read its block, and is to append it; and then it has it in its archive, or its append has failed
+abbrev pub to_append : ReaderState → ReaderState
+to_append r = record r { step = reader_step.Append }
+
+abbrev pub archived : ReaderState → Answer → ReaderState
+archived r a = record r {
+  place = on_call a (r.place + BLOCK_SIZE) r.place;
+  lost = code_of a;
+  code = code_of a;
+  step = on_call a reader_step.StorePlace reader_step.StoreLost;
+}
 
 abbrev pub reader_op : ReaderState → ReaderStep → Op
 reader_op r reader_step.LoadFlushed = op.Load word.Flushed
@@ -95,9 +107,11 @@ reader_op r reader_step.TakeDevice = op.TakeDevice
 reader_op r reader_step.GiveBroken = op.GiveDevice
 reader_op r reader_step.ReadBlock = op.ReadBlock (next_block r)
 reader_op r reader_step.GiveDevice = op.GiveDevice
+reader_op r reader_step.Append = op.Append (next_mark r)
 reader_op r reader_step.StorePlace = op.Store (word.Place r.number) r.place
 reader_op r reader_step.StoreFailed = op.Store word.Failed r.code
 reader_op r reader_step.GiveFailed = op.GiveDevice
+reader_op r reader_step.StoreLost = op.Store word.Failed r.lost
 reader_op r reader_step.Failed = op.Rest
 
 abbrev pub reader_took : ReaderState → Answer → ReaderStep → ReaderState
@@ -105,10 +119,12 @@ reader_took r a reader_step.LoadFlushed = cond (has_all r (old_of a)) (record r 
 reader_took r a reader_step.TakeDevice = record r { checks = on_take a false false true; step = on_take a reader_step.ReadBlock reader_step.GiveBroken reader_step.TakeDevice }
 reader_took r a reader_step.GiveBroken = record r { checks = true; step = reader_step.TakeDevice }
 reader_took r a reader_step.ReadBlock = record r { code = code_of a; step = on_call a reader_step.GiveDevice reader_step.StoreFailed }
-reader_took r a reader_step.GiveDevice = cond (archives r) (archived r) (followed r)
+reader_took r a reader_step.GiveDevice = cond (archives r) (to_append r) (followed r)
+reader_took r a reader_step.Append = archived r a
 reader_took r a reader_step.StorePlace = record r { own = r.place; step = reader_step.LoadFlushed }
 reader_took r a reader_step.StoreFailed = record r { step = reader_step.GiveFailed }
 reader_took r a reader_step.GiveFailed = record r { step = reader_step.Failed }
+reader_took r a reader_step.StoreLost = record r { step = reader_step.Failed }
 reader_took r a reader_step.Failed = r
 
 -- it waits for something flushed, for the log part

@@ -140,7 +140,8 @@ pub record Given : Type 0 where
 -- to where it has the log, as an lsn, and `own` the place that it has stored last; `mark` is the FLUSHED that it has
 -- loaded last, and `block` the 512 bytes that it has read last. Of a follower, `at` is its place as an sn, `kept` are
 -- the stream's bytes from there up to its read place, and `texts` the whole groups in front of what it has, while a
--- turn hands them on.
+-- turn hands them on. Of the archiver, `lost` is the code with which its append failed, or 0: from then on it archives
+-- nothing, whatever ends the run.
 pub record ReaderState : Type 0 where
   pub number : ℕ
   pub own : ℕ
@@ -150,6 +151,7 @@ pub record ReaderState : Type 0 where
   pub at : ℕ
   pub kept : List ℕ
   pub texts : List (List ℕ)
+  pub lost : ℕ
   pub code : ℕ
   pub checks : Bool
   pub step : ReaderStep

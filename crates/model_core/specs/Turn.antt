@@ -1,9 +1,10 @@
 -- One turn: what an Op leaves of the words and of both parts, and its answer.
-use Rattle.std.specs.Prelude.{List, slice_index, slice_set, ℕ, ◌+◌, ◌≡◌}
+use Rattle.std.specs.Prelude.{List, slice_index, slice_set, ℕ, ◌+◌, ◌≡◌, ◌⊎◌}
 use lib.ListN.{get_elem?}
 use mathlib.Core.Option.{some}
 use Rattle.model_core.specs.Actors.{Actor, Batch, Blocks, Lent, Room}
 use Rattle.model_core.specs.DataSide.{DataSide}
+use Rattle.model_core.specs.FailureCodes.{IsArchiveCode}
 use Rattle.model_core.specs.FlushLists.{Listed}
 use Rattle.model_core.specs.LogSide.{LogSide}
 use Rattle.model_core.specs.Program.{filled, Fills, lent, next, took}
@@ -38,6 +39,12 @@ abbrev pub DataServed : (E : DataSide) → E.Part → Lent → Op → ℕ → E.
 DataServed E d (Batch b) op.WriteBatch code e = E.Batched b code d e
 DataServed E d l o code e = ◌≡◌ {A = E.Part} e d
 
+-- The codes that a call of an actor's own device may have, 0 for Ok: the archive part lies in the archiver, and no other
+-- actor comes to it. Any other Op calls none.
+abbrev pub OwnServed : Op → ℕ → Type 0
+OwnServed (op.Append x) code = (code ≡ 0) ⊎ IsArchiveCode code
+OwnServed o code = Unit {0}
+
 -- the state of a running store: the words, both parts, the flush lists, the actors
 pub record Core (D : LogSide) (E : DataSide) : Type 0 where
   pub words : List ℕ
@@ -51,9 +58,9 @@ abbrev pub list_word : List ℕ → ℕ → ℕ
 list_word words i = slice_index words (lists_at + i)
 
 -- One turn of the actor at a seat, with the answer that its Op is given and with how its step ends. The Op changes one
--- word, or one turn word and what it guards, or calls one part, with a code that is 0 for Ok; and this actor's state
--- changes by the answer, once it has what the turn puts into it. Nothing else changes. An actor that has ended asks for
--- nothing, and its turn changes nothing.
+-- word, or one turn word and what it guards, or calls one part or the actor's own device, with a code that is 0 for Ok;
+-- and this actor's state changes by the answer, once it has what the turn puts into it. Nothing else changes. An actor
+-- that has ended asks for nothing, and its turn changes nothing.
 pub record Turn (D : LogSide) (E : DataSide) (old : Core D E) (seat : ℕ) (answer : Answer) (step : Step) (new : Core D E) : Type 0 where
   pub who : Actor
   pub who_is : get_elem? old.actors seat ≡ some who
@@ -62,6 +69,7 @@ pub record Turn (D : LogSide) (E : DataSide) (old : Core D E) (seat : ℕ) (answ
   pub code : ℕ
   pub log_served : LogServed D old.log_part (lent (filled who filling)) (next who) code new.log_part
   pub data_served : DataServed E old.data_part (lent (filled who filling)) (next who) code new.data_part
+  pub own_served : OwnServed (next who) code
   pub words : new.words ≡ words_left old.words (next who)
   pub lists : new.lists ≡ lists_left old.lists (list_word old.words) (next who)
   pub answered : answer ≡ answer_of old.lists (D.failed old.log_part) code (D.stable new.log_part) old.words (next who)

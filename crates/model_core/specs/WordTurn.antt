@@ -53,6 +53,7 @@ answer_of ls broken code mark ws (op.GiveList i) = answer.Taken None
 answer_of ls broken code mark ws (op.Checkpoint x) = cond (code == 0) (answer.Called 0) (answer.Failed code)
 answer_of ls broken code mark ws (op.ReadBlock b) = cond (code == 0) (answer.Called 0) (answer.Failed code)
 answer_of ls broken code mark ws op.WriteBatch = cond (code == 0) (answer.Called 0) (answer.Failed code)
+answer_of ls broken code mark ws (op.Append x) = cond (code == 0) (answer.Called 0) (answer.Failed code)
 answer_of ls broken code mark ws (op.WriteTo t) = cond (code == 0) (answer.Called 0) (answer.Failed code)
 answer_of ls broken code mark ws op.Sync = cond (code == 0) (answer.Called mark) (answer.Failed code)
 answer_of ls broken code mark ws op.Rest = answer.Rested

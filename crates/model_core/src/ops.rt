@@ -34,6 +34,8 @@ pub enum Op {
     ReadBlock(u64),
     /// Writes the cleaner's batch of pages.
     WriteBatch,
+    /// Appends the block that the archiver has read to its archive, up to a mark.
+    Append(u64),
     /// Does nothing: the Op of an actor that has ended.
     Rest,
 }

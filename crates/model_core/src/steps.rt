@@ -211,14 +211,18 @@ pub enum ReaderStep {
     GiveBroken,
     /// The next block that it needs.
     ReadBlock,
-    /// After a read; then it has what the block holds for it.
+    /// After a read; then a follower has what the block holds for it.
     GiveDevice,
+    /// Of the archiver: that block, up to the next block's first data byte.
+    Append,
     /// Where its place has moved.
     StorePlace,
     /// After a read that failed.
     StoreFailed,
     /// The log part, after that.
     GiveFailed,
+    /// After an append that failed.
+    StoreLost,
     /// It has ended by a failure.
     Failed,
 }

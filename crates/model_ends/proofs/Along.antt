@@ -5,7 +5,7 @@ use Rattle.std.specs.Prelude.{slice_index}
 use lib.ListN.{get_elem?}
 use mathlib.Core.Option.{some}
 use Rattle.model_core.proofs.Lists.{set_at}
-use Rattle.model_core.specs.{Actor, answer_of, Core, DataServed, filled, Filling, flat, lent, list_word, Listed, lists_left, log_left, LogServed, next, shared_answer, shared_left, SharedWords, took, words_left}
+use Rattle.model_core.specs.{Actor, answer_of, Core, DataServed, filled, Filling, flat, lent, list_word, Listed, lists_left, log_left, LogServed, next, OwnServed, shared_answer, shared_left, SharedWords, took, words_left}
 use Rattle.model_core.specs.DataSide.{DataSide}
 use Rattle.model_core.specs.LogSide.{LogSide}
 use Rattle.model_core.specs.Setup.{Setup}
@@ -98,6 +98,7 @@ module _ (D : LogSide) (E : DataSide) (c : Setup) (spare : ℕ) (P : SharedWords
 
       pub both_left : BothLeft D E c spare after (lists_left old.lists (λ i. slice_index m.lists i) (next who)) new.log_part new.data_part (set they seat (took who said)) (log_left S.log_ghost.log m.sn who)
       both_left = keeps_both D L E EL c spare m S.log_ghost S.page_ghost old.lists old.log_part old.data_part they seat both_filled t.code new.log_part new.data_part who at (is_filled t.who t.filling t.fills) served stored
+          (subst (λ (o : Op). OwnServed o t.code) (sym same_op) t.own_served)
 
       pub holds_then : P after (lists_left old.lists (λ i. slice_index m.lists i) (next who)) new.log_part new.data_part (set they seat (took who said))
       holds_then = keeps.turned m S.log_ghost S.page_ghost old.lists old.log_part old.data_part they both_filled (keeps.filled m old.lists old.log_part old.data_part old.actors seat t.who t.who_is t.filling S.holds) seat who at t.code new.log_part new.data_part served stored

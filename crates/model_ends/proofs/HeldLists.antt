@@ -176,6 +176,7 @@ module _ (m : SharedWords) (ls : ℕ → List Listed) (broken : Bool) (code mark
   held_after (op.Checkpoint x) off rest h = device m (shared_answer ls broken code mark m (op.Checkpoint x)) refl h.0
   held_after (op.ReadBlock b) off rest h = device m (shared_answer ls broken code mark m (op.ReadBlock b)) refl h.0
   held_after op.WriteBatch off rest h = no_hand m (shared_answer ls broken code mark m op.WriteBatch) refl h.0
+  held_after (op.Append x) off rest h = no_hand m (shared_answer ls broken code mark m (op.Append x)) refl h.0
   held_after op.Rest off rest h = no_hand m answer.Rested refl (rest refl)
 
 -- EACH TURN KEEPS IT

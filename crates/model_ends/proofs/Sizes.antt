@@ -22,7 +22,7 @@ use Rattle.model_ends.specs.Bound.{bytes_of, last_lsn}
 use Rattle.model_core.specs.Actors as actor
 
 -- an actor keeps its lines
-bytes_same : (a b : Actor) → IsSameActor a b → bytes_of b ≡ bytes_of a
+pub bytes_same : (a b : Actor) → IsSameActor a b → bytes_of b ≡ bytes_of a
 bytes_same (actor.User u) b is = ap bytes_of is.1 ∙ ap lengths is.3
 bytes_same _ b is = ap bytes_of is.1
 
@@ -55,9 +55,10 @@ entries_few : (user : ℕ) (lines : List Line) (k : ℕ) (starts : List ℕ) →
 entries_few user lines k [] = omega arith
 entries_few user lines k (s ∷ ss) = let z = entries_few user lines (k + 1) ss in let y = line_front lines k in let x = ap (λ (n : ℕ). lengths (drop n lines)) (add-one k) in omega arith
 
-module _ (D : LogSide) (c : Setup) (spare : ℕ) (m : SharedWords) (g : LogGhost) (p : D.Part) (actors : List Actor) (half : LogHalf D c spare m g p actors) (F : Further D c m p actors) where
-  pub sn_last : lsn m.sn ≤ last_lsn c actors
-  sn_last =
+module _ (D : LogSide) (c : Setup) (spare : ℕ) (m : SharedWords) (g : LogGhost) (p : D.Part) (actors : List Actor) (half : LogHalf D c spare m g p actors)
+    (none_joined : (i : ℕ) (es : List Entry) → get_elem? actors i ≡ some (actor.Joined es) → ⊥) where
+  pub sn_within : lsn m.sn ≤ last_lsn c actors
+  sn_within =
       let all = half.counted (λ e. length e.bytes) in
       let tiled = tiles_sum g.log c.base m.sn half.global.tiled.tiles in
       let few = sum_less (λ a. sum_of (λ e. length e.bytes) (entries a)) bytes_of actors (λ i a at. of_actor i a at) in
@@ -71,7 +72,11 @@ module _ (D : LogSide) (c : Setup) (spare : ℕ) (m : SharedWords) (g : LogGhost
       of_actor i (actor.Cleaner s) at = omega arith
       of_actor i (actor.Checkpointer s) at = omega arith
       of_actor i (actor.Reader s) at = omega arith
-      of_actor i (actor.Joined s) at = absurd (F.each i (actor.Joined s) at)
+      of_actor i (actor.Joined s) at = absurd (none_joined i s at)
+
+module _ (D : LogSide) (c : Setup) (spare : ℕ) (m : SharedWords) (g : LogGhost) (p : D.Part) (actors : List Actor) (half : LogHalf D c spare m g p actors) (F : Further D c m p actors) where
+  pub sn_last : lsn m.sn ≤ last_lsn c actors
+  sn_last = sn_within D c spare m g p actors half (λ i es at. F.each i (actor.Joined es) at)
 
 -- the space that opening asks for: the log has room for the whole script, and the margin beyond that
 abbrev pub HasRoomFor : Setup → ℕ → Type 0

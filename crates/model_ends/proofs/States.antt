@@ -107,7 +107,7 @@ module _ (D : LogSide) (E : DataSide) (c : Setup) (spare : ℕ) where
 
     pub state_then : State after new
     state_then =
-        let r = keeps_both D L E EL c spare m S.log_ghost S.page_ghost old.lists old.log_part old.data_part old.actors seat S.both t.code new.log_part new.data_part t.who t.who_is (all_filled c m.failed t.who told) served stored in
+        let r = keeps_both D L E EL c spare m S.log_ghost S.page_ghost old.lists old.log_part old.data_part old.actors seat S.both t.code new.log_part new.data_part t.who t.who_is (all_filled c m.failed t.who told) served stored t.own_served in
         record {
           log_ghost = r.log_ghost;
           page_ghost = r.page_ghost;

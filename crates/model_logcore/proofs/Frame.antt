@@ -330,6 +330,8 @@ module _ (D : LogSide) (c : Setup) where
     reader_at_later r same reader_step.StorePlace part h = tt
     reader_at_later r same reader_step.StoreFailed part h = (h.0, subst (λ (q : D.Part). D.Cause q r.code) (sym (part refl)) h.1)
     reader_at_later r same reader_step.GiveFailed part h = same h
+    reader_at_later r same reader_step.Append part h = tt
+    reader_at_later r same reader_step.StoreLost part h = h
     reader_at_later r same reader_step.Failed part h = same h
 
     pub reader_later : (j : ℕ) (r : ReaderState) → (0 < m.failed → 0 < m'.failed) → (reader_holds r.step ≡ true → ◌≡◌ {A = D.Part} p' p) → ReaderFits D c m g p j r → ReaderFits D c m' g' p' j r

@@ -23,8 +23,8 @@ use Rattle.model_core.specs.declared.limits.TheConstants.{ADVANCE_PLACES, CLOSED
 use Rattle.model_logcore.proofs.LogAside.{page_aside, points_by}
 use Rattle.model_logcore.proofs.DeviceSteps.{can_write, gives, stays, takes, writes_by}
 use Rattle.model_logcore.proofs.FlusherSteps.{flusher_checked, keeps_fault, keeps_flushed, keeps_watch, syncs_by}
-use Rattle.model_logcore.proofs.ReaderSteps.{keeps_code, keeps_place, reader_checked, reads_by, reads_on}
-use Rattle.model_core.specs.ReaderProgram.{archived, archives, has_all, is_none, joined_texts, next_block, pending, reader_op, reader_took}
+use Rattle.model_logcore.proofs.ReaderSteps.{appends_by, keeps_code, keeps_lost, keeps_place, reader_checked, reads_by, reads_on}
+use Rattle.model_core.specs.ReaderProgram.{archives, has_all, is_none, joined_texts, next_block, pending, reader_op, reader_took, to_append}
 use Rattle.model_core.specs.States.{ReaderState}
 use Rattle.model_core.specs.Lsn.{lsn}
 use Rattle.model_core.specs.Holding.{reader_holds}
@@ -419,19 +419,21 @@ module _ (D : LogSide) (L : LogLaws D) (c : Setup) (spare : ℕ) (m : SharedWord
     reader_own reader_step.ReadBlock is h v = (g, reads_by D c spare m g p actors seat r before at q code (eqb code 0) refl is (L.reads c.blocks c.base g.log (next_block r) code r.block p q before.global.part.holds h v), refl)
     reader_own reader_step.GiveDevice is h v = by (archives r) (is_none r.texts)
       where
-        by : (b d : Bool) → ReaderDone (record m { device = 0 }) (cond b (archived r) (record r {
+        by : (b d : Bool) → ReaderDone (record m { device = 0 }) (cond b (to_append r) (record r {
           at = r.at + length (joined_texts r.texts);
           place = lsn (r.at + length (joined_texts r.texts));
           kept = drop (length (joined_texts r.texts)) (pending r);
           texts = [];
           step = cond d reader_step.LoadFlushed reader_step.StorePlace;
         }))
-        by true d = hands_back (archived r) (ap reader_holds is) refl (record { no_device_while_checking = λ _. refl; step = tt }) v
+        by true d = hands_back (to_append r) (ap reader_holds is) refl (record { no_device_while_checking = λ _. refl; step = tt }) v
         by false true = hands_back _ (ap reader_holds is) refl (record { no_device_while_checking = λ _. refl; step = tt }) v
         by false false = hands_back _ (ap reader_holds is) refl (record { no_device_while_checking = λ _. refl; step = tt }) v
+    reader_own reader_step.Append is h v = same _ _ v (g, appends_by D c spare m g p actors seat r before at code (eqb code 0) refl is, refl)
     reader_own reader_step.StorePlace is h v = same _ _ v (g, keeps_place D c spare m g p actors seat r before at is, refl)
     reader_own reader_step.StoreFailed is h v = same _ _ v (g, keeps_code D c spare m g p actors seat r before at is h, refl)
     reader_own reader_step.GiveFailed is h v = hands_back (record r { step = reader_step.Failed }) (ap reader_holds is) refl (record { no_device_while_checking = λ _. refl; step = h }) v
+    reader_own reader_step.StoreLost is h v = same _ _ v (g, keeps_lost D c spare m g p actors seat r before at is h, refl)
     reader_own reader_step.Failed is h v = rested (actor.Reader r) at v
 
     reader_any : (b : Bool) → r.checks ≡ b → LogServed D p (Room r.block) (cond b (op.Load word.Failed) (reader_op r r.step)) code q → LeftSo (cond b (op.Load word.Failed) (reader_op r r.step)) (λ z. cond b (checked (actor.Reader r) (old_of z)) (own_took (actor.Reader r) z))

@@ -60,6 +60,30 @@ module _ (D : LogSide) (c : Setup) (spare : ℕ) (m : SharedWords) (g : LogGhost
       j x n (λ _. refl) (before.each j x e))
       refl refl refl refl (sym held) refl (omega arith)
 
+  -- it stores FAILED after an append that failed
+  pub keeps_lost : r.step ≡ reader_step.StoreLost → 0 < r.lost → Kept D c spare (record m { failed = r.lost }) g p (set actors seat (actor.Reader (record r { step = reader_step.Failed })))
+  keeps_lost is some =
+      let m' : SharedWords = record m { failed = r.lost } in
+      let G = before.global in
+      let free : reader_holds r.step ≡ false = ap reader_holds is in
+      moved_on D c spare m m' g g p p actors seat (actor.Reader r) (actor.Reader (record r { step = reader_step.Failed })) before at (numbers_sized before.sized)
+      (facts_same D c m g p G.part G)
+      (record { no_device_while_checking = λ z. refl; step = some })
+      (λ j x n e. others_later D c m m' g g p p seat G
+      (later_marks D c m g p (omega arith) (omega arith) (omega arith) (omega arith) (λ z. some) (λ _ _. unchanged))
+      (still_same D c m g p (omega arith) (λ z. some) refl)
+      (record { writer = refl; flushed = refl; ckpt_word = refl; failed = λ z. some; point = refl })
+      j x n (λ _. refl) (before.each j x e))
+      refl refl refl refl (sym free) refl (omega arith)
+
+  -- it has appended its block, or has failed to
+  pub appends_by : (code : ℕ) (b : Bool) → eqb code 0 ≡ b → r.step ≡ reader_step.Append
+      → Kept D c spare m g p (set actors seat (actor.Reader (reader_took r (cond b (answer.Called 0) (answer.Failed code)) reader_step.Append)))
+  appends_by code true e is = reads_on (reader_took r (answer.Called 0) reader_step.Append) (sym (ap reader_holds is))
+      (record { no_device_while_checking = λ _. refl; step = tt })
+  appends_by code false e is = reads_on (reader_took r (answer.Failed code) reader_step.Append) (sym (ap reader_holds is))
+      (record { no_device_while_checking = λ _. refl; step = (let n = eqb-false code 0 e in omega arith) })
+
   -- it has read a block, or has failed to
   pub reads_by : (q : D.Part) (code : ℕ) (b : Bool) → eqb code 0 ≡ b → r.step ≡ reader_step.ReadBlock → AfterRead D c.blocks c.base g.log code p q
       → Kept D c spare m g q (set actors seat (actor.Reader (reader_took r (cond b (answer.Called 0) (answer.Failed code)) reader_step.ReadBlock)))

@@ -186,11 +186,12 @@ module _ (D : LogSide) (c : Setup) (m : SharedWords) (g : LogGhost) (p : D.Part)
     pub no_device_while_checking : f.checks ≡ true → flusher_holds f.step ≡ false
     pub step : FlusherAt f f.step
 
-  -- what the log half knows of a reader: of the log part, where it holds that
+  -- what the log half knows of a reader: of the log part, where it holds that, and what it stores in FAILED
   abbrev pub ReaderAt : ReaderState → ReaderStep → Type 0
   ReaderAt r reader_step.ReadBlock = D.failed p ≡ false
   ReaderAt r reader_step.StoreFailed = (0 < r.code) × D.Cause p r.code
   ReaderAt r reader_step.GiveFailed = 0 < m.failed
+  ReaderAt r reader_step.StoreLost = 0 < r.lost
   ReaderAt r reader_step.Failed = 0 < m.failed
   ReaderAt r _ = Unit {0}
 

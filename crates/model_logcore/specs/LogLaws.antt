@@ -124,3 +124,7 @@ pub record LogLaws (D : LogSide) : Type 0 where
   pub gets : (blocks base : ℕ) (log : List Entry) (x : ℕ) (bytes : List ℕ) (p q : D.Part)
       → D.Holds blocks base log p → CanRead D blocks base log x p → D.Read x bytes 0 p q → D.Tells q
       → (top : ℕ) → D.stable p ≡ lsn top → HasBlock D blocks base log top x bytes
+  -- where the block ends at or below the stable mark it is the run's, full
+  pub runs : (blocks base : ℕ) (log : List Entry) (x : ℕ) (bytes : List ℕ) (p q : D.Part)
+      → D.Holds blocks base log p → CanRead D blocks base log x p → D.Read x bytes 0 p q → D.Tells q
+      → x + BLOCK_SIZE + BLOCK_HEADER ≤ D.stable p → D.IsRunBlock base log x bytes

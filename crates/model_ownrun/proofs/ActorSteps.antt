@@ -6,7 +6,7 @@ use lib.ListN.{get_elem?}
 use mathlib.Core.Option.{some}
 use Rattle.model_core.proofs.Lists.{set_at}
 use Rattle.model_core.specs.{Actor, Batch, Blocks, checked, checked_of, DataServed, flusher_op, flusher_took, heard}
-use Rattle.model_core.specs.{is_checking, Lent, lent, Listed, LogServed, Nothing, old_of, own_op, own_took, SharedWords}
+use Rattle.model_core.specs.{is_checking, Lent, lent, Listed, LogServed, next, Nothing, old_of, own_op, own_took, SharedWords}
 use Rattle.model_core.specs.{user_op, user_program, user_took, UserState, writer_op, writer_took}
 use Rattle.model_core.specs.DataSide.{DataSide}
 use Rattle.model_core.specs.LogSide.{LogSide}
@@ -32,6 +32,7 @@ use Rattle.model_own.specs.OwnWrites.{MayHelpAt}
 use Rattle.model_pagecore.specs.{PageGhost, UserHasLatch}
 use Rattle.model_pagecore.specs.DataLaws.{DataLaws}
 use Rattle.model_pagecore.specs.PageHalf.{UserPageFits, UserPagesAt}
+use Rattle.model_running.proofs.Archiving.{IsNoReader, others_append_not, served_none}
 use Rattle.model_running.proofs.BothKeep.{keeps_both}
 use Rattle.model_running.proofs.ReadStays.{IsFilled}
 use Rattle.model_running.specs.RunningStore.{BothHalves}
@@ -56,19 +57,19 @@ module _ (D : LogSide) (L : LogLaws D) (E : DataSide) (EL : DataLaws E) (c : Set
         → RunsAfter D E c spare (asked b) m ls q e
         (set actors seat (cond b (checked a (old_of (said b code q))) (own_took a (said b code q))))
 
-    taken : IsFilled a → (code : ℕ) (q : D.Part) (e : E.Part) → Taken (is_checking a) code q e
-    taken full code q e served stored =
+    taken : IsFilled a → IsNoReader a → (code : ℕ) (q : D.Part) (e : E.Part) → Taken (is_checking a) code q e
+    taken full other code q e served stored =
         let left = keeps_both D L E EL c spare m runs.0 runs.1 ls p d actors seat runs.2 code q e a at full served
-        stored in
+        stored (served_none (next a) (others_append_not a other) code) in
         (left.log_ghost, left.page_ghost, left.both)
 
     -- the turn of an actor that doesn't check for a failure
-    goes_on : IsFilled a → is_checking a ≡ false → (code : ℕ) (q : D.Part) (e : E.Part) → Taken false code q e
-    goes_on full quiet code q e = subst (λ (b : Bool). Taken b code q e) quiet (taken full code q e)
+    goes_on : IsFilled a → IsNoReader a → is_checking a ≡ false → (code : ℕ) (q : D.Part) (e : E.Part) → Taken false code q e
+    goes_on full other quiet code q e = subst (λ (b : Bool). Taken b code q e) quiet (taken full other code q e)
 
     -- its check for a failure
-    checks : IsFilled a → is_checking a ≡ true → Runs D E c spare m ls p d (set actors seat (checked a m.failed))
-    checks full asks = subst (λ (b : Bool). Taken b 0 p d) asks (taken full 0 p d) refl (data_kept E d (lent a))
+    checks : IsFilled a → IsNoReader a → is_checking a ≡ true → Runs D E c spare m ls p d (set actors seat (checked a m.failed))
+    checks full other asks = subst (λ (b : Bool). Taken b 0 p d) asks (taken full other 0 p d) refl (data_kept E d (lent a))
 
   -- a user that has another code
   module _ (m : SharedWords) (g : LogGhost) (h : PageGhost) (ls : ℕ → List Listed) (p : D.Part) (d : E.Part)
@@ -132,6 +133,7 @@ module _ (D : LogSide) (L : LogLaws D) (E : DataSide) (EL : DataLaws E) (c : Set
       tails = λ b. refl;
       free = both.logged.without_tail seat (actor.User u) at;
       pages = page_fits (both.paged.each seat (actor.User u) at);
+      other = (tt, tt);
       latches = λ k. ⊎_elim (λ z. inl z) (λ z. inr (same_latch u.step k z));
       closed = closed_by;
       in_run = tt;
@@ -157,7 +159,7 @@ module _ (D : LogSide) (L : LogLaws D) (E : DataSide) (EL : DataLaws E) (c : Set
     writer_goes_on quiet code q e served stored =
         let r : Answer = answer_to D p code q m ls write in
         let left = goes_on m ls p d seated runs (writer_seat users) (actor.Writer k.writer)
-        (writer_there users k others) tt quiet code q e served stored in
+        (writer_there users k others) tt tt quiet code q e served stored in
         subst (RunsAfter D E c spare write m ls q e) (writer_put users k others (with_answer r).writer) left
 
     -- the flusher's turn
@@ -173,7 +175,7 @@ module _ (D : LogSide) (L : LogLaws D) (E : DataSide) (EL : DataLaws E) (c : Set
     flusher_goes_on quiet code q e served stored =
         let r : Answer = answer_to D p code q m ls flush in
         let left = goes_on m ls p d seated runs (flusher_seat users) (actor.Flusher k.flusher)
-        (flusher_there users k others) tt quiet code q e served stored in
+        (flusher_there users k others) tt tt quiet code q e served stored in
         subst (RunsAfter D E c spare flush m ls q e) (flusher_put users k others (with_flush r).flusher) left
 
     -- a user's turn, its check for a failure, and the user with another code
@@ -197,14 +199,14 @@ module _ (D : LogSide) (L : LogLaws D) (E : DataSide) (EL : DataLaws E) (c : Set
           → (x : OwnUser) → ◌≡◌ {A = UserState} (user_took o.user (heard_by code q) o.user.step) x.user
           → RunsAfter D E c spare step m ls q e (all_actors (set users i x) k others)
       user_goes_on quiet code q e served stored x is =
-          let left = goes_on m ls p d seated runs i (actor.User o.user) there tt quiet code q e served stored in
+          let left = goes_on m ls p d seated runs i (actor.User o.user) there tt tt quiet code q e served stored in
           subst (RunsAfter D E c spare step m ls q e) (put (user_took o.user (heard_by code q) o.user.step) x is) left
 
       pub user_checks : o.user.checks ≡ true
           → (x : OwnUser) → ◌≡◌ {A = UserState} (checked_of user_program o.user m.failed) x.user
           → Runs D E c spare m ls p d (all_actors (set users i x) k others)
       user_checks asks x is =
-          let left = checks m ls p d seated runs i (actor.User o.user) there tt asks in
+          let left = checks m ls p d seated runs i (actor.User o.user) there tt tt asks in
           subst (Runs D E c spare m ls p d) (put (checked_of user_program o.user m.failed) x is) left
 
       user_coded : (n : ℕ) (x : OwnUser) → ◌≡◌ {A = UserState} (record o.user { code = n }) x.user

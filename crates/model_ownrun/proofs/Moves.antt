@@ -132,6 +132,7 @@ module _ (D : LogSide) (E : DataSide) (c : Setup) (spare : ℕ) where
         tails = λ b. refl;
         free = λ z b. refl;
         pages = tt;
+        other = (tt, tt);
         latches = λ k z. z;
         closed = λ v e. absurd (cc);
         in_run = tt;
@@ -215,6 +216,7 @@ module _ (D : LogSide) (E : DataSide) (c : Setup) (spare : ℕ) where
         tails = λ b. is b ∙ sym (was b);
         free = λ z b. is b;
         pages = tt;
+        other = (tt, tt);
         latches = λ k z. z;
         closed = λ v e. absurd (cc);
         in_run = tt;

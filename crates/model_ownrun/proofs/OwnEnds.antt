@@ -39,6 +39,7 @@ module _ (D : LogSide) (L : LogLaws D) (E : DataSide) (EL : DataLaws E) (c : Set
   pub own_run_closed : (failures : ℕ) (left : List (ℕ × ℕ))
       → AreSeated c (all_actors first.users first.work first.others)
       → CausesAreFailures D E failures last.log_part last.data_part
+      (all_actors last.users last.work last.others)
       → HaveEnded (all_actors last.users last.work last.others)
       → ClosedStore D E script opened number failures left log_disk data_disk (with_writer last)
   own_run_closed failures left seated causes ended =

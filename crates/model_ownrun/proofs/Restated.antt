@@ -1,14 +1,16 @@
 -- An actor's own state changes, and the turn word of DEVICE may, with nothing else that the invariant speaks of.
-use Rattle.std.proofs.Common.{List, ap, arith, false, inl, refl, set, subst, sym, true, ℕ, ⊎_elim, ◌∙◌, ◌≡◌, ◌≢◌, ◌≤◌}
+use Rattle.std.proofs.Common.{List, ap, arith, false, inl, inr, refl, set, subst, sym, true, ℕ, ⊎_elim, ◌∙◌, ◌≡◌, ◌≢◌, ◌≤◌}
 use lib.ListN.{get_elem?}
 use mathlib.Core.Option.{some, some-injective}
 use native.Mathlib.Decide.{ℕ_discrete}
 use Rattle.model_core.proofs.Lists.{at_set, set_at, set_else}
-use Rattle.model_core.specs.{Actor, ChecksWithoutTail, entries, Entry, HasHolder, holds, holds_tail, Listed}
-use Rattle.model_core.specs.{SharedWords, UserState}
+use Rattle.model_core.specs.{Actor, ChecksWithoutTail, entries, Entry, HasHolder, HasLost, holds, holds_tail, Listed}
+use Rattle.model_core.specs.{ReaderState, SharedWords, UserState}
 use Rattle.model_core.specs.DataSide.{DataSide}
 use Rattle.model_core.specs.LogSide.{LogSide}
 use Rattle.model_core.specs.Setup.{Setup}
+use Rattle.model_core.specs.declared.steps.ReaderStep.{ReaderStep}
+use Rattle.model_core.specs.declared.steps.ReaderStep.TheVariants as reader_step
 use Rattle.model_core.specs.declared.words.LinkBuffer.{LinkBuffer}
 use Rattle.model_core.specs.declared.words.LinkBuffer.TheVariants as link_buffer
 use Rattle.model_core.specs.Actors as actor
@@ -19,10 +21,11 @@ use Rattle.model_logcore.specs.LogFits.{LogFits}
 use Rattle.model_logcore.specs.LogHalf.{left_to_reserve}
 use Rattle.model_pagecore.specs.PageHalf.{PageHalf}
 use Rattle.model_pagecore.specs.{HasLatch, PageFits, PageGhost}
+use Rattle.model_running.proofs.Archiving.{IsNoReader}
 use Rattle.model_running.proofs.PageTurn.{away}
 use Rattle.model_running.proofs.ReadKeeps.{others_read}
 use Rattle.model_running.specs.LatchesHeld.{LatchesAreHeld}
-use Rattle.model_running.specs.ReadHalf.{ReadFits, ReadHalf, StaysInRun}
+use Rattle.model_running.specs.ReadHalf.{ArchiverAt, HaveRunBlocks, ReadFits, ReadHalf, StaysInRun}
 use Rattle.model_running.specs.RunningStore.{BothHalves}
 use Rattle.model_running.specs.UsersClosed.{UserClosed, UsersClosed}
 
@@ -51,6 +54,8 @@ module _ (D : LogSide) (E : DataSide) (c : Setup) (spare : ℕ) (m : SharedWords
     pub latches : (k : ℕ) → HasLatch a k → HasLatch b k
     pub closed : (v : UserState) → ◌≡◌ {A = Actor} b (actor.User v) → UserClosed g.log h.closed v
     pub in_run : StaysInRun c b
+    -- no reader of the log is restated
+    pub other : IsNoReader a × IsNoReader b
     pub reads : ReadFits c (record m { device = device }) g.log seat b
 
   abbrev with_device : ℕ → SharedWords
@@ -82,7 +87,15 @@ module _ (D : LogSide) (E : DataSide) (c : Setup) (spare : ℕ) (m : SharedWords
       → Kept D c spare (with_device device) g' p now → BothHalves D E c spare (with_device device) g' h ls p d now
   whole device alike g' log kept = record {
     script = both.script;
-    cause = both.cause;
+    cause = λ failed. ⊎_elim (λ z. inl z) (⊎_elim (λ z. inr (inl z)) (λ l. inr (inr (still_lost l)))) (both.cause failed);
+    archiver = λ j r e kind. let A = both.archiver j r (reader_there j r e) kind in record {
+      aligned = A.aligned;
+      below = A.below;
+      own_aligned = A.own_aligned;
+      step = still_at r r.step A.step;
+    };
+    blocks = λ told. subst (λ (l : List Entry). HaveRunBlocks D c l now) (sym log)
+        (λ j r e kind. both.blocks told j r (reader_there j r e) kind);
     logged =
         kept (λ w. holder_same link_buffer.Written actors seat a b at (alike.tails link_buffer.Written)
         (both.logged.advanced w))
@@ -102,6 +115,34 @@ module _ (D : LogSide) (E : DataSide) (c : Setup) (spare : ℕ) (m : SharedWords
         (away both seat (with_device device) b alike.pages refl refl refl refl refl refl refl);
   }
     where
+      -- the readers are those that there were
+      reader_there : (j : ℕ) (r : ReaderState) → get_elem? now j ≡ some (actor.Reader r)
+          → get_elem? actors j ≡ some (actor.Reader r)
+      reader_there j r e = ⊎_elim (λ t. absurd (subst IsNoReader t.1 alike.other.1)) (λ t. t.1)
+          (at_set actors seat j b (actor.Reader r) e)
+
+      still_lost : HasLost actors m.failed → HasLost now m.failed
+      still_lost l = elim (ℕ_discrete l.seat seat) [
+        | yes e ↦ absurd (subst IsNoReader (some-injective a (actor.Reader l.archiver)
+            (sym at ∙ ap (get_elem? actors) (sym e) ∙ l.at)) alike.other.0)
+        | no n ↦ record {
+          seat = l.seat;
+          archiver = l.archiver;
+          at = set_else actors seat l.seat b n ∙ l.at;
+          lost = l.lost;
+          some_code = l.some_code;
+        }
+      ]
+
+      still_at : (r : ReaderState) (st : ReaderStep) → ArchiverAt c m g.log r st
+          → ArchiverAt c (with_device device) g'.log r st
+      still_at r reader_step.TakeDevice k = k
+      still_at r reader_step.GiveBroken k = k
+      still_at r reader_step.ReadBlock k = k
+      still_at r reader_step.GiveDevice k = k
+      still_at r reader_step.Append k = k
+      still_at r _ k = tt
+
       latched : LatchesAreHeld c.pages m h.holder now
       latched k l held = let t = both.latches k l held in elim (ℕ_discrete (h.holder k) seat) [
         | yes e ↦ (b, there e, alike.latches k (subst (λ (x : Actor). HasLatch x k) (it t.0 t.1 e) t.2))

@@ -187,6 +187,7 @@ module _ (u : UserState) (code : ℕ) (checks : Bool) where
       tails = λ b. no_tail b u.step t e;
       free = λ z b. checks_free b u.step t e;
       pages = page_fits t e (both.paged.each seat (actor.User u) at);
+      other = (tt, tt);
       latches = λ k. latch u.step t k e;
       closed = λ v is. closed_by v is (both.closed seat u at);
       in_run = tt;

@@ -1,6 +1,8 @@
 -- The statuses and the fault lines. Status 0 has no fault.
 use Rattle.std.specs.Prelude.{ℕ, List, [], ◌∷◌, codes}
 use Rattle.std.specs.Fmt.{decimal}
+use Rattle.model_archive.specs.declared.refusal.RestoreRefusal.{RestoreRefusal}
+use Rattle.model_archive.specs.declared.refusal.RestoreRefusal.TheVariants.{Missing, To, Page, Block, Record}
 use Rattle.model_store.specs.declared.refusal.Refusal.{Refusal}
 use Rattle.model_store.specs.declared.refusal.Refusal.TheVariants.{SmallLog, NotFormatted, BadFormat, SmallData, NoCheckpoint, BadRecord, PageLost, PageAhead}
 use Rattle.model_script.specs.declared.misfit.Quantity.{Quantity}
@@ -20,6 +22,14 @@ refusal_status (BadRecord lsn) = 8
 refusal_status (PageLost p) = 8
 refusal_status (PageAhead p lsn) = 8
 
+-- an archive from which nothing is restored has status 12; an lsn that it doesn't reach is a quantity that doesn't fit
+abbrev pub restore_status : RestoreRefusal → ℕ
+restore_status Missing = 12
+restore_status (To lsn) = 10
+restore_status (Page p) = 12
+restore_status (Block lsn) = 12
+restore_status (Record lsn) = 12
+
 abbrev pub status_of : Fault → ℕ
 status_of fault.Memory = 1
 status_of fault.Words = 2
@@ -28,7 +38,9 @@ status_of fault.Source = 4
 status_of fault.Sink = 5
 status_of fault.LogDevice = 6
 status_of fault.DataDevice = 7
+status_of fault.ArchiveDevice = 11
 status_of (fault.Store refusal) = refusal_status refusal
+status_of (fault.Archive refusal) = restore_status refusal
 status_of (fault.Turns n user) = 9
 status_of (fault.Fit misfit) = 10
 
@@ -42,6 +54,8 @@ quantity_word quantity.Offset = codes "offset"
 quantity_word quantity.Group = codes "group"
 quantity_word quantity.Lsn = codes "lsn"
 quantity_word quantity.Total = codes "total"
+quantity_word quantity.Archive = codes "archive"
+quantity_word quantity.To = codes "to"
 
 -- the words for a quantity that doesn't fit, after `fault`
 abbrev pub misfit_words : Quantity → ℕ → List (List ℕ)
@@ -58,6 +72,13 @@ refusal_words (BadRecord lsn) = codes "store" ∷ codes "record" ∷ decimal lsn
 refusal_words (PageLost p) = codes "store" ∷ codes "lost" ∷ decimal p ∷ []
 refusal_words (PageAhead p lsn) = codes "store" ∷ codes "ahead" ∷ decimal p ∷ decimal lsn ∷ []
 
+abbrev pub restore_words : RestoreRefusal → List (List ℕ)
+restore_words Missing = codes "archive" ∷ codes "none" ∷ []
+restore_words (To lsn) = misfit_words quantity.To lsn
+restore_words (Page p) = codes "archive" ∷ codes "page" ∷ decimal p ∷ []
+restore_words (Block lsn) = codes "archive" ∷ codes "block" ∷ decimal lsn ∷ []
+restore_words (Record lsn) = codes "archive" ∷ codes "record" ∷ decimal lsn ∷ []
+
 -- the words of a fault's line after `fault`
 abbrev pub fault_words : Fault → List (List ℕ)
 fault_words fault.Memory = codes "memory" ∷ []
@@ -67,7 +88,9 @@ fault_words fault.Source = codes "source" ∷ []
 fault_words fault.Sink = []
 fault_words fault.LogDevice = codes "log" ∷ codes "device" ∷ []
 fault_words fault.DataDevice = codes "data" ∷ codes "device" ∷ []
+fault_words fault.ArchiveDevice = codes "archive" ∷ codes "device" ∷ []
 fault_words (fault.Store refusal) = refusal_words refusal
+fault_words (fault.Archive refusal) = restore_words refusal
 fault_words (fault.Turns n user) = codes "turns" ∷ decimal n ∷ codes "user" ∷ decimal user ∷ []
 fault_words (fault.Fit misfit) = misfit_words misfit.quantity misfit.number
 

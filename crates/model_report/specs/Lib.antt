@@ -6,11 +6,11 @@ pub mod Listing
 pub mod Pages
 pub mod Report
 pub use Rattle.model_report.specs.Answered.{HasNoLost, IsAnswered, state_by}
-pub use Rattle.model_report.specs.FaultLine.{misfit_words, quantity_word, refusal_words, status_of}
+pub use Rattle.model_report.specs.FaultLine.{misfit_words, quantity_word, refusal_words, restore_words, status_of}
 unfoldable pub use Rattle.model_report.specs.FaultLine.{fault_line}
 pub use Rattle.model_report.specs.Legal.{FitsMarks, FitsMode, HasLeft, IsLeft, IsLegal, IsLegalEntry, IsOfLine, count_up_to, entries_of_user, entry_spans, group_of_line, lines_of_user, whole_of, wholes_of}
 pub use Rattle.model_report.specs.Line.{line_text}
-pub use Rattle.model_report.specs.Listing.{NamesOperation, block_line, block_lines, cause_word, checkpoint_line, dump_text, end_line, fit_word, item_of_record, read_line, record_line, recover_text, stop_line, stop_lines, store_line, whole_lines}
+pub use Rattle.model_report.specs.Listing.{NamesOperation, block_line, block_lines, cause_word, checkpoint_line, dump_text, end_line, fit_word, item_of_record, read_line, record_line, recover_text, restored_text, stop_line, stop_lines, store_line, whole_lines}
 unfoldable pub use Rattle.model_report.specs.Listing.{format_text, listing_text, summary_text}
 pub use Rattle.model_report.specs.Pages.{hex_word, onto_trimmed, page_lines_from, trimmed}
 unfoldable pub use Rattle.model_report.specs.Pages.{page_line, page_lines}

@@ -1,5 +1,5 @@
 -- What `dump` prints of a store that was read: its shape, the newest checkpoint, each scanned block, where it is asked why
--- no further one was read, each group with its records, and where the log ends. And the lines of `format`, `recover` and `gen --run`.
+-- no further one was read, each group with its records, and where the log ends. And the lines of the other commands.
 use Rattle.std.specs.Prelude.{ℕ, ◌≡◌, ◌+◌, List, [], ◌∷◌, ◌++◌, codes, length, Option, None, Some}
 use Rattle.std.specs.Int.{bytes_high_first}
 use Rattle.std.specs.List.{flat_map}
@@ -109,6 +109,10 @@ dump_text stop reading =
 -- The text of `recover`: the scanned groups, the log's end, and the pages.
 abbrev pub recover_text : Reading → List ℕ
 recover_text reading = read_line (length reading.wholes) reading.end ++ page_lines reading.pages
+
+-- The text of `restore`: how many groups are applied, where the last of them ends, and the pages.
+abbrev pub restored_text : (n end : ℕ) → List Content → List ℕ
+restored_text n end pages = line_text (codes "restored" ∷ decimal n ∷ decimal end ∷ []) ++ page_lines pages
 
 -- The text of `format`: the lsn at which the log starts.
 unfoldable pub format_text : List ℕ

@@ -1,9 +1,10 @@
 // Why a command ends without its text.
+use model_archive::RestoreRefusal;
 use model_script::Misfit;
 use model_store::Refusal;
 
 /// Why a command ends without its text. Each has a status of its own; that of a store that is refused for a device's
-/// length is the status of a quantity that doesn't fit.
+/// length, and of an archive that doesn't reach to an lsn, is the status of a quantity that doesn't fit.
 #[derive(Clone, Copy, Debug, PartialEq, Eq)]
 pub enum Fault {
     /// Want of memory, of the program or of a device.
@@ -20,8 +21,12 @@ pub enum Fault {
     LogDevice,
     /// The data device failed.
     DataDevice,
+    /// The archive's device failed.
+    ArchiveDevice,
     /// The store is refused.
     Store(Refusal),
+    /// Nothing is restored from the archive.
+    Archive(RestoreRefusal),
     /// So many turns were taken, and this user hasn't ended.
     Turns(u64, u32),
     /// A quantity doesn't fit.

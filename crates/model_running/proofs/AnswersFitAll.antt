@@ -19,6 +19,7 @@ use Rattle.model_core.specs.declared.steps.CloserStep.{CloserStep}
 use Rattle.model_logcore.proofs.AnswersFit.{can_take, small_sn}
 use Rattle.model_logcore.specs.{LogGhost}
 use Rattle.model_pagecore.specs.{CleanerAt, CleanerFits, CloserFits, PageGhost, CloserAt, ClosingAt, UserClosingAt, UserPageFits}
+use Rattle.model_running.proofs.Archiving.{lost_small}
 use Rattle.model_running.specs.Bounds.{HasBytes, HaveSmallCodes}
 use Rattle.model_running.specs.RunningStore.{BothHalves}
 use Rattle.model_core.specs.declared.words.Word.TheVariants as word
@@ -80,7 +81,7 @@ module _ (D : LogSide) (E : DataSide) (c : Setup) (spare : ℕ) (m : SharedWords
 
   small_code : m.failed < 2 ^ 32
   small_code = elim (dec_le 1 m.failed) [
-    | yes nonzero ↦ ⊎_elim (λ cause. codes.log p m.failed cause) (λ cause. codes.data_part d m.failed cause) (both.cause nonzero)
+    | yes nonzero ↦ ⊎_elim (λ cause. codes.log p m.failed cause) (⊎_elim (λ cause. codes.data_part d m.failed cause) (λ cause. lost_small c actors both.in_run m.failed cause)) (both.cause nonzero)
     | no none ↦ omega arith
   ]
 

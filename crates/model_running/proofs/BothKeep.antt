@@ -1,12 +1,12 @@
 -- Whatever an actor's next Op is, its turn keeps the page half.
 use Rattle.model_running.proofs.ReadStays.{given_to, IsFilled, read_kept}
-use Rattle.model_running.specs.ReadHalf.{ReadHalf, StaysInRun}
+use Rattle.model_running.specs.ReadHalf.{ArchiverHas, HaveRunBlocks, ReadHalf, StaysInRun}
 use Rattle.model_core.specs.Actors.{Room}
 use Rattle.std.proofs.Common.{Bool, List, arith, cond, false, refl, set, subst, sym, true, ℕ, ◌≡◌, ⊎_elim}
 use Rattle.std.specs.Prelude.{slice_index}
 use lib.ListN.{get_elem?}
 use mathlib.Core.Option.{some}
-use Rattle.model_core.specs.{Actor, Blocks, checked, DataServed, Entry, flusher_op, lent, Listed, lists_left, log_left, LogServed, next, Nothing, old_of, own_took, shared_answer, shared_left, SharedWords, took, writer_op}
+use Rattle.model_core.specs.{Actor, archives, Blocks, checked, DataServed, Entry, flusher_op, lent, Listed, lists_left, log_left, LogServed, next, Nothing, old_of, OwnServed, own_took, ReaderState, shared_answer, shared_left, SharedWords, took, writer_op}
 use Rattle.model_core.specs.{reader_op}
 use Rattle.model_core.specs.DataSide.{DataSide}
 use Rattle.model_core.specs.declared.ops.Answer.{Answer}
@@ -26,7 +26,10 @@ use Rattle.model_core.specs.declared.words.LinkBuffer.TheVariants as link_buffer
 use Rattle.model_core.specs.Actors as actor
 use Rattle.model_core.specs.declared.words.Word.TheVariants as word
 use Rattle.model_core.specs.declared.ops.Op.TheVariants as op
+use Rattle.model_running.proofs.ArchiverStays.{archiver_kept}
+use Rattle.model_running.proofs.Archiving.{lost_stays}
 use Rattle.model_running.proofs.LogCalls.{asked_bound, told_before}
+use Rattle.model_running.proofs.RunBlocks.{blocks_kept}
 use Rattle.model_running.proofs.CallConditions.{can_checkpoint}
 use Rattle.model_running.proofs.Causes.{caused}
 use Rattle.model_running.proofs.CheckpointStays.{checkpoint_stays}
@@ -38,7 +41,7 @@ use Rattle.model_running.proofs.LogTurns.{closer_turn, flusher_turn, writer_turn
 use Rattle.model_running.proofs.LogTurns.{reader_turn}
 use Rattle.model_running.proofs.PageTurn.{PageDone, as_is, rested}
 use Rattle.model_core.proofs.Lists.{at_set}
-use Rattle.model_running.proofs.InRun.{stays_in_run}
+use Rattle.model_running.proofs.InRun.{append_fits, stays_in_run}
 use Rattle.model_running.proofs.UserTurns.{user_turn}
 
 -- both halves, over a log
@@ -84,10 +87,10 @@ module _ (D : LogSide) (L : LogLaws D) (E : DataSide) (EL : DataLaws E) (c : Set
   -- THE step lemma over the words by name: whatever the actor's next Op is, its turn keeps both halves, over the log
   -- that the Op leaves
   pub keeps_both : (a : Actor) → get_elem? actors seat ≡ some a → IsFilled a → LogServed D p (lent a) (next a) code q
-      → DataServed E d (lent a) (next a) code e
+      → DataServed E d (lent a) (next a) code e → OwnServed (next a) code
       → BothLeft D E c spare (shared_left m (next a)) (lists_left ls (λ i. slice_index m.lists i) (next a)) q e
       (set actors seat (took a (shared_answer ls (D.failed p) code (D.stable q) m (next a)))) (log_left g.log m.sn a)
-  keeps_both a at full w v =
+  keeps_both a at full w v own =
       let words : SharedWords = shared_left m (next a) in
       let lists : ℕ → List Listed = lists_left ls (λ i. slice_index m.lists i) (next a) in
       let said : Answer = shared_answer ls (D.failed p) code (D.stable q) m (next a) in
@@ -114,15 +117,24 @@ module _ (D : LogSide) (L : LogLaws D) (E : DataSide) (EL : DataLaws E) (c : Set
           latches = latches_kept D E c spare m g h ls p d actors seat both (D.failed p) code (D.stable q)
               (log_left g.log m.sn a) (D.stable q) page lists e b.2 a at b.1;
           stays = λ alone. checkpoint_stays D E c spare m g h ls p d actors seat both alone a at;
-          cause = caused D L E EL c spare m g h ls p d actors seat both code q e a at w v;
+          cause = caused D L E EL c spare m g h ls p d actors seat both code q e now
+              (lost_stays c actors both.in_run seat a at said) a at w v;
           logged = r.1;
           in_run = λ j x there. ⊎_elim
-              (λ t. subst (StaysInRun c) t.1 (stays_in_run c both.script.readers a said (both.in_run seat a at)))
+              (λ t. subst (StaysInRun c) t.1 (stays_in_run c both.script.readers a said
+              (append_fits ls (D.failed p) code (D.stable q) m (next a) own) (both.in_run seat a at)))
               (λ t. both.in_run j x t.1) (at_set actors seat j (took a said) x there);
           reading = λ told.
               let before = told_before D L E EL c spare m g h ls p d actors seat both code q told a at w in
               subst (λ (l : List Entry). ReadHalf D c words l q now) same
               (read_kept D L E EL c spare m g h ls p d actors seat both code q told before a at full w);
+          archiver = subst (λ (l : List Entry). (j : ℕ) (r : ReaderState) → get_elem? now j ≡ some (actor.Reader r)
+              → archives r ≡ true → ArchiverHas c words l r) same
+              (archiver_kept D E c spare m g h ls p d actors seat both code q a at);
+          blocks = λ told.
+              let before = told_before D L E EL c spare m g h ls p d actors seat both code q told a at w in
+              subst (λ (l : List Entry). HaveRunBlocks D c l now) same
+              (blocks_kept D L E EL c spare m g h ls p d actors seat both code q told before a at w);
           paged = subst (λ (l : List Entry). PageHalf E c words l (D.stable q) page lists e now) same b.1;
         };
       }

@@ -1,4 +1,5 @@
--- FAILED has a cause: it is stored only by an actor whose device call failed, and no later step takes a cause back.
+-- FAILED has a cause: it is stored only by an actor whose device call or append failed, and no later step takes a cause
+-- back.
 use Rattle.model_core.specs.ReaderProgram.{next_block}
 use Rattle.model_core.specs.Actors.{Room}
 use Rattle.std.proofs.Common.{Bool, List, cond, eqb, false, inl, inr, refl, subst, sym, true, ℕ, ◌+◌, ◌%◌, ◌<◌, ◌≡◌, ◌⊎◌, ⊎_elim}
@@ -6,7 +7,7 @@ use Rattle.std.specs.Prelude.{slice_index, slice_set}
 use lib.ListN.{get_elem?}
 use mathlib.Core.Option.{some}
 use Rattle.model_core.specs.{Actor, Batch, Blocks, checkpointer_op, CheckpointerState, cleaner_op, CleanerState, closer_op, CloserState, DataServed, flusher_op, FlusherState, lent, Listed, LogServed, next, Nothing, read, shared_left, SharedWords, user_op, UserState, writer_op, WriterState, wrote}
-use Rattle.model_core.specs.{reader_op, ReaderState}
+use Rattle.model_core.specs.{HasLost, reader_op, ReaderState}
 use Rattle.model_core.specs.DataSide.{DataSide}
 use Rattle.model_core.specs.LogSide.{LogSide}
 use Rattle.model_core.specs.Setup.{Setup}
@@ -39,9 +40,11 @@ use Rattle.model_core.specs.declared.ops.Op.{Op}
 use Rattle.model_core.specs.declared.words.Word.{Word}
 use Rattle.model_running.proofs.CallConditions.{after_batch, can_checkpoint}
 
-module _ (D : LogSide) (L : LogLaws D) (E : DataSide) (EL : DataLaws E) (c : Setup) (spare : ℕ) (m : SharedWords) (g : LogGhost) (h : PageGhost) (ls : ℕ → List Listed) (p : D.Part) (d : E.Part) (actors : List Actor) (seat : ℕ) (both : BothHalves D E c spare m g h ls p d actors) (code : ℕ) (q : D.Part) (e : E.Part) where
+module _ (D : LogSide) (L : LogLaws D) (E : DataSide) (EL : DataLaws E) (c : Setup) (spare : ℕ) (m : SharedWords) (g : LogGhost) (h : PageGhost) (ls : ℕ → List Listed) (p : D.Part) (d : E.Part) (actors : List Actor) (seat : ℕ) (both : BothHalves D E c spare m g h ls p d actors) (code : ℕ) (q : D.Part) (e : E.Part)
+    (now : List Actor) (lost : (x : ℕ) → HasLost actors x → HasLost now x) where
+  -- `now` are the actors then
   abbrev Caused : ℕ → Type 0
-  Caused x = D.Cause q x ⊎ E.Cause e x
+  Caused x = D.Cause q x ⊎ E.Cause e x ⊎ HasLost now x
 
   abbrev CausedBy : Op → Type 0
   CausedBy o = 0 < (shared_left m o).failed → Caused (shared_left m o).failed
@@ -49,8 +52,8 @@ module _ (D : LogSide) (L : LogLaws D) (E : DataSide) (EL : DataLaws E) (c : Set
   -- FAILED stays, and so do causes
   stays : (o : Op) → (shared_left m o).failed ≡ m.failed → ((x : ℕ) → D.Cause p x → D.Cause q x) → ((x : ℕ) → E.Cause d x → E.Cause e x) → CausedBy o
   stays o same log_causes data_causes nonzero =
-      let before : D.Cause p m.failed ⊎ E.Cause d m.failed = both.cause (subst (λ (k : ℕ). 0 < k) same nonzero) in
-      subst Caused (sym same) (⊎_elim (λ z. inl (log_causes m.failed z)) (λ z. inr (data_causes m.failed z)) before)
+      let before = both.cause (subst (λ (k : ℕ). 0 < k) same nonzero) in
+      subst Caused (sym same) (⊎_elim (λ z. inl (log_causes m.failed z)) (⊎_elim (λ z. inr (inl (data_causes m.failed z))) (λ z. inr (inr (lost m.failed z)))) before)
 
   abbrev IsOther : Word → Type 0
   IsOther word.Failed = ⊥
@@ -118,10 +121,11 @@ module _ (D : LogSide) (L : LogLaws D) (E : DataSide) (EL : DataLaws E) (c : Set
   flusher_caused t flusher_step.StoreFailed k w v = λ _. inl (subst (λ (y : D.Part). D.Cause y t.code) (sym w) k.1)
   flusher_caused t f k w v = quiet (flusher_op t f) tt w v
 
-  reader_caused : (t : ReaderState) (f : ReaderStep) → marks.ReaderAt D c m g p t f → LogServed D p (Room t.block) (reader_op t f) code q → DataServed E d (Room t.block) (reader_op t f) code e → CausedBy (reader_op t f)
-  reader_caused t reader_step.ReadBlock k w v = log_called (reader_op t reader_step.ReadBlock) tt (L.reads c.blocks c.base g.log (next_block t) code t.block p q both.logged.global.part.holds k w).causes v
-  reader_caused t reader_step.StoreFailed k w v = λ _. inl (subst (λ (y : D.Part). D.Cause y t.code) (sym w) k.1)
-  reader_caused t f k w v = quiet (reader_op t f) tt w v
+  reader_caused : (t : ReaderState) → get_elem? actors seat ≡ some (actor.Reader t) → (f : ReaderStep) → marks.ReaderAt D c m g p t f → LogServed D p (Room t.block) (reader_op t f) code q → DataServed E d (Room t.block) (reader_op t f) code e → CausedBy (reader_op t f)
+  reader_caused t at reader_step.ReadBlock k w v = log_called (reader_op t reader_step.ReadBlock) tt (L.reads c.blocks c.base g.log (next_block t) code t.block p q both.logged.global.part.holds k w).causes v
+  reader_caused t at reader_step.StoreFailed k w v = λ _. inl (subst (λ (y : D.Part). D.Cause y t.code) (sym w) k.1)
+  reader_caused t at reader_step.StoreLost k w v = λ _. inr (inr (lost t.lost (record { seat = seat; archiver = t; at = at; lost = refl; some_code = k })))
+  reader_caused t at f k w v = quiet (reader_op t f) tt w v
 
   closer_caused : (t : CloserState) (f : CloserStep) → LogServed D p Nothing (closer_op t f) code q → DataServed E d Nothing (closer_op t f) code e → CausedBy (closer_op t f)
   closer_caused t (closer_step.Advance advance_step.LoadTail) w v = quiet (closer_op t (closer_step.Advance advance_step.LoadTail)) tt w v
@@ -131,7 +135,7 @@ module _ (D : LogSide) (L : LogLaws D) (E : DataSide) (EL : DataLaws E) (c : Set
   cleaner_caused x at cleaner_step.WriteBatch is w v = data_called (cleaner_op x cleaner_step.WriteBatch) tt w (after_batch D L E EL c spare m g h ls p d actors seat both x at is code e v).causes
   cleaner_caused x at cleaner_step.StoreFailed is w v =
       let X : CleanerFits E c m g.log h ls d seat x = both.paged.each seat (actor.Cleaner x) at in
-      λ _. inr (subst (λ (y : E.Part). E.Cause y x.code) (sym v) (X.cause is))
+      λ _. inr (inl (subst (λ (y : E.Part). E.Cause y x.code) (sym v) (X.cause is)))
   cleaner_caused x at f is w v = quiet (cleaner_op x f) tt w v
 
   checkpointer_caused : (t : CheckpointerState) → get_elem? actors seat ≡ some (actor.Checkpointer t) → (f : CheckpointerStep) → t.step ≡ f → marks.CheckpointerAt D c m g p t f → LogServed D p Nothing (checkpointer_op t f) code q → DataServed E d Nothing (checkpointer_op t f) code e → CausedBy (checkpointer_op t f)
@@ -160,7 +164,7 @@ module _ (D : LogSide) (L : LogLaws D) (E : DataSide) (EL : DataLaws E) (c : Set
     where
       by : (b : Bool) → LogServed D p (Room t.block) (cond b (op.Load word.Failed) (reader_op t t.step)) code q → DataServed E d (Room t.block) (cond b (op.Load word.Failed) (reader_op t t.step)) code e → CausedBy (cond b (op.Load word.Failed) (reader_op t t.step))
       by true w v = quiet (op.Load word.Failed) tt w v
-      by false w v = let T : marks.ReaderFits D c m g p seat t = both.logged.each seat (actor.Reader t) at in reader_caused t t.step T.step w v
+      by false w v = let T : marks.ReaderFits D c m g p seat t = both.logged.each seat (actor.Reader t) at in reader_caused t at t.step T.step w v
   caused (actor.Closer t) at w v = by t.checks w v
     where
       by : (b : Bool) → LogServed D p Nothing (cond b (op.Load word.Failed) (closer_op t t.step)) code q → DataServed E d Nothing (cond b (op.Load word.Failed) (closer_op t t.step)) code e → CausedBy (cond b (op.Load word.Failed) (closer_op t t.step))

@@ -82,7 +82,7 @@ module _ (D : LogSide) (E : DataSide) (c : Setup) (script : List ScriptLine) (op
       }
 
   pub closed_store : (failures : ℕ) (left : List (ℕ × ℕ)) (spare : ℕ) → IsRunning D E c spare s → AreSeated c s.actors → HaveEnded s.actors → IsOfScript c script opened.shape → HasItsPages c opened
-      → CausesAreFailures D E failures s.log_part s.data_part → ClosedStore D E script opened number failures left log_disk data_disk s
+      → CausesAreFailures D E failures s.log_part s.data_part s.actors → ClosedStore D E script opened number failures left log_disk data_disk s
   unfolding finished_store stands_for_run held_store
   closed_store failures left spare running seated ended of_script pages causes =
       let finished = finished_store D E c spare script opened failures left s running seated ended of_script start causes in

@@ -6,7 +6,7 @@ use lib.ListN.{get_elem?}
 use mathlib.Core.Option.{some}
 use Rattle.model_core.proofs.Lists.{set_at}
 use Rattle.model_running.proofs.Filling.{fills_keep, is_filled, next_filled}
-use Rattle.model_core.specs.{Actor, answer_of, appended, Core, DataServed, Entry, filled, lent, list_word, log_left, LogServed, Listed, lists_left, next, took, without, words_left}
+use Rattle.model_core.specs.{Actor, answer_of, appended, Core, DataServed, Entry, filled, lent, list_word, log_left, LogServed, Listed, lists_left, next, OwnServed, took, without, words_left}
 use Rattle.model_core.specs.DataSide.{DataSide}
 use Rattle.model_core.specs.LogSide.{LogSide}
 use Rattle.model_core.specs.Setup.{Setup}
@@ -78,7 +78,8 @@ module _ (D : LogSide) (L : LogLaws D) (E : DataSide) (EL : DataLaws E) (c : Set
       let stored : DataServed E old.data_part (lent who_filled) (next who_filled) t.code d =
       subst (λ (o : Op). DataServed E old.data_part (lent who_filled) o t.code d) (sym same_op) t.data_served in
       let after = keeps_turn D L E EL c spare old.words old.lists old.log_part old.data_part actors_filled seat
-      who_filled ready filled_at (is_filled t.who t.filling t.fills) t.code p d served_filled stored in
+      who_filled ready filled_at (is_filled t.who t.filling t.fills) t.code p d served_filled stored
+      (subst (λ (o : Op). OwnServed o t.code) (sym same_op) t.own_served) in
       let mine : ℕ → ℕ = λ i. slice_index before.shared.lists i in
       let words_same : (i : ℕ) → i < 4 → mine i ≡ list_word old.words i =
       λ i l. sym (ap (λ (ws : List ℕ). slice_index ws (8 + i)) before.flat_is

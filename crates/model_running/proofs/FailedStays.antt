@@ -92,6 +92,7 @@ failed_left ws long (op.ReadBlock b) leaves = inl refl
 failed_left ws long op.Sync leaves = inl refl
 failed_left ws long (op.Checkpoint x) leaves = inl refl
 failed_left ws long op.WriteBatch leaves = inl refl
+failed_left ws long (op.Append x) leaves = inl refl
 failed_left ws long op.Rest leaves = inl refl
 
 -- no program adds to FAILED, nor swaps it
@@ -156,6 +157,7 @@ module _ (D : LogSide) (c : Setup) (spare : ℕ) (m : SharedWords) (g : LogGhost
 
   reader_stores : (t : ReaderState) (f : ReaderStep) → ReaderAt D c m g p t f → reader_op t f ≡ op.Store word.Failed x → 0 < x
   reader_stores t reader_step.StoreFailed at is = let code : t.code ≡ x = cc in subst (λ (k : ℕ). 0 < k) code at.0
+  reader_stores t reader_step.StoreLost at is = let code : t.lost ≡ x = cc in subst (λ (k : ℕ). 0 < k) code at
   reader_stores t _ at is = absurd (cc)
 
   closer_stores : (t : CloserState) (f : CloserStep) → closer_op t f ≡ op.Store word.Failed x → 0 < x

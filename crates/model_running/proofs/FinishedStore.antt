@@ -1,5 +1,5 @@
 -- A running store stands for a run; one all users of which have ended is a finished run.
-use Rattle.std.proofs.Common.{List, arith, inl, inr, length, subst, sym, ℕ, ⊎_elim, ◌<◌, ◌≡◌, ap}
+use Rattle.std.proofs.Common.{List, arith, length, subst, sym, ℕ, ⊎_elim, ◌<◌, ◌≡◌, ap}
 use Rattle.std.specs.Prelude.{slice_index}
 use Rattle.model_core.specs.DataSide.{DataSide}
 use Rattle.model_core.specs.{Core, lsn, Tiles}
@@ -47,7 +47,7 @@ stands_for_run D E c spare script opened s running of_script start =
     }
 
 unfoldable pub finished_store : (D : LogSide) (E : DataSide) (c : Setup) (spare : ℕ) (script : List ScriptLine) (opened : Opened) (failures : ℕ) (left : List (ℕ × ℕ)) (s : Core D E) → IsRunning D E c spare s → AreSeated c s.actors → HaveEnded s.actors
-    → IsOfScript c script opened.shape → lsn c.base ≡ start_after opened.end → CausesAreFailures D E failures s.log_part s.data_part → FinishedStore D E c script opened failures left s
+    → IsOfScript c script opened.shape → lsn c.base ≡ start_after opened.end → CausesAreFailures D E failures s.log_part s.data_part s.actors → FinishedStore D E c script opened failures left s
 unfolding stands_for_run
 finished_store D E c spare script opened failures left s running seated ended of_script start causes =
     let m = running.shared in let g = running.log_ghost in let half = running.both.logged in
@@ -55,7 +55,7 @@ finished_store D E c spare script opened failures left s running seated ended of
     record {
       stands = stands_for_run D E c spare script opened s running of_script start;
       loses = finished_losses D c spare m g s.log_part s.actors half script opened.shape failures left end of_script (seated_seats c s.actors seated script opened.shape of_script)
-          (λ failed. ⊎_elim (λ cause. causes.log m.failed cause) (λ cause. causes.data_part m.failed cause) (running.both.cause failed));
+          (λ failed. ⊎_elim (λ cause. causes.log m.failed cause) (⊎_elim (λ cause. causes.data_part m.failed cause) (λ cause. causes.archive m.failed cause)) (running.both.cause failed));
       lost = λ i entry found. lost_entry_exactly D c spare m g s.log_part s.actors half end (word_marks m) i entry found;
     }
 
@@ -75,7 +75,7 @@ spent_store D E c spare script opened seed max user first last running seated of
       unanswered = subst (λ (v : ℕ). spent.state.k < length (lines_of_user v script)) spent.number
           (let count = of_script.count spent.state.user in let below = open_line D c spare m g last.log_part last.actors half spent.seat spent.state spent.is spent.not_ended in omega arith);
       leaves = leaves_open D c spare m g last.log_part last.actors half (word_marks m) script opened.shape of_script (seated_seats c last.actors seated script opened.shape of_script)
-          (HasFailedPart D E last.log_part last.data_part)
-          (λ failed. ⊎_elim (λ cause. (m.failed, inl cause)) (λ cause. (m.failed, inr cause)) (running.both.cause failed)) user spent.seat spent.state spent.is spent.number spent.not_ended spent.least;
+          (HasFailedPart D E last.log_part last.data_part last.actors)
+          (λ failed. (m.failed, running.both.cause failed)) user spent.seat spent.state spent.is spent.number spent.not_ended spent.least;
       least = spent.least;
     }

@@ -1,4 +1,7 @@
 pub mod AnswersFitAll
+pub mod Appends
+pub mod ArchiverStays
+pub mod Archiving
 pub mod BlockGives
 pub mod BothKeep
 pub mod BothReady
@@ -41,6 +44,7 @@ pub mod ReadStart
 pub mod ReadStays
 pub mod ReadTurns
 pub mod Receivers
+pub mod RunBlocks
 pub mod RunEnds
 pub mod Scripted
 pub mod Seated

@@ -93,6 +93,8 @@ module _ (D : LogSide) (L : LogLaws D) (E : DataSide) (c : Setup) (spare : ℕ) 
   reader_page t reader_step.StorePlace x k after ge v = pass both seat _ (actor.Reader x) k after ge refl refl refl refl refl refl (omega arith) tt v
   reader_page t reader_step.GiveDevice x k after ge v = pass both seat _ (actor.Reader x) k after ge refl refl refl refl refl refl (omega arith) tt v
   reader_page t reader_step.StoreFailed x k after ge v = pass both seat _ (actor.Reader x) k after ge refl refl refl refl refl refl (omega arith) tt v
+  reader_page t reader_step.Append x k after ge v = pass both seat _ (actor.Reader x) k after ge refl refl refl refl refl refl (omega arith) tt v
+  reader_page t reader_step.StoreLost x k after ge v = pass both seat _ (actor.Reader x) k after ge refl refl refl refl refl refl (omega arith) tt v
   reader_page t reader_step.GiveFailed x k after ge v = pass both seat _ (actor.Reader x) k after ge refl refl refl refl refl refl (omega arith) tt v
   reader_page t reader_step.Failed x k after ge v = pass both seat _ (actor.Reader x) k after ge refl refl refl refl refl refl (omega arith) tt v
   reader_page t reader_step.TakeDevice x k after ge v = by (eqb m.device 0) after

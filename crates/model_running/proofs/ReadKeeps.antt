@@ -77,6 +77,8 @@ module _ (c : Setup) (m m' : SharedWords) (log log' : List Entry) (sn : ℕ) (ti
   follower_at_later r at reader_step.StoreFailed h = tt
   follower_at_later r at reader_step.GiveFailed h = tt
   follower_at_later r at reader_step.Failed h = tt
+  follower_at_later r at reader_step.Append h = tt
+  follower_at_later r at reader_step.StoreLost h = tt
 
   follower_later : (r : ReaderState) → FollowerHas c m log r → FollowerHas c m' log' r
   follower_later r F =
@@ -102,11 +104,13 @@ module _ (c : Setup) (m m' : SharedWords) (log log' : List Entry) (sn : ℕ) (ti
   archiver_at_later r reader_step.GiveBroken h = ((let a = h.0 in omega arith), h.1)
   archiver_at_later r reader_step.ReadBlock h = ((let a = h.0 in omega arith), h.1)
   archiver_at_later r reader_step.GiveDevice h = ((let a = h.0 in omega arith), h.1)
+  archiver_at_later r reader_step.Append h = ((let a = h.0 in omega arith), h.1)
   archiver_at_later r reader_step.LoadFlushed h = tt
   archiver_at_later r reader_step.StorePlace h = tt
   archiver_at_later r reader_step.StoreFailed h = tt
   archiver_at_later r reader_step.GiveFailed h = tt
   archiver_at_later r reader_step.Failed h = tt
+  archiver_at_later r reader_step.StoreLost h = tt
 
   archiver_later : (r : ReaderState) → ArchiverHas c m log r → ArchiverHas c m' log' r
   archiver_later r A = record { aligned = A.aligned; below = (let a = A.below in let b = floor_grows m.flushed m'.flushed flushed in omega arith); own_aligned = A.own_aligned; step = archiver_at_later r r.step A.step }

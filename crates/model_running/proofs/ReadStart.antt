@@ -3,14 +3,14 @@ use Rattle.std.proofs.Common.{Bool, List, [], ap, arith, cond, drop, eqb, false,
 use Rattle.std.specs.Prelude.{slice_index}
 use Rattle.model_base.specs.declared.limits.TheConstants.{BLOCK_SIZE}
 use Rattle.model_core.proofs.Lsns.{lsn_block, lsn_offset}
-use Rattle.model_core.specs.{archives, CheckpointerState, floor, IsText, lsn, new_checkpointer, new_reader, ReaderState, SharedWords}
+use Rattle.model_core.specs.{archives, CheckpointerState, floor, IsText, LostAt, lsn, new_checkpointer, new_reader, ReaderState, SharedWords}
 use Rattle.model_core.specs.Setup.{Setup}
 use Rattle.model_core.specs.StartWords.{start_checkpoint}
 use Rattle.model_core.specs.declared.limits.TheConstants.{READERS}
 use Rattle.model_core.specs.declared.steps.ReaderStep.TheVariants as reader_step
 use Rattle.model_log.specs.declared.layout.TheConstants.{BLOCK_DATA}
 use Rattle.model_running.proofs.Following.{text_some}
-use Rattle.model_running.specs.ReadHalf.{ArchiverAt, CandidateAt, CandidateFits, FollowerAt, HasByKind, ReaderHas, ReadsInRun}
+use Rattle.model_running.specs.ReadHalf.{ArchiverAt, ArchiverHas, CandidateAt, CandidateFits, FollowerAt, HasByKind, ReaderHas, ReadsInRun}
 
 module _ (c : Setup) (m : SharedWords) (even : c.base % BLOCK_DATA ≡ 0) (flushed : m.flushed ≡ lsn c.base)
     (places : (i : ℕ) → i < READERS → slice_index m.places i ≡ cond (eqb i 0) (start_checkpoint c) (lsn c.base)) where
@@ -80,12 +80,27 @@ module _ (c : Setup) (m : SharedWords) (even : c.base % BLOCK_DATA ≡ 0) (flush
   }
 
 -- whatever the log device tells
-pub starts_in_run : (c : Setup) → c.base % BLOCK_DATA ≡ 0 → (r : ReaderState) → r.number < c.last_reader
+pub archiver_starts : (c : Setup) (m : SharedWords) → c.base % BLOCK_DATA ≡ 0 → m.flushed ≡ lsn c.base → (r : ReaderState)
+    → ◌≡◌ {A = ReaderState} r (new_reader r.number (lsn c.base)) → archives r ≡ true → ArchiverHas c m [] r
+archiver_starts c m even flushed r is kind = by (archives r) kind (ap (λ (x : ReaderState). x.place) is) (ap (λ (x : ReaderState). x.own) is)
+  where
+    by : (b : Bool) → b ≡ true → r.place ≡ cond b (lsn c.base - 12) (lsn c.base) → r.own ≡ cond b (lsn c.base - 12) (lsn c.base) → ArchiverHas c m [] r
+    by true k place own = let o = lsn_offset c.base in record {
+      aligned = omega arith;
+      below = omega arith;
+      own_aligned = omega arith;
+      step = subst (ArchiverAt c m [] r) (sym (ap (λ (x : ReaderState). x.step) is)) tt;
+    }
+    by false k place own = absurd (cc)
+
+pub starts_in_run : (c : Setup) → c.base % BLOCK_DATA ≡ 0 → (r : ReaderState) → c.first_reader ≤ r.number → r.number < c.last_reader
     → ◌≡◌ {A = ReaderState} r (new_reader r.number (lsn c.base)) → ReadsInRun c r
-starts_in_run c even r few is = record {
+starts_in_run c even r first few is = record {
+  first = first;
   few = few;
   from = (let z = ap (λ (x : ReaderState). x.at) is in let b = lsn_block c.base in omega arith);
   block = λ kind. by (archives r) kind (ap (λ (x : ReaderState). x.place) is);
+  lost = subst (LostAt r) (sym (ap (λ (x : ReaderState). x.step) is)) (ap (λ (x : ReaderState). x.lost) is);
 }
   where
     by : (b : Bool) → b ≡ true → r.place ≡ cond b (lsn c.base - 12) (lsn c.base)

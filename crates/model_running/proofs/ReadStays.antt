@@ -6,7 +6,7 @@ use native.Mathlib.Decide.{ℕ_discrete}
 use lib.ListN.{get_elem?}
 use mathlib.Core.Option.{some}
 use Rattle.model_core.proofs.Lists.{at_set}
-use Rattle.model_core.specs.{Actor, Advance, advance_op, archives, AreInFront, checked, checkpointer_op, checkpointer_took, CheckpointerState, cleaner_op, CleanerState, closer_op, CloserState, Entry, entry, floor, flusher_op, FlusherState, IsText, is_above, lent, line, Listed, log_left, LogServed, lowered, next, next_block, old_of, oldest_end, own_took, pending, phase_log, reader_op, reader_took, ReaderState, Room, shared_answer, shared_left, SharedWords, tail_of, tail_word, Tiles, took, user_op, UserState, writer_op, WriterState, wrote}
+use Rattle.model_core.specs.{Actor, Advance, advance_op, archives, AreInFront, checked, checkpointer_op, checkpointer_took, CheckpointerState, cleaner_op, CleanerState, closer_op, CloserState, Entry, entry, floor, flusher_op, FlusherState, IsText, is_above, lent, LostAt, line, Listed, log_left, LogServed, lowered, next, next_block, old_of, oldest_end, own_took, pending, phase_log, reader_op, reader_took, ReaderState, Room, shared_answer, shared_left, SharedWords, tail_of, tail_word, Tiles, took, user_op, UserState, writer_op, WriterState, wrote}
 use Rattle.model_core.specs.DataSide.{DataSide}
 use Rattle.model_core.specs.LogSide.{LogSide}
 use Rattle.model_core.specs.Setup.{Setup}
@@ -43,8 +43,8 @@ use Rattle.model_pagecore.specs.DataLaws.{DataLaws}
 use Rattle.model_running.proofs.LogCalls.{asked_bound}
 use Rattle.model_running.proofs.Following.{AreTexts}
 use Rattle.model_running.proofs.ReadKeeps.{candidate_later, can_read, LogGrows, others_read, reader_goes, reader_later, reads_piece}
-use Rattle.model_running.proofs.ReadTurns.{begins, loads_place, lower, reads_block, reads_flushed, stores_place}
-use Rattle.model_running.specs.ReadHalf.{ArchiverAt, CandidateAt, CandidateFits, FollowerAt, HasMore, ReaderHas, ReadFits, ReadHalf}
+use Rattle.model_running.proofs.ReadTurns.{appends, begins, loads_place, lower, reads_block, reads_flushed, stores_place}
+use Rattle.model_running.specs.ReadHalf.{ArchiverAt, CandidateAt, CandidateFits, FollowerAt, HasMore, ReaderHas, ReadFits, ReadHalf, ReadsInRun}
 use Rattle.model_running.specs.RunningStore.{BothHalves}
 
 -- a reader that is about to give the log part back has the whole groups in front of what it then has
@@ -57,18 +57,18 @@ IsFilled (actor.Reader r) = ReaderIsFilled r r.step
 IsFilled _ = Unit {0}
 
 -- WHICH OPS LEAVE FLUSHED AND THE READERS' PLACES
-abbrev IsElse : Word → Type 0
+abbrev pub IsElse : Word → Type 0
 IsElse word.Flushed = ⊥
 IsElse (word.Place i) = ⊥
 IsElse _ = Unit {0}
 
-abbrev LeavesReads : Op → Type 0
+abbrev pub LeavesReads : Op → Type 0
 LeavesReads (op.Store w x) = IsElse w
 LeavesReads (op.Add w k) = IsElse w
 LeavesReads (op.Swap w a b) = IsElse w
 LeavesReads _ = Unit {0}
 
-abbrev SameReads : SharedWords → SharedWords → Type 0
+abbrev pub SameReads : SharedWords → SharedWords → Type 0
 SameReads m m' = (m'.places ≡ m.places) × (m'.flushed ≡ m.flushed)
 
 wrote_else : (m : SharedWords) (w : Word) (x : ℕ) → IsElse w → SameReads m (wrote m w x)
@@ -80,7 +80,7 @@ either_words : (m a b : SharedWords) (t : Bool) → SameReads m a → SameReads 
 either_words m a b true x y = x
 either_words m a b false x y = y
 
-left_reads : (m : SharedWords) (o : Op) → LeavesReads o → SameReads m (shared_left m o)
+pub left_reads : (m : SharedWords) (o : Op) → LeavesReads o → SameReads m (shared_left m o)
 left_reads m op.TakeDevice e = either_words m _ m (eqb m.device 0) (refl, refl) (refl, refl)
 left_reads m op.GiveDevice e = (refl, refl)
 left_reads m (op.TakeAdd p x) e = either_words m _ m _ (refl, refl) (refl, refl)
@@ -104,29 +104,29 @@ advance_leaves link_buffer.Closed v advance_step.LoadLink = tt
 advance_leaves link_buffer.Closed v advance_step.ClearLink = tt
 advance_leaves link_buffer.Closed v advance_step.FreeTail = tt
 
-user_leaves : (u : UserState) (f : UserStep) → LeavesReads (user_op u f)
+pub user_leaves : (u : UserState) (f : UserStep) → LeavesReads (user_op u f)
 user_leaves u user_step.LoadCheckpoint = tt
 user_leaves u (user_step.AdvanceWritten s) = advance_leaves link_buffer.Written u.advance s
 user_leaves u (user_step.AdvanceClosed s) = advance_leaves link_buffer.Closed u.advance s
 user_leaves u _ = tt
 
-writer_leaves : (s : WriterState) (f : WriterStep) → LeavesReads (writer_op s f)
+pub writer_leaves : (s : WriterState) (f : WriterStep) → LeavesReads (writer_op s f)
 writer_leaves s (writer_step.Advance v) = advance_leaves link_buffer.Written s.advance v
 writer_leaves s _ = tt
 
-closer_leaves : (t : CloserState) (f : CloserStep) → LeavesReads (closer_op t f)
+pub closer_leaves : (t : CloserState) (f : CloserStep) → LeavesReads (closer_op t f)
 closer_leaves t (closer_step.Advance v) = advance_leaves link_buffer.Closed t.advance v
 closer_leaves t closer_step.Failed = tt
 
-cleaner_leaves : (v : CleanerState) (f : CleanerStep) → LeavesReads (cleaner_op v f)
+pub cleaner_leaves : (v : CleanerState) (f : CleanerStep) → LeavesReads (cleaner_op v f)
 cleaner_leaves v cleaner_step.LoadFlushed = tt
 cleaner_leaves v _ = tt
 
-checkpointer_leaves : (t : CheckpointerState) (f : CheckpointerStep) → LeavesReads (checkpointer_op t f)
+pub checkpointer_leaves : (t : CheckpointerState) (f : CheckpointerStep) → LeavesReads (checkpointer_op t f)
 checkpointer_leaves t checkpointer_step.LoadCtail = tt
 checkpointer_leaves t _ = tt
 
-asks : (b : Bool) (o : Op) → LeavesReads o → LeavesReads (cond b (op.Load word.Failed) o)
+pub asks : (b : Bool) (o : Op) → LeavesReads o → LeavesReads (cond b (op.Load word.Failed) o)
 asks true o e = tt
 asks false o e = e
 
@@ -274,6 +274,14 @@ module _ (D : LogSide) (L : LogLaws D) (E : DataSide) (EL : DataLaws E) (c : Set
     reader_mine reader_step.GiveDevice is k full w = carried (record m { device = 0 }) _ (refl, refl) (reads_block c m g.log m.sn tiles all seat r R is full)
     reader_mine reader_step.StorePlace is k full w = stores_place c m g.log seat r R (let few = R.last in let top = both.script.few_readers in let long = both.logged.sized.places in omega arith)
     reader_mine reader_step.StoreFailed is k full w = carried (record m { failed = r.code }) _ (refl, refl) (plain r.code r.checks reader_step.GiveFailed (λ _. tt) (λ _. tt))
+    reader_mine reader_step.Append is k full w = appends c m g.log seat r R kind is code (eqb code 0)
+      where
+        I : ReadsInRun c r
+        I = both.in_run seat (actor.Reader r) at
+
+        kind : archives r ≡ true
+        kind = let lost : LostAt r reader_step.Append = subst (LostAt r) is I.lost in lost.0
+    reader_mine reader_step.StoreLost is k full w = carried (record m { failed = r.lost }) _ (refl, refl) (plain r.code r.checks reader_step.Failed (λ _. tt) (λ _. tt))
     reader_mine reader_step.GiveFailed is k full w = carried (record m { device = 0 }) _ (refl, refl) (plain r.code r.checks reader_step.Failed (λ _. tt) (λ _. tt))
     reader_mine reader_step.Failed is k full w = R
 
@@ -299,6 +307,8 @@ module _ (D : LogSide) (L : LogLaws D) (E : DataSide) (EL : DataLaws E) (c : Set
     reader_kept reader_step.ReadBlock is k full w under = quiet m g.log _ (same_log g.log m.sn) (refl, refl) under (reader_mine reader_step.ReadBlock is k full w)
     reader_kept reader_step.GiveDevice is k full w under = quiet (record m { device = 0 }) g.log _ (same_log g.log m.sn) (refl, refl) under (reader_mine reader_step.GiveDevice is k full w)
     reader_kept reader_step.StoreFailed is k full w under = quiet (record m { failed = r.code }) g.log _ (same_log g.log m.sn) (refl, refl) under (reader_mine reader_step.StoreFailed is k full w)
+    reader_kept reader_step.Append is k full w under = quiet m g.log _ (same_log g.log m.sn) (refl, refl) under (reader_mine reader_step.Append is k full w)
+    reader_kept reader_step.StoreLost is k full w under = quiet (record m { failed = r.lost }) g.log _ (same_log g.log m.sn) (refl, refl) under (reader_mine reader_step.StoreLost is k full w)
     reader_kept reader_step.GiveFailed is k full w under = quiet (record m { device = 0 }) g.log _ (same_log g.log m.sn) (refl, refl) under (reader_mine reader_step.GiveFailed is k full w)
     reader_kept reader_step.Failed is k full w under = quiet m g.log _ (same_log g.log m.sn) (refl, refl) under (reader_mine reader_step.Failed is k full w)
 
@@ -310,6 +320,8 @@ module _ (D : LogSide) (L : LogLaws D) (E : DataSide) (EL : DataLaws E) (c : Set
         stays_at reader_step.GiveBroken k = k
         stays_at reader_step.ReadBlock k = k
         stays_at reader_step.GiveDevice k = k
+        stays_at reader_step.Append k = k
+        stays_at reader_step.StoreLost k = tt
         stays_at reader_step.LoadFlushed k = tt
         stays_at reader_step.StorePlace k = tt
         stays_at reader_step.StoreFailed k = tt
@@ -327,6 +339,8 @@ module _ (D : LogSide) (L : LogLaws D) (E : DataSide) (EL : DataLaws E) (c : Set
         follower_stays reader_step.LoadFlushed k = tt
         follower_stays reader_step.StorePlace k = tt
         follower_stays reader_step.StoreFailed k = tt
+        follower_stays reader_step.Append k = tt
+        follower_stays reader_step.StoreLost k = tt
         follower_stays reader_step.GiveFailed k = tt
         follower_stays reader_step.Failed k = tt
     reader_hears false = reader_goes c m g.log r r.mark r.block r.texts m.failed false reader_step.Failed seat R (λ _ _. tt) (λ _ _. tt)

@@ -7,7 +7,7 @@ use Rattle.std.specs.Prelude.{min, nat_le, slice_index, slice_set}
 use Rattle.model_base.specs.declared.limits.TheConstants.{BLOCK_SIZE}
 use Rattle.model_core.proofs.Groups.{tiles_le}
 use Rattle.model_core.proofs.Lsns.{floor_grows, lsn_le, lsn_less}
-use Rattle.model_core.specs.{archived, archives, AreInFront, block_end, CheckpointerState, Entry, floor, followed, Given, has_all, IsBound, is_none, IsText, joined_texts, lsn, next_piece, pending, placed_at, read_to, reader_took, ReaderState, SharedWords, stream, Tiles}
+use Rattle.model_core.specs.{archived, archives, AreInFront, block_end, CheckpointerState, Entry, floor, followed, Given, has_all, IsBound, is_none, IsText, joined_texts, lsn, next_piece, pending, placed_at, read_to, reader_took, ReaderState, SharedWords, stream, Tiles, to_append}
 use Rattle.model_core.specs.Setup.{Setup}
 use Rattle.model_core.specs.declared.ops.Answer.TheVariants as answer
 use Rattle.model_core.specs.declared.steps.CheckpointerStep.TheVariants as checkpointer_step
@@ -119,21 +119,19 @@ module _ (c : Setup) (m : SharedWords) (log : List Entry) (sn : ℕ) (tiles : Ti
           bounds_on (e ∷ es) back s x y t b low = ⊎_elim (λ first. absurd (let z = tiles_le es (s + length e.bytes) x t.3 in let some = t.1 in omega arith))
               (λ more. bounds_on es back (s + length e.bytes) x y t.3 more low) b
 
-  pub reads_block : r.step ≡ reader_step.GiveDevice → (archives r ≡ false → AreInFront (pending r) r.texts) → ReaderHas c m log seat (cond (archives r) (archived r) (followed r))
+  pub reads_block : r.step ≡ reader_step.GiveDevice → (archives r ≡ false → AreInFront (pending r) r.texts) → ReaderHas c m log seat (cond (archives r) (to_append r) (followed r))
   reads_block is front = by (archives r) refl R.has
     where
-      by : (b : Bool) → archives r ≡ b → HasByKind c m log b r → ReaderHas c m log seat (cond b (archived r) (followed r))
+      by : (b : Bool) → archives r ≡ b → HasByKind c m log b r → ReaderHas c m log seat (cond b (to_append r) (followed r))
       by true kind A =
           let at : ArchiverAt c m log r reader_step.GiveDevice = subst (ArchiverAt c m log r) is A.step in
-          let a0 = at.0 in let a1 = at.1 in let up = R.up in
-          let grows = floor_grows r.mark m.flushed a0 in
           record {
             alone = R.alone;
             first = R.first;
             last = R.last;
             word = R.word;
-            up = omega arith;
-            has = subst (λ (k : Bool). HasByKind c m log k (archived r)) (sym kind) (record { aligned = omega (arith, A.aligned); below = omega arith; own_aligned = A.own_aligned; step = tt });
+            up = R.up;
+            has = subst (λ (k : Bool). HasByKind c m log k (to_append r)) (sym kind) (record { aligned = A.aligned; below = A.below; own_aligned = A.own_aligned; step = at });
           }
       by false kind F =
           let at : FollowerAt c m log r reader_step.GiveDevice = subst (FollowerAt c m log r) is F.step in
@@ -147,6 +145,35 @@ module _ (c : Setup) (m : SharedWords) (log : List Entry) (sn : ℕ) (tiles : Ti
             up = omega arith;
             has = subst (λ (k : Bool). HasByKind c m log k (followed r)) (sym kind) (follows F at.0 at.1 (front kind)).0;
           }
+
+-- THE ARCHIVER APPENDS its block, or fails to
+pub appends : (c : Setup) (m : SharedWords) (log : List Entry) (seat : ℕ) (r : ReaderState) → ReaderHas c m log seat r → archives r ≡ true
+    → r.step ≡ reader_step.Append → (code : ℕ) (b : Bool) → ReaderHas c m log seat (archived r (cond b (answer.Called 0) (answer.Failed code)))
+appends c m log seat r R kind is code = by
+  where
+    A : ArchiverHas c m log r
+    A = subst (λ (k : Bool). HasByKind c m log k r) kind R.has
+
+    at : ArchiverAt c m log r reader_step.Append
+    at = subst (ArchiverAt c m log r) is A.step
+
+    by : (b : Bool) → ReaderHas c m log seat (archived r (cond b (answer.Called 0) (answer.Failed code)))
+    by true = let a0 = at.0 in let a1 = at.1 in let up = R.up in let grows = floor_grows r.mark m.flushed a0 in record {
+      alone = R.alone;
+      first = R.first;
+      last = R.last;
+      word = R.word;
+      up = omega arith;
+      has = subst (λ (k : Bool). HasByKind c m log k (archived r (answer.Called 0))) (sym kind) (record { aligned = omega (arith, A.aligned); below = omega arith; own_aligned = A.own_aligned; step = tt });
+    }
+    by false = record {
+      alone = R.alone;
+      first = R.first;
+      last = R.last;
+      word = R.word;
+      up = R.up;
+      has = subst (λ (k : Bool). HasByKind c m log k (archived r (answer.Failed code))) (sym kind) (record { aligned = A.aligned; below = A.below; own_aligned = A.own_aligned; step = tt });
+    }
 
 -- IT STORES ITS PLACE
 pub stores_place : (c : Setup) (m : SharedWords) (log : List Entry) (seat : ℕ) (r : ReaderState) → ReaderHas c m log seat r → r.number < length m.places

@@ -6,8 +6,8 @@ use native.Mathlib.Decide.{ℕ_discrete}
 use lib.ListN.{get_elem?}
 use mathlib.Core.Option.{some, some-injective}
 use Rattle.model_core.proofs.Lists.{set_at, set_else}
-use Rattle.model_core.specs.{Actor, after_of, archived, archives, AreInFront, Core, Entry, filled, Filling, followed, Given, has_all}
-use Rattle.model_core.specs.{Listed, log_left, old_of, pending, placed_at, reader_program, reader_took, ReaderState, SharedWords, took}
+use Rattle.model_core.specs.{Actor, after_of, archives, AreInFront, Core, Entry, filled, Filling, followed, Given, has_all}
+use Rattle.model_core.specs.{Listed, log_left, old_of, pending, placed_at, reader_program, reader_took, ReaderState, SharedWords, to_append, took}
 use Rattle.model_core.specs.Actors as actor
 use Rattle.model_core.specs.DataSide.{DataSide}
 use Rattle.model_core.specs.LogSide.{LogSide}
@@ -77,7 +77,7 @@ module _ (D : LogSide) (L : LogLaws D) (E : DataSide) (EL : DataLaws E) (c : Set
       all = texts_of_log D E c spare m g h ls p d actors both
 
       given : (b : Bool) → archives r ≡ b → FollowerAt c m g.log r reader_step.GiveDevice
-          → AreInFront (pending r) r.texts → Grown (cond b (archived r) (followed r)) (placed_at r.at r.texts)
+          → AreInFront (pending r) r.texts → Grown (cond b (to_append r) (followed r)) (placed_at r.at r.texts)
       given true other k front = absurd (cc)
       given false same k front =
           (follows c m g.log m.sn both.logged.global.tiled.tiles all seat r R F k.0 k.1 front).1

@@ -23,7 +23,7 @@ use Rattle.model_running.specs.Seating.{AreSeated}
 use Rattle.model_script.specs.declared.script.ScriptLine.{ScriptLine}
 
 module _ (D : LogSide) (L : LogLaws D) (E : DataSide) (EL : DataLaws E) (c : Setup) (spare seed max : ℕ) (script : List ScriptLine) (opened : Opened) (first last : Core D E) (running : IsRunning D E c spare first) (of_script : IsOfScript c script opened.shape) (start : lsn c.base ≡ start_after opened.end) where
-  pub run_done : (failures : ℕ) (left : List (ℕ × ℕ)) → AreSeated c first.actors → CausesAreFailures D E failures last.log_part last.data_part → IsDone D E seed max first last → FinishedStore D E c script opened failures left last
+  pub run_done : (failures : ℕ) (left : List (ℕ × ℕ)) → AreSeated c first.actors → CausesAreFailures D E failures last.log_part last.data_part last.actors → IsDone D E seed max first last → FinishedStore D E c script opened failures left last
   run_done failures left seated causes done =
       let after : IsRunning D E c spare last = run_keeps D L E EL c spare seed max done.count first last running done.turns in
       finished_store D E c spare script opened failures left last after (run_keeps_seats D E c seed max done.count first last seated done.turns) done.ended of_script start causes
@@ -36,7 +36,7 @@ module _ (D : LogSide) (L : LogLaws D) (E : DataSide) (EL : DataLaws E) (c : Set
 
   -- so the lines that are left make it a closed run where all users have ended
   pub run_closed : (number failures : ℕ) (left : List (ℕ × ℕ)) (log_disk data_disk : Disk) → AreGiven script opened → HasItsPages c opened → LogTells D c opened.shape number last.log_part log_disk → DataTells E opened last.data_part data_disk
-      → AreSeated c first.actors → CausesAreFailures D E failures last.log_part last.data_part → IsDone D E seed max first last → ClosedStore D E script opened number failures left log_disk data_disk last
+      → AreSeated c first.actors → CausesAreFailures D E failures last.log_part last.data_part last.actors → IsDone D E seed max first last → ClosedStore D E script opened number failures left log_disk data_disk last
   run_closed number failures left log_disk data_disk given pages log_tells data_tells seated causes done =
       let after : IsRunning D E c spare last = run_keeps D L E EL c spare seed max done.count first last running done.turns in
       closed_store D E c script opened number log_disk data_disk last start given log_tells data_tells failures left spare after (run_keeps_seats D E c seed max done.count first last seated done.turns) done.ended of_script pages causes

@@ -1,11 +1,11 @@
 -- A run's start: both halves of the invariant hold.
-use Rattle.model_running.proofs.ReadStart.{candidate_starts, reader_starts, starts_in_run, starts_under}
-use Rattle.model_running.specs.ReadHalf.{NumberAt, ReadFits, StaysInRun}
+use Rattle.model_running.proofs.ReadStart.{archiver_starts, candidate_starts, reader_starts, starts_in_run, starts_under}
+use Rattle.model_running.specs.ReadHalf.{NumberAt, ReadFits, RunBlockAt, StaysInRun}
 use Rattle.std.proofs.Common.{List, [], ap, arith, false, get_or, length, refl, subst, sym, ℕ, ◌+◌, ◌<◌, ◌≡◌, ◌≢◌}
 use lib.ListN.{get_elem?}
 use mathlib.Core.Option.{some, some-ne-none}
 use Rattle.model_base.specs.declared.limits.TheConstants.{LSN_LIMIT}
-use Rattle.model_core.specs.{Actor, change_at, CheckpointerState, CleanerState, CloserState, flat, Line, line_at, LoadedMarks, lsn, PageWords, SharedWords}
+use Rattle.model_core.specs.{Actor, change_at, CheckpointerState, CleanerState, CloserState, flat, Line, line_at, LoadedMarks, lsn, PageWords, ReaderState, SharedWords}
 use Rattle.model_core.specs.DataSide.{DataSide}
 use Rattle.model_core.specs.LogSide.{LogSide}
 use Rattle.model_core.specs.Setup.{Setup}
@@ -95,7 +95,7 @@ module _ (D : LogSide) (E : DataSide) (c : Setup) (m : SharedWords) (p : D.Part)
     ap (λ (x : CheckpointerState). x.last) h.1,
     subst (NumberAt t) (sym (ap (λ (x : CheckpointerState). x.step) h.1)) tt,
   )
-  start_in_run seat (actor.Reader r) h = starts_in_run c S.words.even r h.2 h.3
+  start_in_run seat (actor.Reader r) h = starts_in_run c S.words.even r h.1 h.2 h.3
   start_in_run seat (actor.User u) h = tt
   start_in_run seat (actor.Writer s) h = tt
   start_in_run seat (actor.Flusher s) h = tt
@@ -115,6 +115,10 @@ module _ (D : LogSide) (E : DataSide) (c : Setup) (m : SharedWords) (p : D.Part)
       asked = λ i low high. (let z = S.log_part.asked in let few = S.script.few_readers in let u = starts_under c m w.even w.flushed w.places i (omega arith) in omega arith);
       each = λ seat a at. read_fits seat a (S.each seat a at);
     };
+    archiver = λ seat r at kind. let h : StartActor c seat_of writer seat (actor.Reader r) = S.each seat (actor.Reader r) at in
+        archiver_starts c m w.even w.flushed r h.3 kind;
+    blocks = λ _ seat r at _. let h : StartActor c seat_of writer seat (actor.Reader r) = S.each seat (actor.Reader r) at in
+        subst (RunBlockAt D c [] r) (sym (ap (λ (x : ReaderState). x.step) h.3)) tt;
     stays = λ _. w.ckpt;
     advanced = λ held. let free = S.page_words.cheld in absurd (cc);
     closed = λ seat u at. let k = new_user_is c u (S.each seat (actor.User u) at).1 in record {

@@ -6,7 +6,7 @@ use Rattle.std.proofs.Common.{Bool, List, [], ap, arith, cond, eqb, false, get_o
 use Rattle.std.specs.Prelude.{slice_index}
 use lib.ListN.{get_elem?}
 use mathlib.Core.Option.{some}
-use Rattle.model_core.specs.{Actor, answer_of, BatchPage, checkpointer_op, CheckpointerState, cleaner_op, CleanerState, closer_op, CloserState, DataServed, Entry, first_of_batch, flat, flusher_op, FlusherState, IsWord, lent, Listed, lists_left, log_left, LogServed, mode, next, no_page, OpWords, shared_answer, shared_left, SharedWords, took, user_op, UserState, words_left, writer_op, WriterState, Advance, advance_op}
+use Rattle.model_core.specs.{Actor, answer_of, BatchPage, checkpointer_op, CheckpointerState, cleaner_op, CleanerState, closer_op, CloserState, DataServed, Entry, first_of_batch, flat, flusher_op, FlusherState, IsWord, lent, Listed, lists_left, log_left, LogServed, mode, next, no_page, OpWords, OwnServed, shared_answer, shared_left, SharedWords, took, user_op, UserState, words_left, writer_op, WriterState, Advance, advance_op}
 use Rattle.model_core.specs.{reader_op, ReaderState}
 use Rattle.model_core.proofs.PageSizes.{has_room}
 use Rattle.model_core.specs.DataSide.{DataSide}
@@ -178,7 +178,7 @@ pub record RunsOver (D : LogSide) (E : DataSide) (c : Setup) (spare : ℕ) (ws :
   pub log_is : store.log_ghost.log ≡ log
 
 module _ (D : LogSide) (L : LogLaws D) (E : DataSide) (EL : DataLaws E) (c : Setup) (spare : ℕ) (ws : List ℕ) (ls : ℕ → List Listed) (p : D.Part) (d : E.Part) (actors : List Actor) (seat : ℕ) (a : Actor) (before : RunningStore D E c spare ws ls p d actors)
-    (at : get_elem? actors seat ≡ some a) (full : IsFilled a) (code : ℕ) (q : D.Part) (e : E.Part) (served : LogServed D p (lent a) (next a) code q) (stored : DataServed E d (lent a) (next a) code e) where
+    (at : get_elem? actors seat ≡ some a) (full : IsFilled a) (code : ℕ) (q : D.Part) (e : E.Part) (served : LogServed D p (lent a) (next a) code q) (stored : DataServed E d (lent a) (next a) code e) (own : OwnServed (next a) code) where
   -- THE step lemma over the list of words
   pub keeps_turn : RunsOver D E c spare (words_left ws (next a))
       (lists_left ls (λ i. slice_index before.shared.lists i) (next a)) q e
@@ -188,7 +188,7 @@ module _ (D : LogSide) (L : LogLaws D) (E : DataSide) (EL : DataLaws E) (c : Set
       let m = before.shared in
       let k = before.both in
       let r = keeps_both D L E EL c spare m before.log_ghost before.page_ghost ls p d actors seat k code q e a at full
-      served stored in
+      served stored own in
       let w = next_words D E c spare m before.log_ghost before.page_ghost ls p d actors seat k a at in
       let left : words_left ws (next a) ≡ flat (shared_left m (next a)) =
       ap (λ (z : List ℕ). words_left z (next a)) before.flat_is ∙ flat_left c.pages m k.logged.sized (next a) w in

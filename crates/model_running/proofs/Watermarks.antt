@@ -13,6 +13,7 @@ use Rattle.model_logcore.specs.{LogGhost, TailWordIs}
 use Rattle.model_logcore.specs.LogLaws.{LogLaws}
 use Rattle.model_pagecore.specs.DataLaws.{DataLaws}
 use Rattle.model_pagecore.specs.{CheckpointerPageFits, CleanerAt, CleanerFits, CleanerHasLatch, CloserFits, HoldsOnly, PageGhost, Passed, UserHasLatch, UserPageFits, UserPagesAt, CloserAt, ClosingAt, HoldsCtail, UserClosingAt}
+use Rattle.model_running.proofs.Archiving.{lost_code}
 use Rattle.model_running.proofs.LatchesKeep.{held_by}
 use Rattle.model_running.specs.RunningStore.{BothHalves, IsRunning}
 use Rattle.model_running.specs.Watermarks.{CleanerTells, ClosedChangesAreListedOrKept, FailureHasCause, FramesAreApplied, HasWatermarks, KeptPagesArePrefixes, ListsAreRelaxed, UserTells, Watermarks}
@@ -122,11 +123,12 @@ module _ (D : LogSide) (L : LogLaws D) (E : DataSide) (EL : DataLaws E) (c : Set
     cleaner_loaded = λ seat v at. (cleaner_pages seat v at).flushed;
   }
 
-  failure_has_cause : FailureHasCause D E m.failed p d
+  failure_has_cause : FailureHasCause D E m.failed p d actors
   failure_has_cause = record {
     cause = both.cause;
     of_log = λ cause. (L.codes p m.failed cause, L.broken p m.failed cause);
     of_data = λ cause. (EL.codes d m.failed cause, EL.broken d m.failed cause);
+    of_archive = lost_code c actors both.in_run m.failed;
   }
 
   pub watermarks : Watermarks D E c m ls p d actors

@@ -4,7 +4,7 @@ use lib.ListN.{get_elem?}
 use mathlib.Core.Option.{some}
 use Rattle.model_base.specs.declared.limits.TheConstants.{LSN_LIMIT}
 use Rattle.model_core.specs.DataSide.{DataSide}
-use Rattle.model_core.specs.{Core, Entry, index, Tiles, UserState}
+use Rattle.model_core.specs.{Actor, Core, Entry, HasLost, index, Tiles, UserState}
 use Rattle.model_core.specs.LogSide.{LogSide}
 use Rattle.model_core.specs.Setup.{Setup}
 use Rattle.model_running.specs.Ended.{IsLostBy}
@@ -22,9 +22,10 @@ use Rattle.model_core.specs.declared.words.Word.TheVariants as word
 use Rattle.model_report.specs.declared.entry.Entry as history
 
 -- a cause means that a call failed, of which so many did
-pub record CausesAreFailures (D : LogSide) (E : DataSide) (failures : ℕ) (p : D.Part) (d : E.Part) : Type 0 where
+pub record CausesAreFailures (D : LogSide) (E : DataSide) (failures : ℕ) (p : D.Part) (d : E.Part) (actors : List Actor) : Type 0 where
   pub log : (code : ℕ) → D.Cause p code → 0 < failures
   pub data_part : (code : ℕ) → E.Cause d code → 0 < failures
+  pub archive : (code : ℕ) → HasLost actors code → 0 < failures
 
 -- The run that a store's state stands for: it is a run of the script with the words' marks, its groups are those that the
 -- actors have, the log part holds them, and its marks are no further than those of the log part.
@@ -54,9 +55,9 @@ pub record FinishedStore (D : LogSide) (E : DataSide) (c : Setup) (script : List
   pub loses : IsLeft script run.entries left → LosesOnlyByFailure failures (Some run) left
   pub lost : (i : ℕ) (entry : history.Entry) → slice_get run.entries i ≡ Some entry → (entry.state ≡ Lost) ↔ IsLostBy s.actors entry.user entry.k
 
--- a call of a part has failed
-abbrev pub HasFailedPart : (D : LogSide) (E : DataSide) → D.Part → E.Part → Type 0
-HasFailedPart D E p d = (code : ℕ) × (D.Cause p code ⊎ E.Cause d code)
+-- a call of a part has failed, or an append
+abbrev pub HasFailedPart : (D : LogSide) (E : DataSide) → D.Part → E.Part → List Actor → Type 0
+HasFailedPart D E p d actors = (code : ℕ) × (D.Cause p code ⊎ E.Cause d code ⊎ HasLost actors code)
 
 -- The turns are spent: this is the least user that hasn't ended, and the commit of one of its lines isn't answered.
 pub record SpentStore (D : LogSide) (E : DataSide) (c : Setup) (script : List ScriptLine) (opened : Opened) (user : ℕ) (s : Core D E) : Type 0 where
@@ -67,5 +68,5 @@ pub record SpentStore (D : LogSide) (E : DataSide) (c : Setup) (script : List Sc
   pub number : state.user ≡ user
   pub not_ended : HasEnded state → ⊥
   pub unanswered : state.k < length (lines_of_user user script)
-  pub leaves : LeavesOpen script stands.run.entries (HasFailedPart D E s.log_part s.data_part) user
+  pub leaves : LeavesOpen script stands.run.entries (HasFailedPart D E s.log_part s.data_part s.actors) user
   pub least : (j : ℕ) (u : UserState) → get_elem? s.actors j ≡ some (actor.User u) → u.user < user → HasEnded u

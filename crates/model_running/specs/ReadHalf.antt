@@ -1,10 +1,10 @@
 -- The readers' part of the invariant: what holds of the places of the readers of the log, of each reader, and of the
 -- checkpointer's candidate under those places.
-use Rattle.std.specs.Prelude.{Bool, List, [], cond, drop, false, length, nat_le, slice_index, take, true, ℕ, ◌%◌, ◌+◌, ◌-◌, ◌<◌, ◌∷◌, ◌≡◌, ◌≤◌}
+use Rattle.std.specs.Prelude.{Bool, List, [], cond, drop, false, length, nat_le, slice_index, take, true, ℕ, ◌%◌, ◌++◌, ◌+◌, ◌-◌, ◌<◌, ◌∷◌, ◌≡◌, ◌≤◌}
 use lib.ListN.{get_elem?}
 use mathlib.Core.Option.{some}
 use Rattle.model_base.specs.declared.limits.TheConstants.{BLOCK_SIZE, MAX_GROUP}
-use Rattle.model_core.specs.{Actor, archives, block_end, CheckpointerState, end_of, Entry, floor, Given, IsBound, IsText, lsn, next_piece, placed_at, read_to, ReaderState, SharedWords, stream}
+use Rattle.model_core.specs.{Actor, archives, block_end, CheckpointerState, end_of, Entry, floor, Given, IsBound, IsText, LostAt, lsn, next_piece, placed_at, read_to, ReaderState, SharedWords, stream}
 use Rattle.model_core.specs.LogSide.{LogSide}
 use Rattle.model_core.specs.Setup.{Setup}
 use Rattle.model_core.specs.Actors as actor
@@ -73,6 +73,7 @@ module _ (c : Setup) (m : SharedWords) (log : List Entry) where
   ArchiverAt r reader_step.GiveBroken = (r.mark ≤ m.flushed) × (r.place + BLOCK_SIZE ≤ floor r.mark)
   ArchiverAt r reader_step.ReadBlock = (r.mark ≤ m.flushed) × (r.place + BLOCK_SIZE ≤ floor r.mark)
   ArchiverAt r reader_step.GiveDevice = (r.mark ≤ m.flushed) × (r.place + BLOCK_SIZE ≤ floor r.mark)
+  ArchiverAt r reader_step.Append = (r.mark ≤ m.flushed) × (r.place + BLOCK_SIZE ≤ floor r.mark)
   ArchiverAt r _ = Unit {0}
 
   -- the archiver has the log below a block, at most that of FLUSHED
@@ -120,12 +121,14 @@ module _ (c : Setup) (m : SharedWords) (log : List Entry) where
   ReadFits seat (actor.Reader r) = ReaderHas seat r
   ReadFits seat _ = Unit {0}
 
--- WHATEVER THE LOG DEVICE TELLS, the numbers of readers are those of words, and the block that a reader needs next is
--- one of the run.
+-- WHATEVER THE LOG DEVICE TELLS, the numbers of readers are those of words, the block that a reader needs next is one
+-- of the run, and the archiver alone appends.
 pub record ReadsInRun (c : Setup) (r : ReaderState) : Type 0 where
+  pub first : c.first_reader ≤ r.number
   pub few : r.number < c.last_reader
   pub from : c.base ≤ r.at
   pub block : archives r ≡ true → (r.place % BLOCK_SIZE ≡ 0) × (floor (lsn c.base) ≤ r.place)
+  pub lost : LostAt r r.step
 
 abbrev pub NumberAt : CheckpointerState → CheckpointerStep → Type 0
 NumberAt t checkpointer_step.LoadPlace = t.reader < t.last
@@ -140,3 +143,20 @@ StaysInRun c _ = Unit {0}
 pub record ReadHalf (D : LogSide) (c : Setup) (m : SharedWords) (log : List Entry) (p : D.Part) (actors : List Actor) : Type 0 where
   pub asked : IsUnderPlaces c m log (D.asked p) c.last_reader
   pub each : (seat : ℕ) (a : Actor) → get_elem? actors seat ≡ some a → ReadFits c m log seat a
+
+-- THE BLOCK THAT THE ARCHIVER HAS READ is the run's, by the groups that there were then; the log may have grown since.
+pub record HasRunBlock (D : LogSide) (c : Setup) (log : List Entry) (r : ReaderState) : Type 0 where
+  pub early : List Entry
+  pub late : List Entry
+  pub grown : log ≡ early ++ late
+  pub block : D.IsRunBlock c.base early r.place r.block
+
+-- it has it from its read up to its append
+abbrev pub RunBlockAt : (D : LogSide) → Setup → List Entry → ReaderState → ReaderStep → Type 0
+RunBlockAt D c log r reader_step.GiveDevice = HasRunBlock D c log r
+RunBlockAt D c log r reader_step.Append = HasRunBlock D c log r
+RunBlockAt D c log r _ = Unit {0}
+
+abbrev pub HaveRunBlocks : (D : LogSide) → Setup → List Entry → List Actor → Type 0
+HaveRunBlocks D c log actors = (seat : ℕ) (r : ReaderState) → get_elem? actors seat ≡ some (actor.Reader r)
+    → archives r ≡ true → RunBlockAt D c log r r.step

@@ -2,7 +2,7 @@
 use Rattle.std.specs.Prelude.{List, true, ℕ, ◌<◌, ◌≡◌, ◌≤◌, ◌⊎◌}
 use lib.ListN.{get_elem?}
 use mathlib.Core.Option.{some}
-use Rattle.model_core.specs.{Actor, Core, flat, HasHolder, IsScripted, Listed, SharedWords}
+use Rattle.model_core.specs.{Actor, archives, Core, flat, HasHolder, HasLost, IsScripted, Listed, ReaderState, SharedWords}
 use Rattle.model_core.specs.DataSide.{DataSide}
 use Rattle.model_core.specs.LogSide.{LogSide}
 use Rattle.model_core.specs.Setup.{Setup}
@@ -12,14 +12,15 @@ use Rattle.model_logcore.specs.LogHalf.{LogHalf}
 use Rattle.model_pagecore.specs.{PageGhost}
 use Rattle.model_pagecore.specs.PageHalf.{PageHalf}
 use Rattle.model_running.specs.LatchesHeld.{LatchesAreHeld}
-use Rattle.model_running.specs.ReadHalf.{ReadHalf, StaysInRun}
+use Rattle.model_running.specs.ReadHalf.{ArchiverHas, HaveRunBlocks, ReadHalf, StaysInRun}
 use Rattle.model_running.specs.UsersClosed.{UsersClosed}
+use Rattle.model_core.specs.Actors as actor
 use Rattle.model_core.specs.declared.words.LinkBuffer.TheVariants as link_buffer
 
 pub record BothHalves (D : LogSide) (E : DataSide) (c : Setup) (spare : ℕ) (m : SharedWords) (g : LogGhost) (h : PageGhost) (ls : ℕ → List Listed) (p : D.Part) (d : E.Part) (actors : List Actor) : Type 0 where
   pub script : IsScripted c
   -- a failure has a cause
-  pub cause : 0 < m.failed → D.Cause p m.failed ⊎ E.Cause d m.failed
+  pub cause : 0 < m.failed → D.Cause p m.failed ⊎ E.Cause d m.failed ⊎ HasLost actors m.failed
   pub logged : LogHalf D c spare m g p actors
   -- no page lacks a change that starts below a checkpoint that was asked for, good or failed
   pub asked : D.asked p ≤ h.given
@@ -32,7 +33,10 @@ pub record BothHalves (D : LogSide) (E : DataSide) (c : Setup) (spare : ℕ) (m 
   pub advanced : m.cheld ≡ true → HasHolder link_buffer.Closed actors
   -- what the readers of the log have, as long as the log device tells what it means
   pub reading : D.Tells p → ReadHalf D c m g.log p actors
-  -- each names readers' words that there are, and reads blocks of the run
+  pub blocks : D.Tells p → HaveRunBlocks D c g.log actors
+  -- whatever it tells the archiver has what it needs to append,
+  pub archiver : (seat : ℕ) (r : ReaderState) → get_elem? actors seat ≡ some (actor.Reader r) → archives r ≡ true → ArchiverHas c m g.log r
+  -- and each names readers' words that there are, and reads blocks of the run
   pub in_run : (seat : ℕ) (a : Actor) → get_elem? actors seat ≡ some a → StaysInRun c a
   pub paged : PageHalf E c m g.log (D.stable p) h ls d actors
 

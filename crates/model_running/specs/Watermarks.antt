@@ -3,7 +3,7 @@
 use Rattle.std.specs.Prelude.{List, slice_index, true, ℕ, ◌%◌, ◌+◌, ◌<◌, ◌≡◌, ◌≤◌, ◌⊎◌}
 use lib.ListN.{get_elem?}
 use mathlib.Core.Option.{some}
-use Rattle.model_core.specs.{Actor, CheckpointerState, CleanerState, CloserState, Core, Each, Entry, flat, IsDataCode, IsLogCode, Listed, lsn, page_words_at, Relaxed, SharedWords, UserState}
+use Rattle.model_core.specs.{Actor, CheckpointerState, CleanerState, CloserState, Core, Each, Entry, flat, HasLost, IsArchiveCode, IsDataCode, IsLogCode, Listed, lsn, page_words_at, Relaxed, SharedWords, UserState}
 use Rattle.model_core.specs.DataSide.{DataSide}
 use Rattle.model_core.specs.LogSide.{LogSide}
 use Rattle.model_core.specs.Setup.{Setup}
@@ -85,11 +85,12 @@ pub record KeptPagesArePrefixes (E : DataSide) (c : Setup) (m : SharedWords) (lo
   pub cleaner_loaded : (seat : ℕ) (v : CleanerState) → get_elem? actors seat ≡ some (actor.Cleaner v) → v.flushed ≤ m.flushed
 
 -- A FAILURE HAS A CAUSE: a code in FAILED is that of a call that failed, of the log part or of the data part, which has failed
--- then.
-pub record FailureHasCause (D : LogSide) (E : DataSide) (failed : ℕ) (p : D.Part) (d : E.Part) : Type 0 where
-  pub cause : 0 < failed → D.Cause p failed ⊎ E.Cause d failed
+-- then, or of an append of the archiver.
+pub record FailureHasCause (D : LogSide) (E : DataSide) (failed : ℕ) (p : D.Part) (d : E.Part) (actors : List Actor) : Type 0 where
+  pub cause : 0 < failed → D.Cause p failed ⊎ E.Cause d failed ⊎ HasLost actors failed
   pub of_log : D.Cause p failed → IsLogCode failed × (D.failed p ≡ true)
   pub of_data : E.Cause d failed → IsDataCode failed × (E.failed d ≡ true)
+  pub of_archive : HasLost actors failed → IsArchiveCode failed
 
 -- all of them, over the words by name
 pub record Watermarks (D : LogSide) (E : DataSide) (c : Setup) (m : SharedWords) (ls : ℕ → List Listed) (p : D.Part) (d : E.Part) (actors : List Actor) : Type 0 where
@@ -103,7 +104,7 @@ pub record Watermarks (D : LogSide) (E : DataSide) (c : Setup) (m : SharedWords)
   pub kept_pages_are_prefixes : KeptPagesArePrefixes E c m of_log.log (D.asked p) (D.stable p) pages ls d actors
   -- with the log alone CKPT stays as opening left it
   pub checkpoint_stays : c.log_only ≡ true → m.ckpt ≡ start_checkpoint c
-  pub failure_has_cause : FailureHasCause D E m.failed p d
+  pub failure_has_cause : FailureHasCause D E m.failed p d actors
 
 -- and of a store's whole state
 abbrev pub HasWatermarks : (D : LogSide) (E : DataSide) → Setup → Core D E → Type 0

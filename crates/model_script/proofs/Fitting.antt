@@ -7,7 +7,7 @@ use Rattle.model_base.specs.{IsWithinLimits}
 use Rattle.model_base.specs.declared.shape.Shape.{Shape}
 use Rattle.model_base.specs.declared.limits.TheConstants.{LSN_LIMIT, MAX_GROUP, USER_START}
 use Rattle.model_log.specs.{group_length, HasSpelling, HasText, RecordFits, user_end}
-use Rattle.model_script.specs.Fit.{LineFits, ScriptFits, first_misfit, first_misfit_of, group_misfit, item_misfit, line_misfit, lsn_misfit, misfit_if, page_misfit, script_end, total_misfit, user_misfit, write_misfit}
+use Rattle.model_script.specs.Fit.{ArchiveFits, LineFits, ScriptFits, archive_misfit, archive_need, first_misfit, first_misfit_of, group_misfit, item_misfit, line_misfit, lsn_misfit, misfit_if, page_misfit, script_end, total_misfit, user_misfit, write_misfit}
 use Rattle.model_script.specs.LineGroup.{group_of, record_of}
 use Rattle.model_script.specs.Ranges.{IsInRange, IsScriptLine}
 use Rattle.model_script.specs.declared.item.Item.{Item}
@@ -140,15 +140,39 @@ pub room_is : (room_end : Option ℕ) (end : ℕ) → total_misfit room_end end 
 room_is None end none = tt
 room_is (Some room_end) end none = not_below room_end (end + MARGIN) (none-misfit_if _ _ _ none)
 
-pub script_fits : (shape : Shape) (start : ℕ) (room_end : Option ℕ) (script : List ScriptLine) → IsWithinLimits shape → AllByRecursion IsScriptLine script
-    → first_misfit shape start room_end script ≡ None → ScriptFits shape start room_end script
-unfolding first_misfit
-script_fits shape start room_end script limits range none =
+-- what is judged after the lines
+abbrev pub end_misfits : Shape → ℕ → Option ℕ → Option ℕ → List ScriptLine → List (Option Misfit)
+end_misfits shape start room_end archive script =
     let end = script_end shape start script in
-    let lines = lines_are shape script (lsn_misfit end ∷ total_misfit room_end end ∷ []) limits range none in
-    let ends = none-head (lsn_misfit end) (total_misfit room_end end ∷ []) lines.none in
+    lsn_misfit end ∷ total_misfit room_end end ∷ archive_misfit archive (archive_need shape start end) ∷ []
+
+-- none of it is a misfit
+pub record EndFits (shape : Shape) (start : ℕ) (room_end archive : Option ℕ) (script : List ScriptLine) : Type 0 where
+  pub end : script_end shape start script < LSN_LIMIT
+  pub room : IfSome room_end (λ room_end. script_end shape start script + MARGIN ≤ room_end)
+  pub archived : ArchiveFits shape start archive script
+
+archive_is : (archive : Option ℕ) (need : ℕ) → archive_misfit archive need ≡ None → IfSome archive (λ size. need ≤ size)
+archive_is None need none = tt
+archive_is (Some size) need none = not_below size need (none-misfit_if _ _ _ none)
+
+pub ends_fit : (shape : Shape) (start : ℕ) (room_end archive : Option ℕ) (script : List ScriptLine)
+    → first_misfit_of (end_misfits shape start room_end archive script) ≡ None → EndFits shape start room_end archive script
+ends_fit shape start room_end archive script none =
+    let end = script_end shape start script in
+    let need = archive_need shape start end in
+    let ends = none-head (lsn_misfit end) (total_misfit room_end end ∷ archive_misfit archive need ∷ []) none in
+    let rooms = none-head (total_misfit room_end end) (archive_misfit archive need ∷ []) ends.1 in
     record {
-      lines = lines.fit;
       end = not_up_to LSN_LIMIT end (none-misfit_if _ _ _ ends.0);
-      room = room_is room_end end (none-head (total_misfit room_end end) [] ends.1).0;
+      room = room_is room_end end rooms.0;
+      archived = archive_is archive need (none-head (archive_misfit archive need) [] rooms.1).0;
     }
+
+pub script_fits : (shape : Shape) (start : ℕ) (room_end archive : Option ℕ) (script : List ScriptLine) → IsWithinLimits shape → AllByRecursion IsScriptLine script
+    → first_misfit shape start room_end archive script ≡ None → ScriptFits shape start room_end script
+unfolding first_misfit
+script_fits shape start room_end archive script limits range none =
+    let lines = lines_are shape script (end_misfits shape start room_end archive script) limits range none in
+    let ends = ends_fit shape start room_end archive script lines.none in
+    record { lines = lines.fit; end = ends.end; room = ends.room }

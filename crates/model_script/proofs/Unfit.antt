@@ -7,9 +7,9 @@ use Rattle.model_base.specs.{IsWithinLimits}
 use Rattle.model_base.specs.declared.shape.Shape.{Shape}
 use Rattle.model_base.specs.declared.limits.TheConstants.{LSN_LIMIT, MAX_GROUP, USER_START}
 use Rattle.model_log.specs.{group_length, IsUserWrite, RecordFits, user_end}
-use Rattle.model_script.proofs.Fitting.{none-head, room_is, not_up_to, none-misfit_if, script_fits}
+use Rattle.model_script.proofs.Fitting.{EndFits, end_misfits, ends_fit, none-head, script_fits}
 use Rattle.model_script.proofs.ReadLines.{script_of-ranged}
-use Rattle.model_script.specs.Fit.{Fits, LineFits, ScriptFits, first_misfit, first_misfit_of, group_misfit, item_misfit, line_misfit, lsn_misfit, misfit_if, page_misfit, script_end, total_misfit, user_misfit, write_misfit}
+use Rattle.model_script.specs.Fit.{ArchiveFits, Fits, LineFits, ScriptFits, archive_misfit, archive_need, first_misfit, first_misfit_of, group_misfit, item_misfit, line_misfit, lsn_misfit, misfit_if, page_misfit, script_end, total_misfit, user_misfit, write_misfit}
 use Rattle.model_script.specs.Grammar.{script_of}
 use Rattle.model_script.specs.LineGroup.{group_of, record_of}
 use Rattle.model_script.specs.declared.item.Item.{Item}
@@ -23,45 +23,45 @@ none-behind : (before behind : List (Option Misfit)) → first_misfit_of (before
 none-behind [] behind none = none
 none-behind (first ∷ before) behind none = none-behind before behind (none-head first (before ++ behind) none).1
 
--- what is judged after the lines
-record EndFits (shape : Shape) (start : ℕ) (room_end : Option ℕ) (script : List ScriptLine) : Type 0 where
-  end : script_end shape start script < LSN_LIMIT
-  room : IfSome room_end (λ room_end. script_end shape start script + MARGIN ≤ room_end)
-
-end_fits : (shape : Shape) (start : ℕ) (room_end : Option ℕ) (script : List ScriptLine)
-    → first_misfit shape start room_end script ≡ None → EndFits shape start room_end script
+pub end_fits : (shape : Shape) (start : ℕ) (room_end archive : Option ℕ) (script : List ScriptLine)
+    → first_misfit shape start room_end archive script ≡ None → EndFits shape start room_end archive script
 unfolding first_misfit
-end_fits shape start room_end script none =
-    let end = script_end shape start script in
-    let behind = none-behind (map (line_misfit shape) script) (lsn_misfit end ∷ total_misfit room_end end ∷ []) none in
-    let ends = none-head (lsn_misfit end) (total_misfit room_end end ∷ []) behind in
-    record {
-      end = not_up_to LSN_LIMIT end (none-misfit_if _ _ _ ends.0);
-      room = room_is room_end end (none-head (total_misfit room_end end) [] ends.1).0;
-    }
+end_fits shape start room_end archive script none =
+    ends_fit shape start room_end archive script
+    (none-behind (map (line_misfit shape) script) (end_misfits shape start room_end archive script) none)
 
-pub text_fits : (shape : Shape) (start : ℕ) (room_end : Option ℕ) (text : List ℕ) (script : List ScriptLine)
-    → IsWithinLimits shape → script_of text ≡ Ok script → first_misfit shape start room_end script ≡ None
+pub archive_fits : (shape : Shape) (start : ℕ) (room_end archive : Option ℕ) (script : List ScriptLine)
+    → first_misfit shape start room_end archive script ≡ None → ArchiveFits shape start archive script
+archive_fits shape start room_end archive script none = (end_fits shape start room_end archive script none).archived
+
+pub text_fits : (shape : Shape) (start : ℕ) (room_end archive : Option ℕ) (text : List ℕ) (script : List ScriptLine)
+    → IsWithinLimits shape → script_of text ≡ Ok script → first_misfit shape start room_end archive script ≡ None
     → ScriptFits shape start room_end script
-text_fits shape start room_end text script limits is none =
-    script_fits shape start room_end script limits (script_of-ranged text script is) none
+text_fits shape start room_end archive text script limits is none =
+    script_fits shape start room_end archive script limits (script_of-ranged text script is) none
 
-pub lines-fit : (shape : Shape) (start room : ℕ) (log_only : Bool) (text : List ℕ) (script : List ScriptLine)
-    → IsWithinLimits shape → script_of text ≡ Ok script → Fits shape start room log_only script
-    → AllByRecursion (LineFits shape) script
-lines-fit shape start room log_only text script limits is fits =
-    (text_fits shape start (if log_only then Some room else None) text script limits is fits.no_misfit).lines
+pub lines-fit : (shape : Shape) (start room : ℕ) (log_only : Bool) (archive : Option ℕ) (text : List ℕ)
+    (script : List ScriptLine) → IsWithinLimits shape → script_of text ≡ Ok script
+    → Fits shape start room log_only archive script → AllByRecursion (LineFits shape) script
+lines-fit shape start room log_only archive text script limits is fits =
+    (text_fits shape start (if log_only then Some room else None) archive text script limits is fits.no_misfit).lines
 
-pub end-fits : (shape : Shape) (start room : ℕ) (log_only : Bool) (script : List ScriptLine)
-    → Fits shape start room log_only script → script_end shape start script < LSN_LIMIT
-end-fits shape start room log_only script fits =
-    (end_fits shape start (if log_only then Some room else None) script fits.no_misfit).end
+pub end-fits : (shape : Shape) (start room : ℕ) (log_only : Bool) (archive : Option ℕ) (script : List ScriptLine)
+    → Fits shape start room log_only archive script → script_end shape start script < LSN_LIMIT
+end-fits shape start room log_only archive script fits =
+    (end_fits shape start (if log_only then Some room else None) archive script fits.no_misfit).end
 
-pub room-fits : (shape : Shape) (start room : ℕ) (log_only : Bool) (script : List ScriptLine)
-    → Fits shape start room log_only script → log_only ≡ true → script_end shape start script + MARGIN ≤ room
-room-fits shape start room log_only script fits is =
-    let P : Bool → Type 0 = λ log_only. first_misfit shape start (if log_only then Some room else None) script ≡ None in
-    (end_fits shape start (Some room) script (subst P is fits.no_misfit)).room
+pub room-fits : (shape : Shape) (start room : ℕ) (log_only : Bool) (archive : Option ℕ) (script : List ScriptLine)
+    → Fits shape start room log_only archive script → log_only ≡ true → script_end shape start script + MARGIN ≤ room
+room-fits shape start room log_only archive script fits is =
+    let P : Bool → Type 0 = λ log_only.
+    first_misfit shape start (if log_only then Some room else None) archive script ≡ None in
+    (end_fits shape start (Some room) archive script (subst P is fits.no_misfit)).room
+
+pub archive-fits : (shape : Shape) (start room size : ℕ) (log_only : Bool) (script : List ScriptLine)
+    → Fits shape start room log_only (Some size) script → archive_need shape start (script_end shape start script) ≤ size
+archive-fits shape start room size log_only script fits =
+    (end_fits shape start (if log_only then Some room else None) (Some size) script fits.no_misfit).archived
 
 -- THE OTHER WAY.
 
@@ -123,12 +123,19 @@ room-none : (room_end : Option ℕ) (end : ℕ) → IfSome room_end (λ room_end
 room-none None end fits = refl
 room-none (Some room_end) end fits = inside-none (nat_lt room_end (end + MARGIN)) _ end (le-ltb room_end (end + MARGIN) fits)
 
-pub fitting-none : (shape : Shape) (start : ℕ) (room_end : Option ℕ) (script : List ScriptLine)
-    → ScriptFits shape start room_end script → first_misfit shape start room_end script ≡ None
+archive-none : (archive : Option ℕ) (need : ℕ) → IfSome archive (λ size. need ≤ size) → archive_misfit archive need ≡ None
+archive-none None need fits = refl
+archive-none (Some size) need fits = inside-none (nat_lt size need) _ need (le-ltb size need fits)
+
+pub fitting-none : (shape : Shape) (start : ℕ) (room_end archive : Option ℕ) (script : List ScriptLine)
+    → ScriptFits shape start room_end script → ArchiveFits shape start archive script
+    → first_misfit shape start room_end archive script ≡ None
 unfolding first_misfit
-fitting-none shape start room_end script fits =
+fitting-none shape start room_end archive script fits archived =
     let end = script_end shape start script in
+    let need = archive_need shape start end in
     let below = inside-none (nat_le LSN_LIMIT end) _ end (lt-leb LSN_LIMIT end fits.end) in
-    lines-none shape script (lsn_misfit end ∷ total_misfit room_end end ∷ []) fits.lines
-    (both-none (lsn_misfit end) (total_misfit room_end end ∷ []) below
-    (both-none (total_misfit room_end end) [] (room-none room_end end fits.room) refl))
+    lines-none shape script (end_misfits shape start room_end archive script) fits.lines
+    (both-none (lsn_misfit end) (total_misfit room_end end ∷ archive_misfit archive need ∷ []) below
+    (both-none (total_misfit room_end end) (archive_misfit archive need ∷ []) (room-none room_end end fits.room)
+    (both-none (archive_misfit archive need) [] (archive-none archive need archived) refl)))

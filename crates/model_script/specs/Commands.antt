@@ -1,6 +1,6 @@
--- The six commands. After a command's name stand its options, in any order and each at most once, and for `gen` three
+-- The seven commands. After a command's name stand its options, in any order and each at most once, and for `gen` three
 -- numbers. Words that aren't one of these commands ask for nothing.
-use Rattle.std.specs.Prelude.{ℕ, ◌^◌, ◌-◌, ◌&&◌, ◌||◌, nat_le, if◌then◌else◌, Bool, true, not, List, [], ◌∷◌, codes, find, Option, Some, None, option_map, option_and_then, unwrap_or}
+use Rattle.std.specs.Prelude.{ℕ, ◌^◌, ◌-◌, ◌&&◌, ◌||◌, nat_le, if◌then◌else◌, Bool, true, false, not, List, [], ◌∷◌, codes, find, Option, Some, None, option_map, option_and_then, unwrap_or}
 use Rattle.std.specs.List.{list_all, list_any}
 use Rattle.std.specs.Str.{bytes_eq}
 use Rattle.model_base.specs.declared.limits.TheConstants.{DEFAULT_LOG_BLOCKS, DEFAULT_PAGES, DEFAULT_SPACE, MAX_LOG_BLOCKS, MAX_PAGES, MIN_LOG_BLOCKS}
@@ -8,7 +8,7 @@ use Rattle.model_script.specs.declared.misfit.TheConstants.{MAX_USERS}
 use Rattle.model_script.specs.Words.{Said, said_from, spelling}
 use Rattle.model_script.specs.declared.asked.Asked.{Asked}
 use Rattle.model_script.specs.declared.asked.Command.{Command}
-use Rattle.model_script.specs.declared.asked.Command.TheVariants.{Format, Run, Crash, Recover, Dump, Gen}
+use Rattle.model_script.specs.declared.asked.Command.TheVariants.{Format, Run, Crash, Recover, Dump, Restore, Gen}
 use Rattle.model_script.specs.declared.asked.Drive.{Drive}
 use Rattle.model_script.specs.declared.words.Expected.TheVariants.{Any}
 use Rattle.model_script.specs.declared.words.Given.{Given}
@@ -52,17 +52,26 @@ number_or least greatest default (Some n) = number_within least greatest n
 abbrev pub given_followers : List Given → Option ℕ
 given_followers options = number_or 1 MAX_FOLLOWERS 0 (given_number name.Followers options)
 
--- how a script is run: by turns of the seed 0 where nothing else is asked
-abbrev pub given_drive : List Given → Option Drive
-given_drive options =
-    option_and_then (λ max. option_map (λ followers. record {
+-- options that don't go together
+abbrev pub is_no_drive : Drive → Bool
+is_no_drive drive = drive.threads && drive.archive || drive.own_writes && drive.archive
+
+-- the drive, if its options go together
+abbrev pub where_driven : Drive → Option Drive
+where_driven drive = if is_no_drive drive then None else Some drive
+
+-- how a script is run, and whether the run is archived: by turns of the seed 0 where nothing else is asked
+abbrev pub given_drive : Bool → List Given → Option Drive
+given_drive archive options =
+    option_and_then where_driven (option_and_then (λ max. option_map (λ followers. record {
       seed = unwrap_or (given_number name.Turns options) 0;
       max = max;
       threads = is_given name.Threads options;
       log_only = is_given name.LogOnly options;
       own_writes = is_given name.OwnWrites options;
       followers = followers;
-    }) (given_followers options)) (number_or 0 MAX_TURNS DEFAULT_TURNS (given_number name.Max options))
+      archive = archive;
+    }) (given_followers options)) (number_or 0 MAX_TURNS DEFAULT_TURNS (given_number name.Max options)))
 
 abbrev pub drive_names : List Name
 drive_names = name.Turns ∷ name.Max ∷ name.Threads ∷ name.LogOnly ∷ name.OwnWrites ∷ name.Followers ∷ []
@@ -81,7 +90,11 @@ given_workers options = number_or 1 MAX_WORKERS 1 (given_number name.Workers opt
 abbrev pub given_crash : List Given → Option Command
 given_crash options =
     option_and_then (λ drive. option_map (λ workers. Crash drive (given_number name.StopLog options) (given_number name.StopData options)
-    (unwrap_or (given_number name.Pick options) 0) workers) (given_workers options)) (given_drive options)
+    (unwrap_or (given_number name.Pick options) 0) workers) (given_workers options)) (given_drive false options)
+
+-- the drive of a run, which may be archived
+abbrev pub given_run : List Given → Option Command
+given_run options = option_map Run (given_drive (is_given name.Archive options) options)
 
 -- the seed, the number of users and the number of groups
 abbrev pub given_gen : List Given → List ℕ → Option Command
@@ -99,10 +112,11 @@ where_allowed names options command = if are_among names options && are_differen
 abbrev pub plain_command : List ℕ → List Given → Option Command
 plain_command text options =
     if bytes_eq text (codes "format") then where_allowed (name.Pages ∷ name.Space ∷ name.LogBlocks ∷ []) options (given_format options)
-    else (if bytes_eq text (codes "run") then where_allowed drive_names options (option_map Run (given_drive options))
+    else (if bytes_eq text (codes "run") then where_allowed (name.Archive ∷ drive_names) options (given_run options)
     else (if bytes_eq text (codes "crash") then where_allowed (name.StopLog ∷ name.StopData ∷ name.Pick ∷ name.Workers ∷ drive_names) options (given_crash options)
     else (if bytes_eq text (codes "recover") then where_allowed (name.Workers ∷ []) options (option_map Recover (given_workers options))
-    else (if bytes_eq text (codes "dump") then where_allowed (name.Why ∷ []) options (Some (Dump (is_given name.Why options))) else None))))
+    else (if bytes_eq text (codes "dump") then where_allowed (name.Why ∷ []) options (Some (Dump (is_given name.Why options)))
+    else (if bytes_eq text (codes "restore") then where_allowed (name.To ∷ []) options (option_map Restore (given_number name.To options)) else None)))))
 
 -- the command of this name with these options and these numbers by themselves
 abbrev pub named_command : List ℕ → List Given → List ℕ → Option Command

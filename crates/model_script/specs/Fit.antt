@@ -1,17 +1,17 @@
 -- What of a script doesn't fit a store: the first quantity in the order of its lines, and within a line its user, then
 -- of each operation the page and the offset, then the length of the group; after the lines the lsn at which the log
--- would end.
-use Rattle.std.specs.Prelude.{ℕ, ◌≡◌, ◌≤◌, ◌<◌, ◌+◌, ◌||◌, nat_lt, nat_le, if◌then◌else◌, Bool, List, [], ◌∷◌, ◌++◌, length, map, Option, Some, None, IfSome}
+-- would end, and the room for what would be archived.
+use Rattle.std.specs.Prelude.{ℕ, ◌≡◌, ◌≤◌, ◌<◌, ◌+◌, ◌-◌, ◌*◌, ◌||◌, nat_lt, nat_le, if◌then◌else◌, Bool, List, [], ◌∷◌, ◌++◌, length, map, Option, Some, None, IfSome}
 use Rattle.std.specs.List.{AllByRecursion}
 use Rattle.model_base.specs.declared.shape.Shape.{Shape}
-use Rattle.model_base.specs.declared.limits.TheConstants.{LSN_LIMIT, MAX_GROUP, USER_START}
-use Rattle.model_log.specs.{group_length, GroupFits, IsGroup, lsn_of, round_of, run_layout, sn_of, stream_of, user_end}
+use Rattle.model_base.specs.declared.limits.TheConstants.{BLOCK_SIZE, LSN_LIMIT, MAX_GROUP, USER_START}
+use Rattle.model_log.specs.{block_of, group_length, GroupFits, IsGroup, lsn_of, round_of, run_layout, sn_of, stream_of, user_end}
 use Rattle.model_script.specs.LineGroup.{group_of}
 use Rattle.model_script.specs.declared.item.Item.{Item}
 use Rattle.model_script.specs.declared.item.Item.TheVariants.{Num, Text, Init}
 use Rattle.model_script.specs.declared.misfit.Misfit.{Misfit}
 use Rattle.model_script.specs.declared.misfit.Quantity.{Quantity}
-use Rattle.model_script.specs.declared.misfit.Quantity.TheVariants.{User, Page, Offset, Group, Lsn, Total}
+use Rattle.model_script.specs.declared.misfit.Quantity.TheVariants.{User, Page, Offset, Group, Lsn, Total, Archive}
 use Rattle.model_script.specs.declared.misfit.TheConstants.{MARGIN, MAX_USERS}
 use Rattle.model_script.specs.declared.script.ScriptLine.{ScriptLine}
 
@@ -74,11 +74,23 @@ abbrev pub total_misfit : Option ℕ → ℕ → Option Misfit
 total_misfit None end = None
 total_misfit (Some room_end) end = misfit_if (nat_lt room_end (end + MARGIN)) Total end
 
+-- how many bytes the archive of such a run takes: those of its head and its two marks, of the pages, and of the blocks
+-- from that of its start up to that of its end
+abbrev pub archive_need : Shape → (start end : ℕ) → ℕ
+archive_need shape start end =
+    3 * BLOCK_SIZE + shape.pages * shape.page_size + (block_of end + BLOCK_SIZE - block_of start)
+
+-- A device of so many bytes has room for the archive. Where nothing is archived this isn't judged.
+abbrev pub archive_misfit : Option ℕ → ℕ → Option Misfit
+archive_misfit None need = None
+archive_misfit (Some size) need = misfit_if (nat_lt size need) Archive need
+
 -- The first quantity of a script that doesn't fit a store of this shape, on which the script would start at this lsn.
-unfoldable pub first_misfit : Shape → (start : ℕ) → (room_end : Option ℕ) → List ScriptLine → Option Misfit
-first_misfit shape start room_end script =
-    first_misfit_of (map (line_misfit shape) script
-    ++ lsn_misfit (script_end shape start script) ∷ total_misfit room_end (script_end shape start script) ∷ [])
+unfoldable pub first_misfit : Shape → (start : ℕ) → (room_end archive : Option ℕ) → List ScriptLine → Option Misfit
+first_misfit shape start room_end archive script =
+    let end = script_end shape start script in
+    first_misfit_of (map (line_misfit shape) script ++ lsn_misfit end ∷ total_misfit room_end end
+    ∷ archive_misfit archive (archive_need shape start end) ∷ [])
 
 -- the line may run on the store: its user has one of the numbers there are, and its group is one that fits
 pub record LineFits (shape : Shape) (line : ScriptLine) : Type 0 where
@@ -95,7 +107,12 @@ pub record ScriptFits (shape : Shape) (start : ℕ) (room_end : Option ℕ) (scr
   pub end : script_end shape start script < LSN_LIMIT
   pub room : IfSome room_end (λ room_end. script_end shape start script + MARGIN ≤ room_end)
 
+-- The archive's device, where there is one, has room for the run (the law `fitting_archive`).
+abbrev pub ArchiveFits : Shape → ℕ → Option ℕ → List ScriptLine → Type 0
+ArchiveFits shape start archive script =
+    IfSome archive (λ size. archive_need shape start (script_end shape start script) ≤ size)
+
 -- Nothing of a script is a misfit on a store on which it would start at this lsn: what is asked before it is run. Where
 -- no checkpoint frees the log it has room up to `room`; else that isn't judged.
-pub record Fits (shape : Shape) (start room : ℕ) (log_only : Bool) (script : List ScriptLine) : Type 0 where
-  pub no_misfit : first_misfit shape start (if log_only then Some room else None) script ≡ None
+pub record Fits (shape : Shape) (start room : ℕ) (log_only : Bool) (archive : Option ℕ) (script : List ScriptLine) : Type 0 where
+  pub no_misfit : first_misfit shape start (if log_only then Some room else None) archive script ≡ None

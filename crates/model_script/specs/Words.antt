@@ -14,6 +14,7 @@ use Rattle.model_script.specs.declared.words.Word.TheVariants.{Flag, Open, Joine
 
 -- how an option is spelled
 abbrev pub spelling : Name → List ℕ
+spelling name.Archive = codes "--archive"
 spelling name.Files = codes "--files"
 spelling name.Followers = codes "--followers"
 spelling name.LogBlocks = codes "--log-blocks"
@@ -27,14 +28,16 @@ spelling name.Space = codes "--space"
 spelling name.StopData = codes "--stop-data"
 spelling name.StopLog = codes "--stop-log"
 spelling name.Threads = codes "--threads"
+spelling name.To = codes "--to"
 spelling name.Turns = codes "--turns"
 spelling name.Why = codes "--why"
 spelling name.Workers = codes "--workers"
 
 abbrev pub every_name : List Name
 every_name =
-    name.Files ∷ name.Followers ∷ name.LogBlocks ∷ name.LogOnly ∷ name.Max ∷ name.OwnWrites ∷ name.Pages ∷ name.Pick
-    ∷ name.Run ∷ name.Space ∷ name.StopData ∷ name.StopLog ∷ name.Threads ∷ name.Turns ∷ name.Why ∷ name.Workers ∷ []
+    name.Archive ∷ name.Files ∷ name.Followers ∷ name.LogBlocks ∷ name.LogOnly ∷ name.Max ∷ name.OwnWrites ∷ name.Pages
+    ∷ name.Pick ∷ name.Run ∷ name.Space ∷ name.StopData ∷ name.StopLog ∷ name.Threads ∷ name.To ∷ name.Turns ∷ name.Why
+    ∷ name.Workers ∷ []
 
 -- the option that is spelled so
 unfoldable pub name_of : List ℕ → Option Name
@@ -42,6 +45,7 @@ name_of text = find (λ name. bytes_eq text (spelling name)) every_name
 
 -- the options that take no number
 abbrev pub is_flag : Name → Bool
+is_flag name.Archive = true
 is_flag name.Files = true
 is_flag name.LogOnly = true
 is_flag name.OwnWrites = true
@@ -56,6 +60,7 @@ is_flag name.Pick = false
 is_flag name.Space = false
 is_flag name.StopData = false
 is_flag name.StopLog = false
+is_flag name.To = false
 is_flag name.Turns = false
 is_flag name.Workers = false
 

@@ -15,9 +15,11 @@ pub struct Drive {
     pub own_writes: bool,
     /// How many followers read the log back while it runs.
     pub followers: u32,
+    /// Whether the run is archived.
+    pub archive: bool,
 }
 
-/// One of the six commands, with its options.
+/// One of the seven commands, with its options.
 #[derive(Clone, Copy, Debug, PartialEq, Eq)]
 pub enum Command {
     /// Formats both devices.
@@ -52,6 +54,11 @@ pub enum Command {
         /// Whether it says why the blocks end where they do.
         why: bool,
     },
+    /// Restores the pages of an archived run, and prints them.
+    Restore {
+        /// Exactly the groups that end at or below this lsn are applied.
+        to: u64,
+    },
     /// Prints a script; where `run` is asked runs it and prints a summary.
     Gen {
         seed: u64,
@@ -67,6 +74,6 @@ pub enum Command {
 #[derive(Clone, Copy, Debug, PartialEq, Eq)]
 pub struct Asked {
     pub command: Command,
-    /// Whether the devices are the files `redo.log` and `redo.data`.
+    /// Whether the devices are the files `redo.log`, `redo.data` and `redo.archive`.
     pub files: bool,
 }

@@ -26,6 +26,10 @@ pub enum Quantity {
     Lsn,
     /// That lsn, where it leaves no room in a log that no checkpoint frees.
     Total,
+    /// The archive's device is shorter than this many bytes.
+    Archive,
+    /// The lsn for which nothing is archived.
+    To,
 }
 
 /// A quantity that doesn't fit, with its number.

@@ -14,6 +14,7 @@ pub const MAX_FOLLOWERS: u32 = 4;
 /// An option of some command.
 #[derive(Clone, Copy, Debug, PartialEq, Eq)]
 pub enum Name {
+    Archive,
     Files,
     Followers,
     LogBlocks,
@@ -27,6 +28,7 @@ pub enum Name {
     StopData,
     StopLog,
     Threads,
+    To,
     Turns,
     Why,
     Workers,

@@ -7,7 +7,7 @@ use Rattle.model_script.specs.{Said, given_number, is_flag, is_given, number_wit
 use Rattle.model_script.specs.declared.asked.Asked.{Asked}
 use Rattle.model_script.specs.declared.asked.Command.{Command}
 use Rattle.model_script.specs.declared.words.Name.{Name}
-use Rattle.model_words.specs.Found.{is_true, text_number, text_number_or}
+use Rattle.model_words.specs.Found.{is_true, text_number, text_number_or, text_number_within}
 use Rattle.model_words.proofs.Asked.{flag_in, number_in}
 use Rattle.model_words.proofs.Lookups.{Ok, text_in}
 use Rattle.model_words.proofs.Rules.{Place, id, plain}
@@ -53,6 +53,9 @@ module _ (names : List Name) (c : List Rule) (p : Place) (us : List Use) (said :
 
 pub or_bad : (least greatest default : ℕ) (o : Option Text) (t : Text) → o ≡ Some t → word_number t ≡ None → text_number_or least greatest default o ≡ None
 or_bad least greatest default o t e none = ap (text_number_or least greatest default) e ∙ ap (option_and_then (number_within least greatest)) none
+
+pub within_bad : (least greatest : ℕ) (o : Option Text) (t : Text) → o ≡ Some t → word_number t ≡ None → text_number_within least greatest o ≡ None
+within_bad least greatest o t e none = ap (text_number_within least greatest) e ∙ ap (option_and_then (number_within least greatest)) none
 
 pub number_bad : (o : Option Text) (t : Text) → o ≡ Some t → word_number t ≡ None → text_number o ≡ None
 number_bad o t e none = ap text_number e ∙ ap (option_map Some) none

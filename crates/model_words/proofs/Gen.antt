@@ -9,7 +9,7 @@ use Rattle.clap.specs.Takes.{is_given as was_given}
 use Rattle.clap.specs.Walk.{Row, Rule, Text, first_of, with_default}
 use Rattle.clap.specs.declared.error.kind.ErrorKind.TheVariants as kind
 use Rattle.model_script.specs.declared.misfit.TheConstants.{MAX_USERS}
-use Rattle.model_script.specs.{Said, are_different, given_gen, is_flag, is_given, number_within, with_option, with_value, word_number}
+use Rattle.model_script.specs.{Said, are_different, given_gen, is_flag, is_given, with_option, with_value, word_number}
 use Rattle.model_script.specs.declared.asked.Asked.{Asked}
 use Rattle.model_script.specs.declared.asked.Command.{Command}
 use Rattle.model_script.specs.declared.asked.Command.TheVariants as asked
@@ -20,7 +20,7 @@ use Rattle.model_script.specs.declared.words.TheConstants.{DEFAULT_TURNS, MAX_GE
 use Rattle.model_words.specs.Found.{is_true, text_number, text_number_or, text_number_within}
 use Rattle.model_words.proofs.Asked.{answer, finish, or_is, read, whole_value, within_is}
 use Rattle.model_words.proofs.Asked.{Command as Reads}
-use Rattle.model_words.proofs.Commands.{as_asked, given_is, or_bad, text_is}
+use Rattle.model_words.proofs.Commands.{as_asked, given_is, or_bad, text_is, within_bad}
 use Rattle.model_words.proofs.Defaults.{Bad, takes_value, flag_kept, map_says, number_kept, row_kept}
 use Rattle.model_words.proofs.Different.{different_is}
 use Rattle.model_words.proofs.Leaf.{not_groups, not_seed, not_users, result_of}
@@ -176,9 +176,6 @@ module _ (rows0 : List Row) where
 
   then_none : gen_with fs run_at seed_at users_at groups_at max_at ≡ None → read (codes "gen") gen_names true zero_read rows0 ≡ None
   then_none e = checks_none (given (codes "seed")) (given (codes "users")) (given (codes "groups")) rows0 e
-
-within_bad : (least greatest : ℕ) (o : Option Text) (t : Text) → o ≡ Some t → word_number t ≡ None → text_number_within least greatest o ≡ None
-within_bad least greatest o t e none = ap (text_number_within least greatest) e ∙ ap (option_and_then (number_within least greatest)) none
 
 gen_bad : (rows0 : List Row) → Bad gen_names zero_read rows0 → read (codes "gen") gen_names true zero_read rows0 ≡ None
 gen_bad rows0 (inr b) = go b.0 b.1 b.3 b.4 b.5

@@ -1,20 +1,20 @@
--- The commands `recover` and `dump`.
-use Rattle.std.proofs.Common.{◌≡◌, ◌∙◌, inl, inr, refl, sym, ap, ℕ, Bool, true, false, List, map, codes, Option, Some, None, option_map, true≢false}
+-- The commands `recover`, `dump` and `restore`.
+use Rattle.std.proofs.Common.{◌≡◌, ◌∙◌, ◌-◌, ◌^◌, inl, inr, refl, sym, ap, ℕ, Bool, true, false, List, map, codes, Option, Some, None, option_map, true≢false}
 use Rattle.std.specs.Prelude.{fold}
 use Rattle.clap.specs.Walk.{Row, Text, first_of, with_default}
-use Rattle.model_script.specs.{are_different, given_workers, is_flag, is_given, word_number}
+use Rattle.model_script.specs.{are_different, given_number, given_workers, is_flag, is_given, word_number}
 use Rattle.model_script.specs.declared.asked.Asked.{Asked}
 use Rattle.model_script.specs.declared.asked.Command.TheVariants as asked
 use Rattle.model_script.specs.declared.words.Name.{Name}
 use Rattle.model_script.specs.declared.words.Name.TheVariants as name
 use Rattle.model_script.specs.declared.words.TheConstants.{MAX_WORKERS}
 use Rattle.model_words.specs.Found.{is_true}
-use Rattle.model_words.proofs.Asked.{or_is, read}
+use Rattle.model_words.proofs.Asked.{or_is, read, whole_value}
 use Rattle.model_words.proofs.Asked.{Command as Reads}
-use Rattle.model_words.proofs.Commands.{as_asked, given_is, good_options, or_bad, text_is, twice_options, unfit_options}
+use Rattle.model_words.proofs.Commands.{as_asked, given_is, good_options, or_bad, text_is, twice_options, unfit_options, within_bad}
 use Rattle.model_words.proofs.Different.{different_is}
 use Rattle.model_words.proofs.Defaults.{Bad, flag_kept, number_kept}
-use Rattle.model_words.proofs.Rules.{dump_names, id, plain, recover_names, rules}
+use Rattle.model_words.proofs.Rules.{dump_names, id, plain, recover_names, restore_names, rules}
 use Rattle.model_words.proofs.Said.{are_members}
 use Rattle.model_words.proofs.Spelled.{is_member}
 use Rattle.model_words.proofs.Uses.{use_row}
@@ -75,4 +75,35 @@ dump_is = record {
   bad = λ rows0 b. dump_bad rows0 _ b;
   other = λ said e. unfit_options (are_members dump_names said.options) (are_different said.options) (is_given name.Files said.options) said.values (Some (asked.Dump (is_given name.Why said.options))) e;
   twice = λ said e. twice_options (are_members dump_names said.options) (are_different said.options) (is_given name.Files said.options) said.values (Some (asked.Dump (is_given name.Why said.options))) e;
+}
+
+-- ---- restore
+
+abbrev restore_with : Bool → Option ℕ → Option Asked
+restore_with files to = as_asked files (option_map asked.Restore to)
+
+restore_bad : (rows0 : List Row) → Bad restore_names plain rows0 → read (codes "restore") restore_names false plain rows0 ≡ None
+restore_bad rows0 (inr b) = absurd (true≢false (sym b.2))
+restore_bad rows0 (inl b) = go b.0 b.1 b.2 b.3 b.4 b.5
+  where
+    go : (n : Name) (t : Text) → is_member restore_names n ≡ true → is_flag n ≡ false → first_of (id n) rows0 ≡ Some t → word_number t ≡ None
+        → read (codes "restore") restore_names false plain rows0 ≡ None
+    go name.To t m f e none =
+        ap (restore_with (is_true (first_of (codes "files") (fold with_default rows0 (rules restore_names false)))))
+        (within_bad 0 (2 ^ 64 - 1) _ t (number_kept (codes "to") (rules restore_names false) rows0 refl ∙ e) none)
+    go name.Files t m f e none = absurd (true≢false f)
+    go _ t m f e none = absurd (true≢false (sym m))
+
+pub restore_is : Reads (codes "restore") restore_names false plain
+restore_is = record {
+  good = λ us said ok e d m.
+      let text = text_is restore_names (rules restore_names false) plain us said ok e in
+      let given = given_is restore_names (rules restore_names false) plain us said ok e in
+      (λ i. restore_with (given name.Files refl (flag_kept (codes "files") (rules restore_names false) (map use_row us) refl) i)
+      (whole_value _ _ (text name.To refl (number_kept (codes "to") (rules restore_names false) (map use_row us) refl)) i))
+      ∙ good_options (are_members restore_names said.options) (are_different said.options) (is_given name.Files said.options) said.values (option_map asked.Restore (given_number name.To said.options)) m
+      (different_is restore_names plain us said ok e ∙ d);
+  bad = restore_bad;
+  other = λ said e. unfit_options (are_members restore_names said.options) (are_different said.options) (is_given name.Files said.options) said.values (option_map asked.Restore (given_number name.To said.options)) e;
+  twice = λ said e. twice_options (are_members restore_names said.options) (are_different said.options) (is_given name.Files said.options) said.values (option_map asked.Restore (given_number name.To said.options)) e;
 }

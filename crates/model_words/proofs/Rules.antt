@@ -14,6 +14,7 @@ use Rattle.model_words.specs.App.{redolab_app}
 
 -- an option's name without its dashes
 abbrev pub id : Name → Text
+id name.Archive = codes "archive"
 id name.Files = codes "files"
 id name.Followers = codes "followers"
 id name.LogBlocks = codes "log-blocks"
@@ -27,6 +28,7 @@ id name.Space = codes "space"
 id name.StopData = codes "stop-data"
 id name.StopLog = codes "stop-log"
 id name.Threads = codes "threads"
+id name.To = codes "to"
 id name.Turns = codes "turns"
 id name.Why = codes "why"
 id name.Workers = codes "workers"
@@ -92,7 +94,8 @@ abbrev pub format_names : List Name
 format_names = name.Files ∷ name.Pages ∷ name.Space ∷ name.LogBlocks ∷ []
 
 abbrev pub run_names : List Name
-run_names = name.Files ∷ name.Turns ∷ name.Max ∷ name.Threads ∷ name.LogOnly ∷ name.OwnWrites ∷ name.Followers ∷ []
+run_names =
+    name.Files ∷ name.Archive ∷ name.Turns ∷ name.Max ∷ name.Threads ∷ name.LogOnly ∷ name.OwnWrites ∷ name.Followers ∷ []
 
 abbrev pub crash_names : List Name
 crash_names =
@@ -105,13 +108,17 @@ recover_names = name.Files ∷ name.Workers ∷ []
 abbrev pub dump_names : List Name
 dump_names = name.Files ∷ name.Why ∷ []
 
+abbrev pub restore_names : List Name
+restore_names = name.Files ∷ name.To ∷ []
+
 abbrev pub gen_names : List Name
 gen_names = name.Files ∷ name.Run ∷ name.Max ∷ []
 
 abbrev pub leaves : List Shape
 leaves =
     leaf (codes "format") format_names false ∷ leaf (codes "run") run_names false ∷ leaf (codes "crash") crash_names false
-    ∷ leaf (codes "recover") recover_names false ∷ leaf (codes "dump") dump_names false ∷ leaf (codes "gen") gen_names true ∷ []
+    ∷ leaf (codes "recover") recover_names false ∷ leaf (codes "dump") dump_names false ∷ leaf (codes "restore") restore_names false
+    ∷ leaf (codes "gen") gen_names true ∷ []
 
 abbrev pub built_app : App
 built_app = record {

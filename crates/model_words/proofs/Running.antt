@@ -2,7 +2,7 @@
 use Rattle.std.proofs.Common.{◌≡◌, ◌∙◌, ◌-◌, ◌^◌, inl, inr, refl, sym, ap, ℕ, Bool, true, false, List, map, codes, Option, Some, None, option_map, true≢false}
 use Rattle.std.specs.Prelude.{option_and_then, fold}
 use Rattle.clap.specs.Walk.{Row, Text, first_of, with_default}
-use Rattle.model_script.specs.{are_different, given_crash, given_drive, is_flag, is_given, word_number}
+use Rattle.model_script.specs.{are_different, given_crash, given_run, is_flag, is_given, where_driven, word_number}
 use Rattle.model_script.specs.declared.asked.Asked.{Asked}
 use Rattle.model_script.specs.declared.asked.Command.TheVariants as asked
 use Rattle.model_script.specs.declared.asked.Drive.{Drive}
@@ -21,24 +21,26 @@ use Rattle.model_words.proofs.Said.{are_members}
 use Rattle.model_words.proofs.Spelled.{is_member}
 use Rattle.model_words.proofs.Uses.{use_row}
 
-abbrev drive_with : Bool → Bool → Bool → Option ℕ → Option ℕ → Option ℕ → Option Drive
-drive_with threads log_only own_writes seed max followers =
-    option_and_then (λ seed. option_and_then (λ max. option_map (λ followers. record {
+abbrev drive_with : (threads log_only own_writes archive : Bool) → (seed max followers : Option ℕ) → Option Drive
+drive_with threads log_only own_writes archive seed max followers =
+    option_and_then where_driven (option_and_then (λ seed. option_and_then (λ max. option_map (λ followers. record {
       seed = seed;
       max = max;
       threads = threads;
       log_only = log_only;
       own_writes = own_writes;
       followers = followers;
-    }) followers) max) seed
+      archive = archive;
+    }) followers) max) seed)
 
-no_drive : (threads log_only own_writes : Bool) (seed followers : Option ℕ)
-    → drive_with threads log_only own_writes seed None followers ≡ None
-no_drive threads log_only own_writes seed followers = none_then seed
+no_drive : (threads log_only own_writes archive : Bool) (seed followers : Option ℕ)
+    → drive_with threads log_only own_writes archive seed None followers ≡ None
+no_drive threads log_only own_writes archive seed followers = ap (option_and_then where_driven) (none_then seed)
 
-no_followers : (threads log_only own_writes : Bool) (seed max : Option ℕ) → drive_with threads log_only own_writes seed max None ≡ None
-no_followers threads log_only own_writes None max = refl
-no_followers threads log_only own_writes (Some seed) max = none_then max
+no_followers : (threads log_only own_writes archive : Bool) (seed max : Option ℕ)
+    → drive_with threads log_only own_writes archive seed max None ≡ None
+no_followers threads log_only own_writes archive None max = refl
+no_followers threads log_only own_writes archive (Some seed) max = ap (option_and_then where_driven) (none_then max)
 
 abbrev run_with : Bool → Option Drive → Option Asked
 run_with files drive = as_asked files (option_map asked.Run drive)
@@ -86,37 +88,41 @@ module _ (names : List Name) (rows0 : List Row) where
   abbrev followers_at : Option ℕ
   followers_at = text_number_or 1 MAX_FOLLOWERS 0 (at (codes "followers"))
 
-  abbrev drive_at : Option Drive
-  drive_at = drive_with (flag_at (codes "threads")) (flag_at (codes "log-only")) (flag_at (codes "own-writes")) seed_at max_at followers_at
+  module _ (archive : Bool) where
+    abbrev drive_of : Option ℕ → Option ℕ → Option ℕ → Option Drive
+    drive_of = drive_with (flag_at (codes "threads")) (flag_at (codes "log-only")) (flag_at (codes "own-writes")) archive
 
-  seed_bad : (t : Text) → at (codes "turns") ≡ Some t → word_number t ≡ None → drive_at ≡ None
-  seed_bad t e none =
-      ap (λ o. drive_with (flag_at (codes "threads")) (flag_at (codes "log-only")) (flag_at (codes "own-writes")) o max_at followers_at)
-      (or_bad 0 (2 ^ 64 - 1) 0 (at (codes "turns")) t e none)
+    abbrev drive_at : Option Drive
+    drive_at = drive_of seed_at max_at followers_at
 
-  max_bad : (t : Text) → at (codes "max") ≡ Some t → word_number t ≡ None → drive_at ≡ None
-  max_bad t e none =
-      ap (λ o. drive_with (flag_at (codes "threads")) (flag_at (codes "log-only")) (flag_at (codes "own-writes")) seed_at o followers_at)
-      (or_bad 0 MAX_TURNS DEFAULT_TURNS (at (codes "max")) t e none)
-      ∙ no_drive (flag_at (codes "threads")) (flag_at (codes "log-only")) (flag_at (codes "own-writes")) seed_at followers_at
+    seed_bad : (t : Text) → at (codes "turns") ≡ Some t → word_number t ≡ None → drive_at ≡ None
+    seed_bad t e none = ap (λ o. drive_of o max_at followers_at) (or_bad 0 (2 ^ 64 - 1) 0 (at (codes "turns")) t e none)
 
-  followers_bad : (t : Text) → at (codes "followers") ≡ Some t → word_number t ≡ None → drive_at ≡ None
-  followers_bad t e none =
-      ap (λ o. drive_with (flag_at (codes "threads")) (flag_at (codes "log-only")) (flag_at (codes "own-writes")) seed_at max_at o)
-      (or_bad 1 MAX_FOLLOWERS 0 (at (codes "followers")) t e none)
-      ∙ no_followers (flag_at (codes "threads")) (flag_at (codes "log-only")) (flag_at (codes "own-writes")) seed_at max_at
+    max_bad : (t : Text) → at (codes "max") ≡ Some t → word_number t ≡ None → drive_at ≡ None
+    max_bad t e none =
+        ap (λ o. drive_of seed_at o followers_at) (or_bad 0 MAX_TURNS DEFAULT_TURNS (at (codes "max")) t e none)
+        ∙ no_drive (flag_at (codes "threads")) (flag_at (codes "log-only")) (flag_at (codes "own-writes")) archive seed_at followers_at
+
+    followers_bad : (t : Text) → at (codes "followers") ≡ Some t → word_number t ≡ None → drive_at ≡ None
+    followers_bad t e none =
+        ap (λ o. drive_of seed_at max_at o) (or_bad 1 MAX_FOLLOWERS 0 (at (codes "followers")) t e none)
+        ∙ no_followers (flag_at (codes "threads")) (flag_at (codes "log-only")) (flag_at (codes "own-writes")) archive seed_at max_at
 
 run_bad : (rows0 : List Row) → Bad run_names plain rows0 → read (codes "run") run_names false plain rows0 ≡ None
 run_bad rows0 (inr b) = absurd (true≢false (sym b.2))
 run_bad rows0 (inl b) = go b.0 b.1 b.2 b.3 b.4 b.5
   where
+    archive : Bool
+    archive = flag_at run_names rows0 (codes "archive")
+
     go : (n : Name) (t : Text) → is_member run_names n ≡ true → is_flag n ≡ false → first_of (id n) rows0 ≡ Some t → word_number t ≡ None
         → read (codes "run") run_names false plain rows0 ≡ None
-    go name.Turns t m f e none = ap (run_with (flag_at run_names rows0 (codes "files"))) (seed_bad run_names rows0 t (number_kept (codes "turns") (rules run_names false) rows0 refl ∙ e) none)
-    go name.Max t m f e none = ap (run_with (flag_at run_names rows0 (codes "files"))) (max_bad run_names rows0 t (number_kept (codes "max") (rules run_names false) rows0 refl ∙ e) none)
+    go name.Turns t m f e none = ap (run_with (flag_at run_names rows0 (codes "files"))) (seed_bad run_names rows0 archive t (number_kept (codes "turns") (rules run_names false) rows0 refl ∙ e) none)
+    go name.Max t m f e none = ap (run_with (flag_at run_names rows0 (codes "files"))) (max_bad run_names rows0 archive t (number_kept (codes "max") (rules run_names false) rows0 refl ∙ e) none)
     go name.Followers t m f e none =
         ap (run_with (flag_at run_names rows0 (codes "files")))
-        (followers_bad run_names rows0 t (number_kept (codes "followers") (rules run_names false) rows0 refl ∙ e) none)
+        (followers_bad run_names rows0 archive t (number_kept (codes "followers") (rules run_names false) rows0 refl ∙ e) none)
+    go name.Archive t m f e none = absurd (true≢false f)
     go name.Files t m f e none = absurd (true≢false f)
     go name.LogOnly t m f e none = absurd (true≢false f)
     go name.OwnWrites t m f e none = absurd (true≢false f)
@@ -132,16 +138,17 @@ run_is = record {
       (drive_with (given name.Threads refl (flag_kept (codes "threads") (rules run_names false) (map use_row us) refl) i)
       (given name.LogOnly refl (flag_kept (codes "log-only") (rules run_names false) (map use_row us) refl) i)
       (given name.OwnWrites refl (flag_kept (codes "own-writes") (rules run_names false) (map use_row us) refl) i)
+      (given name.Archive refl (flag_kept (codes "archive") (rules run_names false) (map use_row us) refl) i)
       (whole_is _ _ (text name.Turns refl (number_kept (codes "turns") (rules run_names false) (map use_row us) refl)) i)
       (or_is 0 MAX_TURNS DEFAULT_TURNS _ _
       (text name.Max refl (number_kept (codes "max") (rules run_names false) (map use_row us) refl)) i)
       (or_is 1 MAX_FOLLOWERS 0 _ _
       (text name.Followers refl (number_kept (codes "followers") (rules run_names false) (map use_row us) refl)) i)))
-      ∙ good_options (are_members run_names said.options) (are_different said.options) (is_given name.Files said.options) said.values (option_map asked.Run (given_drive said.options)) m
+      ∙ good_options (are_members run_names said.options) (are_different said.options) (is_given name.Files said.options) said.values (given_run said.options) m
       (different_is run_names plain us said ok e ∙ d);
   bad = run_bad;
-  other = λ said e. unfit_options (are_members run_names said.options) (are_different said.options) (is_given name.Files said.options) said.values (option_map asked.Run (given_drive said.options)) e;
-  twice = λ said e. twice_options (are_members run_names said.options) (are_different said.options) (is_given name.Files said.options) said.values (option_map asked.Run (given_drive said.options)) e;
+  other = λ said e. unfit_options (are_members run_names said.options) (are_different said.options) (is_given name.Files said.options) said.values (given_run said.options) e;
+  twice = λ said e. twice_options (are_members run_names said.options) (are_different said.options) (is_given name.Files said.options) said.values (given_run said.options) e;
 }
 
 crash_bad : (rows0 : List Row) → Bad crash_names plain rows0 → read (codes "crash") crash_names false plain rows0 ≡ None
@@ -152,7 +159,7 @@ crash_bad rows0 (inl b) = go b.0 b.1 b.2 b.3 b.4 b.5
     fs = flag_at crash_names rows0 (codes "files")
 
     drive : Option Drive
-    drive = drive_at crash_names rows0
+    drive = drive_at crash_names rows0 false
 
     stop_log : Option (Option ℕ)
     stop_log = text_number (at crash_names rows0 (codes "stop-log"))
@@ -169,12 +176,12 @@ crash_bad rows0 (inl b) = go b.0 b.1 b.2 b.3 b.4 b.5
     go : (n : Name) (t : Text) → is_member crash_names n ≡ true → is_flag n ≡ false → first_of (id n) rows0 ≡ Some t → word_number t ≡ None
         → read (codes "crash") crash_names false plain rows0 ≡ None
     go name.Turns t m f e none =
-        ap (λ o. crash_with fs o stop_log stop_data pick workers) (seed_bad crash_names rows0 t (number_kept (codes "turns") (rules crash_names false) rows0 refl ∙ e) none)
+        ap (λ o. crash_with fs o stop_log stop_data pick workers) (seed_bad crash_names rows0 false t (number_kept (codes "turns") (rules crash_names false) rows0 refl ∙ e) none)
     go name.Max t m f e none =
-        ap (λ o. crash_with fs o stop_log stop_data pick workers) (max_bad crash_names rows0 t (number_kept (codes "max") (rules crash_names false) rows0 refl ∙ e) none)
+        ap (λ o. crash_with fs o stop_log stop_data pick workers) (max_bad crash_names rows0 false t (number_kept (codes "max") (rules crash_names false) rows0 refl ∙ e) none)
     go name.Followers t m f e none =
         ap (λ o. crash_with fs o stop_log stop_data pick workers)
-        (followers_bad crash_names rows0 t
+        (followers_bad crash_names rows0 false t
         (number_kept (codes "followers") (rules crash_names false) rows0 refl ∙ e) none)
     go name.StopLog t m f e none =
         ap (λ o. crash_with fs drive o stop_data pick workers)
@@ -207,6 +214,7 @@ crash_is = record {
       (drive_with (given name.Threads refl (flag_kept (codes "threads") (rules crash_names false) (map use_row us) refl) i)
       (given name.LogOnly refl (flag_kept (codes "log-only") (rules crash_names false) (map use_row us) refl) i)
       (given name.OwnWrites refl (flag_kept (codes "own-writes") (rules crash_names false) (map use_row us) refl) i)
+      false
       (whole_is _ _ (text name.Turns refl (number_kept (codes "turns") (rules crash_names false) (map use_row us) refl)) i)
       (or_is 0 MAX_TURNS DEFAULT_TURNS _ _
       (text name.Max refl (number_kept (codes "max") (rules crash_names false) (map use_row us) refl)) i)

@@ -17,11 +17,11 @@ use Rattle.model_words.specs.Found.{asked_with, walked_asked}
 use Rattle.model_words.proofs.Asked.{command_reads, finish}
 use Rattle.model_words.proofs.Asked.{Command as Reads}
 use Rattle.model_words.proofs.Format.{format_is}
-use Rattle.model_words.proofs.Reading.{dump_is, recover_is}
+use Rattle.model_words.proofs.Reading.{dump_is, recover_is, restore_is}
 use Rattle.model_words.proofs.Running.{crash_is, run_is}
 use Rattle.model_words.proofs.Gen.{gen_is}
 use Rattle.model_words.proofs.Leaf.{claims, outcome}
-use Rattle.model_words.proofs.Rules.{built_app, crash_names, dump_names, format_names, gen_names, leaf, plain, recover_names, run_names, zero_read}
+use Rattle.model_words.proofs.Rules.{built_app, crash_names, dump_names, format_names, gen_names, leaf, plain, recover_names, restore_names, run_names, zero_read}
 use Rattle.model_words.proofs.Spelled.{bytes_sym}
 use Rattle.model_words.proofs.Top.{named_asked, nothing_asked, unnamed_asked}
 
@@ -60,6 +60,11 @@ dump_same : (ts : List Text) → Same (codes "dump" ∷ ts)
 unfolding clap_on_literals
 dump_same ts = plain_same (codes "dump") dump_names dump_is ts (named_asked (codes "dump") dump_names false ts refl refl refl)
 
+restore_same : (ts : List Text) → Same (codes "restore" ∷ ts)
+unfolding clap_on_literals
+restore_same ts =
+    plain_same (codes "restore") restore_names restore_is ts (named_asked (codes "restore") restore_names false ts refl refl refl)
+
 -- ---- where no command is named
 
 not_next : (p : Text × List Text → Bool) (x : Text × List Text) (xs : Names) → p x ≡ false → find p xs ≡ None → find p (x ∷ xs) ≡ None
@@ -70,19 +75,27 @@ module _ (t : Text) (ts : List Text) where
   is_name nm = bytes_eq nm t
 
   module _ (format : is_name (codes "format") ≡ false) (run : is_name (codes "run") ≡ false) (crash : is_name (codes "crash") ≡ false)
-      (recover : is_name (codes "recover") ≡ false) (dump : is_name (codes "dump") ≡ false) (gen : is_name (codes "gen") ≡ false) where
+      (recover : is_name (codes "recover") ≡ false) (dump : is_name (codes "dump") ≡ false)
+      (restore : is_name (codes "restore") ≡ false) (gen : is_name (codes "gen") ≡ false) where
     answers : (nm : Text) → is_name nm ≡ false → answers_to t (nm, []) ≡ false
     answers nm e = or-false (bytes_eq nm t) ∙ e
 
     unnamed : find (answers_to t) (names_of built_app) ≡ None
     unnamed =
-        not_next (answers_to t) (codes "format", []) ((codes "run", []) ∷ (codes "crash", []) ∷ (codes "recover", []) ∷ (codes "dump", []) ∷ (codes "gen", []) ∷ []) (answers (codes "format") format) (not_next (answers_to t) (codes "run", []) ((codes "crash", []) ∷ (codes "recover", []) ∷ (codes "dump", []) ∷ (codes "gen", []) ∷ []) (answers (codes "run") run) (not_next (answers_to t) (codes "crash", []) ((codes "recover", []) ∷ (codes "dump", []) ∷ (codes "gen", []) ∷ []) (answers (codes "crash") crash) (not_next (answers_to t) (codes "recover", []) ((codes "dump", []) ∷ (codes "gen", []) ∷ []) (answers (codes "recover") recover) (not_next (answers_to t) (codes "dump", []) ((codes "gen", []) ∷ []) (answers (codes "dump") dump) (not_next (answers_to t) (codes "gen", []) ([]) (answers (codes "gen") gen) refl)))))
+        not_next (answers_to t) (codes "format", []) ((codes "run", []) ∷ (codes "crash", []) ∷ (codes "recover", []) ∷ (codes "dump", []) ∷ (codes "restore", []) ∷ (codes "gen", []) ∷ []) (answers (codes "format") format)
+        (not_next (answers_to t) (codes "run", []) ((codes "crash", []) ∷ (codes "recover", []) ∷ (codes "dump", []) ∷ (codes "restore", []) ∷ (codes "gen", []) ∷ []) (answers (codes "run") run)
+        (not_next (answers_to t) (codes "crash", []) ((codes "recover", []) ∷ (codes "dump", []) ∷ (codes "restore", []) ∷ (codes "gen", []) ∷ []) (answers (codes "crash") crash)
+        (not_next (answers_to t) (codes "recover", []) ((codes "dump", []) ∷ (codes "restore", []) ∷ (codes "gen", []) ∷ []) (answers (codes "recover") recover)
+        (not_next (answers_to t) (codes "dump", []) ((codes "restore", []) ∷ (codes "gen", []) ∷ []) (answers (codes "dump") dump)
+        (not_next (answers_to t) (codes "restore", []) ((codes "gen", []) ∷ []) (answers (codes "restore") restore)
+        (not_next (answers_to t) (codes "gen", []) ([]) (answers (codes "gen") gen)
+        refl))))))
 
     other : (nm : Text) → is_name nm ≡ false → bytes_eq t nm ≡ false
     other nm e = bytes_sym t nm ∙ e
 
     no_command : (options : List Given) (values : List ℕ) → named_command t options values ≡ None
-    no_command options [] = rw (other (codes "gen") gen, other (codes "format") format, other (codes "run") run, other (codes "crash") crash, other (codes "recover") recover, other (codes "dump") dump) refl
+    no_command options [] = rw (other (codes "gen") gen, other (codes "format") format, other (codes "run") run, other (codes "crash") crash, other (codes "recover") recover, other (codes "dump") dump, other (codes "restore") restore) refl
     no_command options (x ∷ xs) = rw (other (codes "gen") gen) refl
 
     no_answer : (y : Option Said) → option_and_then (λ (said : Said). option_map (λ command. record { command = command; files = is_given name.Files said.options }) (named_command t said.options said.values)) y ≡ (let none : Option Asked = None in none)
@@ -96,15 +109,16 @@ module _ (t : Text) (ts : List Text) where
   as_named : (nm : Text) → Same (nm ∷ ts) → is_name nm ≡ true → Same (t ∷ ts)
   as_named nm h e = subst (λ x. Same (x ∷ ts)) ((bytes_eq-Decides nm t).0 e) h
 
-  by_name : (a b c d e f : Bool) → is_name (codes "format") ≡ a → is_name (codes "run") ≡ b → is_name (codes "crash") ≡ c → is_name (codes "recover") ≡ d → is_name (codes "dump") ≡ e
-      → is_name (codes "gen") ≡ f → Same (t ∷ ts)
-  by_name true b c d e f ha hb hc hd he hf = as_named (codes "format") (format_same ts) ha
-  by_name false true c d e f ha hb hc hd he hf = as_named (codes "run") (run_same ts) hb
-  by_name false false true d e f ha hb hc hd he hf = as_named (codes "crash") (crash_same ts) hc
-  by_name false false false true e f ha hb hc hd he hf = as_named (codes "recover") (recover_same ts) hd
-  by_name false false false false true f ha hb hc hd he hf = as_named (codes "dump") (dump_same ts) he
-  by_name false false false false false true ha hb hc hd he hf = as_named (codes "gen") (gen_same ts) hf
-  by_name false false false false false false ha hb hc hd he hf = unnamed_same ha hb hc hd he hf
+  by_name : (a b c d e f g : Bool) → is_name (codes "format") ≡ a → is_name (codes "run") ≡ b → is_name (codes "crash") ≡ c → is_name (codes "recover") ≡ d
+      → is_name (codes "dump") ≡ e → is_name (codes "restore") ≡ f → is_name (codes "gen") ≡ g → Same (t ∷ ts)
+  by_name true b c d e f g ha hb hc hd he hf hg = as_named (codes "format") (format_same ts) ha
+  by_name false true c d e f g ha hb hc hd he hf hg = as_named (codes "run") (run_same ts) hb
+  by_name false false true d e f g ha hb hc hd he hf hg = as_named (codes "crash") (crash_same ts) hc
+  by_name false false false true e f g ha hb hc hd he hf hg = as_named (codes "recover") (recover_same ts) hd
+  by_name false false false false true f g ha hb hc hd he hf hg = as_named (codes "dump") (dump_same ts) he
+  by_name false false false false false true g ha hb hc hd he hf hg = as_named (codes "restore") (restore_same ts) hf
+  by_name false false false false false false true ha hb hc hd he hf hg = as_named (codes "gen") (gen_same ts) hg
+  by_name false false false false false false false ha hb hc hd he hf hg = unnamed_same ha hb hc hd he hf hg
 
 nothing_same : Same []
 unfolding asked_of
@@ -114,5 +128,6 @@ nothing_same = nothing_asked
 pub same : (ws : List Text) → walked_asked ws ≡ asked_of ws
 same [] = nothing_same
 same (t ∷ ts) =
-    by_name t ts (bytes_eq (codes "format") t) (bytes_eq (codes "run") t) (bytes_eq (codes "crash") t) (bytes_eq (codes "recover") t) (bytes_eq (codes "dump") t) (bytes_eq (codes "gen") t)
-    refl refl refl refl refl refl
+    by_name t ts (bytes_eq (codes "format") t) (bytes_eq (codes "run") t) (bytes_eq (codes "crash") t) (bytes_eq (codes "recover") t)
+    (bytes_eq (codes "dump") t) (bytes_eq (codes "restore") t) (bytes_eq (codes "gen") t)
+    refl refl refl refl refl refl refl

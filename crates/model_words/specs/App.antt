@@ -50,7 +50,7 @@ format_app =
     with_rule (with_rule (with_rule (plain_app (codes "format")) (number_rule (codes "pages"))) (number_rule (codes "space"))) (number_rule (codes "log-blocks"))
 
 abbrev pub run_app : App
-run_app = with_drive (plain_app (codes "run"))
+run_app = with_drive (with_rule (plain_app (codes "run")) (flag_rule (codes "archive")))
 
 abbrev pub crash_app : App
 crash_app =
@@ -61,6 +61,9 @@ recover_app = with_workers (plain_app (codes "recover"))
 
 abbrev pub dump_app : App
 dump_app = with_rule (plain_app (codes "dump")) (flag_rule (codes "why"))
+
+abbrev pub restore_app : App
+restore_app = with_rule (plain_app (codes "restore")) (number_rule (codes "to"))
 
 abbrev pub with_values : App → App
 with_values app = with_rule (with_rule (with_rule app (value_rule (codes "seed"))) (value_rule (codes "users"))) (value_rule (codes "groups"))
@@ -85,7 +88,8 @@ abbrev pub with_runs : App → App
 with_runs app = with_subcommand (with_subcommand (with_subcommand app format_app.top) run_app.top) crash_app.top
 
 abbrev pub with_others : App → App
-with_others app = with_subcommand (with_subcommand (with_subcommand app recover_app.top) dump_app.top) gen_app.top
+with_others app =
+    with_subcommand (with_subcommand (with_subcommand (with_subcommand app recover_app.top) dump_app.top) restore_app.top) gen_app.top
 
 abbrev pub redolab_app : App
 redolab_app = with_others (with_runs top_app)

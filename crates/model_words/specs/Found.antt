@@ -9,7 +9,7 @@ use Rattle.model_script.specs.declared.misfit.TheConstants.{MAX_USERS}
 use Rattle.model_script.specs.{number_within, word_number}
 use Rattle.model_script.specs.declared.asked.Asked.{Asked}
 use Rattle.model_script.specs.declared.asked.Command.{Command}
-use Rattle.model_script.specs.declared.asked.Command.TheVariants.{Format, Run, Crash, Recover, Dump, Gen}
+use Rattle.model_script.specs.declared.asked.Command.TheVariants.{Format, Run, Crash, Recover, Dump, Restore, Gen}
 use Rattle.model_script.specs.declared.asked.Drive.{Drive}
 use Rattle.model_script.specs.declared.words.TheConstants.{DEFAULT_TURNS, MAX_FOLLOWERS, MAX_GENERATED, MAX_TURNS, MAX_WORKERS}
 use Rattle.model_words.specs.App.{redolab_app}
@@ -37,18 +37,22 @@ text_number (Some text) = option_map Some (word_number text)
 abbrev pub followers_from : List Row → Option ℕ
 followers_from rows = text_number_or 1 MAX_FOLLOWERS 0 (first_of (codes "followers") rows)
 
-abbrev pub drive_from : List Row → Option Drive
-drive_from rows =
-    option_and_then (λ seed. option_and_then (λ max. option_map (λ followers. record {
+abbrev pub drive_from : Bool → List Row → Option Drive
+drive_from archive rows =
+    option_and_then where_driven (option_and_then (λ seed. option_and_then (λ max. option_map (λ followers. record {
       seed = seed;
       max = max;
       threads = is_true (first_of (codes "threads") rows);
       log_only = is_true (first_of (codes "log-only") rows);
       own_writes = is_true (first_of (codes "own-writes") rows);
       followers = followers;
+      archive = archive;
     }) (followers_from rows))
     (text_number_or 0 MAX_TURNS DEFAULT_TURNS (first_of (codes "max") rows)))
     (text_number_or 0 (2 ^ 64 - 1) 0 (first_of (codes "turns") rows))
+
+abbrev pub run_from : List Row → Option Command
+run_from rows = option_map Run (drive_from (is_true (first_of (codes "archive") rows)) rows)
 
 abbrev pub format_from : List Row → Option Command
 format_from rows =
@@ -67,7 +71,10 @@ crash_from rows =
     (text_number_or 0 (2 ^ 64 - 1) 0 (first_of (codes "pick") rows)))
     (text_number (first_of (codes "stop-data") rows)))
     (text_number (first_of (codes "stop-log") rows)))
-    (drive_from rows)
+    (drive_from false rows)
+
+abbrev pub restore_from : List Row → Option Command
+restore_from rows = option_map Restore (text_number_within 0 (2 ^ 64 - 1) (first_of (codes "to") rows))
 
 abbrev pub gen_from : List Row → Option Command
 gen_from rows =
@@ -81,11 +88,12 @@ gen_from rows =
 abbrev pub command_from : Text → List Row → Option Command
 command_from name rows =
     if bytes_eq name (codes "format") then format_from rows
-    else (if bytes_eq name (codes "run") then option_map Run (drive_from rows)
+    else (if bytes_eq name (codes "run") then run_from rows
     else (if bytes_eq name (codes "crash") then crash_from rows
     else (if bytes_eq name (codes "recover") then option_map Recover (workers_from rows)
     else (if bytes_eq name (codes "dump") then Some (Dump (is_true (first_of (codes "why") rows)))
-    else (if bytes_eq name (codes "gen") then gen_from rows else None)))))
+    else (if bytes_eq name (codes "restore") then restore_from rows
+    else (if bytes_eq name (codes "gen") then gen_from rows else None))))))
 
 abbrev pub asked_with : Text → List Row → Option Asked
 asked_with name rows = option_map (λ command. record { command = command; files = is_true (first_of (codes "files") rows) }) (command_from name rows)

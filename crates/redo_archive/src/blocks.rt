@@ -65,6 +65,7 @@ pub(crate) fn restore_blocks<A: Sectors>(
     requires its_pages { ArePagesOf extent.now.shape pages }
     ensures restored { IfOk result (λ restored. OnContent (A.seen device.new).tells
         (IsRestoredBy extent.now lsn pages restored)) }
+    ensures its_pages { IfOk result (λ restored. ArePagesOf extent.now.shape restored.pages) }
     ensures fault { IfErr result (IsBlocksFault extent.now (A.seen device.new).tells) }
     ensures reads { IsOnlyRead A.seen A.gives device.old (device_error_of result) device.new }
 {

@@ -1,6 +1,7 @@
 // Restoring.
-ghost use Rattle.std.specs.Prelude.{◌≡◌, ◌≤◌, IfOk, IfErr};
+ghost use Rattle.std.specs.Prelude.{◌≡◌, ◌≤◌, IfOk, IfErr, length};
 ghost use Rattle.model_archive.specs.{archive_length, HasExtent, IsRestored};
+ghost use Rattle.model_base.specs.declared.limits.TheConstants.{MAX_PAGES};
 ghost use Rattle.redo_archive.specs.Restoring.{device_error_of, HasRestoreCause, IsExtentFault, IsSoundExtent};
 ghost use Rattle.redo_recover.specs.Devices.{OnContent};
 ghost use Rattle.redo_recover.specs.Reads.{IsOnlyRead};
@@ -54,6 +55,7 @@ pub fn restore<A: Sectors>(
 ) -> Result<Restored, RestoreFault>
     ensures restored { IfOk result (λ restored. OnContent (A.seen device.new).tells
         (λ image. IsRestored image lsn restored.n restored.end restored.pages)) }
+    ensures few { IfOk result (λ restored. length restored.pages ≤ MAX_PAGES) }
     ensures caused { IfErr result (HasRestoreCause (A.seen device.new).tells lsn) }
     ensures reads { IsOnlyRead A.seen A.gives device.old (device_error_of result) device.new }
 {

@@ -1,7 +1,7 @@
 // The application whose words `clap` reads.
 ghost use Rattle.std.specs.Prelude.{◌≡◌, false, IfOk, codes};
 ghost use Rattle.clap.specs.Words.{rule_of, with_rule, with_subcommand, app_of};
-ghost use Rattle.model_words.specs.App.{IsApp, IsLocal, crash_app, dump_app, flag_rule, format_app, gen_app, number_rule, plain_app, recover_app, redolab_app, run_app, top_app, value_rule, with_actors, with_drive, with_others, with_runs, with_turns, with_values, with_workers};
+ghost use Rattle.model_words.specs.App.{IsApp, IsLocal, crash_app, dump_app, flag_rule, format_app, gen_app, number_rule, plain_app, recover_app, redolab_app, restore_app, run_app, top_app, value_rule, with_actors, with_drive, with_others, with_runs, with_turns, with_values, with_workers};
 
 use clap::{Arg, ArgAction, Command};
 use std::alloc::{AllocError, Global};
@@ -122,7 +122,9 @@ fn with_workers<'a>(alloc: Global, command: Command<'a>) -> Result<Command<'a>, 
 fn run_command<'a>(alloc: Global) -> Result<Command<'a>, AllocError>
     ensures { IfOk result (IsApp run_app) }
 {
-    with_drive(alloc, plain(alloc, "run")?)
+    let command = plain(alloc, "run")?;
+    let command = with_flag(alloc, command, "archive")?;
+    with_drive(alloc, command)
 }
 
 fn crash_command<'a>(alloc: Global) -> Result<Command<'a>, AllocError>
@@ -147,6 +149,13 @@ fn dump_command<'a>(alloc: Global) -> Result<Command<'a>, AllocError>
 {
     let command = plain(alloc, "dump")?;
     with_flag(alloc, command, "why")
+}
+
+fn restore_command<'a>(alloc: Global) -> Result<Command<'a>, AllocError>
+    ensures { IfOk result (IsApp restore_app) }
+{
+    let command = plain(alloc, "restore")?;
+    with_number(alloc, command, "to")
 }
 
 // With the three numbers of a script.
@@ -202,17 +211,18 @@ fn with_runs<'a>(alloc: Global, command: Command<'a>) -> Result<Command<'a>, All
     with_command(command, crash_command(alloc)?)
 }
 
-// The three that don't.
+// The four that don't.
 fn with_others<'a>(alloc: Global, command: Command<'a>) -> Result<Command<'a>, AllocError>
     requires { IsLocal command }
     ensures { IfOk result (IsApp (with_others (app_of command.entry))) }
 {
     let command = with_command(command, recover_command(alloc)?)?;
     let command = with_command(command, dump_command(alloc)?)?;
+    let command = with_command(command, restore_command(alloc)?)?;
     with_command(command, gen_command(alloc)?)
 }
 
-/// The six commands.
+/// The seven commands.
 pub fn redolab_command<'a>(alloc: Global) -> Result<Command<'a>, AllocError>
     ensures { IfOk result (IsApp redolab_app) }
 {

@@ -2,8 +2,8 @@
 ghost use Rattle.std.specs.Prelude.{◌≡◌, codes, option_and_then, option_map};
 ghost use Rattle.clap.specs.Words.{first_of, found_of, rows_of};
 ghost use Rattle.model_base.specs.declared.limits.TheConstants.{DEFAULT_LOG_BLOCKS, DEFAULT_PAGES, DEFAULT_SPACE, MAX_LOG_BLOCKS, MAX_PAGES, MIN_LOG_BLOCKS};
-ghost use Rattle.model_script.specs.{number_within, word_number};
-ghost use Rattle.model_words.specs.Found.{asked_with, command_from, crash_from, drive_from, followers_from, format_from, gen_from, is_true, text_number, text_number_or, text_number_within, workers_from};
+ghost use Rattle.model_script.specs.{is_no_drive, number_within, where_driven, word_number};
+ghost use Rattle.model_words.specs.Found.{asked_with, command_from, crash_from, drive_from, followers_from, format_from, gen_from, is_true, restore_from, run_from, text_number, text_number_or, text_number_within, workers_from};
 
 use clap::ArgMatches;
 use model_base::{
@@ -102,8 +102,22 @@ fn read_followers(found: &ArgMatches<'_>) -> Option<u32>
     Some(followers as u32)
 }
 
-fn read_drive(found: &ArgMatches<'_>) -> Option<Drive>
-    ensures { result ≡ drive_from (rows_of (found_of found.now)) }
+// The options don't go together.
+fn is_no_drive(drive: &Drive) -> bool
+    ensures { result ≡ is_no_drive drive.now }
+{
+    drive.threads && drive.archive || drive.own_writes && drive.archive
+}
+
+// The drive, if its options go together.
+fn driven(drive: Drive) -> Option<Drive>
+    ensures { result ≡ where_driven drive }
+{
+    (!is_no_drive(&drive)).then_some(drive)
+}
+
+fn read_drive(found: &ArgMatches<'_>, archive: bool) -> Option<Drive>
+    ensures { result ≡ drive_from archive (rows_of (found_of found.now)) }
 {
     let seed = number_or(found, "turns", 0, u64::MAX, 0)?;
     let max = turns_of(found)?;
@@ -115,7 +129,15 @@ fn read_drive(found: &ArgMatches<'_>) -> Option<Drive>
         log_only: is_given(found, "log-only"),
         own_writes: is_given(found, "own-writes"),
         followers,
+        archive,
     })
+}
+
+fn read_run(found: &ArgMatches<'_>) -> Option<Command>
+    ensures { result ≡ run_from (rows_of (found_of found.now)) }
+{
+    let drive = read_drive(found, is_given(found, "archive"))?;
+    Some(Command::Run { drive })
 }
 
 fn read_format(found: &ArgMatches<'_>) -> Option<Command>
@@ -159,7 +181,7 @@ fn read_workers(found: &ArgMatches<'_>) -> Option<u32>
 fn read_crash(found: &ArgMatches<'_>) -> Option<Command>
     ensures { result ≡ crash_from (rows_of (found_of found.now)) }
 {
-    let drive = read_drive(found)?;
+    let drive = read_drive(found, false)?;
     let stop_log = number_of(found, "stop-log")?;
     let stop_data = number_of(found, "stop-data")?;
     let pick = number_or(found, "pick", 0, u64::MAX, 0)?;
@@ -171,6 +193,13 @@ fn read_crash(found: &ArgMatches<'_>) -> Option<Command>
         pick,
         workers,
     })
+}
+
+fn read_restore(found: &ArgMatches<'_>) -> Option<Command>
+    ensures { result ≡ restore_from (rows_of (found_of found.now)) }
+{
+    let to = value_within(found, "to", 0, u64::MAX)?;
+    Some(Command::Restore { to })
 }
 
 fn read_gen(found: &ArgMatches<'_>) -> Option<Command>
@@ -194,9 +223,7 @@ fn read_command(name: &str, found: &ArgMatches<'_>) -> Option<Command>
 {
     match name {
         "format" => read_format(found),
-        "run" => Some(Command::Run {
-            drive: read_drive(found)?,
-        }),
+        "run" => read_run(found),
         "crash" => read_crash(found),
         "recover" => Some(Command::Recover {
             workers: read_workers(found)?,
@@ -204,6 +231,7 @@ fn read_command(name: &str, found: &ArgMatches<'_>) -> Option<Command>
         "dump" => Some(Command::Dump {
             why: is_given(found, "why"),
         }),
+        "restore" => read_restore(found),
         "gen" => read_gen(found),
         _ => None,
     }

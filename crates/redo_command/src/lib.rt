@@ -1,4 +1,4 @@
-//! The words of a call of the program, read by `clap`: which of the six commands they are, with its options, or that they
+//! The words of a call of the program, read by `clap`: which of the seven commands they are, with its options, or that they
 //! are none.
 #![tactic(auto)]
 

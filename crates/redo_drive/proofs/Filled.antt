@@ -41,6 +41,7 @@ use Rattle.redo_drive.specs.declared.actor.Actor.TheVariants as own
 use Rattle.redo_drive.specs.declared.parts.Parts.{Parts}
 use Rattle.redo_follow.specs.Handing.{follower_fits, Following}
 use Rattle.redo_follow.specs.Lending.{with_block}
+use Rattle.redo_archiver.specs.Lending as archiving
 
 -- WHAT AN ACTOR THAT HAS ITS BLOCK ALREADY LENDS is what it lends once it is filled.
 lent_by : (r : ReaderState) (texts : List (List ℕ)) (s : ReaderStep)
@@ -55,6 +56,8 @@ lent_by r texts reader_step.StorePlace = refl
 lent_by r texts reader_step.StoreFailed = refl
 lent_by r texts reader_step.GiveFailed = refl
 lent_by r texts reader_step.Failed = refl
+lent_by r texts reader_step.Append = refl
+lent_by r texts reader_step.StoreLost = refl
 
 pub lent_filled : (who : model.Actor) (texts : List (List ℕ))
     → ◌≡◌ {A = model.Lent} (lent (filled who (filling_of who texts))) (lent who)
@@ -83,6 +86,8 @@ read_at r x = by r.checks r.step
     by false reader_step.StoreFailed is = absurd (cc)
     by false reader_step.GiveFailed is = absurd (cc)
     by false reader_step.Failed is = absurd (cc)
+    by false reader_step.Append is = absurd (cc)
+    by false reader_step.StoreLost is = absurd (cc)
 
 filled_at : (r : ReaderState) (f : Filling) → r.step ≡ reader_step.ReadBlock
     → ◌≡◌ {A = model.Actor} (filled (model.Reader r) f) (model.Reader (record r { block = f.block }))
@@ -90,21 +95,29 @@ filled_at r f is = ap (λ (s : ReaderStep). model.Reader (reader_filled r f s)) 
 
 module _ {L D R : Type 0} (log_seen : L → Seen) (data_seen : D → Seen) (stands : R → List Given → Type 0)
     (run : RunOf L D) (old new : Parts L D) where
-  -- So what was played for an actor, with what it lends, and with what it makes of the answer, serves it.
+  -- So what was played for an actor, with what it lends, and with what it makes of the answer, serves it, by that answer.
+  pub serves_by : (a b : Actor R) (r : Answer) (step : Step)
+      → IsPlayed log_seen data_seen run (next (view_of a)) (lent (view_of a)) old r new → HasTaken stands a r step b
+      → (served : IsServed log_seen data_seen stands run old a step new b) × (served.answer ≡ r)
+  serves_by a b r step played taken = (
+    record {
+      filling = filling_of (view_of a) taken.texts;
+      fills = taken.fills;
+      answer = r;
+      played = subst (λ (l : model.Lent). IsPlayed log_seen data_seen run (next (view_of a)) l old r new)
+          (sym (lent_filled (view_of a) taken.texts)) played;
+      took = taken.state;
+      ends = taken.ends;
+      same = taken.same;
+      got = taken.got;
+    },
+    refl,
+  )
+
   pub serves : (a b : Actor R) (r : Answer) (step : Step)
       → IsPlayed log_seen data_seen run (next (view_of a)) (lent (view_of a)) old r new → HasTaken stands a r step b
       → IsServed log_seen data_seen stands run old a step new b
-  serves a b r step played taken = record {
-    filling = filling_of (view_of a) taken.texts;
-    fills = taken.fills;
-    answer = r;
-    played = subst (λ (l : model.Lent). IsPlayed log_seen data_seen run (next (view_of a)) l old r new)
-        (sym (lent_filled (view_of a) taken.texts)) played;
-    took = taken.state;
-    ends = taken.ends;
-    same = taken.same;
-    got = taken.got;
-  }
+  serves a b r step played taken = (serves_by a b r step played taken).0
 
   same_number : (f : Following R) (bytes : List ℕ) (g : Option (Following R))
       → IsSameFollower (Some (with_block f bytes)) g → IsSameFollower (Some f) g
@@ -142,6 +155,31 @@ module _ {L D R : Type 0} (log_seen : L → Seen) (data_seen : D → Seen) (stan
         got = same_receiver f bytes (handed_by (filled (model.Reader s) whole)) (follower_of b)
             (subst (λ (z : model.Actor). HasGot stands (Some (with_block f bytes)) (handed_by z) (follower_of b)) same
             taken.got);
+      }
+
+  -- the same of a read for the archiver
+  pub serves_archiver : (s : ReaderState) (bytes : List ℕ) (x : ℕ) (b : Actor R) (r : Answer) (step : Step)
+      → next (model.Reader s) ≡ op.ReadBlock x
+      → IsPlayed log_seen data_seen run (next (model.Reader s)) (model.Room bytes) old r new
+      → HasTaken stands (own.Archiver (archiving.with_block s bytes)) r step b
+      → IsServed log_seen data_seen stands run old (own.Archiver s) step new b
+  serves_archiver s bytes x b r step asks played taken =
+      let w : ReaderState = record s { block = bytes } in
+      let whole : Filling = record { block = bytes; texts = taken.texts } in
+      let is : s.step ≡ reader_step.ReadBlock = read_at s x asks in
+      let mine : ◌≡◌ {A = model.Actor} (filled (model.Reader s) whole) (model.Reader w) = filled_at s whole is in
+      let same : ◌≡◌ {A = model.Actor} (filled (model.Reader w) (filling_of (model.Reader w) taken.texts))
+      (filled (model.Reader s) whole) = filled_at w (filling_of (model.Reader w) taken.texts) is ∙ sym mine in
+      record {
+        filling = whole;
+        fills = subst (reader_fills s whole) (sym is) tt;
+        answer = r;
+        played = subst (λ (l : model.Actor). IsPlayed log_seen data_seen run (next (model.Reader s)) (lent l) old r new)
+            (sym mine) played;
+        took = subst (λ (z : model.Actor). view_of b ≡ took z r) same taken.state;
+        ends = subst (λ (z : model.Actor). step ≡ step_of z r) same taken.ends;
+        same = taken.same;
+        got = tt;
       }
 
 -- Whatever is put into an actor, it may be given the same answers.
@@ -238,9 +276,15 @@ reader_or_no_read (model.Checkpointer t) =
     inr (checking_reads_not t.checks (checkpointer_op t t.step) (checkpointer_reads_not t t.step))
 reader_or_no_read (model.Joined es) = inr tt
 
--- and among a run's actors the followers alone
-pub asks_no_read : {R : Type 0} (a : Actor R) → follower_of a ≡ None → IsNoRead (next (view_of a))
-asks_no_read (own.Follower f) none = absurd (cc)
+-- and among a run's actors the archiver and the followers alone
+abbrev pub ReadsNoLog : {R : Type 0} → Actor R → Type 0
+ReadsNoLog (own.Archiver r) = ⊥
+ReadsNoLog (own.Follower f) = ⊥
+ReadsNoLog _ = Unit {0}
+
+pub asks_no_read : {R : Type 0} (a : Actor R) → ReadsNoLog a → IsNoRead (next (view_of a))
+asks_no_read (own.Archiver r) none = absurd none
+asks_no_read (own.Follower f) none = absurd none
 asks_no_read (own.User u) none = checking_reads_not u.checks (user_op u u.step) (user_reads_not u u.step)
 asks_no_read (own.Writer s) none = checking_reads_not s.checks (writer_op s s.step) (writer_reads_not s s.step)
 asks_no_read (own.Flusher t) none = checking_reads_not t.checks (flusher_op t t.step) (flusher_reads_not t t.step)

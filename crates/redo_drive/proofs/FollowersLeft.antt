@@ -7,7 +7,7 @@ use Rattle.std.proofs.lemmas.List.{take-append-drop, take-map, take_at}
 use Rattle.std.specs.List.{AllZip}
 use Rattle.std.specs.Prelude.{nat_le}
 use lib.ListN.{get_elem?}
-use mathlib.Core.Option.{some}
+use mathlib.Core.Option.{some, some-injective, some-ne-none}
 use native.Mathlib.Decide.{dec_le}
 use Rattle.model_base.specs.declared.shape.Shape.{Shape}
 use Rattle.model_core.proofs.Lsns.{lsn_le, lsn_less}
@@ -21,9 +21,10 @@ use Rattle.model_log.specs.{Span, span_of}
 use Rattle.model_log.specs.declared.group.Whole.{Whole}
 use Rattle.model_script.specs.declared.script.ScriptLine.{ScriptLine}
 use Rattle.redo_drive.specs.Followed.{given_of, given_upto}
-use Rattle.redo_drive.specs.Making.{EndsWithFollowers}
+use Rattle.redo_drive.specs.Making.{EndsWithReaders}
 use Rattle.redo_drive.specs.Receiving.{follower_of}
-use Rattle.redo_drive.specs.Setups.{followers_from, other_actors, page_actors, seated_before, start_actors, users_of}
+use Rattle.redo_drive.specs.Setups.{followers_from, other_actors, page_actors, readers_of, seated_actors, seated_before}
+use Rattle.redo_drive.specs.Setups.{users_of}
 use Rattle.redo_follow.specs.Handing.{Following}
 use Rattle.redo_drive.proofs.Viewed.{length_views}
 use Rattle.redo_drive.specs.Views.{followers_in, view_of, views_of}
@@ -86,6 +87,7 @@ module _ {R : Type 0} (P : Following R → Following R → Type 0) where
   first_pair (own.Closer t) (own.Follower g) xs ys one rest = absurd one
   first_pair (own.Cleaner v) (own.Follower g) xs ys one rest = absurd one
   first_pair (own.Checkpointer t) (own.Follower g) xs ys one rest = absurd one
+  first_pair (own.Archiver r) (own.Follower g) xs ys one rest = absurd one
   first_pair _ _ xs ys one rest = rest
 
   pub all_pairs : (xs ys : List (Actor R)) → length ys ≡ length xs
@@ -107,6 +109,7 @@ followers_both (own.Flusher t ∷ xs) ys = followers_both xs ys
 followers_both (own.Closer t ∷ xs) ys = followers_both xs ys
 followers_both (own.Cleaner v ∷ xs) ys = followers_both xs ys
 followers_both (own.Checkpointer t ∷ xs) ys = followers_both xs ys
+followers_both (own.Archiver r ∷ xs) ys = followers_both xs ys
 
 all_followers : {R : Type 0} (fs : List (Following R))
     → ◌≡◌ {A = List (Following R)} (followers_in (map own.Follower fs)) fs
@@ -129,42 +132,95 @@ none_among (own.Flusher t ∷ xs) none = none_among xs none
 none_among (own.Closer t ∷ xs) none = none_among xs none
 none_among (own.Cleaner v ∷ xs) none = none_among xs none
 none_among (own.Checkpointer t ∷ xs) none = none_among xs none
+none_among (own.Archiver r ∷ xs) none = absurd none
 
 after_users : (users : List UserState) (others : List model.Actor) → NoReaders others
     → NoReaders (map model.User users ++ others)
 after_users [] others none = none
 after_users (u ∷ users) others none = after_users users others none
 
-no_others : (shape : Shape) (start : ℕ) (b : Bool) (followers : ℕ) → NoReaders (page_actors shape start b followers)
-no_others shape start true followers = tt
-no_others shape start false followers = tt
+no_others : (shape : Shape) (start : ℕ) (b archive : Bool) (followers : ℕ)
+    → NoReaders (page_actors shape start b archive followers)
+no_others shape start true archive followers = tt
+no_others shape start false archive followers = tt
 
 long_followers : (start number n : ℕ) → length (followers_from start number n) ≡ n
 long_followers start number zero = refl
 long_followers start number (suc n) = ap suc (long_followers start (number + 1) n)
 
--- the followers among the actors of a run's start are those that it was given
-pub starts_with : {R : Type 0} (shape : Shape) (script : List ScriptLine) (start : ℕ) (log_only : Bool)
-    (fs : List (Following R)) (starts : List (Actor R))
-    → views_of starts ≡ start_actors shape script start log_only (length fs) → EndsWithFollowers starts fs
-    → ◌≡◌ {A = List (Following R)} (followers_in starts) fs
-starts_with {R} shape script start log_only fs starts are ends =
-    let front : List model.Actor = seated_before shape script start log_only (length fs) in
-    let back : List model.Actor = followers_from start FIRST_FOLLOWER (length fs) in
-    let k : ℕ = length starts - length fs in
-    let joined : ◌≡◌ {A = List model.Actor} (views_of starts) (front ++ back) =
-    are in
-    let long : length (views_of starts) ≡ length (front ++ back) = ap length joined in
+-- before the readers there is no follower
+front_has_none : {R : Type 0} (front back : List model.Actor) (starts : List (Actor R)) (n : ℕ)
+    → views_of starts ≡ front ++ back → length back ≡ n → NoReaders front
+    → ◌≡◌ {A = List (Following R)} (followers_in (take (length starts - n) starts)) []
+front_has_none front back starts n are few none =
+    let k : ℕ = length starts - n in
+    let long : length (views_of starts) ≡ length (front ++ back) = ap length are in
     let both = length-append front back in
     let same = length_views starts in
-    let few = long_followers start FIRST_FOLLOWER (length fs) in
     let here : length front ≡ k = omega arith in
     let views : ◌≡◌ {A = List model.Actor} (views_of (take k starts)) front =
-    sym (take-map view_of k starts) ∙ ap (take k) joined ∙ take_at front back k here in
-    let none : NoReaders front = after_users (users_of shape log_only script)
-    (other_actors shape start log_only (length fs)) (no_others shape start log_only (length fs)) in
-    let nothing : ◌≡◌ {A = List (Following R)} (followers_in (take k starts)) [] =
-    none_among (take k starts) (subst NoReaders (sym views) none) in
-    ap followers_in (sym (take-append-drop k starts)) ∙ followers_both (take k starts) (drop k starts)
-    ∙ ap (λ (l : List (Following R)). l ++ followers_in (drop k starts)) nothing
-    ∙ ap followers_in ends ∙ all_followers fs
+    sym (take-map view_of k starts) ∙ ap (take k) are ∙ take_at front back k here in
+    none_among (take k starts) (subst NoReaders (sym views) none)
+
+-- the followers among the actors of a run's start are those that it was given
+pub starts_with : {R : Type 0} (shape : Shape) (script : List ScriptLine) (start : ℕ) (log_only archive : Bool)
+    (fs : List (Following R)) (starts : List (Actor R))
+    → views_of starts ≡ seated_actors shape script start log_only archive (length fs)
+    → EndsWithReaders start archive starts fs
+    → ◌≡◌ {A = List (Following R)} (followers_in starts) fs
+starts_with {R} shape script start log_only archive fs starts are ends =
+    by archive (seated_before shape script start log_only archive (length fs)) are
+    (after_users (users_of shape log_only script) (other_actors shape start log_only archive (length fs))
+    (no_others shape start log_only archive (length fs))) ends
+  where
+    joined : (n : ℕ) → ◌≡◌ {A = List (Following R)} (followers_in (take (length starts - n) starts)) []
+        → ◌≡◌ {A = List (Following R)} (followers_in starts) (followers_in (drop (length starts - n) starts))
+    joined n nothing =
+        let k : ℕ = length starts - n in
+        ap followers_in (sym (take-append-drop k starts)) ∙ followers_both (take k starts) (drop k starts)
+        ∙ ap (λ (l : List (Following R)). l ++ followers_in (drop k starts)) nothing
+
+    by : (b : Bool) (front : List model.Actor) → views_of starts ≡ front ++ readers_of start b (length fs)
+        → NoReaders front → EndsWithReaders start b starts fs
+        → ◌≡◌ {A = List (Following R)} (followers_in starts) fs
+    by true front are none ends =
+        let few = long_followers start FIRST_FOLLOWER (length fs) in
+        joined (suc (length fs))
+        (front_has_none front (readers_of start true (length fs)) starts (suc (length fs)) are (ap suc few) none)
+        ∙ ap followers_in ends ∙ all_followers fs
+    by false front are none ends =
+        let few = long_followers start FIRST_FOLLOWER (length fs) in
+        joined (length fs)
+        (front_has_none front (readers_of start false (length fs)) starts (length fs) are few none)
+        ∙ ap followers_in ends ∙ all_followers fs
+
+-- what holds of the followers among some actors holds of one at its seat
+pub among : {R : Type 0} (P : Following R → Type 0) (xs : List (Actor R))
+    → ((i : ℕ) (f : Following R) → get_elem? (followers_in xs) i ≡ some f → P f)
+    → (seat : ℕ) (f : Following R) → get_elem? xs seat ≡ some (own.Follower f) → P f
+among P [] each seat f at = absurd (some-ne-none (own.Follower f) (sym at))
+among P (own.Follower g ∷ xs) each zero f at =
+    let same : own.Follower g ≡ own.Follower f = some-injective (own.Follower g) (own.Follower f) at in
+    let is : g ≡ f = cc in subst P is (each 0 g refl)
+among P (own.Follower g ∷ xs) each (suc seat) f at = among P xs (λ i h there. each (suc i) h there) seat f at
+among P (own.User u ∷ xs) each zero f at =
+    let same : own.User u ≡ own.Follower f = some-injective (own.User u) (own.Follower f) at in absurd (cc)
+among P (own.User u ∷ xs) each (suc seat) f at = among P xs each seat f at
+among P (own.Writer s ∷ xs) each zero f at =
+    let same : own.Writer s ≡ own.Follower f = some-injective (own.Writer s) (own.Follower f) at in absurd (cc)
+among P (own.Writer s ∷ xs) each (suc seat) f at = among P xs each seat f at
+among P (own.Flusher t ∷ xs) each zero f at =
+    let same : own.Flusher t ≡ own.Follower f = some-injective (own.Flusher t) (own.Follower f) at in absurd (cc)
+among P (own.Flusher t ∷ xs) each (suc seat) f at = among P xs each seat f at
+among P (own.Closer t ∷ xs) each zero f at =
+    let same : own.Closer t ≡ own.Follower f = some-injective (own.Closer t) (own.Follower f) at in absurd (cc)
+among P (own.Closer t ∷ xs) each (suc seat) f at = among P xs each seat f at
+among P (own.Cleaner v ∷ xs) each zero f at =
+    let same : own.Cleaner v ≡ own.Follower f = some-injective (own.Cleaner v) (own.Follower f) at in absurd (cc)
+among P (own.Cleaner v ∷ xs) each (suc seat) f at = among P xs each seat f at
+among P (own.Checkpointer t ∷ xs) each zero f at =
+    let same : own.Checkpointer t ≡ own.Follower f = some-injective (own.Checkpointer t) (own.Follower f) at in absurd (cc)
+among P (own.Checkpointer t ∷ xs) each (suc seat) f at = among P xs each seat f at
+among P (own.Archiver r ∷ xs) each zero f at =
+    let same : own.Archiver r ≡ own.Follower f = some-injective (own.Archiver r) (own.Follower f) at in absurd (cc)
+among P (own.Archiver r ∷ xs) each (suc seat) f at = among P xs each seat f at

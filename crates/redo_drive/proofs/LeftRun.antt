@@ -1,7 +1,7 @@
 -- What a run leaves, however its Ops were interleaved, is a run of its script, and, where its devices tell and the store was ready, both hold it; where
 -- all users have ended it is a closed one.
 use Rattle.std.proofs.Common.{Bool, List, None, Option, Some, [], ap, arith, cond, false, inl, inr, length}
-use Rattle.std.proofs.Common.{refl, slice_get, subst, sym, ⊎_elim, ℕ}
+use Rattle.std.proofs.Common.{refl, slice_get, subst, sym, true, ⊎_elim, ℕ}
 use Rattle.std.proofs.Common.{◌+◌, ◌<◌, ◌∙◌, ◌≡◌, ◌≢◌, ◌≤◌}
 use Rattle.std.proofs.lemmas.Bool.{ne_eqb}
 use Rattle.std.specs.List.{AllZip}
@@ -13,11 +13,12 @@ use Rattle.model_base.specs.declared.shape.Shape.{Shape}
 use Rattle.model_core.specs.DataSide.{DataSide}
 use Rattle.model_core.specs.LogSide.{LogSide}
 use Rattle.model_core.proofs.Lsns.{lsn_le}
-use Rattle.model_core.specs.{archives, Given, lsn, ReaderState, SharedWords}
+use Rattle.model_core.specs.{archives, Given, HasLost, lsn, ReaderState, SharedWords}
 use Rattle.model_core.specs.Actors as model
 use Rattle.model_core.specs.Hands.{HoldsNothing}
 use Rattle.model_device.specs.{synced}
 use Rattle.model_device.specs.Disk.{Disk}
+use Rattle.model_running.proofs.Archiving.{none_loses}
 use Rattle.model_running.proofs.ClosedStore.{held_run}
 use Rattle.model_running.proofs.Finished.{finished_groups, finished_losses, finished_run, marks_same}
 use Rattle.model_running.proofs.Places.{bound_spans, history_spans}
@@ -45,6 +46,7 @@ use Rattle.model_store.specs.Reading.{Reading}
 use Rattle.model_theorem.specs.Values as theorem
 use Rattle.redo_drive.proofs.DataPartEnds.{data_tells}
 use Rattle.redo_drive.specs.DataPartSide as data_part
+use Rattle.redo_archiver.specs.{append_code}
 use Rattle.redo_disk.specs.{Call, failures}
 use Rattle.redo_disk.specs.Seen.{Seen}
 use Rattle.redo_disk.specs.declared.error.DevError.{DevError}
@@ -61,12 +63,12 @@ use Rattle.redo_drive.specs.Startable.{AreNewFollowers, HasReading, MayBegin}
 use Rattle.redo_drive.specs.Calls.{CallsOn}
 use Rattle.redo_drive.specs.Drive.{ComesToRun, HasMemory, HasMetError, HoldsRun, IsOwedSynced, Owes, ReadsToMarks, closed_run, failed_in}
 use Rattle.redo_drive.specs.Followed.{given_upto, HasFollowed, HasSameNumber, HaveFollowed}
-use Rattle.redo_drive.specs.Leaving.{LeavesRun}
-use Rattle.redo_drive.specs.Making.{EndsWithFollowers}
+use Rattle.redo_drive.specs.Leaving.{LeavesRun, LeavesWith}
+use Rattle.redo_drive.specs.Making.{EndsWithReaders}
 use Rattle.redo_drive.specs.Playing.{RunOf, run_data_side, run_log_side}
 use Rattle.redo_drive.specs.Receiving.{follower_of, IsSameFollower}
 use Rattle.redo_drive.specs.Running.{groups_of}
-use Rattle.redo_drive.specs.Setups.{start_actors}
+use Rattle.redo_drive.specs.Setups.{first_reader, seated_actors}
 use Rattle.redo_drive.specs.Turning.{core_of}
 use Rattle.redo_follow.specs.Handing.{Following, StandsFor}
 use Rattle.redo_drive.proofs.Viewed.{views_at}
@@ -75,27 +77,29 @@ use Rattle.redo_drive.specs.declared.actor.Actor.{Actor}
 use Rattle.redo_drive.specs.declared.actor.Actor.TheVariants as own
 use Rattle.redo_drive.specs.declared.drive.Driven.{Driven}
 use Rattle.redo_drive.specs.declared.drive.RunEnd.TheVariants as ended
+use Rattle.redo_drive.specs.declared.seating.TheConstants.{FIRST_FOLLOWER}
 use Rattle.redo_store.specs.declared.opened.Opened.{Opened}
 use Rattle.redo_store.specs.Part as store
-use Rattle.redo_drive.proofs.FollowersLeft.{all_pairs, groups_are, Pair, starts_with}
+use Rattle.redo_drive.proofs.FollowersLeft.{all_pairs, among, groups_are, Pair, starts_with}
 
 -- where a device tells
-if_told : (tells : Option Disk) (Is : Disk → Type 0) → ((disk : Disk) → tells ≡ Some disk → Is disk) → IfSome tells Is
+pub if_told : (tells : Option Disk) (Is : Disk → Type 0) → ((disk : Disk) → tells ≡ Some disk → Is disk) → IfSome tells Is
 if_told None Is each = tt
 if_told (Some disk) Is each = each disk refl
 
 as_told : (tells : Option Disk) (Is : Disk → Type 0) (disk : Disk) → tells ≡ Some disk → IfSome tells Is → Is disk
 as_told tells Is disk told is = subst (λ (o : Option Disk). IfSome o Is) told is
 
--- an error of a part is a failure of its device, or the device had no memory
-failure_counts : (fault : DevError) (failed other : Option DevError) → failed ≡ Some fault → (failed ≡ Some NoMemory → 0 < failures failed + failures other) → 0 < failures failed + failures other
-failure_counts Failed failed other is memory = let n : failures failed ≡ 1 = ap failures is in omega arith
-failure_counts NoMemory failed other is memory = memory is
+-- an error of a part is a failure of its device, which counts, or the device had no memory
+failure_counts : (fault : DevError) (failed : Option DevError) (all : ℕ) → failed ≡ Some fault → failures failed ≤ all
+    → (failed ≡ Some NoMemory → 0 < all) → 0 < all
+failure_counts Failed failed all is counts memory = let n : failures failed ≡ 1 = ap failures is in omega arith
+failure_counts NoMemory failed all is counts memory = memory is
 
-module _ {L D R : Type 0} (log_seen : L → Seen) (log_gives : L → Call → L → Type 0) (data_seen : D → Seen)
+module _ {L D R : Type 0} {archive : Bool} (log_seen : L → Seen) (log_gives : L → Call → L → Type 0) (data_seen : D → Seen)
     (data_gives : D → Call → D → Type 0) (stands : R → List Given → Type 0) (opened : Opened L D)
     (script : List ScriptLine) (log_only : Bool) (followers : ℕ) (starts actors : List (Actor R)) (driven : Driven L D)
-    (by : LeavesRun log_seen log_gives data_seen data_gives stands opened script log_only followers starts actors
+    (by : LeavesWith log_seen log_gives data_seen data_gives stands opened script log_only archive followers starts actors
     driven.closed) where
   abbrev run : RunOf L D
   run = by.run
@@ -126,10 +130,32 @@ module _ {L D R : Type 0} (log_seen : L → Seen) (log_gives : L → Call → L 
       subst (IsRun script was) ran_is
       (finished_run logs run.setup 0 by.from.runs.running.shared by.from.runs.running.log_ghost by.last.log (views_of actors) by.from.runs.running.both.logged script was by.is_run.of_script (by.is_run.start ∙ start))
 
-  causes : HasMemory driven.closed → CausesAreFailures logs datas (failed_in driven.closed) by.last.log by.last.store
+  -- without an archiver no append has failed
+  none_lost : archive ≡ false → (code : ℕ) → HasLost (views_of actors) code → ⊥
+  none_lost alone = none_loses run.setup (views_of actors) by.from.runs.running.both.in_run
+      (let first = by.is_run.first_is in let one = ap first_reader alone in omega arith)
+
+  -- an append that has failed did so by an error
+  lost_by : (code : ℕ) → HasLost (views_of actors) code → (fault : DevError) × (driven.closed.lost ≡ Some fault)
+  lost_by code lost = some_fault driven.closed.lost (same archive refl)
+    where
+      same : (b : Bool) → archive ≡ b → code ≡ append_code driven.closed.lost
+      same true is = subst (λ (b : Bool). cond {A = Type 0} b
+          ((n : ℕ) → HasLost (views_of actors) n → n ≡ append_code driven.closed.lost) (Unit {0})) is by.lost code lost
+      same false is = absurd (none_lost is code lost)
+
+      some_fault : (met : Option DevError) → code ≡ append_code met → (fault : DevError) × (met ≡ Some fault)
+      some_fault None is = let some = lost.some_code in absurd (omega arith)
+      some_fault (Some fault) is = (fault, refl)
+
+  causes : HasMemory driven.closed → CausesAreFailures logs datas (failed_in driven.closed) by.last.log by.last.store (views_of actors)
   causes memory = record {
-    log = λ code cause. failure_counts cause.fault driven.closed.log.failed driven.closed.store.failed (ap (λ (z : log.Part L). z.failed) by.log ∙ cause.failed) (λ none. memory (inl none));
-    data_part = λ code cause. let n = failure_counts cause.fault driven.closed.store.failed driven.closed.log.failed (ap (λ (z : store.Part D). z.failed) by.data_part ∙ cause.failed) (λ none. let m = memory (inr none) in omega arith) in omega arith;
+    log = λ code cause. failure_counts cause.fault driven.closed.log.failed (failed_in driven.closed)
+        (ap (λ (z : log.Part L). z.failed) by.log ∙ cause.failed) (omega arith) (λ none. memory (inl none));
+    data_part = λ code cause. failure_counts cause.fault driven.closed.store.failed (failed_in driven.closed)
+        (ap (λ (z : store.Part D). z.failed) by.data_part ∙ cause.failed) (omega arith) (λ none. memory (inr (inl none)));
+    archive = λ code lost. let met = lost_by code lost in
+        failure_counts met.0 driven.closed.lost (failed_in driven.closed) met.1 (omega arith) (λ none. memory (inr (inr none)));
   }
 
   loses : (left : List (ℕ × ℕ)) → HaveEnded (views_of actors) → HasMemory driven.closed → IsLeft script driven.closed.history left → LosesOnlyByFailure (failed_in driven.closed) (Some ran) left
@@ -138,7 +164,7 @@ module _ {L D R : Type 0} (log_seen : L → Seen) (log_gives : L → Call → L 
       subst (λ (z : theorem.Ran). LosesOnlyByFailure (failed_in driven.closed) (Some z) left) ran_is
       (finished_losses logs run.setup 0 by.from.runs.running.shared by.from.runs.running.log_ghost by.last.log (views_of actors) by.from.runs.running.both.logged script opened.shape (failed_in driven.closed) left
       (seated_end run.setup (views_of actors) by.from.runs.seated ended) by.is_run.of_script (seated_seats run.setup (views_of actors) by.from.runs.seated script opened.shape by.is_run.of_script)
-      (λ failed. ⊎_elim (λ c. cause.log by.from.runs.running.shared.failed c) (λ c. cause.data_part by.from.runs.running.shared.failed c) (by.from.runs.running.both.cause failed)) (left_of_run left left_is))
+      (λ failed. ⊎_elim (λ c. cause.log by.from.runs.running.shared.failed c) (⊎_elim (λ c. cause.data_part by.from.runs.running.shared.failed c) (λ c. cause.archive by.from.runs.running.shared.failed c)) (by.from.runs.running.both.cause failed)) (left_of_run left left_is))
 
   -- the devices came here by calls, the log's and the data's
   log_calls : MayBegin opened script log_only → CallsOn log_gives opened.log.dev None driven.closed.log.dev driven.closed.log.failed
@@ -160,10 +186,13 @@ module _ {L D R : Type 0} (log_seen : L → Seen) (log_gives : L → Call → L 
   }
 
   -- FAILED's code comes of an error that a device's call answered
-  pub met_error : HasFailedPart logs datas by.last.log by.last.store → HasMetError driven.closed
+  pub met_error : HasFailedPart logs datas by.last.log by.last.store (views_of actors) → HasMetError driven.closed
   met_error (code, cause) = ⊎_elim
       (λ c. inl (λ none. let is : driven.closed.log.failed ≡ Some c.fault = ap (λ (z : log.Part L). z.failed) by.log ∙ c.failed in absurd (cc)))
-      (λ c. inr (λ none. let is : driven.closed.store.failed ≡ Some c.fault = ap (λ (z : store.Part D). z.failed) by.data_part ∙ c.failed in absurd (cc))) cause
+      (⊎_elim
+      (λ c. inr (inl (λ none. let is : driven.closed.store.failed ≡ Some c.fault = ap (λ (z : store.Part D). z.failed) by.data_part ∙ c.failed in absurd (cc))))
+      (λ lost. inr (inr (λ none. let met = lost_by code lost in
+      let bad : None ≡ Some met.0 = sym none ∙ met.1 in absurd (cc))))) cause
 
   module _ (may : MayBegin opened script log_only) (reading : Reading) (as_read : HasReading reading opened) where
     its_pages : HasItsPages run.setup (opened_as reading)
@@ -227,7 +256,7 @@ module _ {L D R : Type 0} (log_seen : L → Seen) (log_gives : L → Call → L 
       (as_told (log_seen opened.log.dev).tells (λ disk. IfSome (data_seen opened.store.dev).tells (λ other. IsStart reading script disk other → HaveBegun log_seen data_seen run)) log_disk log_told (by.begun reading as_read))
 
   -- where both devices told, and the store was ready
-  where_started : (reading : Reading) → HasReading reading opened → (Is : Type 0)
+  pub where_started : (reading : Reading) → HasReading reading opened → (Is : Type 0)
       → ((log_disk data_disk : Disk) → IsStart reading script log_disk data_disk → HaveBegun log_seen data_seen run → Is)
       → IfSome (log_seen opened.log.dev).tells (λ log_disk. IfSome (data_seen opened.store.dev).tells (λ data_disk.
       IsStart reading script log_disk data_disk → Is))
@@ -251,28 +280,31 @@ module _ {L D R : Type 0} (log_seen : L → Seen) (log_gives : L → Call → L 
       where_told reading as_read _ (λ log_disk data_disk log_now data_now start begun log_told data_told.
       held may reading as_read log_disk data_disk log_now data_now start (log_device may reading as_read begun log_now log_told) (data_device may reading as_read begun data_now data_told))
 
-  -- FAILED is 0 where no part has failed
-  no_code : driven.closed.log.failed ≡ None → driven.closed.store.failed ≡ None → by.from.runs.running.shared.failed ≡ 0
-  no_code log_live data_live = elim (dec_le 1 by.from.runs.running.shared.failed) [
+  -- FAILED is 0 where no part has failed, and nothing is archived
+  no_code : archive ≡ false → driven.closed.log.failed ≡ None → driven.closed.store.failed ≡ None
+      → by.from.runs.running.shared.failed ≡ 0
+  no_code alone log_live data_live = elim (dec_le 1 by.from.runs.running.shared.failed) [
     | yes positive ↦ ⊎_elim
         (λ c. let is : driven.closed.log.failed ≡ Some c.fault = ap (λ (z : log.Part L). z.failed) by.log ∙ c.failed in
         absurd (cc))
+        (⊎_elim
         (λ c. let is : driven.closed.store.failed ≡ Some c.fault = ap (λ (z : store.Part D). z.failed) by.data_part
         ∙ c.failed in absurd (cc))
+        (λ lost. absurd (none_lost alone by.from.runs.running.shared.failed lost)))
         (by.from.runs.running.both.cause positive)
     | no none ↦ omega arith
   ]
 
   -- where no actor holds anything, what reads give ends at WRITE
-  pub reads_to_marks : MayBegin opened script log_only
+  reads_by_marks : archive ≡ false → MayBegin opened script log_only
       → ((i : ℕ) (a : model.Actor) → get_elem? (views_of actors) i ≡ some a → HoldsNothing a)
       → ReadsToMarks log_seen data_seen opened script driven.closed
   unfolding stands_for_run
-  reads_to_marks may rest log_live data_live reading as_read =
+  reads_by_marks alone may rest log_live data_live reading as_read =
       where_told reading as_read _ (λ log_disk data_disk log_now data_now start begun log_told data_told left is.
       let R = by.from.runs.running in
       let part : log.Part L = by.last.log in
-      let sound = no_code log_live data_live in
+      let sound = no_code alone log_live data_live in
       let live : part.failed ≡ None = ap (λ (z : log.Part L). z.failed) (sym by.log) ∙ log_live in
       let whole : IsHeld (record {
         script = script;
@@ -339,10 +371,16 @@ module _ {L D R : Type 0} (log_seen : L → Seen) (log_gives : L → Call → L 
 
   -- WHAT IT LEAVES OF FOLLOWERS.
   module _ (fs : List (Following R)) (new : AreNewFollowers opened.start fs)
-      (are : views_of starts ≡ start_actors opened.shape script opened.start log_only (length fs))
-      (ends : EndsWithFollowers starts fs) where
+      (are : views_of starts ≡ seated_actors opened.shape script opened.start log_only archive (length fs))
+      (ends : EndsWithReaders opened.start archive starts fs) where
     these : ◌≡◌ {A = List (Following R)} (followers_in starts) fs
-    these = starts_with opened.shape script opened.start log_only fs starts are ends
+    these = starts_with opened.shape script opened.start log_only archive fs starts are ends
+
+    -- each has a number of its own
+    is_numbered : (seat : ℕ) (f : Following R) → get_elem? starts seat ≡ some (own.Follower f) → 0 < f.state.number
+    is_numbered = among (λ (f : Following R). 0 < f.state.number) starts (λ i f at.
+        let is = new.each i f (subst (λ (l : List (Following R)). get_elem? l i ≡ some f) these at) in
+        let number : f.state.number ≡ FIRST_FOLLOWER + i = ap (λ (r : ReaderState). r.number) is in omega arith)
 
     each_pair : (P : Following R → Following R → Type 0)
         → ((seat : ℕ) (f g : Following R) → get_elem? starts seat ≡ some (own.Follower f)
@@ -360,12 +398,14 @@ module _ {L D R : Type 0} (log_seen : L → Seen) (log_gives : L → Call → L 
         pair i (own.Follower f) (own.Closer t) at there same = absurd same
         pair i (own.Follower f) (own.Cleaner v) at there same = absurd same
         pair i (own.Follower f) (own.Checkpointer t) at there same = absurd same
+        pair i (own.Follower f) (own.Archiver r) at there same = absurd same
         pair i (own.User u) (own.Follower g) at there same = absurd same
         pair i (own.Writer s) (own.Follower g) at there same = absurd same
         pair i (own.Flusher t) (own.Follower g) at there same = absurd same
         pair i (own.Closer t) (own.Follower g) at there same = absurd same
         pair i (own.Cleaner v) (own.Follower g) at there same = absurd same
         pair i (own.Checkpointer t) (own.Follower g) at there same = absurd same
+        pair i (own.Archiver r) (own.Follower g) at there same = absurd same
         pair i _ _ at there same = tt
 
     module _ (told : logs.Tells by.last.log) where
@@ -388,8 +428,9 @@ module _ {L D R : Type 0} (log_seen : L → Seen) (log_gives : L → Call → L 
           let r : ReaderState = after.state in
           let R : ReaderHas run.setup m g.log seat r =
           half.each seat (model.Reader r) (views_at actors seat (own.Follower after) there) in
-          let first = R.first in
-          let from_one = by.is_run.first_reader in
+          let from_one = is_numbered seat before at in
+          let same : r.number ≡ before.state.number =
+          by.from.same seat (own.Follower before) (own.Follower after) at there in
           let kind : archives r ≡ false = ne_eqb r.number 0 (λ none. omega arith) in
           let F : FollowerHas run.setup m g.log r =
           subst (λ (b : Bool). HasByKind run.setup m g.log b r) kind R.has in
@@ -440,3 +481,15 @@ module _ {L D R : Type 0} (log_seen : L → Seen) (log_gives : L → Call → L 
             let z : (log_seen by.last.log.dev).tells ≡ Some disk =
             ap (λ (z : log.Part L). (log_seen z.dev).tells) (sym by.log) ∙ told in
             let bad : None ≡ Some disk = sym none ∙ z in absurd (cc)
+
+-- and where nothing is archived, what reads give ends at WRITE
+pub reads_to_marks : {L D R : Type 0} (log_seen : L → Seen) (log_gives : L → Call → L → Type 0) (data_seen : D → Seen)
+    (data_gives : D → Call → D → Type 0) (stands : R → List Given → Type 0) (opened : Opened L D)
+    (script : List ScriptLine) (log_only : Bool) (followers : ℕ) (starts actors : List (Actor R)) (driven : Driven L D)
+    → LeavesRun log_seen log_gives data_seen data_gives stands opened script log_only followers starts actors driven.closed
+    → MayBegin opened script log_only
+    → ((i : ℕ) (a : model.Actor) → get_elem? (views_of actors) i ≡ some a → HoldsNothing a)
+    → ReadsToMarks log_seen data_seen opened script driven.closed
+reads_to_marks log_seen log_gives data_seen data_gives stands opened script log_only followers starts actors driven by =
+    reads_by_marks log_seen log_gives data_seen data_gives stands opened script log_only followers starts actors driven
+    by refl

@@ -1,3 +1,6 @@
+pub mod ArchiveGroups
+pub mod ArchiveLeft
+pub mod ArchiveTurns
 pub mod Asked
 pub mod Batches
 pub mod Begun

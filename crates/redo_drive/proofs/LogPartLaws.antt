@@ -17,7 +17,8 @@ use Rattle.model_parts.proofs.Longer.{longer-holds, longer-live}
 use Rattle.model_parts.specs.{after_asked, after_checkpoint, after_given, after_synced, after_written, next_number}
 use Rattle.model_parts.specs.declared.marks.LogMarks.{LogMarks}
 use Rattle.model_log.specs.declared.group.Whole.{Whole}
-use Rattle.model_log.specs.declared.layout.TheConstants.{BLOCK_DATA}
+use Rattle.model_base.specs.declared.limits.TheConstants.{BLOCK_SIZE}
+use Rattle.model_log.specs.declared.layout.TheConstants.{BLOCK_DATA, BLOCK_HEADER}
 use Rattle.redo_disk.specs.Seen.{Seen}
 use Rattle.redo_logdev.specs.{DiskHolds, HoldsBlock, PartHolds, Stays}
 use Rattle.redo_logdev.specs.Part.{Part}
@@ -300,6 +301,23 @@ module _ {L : Type 0} (seen : L → Seen) (faults first : ℕ) (Begun : Type 0) 
       has_block side blocks base x top p.marks.written log wholes bytes p C stable H.stable_written groups.1
       held.holds.order.written block
 
+  runs : (blocks base : ℕ) (log : List Entry) (x : ℕ) (bytes : List ℕ) (p q : Part L)
+      → Holds blocks base log p → CanRead side blocks base log x p → LogRead seen x bytes 0 p q → side.Tells q
+      → x + BLOCK_SIZE + BLOCK_HEADER ≤ p.marks.stable → side.IsRunBlock base log x bytes
+  runs blocks base log x bytes p q H C R tells below wholes are =
+      let disk = some_disk (seen q.dev).tells tells.1 in
+      let before : (seen p.dev).tells ≡ Some disk.0 =
+      subst (λ (o : Option Disk). IfSome o (λ d. (seen p.dev).tells ≡ Some d)) disk.1 R.told in
+      let Held : Disk → Type 0 = DiskHolds p.shape (lsn base) wholes p.marks p.tails p.failed in
+      let held : Held disk.0 = subst (λ (o : Option Disk). IfSome o Held) before (H.groups tells.0 wholes are) in
+      let there : HoldsBlock p x = record { from = omega (arith, C.from, C.even, H.aligned); some = C.some } in
+      let Is : Disk → Type 0 = λ d. Held d → IsBoundaryBlock (lsn base) wholes p.marks.written x bytes in
+      let block : IsBoundaryBlock (lsn base) wholes p.marks.written x bytes =
+      after_good Is R.called.result p q disk.0 R.called.code_is R.called.stays disk.1
+      (R.block there (lsn base) wholes) held in
+      let stable = H.stable_written in
+      (p.marks.written, held.holds.order.written, record { full = omega arith; block = block })
+
   codes : (part : Part L) (code : ℕ) → side.Cause part code → IsLogCode code
   codes part code cause = subst IsLogCode (sym cause.code_is) (by cause.fault)
     where
@@ -320,4 +338,5 @@ module _ {L : Type 0} (seen : L → Seen) (faults first : ℕ) (Begun : Type 0) 
     checkpoints = checkpoints;
     reads = reads;
     gets = gets;
+    runs = runs;
   }

@@ -26,6 +26,7 @@ use Rattle.model_logcore.specs.Ready.{Ready}
 use Rattle.model_pagecore.specs.{CanBatch}
 use Rattle.model_pagecore.specs.DataLaws.{DataLaws}
 use Rattle.model_running.proofs.AnswersFitAll.{answer_fits}
+use Rattle.model_running.proofs.Archiving.{none_appends}
 use Rattle.model_running.proofs.BothReady as both_ready
 use Rattle.model_running.proofs.FlatWords.{flat_answer}
 use Rattle.model_running.proofs.InRun.{next_in_run}
@@ -35,7 +36,7 @@ use Rattle.model_core.specs.declared.steps.ReaderStep.{ReaderStep}
 use Rattle.model_core.specs.declared.steps.ReaderStep.TheVariants as reader_step
 use Rattle.model_running.proofs.ListsReady.{list_ready}
 use Rattle.model_running.proofs.Turns.{next_words}
-use Rattle.model_running.specs.{HaveSmallCodes}
+use Rattle.model_running.specs.{HaveSmallCodes, IsNoAppend}
 use Rattle.model_running.specs.DataReady as running
 use Rattle.model_running.specs.ListReady.{ListReady}
 use Rattle.redo_drive.proofs.Lent.{lent_batch}
@@ -52,7 +53,7 @@ use Rattle.redo_drive.specs.LogPartSide as log_part
 use Rattle.redo_drive.specs.Lists.{lists_of}
 use Rattle.redo_drive.specs.Playing.{DataReady, HasWholePages, IsPlayable, LogReady, MayBatchLent, MayWriteLent, RunOf, run_data_side, run_log_side}
 use Rattle.redo_drive.specs.Receiving.{MarkFits}
-use Rattle.redo_drive.specs.Running.{RunsOn}
+use Rattle.redo_drive.specs.Running.{RunsOn, RunsWith}
 use Rattle.redo_drive.specs.Turning.{MayServe}
 use Rattle.redo_drive.specs.declared.device.Device.TheVariants.{Data, Log}
 use Rattle.redo_drive.specs.declared.parts.Parts.{Parts}
@@ -182,8 +183,10 @@ mark_given ls broken code mark m low r false reader_step.StorePlace = tt
 mark_given ls broken code mark m low r false reader_step.StoreFailed = tt
 mark_given ls broken code mark m low r false reader_step.GiveFailed = tt
 mark_given ls broken code mark m low r false reader_step.Failed = tt
+mark_given ls broken code mark m low r false reader_step.Append = tt
+mark_given ls broken code mark m low r false reader_step.StoreLost = tt
 
-module _ {L D : Type 0} (log_seen : L → Seen) (data_seen : D → Seen) (run : RunOf L D) (parts : Parts L D) (actors : List model.Actor) (R : RunsOn log_seen data_seen run parts actors)
+module _ {L D : Type 0} {archive : Bool} (log_seen : L → Seen) (data_seen : D → Seen) (run : RunOf L D) (parts : Parts L D) (actors : List model.Actor) (R : RunsWith log_seen data_seen run archive parts actors)
     (log_laws : LogLaws (run_log_side log_seen data_seen run)) (data_laws : DataLaws (run_data_side log_seen data_seen run)) where
   abbrev A : LogSide
   A = run_log_side log_seen data_seen run
@@ -221,12 +224,12 @@ module _ {L D : Type 0} (log_seen : L → Seen) (data_seen : D → Seen) (run : 
         ap (λ (ws : List ℕ). answer_of ls (is_some parts.log.failed) code mark ws (next who)) W.flat_is
         ∙ flat_answer c.pages W.shared W.both.logged.sized ls (is_some parts.log.failed) code mark (next who) words
 
-    fits : (code mark : ℕ) → AnswerFits who (answer_of ls (is_some parts.log.failed) code mark parts.words.words (next who))
+    pub fits : (code mark : ℕ) → AnswerFits who (answer_of ls (is_some parts.log.failed) code mark parts.words.words (next who))
     fits code mark = let W = R.running in
         subst (λ (r : Answer). AnswerFits who r) (sym (answer_is code mark))
         (answer_fits A B c 0 W.shared W.log_ghost W.page_ghost ls parts.log parts.store actors seat W.both R.bytes codes (is_some parts.log.failed) code mark who at)
 
-    mark_fits : (code mark : ℕ)
+    pub mark_fits : (code mark : ℕ)
         → MarkFits who (answer_of ls (is_some parts.log.failed) code mark parts.words.words (next who))
     mark_fits code mark = let W = R.running in
         subst (λ (r : Answer). MarkFits who r) (sym (answer_is code mark)) (by who at)
@@ -264,8 +267,8 @@ module _ {L D : Type 0} (log_seen : L → Seen) (data_seen : D → Seen) (run : 
         (reads_none (next who))
         (reader_or_no_read who)
 
-    playable : (l : Lent) → Lends l (lent who) → IsPlayable parts (next who) l
-    playable l lends = let W = R.running in record {
+    playable : IsNoAppend (next who) → (l : Lent) → Lends l (lent who) → IsPlayable parts (next who) l
+    playable none l lends = let W = R.running in record {
       there = subst (λ (n : ℕ). OpWords n (next who)) (sym R.word_pages) words;
       sum = holds_sum ls (is_some parts.log.failed) 0 0 parts.words.words who (fits 0 0).log;
       listing = subst (λ (n : ℕ). ListReady n ls (next who)) (sym R.list_pages) (list_ready A B c 0 W.shared W.log_ghost W.page_ghost ls parts.log parts.store actors seat W.both who at);
@@ -273,13 +276,23 @@ module _ {L D : Type 0} (log_seen : L → Seen) (data_seen : D → Seen) (run : 
       log = log_call log_seen (log_seen run.first_log.dev).faults run.first_log.marks.number (log_part.HasBegun log_seen (lsn c.base) run.first_log) c W.log_ghost parts.log who W.both.logged.global.part.holds low_stable (next who) l lends
           (both_ready.log_ready A log_laws B data_laws c 0 W.shared W.log_ghost W.page_ghost ls parts.log parts.store
           actors seat W.both who at) reads;
+      own = none;
       data_part = data_call data_seen (data_seen run.first_data.dev).faults run.shape (data_part.HasBegun data_seen c.opened run.first_data) c R.its_pages R.its_page_size R.limits W.page_ghost.kept_page parts.store (next who) (lent who) l lends data_can;
     }
 
-    pub may_serve : MayServe parts who
-    may_serve = record {
-      playable = playable;
+    pub serves_other : IsNoAppend (next who) → MayServe parts who
+    serves_other none = record {
+      playable = playable none;
       whole = whole_pages data_seen (data_seen run.first_data.dev).faults run.shape (data_part.HasBegun data_seen c.opened run.first_data) c R.its_pages R.its_page_size R.limits R.running.page_ghost.kept_page parts.store (next who) (lent who) data_can;
       fits = fits;
       mark = mark_fits;
     }
+
+-- where nothing is archived each actor may
+pub may_serve : {L D : Type 0} (log_seen : L → Seen) (data_seen : D → Seen) (run : RunOf L D) (parts : Parts L D)
+    (actors : List model.Actor) (R : RunsOn log_seen data_seen run parts actors)
+    → LogLaws (run_log_side log_seen data_seen run) → DataLaws (run_data_side log_seen data_seen run)
+    → (seat : ℕ) (who : model.Actor) → get_elem? actors seat ≡ some who → MayServe parts who
+may_serve log_seen data_seen run parts actors R log_laws data_laws seat who at =
+    serves_other log_seen data_seen run parts actors R log_laws data_laws seat who at
+    (none_appends run.setup who (R.running.both.in_run seat who at) R.followers)

@@ -16,7 +16,7 @@ use Rattle.model_logcore.specs.{CheckpointerAt, CheckpointerFits, LogGhost, Writ
 use Rattle.model_running.specs.{ArePageActors}
 use Rattle.redo_disk.specs.Seen.{Seen}
 use Rattle.redo_drive.specs.Playing.{RunOf, run_log_side}
-use Rattle.redo_drive.specs.Running.{RunsOn}
+use Rattle.redo_drive.specs.Running.{RunsWith}
 use Rattle.redo_drive.specs.declared.parts.Parts.{Parts}
 
 module _ (D : LogSide) (c : Setup) (m : SharedWords) (g : LogGhost) (p : D.Part) (sound : m.failed ≡ 0) where
@@ -68,8 +68,8 @@ start_block_alone : (base ckpt : ℕ) → base % 496 ≡ 0 → ckpt % 512 ≡ 0 
 unfolding lsn
 start_block_alone base ckpt even aligned from up_to = omega arith
 
-module _ {L D : Type 0} (log_seen : L → Seen) (data_seen : D → Seen) (run : RunOf L D) (parts : Parts L D)
-    (actors : List model.Actor) (runs : RunsOn log_seen data_seen run parts actors)
+module _ {L D : Type 0} {archive : Bool} (log_seen : L → Seen) (data_seen : D → Seen) (run : RunOf L D)
+    (parts : Parts L D) (actors : List model.Actor) (runs : RunsWith log_seen data_seen run archive parts actors)
     (rests : (i : ℕ) (a : model.Actor) → get_elem? actors i ≡ maybe.some a → HoldsNothing a)
     (sound : runs.running.shared.failed ≡ 0) where
   abbrev logs : LogSide

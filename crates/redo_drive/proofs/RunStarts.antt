@@ -49,14 +49,14 @@ use Rattle.redo_drive.proofs.StartWordsPages.{has_opened_pages}
 use Rattle.redo_drive.proofs.UserLines.{of_script, of_user}
 use Rattle.redo_drive.specs.Beginning.{HaveBegun}
 use Rattle.redo_drive.specs.Startable.{AreNewFollowers, HasReading, MayBegin}
-use Rattle.redo_drive.specs.Begins.{BeginsRun}
+use Rattle.redo_drive.specs.Begins.{BeginsWith}
 use Rattle.redo_drive.specs.Lists.{Listings, empty_lists, lists_of}
 use Rattle.redo_drive.specs.Making.{IsOwnOf}
 use Rattle.redo_drive.specs.Playing.{RunOf, run_data_side, run_log_side}
 use Rattle.redo_drive.specs.Receiving.{follower_of, HasGot, IsSameFollower}
-use Rattle.redo_drive.specs.Running.{groups_of, RunsFrom, RunsOn}
+use Rattle.redo_drive.specs.Running.{groups_of, RunsFromWith, RunsWith}
 use Rattle.redo_drive.specs.Turning.{core_of}
-use Rattle.redo_drive.specs.Setups.{programs_of}
+use Rattle.redo_drive.specs.Setups.{first_reader, programs_of}
 use Rattle.redo_drive.specs.StartWords.{setup_of}
 use Rattle.redo_drive.specs.StartWords.{StartsOn}
 use Rattle.redo_drive.specs.FirstWords.{AreStartWords}
@@ -95,7 +95,7 @@ lines_get_bytes : (shape : Shape) (pages : List Content) (start : ℕ) (script :
 lines_get_bytes shape pages start script log_only fits user j k = elim (dec_le (length (programs_of shape log_only script user)) j) [
   | yes past ↦ subst (λ (line : Line). GetsBytes (change_at line.changes k)) (sym (get_or_past (programs_of shape log_only script user) j (record { mode = 0; bytes = []; changes = [] }) past)) (λ i. omega arith)
   | no there ↦ (
-      let is = of_script shape pages start script log_only 0 (omega arith) in
+      let is = of_script shape pages start script log_only false 0 (omega arith) in
       let count = is.count user in
       let one = line_below (lines_of_user user script) j (omega arith) in
       subst (λ (line : Line). GetsBytes (change_at line.changes k)) (sym (is.each user j one.0 one.1)) (by log_only one.0 (of_user (LineFits shape) script user j one.0 fits one.1).0))
@@ -113,7 +113,7 @@ if_told (Some log_disk) None P is = tt
 if_told (Some log_disk) (Some data_disk) P is = is log_disk data_disk refl refl
 
 -- a log that ends where it begins has no group
-no_log : (s n : ℕ) (log : List Entry) → Tiles s log n → n ≡ s → ◌≡◌ {A = List Entry} log []
+pub no_log : (s n : ℕ) (log : List Entry) → Tiles s log n → n ≡ s → ◌≡◌ {A = List Entry} log []
 no_log s n [] tiles is = refl
 no_log s n (e ∷ es) tiles is =
     absurd (let some = tiles.1 in let up = tiles_le es (s + length e.bytes) n tiles.3 in omega arith)
@@ -142,12 +142,12 @@ got_none stands None = tt
 got_none stands (Some f) = λ before is. subst (λ (l : List Given). stands f.receiver l) (sym (append-nil before)) is
 
 module _ {L D R : Type 0} (log_seen : L → Seen) (data_seen : D → Seen) (stands : R → List Given → Type 0)
-    (opened : Opened L D) (script : List ScriptLine) (log_only : Bool) (followers : List (Following R))
+    (opened : Opened L D) (script : List ScriptLine) (log_only archive : Bool) (followers : List (Following R))
     (may : MayBegin opened script log_only) (new : AreNewFollowers opened.start followers) (own : Own R)
-    (owns : IsOwnOf opened.shape opened.pages script opened.start log_only followers own) where
+    (owns : IsOwnOf opened.shape opened.pages script opened.start log_only archive followers own) where
   -- the run
   abbrev setup : Setup
-  setup = setup_of opened.shape opened.pages opened.start script log_only (length followers)
+  setup = setup_of opened.shape opened.pages opened.start script log_only archive (length followers)
 
   abbrev run : RunOf L D
   run = record { setup = setup; shape = opened.shape; first_log = opened.log; first_data = opened.store }
@@ -194,7 +194,7 @@ module _ {L D R : Type 0} (log_seen : L → Seen) (data_seen : D → Seen) (stan
   fit user k one at = (of_user (LineFits opened.shape) script user k one may.fits.lines at).0
 
   new_actors : (seat : ℕ) (a : Actor) → get_elem? (views_of own.actors.items) seat ≡ some a → IsNew setup seat_of writer seat a
-  new_actors seat a at = are_new opened.shape opened.pages opened.start script log_only (length followers)
+  new_actors seat a at = are_new opened.shape opened.pages opened.start script log_only archive (length followers)
       new.few may.lines may.fits.lines place seat a
       (subst (λ (actors : List Actor). get_elem? actors seat ≡ some a) owns.actors at)
 
@@ -211,7 +211,7 @@ module _ {L D R : Type 0} (log_seen : L → Seen) (data_seen : D → Seen) (stan
   -- what stands at its start
   store_start : StartStore log_part data_part setup words.by_name opened.log opened.store seat_of writer (views_of own.actors.items)
   store_start = record {
-    script = scripted setup script opened.shape may.runnable.limits refl refl (of_script opened.shape opened.pages opened.start script log_only (length followers) new.few) fit;
+    script = scripted setup script opened.shape may.runnable.limits refl refl (of_script opened.shape opened.pages opened.start script log_only archive (length followers) new.few) fit;
     some_page = may.runnable.limits.some_pages;
     words = words.of_log;
     page_words = words.of_pages;
@@ -230,24 +230,29 @@ module _ {L D R : Type 0} (log_seen : L → Seen) (data_seen : D → Seen) (stan
   is_running =
       let room : lsn (setup.base + sum_over_actors left_to_reserve (views_of own.actors.items) + 0) < LSN_LIMIT =
       subst (λ (actors : List Actor). lsn (setup.base + sum_over_actors left_to_reserve actors + 0) < LSN_LIMIT) (sym owns.actors)
-      (room_for_all opened.shape script opened.start log_only (length followers) may.fits.lines may.fits.end) in
+      (room_for_all opened.shape script opened.start log_only archive (length followers) may.fits.lines may.fits.end) in
       let none : ◌≡◌ {A = ℕ → List Listed} (lists_of own.lists) (λ _. []) = λ k i. none_at i k in
       subst (λ (lists : ℕ → List Listed). RunningStore log_part data_part setup 0 own.words.words lists opened.log opened.store (views_of own.actors.items)) (sym none)
       (store_starts log_part data_part setup words.by_name opened.log opened.store seat_of writer (views_of own.actors.items) store_start 0 own.words.words words.in_order room)
 
-  runs : RunsOn log_seen data_seen run start.parts (views_of own.actors.items)
+  runs : RunsWith log_seen data_seen run archive start.parts (views_of own.actors.items)
   runs = record {
     limits = may.runnable.limits;
     started = (let low = may.runnable.first in omega (arith, place));
     its_pages = refl;
     its_page_size = refl;
+    followers = none_archives archive;
     bytes = record { opened = owns.bytes; cells = λ user j k i. lines_get_bytes opened.shape opened.pages opened.start script log_only may.fits.lines user j k i };
     word_pages = owns.word_pages ∙ may.runnable.its_pages.count;
     list_pages = ap (λ (lists : Listings). lists.pages) owns.lists;
     running = is_running;
-    seated = subst (AreSeated setup) (sym owns.actors) (are_seated opened.shape opened.pages opened.start script log_only (length followers)
+    seated = subst (AreSeated setup) (sym owns.actors) (are_seated opened.shape opened.pages opened.start script log_only archive (length followers)
         new.few may.lines may.fits.lines);
   }
+    where
+      none_archives : (b : Bool) → cond b (Unit {0}) (0 < first_reader b)
+      none_archives true = tt
+      none_archives false = omega arith
 
   -- nothing has been handed on
   empty : ◌≡◌ {A = List Entry} runs.running.log_ghost.log []
@@ -257,7 +262,7 @@ module _ {L D R : Type 0} (log_seen : L → Seen) (data_seen : D → Seen) (stan
       let sn : W.shared.sn ≡ words.by_name.sn = ap (λ (ws : List ℕ). slice_index ws 0) words_same in
       no_log setup.base W.shared.sn W.log_ghost.log W.both.logged.global.tiled.tiles (sn ∙ words.of_log.sn)
 
-  from : RunsFrom log_seen data_seen stands run own.actors.items start.parts own.actors.items
+  from : RunsFromWith log_seen data_seen stands run archive own.actors.items start.parts own.actors.items
   from = record {
     runs = runs;
     count = refl;
@@ -283,7 +288,7 @@ module _ {L D R : Type 0} (log_seen : L → Seen) (data_seen : D → Seen) (stan
       }
 
   -- its parts and actors stand at the beginning of the run
-  pub begins : BeginsRun log_seen data_seen stands opened script log_only followers start
+  pub begins : BeginsWith log_seen data_seen stands opened script log_only archive followers start
   begins = record {
     run = run;
     is_run = record {
@@ -292,9 +297,9 @@ module _ {L D R : Type 0} (log_seen : L → Seen) (data_seen : D → Seen) (stan
       first_data = refl;
       start = place;
       log_only_is = refl;
-      first_reader = refl;
+      first_is = refl;
       last_reader = refl;
-      of_script = of_script opened.shape opened.pages opened.start script log_only (length followers) new.few;
+      of_script = of_script opened.shape opened.pages opened.start script log_only archive (length followers) new.few;
       its_pages = has_opened_pages setup (record { shape = opened.shape; pages = opened.pages; end = 0 }) may.runnable.limits may.runnable.its_pages (sym may.runnable.its_pages.count) refl (λ p there. refl);
     };
     at_start = record {
@@ -313,7 +318,7 @@ module _ {L D R : Type 0} (log_seen : L → Seen) (data_seen : D → Seen) (stan
       none_listed = none_at;
     };
     from = from;
-    followers = owns.followers;
+    followers = owns.readers;
     log = refl;
     data_part = refl;
     no_entries = owns.no_entries;

@@ -17,7 +17,7 @@ use Rattle.model_script.specs.declared.misfit.TheConstants.{MAX_USERS}
 use Rattle.model_script.specs.declared.script.ScriptLine.{ScriptLine}
 use Rattle.redo_useractor.specs.{program_lines}
 use Rattle.redo_drive.specs.declared.seating.TheConstants.{FIRST_FOLLOWER}
-use Rattle.redo_drive.specs.Setups.{followers_from, other_actors, page_actors, programs_of, start_actors, users_below}
+use Rattle.redo_drive.specs.Setups.{followers_from, other_actors, page_actors, programs_of, readers_of, seated_actors, users_below}
 use Rattle.redo_drive.specs.Setups.{users_of}
 
 -- the sum for each number below n
@@ -99,36 +99,41 @@ users_reserve blocks programs (suc n) = by (eqb (length (programs n)) 0) (λ is.
         let last : sum_over_actors left_to_reserve (actor.User user ∷ []) ≡ lengths (programs n) = omega arith in omega arith
 
 -- the actors of the pages reserve nothing
-pages_reserve : (shape : Shape) (start : ℕ) (log_only : Bool) (followers : ℕ)
-    → sum_over_actors left_to_reserve (page_actors shape start log_only followers) ≡ 0
-pages_reserve shape start true followers = refl
-pages_reserve shape start false followers = refl
+pages_reserve : (shape : Shape) (start : ℕ) (log_only archive : Bool) (followers : ℕ)
+    → sum_over_actors left_to_reserve (page_actors shape start log_only archive followers) ≡ 0
+pages_reserve shape start true archive followers = refl
+pages_reserve shape start false archive followers = refl
 
 followers_reserve : (start number followers : ℕ)
     → sum_over_actors left_to_reserve (followers_from start number followers) ≡ 0
 followers_reserve start number zero = refl
 followers_reserve start number (suc n) = let rest = followers_reserve start (number + 1) n in omega arith
 
+readers_reserve : (start : ℕ) (archive : Bool) (followers : ℕ)
+    → sum_over_actors left_to_reserve (readers_of start archive followers) ≡ 0
+readers_reserve start true followers = let rest = followers_reserve start FIRST_FOLLOWER followers in omega arith
+readers_reserve start false followers = followers_reserve start FIRST_FOLLOWER followers
+
 -- what all actors may reserve
-pub actors_reserve : (shape : Shape) (script : List ScriptLine) (start : ℕ) (log_only : Bool) (followers : ℕ)
+pub actors_reserve : (shape : Shape) (script : List ScriptLine) (start : ℕ) (log_only archive : Bool) (followers : ℕ)
     → AllByRecursion (LineFits shape) script
-    → sum_over_actors left_to_reserve (start_actors shape script start log_only followers) ≡ length (stream_of (map (group_of shape.space) script))
-actors_reserve shape script start log_only followers fits =
+    → sum_over_actors left_to_reserve (seated_actors shape script start log_only archive followers) ≡ length (stream_of (map (group_of shape.space) script))
+actors_reserve shape script start log_only archive followers fits =
     let programs : ℕ → List Line = programs_of shape log_only script in
     let users : List Actor = map actor.User (users_of shape log_only script) in
-    let others : List Actor = other_actors shape start log_only followers in
-    let readers : List Actor = followers_from start FIRST_FOLLOWER followers in
+    let others : List Actor = other_actors shape start log_only archive followers in
+    let readers : List Actor = readers_of start archive followers in
     let parts = sum_append left_to_reserve (users ++ others) readers in
     let more = sum_append left_to_reserve users others in
-    let none = pages_reserve shape start log_only followers in
-    let nothing = followers_reserve start FIRST_FOLLOWER followers in
+    let none = pages_reserve shape start log_only archive followers in
+    let nothing = readers_reserve start archive followers in
     let all = users_reserve (run_layout shape).blocks programs (MAX_USERS + 1) ∙ all_count shape log_only script fits in omega arith
 
 -- and the log has room for that
-pub room_for_all : (shape : Shape) (script : List ScriptLine) (start : ℕ) (log_only : Bool) (followers : ℕ)
+pub room_for_all : (shape : Shape) (script : List ScriptLine) (start : ℕ) (log_only archive : Bool) (followers : ℕ)
     → AllByRecursion (LineFits shape) script → script_end shape start script < LSN_LIMIT
-    → lsn (sn_of start + sum_over_actors left_to_reserve (start_actors shape script start log_only followers) + 0) < LSN_LIMIT
-room_for_all shape script start log_only followers fits room =
-    let sum = actors_reserve shape script start log_only followers fits in
-    let end : sn_of start + sum_over_actors left_to_reserve (start_actors shape script start log_only followers) + 0 ≡ sn_of start + length (stream_of (map (group_of shape.space) script)) = omega arith in
+    → lsn (sn_of start + sum_over_actors left_to_reserve (seated_actors shape script start log_only archive followers) + 0) < LSN_LIMIT
+room_for_all shape script start log_only archive followers fits room =
+    let sum = actors_reserve shape script start log_only archive followers fits in
+    let end : sn_of start + sum_over_actors left_to_reserve (seated_actors shape script start log_only archive followers) + 0 ≡ sn_of start + length (stream_of (map (group_of shape.space) script)) = omega arith in
     subst (λ (n : ℕ). lsn n < LSN_LIMIT) (sym end) (subst (λ (n : ℕ). n < LSN_LIMIT) (sym (lsn_is (sn_of start + length (stream_of (map (group_of shape.space) script))))) room)

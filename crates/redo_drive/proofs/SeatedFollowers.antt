@@ -1,6 +1,6 @@
 -- The followers in their seats, after the other actors.
-use Rattle.std.proofs.Common.{Bool, Err, List, Ok, Result, [], ap, arith, length, length-append, map, refl, suc}
-use Rattle.std.proofs.Common.{ℕ, ◌++◌, ◌+◌, ◌-◌, ◌∙◌, ◌∷◌, ◌≡◌}
+use Rattle.std.proofs.Common.{Bool, Err, List, Ok, Result, [], ap, append-nil, append_assoc, arith, false, length, length-append, map, refl, suc, true}
+use Rattle.std.proofs.Common.{subst, sym, ℕ, ◌++◌, ◌+◌, ◌-◌, ◌∙◌, ◌∷◌, ◌≡◌}
 use Rattle.std.specs.Prelude.{IfOk}
 use Rattle.std.proofs.lemmas.List.{drop_at, length-map, map-append}
 use lib.ListN.{get_elem?}
@@ -9,8 +9,8 @@ use Rattle.model_base.specs.declared.shape.Shape.{Shape}
 use Rattle.model_core.specs.Actors as model
 use Rattle.model_core.specs.{new_reader}
 use Rattle.model_script.specs.declared.script.ScriptLine.{ScriptLine}
-use Rattle.redo_drive.specs.Making.{EndsWithFollowers}
-use Rattle.redo_drive.specs.Setups.{followers_from, seated_before, start_actors}
+use Rattle.redo_drive.specs.Making.{EndsWithFollowers, EndsWithReaders, new_archiver}
+use Rattle.redo_drive.specs.Setups.{followers_from, seated_actors, seated_before}
 use Rattle.redo_drive.specs.Startable.{AreNewFollowers}
 use Rattle.redo_drive.specs.Views.{view_of, views_of}
 use Rattle.redo_drive.specs.declared.actor.Actor.{Actor}
@@ -31,20 +31,62 @@ followers_seen start number (f ∷ fs) each =
     ∙ ap (λ (n : ℕ). new_reader n start) (let e : number + suc i ≡ number + 1 + i = omega arith in e)))
 
 module _ {R : Type 0} (before : List (Actor R)) (fs : List (Following R)) where
-  pub all_seated : (shape : Shape) (script : List ScriptLine) (start : ℕ) (log_only : Bool) → AreNewFollowers start fs
-      → views_of before ≡ seated_before shape script start log_only (length fs)
-      → views_of (before ++ map own.Follower fs) ≡ start_actors shape script start log_only (length fs)
-  all_seated shape script start log_only new are =
+  -- the followers sit right behind the other actors,
+  pub all_seated : (shape : Shape) (script : List ScriptLine) (start : ℕ) (log_only archive : Bool) → AreNewFollowers start fs
+      → views_of before ≡ seated_before shape script start log_only archive (length fs)
+      → views_of (before ++ map own.Follower fs)
+      ≡ seated_before shape script start log_only archive (length fs) ++ followers_from start FIRST_FOLLOWER (length fs)
+  all_seated shape script start log_only archive new are =
       map-append view_of before (map own.Follower fs)
       ∙ ap (λ (l : List model.Actor). l ++ views_of (map own.Follower fs)) are
-      ∙ ap (λ (l : List model.Actor). seated_before shape script start log_only (length fs) ++ l)
+      ∙ ap (λ (l : List model.Actor). seated_before shape script start log_only archive (length fs) ++ l)
       (followers_seen start FIRST_FOLLOWER fs new.each)
 
-  pub ends_so : EndsWithFollowers (before ++ map own.Follower fs) fs
+  -- or behind the archiver
+  pub seated_behind : (shape : Shape) (script : List ScriptLine) (start : ℕ) (log_only : Bool) → AreNewFollowers start fs
+      → views_of before ≡ seated_before shape script start log_only true (length fs)
+      → views_of ((before ++ own.Archiver (new_reader 0 start) ∷ []) ++ map own.Follower fs)
+      ≡ seated_actors shape script start log_only true (length fs)
+  seated_behind shape script start log_only new are =
+      ap views_of (append_assoc before (own.Archiver (new_reader 0 start) ∷ []) (map own.Follower fs))
+      ∙ map-append view_of before (own.Archiver (new_reader 0 start) ∷ map own.Follower fs)
+      ∙ ap (λ (l : List model.Actor). l ++ views_of (own.Archiver (new_reader 0 start) ∷ map own.Follower fs)) are
+      ∙ ap (λ (l : List model.Actor). seated_before shape script start log_only true (length fs)
+      ++ model.Reader (new_reader 0 start) ∷ l)
+      (followers_seen start FIRST_FOLLOWER fs new.each)
+
+  ends_so : EndsWithFollowers (before ++ map own.Follower fs) fs
   ends_so =
       let both = length-append before (map own.Follower fs) in
       let long = length-map fs own.Follower in
       drop_at before (map own.Follower fs) (length (before ++ map own.Follower fs) - length fs) (omega arith)
+
+-- all actors in their seats
+pub record AreSeatedSo {R : Type 0} (shape : Shape) (script : List ScriptLine) (start : ℕ) (log_only archive : Bool)
+    (fs : List (Following R)) (actors : List (Actor R)) : Type 0 where
+  pub are : views_of actors ≡ seated_actors shape script start log_only archive (length fs)
+  pub ends : EndsWithReaders start archive actors fs
+
+pub seated_so : {R : Type 0} (shape : Shape) (script : List ScriptLine) (start : ℕ) (log_only archive : Bool)
+    (before : List (Actor R)) (fs : List (Following R)) → AreNewFollowers start fs
+    → views_of before ≡ seated_before shape script start log_only archive (length fs)
+    → AreSeatedSo shape script start log_only archive fs ((before ++ new_archiver start archive) ++ map own.Follower fs)
+seated_so {R} shape script start log_only true before fs new are =
+    let archiver : Actor R = own.Archiver (new_reader 0 start) in
+    let joined : ◌≡◌ {A = List (Actor R)} ((before ++ archiver ∷ []) ++ map own.Follower fs)
+    (before ++ archiver ∷ map own.Follower fs) = append_assoc before (archiver ∷ []) (map own.Follower fs) in
+    let both = length-append before (archiver ∷ map own.Follower fs) in
+    let long = length-map fs own.Follower in
+    record {
+      are = seated_behind before fs shape script start log_only new are;
+      ends = subst (λ (l : List (Actor R)). EndsWithReaders start true l fs) (sym joined)
+          (drop_at before (archiver ∷ map own.Follower fs)
+          (length (before ++ archiver ∷ map own.Follower fs) - suc (length fs)) (omega arith));
+    }
+seated_so {R} shape script start log_only false before fs new are =
+    subst (λ (l : List (Actor R)). AreSeatedSo shape script start log_only false fs (l ++ map own.Follower fs))
+    (sym (append-nil before))
+    (record { are = all_seated before fs shape script start log_only false new are; ends = ends_so before fs })
 
 -- what holds of what is seated holds where there was memory
 pub if_seated : {A E : Type 0} (result : Result A E) (P Q : A → Type 0) → ((x : A) → P x → Q x) → IfOk result P

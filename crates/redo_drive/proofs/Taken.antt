@@ -3,10 +3,10 @@ use Rattle.std.proofs.Common.{Bool, List, [], ap, append-nil, arith, cond, eqb, 
 use Rattle.std.proofs.Common.{true, ℕ, ◌<◌, ◌∙◌, ◌≡◌}
 use Rattle.std.proofs.lemmas.Bool.{ne_eqb}
 use Rattle.model_core.specs.Actors as model
-use Rattle.model_core.specs.{after_of, archived, archives, checked_of, filled, Filling, Fills, followed, Given}
+use Rattle.model_core.specs.{after_of, archives, checked_of, filled, Filling, Fills, followed, Given}
 use Rattle.model_core.specs.{has_all, is_none, old_of}
 use Rattle.model_core.specs.{placed_at, reader_ending, reader_holds, reader_program, reader_took, ReaderState}
-use Rattle.model_core.specs.{step_of, took}
+use Rattle.model_core.specs.{step_of, to_append, took}
 use Rattle.model_core.specs.ReaderProgram.{reader_filled, reader_fills}
 use Rattle.model_core.specs.declared.ops.Answer.{Answer}
 use Rattle.model_core.specs.declared.ops.Step.{Step}
@@ -26,8 +26,9 @@ pub wrapped : {S : Type 0} (wrap : S → model.Actor) (b : Bool) (x y : S)
 wrapped wrap true x y = refl
 wrapped wrap false x y = refl
 
--- AN ACTOR THAT IS NO FOLLOWER gets nothing put into it.
+-- AN ACTOR THAT READS NO LOG gets nothing put into it.
 abbrev IsOther : {R : Type 0} → Actor R → Type 0
+IsOther (own.Archiver r) = ⊥
 IsOther (own.Follower f) = ⊥
 IsOther _ = Unit {0}
 
@@ -39,6 +40,7 @@ module _ {R : Type 0} (stands : R → List Given → Type 0) where
   no_fill (own.Closer t) other = tt
   no_fill (own.Cleaner v) other = tt
   no_fill (own.Checkpointer t) other = tt
+  no_fill (own.Archiver r) other = absurd other
   no_fill (own.Follower f) other = absurd other
 
   as_it_was : (a : Actor R) → IsOther a
@@ -49,6 +51,7 @@ module _ {R : Type 0} (stands : R → List Given → Type 0) where
   as_it_was (own.Closer t) other = refl
   as_it_was (own.Cleaner v) other = refl
   as_it_was (own.Checkpointer t) other = refl
+  as_it_was (own.Archiver r) other = absurd other
   as_it_was (own.Follower f) other = absurd other
 
   both_other : (a b : Actor R) → IsOther a → IsOther b → IsSameFollower (follower_of a) (follower_of b)
@@ -95,11 +98,13 @@ number_took r a reader_step.TakeDevice = refl
 number_took r a reader_step.GiveBroken = refl
 number_took r a reader_step.ReadBlock = refl
 number_took r a reader_step.GiveDevice =
-    number_either (archives r) (archived r) (followed r) r.number refl refl
+    number_either (archives r) (to_append r) (followed r) r.number refl refl
 number_took r a reader_step.StorePlace = refl
 number_took r a reader_step.StoreFailed = refl
 number_took r a reader_step.GiveFailed = refl
 number_took r a reader_step.Failed = refl
+number_took r a reader_step.Append = refl
+number_took r a reader_step.StoreLost = refl
 
 pub number_kept : (r : ReaderState) (a : Answer) → (after_of reader_program r a).number ≡ r.number
 number_kept r a = number_either r.checks (checked_of reader_program r (old_of a)) (reader_took r a r.step) r.number
@@ -112,9 +117,45 @@ goes_on code true = refl
 goes_on code false = refl
 
 moved : (b : Bool) (r : ReaderState)
-    → (let w : ReaderState = cond b (archived r) (followed r) in reader_ending w.code w.step) ≡ step.Moved
+    → (let w : ReaderState = cond b (to_append r) (followed r) in reader_ending w.code w.step) ≡ step.Moved
 moved true r = refl
 moved false r = goes_on r.code (is_none r.texts)
+
+-- THE ARCHIVER hands nothing on.
+module _ {R : Type 0} (stands : R → List Given → Type 0) (r w : ReaderState) (a : Answer) (ends : Step) where
+  as_filled : (st : ReaderStep) → ◌≡◌ {A = ReaderState} (reader_filled r (record { block = r.block; texts = r.texts }) st) r
+  as_filled reader_step.LoadFlushed = refl
+  as_filled reader_step.TakeDevice = refl
+  as_filled reader_step.GiveBroken = refl
+  as_filled reader_step.ReadBlock = refl
+  as_filled reader_step.GiveDevice = refl
+  as_filled reader_step.Append = refl
+  as_filled reader_step.StorePlace = refl
+  as_filled reader_step.StoreFailed = refl
+  as_filled reader_step.GiveFailed = refl
+  as_filled reader_step.StoreLost = refl
+  as_filled reader_step.Failed = refl
+
+  no_texts_in : (st : ReaderStep) → archives r ≡ true → reader_fills r (record { block = r.block; texts = r.texts }) st
+  no_texts_in reader_step.GiveDevice kind = λ other. let z : true ≡ false = sym kind ∙ other in absurd (cc)
+  no_texts_in reader_step.LoadFlushed kind = tt
+  no_texts_in _ kind = tt
+
+  pub archiver_took : archives r ≡ true → w ≡ after_of reader_program r a → ends ≡ step_of (model.Reader r) a
+      → HasTaken stands (own.Archiver r) a ends (own.Archiver w)
+  archiver_took kind state ends_so =
+      let same : ◌≡◌ {A = model.Actor} (filled (model.Reader r) (filling_of (model.Reader r) r.texts)) (model.Reader r) =
+      ap model.Reader (as_filled r.step) in
+      record {
+        texts = r.texts;
+        fills = no_texts_in r.step kind;
+        state = subst (λ (z : model.Actor). model.Reader w ≡ took z a) (sym same)
+            (ap model.Reader state
+            ∙ wrapped model.Reader r.checks (checked_of reader_program r (old_of a)) (reader_took r a r.step));
+        ends = subst (λ (z : model.Actor). ends ≡ step_of z a) (sym same) ends_so;
+        same = tt;
+        got = tt;
+      }
 
 module _ {R : Type 0} (stands : R → List Given → Type 0) (g : Following R) (a : Answer) (ends : Step) where
   abbrev Took : Following R → Type 0
@@ -136,7 +177,7 @@ module _ {R : Type 0} (stands : R → List Given → Type 0) (g : Following R) (
           texts = texts;
           fills = λ _. did.1;
           state = ap model.Reader is
-              ∙ sym (ap (λ (b : Bool). model.Reader (cond b (archived w) (followed w))) kind);
+              ∙ sym (ap (λ (b : Bool). model.Reader (cond b (to_append w) (followed w))) kind);
           ends = ends_so ∙ moved (archives s) s ∙ sym (moved (archives w) w);
           same = ap (λ (r : ReaderState). r.number) is;
           got = subst (λ (b : Bool). StandsFor stands f.receiver (cond b [] (placed_at s.at texts)) g.receiver)
@@ -169,6 +210,8 @@ module _ {R : Type 0} (stands : R → List Given → Type 0) (g : Following R) (
     no_texts reader_step.StoreFailed is = tt
     no_texts reader_step.GiveFailed is = tt
     no_texts reader_step.Failed is = tt
+    no_texts reader_step.Append is = tt
+    no_texts reader_step.StoreLost is = tt
 
     same_state : (st : ReaderStep) → s.step ≡ st
         → ◌≡◌ {A = model.Actor} (model.Reader (reader_filled s nothing st)) (model.Reader s)
@@ -181,6 +224,8 @@ module _ {R : Type 0} (stands : R → List Given → Type 0) (g : Following R) (
     same_state reader_step.StoreFailed is = refl
     same_state reader_step.GiveFailed is = refl
     same_state reader_step.Failed is = refl
+    same_state reader_step.Append is = refl
+    same_state reader_step.StoreLost is = refl
 
     none_handed : (b c : Bool) (st : ReaderStep) → s.step ≡ st
         → ◌≡◌ {A = List Given} (cond b [] (cond c [] (handed_at s st))) []
@@ -195,6 +240,8 @@ module _ {R : Type 0} (stands : R → List Given → Type 0) (g : Following R) (
     none_handed false false reader_step.StoreFailed is = refl
     none_handed false false reader_step.GiveFailed is = refl
     none_handed false false reader_step.Failed is = refl
+    none_handed false false reader_step.Append is = refl
+    none_handed false false reader_step.StoreLost is = refl
 
     goes : (g.state ≡ after_of reader_program s a) → g.receiver ≡ f.receiver
         → ends ≡ step_of (model.Reader s) a → Took f
@@ -246,3 +293,5 @@ module _ {R : Type 0} (stands : R → List Given → Type 0) (g : Following R) (
       by false reader_step.StoreFailed checks at went = still reader_step.StoreFailed at (λ e. absurd (cc)) went
       by false reader_step.GiveFailed checks at went = still reader_step.GiveFailed at (λ e. absurd (cc)) went
       by false reader_step.Failed checks at went = still reader_step.Failed at (λ e. absurd (cc)) went
+      by false reader_step.Append checks at went = still reader_step.Append at (λ e. absurd (cc)) went
+      by false reader_step.StoreLost checks at went = still reader_step.StoreLost at (λ e. absurd (cc)) went

@@ -1,5 +1,5 @@
 -- What the users tell of their groups is the log of the run.
-use Rattle.std.proofs.Common.{List, [], ap, arith, get_or, length, map, refl, slice_index, suc, sym, zero, ℕ, ◌++◌, ◌+◌, ◌-◌, ◌<◌, ◌∙◌, ◌∷◌, ◌≡◌, ◌≤◌}
+use Rattle.std.proofs.Common.{Bool, List, [], ap, arith, get_or, length, map, refl, slice_index, suc, sym, zero, ℕ, ◌++◌, ◌+◌, ◌-◌, ◌<◌, ◌∙◌, ◌∷◌, ◌≡◌, ◌≤◌}
 use Rattle.std.proofs.lemmas.List.{length-map}
 use Rattle.std.proofs.lemmas.List.Concat.{flat_map-cons}
 use lib.ListN.{get_elem?}
@@ -22,7 +22,7 @@ use Rattle.redo_drive.proofs.InOrder.{Rises, same_in_order, total, total_moved}
 use Rattle.redo_drive.proofs.Viewed.{view_at}
 use Rattle.redo_drive.specs.History.{HasGroups, HasReserved, ListsInOrder, all_listed, listed}
 use Rattle.redo_drive.specs.Playing.{RunOf, run_log_side}
-use Rattle.redo_drive.specs.Running.{RunsOn}
+use Rattle.redo_drive.specs.Running.{RunsWith}
 use Rattle.redo_drive.specs.Views.{view_of, views_of}
 use Rattle.redo_drive.specs.declared.actor.Actor.{Actor}
 use Rattle.redo_drive.specs.declared.parts.Parts.{Parts}
@@ -107,8 +107,8 @@ all_total answered marks f (x ∷ xs) are none =
     let rest = all_total answered marks f xs (λ seat u at. are (suc seat) u at) (λ seat es at. none (suc seat) es at) in
     omega arith
 
-module _ {L D : Type 0} (log_seen : L → Seen) (data_seen : D → Seen) (run : RunOf L D) (parts : Parts L D)
-    (actors : List model.Actor) (runs : RunsOn log_seen data_seen run parts actors) where
+module _ {L D : Type 0} {archive : Bool} (log_seen : L → Seen) (data_seen : D → Seen) (run : RunOf L D) (parts : Parts L D)
+    (actors : List model.Actor) (runs : RunsWith log_seen data_seen run archive parts actors) where
   abbrev ghosts : LogGhost
   ghosts = runs.running.log_ghost
 
@@ -160,8 +160,8 @@ module _ {L D : Type 0} (log_seen : L → Seen) (data_seen : D → Seen) (run : 
       same_in_order (lsn run.setup.base) history (history_of ghosts.answered marks ghosts.log) l.in_order
       (history_rises ghosts.answered marks ghosts.log run.setup.base runs.running.shared.sn half.global.tiled.tiles) (λ f. total_moved f (all_listed marks actors) history l.all ∙ sums f)
 
-pub have_groups : {L D R : Type 0} (log_seen : L → Seen) (data_seen : D → Seen) (run : RunOf L D) (parts : Parts L D)
-    (actors : List (Actor R)) → RunsOn log_seen data_seen run parts (views_of actors)
+pub have_groups : {L D R : Type 0} {archive : Bool} (log_seen : L → Seen) (data_seen : D → Seen) (run : RunOf L D) (parts : Parts L D)
+    (actors : List (Actor R)) → RunsWith log_seen data_seen run archive parts (views_of actors)
     → (seat : ℕ) (actor : Actor R) → seat < length actors → HasGroups (view_of (get_or actors seat actor))
 have_groups log_seen data_seen run parts actors runs seat actor l =
     has_groups log_seen data_seen run parts (views_of actors) runs seat (view_of (get_or actors seat actor))

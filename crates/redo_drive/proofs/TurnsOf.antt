@@ -33,7 +33,7 @@ use Rattle.redo_drive.proofs.Viewed.{own_at, view_at, views_at}
 use Rattle.redo_drive.specs.Lists.{lists_of}
 use Rattle.redo_drive.specs.Playing.{HasSamePages, IsPlayed, RunOf, run_data_side, run_log_side}
 use Rattle.redo_drive.specs.Receiving.{follower_of, handed_by, HasGot, IsSameFollower, MarkFits}
-use Rattle.redo_drive.specs.Running.{groups_of, RunsFrom, RunsOn}
+use Rattle.redo_drive.specs.Running.{groups_of, RunsFromWith, RunsWith}
 use Rattle.redo_drive.specs.Turning.{IsServed, MayServe, TakesTurn, core_of}
 use Rattle.redo_drive.specs.Views.{view_of, views_of}
 use Rattle.redo_drive.specs.declared.actor.Actor.{Actor}
@@ -82,11 +82,11 @@ module _ {L D : Type 0} (log_seen : L → Seen) (data_seen : D → Seen) (run : 
       subst (λ (z : Answer). MarkFits who z) (sym (said l played)) (may.mark played.code new.log.marks.stable)
 
 -- an actor stays what it is, and a reader keeps its number
-abbrev NoReader : model.Actor → Type 0
+abbrev pub NoReader : model.Actor → Type 0
 NoReader (model.Reader r) = ⊥
 NoReader _ = Unit {0}
 
-abbrev IsKind : model.Actor → model.Actor → Type 0
+abbrev pub IsKind : model.Actor → model.Actor → Type 0
 IsKind (model.Reader r) b = (w : ReaderState) × (b ≡ model.Reader w) × (w.number ≡ r.number)
 IsKind _ b = NoReader b
 
@@ -114,6 +114,8 @@ filled_number r f reader_step.StorePlace = refl
 filled_number r f reader_step.StoreFailed = refl
 filled_number r f reader_step.GiveFailed = refl
 filled_number r f reader_step.Failed = refl
+filled_number r f reader_step.Append = refl
+filled_number r f reader_step.StoreLost = refl
 
 took_kind : (a : model.Actor) (f : Filling) (y : Answer) → IsKind a (took (filled a f) y)
 took_kind (model.Reader r) f y =
@@ -141,11 +143,11 @@ no_groups (model.Checkpointer t) log none = refl
 no_groups (model.Joined es) log none = refl
 
 -- WHAT A TURN LEAVES OF A RUN, by the actors as the definitions see them.
-module _ {L D : Type 0} (log_seen : L → Seen) (data_seen : D → Seen) (run : RunOf L D) (old new : Parts L D)
+module _ {L D : Type 0} {archive : Bool} (log_seen : L → Seen) (data_seen : D → Seen) (run : RunOf L D) (old new : Parts L D)
     (actors after : List model.Actor) (seat : ℕ) (answer : Answer) (step : Step)
     (log_laws : LogLaws (run_log_side log_seen data_seen run))
     (data_laws : DataLaws (run_data_side log_seen data_seen run)) (same : HasSamePages old new)
-    (R : RunsOn log_seen data_seen run old actors)
+    (R : RunsWith log_seen data_seen run archive old actors)
     (t : Turn (run_log_side log_seen data_seen run) (run_data_side log_seen data_seen run)
     (core_of log_seen data_seen run old actors) seat answer step (core_of log_seen data_seen run new after)) where
   abbrev pub A : LogSide
@@ -160,7 +162,7 @@ module _ {L D : Type 0} (log_seen : L → Seen) (data_seen : D → Seen) (run : 
       (core_of log_seen data_seen run new after) seat answer step R.running t
 
   pub record RunsThen : Type 0 where
-    pub runs : RunsOn log_seen data_seen run new after
+    pub runs : RunsWith log_seen data_seen run archive new after
     pub log_is : ◌≡◌ {A = List Entry} runs.running.log_ghost.log then
 
   pub runs_then : RunsThen
@@ -173,6 +175,7 @@ module _ {L D : Type 0} (log_seen : L → Seen) (data_seen : D → Seen) (run : 
           started = R.started;
           its_pages = R.its_pages;
           its_page_size = R.its_page_size;
+          followers = R.followers;
           bytes = R.bytes;
           word_pages = same.words ∙ R.word_pages;
           list_pages = same.lists ∙ R.list_pages;
@@ -184,7 +187,7 @@ module _ {L D : Type 0} (log_seen : L → Seen) (data_seen : D → Seen) (run : 
       }
 
   -- the run goes on
-  abbrev pub goes_on : RunsOn log_seen data_seen run new after
+  abbrev pub goes_on : RunsWith log_seen data_seen run archive new after
   goes_on = runs_then.runs
 
   -- where the log device tells after the turn it told before it
@@ -192,7 +195,7 @@ module _ {L D : Type 0} (log_seen : L → Seen) (data_seen : D → Seen) (run : 
   told_earlier told = told_then A log_laws B data_laws run.setup 0 (core_of log_seen data_seen run old actors)
       (core_of log_seen data_seen run new after) seat answer step R.running t told
 
-  kept_kind : (j : ℕ) (a b : model.Actor) → get_elem? actors j ≡ some a → get_elem? after j ≡ some b → IsKind a b
+  pub kept_kind : (j : ℕ) (a b : model.Actor) → get_elem? actors j ≡ some a → get_elem? after j ≡ some b → IsKind a b
   kept_kind j a b there later =
       let who : model.Actor = took (filled t.who t.filling) answer in
       ⊎_elim
@@ -324,6 +327,7 @@ module _ {L D R : Type 0} (log_seen : L → Seen) (data_seen : D → Seen) (stan
     code = played.code;
     log_served = played.log_served;
     data_served = played.data_served;
+    own_served = played.own_served;
     words = played.words;
     lists = played.lists;
     answered = played.answered;
@@ -336,20 +340,20 @@ module _ {L D R : Type 0} (log_seen : L → Seen) (data_seen : D → Seen) (stan
 
   module _ (log_laws : LogLaws (run_log_side log_seen data_seen run))
       (data_laws : DataLaws (run_data_side log_seen data_seen run)) (same : HasSamePages old new) where
-    abbrev pub runs_on : RunsOn log_seen data_seen run old (views_of actors)
-        → RunsOn log_seen data_seen run new (views_of (set actors seat who))
+    abbrev pub runs_on : {archive : Bool} → RunsWith log_seen data_seen run archive old (views_of actors)
+        → RunsWith log_seen data_seen run archive new (views_of (set actors seat who))
     runs_on runs = goes_on log_seen data_seen run old new (views_of actors) (views_of (set actors seat who)) seat
         served.answer step log_laws data_laws same runs its_turn
 
     -- WITH WHAT FOLLOWERS' RECEIVERS HAVE GOT it goes on too.
-    module _ (starts : List (Actor R)) (F : RunsFrom log_seen data_seen stands run starts old actors) where
+    module _ {archive : Bool} (starts : List (Actor R)) (F : RunsFromWith log_seen data_seen stands run archive starts old actors) where
       abbrev mine : Actor R
       mine = get_or actors seat d
 
       mine_at : get_elem? actors seat ≡ some mine
       mine_at = own_at actors seat d below
 
-      still : (j : ℕ) (a b : Actor R) → get_elem? starts j ≡ some a → get_elem? (set actors seat who) j ≡ some b
+      pub still : (j : ℕ) (a b : Actor R) → get_elem? starts j ≡ some a → get_elem? (set actors seat who) j ≡ some b
           → IsSameFollower (follower_of a) (follower_of b)
       still j a b began at = ⊎_elim
           (λ here. subst (λ (z : Actor R). IsSameFollower (follower_of a) (follower_of z)) here.1
@@ -374,7 +378,7 @@ module _ {L D R : Type 0} (log_seen : L → Seen) (data_seen : D → Seen) (stan
             (views_of (set actors seat who)) seat served.answer step log_laws data_laws same F.runs its_turn told j
             (view_of a) (view_of b) (views_at actors j a there) (views_at (set actors seat who) j b later)
 
-        has_got : (j : ℕ) (a b : Actor R) → get_elem? starts j ≡ some a → get_elem? (set actors seat who) j ≡ some b
+        pub has_got : (j : ℕ) (a b : Actor R) → get_elem? starts j ≡ some a → get_elem? (set actors seat who) j ≡ some b
             → HasGot stands (follower_of a) (groups_of (view_of b) log_now) (follower_of b)
         has_got j a b began at = ⊎_elim here other (at_set actors seat j who b at)
           where
@@ -405,7 +409,7 @@ module _ {L D R : Type 0} (log_seen : L → Seen) (data_seen : D → Seen) (stan
                 ∙ append-nil old_groups in
                 subst (Got b) (sym grown) (F.got before j a b began is.1)
 
-      pub runs_from : RunsFrom log_seen data_seen stands run starts new (set actors seat who)
+      abbrev pub runs_from : RunsFromWith log_seen data_seen stands run archive starts new (set actors seat who)
       runs_from = record {
         runs = runs_on F.runs;
         count = length-set actors seat who ∙ F.count;

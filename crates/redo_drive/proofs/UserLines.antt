@@ -18,7 +18,7 @@ use Rattle.model_log.specs.declared.rec.Rec.{Rec}
 use Rattle.model_script.specs.{group_of, IsScriptLine, LineFits}
 use Rattle.model_script.specs.declared.misfit.TheConstants.{MAX_USERS}
 use Rattle.model_script.specs.declared.script.ScriptLine.{ScriptLine}
-use Rattle.redo_drive.specs.Setups.{programs_of, user_lines}
+use Rattle.redo_drive.specs.Setups.{first_reader, programs_of, user_lines}
 use Rattle.redo_drive.specs.StartWords.{setup_of}
 use Rattle.redo_drive.specs.declared.seating.TheConstants.{FIRST_FOLLOWER}
 use Rattle.redo_useractor.specs.{AreUserLines, IsUserLine}
@@ -81,17 +81,21 @@ no_program shape script lines fits log_only user outside = elim (dec_le 1 (lengt
 ]
 
 -- the users' programs are those of the script
-pub of_script : (shape : Shape) (pages : List Content) (start : ℕ) (script : List ScriptLine) (log_only : Bool)
+pub of_script : (shape : Shape) (pages : List Content) (start : ℕ) (script : List ScriptLine) (log_only archive : Bool)
     (followers : ℕ) → FIRST_FOLLOWER + followers ≤ READERS
-    → IsOfScript (setup_of shape pages start script log_only followers) script shape
-of_script shape pages start script log_only followers few = record {
+    → IsOfScript (setup_of shape pages start script log_only archive followers) script shape
+of_script shape pages start script log_only archive followers few = record {
   count = λ user. length-map (map spelled (lines_of_user user script)) program ∙ length-map (lines_of_user user script) spelled;
-  readers = omega arith;
+  readers = in_order archive;
   few_readers = few;
   each = λ user k one at. get_or_from_slice_get (programs_of shape log_only script user) k (program (spelled one)) (record { mode = 0; bytes = []; changes = [] })
       (slice_get-map program (map spelled (lines_of_user user script)) k ∙ ap (option_map program) (slice_get-map spelled (lines_of_user user script) k ∙ ap (option_map spelled) at));
 }
   where
+    in_order : (b : Bool) → first_reader b ≤ FIRST_FOLLOWER + followers
+    in_order true = omega arith
+    in_order false = omega arith
+
     spelled : ScriptLine → ℕ × List Rec
     spelled one = (one.mode, group_of shape.space one)
 

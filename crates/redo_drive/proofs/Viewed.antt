@@ -43,3 +43,9 @@ so_at Is (x ∷ xs) (suc seat) who is at = so_at Is xs seat who is at
 pub not_joined : {R : Type 0} (a : Actor R) (es : List Entry) → view_of a ≡ model.Joined es → ⊥
 not_joined (own.User u) es e = absurd (cc)
 not_joined _ es e = absurd (cc)
+
+pub none_joined : {R : Type 0} (actors : List (Actor R)) (seat : ℕ) (es : List Entry)
+    → get_elem? (views_of actors) seat ≡ some (model.Joined es) → ⊥
+none_joined [] seat es at = some-ne-none (model.Joined es) (sym at)
+none_joined (x ∷ xs) zero es at = not_joined x es (some-injective (view_of x) (model.Joined es) at)
+none_joined (x ∷ xs) (suc seat) es at = none_joined xs seat es at

@@ -1,5 +1,5 @@
 -- A run as it begins on an opened store.
-use Rattle.std.specs.Prelude.{Bool, List, [], ℕ, ◌+◌, ◌≡◌}
+use Rattle.std.specs.Prelude.{Bool, List, [], false, ℕ, ◌+◌, ◌≡◌}
 use Rattle.model_core.specs.{Actor, Listed, lsn}
 use Rattle.model_running.specs.{HasItsPages, IsOfScript}
 use Rattle.model_script.specs.declared.script.ScriptLine.{ScriptLine}
@@ -7,25 +7,29 @@ use Rattle.redo_drive.specs.DataPartSide as data_part
 use Rattle.redo_disk.specs.Seen.{Seen}
 use Rattle.redo_drive.specs.LogPartSide as log_part
 use Rattle.redo_drive.specs.Lists.{lists_of}
-use Rattle.redo_drive.specs.Playing.{RunOf}
-use Rattle.redo_drive.specs.Setups.{start_actors}
+use Rattle.redo_drive.specs.Sides.{RunOf}
+use Rattle.redo_drive.specs.Setups.{first_reader, seated_actors}
 use Rattle.redo_drive.specs.FirstWords.{AreStartWords}
 use Rattle.redo_drive.specs.declared.parts.Parts.{Parts}
 use Rattle.redo_drive.specs.declared.seating.TheConstants.{FIRST_FOLLOWER}
 use Rattle.redo_store.specs.declared.opened.Opened.{Opened}
 
--- The run is that of this script on this store, with so many followers: with its sizes, its pages and both its parts, from
--- its start on.
-pub record IsRunOfOpened {L D : Type 0} (opened : Opened L D) (script : List ScriptLine) (log_only : Bool) (followers : ℕ) (run : RunOf L D) : Type 0 where
+-- The run is that of this script on this store, with an archiver or without, and with so many followers: with its sizes, its
+-- pages and both its parts, from its start on.
+pub record IsRunWith {L D : Type 0} (opened : Opened L D) (script : List ScriptLine) (log_only archive : Bool) (followers : ℕ) (run : RunOf L D) : Type 0 where
   pub shape : run.shape ≡ opened.shape
   pub first_log : run.first_log ≡ opened.log
   pub first_data : run.first_data ≡ opened.store
   pub start : lsn run.setup.base ≡ opened.start
   pub log_only_is : run.setup.log_only ≡ log_only
-  pub first_reader : run.setup.first_reader ≡ FIRST_FOLLOWER
+  pub first_is : run.setup.first_reader ≡ first_reader archive
   pub last_reader : run.setup.last_reader ≡ FIRST_FOLLOWER + followers
   pub of_script : IsOfScript run.setup script opened.shape
   pub its_pages : HasItsPages run.setup (record { shape = opened.shape; pages = opened.pages; end = 0 })
+
+-- the same where nothing is archived
+abbrev pub IsRunOfOpened : {L D : Type 0} → Opened L D → List ScriptLine → (log_only : Bool) → (followers : ℕ) → RunOf L D → Type 0
+IsRunOfOpened opened script log_only followers run = IsRunWith opened script log_only false followers run
 
 -- both devices held just what was opened when the run began
 pub record HaveBegun {L D : Type 0} (log_seen : L → Seen) (data_seen : D → Seen) (run : RunOf L D) : Type 0 where
@@ -34,10 +38,14 @@ pub record HaveBegun {L D : Type 0} (log_seen : L → Seen) (data_seen : D → S
 
 -- NOTHING IS DONE YET: the words are those of the run's start, the actors of the script are new and in their seats, both parts
 -- are those that were opened, and no page is listed.
-pub record StandsAtStart {L D : Type 0} (opened : Opened L D) (script : List ScriptLine) (followers : ℕ) (run : RunOf L D)
-    (parts : Parts L D) (actors : List Actor) : Type 0 where
+pub record StandsWith {L D : Type 0} (opened : Opened L D) (script : List ScriptLine) (archive : Bool) (followers : ℕ)
+    (run : RunOf L D) (parts : Parts L D) (actors : List Actor) : Type 0 where
   pub words : AreStartWords parts.words.words run.setup
-  pub are_new : actors ≡ start_actors opened.shape script opened.start run.setup.log_only followers
+  pub are_new : actors ≡ seated_actors opened.shape script opened.start run.setup.log_only archive followers
   pub log : parts.log ≡ opened.log
   pub data_part : parts.store ≡ opened.store
   pub none_listed : (i : ℕ) → ◌≡◌ {A = List Listed} (lists_of parts.lists i) []
+
+-- the same where nothing is archived
+abbrev pub StandsAtStart : {L D : Type 0} → Opened L D → List ScriptLine → (followers : ℕ) → RunOf L D → Parts L D → List Actor → Type 0
+StandsAtStart opened script followers run parts actors = StandsWith opened script false followers run parts actors

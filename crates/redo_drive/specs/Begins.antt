@@ -1,17 +1,17 @@
 -- A run at its beginning, with all that the invariant starts from.
-use Rattle.std.specs.Prelude.{Bool, IfSome, List, [], length, vec_capacity, ℕ, ◌≡◌, ◌≤◌}
+use Rattle.std.specs.Prelude.{Bool, IfSome, List, [], false, length, vec_capacity, ℕ, ◌≡◌, ◌≤◌}
 use Rattle.model_core.specs.{flat, Given, Listed, SharedWords}
 use Rattle.model_theorem.specs.{IsStart}
 use Rattle.model_running.specs.StartStore.{StartStore}
 use Rattle.model_script.specs.declared.script.ScriptLine.{ScriptLine}
 use Rattle.model_store.specs.Reading.{Reading}
 use Rattle.redo_disk.specs.Seen.{Seen}
-use Rattle.redo_drive.specs.Beginning.{HaveBegun, IsRunOfOpened, StandsAtStart}
+use Rattle.redo_drive.specs.Beginning.{HaveBegun, IsRunWith, StandsWith}
 use Rattle.redo_drive.specs.Startable.{HasReading}
 use Rattle.redo_drive.specs.Lists.{lists_of}
-use Rattle.redo_drive.specs.Making.{EndsWithFollowers}
+use Rattle.redo_drive.specs.Making.{EndsWithReaders}
 use Rattle.redo_drive.specs.Playing.{RunOf, run_data_side, run_log_side}
-use Rattle.redo_drive.specs.Running.{RunsFrom}
+use Rattle.redo_drive.specs.Running.{RunsFromWith}
 use Rattle.redo_drive.specs.Views.{views_of}
 use Rattle.redo_drive.specs.declared.making.Beginning.{Beginning}
 use Rattle.redo_follow.specs.Handing.{Following}
@@ -27,15 +27,16 @@ pub record IsAtStart {L D R : Type 0} (log_seen : L → Seen) (data_seen : D →
       start.parts.log start.parts.store seat_of writer (views_of start.actors.items)
   pub none_listed : (i : ℕ) → ◌≡◌ {A = List Listed} (lists_of start.parts.lists i) []
 
--- PARTS AND ACTORS STAND AT THE BEGINNING of the run of this script on this store, with these followers.
-pub record BeginsRun {L D R : Type 0} (log_seen : L → Seen) (data_seen : D → Seen) (stands_for : R → List Given → Type 0) (opened : Opened L D)
-    (script : List ScriptLine) (log_only : Bool) (new_followers : List (Following R)) (start : Beginning L D R) : Type 0 where
+-- PARTS AND ACTORS STAND AT THE BEGINNING of the run of this script on this store, with an archiver or without, and with these
+-- followers.
+pub record BeginsWith {L D R : Type 0} (log_seen : L → Seen) (data_seen : D → Seen) (stands_for : R → List Given → Type 0) (opened : Opened L D)
+    (script : List ScriptLine) (log_only archive : Bool) (new_followers : List (Following R)) (start : Beginning L D R) : Type 0 where
   pub run : RunOf L D
-  pub is_run : IsRunOfOpened opened script log_only (length new_followers) run
+  pub is_run : IsRunWith opened script log_only archive (length new_followers) run
   pub at_start : IsAtStart log_seen data_seen run start
-  pub stands : StandsAtStart opened script (length new_followers) run start.parts (views_of start.actors.items)
-  pub from : RunsFrom log_seen data_seen stands_for run start.actors.items start.parts start.actors.items
-  pub followers : EndsWithFollowers start.actors.items new_followers
+  pub stands : StandsWith opened script archive (length new_followers) run start.parts (views_of start.actors.items)
+  pub from : RunsFromWith log_seen data_seen stands_for run archive start.actors.items start.parts start.actors.items
+  pub followers : EndsWithReaders opened.start archive start.actors.items new_followers
   pub log : start.parts.log ≡ opened.log
   pub data_part : start.parts.store ≡ opened.store
   -- there is room for the history
@@ -45,3 +46,9 @@ pub record BeginsRun {L D R : Type 0} (log_seen : L → Seen) (data_seen : D →
   pub begun : (reading : Reading) → HasReading reading opened
       → IfSome (log_seen opened.log.dev).tells (λ log_disk. IfSome (data_seen opened.store.dev).tells (λ data_disk.
       IsStart reading script log_disk data_disk → HaveBegun log_seen data_seen run))
+
+-- the same where nothing is archived
+abbrev pub BeginsRun : {L D R : Type 0} → (L → Seen) → (D → Seen) → (R → List Given → Type 0) → Opened L D → List ScriptLine
+    → (log_only : Bool) → List (Following R) → Beginning L D R → Type 0
+BeginsRun log_seen data_seen stands_for opened script log_only followers start =
+    BeginsWith log_seen data_seen stands_for opened script log_only false followers start

@@ -24,17 +24,20 @@ use Rattle.redo_store.specs.declared.opened.Opened.{Opened}
 abbrev pub closed_run : {L D : Type 0} → ℕ → Closed L D → Ran
 closed_run start closed = record { start = start; entries = closed.history; marks = closed.marks }
 
--- how many calls of the two devices failed: one of each at the most, since a part whose call failed takes no more
+-- how many calls of the devices failed, the archive's among them: one of each at the most, since a part whose call failed
+-- takes no more
 abbrev pub failed_in : {L D : Type 0} → Closed L D → ℕ
-failed_in closed = failures closed.log.failed + failures closed.store.failed
+failed_in closed = failures closed.log.failed + failures closed.store.failed + failures closed.lost
 
 -- No device was without memory, or one failed: then the run was ended by that.
 abbrev pub HasMemory : {L D : Type 0} → Closed L D → Type 0
-HasMemory closed = ((closed.log.failed ≡ Some NoMemory) ⊎ (closed.store.failed ≡ Some NoMemory)) → 0 < failed_in closed
+HasMemory closed =
+    (closed.log.failed ≡ Some NoMemory) ⊎ (closed.store.failed ≡ Some NoMemory) ⊎ (closed.lost ≡ Some NoMemory)
+    → 0 < failed_in closed
 
 -- a call of a device answered an error: the device failed, or it had no memory
 abbrev pub HasMetError : {L D : Type 0} → Closed L D → Type 0
-HasMetError closed = (closed.log.failed ≢ None) ⊎ (closed.store.failed ≢ None)
+HasMetError closed = (closed.log.failed ≢ None) ⊎ (closed.store.failed ≢ None) ⊎ (closed.lost ≢ None)
 
 -- WHAT IT COMES TO, whatever the devices tell: a run, for any end after which it starts; where all users have ended and no
 -- device was without memory, it loses something only where a call failed; where the turns are spent, this is the least user

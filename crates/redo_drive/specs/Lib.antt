@@ -1,3 +1,5 @@
+pub mod Archived
+pub mod Archiving
 pub mod Asking
 pub mod Beginning
 pub mod Begins
@@ -17,6 +19,7 @@ pub mod Receiving
 pub mod Requests
 pub mod Running
 pub mod Setups
+pub mod Sides
 pub mod Startable
 pub mod StartWords
 pub mod Steps

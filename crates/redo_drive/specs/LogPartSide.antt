@@ -13,7 +13,8 @@ use Rattle.redo_drive.specs.Devices.{call_code, HasFailedBy}
 use Rattle.redo_drive.specs.declared.device.Device.TheVariants.{Log}
 use Rattle.redo_logdev.specs.{GivesBlock, KeepsHolding, KeepsNumbered, KeepsWriting, PartHolds, Stays}
 use Rattle.redo_logdev.specs.Part.{Part}
-use Rattle.model_log.specs.{run_layout}
+use Rattle.model_log.specs.{IsBoundary, run_layout, spans_of}
+use Rattle.model_parts.specs.Held.{IsFullBlock}
 
 -- Its number goes round only after more checkpoints than a log below the limit has room for.
 abbrev pub HasFewCheckpoints : LogMarks → Type 0
@@ -68,6 +69,11 @@ module _ {L : Type 0} (seen : L → Seen) where
     pub holds : KeepsHolding seen old new
     pub block : GivesBlock seen old lsn called.result bytes new
 
+  -- The bytes are the run's block at an lsn, full: for a boundary at or past the first data byte of the next one.
+  abbrev IsBlockOfRun : ℕ → List Entry → ℕ → List ℕ → Type 0
+  IsBlockOfRun base log x bytes = (wholes : List Whole) → AreWholesOf log wholes
+      → (mark : ℕ) × IsBoundary (lsn base) (spans_of wholes) mark × IsFullBlock (lsn base) wholes mark x bytes
+
   -- `number` is that of the checkpoint at the run's start
   abbrev pub log_side : (faults number : ℕ) → Type 0 → LogSide
   log_side faults number Begun = record {
@@ -84,5 +90,6 @@ module _ {L : Type 0} (seen : L → Seen) where
     Synced = LogSynced;
     Checkpointed = LogCheckpointed;
     Read = LogRead;
+    IsRunBlock = IsBlockOfRun;
     Tells = λ part. Begun × ((seen part.dev).tells ≢ None);
   }

@@ -1,11 +1,12 @@
 -- What a run takes memory for, as it begins.
-use Rattle.std.specs.Prelude.{Bool, List, [], drop, length, map, vec_capacity, ℕ, ◌-◌, ◌≡◌, ◌≤◌}
+use Rattle.std.specs.Prelude.{Bool, List, [], drop, false, length, map, suc, true, vec_capacity, ℕ, ◌-◌, ◌∷◌, ◌≡◌, ◌≤◌}
 use Rattle.model_base.specs.declared.shape.Shape.{Shape}
+use Rattle.model_core.specs.{new_reader}
 use Rattle.model_core.specs.Setup.{Setup}
 use Rattle.model_page.specs.declared.content.Content.{Content}
 use Rattle.model_script.specs.declared.script.ScriptLine.{ScriptLine}
 use Rattle.redo_drive.specs.Lists.{empty_lists}
-use Rattle.redo_drive.specs.Setups.{start_actors}
+use Rattle.redo_drive.specs.Setups.{seated_actors}
 use Rattle.redo_drive.specs.StartWords.{HoldBytes, StartsOn}
 use Rattle.redo_drive.specs.FirstWords.{AreStartWords}
 use Rattle.redo_drive.specs.Views.{views_of}
@@ -19,15 +20,27 @@ abbrev pub EndsWithFollowers : {R : Type 0} → List (Actor R) → List (Followi
 EndsWithFollowers {R} actors followers =
     ◌≡◌ {A = List (Actor R)} (drop (length actors - length followers) actors) (map own.Follower followers)
 
--- The words of the run's start, empty lists, new actors in their seats, the last of which are these followers, and room
--- for an entry of each line.
-pub record IsOwnOf {R : Type 0} (shape : Shape) (pages : List Content) (script : List ScriptLine) (start : ℕ) (log_only : Bool)
-    (new_followers : List (Following R)) (own : Own R) : Type 0 where
+-- a new archiver, if the run is archived
+abbrev pub new_archiver : {R : Type 0} → (start : ℕ) → (archive : Bool) → List (Actor R)
+new_archiver start true = own.Archiver (new_reader 0 start) ∷ []
+new_archiver start false = []
+
+-- the last actors are the readers of the log: a new archiver, if the run is archived, and these followers
+abbrev pub EndsWithReaders : {R : Type 0} → (start : ℕ) → (archive : Bool) → List (Actor R) → List (Following R) → Type 0
+EndsWithReaders {R} start true actors followers =
+    ◌≡◌ {A = List (Actor R)} (drop (length actors - suc (length followers)) actors)
+    (own.Archiver (new_reader 0 start) ∷ map own.Follower followers)
+EndsWithReaders start false actors followers = EndsWithFollowers actors followers
+
+-- The words of the run's start, empty lists, new actors in their seats, the last of which read the log, and room for an entry
+-- of each line.
+pub record IsOwnOf {R : Type 0} (shape : Shape) (pages : List Content) (script : List ScriptLine) (start : ℕ)
+    (log_only archive : Bool) (new_followers : List (Following R)) (own : Own R) : Type 0 where
   pub word_pages : own.words.pages ≡ length pages
   pub bytes : HoldBytes shape pages
   pub words : (c : Setup) → StartsOn start shape pages c → AreStartWords own.words.words c
   pub lists : own.lists ≡ empty_lists shape.pages
-  pub actors : views_of own.actors.items ≡ start_actors shape script start log_only (length new_followers)
-  pub followers : EndsWithFollowers own.actors.items new_followers
+  pub actors : views_of own.actors.items ≡ seated_actors shape script start log_only archive (length new_followers)
+  pub readers : EndsWithReaders start archive own.actors.items new_followers
   pub no_entries : own.entries.items ≡ []
   pub room : length script ≤ vec_capacity own.entries

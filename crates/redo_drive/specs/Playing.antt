@@ -4,42 +4,23 @@ use lib.ListN.{get_elem?}
 use mathlib.Core.Option.{some}
 use Rattle.model_base.specs.declared.shape.Shape.{Shape}
 use Rattle.model_core.specs.Actors as model
-use Rattle.model_core.specs.DataSide.{DataSide}
-use Rattle.model_core.specs.{answer_of, BatchPage, DataServed, Each, list_word, lists_left, LogServed, lsn, OpWords, words_left}
-use Rattle.model_core.specs.LogSide.{LogSide}
-use Rattle.model_core.specs.Setup.{Setup}
+use Rattle.model_core.specs.{answer_of, BatchPage, DataServed, Each, list_word, lists_left, LogServed, OpWords, OwnServed, words_left}
 use Rattle.model_core.specs.declared.ops.Answer.{Answer}
 use Rattle.model_core.specs.declared.ops.Op.{Op}
 use Rattle.model_core.specs.declared.ops.Op.TheVariants as op
 use Rattle.model_parts.specs.{IsWritable, MayBeNext}
+use Rattle.model_running.specs.Appending.{IsNoAppend}
 use Rattle.model_running.specs.ListReady.{ListReady}
-use Rattle.redo_drive.specs.DataPartSide as data_part
 use Rattle.redo_disk.specs.Seen.{Seen}
 use Rattle.redo_logdev.specs.{MayRead, MayWrite}
 use Rattle.redo_logdev.specs.Part as log
-use Rattle.redo_drive.specs.LogPartSide as log_part
 use Rattle.redo_drive.specs.Lists.{lists_of}
+pub use Rattle.redo_drive.specs.Sides.{RunOf, run_data_side, run_log_side}
 use Rattle.redo_drive.specs.declared.parts.Parts.{Parts}
 use Rattle.redo_store.specs.Part as store
 use Rattle.redo_words.specs.{HoldsSum}
 use Rattle.redo_words.specs.declared.lent.Lent.{Lent}
 use Rattle.redo_words.specs.declared.lent.Lent.TheVariants as lent
-
--- a run: what never changes in it, its store's shape, and both parts as it began
-pub record RunOf (L D : Type 0) : Type 0 where
-  pub setup : Setup
-  pub shape : Shape
-  pub first_log : log.Part L
-  pub first_data : store.Part D
-
-module _ {L D : Type 0} (log_seen : L → Seen) (data_seen : D → Seen) where
-  -- both parts as the definition of a turn sees them
-  abbrev pub run_log_side : RunOf L D → LogSide
-  run_log_side run = log_part.log_side log_seen (log_seen run.first_log.dev).faults run.first_log.marks.number
-      (log_part.HasBegun log_seen (lsn run.setup.base) run.first_log)
-
-  abbrev pub run_data_side : RunOf L D → DataSide
-  run_data_side run = data_part.data_side data_seen (data_seen run.first_data.dev).faults run.shape (data_part.HasBegun data_seen run.setup.opened run.first_data)
 
 -- a write of the log may be made with what is lent, and the writing of a batch
 abbrev pub MayWriteLent : {L : Type 0} → log.Part L → ℕ → Lent → Type 0
@@ -70,6 +51,8 @@ pub record IsPlayable {L D : Type 0} (parts : Parts L D) (o : Op) (l : Lent) : T
   pub real : (i : ℕ) → Each (λ listed. 0 < listed.oldest) (lists_of parts.lists i)
   pub log : LogReady parts.log l o
   pub data_part : DataReady parts.store l o
+  -- there is no archive to append to
+  pub own : IsNoAppend o
 
 -- what the log part's call tells
 abbrev pub told_by : Op → ℕ → ℕ
@@ -86,6 +69,7 @@ pub record IsPlayed {L D : Type 0} (log_seen : L → Seen) (data_seen : D → Se
   pub code : ℕ
   pub log_served : LogServed (run_log_side log_seen data_seen run) old.log l o code new.log
   pub data_served : DataServed (run_data_side log_seen data_seen run) old.store l o code new.store
+  pub own_served : OwnServed o code
   pub words : new.words.words ≡ words_left old.words.words o
   pub lists : lists_of new.lists ≡ lists_left (lists_of old.lists) (list_word old.words.words) o
   pub answered : answer ≡ answer_of (lists_of old.lists) (is_some old.log.failed) code new.log.marks.stable old.words.words o

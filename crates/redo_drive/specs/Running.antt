@@ -1,5 +1,5 @@
 -- The invariant of a running store over its parts and actors, in a run that is its own, and what followers' receivers have got.
-use Rattle.std.specs.Prelude.{List, [], cond, length, ℕ, ◌≡◌, ◌≤◌}
+use Rattle.std.specs.Prelude.{Bool, List, [], cond, false, length, ℕ, ◌<◌, ◌≡◌, ◌≤◌}
 use lib.ListN.{get_elem?}
 use mathlib.Core.Option.{some}
 use Rattle.model_base.specs.{IsWithinLimits}
@@ -17,22 +17,28 @@ use Rattle.redo_drive.specs.declared.actor.Actor.{Actor}
 use Rattle.redo_drive.specs.declared.parts.Parts.{Parts}
 
 module _ {L D : Type 0} (log_seen : L → Seen) (data_seen : D → Seen) (run : RunOf L D) where
-  -- The invariant of a running store holds, in a run that is this one.
-  pub record RunsOn (parts : Parts L D) (actors : List model.Actor) : Type 0 where
+  -- The invariant of a running store holds, in a run that is this one. Unless it is archived no archiver is among the actors.
+  pub record RunsWith (archive : Bool) (parts : Parts L D) (actors : List model.Actor) : Type 0 where
     pub limits : IsWithinLimits run.shape
     pub started : START_LSN ≤ lsn run.setup.base
     pub its_pages : run.shape.pages ≡ run.setup.pages
     pub its_page_size : run.shape.page_size ≡ run.setup.page_size
+    pub followers : cond archive (Unit {0}) (0 < run.setup.first_reader)
     pub bytes : HasBytes run.setup
     pub word_pages : parts.words.pages ≡ run.setup.pages
     pub list_pages : parts.lists.pages ≡ run.setup.pages
     pub running : IsRunning (run_log_side log_seen data_seen run) (run_data_side log_seen data_seen run) run.setup 0 (core_of log_seen data_seen run parts actors)
     pub seated : AreSeated run.setup actors
 
+  -- the same where nothing is archived
+  abbrev pub RunsOn : Parts L D → List model.Actor → Type 0
+  RunsOn parts actors = RunsWith false parts actors
+
 -- they are on some run
-pub record IsOnRun {L D : Type 0} (log_seen : L → Seen) (data_seen : D → Seen) (parts : Parts L D) (actors : List model.Actor) : Type 0 where
+pub record AreOnRun {L D : Type 0} (log_seen : L → Seen) (data_seen : D → Seen) (parts : Parts L D) (actors : List model.Actor) : Type 0 where
   pub run : RunOf L D
-  pub runs : RunsOn log_seen data_seen run parts actors
+  pub archive : Bool
+  pub runs : RunsWith log_seen data_seen run archive parts actors
 
 -- the groups of a log up to a follower's place
 abbrev pub groups_of : model.Actor → List Entry → List Given
@@ -41,12 +47,18 @@ groups_of _ log = []
 
 -- The run that began with the first of these actors has come to the others. The invariant holds; and where the log device
 -- tells, each follower's receiver has got just the groups of the log up to the follower's place, in the log's order.
-pub record RunsFrom {L D R : Type 0} (log_seen : L → Seen) (data_seen : D → Seen) (stands : R → List Given → Type 0) (run : RunOf L D)
-    (starts : List (Actor R)) (parts : Parts L D) (actors : List (Actor R)) : Type 0 where
-  pub runs : RunsOn log_seen data_seen run parts (views_of actors)
+pub record RunsFromWith {L D R : Type 0} (log_seen : L → Seen) (data_seen : D → Seen) (stands : R → List Given → Type 0) (run : RunOf L D)
+    (archive : Bool) (starts : List (Actor R)) (parts : Parts L D) (actors : List (Actor R)) : Type 0 where
+  pub runs : RunsWith log_seen data_seen run archive parts (views_of actors)
   pub count : length actors ≡ length starts
   pub same : (seat : ℕ) (a b : Actor R) → get_elem? starts seat ≡ some a → get_elem? actors seat ≡ some b
       → IsSameFollower (follower_of a) (follower_of b)
   pub got : (run_log_side log_seen data_seen run).Tells parts.log
       → (seat : ℕ) (a b : Actor R) → get_elem? starts seat ≡ some a → get_elem? actors seat ≡ some b
       → HasGot stands (follower_of a) (groups_of (view_of b) runs.running.log_ghost.log) (follower_of b)
+
+-- the same where nothing is archived
+abbrev pub RunsFrom : {L D R : Type 0} → (L → Seen) → (D → Seen) → (R → List Given → Type 0) → RunOf L D
+    → (starts : List (Actor R)) → Parts L D → List (Actor R) → Type 0
+RunsFrom log_seen data_seen stands run starts parts actors =
+    RunsFromWith log_seen data_seen stands run false starts parts actors

@@ -37,25 +37,39 @@ abbrev pub followers_from : (start : ℕ) → (number : ℕ) → (followers : �
 followers_from start number zero = []
 followers_from start number (suc n) = actor.Reader (new_reader number start) ∷ followers_from start (number + 1) n
 
+-- the number of the first reader of the log: 0, the archiver's, or that of the first follower
+abbrev pub first_reader : (archive : Bool) → ℕ
+first_reader true = 0
+first_reader false = FIRST_FOLLOWER
+
+-- the readers of the log: the archiver, if the run is archived, and so many followers
+abbrev pub readers_of : (start : ℕ) → (archive : Bool) → (followers : ℕ) → List Actor
+readers_of start true followers = actor.Reader (new_reader 0 start) ∷ followers_from start FIRST_FOLLOWER followers
+readers_of start false followers = followers_from start FIRST_FOLLOWER followers
+
 -- the actors of the pages; where the log runs alone there are none
-abbrev pub page_actors : Shape → (start : ℕ) → (log_only : Bool) → (followers : ℕ) → List Actor
-page_actors shape start true followers = []
-page_actors shape start false followers =
+abbrev pub page_actors : Shape → (start : ℕ) → (log_only archive : Bool) → (followers : ℕ) → List Actor
+page_actors shape start true archive followers = []
+page_actors shape start false archive followers =
     actor.Closer new_closer ∷ actor.Cleaner (new_cleaner shape.pages shape.page_size)
-    ∷ actor.Checkpointer (new_checkpointer start FIRST_FOLLOWER (FIRST_FOLLOWER + followers)) ∷ []
+    ∷ actor.Checkpointer (new_checkpointer start (first_reader archive) (FIRST_FOLLOWER + followers)) ∷ []
 
--- the actors behind the users
-abbrev pub other_actors : Shape → (start : ℕ) → (log_only : Bool) → (followers : ℕ) → List Actor
-other_actors shape start log_only followers =
+-- the actors behind the users, before the readers of the log
+abbrev pub other_actors : Shape → (start : ℕ) → (log_only archive : Bool) → (followers : ℕ) → List Actor
+other_actors shape start log_only archive followers =
     actor.Writer (new_writer (run_layout shape).blocks start) ∷ actor.Flusher (new_flusher start)
-    ∷ page_actors shape start log_only followers
+    ∷ page_actors shape start log_only archive followers
 
--- the actors of the run that have their seats before the followers
-abbrev pub seated_before : Shape → List ScriptLine → (start : ℕ) → (log_only : Bool) → (followers : ℕ) → List Actor
-seated_before shape script start log_only followers =
-    map actor.User (users_of shape log_only script) ++ other_actors shape start log_only followers
+-- the actors of the run that have their seats before the readers of the log
+abbrev pub seated_before : Shape → List ScriptLine → (start : ℕ) → (log_only archive : Bool) → (followers : ℕ) → List Actor
+seated_before shape script start log_only archive followers =
+    map actor.User (users_of shape log_only script) ++ other_actors shape start log_only archive followers
 
--- the actors of the run in their seats, with nothing done: the followers come last
+-- the actors of the run in their seats, with nothing done: the readers of the log come last
+abbrev pub seated_actors : Shape → List ScriptLine → (start : ℕ) → (log_only archive : Bool) → (followers : ℕ) → List Actor
+seated_actors shape script start log_only archive followers =
+    seated_before shape script start log_only archive followers ++ readers_of start archive followers
+
+-- the same where nothing is archived
 abbrev pub start_actors : Shape → List ScriptLine → (start : ℕ) → (log_only : Bool) → (followers : ℕ) → List Actor
-start_actors shape script start log_only followers =
-    seated_before shape script start log_only followers ++ followers_from start FIRST_FOLLOWER followers
+start_actors shape script start log_only followers = seated_actors shape script start log_only false followers

@@ -3,14 +3,17 @@ use Rattle.std.specs.Prelude.{Bool, List, length, None, Option, Some, if◌then�
 use Rattle.std.specs.List.{AllByRecursion}
 use lib.ListN.{get_elem?}
 use mathlib.Core.Option.{some}
+use Rattle.model_archive.specs.{begun_marks}
 use Rattle.model_base.specs.declared.shape.Shape.{Shape}
 use Rattle.model_core.specs.{new_reader}
 use Rattle.model_core.specs.declared.limits.TheConstants.{READERS}
 use Rattle.model_log.specs.declared.layout.TheConstants.{BLOCK_HEADER}
 use Rattle.model_parts.specs.{numbers_taken, start_of}
-use Rattle.model_script.specs.{IsScriptLine, round_end, ScriptFits}
+use Rattle.model_script.specs.{ArchiveFits, IsScriptLine, round_end, ScriptFits}
 use Rattle.model_script.specs.declared.script.ScriptLine.{ScriptLine}
 use Rattle.model_store.specs.Reading.{Reading}
+use Rattle.redo_archive.specs.Part.{Part}
+use Rattle.redo_disk.specs.Seen.{Seen}
 use Rattle.redo_drive.specs.declared.seating.TheConstants.{FIRST_FOLLOWER}
 use Rattle.redo_follow.specs.Handing.{Following}
 use Rattle.redo_store.specs.{IsRunnable}
@@ -31,6 +34,15 @@ pub record AreNewFollowers {R : Type 0} (start : ℕ) (followers : List (Followi
   pub few : FIRST_FOLLOWER + length followers ≤ READERS
   pub each : (i : ℕ) (follower : Following R) → get_elem? followers i ≡ some follower
       → follower.state ≡ new_reader (FIRST_FOLLOWER + i) start
+
+-- This is an archive for the run of the script on the store: newly begun where the run starts, of the store's shape, on a
+-- device that has room for the whole run.
+pub record IsNewArchive {L D A : Type 0} (seen : A → Seen) (opened : Opened L D) (script : List ScriptLine) (part : Part A) : Type 0 where
+  pub live : part.failed ≡ None
+  pub shape : part.shape ≡ opened.shape
+  pub start : part.start ≡ opened.start
+  pub begun : part.marks ≡ begun_marks opened.start
+  pub room : ArchiveFits opened.shape opened.start (Some (seen part.dev).size) script
 
 -- The opened store was in order and read as this.
 pub record HasReading {L D : Type 0} (reading : Reading) (opened : Opened L D) : Type 0 where

@@ -2,15 +2,17 @@
 use Rattle.std.specs.Prelude.{List, slice_index, ℕ, ◌≡◌, ◌⊎◌, is_some}
 use Rattle.model_core.specs.Actors as model
 use Rattle.model_core.specs.AnswerFits.{AnswerFits}
-use Rattle.model_core.specs.{answer_of, Core, filled, Filling, Fills, Given, index, lent, next, step_of, took}
+use Rattle.model_core.specs.{answer_of, filled, Filling, Fills, Given, index, lent, next, step_of, took}
 use Rattle.model_core.specs.Turn.{Turn}
 use Rattle.model_core.specs.declared.ops.Answer.{Answer}
 use Rattle.model_core.specs.declared.ops.Step.{Step}
 use Rattle.model_core.specs.declared.words.Word.TheVariants as word
 use Rattle.redo_disk.specs.Seen.{Seen}
 use Rattle.redo_drive.specs.Lists.{lists_of}
-use Rattle.redo_drive.specs.Playing.{HasWholePages, IsPlayable, IsPlayed, RunOf, run_data_side, run_log_side}
+use Rattle.redo_drive.specs.Playing.{HasWholePages, IsPlayable, IsPlayed}
 use Rattle.redo_drive.specs.Receiving.{follower_of, handed_by, HasGot, IsSameFollower, MarkFits}
+use Rattle.redo_drive.specs.Sides.{RunOf, run_data_side, run_log_side}
+pub use Rattle.redo_drive.specs.Sides.{core_of}
 use Rattle.redo_drive.specs.Views.{view_of}
 use Rattle.redo_drive.specs.declared.actor.Actor.{Actor}
 use Rattle.redo_drive.specs.declared.parts.Parts.{Parts}
@@ -38,19 +40,11 @@ pub record IsServed {L D R : Type 0} (log_seen : L → Seen) (data_seen : D → 
   pub got : HasGot stands (follower_of actor) (handed_by (filled (view_of actor) filling)) (follower_of after)
 
 module _ {L D : Type 0} (log_seen : L → Seen) (data_seen : D → Seen) (run : RunOf L D) where
-  abbrev pub core_of : Parts L D → List model.Actor → Core (run_log_side log_seen data_seen run) (run_data_side log_seen data_seen run)
-  core_of parts actors = record {
-    words = parts.words.words;
-    log_part = parts.log;
-    data_part = parts.store;
-    lists = lists_of parts.lists;
-    actors = actors;
-  }
-
   -- one turn of the definition, with some answer
   pub record TakesTurn (old : Parts L D) (actors : List model.Actor) (seat : ℕ) (step : Step) (new : Parts L D) (after : List model.Actor) : Type 0 where
     pub answer : Answer
-    pub turn : Turn (run_log_side log_seen data_seen run) (run_data_side log_seen data_seen run) (core_of old actors) seat answer step (core_of new after)
+    pub turn : Turn (run_log_side log_seen data_seen run) (run_data_side log_seen data_seen run)
+        (core_of log_seen data_seen run old actors) seat answer step (core_of log_seen data_seen run new after)
 
 -- the code in FAILED
 abbrev pub code_in : {L D : Type 0} → Parts L D → ℕ

@@ -12,6 +12,7 @@ view_of (own.Flusher flusher) = model.Flusher flusher
 view_of (own.Closer closer) = model.Closer closer
 view_of (own.Cleaner cleaner) = model.Cleaner cleaner
 view_of (own.Checkpointer checkpointer) = model.Checkpointer checkpointer
+view_of (own.Archiver archiver) = model.Reader archiver
 view_of (own.Follower follower) = model.Reader follower.state
 
 abbrev pub views_of : {R : Type 0} → List (Actor R) → List model.Actor

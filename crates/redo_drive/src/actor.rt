@@ -7,6 +7,7 @@ ghost use Rattle.redo_drive.specs.Steps.{steps_in_vain};
 ghost use Rattle.redo_drive.specs.Views.{view_of};
 
 use model_core::{FLUSH_LISTS, FRAME_WORDS};
+use redo_archiver::Archiver;
 use redo_follow::{Follower, Receiver};
 use redo_logactors::{Closer, Flusher, Writer};
 use redo_pageactors::{Checkpointer, Cleaner};
@@ -21,6 +22,7 @@ pub enum Actor<R: Receiver> {
     Closer(Closer),
     Cleaner(Cleaner),
     Checkpointer(Checkpointer),
+    Archiver(Archiver),
     Follower(Follower<R>),
 }
 
@@ -59,7 +61,7 @@ impl<R: Receiver> Actor<R> {
                 2 + u64::from(checkpointer.reader_count()) + 2 * FLUSH_LISTS
             }
             // FAILED and FLUSHED
-            Actor::Follower(_) => 2,
+            Actor::Archiver(_) | Actor::Follower(_) => 2,
         }
     }
 }

@@ -22,6 +22,7 @@ impl<R: Receiver> Actor<R> {
             Actor::Closer(closer) => closer.next(),
             Actor::Cleaner(cleaner) => cleaner.next(),
             Actor::Checkpointer(checkpointer) => checkpointer.next(),
+            Actor::Archiver(archiver) => archiver.next(),
             Actor::Follower(follower) => follower.next(),
         }
     }
@@ -37,6 +38,7 @@ impl<R: Receiver> Actor<R> {
             Actor::Closer(closer) => closer.lent(),
             Actor::Cleaner(cleaner) => cleaner.lent(),
             Actor::Checkpointer(checkpointer) => checkpointer.lent(),
+            Actor::Archiver(archiver) => archiver.lent(),
             Actor::Follower(follower) => follower.lent(),
         }
     }
@@ -54,6 +56,7 @@ impl<R: Receiver> Actor<R> {
             Actor::Closer(closer) => closer.took(answer),
             Actor::Cleaner(cleaner) => cleaner.took(answer),
             Actor::Checkpointer(checkpointer) => checkpointer.took(answer),
+            Actor::Archiver(archiver) => archiver.took(answer),
             Actor::Follower(follower) => follower.took(answer),
         }
     }

@@ -29,6 +29,6 @@ pub use lists::FlushLists;
 pub use log_laws::{
     log_half_has_watermarks, log_part_keeps_its_shape, log_part_meets_laws, log_part_tells,
 };
-pub use making::{Beginning, begin_run};
+pub use making::{Beginning, begin_run, begin_run_with};
 pub use parts::Parts;
 pub use seating::FIRST_FOLLOWER;

@@ -8,7 +8,7 @@ ghost use Rattle.model_log.specs.declared.layout.TheConstants.{BLOCK_HEADER};
 ghost use Rattle.model_script.specs.{IsScriptLine, LineFits};
 ghost use Rattle.redo_apply.specs.{ArePagesOf};
 ghost use Rattle.redo_drive.specs.Startable.{AreNewFollowers, MayBegin};
-ghost use Rattle.redo_drive.specs.Begins.{BeginsRun};
+ghost use Rattle.redo_drive.specs.Begins.{BeginsRun, BeginsWith};
 ghost use Rattle.redo_drive.specs.Making.{IsOwnOf};
 
 use crate::actor::Actor;
@@ -44,6 +44,7 @@ fn make_own<R: Receiver + Drop>(
     script: &Script,
     start: u64,
     log_only: bool,
+    archive: bool,
     followers: Vec<Follower<R>>,
 ) -> Result<Own<R>, NoMemory>
     requires limits { IsWithinLimits shape.now }
@@ -54,7 +55,7 @@ fn make_own<R: Receiver + Drop>(
     requires lines { AllByRecursion IsScriptLine script.now }
     requires fits { AllByRecursion (LineFits shape.now) script.now }
     requires new { AreNewFollowers start followers.items }
-    ensures { IfOk result (IsOwnOf shape.now pages.now script.now start log_only followers.items) }
+    ensures { IfOk result (IsOwnOf shape.now pages.now script.now start log_only archive followers.items) }
 {
     let words = start_words(alloc, shape, pages, start)?;
     let lists = FlushLists::new(alloc, shape.pages)?;
@@ -64,6 +65,7 @@ fn make_own<R: Receiver + Drop>(
         shape,
         start,
         log_only,
+        archive,
         followers,
     )?;
     let entries = Vec::with_capacity(alloc, script.0.len())?;
@@ -77,7 +79,7 @@ fn make_own<R: Receiver + Drop>(
 
 /// A run as it begins: what its actors share, the actors in their seats, and room for an entry of each line. The users that
 /// have lines come first, by their numbers, then the writer and the flusher, then, unless the log runs alone, the closer, the
-/// cleaner and the checkpointer, and at last the followers.
+/// cleaner and the checkpointer, and at last the readers of the log: the archiver, if the run is archived, and the followers.
 #[derive(Drop)]
 pub struct Beginning<L: Sectors, D: Sectors, R: Receiver> {
     pub parts: Parts<L, D>,
@@ -99,6 +101,23 @@ pub fn begin_run<L: Sectors, D: Sectors, R: Receiver + Drop>(
     ensures err { IfErr result (λ error. (error.1 ≡ opened.log.dev) × (error.2 ≡ opened.store.dev)) }
     ensures begins { IfOk result (BeginsRun L.seen D.seen R.stands_for opened script.now log_only followers.items) }
 {
+    begin_run_with(alloc, opened, script, log_only, false, followers)
+}
+
+/// The same with an archiver, or without.
+pub fn begin_run_with<L: Sectors, D: Sectors, R: Receiver + Drop>(
+    alloc: Global,
+    opened: Opened<L, D>,
+    script: &Script,
+    log_only: bool,
+    archive: bool,
+    followers: Vec<Follower<R>>,
+) -> Result<Beginning<L, D, R>, (NoMemory, L, D)>
+    requires may { MayBegin opened script.now log_only }
+    requires new { AreNewFollowers opened.start followers.items }
+    ensures err { IfErr result (λ error. (error.1 ≡ opened.log.dev) × (error.2 ≡ opened.store.dev)) }
+    ensures begins { IfOk result (BeginsWith L.seen D.seen R.stands_for opened script.now log_only archive followers.items) }
+{
     let Opened {
         shape,
         start,
@@ -106,7 +125,9 @@ pub fn begin_run<L: Sectors, D: Sectors, R: Receiver + Drop>(
         log,
         store,
     } = opened;
-    match make_own(alloc, &shape, &pages, script, start, log_only, followers) {
+    match make_own(
+        alloc, &shape, &pages, script, start, log_only, archive, followers,
+    ) {
         Err(_) => Err((NoMemory, log.into_dev(), store.into_dev())),
         Ok(own) => {
             let Own {

@@ -7,8 +7,8 @@ ghost use Rattle.model_core.specs.declared.limits.TheConstants.{READERS};
 ghost use Rattle.model_log.specs.{IsAtDataStart};
 ghost use Rattle.model_base.specs.declared.limits.TheConstants.{FIRST_DATA_LSN};
 ghost use Rattle.model_script.specs.{IsScriptLine, LineFits};
-ghost use Rattle.redo_drive.specs.Making.{EndsWithFollowers};
-ghost use Rattle.redo_drive.specs.Setups.{seated_before, start_actors, user_lines, users_of};
+ghost use Rattle.redo_drive.specs.Making.{EndsWithReaders, new_archiver};
+ghost use Rattle.redo_drive.specs.Setups.{first_reader, seated_actors, seated_before, user_lines, users_of};
 ghost use Rattle.redo_drive.specs.Startable.{AreNewFollowers};
 ghost use Rattle.redo_drive.specs.Views.{views_of};
 ghost use Rattle.redo_drive.specs.declared.actor.Actor.TheVariants as own;
@@ -18,6 +18,7 @@ use crate::actor::Actor;
 use model_base::Shape;
 use model_log::Group;
 use model_script::{MAX_USERS, ScriptLine};
+use redo_archiver::Archiver;
 use redo_follow::{Follower, Receiver};
 use redo_logactors::{Closer, Flusher, Writer};
 use redo_lsn::NoMemory;
@@ -27,10 +28,17 @@ use redo_useractor::UserActor;
 use std::alloc::Global;
 
 /// How many actors there are at the most beside the followers.
-const MOST_ACTORS: usize = MAX_USERS as usize + 5;
+const MOST_ACTORS: usize = MAX_USERS as usize + 6;
 
 /// The number of the first follower.
 pub const FIRST_FOLLOWER: u32 = 1;
+
+/// The number of the first reader of the log: 0, the archiver's, or that of the first follower.
+fn first_reader(archive: bool) -> u32
+    ensures { result ≡ first_reader archive }
+{
+    if archive { 0 } else { FIRST_FOLLOWER }
+}
 
 /// The lines of a user, each a mode and a group.
 fn lines_of(
@@ -75,13 +83,14 @@ fn seat_users<R: Receiver + Drop>(
     Ok(actors)
 }
 
-/// The actors before the followers, of a run that starts at this lsn and has so many followers.
+/// The actors before the readers of the log, of a run that starts at this lsn, has an archiver or none, and so many followers.
 fn seat_others<R: Receiver + Drop>(
     alloc: Global,
     script: &[ScriptLine],
     shape: &Shape,
     start: u64,
     log_only: bool,
+    archive: bool,
     followers: u32,
 ) -> Result<Vec<Actor<R>>, NoMemory>
     requires limits { IsWithinLimits shape.now }
@@ -91,16 +100,32 @@ fn seat_others<R: Receiver + Drop>(
     requires first { FIRST_DATA_LSN ≤ start }
     requires small { start < 2 ^ 61 }
     requires few { FIRST_FOLLOWER + followers ≤ READERS }
-    ensures { IfOk result (λ actors. views_of actors.items ≡ seated_before shape.now script.now start log_only followers) }
+    ensures { IfOk result (λ actors. views_of actors.items ≡ seated_before shape.now script.now start log_only archive followers) }
 {
     let mut actors = seat_users(alloc, script, shape, log_only, followers)?;
     actors.push(Actor::Writer(Writer::new(alloc, shape, start)?))?;
     actors.push(Actor::Flusher(Flusher::new(start)))?;
     if !log_only {
+        let first = first_reader(archive);
         let last = FIRST_FOLLOWER + followers;
         actors.push(Actor::Closer(Closer::new()))?;
         actors.push(Actor::Cleaner(Cleaner::new(alloc, shape)?))?;
-        actors.push(Actor::Checkpointer(Checkpointer::new(start, FIRST_FOLLOWER, last)))?;
+        actors.push(Actor::Checkpointer(Checkpointer::new(start, first, last)))?;
+    }
+    Ok(actors)
+}
+
+/// The archiver after the other actors, if the run is archived.
+fn seat_archiver<R: Receiver + Drop>(
+    mut actors: Vec<Actor<R>>,
+    start: u64,
+    archive: bool,
+) -> Result<Vec<Actor<R>>, NoMemory>
+    requires { IsAtDataStart start }
+    ensures { IfOk result (λ seated. seated.items ≡ actors.items ++ new_archiver start archive) }
+{
+    if archive {
+        actors.push(Actor::Archiver(Archiver::new(start)))?;
     }
     Ok(actors)
 }
@@ -118,13 +143,15 @@ fn seat_followers<R: Receiver + Drop>(
     Ok(actors)
 }
 
-/// The actors of a run that starts at this lsn, with these followers at the end.
+/// The actors of a run that starts at this lsn, with the readers of its log at the end: the archiver, if it is archived, and
+/// these followers.
 pub fn seat_actors<R: Receiver + Drop>(
     alloc: Global,
     script: &[ScriptLine],
     shape: &Shape,
     start: u64,
     log_only: bool,
+    archive: bool,
     followers: Vec<Follower<R>>,
 ) -> Result<Vec<Actor<R>>, NoMemory>
     requires limits { IsWithinLimits shape.now }
@@ -134,10 +161,11 @@ pub fn seat_actors<R: Receiver + Drop>(
     requires first { FIRST_DATA_LSN ≤ start }
     requires small { start < 2 ^ 61 }
     requires new { AreNewFollowers start followers.items }
-    ensures actors { IfOk result (λ actors. views_of actors.items ≡ start_actors shape.now script.now start log_only (length followers.items)) }
-    ensures followers { IfOk result (λ actors. EndsWithFollowers actors.items followers.items) }
+    ensures actors { IfOk result (λ actors. views_of actors.items ≡ seated_actors shape.now script.now start log_only archive (length followers.items)) }
+    ensures readers { IfOk result (λ actors. EndsWithReaders start archive actors.items followers.items) }
 {
     let count = followers.len() as u32;
-    let actors = seat_others(alloc, script, shape, start, log_only, count)?;
+    let before = seat_others(alloc, script, shape, start, log_only, archive, count)?;
+    let actors = seat_archiver(before, start, archive)?;
     seat_followers(actors, followers)
 }

@@ -31,6 +31,12 @@ Followed stands before after =
     × (after.state ≡ followed (record before.state { texts = texts }))
     × StandsFor stands before.receiver (placed_at before.state.at texts) after.receiver
 
+-- the step is one of a follower: the archiver alone appends
+abbrev pub IsFollowerStep : ReaderStep → Type 0
+IsFollowerStep reader_step.Append = ⊥
+IsFollowerStep reader_step.StoreLost = ⊥
+IsFollowerStep _ = Unit {0}
+
 abbrev is_to_follow : Bool → ReaderStep → Bool
 is_to_follow true s = false
 is_to_follow false reader_step.GiveDevice = true

@@ -32,7 +32,7 @@ pub struct Follower<R: Receiver> {
 impl<R: Receiver> Model for Follower<R> {
     ghost use Rattle.std.specs.Prelude.{false, ◌≡◌, ◌≤◌, ◌<◌, ◌+◌, ◌^◌, [], vec_capacity, length};
     ghost use Rattle.redo_follow.specs.declared.follower.TheConstants.{ROOM};
-    ghost use Rattle.redo_follow.specs.Handing.{Following};
+    ghost use Rattle.redo_follow.specs.Handing.{Following, IsFollowerStep};
 
     ghost Value = { Following R };
 
@@ -46,6 +46,7 @@ impl<R: Receiver> Model for Follower<R> {
         at = f.at;
         kept = f.kept.items;
         texts = [];
+        lost = 0;
         code = f.code;
         checks = f.checks;
         step = f.step;
@@ -55,7 +56,7 @@ impl<R: Receiver> Model for Follower<R> {
 
     ghost invariant = { λ f.
         (0 < f.number) × (f.mark < 2 ^ 61) × (f.at + length f.kept.items < 2 ^ 61)
-        × (ROOM ≤ vec_capacity f.kept) × (length f.kept.items ≤ ROOM) };
+        × (ROOM ≤ vec_capacity f.kept) × (length f.kept.items ≤ ROOM) × IsFollowerStep f.step };
 }
 
 impl<R: Receiver + Drop> Follower<R> {

@@ -8,7 +8,7 @@ ghost use Rattle.model_core.specs.declared.steps.ReaderStep.TheVariants as reade
 ghost use Rattle.model_log.specs.Block.{block_view, is_block_at};
 ghost use Rattle.model_log.specs.declared.layout.TheConstants.{BLOCK_DATA_END};
 ghost use Rattle.redo_follow.specs.declared.follower.TheConstants.{ROOM};
-ghost use Rattle.redo_follow.specs.Handing.{Followed, FollowerFits, IsToFollow, TookAnswer};
+ghost use Rattle.redo_follow.specs.Handing.{Followed, FollowerFits, IsFollowerStep, IsToFollow, TookAnswer};
 ghost use Rattle.redo_follow.specs.Lending.{LendsRoom};
 ghost use Rattle.redo_words.specs.{Lends};
 
@@ -59,6 +59,7 @@ impl<R: Receiver> Follower<R> {
             ReaderStep::StorePlace => Op::Store(Word::Place(self.number), self.place),
             ReaderStep::StoreFailed => Op::Store(Word::Failed, u64::from(self.code)),
             ReaderStep::Failed => Op::Rest,
+            ReaderStep::Append | ReaderStep::StoreLost => unreachable!(),
         }
     }
 
@@ -116,6 +117,7 @@ impl<R: Receiver> Follower<R> {
 
     /// It goes on with this step.
     fn goes_on(&mut self, step: ReaderStep) -> Step
+        requires { IsFollowerStep step }
         ensures state { self.new.state ≡ record self.old.state { step = step } }
         ensures receiver { self.new.receiver ≡ self.old.receiver }
         ensures step { result ≡ reader_ending self.old.state.code step }
@@ -233,6 +235,7 @@ impl<R: Receiver> Follower<R> {
             ReaderStep::GiveDevice | ReaderStep::GiveFailed | ReaderStep::Failed => {
                 self.goes_on(ReaderStep::Failed)
             }
+            ReaderStep::Append | ReaderStep::StoreLost => unreachable!(),
         }
     }
 

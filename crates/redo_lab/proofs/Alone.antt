@@ -69,22 +69,22 @@ module _ (call : LabCall) (alone : BothDevices IsLeftAlone call) where
   pub leaves-alone : Laws → LeavesStore call
   leaves-alone laws = leaves-unprepared call laws unprepared-alone
 
-no-bad-line : (call : LabCall) (log_only : Bool) (n : ℕ) → CanRun call log_only → IsBadLine call.source call.source_now n → ⊥
-no-bad-line call log_only n can bad =
+no-bad-line : (call : LabCall) (drive : Drive) (n : ℕ) → CanRun call drive → IsBadLine call.source call.source_now n → ⊥
+no-bad-line call drive n can bad =
     let left = at-some call.source.left (λ left. (bad.text ≡ left) × (call.source_now.left ≡ Some _)) can.text bad.read.all_read can.source in
     let is_script = can.is_script in
     let is_bad = sym (ap script_of left.0) ∙ bad.is_bad in
     cc
 
-no-long-script : (call : LabCall) (log_only : Bool) (misfit : Misfit) → CanRun call log_only → IsLongScript call.source misfit → ⊥
-no-long-script call log_only misfit can long =
+no-long-script : (call : LabCall) (drive : Drive) (misfit : Misfit) → CanRun call drive → IsLongScript call.source misfit → ⊥
+no-long-script call drive misfit can long =
     let more = at-some call.source.left (λ left. MAX_SCRIPT < length left) can.text long.long can.source in
     omega (arith, can.short)
 
 -- A COMMAND THAT READS A SCRIPT, which wasn't read
-module _ (call : LabCall) (command : Command) (log_only : Bool) (alone : BothDevices IsLeftAlone call) (laws : Laws) (reads : reads_script command ≡ true)
-    (leaves : LeavesFailed call command) (writes : leaves_devices command ≡ true → ⊥) (can : IsPossible call command → CanRun call log_only) where
-  unscripted : (f : Fault) → IsCauseOf call command f → (CanRun call log_only → (HasRisen call.source.faults call.source_now.faults → ⊥) → MayKeepFrom command f)
+module _ (call : LabCall) (command : Command) (drive : Drive) (alone : BothDevices IsLeftAlone call) (laws : Laws) (reads : reads_script command ≡ true)
+    (leaves : LeavesFailed call command) (writes : leaves_devices command ≡ true → ⊥) (can : IsPossible call command → CanRun call drive) where
+  unscripted : (f : Fault) → IsCauseOf call command f → (CanRun call drive → (HasRisen call.source.faults call.source_now.faults → ⊥) → MayKeepFrom command f)
       → EndsWith call command (outcome.Fault f)
   unscripted f cause kept = record {
     means = cause;
@@ -97,18 +97,18 @@ module _ (call : LabCall) (command : Command) (log_only : Bool) (alone : BothDev
 
   script-fails : (f : Fault) → IsScriptFault call.source call.source_now f → EndsWith call command (outcome.Fault f)
   script-fails fault.Memory cause = unscripted fault.Memory leaves (λ can source. tt)
-  script-fails (fault.Script n) cause = unscripted (fault.Script n) (reads, cause, unwritten-alone call alone) (λ can source. absurd (no-bad-line call log_only n can cause))
+  script-fails (fault.Script n) cause = unscripted (fault.Script n) (reads, cause, unwritten-alone call alone) (λ can source. absurd (no-bad-line call drive n can cause))
   script-fails fault.Source cause = unscripted fault.Source (reads, cause, unwritten-alone call alone) (λ can source. absurd (source cause))
   script-fails (fault.Fit misfit) cause = unscripted (fault.Fit misfit) (inl (reads, cause, unwritten-alone call alone))
-      (λ can source. absurd (no-long-script call log_only misfit can cause))
+      (λ can source. absurd (no-long-script call drive misfit can cause))
   script-fails f cause = absurd cause
 
 pub scripted-unscripted : (call : LabCall) (drive : Drive) (crash : Option Crashing) (f : Fault) → BothDevices IsLeftAlone call → IsScriptFault call.source call.source_now f → Laws
     → EndsWith call (command_with drive crash) (outcome.Fault f)
 scripted-unscripted call drive None f alone cause laws =
-    script-fails call (Run drive) drive.log_only alone laws refl (λ runs. inl (unprepared-alone call alone)) (λ leaves. false≢true leaves) (λ possible. possible) f cause
+    script-fails call (Run drive) drive alone laws refl (λ runs. inl (unprepared-alone call alone)) (λ leaves. false≢true leaves) (λ possible. possible) f cause
 scripted-unscripted call drive (Some crash) f alone cause laws =
-    script-fails call (Crash drive crash.stops.log crash.stops.store crash.pick crash.workers) drive.log_only alone laws refl
+    script-fails call (Crash drive crash.stops.log crash.stops.store crash.pick crash.workers) drive alone laws refl
     (λ runs. inl (unprepared-alone call alone)) (λ leaves. false≢true leaves) (λ possible. possible) f cause
 
 -- GEN, and where memory ran out over the script that it runs
@@ -149,15 +149,16 @@ all-left (Some bytes) = (0, omega arith, omega arith, refl)
 
 -- THE CALL OF OTHER WORDS.
 pub nothing-ends : (call : LabCall) (sink sink_now : SinkSeen) (status : ℕ) (f : Fault) → ((command_of call.words ≡ None) × (f ≡ fault.Words)) ⊎ (f ≡ fault.Memory)
-    → call.source_now ≡ call.source → BothDevices IsLeftAlone call → Laws → IsFaultPrinted [] f status sink sink_now
+    → call.source_now ≡ call.source → BothDevices IsLeftAlone call → call.archive.now ≡ call.archive.entry → Laws → IsFaultPrinted [] f status sink sink_now
     → TakesAtMost (MAX_SCRIPT + PIECE) call.source.left call.source_now.left → IsCallOf call sink sink_now status
-nothing-ends call sink sink_now status f why unread alone laws printed little = record {
+nothing-ends call sink sink_now status f why unread alone untouched laws printed little = record {
   way = inl (record {
     fault = f;
     fault_is = why;
     printed = printed;
     unread = unread;
     unwritten = unwritten-alone call alone;
+    untouched = untouched;
     left = λ command asked runs. leaves-alone call alone laws;
   });
   reads_little = little;

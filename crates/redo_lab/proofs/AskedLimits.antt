@@ -4,10 +4,10 @@ use Rattle.std.specs.Option.{option_map, option_and_then}
 use Rattle.std.specs.Str.{bytes_eq}
 use Rattle.model_base.specs.declared.limits.TheConstants.{DEFAULT_LOG_BLOCKS, DEFAULT_PAGES, DEFAULT_SPACE, MAX_LOG_BLOCKS, MAX_PAGES, MIN_LOG_BLOCKS}
 use Rattle.model_script.specs.Commands as commands
-use Rattle.model_script.specs.{are_among, are_different, asked_of, given_crash, drive_names, given_drive, given_followers, given_format, given_gen, given_number, number_or, number_within, is_given, plain_command, said_from, where_allowed, given_workers}
+use Rattle.model_script.specs.{are_among, are_different, asked_of, given_crash, drive_names, given_drive, given_followers, given_format, given_gen, given_number, given_run, number_or, number_within, is_given, is_no_drive, plain_command, said_from, where_allowed, where_driven, given_workers}
 use Rattle.model_script.specs.declared.asked.Asked.{Asked}
 use Rattle.model_script.specs.declared.asked.Command.{Command}
-use Rattle.model_script.specs.declared.asked.Command.TheVariants.{Run, Recover, Dump}
+use Rattle.model_script.specs.declared.asked.Command.TheVariants.{Run, Recover, Dump, Restore}
 use Rattle.model_script.specs.declared.words.Given.{Given}
 use Rattle.model_script.specs.declared.words.TheConstants.{DEFAULT_TURNS, MAX_FOLLOWERS, MAX_TURNS, MAX_WORKERS}
 use Rattle.model_script.specs.declared.words.Name.{Name}
@@ -17,7 +17,7 @@ use Rattle.model_script.specs.declared.misfit.TheConstants.{MAX_USERS}
 use borrow.Author.Tests.{leb-true}
 use Rattle.model_script.specs.declared.asked.Drive.{Drive}
 use Rattle.redo_lab.specs.declared.crash_command.Crashing.{Crashing}
-use Rattle.redo_lab.specs.Asked.{HasAllowedNumbers, command_of}
+use Rattle.redo_lab.specs.Asked.{HasAllowedNumbers, archives, command_of}
 use Rattle.redo_lab.specs.Runs.{command_with}
 
 -- the number is between these
@@ -66,7 +66,11 @@ allowed-some false different o command is = cc
 allowed-command : (names : List Name) (options : List Given) (o : Option Command) (command : Command) → where_allowed names options o ≡ Some command → o ≡ Some command
 allowed-command names options o command is = allowed-some (are_among names options) (are_different options) o command is
 
-format-within : (options : List Given) (command : Command) → given_format options ≡ Some command → HasAllowedNumbers command
+-- the numbers of a command that archives no run
+abbrev IsAllowed : Command → Type 0
+IsAllowed command = archives command ≡ false → HasAllowedNumbers command
+
+format-within : (options : List Given) (command : Command) → given_format options ≡ Some command → IsAllowed command
 format-within options command is =
     let pages = and_then-some _ (number_or 1 MAX_PAGES DEFAULT_PAGES (given_number name.Pages options)) command is in
     let space = and_then-some _ (number_or 0 (2 ^ 32 - 1) DEFAULT_SPACE (given_number name.Space options)) command pages.2 in
@@ -74,40 +78,53 @@ format-within options command is =
     let some : IsBetween 1 MAX_PAGES pages.0 = or-between 1 MAX_PAGES DEFAULT_PAGES pages.0 (given_number name.Pages options) (lit≤ tt, lit≤ tt) pages.1 in
     let many : IsBetween MIN_LOG_BLOCKS MAX_LOG_BLOCKS blocks.0 =
     or-between MIN_LOG_BLOCKS MAX_LOG_BLOCKS DEFAULT_LOG_BLOCKS blocks.0 (given_number name.LogBlocks options) (lit≤ tt, lit≤ tt) blocks.1 in
-    subst HasAllowedNumbers blocks.2 (some.0, some.1, many.0, many.1)
+    subst IsAllowed blocks.2 (λ no. (some.0, some.1, many.0, many.1))
 
-drive-within : (options : List Given) (drive : Drive) → given_drive options ≡ Some drive
-    → drive.followers ≤ MAX_FOLLOWERS
-drive-within options drive is =
-    let max = and_then-some _ (number_or 0 MAX_TURNS DEFAULT_TURNS (given_number name.Max options)) drive is in
-    let followers = map-some _ (given_followers options) drive max.2 in
-    subst (λ (drive : Drive). drive.followers ≤ MAX_FOLLOWERS) followers.2
-    (or-at-most 1 MAX_FOLLOWERS 0 followers.0 (given_number name.Followers options) (lit≤ tt) followers.1)
+-- a drive that there is
+driven-some : (none : Bool) (given drive : Drive) → (if none then None else Some given) ≡ Some drive → given ≡ drive
+driven-some true given drive is = cc
+driven-some false given drive is = cc
 
-run-within : (options : List Given) (command : Command) → option_map Run (given_drive options) ≡ Some command → HasAllowedNumbers command
+-- the drive's followers are few, and it archives its run just where that is asked
+abbrev IsDriveOf : Bool → Drive → Type 0
+IsDriveOf archive drive = (drive.followers ≤ MAX_FOLLOWERS) × (drive.archive ≡ archive)
+
+drive-within : (archive : Bool) (options : List Given) (drive : Drive) → given_drive archive options ≡ Some drive → IsDriveOf archive drive
+drive-within archive options drive is =
+    let given = and_then-some where_driven _ drive is in
+    let max = and_then-some _ (number_or 0 MAX_TURNS DEFAULT_TURNS (given_number name.Max options)) given.0 given.1 in
+    let followers = map-some _ (given_followers options) given.0 max.2 in
+    subst (IsDriveOf archive) (followers.2 ∙ driven-some (is_no_drive given.0) given.0 drive given.2)
+    (or-at-most 1 MAX_FOLLOWERS 0 followers.0 (given_number name.Followers options) (lit≤ tt) followers.1, refl)
+
+run-within : (options : List Given) (command : Command) → given_run options ≡ Some command → IsAllowed command
 run-within options command is =
-    let run = map-some Run (given_drive options) command is in
-    subst HasAllowedNumbers run.2 (drive-within options run.0 run.1)
+    let run = map-some Run (given_drive (is_given name.Archive options) options) command is in
+    subst IsAllowed run.2 (λ no. ((drive-within (is_given name.Archive options) options run.0 run.1).0, no))
 
 workers-within : (options : List Given) (workers : ℕ) → given_workers options ≡ Some workers → IsBetween 1 MAX_WORKERS workers
 workers-within options workers is = or-between 1 MAX_WORKERS 1 workers (given_number name.Workers options) (lit≤ tt, lit≤ tt) is
 
-crash-within : (options : List Given) (command : Command) → given_crash options ≡ Some command → HasAllowedNumbers command
+crash-within : (options : List Given) (command : Command) → given_crash options ≡ Some command → IsAllowed command
 crash-within options command is =
-    let drive = and_then-some _ (given_drive options) command is in
+    let drive = and_then-some _ (given_drive false options) command is in
     let workers = map-some _ (given_workers options) command drive.2 in
     let between = workers-within options workers.0 workers.1 in
-    subst HasAllowedNumbers workers.2 (drive-within options drive.0 drive.1, between.0, between.1)
+    let its = drive-within false options drive.0 drive.1 in
+    subst IsAllowed workers.2 (λ no. (its.0, its.1, between.0, between.1))
 
-recover-within : (options : List Given) (command : Command) → option_map Recover (given_workers options) ≡ Some command → HasAllowedNumbers command
+recover-within : (options : List Given) (command : Command) → option_map Recover (given_workers options) ≡ Some command → IsAllowed command
 recover-within options command is =
     let workers = map-some Recover (given_workers options) command is in
-    subst HasAllowedNumbers workers.2 (workers-within options workers.0 workers.1)
+    subst IsAllowed workers.2 (λ no. workers-within options workers.0 workers.1)
 
-dump-within : (why : Bool) (command : Command) → Some (Dump why) ≡ Some command → HasAllowedNumbers command
-dump-within why command is = let same : Dump why ≡ command = cc in subst HasAllowedNumbers same tt
+dump-within : (why : Bool) (command : Command) → Some (Dump why) ≡ Some command → IsAllowed command
+dump-within why command is = let same : Dump why ≡ command = cc in subst IsAllowed same (λ no. tt)
 
-gen-within : (options : List Given) (values : List ℕ) (command : Command) → given_gen options values ≡ Some command → HasAllowedNumbers command
+restore-within : (to : Option ℕ) (command : Command) → option_map Restore to ≡ Some command → IsAllowed command
+restore-within to command is = let restore = map-some Restore to command is in subst IsAllowed restore.2 (λ no. tt)
+
+gen-within : (options : List Given) (values : List ℕ) (command : Command) → given_gen options values ≡ Some command → IsAllowed command
 gen-within options [] command is = cc
 gen-within options (seed ∷ []) command is = cc
 gen-within options (seed ∷ users ∷ []) command is = cc
@@ -116,66 +133,85 @@ gen-within options (seed ∷ users ∷ groups ∷ []) command is =
     let many = and_then-some _ (number_within 0 _ groups) command some.2 in
     let max = map-some _ (number_or 0 _ _ (given_number name.Max options)) command many.2 in
     let between = within-between 1 MAX_USERS users some.0 some.1 in
-    subst HasAllowedNumbers max.2 (between.0, between.1)
+    subst IsAllowed max.2 (λ no. (between.0, between.1))
 gen-within options (seed ∷ users ∷ groups ∷ more ∷ values) command is = cc
 
-plain-within : (is_format is_run is_crash is_recover is_dump : Bool) (format run crash recover dump : Option Command) (command : Command)
-    → (format ≡ Some command → HasAllowedNumbers command) → (run ≡ Some command → HasAllowedNumbers command) → (crash ≡ Some command → HasAllowedNumbers command)
-    → (recover ≡ Some command → HasAllowedNumbers command) → (dump ≡ Some command → HasAllowedNumbers command)
-    → (if is_format then format else (if is_run then run else (if is_crash then crash else (if is_recover then recover else (if is_dump then dump else None))))) ≡ Some command
-    → HasAllowedNumbers command
-plain-within true is_run is_crash is_recover is_dump format run crash recover dump command a b c d e is = a is
-plain-within false true is_crash is_recover is_dump format run crash recover dump command a b c d e is = b is
-plain-within false false true is_recover is_dump format run crash recover dump command a b c d e is = c is
-plain-within false false false true is_dump format run crash recover dump command a b c d e is = d is
-plain-within false false false false true format run crash recover dump command a b c d e is = e is
-plain-within false false false false false format run crash recover dump command a b c d e is = cc
+plain-within : (is_format is_run is_crash is_recover is_dump is_restore : Bool) (format run crash recover dump restore : Option Command) (command : Command)
+    → (format ≡ Some command → IsAllowed command) → (run ≡ Some command → IsAllowed command) → (crash ≡ Some command → IsAllowed command)
+    → (recover ≡ Some command → IsAllowed command) → (dump ≡ Some command → IsAllowed command) → (restore ≡ Some command → IsAllowed command)
+    → (if is_format then format else (if is_run then run else (if is_crash then crash else (if is_recover then recover else (if is_dump then dump
+    else (if is_restore then restore else None)))))) ≡ Some command
+    → IsAllowed command
+plain-within true is_run is_crash is_recover is_dump is_restore format run crash recover dump restore command a b c d e f is = a is
+plain-within false true is_crash is_recover is_dump is_restore format run crash recover dump restore command a b c d e f is = b is
+plain-within false false true is_recover is_dump is_restore format run crash recover dump restore command a b c d e f is = c is
+plain-within false false false true is_dump is_restore format run crash recover dump restore command a b c d e f is = d is
+plain-within false false false false true is_restore format run crash recover dump restore command a b c d e f is = e is
+plain-within false false false false false true format run crash recover dump restore command a b c d e f is = f is
+plain-within false false false false false false format run crash recover dump restore command a b c d e f is = cc
 
 abbrev format_names : List Name
 format_names = name.Pages ∷ name.Space ∷ name.LogBlocks ∷ []
+
+abbrev run_names : List Name
+run_names = name.Archive ∷ drive_names
 
 abbrev crash_names : List Name
 crash_names = name.StopLog ∷ name.StopData ∷ name.Pick ∷ name.Workers ∷ drive_names
 
 command-within : (text : List ℕ) (options : List Given) (values : List ℕ) (is_gen : Bool) (command : Command)
     → (if is_gen then where_allowed (name.Run ∷ name.Max ∷ []) options (given_gen options values)
-    else elim values [ [] ↦ plain_command text options | value ∷ others ↦ None ]) ≡ Some command → HasAllowedNumbers command
+    else elim values [ [] ↦ plain_command text options | value ∷ others ↦ None ]) ≡ Some command → IsAllowed command
 command-within text options values true command is = gen-within options values command (allowed-command (name.Run ∷ name.Max ∷ []) options (given_gen options values) command is)
 command-within text options [] false command is = plain-within
     (bytes_eq text (codes "format")) (bytes_eq text (codes "run")) (bytes_eq text (codes "crash")) (bytes_eq text (codes "recover")) (bytes_eq text (codes "dump"))
-    (where_allowed format_names options (given_format options)) (where_allowed drive_names options (option_map Run (given_drive options)))
+    (bytes_eq text (codes "restore"))
+    (where_allowed format_names options (given_format options)) (where_allowed run_names options (given_run options))
     (where_allowed crash_names options (given_crash options)) (where_allowed (name.Workers ∷ []) options (option_map Recover (given_workers options)))
-    (where_allowed (name.Why ∷ []) options (Some (Dump (is_given name.Why options)))) command
+    (where_allowed (name.Why ∷ []) options (Some (Dump (is_given name.Why options))))
+    (where_allowed (name.To ∷ []) options (option_map Restore (given_number name.To options))) command
     (λ is. format-within options command (allowed-command format_names options (given_format options) command is))
-    (λ is. run-within options command (allowed-command drive_names options (option_map Run (given_drive options)) command is))
+    (λ is. run-within options command (allowed-command run_names options (given_run options) command is))
     (λ is. crash-within options command (allowed-command crash_names options (given_crash options) command is))
     (λ is. recover-within options command (allowed-command (name.Workers ∷ []) options (option_map Recover (given_workers options)) command is))
     (λ is. dump-within (is_given name.Why options) command (allowed-command (name.Why ∷ []) options (Some (Dump (is_given name.Why options))) command is))
+    (λ is. restore-within (given_number name.To options) command (allowed-command (name.To ∷ []) options (option_map Restore (given_number name.To options)) command is))
     is
 command-within text options (value ∷ others) false command is = cc
 
 -- what is asked for is within its limits
-pub asked-within : (words : List (List ℕ)) (asked : Asked) → asked_of words ≡ Some asked → HasAllowedNumbers asked.command
+asked-within : (words : List (List ℕ)) (asked : Asked) → asked_of words ≡ Some asked → IsAllowed asked.command
 unfolding asked_of
 asked-within [] asked is = cc
 asked-within (text ∷ texts) asked is =
     let said = and_then-some _ (said_from Any texts) asked is in
     let command = map-some _ (commands.named_command text said.0.options said.0.values) asked said.2 in
-    subst (λ (asked : Asked). HasAllowedNumbers asked.command) command.2 (command-within text said.0.options said.0.values _ command.0 command.1)
+    subst (λ (asked : Asked). IsAllowed asked.command) command.2 (command-within text said.0.options said.0.values _ command.0 command.1)
+
+kept-command : (archive : Bool) (asked command : Command) → archives asked ≡ archive → (if archive then None else Some asked) ≡ Some command
+    → (asked ≡ command) × (archives asked ≡ false)
+kept-command true asked command is some = cc
+kept-command false asked command is some = (cc, is)
 
 pub command-of-within : (words : List (List ℕ)) (command : Command) → command_of words ≡ Some command → HasAllowedNumbers command
 command-of-within words command is =
-    let asked = map-some (λ (asked : Asked). asked.command) (asked_of words) command is in
-    subst HasAllowedNumbers asked.2 (asked-within words asked.0 asked.1)
+    let asked = and_then-some _ (asked_of words) command is in
+    let kept = kept-command (archives asked.0.command) asked.0.command command refl asked.2 in
+    subst HasAllowedNumbers kept.0 (asked-within words asked.0 asked.1 kept.1)
 
 -- of a script's crash
 pub within-workers : (asked : Drive) (crash : Option Crashing) → HasAllowedNumbers (command_with asked crash)
     → IfSome crash (λ crash. (1 ≤ crash.workers) × (crash.workers ≤ MAX_WORKERS))
 within-workers asked None is = tt
-within-workers asked (Some crash) is = (is.1, is.2)
+within-workers asked (Some crash) is = (is.2, is.3)
 
 -- the followers of a script's run
 pub within-followers : (asked : Drive) (crash : Option Crashing) → HasAllowedNumbers (command_with asked crash)
     → asked.followers ≤ MAX_FOLLOWERS
-within-followers asked None is = is
+within-followers asked None is = is.0
 within-followers asked (Some crash) is = is.0
+
+-- and that it isn't archived
+pub within-unarchived : (asked : Drive) (crash : Option Crashing) → HasAllowedNumbers (command_with asked crash) → asked.archive ≡ false
+within-unarchived asked None is = is.1
+within-unarchived asked (Some crash) is = is.1

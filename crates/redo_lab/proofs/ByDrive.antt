@@ -75,11 +75,11 @@ module _ {L D : Type 0} (log_seen : L → Seen) (log_gives : L → Call → L �
       subst (λ (threads : Bool). TellsIn threads asked.own_writes asked opened script actors driven) (sym is) told
 
   -- with a writer and a flusher, or by users that write for themselves
-  abbrev Plain : Drive → ℕ → Opened (Fused L) (Fused D) → List ScriptLine → List model.Actor
+  abbrev Plain : Drive → Bool → ℕ → Opened (Fused L) (Fused D) → List ScriptLine → List model.Actor
       → Driven (Fused L) (Fused D) → Type 0
-  Plain asked followers opened script actors driven = RunsByTurns (seen_through log_seen)
+  Plain asked archive followers opened script actors driven = RunsByTurns (seen_through log_seen)
       (CallsThrough log_seen log_gives) (seen_through data_seen) (CallsThrough data_seen data_gives)
-      opened script (turns_of asked) followers actors driven
+      opened script (turns_of asked) archive followers actors driven
 
   abbrev Own : Drive → ℕ → Opened (Fused L) (Fused D) → List ScriptLine → List model.Actor
       → Driven (Fused L) (Fused D) → Type 0
@@ -87,13 +87,14 @@ module _ {L D : Type 0} (log_seen : L → Seen) (log_gives : L → Call → L �
       (CallsThrough log_seen log_gives) (seen_through data_seen) (CallsThrough data_seen data_gives)
       opened script (turns_of asked) followers actors driven
 
-  pub tells-plain : (asked : Drive) (followers : ℕ) (opened : Opened (Fused L) (Fused D))
+  pub tells-plain : (asked : Drive) (archive : Bool) (followers : ℕ) (opened : Opened (Fused L) (Fused D))
       (script : List ScriptLine) (actors : List model.Actor) (driven : Driven (Fused L) (Fused D))
-      → asked.own_writes ≡ false → Plain asked followers opened script actors driven → followers ≡ asked.followers
-      → TellsIn false asked.own_writes asked opened script actors driven
-  tells-plain asked followers opened script actors driven is told as_many =
+      → asked.own_writes ≡ false → Plain asked archive followers opened script actors driven → followers ≡ asked.followers
+      → archive ≡ asked.archive → TellsIn false asked.own_writes asked opened script actors driven
+  tells-plain asked archive followers opened script actors driven is told as_many archived =
       subst (λ (own_writes : Bool). TellsIn false own_writes asked opened script actors driven) (sym is)
-      (subst (λ (n : ℕ). Plain asked n opened script actors driven) as_many told)
+      (subst (λ (archive : Bool). Plain asked archive asked.followers opened script actors driven) archived
+      (subst (λ (n : ℕ). Plain asked archive n opened script actors driven) as_many told))
 
   pub tells-own : (asked : Drive) (followers : ℕ) (opened : Opened (Fused L) (Fused D))
       (script : List ScriptLine) (actors : List model.Actor) (driven : Driven (Fused L) (Fused D))

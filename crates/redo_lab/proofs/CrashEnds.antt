@@ -1,5 +1,5 @@
 -- What a crash comes to: a report, with the crash theorem, or why there is none.
-use Rattle.std.proofs.Common.{ℕ, ◌≡◌, ◌+◌, List, [], Option, Some, None, IfSome, refl, sym, subst, ◌∙◌, inr, arith, ◌≢◌}
+use Rattle.std.proofs.Common.{ℕ, ◌≡◌, ◌+◌, List, [], Option, Some, None, IfSome, refl, sym, subst, ◌∙◌, inr, arith, ◌≢◌, inl, false, ⊎_elim}
 use Rattle.std.proofs.lemmas.Bool.{false≢true}
 use Rattle.model_device.proofs.Images.{settled_images}
 use Rattle.model_device.specs.{Crashes, IsImage}
@@ -52,7 +52,7 @@ lost-stopped call f left some = absurd some
 pub told-stopped : (call : LabCall) (drive : Drive) (script : List ScriptLine) (f : Fault) → HasFailed call f
     → IsToldRightly call drive script None []
 told-stopped call drive script f some = record {
-  loses = λ left left_is. lost-stopped call f left some;
+  loses = λ left left_is. inl (lost-stopped call f left some);
   marks = tt;
   followers = refl;
 }
@@ -62,7 +62,7 @@ module _ (call : LabCall) (drives : Drives) (later : DrivesLater drives call.dri
     (log_was data_was : Was) (laws : Laws)
     (read : IsScriptRead call.source call.source_now script)
     (left_by : IsLeftBy (before call drives log_was data_was) (Crash drive stops.log stops.store pick workers) drive stops script run follows Done)
-    (told : IsToldRightly (before call drives log_was data_was) drive script run follows) where
+    (told : IsToldRightly (before call drives log_was data_was) drive script run follows) (unarchived : drive.archive ≡ false) where
   abbrev asked : Command
   asked = Crash drive stops.log stops.store pick workers
 
@@ -128,7 +128,7 @@ module _ (call : LabCall) (drives : Drives) (later : DrivesLater drives call.dri
         inr is
 
     -- an outcome of the crash
-    ends-crash : (o : Outcome) → IsOutcome call asked o → (CanPlay call drive.log_only script → BothDevices IsUnfailedAside call → IsDoneOrKeptFrom asked o) → EndsWith call asked o
+    ends-crash : (o : Outcome) → IsOutcome call asked o → (CanPlay call drive script → BothDevices IsUnfailedAside call → IsDoneOrKeptFrom asked o) → EndsWith call asked o
     ends-crash o means complete = ends-with call asked drive script (record { asked = refl; is_script = read; unread = λ plain. absurd (false≢true (sym plain)) }) laws o
         (since.0.armed.same.tells, since.1.armed.same.tells) crash-leaves means complete
 
@@ -188,7 +188,8 @@ module _ (call : LabCall) (drives : Drives) (later : DrivesLater drives call.dri
     lost-by : (left : List (ℕ × ℕ)) → IsLeft script (entries_of run) left → LosesOnlyByFailure (call.log.fuse.mid + call.store.fuse.mid) run left
     lost-by left left_is =
         let counted : log_was.fuse.mid + data_was.fuse.mid ≡ call.log.fuse.mid + call.store.fuse.mid = omega (arith, since.0.mid, since.1.mid) in
-        subst (λ (n : ℕ). LosesOnlyByFailure n run left) counted (told.loses left left_is)
+        subst (λ (n : ℕ). LosesOnlyByFailure n run left) counted
+        (⊎_elim (λ lost. lost) (λ archived. absurd (false≢true (sym unarchived ∙ archived.0))) (told.loses left left_is))
 
   unfailed-aside : Since 0 0 → BothDevices IsUnfailedAside call
   unfailed-aside since = ((since.0.armed.early, since.0.armed.late), (since.1.armed.early, since.1.armed.late))
@@ -278,7 +279,7 @@ module _ (call : LabCall) (drives : Drives) (later : DrivesLater drives call.dri
         is_script = read;
         ran = as-met since since.0.from since.1.from;
         left_is = report.left_is;
-        loses = lost-by since report.left report.left_is;
+        loses = inl (lost-by since report.left report.left_is);
         marks = marks-met since since.0.from since.1.from;
         followers = followers-met since since.0.from since.1.from;
         opened_first = crash-first since;
@@ -304,7 +305,7 @@ module _ (call : LabCall) (drives : Drives) (later : DrivesLater drives call.dri
     }
 
   -- A STORE THAT CAN BE RUN ON is not refused after the crash.
-  possible-read-back : {log_failed data_failed : ℕ} (cause : Refusal) → Since log_failed data_failed → WhereToldNow call (AreRefused cause) → CanPlay call drive.log_only script → ⊥
+  possible-read-back : {log_failed data_failed : ℕ} (cause : Refusal) → Since log_failed data_failed → WhereToldNow call (AreRefused cause) → CanPlay call drive script → ⊥
   possible-read-back cause since refused can =
       let log_left = some-told call.log.now.tells can.log_still in
       let data_left = some-told call.store.now.tells can.store_still in

@@ -1,5 +1,5 @@
 -- The run of a script on a store that stands opened, by a drive, and what it leaves.
-use Rattle.std.proofs.Common.{Global, Vec}
+use Rattle.std.proofs.Common.{Global, Vec, false}
 use Rattle.std.proofs.Common.{ℕ, ◌≡◌, ◌+◌, ◌<◌, true, List, Option, Some, None, refl, sym, ap, subst, ◌∙◌, inl, ⊎_elim, arith, ◌≢◌}
 use Rattle.std.specs.List.{AllByRecursion, AllZip}
 use Rattle.model_base.specs.declared.shape.Shape.{Shape}
@@ -20,7 +20,7 @@ use Rattle.redo_disk.specs.Seen.{Seen}
 use Rattle.redo_disk.specs.declared.error.DevError.{DevError}
 use Rattle.redo_disk.specs.declared.error.DevError.TheVariants as device
 use Rattle.redo_disk.proofs.Made.{may_end}
-use Rattle.redo_drive.specs.{HasMemory, Owes}
+use Rattle.redo_drive.specs.{HasMemory}
 use Rattle.redo_drive.specs.Drive.{ReadsToMarks, failed_in}
 use Rattle.redo_drive.specs.Followed.{HasFollowed, HaveFollowed}
 use Rattle.redo_drive.specs.Startable.{AreNewFollowers, HasReading}
@@ -37,25 +37,28 @@ use Rattle.redo_memdisk.specs.{CallsThrough, seen_through}
 use Rattle.redo_memdisk.specs.declared.fused.Fused.{Fused}
 use Rattle.redo_open.specs.{WhereBothTell}
 use Rattle.redo_store.specs.declared.opened.Opened as store
+use Rattle.std.proofs.lemmas.Bool.{false≢true}
+use Rattle.model_report.specs.declared.fault.Fault.{Fault}
+use Rattle.model_report.specs.declared.fault.Fault.TheVariants as fault
 use Rattle.redo_lab.specs.declared.playing.Played.{Played}
 use Rattle.redo_lab.specs.declared.playing.Stops.{Stops}
-use Rattle.redo_lab.proofs.Behind.{calls-same, same-fused}
+use Rattle.redo_lab.proofs.Behind.{calls-same}
 use Rattle.redo_lab.proofs.Ends.{SpendsTurns, left-memory, left-spent}
 use Rattle.redo_lab.proofs.Followers.{as-many, followed-all, numbered-so}
 use Rattle.redo_lab.proofs.Found.{WasFound, found-armed, held-older, one-opened}
 use Rattle.redo_lab.proofs.Fuses.{armed-calls}
 use Rattle.redo_lab.proofs.Opened.{armed-after}
+use Rattle.redo_lab.proofs.Owed.{IsOwed, IsReadAfter}
 use Rattle.redo_lab.proofs.Rereading.{armed-as}
 use Rattle.redo_lab.proofs.SomeLeft.{some-left}
-use Rattle.redo_disk.proofs.Told.{still-same}
 use Rattle.redo_lab.proofs.Told.{both-told, one-told, some-told, weaker-both}
-use Rattle.redo_lab.specs.Call.{LabCall, WhereOpened, WhereToldNow, mids}
+use Rattle.redo_lab.specs.Call.{LabCall, WhereOpened, WhereToldNow, mids, Unfused}
 use Rattle.redo_lab.specs.Following.{AreUntold, IsToldOf}
 use Rattle.redo_lab.specs.Handed.{TellsOf, call_on}
 use Rattle.redo_lab.specs.Laws.{Laws}
-use Rattle.redo_lab.specs.Runs.{ComesTo, CommandRuns, IsLeftBy, IsToldRightly, StandsReady, course_done, course_of, ended_by, played_of, ran_of}
+use Rattle.redo_lab.specs.Runs.{ComesTo, CommandRuns, IsArchivedTo, IsLeftBy, IsToldRightly, StandsReady, course_done, course_of, ended_by, played_of, ran_of}
 use Rattle.redo_lab.specs.Store.{AreReadAsPrefix}
-use Rattle.redo_lab.specs.Told.{AreFollowed, AreLeftRead, AreMarksRead, IsFollowed, IsOpenedFirst}
+use Rattle.redo_lab.specs.Told.{AreFollowed, AreLeftRead, AreMarksRead, IsFollowed, IsOpenedFirst, LosesOnlyBy}
 
 -- what reads give of a log device that was synced is fair
 synced-fair : (disk : Disk) → IsFairLog (synced disk) disk.reads
@@ -65,12 +68,13 @@ synced-fair disk = record {
 }
 
 module _ {L D : Type 0} (log_seen : L → Seen) (log_gives : L → Call → L → Type 0) (data_seen : D → Seen) (data_gives : D → Call → D → Type 0)
-    (words : List (List ℕ)) (source source_now : SourceSeen) (log : L) (data_device : D) (command : Command) (drive : Drive) (stops : Stops) (script : List ScriptLine)
-    (given : store.Opened (Fused L) (Fused D)) (driven : Driven (Fused L) (Fused D)) (running : CommandRuns source source_now command drive script) (laws : Laws)
-    (ready : StandsReady log_seen data_seen (call_on log_seen log_gives data_seen data_gives words source source_now log data_device given.log.dev given.store.dev) drive stops script given)
+    (words : List (List ℕ)) (archive : Unfused) (source source_now : SourceSeen) (log : L) (data_device : D) (command : Command) (drive : Drive) (stops : Stops) (script : List ScriptLine)
+    (given : store.Opened (Fused L) (Fused D)) (first driven : Driven (Fused L) (Fused D)) (running : CommandRuns source source_now command drive script) (laws : Laws)
+    (ready : StandsReady log_seen data_seen (call_on log_seen log_gives data_seen data_gives words archive source source_now log data_device given.log.dev given.store.dev) drive stops script given)
     (actors : List (Actor Kept))
-    (told : TellsOf drive.threads drive.own_writes log_seen log_gives data_seen data_gives drive given script (views_of actors) driven)
-    (owes : Owes (seen_through log_seen) (CallsThrough log_seen log_gives) (seen_through data_seen) (CallsThrough data_seen data_gives) given script driven)
+    (told : TellsOf drive.threads drive.own_writes log_seen log_gives data_seen data_gives drive given script (views_of actors) first)
+    (after : IsReadAfter log_seen data_seen given.start first driven)
+    (owes : IsOwed (seen_through log_seen) (CallsThrough log_seen log_gives) (seen_through data_seen) (CallsThrough data_seen data_gives) given script driven)
     (reads : drive.threads ≡ true
     → ReadsToMarks (seen_through log_seen) (seen_through data_seen) given script driven.closed)
     (followers : List (Following Kept)) (follows : Vec Followed Global)
@@ -78,12 +82,13 @@ module _ {L D : Type 0} (log_seen : L → Seen) (log_gives : L → Call → L �
     (followed : HaveFollowed (seen_through log_seen) (seen_through data_seen) HasTally given script followers actors
     driven.closed)
     (of_followers : AllZip IsToldOf (followers_in actors) follows.items)
-    (spends : SpendsTurns (call_on log_seen log_gives data_seen data_gives words source source_now log data_device driven.closed.log.dev driven.closed.store.dev) drive) where
+    (spends : SpendsTurns (call_on log_seen log_gives data_seen data_gives words archive source source_now log data_device driven.closed.log.dev driven.closed.store.dev) drive)
+    (unarchived : drive.archive ≡ false) (unlost : driven.closed.lost ≡ None) where
   abbrev opening : LabCall
-  opening = call_on log_seen log_gives data_seen data_gives words source source_now log data_device given.log.dev given.store.dev
+  opening = call_on log_seen log_gives data_seen data_gives words archive source source_now log data_device given.log.dev given.store.dev
 
   abbrev call : LabCall
-  call = call_on log_seen log_gives data_seen data_gives words source source_now log data_device driven.closed.log.dev driven.closed.store.dev
+  call = call_on log_seen log_gives data_seen data_gives words archive source source_now log data_device driven.closed.log.dev driven.closed.store.dev
 
   abbrev played : Played
   played = played_of given.start driven.closed follows
@@ -92,10 +97,10 @@ module _ {L D : Type 0} (log_seen : L → Seen) (log_gives : L → Call → L �
   run = ran_of played
 
   abbrev log-made : MakesCalls (CallsThrough log_seen log_gives) given.log.dev driven.closed.log.dev (MayEndWith driven.closed.log.failed)
-  log-made = may_end (owes.comes_to.log_calls.live refl)
+  log-made = may_end (owes.log_calls.live refl)
 
   abbrev data-made : MakesCalls (CallsThrough data_seen data_gives) given.store.dev driven.closed.store.dev (MayEndWith driven.closed.store.failed)
-  data-made = may_end (owes.comes_to.data_calls.live refl)
+  data-made = may_end (owes.data_calls.live refl)
 
   log-before : call.log.now.tells ≢ None → opening.log.now.tells ≢ None
   log-before = (keeps-behind log_seen log_gives given.log.dev driven.closed.log.dev log-made.calls log-made.made).told
@@ -176,27 +181,27 @@ module _ {L D : Type 0} (log_seen : L → Seen) (log_gives : L → Call → L �
       let same : record { shape = given.shape; pages = given.pages; end = ready.opened.end } ≡ ready.opened =
       λ i. record { shape = is.shape i; pages = is.pages i; end = ready.opened.end } in
       record {
-        armed = armed-after words source source_now log data_device ready.armed log-none data-none log-made data-made;
+        armed = armed-after words archive source source_now log data_device ready.armed log-none data-none log-made data-made;
         counted = (let some = (counts-calls log_seen log_gives given.log.dev driven.closed.log.dev log-made.calls log-made.made).passed (omega (arith, ready.counted, log-none)) in omega arith);
         opened = ready.opened;
         ran = record {
           is_script = running.is_script;
           opens = λ log_disk data_disk log_is data_is log_on data_on. ready.opens log_disk data_disk log_is data_is (log-before log_on) (data-before data_on);
           fits = ready.fits;
-          in_lsn_order = subst (λ (o : Opened). IsRun script o run) same (owes.comes_to.is_run ready.opened.end is.start);
+          in_lsn_order = subst (λ (o : Opened). IsRun script o run) same (owes.is_run ready.opened.end is.start);
           driven = record {
             store = given;
             is_opened = is;
             opened_on = (calls-same log-made, calls-same data-made);
-            driven = driven;
-            driven_on = (same-fused driven.closed.log.dev, same-fused driven.closed.store.dev);
+            driven = first;
+            driven_on = (after.log_device, after.data_device);
             actors = actors;
             told = told;
-            ends = ends;
-            run_is = refl;
+            ends = after.ends ∙ ends;
+            run_is = after.run;
             follows_are = of_followers;
-            log_is = still-same _ _ refl;
-            store_is = still-same _ _ refl;
+            log_is = after.log_tells;
+            store_is = after.store_tells;
           };
         };
         opened_first = run-first;
@@ -205,10 +210,10 @@ module _ {L D : Type 0} (log_seen : L → Seen) (log_gives : L → Call → L �
 
   -- ALL USERS ENDED: something is lost only where a device failed.
   loses-so : driven.ended ≡ Done → HasMemory driven.closed → (left : List (ℕ × ℕ)) → IsLeft script run.entries left
-      → LosesOnlyByFailure (mids call) (Some run) left
+      → LosesOnlyBy call drive (Some run) left
   loses-so done memory left left_is =
-      let counted : failed_in driven.closed ≡ mids call = omega (arith, log-mid, data-mid) in
-      subst (λ (n : ℕ). LosesOnlyByFailure n (Some run) left) counted (owes.comes_to.loses left done memory left_is)
+      let counted : failed_in driven.closed ≡ mids call = omega (arith, log-mid, data-mid, ap failures unlost) in
+      inl (subst (λ (n : ℕ). LosesOnlyByFailure n (Some run) left) counted (owes.loses left done memory left_is))
 
   -- and where no call answered an error, what reads give is read
   read-now : driven.ended ≡ Done → HasMemory driven.closed → driven.closed.log.failed ≡ None → driven.closed.store.failed ≡ None
@@ -248,7 +253,7 @@ module _ {L D : Type 0} (log_seen : L → Seen) (log_gives : L → Call → L �
 
   -- the run is a legal one of the store that was opened
   legal-run : IsLegal script given.shape.space given.start driven.closed.marks driven.closed.history
-  legal-run = (owes.comes_to.is_run ready.opened.end ready.is_opened.start).legal
+  legal-run = (owes.is_run ready.opened.end ready.is_opened.start).legal
 
   -- its followers have followed, where the log device tells, and so where both do
   abbrev Followed-all : Type 0
@@ -300,29 +305,36 @@ module _ {L D : Type 0} (log_seen : L → Seen) (log_gives : L → Call → L �
     followers = followers-told;
   }
 
+  -- its drive archives nothing
+  archived-none : (cut : Option Fault) → IsArchivedTo call drive script run cut
+  archived-none None = λ archived. absurd (false≢true (sym unarchived ∙ archived))
+  archived-none (Some f) = λ archived. absurd (false≢true (sym unarchived ∙ archived))
+
   -- by what a call of each device answered that failed
   done-by : (log_error data_error : Option DevError) → driven.closed.log.failed ≡ log_error → driven.closed.store.failed ≡ data_error → driven.ended ≡ Done
       → ComesTo call command drive stops script (course_done played (ended_by log_error data_error))
   done-by None None log_is data_is done =
-      let memory : HasMemory driven.closed = λ lacks. ⊎_elim (λ log. let e = sym log_is ∙ log in absurd (cc)) (λ store. let e = sym data_is ∙ store in absurd (cc)) lacks in (
+      let memory : HasMemory driven.closed = λ lacks. ⊎_elim (λ log. let e = sym log_is ∙ log in absurd (cc)) (λ others.
+      ⊎_elim (λ store. let e = sym data_is ∙ store in absurd (cc)) (λ lost. let e = sym unlost ∙ lost in absurd (cc)) others) lacks in (
         left-so Done done,
         told-unfailed done memory log_is data_is,
         (omega (arith, log-mid, data-mid, ap failures log_is, ap failures data_is), read-now done memory log_is data_is),
+        archived-none None,
       )
   done-by (Some device.Failed) data_error log_is data_is done =
       let some = ap failures log_is in
       let failed = told-failed done (λ lacks. omega (arith, some)) (omega (arith, log-mid, some)) in
-      (left-so Done done, failed, omega (arith, log-mid, some))
+      (left-so Done done, failed, omega (arith, log-mid, some), archived-none (Some fault.LogDevice))
   done-by None (Some device.Failed) log_is data_is done =
       let none = ap failures log_is in
       let some = ap failures data_is in
       let failed = told-failed done (λ lacks. omega (arith, some)) (omega (arith, data-mid, some)) in
-      (left-so Done done, failed, (omega (arith, data-mid, some), omega (arith, log-mid, none)))
+      (left-so Done done, failed, (omega (arith, data-mid, some), omega (arith, log-mid, none)), archived-none (Some fault.DataDevice))
   done-by (Some device.NoMemory) (Some device.Failed) log_is data_is done =
       let none = ap failures log_is in
       let some = ap failures data_is in
       let failed = told-failed done (λ lacks. omega (arith, some)) (omega (arith, data-mid, some)) in
-      (left-so Done done, failed, (omega (arith, data-mid, some), omega (arith, log-mid, none)))
+      (left-so Done done, failed, (omega (arith, data-mid, some), omega (arith, log-mid, none)), archived-none (Some fault.DataDevice))
   done-by (Some device.NoMemory) None log_is data_is done = left-memory call command drive script running laws (left-so Done done)
   done-by (Some device.NoMemory) (Some device.NoMemory) log_is data_is done = left-memory call command drive script running laws (left-so Done done)
   done-by None (Some device.NoMemory) log_is data_is done = left-memory call command drive script running laws (left-so Done done)
@@ -330,6 +342,7 @@ module _ {L D : Type 0} (log_seen : L → Seen) (log_gives : L → Call → L �
   ended-so : (how : RunEnd) → driven.ended ≡ how → ComesTo call command drive stops script (course_of how played (ended_by driven.closed.log.failed driven.closed.store.failed))
   ended-so Done how = done-by driven.closed.log.failed driven.closed.store.failed refl refl how
   ended-so (Spent turns user) how = left-spent call command drive script running laws turns user spends (left-so (Spent turns user) how)
+      (λ archived. absurd (false≢true (sym unarchived ∙ archived)))
 
   -- WHAT THE RUN COMES TO.
   pub driven-comes : ComesTo call command drive stops script (course_of driven.ended played (ended_by driven.closed.log.failed driven.closed.store.failed))

@@ -1,5 +1,5 @@
 -- A command that runs a script: what it comes to, by what is left of both devices.
-use Rattle.std.proofs.Common.{ℕ, ◌≡◌, ◌≢◌, ◌<◌, Bool, true, false, List, [], Option, Some, None, IfSome, refl, sym, ap, subst, ◌⊎◌, inl, inr, ⊎_elim, arith, ◌∙◌}
+use Rattle.std.proofs.Common.{ℕ, ◌≡◌, ◌≢◌, ◌<◌, Bool, true, false, List, [], Option, Some, None, IfSome, refl, sym, ap, subst, ◌⊎◌, inl, inr, ⊎_elim, arith, ◌∙◌, ◌≤◌}
 use Rattle.std.proofs.lemmas.Bool.{false≢true}
 use Rattle.model_base.specs.{HasRisen}
 use Rattle.model_base.specs.declared.shape.Shape.{Shape}
@@ -10,7 +10,7 @@ use Rattle.model_report.specs.declared.fault.Fault.{Fault}
 use Rattle.model_report.specs.declared.fault.Fault.TheVariants as fault
 use Rattle.model_script.specs.{script_of}
 use Rattle.model_script.specs.declared.asked.Command.{Command}
-use Rattle.model_script.specs.declared.asked.Command.TheVariants.{Format, Run, Crash, Recover, Dump, Gen}
+use Rattle.model_script.specs.declared.asked.Command.TheVariants.{Format, Run, Crash, Recover, Restore, Dump, Gen}
 use Rattle.model_script.specs.declared.asked.Drive.{Drive}
 use Rattle.model_script.specs.declared.script.ScriptLine.{ScriptLine}
 use Rattle.model_store.specs.{IsFair, Opens}
@@ -20,12 +20,13 @@ use Rattle.model_theorem.specs.{IsRun, Opened, Ran}
 use Rattle.redo_drive.specs.declared.drive.RunEnd.{RunEnd}
 use Rattle.redo_drive.specs.declared.drive.RunEnd.TheVariants.{Spent}
 use Rattle.redo_io.specs.{SourceSeen}
+use Rattle.redo_lab.specs.Archived.{IsArchived}
 use Rattle.redo_lab.specs.declared.crash_command.Crashing.{Crashing}
 use Rattle.redo_lab.specs.declared.outcome.Outcome.{Outcome}
 use Rattle.redo_lab.specs.declared.outcome.Outcome.TheVariants as outcome
 use Rattle.redo_lab.specs.declared.playing.Stops.{Stops}
 use Rattle.redo_lab.proofs.Found.{one-opened, openable-fresh, same-told, unused-unread}
-use Rattle.redo_lab.specs.Asked.{IsScriptRead, leaves_devices, runs_script}
+use Rattle.redo_lab.specs.Asked.{IsScriptRead, drive_of_seed, leaves_devices, runs_script}
 use Rattle.redo_lab.specs.Call.{AreUnfailedFor, BothDevices, Guarded, IsInRun, IsUnfailed, IsUnfailedAside, LabCall, WhereOpened}
 use Rattle.redo_lab.specs.Cause.{AreInRunOrCrashed, AreOfRun, CanPlay, CanRun, IsDeviceFault, IsPastSource, IsPossible, IsRefused, IsRefusedAtEntry, IsUnbegun, IsUnprepared, LeavesFailed, MaySpend}
 use Rattle.redo_lab.specs.Devices.{AreArmed}
@@ -41,19 +42,19 @@ at-some None P x holds is = cc
 at-some (Some found) P x holds is = let same : found ≡ x = cc in subst P same holds
 
 -- the script that was read is the one that can be run
-pub can-play : (call : LabCall) (script : List ScriptLine) → IsScriptRead call.source call.source_now script → (log_only : Bool) → CanRun call log_only → CanPlay call log_only script
-can-play call script read log_only can =
+pub can-play : (call : LabCall) (script : List ScriptLine) → IsScriptRead call.source call.source_now script → (drive : Drive) → CanRun call drive → CanPlay call drive script
+can-play call script read drive can =
     let left = at-some call.source.left (λ left. (read.text ≡ left) × (call.source_now.left ≡ Some _)) can.text read.read.all_read can.source in
     let is = sym read.is_script ∙ (ap script_of left.0 ∙ can.is_script) in
     let same : can.script ≡ script = cc in
-    subst (CanPlay call log_only) same can.plays
+    subst (CanPlay call drive) same can.plays
 
 -- what the cases of the definitions come to
 pub record RunsScript (call : LabCall) (command : Command) (drive : Drive) (script : List ScriptLine) : Type 0 where
   pub past : IsPastSource call command
   pub writes : leaves_devices command ≡ true → ⊥
   pub runs : runs_script command ≡ true
-  pub plays : IsPossible call command → CanPlay call drive.log_only script
+  pub plays : IsPossible call command → CanPlay call drive script
   pub fails_early : (device : Guarded) → HasRisen device.entry.faults device.now.faults → 0 < device.fuse.early → IsDeviceFault command device
   pub unfailed : BothDevices IsUnfailed call → AreUnfailedFor command call
   pub aside : AreUnfailedFor command call → BothDevices IsUnfailedAside call
@@ -69,7 +70,7 @@ runs-script call (Run asked) drive script is =
       past = λ reads. (script, is.is_script);
       writes = λ leaves. false≢true leaves;
       runs = refl;
-      plays = λ possible. can-play call script is.is_script asked.log_only possible;
+      plays = λ possible. can-play call script is.is_script asked possible;
       fails_early = λ device risen some. (risen, omega (arith, some));
       unfailed = λ none. none;
       aside = λ none. ((none.0.0, none.0.2), (none.1.0, none.1.2));
@@ -83,7 +84,7 @@ runs-script call (Crash asked stop_log stop_data pick workers) drive script is =
       past = λ reads. (script, is.is_script);
       writes = λ leaves. false≢true leaves;
       runs = refl;
-      plays = λ possible. can-play call script is.is_script asked.log_only possible;
+      plays = λ possible. can-play call script is.is_script asked possible;
       fails_early = λ device risen some. (risen, omega (arith, some));
       unfailed = λ none. ((none.0.0, none.0.2), (none.1.0, none.1.2));
       aside = λ none. none;
@@ -93,12 +94,12 @@ runs-script call (Crash asked stop_log stop_data pick workers) drive script is =
     })
 runs-script call (Gen seed users groups true max) drive script is =
     let some = is.asked in
-    let same : record { seed = seed; max = max; threads = false; log_only = false; own_writes = false; followers = 0 } ≡ drive = cc in
+    let same : record { seed = seed; max = max; threads = false; log_only = false; own_writes = false; followers = 0; archive = false } ≡ drive = cc in
     subst (λ (d : Drive). RunsScript call (Gen seed users groups true max) d script) same (record {
       past = λ reads. absurd (false≢true reads);
       writes = λ leaves. false≢true leaves;
       runs = refl;
-      plays = λ possible. subst (CanPlay call false) (sym is.is_script) possible;
+      plays = λ possible. subst (CanPlay call (drive_of_seed seed max)) (sym is.is_script) possible;
       fails_early = λ device risen some. (risen, omega (arith, some));
       unfailed = λ none. none;
       aside = λ none. ((none.0.0, none.0.2), (none.1.0, none.1.2));
@@ -181,6 +182,7 @@ leaves-run call (Run drive) runs left = λ _. left
 leaves-run call (Crash drive stop_log stop_data pick workers) runs left = λ _. left
 leaves-run call (Recover workers) runs left = λ _. left
 leaves-run call (Dump why) runs left = λ _. left
+leaves-run call (Restore to) runs left = λ _. left
 leaves-run call (Gen seed users groups run max) runs left = λ _. left
 
 -- turns are spent by a drive that may spend them
@@ -195,7 +197,7 @@ module _ (call : LabCall) (command : Command) (drive : Drive) (script : List Scr
 
   -- an outcome of it
   pub ends-with : (o : Outcome) → AreTelling call → LeavesStore call → IsOutcome call command o
-      → (CanPlay call drive.log_only script → AreUnfailedFor command call → IsDoneOrKeptFrom command o) → EndsWith call command o
+      → (CanPlay call drive script → AreUnfailedFor command call → IsDoneOrKeptFrom command o) → EndsWith call command o
   ends-with o tells left means complete = record {
     means = means;
     unread = running.unread;
@@ -226,7 +228,7 @@ module _ (call : LabCall) (command : Command) (drive : Drive) (script : List Scr
 
   -- THE STORE IS REFUSED at entry.
   pub ends-refused : (refusal : Refusal) → AreTelling call → LeavesStore call → BothDevices IsUnfailed call → IsRefusedAtEntry call refusal
-      → (CanPlay call drive.log_only script → ⊥) → EndsWith call command (outcome.Fault (fault.Store refusal))
+      → (CanPlay call drive script → ⊥) → EndsWith call command (outcome.Fault (fault.Store refusal))
   ends-refused refusal tells left unfailed refused wrong = ends-with (outcome.Fault (fault.Store refusal)) tells left
       (its.past, its.unfailed unfailed, its.refused refusal refused) (λ can unfailed. absurd (wrong can))
 
@@ -250,7 +252,7 @@ module _ (call : LabCall) (command : Command) (drive : Drive) (script : List Scr
     left-by = leaves-run call command its.runs (inr (left-read run (in-run is.armed) (legal-on call command drive is.opened script run follows end _ _ laws is.ran) is.reads))
 
     pub ends-left : (o : Outcome) → IsOutcome call command o
-        → (CanPlay call drive.log_only script → AreUnfailedFor command call → IsDoneOrKeptFrom command o) → EndsWith call command o
+        → (CanPlay call drive script → AreUnfailedFor command call → IsDoneOrKeptFrom command o) → EndsWith call command o
     ends-left o means complete = ends-with o (tells-armed is.armed) (leaves-read call script run is.reads) means complete
 
     -- memory ran out over it
@@ -260,8 +262,9 @@ module _ (call : LabCall) (command : Command) (drive : Drive) (script : List Scr
   -- ITS TURNS ARE SPENT.
   pub left-spent : {stops : Stops} {run : Ran} {follows : List Followed} (turns user : ℕ) → SpendsTurns call drive
       → IsLeftBy call command drive stops script (Some run) follows (Spent turns user)
+      → IsArchived (λ mark flushed. mark ≤ flushed) call drive script run
       → EndsWith call command (outcome.Fault (fault.Turns turns user))
-  left-spent {run = run} {follows = follows} turns user spends is = ends-left is (outcome.Fault (fault.Turns turns user)) (record {
+  left-spent {run = run} {follows = follows} turns user spends is archived = ends-left is (outcome.Fault (fault.Turns turns user)) (record {
     drive = drive;
     asked = running.asked;
     may_spend = spends is.opened script run follows turns user _ _ is.ran.driven;
@@ -272,6 +275,7 @@ module _ (call : LabCall) (command : Command) (drive : Drive) (script : List Scr
     is_run = is.ran;
     in_run = in-run is.armed;
     reads = is.reads;
+    archived = archived;
   })
       (λ can unfailed. (drive, running.asked, spends is.opened script run follows turns user _ _ is.ran.driven))
 

@@ -1,4 +1,5 @@
 pub mod Alone
+pub mod Archives
 pub mod AskedLimits
 pub mod AtRest
 pub mod Behind
@@ -17,13 +18,16 @@ pub mod Fronts
 pub mod Fuses
 pub mod Opened
 pub mod Opening
+pub mod Owed
 pub mod Plain
 pub mod Prepared
 pub mod Printed
 pub mod Rereading
+pub mod Restoring
 pub mod RunEnds
 pub mod Sizes
 pub mod SomeLeft
 pub mod Telling
 pub mod Tallied
 pub mod Told
+pub mod Unarchived

@@ -5,7 +5,7 @@ use Rattle.model_device.specs.Disk.{Disk}
 use Rattle.model_log.specs.declared.layout.TheConstants.{HEADER_BYTES}
 use Rattle.model_parts.specs.{formatted_store, IsOpenable, KeepsOpened}
 use Rattle.model_report.specs.declared.fault.Fault.TheVariants as fault
-use Rattle.model_script.specs.{first_misfit, ScriptFits}
+use Rattle.model_script.specs.{ArchiveFits, first_misfit, ScriptFits}
 use Rattle.model_script.specs.declared.asked.Command.{Command}
 use Rattle.model_script.specs.declared.asked.Drive.{Drive}
 use Rattle.model_script.specs.declared.misfit.Misfit.{Misfit}
@@ -39,7 +39,8 @@ use Rattle.redo_lab.proofs.Fuses.{armed-calls}
 use Rattle.redo_lab.proofs.Opening.{HasEnd, has-end, opened-reads, opened_at, opens-as, refused-at, refused-kept, stopped-first, unplayed-memory, unplayed-misfit, unplayed-refused}
 use Rattle.redo_lab.proofs.Rereading.{armed-as, prepared-later, was_of}
 use Rattle.redo_lab.proofs.Told.{both-told, moved, still-equal, still-keeps, still-moves, weaker-both}
-use Rattle.redo_lab.specs.Call.{LabCall}
+use Rattle.redo_lab.specs.Cause.{archive_size}
+use Rattle.redo_lab.specs.Call.{LabCall, Unfused}
 use Rattle.redo_lab.specs.Devices.{AreArmed, AreAsArmed}
 use Rattle.redo_lab.specs.Handed.{call_on}
 use Rattle.redo_lab.specs.Laws.{Laws}
@@ -48,13 +49,13 @@ use Rattle.redo_lab.specs.Ending.{EndsWith}
 
 -- CALLS OF BOTH DEVICES since their fuses were armed
 pub armed-after : {L D : Type 0} {log_seen : L → Seen} {log_gives : L → Call → L → Type 0} {data_seen : D → Seen} {data_gives : D → Call → D → Type 0}
-    (words : List (List ℕ)) (source source_now : SourceSeen) (log : L) (data_device : D) {stops : Stops} {log_old log_new : Fused L} {data_old data_new : Fused D} {log_error data_error : Option DevError}
-    → AreArmed (call_on log_seen log_gives data_seen data_gives words source source_now log data_device log_old data_old) stops
+    (words : List (List ℕ)) (archive : Unfused) (source source_now : SourceSeen) (log : L) (data_device : D) {stops : Stops} {log_old log_new : Fused L} {data_old data_new : Fused D} {log_error data_error : Option DevError}
+    → AreArmed (call_on log_seen log_gives data_seen data_gives words archive source source_now log data_device log_old data_old) stops
     → log_old.fuse.mid ≡ 0 → data_old.fuse.mid ≡ 0
     → MakesCalls (CallsThrough log_seen log_gives) log_old log_new (MayEndWith log_error) → MakesCalls (CallsThrough data_seen data_gives) data_old data_new (MayEndWith data_error)
-    → AreArmed (call_on log_seen log_gives data_seen data_gives words source source_now log data_device log_new data_new) stops
-armed-after {log_seen = log_seen} {log_gives = log_gives} {data_seen = data_seen} {data_gives = data_gives} words source source_now log data_device {log_old = log_old} {log_new = log_new} {data_old = data_old} {data_new = data_new} was log_none data_none log_made data_made = record {
-  prepared = prepared-later (call_on log_seen log_gives data_seen data_gives words source source_now log data_device log_new data_new) (was_of log_seen log_old) (was_of data_seen data_old)
+    → AreArmed (call_on log_seen log_gives data_seen data_gives words archive source source_now log data_device log_new data_new) stops
+armed-after {log_seen = log_seen} {log_gives = log_gives} {data_seen = data_seen} {data_gives = data_gives} words archive source source_now log data_device {log_old = log_old} {log_new = log_new} {data_old = data_old} {data_new = data_new} was log_none data_none log_made data_made = record {
+  prepared = prepared-later (call_on log_seen log_gives data_seen data_gives words archive source source_now log data_device log_new data_new) (was_of log_seen log_old) (was_of data_seen data_old)
       (armed-as log was.log_device.stage_is log_made) (armed-as data_device was.data_device.stage_is data_made) was.prepared;
   log_device = (armed-calls was.log_device log_none log_made).0;
   data_device = (armed-calls was.data_device data_none data_made).0;
@@ -70,20 +71,20 @@ pub record IsOpening (log_failed data_failed : ℕ) (log_met data_met : Option D
   pub data_as : call.store.armed_from ≡ data_met
 
 pub is-opening : {L D : Type 0} {log_seen : L → Seen} {log_gives : L → Call → L → Type 0} {data_seen : D → Seen} {data_gives : D → Call → D → Type 0}
-    (words : List (List ℕ)) (source source_now : SourceSeen) (log : L) (data_device : D) {stops : Stops} {log_old log_new : Fused L} {data_old data_new : Fused D} {log_error data_error : Option DevError}
-    → AreArmed (call_on log_seen log_gives data_seen data_gives words source source_now log data_device log_old data_old) stops
-    → AreAsArmed (call_on log_seen log_gives data_seen data_gives words source source_now log data_device log_old data_old)
+    (words : List (List ℕ)) (archive : Unfused) (source source_now : SourceSeen) (log : L) (data_device : D) {stops : Stops} {log_old log_new : Fused L} {data_old data_new : Fused D} {log_error data_error : Option DevError}
+    → AreArmed (call_on log_seen log_gives data_seen data_gives words archive source source_now log data_device log_old data_old) stops
+    → AreAsArmed (call_on log_seen log_gives data_seen data_gives words archive source source_now log data_device log_old data_old)
     → MakesCalls (CallsThrough log_seen log_gives) log_old log_new (OpensLog (log_seen log_old.inner).size log_error)
     → MakesCalls (CallsThrough data_seen data_gives) data_old data_new (MayEndWith data_error)
     → IsOpening (failures log_error) (failures data_error) (log_seen log_old.inner).tells (data_seen data_old.inner).tells
-    (call_on log_seen log_gives data_seen data_gives words source source_now log data_device log_new data_new) stops
-is-opening {log_seen = log_seen} {log_gives = log_gives} words source source_now log data_device {log_old = log_old} {log_new = log_new} was none log_made data_made =
+    (call_on log_seen log_gives data_seen data_gives words archive source source_now log data_device log_new data_new) stops
+is-opening {log_seen = log_seen} {log_gives = log_gives} words archive source source_now log data_device {log_old = log_old} {log_new = log_new} was none log_made data_made =
     let log_ends = weaker_calls (λ calls opens. opens.ends) log_made in
     let counts = counts-calls log_seen log_gives log_old log_new log_made.calls log_made.made in
     let header : HEADER_BYTES ≤ (log_seen log_old.inner).size = omega (arith, was.prepared.header, was.log_device.same.size) in
     let some : 0 < length log_made.calls = log_made.are.begun header in
     record {
-      armed = armed-after words source source_now log data_device was none.0.0 none.1.0 log_ends data_made;
+      armed = armed-after words archive source source_now log data_device was none.0.0 none.1.0 log_ends data_made;
       counted = counts.some (subst (λ stage. 0 < while_stopping stage (length log_made.calls)) (sym was.log_device.stage_is) some);
       log_mid = (armed-calls was.log_device none.0.0 log_ends).1;
       data_mid = (armed-calls was.data_device none.1.0 data_made).1;
@@ -203,8 +204,9 @@ module _ {L D : Type 0} (log_seen : L → Seen) (data_seen : D → Seen) (call :
   pub stands-ready : ((reading : Reading) → WhereStillTold call.log.now.tells call.store.now.tells (WhereBothTell log data_told (λ log_disk data_disk. IsOpenable reading log_disk data_disk
       → IsOpenedReady (seen_through log_seen) (seen_through data_seen) reading given)))
       → ScriptFits given.shape given.start (room_from drive.log_only given.shape given.start) script
+      → ArchiveFits given.shape given.start (archive_size call.archive drive) script
       → StandsReady log_seen data_seen call drive stops script given
-  stands-ready ready fits = record {
+  stands-ready ready fits archive_fits = record {
     armed = is.armed;
     counted = is.counted;
     unfailed = omega (arith, is.log_mid, is.data_mid);
@@ -212,6 +214,7 @@ module _ {L D : Type 0} (log_seen : L → Seen) (data_seen : D → Seen) (call :
     is_opened = record { shape = refl; pages = refl; start = ends.start; runnable = runnable };
     opens = opens-as call stops is.armed laws log data_told is.log_as is.data_as given ends;
     fits = subst (λ start. ScriptFits given.shape start (room_from drive.log_only given.shape start) script) ends.start fits;
+    archive_fits = subst (λ start. ArchiveFits given.shape start (archive_size call.archive drive) script) ends.start archive_fits;
     reads = opened-reads call stops is.armed laws log data_told is.log_as is.data_as keeps script;
     ready = λ reading log_disk data_disk log_is data_is log_on data_on. both-told log data_told
         (λ log_disk data_disk. IsOpenable reading log_disk data_disk → IsOpenedReady (seen_through log_seen) (seen_through data_seen) reading given)
@@ -219,11 +222,11 @@ module _ {L D : Type 0} (log_seen : L → Seen) (data_seen : D → Seen) (call :
   }
 
   -- for one that doesn't
-  pub misfits : (misfit : Misfit) → first_misfit given.shape given.start (room_from drive.log_only given.shape given.start) script ≡ Some misfit
+  pub misfits : (misfit : Misfit) → first_misfit given.shape given.start (room_from drive.log_only given.shape given.start) (archive_size call.archive drive) script ≡ Some misfit
       → EndsWith call command (outcome.Fault (fault.Fit misfit))
   misfits misfit first = unplayed-misfit call command drive stops script running laws is.armed (opened-reads call stops is.armed laws log data_told is.log_as is.data_as keeps script)
       (opened_at given ends.end) misfit is.log_mid is.data_mid (opens-as call stops is.armed laws log data_told is.log_as is.data_as given ends)
-      (subst (λ start. first_misfit given.shape start (room_from drive.log_only given.shape start) script ≡ Some misfit) ends.start first)
+      (subst (λ start. first_misfit given.shape start (room_from drive.log_only given.shape start) (archive_size call.archive drive) script ≡ Some misfit) ends.start first)
 
   -- and where there is no memory to judge it
   pub unjudged : EndsWith call command (outcome.Fault fault.Memory)

@@ -1,15 +1,15 @@
 -- Two devices from the arming of their fuses on, while a store is opened on them.
-use Rattle.std.proofs.Common.{ℕ, ◌≡◌, ◌+◌, ◌⊎◌, cond, List, Option, Some, None, IfSome, sym, ap, subst, ◌∙◌, inl, inr, ⊎_elim, ◌≢◌, refl}
+use Rattle.std.proofs.Common.{ℕ, ◌≡◌, ◌+◌, ◌⊎◌, cond, List, Option, Some, None, IfSome, sym, ap, subst, ◌∙◌, inl, inr, ⊎_elim, ◌≢◌, refl, true, ◌≤◌, ◌<◌}
 use Rattle.std.proofs.lemmas.Bool.{eq-eqb}
 use Rattle.model_base.proofs.ShapeLimits.{default_within}
-use Rattle.model_base.specs.{default_shape}
+use Rattle.model_base.specs.{default_shape, HasRisen}
 use Rattle.model_base.specs.declared.limits.TheConstants.{BLOCK_SIZE}
 use Rattle.model_device.specs.Disk.{Disk}
 use Rattle.model_log.specs.{block_of, IsAtDataStart, start_after}
 use Rattle.model_log.specs.declared.layout.TheConstants.{BLOCK_HEADER}
 use Rattle.model_parts.specs.{formatted_store, IsOpenable, KeepsOpened}
 use Rattle.model_report.specs.declared.fault.Fault.TheVariants as fault
-use Rattle.model_script.specs.{first_misfit}
+use Rattle.model_script.specs.{ArchiveFits, first_misfit}
 use Rattle.model_script.specs.declared.asked.Command.{Command}
 use Rattle.model_script.specs.declared.asked.Drive.{Drive}
 use Rattle.model_script.specs.declared.misfit.Misfit.{Misfit}
@@ -23,6 +23,8 @@ use Rattle.redo_open.specs.Opening.{WhereStillTold}
 use Rattle.redo_store.specs.{IsRunnable}
 use Rattle.redo_store.specs.declared.opened.Opened as store
 use Rattle.redo_recover.specs.{OnContents}
+use Rattle.model_script.specs.declared.asked.Command.TheVariants.{Run}
+use Rattle.redo_lab.specs.Asked.{IsScriptFor}
 use Rattle.redo_lab.specs.declared.outcome.Outcome.TheVariants as outcome
 use Rattle.redo_lab.specs.declared.playing.Stops.{Stops}
 use Rattle.redo_lab.proofs.Ends.{ends-refused, ends-with, in-run, leaves-read, leaves-run, left-read, runs-script, tells-armed, unfailed-armed}
@@ -30,7 +32,7 @@ use Rattle.redo_lab.proofs.Found.{found-armed, one-opened, prefix-opened, stoppe
 use Rattle.redo_lab.proofs.Told.{both-told, on-contents}
 use Rattle.redo_lab.proofs.Told.{some-tells, some-told}
 use Rattle.redo_lab.specs.Call.{HaveSameContents, LabCall, WhereToldAtEntry}
-use Rattle.redo_lab.specs.Cause.{CanPlay}
+use Rattle.redo_lab.specs.Cause.{archive_size, CanPlay, EndsBefore}
 use Rattle.redo_lab.specs.Devices.{AreArmed}
 use Rattle.redo_lab.specs.Laws.{Laws}
 use Rattle.redo_lab.specs.Runs.{CommandRuns}
@@ -192,8 +194,31 @@ module _ (call : LabCall) (command : Command) (drive : Drive) (stops : Stops) (s
       (λ store log data_disk log_is data_is log_on data_on log_fresh data_fresh opens. tt) reads)))
       (λ can unfailed. tt)
 
+  -- of a run whose archive wasn't begun
+  pub unplayed-archive : (asked : Drive) → command ≡ Run asked → asked ≡ drive → drive.archive ≡ true → call.log.fuse.mid ≡ 0 → call.store.fuse.mid ≡ 0
+      → (opened : Opened) → WhereToldAtEntry call (DevicesOpenAs opened) → FitsOpened drive.log_only opened script
+      → ArchiveFits opened.shape (start_after opened.end) (archive_size call.archive drive) script
+      → HasRisen call.archive.entry.faults call.archive.now.faults → EndsWith call command (outcome.Fault fault.ArchiveDevice)
+  unplayed-archive asked is same archived log_none data_none opened opens fits archive_fits risen = ends-with call command drive script running laws (outcome.Fault fault.ArchiveDevice) (tells-armed armed)
+      (leaves-read call script None reads) (
+        risen,
+        subst (EndsBefore call) (sym (is ∙ ap Run same)) (record {
+          asked = archived;
+          script = script;
+          is_script = subst (λ (c : Command). IsScriptFor c call.source call.source_now script) (is ∙ ap Run same) running.is_script;
+          opened = opened;
+          opens = opens;
+          fits = fits;
+          archive_fits = archive_fits;
+          unfailed = unfailed-armed armed log_none data_none;
+          in_run = in-run armed;
+          reads = reads;
+        }),
+      )
+      (λ can unfailed. absurd (can.archive_unfailed archived risen))
+
   pub unplayed-misfit : (opened : Opened) (misfit : Misfit) → call.log.fuse.mid ≡ 0 → call.store.fuse.mid ≡ 0 → WhereToldAtEntry call (DevicesOpenAs opened)
-      → first_misfit opened.shape (start_after opened.end) (room_of drive.log_only opened) script ≡ Some misfit → EndsWith call command (outcome.Fault (fault.Fit misfit))
+      → first_misfit opened.shape (start_after opened.end) (room_of drive.log_only opened) (archive_size call.archive drive) script ≡ Some misfit → EndsWith call command (outcome.Fault (fault.Fit misfit))
   unplayed-misfit opened misfit log_none data_none opens first = ends-with call command drive script running laws (outcome.Fault (fault.Fit misfit)) (tells-armed armed)
       (leaves-read call script None reads)
       (inr (
@@ -212,11 +237,12 @@ module _ (call : LabCall) (command : Command) (drive : Drive) (stops : Stops) (s
       ))
       (λ can unfailed. absurd (misfits can))
     where
-      misfits : CanPlay call drive.log_only script → ⊥
+      misfits : CanPlay call drive script → ⊥
       misfits can =
           let same : opened ≡ can.opened = one-opened laws can.log can.store opened can.opened (opens can.log can.store can.log_tells can.store_tells can.log_still can.store_still) can.opens in
           let fits : FitsOpened drive.log_only opened script = subst (λ (o : Opened). FitsOpened drive.log_only o script) (sym same) can.fits in
-          let none = sym first ∙ laws.no_misfit opened.shape (start_after opened.end) (room_of drive.log_only opened) script fits in
+          let archive_fits = subst (λ (o : Opened). ArchiveFits o.shape (start_after o.end) (archive_size call.archive drive) script) (sym same) can.archive_fits in
+          let none = sym first ∙ laws.no_misfit opened.shape (start_after opened.end) (room_of drive.log_only opened) (archive_size call.archive drive) script fits archive_fits in
           cc
 
   pub unplayed-refused : (cause : Refusal) → call.log.fuse.mid ≡ 0 → call.store.fuse.mid ≡ 0

@@ -129,7 +129,7 @@ long-not-short log_size data_size (refusal.SmallLog n) long short = absurd (omeg
 long-not-short log_size data_size (refusal.SmallData n) long short = absurd (omega (arith, long.data_long, short.1))
 long-not-short log_size data_size cause long short = absurd short
 
-has-header : {call : LabCall} {log_only : Bool} {script : List ScriptLine} → CanPlay call log_only script → IfSome call.log.entry.tells (HasSize call.log.entry.size)
+has-header : {call : LabCall} {drive : Drive} {script : List ScriptLine} → CanPlay call drive script → IfSome call.log.entry.tells (HasSize call.log.entry.size)
     → HEADER_BYTES ≤ call.log.entry.size
 has-header {call = call} can sized = ⊎_elim
     (λ unused. let long = (can.long unused.unused).log_long in omega (arith, long))

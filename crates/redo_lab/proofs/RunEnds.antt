@@ -1,5 +1,5 @@
 -- What `run` and `gen --run` come to whose run a device stopped in opening, or whose lines were run.
-use Rattle.std.proofs.Common.{ℕ, ◌≡◌, ◌<◌, ◌+◌, true, false, List, [], Option, Some, None, sym, subst, ◌∙◌, inr, ⊎_elim, arith}
+use Rattle.std.proofs.Common.{ℕ, ◌≡◌, ◌≤◌, ◌<◌, ◌+◌, true, false, List, [], Option, Some, None, sym, subst, ◌∙◌, inr, ⊎_elim, arith, inl}
 use Rattle.std.proofs.lemmas.Bool.{false≢true}
 use Rattle.model_base.specs.{HasRisen}
 use Rattle.model_report.specs.{IsLeft}
@@ -31,7 +31,8 @@ use Rattle.redo_lab.specs.Devices.{IsArmed}
 use Rattle.redo_lab.specs.Laws.{Laws}
 use Rattle.redo_lab.specs.Runs.{ComesTo, CommandRuns, IsLeftBy, IsPlayedTo, IsReportOf, IsRunPrinted, IsToldRightly, ran_of, summary_of}
 use Rattle.redo_lab.specs.Store.{AreRefused}
-use Rattle.redo_lab.specs.Told.{IsReportText, IsRunText, IsSummaryText}
+use Rattle.redo_lab.specs.Archived.{IsArchived, IsReportWith}
+use Rattle.redo_lab.specs.Told.{IsRunText, IsSummaryText}
 use Rattle.redo_lab.specs.Ending.{EndsWith}
 
 -- OPENING WAS STOPPED.
@@ -78,21 +79,22 @@ risen-unstopped : {device : Guarded} {stage : Stage} {late : ℕ} → IsArmed No
 risen-unstopped was some = ⊎_elim (λ risen. risen) (λ passed. absurd passed) (was.cause some)
 
 module _ (call : LabCall) (drive : Drive) (script : List ScriptLine) (played : declared.Played) (read : IsScriptRead call.source call.source_now script) (laws : Laws) where
-  run-told : (f : Option Fault) (text : List ℕ) → ComesTo call (Run drive) drive no_stops script (Played played f)
+  run-told : (IsUpTo : (mark flushed : ℕ) → Type 0) (f : Option Fault) (text : List ℕ) → ComesTo call (Run drive) drive no_stops script (Played played f)
+      → IsArchived IsUpTo call drive script (ran_of played)
       → IsReportOf script (Some (ran_of played)) played.follows.items None text
-      → IsRunText call (Run drive) drive IsReportText text
-  run-told f text was report = run-text call (Run drive) drive script (ran_of played) report.left played.follows.items
-      IsReportText text read was.0 was.1 report.left_is report.text_is
+      → IsRunText call (Run drive) drive (IsReportWith IsUpTo call drive) text
+  run-told IsUpTo f text was archived report = run-text call (Run drive) drive script (ran_of played) report.left played.follows.items
+      (IsReportWith IsUpTo call drive) text read was.0 was.1 report.left_is (report.text_is, archived)
 
   run-reported : (f : Fault) (text : List ℕ)
       → ComesTo call (Run drive) drive no_stops script (Played played (Some f))
       → IsReportOf script (Some (ran_of played)) played.follows.items None text
       → EndsWith call (Run drive) (outcome.Report text f)
   run-reported fault.LogDevice text was report = ends-left call (Run drive) drive script (runs-scripted drive None read) laws was.0 (outcome.Report text fault.LogDevice)
-      (run-told (Some fault.LogDevice) text was report, (risen-unstopped was.0.armed.log_device was.2, was.2), aside-armed was.0.armed)
+      (run-told (λ mark flushed. mark ≤ flushed) (Some fault.LogDevice) text was was.3 report, (risen-unstopped was.0.armed.log_device was.2, was.2), aside-armed was.0.armed)
       (λ can unfailed. absurd (omega (arith, unfailed.0.1, was.2)))
   run-reported fault.DataDevice text was report = ends-left call (Run drive) drive script (runs-scripted drive None read) laws was.0 (outcome.Report text fault.DataDevice)
-      (run-told (Some fault.DataDevice) text was report, (risen-unstopped was.0.armed.data_device was.2.0, was.2.0, was.2.1), aside-armed was.0.armed)
+      (run-told (λ mark flushed. mark ≤ flushed) (Some fault.DataDevice) text was was.3 report, (risen-unstopped was.0.armed.data_device was.2.0, was.2.0, was.2.1), aside-armed was.0.armed)
       (λ can unfailed. absurd (omega (arith, unfailed.1.1, was.2.0)))
   run-reported f text was report = absurd was.2
 
@@ -102,7 +104,7 @@ module _ (call : LabCall) (drive : Drive) (script : List ScriptLine) (played : d
   run-played f (outcome.Text text) was printed =
       let done = subst (λ (f : Option Fault). ComesTo call (Run drive) drive no_stops script (Played played f)) printed.0 was in
       ends-left call (Run drive) drive script (runs-scripted drive None read) laws was.0 (outcome.Text text)
-      (unfailed-armed was.0.armed (omega (arith, done.2.0)) (omega (arith, done.2.0)), run-told None text done printed.1) (λ can unfailed. tt)
+      (unfailed-armed was.0.armed (omega (arith, done.2.0)) (omega (arith, done.2.0)), run-told (λ mark flushed. mark ≡ flushed) None text done done.3 printed.1) (λ can unfailed. tt)
   run-played f (outcome.Report text cut) was printed =
       run-reported cut text (subst (λ (f : Option Fault). ComesTo call (Run drive) drive no_stops script (Played played f)) printed.0 was) printed.1
   run-played f (outcome.Fault fault) was printed = subst (λ (fault : Fault). EndsWith call (Run drive) (outcome.Fault fault)) (sym printed)
@@ -154,7 +156,7 @@ module _ (call : LabCall) (drives : Drives) (later : DrivesLater drives call.dri
   told-still since = record {
     loses = λ left left_is. (let counted : log_was.fuse.mid + data_was.fuse.mid ≡ mids call =
         omega (arith, played.0, since.0.mid, since.1.mid) in
-        subst (λ (n : ℕ). LosesOnlyByFailure n (Some run) left) counted (told.loses left left_is));
+        ⊎_elim (λ lost. inl (subst (λ (n : ℕ). LosesOnlyByFailure n (Some run) left) counted lost)) (λ archived. inr archived) (told.loses left left_is));
     marks = λ threads. absurd (false≢true threads);
     followers = record {
       count = told.followers.count;
@@ -168,7 +170,7 @@ module _ (call : LabCall) (drives : Drives) (later : DrivesLater drives call.dri
   }
 
   -- A STORE THAT CAN BE RUN ON is not refused after the run.
-  possible-read-after : (cause : Refusal) → Since 0 0 → WhereToldNow call (AreRefused cause) → CanPlay call false script → ⊥
+  possible-read-after : (cause : Refusal) → Since 0 0 → WhereToldNow call (AreRefused cause) → CanPlay call (drive_of_seed seed max) script → ⊥
   possible-read-after cause since refused can =
       let log_left = some-told call.log.now.tells can.log_still in
       let data_left = some-told call.store.now.tells can.store_still in

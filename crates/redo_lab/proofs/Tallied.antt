@@ -94,6 +94,7 @@ first-of (own.Flusher f) actors follower is = absurd (cc)
 first-of (own.Closer c) actors follower is = absurd (cc)
 first-of (own.Cleaner c) actors follower is = absurd (cc)
 first-of (own.Checkpointer c) actors follower is = absurd (cc)
+first-of (own.Archiver a) actors follower is = absurd (cc)
 
 none-of : {R : Type 0} (actor : Actor R) (actors : List (Actor R)) → follower_of actor ≡ None
     → ◌≡◌ {A = List (Following R)} (followers_in (actor ∷ actors)) (followers_in actors)
@@ -104,6 +105,7 @@ none-of (own.Flusher f) actors none = refl
 none-of (own.Closer c) actors none = refl
 none-of (own.Cleaner c) actors none = refl
 none-of (own.Checkpointer c) actors none = refl
+none-of (own.Archiver a) actors none = refl
 
 module _ {R : Type 0} (actors : List (Actor R)) (at : ℕ) (actor : Actor R) (is : actor ≡ get_or actors at actor)
     (there : at < length actors) where

@@ -3,10 +3,12 @@ use Rattle.std.specs.Prelude.{ℕ, if◌then◌else◌, Bool, ◌≡◌, ◌≢�
 use Rattle.model_base.specs.{default_shape}
 use Rattle.model_base.specs.declared.shape.Shape.{Shape}
 use Rattle.model_script.specs.declared.asked.Command.{Command}
-use Rattle.model_script.specs.declared.asked.Command.TheVariants.{Format, Run, Crash, Recover, Dump, Gen}
+use Rattle.model_script.specs.declared.asked.Command.TheVariants.{Format, Run, Crash, Recover, Dump, Restore, Gen}
 use Rattle.model_script.specs.declared.asked.Drive.{Drive}
 use Rattle.model_device.specs.Disk.{Disk}
-use Rattle.model_report.specs.{dump_text, format_text, recover_text, report_text}
+use Rattle.model_archive.specs.{IsRestored}
+use Rattle.model_page.specs.declared.content.Content.{Content}
+use Rattle.model_report.specs.{dump_text, format_text, recover_text, report_text, restored_text}
 use Rattle.model_script.specs.{generated_text}
 use Rattle.model_log.specs.{IsStop, layout_of}
 use Rattle.model_log.specs.declared.cause.Cause.{Cause}
@@ -17,9 +19,10 @@ use Rattle.model_theorem.specs.Premises.{Premises}
 use Rattle.model_theorem.specs.Values as values
 use Rattle.redo_memdisk.specs.declared.fuse.Fuse.{Fuse}
 use Rattle.redo_lab.specs.Asked.{drive_of_seed}
-use Rattle.redo_lab.specs.Call.{Guarded, LabCall, WhereToldAtEntry, WhereToldNow}
+use Rattle.redo_lab.specs.Call.{Guarded, LabCall, WhereArchiveTold, WhereToldAtEntry, WhereToldNow}
 use Rattle.redo_lab.specs.Store.{AreBlank}
-use Rattle.redo_lab.specs.Told.{IsAccount, IsReportText, IsRunText, IsSummaryText}
+use Rattle.redo_lab.specs.Archived.{IsReportWith}
+use Rattle.redo_lab.specs.Told.{IsAccount, IsRunText, IsSummaryText}
 
 -- the sizes that the words of `format` ask for
 abbrev pub asked_shape : (pages space log_blocks : ℕ) → Shape
@@ -41,6 +44,14 @@ pub record IsListing (call : LabCall) (why : Bool) (reading : Reading) (text : L
   pub stop : ℕ × Cause
   pub is_stop : (log : Disk) → call.log.entry.tells ≡ Some log → call.log.now.tells ≢ None → IsStop (layout_of reading.format reading.shape) reading.ckpt reading.views stop log.reads
   pub text_is : text ≡ dump_text (if why then Some stop else None) reading
+
+-- this was restored for the lsn from what reads of the archive's device gave at entry
+pub record IsRestoredText (call : LabCall) (to : ℕ) (text : List ℕ) : Type 0 where
+  pub n : ℕ
+  pub end : ℕ
+  pub pages : List Content
+  pub is_restored : WhereArchiveTold call (λ disk. IsRestored disk.reads to n end pages)
+  pub text_is : text ≡ restored_text n end pages
 
 -- what a fuse tells
 abbrev pub stop_of : Fuse → Stop
@@ -104,10 +115,11 @@ pub record IsCrashText (call : LabCall) (drive : Drive) (stop_log stop_data : Op
 -- A command that was done has this text to print.
 abbrev pub IsAnswer : LabCall → Command → List ℕ → Type 0
 IsAnswer call (Format pages space log_blocks) text = IsFormatAnswer call (asked_shape pages space log_blocks) text
-IsAnswer call (Run drive) text = IsRunText call (Run drive) drive IsReportText text
+IsAnswer call (Run drive) text = IsRunText call (Run drive) drive (IsReportWith (λ mark flushed. mark ≡ flushed) call drive) text
 IsAnswer call (Crash drive stop_log stop_data pick workers) text = IsCrashText call drive stop_log stop_data pick workers text
 IsAnswer call (Recover workers) text = IsReadOff call (λ reading text. text ≡ recover_text reading) text
 IsAnswer call (Dump why) text = IsReadOff call (IsListing call why) text
+IsAnswer call (Restore to) text = IsRestoredText call to text
 IsAnswer call (Gen seed users groups true max) text =
     IsRunText call (Gen seed users groups true max) (drive_of_seed seed max) (IsSummaryText call) text
 IsAnswer call (Gen seed users groups false max) text = text ≡ generated_text seed users groups

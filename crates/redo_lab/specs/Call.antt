@@ -28,6 +28,15 @@ pub record Guarded : Type 0 where
 abbrev pub guarded : {D : Type 0} → (D → Seen) → D → Fused D → Guarded
 guarded seen device fused = record { entry = seen device; now = seen (inner_of fused); fuse = fuse_of fused; armed_from = armed_from seen fused }
 
+-- The archive's device of a call, which has no fuse: as it was handed in, and as it is now.
+pub record Unfused : Type 0 where
+  pub entry : Seen
+  pub now : Seen
+
+-- what is seen from outside of the device that was handed in, and is given back
+abbrev pub unfused : {A : Type 0} → (A → Seen) → A → A → Unfused
+unfused seen device now = record { entry = seen device; now = seen now }
+
 -- What a call was handed, and what has become of it. `drives` says that the run of this script on this opened store is the one to
 -- which the drive leads, that this is told of the followers that it leaves, that it ended so, and what both devices meant then: the
 -- one place that knows of drives.
@@ -37,6 +46,7 @@ pub record LabCall : Type 1 where
   pub source_now : SourceSeen
   pub log : Guarded
   pub store : Guarded
+  pub archive : Unfused
   pub drives : Drive → Opened → List ScriptLine → Ran → List Followed → RunEnd → Option Disk → Option Disk → Type 0
 
 -- where both devices told what they mean when they were handed in, and tell to the end, this holds of the two
@@ -47,6 +57,10 @@ WhereToldAtEntry call P = (log store : Disk) → call.log.entry.tells ≡ Some l
 -- and where they tell what they mean now
 abbrev pub WhereToldNow : LabCall → (Disk → Disk → Type 0) → Type 0
 WhereToldNow call P = (log store : Disk) → call.log.now.tells ≡ Some log → call.store.now.tells ≡ Some store → P log store
+
+-- where the archive's device told what it means when it was handed in, and tells to the end, this holds of it
+abbrev pub WhereArchiveTold : LabCall → (Disk → Type 0) → Type 0
+WhereArchiveTold call P = (disk : Disk) → call.archive.entry.tells ≡ Some disk → call.archive.now.tells ≢ None → P disk
 
 -- both told at entry, were fresh, and open this store, which is new or in order
 abbrev pub WhereOpened : LabCall → Opened → Type 0 → Type 0

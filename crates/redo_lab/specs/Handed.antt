@@ -7,7 +7,7 @@ use Rattle.redo_disk.specs.Seen.{Seen, StillTells}
 use Rattle.redo_io.specs.{SourceSeen}
 use Rattle.redo_memdisk.specs.{armed_at, entry_of, fuse_of, CallsThrough, seen_through}
 use Rattle.redo_memdisk.specs.declared.fused.Fused.{Fused}
-use Rattle.redo_lab.specs.Call.{LabCall, guarded}
+use Rattle.redo_lab.specs.Call.{LabCall, Unfused, guarded}
 use Rattle.model_script.specs.declared.asked.Drive.{Drive}
 use Rattle.model_device.specs.Disk.{Disk}
 use Rattle.model_log.specs.{start_after}
@@ -41,7 +41,7 @@ abbrev pub TellsOf : {L D : Type 0} → (threads own_writes : Bool) → (L → S
     → Drive → Opened (Fused L) (Fused D) → List ScriptLine → List model.Actor → Driven (Fused L) (Fused D) → Type 0
 TellsOf false false log_seen log_gives data_seen data_gives drive store script actors driven =
     RunsByTurns (seen_through log_seen) (CallsThrough log_seen log_gives) (seen_through data_seen) (CallsThrough data_seen data_gives)
-    store script (turns_of drive) drive.followers actors driven
+    store script (turns_of drive) drive.archive drive.followers actors driven
 TellsOf false true log_seen log_gives data_seen data_gives drive store script actors driven =
     OwnRunsByTurns (seen_through log_seen) (CallsThrough log_seen log_gives) (seen_through data_seen) (CallsThrough data_seen data_gives)
     store script (turns_of drive) drive.followers actors driven
@@ -77,14 +77,15 @@ pub record AreOf {L D : Type 0} (log : L) (store : D) (log_now : Fused L) (data_
   pub log_device : entry_of log_now ≡ log
   pub data_device : entry_of data_now ≡ store
 
--- the call that was handed these words, this source and these devices, which are these now
+-- the call that was handed these words, this source and these devices, which are these now, beside the archive's
 abbrev pub call_on : {L D : Type 0} → (L → Seen) → (L → device.Call → L → Type 0) → (D → Seen) → (D → device.Call → D → Type 0) → List (List ℕ)
-    → (source source_now : SourceSeen) → L → D → Fused L → Fused D → LabCall
-call_on log_seen log_gives data_seen data_gives words source source_now log store log_now data_now = record {
+    → Unfused → (source source_now : SourceSeen) → L → D → Fused L → Fused D → LabCall
+call_on log_seen log_gives data_seen data_gives words archive source source_now log store log_now data_now = record {
   words = words;
   source = source;
   source_now = source_now;
   log = guarded log_seen log log_now;
   store = guarded data_seen store data_now;
+  archive = archive;
   drives = IsDriven log_seen log_gives data_seen data_gives log_now data_now;
 }

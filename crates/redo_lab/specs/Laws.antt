@@ -4,7 +4,7 @@ use Rattle.model_base.specs.{IsWithinLimits}
 use Rattle.model_base.specs.declared.shape.Shape.{Shape}
 use Rattle.model_device.specs.Disk.{Disk}
 use Rattle.model_parts.specs.{formatted_store, IsFormatted, IsOpenable, KeepsOpened}
-use Rattle.model_script.specs.{first_misfit, ScriptFits}
+use Rattle.model_script.specs.{ArchiveFits, first_misfit, ScriptFits}
 use Rattle.model_script.specs.declared.script.ScriptLine.{ScriptLine}
 use Rattle.model_store.specs.{IsFair, IsFairLog, IsReading, Refuses}
 use Rattle.model_store.specs.Reading.{Reading}
@@ -26,8 +26,8 @@ pub record Laws : Type 0 where
   pub held_opened : (held : Held) (armed_from : Disk) → IsHeld held → HeldOlder held.opened.shape held.number armed_from
       → IsOpenedBefore held.opened.shape armed_from held.log_disk (Some held.run)
   -- a script that fits has no misfit
-  pub no_misfit : (shape : Shape) (start : ℕ) (room_end : Option ℕ) (script : List ScriptLine) → ScriptFits shape start room_end script
-      → first_misfit shape start room_end script ≡ None
+  pub no_misfit : (shape : Shape) (start : ℕ) (room_end archive : Option ℕ) (script : List ScriptLine) → ScriptFits shape start room_end script
+      → ArchiveFits shape start archive script → first_misfit shape start room_end archive script ≡ None
   -- what stood on a data device at its last good sync is fair
   pub base_fair : (shape : Shape) (disk : Disk) → IsFair shape disk disk.base
   -- the crash theorem

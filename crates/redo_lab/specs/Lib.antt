@@ -1,4 +1,6 @@
 pub mod Answer
+pub mod Archived
+pub mod Archiving
 pub mod Asked
 pub mod Call
 pub mod Cause
@@ -8,6 +10,7 @@ pub mod Files
 pub mod Following
 pub mod Handed
 pub mod Laws
+pub mod Restoring
 pub mod Runs
 pub mod Store
 pub mod Told

@@ -1,5 +1,5 @@
 -- A command that runs a script: how far its run came, and what that leaves of the two devices.
-use Rattle.std.specs.Prelude.{ℕ, ◌≡◌, ◌≢◌, ◌<◌, ◌+◌, false, List, [], Option, Some, None, IfSome, Result, Ok, Err, length}
+use Rattle.std.specs.Prelude.{ℕ, ◌≡◌, ◌≢◌, ◌≤◌, ◌<◌, ◌+◌, false, List, [], Option, Some, None, IfSome, Result, Ok, Err, length}
 use Rattle.std.specs.Prelude.{Vec}
 use Rattle.std.specs.Borrow.{Bor}
 use Rattle.std.specs.declared.alloc.Global.{Global}
@@ -32,6 +32,9 @@ use Rattle.redo_store.specs.declared.opened.Opened as store
 use Rattle.redo_recover.specs.declared.fault.RecFault.{RecFault}
 use Rattle.redo_recover.specs.declared.fault.RecFault.TheVariants.{LogDev, DataDev}
 use Rattle.redo_recover.specs.{refusal_of}
+use Rattle.model_script.specs.{ArchiveFits}
+use Rattle.model_log.specs.{start_after}
+use Rattle.redo_lab.specs.Cause.{archive_size}
 use Rattle.redo_lab.specs.declared.crash_command.Crashing.{Crashing}
 use Rattle.redo_lab.specs.declared.outcome.Outcome.{Outcome}
 use Rattle.redo_lab.specs.declared.outcome.Outcome.TheVariants as outcome
@@ -40,13 +43,14 @@ use Rattle.redo_lab.specs.declared.playing.Course.TheVariants as course
 use Rattle.redo_lab.specs.declared.playing.Played.{Played}
 use Rattle.redo_lab.specs.declared.playing.Ran as declared
 use Rattle.redo_lab.specs.declared.playing.Stops.{Stops}
+use Rattle.redo_lab.specs.Archived.{IsArchived}
 use Rattle.redo_lab.specs.Asked.{IsScriptFor, drive_of, reads_script}
 use Rattle.redo_lab.specs.Call.{BothDevices, LabCall, WhereOpened, WhereToldAtEntry, WhereToldNow, mids}
 use Rattle.redo_lab.specs.Devices.{AreArmed, ArePrepared, IsUnarmed, to_be_armed}
 use Rattle.redo_lab.specs.Handed.{AreOf, IsOpenedAt}
 use Rattle.redo_lab.specs.Ending.{EndsWith}
 use Rattle.redo_lab.specs.Store.{DevicesOpenAs}
-use Rattle.redo_lab.specs.Told.{AreToldOf, AreLeftRead, AreMarksRead, HasRunScript, IsOpenedFirst}
+use Rattle.redo_lab.specs.Told.{AreToldOf, AreLeftRead, AreMarksRead, HasRunScript, IsOpenedFirst, LosesOnlyBy}
 
 -- the fault of a call whose store isn't formatted, read or opened
 abbrev pub fault_of : RecFault → Fault
@@ -94,7 +98,7 @@ pub record IsLeftBy (call : LabCall) (command : Command) (drive : Drive) (stops 
 
 -- What is told of it is so: something is lost only where a device failed, and its marks are read.
 pub record IsToldRightly (call : LabCall) (drive : Drive) (script : List ScriptLine) (run : Option Ran) (follows : List Followed) : Type 0 where
-  pub loses : (left : List (ℕ × ℕ)) → IsLeft script (entries_of run) left → LosesOnlyByFailure (mids call) run left
+  pub loses : (left : List (ℕ × ℕ)) → IsLeft script (entries_of run) left → LosesOnlyBy call drive run left
   pub marks : AreMarksRead call drive run call.log.now.tells call.store.now.tells
   pub followers : AreToldOf call drive script run follows call.log.now.tells call.store.now.tells
 
@@ -110,6 +114,11 @@ IsPlayedTo call None = (mids call ≡ 0) × ((store : Opened) → WhereOpened ca
     (reading : Reading) × IsReading log_disk.reads data_disk.reads reading)))
 IsPlayedTo call (Some fault) = HasFailed call fault
 
+-- what its archive is left with, if it has one: the run up to FLUSHED, if no device failed
+abbrev pub IsArchivedTo : LabCall → Drive → List ScriptLine → Ran → Option Fault → Type 0
+IsArchivedTo call drive script run None = IsArchived (λ mark flushed. mark ≡ flushed) call drive script run
+IsArchivedTo call drive script run (Some fault) = IsArchived (λ mark flushed. mark ≤ flushed) call drive script run
+
 -- the run, as the theorem has it
 abbrev pub ran_of : Played → Ran
 ran_of played = record { start = played.start; entries = played.history; marks = played.marks }
@@ -122,6 +131,7 @@ ComesTo call command drive stops script (course.Stopped fault) =
 ComesTo call command drive stops script (course.Played played fault) =
     IsLeftBy call command drive stops script (Some (ran_of played)) played.follows.items ended.Done
     × IsToldRightly call drive script (Some (ran_of played)) played.follows.items × IsPlayedTo call fault
+    × IsArchivedTo call drive script (ran_of played) fault
 
 -- the same of the devices that are given back, with which the call is this
 abbrev pub IsRanBy : {L D : Type 0} → (Fused L → Fused D → LabCall) → Command → Drive → Stops → List ScriptLine → declared.Ran L D → Type 0
@@ -137,6 +147,7 @@ pub record StandsReady {L D : Type 0} (log_seen : L → Seen) (data_seen : D →
   pub is_opened : IsOpenedAt opened given
   pub opens : WhereToldAtEntry call (DevicesOpenAs opened)
   pub fits : FitsOpened drive.log_only opened script
+  pub archive_fits : ArchiveFits opened.shape (start_after opened.end) (archive_size call.archive drive) script
   pub reads : AreLeftRead call script None
   pub ready : (reading : Reading) (log store : Disk) → call.log.armed_from ≡ Some log → call.store.armed_from ≡ Some store
       → call.log.now.tells ≢ None → call.store.now.tells ≢ None → IsOpenable reading log store → IsOpenedReady (seen_through log_seen) (seen_through data_seen) reading given

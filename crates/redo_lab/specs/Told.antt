@@ -2,7 +2,7 @@
 -- whatever the status.
 use Rattle.std.specs.Prelude.{ℕ, ◌%◌, ◌+◌, ◌^◌, ◌≡◌, ◌≤◌, true, List, [], length, Option, slice_get, Some, None, IfSome, take, ◌≢◌, ◌⊎◌}
 use Rattle.std.specs.List.{AllByRecursion}
-use Rattle.model_base.specs.{crc_of}
+use Rattle.model_base.specs.{crc_of, HasRisen}
 use Rattle.model_script.specs.declared.asked.Command.{Command}
 use Rattle.model_script.specs.declared.asked.Drive.{Drive}
 use Rattle.model_device.specs.Disk.{Disk}
@@ -65,14 +65,19 @@ abbrev pub AreToldOf : LabCall → Drive → List ScriptLine → Option Ran → 
 AreToldOf call drive script None follows log_met store_met = follows ≡ []
 AreToldOf call drive script (Some run) follows log_met store_met = AreFollowed call drive script run follows log_met store_met
 
--- The run, if opening wasn't stopped, and what is left of the script. Something is lost only where a device failed since its fuse
--- was armed.
+-- Something is lost of it only where a device failed since its fuse was armed, or the device on which it is archived.
+abbrev pub LosesOnlyBy : LabCall → Drive → Option Ran → List (ℕ × ℕ) → Type 0
+LosesOnlyBy call drive run left =
+    LosesOnlyByFailure (mids call) run left
+    ⊎ ((drive.archive ≡ true) × HasRisen call.archive.entry.faults call.archive.now.faults)
+
+-- The run, if opening wasn't stopped, and what is left of the script.
 pub record IsAccount (call : LabCall) (command : Command) (drive : Drive) (opened : Opened) (script : List ScriptLine) (run : Option Ran)
     (left : List (ℕ × ℕ)) (follows : List Followed) (log_met store_met : Option Disk) : Type 0 where
   pub is_script : IsScriptFor command call.source call.source_now script
   pub ran : IfSome run (λ run. HasRunScript call command drive opened script run follows Done log_met store_met)
   pub left_is : IsLeft script (entries_of run) left
-  pub loses : LosesOnlyByFailure (mids call) run left
+  pub loses : LosesOnlyBy call drive run left
   pub marks : AreMarksRead call drive run log_met store_met
   pub followers : AreToldOf call drive script run follows log_met store_met
   pub opened_first : IsOpenedFirst call log_met run

@@ -2,7 +2,7 @@
 ghost use Rattle.std.specs.Prelude.{◌≡◌, ◌⊎◌, Some, None, true, false, IfSome, IfOk, IfErr, map};
 ghost use Rattle.std.specs.String.{string_bytes};
 ghost use Rattle.model_report.specs.declared.fault.Fault.TheVariants.{Memory, Words};
-ghost use Rattle.redo_lab.specs.Asked.{command_of, runs_in_threads};
+ghost use Rattle.redo_lab.specs.Asked.{archives, command_of, runs_in_threads};
 ghost use Rattle.redo_lab.specs.Runs.{command_with};
 
 use crate::crash_command::Crashing;
@@ -50,12 +50,23 @@ pub(crate) fn threaded(command: &Command) -> Option<Scripted>
     }
 }
 
+/// Whether the command archives its run.
+fn archives(command: &Command) -> bool
+    ensures { result ≡ archives command.now }
+{
+    match command {
+        Command::Run { drive } => drive.archive,
+        _ => false,
+    }
+}
+
 /// The command that the words ask for.
 pub(crate) fn read_command(alloc: Global, words: &[String]) -> Result<Command, Fault>
     ensures asked { IfOk result (λ command. command_of (map (λ word. string_bytes word) words.now) ≡ Some command) }
     ensures fault { IfErr result (λ fault. ((command_of (map (λ word. string_bytes word) words.now) ≡ None) × (fault ≡ Words)) ⊎ (fault ≡ Memory)) }
 {
     match read_words(alloc, words) {
+        Ok(asked) if archives(&asked.command) => Err(Fault::Words),
         Ok(asked) => Ok(asked.command),
         Err(WordsFault::NotCommand) => Err(Fault::Words),
         Err(WordsFault::NoMemory) => Err(Fault::Memory),

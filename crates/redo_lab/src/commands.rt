@@ -1,13 +1,15 @@
-// A command, done on two devices.
-ghost use Rattle.std.specs.Prelude.{ℕ, List, ◌≡◌, ◌+◌, ◌≤◌, true, false, IfSome};
+// A command, done on its devices.
+ghost use Rattle.std.specs.Prelude.{ℕ, List, ◌≡◌, ◌+◌, ◌≤◌, true, false, IfSome, Some};
 ghost use Rattle.model_base.specs.declared.limits.TheConstants.{MAX_SCRIPT};
+ghost use Rattle.model_script.specs.declared.asked.Command.TheVariants.{Restore};
 ghost use Rattle.model_script.specs.declared.asked.Drive.{Drive as Asked};
 ghost use Rattle.model_script.specs.declared.words.TheConstants.{MAX_WORKERS};
 ghost use Rattle.redo_io.specs.{SourceSeen, TakesAtMost};
 ghost use Rattle.redo_io.specs.declared.read.TheConstants.{PIECE};
-ghost use Rattle.redo_lab.specs.Asked.{HasAllowedNumbers, IsScriptRead, runs_in_threads};
+ghost use Rattle.redo_lab.specs.Asked.{HasAllowedNumbers, IsScriptRead, calls_archive, runs_in_threads};
+ghost use Rattle.redo_lab.specs.Call.{Unfused, unfused};
 ghost use Rattle.redo_lab.specs.Handed.{AreOf, call_on};
-ghost use Rattle.redo_lab.specs.Ending.{EndsWith};
+ghost use Rattle.redo_lab.specs.Ending.{EndsWith, OnlyReadsArchive};
 ghost use Rattle.redo_lab.specs.Runs.{IsRanBy, command_with, stops_of};
 
 use crate::asked::Scripted;
@@ -16,6 +18,7 @@ use crate::gen_command::gen_command;
 use crate::laws::laws;
 use crate::outcome::{Done, unasked};
 use crate::playing::{Ran, Stops, by_turns, in_threads};
+use crate::restore_command::restore_command;
 use crate::run_command::run_command;
 use crate::script::read_script;
 use crate::simple::{format_devices, print_pages, print_store};
@@ -49,10 +52,10 @@ fn after_run<R: Threads + Sync, L: Sectors, D: Sectors>(
     crash: Option<Crashing>,
 ) -> Done<L, D>
     requires workers { IfSome crash (λ crash. (1 ≤ crash.workers) × (crash.workers ≤ MAX_WORKERS)) }
-    ensures ends { (asked : Asked) (words : List (List ℕ)) (source source_now : SourceSeen) (log : L) (store : D)
-        → IsRanBy (call_on L.seen L.gives D.seen D.gives words source source_now log store) (command_with asked crash) asked (stops_of crash) script.now ran
-        → IsScriptRead source source_now script.now
-        → EndsWith (call_on L.seen L.gives D.seen D.gives words source source_now log store result.log result.store) (command_with asked crash) result.outcome }
+    ensures ends { (asked : Asked) (words : List (List ℕ)) (archive : Unfused) (source source_now : SourceSeen) (log : L) (store : D)
+        → IsRanBy (call_on L.seen L.gives D.seen D.gives words archive source source_now log store) (command_with asked crash) asked (stops_of crash) script.now ran
+        → IsScriptRead source source_now script.now → HasAllowedNumbers (command_with asked crash)
+        → EndsWith (call_on L.seen L.gives D.seen D.gives words archive source source_now log store result.log result.store) (command_with asked crash) result.outcome }
     ensures entered { (log : L) (store : D) → AreOf log store ran.log ran.store → AreOf log store result.log result.store }
 {
     match crash {
@@ -72,8 +75,8 @@ fn source_by_turns<R: Threads + Sync, S: Source, L: Sectors, D: Sectors>(
 ) -> Done<L, D>
     requires within { HasAllowedNumbers (command_with asked.drive asked.crash) }
     requires by_turns { asked.drive.threads ≡ false }
-    ensures ends { (words : List (List ℕ))
-        → EndsWith (call_on L.seen L.gives D.seen D.gives words (S.seen src.old) (S.seen src.new) log store result.log result.store) (command_with asked.drive asked.crash) result.outcome }
+    ensures ends { (words : List (List ℕ)) (archive : Unfused)
+        → EndsWith (call_on L.seen L.gives D.seen D.gives words archive (S.seen src.old) (S.seen src.new) log store result.log result.store) (command_with asked.drive asked.crash) result.outcome }
     ensures entered { AreOf log store result.log result.store }
     ensures taken { TakesAtMost (MAX_SCRIPT + PIECE) (S.seen src.old).left (S.seen src.new).left }
 {
@@ -99,8 +102,8 @@ pub(crate) fn source_in_threads<
 >(rt: &R, alloc: Global, src: &mut S, gate: &G, asked: Scripted, log: L, store: D) -> Done<L, D>
     requires within { HasAllowedNumbers (command_with asked.drive asked.crash) }
     requires in_threads { asked.drive.threads ≡ true }
-    ensures ends { (words : List (List ℕ))
-        → EndsWith (call_on L.seen L.gives D.seen D.gives words (S.seen src.old) (S.seen src.new) log store result.log result.store) (command_with asked.drive asked.crash) result.outcome }
+    ensures ends { (words : List (List ℕ)) (archive : Unfused)
+        → EndsWith (call_on L.seen L.gives D.seen D.gives words archive (S.seen src.old) (S.seen src.new) log store result.log result.store) (command_with asked.drive asked.crash) result.outcome }
     ensures entered { AreOf log store result.log result.store }
     ensures taken { TakesAtMost (MAX_SCRIPT + PIECE) (S.seen src.old).left (S.seen src.new).left }
 {
@@ -121,20 +124,25 @@ pub(crate) fn source_in_threads<
     }
 }
 
-/// A command that runs no script in threads, done on two devices.
-pub(crate) fn done<R: Threads + Sync, S: Source, L: Sectors, D: Sectors>(
+/// A command that runs no script in threads, done on two devices; and the archive's device, which `restore` reads.
+pub(crate) fn done<R: Threads + Sync, S: Source, L: Sectors, D: Sectors, A: Sectors>(
     rt: &R,
     alloc: Global,
     command: Command,
     src: &mut S,
     log: L,
     store: D,
-) -> Done<L, D>
+    arch: A,
+) -> (Done<L, D>, A)
     requires within { HasAllowedNumbers command }
     requires by_turns { runs_in_threads command ≡ false }
     ensures ends { (words : List (List ℕ))
-        → EndsWith (call_on L.seen L.gives D.seen D.gives words (S.seen src.old) (S.seen src.new) log store result.log result.store) command result.outcome }
-    ensures entered { AreOf log store result.log result.store }
+        → EndsWith (call_on L.seen L.gives D.seen D.gives words (unfused A.seen arch result.1) (S.seen src.old) (S.seen src.new) log store result.0.log result.0.store)
+        command result.0.outcome }
+    ensures restores { (words : List (List ℕ)) (to : ℕ) → command ≡ Restore to
+        → OnlyReadsArchive (call_on L.seen L.gives D.seen D.gives words (unfused A.seen arch result.1) (S.seen src.old) (S.seen src.new) log store result.0.log result.0.store) }
+    ensures untouched { calls_archive (Some command) ≡ false → result.1 ≡ arch }
+    ensures entered { AreOf log store result.0.log result.0.store }
     ensures taken { TakesAtMost (MAX_SCRIPT + PIECE) (S.seen src.old).left (S.seen src.new).left }
 {
     match command {
@@ -142,10 +150,13 @@ pub(crate) fn done<R: Threads + Sync, S: Source, L: Sectors, D: Sectors>(
             pages,
             space,
             log_blocks,
-        } => format_devices(alloc, pages, space, log_blocks, log, store),
+        } => (
+            format_devices(alloc, pages, space, log_blocks, log, store),
+            arch,
+        ),
         Command::Run { drive } => {
             let asked = Scripted { drive, crash: None };
-            source_by_turns(rt, alloc, src, asked, log, store)
+            (source_by_turns(rt, alloc, src, asked, log, store), arch)
         }
         Command::Crash {
             drive,
@@ -164,16 +175,20 @@ pub(crate) fn done<R: Threads + Sync, S: Source, L: Sectors, D: Sectors>(
                 workers,
             });
             let asked = Scripted { drive, crash };
-            source_by_turns(rt, alloc, src, asked, log, store)
+            (source_by_turns(rt, alloc, src, asked, log, store), arch)
         }
-        Command::Recover { workers } => print_pages(rt, alloc, workers, log, store),
-        Command::Dump { why } => print_store(alloc, why, log, store),
+        Command::Recover { workers } => (print_pages(rt, alloc, workers, log, store), arch),
+        Command::Dump { why } => (print_store(alloc, why, log, store), arch),
+        Command::Restore { to } => restore_command(alloc, to, log, store, arch),
         Command::Gen {
             seed,
             users,
             groups,
             run,
             max,
-        } => gen_command(alloc, seed, users, groups, run, max, log, store),
+        } => {
+            let done = gen_command(alloc, seed, users, groups, run, max, log, store);
+            (done, arch)
+        }
     }
 }

@@ -11,6 +11,7 @@ ghost use Rattle.redo_memdisk.specs.{entry_of};
 ghost use Rattle.redo_recover.specs.{reading_of};
 ghost use Rattle.redo_lab.specs.Asked.{drive_of_seed};
 ghost use Rattle.redo_lab.specs.declared.playing.Course.TheVariants as course;
+ghost use Rattle.redo_lab.specs.Call.{Unfused};
 ghost use Rattle.redo_lab.specs.Handed.{AreOf, call_on};
 ghost use Rattle.redo_lab.specs.Ending.{EndsWith};
 ghost use Rattle.redo_lab.specs.Runs.{ComesTo, CommandRuns, ran_of, stops_of, summary_of};
@@ -42,8 +43,8 @@ fn print_script<L: Sectors, D: Sectors>(
 ) -> Done<L, D>
     requires some_users { 1 ≤ users }
     requires few_users { users ≤ MAX_USERS }
-    ensures ends { (words : List (List ℕ)) (source : SourceSeen) (max : ℕ)
-        → EndsWith (call_on L.seen L.gives D.seen D.gives words source source log store result.log result.store) (Gen seed users groups false max) result.outcome }
+    ensures ends { (words : List (List ℕ)) (archive : Unfused) (source : SourceSeen) (max : ℕ)
+        → EndsWith (call_on L.seen L.gives D.seen D.gives words archive source source log store result.log result.store) (Gen seed users groups false max) result.outcome }
     ensures entered { AreOf log store result.log result.store }
 {
     Done {
@@ -75,11 +76,11 @@ fn read_after<L: Sectors, D: Sectors>(
     log: &mut Fused<L>,
     store: &mut Fused<D>,
 ) -> Outcome
-    ensures ends { (words : List (List ℕ)) (source : SourceSeen) (log_entry : L) (data_entry : D) (seed users groups max : ℕ) (script : List ScriptLine)
+    ensures ends { (words : List (List ℕ)) (archive : Unfused) (source : SourceSeen) (log_entry : L) (data_entry : D) (seed users groups max : ℕ) (script : List ScriptLine)
         → CommandRuns source source (Gen seed users groups true max) (drive_of_seed seed max) script
-        → ComesTo (call_on L.seen L.gives D.seen D.gives words source source log_entry data_entry log.old store.old) (Gen seed users groups true max) (drive_of_seed seed max)
+        → ComesTo (call_on L.seen L.gives D.seen D.gives words archive source source log_entry data_entry log.old store.old) (Gen seed users groups true max) (drive_of_seed seed max)
         (stops_of None) script (course.Played played.now None)
-        → EndsWith (call_on L.seen L.gives D.seen D.gives words source source log_entry data_entry log.new store.new) (Gen seed users groups true max) result }
+        → EndsWith (call_on L.seen L.gives D.seen D.gives words archive source source log_entry data_entry log.new store.new) (Gen seed users groups true max) result }
     ensures entered { AreOf (entry_of log.old) (entry_of store.old) log.new store.new }
 {
     laws();
@@ -100,6 +101,7 @@ fn drive_of_seed(seed: u64, max: u64) -> Drive
         log_only: false,
         own_writes: false,
         followers: 0,
+        archive: false,
     }
 }
 
@@ -113,8 +115,8 @@ fn run_script<L: Sectors, D: Sectors>(
     store: D,
 ) -> Done<L, D>
     requires { AllByRecursion IsScriptLine script.now }
-    ensures ends { (words : List (List ℕ)) (source : SourceSeen) (users groups : ℕ) → script.now ≡ generated_lines seed users groups
-        → EndsWith (call_on L.seen L.gives D.seen D.gives words source source log store result.log result.store) (Gen seed users groups true max) result.outcome }
+    ensures ends { (words : List (List ℕ)) (archive : Unfused) (source : SourceSeen) (users groups : ℕ) → script.now ≡ generated_lines seed users groups
+        → EndsWith (call_on L.seen L.gives D.seen D.gives words archive source source log store result.log result.store) (Gen seed users groups true max) result.outcome }
     ensures entered { AreOf log store result.log result.store }
 {
     laws();
@@ -154,8 +156,8 @@ fn run_seed<L: Sectors, D: Sectors>(
 ) -> Done<L, D>
     requires some_users { 1 ≤ users }
     requires few_users { users ≤ MAX_USERS }
-    ensures ends { (words : List (List ℕ)) (source : SourceSeen)
-        → EndsWith (call_on L.seen L.gives D.seen D.gives words source source log store result.log result.store) (Gen seed users groups true max) result.outcome }
+    ensures ends { (words : List (List ℕ)) (archive : Unfused) (source : SourceSeen)
+        → EndsWith (call_on L.seen L.gives D.seen D.gives words archive source source log store result.log result.store) (Gen seed users groups true max) result.outcome }
     ensures entered { AreOf log store result.log result.store }
 {
     laws();
@@ -179,8 +181,8 @@ pub(crate) fn gen_command<L: Sectors, D: Sectors>(
 ) -> Done<L, D>
     requires some_users { 1 ≤ users }
     requires few_users { users ≤ MAX_USERS }
-    ensures ends { (words : List (List ℕ)) (source : SourceSeen)
-        → EndsWith (call_on L.seen L.gives D.seen D.gives words source source log store result.log result.store) (Gen seed users groups run max) result.outcome }
+    ensures ends { (words : List (List ℕ)) (archive : Unfused) (source : SourceSeen)
+        → EndsWith (call_on L.seen L.gives D.seen D.gives words archive source source log store result.log result.store) (Gen seed users groups run max) result.outcome }
     ensures entered { AreOf log store result.log result.store }
 {
     if run {

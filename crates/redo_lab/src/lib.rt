@@ -1,7 +1,8 @@
-//! The top call: it does one of the six commands on a source, a sink and two devices. `lab`'s contract says what each ending
+//! The top call: it does one of the seven commands on a source, a sink, two devices and an archive's device. `lab`'s contract says what each ending
 //! means, carries the crash theorem, of a run that is the drive's, and says that whatever the status what is left is accepted.
 #![tactic(auto)]
 
+mod archiving;
 mod asked;
 mod commands;
 mod crash_command;
@@ -18,6 +19,7 @@ mod prepare;
 mod printing;
 mod reading;
 mod reporting;
+mod restore_command;
 mod run_command;
 mod script;
 mod shapes;
@@ -28,4 +30,4 @@ pub use ended::Ended;
 pub use in_files::lab_in_files;
 pub use lab_call::{lab, lab_turns};
 pub use printing::print_fault;
-pub use shapes::{LOG_LENGTH, STORE_LENGTH};
+pub use shapes::{ARCHIVE_LENGTH, LOG_LENGTH, STORE_LENGTH};

@@ -15,6 +15,8 @@ ghost use Rattle.redo_memdisk.specs.{entry_of};
 ghost use Rattle.redo_lab.specs.declared.playing.Course.TheVariants as ended;
 ghost use Rattle.redo_lab.specs.declared.playing.Stops.{Stops};
 ghost use Rattle.redo_lab.specs.Devices.{AreArmed, AreAsArmed};
+ghost use Rattle.redo_lab.specs.Call.{Unfused};
+ghost use Rattle.redo_lab.specs.Cause.{archive_size};
 ghost use Rattle.redo_lab.specs.Handed.{AreOf, call_on};
 ghost use Rattle.redo_lab.specs.Runs.{AreEntered, AreReady, CommandRuns, IsRanBy, course_done, course_of, ended_by, played_of, unopened};
 
@@ -26,7 +28,7 @@ use crate::turns::run_turns;
 use model_base::Shape;
 use model_log::BLOCK_HEADER;
 use model_report::{Fault, Followed, History, Marks};
-use model_script::{Drive, Script, fitting_script};
+use model_script::{Drive, Script, fitting_archive, fitting_script};
 use redo_disk::{DevError, Sectors};
 use redo_drive::{Driven, RunEnd};
 use redo_lsn::{round_of, run_layout};
@@ -179,25 +181,28 @@ fn unopened(fault: RecFault) -> Course
     }
 }
 
-/// Opens the store on both devices, whose fuses are armed, for the run of a script that fits it.
+/// Opens the store on both devices, whose fuses are armed, for the run of a script that fits it, and an archive's
+/// device of so many bytes, if there is one.
 fn open_fitted<L: Sectors, D: Sectors>(
     alloc: Global,
     script: &Script,
     log_only: bool,
+    archive_len: Option<u64>,
     log: Fused<L>,
     store: Fused<D>,
 ) -> Result<Opened<Fused<L>, Fused<D>>, Ran<L, D>>
     requires { AllByRecursion IsScriptLine script.now }
     ensures begins { IfOk result (λ opened. MayBegin opened script.now log_only) }
-    ensures ready { (words : List (List ℕ)) (source source_now : SourceSeen) (log_entry : L) (data_entry : D) (command : Command) (asked : Asked) (stops : Stops)
-        → CommandRuns source source_now command asked script.now → log_only ≡ asked.log_only
-        → AreArmed (call_on L.seen L.gives D.seen D.gives words source source_now log_entry data_entry log store) stops
-        → AreAsArmed (call_on L.seen L.gives D.seen D.gives words source source_now log_entry data_entry log store)
-        → AreReady L.seen D.seen (call_on L.seen L.gives D.seen D.gives words source source_now log_entry data_entry) command asked stops script.now result }
+    ensures ready { (words : List (List ℕ)) (archive : Unfused) (source source_now : SourceSeen) (log_entry : L) (data_entry : D) (command : Command) (asked : Asked) (stops : Stops)
+        → CommandRuns source source_now command asked script.now → log_only ≡ asked.log_only → archive_len ≡ archive_size archive asked
+        → AreArmed (call_on L.seen L.gives D.seen D.gives words archive source source_now log_entry data_entry log store) stops
+        → AreAsArmed (call_on L.seen L.gives D.seen D.gives words archive source source_now log_entry data_entry log store)
+        → AreReady L.seen D.seen (call_on L.seen L.gives D.seen D.gives words archive source source_now log_entry data_entry) command asked stops script.now result }
     ensures entered { AreEntered (entry_of log) (entry_of store) result }
 {
     laws();
     fitting_script();
+    fitting_archive();
     let opened = match open_store(alloc, log, store) {
         Ok(opened) => opened,
         Err((fault, log, store)) => {
@@ -210,7 +215,7 @@ fn open_fitted<L: Sectors, D: Sectors>(
     };
     let start = opened.start;
     let room_end = room_from(log_only, &opened.shape, start);
-    match judge(alloc, &opened.shape, start, room_end, script) {
+    match judge(alloc, &opened.shape, start, room_end, archive_len, script) {
         Ok(()) => Ok(opened),
         Err(Unfit::Misfit(misfit)) => Err(unplayed(
             Fault::Fit(misfit),
@@ -225,20 +230,22 @@ fn open_fitted<L: Sectors, D: Sectors>(
     }
 }
 
-/// Prepares both devices, arms their fuses, and opens the store for the run of a script that fits it.
+/// Prepares both devices, arms their fuses, and opens the store for the run of a script that fits it, and an archive's
+/// device of so many bytes, if there is one.
 fn ready<L: Sectors, D: Sectors>(
     alloc: Global,
     script: &Script,
     log_only: bool,
+    archive_len: Option<u64>,
     stops: Stops,
     log: L,
     store: D,
 ) -> Result<Opened<Fused<L>, Fused<D>>, Ran<L, D>>
     requires { AllByRecursion IsScriptLine script.now }
     ensures begins { IfOk result (λ opened. MayBegin opened script.now log_only) }
-    ensures ready { (words : List (List ℕ)) (source source_now : SourceSeen) (command : Command) (asked : Asked)
-        → CommandRuns source source_now command asked script.now → log_only ≡ asked.log_only
-        → AreReady L.seen D.seen (call_on L.seen L.gives D.seen D.gives words source source_now log store) command asked stops script.now result }
+    ensures ready { (words : List (List ℕ)) (archive : Unfused) (source source_now : SourceSeen) (command : Command) (asked : Asked)
+        → CommandRuns source source_now command asked script.now → log_only ≡ asked.log_only → archive_len ≡ archive_size archive asked
+        → AreReady L.seen D.seen (call_on L.seen L.gives D.seen D.gives words archive source source_now log store) command asked stops script.now result }
     ensures entered { AreEntered log store result }
 {
     let mut log = Fused::plain(log);
@@ -255,7 +262,7 @@ fn ready<L: Sectors, D: Sectors>(
     }
     log.arm(stops.log);
     store.arm(stops.store);
-    open_fitted(alloc, script, log_only, log, store)
+    open_fitted(alloc, script, log_only, archive_len, log, store)
 }
 
 /// Runs the lines of a script by the turns of this drive, with its followers: on both devices, prepared, and with these stops
@@ -270,13 +277,14 @@ pub(crate) fn by_turns<L: Sectors, D: Sectors>(
 ) -> Ran<L, D>
     requires lines { AllByRecursion IsScriptLine script.now }
     requires few { drive.now.followers ≤ MAX_FOLLOWERS }
-    ensures comes_to { (words : List (List ℕ)) (source source_now : SourceSeen) (command : Command)
+    requires unarchived { drive.now.archive ≡ false }
+    ensures comes_to { (words : List (List ℕ)) (archive : Unfused) (source source_now : SourceSeen) (command : Command)
         → CommandRuns source source_now command drive.now script.now → drive.now.threads ≡ false
-        → IsRanBy (call_on L.seen L.gives D.seen D.gives words source source_now log store) command drive.now stops script.now result }
+        → IsRanBy (call_on L.seen L.gives D.seen D.gives words archive source source_now log store) command drive.now stops script.now result }
     ensures entered { AreOf log store result.log result.store }
 {
     laws();
-    let opened = match ready(alloc, script, drive.log_only, stops, log, store) {
+    let opened = match ready(alloc, script, drive.log_only, None, stops, log, store) {
         Ok(opened) => opened,
         Err(ran) => return ran,
     };
@@ -305,13 +313,14 @@ pub(crate) fn in_threads<R: Threads + Wait + Sync, L: Sectors + Send, D: Sectors
 ) -> Ran<L, D>
     requires lines { AllByRecursion IsScriptLine script.now }
     requires few { followers ≤ MAX_FOLLOWERS }
-    ensures comes_to { (words : List (List ℕ)) (source source_now : SourceSeen) (command : Command) (asked : Asked)
+    ensures comes_to { (words : List (List ℕ)) (archive : Unfused) (source source_now : SourceSeen) (command : Command) (asked : Asked)
         → CommandRuns source source_now command asked script.now → log_only ≡ asked.log_only → followers ≡ asked.followers → asked.threads ≡ true
-        → IsRanBy (call_on L.seen L.gives D.seen D.gives words source source_now log store) command asked stops script.now result }
+        → asked.archive ≡ false
+        → IsRanBy (call_on L.seen L.gives D.seen D.gives words archive source source_now log store) command asked stops script.now result }
     ensures entered { AreOf log store result.log result.store }
 {
     laws();
-    let opened = match ready(alloc, script, log_only, stops, log, store) {
+    let opened = match ready(alloc, script, log_only, None, stops, log, store) {
         Ok(opened) => opened,
         Err(ran) => return ran,
     };

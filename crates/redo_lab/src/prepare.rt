@@ -6,6 +6,7 @@ ghost use Rattle.model_store.specs.{IsUnused};
 ghost use Rattle.redo_disk.specs.{MakesCalls, error_of};
 ghost use Rattle.redo_io.specs.{SourceSeen};
 ghost use Rattle.redo_lab.specs.Devices.{IsFirstRead};
+ghost use Rattle.redo_lab.specs.Call.{Unfused};
 ghost use Rattle.redo_lab.specs.Handed.{AreOf, call_on};
 ghost use Rattle.redo_lab.specs.Runs.{Prepares};
 ghost use Rattle.redo_memdisk.specs.{entry_of, fresh, fuse_of, inner_of};
@@ -66,8 +67,8 @@ pub(crate) fn prepare<L: Sectors, D: Sectors>(
 ) -> Result<(), RecFault>
     requires log_fresh { fuse_of log.old ≡ fresh }
     requires data_fresh { fuse_of store.old ≡ fresh }
-    ensures prepares { (words : List (List ℕ)) (source source_now : SourceSeen)
-        → Prepares (call_on L.seen L.gives D.seen D.gives words source source_now (inner_of log.old) (inner_of store.old) log.new store.new) result }
+    ensures prepares { (words : List (List ℕ)) (archive : Unfused) (source source_now : SourceSeen)
+        → Prepares (call_on L.seen L.gives D.seen D.gives words archive source source_now (inner_of log.old) (inner_of store.old) log.new store.new) result }
     ensures entered { AreOf (entry_of log.old) (entry_of store.old) log.new store.new }
 {
     laws();

@@ -8,6 +8,8 @@ use model_base::Shape;
 pub const LOG_LENGTH: u64 = 1_050_624;
 /// Bytes of its data device.
 pub const STORE_LENGTH: u64 = 65_536;
+/// Bytes of an archive's device in memory.
+pub const ARCHIVE_LENGTH: u64 = 16_777_216;
 
 /// The sizes that the words of `format` ask for.
 pub(crate) fn shape_of(pages: u32, space: u32, log_blocks: u32) -> Shape

@@ -5,6 +5,7 @@ ghost use Rattle.model_script.specs.declared.asked.Command.TheVariants.{Format, 
 ghost use Rattle.model_script.specs.declared.words.TheConstants.{MAX_WORKERS};
 ghost use Rattle.redo_io.specs.{SourceSeen};
 ghost use Rattle.redo_lab.specs.Answer.{asked_shape};
+ghost use Rattle.redo_lab.specs.Call.{Unfused};
 ghost use Rattle.redo_lab.specs.Handed.{AreOf, call_on};
 ghost use Rattle.redo_lab.specs.Ending.{EndsWith};
 
@@ -31,8 +32,8 @@ pub(crate) fn format_devices<L: Sectors, D: Sectors>(
     store: D,
 ) -> Done<L, D>
     requires { IsWithinLimits (asked_shape pages space log_blocks) }
-    ensures ends { (words : List (List ℕ)) (source : SourceSeen)
-        → EndsWith (call_on L.seen L.gives D.seen D.gives words source source log store result.log result.store) (Format pages space log_blocks) result.outcome }
+    ensures ends { (words : List (List ℕ)) (archive : Unfused) (source : SourceSeen)
+        → EndsWith (call_on L.seen L.gives D.seen D.gives words archive source source log store result.log result.store) (Format pages space log_blocks) result.outcome }
     ensures entered { AreOf log store result.log result.store }
 {
     laws();
@@ -58,8 +59,8 @@ pub(crate) fn print_pages<R: Threads + Sync, L: Sectors, D: Sectors>(
     store: D,
 ) -> Done<L, D>
     requires { (1 ≤ workers) × (workers ≤ MAX_WORKERS) }
-    ensures ends { (words : List (List ℕ)) (source : SourceSeen)
-        → EndsWith (call_on L.seen L.gives D.seen D.gives words source source log store result.log result.store) (Recover workers) result.outcome }
+    ensures ends { (words : List (List ℕ)) (archive : Unfused) (source : SourceSeen)
+        → EndsWith (call_on L.seen L.gives D.seen D.gives words archive source source log store result.log result.store) (Recover workers) result.outcome }
     ensures entered { AreOf log store result.log result.store }
 {
     laws();
@@ -83,8 +84,8 @@ pub(crate) fn print_store<L: Sectors, D: Sectors>(
     log: L,
     store: D,
 ) -> Done<L, D>
-    ensures ends { (words : List (List ℕ)) (source : SourceSeen)
-        → EndsWith (call_on L.seen L.gives D.seen D.gives words source source log store result.log result.store) (Dump why) result.outcome }
+    ensures ends { (words : List (List ℕ)) (archive : Unfused) (source : SourceSeen)
+        → EndsWith (call_on L.seen L.gives D.seen D.gives words archive source source log store result.log result.store) (Dump why) result.outcome }
     ensures entered { AreOf log store result.log result.store }
 {
     laws();

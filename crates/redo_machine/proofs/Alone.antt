@@ -1,4 +1,4 @@
--- A run with the log alone and without followers starts as one that ends, so the turns that it spends are fewer than the
+-- A run with the log alone and without archiver and followers starts as one that ends, so the turns that it spends are fewer than the
 -- greatest number.
 use Rattle.std.proofs.Common.{Bool, List, [], ap, arith, cond, drop, false, length, length-append, map, refl, subst, suc, sym, true, zero, ℕ, ◌++◌, ◌+◌, ◌<◌, ◌==◌, ◌∙◌, ◌∷◌, ◌≡◌, ◌≤◌}
 use Rattle.std.specs.Prelude.{IfSome}
@@ -27,11 +27,11 @@ use Rattle.redo_disk.specs.Seen.{Seen}
 use Rattle.redo_drive.proofs.DataPartLaws.{data_laws}
 use Rattle.redo_drive.proofs.LogPartLaws.{log_laws}
 use Rattle.redo_drive.proofs.ScriptRoom.{actors_reserve}
-use Rattle.redo_drive.specs.Begins.{BeginsRun}
+use Rattle.redo_drive.specs.Begins.{BeginsWith}
 use Rattle.redo_drive.specs.DataPartSide as data_part
 use Rattle.redo_drive.specs.LogPartSide as log_part
 use Rattle.redo_drive.specs.Playing.{RunOf, run_data_side, run_log_side}
-use Rattle.redo_drive.specs.Setups.{programs_of, start_actors, user_of, users_below, users_of}
+use Rattle.redo_drive.specs.Setups.{programs_of, seated_actors, start_actors, user_of, users_below, users_of}
 use Rattle.redo_drive.specs.Startable.{MayBegin, room_from}
 use Rattle.redo_drive.specs.Turning.{core_of}
 use Rattle.redo_drive.specs.Views.{views_of}
@@ -91,10 +91,28 @@ of_actor c seat_of writer seat (actor.Checkpointer t) h = omega arith
 of_actor c seat_of writer seat (actor.Reader t) h = omega arith
 of_actor c seat_of writer seat (actor.Joined t) h = omega arith
 
+-- WHAT THE LINES COME TO ends where the script does.
 module _ {L D R : Type 0} (log_seen : L → Seen) (data_seen : D → Seen) (stands : R → List Given → Type 0)
-    (opened : Opened L D) (script : List ScriptLine) (log_only : Bool) (followers : List (Following R)) (start : Beginning L D R)
-    (begins : BeginsRun log_seen data_seen stands opened script log_only followers start) (may : MayBegin opened script log_only)
-    (alone : log_only ≡ true) (none : length followers ≡ 0) where
+    (opened : Opened L D) (script : List ScriptLine) (log_only archive : Bool) (followers : List (Following R))
+    (start : Beginning L D R)
+    (begins : BeginsWith log_seen data_seen stands opened script log_only archive followers start)
+    (may : MayBegin opened script log_only) where
+  pub lines_end : last_lsn begins.run.setup (views_of start.actors.items) ≤ script_end opened.shape opened.start script
+  lines_end =
+      let c : Setup = begins.run.setup in
+      let actors : List Actor = views_of start.actors.items in
+      let text : ℕ = length (stream_of (map (group_of opened.shape.space) script)) in
+      let base : c.base ≡ sn_of opened.start = sym (sn_back c.base) ∙ ap sn_of begins.is_run.start in
+      let all = ap (sum_over_actors left_to_reserve) begins.stands.are_new ∙ actors_reserve opened.shape script opened.start c.log_only archive (length followers) may.fits.lines in
+      let less = sum_less bytes_of left_to_reserve actors (λ seat a at. of_actor c begins.at_start.seat_of begins.at_start.writer seat a (begins.at_start.starts.each seat a at)) in
+      let low = lsn_le (c.base + sum_over_actors bytes_of actors) (c.base + text) (omega arith) in
+      let same = lsn_is (c.base + text) ∙ ap (λ (n : ℕ). lsn_of (n + text)) base in omega arith
+
+module _ {L D R : Type 0} (log_seen : L → Seen) (data_seen : D → Seen) (stands : R → List Given → Type 0)
+    (opened : Opened L D) (script : List ScriptLine) (log_only archive : Bool) (followers : List (Following R))
+    (start : Beginning L D R)
+    (begins : BeginsWith log_seen data_seen stands opened script log_only archive followers start) (may : MayBegin opened script log_only)
+    (alone : log_only ≡ true) (unarchived : archive ≡ false) (none : length followers ≡ 0) where
   abbrev run : RunOf L D
   run = begins.run
 
@@ -120,7 +138,9 @@ module _ {L D R : Type 0} (log_seen : L → Seen) (data_seen : D → Seen) (stan
   only = begins.is_run.log_only_is ∙ alone
 
   actors_are : ◌≡◌ {A = List Actor} actors (in_seats users writer flusher)
-  actors_are = begins.stands.are_new ∙ ap (λ (b : Bool). start_actors opened.shape script opened.start b (length followers)) only
+  actors_are = begins.stands.are_new
+      ∙ ap (λ (b : Bool). seated_actors opened.shape script opened.start b archive (length followers)) only
+      ∙ ap (λ (b : Bool). seated_actors opened.shape script opened.start true b (length followers)) unarchived
       ∙ ap (λ (n : ℕ). start_actors opened.shape script opened.start true n) none
 
   are_log_actors : AreLogActors actors
@@ -141,16 +161,6 @@ module _ {L D R : Type 0} (log_seen : L → Seen) (data_seen : D → Seen) (stan
   few_blocks : c.blocks ≤ MAX_LOG_BLOCKS
   few_blocks = let same = its_blocks in let few = may.runnable.limits.few_blocks in omega arith
 
-  -- the script ends where it should
-  ends_by : last_lsn c actors ≤ script_end opened.shape opened.start script
-  ends_by =
-      let text : ℕ = length (stream_of (map (group_of opened.shape.space) script)) in
-      let base : c.base ≡ sn_of opened.start = sym (sn_back c.base) ∙ ap sn_of begins.is_run.start in
-      let all = ap (sum_over_actors left_to_reserve) begins.stands.are_new ∙ actors_reserve opened.shape script opened.start c.log_only (length followers) may.fits.lines in
-      let less = sum_less bytes_of left_to_reserve actors (λ seat a at. of_actor c begins.at_start.seat_of begins.at_start.writer seat a (begins.at_start.starts.each seat a at)) in
-      let low = lsn_le (c.base + sum_over_actors bytes_of actors) (c.base + text) (omega arith) in
-      let same = lsn_is (c.base + text) ∙ ap (λ (n : ℕ). lsn_of (n + text)) base in omega arith
-
   starts_alone : StartsAlone (run_log_side log_seen data_seen run) (run_data_side log_seen data_seen run) c first
   starts_alone = record {
     log_only = only;
@@ -162,9 +172,9 @@ module _ {L D R : Type 0} (log_seen : L → Seen) (data_seen : D → Seen) (stan
     lists = λ k i. begins.at_start.none_listed i k;
     actors = are_log_actors;
     sound = ap (λ (p : _). is_some p.failed) begins.log ∙ ap is_some may.runnable.log_live;
-    short = (let by = ends_by in let end = may.fits.end in omega arith);
+    short = (let by = lines_end log_seen data_seen stands opened script log_only archive followers start begins may in let end = may.fits.end in omega arith);
     room =
-        let by = ends_by in
+        let by = lines_end log_seen data_seen stands opened script log_only archive followers start begins may in
         let place = begins.is_run.start in
         let blocks = its_blocks in
         let fits = subst (λ (b : Bool). IfSome (room_from b opened.shape opened.start) (λ end. script_end opened.shape opened.start script + MARGIN ≤ end)) alone may.fits.room in

@@ -16,7 +16,7 @@ use Rattle.model_running.specs.ReadHalf.{FollowerHas, groups_upto, HasByKind, Re
 use Rattle.redo_disk.specs.Seen.{Seen}
 use Rattle.redo_drive.proofs.Viewed.{views_at}
 use Rattle.redo_drive.specs.Playing.{RunOf, run_log_side}
-use Rattle.redo_drive.specs.Running.{RunsFrom}
+use Rattle.redo_drive.specs.Running.{RunsFromWith}
 use Rattle.redo_drive.specs.Views.{views_of}
 use Rattle.redo_drive.specs.declared.actor.Actor.{Actor}
 use Rattle.redo_drive.specs.declared.actor.Actor.TheVariants as own
@@ -24,9 +24,9 @@ use Rattle.redo_drive.specs.declared.parts.Parts.{Parts}
 use Rattle.redo_follow.specs.Handing.{Following, StandsFor}
 use Rattle.redo_machine.specs.Following.{FollowsLog}
 
-module _ {L D R : Type 0} (log_seen : L → Seen) (data_seen : D → Seen) (stands : R → List Given → Type 0)
+module _ {L D R : Type 0} {archive : Bool} (log_seen : L → Seen) (data_seen : D → Seen) (stands : R → List Given → Type 0)
     (run : RunOf L D) (starts actors : List (Actor R)) (parts : Parts L D)
-    (from : RunsFrom log_seen data_seen stands run starts parts actors)
+    (from : RunsFromWith log_seen data_seen stands run archive starts parts actors)
     (told : (run_log_side log_seen data_seen run).Tells parts.log) (seat : ℕ) (before after : Following R)
     (number : 0 < before.state.number) (first : get_elem? starts seat ≡ some (own.Follower before))
     (now : get_elem? actors seat ≡ some (own.Follower after)) where

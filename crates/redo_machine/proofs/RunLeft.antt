@@ -1,6 +1,7 @@
 -- What a run by turns leaves, and so what it comes to.
-use Rattle.std.proofs.Common.{Bool, List, ap, arith, length, slice_index, subst, sym, true, ⊎_elim, inl, inr, ℕ, ◌∙◌, ◌<◌, ◌≡◌}
-use Rattle.model_core.specs.{Given, index, lsn}
+use Rattle.std.proofs.Common.{Bool, List, None, Option, Some, ap, arith, cond, false, is_some, length, slice_index, subst, sym}
+use Rattle.std.proofs.Common.{true, ⊎_elim, inl, inr, ℕ, ◌∙◌, ◌<◌, ◌≡◌}
+use Rattle.model_core.specs.{Given, HasLost, index, lsn}
 use Rattle.model_core.specs.Actors as model
 use Rattle.model_core.specs.declared.words.Word.TheVariants as word
 use Rattle.model_running.proofs.OpenLines as open_lines
@@ -12,20 +13,26 @@ use Rattle.model_script.specs.declared.words.TheConstants.{MAX_TURNS}
 use Rattle.redo_disk.specs.{Call}
 use Rattle.redo_disk.specs.Seen.{Seen}
 use Rattle.redo_logdev.specs.Part as log
+use Rattle.redo_archive.specs.Part.{Part}
+use Rattle.redo_archiver.specs.{append_code}
+use Rattle.redo_drive.proofs.ArchiveLeft.{has_archived, lost_with}
 use Rattle.redo_drive.proofs.ShapeStays.{run_shape}
+use Rattle.redo_drive.specs.Archived.{HaveArchived}
+use Rattle.redo_drive.specs.Archiving.{HasComeTo}
 use Rattle.redo_drive.specs.LogPartSide as log_part
 use Rattle.redo_drive.proofs.LeftRun as left_run
 use Rattle.redo_drive.specs.Followed.{HaveFollowed}
-use Rattle.redo_drive.specs.Setups.{start_actors}
+use Rattle.redo_drive.specs.Setups.{seated_actors}
 use Rattle.redo_drive.specs.Startable.{AreNewFollowers, MayBegin}
 use Rattle.redo_drive.specs.Calls.{CallOnBoth, CallsOn}
 use Rattle.redo_drive.specs.Drive.{HasMetError, Owes}
 use Rattle.redo_machine.proofs.Alone as alone
+use Rattle.redo_machine.specs.Appending.{lost_by}
 use Rattle.redo_machine.specs.ByTurns.{RunsByTurns}
-use Rattle.redo_drive.specs.Begins.{BeginsRun}
+use Rattle.redo_drive.specs.Begins.{BeginsWith}
 use Rattle.redo_drive.specs.History.{ListsInOrder}
-use Rattle.redo_drive.specs.Leaving.{LeavesRun}
-use Rattle.redo_drive.specs.Running.{RunsFrom}
+use Rattle.redo_drive.specs.Leaving.{LeavesWith}
+use Rattle.redo_drive.specs.Running.{RunsFromWith, RunsWith}
 use Rattle.redo_drive.specs.declared.making.Beginning.{Beginning}
 use Rattle.redo_drive.specs.Playing.{RunOf, run_data_side, run_log_side}
 use Rattle.redo_drive.specs.Turning.{core_of}
@@ -50,16 +57,19 @@ turns_taken log_seen data_seen run seed max first actors ended.Done last after e
 turns_taken log_seen data_seen run seed max first actors (ended.Spent turns user) last after ends = (max, ends.1.turns)
 
 -- The parts and actors began the run of the script on the store, and the turns of the seed led from there to its end, at which
--- the invariant holds, with what the followers' receivers have got, and of which the closed run tells.
-pub record TurnsLead {L D R : Type 0} (log_seen : L → Seen) (log_gives : L → Call → L → Type 0) (data_seen : D → Seen)
-    (data_gives : D → Call → D → Type 0)
+-- the invariant holds, with what the followers' receivers have got, and of which the closed run tells; and the archive has
+-- come there with them.
+pub record TurnsLead {L D A R : Type 0} (log_seen : L → Seen) (log_gives : L → Call → L → Type 0) (data_seen : D → Seen)
+    (data_gives : D → Call → D → Type 0) (arch_seen : A → Seen)
     (stands : R → List Given → Type 0) (opened : Opened L D) (script : List ScriptLine) (turns : Turns)
-    (followers : List (Following R))
-    (actors : List (Actor R)) (driven : Driven L D) : Type 0 where
+    (before : Option (Part A)) (followers : List (Following R))
+    (actors : List (Actor R)) (driven : Driven L D) (after : Option (Part A)) : Type 0 where
   pub first : Beginning L D R
-  pub begins : BeginsRun log_seen data_seen stands opened script turns.log_only followers first
+  pub begins : BeginsWith log_seen data_seen stands opened script turns.log_only (is_some before) followers first
   pub last : Parts L D
-  pub from : RunsFrom log_seen data_seen stands begins.run first.actors.items last actors
+  pub from : RunsFromWith log_seen data_seen stands begins.run (is_some before) first.actors.items last actors
+  pub come : HasComeTo log_seen data_seen arch_seen begins.run last (views_of actors) from.runs before after
+  pub lost : driven.closed.lost ≡ lost_by after
   pub ends : EndsAs log_seen data_seen begins.run turns.seed turns.max first.parts (views_of first.actors.items)
       driven.ended last (views_of actors)
   pub asked : AskToEnd log_seen log_gives data_seen data_gives begins.run turns.seed turns.max first.parts
@@ -74,12 +84,13 @@ pub record TurnsLead {L D R : Type 0} (log_seen : L → Seen) (log_gives : L →
       (word_marks from.runs.running.shared) from.runs.running.log_ghost.log
   pub listed : ListsInOrder driven.closed.marks (views_of actors) driven.closed.history
 
-module _ {L D R : Type 0} (log_seen : L → Seen) (log_gives : L → Call → L → Type 0) (data_seen : D → Seen)
-    (data_gives : D → Call → D → Type 0)
+module _ {L D A R : Type 0} (log_seen : L → Seen) (log_gives : L → Call → L → Type 0) (data_seen : D → Seen)
+    (data_gives : D → Call → D → Type 0) (arch_seen : A → Seen)
     (stands : R → List Given → Type 0) (opened : Opened L D) (script : List ScriptLine) (turns : Turns)
-    (followers : List (Following R))
-    (actors : List (Actor R)) (driven : Driven L D)
-    (by : TurnsLead log_seen log_gives data_seen data_gives stands opened script turns followers actors driven) where
+    (before : Option (Part A)) (followers : List (Following R))
+    (actors : List (Actor R)) (driven : Driven L D) (after : Option (Part A))
+    (by : TurnsLead log_seen log_gives data_seen data_gives arch_seen stands opened script turns before followers actors driven
+    after) where
   -- where the turns are spent, all of them are
   is_spent : (count user : ℕ) → driven.ended ≡ ended.Spent count user → (count ≡ turns.max) × IsSpent
       (run_log_side log_seen data_seen by.begins.run) (run_data_side log_seen data_seen by.begins.run) turns.seed
@@ -88,17 +99,17 @@ module _ {L D R : Type 0} (log_seen : L → Seen) (log_gives : L → Call → L 
   is_spent count user spent = subst (λ (z : RunEnd). EndsAs log_seen data_seen by.begins.run turns.seed turns.max
       by.first.parts (views_of by.first.actors.items) z by.last (views_of actors)) spent by.ends
 
-  -- and with the log alone, without followers, they are few
+  -- and with the log alone, without archiver and followers, they are few
   are_few : MayBegin opened script turns.log_only → (count user : ℕ) → driven.ended ≡ ended.Spent count user
-      → turns.log_only ≡ true → length followers ≡ 0 → count < MAX_TURNS
-  are_few may count user spent only none =
+      → turns.log_only ≡ true → is_some before ≡ false → length followers ≡ 0 → count < MAX_TURNS
+  are_few may count user spent only unarchived none =
       let all = is_spent count user spent in
-      let few = alone.spent_are_fewer log_seen data_seen stands opened script turns.log_only followers by.first by.begins may only none
+      let few = alone.spent_are_fewer log_seen data_seen stands opened script turns.log_only (is_some before) followers by.first by.begins may only unarchived none
       turns.seed turns.max user _ all.1 in omega (arith, all.0)
 
   -- so the run is by turns
   pub by_turns : MayBegin opened script turns.log_only → RunsByTurns log_seen log_gives data_seen data_gives opened script turns
-      (length followers) (views_of actors) driven
+      (is_some before) (length followers) (views_of actors) driven
   by_turns may = record {
     run = by.begins.run;
     is_run = by.begins.is_run;
@@ -116,7 +127,22 @@ module _ {L D R : Type 0} (log_seen : L → Seen) (log_gives : L → Call → L 
     few = are_few may;
   }
 
-  pub leaves : LeavesRun log_seen log_gives data_seen data_gives stands opened script turns.log_only (length followers)
+  -- an archiver that has lost its archive did so by the error of the archive
+  lost_by_archive : cond (is_some before)
+      ((code : ℕ) → HasLost (views_of actors) code → code ≡ append_code driven.closed.lost) (Unit {0})
+  lost_by_archive = by_archive before after (is_some before) by.lost by.from.runs by.come
+    where
+      by_archive : (b a : Option (Part A)) (archive : Bool) → driven.closed.lost ≡ lost_by a
+          → (runs : RunsWith log_seen data_seen by.begins.run archive by.last (views_of actors))
+          → HasComeTo log_seen data_seen arch_seen by.begins.run by.last (views_of actors) runs b a
+          → cond (is_some b) ((code : ℕ) → HasLost (views_of actors) code → code ≡ append_code driven.closed.lost) (Unit {0})
+      by_archive None a archive is runs come = tt
+      by_archive (Some part) None archive is runs come = absurd come
+      by_archive (Some part) (Some later) archive is runs come = λ code lost.
+          lost_with log_seen data_seen arch_seen by.begins.run by.last (views_of actors) runs later come.beside code lost
+          ∙ ap append_code (sym is)
+
+  pub leaves : LeavesWith log_seen log_gives data_seen data_gives stands opened script turns.log_only (is_some before) (length followers)
       by.first.actors.items actors driven.closed
   leaves = record {
     run = by.begins.run;
@@ -139,6 +165,7 @@ module _ {L D R : Type 0} (log_seen : L → Seen) (log_gives : L → Call → L 
     marks = by.marks;
     code = by.code;
     history = by.history;
+    lost = lost_by_archive;
   }
 
   is_done : driven.ended ≡ ended.Done → IsDone (run_log_side log_seen data_seen by.begins.run)
@@ -160,8 +187,7 @@ module _ {L D R : Type 0} (log_seen : L → Seen) (log_gives : L → Call → L 
       (HasMetError driven.closed)
       (λ failed. left_run.met_error log_seen log_gives data_seen data_gives stands opened script turns.log_only
       (length followers) by.first.actors.items actors driven leaves
-      (⊎_elim (λ cause. (m.failed, inl cause)) (λ cause. (m.failed, inr cause))
-      (by.from.runs.running.both.cause failed))) user end.seat end.state end.is end.number end.not_ended end.least)
+      (m.failed, by.from.runs.running.both.cause failed)) user end.seat end.state end.is end.number end.not_ended end.least)
 
   has_ended : driven.ended ≡ ended.Done → HaveEnded (views_of actors)
   has_ended done = (is_done done).ended
@@ -175,6 +201,21 @@ module _ {L D R : Type 0} (log_seen : L → Seen) (log_gives : L → Call → L 
   followed new = left_run.have_followed log_seen log_gives data_seen data_gives stands opened script turns.log_only
       (length followers)
       by.first.actors.items actors driven leaves followers new
-      (by.begins.stands.are_new ∙ ap (λ (b : Bool). start_actors opened.shape script opened.start b (length followers))
+      (by.begins.stands.are_new ∙ ap (λ (b : Bool). seated_actors opened.shape script opened.start b (is_some before) (length followers))
       by.begins.is_run.log_only_is)
       by.begins.followers
+
+  -- WHAT IT LEAVES OF THE ARCHIVE.
+  pub archived : HaveArchived log_seen data_seen arch_seen opened script driven.closed before after
+  unfolding leaves
+  archived = of_archive before after by.lost by.come
+    where
+      of_archive : (b a : Option (Part A)) → driven.closed.lost ≡ lost_by a
+          → HasComeTo log_seen data_seen arch_seen by.begins.run by.last (views_of actors) by.from.runs b a
+          → HaveArchived log_seen data_seen arch_seen opened script driven.closed b a
+      of_archive None None is come = is
+      of_archive None (Some later) is come = absurd come
+      of_archive (Some part) None is come = absurd come
+      of_archive (Some part) (Some later) is come =
+          has_archived log_seen log_gives data_seen data_gives arch_seen stands opened script turns.log_only
+          (length followers) by.first.actors.items actors driven leaves part later come (sym is)

@@ -1,5 +1,5 @@
 -- A run by turns, up to one of them.
-use Rattle.std.proofs.Common.{Bool, List, add-one, ap, arith, cond, false, length, length-append, map, nat_lt, refl, slice_get, subst, suc, sym, true, zero, ℕ, ◌%◌, ◌+◌, ◌/◌, ◌<◌, ◌^◌, ◌∙◌, ◌∷◌, ◌≡◌, ◌≤◌}
+use Rattle.std.proofs.Common.{Bool, List, Option, add-one, ap, arith, cond, false, length, length-append, map, nat_lt, refl, slice_get, subst, suc, sym, true, zero, ℕ, ◌%◌, ◌+◌, ◌/◌, ◌<◌, ◌^◌, ◌∙◌, ◌∷◌, ◌≡◌, ◌≤◌}
 use Rattle.std.proofs.lemmas.Bool.{lt-ltb}
 use Rattle.std.specs.Prelude.{IfSome}
 use lib.ListN.{get_elem?}
@@ -19,7 +19,9 @@ use Rattle.redo_drive.specs.Asking.{AskOfBoth}
 use Rattle.redo_drive.specs.Calls.{CallOnBoth}
 use Rattle.redo_machine.specs.OpenUsers.{IsFirstOpen}
 use Rattle.redo_drive.specs.Playing.{RunOf, run_data_side, run_log_side}
-use Rattle.redo_drive.specs.Running.{IsOnRun, RunsFrom, RunsOn}
+use Rattle.redo_archive.specs.Part.{Part}
+use Rattle.redo_drive.specs.Running.{RunsWith}
+use Rattle.redo_machine.specs.Appending.{ComesFrom, IsOnRun}
 use Rattle.redo_drive.specs.Turning.{TakesTurn, core_of}
 use Rattle.redo_machine.specs.Turns.{AskInTurns, EndsAsking, IsDrawn}
 use Rattle.redo_drive.specs.Views.{view_of, views_of}
@@ -52,27 +54,28 @@ module _ {L D : Type 0} (log_seen : L → Seen) (log_gives : L → Call → L �
     pub asked : AskInTurns log_seen log_gives data_seen data_gives run seed max n first last turns
 
   -- so many turns of a run lead from the first state to this one
-  pub record GoesOn {R : Type 0} (run : RunOf L D) (seed max turn : ℕ) (first now : Machine L D R) : Type 0 where
-    pub runs : RunsOn log_seen data_seen run now.parts (views_of now.actors.items)
+  pub record GoesOn {A R : Type 0} (run : RunOf L D) (archive : Bool) (seed max turn : ℕ) (first now : Machine L D A R) : Type 0 where
+    pub runs : RunsWith log_seen data_seen run archive now.parts (views_of now.actors.items)
     pub taken : TurnsAsk run seed max turn (core_of log_seen data_seen run first.parts (views_of first.actors.items))
         (core_of log_seen data_seen run now.parts (views_of now.actors.items))
 
   -- A machine in its run, after so many turns. There are so many seats.
-  pub record InRun {R : Type 0} (seed max turn draws seats : ℕ) (first now : Machine L D R) : Type 0 where
+  pub record InRun {A R : Type 0} (arch_seen : A → Seen) (seed max turn draws seats : ℕ) (first now : Machine L D A R) : Type 0 where
     pub drawn : IsDrawn seed turn max draws
     pub count : length now.actors.items ≡ seats
     pub some_seats : 0 < seats
-    pub on_run : IsOnRun log_seen data_seen now.parts (views_of now.actors.items)
-    pub goes : (run : RunOf L D) → RunsOn log_seen data_seen run first.parts (views_of first.actors.items)
-        → GoesOn run seed max turn first now
+    pub on_run : IsOnRun log_seen data_seen arch_seen now
+    pub goes : (run : RunOf L D) (archive : Bool)
+        → RunsWith log_seen data_seen run archive first.parts (views_of first.actors.items)
+        → GoesOn run archive seed max turn first now
 
-  -- the same, with what its followers got, and what it leaves
-  pub record InTurns {R : Type 0} (stands : R → List Given → Type 0) (seed max turn draws seats : ℕ)
-      (first now : Machine L D R) : Type 0 where
-    pub run : InRun seed max turn draws seats first now
-    pub from : (run : RunOf L D) (starts : List (Actor R))
-        → RunsFrom log_seen data_seen stands run starts first.parts first.actors.items
-        → RunsFrom log_seen data_seen stands run starts now.parts now.actors.items
+  -- the same, with what its readers got, and what it leaves
+  pub record InTurns {A R : Type 0} (arch_seen : A → Seen) (stands : R → List Given → Type 0)
+      (seed max turn draws seats : ℕ) (first now : Machine L D A R) : Type 0 where
+    pub run : InRun arch_seen seed max turn draws seats first now
+    pub from : (run : RunOf L D) (archive : Bool) (starts : List (Actor R)) (before : Option (Part A))
+        → ComesFrom log_seen data_seen arch_seen stands run archive starts before first
+        → ComesFrom log_seen data_seen arch_seen stands run archive starts before now
     pub calls : CallOnBoth log_gives data_gives first.parts now.parts
     pub entries : now.entries ≡ first.entries
 
@@ -92,39 +95,40 @@ module _ {L D : Type 0} (log_seen : L → Seen) (log_gives : L → Call → L �
   one_more run n first last t asked =
       subst (λ (k : ℕ). TurnsAsk log_seen log_gives data_seen data_gives run seed max k first last) (sym (add-one n)) (record { turns = t; asked = asked })
 
-module _ {L D R : Type 0} (log_seen : L → Seen) (log_gives : L → Call → L → Type 0) (data_seen : D → Seen)
-    (data_gives : D → Call → D → Type 0) (seed max : ℕ) where
+module _ {L D A R : Type 0} (log_seen : L → Seen) (log_gives : L → Call → L → Type 0) (data_seen : D → Seen)
+    (data_gives : D → Call → D → Type 0) (arch_seen : A → Seen) (seed max : ℕ) where
   -- a run before its first turn
-  pub starts_run : (seats : ℕ) (machine : Machine L D R) → IsOnRun log_seen data_seen machine.parts
-      (views_of machine.actors.items) → length machine.actors.items ≡ seats
-      → InRun log_seen log_gives data_seen data_gives seed max 0 (first_state seed) seats machine machine
+  pub starts_run : (seats : ℕ) (machine : Machine L D A R) → IsOnRun log_seen data_seen arch_seen machine
+      → length machine.actors.items ≡ seats
+      → InRun log_seen log_gives data_seen data_gives arch_seen seed max 0 (first_state seed) seats machine machine
   starts_run seats machine on count = record {
     drawn = λ _. refl;
     count = count;
     some_seats = (let s = some_actor on.run.setup machine.actors.items on.runs.seated in omega arith);
     on_run = on;
-    goes = λ run R. record { runs = R; taken = record { turns = refl; asked = tt } };
+    goes = λ run archive R. record { runs = R; taken = record { turns = refl; asked = tt } };
   }
 
   -- one turn more, of the seat whose turn it is
-  pub goes_on : (turn draws draws_left seats seat : ℕ) (step : Step) (first old new : Machine L D R)
-      → InRun log_seen log_gives data_seen data_gives seed max turn draws seats first old
+  pub goes_on : (turn draws draws_left seats seat : ℕ) (step : Step) (first old new : Machine L D A R)
+      → InRun log_seen log_gives data_seen data_gives arch_seen seed max turn draws seats first old
       → (HaveEnded (views_of old.actors.items) → ⊥)
       → seat ≡ seat_of_turn seed max seats turn → IsDrawn seed (turn + 1) max draws_left
-      → ((run : RunOf L D) → RunsOn log_seen data_seen run old.parts (views_of old.actors.items)
+      → IsOnRun log_seen data_seen arch_seen new
+      → ((run : RunOf L D) (archive : Bool) → RunsWith log_seen data_seen run archive old.parts (views_of old.actors.items)
       → TakesTurn log_seen data_seen run old.parts (views_of old.actors.items) seat step new.parts
-      (views_of new.actors.items) × RunsOn log_seen data_seen run new.parts (views_of new.actors.items))
+      (views_of new.actors.items) × RunsWith log_seen data_seen run archive new.parts (views_of new.actors.items))
       → length new.actors.items ≡ length old.actors.items
       → IfSome (slice_get old.actors.items seat) (λ actor. AskOfBoth log_gives data_gives (lent (view_of actor)) (next (view_of actor)) old.parts new.parts)
-      → InRun log_seen log_gives data_seen data_gives seed max (turn + 1) draws_left seats first new
-  goes_on turn draws draws_left seats seat step first old new I open_user its drawn keeps same asked = record {
+      → InRun log_seen log_gives data_seen data_gives arch_seen seed max (turn + 1) draws_left seats first new
+  goes_on turn draws draws_left seats seat step first old new I open_user its drawn on keeps same asked = record {
     drawn = drawn;
     count = same ∙ I.count;
     some_seats = I.some_seats;
-    on_run = record { run = I.on_run.run; runs = (keeps I.on_run.run I.on_run.runs).1 };
-    goes = λ run R.
-        let before = I.goes run R in
-        let taken = (keeps run before.runs).0 in
+    on_run = on;
+    goes = λ run archive R.
+        let before = I.goes run archive R in
+        let taken = (keeps run archive before.runs).0 in
         let count : seats ≡ length (views_of old.actors.items) = sym (length_views old.actors.items ∙ I.count) in
         let its_seat : seat ≡ seat_of_turn seed max (length (views_of old.actors.items)) turn = its ∙ ap (λ (n : ℕ). seat_of_turn seed max n turn) count in
         let its_turn : Turn (run_log_side log_seen data_seen run) (run_data_side log_seen data_seen run)
@@ -135,7 +139,7 @@ module _ {L D R : Type 0} (log_seen : L → Seen) (log_gives : L → Call → L 
         (core_of log_seen data_seen run old.parts (views_of old.actors.items)) s taken.answer step
         (core_of log_seen data_seen run new.parts (views_of new.actors.items))) its_seat taken.turn in
         record {
-          runs = (keeps run before.runs).1;
+          runs = (keeps run archive before.runs).1;
           taken = one_more log_seen log_gives data_seen data_gives seed max run turn
               (core_of log_seen data_seen run first.parts (views_of first.actors.items))
               (core_of log_seen data_seen run new.parts (views_of new.actors.items))
@@ -155,25 +159,27 @@ module _ {L D R : Type 0} (log_seen : L → Seen) (log_gives : L → Call → L 
   }
 
   -- a run in which each user has ended
-  pub ends_done : (turn draws seats : ℕ) (first last : Machine L D R) → InRun log_seen log_gives data_seen data_gives
-      seed max turn draws seats first last → turn ≤ max → HaveEnded (views_of last.actors.items)
-      → (run : RunOf L D) → RunsOn log_seen data_seen run first.parts (views_of first.actors.items)
+  pub ends_done : (turn draws seats : ℕ) (first last : Machine L D A R) → InRun log_seen log_gives data_seen data_gives
+      arch_seen seed max turn draws seats first last → turn ≤ max → HaveEnded (views_of last.actors.items)
+      → (run : RunOf L D) (archive : Bool)
+      → RunsWith log_seen data_seen run archive first.parts (views_of first.actors.items)
       → EndsAsking log_seen log_gives data_seen data_gives run seed max first.parts (views_of first.actors.items)
       ran.Done last.parts (views_of last.actors.items)
-  ends_done turn draws seats first last I within ended run R =
-      let goes = I.goes run R in record {
+  ends_done turn draws seats first last I within ended run archive R =
+      let goes = I.goes run archive R in record {
         ends = record { count = turn; within = within; turns = goes.taken.turns; ended = ended };
         asked = goes.taken.asked;
       }
 
   -- a run whose turns are spent
-  pub ends_spent : (turn draws seats user : ℕ) (first last : Machine L D R) → InRun log_seen log_gives data_seen
-      data_gives seed max turn draws seats first last → turn ≡ max → IsFirstOpen (views_of last.actors.items) user
-      → (run : RunOf L D) → RunsOn log_seen data_seen run first.parts (views_of first.actors.items)
+  pub ends_spent : (turn draws seats user : ℕ) (first last : Machine L D A R) → InRun log_seen log_gives data_seen
+      data_gives arch_seen seed max turn draws seats first last → turn ≡ max → IsFirstOpen (views_of last.actors.items) user
+      → (run : RunOf L D) (archive : Bool)
+      → RunsWith log_seen data_seen run archive first.parts (views_of first.actors.items)
       → EndsAsking log_seen log_gives data_seen data_gives run seed max first.parts (views_of first.actors.items)
       (ran.Spent max user) last.parts (views_of last.actors.items)
-  ends_spent turn draws seats user first last I all open_user run R =
-      let goes = I.goes run R in
+  ends_spent turn draws seats user first last I all open_user run archive R =
+      let goes = I.goes run archive R in
       let taken = subst (λ (n : ℕ). TurnsAsk log_seen log_gives data_seen data_gives run seed max n
       (core_of log_seen data_seen run first.parts (views_of first.actors.items))
       (core_of log_seen data_seen run last.parts (views_of last.actors.items))) all goes.taken in record {

@@ -19,7 +19,7 @@ write_live part mark lending.Nothing may = absurd may
 write_live part mark (lending.Batch pages frames) may = absurd may
 
 -- a device that isn't called
-not_asked : {D : Type 0} (gives : D → Call → D → Type 0) (device : D) (failed : Option DevError) → AskOf gives [] device failed device failed
+pub not_asked : {D : Type 0} (gives : D → Call → D → Type 0) (device : D) (failed : Option DevError) → AskOf gives [] device failed device failed
 not_asked gives device failed = record {
   live = λ none. subst (λ (e : Option DevError). MakesCalls gives device device (Serve [] e)) (sym none)
       (no_calls gives device (Serve [] None) (record { ends = record { stop = tt; first = refl }; rest = []; asked = refl; all = λ none. refl }));

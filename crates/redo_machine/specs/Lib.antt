@@ -1,3 +1,4 @@
+pub mod Appending
 pub mod ByTurns
 pub mod Following
 pub mod OpenUsers

@@ -1,16 +1,18 @@
 // A store after its run.
-ghost use Rattle.std.specs.Prelude.{◌≡◌, ◌≤◌, [], length, slice_index, vec_capacity};
+ghost use Rattle.std.specs.Prelude.{◌≡◌, ◌≤◌, [], Bool, length, slice_index, vec_capacity};
 ghost use Rattle.model_core.specs.{index, IsWord};
 ghost use Rattle.model_core.specs.declared.words.Word.TheVariants as word_is;
 ghost use Rattle.model_running.specs.{history_of, marks_in, word_marks};
 ghost use Rattle.redo_drive.specs.History.{ListsInOrder};
 ghost use Rattle.redo_drive.specs.Playing.{RunOf};
-ghost use Rattle.redo_drive.specs.Running.{IsOnRun, RunsOn};
+ghost use Rattle.redo_drive.specs.Running.{AreOnRun, RunsWith};
 ghost use Rattle.redo_drive.specs.Views.{views_of};
+ghost use Rattle.redo_machine.specs.Appending.{lost_by};
 
 use crate::machine::Machine;
 use model_report::Marks;
-use redo_disk::Sectors;
+use redo_archive::ArchPart;
+use redo_disk::{DevError, Sectors};
 use redo_drive::{Actor, Closed, Parts, history_of};
 use redo_follow::Receiver;
 use redo_link::tail_of;
@@ -40,19 +42,29 @@ fn marks_in(words: &mut PlainWords) -> Marks
     }
 }
 
-impl<L: Sectors, D: Sectors, R: Receiver> Machine<L, D, R> {
-    /// What the run leaves: its history, its marks, both parts, and the code in FAILED; and its actors, the followers among
-    /// them.
-    pub fn finish(self) -> (Closed<L, D>, Vec<Actor<R>>)
-        requires { IsOnRun L.seen D.seen self.parts (views_of self.actors.items) }
+/// What a call of the archive answered that failed, if there is one.
+fn lost_by<A: Sectors>(archive: &Option<ArchPart<A>>) -> Option<DevError>
+    ensures { result ≡ lost_by archive.now }
+{
+    match archive {
+        Some(part) => part.failed(),
+        None => None,
+    }
+}
+
+impl<L: Sectors, D: Sectors, A: Sectors, R: Receiver> Machine<L, D, A, R> {
+    /// What the run leaves: its history, its marks, both parts, the code in FAILED, and what an append has met; its actors, the
+    /// followers among them; and the archive.
+    pub fn finish(self) -> (Closed<L, D>, Vec<Actor<R>>, Option<ArchPart<A>>)
+        requires { AreOnRun L.seen D.seen self.parts (views_of self.actors.items) }
         ensures parts { (result.0.log ≡ self.parts.log) × (result.0.store ≡ self.parts.store) }
-        ensures actors { result.1.items ≡ self.actors.items }
+        ensures kept { (result.1.items ≡ self.actors.items) × (result.2 ≡ self.archive) × (result.0.lost ≡ lost_by self.archive) }
         ensures code { result.0.code ≡ slice_index self.parts.words.words (index word_is.Failed) }
         ensures marks { result.0.marks ≡ marks_in self.parts.words.words }
-        ensures history { (run : RunOf L D) (runs : RunsOn L.seen D.seen run self.parts (views_of self.actors.items))
+        ensures history { (run : RunOf L D) (archive : Bool) (runs : RunsWith L.seen D.seen run archive self.parts (views_of self.actors.items))
             → self.entries.items ≡ [] → length runs.running.log_ghost.log ≤ vec_capacity self.entries
             → result.0.history ≡ history_of runs.running.log_ghost.answered (word_marks runs.running.shared) runs.running.log_ghost.log }
-        ensures listed { (run : RunOf L D) (runs : RunsOn L.seen D.seen run self.parts (views_of self.actors.items))
+        ensures listed { (run : RunOf L D) (archive : Bool) (runs : RunsWith L.seen D.seen run archive self.parts (views_of self.actors.items))
             → self.entries.items ≡ [] → length runs.running.log_ghost.log ≤ vec_capacity self.entries
             → ListsInOrder result.0.marks (views_of self.actors.items) result.0.history }
     {
@@ -60,6 +72,7 @@ impl<L: Sectors, D: Sectors, R: Receiver> Machine<L, D, R> {
             parts,
             actors,
             entries,
+            archive,
         } = self;
         let Parts {
             mut words,
@@ -76,7 +89,8 @@ impl<L: Sectors, D: Sectors, R: Receiver> Machine<L, D, R> {
             log,
             store,
             code,
+            lost: lost_by(&archive),
         };
-        (closed, actors)
+        (closed, actors, archive)
     }
 }

@@ -140,6 +140,7 @@ pub fn play<L: Sectors, D: Sectors>(parts: &mut Parts<L, D>, op: Op, lent: Lent<
         // a block is read into room that is written, and what is lent here is only read
         Op::ReadBlock(_) => unreachable!(),
         Op::WriteBatch => answer_of(Device::Data, call_batch(&mut parts.store, lent), 0),
+        Op::Append(_) => unreachable!(),
         Op::Rest => Answer::Rested,
     }
 }

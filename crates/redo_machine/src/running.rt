@@ -1,11 +1,13 @@
 // A run by turns.
-ghost use Rattle.std.specs.Prelude.{◌≡◌, ◌<◌, ◌+◌, List, ℕ};
+ghost use Rattle.std.specs.Prelude.{◌≡◌, ◌<◌, ◌+◌, Bool, List, Option, ℕ};
 ghost use Rattle.model_running.specs.{seat_of_turn};
 ghost use Rattle.redo_drive.specs.Calls.{CallOnBoth};
 ghost use Rattle.redo_drive.specs.Playing.{RunOf};
-ghost use Rattle.redo_drive.specs.Running.{IsOnRun, RunsFrom, RunsOn};
+ghost use Rattle.redo_archive.specs.Part.{Part};
+ghost use Rattle.redo_drive.specs.Running.{RunsWith};
 ghost use Rattle.redo_drive.specs.Views.{views_of};
 ghost use Rattle.redo_drive.specs.declared.actor.Actor.{Actor as TheActor};
+ghost use Rattle.redo_machine.specs.Appending.{ComesFrom, IsOnRun};
 ghost use Rattle.redo_machine.specs.Turns.{EndsAsking, IsDrawn};
 
 use crate::machine::Machine;
@@ -29,15 +31,15 @@ pub fn seat_of(draws: &mut Draws, turn: u64, max: u64, seats: u64) -> u64
     }
 }
 
-impl<L: Sectors, D: Sectors, R: Receiver> Machine<L, D, R> {
+impl<L: Sectors, D: Sectors, A: Sectors, R: Receiver> Machine<L, D, A, R> {
     /// Gives turns to the actors, at most so many, until each user has ended.
     pub fn run(&mut self, seed: u64, max: u64) -> RunEnd
-        requires { IsOnRun L.seen D.seen self.old.parts (views_of self.old.actors.items) }
-        ensures runs { (run : RunOf L D) → RunsOn L.seen D.seen run self.old.parts (views_of self.old.actors.items)
-            → RunsOn L.seen D.seen run self.new.parts (views_of self.new.actors.items) }
-        ensures from { (run : RunOf L D) (starts : List (TheActor R)) → RunsFrom L.seen D.seen R.stands_for run starts self.old.parts self.old.actors.items
-            → RunsFrom L.seen D.seen R.stands_for run starts self.new.parts self.new.actors.items }
-        ensures ends { (run : RunOf L D) → RunsOn L.seen D.seen run self.old.parts (views_of self.old.actors.items)
+        requires { IsOnRun L.seen D.seen A.seen self.old }
+        ensures on_run { IsOnRun L.seen D.seen A.seen self.new }
+        ensures from { (run : RunOf L D) (archive : Bool) (starts : List (TheActor R)) (before : Option (Part A))
+            → ComesFrom L.seen D.seen A.seen R.stands_for run archive starts before self.old
+            → ComesFrom L.seen D.seen A.seen R.stands_for run archive starts before self.new }
+        ensures ends { (run : RunOf L D) (archive : Bool) → RunsWith L.seen D.seen run archive self.old.parts (views_of self.old.actors.items)
             → EndsAsking L.seen L.gives D.seen D.gives run seed max self.old.parts (views_of self.old.actors.items) result self.new.parts (views_of self.new.actors.items) }
         ensures calls { CallOnBoth L.gives D.gives self.old.parts self.new.parts }
         ensures entries { self.new.entries ≡ self.old.entries }

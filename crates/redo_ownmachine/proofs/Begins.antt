@@ -1,5 +1,5 @@
 -- A run whose users write for themselves begins as any run does.
-use Rattle.std.proofs.Common.{Bool, List, [], ap, append_assoc, arith, false, length, map, subst, suc, sym, true}
+use Rattle.std.proofs.Common.{Bool, List, [], ap, append_assoc, arith, false, length, map, refl, subst, suc, sym, true}
 use Rattle.std.proofs.Common.{zero, ℕ, ◌++◌, ◌+◌, ◌<◌, ◌∙◌, ◌∷◌, ◌≡◌, ◌≤◌}
 use Rattle.std.specs.Prelude.{IfSome}
 use Rattle.model_base.specs.declared.limits.TheConstants.{LSN_LIMIT}
@@ -21,10 +21,10 @@ use Rattle.model_script.specs.declared.misfit.TheConstants.{MARGIN}
 use Rattle.model_script.specs.declared.script.ScriptLine.{ScriptLine}
 use Rattle.redo_disk.specs.Seen.{Seen}
 use Rattle.redo_drive.proofs.ScriptRoom.{actors_reserve, room_for_all}
-use Rattle.redo_drive.specs.Begins.{BeginsRun}
+use Rattle.redo_drive.specs.Begins.{BeginsRun, BeginsWith}
 use Rattle.redo_drive.specs.Playing.{RunOf, run_data_side, run_log_side}
-use Rattle.redo_drive.specs.Running.{RunsOn}
-use Rattle.redo_drive.specs.Setups.{followers_from, page_actors, users_of}
+use Rattle.redo_drive.specs.Running.{RunsWith}
+use Rattle.redo_drive.specs.Setups.{followers_from, page_actors, readers_of, users_of}
 use Rattle.redo_drive.specs.Startable.{MayBegin, room_from}
 use Rattle.redo_drive.specs.Views.{views_of}
 use Rattle.redo_drive.specs.declared.actor.Actor.{Actor}
@@ -40,7 +40,7 @@ use Rattle.redo_ownmachine.specs.OwnBegins.{OwnBeginsRun}
 use Rattle.redo_ownmachine.specs.OwnCrew.{HasRoom, HaveWorkers, crew, crew_of, seats_of}
 use Rattle.redo_ownmachine.specs.OwnSeats.{AreAtHome, OwnSeats, actors_of}
 use Rattle.redo_ownmachine.specs.OwnAsking.{own_core_of}
-use Rattle.redo_ownmachine.specs.OwnStore.{OwnAlone, OwnRunsOn}
+use Rattle.redo_ownmachine.specs.OwnStore.{OwnAlone, OwnRunsOn, OwnRunsWith}
 use Rattle.redo_ownmachine.specs.declared.machine.OwnMachine.{OwnMachine}
 use Rattle.redo_store.specs.declared.opened.Opened.{Opened}
 
@@ -49,10 +49,14 @@ followers_other : (start number n : ℕ) → AreOtherViews (followers_from start
 followers_other start number zero = tt
 followers_other start number (suc n) = (tt, followers_other start (number + 1) n)
 
-module _ {L D R : Type 0} (log_seen : L → Seen) (data_seen : D → Seen) (stands : R → List Given → Type 0)
+readers_other : (start : ℕ) (archive : Bool) (n : ℕ) → AreOtherViews (readers_of start archive n)
+readers_other start true n = (tt, followers_other start FIRST_FOLLOWER n)
+readers_other start false n = followers_other start FIRST_FOLLOWER n
+
+module _ {L D R : Type 0} {archive : Bool} (log_seen : L → Seen) (data_seen : D → Seen) (stands : R → List Given → Type 0)
     (opened : Opened L D) (script : List ScriptLine) (log_only : Bool) (followers : List (Following R))
     (start : Beginning L D R)
-    (begins : BeginsRun log_seen data_seen stands opened script log_only followers start) where
+    (begins : BeginsWith log_seen data_seen stands opened script log_only archive followers start) where
   abbrev run : RunOf L D
   run = begins.run
 
@@ -60,12 +64,12 @@ module _ {L D R : Type 0} (log_seen : L → Seen) (data_seen : D → Seen) (stan
   c = run.setup
 
   abbrev pages : Bool → List model.Actor
-  pages b = page_actors opened.shape opened.start b (length followers)
-      ++ followers_from opened.start FIRST_FOLLOWER (length followers)
+  pages b = page_actors opened.shape opened.start b archive (length followers)
+      ++ readers_of opened.start archive (length followers)
 
   pages_other : (b : Bool) → AreOtherViews (pages b)
-  pages_other true = followers_other opened.start FIRST_FOLLOWER (length followers)
-  pages_other false = (tt, (tt, (tt, followers_other opened.start FIRST_FOLLOWER (length followers))))
+  pages_other true = readers_other opened.start archive (length followers)
+  pages_other false = (tt, (tt, (tt, readers_other opened.start archive (length followers))))
 
   abbrev users : List UserState
   users = users_of opened.shape c.log_only script
@@ -80,8 +84,8 @@ module _ {L D R : Type 0} (log_seen : L → Seen) (data_seen : D → Seen) (stan
       (map model.User users ++ model.Writer writer ∷ model.Flusher flusher ∷ pages c.log_only)
   views_are = begins.stands.are_new ∙ append_assoc (map model.User users)
       (model.Writer writer ∷ model.Flusher flusher
-      ∷ page_actors opened.shape opened.start c.log_only (length followers))
-      (followers_from opened.start FIRST_FOLLOWER (length followers))
+      ∷ page_actors opened.shape opened.start c.log_only archive (length followers))
+      (readers_of opened.start archive (length followers))
 
   pub have_workers : HaveWorkers start.actors.items
   have_workers = by_views start.actors.items users writer flusher (pages c.log_only) views_are (pages_other c.log_only)
@@ -114,7 +118,7 @@ module _ {L D R : Type 0} (log_seen : L → Seen) (data_seen : D → Seen) (stan
     reserve : sum_over_actors left_to_reserve (actors_of seats)
         ≡ length (stream_of (map (group_of opened.shape.space) script))
     reserve = ap (sum_over_actors left_to_reserve) (sym views ∙ begins.stands.are_new)
-        ∙ actors_reserve opened.shape script opened.start c.log_only (length followers) may.fits.lines
+        ∙ actors_reserve opened.shape script opened.start c.log_only archive (length followers) may.fits.lines
 
     own_start : OwnStart (run_log_side log_seen data_seen run) (run_data_side log_seen data_seen run) c 0
         (own_core_of log_seen data_seen run start.parts seats)
@@ -130,19 +134,19 @@ module _ {L D R : Type 0} (log_seen : L → Seen) (data_seen : D → Seen) (stan
       room = subst (λ (n : ℕ). lsn (n + sum_over_actors left_to_reserve (actors_of seats) + 0) < LSN_LIMIT) (sym base)
           (subst (λ (l : List model.Actor). lsn (sn_of opened.start + sum_over_actors left_to_reserve l + 0) < LSN_LIMIT)
           (sym begins.stands.are_new ∙ views)
-          (room_for_all opened.shape script opened.start c.log_only (length followers) may.fits.lines may.fits.end));
+          (room_for_all opened.shape script opened.start c.log_only archive (length followers) may.fits.lines may.fits.end));
     }
 
-    pub runs : OwnRunsOn log_seen data_seen run start.parts seats
+    pub runs : OwnRunsWith log_seen data_seen run archive start.parts seats
     runs = record {
-      runs = subst (λ (l : List model.Actor). RunsOn log_seen data_seen run start.parts l) views begins.from.runs;
+      runs = subst (λ (l : List model.Actor). RunsWith log_seen data_seen run archive start.parts l) views begins.from.runs;
       errands = (own_starts (run_log_side log_seen data_seen run) (its_log_laws log_seen data_seen run)
           (run_data_side log_seen data_seen run) (its_data_laws log_seen data_seen run) c 0
           (own_core_of log_seen data_seen run start.parts seats) own_start).errands;
     }
 
-    -- with one user, the log alone and no followers
-    module _ (only : log_only ≡ true) (none : length followers ≡ 0) (o : OwnUser) (one : us ≡ o ∷ []) where
+    -- with one user, the log alone, and no archiver or follower
+    module _ (apart : archive ≡ false) (only : log_only ≡ true) (none : length followers ≡ 0) (o : OwnUser) (one : us ≡ o ∷ []) where
       log_only_is : c.log_only ≡ true
       log_only_is = begins.is_run.log_only_is ∙ only
 
@@ -153,6 +157,7 @@ module _ {L D R : Type 0} (log_seen : L → Seen) (data_seen : D → Seen) (stan
 
       no_others : ◌≡◌ {A = List model.Actor} (views_of os) []
       no_others = ap tail_of in_order.1 ∙ ap pages log_only_is
+          ∙ ap (λ (b : Bool). readers_of opened.start b (length followers)) apart
           ∙ ap (λ (n : ℕ). followers_from opened.start FIRST_FOLLOWER n) none
 
       its_blocks : c.blocks ≡ (run_layout opened.shape).blocks
@@ -206,5 +211,5 @@ module _ {L D R : Type 0} (log_seen : L → Seen) (data_seen : D → Seen) (stan
     alone = λ only none o one. subst (λ (p : Parts L D). OwnAlone log_seen data_seen begins.run p (seats_of m))
         (sym parts)
         (alone log_seen data_seen stands opened script log_only followers start begins may m.users.items m.work
-        m.others.items are home only none o one);
+        m.others.items are home refl only none o one);
   }

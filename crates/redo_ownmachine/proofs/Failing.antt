@@ -1,5 +1,5 @@
 -- A turn that ends by a failure leaves a code in FAILED, and that has a cause; and no turn takes a code from there.
-use Rattle.std.proofs.Common.{Bool, List, ap, arith, cond, false, get_or-set_other, inl, inr, refl, set, subst, sym, true, ℕ}
+use Rattle.std.proofs.Common.{Bool, List, ap, arith, cond, false, get_or-set_other, inl, inr, refl, subst, sym, true, ℕ, ⊎_elim}
 use Rattle.std.proofs.Common.{◌+◌, ◌<◌, ◌==◌, ◌∙◌, ◌≡◌, ◌⊎◌, []}
 use Rattle.std.specs.Prelude.{slice_index, slice_set}
 use lib.ListN.{get_elem?}
@@ -32,6 +32,7 @@ use Rattle.model_ownrun.proofs.Errands.{in_hand}
 use Rattle.model_ownrun.proofs.Seats.{flusher_seat, flusher_there, user_there, writer_seat, writer_there}
 use Rattle.model_ownrun.specs.OwnRunning.{OwnRunning, WorkFits}
 use Rattle.model_pagecore.specs.DataLaws.{DataLaws}
+use Rattle.model_running.proofs.Archiving.{IsNoReader, none_loses, others_append_not, served_none}
 use Rattle.model_running.proofs.FailedStays.{turn_keeps_failed}
 use Rattle.model_running.proofs.Watermarks.{has_watermarks}
 use Rattle.model_running.specs.RunningStore.{IsRunning}
@@ -72,9 +73,9 @@ module _ (D : LogSide) (L : LogLaws D) (E : DataSide) (EL : DataLaws E) (c : Set
   abbrev HasCause : Type 0
   HasCause = D.Cause new.log_part (slice_index new.words 6) ⊎ E.Cause new.data_part (slice_index new.words 6)
 
-  user_cause : IsRunning D E c spare (with_writer new) → UserTurn D E old seat answer ends new → (code : ℕ)
+  user_cause : IsRunning D E c spare (with_writer new) → 0 < c.first_reader → UserTurn D E old seat answer ends new → (code : ℕ)
       → ends ≡ step.Failed code → HasCause
-  user_cause running t code is =
+  user_cause running followers t code is =
       let W = has_watermarks D L E EL c spare (with_writer new) running in
       let then : OwnUser = (own_goes_on t.who old.work answer).0 in
       let sits : get_elem? new.users seat ≡ some then =
@@ -83,13 +84,16 @@ module _ (D : LogSide) (L : LogLaws D) (E : DataSide) (EL : DataLaws E) (c : Set
       let shown : 0 < W.0.failed = W.2.of_log.failures_show seat (actor.User then.user) there
       (user_fails t.who old.work answer code (sym t.ends ∙ is)) in
       let same : slice_index new.words 6 ≡ W.0.failed = ap (λ (ws : List ℕ). slice_index ws 6) W.1 in
-      subst (λ (n : ℕ). D.Cause new.log_part n ⊎ E.Cause new.data_part n) (sym same) (W.2.failure_has_cause.cause shown)
+      subst (λ (n : ℕ). D.Cause new.log_part n ⊎ E.Cause new.data_part n) (sym same)
+      (⊎_elim (λ cause. inl cause) (⊎_elim (λ cause. inr cause)
+      (λ lost. absurd (none_loses c (with_writer new).actors running.both.in_run followers W.0.failed lost)))
+      (W.2.failure_has_cause.cause shown))
 
-  pub own_failed_turn_has_cause : IsRunning D E c spare (with_writer new) → OwnTurn D E old seat answer ends new
+  pub own_failed_turn_has_cause : IsRunning D E c spare (with_writer new) → 0 < c.first_reader → OwnTurn D E old seat answer ends new
       → (code : ℕ) → ends ≡ step.Failed code → HasCause
-  own_failed_turn_has_cause running (inl t) code is = user_cause running t code is
-  own_failed_turn_has_cause running (inr t) code is =
-      failed_turn_has_cause D L E EL c spare (with_writer old) (with_writer new) (seat + 2) answer ends running t.turn
+  own_failed_turn_has_cause running followers (inl t) code is = user_cause running followers t code is
+  own_failed_turn_has_cause running followers (inr t) code is =
+      failed_turn_has_cause D L E EL c spare (with_writer old) (with_writer new) (seat + 2) answer ends running followers t.turn
       code is
 
 -- NO TURN TAKES A CODE FROM FAILED.
@@ -121,9 +125,9 @@ module _ (D : LogSide) (E : DataSide) (c : Setup) (spare : ℕ) (old new : OwnCo
     k = old.work
 
     -- its Op is that of an actor of the store with writer and flusher, with what that lends
-    as_actor : (j : ℕ) (a : Actor) → get_elem? (with_writer old).actors j ≡ some a → Fills a nothing
+    as_actor : (j : ℕ) (a : Actor) → get_elem? (with_writer old).actors j ≡ some a → Fills a nothing → IsNoReader a
         → own_next o k ≡ next a → own_lends o k ≡ lent (filled a nothing) → Stays
-    as_actor j a at fills ops lends =
+    as_actor j a at fills other ops lends =
         turn_keeps_failed D E c spare (with_writer old) (record {
           words = new.words;
           log_part = new.log_part;
@@ -140,6 +144,7 @@ module _ (D : LogSide) (E : DataSide) (c : Setup) (spare : ℕ) (old new : OwnCo
               (subst (λ (x : Op). LogServed D old.log_part (own_lends o k) x t.code new.log_part) ops t.log_served);
           data_served = subst (λ (l : Lent). DataServed E old.data_part l (next a) t.code new.data_part) lends
               (subst (λ (x : Op). DataServed E old.data_part (own_lends o k) x t.code new.data_part) ops t.data_served);
+          own_served = served_none (next a) (others_append_not a other) t.code;
           words = t.words ∙ ap (words_left old.words) ops;
           lists = t.lists ∙ ap (lists_left old.lists (list_word old.words)) ops;
           answered = t.answered
@@ -157,7 +162,7 @@ module _ (D : LogSide) (E : DataSide) (c : Setup) (spare : ℕ) (old new : OwnCo
 
     by_errand : o.user.checks ≡ false → (x : ErrandStep) → o.errand ≡ x → Stays
     by_errand asks errand_step.Done is = as_actor seat (actor.User o.user)
-        (user_there old.users k old.others seat o t.who_is) tt
+        (user_there old.users k old.others seat o t.who_is) tt tt
         (ap (λ (x : ErrandStep). asked o.user.checks (errand_op o k x)) is) (ap (errand_lends k) is)
     by_errand asks errand_step.TakeDevice is = stays_as _
         (t.words ∙ ap (λ (b : Bool). words_left old.words (asked b (errand_op o k o.errand))) asks
@@ -168,12 +173,12 @@ module _ (D : LogSide) (E : DataSide) (c : Setup) (spare : ℕ) (old new : OwnCo
         ∙ ap (λ (x : ErrandStep). words_left old.words (errand_op o k x)) is)
         (device_aside 0)
     by_errand asks errand_step.Write is = as_actor (writer_seat old.users) (actor.Writer k.writer)
-        (writer_there old.users k old.others) tt
+        (writer_there old.users k old.others) tt tt
         (ap (λ (x : ErrandStep). asked o.user.checks (errand_op o k x)) is
         ∙ ap (λ (b : Bool). asked b (writer_op k.writer k.writer.step))
         (asks ∙ sym (work_in errand_step.Write is refl).writer_goes_on)) (ap (errand_lends k) is)
     by_errand asks errand_step.Flush is = as_actor (flusher_seat old.users) (actor.Flusher k.flusher)
-        (flusher_there old.users k old.others) tt
+        (flusher_there old.users k old.others) tt tt
         (ap (λ (x : ErrandStep). asked o.user.checks (errand_op o k x)) is
         ∙ ap (λ (b : Bool). asked b (flusher_op k.flusher k.flusher.step))
         (asks ∙ sym (work_in errand_step.Flush is refl).flusher_goes_on)) (ap (errand_lends k) is)

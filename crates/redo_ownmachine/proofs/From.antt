@@ -37,7 +37,7 @@ use Rattle.redo_ownmachine.proofs.Serves.{goes_on, its_data_laws, its_log_laws}
 use Rattle.redo_ownmachine.proofs.Unique.{AtLeast, groups_stay, log_goes_on}
 use Rattle.redo_ownmachine.specs.OwnCrew.{crew}
 use Rattle.redo_ownmachine.specs.OwnSeats.{OwnSeats, actors_of}
-use Rattle.redo_ownmachine.specs.OwnStore.{OwnRunsOn}
+use Rattle.redo_ownmachine.specs.OwnStore.{OwnRunsOn, OwnRunsWith}
 use Rattle.redo_ownmachine.specs.Serving.{IsUserServed}
 use Rattle.redo_ownuser.specs.OwnFits.{WorkGoesOn}
 
@@ -71,12 +71,12 @@ module _ {L D R : Type 0} (log_seen : L → Seen) (data_seen : D → Seen) (stan
   to_from : FromOver (views_of actors) → RunsFrom log_seen data_seen stands run starts parts actors
   to_from F = record { runs = F.runs; count = F.count; same = F.same; got = F.got }
 
-module _ {L D : Type 0} (log_seen : L → Seen) (data_seen : D → Seen) (run : RunOf L D) (old new : Parts L D)
+module _ {L D : Type 0} {archive : Bool} (log_seen : L → Seen) (data_seen : D → Seen) (run : RunOf L D) (old new : Parts L D)
     (users : List OwnUser) (work left : LogWork) (os : List model.Actor) (seat : ℕ) (who then : OwnUser) (step : Step)
     (at : get_elem? users seat ≡ some who)
     (served : IsUserServed log_seen data_seen run old who work step new then left)
-    (before : OwnRunsOn log_seen data_seen run old (record { users = users; work = work; others = os }))
-    (later : OwnRunsOn log_seen data_seen run new (record { users = set users seat then; work = left; others = os }))
+    (before : OwnRunsWith log_seen data_seen run archive old (record { users = users; work = work; others = os }))
+    (later : OwnRunsWith log_seen data_seen run archive new (record { users = set users seat then; work = left; others = os }))
   where
     abbrev A : LogSide
     A = run_log_side log_seen data_seen run

@@ -205,6 +205,7 @@ module _ {L D R : Type 0} (log_seen : L → Seen) (log_gives : L → Call → L 
     marks = by.marks;
     code = by.code;
     history = by.history;
+    lost = tt;
   }
 
   abbrev Ends : RunEnd → Type 0

@@ -1,6 +1,6 @@
 -- Whoever has a turn may take it: a user asks for what its own seat asks for, or those of the writer and the flusher, had
 -- the store these.
-use Rattle.std.proofs.Common.{Bool, ap, cond, false, refl, subst, sym, true, ℕ, ⊎_elim, ◌∙◌, ◌≡◌, is_some}
+use Rattle.std.proofs.Common.{Bool, ap, cond, false, refl, subst, sym, true, ℕ, ⊎_elim, ◌<◌, ◌∙◌, ◌≡◌, is_some}
 use lib.ListN.{get_elem?}
 use mathlib.Core.Option.{some}
 use Rattle.model_core.specs.Actors as model
@@ -22,7 +22,9 @@ use Rattle.redo_disk.specs.Seen.{Seen}
 use Rattle.redo_drive.proofs.DataPartLaws.{data_laws}
 use Rattle.redo_drive.proofs.Filled.{IsNoRead, reader_or_no_read}
 use Rattle.redo_drive.proofs.LogPartLaws.{log_laws}
-use Rattle.redo_drive.proofs.MayTurn.{may_serve}
+use Rattle.model_running.proofs.Archiving.{none_appends, others_append_not}
+use Rattle.model_running.specs.{IsNoAppend}
+use Rattle.redo_drive.proofs.MayTurn.{serves_other}
 use Rattle.redo_drive.proofs.TurnsOf.{some_run}
 use Rattle.redo_drive.specs.DataPartSide as data_part
 use Rattle.redo_drive.specs.LogPartSide as log_part
@@ -32,7 +34,7 @@ use Rattle.redo_drive.specs.Turning.{MayServe}
 use Rattle.redo_drive.specs.declared.parts.Parts.{Parts}
 use Rattle.redo_ownmachine.proofs.Places.{behind, other_at}
 use Rattle.redo_ownmachine.specs.OwnSeats.{OwnSeats, actors_of}
-use Rattle.redo_ownmachine.specs.OwnStore.{OwnRunsOn}
+use Rattle.redo_ownmachine.specs.OwnStore.{OwnRunsWith}
 use Rattle.redo_ownmachine.specs.Serving.{MayServeUser}
 use Rattle.redo_ownuser.specs.OwnFits.{ErrandAnswerFits, OwnAnswerFits, WorkGoesOn}
 use Rattle.redo_words.specs.{Lends}
@@ -102,6 +104,7 @@ module _ {L D : Type 0} (parts : Parts L D) (o : OwnUser) (k : LogWork) (goes : 
     real = (as_user.playable given lends).real;
     log = tt;
     data_part = tt;
+    own = tt;
   }) tt tt
 
   gives_device : Asks op.GiveDevice model.Nothing (λ r. Unit {0})
@@ -112,6 +115,7 @@ module _ {L D : Type 0} (parts : Parts L D) (o : OwnUser) (k : LogWork) (goes : 
     real = (as_user.playable given lends).real;
     log = tt;
     data_part = tt;
+    own = tt;
   }) tt tt
 
   writer_asks : k.writer.checks ≡ false → Asks (writer_op k.writer k.writer.step)
@@ -161,14 +165,15 @@ module _ {L D : Type 0} (parts : Parts L D) (o : OwnUser) (k : LogWork) (goes : 
     fits = all.fits;
   }
 
-module _ {L D : Type 0} (log_seen : L → Seen) (data_seen : D → Seen) (run : RunOf L D) (parts : Parts L D)
-    (seats : OwnSeats) (R : OwnRunsOn log_seen data_seen run parts seats) where
+module _ {L D : Type 0} {archive : Bool} (log_seen : L → Seen) (data_seen : D → Seen) (run : RunOf L D) (parts : Parts L D)
+    (seats : OwnSeats) (R : OwnRunsWith log_seen data_seen run archive parts seats) where
   abbrev A : LogSide
   A = run_log_side log_seen data_seen run
 
-  may_at : (seat : ℕ) (a : model.Actor) → get_elem? (actors_of seats) seat ≡ some a → MayServe parts a
-  may_at seat a at = may_serve log_seen data_seen run parts (actors_of seats) R.runs
-      (its_log_laws log_seen data_seen run) (its_data_laws log_seen data_seen run) seat a at
+  pub may_at : (seat : ℕ) (a : model.Actor) → get_elem? (actors_of seats) seat ≡ some a → IsNoAppend (next a)
+      → MayServe parts a
+  may_at seat a at none = serves_other log_seen data_seen run parts (actors_of seats) R.runs
+      (its_log_laws log_seen data_seen run) (its_data_laws log_seen data_seen run) seat a at none
 
   pub goes_on : (seat : ℕ) (o : OwnUser) → get_elem? seats.users seat ≡ some o → (x : ErrandStep) → o.errand ≡ x
       → WorkGoesOn x seats.work
@@ -181,14 +186,20 @@ module _ {L D : Type 0} (log_seen : L → Seen) (data_seen : D → Seen) (run : 
   pub may_serve_user : (seat : ℕ) (o : OwnUser) → get_elem? seats.users seat ≡ some o
       → MayServeUser parts o seats.work
   may_serve_user seat o at = user_may parts o seats.work (goes_on seat o at o.errand refl) (R.errands.fits seat o at)
-      (may_at seat (model.User o.user) (user_there seats.users seats.work seats.others seat o at))
+      (may_at seat (model.User o.user) (user_there seats.users seats.work seats.others seat o at)
+      (others_append_not (model.User o.user) tt))
       (may_at (writer_seat seats.users) (model.Writer seats.work.writer)
-      (writer_there seats.users seats.work seats.others))
+      (writer_there seats.users seats.work seats.others)
+      (others_append_not (model.Writer seats.work.writer) tt))
       (may_at (flusher_seat seats.users) (model.Flusher seats.work.flusher)
-      (flusher_there seats.users seats.work seats.others))
+      (flusher_there seats.users seats.work seats.others)
+      (others_append_not (model.Flusher seats.work.flusher) tt))
 
-  pub may_serve_other : (j : ℕ) (a : model.Actor) → get_elem? seats.others j ≡ some a → MayServe parts a
-  may_serve_other j a at = may_at (behind seats.users j) a (other_at seats.work seats.users seats.others j ∙ at)
+  pub may_serve_other : (j : ℕ) (a : model.Actor) → get_elem? seats.others j ≡ some a → archive ≡ false → MayServe parts a
+  may_serve_other j a at alone =
+      let there = other_at seats.work seats.users seats.others j ∙ at in
+      may_at (behind seats.users j) a there (none_appends run.setup a (R.runs.running.both.in_run (behind seats.users j) a
+      there) (subst (λ (b : Bool). cond {A = Type 0} b (Unit {0}) (0 < run.setup.first_reader)) alone R.runs.followers))
 
 -- the answer to what was played for it is one that it may take
 pub user_fits : {L D : Type 0} (log_seen : L → Seen) (data_seen : D → Seen) (old new : Parts L D) (o : OwnUser)

@@ -131,6 +131,7 @@ module _ {R : Type 0} where
   is_user (own.Closer v) u e = absurd (cc)
   is_user (own.Cleaner v) u e = absurd (cc)
   is_user (own.Checkpointer v) u e = absurd (cc)
+  is_user (own.Archiver v) u e = absurd (cc)
   is_user (own.Follower v) u e = absurd (cc)
 
   is_writer : (a : Actor R) (w : WriterState) → ◌≡◌ {A = model.Actor} (view_of a) (model.Writer w)
@@ -141,6 +142,7 @@ module _ {R : Type 0} where
   is_writer (own.Closer v) w e = absurd (cc)
   is_writer (own.Cleaner v) w e = absurd (cc)
   is_writer (own.Checkpointer v) w e = absurd (cc)
+  is_writer (own.Archiver v) w e = absurd (cc)
   is_writer (own.Follower v) w e = absurd (cc)
 
   is_flusher : (a : Actor R) (f : FlusherState) → ◌≡◌ {A = model.Actor} (view_of a) (model.Flusher f)
@@ -151,6 +153,7 @@ module _ {R : Type 0} where
   is_flusher (own.Closer v) f e = absurd (cc)
   is_flusher (own.Cleaner v) f e = absurd (cc)
   is_flusher (own.Checkpointer v) f e = absurd (cc)
+  is_flusher (own.Archiver v) f e = absurd (cc)
   is_flusher (own.Follower v) f e = absurd (cc)
 
   is_other : (a : Actor R) → IsOtherView (view_of a) → IsOther a
@@ -160,6 +163,7 @@ module _ {R : Type 0} where
   is_other (own.Closer v) other = tt
   is_other (own.Cleaner v) other = tt
   is_other (own.Checkpointer v) other = tt
+  is_other (own.Archiver v) other = tt
   is_other (own.Follower v) other = tt
 
   are_others : (actors : List (Actor R)) → AreOtherViews (views_of actors) → AreOthers actors

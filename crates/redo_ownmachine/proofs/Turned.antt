@@ -1,5 +1,5 @@
 -- What was played for whoever had its turn is a turn of the definition, and the run goes on.
-use Rattle.std.proofs.Common.{List, ap, arith, get_or, inl, inr, length, refl, set, subst, sym, ℕ, ◌+◌, ◌-◌, ◌<◌, ◌∙◌, ◌≡◌, ◌≤◌}
+use Rattle.std.proofs.Common.{Bool, List, ap, arith, get_or, inl, inr, length, refl, set, subst, sym, ℕ, ◌+◌, ◌-◌, ◌<◌, ◌∙◌, ◌≡◌, ◌≤◌}
 use Rattle.std.proofs.lemmas.List.{map-set}
 use lib.ListN.{get_elem?}
 use mathlib.Core.Option.{some, some-injective}
@@ -30,7 +30,7 @@ use Rattle.redo_ownmachine.proofs.Places.{behind, behind_seat, other_at, other_p
 use Rattle.redo_ownmachine.proofs.Serves.{its_data_laws, its_log_laws}
 use Rattle.redo_ownmachine.specs.OwnSeats.{OwnSeats, actors_of}
 use Rattle.redo_ownmachine.specs.OwnAsking.{own_core_of}
-use Rattle.redo_ownmachine.specs.OwnStore.{OwnAlone, OwnRunsOn, TakesOwnTurn}
+use Rattle.redo_ownmachine.specs.OwnStore.{OwnAlone, OwnRunsOn, OwnRunsWith, TakesOwnTurn}
 use Rattle.redo_ownmachine.specs.Serving.{IsUserServed}
 
 module _ {L D : Type 0} (log_seen : L → Seen) (data_seen : D → Seen) (run : RunOf L D) (old new : Parts L D)
@@ -46,8 +46,8 @@ module _ {L D : Type 0} (log_seen : L → Seen) (data_seen : D → Seen) (run : 
       (own_core_of log_seen data_seen run new after)
 
   -- the run goes on
-  pub runs_then : HasSamePages old new → ATurn → OwnRunsOn log_seen data_seen run old seats
-      → OwnRunsOn log_seen data_seen run new after
+  pub runs_then : {archive : Bool} → HasSamePages old new → ATurn → OwnRunsWith log_seen data_seen run archive old seats
+      → OwnRunsWith log_seen data_seen run archive new after
   runs_then same t R =
       let left = own_turn_keeps A (its_log_laws log_seen data_seen run) B (its_data_laws log_seen data_seen run)
       run.setup 0 (own_core_of log_seen data_seen run old seats) (own_core_of log_seen data_seen run new after) seat
@@ -58,6 +58,7 @@ module _ {L D : Type 0} (log_seen : L → Seen) (data_seen : D → Seen) (run : 
           started = R.runs.started;
           its_pages = R.runs.its_pages;
           its_page_size = R.runs.its_page_size;
+          followers = R.runs.followers;
           bytes = R.runs.bytes;
           word_pages = same.words ∙ R.runs.word_pages;
           list_pages = same.lists ∙ R.runs.list_pages;
@@ -83,7 +84,7 @@ module _ {L D : Type 0} (log_seen : L → Seen) (data_seen : D → Seen) (run : 
   cause_then same t R code failed =
       own_failed_turn_has_cause A (its_log_laws log_seen data_seen run) B (its_data_laws log_seen data_seen run)
       run.setup 0 (own_core_of log_seen data_seen run old seats) (own_core_of log_seen data_seen run new after) seat
-      answer step (runs_then same t R).runs.running t code failed
+      answer step (runs_then same t R).runs.running R.runs.followers t code failed
 
 -- THE TURN OF A USER.
 module _ {L D : Type 0} (log_seen : L → Seen) (log_gives : L → Call → L → Type 0) (data_seen : D → Seen)
@@ -160,6 +161,7 @@ module _ {L D R : Type 0} (log_seen : L → Seen) (log_gives : L → Call → L 
     code = played.code;
     log_served = played.log_served;
     data_served = played.data_served;
+    own_served = played.own_served;
     words = played.words;
     lists = played.lists;
     answered = played.answered;

@@ -10,7 +10,7 @@ use Rattle.redo_disk.specs.{Call}
 use Rattle.redo_disk.specs.Seen.{Seen}
 use Rattle.redo_drive.specs.Asking.{AskOfParts}
 use Rattle.redo_drive.specs.Lists.{lists_of}
-use Rattle.redo_drive.specs.Playing.{RunOf, run_data_side, run_log_side}
+use Rattle.redo_drive.specs.Sides.{RunOf, run_data_side, run_log_side}
 use Rattle.redo_drive.specs.declared.parts.Parts.{Parts}
 use Rattle.redo_ownmachine.specs.OwnSeats.{OwnSeats}
 

@@ -10,7 +10,7 @@ use Rattle.redo_disk.specs.{Call}
 use Rattle.redo_disk.specs.Seen.{Seen}
 use Rattle.redo_drive.specs.Beginning.{IsRunOfOpened, StandsAtStart}
 use Rattle.redo_drive.specs.History.{ListsInOrder}
-use Rattle.redo_drive.specs.Playing.{RunOf}
+use Rattle.redo_drive.specs.Sides.{RunOf}
 use Rattle.redo_drive.specs.declared.drive.Driven.{Driven}
 use Rattle.redo_drive.specs.declared.parts.Parts.{Parts}
 use Rattle.redo_machine.specs.declared.drive.Turns.{Turns}

@@ -1,6 +1,6 @@
 -- The invariant of a running store whose users write for themselves, over its parts and seats, in a run that is its own;
 -- and one turn of it.
-use Rattle.std.specs.Prelude.{List, ℕ}
+use Rattle.std.specs.Prelude.{Bool, List, false, ℕ}
 use Rattle.model_core.specs.{Given}
 use Rattle.model_core.specs.declared.ops.Answer.{Answer}
 use Rattle.model_core.specs.declared.ops.Step.{Step}
@@ -10,7 +10,7 @@ use Rattle.model_ownrun.specs.OwnRunning.{Errands}
 use Rattle.redo_disk.specs.{Call}
 use Rattle.redo_disk.specs.Seen.{Seen}
 use Rattle.redo_drive.specs.Playing.{RunOf, run_data_side, run_log_side}
-use Rattle.redo_drive.specs.Running.{RunsFrom, RunsOn}
+use Rattle.redo_drive.specs.Running.{RunsFrom, RunsWith}
 use Rattle.redo_drive.specs.declared.actor.Actor.{Actor}
 use Rattle.redo_drive.specs.declared.parts.Parts.{Parts}
 use Rattle.redo_ownmachine.specs.OwnAsking.{AskAtSeat, own_core_of}
@@ -20,10 +20,14 @@ use Rattle.redo_ownmachine.specs.declared.machine.OwnMachine.{OwnMachine}
 
 module _ {L D : Type 0} (log_seen : L → Seen) (data_seen : D → Seen) (run : RunOf L D) where
   -- The invariant of a running store holds, had the store a writer and a flusher, in a run that is this one; and one
-  -- user at most has the log's work in hand.
-  pub record OwnRunsOn (parts : Parts L D) (seats : OwnSeats) : Type 0 where
-    pub runs : RunsOn log_seen data_seen run parts (actors_of seats)
+  -- user at most has the log's work in hand. Unless it is archived no archiver is among the actors.
+  pub record OwnRunsWith (archive : Bool) (parts : Parts L D) (seats : OwnSeats) : Type 0 where
+    pub runs : RunsWith log_seen data_seen run archive parts (actors_of seats)
     pub errands : Errands (run_log_side log_seen data_seen run) parts.log seats.users seats.work
+
+  -- the same where nothing is archived
+  abbrev pub OwnRunsOn : Parts L D → OwnSeats → Type 0
+  OwnRunsOn parts seats = OwnRunsWith false parts seats
 
   -- one user, the log alone and no other actor
   abbrev pub OwnAlone : Parts L D → OwnSeats → Type 0

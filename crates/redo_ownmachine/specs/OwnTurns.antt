@@ -11,7 +11,7 @@ use Rattle.model_ownrun.specs.OwnRuns.{NoneIsIdle, TakesOwnTurns}
 use Rattle.model_running.specs.{HasEnded, HaveEnded, seat_of_turn}
 use Rattle.redo_disk.specs.{Call}
 use Rattle.redo_disk.specs.Seen.{Seen}
-use Rattle.redo_drive.specs.Playing.{RunOf, run_data_side, run_log_side}
+use Rattle.redo_drive.specs.Sides.{RunOf, run_data_side, run_log_side}
 use Rattle.redo_drive.specs.declared.drive.RunEnd.{RunEnd}
 use Rattle.redo_drive.specs.declared.drive.RunEnd.TheVariants as ran
 use Rattle.redo_drive.specs.declared.parts.Parts.{Parts}

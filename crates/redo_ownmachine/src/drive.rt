@@ -1,5 +1,5 @@
 // The drive by turns, where users write for themselves.
-ghost use Rattle.std.specs.Prelude.{◌≡◌, IfErr, IfOk, length};
+ghost use Rattle.std.specs.Prelude.{◌≡◌, IfErr, IfOk, None, length};
 ghost use Rattle.redo_drive.specs.Startable.{AreNewFollowers, MayBegin};
 ghost use Rattle.redo_drive.specs.Drive.{Owes};
 ghost use Rattle.redo_drive.specs.Followed.{HaveFollowed};
@@ -27,6 +27,7 @@ pub fn run_own_by_turns<L: Sectors, D: Sectors, R: Receiver + Drop>(
     requires may { MayBegin opened script.now turns.now.log_only }
     requires new { AreNewFollowers opened.start followers.items }
     ensures err { IfErr result (λ error. (error.1 ≡ opened.log.dev) × (error.2 ≡ opened.store.dev)) }
+    ensures lost { IfOk result (λ left. left.0.closed.lost ≡ None) }
     ensures owed { IfOk result (λ left. Owes L.seen L.gives D.seen D.gives opened script.now left.0) }
     ensures followed { IfOk result (λ left. HaveFollowed L.seen D.seen R.stands_for opened script.now followers.items left.1.items left.0.closed) }
     ensures turns { IfOk result (λ left. OwnRunsByTurns L.seen L.gives D.seen D.gives opened script.now turns.now (length followers.items) (views_of left.1.items) left.0) }

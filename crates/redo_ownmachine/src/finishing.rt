@@ -1,5 +1,5 @@
 // A store after its run, where users wrote for themselves.
-ghost use Rattle.std.specs.Prelude.{◌≡◌, ◌≤◌, [], length, slice_index, vec_capacity};
+ghost use Rattle.std.specs.Prelude.{◌≡◌, ◌≤◌, [], None, length, slice_index, vec_capacity};
 ghost use Rattle.model_core.specs.{index};
 ghost use Rattle.model_core.specs.declared.words.Word.TheVariants as word_is;
 ghost use Rattle.model_running.specs.{history_of, marks_in, word_marks};
@@ -18,13 +18,14 @@ use redo_follow::Receiver;
 use redo_machine::Machine;
 
 impl<L: Sectors, D: Sectors, R: Receiver + Drop> OwnMachine<L, D, R> {
-    /// What the run leaves, as `Machine::finish`: its actors are the users, the writer and the flusher as far as the users have
+    /// What the run leaves, as `Machine::finish` without an archive: its actors are the users, the writer and the flusher as far as the users have
     /// brought them, and the others, the followers among them.
     pub fn finish(self) -> (Closed<L, D>, Vec<Actor<R>>)
         requires on_run { OwnIsOnRun L.seen D.seen self.parts (seats_of self) }
         requires room { HasRoom self }
         ensures parts { (result.0.log ≡ self.parts.log) × (result.0.store ≡ self.parts.store) }
         ensures actors { result.1.items ≡ crew_of self }
+        ensures lost { result.0.lost ≡ None }
         ensures code { result.0.code ≡ slice_index self.parts.words.words (index word_is.Failed) }
         ensures marks { result.0.marks ≡ marks_in self.parts.words.words }
         ensures history { (run : RunOf L D) (runs : RunsOn L.seen D.seen run self.parts (views_of (crew_of self)))
@@ -43,11 +44,17 @@ impl<L: Sectors, D: Sectors, R: Receiver + Drop> OwnMachine<L, D, R> {
             room,
         } = self;
         let actors = give_seats(room, users, work, others);
-        Machine {
+        let machine: Machine<L, D, L, R> = Machine {
             parts,
             actors,
             entries,
+            archive: None,
+        };
+        let (closed, actors, archive) = machine.finish();
+        match archive {
+            None => {}
+            Some(_part) => unreachable!(),
         }
-        .finish()
+        (closed, actors)
     }
 }

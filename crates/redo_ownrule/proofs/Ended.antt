@@ -1,6 +1,6 @@
 -- What the rule says at the end, once all seats are taken in: what the run has come to, its players and the log's work.
 use Rattle.std.proofs.Common.{Bool, List, None, Option, Some, [], ap, arith, false, is_some, length, map, refl, subst}
-use Rattle.std.proofs.Common.{suc, sym, true, zero, ℕ, ⊎_elim, ◌+◌, ◌<◌, ◌∙◌, ◌∷◌, ◌≡◌, ◌⊎◌}
+use Rattle.std.proofs.Common.{suc, sym, true, zero, ℕ, ◌+◌, ◌<◌, ◌∙◌, ◌∷◌, ◌≡◌}
 use Rattle.std.specs.Prelude.{slice_index}
 use lib.ListN.{get_elem?}
 use mathlib.Core.Option as maybe
@@ -16,7 +16,7 @@ use Rattle.redo_disk.specs.{Call}
 use Rattle.redo_disk.specs.Seen.{Seen}
 use Rattle.redo_drive.specs.Lists.{listing_at}
 use Rattle.redo_drive.specs.Playing.{run_log_side, RunOf}
-use Rattle.redo_drive.specs.Running.{RunsOn}
+use Rattle.redo_drive.specs.Running.{RunsWith}
 use Rattle.redo_drive.specs.Views.{view_of, views_of}
 use Rattle.redo_drive.specs.declared.actor.Actor.{Actor}
 use Rattle.redo_drive.specs.declared.parts.Parts.{Parts}
@@ -29,7 +29,7 @@ use Rattle.redo_ownrule.specs.declared.player.Player.{Player}
 use Rattle.redo_ownrule.specs.declared.player.Player.TheVariants as player
 use Rattle.redo_rule.specs.Cutting.{HoldNothing}
 use Rattle.redo_rule.specs.Ending.{RunReaches}
-use Rattle.redo_rule.specs.OwnSide.{Beside, desk_with, HasItsWork, IsWorked, OwnSide, SitsAs, work_of}
+use Rattle.redo_rule.specs.OwnSide.{desk_with, HasItsWork, OwnSide, SitsAs, work_of}
 use Rattle.redo_rule.specs.Ruled.{HaveGroups, Knows, Ruled, starts_about}
 use Rattle.redo_rule.specs.Seating.{HasPart, IsCleaner}
 use Rattle.redo_rule.specs.declared.law.About.{About}
@@ -64,9 +64,9 @@ either_way true P one other = one refl
 either_way false P one other = other refl
 
 -- what a run runs on, and what each has handed on
-record RunsWith {L D : Type 0} (log_seen : L → Seen) (data_seen : D → Seen) (run : RunOf L D) (parts : Parts L D)
+record GoesOn {L D : Type 0} (log_seen : L → Seen) (data_seen : D → Seen) (archive : Bool) (run : RunOf L D) (parts : Parts L D)
     (heard : ℕ → List Given) (actors : List model.Actor) : Type 0 where
-  pub runs : RunsOn log_seen data_seen run parts actors
+  pub runs : RunsWith log_seen data_seen run archive parts actors
   pub hears : HaveGroups (run_log_side log_seen data_seen run) parts.log heard actors runs.running.log_ghost.log
 
 -- these are the actors of the players with the log's work, and at rest
@@ -173,7 +173,7 @@ module _ {L D R : Type 0} (log_seen : L → Seen) (log_gives : L → Call → L 
   ends_as =
       let s = final.0 in
       let A = its_actors in
-      let now = subst (RunsWith log_seen data_seen Q.run Q.parts Q.heard) A.are
+      let now = subst (GoesOn log_seen data_seen about.archive Q.run Q.parts Q.heard) A.are
       (record { runs = Q.runs; hears = Q.hears }) in
       let free : (k : ℕ) → k < 5 → slice_index s.words (7 + k) ≡ 0 = λ k l.
       elim (ℕ_discrete (slice_index s.words (7 + k)) 0) [

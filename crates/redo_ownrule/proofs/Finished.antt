@@ -19,7 +19,7 @@ use Rattle.redo_ownrule.proofs.Ended.{ends_as, EndsAs}
 use Rattle.redo_ownrule.proofs.Left.{many_workers}
 use Rattle.redo_ownrule.proofs.Placed.{length_crew}
 use Rattle.redo_ownrule.specs.Gathering.{AreHandedOut}
-use Rattle.redo_ownrule.specs.Players.{actor_of, crew, place, seated, workers, workers_of}
+use Rattle.redo_ownrule.specs.Players.{actor_of, crew, place, seated, workers}
 use Rattle.redo_ownrule.specs.Sharing.{AllAtRest, AreActorsOf, AreSeatsOf}
 use Rattle.redo_ownrule.specs.declared.player.Player.{Player}
 use Rattle.redo_rule.proofs.Finishing.{groups, has_room, nothing_left}

@@ -13,7 +13,7 @@ use Rattle.redo_disk.specs.{Call}
 use Rattle.redo_disk.specs.Seen.{Seen}
 use Rattle.redo_drive.proofs.Viewed.{views_at}
 use Rattle.redo_drive.specs.History.{ListsInOrder}
-use Rattle.redo_drive.specs.Leaving.{LeavesRun}
+use Rattle.redo_drive.specs.Leaving.{LeavesWith}
 use Rattle.redo_drive.specs.Receiving.{follower_of, HasGot, IsSameFollower}
 use Rattle.redo_drive.specs.Views.{view_of, views_of}
 use Rattle.redo_drive.specs.declared.actor.Actor.{Actor}
@@ -24,9 +24,9 @@ use Rattle.redo_ownrule.proofs.Placed.{alone, length_crew}
 use Rattle.redo_ownrule.specs.Players.{actor_of, crew, IsSamePlayer, place, workers, workers_of}
 use Rattle.redo_ownrule.specs.declared.player.Player.{Player}
 use Rattle.redo_ownrule.specs.declared.player.Player.TheVariants as player
-use Rattle.redo_rule.proofs.Finishing.{its_history}
+use Rattle.redo_rule.proofs.Finishing.{its_history, its_loss}
 use Rattle.redo_rule.proofs.Gathered.{heard_at, there}
-use Rattle.redo_rule.specs.Closing.{LeavesParts}
+use Rattle.redo_rule.specs.Closing.{LeavesParts, TellsLoss}
 use Rattle.redo_rule.specs.Mine.{heard_of}
 use Rattle.redo_rule.specs.Sharing.{HaveHeard, heard_by}
 use Rattle.redo_rule.specs.declared.closing.Left.{Left}
@@ -111,12 +111,13 @@ module _ {L D R : Type 0} (log_seen : L → Seen) (log_gives : L → Call → L 
     (closed : Closed L D)
     (log_is : closed.log ≡ left.log) (store_is : closed.store ≡ left.store)
     (marks_is : ◌≡◌ {A = Marks} closed.marks left.marks) (code_is : closed.code ≡ left.code)
-    (listed : ListsInOrder left.marks (views_of actors) closed.history) where
+    (listed : ListsInOrder left.marks (views_of actors) closed.history)
+    (loss : TellsLoss about.archive (views_of actors) closed.lost) where
   pub leaves_players : (stands : R → List Given → Type 0) (first : Option LogWork) (starts : List (Player R))
       → is_some first ≡ own → AllZip IsSamePlayer starts ps
       → HaveHeard stands (map actor_of starts) seats (map actor_of ps)
-      → LeavesRun log_seen log_gives data_seen data_gives stands about.opened.value about.script.value
-      about.log_only about.followers (crew first starts) actors closed
+      → LeavesWith log_seen log_gives data_seen data_gives stands about.opened.value about.script.value
+      about.log_only about.archive about.followers (crew first starts) actors closed
   leaves_players stands first starts works_first same H = record {
     run = P.run;
     is_run = P.is_about.is_run;
@@ -155,6 +156,7 @@ module _ {L D R : Type 0} (log_seen : L → Seen) (log_gives : L → Call → L 
     code = code_is ∙ P.code;
     history = its_history log_seen log_gives data_seen data_gives about all_heard (views_of actors) left P
         closed.history listed;
+    lost = its_loss about.archive (views_of actors) closed.lost loss;
   }
     where
       pair : (n : ℕ) (a b : Actor R) → get_elem? (crew first starts) n ≡ maybe.some a

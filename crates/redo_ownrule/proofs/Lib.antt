@@ -2,6 +2,7 @@ pub mod Crews
 pub mod Ended
 pub mod Finished
 pub mod Left
+pub mod Losses
 pub mod Matched
 pub mod Opened
 pub mod OwnAllowed

@@ -1,7 +1,6 @@
 -- The actors of a run, as players who have seats know them.
-use Rattle.std.proofs.Common.{Bool, List, None, Option, Some, [], ap, arith, false, length, length-append, map, refl}
-use Rattle.std.proofs.Common.{subst, suc, sym, true, zero, ℕ, ⊎_elim, ◌+◌, ◌++◌, ◌∙◌, ◌∷◌, ◌≡◌, ◌≤◌}
-use Rattle.std.proofs.lemmas.List.{length-map}
+use Rattle.std.proofs.Common.{List, None, Some, [], ap, arith, false, length, length-append, map, refl}
+use Rattle.std.proofs.Common.{subst, suc, sym, zero, ℕ, ⊎_elim, ◌+◌, ◌∙◌, ◌∷◌, ◌≡◌, ◌≤◌}
 use lib.ListN.{get_elem?}
 use mathlib.Core.Option as maybe
 use Rattle.model_core.specs.{FlusherState, Given, UserState, WriterState}
@@ -21,13 +20,11 @@ use Rattle.model_own.specs.OwnWrites.{has_work, LogWork, OwnUser}
 use Rattle.model_own.specs.declared.errand.ErrandStep.TheVariants as errand_step
 use Rattle.model_ownrun.specs.OwnRunning.{Errands, IsFlusherAtRest, IsWriterAtRest, WorkFits}
 use Rattle.redo_drive.specs.Views.{view_of, views_of}
-use Rattle.redo_drive.specs.declared.actor.Actor.{Actor}
 use Rattle.redo_ownrule.specs.Players.{actor_of, crew, IsAtRest, numbered_as, place_behind, seated}
 use Rattle.redo_ownrule.specs.Sharing.{AllAtRest}
 use Rattle.redo_ownrule.specs.declared.player.Player.{Player}
 use Rattle.redo_ownrule.specs.declared.player.Player.TheVariants as player
 use Rattle.redo_rule.specs.Cutting.{HoldNothing}
-use Rattle.redo_rule.specs.declared.law.Numbered.{Numbered}
 
 -- how a user of a store whose users write for themselves, and who plays beside them, sit as the actor of a number
 abbrev pub SitsHere : {R : Type 0} → List OwnUser → ℕ → Player R → Type 0

@@ -16,7 +16,7 @@ use Rattle.model_running.specs.{AreSeated}
 use Rattle.redo_disk.specs.{Call}
 use Rattle.redo_disk.specs.Seen.{Seen}
 use Rattle.redo_drive.proofs.Viewed.{length_views}
-use Rattle.redo_drive.specs.Begins.{BeginsRun}
+use Rattle.redo_drive.specs.Begins.{BeginsWith}
 use Rattle.redo_drive.specs.Lists.{AreLists}
 use Rattle.redo_drive.specs.Playing.{run_log_side}
 use Rattle.redo_drive.specs.Startable.{MayBegin}
@@ -76,7 +76,8 @@ player_at (p ∷ ps) (suc i) a at = player_at ps i a at
 module _ {L D R : Type 0} (log_seen : L → Seen) (data_seen : D → Seen) (stands : R → List Given → Type 0)
     (about : About L D) (followers : List (Following R)) (many : about.followers ≡ length followers)
     (start : Beginning L D R)
-    (B : BeginsRun log_seen data_seen stands about.opened.value about.script.value about.log_only followers start)
+    (B : BeginsWith log_seen data_seen stands about.opened.value about.script.value about.log_only about.archive followers
+    start)
     (may : MayBegin about.opened.value about.script.value about.log_only) (staff : Staff R)
     (S : AreStaffOf about.own_writes start.actors.items staff) where
   abbrev ps : List (Player R)

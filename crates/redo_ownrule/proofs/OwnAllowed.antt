@@ -1,26 +1,19 @@
 -- Steps on words, and the taking of DEVICE, by a user that writes for itself keep the rule.
-use Rattle.std.proofs.Common.{Bool, List, None, Option, Some, [], ap, arith, cond, eq-eqb, eqb, false, get_or-set_other, get_or-set_same, inl, inr, is_some}
-use Rattle.std.proofs.Common.{length, length-set, ne_eqb, refl, subst, suc, sym, true, zero, ℕ, ◌%◌, ◌+◌, ◌<◌, ◌==◌, ◌^◌, ◌∙◌, ◌∷◌, ◌≡◌, ◌≢◌, ◌⊎◌}
+use Rattle.std.proofs.Common.{Bool, List, None, Option, Some, [], ap, arith, cond, false, get_or-set_other, inl, inr, is_some}
+use Rattle.std.proofs.Common.{refl, subst, suc, sym, true, zero, ℕ, ◌+◌, ◌<◌, ◌∙◌, ◌∷◌, ◌≡◌, ◌≢◌, ◌⊎◌}
 use Rattle.std.proofs.lemmas.List.{set-get_or}
 use Rattle.std.specs.Prelude.{slice_index, slice_set}
 use lib.ListN.{get_elem?}
 use mathlib.Core.Option as maybe
-use native.Mathlib.Decide.{ℕ_discrete}
-use prog.Atomic.{either}
-use Rattle.atomic_table.specs.Table.{Allows, keeps, Me, State, takes}
-use Rattle.model_core.proofs.Lists.{set_again, set_else}
-use Rattle.model_core.proofs.TurnWords.{IsOffTurns}
-use Rattle.model_core.specs.{index, next, OnWord, word_found, words_after}
+use Rattle.atomic_table.specs.Table.{Allows, keeps, Me, State}
+use Rattle.model_core.proofs.Lists.{set_again}
+use Rattle.model_core.specs.{OnWord, word_found, words_after}
 use Rattle.model_core.specs.Actors as model
 use Rattle.model_core.specs.Hands.{hand, IsFreeToCheck}
 use Rattle.model_core.specs.declared.ops.Answer.{Answer}
 use Rattle.model_core.specs.declared.ops.Answer.TheVariants as answer
 use Rattle.model_core.specs.declared.ops.Op.{Op}
-use Rattle.model_core.specs.declared.ops.Op.TheVariants as op
-use Rattle.model_core.specs.declared.words.Word.{Word}
-use Rattle.model_own.specs.OwnWrites.{ErrandFits, has_work, LogWork, own_checked, own_goes_on, own_lends, own_next, OwnUser, errand_took}
-use Rattle.model_own.specs.declared.errand.ErrandStep.{ErrandStep}
-use Rattle.model_own.specs.declared.errand.ErrandStep.TheVariants as errand_step
+use Rattle.model_own.specs.OwnWrites.{ErrandFits, has_work, LogWork, own_goes_on, own_lends, own_next, OwnUser}
 use Rattle.redo_disk.specs.{Call}
 use Rattle.redo_disk.specs.Seen.{Seen}
 use Rattle.redo_drive.proofs.MayTurn.{holds_sum}
@@ -33,20 +26,17 @@ use Rattle.redo_ownrule.proofs.OwnMay as may
 use Rattle.redo_ownrule.proofs.OwnOps as ops
 use Rattle.redo_ownrule.proofs.OwnTurns as turns
 use Rattle.redo_ownrule.proofs.OwnUserHands as hands
-use Rattle.redo_ownrule.proofs.OwnWords.{keeps_work, stays_aside}
-use Rattle.redo_ownrule.specs.OwnPlays.{errand_of, HasWork, held_behind, IsOwn, own_looked, own_saw, own_seized, own_view, OwnMayGo, WorkInHand}
+use Rattle.redo_ownrule.proofs.OwnWords.{stays_aside}
+use Rattle.redo_ownrule.specs.OwnPlays.{errand_of, HasWork, held_behind, IsOwn, own_looked, own_saw, own_view, OwnMayGo, WorkInHand}
 use Rattle.redo_ownrule.specs.OwnPlays.{OwnStepped, with_work}
 use Rattle.redo_rule.proofs.Holders as holders
 use Rattle.redo_rule.proofs.Kept as kept
 use Rattle.redo_rule.proofs.Retook.{one_head}
-use Rattle.redo_rule.proofs.Words.{swapped}
 use Rattle.redo_rule.specs.OwnSide.{Beside, desk_with, work_of}
-use Rattle.redo_rule.specs.Plays.{taking}
 use Rattle.redo_rule.specs.Ruled.{Ruled, slot_content}
 use Rattle.redo_rule.specs.declared.law.About.{About}
 use Rattle.redo_rule.specs.declared.law.Desk.{Desk}
 use Rattle.redo_rule.specs.declared.law.Errand.{Errand}
-use Rattle.redo_rule.specs.declared.law.Keeping.{Keeping}
 use Rattle.redo_rule.specs.declared.law.Numbered.{Numbered}
 use Rattle.redo_rule.specs.declared.law.Slot.{Slot}
 use Rattle.redo_rule.specs.declared.law.Slot.TheVariants as slot

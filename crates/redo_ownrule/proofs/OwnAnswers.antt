@@ -1,11 +1,10 @@
 -- A user that takes an answer has its seat still.
-use Rattle.std.proofs.Common.{Bool, List, Option, Some, [], ap, cond, false, get_or, refl, subst, sym, true, ℕ, ◌∙◌, ◌∷◌, ◌≡◌}
+use Rattle.std.proofs.Common.{Bool, List, Some, [], ap, false, get_or, refl, subst, sym, true, ℕ, ◌∙◌, ◌∷◌, ◌≡◌}
 use Rattle.atomic_table.specs.Seated.{TableId}
 use Rattle.atomic_table.specs.Table.{Me, rest}
 use Rattle.atomic_table.specs.declared.shared.Seat.{Seat}
-use Rattle.model_core.specs.{Given, word_count}
+use Rattle.model_core.specs.{word_count}
 use Rattle.model_core.specs.Actors as model
-use Rattle.model_core.specs.Hands.{hand}
 use Rattle.model_core.specs.declared.ops.Answer.{Answer}
 use Rattle.model_core.specs.declared.ops.Step.{Step}
 use Rattle.model_own.specs.OwnWrites.{has_work, LogWork, own_goes_on, own_step_of, OwnUser}
@@ -15,11 +14,10 @@ use Rattle.redo_ownrule.proofs.OwnFree.{own_free}
 use Rattle.redo_ownrule.proofs.OwnOps as ops
 use Rattle.redo_ownrule.specs.OwnMine.{CarriesWork, HasStepped, IsAnswering, KeepsOwnSeat, OwnHasPlayed, OwnMine}
 use Rattle.redo_ownrule.specs.OwnPlays.{HasWork, own_behind, own_view, OwnMayGo, OwnShown, with_work}
-use Rattle.redo_ownrule.specs.OwnSlots.{LiesIn, MayTakeIn, TookIn}
+use Rattle.redo_ownrule.specs.OwnSlots.{MayTakeIn, TookIn}
 use Rattle.redo_rule.proofs.Kept.{same_desk, same_slot}
 use Rattle.redo_rule.specs.Mine.{heard_in, number_in, number_of}
 use Rattle.redo_rule.specs.declared.law.Desk.{Desk}
-use Rattle.redo_rule.specs.declared.law.Numbered.{Numbered}
 use Rattle.redo_rule.specs.declared.law.Slot.{Slot}
 use Rattle.redo_rule.specs.declared.law.Slot.TheVariants as slot
 use Rattle.redo_rule.specs.declared.law.View.{View}

@@ -1,57 +1,39 @@
 -- A user that writes for itself gives back what it took, or calls the log part: both keep the rule.
-use Rattle.std.proofs.Common.{Bool, List, None, Option, Some, [], ap, arith, cond, eq-eqb, eqb, false, get_or-set_other, get_or-set_same, inl, inr, is_some}
-use Rattle.std.proofs.Common.{length, length-set, ne_eqb, refl, subst, suc, sym, true, zero, ℕ, ◌%◌, ◌+◌, ◌<◌, ◌==◌, ◌^◌, ◌∙◌, ◌∷◌, ◌≡◌, ◌≢◌, ◌⊎◌}
-use Rattle.std.proofs.lemmas.List.{set-get_or}
+use Rattle.std.proofs.Common.{List, None, Some, [], ap, arith, false, get_or-set_other, get_or-set_same, inl, inr}
+use Rattle.std.proofs.Common.{length, length-set, refl, subst, suc, sym, true, ℕ, ◌+◌, ◌<◌, ◌∙◌, ◌∷◌, ◌≡◌, ◌≢◌, ◌⊎◌}
 use Rattle.std.specs.Prelude.{slice_index, slice_set}
 use lib.ListN.{get_elem?}
 use mathlib.Core.Option as maybe
 use native.Mathlib.Decide.{ℕ_discrete}
-use prog.Atomic.{either}
-use Rattle.atomic_table.specs.Table.{Allows, keeps, Me, State, takes}
-use Rattle.model_core.proofs.Lists.{set_again, set_else}
-use Rattle.model_core.proofs.TurnWords.{IsOffTurns}
-use Rattle.model_core.specs.{index, next, OnWord, word_found, words_after}
+use Rattle.atomic_table.specs.Table.{Allows, Me, State}
+use Rattle.model_core.proofs.Lists.{set_else}
 use Rattle.model_core.specs.Actors as model
-use Rattle.model_core.specs.Hands.{hand, IsFreeToCheck}
+use Rattle.model_core.specs.Hands.{hand}
 use Rattle.model_core.specs.declared.ops.Answer.{Answer}
 use Rattle.model_core.specs.declared.ops.Answer.TheVariants as answer
 use Rattle.model_core.specs.declared.ops.Op.{Op}
 use Rattle.model_core.specs.declared.ops.Op.TheVariants as op
-use Rattle.model_core.specs.declared.words.Word.{Word}
-use Rattle.model_own.specs.OwnWrites.{ErrandFits, has_work, LogWork, own_checked, own_goes_on, own_lends, own_next, OwnUser, errand_took}
-use Rattle.model_own.specs.declared.errand.ErrandStep.{ErrandStep}
-use Rattle.model_own.specs.declared.errand.ErrandStep.TheVariants as errand_step
+use Rattle.model_own.specs.OwnWrites.{has_work, LogWork, own_goes_on, own_lends, own_next, OwnUser}
 use Rattle.redo_disk.specs.{Call}
 use Rattle.redo_disk.specs.Seen.{Seen}
-use Rattle.redo_drive.proofs.MayTurn.{holds_sum}
 use Rattle.redo_drive.proofs.Played as played
-use Rattle.redo_drive.specs.Lists.{listing_at, Listings, lists_of}
 use Rattle.redo_drive.specs.Playing.{HasSamePages, IsPlayed}
 use Rattle.redo_drive.specs.declared.parts.Parts.{Parts}
-use Rattle.redo_logdev.specs.Part as log
-use Rattle.redo_ownrule.proofs.OwnMay as may
 use Rattle.redo_ownrule.proofs.OwnOps as ops
 use Rattle.redo_ownrule.proofs.OwnTurns as turns
 use Rattle.redo_ownrule.proofs.OwnUserHands as hands
-use Rattle.redo_ownrule.proofs.OwnWords.{keeps_work, stays_aside}
-use Rattle.redo_ownrule.specs.OwnPlays.{errand_of, HasWork, held_behind, IsOwn, own_looked, own_saw, own_seized, own_view, OwnMayGo, WorkInHand}
+use Rattle.redo_ownrule.specs.OwnPlays.{HasWork, IsOwn, own_view}
 use Rattle.redo_ownrule.specs.OwnPlays.{OwnStepped, with_work}
 use Rattle.redo_rule.proofs.Holders as holders
 use Rattle.redo_rule.proofs.Kept as kept
-use Rattle.redo_rule.proofs.Retook.{one_head}
-use Rattle.redo_rule.proofs.Words.{swapped}
-use Rattle.redo_rule.specs.OwnSide.{Beside, desk_with, work_of}
-use Rattle.redo_rule.specs.Plays.{taking}
+use Rattle.redo_rule.specs.OwnSide.{Beside, desk_with}
 use Rattle.redo_rule.specs.Ruled.{Ruled, slot_content}
 use Rattle.redo_rule.specs.declared.law.About.{About}
 use Rattle.redo_rule.specs.declared.law.Desk.{Desk}
-use Rattle.redo_rule.specs.declared.law.Errand.{Errand}
-use Rattle.redo_rule.specs.declared.law.Keeping.{Keeping}
 use Rattle.redo_rule.specs.declared.law.Numbered.{Numbered}
 use Rattle.redo_rule.specs.declared.law.Slot.{Slot}
 use Rattle.redo_rule.specs.declared.law.Slot.TheVariants as slot
 use Rattle.redo_rule.specs.declared.law.View.{View}
-use Rattle.redo_words.specs.{HoldsSum}
 use Rattle.atomic_table.proofs.Lists.{set_here}
 use Rattle.atomic_table.specs.Table.{Act, carried_after, gives, put_back, rest, stepped, Valid}
 use Rattle.model_core.proofs.Hands.{Handles}
@@ -59,21 +41,12 @@ use Rattle.model_core.specs.{took}
 use Rattle.model_own.specs.OwnWrites.{helps_at}
 use Rattle.redo_rule.proofs.Filled.{handles_filled}
 use Rattle.redo_rule.specs.Plays.{no_filling}
-use Rattle.model_core.specs.{LogServed, lsn}
-use Rattle.redo_disk.specs.{EndWith, MakesCalls}
-use Rattle.redo_drive.proofs.CallsOn.{calls_then}
 use Rattle.redo_drive.proofs.Played.{CallsLog}
-use Rattle.redo_drive.proofs.ShapeStays.{served_shape}
-use Rattle.redo_drive.specs.Calls.{CallsOn}
-use Rattle.redo_drive.specs.Devices.{call_answer, call_code}
-use Rattle.redo_drive.specs.LogPartSide as log_part
-use Rattle.redo_drive.specs.Playing.{run_data_side, run_log_side, RunOf, told_by}
-use Rattle.redo_drive.specs.declared.device.Device.TheVariants.{Log}
+use Rattle.redo_drive.specs.Playing.{run_data_side}
 use Rattle.redo_ownrule.proofs.OwnAllowed as allowed
 use Rattle.redo_ownrule.proofs.OwnAllowed.{by_slot}
-use Rattle.redo_ownrule.proofs.OwnDesk.{same_work}
 use Rattle.redo_ownrule.proofs.OwnTurns.{many}
-use Rattle.redo_ownrule.specs.OwnPlays.{own_called, own_gave}
+use Rattle.redo_ownrule.specs.OwnPlays.{own_gave}
 
 module _ {L D : Type 0} (log_seen : L → Seen) (log_gives : L → Call → L → Type 0) (data_seen : D → Seen)
     (data_gives : D → Call → D → Type 0) (about : About L D) (slots id : ℕ) (me : Me (Slot L D) (View L D))
@@ -260,6 +233,7 @@ module _ {L D : Type 0} (log_seen : L → Seen) (log_gives : L → Call → L �
         log_served = refl;
         data_served = played.untouched (run_data_side log_seen data_seen R.run) R.parts.store R.parts.store l (op.GiveList i) 0
             tt refl;
+        own_served = tt;
         words = ap (λ (y : List ℕ). slice_set y (7 + suc i) 0) (sym R.words_are)
             ∙ ap (λ (n : ℕ). slice_set R.parts.words.words n 0) word;
         lists = refl;

@@ -1,5 +1,5 @@
 -- Who holds the log part or a list, where the log's work goes on.
-use Rattle.std.proofs.Common.{List, None, Option, Some, [], ap, arith, refl, set, subst, suc, sym, true, zero, ℕ, ◌∷◌, ◌≡◌, ◌≢◌}
+use Rattle.std.proofs.Common.{List, Some, [], ap, arith, refl, set, subst, suc, sym, true, zero, ℕ, ◌∷◌, ◌≡◌, ◌≢◌}
 use lib.ListN.{get_elem?}
 use mathlib.Core.Option as maybe
 use Rattle.model_core.specs.Actors as model

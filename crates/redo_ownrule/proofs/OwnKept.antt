@@ -1,5 +1,5 @@
 -- A turn of a user that writes for itself keeps the rule, whatever it does to the slots.
-use Rattle.std.proofs.Common.{List, None, Option, Some, [], ap, arith, inl, inr, is_some, length, length-set, refl, set, subst, suc, sym, zero, ℕ}
+use Rattle.std.proofs.Common.{Bool, List, None, Option, Some, [], ap, arith, inl, inr, is_some, length, length-set, refl, set, subst, suc, sym, zero, ℕ}
 use Rattle.std.proofs.Common.{⊎_elim, ◌+◌, ◌∙◌, ◌∷◌, ◌≡◌, ◌≢◌, ◌≤◌, ◌⊎◌}
 use lib.ListN.{get_elem?}
 use mathlib.Core.Option as maybe
@@ -17,18 +17,18 @@ use Rattle.model_ownrun.proofs.Seats.{user_there}
 use Rattle.redo_disk.specs.{Call}
 use Rattle.redo_disk.specs.Seen.{Seen}
 use Rattle.redo_drive.specs.Playing.{HasSamePages, IsPlayed, run_data_side, run_log_side, RunOf}
-use Rattle.redo_drive.specs.Running.{groups_of, RunsOn}
+use Rattle.redo_drive.specs.Running.{groups_of, RunsWith}
 use Rattle.redo_drive.specs.declared.parts.Parts.{Parts}
 use Rattle.redo_ownmachine.proofs.From as from
 use Rattle.redo_ownmachine.proofs.Turned as turned
 use Rattle.redo_ownmachine.specs.OwnSeats.{actors_of, OwnSeats}
 use Rattle.redo_ownmachine.specs.OwnAsking.{own_core_of}
-use Rattle.redo_ownmachine.specs.OwnStore.{OwnRunsOn}
+use Rattle.redo_ownmachine.specs.OwnStore.{OwnRunsWith}
 use Rattle.redo_ownmachine.specs.Serving.{IsUserServed}
 use Rattle.redo_ownrule.specs.OwnPlays.{errand_of, own_behind}
 use Rattle.redo_rule.proofs.Kept as kept
 use Rattle.redo_rule.specs.OwnSide.{Beside, HasItsWork, IsWorked, OwnSide, SitsAs}
-use Rattle.redo_rule.specs.Ruled.{HaveGroups, IsNoArchiver, Knows, Ruled}
+use Rattle.redo_rule.specs.Ruled.{HaveGroups, Knows, Ruled}
 use Rattle.redo_rule.specs.declared.law.About.{About}
 use Rattle.redo_rule.specs.declared.law.Errand.{Errand}
 use Rattle.redo_rule.specs.declared.law.Numbered.{Numbered}
@@ -47,12 +47,6 @@ no_groups (model.User u) log w = refl
 no_groups (model.Writer s) log w = refl
 no_groups (model.Flusher t) log w = refl
 no_groups _ log w = absurd w
-
-no_archiver : (a : model.Actor) → Works a → IsNoArchiver a
-no_archiver (model.User u) w = tt
-no_archiver (model.Writer s) w = tt
-no_archiver (model.Flusher t) w = tt
-no_archiver _ w = absurd w
 
 -- whoever sits there after a user's turn sat there before, or works, as did who sat there
 abbrev Was : List model.Actor → ℕ → model.Actor → Type 0
@@ -119,9 +113,9 @@ all_length [] k others = omega arith
 all_length (x ∷ xs) k others = let e = all_length xs k others in omega arith
 
 -- the run goes on, and each has handed on its groups
-pub record RunsSo {L D : Type 0} (log_seen : L → Seen) (data_seen : D → Seen) (run : RunOf L D) (parts : Parts L D)
+pub record RunsSo {L D : Type 0} (log_seen : L → Seen) (data_seen : D → Seen) (archive : Bool) (run : RunOf L D) (parts : Parts L D)
     (heard : ℕ → List Given) (actors : List model.Actor) : Type 0 where
-  pub runs : RunsOn log_seen data_seen run parts actors
+  pub runs : RunsWith log_seen data_seen run archive parts actors
   pub hears : HaveGroups (run_log_side log_seen data_seen run) parts.log heard actors runs.running.log_ghost.log
 
 module _ {L D : Type 0} (log_seen : L → Seen) (log_gives : L → Call → L → Type 0) (data_seen : D → Seen)
@@ -149,11 +143,11 @@ module _ {L D : Type 0} (log_seen : L → Seen) (log_gives : L → Call → L �
   seats = record { users = side.users; work = side.work; others = worked.others }
 
   -- the same run, by the list of its users, of the log's work and of the others
-  abbrev by_seats : RunsSo log_seen data_seen R.run R.parts R.heard (actors_of seats)
-  by_seats = subst (RunsSo log_seen data_seen R.run R.parts R.heard) worked.are
+  abbrev by_seats : RunsSo log_seen data_seen about.archive R.run R.parts R.heard (actors_of seats)
+  by_seats = subst (RunsSo log_seen data_seen about.archive R.run R.parts R.heard) worked.are
       (record { runs = R.runs; hears = R.hears })
 
-  abbrev pub before : OwnRunsOn log_seen data_seen R.run R.parts seats
+  abbrev pub before : OwnRunsWith log_seen data_seen R.run about.archive R.parts seats
   before = record { runs = by_seats.runs; errands = worked.errands }
 
   module _ (r : Answer) (new : Parts L D) (same : HasSamePages R.parts new)
@@ -194,7 +188,7 @@ module _ {L D : Type 0} (log_seen : L → Seen) (log_gives : L → Call → L �
       ends = refl;
     }
 
-    abbrev pub runs_behind : OwnRunsOn log_seen data_seen R.run new after
+    abbrev pub runs_behind : OwnRunsWith log_seen data_seen R.run about.archive new after
     runs_behind = turned.runs_then log_seen data_seen R.run R.parts new seats after x.number r
         (own_step_of o side.work r) same (inl turn) before
 
@@ -227,12 +221,6 @@ module _ {L D : Type 0} (log_seen : L → Seen) (log_gives : L → Call → L �
         (told_still : (n : ℕ) (c : model.Actor) (code : ℕ) → length side.users + 2 ≤ n
         → get_elem? R.actors n ≡ maybe.some c → GivesFailed c code → A.Cause R.parts.log code → A.Cause new.log code)
       where
-        follow_behind : (n : ℕ) (b : model.Actor) → get_elem? (actors_of after) n ≡ maybe.some b → IsNoArchiver b
-        follow_behind n b there =
-            let w = was n b there in
-            ⊎_elim (λ is. subst IsNoArchiver (sym is) (R.follow n w.0 (in_actors n w.0 w.1)))
-            (λ both. no_archiver b both.1) w.2
-
         told_behind : (n : ℕ) (c : model.Actor) (code : ℕ) → SitsAs (Some now) None n
             → get_elem? (actors_of after) n ≡ maybe.some c → GivesFailed c code → A.Cause new.log code
         told_behind n c code far there gives =
@@ -268,7 +256,6 @@ module _ {L D : Type 0} (log_seen : L → Seen) (log_gives : L → Call → L �
           count = all_length now.users left worked.others
               ∙ ap (λ (n : ℕ). n + 2 + length worked.others) many
               ∙ sym (all_length side.users side.work worked.others) ∙ ap length (sym worked.are);
-          follow = follow_behind;
           told = told_behind;
           number = refl;
           here = user_there now.users left worked.others x.number then (set_at side.users x.number o then its_seat);

@@ -1,5 +1,5 @@
 -- The same player, later.
-use Rattle.std.proofs.Common.{Bool, cond, false, refl, subst, sym, true, ℕ, ⊎_elim, ◌∙◌, ◌≡◌}
+use Rattle.std.proofs.Common.{Bool, cond, false, refl, subst, sym, true, ⊎_elim, ◌≡◌}
 use Rattle.model_core.proofs.Later.{checked_keeps, Keeps, later_refl, took_keeps}
 use Rattle.model_core.specs.{FlusherState, flusher_took, heard, old_of, user_took, UserState, writer_took, WriterState}
 use Rattle.model_core.specs.Actors as model

@@ -1,63 +1,42 @@
 -- What the taking and the giving of a flush list ask of the table and leave of a user's seat.
-use Rattle.std.proofs.Common.{Bool, List, None, Option, Some, [], ap, arith, cond, eqb, false, is_some, refl, subst, suc, sym, true, zero, ℕ}
-use Rattle.std.proofs.Common.{◌%◌, ◌+◌, ◌<◌, ◌==◌, ◌^◌, ◌∙◌, ◌∷◌, ◌≡◌, ◌≢◌}
+use Rattle.std.proofs.Common.{List, None, Option, Some, [], ap, arith, false, refl, subst, suc, sym, ℕ}
+use Rattle.std.proofs.Common.{◌%◌, ◌+◌, ◌<◌, ◌==◌, ◌∙◌, ◌∷◌, ◌≡◌, ◌≢◌}
 use prog.Atomic.{either}
 use Rattle.atomic_table.specs.Seated.{TableId}
 use Rattle.atomic_table.specs.Table.{Allows, Me, rest}
 use Rattle.atomic_table.specs.declared.shared.Seat.{Seat}
-use Rattle.model_core.proofs.TurnWords.{IsOffTurns, next_off}
-use Rattle.model_core.proofs.WordNumbers.{index_below}
-use Rattle.model_core.specs.{flusher_op, index, IsWord, LogServed, lsn, new_flusher, new_writer, next, OnWord, OpWords, took, user_op, writer_op}
+use Rattle.model_core.specs.{next, OpWords, took, user_op}
 use Rattle.model_core.specs.Actors as model
-use Rattle.model_core.specs.AnswerFits.{AnswerFits}
-use Rattle.model_core.specs.Hands.{hand, IsFreeToCheck}
+use Rattle.model_core.specs.Hands.{hand}
 use Rattle.model_core.specs.declared.ops.Answer.{Answer}
 use Rattle.model_core.specs.declared.ops.Answer.TheVariants as answer
 use Rattle.model_core.specs.declared.ops.Op.{Op}
 use Rattle.model_core.specs.declared.ops.Op.TheVariants as op
-use Rattle.model_core.specs.declared.words.Word.{Word}
-use Rattle.model_core.specs.declared.words.Word.TheVariants as word
 use Rattle.model_core.proofs.Hands.{Handles}
-use Rattle.model_own.specs.OwnWrites.{errand_op, ErrandFits, has_work, helps_at, LogWork, own_goes_on, own_lends, own_next, OwnUser}
+use Rattle.model_own.specs.OwnWrites.{has_work, helps_at, LogWork, own_goes_on, OwnUser}
 use Rattle.model_own.specs.declared.errand.ErrandStep.{ErrandStep}
 use Rattle.model_own.specs.declared.errand.ErrandStep.TheVariants as errand_step
-use Rattle.redo_disk.specs.{Call, EndWith, MakesCalls}
+use Rattle.redo_disk.specs.{Call}
 use Rattle.redo_disk.specs.Seen.{Seen}
-use Rattle.redo_drive.specs.Devices.{call_answer, call_code}
-use Rattle.redo_drive.specs.LogPartSide as log_part
-use Rattle.redo_drive.specs.Playing.{LogReady, told_by}
-use Rattle.redo_drive.specs.declared.device.Device.TheVariants.{Log}
 use Rattle.redo_flushlist.specs.{Listing}
-use Rattle.redo_logdev.specs.Part as log
-use Rattle.redo_ownrule.proofs.OwnAllowed.{held_aside, held_hand, own_word}
 use Rattle.redo_ownrule.proofs.OwnAnswers as answers
-use Rattle.redo_ownrule.proofs.OwnCalls.{answer_by, IsWorkCall, own_calls}
-use Rattle.redo_ownrule.proofs.OwnDesk.{same_work}
-use Rattle.redo_ownrule.proofs.OwnGives.{own_give, own_give_list}
+use Rattle.redo_ownrule.proofs.OwnGives.{own_give_list}
 use Rattle.redo_ownrule.proofs.OwnListed.{own_take_add}
 use Rattle.redo_ownrule.proofs.OwnOps as ops
-use Rattle.redo_ownrule.proofs.OwnTakes as takes
 use Rattle.redo_ownrule.proofs.OwnUserHands as hands
-use Rattle.redo_ownrule.proofs.OwnWords.{keeps_work, stays_aside}
-use Rattle.redo_ownrule.specs.OwnMine.{CarriesWork, HasStepped, IsAnswering, KeepsOwnSeat, OwnHasPlayed, OwnMine}
-use Rattle.redo_ownrule.specs.OwnPlays.{HasWork, held_behind, own_called, own_gave, own_saw, own_seized, own_seized_list, own_view}
-use Rattle.redo_ownrule.specs.OwnPlays.{OwnMayGo, OwnStepped, with_work, WorkInHand}
-use Rattle.redo_ownrule.specs.OwnSlots.{LiesIn, MayTakeIn, TookIn}
+use Rattle.redo_ownrule.specs.OwnMine.{IsAnswering, OwnMine}
+use Rattle.redo_ownrule.specs.OwnPlays.{own_gave, own_seized_list}
+use Rattle.redo_ownrule.specs.OwnPlays.{OwnStepped}
 use Rattle.redo_ownrule.specs.Playing.{OwnAsks}
-use Rattle.redo_ownuser.specs.OwnFits.{AloneErrandFits, AloneFits, ErrandAnswerFits, IsNotTaken, OwnAnswerFits, WorkGoesOn}
+use Rattle.redo_ownuser.specs.OwnFits.{AloneFits, OwnAnswerFits}
 use Rattle.redo_rule.proofs.Filled.{handles_filled}
-use Rattle.redo_rule.proofs.Kept.{same_desk, same_pages, same_slot}
-use Rattle.redo_rule.proofs.Stepping.{carries_same}
-use Rattle.redo_rule.proofs.Words.{plain_off, swapped}
-use Rattle.redo_rule.specs.Plays.{Carries, list_behind, ListFits, no_filling, TakesList, taking}
+use Rattle.redo_rule.proofs.Kept.{same_pages}
+use Rattle.redo_rule.specs.Plays.{Carries, list_behind, ListFits, no_filling, TakesList}
 use Rattle.redo_rule.specs.Ruled.{Ruled}
 use Rattle.redo_rule.specs.declared.law.About.{About}
-use Rattle.redo_rule.specs.declared.law.Desk.{Desk}
 use Rattle.redo_rule.specs.declared.law.Slot.{Slot}
 use Rattle.redo_rule.specs.declared.law.Slot.TheVariants as slot
 use Rattle.redo_rule.specs.declared.law.View.{View}
-use Rattle.std.proofs.lemmas.List.{set-get_or}
-use Rattle.std.specs.Prelude.{slice_index, slice_set}
 use Rattle.redo_ownrule.proofs.OwnStepping as stepping
 use Rattle.redo_rule.specs.Slots.{IsPages}
 

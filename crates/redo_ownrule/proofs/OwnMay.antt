@@ -1,16 +1,14 @@
 -- What a user that writes for itself may do next, in a run to which the rule holds.
-use Rattle.std.proofs.Common.{Bool, List, Option, Some, ap, cond, false, is_some, refl, subst, sym, true, ℕ, ⊎_elim, ◌∙◌, ◌≡◌}
+use Rattle.std.proofs.Common.{Bool, Option, Some, cond, false, is_some, refl, subst, sym, true, ℕ, ◌≡◌}
 use lib.ListN.{get_elem?}
 use mathlib.Core.Option as maybe
-use Rattle.model_core.specs.{answer_of, FlusherState, flusher_op, lsn, next, OpWords, user_op, UserState, writer_op, WriterState}
+use Rattle.model_core.specs.{answer_of, FlusherState, flusher_op, next, OpWords, user_op, writer_op, WriterState}
 use Rattle.model_core.specs.Actors as model
-use Rattle.model_core.specs.Advancing.{advance_op}
 use Rattle.model_core.proofs.TurnWords.{advance_asks}
 use Rattle.model_core.specs.AnswerFits.{AnswerFits}
 use Rattle.model_core.specs.DataSide.{DataSide}
 use Rattle.model_core.specs.LogSide.{LogSide}
 use Rattle.model_core.specs.declared.ops.Answer.{Answer}
-use Rattle.model_core.specs.declared.ops.Answer.TheVariants as answer
 use Rattle.model_core.specs.declared.ops.Op.{Op}
 use Rattle.model_core.specs.declared.ops.Op.TheVariants as op
 use Rattle.model_core.specs.declared.steps.FlusherStep.{FlusherStep}
@@ -19,7 +17,7 @@ use Rattle.model_core.specs.declared.steps.WriterStep.{WriterStep}
 use Rattle.model_core.specs.declared.steps.WriterStep.TheVariants as writer_step
 use Rattle.model_core.specs.declared.words.LinkBuffer.TheVariants as link_buffer
 use Rattle.model_core.specs.declared.words.Word.TheVariants as word
-use Rattle.model_own.specs.OwnWrites.{errand_op, has_work, LogWork, own_lends, own_next, OwnUser}
+use Rattle.model_own.specs.OwnWrites.{errand_op, has_work, LogWork, own_next, OwnUser}
 use Rattle.model_own.specs.declared.errand.ErrandStep.{ErrandStep}
 use Rattle.model_own.specs.declared.errand.ErrandStep.TheVariants as errand_step
 use Rattle.model_ownrun.proofs.Errands.{in_hand}
@@ -27,23 +25,21 @@ use Rattle.model_ownrun.proofs.OwnKeeps.{own_words}
 use Rattle.model_ownrun.proofs.Seats.{user_there}
 use Rattle.model_ownrun.specs.OwnRunning.{FlushesAt, WorkAt, WritesAt}
 use Rattle.redo_disk.specs.Seen.{Seen}
-use Rattle.redo_drive.proofs.MayTurn.{may_serve}
 use Rattle.redo_drive.specs.Lists.{lists_of}
 use Rattle.redo_drive.specs.Playing.{LogReady, run_data_side, run_log_side, RunOf}
 use Rattle.redo_drive.specs.Turning.{MayServe}
 use Rattle.redo_drive.specs.declared.parts.Parts.{Parts}
 use Rattle.redo_logdev.specs.Part as log
-use Rattle.redo_ownmachine.proofs.Serves.{its_data_laws, its_log_laws, may_serve_user}
-use Rattle.redo_ownmachine.specs.OwnSeats.{actors_of, OwnSeats}
-use Rattle.redo_ownmachine.specs.OwnStore.{OwnRunsOn}
+use Rattle.model_running.proofs.Archiving.{others_append_not}
+use Rattle.redo_ownmachine.proofs.Serves.{its_data_laws, its_log_laws, may_at, may_serve_user}
+use Rattle.redo_ownmachine.specs.OwnSeats.{OwnSeats}
+use Rattle.redo_ownmachine.specs.OwnStore.{OwnRunsWith}
 use Rattle.redo_ownmachine.specs.Serving.{MayServeUser}
 use Rattle.redo_ownrule.specs.OwnPlays.{FlusherInHand, OwnMayGo, WorkInHand, WriterInHand}
 use Rattle.redo_ownuser.specs.OwnFits.{OwnAnswerFits}
 use Rattle.redo_rule.specs.declared.law.Desk.{Desk}
 use Rattle.redo_rule.specs.declared.law.Slot.{Slot}
 use Rattle.redo_rule.specs.declared.law.Slot.TheVariants as slot
-use Rattle.redo_words.specs.{Lends}
-use Rattle.redo_words.specs.declared.lent.Lent.{Lent}
 
 -- where the writer and the flusher stand in a user's hand
 module _ (D : LogSide) (p : D.Part) where
@@ -90,8 +86,8 @@ own_rests o k on e = by o.user.checks o.errand on e
     by false errand_step.Write on e = absurd (writer_asks k.writer k.writer.step on e)
     by false errand_step.Flush on e = absurd (flusher_asks k.flusher k.flusher.step on e)
 
-module _ {L D : Type 0} (log_seen : L → Seen) (data_seen : D → Seen) (run : RunOf L D) (parts : Parts L D)
-    (seats : OwnSeats) (R : OwnRunsOn log_seen data_seen run parts seats) (n : ℕ) (o : OwnUser)
+module _ {L D : Type 0} {archive : Bool} (log_seen : L → Seen) (data_seen : D → Seen) (run : RunOf L D) (parts : Parts L D)
+    (seats : OwnSeats) (R : OwnRunsWith log_seen data_seen run archive parts seats) (n : ℕ) (o : OwnUser)
     (at : get_elem? seats.users n ≡ maybe.some o) where
   abbrev A : LogSide
   A = run_log_side log_seen data_seen run
@@ -103,8 +99,8 @@ module _ {L D : Type 0} (log_seen : L → Seen) (data_seen : D → Seen) (run : 
   serves = may_serve_user log_seen data_seen run parts seats R n o at
 
   pub as_user : MayServe parts (model.User o.user)
-  as_user = may_serve log_seen data_seen run parts (actors_of seats) R.runs (its_log_laws log_seen data_seen run)
-      (its_data_laws log_seen data_seen run) n (model.User o.user) (user_there seats.users seats.work seats.others n o at)
+  as_user = may_at log_seen data_seen run parts seats R n (model.User o.user)
+      (user_there seats.users seats.work seats.others n o at) (others_append_not (model.User o.user) tt)
 
   pub its_words : OpWords parts.words.pages (own_next o seats.work)
   its_words =

@@ -1,7 +1,7 @@
 -- Which Op a user that writes for itself asks for where.
-use Rattle.std.proofs.Common.{Bool, List, None, Option, ap, cond, false, refl, subst, sym, true, ℕ, ◌+◌, ◌<◌, ◌^◌, ◌∙◌, ◌≡◌}
+use Rattle.std.proofs.Common.{Bool, List, None, Option, ap, cond, false, refl, subst, sym, true, ℕ, ◌∙◌, ◌≡◌}
 use Rattle.model_core.proofs.TurnWords.{advance_asks, IsWordOp}
-use Rattle.model_core.specs.{FlusherState, flusher_op, flusher_took, next, old_of, OnWord, user_op, UserState, writer_op, writer_took, WriterState}
+use Rattle.model_core.specs.{FlusherState, flusher_op, flusher_took, next, old_of, user_op, UserState, writer_op, writer_took, WriterState}
 use Rattle.model_core.specs.Actors as model
 use Rattle.model_core.specs.Advancing.{advance_op}
 use Rattle.model_core.specs.declared.ops.Answer.{Answer}

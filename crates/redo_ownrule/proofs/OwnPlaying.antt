@@ -1,5 +1,5 @@
 -- A user's seat after an Op, and what it asks for.
-use Rattle.std.proofs.Common.{Bool, List, Option, Some, [], ap, refl, subst, sym, true, ℕ, ◌∙◌, ◌∷◌, ◌≡◌}
+use Rattle.std.proofs.Common.{List, Some, [], ap, subst, sym, true, ℕ, ◌∙◌, ◌∷◌, ◌≡◌}
 use Rattle.atomic_table.specs.Seated.{TableId}
 use Rattle.atomic_table.specs.Table.{rest}
 use Rattle.atomic_table.specs.declared.shared.Seat.{Seat}
@@ -16,7 +16,6 @@ use Rattle.redo_ownrule.proofs.OwnMay.{own_rests}
 use Rattle.redo_ownrule.proofs.OwnOps.{never}
 use Rattle.redo_ownrule.proofs.OwnStepping as stepping
 use Rattle.redo_ownrule.specs.OwnMine.{IsOwnSeat, KeepsOwnSeat, OwnMine}
-use Rattle.redo_ownrule.specs.OwnPlays.{HasWork}
 use Rattle.redo_ownrule.specs.OwnSlots.{GoesOnIn, LiesIn}
 use Rattle.redo_ownrule.specs.Playing.{OwnAsks}
 use Rattle.redo_rule.specs.declared.law.Desk.{Desk}
@@ -74,6 +73,7 @@ module _ {L D : Type 0} (table : TableId) (seat : Seat (Slot L D) (View L D)) (o
     NoOp (op.Checkpoint x) = Unit {0}
     NoOp (op.ReadBlock b) = Unit {0}
     NoOp op.WriteBatch = Unit {0}
+    NoOp (op.Append x) = Unit {0}
     NoOp _ = ⊥
 
     pub no_such : (b : Op) → NoOp b → a ≡ b → ⊥
@@ -86,5 +86,7 @@ module _ {L D : Type 0} (table : TableId) (seat : Seat (Slot L D) (View L D)) (o
     no_such (op.ReadBlock b) none is = never o k (stepping.go table seat o mine).in_hand (op.ReadBlock b) (asked ∙ is)
         (λ z. z) (λ z. z) (λ z. z) (λ e. absurd (cc)) (λ e. absurd (cc)) (λ e. absurd (cc))
     no_such op.WriteBatch none is = never o k (stepping.go table seat o mine).in_hand op.WriteBatch (asked ∙ is)
+        (λ z. z) (λ z. z) (λ z. z) (λ e. absurd (cc)) (λ e. absurd (cc)) (λ e. absurd (cc))
+    no_such (op.Append x) none is = never o k (stepping.go table seat o mine).in_hand (op.Append x) (asked ∙ is)
         (λ z. z) (λ z. z) (λ z. z) (λ e. absurd (cc)) (λ e. absurd (cc)) (λ e. absurd (cc))
     no_such _ none is = absurd none

@@ -1,61 +1,48 @@
 -- The taking of DEVICE by a user that writes for itself, with the log's work, keeps the rule.
 use Rattle.std.proofs.Common.{Bool, List, None, Option, Some, [], ap, arith, cond, eq-eqb, eqb, false, get_or-set_other, get_or-set_same, inl, inr, is_some}
-use Rattle.std.proofs.Common.{length, length-set, ne_eqb, refl, subst, suc, sym, true, zero, ℕ, ◌%◌, ◌+◌, ◌<◌, ◌==◌, ◌^◌, ◌∙◌, ◌∷◌, ◌≡◌, ◌≢◌, ◌⊎◌}
-use Rattle.std.proofs.lemmas.List.{set-get_or}
+use Rattle.std.proofs.Common.{length-set, ne_eqb, refl, subst, suc, sym, true, ℕ, ◌+◌, ◌<◌, ◌==◌, ◌∙◌, ◌∷◌, ◌≡◌, ◌≢◌, ◌⊎◌}
 use Rattle.std.specs.Prelude.{slice_index, slice_set}
 use lib.ListN.{get_elem?}
 use mathlib.Core.Option as maybe
 use native.Mathlib.Decide.{ℕ_discrete}
 use prog.Atomic.{either}
 use Rattle.atomic_table.specs.Table.{Allows, keeps, Me, State, takes}
-use Rattle.model_core.proofs.Lists.{set_again, set_else}
-use Rattle.model_core.proofs.TurnWords.{IsOffTurns}
-use Rattle.model_core.specs.{index, next, old_of, OnWord, word_found, words_after}
+use Rattle.model_core.proofs.Lists.{set_else}
+use Rattle.model_core.specs.{old_of}
 use Rattle.model_core.specs.Actors as model
-use Rattle.model_core.specs.Hands.{hand, IsFreeToCheck}
+use Rattle.model_core.specs.Hands.{hand}
 use Rattle.model_core.specs.declared.ops.Answer.{Answer}
 use Rattle.model_core.specs.declared.ops.Answer.TheVariants as answer
 use Rattle.model_core.specs.declared.ops.Op.{Op}
 use Rattle.model_core.specs.declared.ops.Op.TheVariants as op
-use Rattle.model_core.specs.declared.words.Word.{Word}
 use Rattle.model_own.specs.OwnWrites.{ErrandFits, has_work, LogWork, own_checked, own_goes_on, own_lends, own_next, OwnUser, errand_took}
 use Rattle.model_own.specs.declared.errand.ErrandStep.{ErrandStep}
 use Rattle.model_own.specs.declared.errand.ErrandStep.TheVariants as errand_step
 use Rattle.redo_disk.specs.{Call}
 use Rattle.redo_disk.specs.Seen.{Seen}
-use Rattle.redo_drive.proofs.MayTurn.{holds_sum}
 use Rattle.redo_drive.proofs.Played as played
-use Rattle.redo_drive.specs.Lists.{listing_at, Listings, lists_of}
 use Rattle.redo_drive.specs.Playing.{HasSamePages, IsPlayed}
 use Rattle.redo_drive.specs.declared.parts.Parts.{Parts}
-use Rattle.redo_logdev.specs.Part as log
-use Rattle.redo_ownrule.proofs.OwnMay as may
 use Rattle.redo_ownrule.proofs.OwnOps as ops
 use Rattle.redo_ownrule.proofs.OwnTurns as turns
 use Rattle.redo_ownrule.proofs.OwnUserHands as hands
-use Rattle.redo_ownrule.proofs.OwnWords.{keeps_work, stays_aside}
-use Rattle.redo_ownrule.specs.OwnPlays.{errand_of, HasWork, held_behind, IsOwn, own_looked, own_saw, own_seized, own_view, OwnMayGo, WorkInHand}
+use Rattle.redo_ownrule.specs.OwnPlays.{HasWork, IsOwn, own_seized, own_view, WorkInHand}
 use Rattle.redo_ownrule.specs.OwnPlays.{OwnStepped, with_work}
-use Rattle.redo_rule.proofs.Holders as holders
 use Rattle.redo_rule.proofs.Kept as kept
-use Rattle.redo_rule.proofs.Retook.{one_head}
 use Rattle.redo_rule.proofs.Words.{swapped}
-use Rattle.redo_rule.specs.OwnSide.{Beside, desk_with, work_of}
+use Rattle.redo_rule.specs.OwnSide.{Beside, desk_with}
 use Rattle.redo_rule.specs.Plays.{taking}
 use Rattle.redo_rule.specs.Ruled.{Ruled, slot_content}
 use Rattle.redo_rule.specs.declared.law.About.{About}
 use Rattle.redo_rule.specs.declared.law.Desk.{Desk}
-use Rattle.redo_rule.specs.declared.law.Errand.{Errand}
-use Rattle.redo_rule.specs.declared.law.Keeping.{Keeping}
 use Rattle.redo_rule.specs.declared.law.Numbered.{Numbered}
 use Rattle.redo_rule.specs.declared.law.Slot.{Slot}
 use Rattle.redo_rule.specs.declared.law.Slot.TheVariants as slot
 use Rattle.redo_rule.specs.declared.law.View.{View}
-use Rattle.redo_words.specs.{HoldsSum}
 use Rattle.redo_ownrule.proofs.OwnAllowed as allowed
 use Rattle.redo_ownrule.proofs.OwnAllowed.{by_slot}
 use Rattle.redo_ownrule.proofs.OwnTurns.{many}
-use Rattle.model_own.specs.OwnWrites.{taken_up, waiting}
+use Rattle.model_own.specs.OwnWrites.{waiting}
 
 -- what DEVICE's answer leads to: it has the work then, as it is taken up
 pub took : (o : OwnUser) (k : LogWork) (b : Bool) → o.user.checks ≡ false → o.errand ≡ errand_step.TakeDevice

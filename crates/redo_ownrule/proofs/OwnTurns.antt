@@ -1,6 +1,6 @@
 -- A turn of a user that writes for itself, on the shared table: what it knows, what keeps the rule, and what the turn tells
 -- its seat.
-use Rattle.std.proofs.Common.{Bool, List, None, Option, Some, ap, arith, false, inl, inr, length, length-append, refl, set, subst, suc, sym, true, zero, ℕ}
+use Rattle.std.proofs.Common.{Bool, List, None, Option, Some, ap, arith, false, length, length-append, refl, set, subst, suc, sym, true, zero, ℕ}
 use Rattle.std.proofs.Common.{⊎_elim, ◌++◌, ◌+◌, ◌<◌, ◌∙◌, ◌∷◌, ◌≡◌, ◌≢◌, ◌≤◌, ◌⊎◌}
 use Rattle.std.specs.Prelude.{slice_index, slice_set, []}
 use lib.ListN.{get_elem?}
@@ -11,7 +11,6 @@ use Rattle.model_core.proofs.FailedCalls.{gives_hand}
 use Rattle.model_core.proofs.Lists.{set_at}
 use Rattle.model_core.specs.{flat, flat_page_words}
 use Rattle.model_core.specs.Actors as model
-use Rattle.model_core.specs.DataSide.{DataSide}
 use Rattle.model_core.specs.Hands.{GivesFailed, hand}
 use Rattle.model_core.specs.LogSide.{LogSide}
 use Rattle.model_core.specs.declared.ops.Answer.{Answer}
@@ -21,11 +20,11 @@ use Rattle.redo_disk.specs.{Call}
 use Rattle.redo_disk.specs.Seen.{Seen}
 use Rattle.redo_drive.specs.Calls.{CallsOn}
 use Rattle.redo_drive.specs.Lists.{AreLists}
-use Rattle.redo_drive.specs.Playing.{HasSamePages, IsPlayed, run_data_side, run_log_side}
+use Rattle.redo_drive.specs.Playing.{HasSamePages, IsPlayed, run_log_side}
 use Rattle.redo_drive.specs.declared.parts.Parts.{Parts}
 use Rattle.redo_logdev.specs.Part as log
 use Rattle.redo_ownmachine.specs.OwnSeats.{actors_of, OwnSeats}
-use Rattle.redo_ownmachine.specs.OwnStore.{OwnRunsOn}
+use Rattle.redo_ownmachine.specs.OwnStore.{OwnRunsWith}
 use Rattle.redo_ownmachine.specs.Serving.{MayServeUser}
 use Rattle.redo_ownrule.proofs.OwnDesk.{same_work}
 use Rattle.redo_ownrule.proofs.OwnFree.{own_free}
@@ -105,7 +104,7 @@ module _ {L D : Type 0} (log_seen : L → Seen) (log_gives : L → Call → L �
   abbrev pub seats : OwnSeats
   seats = turns.seats log_seen log_gives data_seen data_gives about s R id v x one at side own_is o there
 
-  abbrev pub before : OwnRunsOn log_seen data_seen R.run R.parts seats
+  abbrev pub before : OwnRunsWith log_seen data_seen R.run about.archive R.parts seats
   before = turns.before log_seen log_gives data_seen data_gives about s R id v x one at side own_is o there
 
   pub serves : MayServeUser R.parts o work
@@ -222,7 +221,7 @@ module _ {L D : Type 0} (log_seen : L → Seen) (log_gives : L → Call → L �
     after = turns.after log_seen log_gives data_seen data_gives about s R id v x one at side own_is o there r new same
         played block
 
-    abbrev pub runs_behind : OwnRunsOn log_seen data_seen R.run new after
+    abbrev pub runs_behind : OwnRunsWith log_seen data_seen R.run about.archive new after
     runs_behind = turns.runs_behind log_seen log_gives data_seen data_gives about s R id v x one at side own_is o there r
         new same played block
 

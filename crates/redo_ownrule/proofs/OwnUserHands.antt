@@ -1,13 +1,11 @@
 -- Which list a user that writes for itself holds after an answer.
-use Rattle.std.proofs.Common.{Bool, None, Option, Some, ap, cond, false, refl, subst, suc, sym, true, ℕ, ◌%◌, ◌==◌, ◌∙◌, ◌≡◌}
+use Rattle.std.proofs.Common.{Bool, None, Option, ap, cond, false, refl, subst, sym, true, ℕ, ◌∙◌, ◌≡◌}
 use Rattle.model_core.proofs.TurnWords.{advance_asks}
 use Rattle.model_core.specs.{checked_of, FlusherState, flusher_took, heard, next, old_of, OnWord, took, user_op, user_program, user_took}
 use Rattle.model_core.specs.{user_waits, UserState, writer_took, WriterState}
 use Rattle.model_core.specs.Actors as model
 use Rattle.model_core.specs.Hands.{hand, IsFreeToCheck, user_hand}
 use Rattle.model_core.specs.ActorProgram.{opposite}
-use Rattle.model_core.proofs.Hands.{Handles}
-use Rattle.model_core.specs.declared.limits.TheConstants.{FLUSH_LISTS}
 use Rattle.model_core.specs.declared.ops.Answer.{Answer}
 use Rattle.model_core.specs.declared.ops.Answer.TheVariants as answer
 use Rattle.model_core.specs.declared.ops.Op.{Op}

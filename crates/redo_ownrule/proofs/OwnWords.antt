@@ -7,7 +7,6 @@ use Rattle.model_core.specs.Lanes.{lane_of, lanes, left_in_word}
 use Rattle.model_core.specs.Lsn.{lsn}
 use Rattle.model_core.specs.WriterProgram.{finds_no_more, has_log_space, has_whole_word, read_place, stands_outside, word_end}
 use Rattle.model_core.specs.declared.ops.Answer.TheVariants as answer
-use Rattle.model_core.specs.declared.ops.Op.{Op}
 use Rattle.model_core.specs.declared.ops.Op.TheVariants as op
 use Rattle.model_core.specs.declared.steps.AdvanceStep.TheVariants as advance_step
 use Rattle.model_core.specs.declared.steps.FlusherStep.{FlusherStep}

@@ -1,6 +1,6 @@
 -- A player more gets its seat, and the last seat is taken in.
 use Rattle.std.proofs.Common.{Bool, List, None, Option, Some, [], ap, arith, cond, drop, false, inl, inr, length, length-append, map, refl, subst, suc, sym, true, zero, ℕ}
-use Rattle.std.proofs.Common.{⊎_elim, ◌++◌, ◌+◌, ◌<◌, ◌∙◌, ◌∷◌, ◌≡◌, ◌≢◌, ◌≤◌, ◌⊎◌, get_or}
+use Rattle.std.proofs.Common.{⊎_elim, ◌++◌, ◌+◌, ◌<◌, ◌∙◌, ◌∷◌, ◌≡◌, ◌≤◌, ◌⊎◌, get_or}
 use lib.ListN.{get_elem?}
 use mathlib.Core.Option as maybe
 use native.Mathlib.Decide.{ℕ_discrete}
@@ -10,15 +10,14 @@ use Rattle.atomic_table.specs.Table.{Allows, Me}
 use Rattle.atomic_table.specs.declared.shared.Seat.{Seat}
 use Rattle.model_core.specs.{Given, word_count}
 use Rattle.model_core.specs.Actors as model
-use Rattle.model_core.specs.Hands.{hand, HoldsNothing}
+use Rattle.model_core.specs.Hands.{HoldsNothing}
 use Rattle.model_own.specs.OwnWrites.{has_work, OwnUser}
 use Rattle.redo_disk.specs.{Call}
 use Rattle.redo_disk.specs.Seen.{Seen}
 use Rattle.redo_drive.specs.Views.{view_of, views_of}
-use Rattle.redo_drive.specs.declared.actor.Actor.{Actor}
 use Rattle.redo_ownrule.proofs.OwnAllowed.{own_look}
 use Rattle.redo_ownrule.specs.Gathering.{AreHandedOut, HasPlayer, IsHeadOf}
-use Rattle.redo_ownrule.specs.OwnMine.{CarriesWork, IsOwnSeat, OwnMine}
+use Rattle.redo_ownrule.specs.OwnMine.{CarriesWork, OwnMine}
 use Rattle.redo_ownrule.specs.OwnPlays.{errand_of, IsOwn, own_looked}
 use Rattle.redo_ownrule.specs.Players.{actor_of, IsAtRest, numbered_as, place, place_behind, seated}
 use Rattle.redo_ownrule.specs.Playing.{IsPlayerSeat}
@@ -28,13 +27,13 @@ use Rattle.redo_ownrule.specs.declared.player.Player.TheVariants as player
 use Rattle.redo_rule.proofs.AtRest.{at_or}
 use Rattle.redo_rule.proofs.Gathered.{there}
 use Rattle.redo_rule.proofs.Seated.{at_end}
-use Rattle.redo_rule.specs.Cutting.{IsApart, IsFirst, IsHome, MayTakeIn}
+use Rattle.redo_rule.specs.Cutting.{IsFirst, IsHome, MayTakeIn}
 use Rattle.redo_rule.specs.Gathering.{HasOneCleaner, PartIsKept}
-use Rattle.redo_rule.specs.Mine.{heard_in, heard_of, Mine, number_in, number_of}
+use Rattle.redo_rule.specs.Mine.{heard_in, heard_of, number_in, number_of}
 use Rattle.redo_rule.specs.OwnSide.{HasNoWork}
 use Rattle.redo_rule.specs.Plays.{Carries}
 use Rattle.redo_rule.specs.Ruled.{Ruled}
-use Rattle.redo_rule.specs.Seating.{HasPart, IsCleaner, IsSeatOf}
+use Rattle.redo_rule.specs.Seating.{HasPart, IsCleaner}
 use Rattle.redo_rule.specs.Seats.{cut_left, cut_right, first_numbered, first_some, heads_cleaner, is_cleaner, rest_numbered, taken_in}
 use Rattle.redo_rule.specs.declared.law.About.{About}
 use Rattle.redo_rule.specs.declared.law.Errand.{Errand}

@@ -6,7 +6,7 @@ use Rattle.atomic_table.specs.Seated.{TableId}
 use Rattle.atomic_table.specs.declared.shared.Seat.{Seat}
 use Rattle.model_core.specs.{Given}
 use Rattle.redo_drive.specs.Views.{view_of}
-use Rattle.redo_ownrule.specs.OwnMine.{IsOwnSeat, OwnMine}
+use Rattle.redo_ownrule.specs.OwnMine.{OwnMine}
 use Rattle.redo_ownrule.specs.Players.{numbered_as, seated}
 use Rattle.redo_ownrule.specs.Playing.{IsPlayerSeat}
 use Rattle.redo_ownrule.specs.declared.player.Player.{Player}

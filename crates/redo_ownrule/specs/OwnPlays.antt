@@ -26,7 +26,7 @@ use Rattle.redo_drive.specs.declared.device.Device.TheVariants.{Log}
 use Rattle.redo_drive.specs.declared.parts.Parts.{Parts}
 use Rattle.redo_ownmachine.specs.OwnSeats.{OwnSeats}
 use Rattle.redo_ownmachine.specs.OwnAsking.{own_core_of}
-use Rattle.redo_ownmachine.specs.OwnStore.{OwnRunsOn}
+use Rattle.redo_ownmachine.specs.OwnStore.{OwnRunsWith}
 use Rattle.redo_ownuser.specs.OwnFits.{OwnAnswerFits, WorkGoesOn}
 use Rattle.redo_flushlist.specs.{Listing}
 use Rattle.redo_rule.specs.Plays.{list_behind, ListFits, TakesList, taking}
@@ -124,10 +124,10 @@ module _ {L D : Type 0} (log_seen : L → Seen) (data_seen : D → Seen) where
     pub is_about : IsRunAbout log_seen data_seen about run
     pub old : Parts L D
     pub seats : OwnSeats
-    pub runs : OwnRunsOn log_seen data_seen run old seats
+    pub runs : OwnRunsWith log_seen data_seen run about.archive old seats
     pub new : Parts L D
     pub after : OwnSeats
-    pub runs_on : OwnRunsOn log_seen data_seen run new after
+    pub runs_on : OwnRunsWith log_seen data_seen run about.archive new after
     pub at : get_elem? seats.users number ≡ some o
     pub work : seats.work ≡ k
     pub ends : Step

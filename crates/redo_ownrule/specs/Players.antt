@@ -1,6 +1,5 @@
 -- Who plays at a table, and the actors that they leave.
 use Rattle.std.specs.Prelude.{Bool, List, None, Option, Some, [], false, map, true, suc, zero, ℕ, ◌++◌, ◌+◌, ◌∷◌, ◌≡◌}
-use Rattle.std.specs.List.{AllZip}
 use Rattle.model_core.specs.{Given}
 use Rattle.model_core.specs.Actors as model
 use Rattle.model_core.specs.Hands.{HoldsNothing, IsFreeToCheck}

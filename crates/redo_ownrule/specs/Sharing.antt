@@ -7,7 +7,7 @@ use Rattle.atomic_table.specs.declared.shared.Seat.{Seat}
 use Rattle.model_core.specs.Actors as model
 use Rattle.model_own.specs.OwnWrites.{LogWork}
 use Rattle.model_script.specs.declared.script.ScriptLine.{ScriptLine}
-use Rattle.redo_drive.specs.Making.{EndsWithFollowers}
+use Rattle.redo_drive.specs.Making.{EndsWithReaders}
 use Rattle.redo_drive.specs.Startable.{MayBegin}
 use Rattle.redo_drive.specs.Views.{views_of}
 use Rattle.redo_drive.specs.declared.actor.Actor.{Actor}
@@ -86,18 +86,19 @@ module _ {L D R : Type 0} where
     pub seats_fit : IfSome shared.seats (λ v. (v.items ≡ []) × (length players ≤ vec_capacity v))
 
   -- The store is shared as the run of this script on this opened store begins, with these followers; where `own_writes` is
-  -- set its users write for themselves. With the log's work as it begins the players are all actors of the run.
-  pub record IsNewlyShared (opened : Opened L D) (script : List ScriptLine) (log_only own_writes : Bool)
+  -- set its users write for themselves, and where `archive` is it has an archiver. With the log's work as it begins the players are all actors of the run.
+  pub record IsNewlyShared (opened : Opened L D) (script : List ScriptLine) (log_only own_writes archive : Bool)
       (followers : List (Following R)) (shared : Shared L D R) (players : List (Player R)) : Type 0 where
     pub opened_is : opened_of shared ≡ opened
     pub script_is : shared_script shared ≡ script
     pub log_only_is : shared.board.shared.key.log_only ≡ log_only
     pub own_is : own_of shared ≡ own_writes
+    pub archive_is : shared.board.shared.key.archive ≡ archive
     pub followers_are : shared.board.shared.key.followers ≡ length followers
     pub work : Option LogWork
     pub works : is_some work ≡ own_writes
     pub actors_are : starts_of shared ≡ views_of (crew work players)
-    pub follow : EndsWithFollowers (crew work players) followers
+    pub readers : EndsWithReaders opened.start archive (crew work players) followers
     pub unseated : IsUnseated shared players
 
   -- EACH PLAYER HAS ITS SEAT. Where the log runs alone the first seat keeps the data part.

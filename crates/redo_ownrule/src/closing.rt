@@ -3,12 +3,12 @@ ghost use Rattle.std.specs.Prelude.{◌≡◌, ◌+◌, List, is_some, length, m
 ghost use Rattle.std.specs.List.{AllZip};
 ghost use Rattle.model_own.specs.OwnWrites.{LogWork};
 ghost use Rattle.redo_drive.specs.History.{ListsInOrder};
-ghost use Rattle.redo_drive.specs.Leaving.{LeavesRun};
+ghost use Rattle.redo_drive.specs.Leaving.{LeavesWith};
 ghost use Rattle.redo_drive.specs.Views.{views_of};
 ghost use Rattle.redo_ownrule.specs.Players.{AreInOrder, IsSamePlayer, actor_of, crew, workers};
 ghost use Rattle.redo_ownrule.specs.Sharing.{AllAtRest, AreActorsOf, AreSeatsOf, IsSeated, opened_of, own_of, shared_script, starts_of, table_of};
 ghost use Rattle.redo_ownrule.specs.declared.player.Player.{Player as ThePlayer};
-ghost use Rattle.redo_rule.specs.Closing.{IsOwedRun};
+ghost use Rattle.redo_rule.specs.Closing.{IsOwedRun, TellsLoss};
 ghost use Rattle.redo_rule.specs.Cutting.{HoldNothing};
 ghost use Rattle.redo_rule.specs.Failing.{CodeHasCause};
 ghost use Rattle.redo_rule.specs.Reached.{ReachesAll};
@@ -18,35 +18,39 @@ use crate::leaving::give_actors;
 use crate::player::Player;
 use crate::seats::take_all;
 use crate::shared::Shared;
-use redo_disk::Sectors;
+use redo_disk::{DevError, Sectors};
 use redo_drive::{Actor, Closed, history_of};
 use redo_follow::Receiver;
 use redo_rule::{Left, Seat, close_table};
 
 impl<L: Sectors, D: Sectors, R: Receiver + Drop> Shared<L, D, R> {
-    /// What the run leaves, given the seats of all players, each of which is at rest: its history, its marks, both parts, and the
+    /// What the run leaves, given the seats of all players, each of which is at rest, and what the append to the archive met that
+    /// failed: its history, its marks, both parts, and the
     /// code in FAILED; and its actors, with the writer and the flusher as far as users that wrote for themselves have brought them.
     pub fn finish(
         self,
         seats: Vec<Seat<L, D>>,
         players: Vec<Player<R>>,
+        lost: Option<DevError>,
     ) -> (Closed<L, D>, Vec<Actor<R>>)
         requires seated { IsSeated self }
         requires seats { AreSeatsOf (table_of self) (own_of self) seats.items players.items }
         requires order { AreInOrder (own_of self) players.items }
         requires all { length players.items + workers (own_of self) ≡ length (starts_of self) }
         requires rest { AllAtRest players.items }
+        requires lost { TellsLoss self.board.shared.key.archive (views_of (map actor_of players.items)) lost }
         ensures actors { AreActorsOf (own_of self) players.items result.1.items }
         ensures rest { HoldNothing (views_of result.1.items) }
         ensures leaves { (work : Option LogWork) (starts : List (ThePlayer R)) → is_some work ≡ own_of self
             → AllZip IsSamePlayer starts players.items
             → HaveHeard R.stands_for (map actor_of starts) seats.items (map actor_of players.items)
-            → LeavesRun L.seen L.gives D.seen D.gives R.stands_for (opened_of self) (shared_script self) self.board.shared.key.log_only
-            self.board.shared.key.followers (crew work starts) result.1.items result.0 }
+            → LeavesWith L.seen L.gives D.seen D.gives R.stands_for (opened_of self) (shared_script self) self.board.shared.key.log_only
+            self.board.shared.key.archive self.board.shared.key.followers (crew work starts) result.1.items result.0 }
         ensures listed { ListsInOrder result.0.marks (views_of result.1.items) result.0.history }
         ensures owed { IsOwedRun L.seen L.gives D.seen D.gives (opened_of self) (shared_script self) (views_of result.1.items) result.0 }
         ensures reaches { ReachesAll (views_of result.1.items) result.0 }
-        ensures cause { CodeHasCause L.seen D.seen result.0.code (opened_of self).log result.0.log (opened_of self).store result.0.store }
+        ensures cause { CodeHasCause L.seen D.seen result.0.code (opened_of self).log result.0.log (opened_of self).store result.0.store result.0.lost }
+        ensures loses { result.0.lost ≡ lost }
     {
         let Shared {
             board,
@@ -71,6 +75,7 @@ impl<L: Sectors, D: Sectors, R: Receiver + Drop> Shared<L, D, R> {
             log,
             store,
             code,
+            lost,
         };
         (closed, actors)
     }

@@ -63,6 +63,7 @@ pub(crate) fn play_own<L: Sectors, D: Sectors>(
         | Op::TakeOldest(_)
         | Op::Checkpoint(_)
         | Op::ReadBlock(_)
-        | Op::WriteBatch => unreachable!(),
+        | Op::WriteBatch
+        | Op::Append(_) => unreachable!(),
     }
 }

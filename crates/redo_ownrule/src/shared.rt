@@ -8,7 +8,7 @@ use crate::staffing::{Staff, take_staff};
 use model_report::Entry;
 use model_script::Script;
 use redo_disk::Sectors;
-use redo_drive::{Actor, Beginning, Parts, begin_run};
+use redo_drive::{Actor, Beginning, Parts, begin_run_with};
 use redo_follow::{Follower, Receiver};
 use redo_lsn::NoMemory;
 use redo_rule::{About, Board, Ring, Seat, lay_out, make_board, parts_in};
@@ -30,8 +30,8 @@ pub struct Shared<L: Sectors, D: Sectors, R: Receiver> {
 }
 
 impl<L: Sectors, D: Sectors, R: Receiver + Drop> Shared<L, D, R> {
-    /// The store as the run of a script begins, with the log alone or with the pages, and its players, these followers among
-    /// them, none of which has a seat yet. Where `own_writes` is set its users write for themselves. It takes all memory; where
+    /// The store as the run of a script begins, with the log alone or with the pages, and its players, an archiver, if it is
+    /// archived, and these followers among them, none of which has a seat yet. Where `own_writes` is set its users write for themselves. It takes all memory; where
     /// there is none it gives both devices back as they were.
     pub fn new(
         alloc: Global,
@@ -39,12 +39,13 @@ impl<L: Sectors, D: Sectors, R: Receiver + Drop> Shared<L, D, R> {
         script: &Script,
         log_only: bool,
         own_writes: bool,
+        archive: bool,
         followers: Vec<Follower<R>>,
     ) -> Result<(Shared<L, D, R>, Vec<Player<R>>), (NoMemory, L, D)>
         requires may { MayBegin opened script.now log_only }
         requires new { AreNewFollowers opened.start followers.items }
         ensures err { IfErr result (λ error. (error.1 ≡ opened.log.dev) × (error.2 ≡ opened.store.dev)) }
-        ensures new { IfOk result (λ made. IsNewlyShared opened script.now log_only own_writes followers.items made.0 made.1.items) }
+        ensures new { IfOk result (λ made. IsNewlyShared opened script.now log_only own_writes archive followers.items made.0 made.1.items) }
     {
         let opened_is = Snapshot::of(&opened);
         let count = followers.len() as u64;
@@ -52,11 +53,12 @@ impl<L: Sectors, D: Sectors, R: Receiver + Drop> Shared<L, D, R> {
             parts,
             actors,
             entries,
-        } = begin_run(alloc, opened, script, log_only, followers)?;
+        } = begin_run_with(alloc, opened, script, log_only, archive, followers)?;
         let about = About {
             opened: opened_is,
             script: Snapshot::of(script),
             log_only,
+            archive,
             followers: count,
             own_writes,
         };

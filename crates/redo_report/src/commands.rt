@@ -1,6 +1,6 @@
-// The texts of `recover`, `format` and `gen --run`.
+// The texts of `recover`, `restore`, `format` and `gen --run`.
 ghost use Rattle.std.specs.Prelude.{◌≡◌, ◌++◌, IfOk};
-ghost use Rattle.model_report.specs.{format_text, page_lines, read_line, summary_text};
+ghost use Rattle.model_report.specs.{format_text, page_lines, read_line, restored_text, summary_text};
 
 use crate::pages::{pages_text, push_pages};
 use model_base::START_LSN;
@@ -17,6 +17,17 @@ pub fn recovery(alloc: Global, groups: usize, end: u64, pages: &[Content]) -> Re
 {
     let mut text = String::new(alloc);
     writeln!(text, "read {groups} {end}")?;
+    push_pages(alloc, &mut text, pages)?;
+    Ok(Text::new(text.into_bytes()))
+}
+
+/// The text of `restore`: how many groups were applied, where the last of them ends, or the run starts, and the line of
+/// each page that a group has changed.
+pub fn restored(alloc: Global, n: u64, end: u64, pages: &[Content]) -> Result<Text, NoMemory>
+    ensures { IfOk result (λ text. text ≡ restored_text n end pages.now) }
+{
+    let mut text = String::new(alloc);
+    writeln!(text, "restored {n} {end}")?;
     push_pages(alloc, &mut text, pages)?;
     Ok(Text::new(text.into_bytes()))
 }

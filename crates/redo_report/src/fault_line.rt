@@ -1,8 +1,9 @@
 // The line of a fault, written in a buffer that is there already: it is printed also when memory is short.
 ghost use Rattle.std.specs.Prelude.{◌≡◌, ◌+◌, ◌++◌, ◌∷◌, [], ◌≤◌, length, take, codes};
 ghost use Rattle.std.specs.Fmt.{decimal};
-ghost use Rattle.model_report.specs.{fault_line, line_text, misfit_words, quantity_word, refusal_words, status_of};
+ghost use Rattle.model_report.specs.{fault_line, line_text, misfit_words, quantity_word, refusal_words, restore_words, status_of};
 
+use model_archive::RestoreRefusal;
 use model_report::Fault;
 use model_script::{Misfit, Quantity};
 use model_store::Refusal;
@@ -84,6 +85,8 @@ fn quantity_words(quantity: Quantity) -> &'static [u8]
         Quantity::Group => b"fault fit group ",
         Quantity::Lsn => b"fault fit lsn ",
         Quantity::Total => b"fault fit total ",
+        Quantity::Archive => b"fault fit archive ",
+        Quantity::To => b"fault fit to ",
     }
 }
 
@@ -117,6 +120,22 @@ fn put_refusal(out: &mut [u8; FAULT_ROOM], refusal: Refusal) -> usize
     }
 }
 
+// The line of an archive from which nothing is restored.
+fn put_unrestored(out: &mut [u8; FAULT_ROOM], refusal: RestoreRefusal) -> usize
+    ensures fits { result ≤ FAULT_ROOM }
+    ensures text { take result out.new ≡ line_text (codes "fault" ∷ restore_words refusal) }
+{
+    match refusal {
+        RestoreRefusal::Missing => put(out, 0, b"fault archive none\n"),
+        RestoreRefusal::To(lsn) => put_number_line(out, b"fault fit to ", lsn),
+        RestoreRefusal::Page(page) => {
+            put_number_line(out, b"fault archive page ", u64::from(page))
+        }
+        RestoreRefusal::Block(lsn) => put_number_line(out, b"fault archive block ", lsn),
+        RestoreRefusal::Record(lsn) => put_number_line(out, b"fault archive record ", lsn),
+    }
+}
+
 /// Writes the line of the fault at the front of the buffer, and gives its length in bytes; a sink that failed has no
 /// line.
 #[tactic(auto, unfolding(model_report::specs::FaultLine::fault_line))]
@@ -132,7 +151,9 @@ pub fn fault_text(fault: Fault, out: &mut [u8; FAULT_ROOM]) -> usize
         Fault::Sink => 0,
         Fault::LogDevice => put(out, 0, b"fault log device\n"),
         Fault::DataDevice => put(out, 0, b"fault data device\n"),
+        Fault::ArchiveDevice => put(out, 0, b"fault archive device\n"),
         Fault::Store(refusal) => put_refusal(out, refusal),
+        Fault::Archive(refusal) => put_unrestored(out, refusal),
         Fault::Turns(turns, user) => {
             put_numbers_line(out, b"fault turns ", turns, b" user ", u64::from(user))
         }
@@ -152,8 +173,11 @@ pub fn status_of(fault: Fault) -> u8
         Fault::Sink => 5,
         Fault::LogDevice => 6,
         Fault::DataDevice => 7,
+        Fault::ArchiveDevice => 11,
         Fault::Store(Refusal::SmallLog(_) | Refusal::SmallData(_)) => 10,
         Fault::Store(_) => 8,
+        Fault::Archive(RestoreRefusal::To(_)) => 10,
+        Fault::Archive(_) => 12,
         Fault::Turns(_, _) => 9,
         Fault::Fit(_) => 10,
     }

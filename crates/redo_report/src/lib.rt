@@ -11,7 +11,7 @@ mod pages;
 mod run;
 mod run_lines;
 
-pub use commands::{formatted, recovery, summary};
+pub use commands::{formatted, recovery, restored, summary};
 pub use dump::{Listed, listing};
 pub use fault_line::{FAULT_ROOM, fault_text, status_of};
 pub use laws::listed_record_reads_back;

@@ -27,7 +27,7 @@ use Rattle.redo_drive.specs.Receiving.{handed_by}
 use Rattle.redo_drive.specs.declared.parts.Parts.{Parts}
 use Rattle.redo_flushlist.specs.{Listing}
 use Rattle.redo_drive.proofs.Filled.{IsNoRead}
-use Rattle.redo_rule.proofs.Filled.{fills_block, handles_filled, IsNoGive, one_filling}
+use Rattle.redo_rule.proofs.Filled.{fills_block, handles_filled, IsNoGive, keeps_listed, one_filling}
 use Rattle.redo_rule.proofs.Holders as holders
 use Rattle.redo_rule.proofs.Kept as kept
 use Rattle.redo_rule.proofs.Retook.{one_head}
@@ -36,7 +36,7 @@ use Rattle.redo_rule.proofs.Words.{plain_off, swapped}
 use Rattle.atomic_table.proofs.Lists.{set_here}
 use Rattle.model_core.proofs.Hands.{Handles}
 use Rattle.model_core.specs.Hands.{hand, IsFreeToCheck}
-use Rattle.redo_rule.specs.Plays.{behind, gave, list_behind, list_said, ListFits, looked, no_filling, saw, seized, Stepped, TakesList, taking, view_behind}
+use Rattle.redo_rule.specs.Plays.{behind, gave, KeepsTexts, list_behind, list_said, ListFits, looked, no_filling, saw, seized, Stepped, TakesList, taking, view_behind}
 use Rattle.redo_rule.specs.OwnSide.{Beside, desk_with}
 use Rattle.redo_rule.specs.Ruled.{Knows, Ruled, slot_content}
 use Rattle.redo_rule.specs.declared.law.About.{About}
@@ -394,14 +394,14 @@ module _ {L D : Type 0} (log_seen : L → Seen) (log_gives : L → Call → L �
           (λ code mark. sym (ap (λ (b : Bool). cond b (taking (is_some R.parts.log.failed)) answer.Held) (ne_eqb (slice_index R.parts.words.words 7) 0 (λ z. busy (sym (ap (λ (y : List ℕ). slice_index y 7) R.words_are) ∙ z)))))
 
   -- a turn word and its slot are given back
-  gives_back : (o : Op) (k : ℕ) (own_slot : Slot L D) (f : Filling) → Fills a f → next a ≡ o → IsNoRead o → k < 5 →
+  gives_back : (o : Op) (k : ℕ) (own_slot : Slot L D) (f : Filling) → Fills a f → KeepsTexts a f → next a ≡ o → IsNoRead o → k < 5 →
       hand a ≡ Some k → ((g : Filling) → hand (took (filled a g) (answer.Taken None)) ≡ None) → me.0.held ≡ Some
       own_slot → me.1 ≡ (k, own_slot) ∷ []
       → ((s : State (Slot L D) (View L D)) (R : Law s) (new : Parts L D) → new.words.words ≡ slice_set
       R.parts.words.words (7 + k) 0 → new.log ≡ R.parts.log → new.store ≡ R.parts.store → new.lists ≡
       R.parts.lists → (l : model.Lent) → IsPlayed log_seen data_seen R.run o l R.parts (answer.Taken None) new)
       → Allows Law slots id me (7 + k) (λ _. 0) (gave log_seen data_seen me)
-  gives_back o k own_slot f fills is other below held_k none held carried plays s R wide at small =
+  gives_back o k own_slot f fills keeps_f is other below held_k none held carried plays s R wide at small =
       let r : Answer = answer.Taken None in
       let ws : List ℕ = slice_set s.words (7 + k) 0 in
       let new : Parts L D = record { words = record { pages = R.parts.words.pages; words = ws }; log = R.parts.log; store = R.parts.store; lists = R.parts.lists } in
@@ -414,9 +414,8 @@ module _ {L D : Type 0} (log_seen : L → Seen) (log_gives : L → Call → L �
       let own : (g : Filling) (j : ℕ) → hand (took (filled a g) r) ≡ Some j → None ≡ Some (slot_content new R.beside j)
       = λ g j h. let n = none g in absurd (cc) in
       let free = kept.is_free log_seen log_gives data_seen data_gives about s R id me.0 x one at in
-      let follows = kept.follows log_seen log_gives data_seen data_gives about s R id me.0 x one at in
-      let one_way : (g : Filling) → Fills a g → ◌≡◌ {A = model.Actor} (filled a g) (filled a f) = λ g p. one_filling a
-      g f follows free (subst IsNoRead (sym is) other) p fills in
+      let one_way : (g : Filling) → Fills a g → KeepsTexts a g → ◌≡◌ {A = model.Actor} (filled a g) (filled a f) =
+      λ g p q. one_filling a g f free (subst IsNoRead (sym is) other) p q fills keeps_f in
       let mine : ◌≡◌ {A = Slot L D} own_slot (slot_content R.parts R.beside k) = kept.same_slot own_slot (slot_content
       R.parts R.beside k) (sym held ∙ kept.holds_content log_seen log_gives data_seen data_gives about s R id me.0
       x one at k held_k) in
@@ -443,16 +442,16 @@ module _ {L D : Type 0} (log_seen : L → Seen) (log_gives : L → Call → L �
               | yes here ↦ absurd (z (ap (λ (i : ℕ). slice_index (slice_set s.words (7 + k) 0) (7 + i)) here ∙ get_or-set_same s.words (7 + k) 0 0 (many s R k below)))
               | no far ↦ inr ((λ q. z (get_or-set_other s.words (7 + k) (7 + j) 0 0 (λ e. far (omega arith)) ∙ q)), λ q. absurd (far (holders.same_number j k (sym q ∙ held_k))))
             ]),
-        λ y g e fills_y. of_any (λ (z : Numbered). Fills z.actor g
+        λ y g e fills_y keeps_y. of_any (λ (z : Numbered). Fills z.actor g → KeepsTexts z.actor g
             → Stepped log_seen data_seen z g r None me.0.data_part (rest me.1) me (
               viewed f r None me.0.data_part,
               rest me.1,
             ))
-            (λ p. subst (Stepped log_seen data_seen x g r None me.0.data_part (rest me.1) me)
-            (ap (λ (z : model.Actor). left z) (one_way g p))
+            (λ p q. subst (Stepped log_seen data_seen x g r None me.0.data_part (rest me.1) me)
+            (ap (λ (z : model.Actor). left z) (one_way g p q))
             (kept.steps log_seen log_gives data_seen data_gives about s R id me.0 x one at g p r new R.beside same
             (done g) plain_one me.1 None me.0.data_part (rest me.1) (own g) (λ d h. (known.data_part d h).1)))
-            y e fills_y,
+            y e fills_y keeps_y,
       )
     where
       left : model.Actor → Me (Slot L D) (View L D)
@@ -472,17 +471,18 @@ module _ {L D : Type 0} (log_seen : L → Seen) (log_gives : L → Call → L �
         rest me.1,
       )
 
-  pub allows_give : (own_slot : Slot L D) (f : Filling) → Fills a f → next a ≡ op.GiveDevice → IsFreeToCheck a →
+  pub allows_give : (own_slot : Slot L D) (f : Filling) → Fills a f → KeepsTexts a f → next a ≡ op.GiveDevice → IsFreeToCheck a →
       me.0.held ≡ Some own_slot → me.1 ≡ (0, own_slot) ∷ [] → Allows Law slots id me 7 (λ _. 0) (gave log_seen
       data_seen me)
-  allows_give own_slot f fills is free held carried =
+  allows_give own_slot f fills keeps_f is free held carried =
       let goes : (g : Filling) → Handles op.GiveDevice (hand a) (λ (z : Answer). hand (took (filled a g) z)) = λ g.
       subst (λ (p : Op). Handles p (hand a) (λ (z : Answer). hand (took (filled a g) z))) is (handles_filled a g
       free) in
-      gives_back op.GiveDevice 0 own_slot f fills is tt (omega arith) (goes f).0 (λ g. (goes g).1) held carried
+      gives_back op.GiveDevice 0 own_slot f fills keeps_f is tt (omega arith) (goes f).0 (λ g. (goes g).1) held carried
       (λ s R new words log_same store_same lists_same l. record {
         code = 0;
         log_served = log_same;
+        own_served = tt;
         data_served =
             played.untouched (run_data_side log_seen data_seen R.run) R.parts.store new.store l op.GiveDevice 0 tt
             store_same;
@@ -498,11 +498,13 @@ module _ {L D : Type 0} (log_seen : L → Seen) (log_gives : L → Call → L �
       free) in
       let word : 7 + suc i ≡ 8 + i = omega arith in
       subst (λ (n : ℕ). Allows Law slots id me n (λ _. 0) (gave log_seen data_seen me)) word
-      (gives_back (op.GiveList i) (suc i) own_slot no_filling (fills_none (op.GiveList i) is tt free) is tt (omega
+      (gives_back (op.GiveList i) (suc i) own_slot no_filling (fills_none (op.GiveList i) is tt free) (keeps_listed a
+      no_filling i is) is tt (omega
       arith) (goes no_filling).0 (λ g. (goes g).1) held carried
       (λ s R new words log_same store_same lists_same l. record {
         code = 0;
         log_served = log_same;
+        own_served = tt;
         data_served = played.untouched (run_data_side log_seen data_seen R.run) R.parts.store new.store l (op.GiveList
             i) 0 tt store_same;
         words = words ∙ ap (λ (n : ℕ). slice_set R.parts.words.words n 0) word;

@@ -203,6 +203,7 @@ module _ {L D : Type 0} (log_seen : L → Seen) (log_gives : L → Call → L �
       record {
         code = 0;
         log_served = log_same;
+        own_served = tt;
         data_served = played.untouched (run_data_side log_seen data_seen R.run) R.parts.store new.store (lent plain)
             (op.TakeOldest i) 0 tt store_same;
         words = words ∙ sym (ap (λ (b : Bool). cond b (slice_set R.parts.words.words (8 + i) 1) R.parts.words.words) f);
@@ -226,6 +227,7 @@ module _ {L D : Type 0} (log_seen : L → Seen) (log_gives : L → Call → L �
         plays = record {
           code = 0;
           log_served = refl;
+          own_served = tt;
           data_served = played.untouched (run_data_side log_seen data_seen R.run) R.parts.store R.parts.store (lent
               plain) (op.TakeOldest i) 0 tt refl;
           words = words;

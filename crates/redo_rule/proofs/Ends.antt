@@ -14,7 +14,7 @@ use Rattle.redo_disk.specs.{Call}
 use Rattle.redo_disk.specs.Seen.{Seen}
 use Rattle.redo_drive.specs.Lists.{listing_at}
 use Rattle.redo_drive.specs.Playing.{RunOf, run_log_side}
-use Rattle.redo_drive.specs.Running.{RunsOn}
+use Rattle.redo_drive.specs.Running.{RunsWith}
 use Rattle.redo_drive.specs.declared.parts.Parts.{Parts}
 use Rattle.redo_rule.specs.Ending.{RunReaches}
 use Rattle.model_core.specs.Hands.{hand, HoldsNothing}
@@ -57,9 +57,9 @@ either_way true P one other = one refl
 either_way false P one other = other refl
 
 -- the run goes on, and each has handed on its groups
-record RunsWith {L D : Type 0} (log_seen : L → Seen) (data_seen : D → Seen) (run : RunOf L D) (parts : Parts L D)
+record GoesOn {L D : Type 0} (log_seen : L → Seen) (data_seen : D → Seen) (archive : Bool) (run : RunOf L D) (parts : Parts L D)
     (heard : ℕ → List Given) (actors : List model.Actor) : Type 0 where
-  pub runs : RunsOn log_seen data_seen run parts actors
+  pub runs : RunsWith log_seen data_seen run archive parts actors
   pub hears : HaveGroups (run_log_side log_seen data_seen run) parts.log heard actors runs.running.log_ghost.log
 
 module _ {L D : Type 0} (log_seen : L → Seen) (log_gives : L → Call → L → Type 0) (data_seen : D → Seen) (data_gives : D → Call → D → Type 0) (about : About L D) where
@@ -82,11 +82,11 @@ module _ {L D : Type 0} (log_seen : L → Seen) (log_gives : L → Call → L �
       let z : i ≡ 0 + i = omega arith in (ap (get_elem? R.actors) z ∙ m.1, ap R.heard z ∙ m.2 ∙ ap heard (sym z)) in
       let all : ◌≡◌ {A = List model.Actor} R.actors actors =
       same_list R.actors actors (R.count ∙ sym long) (λ i a e. (known i a e).0) in
-      let its : (l : List model.Actor) → ◌≡◌ {A = List model.Actor} R.actors l → RunsWith log_seen data_seen R.run
-      R.parts R.heard l =
-      λ l e. subst (RunsWith log_seen data_seen R.run R.parts R.heard) e (record { runs = R.runs; hears = R.hears }) in
+      let its : (l : List model.Actor) → ◌≡◌ {A = List model.Actor} R.actors l → GoesOn log_seen data_seen about.archive
+      R.run R.parts R.heard l =
+      λ l e. subst (GoesOn log_seen data_seen about.archive R.run R.parts R.heard) e (record { runs = R.runs; hears = R.hears }) in
       let now = its actors all in
-      let runs : RunsOn log_seen data_seen R.run R.parts actors = now.runs in
+      let runs : RunsWith log_seen data_seen R.run about.archive R.parts actors = now.runs in
       let free : (k : ℕ) → k < 5 → slice_index s.words (7 + k) ≡ 0 = λ k l. elim (ℕ_discrete (slice_index s.words (7 + k)) 0) [
         | yes z ↦ z
         | no busy ↦ (let t = R.taken k l busy in let none : hand t.1 ≡ None = (rest t.0 t.1 (ap (λ (z : List

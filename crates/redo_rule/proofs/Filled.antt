@@ -1,15 +1,14 @@
 -- What a turn puts into an actor changes neither what it asks for nor what it holds. Where it gives something back, all that a
 -- turn may put into it is one.
 use Rattle.std.proofs.Common.{Bool, List, Option, Some, [], ap, append_assoc, arith, cond, false, length, length-append, refl, subst, sym, take, true}
-use Rattle.std.proofs.Common.{ℕ, ⊎_elim, ◌++◌, ◌==◌, ◌∙◌, ◌∷◌, ◌≡◌}
+use Rattle.std.proofs.Common.{ℕ, ⊎_elim, ◌++◌, ◌∙◌, ◌∷◌, ◌≡◌}
 use Rattle.std.proofs.lemmas.List.{take_at}
 use Rattle.model_core.proofs.FailedCalls.{HasStored}
 use Rattle.model_core.proofs.Hands.{handles, Handles}
-use Rattle.model_core.proofs.Later.{took_later}
 use Rattle.model_core.specs.Actors as model
 use Rattle.model_core.specs.Hands.{GivesFailed, hand, IsFreeToCheck, reader_hand, StoresFailed}
 use Rattle.model_core.specs.Waiting.{ending, waits}
-use Rattle.model_core.specs.{archived, archives, AreInFront, filled, Filling, Fills, followed, Given, has_all, holds_tail, is_checking, IsText, joined_texts, lent, next, old_of, pending, reader_op, reader_took, ReaderState, took}
+use Rattle.model_core.specs.{archives, AreInFront, filled, Filling, Fills, Given, holds_tail, is_checking, IsText, joined_texts, lent, next, pending, reader_op, ReaderState, took}
 use Rattle.model_core.specs.ReaderProgram.{reader_filled, reader_fills, reader_waits}
 use Rattle.model_core.specs.declared.ops.Answer.{Answer}
 use Rattle.model_core.specs.declared.ops.Op.{Op}
@@ -22,8 +21,7 @@ use Rattle.model_running.proofs.Following.{one_text}
 use Rattle.model_running.specs.ReadHalf.{handed_at}
 use Rattle.redo_drive.proofs.Filled.{IsNoRead, reader_or_no_read}
 use Rattle.redo_drive.specs.Receiving.{filling_of, handed_by}
-use Rattle.redo_rule.specs.Plays.{block_filling}
-use Rattle.redo_rule.specs.Ruled.{IsNoArchiver}
+use Rattle.redo_rule.specs.Plays.{block_filling, KeepsTexts}
 
 -- what depends neither on a reader's block nor on the groups in front
 same_filled : {A : Type 0} (P : model.Actor → A)
@@ -110,7 +108,12 @@ stored_before (model.Joined es) f code g = g
 
 pub stores_filled : (a : model.Actor) (f : Filling) (code : ℕ) → StoresFailed (filled a f) code → StoresFailed a code
 stores_filled (model.Cleaner s) f code g = g
-stores_filled (model.Reader r) f code g = absurd g
+stores_filled (model.Reader r) f code g = by r.step g
+  where
+    by : (st : ReaderStep) → StoresFailed (model.Reader (reader_filled r f st)) code → StoresFailed (model.Reader r) code
+    by reader_step.ReadBlock g = g
+    by reader_step.GiveDevice g = g
+    by _ g = g
 stores_filled (model.User u) f code g = g
 stores_filled (model.Writer s) f code g = g
 stores_filled (model.Flusher s) f code g = g
@@ -178,6 +181,8 @@ read_step r x reader_step.StorePlace is = absurd (cc)
 read_step r x reader_step.StoreFailed is = absurd (cc)
 read_step r x reader_step.GiveFailed is = absurd (cc)
 read_step r x reader_step.Failed is = absurd (cc)
+read_step r x reader_step.Append is = absurd (cc)
+read_step r x reader_step.StoreLost is = absurd (cc)
 
 asks_read : (r : ReaderState) (x : ℕ) (b : Bool) → cond b (op.Load word.Failed) (reader_op r r.step) ≡ op.ReadBlock x
     → r.step ≡ reader_step.ReadBlock
@@ -230,23 +235,28 @@ one_front (t ∷ ts) (u ∷ us) bytes f g =
     (record { rest = g.rest; are = one.1; each = g.each.1; no_more = g.no_more }) in
     ap (λ (x : List ℕ). x ∷ ts) one.0 ∙ ap (λ (xs : List (List ℕ)). u ∷ xs) others
 
-pub one_filling : (a : model.Actor) (f g : Filling) → IsNoArchiver a → IsFreeToCheck a → IsNoRead (next a) → Fills a f
-    → Fills a g → ◌≡◌ {A = model.Actor} (filled a f) (filled a g)
-one_filling (model.Reader r) f g follows free gives p q = by r.step refl p q
+pub one_filling : (a : model.Actor) (f g : Filling) → IsFreeToCheck a → IsNoRead (next a) → Fills a f → KeepsTexts a f
+    → Fills a g → KeepsTexts a g → ◌≡◌ {A = model.Actor} (filled a f) (filled a g)
+one_filling (model.Reader r) f g free gives p h q k = by r.step refl p q
   where
+    same_texts : (b : Bool) → archives r ≡ b → (archives r ≡ false → AreInFront (pending r) f.texts)
+        → (archives r ≡ false → AreInFront (pending r) g.texts) → ◌≡◌ {A = List (List ℕ)} f.texts g.texts
+    same_texts true is p q = h is ∙ sym (k is)
+    same_texts false is p q = one_front f.texts g.texts (pending r) (p is) (q is)
+
     by : (st : ReaderStep) → r.step ≡ st → reader_fills r f st → reader_fills r g st
         → ◌≡◌ {A = model.Actor} (model.Reader (reader_filled r f st)) (model.Reader (reader_filled r g st))
     by reader_step.ReadBlock is p q = absurd (subst IsNoRead (asks_own r reader_step.ReadBlock is refl free) gives)
     by reader_step.GiveDevice is p q = ap (λ (ts : List (List ℕ)). model.Reader (record r { texts = ts }))
-        (one_front f.texts g.texts (pending r) (p follows) (q follows))
+        (same_texts (archives r) refl p q)
     by _ is p q = refl
-one_filling (model.User u) f g follows free gives p q = refl
-one_filling (model.Writer s) f g follows free gives p q = refl
-one_filling (model.Flusher s) f g follows free gives p q = refl
-one_filling (model.Closer s) f g follows free gives p q = refl
-one_filling (model.Cleaner s) f g follows free gives p q = refl
-one_filling (model.Checkpointer s) f g follows free gives p q = refl
-one_filling (model.Joined es) f g follows free gives p q = refl
+one_filling (model.User u) f g free gives p h q k = refl
+one_filling (model.Writer s) f g free gives p h q k = refl
+one_filling (model.Flusher s) f g free gives p h q k = refl
+one_filling (model.Closer s) f g free gives p h q k = refl
+one_filling (model.Cleaner s) f g free gives p h q k = refl
+one_filling (model.Checkpointer s) f g free gives p h q k = refl
+one_filling (model.Joined es) f g free gives p h q k = refl
 
 abbrev pub IsNoGive : Op → Type 0
 IsNoGive op.GiveDevice = ⊥
@@ -267,56 +277,28 @@ fills_block (model.Cleaner s) f free plain = tt
 fills_block (model.Checkpointer s) f free plain = tt
 fills_block (model.Joined es) f free plain = tt
 
--- who follows, follows still
-pub filled_follows : (a : model.Actor) (f : Filling) → IsNoArchiver a → IsNoArchiver (filled a f)
-filled_follows (model.Reader r) f follows = by r.step
-  where
-    by : (st : ReaderStep) → IsNoArchiver (model.Reader (reader_filled r f st))
-    by reader_step.ReadBlock = follows
-    by reader_step.GiveDevice = follows
-    by _ = follows
-filled_follows (model.User u) f follows = tt
-filled_follows (model.Writer s) f follows = tt
-filled_follows (model.Flusher s) f follows = tt
-filled_follows (model.Closer s) f follows = tt
-filled_follows (model.Cleaner s) f follows = tt
-filled_follows (model.Checkpointer s) f follows = tt
-filled_follows (model.Joined es) f follows = tt
+-- no reader of the log takes a list, or gives one back
+gives_none : (r : ReaderState) (i : ℕ) (b : Bool) (st : ReaderStep)
+    → cond b (op.Load word.Failed) (reader_op r st) ≡ op.GiveList i → ⊥
+gives_none r i true st is = cc
+gives_none r i false reader_step.LoadFlushed is = cc
+gives_none r i false reader_step.TakeDevice is = cc
+gives_none r i false reader_step.GiveBroken is = cc
+gives_none r i false reader_step.ReadBlock is = cc
+gives_none r i false reader_step.GiveDevice is = cc
+gives_none r i false reader_step.Append is = cc
+gives_none r i false reader_step.StorePlace is = cc
+gives_none r i false reader_step.StoreFailed is = cc
+gives_none r i false reader_step.GiveFailed is = cc
+gives_none r i false reader_step.StoreLost is = cc
+gives_none r i false reader_step.Failed is = cc
 
-took_reader : (r : ReaderState) (y : Answer) → IsNoArchiver (model.Reader r) → IsNoArchiver (took (model.Reader r) y)
-took_reader r y follows = by r.checks (old_of y == 0)
-  where
-    loaded : (b : Bool) → IsNoArchiver (model.Reader (cond b
-        (record r { mark = old_of y; checks = true; step = reader_step.LoadFlushed })
-        (record r { mark = old_of y; step = reader_step.TakeDevice })))
-    loaded true = follows
-    loaded false = follows
-
-    given : (b : Bool) → IsNoArchiver (model.Reader (cond b (archived r) (followed r)))
-    given true = follows
-    given false = follows
-
-    own : (st : ReaderStep) → IsNoArchiver (model.Reader (reader_took r y st))
-    own reader_step.LoadFlushed = loaded (has_all r (old_of y))
-    own reader_step.GiveDevice = given (archives r)
-    own _ = follows
-
-    by : (b n : Bool) → IsNoArchiver (cond b (model.Reader (cond n (record r { checks = false })
-        (record r { checks = false; code = old_of y; step = reader_step.Failed }))) (model.Reader (reader_took r y
-        r.step)))
-    by true true = follows
-    by true false = follows
-    by false n = own r.step
-
-took_follows : (a : model.Actor) (y : Answer) → IsNoArchiver a → IsNoArchiver (took a y)
-took_follows (model.Reader r) y follows = took_reader r y follows
-took_follows (model.User u) y follows = subst IsNoArchiver (sym (took_later (model.User u) y).1) tt
-took_follows (model.Writer s) y follows = subst IsNoArchiver (sym (took_later (model.Writer s) y).1) tt
-took_follows (model.Flusher s) y follows = subst IsNoArchiver (sym (took_later (model.Flusher s) y).1) tt
-took_follows (model.Closer s) y follows = subst IsNoArchiver (sym (took_later (model.Closer s) y).1) tt
-took_follows (model.Cleaner s) y follows = subst IsNoArchiver (sym (took_later (model.Cleaner s) y).1) tt
-took_follows (model.Checkpointer s) y follows = subst IsNoArchiver (sym (took_later (model.Checkpointer s) y).1) tt
-took_follows (model.Joined es) y follows = subst IsNoArchiver (sym (took_later (model.Joined es) y).1) tt
-
-pub turn_follows : (a : model.Actor) (f : Filling) (y : Answer) → IsNoArchiver a → IsNoArchiver (took (filled a f) y)
-turn_follows a f y follows = took_follows (filled a f) y (filled_follows a f follows)
+pub keeps_listed : (a : model.Actor) (f : Filling) (i : ℕ) → next a ≡ op.GiveList i → KeepsTexts a f
+keeps_listed (model.Reader r) f i is = absurd (gives_none r i r.checks r.step is)
+keeps_listed (model.User u) f i is = tt
+keeps_listed (model.Writer s) f i is = tt
+keeps_listed (model.Flusher s) f i is = tt
+keeps_listed (model.Closer s) f i is = tt
+keeps_listed (model.Cleaner s) f i is = tt
+keeps_listed (model.Checkpointer s) f i is = tt
+keeps_listed (model.Joined es) f i is = tt

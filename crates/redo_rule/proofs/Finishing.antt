@@ -1,5 +1,5 @@
 -- What a table leaves is what a run leaves, and so what every drive owes.
-use Rattle.std.proofs.Common.{Bool, List, None, Option, Some, get_or, ap, arith, drop, false, get_or-set_other, length, refl, subst, suc, sym, true, zero, ℕ, ◌<◌, ◌^◌, ◌∙◌, ◌∷◌, ◌≡◌, ◌≢◌, ◌≤◌, []}
+use Rattle.std.proofs.Common.{Bool, cond, List, None, Option, Some, get_or, ap, arith, drop, false, get_or-set_other, length, refl, subst, suc, sym, true, zero, ℕ, ◌<◌, ◌^◌, ◌∙◌, ◌∷◌, ◌≡◌, ◌≢◌, ◌≤◌, []}
 use Rattle.std.specs.Prelude.{slice_index, slice_set}
 use lib.ListN.{get_elem?}
 use mathlib.Core.Option as maybe
@@ -7,13 +7,15 @@ use Rattle.atomic_table.specs.Seated.{TableId}
 use Rattle.atomic_table.specs.Table.{Final, Seen as SeenBy}
 use Rattle.atomic_table.specs.declared.shared.Seat.{Seat}
 use Rattle.model_core.specs.Actors as model
-use Rattle.model_core.specs.{Given, index, tail_of}
+use Rattle.model_core.specs.{Given, HasLost, index, tail_of}
 use Rattle.model_core.specs.declared.words.Word.TheVariants as word
 use Rattle.model_running.proofs.Finished.{marks_same}
 use Rattle.model_running.specs.{history_of, marks_in, word_marks}
 use Rattle.model_report.specs.declared.entry.Entry.{Entry}
 use Rattle.model_report.specs.declared.entry.Marks.{Marks}
+use Rattle.redo_archiver.specs.{append_code}
 use Rattle.redo_disk.specs.{Call}
+use Rattle.redo_disk.specs.declared.error.DevError.{DevError}
 use Rattle.redo_disk.specs.Seen.{Seen}
 use Rattle.redo_drive.proofs.FailureCode.{small_code}
 use Rattle.redo_drive.proofs.LeftRun as left_run
@@ -24,7 +26,7 @@ use Rattle.redo_follow.specs.Handing.{Following}
 use Rattle.redo_drive.specs.Startable.{MayBegin}
 use Rattle.redo_drive.specs.History.{HasGroups, ListsInOrder, all_listed}
 use Rattle.redo_drive.specs.Lists.{listing_at}
-use Rattle.redo_drive.specs.Leaving.{LeavesRun}
+use Rattle.redo_drive.specs.Leaving.{LeavesWith}
 use Rattle.redo_drive.specs.Playing.{run_log_side}
 use Rattle.redo_drive.specs.Receiving.{follower_of, HasGot, IsSameFollower}
 use Rattle.redo_drive.specs.Running.{groups_of}
@@ -34,7 +36,7 @@ use Rattle.redo_drive.specs.declared.closed.Closed.{Closed}
 use Rattle.redo_rule.proofs.Ends.{ends_ok}
 use Rattle.redo_rule.proofs.Gathered.{heard_at, there}
 use Rattle.redo_rule.proofs.Kept as kept
-use Rattle.redo_rule.specs.Closing.{done_with, IsOwedRun, LeavesParts, MayClose}
+use Rattle.redo_rule.specs.Closing.{done_with, IsOwedRun, LeavesParts, MayClose, TellsLoss}
 use Rattle.redo_rule.specs.Ending.{RunReaches}
 use Rattle.redo_rule.specs.Ruled.{Ruled}
 use Rattle.redo_rule.specs.Sharing.{HaveHeard, heard_by}
@@ -53,6 +55,12 @@ pub read_at : (l : List ℕ) (i x : ℕ) → get_elem? l i ≡ maybe.some x → 
 read_at [] i x e = absurd (maybe.some-ne-none x (sym e))
 read_at (y ∷ ys) zero x e = sym (maybe.some-injective y x e)
 read_at (y ∷ ys) (suc i) x e = read_at ys i x e
+
+-- what a run tells of the append that failed
+pub its_loss : (archive : Bool) (actors : List model.Actor) (lost : Option DevError) → TellsLoss archive actors lost
+    → cond archive ((code : ℕ) → HasLost actors code → code ≡ append_code lost) (Unit {0})
+its_loss true actors lost loss = loss
+its_loss false actors lost loss = tt
 
 -- a slot that was taken is empty, and the others are as they were
 still_full : (l : List Bool) (i k : ℕ) → k ≢ i → get_or l k false ≡ true → get_or (slice_set l i false) k false ≡ true
@@ -197,15 +205,16 @@ module _ {L D : Type 0} (log_seen : L → Seen) (log_gives : L → Call → L �
 
     module _ (closed : Closed L D) (log_is : closed.log ≡ left.log) (store_is : closed.store ≡ left.store)
         (marks_is : ◌≡◌ {A = Marks} closed.marks left.marks) (code_is : closed.code ≡ left.code)
-        (listed : ListsInOrder left.marks (views_of actors) closed.history) where
+        (listed : ListsInOrder left.marks (views_of actors) closed.history)
+        (loss : TellsLoss about.archive (views_of actors) closed.lost) where
       leaves_from : (stands : R → List Given → Type 0) (starts : List (Actor R)) → length actors ≡ length starts
           → ((n : ℕ) (a b : Actor R) → get_elem? starts n ≡ maybe.some a → get_elem? actors n ≡ maybe.some b →
           IsSameFollower (follower_of a) (follower_of b))
           → ((run_log_side log_seen data_seen P.run).Tells P.last.log → (n : ℕ) (a b : Actor R) → get_elem? starts n ≡
           maybe.some a → get_elem? actors n ≡ maybe.some b
           → HasGot stands (follower_of a) (groups_of (view_of b) P.runs.running.log_ghost.log) (follower_of b))
-          → LeavesRun log_seen log_gives data_seen data_gives stands about.opened.value about.script.value
-          about.log_only about.followers starts actors closed
+          → LeavesWith log_seen log_gives data_seen data_gives stands about.opened.value about.script.value
+          about.log_only about.archive about.followers starts actors closed
       leaves_from stands starts count same got = record {
         run = P.run;
         is_run = P.is_about.is_run;
@@ -220,11 +229,12 @@ module _ {L D : Type 0} (log_seen : L → Seen) (log_gives : L → Call → L �
         marks = marks_is ∙ P.marks;
         code = code_is ∙ P.code;
         history = its_history heard (views_of actors) left P closed.history listed;
+        lost = its_loss about.archive (views_of actors) closed.lost loss;
       }
 
       -- of actors that began with whatever they are, and of receivers of which nothing is told
-      pub leaves_own : LeavesRun log_seen log_gives data_seen data_gives (λ (r : R) (l : List Given). Unit {0})
-          about.opened.value about.script.value about.log_only about.followers actors actors closed
+      pub leaves_own : LeavesWith log_seen log_gives data_seen data_gives (λ (r : R) (l : List Given). Unit {0})
+          about.opened.value about.script.value about.log_only about.archive about.followers actors actors closed
       leaves_own = leaves_from (λ r l. Unit {0}) actors refl
           (λ n a b e f. subst (λ (z : Actor R). IsSameFollower (follower_of a) (follower_of z)) (maybe.some-injective
           a b (sym e ∙ f)) (own_follower (follower_of a)))
@@ -261,11 +271,12 @@ module _ {L D : Type 0} (log_seen : L → Seen) (log_gives : L → Call → L �
       seats ≡ length actors
       → (closed : Closed L D) → closed.log ≡ left.log → closed.store ≡ left.store → ◌≡◌ {A = Marks} closed.marks
       left.marks → closed.code ≡ left.code → ListsInOrder left.marks (views_of actors) closed.history
+      → TellsLoss about.archive (views_of actors) closed.lost
       → (stands : R → List Given → Type 0) (starts : List (Actor R)) → HaveHeard stands starts seats actors
-      → LeavesRun log_seen log_gives data_seen data_gives stands about.opened.value about.script.value about.log_only
-      about.followers starts actors closed
-  leaves {R} seats actors left P many closed log_is store_is marks_is code_is listed stands starts H =
-      leaves_from (heard_by seats) actors left P closed log_is store_is marks_is code_is listed stands starts H.count
+      → LeavesWith log_seen log_gives data_seen data_gives stands about.opened.value about.script.value about.log_only
+      about.archive about.followers starts actors closed
+  leaves {R} seats actors left P many closed log_is store_is marks_is code_is listed loss stands starts H =
+      leaves_from (heard_by seats) actors left P closed log_is store_is marks_is code_is listed loss stands starts H.count
       H.same
       (λ told n a b began at.
       let s = there seats n (let l = past actors n b at in omega arith) in

@@ -15,7 +15,7 @@ use Rattle.redo_disk.specs.Seen.{Seen}
 use Rattle.redo_drive.proofs.TurnsOf.{goes_on, groups_grow}
 use Rattle.redo_drive.specs.Playing.{HasSamePages, RunOf, run_data_side, run_log_side}
 use Rattle.redo_drive.specs.Receiving.{handed_by}
-use Rattle.redo_drive.specs.Running.{RunsOn}
+use Rattle.redo_drive.specs.Running.{RunsWith}
 use Rattle.redo_drive.specs.Turning.{core_of}
 use Rattle.redo_drive.specs.declared.parts.Parts.{Parts}
 use Rattle.redo_rule.specs.Ruled.{HaveGroups}
@@ -34,11 +34,11 @@ pub heard_else : (heard : ℕ → List Given) (seat : ℕ) (more : List Given) (
 heard_else heard seat more n far =
     ap (λ (b : Bool). let l : List Given = cond b (heard n ++ more) (heard n) in l) (ne_eqb n seat far)
 
-module _ {L D : Type 0} (log_seen : L → Seen) (data_seen : D → Seen) (run : RunOf L D) (old new : Parts L D)
+module _ {L D : Type 0} {archive : Bool} (log_seen : L → Seen) (data_seen : D → Seen) (run : RunOf L D) (old new : Parts L D)
     (actors after : List model.Actor) (seat : ℕ) (answer : Answer) (step : Step)
     (log_laws : LogLaws (run_log_side log_seen data_seen run))
     (data_laws : DataLaws (run_data_side log_seen data_seen run)) (same : HasSamePages old new)
-    (runs : RunsOn log_seen data_seen run old actors)
+    (runs : RunsWith log_seen data_seen run archive old actors)
     (t : Turn (run_log_side log_seen data_seen run) (run_data_side log_seen data_seen run)
     (core_of log_seen data_seen run old actors) seat answer step (core_of log_seen data_seen run new after)) where
   pick : (b : Bool) (l more : List Given) → ◌≡◌ {A = List Given} (cond b (l ++ more) l) (l ++ cond b more [])

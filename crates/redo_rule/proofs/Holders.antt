@@ -1,5 +1,5 @@
 -- Whoever holds a slot of a table: its turn word is 1, and nobody else holds it.
-use Rattle.std.proofs.Common.{List, Some, ℕ, ◌≡◌}
+use Rattle.std.proofs.Common.{Bool, List, Some, ℕ, ◌≡◌}
 use lib.ListN.{get_elem?}
 use mathlib.Core.Option.{some}
 use Rattle.model_core.specs.Actors as model
@@ -7,13 +7,13 @@ use Rattle.model_core.specs.Hands.{hand}
 use Rattle.model_running.proofs.SlotHolders as slots
 use Rattle.redo_disk.specs.Seen.{Seen}
 use Rattle.redo_drive.specs.Playing.{RunOf, run_data_side, run_log_side}
-use Rattle.redo_drive.specs.Running.{RunsOn}
+use Rattle.redo_drive.specs.Running.{RunsWith}
 use Rattle.redo_drive.specs.Turning.{core_of}
 use Rattle.redo_drive.specs.declared.parts.Parts.{Parts}
 pub use Rattle.model_running.proofs.SlotHolders.{same_number}
 
-module _ {L D : Type 0} (log_seen : L → Seen) (data_seen : D → Seen) (run : RunOf L D) (parts : Parts L D) (actors :
-    List model.Actor) (runs : RunsOn log_seen data_seen run parts actors) where
+module _ {L D : Type 0} {archive : Bool} (log_seen : L → Seen) (data_seen : D → Seen) (run : RunOf L D) (parts : Parts L D) (actors :
+    List model.Actor) (runs : RunsWith log_seen data_seen run archive parts actors) where
   abbrev Holds : ℕ → ℕ → Type 0
   Holds = slots.Holds (run_log_side log_seen data_seen run) (run_data_side log_seen data_seen run) run.setup 0 (core_of log_seen data_seen run parts actors) runs.running
 

@@ -1,5 +1,5 @@
 -- A turn of one actor keeps the rule, whatever it does to the slots.
-use Rattle.std.proofs.Common.{Bool, List, None, Option, Some, [], ap, arith, false, length, length-set, refl, set, subst, suc, sym, true, zero, ℕ, ⊎_elim, ◌++◌, ◌+◌, ◌<◌, ◌∙◌, ◌∷◌, ◌≡◌, ◌≢◌, ◌⊎◌, is_some}
+use Rattle.std.proofs.Common.{Bool, List, None, Option, Some, [], ap, arith, false, length, length-set, refl, set, subst, suc, sym, true, zero, ℕ, ⊎_elim, inl, inr, ◌++◌, ◌+◌, ◌<◌, ◌∙◌, ◌∷◌, ◌≡◌, ◌≢◌, ◌⊎◌, is_some}
 use Rattle.std.specs.Prelude.{slice_index, slice_set}
 use lib.ListN.{get_elem?}
 use mathlib.Core.Option as maybe
@@ -15,12 +15,14 @@ use Rattle.model_core.specs.Setup.{Setup}
 use Rattle.model_core.specs.Turn.{LogServed, Turn}
 use Rattle.model_core.specs.declared.ops.Answer.{Answer}
 use Rattle.model_core.specs.declared.ops.Op.{Op}
+use Rattle.model_core.specs.declared.ops.Op.TheVariants as op
 use Rattle.model_core.specs.declared.steps.UserStep.TheVariants as user_step
 use Rattle.model_logcore.proofs.Failures.{stored_cause}
 use Rattle.model_logcore.specs.{LogGhost, UserAt, UserFits}
 use Rattle.model_logcore.specs.LogLaws.{LogLaws}
 use Rattle.model_own.specs.OwnWrites.{has_work}
 use Rattle.model_pagecore.specs.DataLaws.{DataLaws}
+use Rattle.model_running.specs.Appending.{IsNoAppend}
 use Rattle.model_running.proofs.Filling.{next_filled}
 use Rattle.model_running.proofs.Turns.{next_words}
 use Rattle.redo_drive.proofs.DataPartLaws.{data_laws}
@@ -31,24 +33,24 @@ use Rattle.redo_flushlist.specs.{Listing}
 use Rattle.redo_logdev.specs.Part as log
 use Rattle.redo_drive.proofs.LogPartLaws.{log_laws}
 use Rattle.redo_drive.specs.LogPartSide as log_part
-use Rattle.redo_drive.proofs.MayTurn.{may_serve}
+use Rattle.redo_drive.proofs.MayTurn as may_turn
 use Rattle.redo_drive.proofs.TurnsOf as turns
 use Rattle.redo_drive.specs.Calls.{CallsOn}
 use Rattle.redo_drive.specs.Lists.{AreLists, lists_of}
 use Rattle.redo_drive.specs.Playing.{DataReady, HasSamePages, HasWholePages, IsPlayed, LogReady, RunOf, run_data_side, run_log_side}
-use Rattle.redo_drive.specs.Running.{RunsOn}
-use Rattle.redo_drive.specs.Turning.{core_of, MayServe}
+use Rattle.redo_drive.specs.Running.{RunsWith}
+use Rattle.redo_drive.specs.Turning.{core_of}
 use Rattle.redo_drive.specs.Receiving.{handed_by, MarkFits}
 use Rattle.redo_drive.specs.declared.parts.Parts.{Parts}
 use Rattle.model_core.proofs.FailedCalls.{gives_hand, has_stored, stores}
 use Rattle.model_core.proofs.Hands.{stays_free}
-use Rattle.redo_rule.proofs.Filled.{free_filled, stored_before, turn_follows}
+use Rattle.redo_rule.proofs.Filled.{free_filled, stored_before}
 use Rattle.redo_rule.proofs.Hearing.{hears_then, heard_else, heard_here, heard_then}
 use Rattle.model_core.specs.Hands.{GivesFailed, hand, IsFreeToCheck}
 use Rattle.redo_rule.proofs.OwnStays.{work_stays, worker_holds}
 use Rattle.redo_rule.specs.OwnSide.{Beside, desk_with, HasItsWork, OwnSide, SitsAs}
 use Rattle.redo_rule.specs.Plays.{behind, MayGo, Shown, Stepped, view_behind}
-use Rattle.redo_rule.specs.Ruled.{HaveGroups, IsNoArchiver, IsSlotHeld, Knows, Ruled, slot_content}
+use Rattle.redo_rule.specs.Ruled.{HaveGroups, IsSlotHeld, Knows, Ruled, slot_content}
 use Rattle.redo_rule.specs.declared.law.About.{About}
 use Rattle.redo_rule.specs.declared.law.Desk.{Desk}
 use Rattle.redo_rule.specs.declared.law.Errand.{Errand}
@@ -58,6 +60,8 @@ use Rattle.redo_rule.specs.declared.law.Slot.{Slot}
 use Rattle.redo_rule.specs.declared.law.Slot.TheVariants as slot
 use Rattle.redo_rule.specs.declared.law.View.{View}
 use Rattle.redo_store.specs.Part as store
+use Rattle.redo_words.specs.{Lends}
+use Rattle.redo_words.specs.declared.lent.Lent.{Lent}
 
 -- what stands in a list of one
 in_one : (x : Numbered) (i : ℕ) (y : Numbered) → get_elem? (x ∷ []) i ≡ maybe.some y → ◌≡◌ {A = Numbered} x y
@@ -117,11 +121,44 @@ all_answered E c m g p n u at_end fits = (subst (UserAt E c m g p n u) at_end fi
 pub done_is_free : (E : LogSide) (c : Setup) (m : SharedWords) (g : LogGhost) (p : E.Part) (n : ℕ) (u : UserState) → u.step ≡ user_step.Done → UserFits E c m g p n u → u.checks ≡ false
 done_is_free E c m g p n u at_end fits = (subst (UserAt E c m g p n u) at_end fits.step).2
 
-module _ {L D : Type 0} (log_seen : L → Seen) (data_seen : D → Seen) (run : RunOf L D) (parts : Parts L D) (actors :
-    List model.Actor) (runs : RunsOn log_seen data_seen run parts actors) (n : ℕ) (a : model.Actor) (at : get_elem?
+-- an Op appends, or it doesn't
+append_or : (o : Op) → IsNoAppend o ⊎ ((mark : ℕ) × (o ≡ op.Append mark))
+append_or (op.Append mark) = inr (mark, refl)
+append_or _ = inl tt
+
+module _ {L D : Type 0} {archive : Bool} (log_seen : L → Seen) (data_seen : D → Seen) (run : RunOf L D) (parts : Parts L D) (actors :
+    List model.Actor) (runs : RunsWith log_seen data_seen run archive parts actors) (n : ℕ) (a : model.Actor) (at : get_elem?
     actors n ≡ maybe.some a) where
-  pub serves : MayServe parts a
-  serves = may_serve log_seen data_seen run parts actors runs (laws_of_log log_seen data_seen run) (laws_of_data log_seen data_seen run) n a at
+  abbrev logs : LogLaws (run_log_side log_seen data_seen run)
+  logs = laws_of_log log_seen data_seen run
+
+  abbrev datas : DataLaws (run_data_side log_seen data_seen run)
+  datas = laws_of_data log_seen data_seen run
+
+  pub fits_all : (code mark : ℕ) → AnswerFits a (answer_of (lists_of parts.lists) (is_some parts.log.failed) code mark parts.words.words (next a))
+  fits_all = may_turn.fits log_seen data_seen run parts actors runs logs datas n a at
+
+  pub marks_fit : (code mark : ℕ) → MarkFits a (answer_of (lists_of parts.lists) (is_some parts.log.failed) code mark parts.words.words (next a))
+  marks_fit = may_turn.mark_fits log_seen data_seen run parts actors runs logs datas n a at
+
+  -- an append asks for nothing of the parts, and any other Op may be played on them
+  log_ready : (l : Lent) → Lends l (lent a) → LogReady parts.log l (next a)
+  log_ready l lends = ⊎_elim
+      (λ none. ((may_turn.serves_other log_seen data_seen run parts actors runs logs datas n a at none).playable l lends).log)
+      (λ t. subst (LogReady parts.log l) (sym t.1) tt)
+      (append_or (next a))
+
+  data_ready : (l : Lent) → Lends l (lent a) → DataReady parts.store l (next a)
+  data_ready l lends = ⊎_elim
+      (λ none. ((may_turn.serves_other log_seen data_seen run parts actors runs logs datas n a at none).playable l lends).data_part)
+      (λ t. subst (DataReady parts.store l) (sym t.1) tt)
+      (append_or (next a))
+
+  whole_pages : HasWholePages parts.store.shape (next a) (lent a)
+  whole_pages = ⊎_elim
+      (λ none. (may_turn.serves_other log_seen data_seen run parts actors runs logs datas n a at none).whole)
+      (λ t. subst (λ (o : Op). HasWholePages parts.store.shape o (lent a)) (sym t.1) tt)
+      (append_or (next a))
 
   pub words_there : OpWords parts.words.pages (next a)
   words_there = subst (λ (k : ℕ). OpWords k (next a)) (sym runs.word_pages)
@@ -137,20 +174,20 @@ module _ {L D : Type 0} (log_seen : L → Seen) (data_seen : D → Seen) (run : 
       → ((d : Keeping D) → stored ≡ Some d → ◌≡◌ {A = store.Part D} d.part parts.store) → IsFreeToCheck a → MayGo pages held stored a
   may_go pages held stored count with_log with_data free = record {
     there = subst (λ (k : ℕ). OpWords k (next a)) (sym count) words_there;
-    log = λ p is mine l lends. subst (λ (q : log.Part L). LogReady q l (next a)) (sym (with_log p is mine)) ((serves.playable l lends).log);
-    data_part = λ d is l lends. subst (λ (e : store.Part D). DataReady e l (next a)) (sym (with_data d is)) ((serves.playable l lends).data_part);
-    whole = λ d is. subst (λ (e : store.Part D). HasWholePages e.shape (next a) (lent a)) (sym (with_data d is)) serves.whole;
+    log = λ p is mine l lends. subst (λ (q : log.Part L). LogReady q l (next a)) (sym (with_log p is mine)) (log_ready l lends);
+    data_part = λ d is l lends. subst (λ (e : store.Part D). DataReady e l (next a)) (sym (with_data d is)) (data_ready l lends);
+    whole = λ d is. subst (λ (e : store.Part D). HasWholePages e.shape (next a) (lent a)) (sym (with_data d is)) whole_pages;
     free = free;
     done = λ u is at_end. all_answered (run_log_side log_seen data_seen run) run.setup runs.running.shared runs.running.log_ghost parts.log n u at_end (runs.running.both.logged.each n (model.User u) (at ∙ ap (λ (z : model.Actor). maybe.some z) is));
     rest = λ e. (
-      subst (λ (o : Op). AnswerFits a (answer_to o)) e (serves.fits 0 0),
+      subst (λ (o : Op). AnswerFits a (answer_to o)) e (fits_all 0 0),
       subst (λ (o : Op). MarkFits a
-          (answer_to o)) e (serves.mark 0 0),
+          (answer_to o)) e (marks_fit 0 0),
     );
     give = λ e. (
-      subst (λ (o : Op). AnswerFits a (answer_to o)) e (serves.fits 0 0),
+      subst (λ (o : Op). AnswerFits a (answer_to o)) e (fits_all 0 0),
       subst (λ (o : Op). MarkFits a
-          (answer_to o)) e (serves.mark 0 0),
+          (answer_to o)) e (marks_fit 0 0),
     );
   }
 
@@ -171,9 +208,6 @@ module _ {L D : Type 0} (log_seen : L → Seen) (log_gives : L → Call → L �
   pub here : get_elem? R.actors x.number ≡ maybe.some x.actor
   here = (known.mine 0 x first).1
 
-  pub follows : IsNoArchiver a
-  follows = R.follow x.number a here
-
   pub seated : R.seat_of x.number ≡ id
   seated = (known.mine 0 x first).0
 
@@ -184,18 +218,17 @@ module _ {L D : Type 0} (log_seen : L → Seen) (log_gives : L → Call → L �
   holds_content k e = known.held 0 x k first e
 
   pub fits : (code mark : ℕ) → AnswerFits a (answer_of (lists_of R.parts.lists) (is_some R.parts.log.failed) code mark R.parts.words.words (next a))
-  fits code mark = (serves log_seen data_seen R.run R.parts R.actors R.runs x.number a here).fits code mark
+  fits code mark = fits_all log_seen data_seen R.run R.parts R.actors R.runs x.number a here code mark
 
   -- WHAT A TURN LEAVES OF THE RUN, by which the seat's actor comes to this state: all but where the slots are.
   pub record Leaves (then : Numbered) (new : Parts L D) (beside : Beside) (after : List model.Actor)
       (heard : ℕ → List Given) : Type 0 where
     pub same : HasSamePages R.parts new
-    pub runs : RunsOn log_seen data_seen R.run new after
+    pub runs : RunsWith log_seen data_seen R.run about.archive new after
     pub own_is : is_some beside.own ≡ is_some R.beside.own
     pub own : HasItsWork (run_log_side log_seen data_seen R.run) new.log beside.own after
     pub hears : HaveGroups (run_log_side log_seen data_seen R.run) new.log heard after runs.running.log_ghost.log
     pub count : length after ≡ length R.actors
-    pub follow : (n : ℕ) (c : model.Actor) → get_elem? after n ≡ maybe.some c → IsNoArchiver c
     pub told : (n : ℕ) (c : model.Actor) (code : ℕ) → SitsAs beside.own None n → get_elem? after n ≡ maybe.some c
         → GivesFailed c code → (run_log_side log_seen data_seen R.run).Cause new.log code
     pub number : then.number ≡ x.number
@@ -292,7 +325,6 @@ module _ {L D : Type 0} (log_seen : L → Seen) (log_gives : L → Call → L �
         runs = left.runs;
         hears = left.hears;
         count = left.count ∙ R.count;
-        follow = left.follow;
         log_calls = log_calls;
         data_calls = data_calls;
         log_shape = shape ∙ R.log_shape;
@@ -338,6 +370,7 @@ module _ {L D : Type 0} (log_seen : L → Seen) (log_gives : L → Call → L �
       code = played.code;
       log_served = played.log_served;
       data_served = played.data_served;
+      own_served = played.own_served;
       words = played.words;
       lists = played.lists;
       answered = played.answered;
@@ -345,7 +378,7 @@ module _ {L D : Type 0} (log_seen : L → Seen) (log_gives : L → Call → L �
       ends = refl;
     }
 
-    abbrev pub runs_behind : RunsOn log_seen data_seen R.run new after
+    abbrev pub runs_behind : RunsWith log_seen data_seen R.run about.archive new after
     runs_behind = turns.goes_on log_seen data_seen R.run R.parts new R.actors after x.number r (step_of (filled a f) r)
         (laws_of_log log_seen data_seen R.run) (laws_of_data log_seen data_seen R.run) same R.runs turn
 
@@ -388,10 +421,6 @@ module _ {L D : Type 0} (log_seen : L → Seen) (log_gives : L → Call → L �
     was : (n : ℕ) (c : model.Actor) → get_elem? after n ≡ maybe.some c
         → (d : model.Actor) × (get_elem? R.actors n ≡ maybe.some d)
     was n c e = ⊎_elim (λ t. (a, ap (get_elem? R.actors) t.0 ∙ here)) (λ t. (c, t.1)) (at_set R.actors x.number n b c e)
-
-    follow_behind : (n : ℕ) (c : model.Actor) → get_elem? after n ≡ maybe.some c → IsNoArchiver c
-    follow_behind n c e = ⊎_elim (λ t. subst IsNoArchiver t.1 (turn_follows a f r follows)) (λ t. R.follow n c t.1)
-        (at_set R.actors x.number n b c e)
 
     hears_behind : HaveGroups (run_log_side log_seen data_seen R.run) new.log heard after
         runs_behind.running.log_ghost.log
@@ -465,7 +494,6 @@ module _ {L D : Type 0} (log_seen : L → Seen) (log_gives : L → Call → L �
           own = own_behind;
           hears = hears_behind;
           count = length-set R.actors x.number b;
-          follow = follow_behind;
           told = told_behind;
           number = refl;
           here = here_behind;
@@ -500,10 +528,10 @@ module _ {L D : Type 0} (log_seen : L → Seen) (log_gives : L → Call → L �
         → Stepped log_seen data_seen x f r held stored after_carried (v, carried)
         (view_behind v x f r held stored, after_carried)
     steps carried held stored after_carried own data_is =
-        let S : MayServe R.parts a = serves log_seen data_seen R.run R.parts R.actors R.runs x.number a here in
         record {
-          fits = subst (AnswerFits a) (sym played.answered) (S.fits played.code new.log.marks.stable);
-          mark = subst (MarkFits a) (sym played.answered) (S.mark played.code new.log.marks.stable);
+          fits = subst (AnswerFits a) (sym played.answered) (fits played.code new.log.marks.stable);
+          mark = subst (MarkFits a) (sym played.answered)
+              (marks_fit log_seen data_seen R.run R.parts R.actors R.runs x.number a here played.code new.log.marks.stable);
           shown = shown;
           filling = refl;
           is = refl;

@@ -1,6 +1,8 @@
 pub mod Allowed
+pub mod AllowedAppends
 pub mod AllowedCalls
 pub mod AllowedLists
+pub mod Appended
 pub mod AtRest
 pub mod Batching
 pub mod Behind
@@ -12,6 +14,7 @@ pub mod Failing
 pub mod Filled
 pub mod Finishing
 pub mod Gathered
+pub mod GivenBack
 pub mod Hearing
 pub mod Holders
 pub mod Kept

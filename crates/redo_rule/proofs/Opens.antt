@@ -1,5 +1,5 @@
 -- The rule holds of a table that was made of parts and actors at the beginning of a run.
-use Rattle.std.proofs.Common.{Bool, List, None, Option, Some, [], ap, arith, cond, false, is_some, length, map, ne_eqb, refl, subst, suc, sym, true, zero, ℕ, ◌+◌, ◌<◌, ◌∙◌, ◌∷◌, ◌≡◌, ◌≤◌}
+use Rattle.std.proofs.Common.{Bool, List, None, Option, Some, [], ap, arith, cond, false, is_some, length, map, refl, subst, suc, sym, true, zero, ℕ, ◌+◌, ◌<◌, ◌∙◌, ◌∷◌, ◌≡◌, ◌≤◌}
 use Rattle.std.specs.Prelude.{slice_index}
 use lib.ListN.{get_elem?}
 use mathlib.Core.Option as maybe
@@ -19,12 +19,12 @@ use Rattle.redo_disk.specs.{Call}
 use Rattle.redo_disk.specs.Seen.{Seen}
 use Rattle.redo_logdev.specs.Part as log
 use Rattle.redo_drive.proofs.CallsOn.{not_called}
-use Rattle.redo_drive.specs.Begins.{BeginsRun}
+use Rattle.redo_drive.specs.Begins.{BeginsWith}
 use Rattle.redo_drive.specs.Calls.{CallsOn}
 use Rattle.redo_drive.specs.Lists.{AreLists, listing_at}
-use Rattle.redo_drive.specs.Beginning.{IsRunOfOpened}
+use Rattle.redo_drive.specs.Beginning.{IsRunWith}
 use Rattle.redo_drive.specs.Running.{groups_of}
-use Rattle.redo_drive.specs.Setups.{start_actors}
+use Rattle.redo_drive.specs.Setups.{seated_actors}
 use Rattle.redo_drive.specs.Views.{views_of}
 use Rattle.redo_drive.specs.declared.making.Beginning.{Beginning}
 use Rattle.redo_drive.specs.declared.parts.Parts.{Parts}
@@ -35,7 +35,7 @@ use Rattle.redo_follow.specs.Handing.{Following}
 use Rattle.redo_rule.proofs.Seated.{not_working}
 use Rattle.redo_drive.specs.Playing.{run_log_side}
 use Rattle.redo_rule.specs.OwnSide.{Beside, desk_with, HasItsWork, HasNoWork, OwnSide, SitsAs}
-use Rattle.redo_rule.specs.Ruled.{first_view, IsNoArchiver, Knows, none_heard, numbered, own_numbered, Ruled, slot_content, starts_about}
+use Rattle.redo_rule.specs.Ruled.{first_view, Knows, none_heard, numbered, own_numbered, Ruled, slot_content, starts_about}
 use Rattle.redo_rule.specs.declared.law.About.{About}
 use Rattle.redo_rule.specs.declared.law.Errand.{Errand}
 use Rattle.redo_rule.specs.declared.law.Keeping.{Keeping}
@@ -85,13 +85,7 @@ module _ {L D : Type 0} where
   at_home parts beside (suc (suc (suc (suc zero)))) l = refl
   at_home parts beside (suc (suc (suc (suc (suc k))))) l = absurd (omega arith)
 
--- an actor that begins follows, if it is a reader of the log, and stands at the run's base
-follows_at_start : (c : Setup) (seat_of : ℕ → ℕ) (writer n : ℕ) (a : model.Actor) → 0 < c.first_reader
-    → StartActor c seat_of writer n a → IsNoArchiver a
-follows_at_start c seat_of writer n (model.Reader r) some is = ne_eqb r.number 0 (λ none. let first = is.1 in omega
-    arith)
-follows_at_start c seat_of writer n _ some is = tt
-
+-- an actor that begins stands at the run's base, if it is a reader of the log
 none_at_start : (c : Setup) (seat_of : ℕ → ℕ) (writer n sn : ℕ) (log : List Entry) (a : model.Actor) → Tiles c.base
     log sn
     → StartActor c seat_of writer n a → ◌≡◌ {A = List Given} (groups_of a log) []
@@ -118,16 +112,18 @@ AllStand own actors seats = (i : ℕ) (x : Numbered) → get_elem? seats i ≡ m
 module _ {L D R : Type 0} (log_seen : L → Seen) (data_seen : D → Seen) (stands : R → List Given → Type 0) (about :
     About L D)
     (followers : List (Following R)) (many : about.followers ≡ length followers) (start : Beginning L D R)
-    (B : BeginsRun log_seen data_seen stands about.opened.value about.script.value about.log_only followers start) where
+    (B : BeginsWith log_seen data_seen stands about.opened.value about.script.value about.log_only about.archive followers
+    start) where
   abbrev pub actors : List model.Actor
   actors = views_of start.actors.items
 
   -- they are those that the table's run begins with
   pub are : ◌≡◌ {A = List model.Actor} actors (starts_about about)
   are = B.stands.are_new
-      ∙ ap (λ (b : Bool). start_actors about.opened.value.shape about.script.value about.opened.value.start b (length
-      followers)) B.is_run.log_only_is
-      ∙ ap (start_actors about.opened.value.shape about.script.value about.opened.value.start about.log_only) (sym many)
+      ∙ ap (λ (b : Bool). seated_actors about.opened.value.shape about.script.value about.opened.value.start b
+      about.archive (length followers)) B.is_run.log_only_is
+      ∙ ap (seated_actors about.opened.value.shape about.script.value about.opened.value.start about.log_only
+      about.archive) (sym many)
 
   begun : (n : ℕ) (a : model.Actor) → get_elem? actors n ≡ maybe.some a → StartActor B.run.setup B.at_start.seat_of
       B.at_start.writer n a
@@ -153,8 +149,8 @@ module _ {L D R : Type 0} (log_seen : L → Seen) (log_gives : L → Call → L 
     : D → Call → D → Type 0)
     (stands : R → List Given → Type 0) (about : About L D) (followers : List (Following R)) (many : about.followers ≡
     length followers)
-    (start : Beginning L D R) (B : BeginsRun log_seen data_seen stands about.opened.value about.script.value
-    about.log_only followers start)
+    (start : Beginning L D R) (B : BeginsWith log_seen data_seen stands about.opened.value about.script.value
+    about.log_only about.archive followers start)
     (lists_are : AreLists start.parts.lists) (beside : Beside) (own_is : about.own_writes ≡ is_some beside.own)
     (worked : HasItsWork (run_log_side log_seen data_seen B.run) start.parts.log beside.own
     (views_of start.actors.items))
@@ -196,8 +192,8 @@ module _ {L D R : Type 0} (log_seen : L → Seen) (log_gives : L → Call → L 
   opens_one = record {
     run = B.run;
     is_about = record {
-      is_run = subst (λ (n : ℕ). IsRunOfOpened about.opened.value about.script.value about.log_only n B.run) (sym
-          many) B.is_run;
+      is_run = subst (λ (n : ℕ). IsRunWith about.opened.value about.script.value about.log_only about.archive n B.run)
+          (sym many) B.is_run;
       begun = B.begun;
     };
     parts = start.parts;
@@ -213,8 +209,6 @@ module _ {L D R : Type 0} (log_seen : L → Seen) (log_gives : L → Call → L 
         B.from.runs.running.shared.sn B.from.runs.running.log_ghost.log a
         B.from.runs.running.both.logged.global.tiled.tiles (B.at_start.starts.each n a at));
     count = ap length (are log_seen data_seen stands about followers many start B);
-    follow = λ n a at. follows_at_start B.run.setup B.at_start.seat_of B.at_start.writer n a (let z =
-        B.is_run.first_reader in omega arith) (B.at_start.starts.each n a at);
     log_calls = subst (λ (z : log.Part L). CallsOn log_gives about.opened.value.log.dev about.opened.value.log.failed z.dev z.failed) (sym B.log) (not_called log_gives about.opened.value.log.dev about.opened.value.log.failed);
     data_calls = subst (λ (z : store.Part D). CallsOn data_gives about.opened.value.store.dev about.opened.value.store.failed z.dev z.failed) (sym B.data_part) (not_called data_gives about.opened.value.store.dev about.opened.value.store.failed);
     log_shape = ap (λ (z : log.Part L). z.shape) B.log;

@@ -1,10 +1,10 @@
 -- A turn of whoever plays by its own program leaves the log's work of users that write for themselves as it was, and where
 -- it was.
-use Rattle.std.proofs.Common.{List, None, Option, Some, [], ap, arith, length, refl, set, subst, suc, sym, true, zero, ℕ, ⊎_elim}
+use Rattle.std.proofs.Common.{Bool, List, None, Option, Some, [], ap, arith, length, refl, set, subst, suc, sym, true, zero, ℕ, ⊎_elim}
 use Rattle.std.proofs.Common.{inl, inr, ◌+◌, ◌<◌, ◌∙◌, ◌∷◌, ◌≡◌, ◌≤◌, ◌⊎◌}
 use lib.ListN.{get_elem?}
 use mathlib.Core.Option as maybe
-use Rattle.model_core.specs.{lent, LogServed, Lent, next}
+use Rattle.model_core.specs.{LogServed, Lent, next}
 use Rattle.model_core.specs.Actors as model
 use Rattle.model_core.specs.DataSide.{DataSide}
 use Rattle.model_core.specs.Hands.{hand}
@@ -23,16 +23,15 @@ use Rattle.model_ownrun.proofs.Errands.{in_hand, other_keeps}
 use Rattle.model_ownrun.proofs.Moves.{Runs}
 use Rattle.model_ownrun.proofs.Seats.{flusher_seat, flusher_seat_is, flusher_there, writer_seat, writer_seat_is}
 use Rattle.model_ownrun.proofs.Seats.{writer_there}
-use Rattle.model_ownrun.specs.OwnRunning.{Errands, FlushesAt, WorkAt, WritesAt}
+use Rattle.model_ownrun.specs.OwnRunning.{FlushesAt, WorkAt, WritesAt}
 use Rattle.model_pagecore.specs.DataLaws.{DataLaws}
 use Rattle.redo_disk.specs.Seen.{Seen}
 use Rattle.redo_drive.specs.Lists.{lists_of}
 use Rattle.redo_drive.specs.Playing.{run_data_side, run_log_side, RunOf}
-use Rattle.redo_drive.specs.Running.{RunsOn}
+use Rattle.redo_drive.specs.Running.{RunsWith}
 use Rattle.redo_drive.specs.declared.parts.Parts.{Parts}
 use Rattle.redo_logdev.specs.Part as log
 use Rattle.redo_rule.specs.OwnSide.{HasItsWork, IsWorked, OwnSide, SitsAs}
-use Rattle.redo_rule.specs.declared.law.Errand.{Errand}
 
 -- the actors once one behind the users, the writer and the flusher has changed
 abbrev PutBehind : List OwnUser → LogWork → List model.Actor → ℕ → model.Actor → Type 0
@@ -117,8 +116,8 @@ module _ (D : LogSide) where
         (work_hold p o.errand side.work.writer.step side.work.flusher.step has work.step)
 
 -- THE WORK after a turn of whoever sits behind the users, the writer and the flusher
-module _ {L D : Type 0} (log_seen : L → Seen) (data_seen : D → Seen) (run : RunOf L D) (parts : Parts L D)
-    (actors : List model.Actor) (runs : RunsOn log_seen data_seen run parts actors)
+module _ {L D : Type 0} {archive : Bool} (log_seen : L → Seen) (data_seen : D → Seen) (run : RunOf L D) (parts : Parts L D)
+    (actors : List model.Actor) (runs : RunsWith log_seen data_seen run archive parts actors)
     (log_laws : LogLaws (run_log_side log_seen data_seen run))
     (data_laws : DataLaws (run_data_side log_seen data_seen run)) where
   abbrev A : LogSide

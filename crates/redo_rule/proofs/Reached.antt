@@ -1,11 +1,12 @@
 -- The marks and the code that a run leaves, by the watermarks that hold at its end.
-use Rattle.std.proofs.Common.{List, ap, arith, inl, inr, subst, sym, ℕ, ⊎_elim, ◌<◌, ◌∙◌, ◌≡◌, ◌⊎◌}
+use Rattle.std.proofs.Common.{Bool, List, cond, false, refl, true, ap, arith, inl, inr, subst, sym, ℕ, ⊎_elim, ◌<◌, ◌∙◌, ◌≡◌, ◌⊎◌}
 use Rattle.std.specs.Prelude.{slice_index}
 use lib.ListN.{get_elem?}
 use mathlib.Core.Option as maybe
-use Rattle.model_core.specs.{Given, index, SharedWords}
+use Rattle.model_core.specs.{Given, HasLost, index, SharedWords}
 use Rattle.model_core.specs.Actors as model
 use Rattle.model_core.specs.declared.words.Word.TheVariants as word
+use Rattle.model_running.proofs.Archiving.{none_loses}
 use Rattle.model_running.proofs.Finished.{marks_same}
 use Rattle.model_running.specs.{marks_in}
 use Rattle.model_report.specs.declared.entry.Marks.{Marks}
@@ -13,13 +14,14 @@ use Rattle.model_logcore.specs.{HasMetFailure}
 use Rattle.model_running.proofs.Watermarks.{has_watermarks}
 use Rattle.model_running.proofs.MarksReach.{within_words}
 use Rattle.model_running.specs.Watermarks.{HasMarksWithin, HasWatermarks}
+use Rattle.redo_archiver.specs.{append_code}
 use Rattle.redo_disk.specs.{Call}
 use Rattle.redo_disk.specs.Seen.{Seen}
 use Rattle.redo_drive.specs.Devices.{HasFailedBy}
 use Rattle.redo_logdev.specs.Part as log
-use Rattle.redo_drive.specs.Leaving.{LeavesRun}
+use Rattle.redo_drive.specs.Leaving.{LeavesWith}
 use Rattle.redo_drive.specs.Playing.{RunOf, run_data_side, run_log_side}
-use Rattle.redo_drive.specs.Running.{RunsOn}
+use Rattle.redo_drive.specs.Running.{RunsWith}
 use Rattle.redo_drive.specs.Turning.{core_of}
 use Rattle.redo_drive.specs.Views.{views_of}
 use Rattle.redo_drive.specs.declared.actor.Actor.{Actor}
@@ -33,10 +35,9 @@ use Rattle.redo_rule.specs.Failing.{CodeHasCause}
 use Rattle.redo_rule.specs.Reached.{ReachesAll}
 use Rattle.redo_store.specs.Part as store
 use Rattle.model_script.specs.declared.script.ScriptLine.{ScriptLine}
-use Rattle.std.specs.Prelude.{Bool}
 
-module _ {L D : Type 0} (log_seen : L → Seen) (data_seen : D → Seen) (run : RunOf L D) (parts : Parts L D) (actors :
-    List model.Actor) (runs : RunsOn log_seen data_seen run parts actors) where
+module _ {L D : Type 0} {archive : Bool} (log_seen : L → Seen) (data_seen : D → Seen) (run : RunOf L D) (parts : Parts L D) (actors :
+    List model.Actor) (runs : RunsWith log_seen data_seen run archive parts actors) where
   has_marks : HasWatermarks (run_log_side log_seen data_seen run) (run_data_side log_seen data_seen run) run.setup (core_of log_seen data_seen run parts actors)
   has_marks = has_watermarks (run_log_side log_seen data_seen run) (laws_of_log log_seen data_seen run) (run_data_side log_seen data_seen run) (laws_of_data log_seen data_seen run) run.setup 0 (core_of log_seen data_seen run parts actors) runs.running
 
@@ -54,16 +55,29 @@ module _ {L D : Type 0} (log_seen : L → Seen) (data_seen : D → Seen) (run : 
       parts.words.words (index word.Failed)
   code_shows i a at met = let less = has_marks.2.of_log.failures_show i a at met in let is = its_code in omega arith
 
+  -- who has lost an append archives the run
+  pub is_archived : (code : ℕ) → HasLost actors code → archive ≡ true
+  is_archived code lost = by archive refl
+    where
+      by : (b : Bool) → archive ≡ b → archive ≡ true
+      by true is = is
+      by false is = absurd (none_loses run.setup actors runs.running.both.in_run
+          (subst (λ (b : Bool). cond {A = Type 0} b (Unit {0}) (0 < run.setup.first_reader)) is runs.followers) code lost)
+
+  -- FAILED's code is one that a call of a part has, or, where the run is archived, one that an append has
   pub has_cause : (code : ℕ) → code ≡ slice_index parts.words.words (index word.Failed) → 0 < code → HasFailedBy log_seen Log (log_seen run.first_log.dev).faults parts.log.dev parts.log.failed code ⊎ HasFailedBy data_seen Data (data_seen run.first_data.dev).faults parts.store.dev parts.store.failed code
+      ⊎ ((archive ≡ true) × HasLost actors code)
   has_cause code is some =
       let same : code ≡ m.failed = is ∙ its_code in
-      subst (λ (n : ℕ). HasFailedBy log_seen Log (log_seen run.first_log.dev).faults parts.log.dev parts.log.failed n ⊎ HasFailedBy data_seen Data (data_seen run.first_data.dev).faults parts.store.dev parts.store.failed n) (sym same)
-      (has_marks.2.failure_has_cause.cause (subst (λ (n : ℕ). 0 < n) same some))
+      subst (λ (n : ℕ). HasFailedBy log_seen Log (log_seen run.first_log.dev).faults parts.log.dev parts.log.failed n ⊎ HasFailedBy data_seen Data (data_seen run.first_data.dev).faults parts.store.dev parts.store.failed n
+      ⊎ ((archive ≡ true) × HasLost actors n)) (sym same)
+      (⊎_elim (λ h. inl h) (⊎_elim (λ h. inr (inl h)) (λ lost. inr (inr (is_archived m.failed lost, lost))))
+      (has_marks.2.failure_has_cause.cause (subst (λ (n : ℕ). 0 < n) same some)))
 
 module _ {L D R : Type 0} (log_seen : L → Seen) (log_gives : L → Call → L → Type 0) (data_seen : D → Seen) (data_gives
     : D → Call → D → Type 0) (stands : R → List Given → Type 0) (opened : Opened L D) (script : List ScriptLine)
-    (log_only : Bool) (followers : ℕ) (starts actors : List (Actor R)) (closed : Closed L D) (by : LeavesRun log_seen
-    log_gives data_seen data_gives stands opened script log_only followers starts actors closed) where
+    (log_only archive : Bool) (followers : ℕ) (starts actors : List (Actor R)) (closed : Closed L D) (by : LeavesWith
+    log_seen log_gives data_seen data_gives stands opened script log_only archive followers starts actors closed) where
   pub reaches_all : ReachesAll (views_of actors) closed
   reaches_all = record {
     marks = λ i a at. subst (λ (k : Marks). HasMarksWithin k a) (sym by.marks) (within log_seen data_seen by.run
@@ -72,11 +86,18 @@ module _ {L D R : Type 0} (log_seen : L → Seen) (log_gives : L → Call → L 
         at met in let is = by.code in omega arith;
   }
 
+  lost_by : archive ≡ true → (code : ℕ) → HasLost (views_of actors) code → code ≡ append_code closed.lost
+  lost_by is = subst (λ (b : Bool). cond {A = Type 0} b
+      ((code : ℕ) → HasLost (views_of actors) code → code ≡ append_code closed.lost) (Unit {0})) is by.lost
+
   cause : 0 < closed.code → HasFailedBy log_seen Log (log_seen opened.log.dev).faults closed.log.dev closed.log.failed closed.code ⊎ HasFailedBy data_seen Data (data_seen opened.store.dev).faults closed.store.dev closed.store.failed closed.code
+      ⊎ (closed.code ≡ append_code closed.lost)
   cause some = ⊎_elim
       (λ h. inl (subst (λ (p : log.Part L). HasFailedBy log_seen Log (log_seen opened.log.dev).faults p.dev p.failed closed.code) (sym by.log) (subst (λ (p : log.Part L). HasFailedBy log_seen Log (log_seen p.dev).faults by.last.log.dev by.last.log.failed closed.code) by.is_run.first_log h)))
-      (λ h. inr (subst (λ (d : store.Part D). HasFailedBy data_seen Data (data_seen opened.store.dev).faults d.dev d.failed closed.code) (sym by.data_part) (subst (λ (d : store.Part D). HasFailedBy data_seen Data (data_seen d.dev).faults by.last.store.dev by.last.store.failed closed.code) by.is_run.first_data h)))
+      (⊎_elim
+      (λ h. inr (inl (subst (λ (d : store.Part D). HasFailedBy data_seen Data (data_seen opened.store.dev).faults d.dev d.failed closed.code) (sym by.data_part) (subst (λ (d : store.Part D). HasFailedBy data_seen Data (data_seen d.dev).faults by.last.store.dev by.last.store.failed closed.code) by.is_run.first_data h))))
+      (λ h. inr (inr (lost_by h.0 closed.code h.1))))
       (has_cause log_seen data_seen by.run by.last (views_of actors) by.from.runs closed.code by.code some)
 
-  pub code_has_cause : CodeHasCause log_seen data_seen closed.code opened.log closed.log opened.store closed.store
-  code_has_cause = caused log_seen data_seen closed.code opened.log closed.log opened.store closed.store cause
+  pub code_has_cause : CodeHasCause log_seen data_seen closed.code opened.log closed.log opened.store closed.store closed.lost
+  code_has_cause = caused log_seen data_seen closed.code opened.log closed.log opened.store closed.store closed.lost cause

@@ -135,7 +135,6 @@ module _ {L D : Type 0} (log_seen : L → Seen) (log_gives : L → Call → L �
         runs = R.runs;
         hears = R.hears;
         count = R.count;
-        follow = R.follow;
         log_calls = R.log_calls;
         data_calls = R.data_calls;
         log_shape = R.log_shape;
@@ -233,7 +232,6 @@ module _ {L D : Type 0} (log_seen : L → Seen) (log_gives : L → Call → L �
         runs = R.runs;
         hears = R.hears;
         count = R.count;
-        follow = R.follow;
         log_calls = R.log_calls;
         data_calls = R.data_calls;
         log_shape = R.log_shape;

@@ -14,7 +14,9 @@ use Rattle.model_core.specs.declared.ops.Op.{Op}
 use Rattle.model_core.specs.declared.ops.Op.TheVariants as op
 use Rattle.model_core.specs.declared.ops.Step.{Step}
 use Rattle.model_core.specs.declared.words.Word.{Word}
+use Rattle.redo_archiver.specs.{append_answer}
 use Rattle.redo_disk.specs.{Call}
+use Rattle.redo_disk.specs.declared.error.DevError.{DevError}
 use Rattle.redo_disk.specs.Seen.{Seen}
 use Rattle.redo_flushlist.specs.{Listing}
 use Rattle.redo_drive.specs.Receiving.{filling_of, HasTaken, MarkFits}
@@ -22,14 +24,17 @@ use Rattle.redo_drive.specs.Views.{view_of}
 use Rattle.redo_drive.specs.declared.actor.Actor.{Actor}
 use Rattle.redo_rule.proofs.Allowed.{allows_add, allows_give, allows_give_list, allows_load, allows_store, allows_swap, allows_take, word_hand}
 use Rattle.redo_rule.proofs.AllowedLists.{allows_take_add, allows_take_oldest, allows_take_remove}
-use Rattle.redo_rule.proofs.Filled.{fills_block, handles_filled, IsNoGive, IsPlainOp}
+use Rattle.redo_rule.proofs.AllowedAppends.{allows_appended, append_hand}
+use Rattle.redo_rule.proofs.Filled.{fills_block, handles_filled, IsNoGive, IsPlainOp, keeps_listed, plain_filled}
 use Rattle.redo_rule.proofs.Took.{may_take, Steps, steps, took_given, took_plain, TookWith}
 use Rattle.model_core.proofs.Hands.{Handles}
 use Rattle.model_core.specs.Hands.{hand, IsFreeToCheck}
 use Rattle.redo_rule.specs.Ruled.{Ruled}
 use Rattle.redo_rule.specs.declared.law.About.{About}
 use Rattle.redo_rule.specs.Mine.{Mine}
-use Rattle.redo_rule.specs.Plays.{Carries, gave, list_behind, list_said, ListFits, no_filling, saw, seized, seized_list, Stepped, TakesList, taking, view_behind}
+use Rattle.redo_rule.specs.Readers.{HasGivenBack}
+use Rattle.redo_rule.specs.Seating.{Appends}
+use Rattle.redo_rule.specs.Plays.{appended, Carries, gave, KeepsTexts, list_behind, list_said, ListFits, no_filling, saw, seized, seized_list, Stepped, TakesList, taking, view_behind}
 use Rattle.redo_rule.specs.declared.law.Slot.{Slot}
 use Rattle.redo_rule.specs.declared.law.Slot.TheVariants as slot
 use Rattle.redo_rule.specs.declared.law.View.{View}
@@ -96,6 +101,19 @@ module _ {L D : Type 0} (table : TableId) (seat : Seat (Slot L D) (View L D)) (a
       (sym (word_hand o on (hand a) (λ r. hand (took plain r)) (goes o e no_filling) n))
       (carries_same (hand a) seat.me me' refl refl mine.carries)
 
+  -- nor does an append change it
+  pub append_carries : (x : ℕ) → next a ≡ op.Append x → (met : Option DevError)
+      → Carries (hand (took plain (append_answer met)))
+      (view_behind seat.me.0 mine.who no_filling (append_answer met) seat.me.0.held seat.me.0.data_part, seat.me.1)
+  append_carries x e met =
+      let me' : Me (Slot L D) (View L D) = (
+        view_behind seat.me.0 mine.who no_filling (append_answer met) seat.me.0.held seat.me.0.data_part,
+        seat.me.1,
+      ) in
+      subst (λ (h : Option ℕ). Carries h me')
+      (sym (append_hand (hand a) (λ r. hand (took plain r)) x (goes (op.Append x) e no_filling) met))
+      (carries_same (hand a) seat.me me' refl refl mine.carries)
+
   -- the slot that it carries
   pub carried_log : (o : Op) → next a ≡ o → hand a ≡ Some 0 → Carries (Some 0) seat.me
   carried_log o e h = subst (λ (z : Option ℕ). Carries z seat.me) h mine.carries
@@ -154,14 +172,22 @@ module _ {L D : Type 0} (table : TableId) (seat : Seat (Slot L D) (View L D)) (a
     pub swap_ok : (w : Word) (x y i : ℕ) → next a ≡ op.Swap w x y → i ≡ index w → Asks i (λ n. either (n == x) y n) (saw log_seen data_seen seat.me)
     swap_ok w x y i is e = asks_word (op.Swap w x y) w i (λ n. either (n == x) y n) is (λ z. z) e (allows_swap log_seen log_gives data_seen data_gives about table.slots seat.id seat.me mine.who mine.one mine.plain w x y (asks (op.Swap w x y) is))
 
-    pub give_ok : next a ≡ op.GiveDevice → (f : Filling) → Fills a f → Asks 7 (λ _. 0) (gave log_seen data_seen seat.me)
-    give_ok is f fills = let c : Carries (Some 0) seat.me = subst (λ (h : Option ℕ). Carries h seat.me) (goes
+    pub append_ok : (met : Option DevError) → Appends a → Asks 0 (λ n. n) (appended log_seen data_seen met seat.me)
+    append_ok met t = (
+      mine.of,
+      (let w = mine.words in omega arith),
+      allows_appended log_seen log_gives data_seen data_gives about table.slots seat.id seat.me mine.who mine.one mine.plain 0
+          t.0 met (asks (op.Append t.0) t.1),
+    )
+
+    pub give_ok : next a ≡ op.GiveDevice → (f : Filling) → Fills a f → KeepsTexts a f → Asks 7 (λ _. 0) (gave log_seen data_seen seat.me)
+    give_ok is f fills keeps_f = let c : Carries (Some 0) seat.me = subst (λ (h : Option ℕ). Carries h seat.me) (goes
         op.GiveDevice is f).0 mine.carries in (
           mine.of,
           (let w = mine.words in omega arith),
           allows_give log_seen log_gives data_seen data_gives about
               table.slots seat.id seat.me mine.who mine.one mine.plain (slot.Log c.0) f (subst (λ (z : model.Actor). Fills z f)
-              (sym mine.state) fills) (asks op.GiveDevice is) (subst IsFreeToCheck (sym mine.state) mine.may.free) c.2
+              (sym mine.state) fills) (subst (λ (z : model.Actor). KeepsTexts z f) (sym mine.state) keeps_f) (asks op.GiveDevice is) (subst IsFreeToCheck (sym mine.state) mine.may.free) c.2
               c.1,
         )
 
@@ -211,6 +237,7 @@ module _ {L D R : Type 0} (table : TableId) (seat : Seat (Slot L D) (View L D)) 
   gave_list_steps i is n told = told mine.who no_filling mine.one
       (fills_block mine.who.actor no_filling (subst IsFreeToCheck (sym mine.state) mine.may.free)
       (subst IsNoGive (sym (ap next mine.state ∙ is)) tt))
+      (keeps_listed mine.who.actor no_filling i (ap next mine.state ∙ is))
 
   pub give_list_fits : (i : ℕ) → next (view_of old) ≡ op.GiveList i → (n : ℕ) → gave log_seen data_seen seat.me n
       after.me
@@ -251,13 +278,35 @@ module _ {L D R : Type 0} (table : TableId) (seat : Seat (Slot L D) (View L D)) 
       (held_carries table seat (view_of old) mine before behind)
       (took_plain stands answer.Held step new no_filling old o is plain mine.may.free h)
 
-  pub gave_leaves : next (view_of old) ≡ op.GiveDevice → (n : ℕ) → gave log_seen data_seen seat.me n after.me
-      → HasTaken stands old (answer.Taken None) step new
+  pub append_leaves : (t : Appends (view_of old)) (met : Option DevError) (n : ℕ)
+      → appended log_seen data_seen met seat.me n after.me → HasTaken stands old (append_answer met) step new
       → Steps table log_seen data_seen stands seat.me.0 old step after new
-  gave_leaves is n told h =
+  append_leaves t met n told h = step_leaves no_filling (append_answer met) seat.me.0.held seat.me.1
+      (told mine.who mine.one) (append_carries table seat (view_of old) mine t.0 t.1 met)
+      (took_plain stands (append_answer met) step new no_filling old (op.Append t.0) t.1 tt mine.may.free h)
+
+  pub append_fits : (met : Option DevError) (n : ℕ) → appended log_seen data_seen met seat.me n after.me
+      → AnswerFits (view_of old) (append_answer met) × MarkFits (view_of old) (append_answer met)
+  append_fits met n told = may_take log_seen data_seen mine.who (view_of old) no_filling (append_answer met)
+      seat.me.0.held seat.me.0.data_part seat.me.1 seat.me after.me mine.state (told mine.who mine.one)
+
+  -- and the archiver takes the answer as it is
+  pub append_took : Appends (view_of old) → (met : Option DevError) → HasTaken stands old (append_answer met) step new
+      → view_of new ≡ took (view_of old) (append_answer met)
+  append_took t met h =
+      let plain : IsPlainOp (next (view_of old)) = subst IsPlainOp (sym t.1) tt in
+      (took_plain stands (append_answer met) step new no_filling old (op.Append t.0) t.1 tt mine.may.free h).state
+      ∙ ap (λ (z : model.Actor). took z (append_answer met)) (plain_filled (view_of old) no_filling mine.may.free plain)
+
+  pub gave_leaves : next (view_of old) ≡ op.GiveDevice → (n : ℕ) → gave log_seen data_seen seat.me n after.me
+      → HasGivenBack stands old step new
+      → Steps table log_seen data_seen stands seat.me.0 old step after new
+  gave_leaves is n told given =
+      let h = given.taken in
       let f : Filling = filling_of (view_of old) h.texts in
       step_leaves f (answer.Taken None) None (rest seat.me.1)
-      (told mine.who f mine.one (subst (λ (z : model.Actor). Fills z f) (sym mine.state) h.fills))
+      (told mine.who f mine.one (subst (λ (z : model.Actor). Fills z f) (sym mine.state) h.fills)
+      (subst (λ (z : model.Actor). KeepsTexts z f) (sym mine.state) given.texts))
       (gave_device_carries table seat (view_of old) mine is f) (took_given stands (answer.Taken None) step new old h)
 
   pub gave_list_leaves : (i : ℕ) → next (view_of old) ≡ op.GiveList i → (n : ℕ)

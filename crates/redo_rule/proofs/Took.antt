@@ -6,11 +6,12 @@ use Rattle.atomic_table.specs.declared.shared.Seat.{Seat}
 use Rattle.model_core.specs.Actors as model
 use Rattle.model_core.specs.AnswerFits.{AnswerFits}
 use Rattle.model_core.specs.Hands.{hand, IsFreeToCheck}
-use Rattle.model_core.specs.{filled, Filling, Given, next, step_of, took, word_count}
+use Rattle.model_core.specs.{filled, Filling, Given, next, ReaderState, step_of, took, word_count}
 use Rattle.model_core.specs.declared.ops.Answer.{Answer}
 use Rattle.model_core.specs.declared.ops.Op.{Op}
 use Rattle.model_core.specs.declared.ops.Op.TheVariants as op
 use Rattle.model_core.specs.declared.ops.Step.{Step}
+use Rattle.redo_archiver.specs.Lending as archiving
 use Rattle.redo_disk.specs.Seen.{Seen}
 use Rattle.redo_drive.specs.Receiving.{filling_of, follower_of, handed_by, HasGot, HasTaken, IsSameFollower, MarkFits}
 use Rattle.redo_drive.specs.Views.{view_of}
@@ -20,6 +21,7 @@ use Rattle.redo_follow.specs.Handing.{Following}
 use Rattle.redo_follow.specs.Lending.{with_block}
 use Rattle.redo_rule.proofs.Filled.{IsPlainOp, plain_filled, read_filled}
 use Rattle.redo_rule.specs.Mine.{HasPlayed, heard_in, heard_of, IsSameSeat, KeepsSeat, Mine, number_in, number_of}
+use Rattle.redo_rule.specs.Readers.{HasBlock}
 use Rattle.redo_rule.specs.Plays.{behind, block_filling, Carries, MayGo, Shown, Stepped, view_behind}
 use Rattle.redo_rule.specs.declared.law.Errand.{Errand}
 use Rattle.redo_rule.specs.declared.law.Keeping.{Keeping}
@@ -83,6 +85,29 @@ module _ {R : Type 0} (stands : R → List Given → Type 0) (r : Answer) (step 
             (subst (λ (z : model.Actor). HasGot stands (Some (with_block f bytes)) (handed_by z) (follower_of new)) e
             h.got);
       }
+
+-- whoever reads has the block in its room
+module _ {R : Type 0} (stands : R → List Given → Type 0) (r : Answer) (step : Step) (new : Actor R) where
+  -- the archiver that has read has the block in its room
+  took_archived : (s : ReaderState) (bytes : List ℕ) (x : ℕ) → next (model.Reader s) ≡ op.ReadBlock x
+      → HasTaken stands (own.Archiver (archiving.with_block s bytes)) r step new
+      → TookWith stands (block_filling bytes) (own.Archiver s) r step new
+  took_archived s bytes x is h =
+      let e = read_filled s bytes h.texts x is in record {
+        state = h.state ∙ ap (λ (z : model.Actor). took z r) e;
+        ends = h.ends ∙ ap (λ (z : model.Actor). step_of z r) e;
+        same = h.same;
+        got = tt;
+      }
+
+  pub took_block : (old mid : Actor R) (bytes : List ℕ) (x : ℕ) → HasBlock old bytes mid
+      → next (view_of old) ≡ op.ReadBlock x → HasTaken stands mid r step new
+      → TookWith stands (block_filling bytes) old r step new
+  took_block (own.Archiver s) mid bytes x has is h = took_archived s bytes x is
+      (subst (λ (z : Actor R). HasTaken stands z r step new) has h)
+  took_block (own.Follower f) mid bytes x has is h = took_read stands r step new f bytes x is
+      (subst (λ (z : Actor R). HasTaken stands z r step new) has h)
+  took_block _ mid bytes x has is h = absurd has
 
 -- the answer of a step is one that its actor may take
 pub may_take : {L D : Type 0} (log_seen : L → Seen) (data_seen : D → Seen) (x : Numbered) (a : model.Actor) (f :

@@ -14,14 +14,13 @@ use Rattle.model_running.specs.{AreSeated}
 use Rattle.model_script.specs.declared.script.ScriptLine.{ScriptLine}
 use Rattle.redo_disk.specs.Seen.{Seen}
 use Rattle.redo_drive.specs.Startable.{MayBegin}
-use Rattle.redo_drive.specs.Begins.{BeginsRun}
+use Rattle.redo_drive.specs.Begins.{BeginsWith}
 use Rattle.redo_drive.specs.Views.{views_of}
 use Rattle.redo_drive.specs.declared.making.Beginning.{Beginning}
 use Rattle.redo_store.specs.declared.opened.Opened.{Opened}
 use Rattle.redo_rule.proofs.Opens as opens
 use Rattle.redo_rule.specs.Cutting.{IsFirst}
 use Rattle.redo_follow.specs.Handing.{Following}
-use Rattle.redo_rule.specs.OwnSide.{HasNoWork}
 use Rattle.redo_rule.specs.Ruled.{first_view, none_heard, numbered, own_numbered, starts_about}
 use Rattle.redo_rule.specs.Seating.{IsCleaner}
 use Rattle.redo_rule.specs.Sharing.{IsUnseated}
@@ -49,7 +48,7 @@ none_there c actors S alone i a at is =
 module _ {L D R : Type 0} (log_seen : L → Seen) (data_seen : D → Seen) (stands : R → List Given → Type 0) (about :
     About L D)
     (followers : List (Following R)) (many : about.followers ≡ length followers) (start : Beginning L D R)
-    (B : BeginsRun log_seen data_seen stands about.opened.value about.script.value about.log_only followers start)
+    (B : BeginsWith log_seen data_seen stands about.opened.value about.script.value about.log_only about.archive followers start)
     (may : MayBegin about.opened.value about.script.value about.log_only) (plain : about.own_writes ≡ false) where
   abbrev actors : List model.Actor
   actors = views_of start.actors.items
@@ -117,13 +116,15 @@ module _ {L D R : Type 0} (log_seen : L → Seen) (data_seen : D → Seen) (stan
     About L D) (followers : List (Following R)) (opened : Opened L D) (script : List ScriptLine) (log_only : Bool)
     (opened_is : about.opened.value ≡ opened) (script_is : about.script.value ≡ script) (only_is : about.log_only ≡
     log_only) where
-  pub about_begins : (start : Beginning L D R) → BeginsRun log_seen data_seen stands opened script log_only followers
-      start → BeginsRun log_seen data_seen stands about.opened.value about.script.value about.log_only followers start
-  about_begins start B = subst (λ (o : Opened L D). BeginsRun log_seen data_seen stands o about.script.value
-      about.log_only followers start) (sym opened_is)
-      (subst (λ (s : List ScriptLine). BeginsRun log_seen data_seen stands opened s about.log_only followers start)
-      (sym script_is) (subst (λ (b : Bool). BeginsRun log_seen data_seen stands opened script b followers start)
-      (sym only_is) B))
+  pub about_begins : (start : Beginning L D R)
+      → BeginsWith log_seen data_seen stands opened script log_only about.archive followers start
+      → BeginsWith log_seen data_seen stands about.opened.value about.script.value about.log_only about.archive followers
+      start
+  about_begins start B = subst (λ (o : Opened L D). BeginsWith log_seen data_seen stands o about.script.value
+      about.log_only about.archive followers start) (sym opened_is)
+      (subst (λ (s : List ScriptLine). BeginsWith log_seen data_seen stands opened s about.log_only about.archive
+      followers start) (sym script_is) (subst (λ (b : Bool). BeginsWith log_seen data_seen stands opened script b
+      about.archive followers start) (sym only_is) B))
 
   pub about_may : MayBegin opened script log_only → MayBegin about.opened.value about.script.value about.log_only
   about_may M = subst (λ (o : Opened L D). MayBegin o about.script.value about.log_only) (sym opened_is)

@@ -1,6 +1,6 @@
 -- Why an answer of `play` came.
-use Rattle.std.specs.Prelude.{false, length, true, ℕ, ◌↔◌, ◌≡◌, ◌⊎◌}
-use Rattle.model_core.specs.{is_checking, next}
+use Rattle.std.specs.Prelude.{List, Option, Some, false, length, true, ℕ, ◌↔◌, ◌≡◌, ◌⊎◌}
+use Rattle.model_core.specs.{HasLost, is_checking, next}
 use Rattle.model_core.specs.Actors as model
 use Rattle.model_core.specs.Waiting.{ending, waits}
 use Rattle.model_core.specs.declared.ops.Answer.{Answer}
@@ -9,12 +9,15 @@ use Rattle.model_core.specs.declared.ops.Step.{Step}
 use Rattle.model_core.specs.declared.ops.Step.TheVariants as step
 use Rattle.model_core.specs.declared.steps.UserStep.TheVariants as user_step
 use Rattle.model_core.specs.declared.words.Word.TheVariants as word
+use Rattle.redo_archiver.specs.{append_code}
 use Rattle.redo_disk.specs.Seen.{Seen}
+use Rattle.redo_disk.specs.declared.error.DevError.{DevError}
 use Rattle.redo_drive.specs.Turning.{code_in}
 use Rattle.model_core.specs.Hands.{GivesFailed, StoresFailed}
 use Rattle.redo_rule.specs.Failing.{CodeHasCause}
 use Rattle.redo_rule.specs.Mine.{heard_of, number_of}
 use Rattle.redo_rule.specs.Plays.{Shown}
+use Rattle.redo_rule.specs.declared.law.About.{About}
 use Rattle.redo_rule.specs.declared.law.View.{View}
 
 -- it is a user that has ended: the commit of its last line is answered
@@ -26,6 +29,11 @@ IsFinishedUser _ = ⊥
 abbrev pub HasEndedBy : model.Actor → ℕ → Type 0
 HasEndedBy a code = (next a ≡ op.Rest) × (ending a ≡ step.Failed code)
 
+-- this is what an append of the archiver among these actors has met, if one has failed
+abbrev pub HasMet : {L D : Type 0} → About L D → List model.Actor → Option DevError → Type 0
+HasMet about actors lost =
+    (fault : DevError) → lost ≡ Some fault → (about.archive ≡ true) × HasLost actors (append_code lost)
+
 module _ {L D : Type 0} (log_seen : L → Seen) (data_seen : D → Seen) (v : View L D) where
   -- at that moment the condition of its step didn't hold yet
   pub record HasWaited (a : model.Actor) : Type 0 where
@@ -36,12 +44,14 @@ module _ {L D : Type 0} (log_seen : L → Seen) (data_seen : D → Seen) (v : Vi
 
   -- THE CODE BY WHICH ITS STEP ENDED, at that moment: the actor found it in FAILED; or its own device call had failed with it,
   -- and it had stored it and gave the log part back, or, having none, stored it. The code has its cause in what the devices
-  -- had met since the run began.
+  -- had met since the run began, the archive's among them.
   pub record HasFailureCode (a : model.Actor) (code : ℕ) : Type 0 where
     pub answer : Answer
     pub shown : Shown log_seen data_seen v.about (number_of v) (heard_of v) a answer
     pub way : ((next a ≡ op.Load word.Failed) × (code ≡ code_in shown.old)) ⊎ (GivesFailed a code ⊎ StoresFailed a code)
-    pub cause : CodeHasCause log_seen data_seen code shown.run.first_log shown.old.log shown.run.first_data shown.old.store
+    pub lost : Option DevError
+    pub has_met : HasMet shown.about shown.actors lost
+    pub cause : CodeHasCause log_seen data_seen code shown.run.first_log shown.old.log shown.run.first_data shown.old.store lost
 
   -- WHY A STEP ENDED SO: idle where its condition didn't hold yet, ended just where it ends a user, failed with a code
   -- that tells how. The actor was the one and is the other.

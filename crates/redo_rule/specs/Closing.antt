@@ -1,21 +1,23 @@
 -- A table as it is closed, and what every drive owes of what it leaves.
-use Rattle.std.specs.Prelude.{List, length, slice_index, true, ℕ, ◌≡◌}
+use Rattle.std.specs.Prelude.{Bool, List, None, Option, cond, length, slice_index, true, ℕ, ◌≡◌}
 use lib.ListN.{get_elem?}
 use mathlib.Core.Option.{some}
 use Rattle.atomic_table.specs.Seated.{TableId}
 use Rattle.atomic_table.specs.Table.{Final, Seen as SeenBy, State}
 use Rattle.atomic_table.specs.declared.shared.Seat.{Seat}
-use Rattle.model_core.specs.{Given, index}
+use Rattle.model_core.specs.{Given, HasLost, index}
 use Rattle.model_core.specs.Actors as model
 use Rattle.model_core.specs.declared.words.Word.TheVariants as word
 use Rattle.model_running.specs.{HaveEnded, marks_in}
 use Rattle.model_script.specs.declared.script.ScriptLine.{ScriptLine}
+use Rattle.redo_archiver.specs.{append_code}
 use Rattle.redo_disk.specs.{Call}
 use Rattle.redo_disk.specs.Seen.{Seen}
+use Rattle.redo_disk.specs.declared.error.DevError.{DevError}
 use Rattle.redo_drive.specs.Calls.{CallsOn}
 use Rattle.redo_drive.specs.Drive.{ComesToRun, HoldsRun, IsOwedSynced}
 use Rattle.redo_drive.specs.Playing.{RunOf, run_log_side}
-use Rattle.redo_drive.specs.Running.{RunsOn}
+use Rattle.redo_drive.specs.Running.{RunsWith}
 use Rattle.redo_drive.specs.declared.drive.Driven.{Driven}
 use Rattle.redo_drive.specs.declared.parts.Parts.{Parts}
 use Rattle.redo_drive.specs.declared.drive.RunEnd.TheVariants as ended
@@ -30,6 +32,11 @@ use Rattle.redo_rule.specs.declared.closing.Left.{Left}
 use Rattle.redo_rule.specs.declared.law.About.{About}
 use Rattle.redo_rule.specs.declared.law.Slot.{Slot}
 use Rattle.redo_rule.specs.declared.law.View.{View}
+
+-- what an append to the archive has met: an archiver that has lost its archive did so by that; without an archive nothing
+abbrev pub TellsLoss : (archive : Bool) → List model.Actor → Option DevError → Type 0
+TellsLoss archive actors lost =
+    cond archive ((code : ℕ) → HasLost actors code → code ≡ append_code lost) (lost ≡ None)
 
 module _ {L D : Type 0} where
   -- the first seat knows all actors, of which none holds anything, and keeps the data part
@@ -51,7 +58,7 @@ module _ {L D : Type 0} (log_seen : L → Seen) (log_gives : L → Call → L �
     pub run : RunOf L D
     pub is_about : IsRunAbout log_seen data_seen about run
     pub last : Parts L D
-    pub runs : RunsOn log_seen data_seen run last actors
+    pub runs : RunsWith log_seen data_seen run about.archive last actors
     pub hears : HaveGroups (run_log_side log_seen data_seen run) last.log heard actors runs.running.log_ghost.log
     pub log_calls : CallsOn log_gives about.opened.value.log.dev about.opened.value.log.failed last.log.dev last.log.failed
     pub data_calls : CallsOn data_gives about.opened.value.store.dev about.opened.value.store.failed last.store.dev last.store.failed

@@ -9,7 +9,7 @@ use Rattle.redo_disk.specs.Seen.{Seen}
 use Rattle.redo_drive.specs.Calls.{CallsOn}
 use Rattle.redo_drive.specs.Lists.{listing_at}
 use Rattle.redo_drive.specs.Playing.{RunOf, run_log_side}
-use Rattle.redo_drive.specs.Running.{RunsOn}
+use Rattle.redo_drive.specs.Running.{RunsWith}
 use Rattle.redo_drive.specs.declared.parts.Parts.{Parts}
 use Rattle.redo_rule.specs.OwnSide.{Beside, desk_with}
 use Rattle.redo_rule.specs.Ruled.{HaveGroups, IsRunAbout}
@@ -24,7 +24,7 @@ pub record RunReaches {L D : Type 0} (log_seen : L → Seen) (log_gives : L → 
   pub run : RunOf L D
   pub is_about : IsRunAbout log_seen data_seen about run
   pub parts : Parts L D
-  pub runs : RunsOn log_seen data_seen run parts actors
+  pub runs : RunsWith log_seen data_seen run about.archive parts actors
   pub hears : HaveGroups (run_log_side log_seen data_seen run) parts.log heard actors runs.running.log_ghost.log
   pub words_are : parts.words.words ≡ words
   pub beside : Beside

@@ -8,6 +8,7 @@ pub mod Mine
 pub mod OwnSide
 pub mod Plays
 pub mod Reached
+pub mod Readers
 pub mod Ruled
 pub mod Seating
 pub mod Seats

@@ -3,7 +3,7 @@ use Rattle.std.specs.Prelude.{Bool, List, None, Option, Some, [], cond, false, l
 use lib.ListN.{get_elem?}
 use mathlib.Core.Option.{some}
 use Rattle.atomic_table.specs.Table.{Me, rest}
-use Rattle.model_core.specs.{filled, Filling, Fills, Given, lent, next, oldest_end, OpWords, took, UserState}
+use Rattle.model_core.specs.{archives, filled, Filling, Fills, Given, lent, next, oldest_end, OpWords, took, UserState}
 use Rattle.model_core.specs.Actors as model
 use Rattle.model_core.specs.AnswerFits.{AnswerFits}
 use Rattle.model_core.specs.Turn.{Turn}
@@ -14,12 +14,14 @@ use Rattle.model_core.specs.declared.ops.Op.{Op}
 use Rattle.model_core.specs.declared.ops.Op.TheVariants as op
 use Rattle.model_core.specs.declared.ops.Step.{Step}
 use Rattle.model_core.specs.declared.steps.UserStep.TheVariants as user_step
+use Rattle.redo_archiver.specs.{append_answer}
 use Rattle.redo_disk.specs.Seen.{Seen}
+use Rattle.redo_disk.specs.declared.error.DevError.{DevError}
 use Rattle.redo_flushlist.specs.{Listing, without_page}
 use Rattle.redo_drive.specs.Devices.{call_answer}
 use Rattle.redo_drive.specs.Lists.{listed_of}
 use Rattle.redo_drive.specs.Playing.{DataReady, HasWholePages, LogReady, RunOf, run_data_side, run_log_side, told_by}
-use Rattle.redo_drive.specs.Running.{groups_of, RunsOn}
+use Rattle.redo_drive.specs.Running.{groups_of, RunsWith}
 use Rattle.redo_drive.specs.Turning.{core_of}
 use Rattle.redo_drive.specs.Receiving.{handed_by, MarkFits}
 use Rattle.redo_drive.specs.declared.device.Device.TheVariants.{Data, Log}
@@ -55,6 +57,11 @@ block_filling bytes = record { block = bytes; texts = [] }
 
 abbrev pub no_filling : Filling
 no_filling = block_filling []
+
+-- the archiver, which hands on nothing, keeps the texts that it has
+abbrev pub KeepsTexts : model.Actor → Filling → Type 0
+KeepsTexts (model.Reader r) f = archives r ≡ true → f.texts ≡ r.texts
+KeepsTexts _ f = Unit {0}
 
 -- the answer to whoever gets the log part
 abbrev pub taking : Bool → Answer
@@ -137,10 +144,10 @@ module _ {L D : Type 0} (log_seen : L → Seen) (data_seen : D → Seen) where
     pub is_about : IsRunAbout log_seen data_seen about run
     pub old : Parts L D
     pub actors : List model.Actor
-    pub runs : RunsOn log_seen data_seen run old actors
+    pub runs : RunsWith log_seen data_seen run about.archive old actors
     pub new : Parts L D
     pub after : List model.Actor
-    pub runs_on : RunsOn log_seen data_seen run new after
+    pub runs_on : RunsWith log_seen data_seen run about.archive new after
     pub at : get_elem? actors number ≡ some a
     pub hears : (run_log_side log_seen data_seen run).Tells old.log → heard ≡ groups_of a runs.running.log_ghost.log
     -- where it gives the log part back after a failed call, its code is one that the part has
@@ -178,7 +185,7 @@ module _ {L D : Type 0} (log_seen : L → Seen) (data_seen : D → Seen) where
 
   -- a turn word is given back with its slot, whatever the turn put into the actor: a follower's groups in front are one list
   abbrev pub gave : Me (Slot L D) (View L D) → ℕ → Me (Slot L D) (View L D) → Type 0
-  gave m n m' = (x : Numbered) (f : Filling) → m.0.seats ≡ x ∷ [] → Fills x.actor f
+  gave m n m' = (x : Numbered) (f : Filling) → m.0.seats ≡ x ∷ [] → Fills x.actor f → KeepsTexts x.actor f
       → Stepped x f (answer.Taken None) None m.0.data_part (rest m.1) m m'
 
   -- after a call of the log part, which put the block that was read last into the actor, if it was a read
@@ -191,6 +198,10 @@ module _ {L D : Type 0} (log_seen : L → Seen) (data_seen : D → Seen) where
   abbrev pub batched : Me (Slot L D) (View L D) → ℕ → Me (Slot L D) (View L D) → Type 0
   batched m n m' = (x : Numbered) (e : store.Part D) → m.0.seats ≡ x ∷ [] → m.1 ≡ (5, slot.Data e) ∷ []
       → Stepped x no_filling (call_answer Data e.failed 0) m.0.held (Some (record { part = e; out = false })) (rest m.1) m m'
+
+  -- after an append to the archive, which has met this
+  abbrev pub appended : Option DevError → Me (Slot L D) (View L D) → ℕ → Me (Slot L D) (View L D) → Type 0
+  appended met m n m' = (x : Numbered) → m.0.seats ≡ x ∷ [] → Stepped x no_filling (append_answer met) m.0.held m.0.data_part m.1 m m'
 
   -- a look that changes nothing: what the actor may do
   abbrev pub looked : Me (Slot L D) (View L D) → ℕ → Me (Slot L D) (View L D) → Type 0

@@ -4,7 +4,7 @@ use Rattle.std.specs.Prelude.{Bool, IfSome, List, None, Some, [], cond, false, i
 use lib.ListN.{get_elem?}
 use mathlib.Core.Option.{some}
 use Rattle.atomic_table.specs.Table.{State}
-use Rattle.model_core.specs.{archives, Entry, Given}
+use Rattle.model_core.specs.{Entry, Given}
 use Rattle.model_core.specs.LogSide.{LogSide}
 use Rattle.model_own.specs.OwnWrites.{has_work}
 use Rattle.model_own.specs.declared.errand.ErrandStep.TheVariants as errand_step
@@ -13,13 +13,13 @@ use Rattle.model_theorem.specs.{IsStart}
 use Rattle.model_store.specs.Reading.{Reading}
 use Rattle.redo_disk.specs.{Call}
 use Rattle.redo_disk.specs.Seen.{Seen}
-use Rattle.redo_drive.specs.Beginning.{HaveBegun, IsRunOfOpened}
+use Rattle.redo_drive.specs.Beginning.{HaveBegun, IsRunWith}
 use Rattle.redo_drive.specs.Startable.{HasReading}
 use Rattle.redo_drive.specs.Calls.{CallsOn}
 use Rattle.redo_drive.specs.Lists.{AreLists, listing_at}
 use Rattle.redo_drive.specs.Playing.{RunOf, run_log_side}
-use Rattle.redo_drive.specs.Running.{groups_of, RunsOn}
-use Rattle.redo_drive.specs.Setups.{start_actors}
+use Rattle.redo_drive.specs.Running.{groups_of, RunsWith}
+use Rattle.redo_drive.specs.Setups.{seated_actors}
 use Rattle.redo_drive.specs.declared.parts.Parts.{Parts}
 use Rattle.model_core.specs.Hands.{GivesFailed, hand, IsFreeToCheck}
 use Rattle.redo_rule.specs.OwnSide.{Beside, desk_with, HasItsWork, SitsAs}
@@ -59,12 +59,7 @@ none_heard number = []
 abbrev pub IsSlotHeld : List model.Actor → ℕ → Type 0
 IsSlotHeld actors k = (n : ℕ) × (a : model.Actor) × (get_elem? actors n ≡ some a) × (hand a ≡ Some k)
 
--- no archiver: a reader of the log follows
-abbrev pub IsNoArchiver : model.Actor → Type 0
-IsNoArchiver (model.Reader r) = archives r ≡ false
-IsNoArchiver _ = Unit {0}
-
--- where the log device tells, each actor has handed on the groups of the log up to its place
+-- where the log device tells, each actor has handed on the groups of the log up to its place; the archiver hands on none
 abbrev pub HaveGroups : (D : LogSide) → D.Part → (heard : ℕ → List Given) → List model.Actor → List Entry → Type 0
 HaveGroups D part heard actors log =
     D.Tells part → (n : ℕ) (a : model.Actor) → get_elem? actors n ≡ some a → heard n ≡ groups_of a log
@@ -77,7 +72,8 @@ module _ {L D : Type 0} where
 
   -- the actors of a table's run as it begins
   abbrev pub starts_about : About L D → List model.Actor
-  starts_about about = start_actors about.opened.value.shape about.script.value about.opened.value.start about.log_only about.followers
+  starts_about about = seated_actors about.opened.value.shape about.script.value about.opened.value.start about.log_only
+      about.archive about.followers
 
   -- who sits in the first seat
   abbrev pub first_seats : About L D → List Numbered
@@ -113,7 +109,7 @@ module _ {L D : Type 0} where
 module _ {L D : Type 0} (log_seen : L → Seen) (data_seen : D → Seen) where
   -- the run is that of the script on the opened store, whose devices held it if they told so
   pub record IsRunAbout (about : About L D) (run : RunOf L D) : Type 0 where
-    pub is_run : IsRunOfOpened about.opened.value about.script.value about.log_only about.followers run
+    pub is_run : IsRunWith about.opened.value about.script.value about.log_only about.archive about.followers run
     pub begun : (reading : Reading) → HasReading reading about.opened.value
         → IfSome (log_seen about.opened.value.log.dev).tells (λ log_disk. IfSome (data_seen about.opened.value.store.dev).tells (λ data_disk.
         IsStart reading about.script.value log_disk data_disk → HaveBegun log_seen data_seen run))
@@ -134,10 +130,9 @@ pub record Ruled {L D : Type 0} (log_seen : L → Seen) (log_gives : L → Call 
   -- where users write for themselves, the writer and the flusher among the actors are the log's work
   pub own_is : about.own_writes ≡ is_some beside.own
   pub own : HasItsWork (run_log_side log_seen data_seen run) parts.log beside.own actors
-  pub runs : RunsOn log_seen data_seen run parts actors
+  pub runs : RunsWith log_seen data_seen run about.archive parts actors
   pub hears : HaveGroups (run_log_side log_seen data_seen run) parts.log heard actors runs.running.log_ghost.log
   pub count : length actors ≡ length (starts_about about)
-  pub follow : (n : ℕ) (a : model.Actor) → get_elem? actors n ≡ some a → IsNoArchiver a
   pub log_calls : CallsOn log_gives about.opened.value.log.dev about.opened.value.log.failed parts.log.dev parts.log.failed
   pub data_calls : CallsOn data_gives about.opened.value.store.dev about.opened.value.store.failed parts.store.dev parts.store.failed
   pub log_shape : parts.log.shape ≡ about.opened.value.log.shape

@@ -1,7 +1,8 @@
 -- The seats of a table, each with its actor.
-use Rattle.std.specs.Prelude.{Some, false, ◌≡◌}
+use Rattle.std.specs.Prelude.{Some, false, ℕ, ◌≡◌}
 use Rattle.atomic_table.specs.Seated.{TableId}
 use Rattle.atomic_table.specs.declared.shared.Seat.{Seat}
+use Rattle.model_core.specs.{next}
 use Rattle.model_core.specs.Actors as model
 use Rattle.model_core.specs.declared.ops.Op.{Op}
 use Rattle.model_core.specs.declared.ops.Op.TheVariants as op
@@ -15,10 +16,15 @@ abbrev pub IsCleaner : model.Actor → Type 0
 IsCleaner (model.Cleaner v) = Unit {0}
 IsCleaner _ = ⊥
 
+-- it asks for an append to the archive
+abbrev pub Appends : model.Actor → Type 0
+Appends a = (mark : ℕ) × (next a ≡ op.Append mark)
+
 -- an Op that is played on the words, the log part and the lists
 abbrev pub IsBare : Op → Type 0
 IsBare op.WriteBatch = ⊥
 IsBare op.Rest = ⊥
+IsBare (op.Append x) = ⊥
 IsBare _ = Unit {0}
 
 module _ {L D : Type 0} where

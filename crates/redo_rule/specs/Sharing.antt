@@ -82,11 +82,13 @@ module _ {L D : Type 0} where
     pub has_room : IsSome shared.room
     pub seats_fit : IfSome shared.room (λ v. (v.items ≡ []) × (length actors ≤ vec_capacity v))
 
-  -- The store is shared as the run of this script on this opened store begins, with so many followers.
-  pub record IsNewlyShared (opened : Opened L D) (script : List ScriptLine) (log_only : Bool) (followers : ℕ) (shared : Shared L D) (actors : List model.Actor) : Type 0 where
+  -- The store is shared as the run of this script on this opened store begins, with an archiver or without, and with so many
+  -- followers.
+  pub record IsNewlyShared (opened : Opened L D) (script : List ScriptLine) (log_only archive : Bool) (followers : ℕ) (shared : Shared L D) (actors : List model.Actor) : Type 0 where
     pub opened_is : opened_of shared ≡ opened
     pub script_is : shared_script shared ≡ script
     pub log_only_is : shared.board.shared.key.log_only ≡ log_only
+    pub archive_is : shared.board.shared.key.archive ≡ archive
     pub followers_are : shared.board.shared.key.followers ≡ followers
     pub unseated : IsUnseated shared actors
 

@@ -1,9 +1,13 @@
 // One Op of one actor, on the shared table: the log part.
-ghost use Rattle.std.specs.Prelude.{◌≡◌};
+ghost use Rattle.std.specs.Prelude.{◌≡◌, None};
 ghost use Rattle.model_core.specs.{next};
+ghost use Rattle.model_core.specs.AnswerFits.{AnswerFits};
+ghost use Rattle.model_core.specs.declared.ops.Answer.TheVariants as answer;
 ghost use Rattle.model_core.specs.declared.ops.Op.TheVariants as op;
+ghost use Rattle.redo_drive.specs.Receiving.{MarkFits};
 ghost use Rattle.redo_drive.specs.Views.{view_of};
 ghost use Rattle.redo_rule.specs.Mine.{HasPlayed, KeepsSeat, Mine};
+ghost use Rattle.redo_rule.specs.Readers.{HasBlock, HasGivenBack, ReadsBlock};
 
 use crate::law::{Ring, Seat};
 use crate::plays::{Called, Gave, Seized};
@@ -38,6 +42,31 @@ pub(crate) fn take_device<L: Sectors, D: Sectors, R: Receiver>(
     actor.took(answer)
 }
 
+/// Puts the block that was read into the room that a reader of the log has for it.
+fn put_block<R: Receiver>(actor: &mut Actor<R>, block: &[u8; 512])
+    requires { ReadsBlock (view_of actor.old) }
+    ensures { HasBlock actor.old block.now actor.new }
+{
+    match actor {
+        Actor::Archiver(archiver) => *archiver.room() = *block,
+        Actor::Follower(follower) => *follower.room() = *block,
+        _ => unreachable!(),
+    }
+}
+
+/// What whoever gives the log part back makes of that.
+fn gives_back<R: Receiver>(actor: &mut Actor<R>) -> Step
+    requires fits { AnswerFits (view_of actor.old) (answer.Taken None) }
+    requires mark { MarkFits (view_of actor.old) (answer.Taken None) }
+    ensures { HasGivenBack R.stands_for actor.old result actor.new }
+{
+    match actor {
+        Actor::Archiver(archiver) => archiver.took(Answer::Taken(None)),
+        Actor::Follower(follower) => follower.took(Answer::Taken(None)),
+        _ => actor.took(Answer::Taken(None)),
+    }
+}
+
 /// `GiveDevice`. A follower hands its groups on before others get the log part.
 pub(crate) fn give_device<L: Sectors, D: Sectors, R: Receiver>(
     table: &Ring<L, D>,
@@ -51,12 +80,12 @@ pub(crate) fn give_device<L: Sectors, D: Sectors, R: Receiver>(
     ensures seat { token.new.id ≡ token.old.id }
     ensures stays { KeepsSeat R.stands_for token.old.me.0 actor.old token.new.me.0 actor.new }
 {
-    let step = actor.took(Answer::Taken(None));
+    let step = gives_back(actor);
     table.store::<Gave>(token, DEVICE, 0);
     step
 }
 
-/// `ReadBlock lsn`. The block that was read goes into the room that a follower has for it.
+/// `ReadBlock lsn`.
 pub(crate) fn read_block<L: Sectors, D: Sectors, R: Receiver>(
     table: &Ring<L, D>,
     token: &mut Seat<L, D>,
@@ -70,10 +99,9 @@ pub(crate) fn read_block<L: Sectors, D: Sectors, R: Receiver>(
     ensures seat { token.new.id ≡ token.old.id }
     ensures stays { KeepsSeat R.stands_for token.old.me.0 actor.old token.new.me.0 actor.new }
 {
-    let Actor::Follower(follower) = actor else {
-        unreachable!()
-    };
-    let ended = read_slot(token.slot_mut(table, LOG), lsn, follower.room());
+    let mut block = [0; 512];
+    let ended = read_slot(token.slot_mut(table, LOG), lsn, &mut block);
+    put_block(actor, &block);
     table.load::<Called>(token, 0);
     actor.took(answer_of(Device::Log, ended, 0))
 }

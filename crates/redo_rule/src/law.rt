@@ -102,13 +102,14 @@ pub struct View<L: Sectors, D: Sectors> {
     pub data_part: Option<Keeping<D>>,
 }
 
-/// What a table is told once: the opened store, the script, how many followers there are, and whether users write for
-/// themselves. The actors as they begin follow from that.
+/// What a table is told once: the opened store, the script, whether the run is archived, how many followers there are, and
+/// whether users write for themselves. The actors as they begin follow from that.
 #[derive(Drop)]
 pub struct About<L: Sectors, D: Sectors> {
     pub opened: Snapshot<Opened<L, D>>,
     pub script: Snapshot<Script>,
     pub log_only: bool,
+    pub archive: bool,
     pub followers: u64,
     pub own_writes: bool,
 }

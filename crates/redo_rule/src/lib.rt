@@ -5,6 +5,7 @@
 //! of the table is the invariant of the running store, and holds between any two steps of any threads.
 #![tactic(auto)]
 
+mod appending;
 mod batch;
 mod closing;
 mod device;
@@ -20,6 +21,7 @@ mod shared;
 mod slots;
 mod steps;
 
+pub use appending::append;
 pub use closing::{Left, close_table};
 pub use law::{About, Desk, Errand, Heard, Keeping, Law, Numbered, Ring, Seat, Slot, View, Viewed};
 pub use laying::{lay_out, make_board, parts_in};

@@ -6,12 +6,13 @@ ghost use Rattle.redo_rule.specs.Causes.{EndsSo};
 ghost use Rattle.redo_rule.specs.Mine.{HasGone, HasPlayed, IsSameSeat, KeepsSeat, Mine};
 ghost use Rattle.redo_rule.specs.Seating.{IsBare, IsSeatOf};
 
+use crate::appending::append;
 use crate::batch::write_batch;
 use crate::device::{checkpoint, give_device, read_block, sync, take_device, write_to};
 use crate::law::{Ring, Seat};
 use crate::listing::{give_list, take_add, take_oldest, take_remove};
 use crate::steps::{add, load, store, swap};
-use redo_disk::Sectors;
+use redo_disk::{DevError, Sectors};
 use redo_drive::Actor;
 use redo_follow::Receiver;
 use redo_words::{Answer, Op, Step};
@@ -46,7 +47,7 @@ fn play_token<L: Sectors, D: Sectors, R: Receiver>(
         Op::Checkpoint(lsn) => checkpoint(table, token, actor, lsn),
         Op::ReadBlock(lsn) => read_block(table, token, actor, lsn),
         // these aren't bare
-        Op::WriteBatch | Op::Rest => unreachable!(),
+        Op::WriteBatch | Op::Append(_) | Op::Rest => unreachable!(),
     }
 }
 
@@ -66,12 +67,14 @@ fn play_next<L: Sectors, D: Sectors, R: Receiver>(
     match op {
         Op::WriteBatch => write_batch(table, seat, actor),
         Op::Rest => actor.took(Answer::Rested),
+        // without its archive an append has no memory
+        Op::Append(_) => append(table, seat, actor, Some(DevError::NoMemory)),
         _ => play_token(table, seat, actor, op),
     }
 }
 
 /// Plays the Op that the actor asks for whose state is the seat's view, and tells how its step ended. It doesn't wait, and takes
-/// no memory.
+/// no memory. An append of the archiver is played by `append`; here it fails for want of memory.
 pub fn play<L: Sectors, D: Sectors, R: Receiver>(
     table: &Ring<L, D>,
     seat: &mut Seat<L, D>,

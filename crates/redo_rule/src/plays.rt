@@ -1,5 +1,7 @@
 // What each step of the table tells. These types are for the proofs alone.
-ghost use Rattle.redo_rule.specs.Plays.{batched, called, gave, looked, reached, saw, seized, seized_list};
+ghost use Rattle.std.specs.Prelude.{None, Some};
+ghost use Rattle.redo_disk.specs.declared.error.DevError.TheVariants as fault;
+ghost use Rattle.redo_rule.specs.Plays.{appended, batched, called, gave, looked, reached, saw, seized, seized_list};
 
 use crate::law::{Slot, View};
 use atomic_table::Play;
@@ -38,6 +40,27 @@ pub(crate) struct Called;
 
 impl<L: Sectors, D: Sectors> Play<Slot<L, D>, View<L, D>> for Called {
     ghost then = { λ _. called L.seen D.seen };
+}
+
+/// The end of an append to the archive that went well.
+pub(crate) struct Appended;
+
+impl<L: Sectors, D: Sectors> Play<Slot<L, D>, View<L, D>> for Appended {
+    ghost then = { λ _. appended L.seen D.seen None };
+}
+
+/// The end of one that its device failed.
+pub(crate) struct Lost;
+
+impl<L: Sectors, D: Sectors> Play<Slot<L, D>, View<L, D>> for Lost {
+    ghost then = { λ _. appended L.seen D.seen (Some fault.Failed) };
+}
+
+/// The end of one for which its device had no memory.
+pub(crate) struct Starved;
+
+impl<L: Sectors, D: Sectors> Play<Slot<L, D>, View<L, D>> for Starved {
+    ghost then = { λ _. appended L.seen D.seen (Some fault.NoMemory) };
 }
 
 /// A look at what the seat's actor may do.

@@ -23,6 +23,7 @@ fn is_free(op: Op) -> bool
         | Op::TakeRemove(_)
         | Op::TakeOldest(_)
         | Op::WriteBatch
+        | Op::Append(_)
         | Op::Rest => true,
         Op::Store(_, _)
         | Op::Add(_, _)

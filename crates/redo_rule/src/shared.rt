@@ -1,6 +1,6 @@
 // A store that its actors share, each in a thread of its own.
 ghost use Rattle.std.specs.Prelude.{◌≡◌, IfErr, IfOk, length};
-ghost use Rattle.redo_drive.specs.Making.{EndsWithFollowers};
+ghost use Rattle.redo_drive.specs.Making.{EndsWithReaders};
 ghost use Rattle.redo_drive.specs.Startable.{AreNewFollowers, MayBegin};
 ghost use Rattle.redo_drive.specs.Views.{views_of};
 ghost use Rattle.redo_rule.specs.Sharing.{IsNewlyShared};
@@ -11,7 +11,7 @@ use atomic_table::Table;
 use model_report::Entry;
 use model_script::Script;
 use redo_disk::Sectors;
-use redo_drive::{Actor, Beginning, Parts, begin_run};
+use redo_drive::{Actor, Beginning, Parts, begin_run_with};
 use redo_follow::{Follower, Receiver};
 use redo_lsn::NoMemory;
 use redo_store::Opened;
@@ -32,20 +32,21 @@ pub struct Shared<L: Sectors, D: Sectors> {
 }
 
 impl<L: Sectors, D: Sectors> Shared<L, D> {
-    /// The store as the run of a script begins, with the log alone or with the pages, and its actors, these followers among
-    /// them, none of which has a seat yet. It takes all memory; where there is none it gives both devices back as they were.
+    /// The store as the run of a script begins, with the log alone or with the pages, and its actors, an archiver and these
+    /// followers among them, none of which has a seat yet. It takes all memory; where there is none it gives both devices back as they were.
     pub fn new<R: Receiver + Drop>(
         alloc: Global,
         opened: Opened<L, D>,
         script: &Script,
         log_only: bool,
+        archive: bool,
         followers: Vec<Follower<R>>,
     ) -> Result<(Shared<L, D>, Vec<Actor<R>>), (NoMemory, L, D)>
         requires may { MayBegin opened script.now log_only }
         requires new { AreNewFollowers opened.start followers.items }
         ensures err { IfErr result (λ error. (error.1 ≡ opened.log.dev) × (error.2 ≡ opened.store.dev)) }
-        ensures new { IfOk result (λ made. IsNewlyShared opened script.now log_only (length followers.items) made.0 (views_of made.1.items)) }
-        ensures followers { IfOk result (λ made. EndsWithFollowers made.1.items followers.items) }
+        ensures new { IfOk result (λ made. IsNewlyShared opened script.now log_only archive (length followers.items) made.0 (views_of made.1.items)) }
+        ensures readers { IfOk result (λ made. EndsWithReaders opened.start archive made.1.items followers.items) }
     {
         let opened_is = Snapshot::of(&opened);
         let count = followers.len() as u64;
@@ -53,11 +54,12 @@ impl<L: Sectors, D: Sectors> Shared<L, D> {
             parts,
             actors,
             entries,
-        } = begin_run(alloc, opened, script, log_only, followers)?;
+        } = begin_run_with(alloc, opened, script, log_only, archive, followers)?;
         let about = About {
             opened: opened_is,
             script: Snapshot::of(script),
             log_only,
+            archive,
             followers: count,
             own_writes: false,
         };

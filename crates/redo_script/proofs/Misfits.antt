@@ -2,9 +2,9 @@
 use Rattle.std.proofs.Common.{◌≡◌, ℕ, zero, suc, ◌<◌, ◌+◌, List, [], ◌∷◌, ◌++◌, map, take, length, slice_index_or, Option, Some, None, refl, sym, ap, ◌∙◌, subst, arith}
 use Rattle.std.proofs.lemmas.List.{length-append}
 use Rattle.model_log.specs.{group_length, group_text, stream_of}
-use Rattle.model_script.proofs.Fitting.{none-head}
+use Rattle.model_script.proofs.Fitting.{end_misfits, none-head}
 use Rattle.model_base.specs.declared.shape.Shape.{Shape}
-use Rattle.model_script.specs.{first_misfit, first_misfit_of, group_misfit, group_of, item_misfit, line_misfit, lsn_misfit, script_end, total_misfit, user_misfit}
+use Rattle.model_script.specs.{first_misfit, first_misfit_of, group_misfit, group_of, item_misfit, line_misfit, user_misfit}
 use Rattle.model_script.specs.declared.script.ScriptLine.{ScriptLine}
 use Rattle.model_script.specs.declared.misfit.Misfit.{Misfit}
 use Rattle.redo_script.specs.Judged.{AreUnfitLines, IsUnfitLine, IsUnfitScript}
@@ -75,17 +75,17 @@ line-group shape line user items =
     ∙ none-append (map (item_misfit shape) line.items) (group_misfit shape line ∷ []) items ∙ only-misfit (group_misfit shape line)
 
 -- A SCRIPT: its lines, then its end.
-pub script-lines : (shape : Shape) (start : ℕ) (room_end : Option ℕ) (script : List ScriptLine) (misfit : Misfit)
-    → first_misfit_of (map (line_misfit shape) script) ≡ Some misfit → first_misfit shape start room_end script ≡ Some misfit
+pub script-lines : (shape : Shape) (start : ℕ) (room_end archive : Option ℕ) (script : List ScriptLine) (misfit : Misfit)
+    → first_misfit_of (map (line_misfit shape) script) ≡ Some misfit
+    → first_misfit shape start room_end archive script ≡ Some misfit
 unfolding first_misfit
-script-lines shape start room_end script misfit some = some-append (map (line_misfit shape) script) _ misfit some
+script-lines shape start room_end archive script misfit some = some-append (map (line_misfit shape) script) _ misfit some
 
-pub script-end : (shape : Shape) (start : ℕ) (room_end : Option ℕ) (script : List ScriptLine)
+pub script-end : (shape : Shape) (start : ℕ) (room_end archive : Option ℕ) (script : List ScriptLine)
     → first_misfit_of (map (line_misfit shape) script) ≡ None
-    → first_misfit shape start room_end script
-    ≡ first_misfit_of (lsn_misfit (script_end shape start script) ∷ total_misfit room_end (script_end shape start script) ∷ [])
+    → first_misfit shape start room_end archive script ≡ first_misfit_of (end_misfits shape start room_end archive script)
 unfolding first_misfit
-script-end shape start room_end script none = none-append (map (line_misfit shape) script) _ none
+script-end shape start room_end archive script none = none-append (map (line_misfit shape) script) _ none
 
 -- the texts of the groups, one more line on
 length-next : (space : ℕ) (lines : List ScriptLine) (i : ℕ) (line : ScriptLine) → i < length lines → line ≡ slice_index_or lines i line
@@ -122,7 +122,8 @@ unfit-here shape lines i line (unfit.Misfit misfit) none below is some = first-h
 unfit-here shape lines i line unfit.NoMemory none below is some = tt
 
 -- a script whose lines don't fit
-pub unfit-lines : (shape : Shape) (start : ℕ) (room_end : Option ℕ) (script : List ScriptLine) (unfit : Unfit)
-    → AreUnfitLines shape script unfit → IsUnfitScript shape start room_end script unfit
-unfit-lines shape start room_end script (unfit.Misfit misfit) some = script-lines shape start room_end script misfit some
-unfit-lines shape start room_end script unfit.NoMemory some = tt
+pub unfit-lines : (shape : Shape) (start : ℕ) (room_end archive : Option ℕ) (script : List ScriptLine) (unfit : Unfit)
+    → AreUnfitLines shape script unfit → IsUnfitScript shape start room_end archive script unfit
+unfit-lines shape start room_end archive script (unfit.Misfit misfit) some =
+    script-lines shape start room_end archive script misfit some
+unfit-lines shape start room_end archive script unfit.NoMemory some = tt

@@ -16,7 +16,9 @@ abbrev pub AreUnfitLines : Shape → List ScriptLine → Unfit → Type 0
 AreUnfitLines shape lines (Misfit misfit) = first_misfit_of (map (line_misfit shape) lines) ≡ Some misfit
 AreUnfitLines shape lines NoMemory = Unit {0}
 
--- a script that would start at this lsn, on a log that has room up to there, if no checkpoint frees it
-abbrev pub IsUnfitScript : Shape → ℕ → Option ℕ → List ScriptLine → Unfit → Type 0
-IsUnfitScript shape start room_end script (Misfit misfit) = first_misfit shape start room_end script ≡ Some misfit
-IsUnfitScript shape start room_end script NoMemory = Unit {0}
+-- a script that would start at this lsn, on a log that has room up to there, if no checkpoint frees it, and with an archive on
+-- a device of so many bytes, if there is one
+abbrev pub IsUnfitScript : Shape → ℕ → Option ℕ → Option ℕ → List ScriptLine → Unfit → Type 0
+IsUnfitScript shape start room_end archive script (Misfit misfit) =
+    first_misfit shape start room_end archive script ≡ Some misfit
+IsUnfitScript shape start room_end archive script NoMemory = Unit {0}

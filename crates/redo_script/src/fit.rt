@@ -2,14 +2,14 @@
 ghost use Rattle.std.specs.Prelude.{◌≡◌, ◌<◌, ◌+◌, ◌^◌, ◌∷◌, [], map, length, None, IfOk, IfErr, OnOk};
 ghost use Rattle.model_base.specs.{IsWithinLimits};
 ghost use Rattle.model_log.specs.{group_length, lsn_of, sn_of, stream_of};
-ghost use Rattle.model_script.specs.{first_misfit, first_misfit_of, group_of, item_misfit, line_misfit, lsn_misfit, misfit_if, page_misfit, total_misfit, user_misfit, write_misfit};
+ghost use Rattle.model_script.specs.{archive_misfit, archive_need, first_misfit, first_misfit_of, group_of, item_misfit, line_misfit, lsn_misfit, misfit_if, page_misfit, total_misfit, user_misfit, write_misfit};
 ghost use Rattle.redo_script.specs.Judged.{AreUnfitLines, IsUnfitLine, IsUnfitScript};
 
 use crate::Unfit;
 use crate::group::group_of;
-use model_base::{LSN_LIMIT, MAX_GROUP, PAGE_TRAILER, Shape, USER_START};
+use model_base::{BLOCK_SIZE, LSN_LIMIT, MAX_GROUP, PAGE_TRAILER, Shape, USER_START};
 use model_script::{Item, MARGIN, MAX_USERS, Misfit, Quantity, Script, ScriptLine};
-use redo_lsn::{lsn_of, sn_of};
+use redo_lsn::{block_of, lsn_of, sn_of};
 use redo_record::Length;
 use std::alloc::Global;
 
@@ -162,33 +162,80 @@ fn end_behind(start: u64, length: u64) -> Result<u64, Unfit>
     }
 }
 
-/// The lsn at which a log ends, and that it leaves room.
-fn judge_end(end: u64, room_end: Option<u64>) -> Option<Misfit>
+/// A log that no checkpoint frees has room up to `room_end`.
+fn total_misfit(end: u64, room_end: Option<u64>) -> Option<Misfit>
     requires small { end < 2 ^ 63 }
-    ensures { result ≡ first_misfit_of (lsn_misfit end ∷ total_misfit room_end end ∷ []) }
+    ensures { result ≡ total_misfit room_end end }
 {
-    if let Some(misfit) = misfit_if(LSN_LIMIT <= end, Quantity::Lsn, end) {
-        return Some(misfit);
-    }
     match room_end {
         None => None,
         Some(room_end) => misfit_if(room_end < end + MARGIN, Quantity::Total, end),
     }
 }
 
-/// Judges whether a script fits a store of these sizes, on which it would start at this lsn, and where the log has room up
-/// to `room_end`, if no checkpoint frees it. What doesn't fit is the first quantity in the order of the fit list.
+/// How many bytes the archive of a run from its start up to its end takes.
+fn archive_need(shape: &Shape, start: u64, end: u64) -> u64
+    requires limits { IsWithinLimits shape.now }
+    requires small { end < 2 ^ 63 }
+    ensures { result ≡ archive_need shape.now start end }
+{
+    let pages = u64::from(shape.pages) * u64::from(shape.page_size);
+    let blocks = (block_of(end) + BLOCK_SIZE).saturating_sub(block_of(start));
+    3 * BLOCK_SIZE + pages + blocks
+}
+
+/// The archive's device, where there is one, has room for the archive of a run.
+fn archive_misfit(shape: &Shape, start: u64, end: u64, archive: Option<u64>) -> Option<Misfit>
+    requires limits { IsWithinLimits shape.now }
+    requires small { end < 2 ^ 63 }
+    ensures { result ≡ archive_misfit archive (archive_need shape.now start end) }
+{
+    match archive {
+        None => None,
+        Some(size) => {
+            let need = archive_need(shape, start, end);
+            misfit_if(size < need, Quantity::Archive, need)
+        }
+    }
+}
+
+/// The lsn at which a log ends, that it leaves room, and that its archive has room.
+fn judge_end(
+    shape: &Shape,
+    start: u64,
+    end: u64,
+    room_end: Option<u64>,
+    archive: Option<u64>,
+) -> Option<Misfit>
+    requires limits { IsWithinLimits shape.now }
+    requires small { end < 2 ^ 63 }
+    ensures { result ≡ first_misfit_of (lsn_misfit end ∷ total_misfit room_end end
+        ∷ archive_misfit archive (archive_need shape.now start end) ∷ []) }
+{
+    if let Some(misfit) = misfit_if(LSN_LIMIT <= end, Quantity::Lsn, end) {
+        return Some(misfit);
+    }
+    if let Some(misfit) = total_misfit(end, room_end) {
+        return Some(misfit);
+    }
+    archive_misfit(shape, start, end, archive)
+}
+
+/// Judges whether a script fits a store of these sizes, on which it would start at this lsn, where the log has room up to
+/// `room_end`, if no checkpoint frees it, and the archive's device, if there is one, has so many bytes. What doesn't fit is
+/// the first quantity in the order of the fit list.
 #[tactic(auto, unfolding(model_script::specs::Fit::first_misfit))]
 pub fn judge(
     alloc: Global,
     shape: &Shape,
     start: u64,
     room_end: Option<u64>,
+    archive: Option<u64>,
     script: &Script,
 ) -> Result<(), Unfit>
     requires limits { IsWithinLimits shape.now }
-    ensures fits { OnOk result (first_misfit shape.now start room_end script.now ≡ None) }
-    ensures unfit { IfErr result (IsUnfitScript shape.now start room_end script.now) }
+    ensures fits { OnOk result (first_misfit shape.now start room_end archive script.now ≡ None) }
+    ensures unfit { IfErr result (IsUnfitScript shape.now start room_end archive script.now) }
 {
     let length = match judge_lines(alloc, shape, script.0.as_slice()) {
         Ok(length) => length,
@@ -198,7 +245,7 @@ pub fn judge(
         Ok(end) => end,
         Err(unfit) => return Err(unfit),
     };
-    match judge_end(end, room_end) {
+    match judge_end(shape, start, end, room_end, archive) {
         None => Ok(()),
         Some(misfit) => Err(Unfit::Misfit(misfit)),
     }

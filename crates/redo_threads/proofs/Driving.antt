@@ -40,10 +40,10 @@ module _ {L D : Type 0} (log_seen : L → Seen) (log_gives : L → Call → L �
   reads_so reads = subst (λ (o : Opened L D). ReadsToMarks log_seen data_seen o script closed) opened_is
       (subst (λ (s : List ScriptLine). ReadsToMarks log_seen data_seen known s closed) script_is reads)
 
-  pub has_cause : CodeHasCause log_seen data_seen closed.code known.log closed.log known.store closed.store
-      → CodeHasCause log_seen data_seen closed.code opened.log closed.log opened.store closed.store
+  pub has_cause : CodeHasCause log_seen data_seen closed.code known.log closed.log known.store closed.store closed.lost
+      → CodeHasCause log_seen data_seen closed.code opened.log closed.log opened.store closed.store closed.lost
   has_cause =
-      subst (λ (o : Opened L D). CodeHasCause log_seen data_seen closed.code o.log closed.log o.store closed.store)
+      subst (λ (o : Opened L D). CodeHasCause log_seen data_seen closed.code o.log closed.log o.store closed.store closed.lost)
       opened_is
 
   module _ {F : Type 0} (stands : F → List Given → Type 0) (alone : Bool) (count : ℕ) (starts actors : List (Actor F))

@@ -1,5 +1,5 @@
 // The drive in threads.
-ghost use Rattle.std.specs.Prelude.{IfErr, IfOk, ◌≡◌};
+ghost use Rattle.std.specs.Prelude.{IfErr, IfOk, None, ◌≡◌};
 ghost use Rattle.redo_drive.specs.Startable.{AreNewFollowers, MayBegin};
 ghost use Rattle.redo_drive.specs.Drive.{Owes, ReadsToMarks};
 ghost use Rattle.redo_drive.specs.Followed.{HaveFollowed};
@@ -46,10 +46,11 @@ pub fn drive_in_threads<
     ensures owed { IfOk result (λ left. Owes L.seen L.gives D.seen D.gives opened script.now left.0) }
     ensures says { IfOk result (λ left. RunsInThreads opened script.now log_only (views_of left.1.items) left.0) }
     ensures reads { IfOk result (λ left. ReadsToMarks L.seen D.seen opened script.now left.0.closed) }
-    ensures cause { IfOk result (λ left. CodeHasCause L.seen D.seen left.0.closed.code opened.log left.0.closed.log opened.store left.0.closed.store) }
+    ensures cause { IfOk result (λ left. CodeHasCause L.seen D.seen left.0.closed.code opened.log left.0.closed.log opened.store left.0.closed.store left.0.closed.lost) }
+    ensures lost { IfOk result (λ left. left.0.closed.lost ≡ None) }
     ensures followed { IfOk result (λ left. HaveFollowed L.seen D.seen F.stands_for opened script.now followers.items left.1.items left.0.closed) }
 {
-    let (shared, players) = Shared::new(alloc, opened, script, log_only, own_writes, followers)?;
+    let (shared, players) = Shared::new(alloc, opened, script, log_only, own_writes, false, followers)?;
     let (closed, actors) = run_threads(rt, shared, players, gate);
     let driven = Driven {
         ended: RunEnd::Done,

@@ -1,5 +1,5 @@
 // A run of all players, and what is left at its end.
-ghost use Rattle.std.specs.Prelude.{Option, is_some, ◌≡◌};
+ghost use Rattle.std.specs.Prelude.{None, Option, false, is_some, ◌≡◌};
 ghost use Rattle.model_own.specs.OwnWrites.{LogWork};
 ghost use Rattle.redo_drive.specs.Drive.{ReadsToMarks};
 ghost use Rattle.redo_drive.specs.Leaving.{LeavesRun};
@@ -66,7 +66,8 @@ pub fn run_threads<
     players: Vec<Player<F>>,
     gate: &G,
 ) -> (Closed<L, D>, Vec<Actor<F>>)
-    requires { IsUnseated shared players.items }
+    requires unseated { IsUnseated shared players.items }
+    requires apart { shared.board.shared.key.archive ≡ false }
     ensures run { (work : Option LogWork) → is_some work ≡ own_of shared
         → HaveRun (views_of (crew work players.items)) (views_of result.1.items) result.0 }
     ensures leaves { (work : Option LogWork) → is_some work ≡ own_of shared
@@ -75,7 +76,8 @@ pub fn run_threads<
     ensures owed { IsOwedRun L.seen L.gives D.seen D.gives (opened_of shared) (shared_script shared) (views_of result.1.items) result.0 }
     ensures reads { ReadsToMarks L.seen D.seen (opened_of shared) (shared_script shared) result.0 }
     ensures reaches { ReachesAll (views_of result.1.items) result.0 }
-    ensures cause { CodeHasCause L.seen D.seen result.0.code (opened_of shared).log result.0.log (opened_of shared).store result.0.store }
+    ensures cause { CodeHasCause L.seen D.seen result.0.code (opened_of shared).log result.0.log (opened_of shared).store result.0.store result.0.lost }
+    ensures lost { result.0.lost ≡ None }
 {
     let users = open_users(players.as_slice());
     let own_writes = write_for_themselves(players.as_slice());
@@ -83,5 +85,5 @@ pub fn run_threads<
     let seats = shared.seats(players.as_slice());
     let crew = Crew { seats, players };
     let Crew { seats, players } = play_all(rt, shared.ring(), &bells, gate, crew);
-    shared.finish(seats, players)
+    shared.finish(seats, players, None)
 }

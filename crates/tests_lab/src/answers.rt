@@ -39,6 +39,22 @@ new | format --log-blocks 2049 | 1 f b1 3 100 7  | 10 | fault fit log 1051136
     )
 }
 
+/// The archive's device holds zeros.
+#[test]
+fn restores_nothing_without_an_archive(rt: HostRuntime) -> Result<(), Fail> {
+    play(
+        &rt,
+        "
+new  | restore --to 8204                 |                | 12 | fault archive none
+new  | restore --to 18446744073709551615 |                | 12 | fault archive none
+new  | restore                           |                |  2 | fault words
+new  | run                               | 1 f b1 3 100 7 |  0 | open 8204 / g 8204 8210 1 0 flushed / marks 8210 8210 8210 8192
+same | restore --to 8210                 | 1 x            | 12 | fault archive none
+same | recover                           |                |  0 | read 1 8210 / p 3 8210 (00*62)07
+",
+    )
+}
+
 #[test]
 fn reads_what_was_kept(rt: HostRuntime) -> Result<(), Fail> {
     play(

@@ -3,6 +3,7 @@ use crate::devices::{Devices, MemDevices, blank};
 use redo_disk::Sectors;
 use redo_io::{MemSink, MemSource};
 use redo_lab::{Ended, lab};
+use redo_memdisk::MemDisk;
 use redo_threads::{Gate, NoGate};
 use std::alloc::{AllocError, Global};
 use std::sync::Wait;
@@ -11,6 +12,9 @@ use std::thread::Threads;
 
 /// The script of most calls.
 pub(crate) const LINE: &str = "1 f b1 3 100 7";
+
+/// Bytes of the archive's device.
+const ARCHIVE: u64 = 65_536;
 
 /// A call, and what it came to once it was made.
 #[derive(Drop)]
@@ -52,8 +56,9 @@ fn sink_of(alloc: Global, way: &str) -> Result<MemSink, AllocError> {
     }
 }
 
-/// Makes the call of these words with this source and this sink on these devices, whose users this gate may hold.
-fn ended_of<L: Sectors + Send, D: Sectors + Send, G: Gate>(
+/// Makes the call of these words with this source and this sink on these devices and an archive's that holds zeros, whose users this
+/// gate may hold.
+fn ended_of<L: Sectors + Send + Drop, D: Sectors + Send + Drop, G: Gate>(
     rt: &(impl AllocGlobal + Threads + Wait + Sync),
     words: &[String],
     source: &mut MemSource,
@@ -61,8 +66,10 @@ fn ended_of<L: Sectors + Send, D: Sectors + Send, G: Gate>(
     log: L,
     store: D,
     gate: &G,
-) -> Ended<L, D> {
-    lab(rt, rt.alloc(), words, source, sink, log, store, gate)
+) -> Result<Ended<L, D, MemDisk>, AllocError> {
+    let alloc = rt.alloc();
+    let arch = MemDisk::new(alloc, ARCHIVE)?;
+    Ok(lab(rt, alloc, words, source, sink, log, store, arch, gate))
 }
 
 impl Call {
@@ -87,12 +94,12 @@ impl Call {
     }
 
     /// Makes the call on these devices, whose users this gate may hold; the devices after it.
-    pub(crate) fn make<L: Sectors + Send, D: Sectors + Send, G: Gate>(
+    pub(crate) fn make<L: Sectors + Send + Drop, D: Sectors + Send + Drop, G: Gate>(
         &mut self,
         rt: &(impl AllocGlobal + Threads + Wait + Sync),
         devices: Devices<L, D>,
         gate: &G,
-    ) -> Devices<L, D> {
+    ) -> Result<Devices<L, D>, AllocError> {
         let Devices { log, store } = devices;
         let words = self.words.as_slice();
         let ended = ended_of(
@@ -103,15 +110,15 @@ impl Call {
             log,
             store,
             gate,
-        );
+        )?;
         let fuse = ended.log.fuse();
         self.status = ended.status;
         self.early = fuse.early_calls;
         self.passed = fuse.passed;
-        Devices {
+        Ok(Devices {
             log: ended.log.into_inner(),
             store: ended.store.into_inner(),
-        }
+        })
     }
 
     /// What the call came to: its status in a line of its own, and what was printed.
@@ -129,7 +136,7 @@ pub(crate) fn call_on(
     devices: MemDevices,
 ) -> Result<(String, MemDevices), Fail> {
     let mut call = Call::by(rt.alloc(), "", words, script)?;
-    let left = call.make(rt, devices, &NoGate);
+    let left = call.make(rt, devices, &NoGate)?;
     Ok((call.told(rt.alloc())?, left))
 }
 
@@ -140,7 +147,7 @@ pub(crate) fn log_calls(
 ) -> Result<(u64, u64), AllocError> {
     let devices = blank(rt.alloc())?;
     let mut call = Call::by(rt.alloc(), "", words, "")?;
-    let _left = call.make(rt, devices, &NoGate);
+    let _left = call.make(rt, devices, &NoGate)?;
     Ok((call.early, call.passed))
 }
 

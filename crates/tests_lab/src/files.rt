@@ -38,12 +38,12 @@ fn call(
     rt: &HostRuntime,
     threads: &(impl Threads + Wait + Sync),
     text: &str,
-    log_file: &str,
-    data_file: &str,
+    files: (&str, &str, &str),
 ) -> Result<(u8, MemSink), AllocError> {
     let alloc = rt.alloc();
-    let log = device(rt, log_file)?;
-    let store = device(rt, data_file)?;
+    let log = device(rt, files.0)?;
+    let store = device(rt, files.1)?;
+    let arch = device(rt, files.2)?;
     let mut source = MemSource::new(LINE.as_bytes().to_vec(alloc)?);
     let mut sink = MemSink::new(alloc);
     let words = words_of(alloc, text)?;
@@ -55,6 +55,7 @@ fn call(
         &mut sink,
         log,
         store,
+        arch,
         &NoGate,
     );
     Ok((ended.status, sink))
@@ -65,11 +66,11 @@ fn answers(
     rt: &HostRuntime,
     threads: &(impl Threads + Wait + Sync),
     words: &str,
-    files: (&str, &str),
+    files: (&str, &str, &str),
     status: u8,
     text: &str,
 ) -> Result<bool, Fail> {
-    let (found, sink) = call(rt, threads, words, files.0, files.1)?;
+    let (found, sink) = call(rt, threads, words, files)?;
     Ok(found == status && sink.bytes() == text.as_bytes())
 }
 
@@ -81,7 +82,7 @@ fn begins_with(rt: &HostRuntime, file: &str, front: &[u8]) -> Result<(usize, boo
 
 #[test]
 fn keeps_a_store_in_files(rt: HostRuntime) -> Result<(), Fail> {
-    let files = ("redo.log", "redo.data");
+    let files = ("redo.log", "redo.data", "redo.archive");
     assert!(rt; answers(&rt, &rt, "run --files", files, 0, LINE_RUN)?);
     // the log device begins with its format, 2
     let log = begins_with(&rt, files.0, &[0, 0, 0, 2, 0, 0, 0, 0])?;
@@ -99,7 +100,7 @@ fn keeps_a_store_in_files(rt: HostRuntime) -> Result<(), Fail> {
 
 #[test]
 fn runs_again_in_files(rt: HostRuntime) -> Result<(), Fail> {
-    let files = ("again.log", "again.data");
+    let files = ("again.log", "again.data", "again.archive");
     assert!(rt; answers(&rt, &rt, "run --files", files, 0, LINE_RUN)?);
     let text = "open 8716\ng 8716 8722 1 0 flushed\nmarks 8722 8722 8722 8704\n";
     assert!(rt; answers(&rt, &rt, "run --files", files, 0, text)?);
@@ -117,7 +118,7 @@ fn tells_of_files_that_cannot_be_made(rt: HostRuntime) -> Result<(), Fail> {
             &rt,
             &rt,
             "run --files",
-            ("no/redo.log", "spare.data"),
+            ("no/redo.log", "spare.data", "spare.archive"),
             6,
             text
         )?
@@ -128,12 +129,30 @@ fn tells_of_files_that_cannot_be_made(rt: HostRuntime) -> Result<(), Fail> {
             &rt,
             &rt,
             "run --files",
-            ("spare.log", "no/redo.data"),
+            ("spare.log", "no/redo.data", "spare.archive"),
             7,
             text
         )?
     );
     assert!(rt; fs::read(&rt, "spare.data").is_err());
     fs::remove_file(&rt, "spare.log")?;
+    Ok(())
+}
+
+#[test]
+fn restores_from_a_file(rt: HostRuntime) -> Result<(), Fail> {
+    let files = ("alone.log", "alone.data", "alone.archive");
+    let text = "fault archive none\n";
+    assert!(rt; answers(&rt, &rt, "restore --to 8204 --files", files, 12, text)?);
+    assert!(rt; fs::read(&rt, files.0).is_err());
+    assert!(rt; fs::read(&rt, files.1).is_err());
+    fs::remove_file(&rt, files.2)?;
+    assert!(rt; answers(&rt, &rt, "run --files", files, 0, LINE_RUN)?);
+    assert!(rt; fs::read(&rt, files.2).is_err());
+    fs::remove_file(&rt, files.0)?;
+    fs::remove_file(&rt, files.1)?;
+    let text = "fault archive device\n";
+    let files = ("alone.log", "alone.data", "no/redo.archive");
+    assert!(rt; answers(&rt, &rt, "restore --to 8204 --files", files, 11, text)?);
     Ok(())
 }

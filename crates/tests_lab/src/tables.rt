@@ -108,7 +108,7 @@ fn play_on<L: Sectors + Send + Drop, D: Sectors + Send + Drop>(
     devices: Devices<L, D>,
 ) -> Result<Devices<L, D>, Fail> {
     let mut call = call_of(rt.alloc(), way, row)?;
-    let left = call.make(rt, devices, &NoGate);
+    let left = call.make(rt, devices, &NoGate)?;
     see_call(rt, row, &call)?;
     Ok(left)
 }

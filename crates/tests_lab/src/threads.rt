@@ -88,7 +88,7 @@ fn told_gated(
     let devices = blank(rt.alloc())?;
     let script = "1 f b1 3 100 7\n2 f b1 4 100 8\n2 f b1 4 101 9\n";
     let mut call = Call::by(rt.alloc(), "", words, script)?;
-    let _left = call.make(rt, devices, gate);
+    let _left = call.make(rt, devices, gate)?;
     call.told(rt.alloc())
 }
 

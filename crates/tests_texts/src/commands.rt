@@ -6,48 +6,51 @@ use std::test::Fail;
 // Each text is that of what some words ask for, with a star for each value. A row of the table below it has the words,
 // and the values in the order of the stars.
 const RUN: &str =
-    "Ok(Asked { command: Run { drive: Drive { seed: *, max: *, threads: *, log_only: *, own_writes: *, followers: * } }, files: * })";
+    "Ok(Asked { command: Run { drive: Drive { seed: *, max: *, threads: *, log_only: *, own_writes: *, followers: *, archive: * } }, files: * })";
 
 const RUNS: &str = "\
-run                              | 0                    100000000           false false false 0 false
-run --files                      | 0                    100000000           false false false 0 true
-run --turns 7                    | 7                    100000000           false false false 0 false
-run --turns 18446744073709551615 | 18446744073709551615 100000000           false false false 0 false
-run --turns 007                  | 7                    100000000           false false false 0 false
-run --turns=7                    | 7                    100000000           false false false 0 false
-run --max 0                      | 0                    0                   false false false 0 false
-run --max 1000000000000000000    | 0                    1000000000000000000 false false false 0 false
-run --threads                    | 0                    100000000           true  false false 0 false
-run --log-only                   | 0                    100000000           false true  false 0 false
-run --threads --log-only         | 0                    100000000           true  true  false 0 false
-run --followers 2                | 0                    100000000           false false false 2 false
-run --threads --followers=4      | 0                    100000000           true  false false 4 false
-run --own-writes                 | 0                    100000000           false false true  0 false
-run --log-only --own-writes      | 0                    100000000           false true  true  0 false
-run --own-writes --followers 3   | 0                    100000000           false false true  3 false
-run --own-writes --threads       | 0                    100000000           true  false true  0 false
-run --max=9 --own-writes --files | 0                    9                   false false true  0 true
-run --max 6 --turns 1            | 1                    6                   false false false 0 false
-run --turns 1 --max=6 --files    | 1                    6                   false false false 0 true
-run --                           | 0                    100000000           false false false 0 false
-run --turns 1 --                 | 1                    100000000           false false false 0 false
+run                              | 0                    100000000           false false false 0 false false
+run --files                      | 0                    100000000           false false false 0 false true
+run --turns 7                    | 7                    100000000           false false false 0 false false
+run --turns 18446744073709551615 | 18446744073709551615 100000000           false false false 0 false false
+run --turns 007                  | 7                    100000000           false false false 0 false false
+run --turns=7                    | 7                    100000000           false false false 0 false false
+run --max 0                      | 0                    0                   false false false 0 false false
+run --max 1000000000000000000    | 0                    1000000000000000000 false false false 0 false false
+run --threads                    | 0                    100000000           true  false false 0 false false
+run --log-only                   | 0                    100000000           false true  false 0 false false
+run --threads --log-only         | 0                    100000000           true  true  false 0 false false
+run --followers 2                | 0                    100000000           false false false 2 false false
+run --threads --followers=4      | 0                    100000000           true  false false 4 false false
+run --own-writes                 | 0                    100000000           false false true  0 false false
+run --log-only --own-writes      | 0                    100000000           false true  true  0 false false
+run --own-writes --followers 3   | 0                    100000000           false false true  3 false false
+run --own-writes --threads       | 0                    100000000           true  false true  0 false false
+run --max=9 --own-writes --files | 0                    9                   false false true  0 false true
+run --archive                    | 0                    100000000           false false false 0 true  false
+run --archive --log-only --files | 0                    100000000           false true  false 0 true  true
+run --followers=2 --archive      | 0                    100000000           false false false 2 true  false
+run --max 6 --turns 1            | 1                    6                   false false false 0 false false
+run --turns 1 --max=6 --files    | 1                    6                   false false false 0 false true
+run --                           | 0                    100000000           false false false 0 false false
+run --turns 1 --                 | 1                    100000000           false false false 0 false false
 ";
 
 const CRASH: &str =
-    "Ok(Asked { command: Crash { drive: Drive { seed: *, max: *, threads: *, log_only: *, own_writes: *, followers: * }, stop_log: *, stop_data: *, pick: *, workers: * }, files: * })";
+    "Ok(Asked { command: Crash { drive: Drive { seed: *, max: *, threads: *, log_only: *, own_writes: *, followers: *, archive: * }, stop_log: *, stop_data: *, pick: *, workers: * }, files: * })";
 
 const CRASHES: &str = "\
-crash                                                                                                | 0 100000000 false false false 0 None                       None    0                    1  false
-crash --stop-log 0                                                                                   | 0 100000000 false false false 0 Some(0)                    None    0                    1  false
-crash --stop-data 3                                                                                  | 0 100000000 false false false 0 None                       Some(3) 0                    1  false
-crash --pick 18446744073709551615                                                                    | 0 100000000 false false false 0 None                       None    18446744073709551615 1  false
-crash --stop-log 18446744073709551615                                                                | 0 100000000 false false false 0 Some(18446744073709551615) None    0                    1  false
-crash --own-writes                                                                                   | 0 100000000 false false true  0 None                       None    0                    1  false
-crash --own-writes --log-only --stop-log 4 --pick 9                                                  | 0 100000000 false true  true  0 Some(4)                    None    9                    1  false
-crash --threads --own-writes                                                                         | 0 100000000 true  false true  0 None                       None    0                    1  false
-crash --workers 16                                                                                   | 0 100000000 false false false 0 None                       None    0                    16 false
-crash --followers 1 --workers 2                                                                      | 0 100000000 false false false 1 None                       None    0                    2  false
-crash --pick=5 --stop-log=1 --stop-data=2 --workers=6 --turns=3 --max=4 --threads --log-only --files | 3 4         true  true  false 0 Some(1)                    Some(2) 5                    6  true
+crash                                                                                                | 0 100000000 false false false 0 false None                       None    0                    1  false
+crash --stop-log 0                                                                                   | 0 100000000 false false false 0 false Some(0)                    None    0                    1  false
+crash --stop-data 3                                                                                  | 0 100000000 false false false 0 false None                       Some(3) 0                    1  false
+crash --pick 18446744073709551615                                                                    | 0 100000000 false false false 0 false None                       None    18446744073709551615 1  false
+crash --stop-log 18446744073709551615                                                                | 0 100000000 false false false 0 false Some(18446744073709551615) None    0                    1  false
+crash --own-writes                                                                                   | 0 100000000 false false true  0 false None                       None    0                    1  false
+crash --own-writes --log-only --stop-log 4 --pick 9                                                  | 0 100000000 false true  true  0 false Some(4)                    None    9                    1  false
+crash --threads --own-writes                                                                         | 0 100000000 true  false true  0 false None                       None    0                    1  false
+crash --workers 16                                                                                   | 0 100000000 false false false 0 false None                       None    0                    16 false
+crash --followers 1 --workers 2                                                                      | 0 100000000 false false false 1 false None                       None    0                    2  false
+crash --pick=5 --stop-log=1 --stop-data=2 --workers=6 --turns=3 --max=4 --threads --log-only --files | 3 4         true  true  false 0 false Some(1)                    Some(2) 5                    6  true
 ";
 
 const RECOVER: &str = "Ok(Asked { command: Recover { workers: * }, files: * })";
@@ -70,6 +73,16 @@ dump --files --    | false true
 dump --why         | true  false
 dump --why --files | true  true
 dump --files --why | true  true
+";
+
+const RESTORE: &str = "Ok(Asked { command: Restore { to: * }, files: * })";
+
+const RESTORES: &str = "\
+restore --to 8210                 | 8210                 false
+restore --files --to=8210         | 8210                 true
+restore --to 0 --                 | 0                    false
+restore --to 18446744073709551615 | 18446744073709551615 false
+restore --to=00000000000000008210 | 8210                 false
 ";
 
 const FORMAT: &str =
@@ -133,6 +146,7 @@ fn words_that_are_a_command(rt: HostRuntime) -> Result<(), Fail> {
         (CRASH, CRASHES),
         (RECOVER, RECOVERS),
         (DUMP, DUMPS),
+        (RESTORE, RESTORES),
         (FORMAT, FORMATS),
         (GEN, GENS),
     ] {
@@ -144,13 +158,14 @@ fn words_that_are_a_command(rt: HostRuntime) -> Result<(), Fail> {
 }
 
 // Each line beside the plain spelling of the same command. These are lines that `clap` takes where it is given the same
-// six commands, each option once at most, the three numbers of `gen` as required arguments, and no help and no version.
+// seven commands, each option once at most, the three numbers of `gen` as required arguments, and no help and no version.
 const SPELLINGS: &str = "\
 run --turns=7                             | run --turns 7
 run --turns=007 --max=0                   | run --max 0 --turns 7
 run --log-only --threads                  | run --threads --log-only
 run --own-writes --log-only --turns=7     | run --turns 7 --log-only --own-writes
 run --followers=03 --turns 2 --           | run --turns 2 --followers 3
+run --archive --turns=7 --                | run --turns 7 --archive
 run --                                    | run
 run --max 5 --                            | run --max 5
 run --threads --files --                  | run --files --threads
@@ -158,6 +173,7 @@ recover --                                | recover
 recover --files --                        | recover --files
 dump --                                   | dump
 dump --why --                             | dump --why
+restore --to=07 --files --                | restore --files --to 7
 recover --workers=5 --                    | recover --workers 5
 crash --workers=2 --pick 1                | crash --pick 1 --workers 2
 crash --                                  | crash

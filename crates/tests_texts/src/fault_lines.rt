@@ -1,4 +1,5 @@
 // Faults: the exit status and the line of each.
+use model_archive::RestoreRefusal;
 use model_script::{Misfit, Quantity};
 use model_store::Refusal;
 use redo_report::{FAULT_ROOM, Fault, fault_text, status_of};
@@ -11,6 +12,11 @@ const PAGE: Misfit = Misfit {
 const STORE: Misfit = Misfit {
     quantity: Quantity::Store,
     number: 294_912,
+};
+
+const ARCHIVE: Misfit = Misfit {
+    quantity: Quantity::Archive,
+    number: 34_816,
 };
 
 #[test]
@@ -45,6 +51,33 @@ fn fault_lines(rt: HostRuntime) {
             Fault::Store(Refusal::SmallLog(2048)),
             10,
             "fault fit log 2048\n",
+        ),
+        (Fault::Fit(ARCHIVE), 10, "fault fit archive 34816\n"),
+        (
+            Fault::Archive(RestoreRefusal::To(8211)),
+            10,
+            "fault fit to 8211\n",
+        ),
+        (Fault::ArchiveDevice, 11, "fault archive device\n"),
+        (
+            Fault::Archive(RestoreRefusal::Missing),
+            12,
+            "fault archive none\n",
+        ),
+        (
+            Fault::Archive(RestoreRefusal::Page(7)),
+            12,
+            "fault archive page 7\n",
+        ),
+        (
+            Fault::Archive(RestoreRefusal::Block(8704)),
+            12,
+            "fault archive block 8704\n",
+        ),
+        (
+            Fault::Archive(RestoreRefusal::Record(8204)),
+            12,
+            "fault archive record 8204\n",
         ),
     ] {
         let mut out = [255; FAULT_ROOM];

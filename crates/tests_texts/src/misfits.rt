@@ -15,11 +15,22 @@ const DEFAULT: Shape = Shape {
 // Where a log that no checkpoint frees has one round of room.
 const ROOM_END: Option<u64> = Some(1_055_744);
 
-// What is judged of a script for a store of the default sizes whose run starts after its first block header.
-fn judged(alloc: Global, text: &str, room_end: Option<u64>) -> Result<String, Fail> {
+// What is judged of a script for a store of the default sizes whose run starts after its first block header, with an
+// archive on a device of so many bytes.
+fn judged_with(
+    alloc: Global,
+    text: &str,
+    room_end: Option<u64>,
+    archive: Option<u64>,
+) -> Result<String, Fail> {
     let script = parse(alloc, text.as_bytes())?;
-    let judged = judge(alloc, &DEFAULT, 8_204, room_end, &script);
+    let judged = judge(alloc, &DEFAULT, 8_204, room_end, archive, &script);
     Ok(format!(in alloc; "{judged:?}")?)
+}
+
+// The same without an archive.
+fn judged(alloc: Global, text: &str, room_end: Option<u64>) -> Result<String, Fail> {
+    judged_with(alloc, text, room_end, None)
 }
 
 // Below the first line: a script, and what is judged of it.
@@ -65,7 +76,36 @@ fn long_scripts(rt: HostRuntime) -> Result<(), Fail> {
     assert!(rt; judged(alloc, &three_strings(alloc, 71)?, None)?.as_str() == GROUP);
     assert!(rt; judged(alloc, &line, ROOM_END)?.as_str() == "Ok(())");
     let many = line.as_str().repeat(alloc, 130)?;
-    assert!(rt; judged(alloc, &many, ROOM_END)?.as_str() == TOTAL);
+    assert!(rt; judged_with(alloc, &many, ROOM_END, Some(0))?.as_str() == TOTAL);
     assert!(rt; judged(alloc, &many, None)?.as_str() == "Ok(())");
+    Ok(())
+}
+
+const ARCHIVE: &str = "Err(Misfit(Misfit { quantity: Archive, number: 34816 }))";
+
+// A group of six bytes, and one that fills the block, after which the log ends in the next one.
+#[test]
+fn scripts_whose_archive_has_no_room(rt: HostRuntime) -> Result<(), Fail> {
+    let alloc = rt.alloc();
+    let digits = "ab".repeat(alloc, 489)?;
+    let full = format!(in alloc; "1 f s 3 38 {digits}")?;
+    for (text, archive, want) in [
+        ("1 f b1 3 100 7", 34_304, ARCHIVE),
+        ("1 f b1 3 100 7", 34_816, "Ok(())"),
+        ("", 34_815, ARCHIVE),
+        (
+            full.as_str(),
+            34_816,
+            "Err(Misfit(Misfit { quantity: Archive, number: 35328 }))",
+        ),
+        (
+            "1 f b1 9 100 7",
+            0,
+            "Err(Misfit(Misfit { quantity: Page, number: 9 }))",
+        ),
+    ] {
+        let found = judged_with(alloc, text, None, Some(archive))?;
+        assert!(rt; found.as_str() == want, "of {text}");
+    }
     Ok(())
 }

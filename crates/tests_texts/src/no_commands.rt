@@ -54,6 +54,13 @@ run --own-writes --own-writes
 run --own-writes=1
 run --own-writes=
 run --own-writes 1
+run --archive --archive
+run --archive=1
+run --archive 1
+run --archives
+run --archive --threads
+run --threads --log-only --archive
+run --own-writes --archive
 run --followers
 run --followers 0
 run --followers 5
@@ -71,6 +78,7 @@ run --pages 1
 run --run
 run -- --threads
 run -- --own-writes
+run --to 8210
 run -- 1
 run --help
 run -h
@@ -93,6 +101,9 @@ crash --workers 0
 crash --workers 17
 crash --workers 1 --workers 1
 crash --own-writes --own-writes
+crash --archive
+crash --archive --pick 1
+crash --to 8210
 crash --followers 0
 crash --followers 5
 crash --followers 1 --followers 1
@@ -109,6 +120,8 @@ recover --workers=1 --workers 2
 recover --why
 recover --threads
 recover --own-writes
+recover --archive
+recover --to 8210
 recover --followers 1
 recover --turns 1
 recover --files --files
@@ -122,6 +135,21 @@ dump --why=1
 dump --why --why
 dump --workers 1
 dump dump
+restore
+restore 8210
+restore --files
+restore --to
+restore --to=
+restore --to x
+restore --to -1
+restore --to +1
+restore --to 18446744073709551616
+restore --to 000000000000000008210
+restore --to 8210 --to 8210
+restore --to 8210 8210
+restore -- --to 8210
+restore --to 8210 --archive
+restore --to 8210 --workers 1
 format 1
 format --pages 0
 format --pages 65
@@ -161,11 +189,12 @@ gen 000000000000000000001 1 1
 gen 1 1 1 --log-only
 gen 1 1 1 --own-writes
 gen 1 1 1 --run --own-writes
+gen 1 1 1 --run --archive
 gen 1 2 3 --followers 1
 gen 1 2 3 --run --followers 1
 ";
 
-// What `clap` refuses where it is given the same six commands, each option once at most, the three numbers of `gen` as
+// What `clap` refuses where it is given the same seven commands, each option once at most, the three numbers of `gen` as
 // required arguments, and no help and no version.
 const REFUSED: &str = "\
 run --max=5=6

@@ -1,6 +1,6 @@
-// The report of a run, as text.
+// The report of a run, and what is restored, as text.
 use model_report::{Followed, Marks};
-use redo_report::report;
+use redo_report::{report, restored};
 use std::test::Fail;
 
 const MARKS: Marks = Marks {
@@ -33,5 +33,12 @@ fn report_of_two_followers(rt: HostRuntime) -> Result<(), Fail> {
     let lines =
         "open 8204\nmarks 8204 8204 8204 8192\nfollow 1 0 8204 00000000\nfollow 2 0 8204 00000000\n";
     assert!(rt; text.as_slice() == lines.as_bytes());
+    Ok(())
+}
+
+#[test]
+fn text_of_no_group_restored(rt: HostRuntime) -> Result<(), Fail> {
+    let text = restored(rt.alloc(), 0, 8204, &[])?;
+    assert!(rt; text.as_slice() == b"restored 0 8204\n".as_slice());
     Ok(())
 }

@@ -132,7 +132,7 @@ pub fn make_ready(alloc: Global, text: &[u8], way: Way) -> Result<Ready, Fail>
         return Err(Fail::from("no script"));
     };
     let end = room_end(way.log_only, &opened.shape, opened.start);
-    let Ok(()) = judge(alloc, &opened.shape, opened.start, end, &script) else {
+    let Ok(()) = judge(alloc, &opened.shape, opened.start, end, None, &script) else {
         return Err(Fail::from("no fit"));
     };
     Ok(Ready { opened, script })

@@ -68,7 +68,7 @@ fn followed(rt: &impl Abort, alloc: Global, most: u64) -> Result<(String, Op), F
     let mut machine = machine_on(rt, alloc, opened, FLUSHED.text.as_bytes(), followers);
     assert!(rt; play(rt, &mut machine, &FLUSHED) == RunEnd::Done);
     let taken = take_turns(rt, &mut machine, FOLLOWER, most);
-    let (closed, actors) = machine.finish();
+    let (closed, actors, _) = machine.finish();
     let Some(follower) = follower_of(actors.as_slice()) else {
         panic!(rt; "no follower");
     };
@@ -116,7 +116,7 @@ fn held_back(rt: &impl Abort, alloc: Global, last: &str) -> Result<String, Fail>
     };
     let mut machine = machine_on(rt, alloc, opened, text.as_bytes(), followers);
     let ended = play(rt, &mut machine, &run);
-    let (closed, _) = machine.finish();
+    let (closed, _, _) = machine.finish();
     Ok(left_of(alloc, ended, &closed)?)
 }
 

@@ -1,6 +1,5 @@
 // Runs whose turns are given by hand, and what is told of them after a crash.
-ghost use Rattle.redo_drive.specs.Running.{IsOnRun};
-ghost use Rattle.redo_drive.specs.Views.{views_of};
+ghost use Rattle.redo_machine.specs.Appending.{IsOnRun};
 
 use super::store::{machine_on, no_followers, opened};
 use crate::fixtures::read;
@@ -59,12 +58,12 @@ pub fn turns_of(word: &str) -> Option<(usize, u64, Turned)> {
 /// Gives the actor at a seat turns until one doesn't move it on, at most so many. Answers how many, and how the last ends.
 pub fn take_turns<L: Sectors, D: Sectors, R: Receiver>(
     rt: &impl Abort,
-    machine: &mut Machine<L, D, R>,
+    machine: &mut Machine<L, D, L, R>,
     seat: usize,
     most: u64,
 ) -> (u64, Turned)
-    requires { IsOnRun L.seen D.seen machine.old.parts (views_of machine.old.actors.items) }
-    ensures { IsOnRun L.seen D.seen machine.new.parts (views_of machine.new.actors.items) }
+    requires { IsOnRun L.seen D.seen L.seen machine.old }
+    ensures { IsOnRun L.seen D.seen L.seen machine.new }
 {
     for turn in 0..most {
         assert!(rt; seat < machine.seats());
@@ -77,9 +76,9 @@ pub fn take_turns<L: Sectors, D: Sectors, R: Receiver>(
 }
 
 /// Gives each actor turns until it doesn't move, the first one last.
-fn play_round<L: Sectors, D: Sectors, R: Receiver>(rt: &impl Abort, machine: &mut Machine<L, D, R>)
-    requires { IsOnRun L.seen D.seen machine.old.parts (views_of machine.old.actors.items) }
-    ensures { IsOnRun L.seen D.seen machine.new.parts (views_of machine.new.actors.items) }
+fn play_round<L: Sectors, D: Sectors, R: Receiver>(rt: &impl Abort, machine: &mut Machine<L, D, L, R>)
+    requires { IsOnRun L.seen D.seen L.seen machine.old }
+    ensures { IsOnRun L.seen D.seen L.seen machine.new }
 {
     for seat in 1..machine.seats() {
         take_turns(rt, machine, seat, u64::MAX);
@@ -90,11 +89,11 @@ fn play_round<L: Sectors, D: Sectors, R: Receiver>(rt: &impl Abort, machine: &mu
 /// Gives the turns that a word spells, and sees that they go as it says.
 fn see_turns<L: Sectors, D: Sectors, R: Receiver>(
     rt: &impl Abort,
-    machine: &mut Machine<L, D, R>,
+    machine: &mut Machine<L, D, L, R>,
     word: &str,
 )
-    requires { IsOnRun L.seen D.seen machine.old.parts (views_of machine.old.actors.items) }
-    ensures { IsOnRun L.seen D.seen machine.new.parts (views_of machine.new.actors.items) }
+    requires { IsOnRun L.seen D.seen L.seen machine.old }
+    ensures { IsOnRun L.seen D.seen L.seen machine.new }
 {
     let Some((seat, count, last)) = turns_of(word) else {
         panic!(rt; "no turns: {word}");
@@ -107,11 +106,11 @@ fn see_turns<L: Sectors, D: Sectors, R: Receiver>(
 /// Gives the turns of a run, and answers whether each user has ended.
 pub fn play<L: Sectors, D: Sectors, R: Receiver>(
     rt: &impl Abort,
-    machine: &mut Machine<L, D, R>,
+    machine: &mut Machine<L, D, L, R>,
     run: &Run,
 ) -> RunEnd
-    requires { IsOnRun L.seen D.seen machine.old.parts (views_of machine.old.actors.items) }
-    ensures { IsOnRun L.seen D.seen machine.new.parts (views_of machine.new.actors.items) }
+    requires { IsOnRun L.seen D.seen L.seen machine.old }
+    ensures { IsOnRun L.seen D.seen L.seen machine.new }
 {
     for word in run.turns.split_whitespace() {
         see_turns(rt, machine, word);
@@ -144,7 +143,7 @@ pub fn closed_of(
     let opened = opened(alloc, run.cut.min(511))?;
     let mut machine = machine_on(rt, alloc, opened, text.as_bytes(), no_followers(alloc));
     let ended = play(rt, &mut machine, run);
-    let (closed, _) = machine.finish();
+    let (closed, _, _) = machine.finish();
     Ok((ended, closed))
 }
 

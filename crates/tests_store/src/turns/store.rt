@@ -2,12 +2,11 @@
 ghost use Rattle.std.specs.Prelude.{false, ℕ, ◌<◌, ◌≡◌, ◌≤◌, ◌^◌, IfOk};
 ghost use Rattle.model_base.specs.{IsWithinLimits};
 ghost use Rattle.model_log.specs.declared.layout.TheConstants.{BLOCK_HEADER};
-ghost use Rattle.redo_drive.specs.Running.{IsOnRun};
 ghost use Rattle.redo_drive.specs.Startable.{AreNewFollowers, MayBegin, room_from};
-ghost use Rattle.redo_drive.specs.Views.{views_of};
 ghost use Rattle.redo_ownmachine.specs.OwnCrew.{HasRoom, seats_of};
 ghost use Rattle.redo_ownmachine.specs.OwnStore.{OwnIsOnRun};
 ghost use Rattle.redo_store.specs.{IsRunnable};
+ghost use Rattle.redo_machine.specs.Appending.{IsOnRun};
 
 use model_base::{BLOCK_SIZE, Shape};
 use model_log::{BLOCK_HEADER, TAIL_BLOCKS};
@@ -101,7 +100,7 @@ fn script_on<L: Sectors, D: Sectors>(
         panic!(rt; "no script");
     };
     let end = room_end(log_only, &opened.shape, opened.start);
-    let Ok(()) = judge(alloc, &opened.shape, opened.start, end, &script) else {
+    let Ok(()) = judge(alloc, &opened.shape, opened.start, end, None, &script) else {
         panic!(rt; "no fit");
     };
     script
@@ -114,13 +113,13 @@ pub fn machine_on<L: Sectors + Drop, D: Sectors + Drop, R: Receiver + Drop>(
     opened: Opened<L, D>,
     text: &[u8],
     followers: Vec<Follower<R>>,
-) -> Machine<L, D, R>
+) -> Machine<L, D, L, R>
     requires runnable { IsRunnable opened }
     requires new { AreNewFollowers opened.start followers.items }
-    ensures { IsOnRun L.seen D.seen result.parts (views_of result.actors.items) }
+    ensures { IsOnRun L.seen D.seen L.seen result }
 {
     let script = script_on(rt, alloc, &opened, text, false);
-    match Machine::new(alloc, opened, &script, false, followers) {
+    match Machine::new(alloc, opened, &script, false, None, followers) {
         Ok(machine) => machine,
         Err(_) => panic!(rt; "no memory"),
     }
@@ -145,8 +144,8 @@ pub fn driven_on<L: Sectors + Drop, D: Sectors + Drop, R: Receiver + Drop>(
         max: 100_000_000,
         log_only: false,
     };
-    match run_by_turns(alloc, opened, &script, &turns, followers) {
-        Ok(left) => left,
+    match run_by_turns::<L, D, L, R>(alloc, opened, &script, &turns, None, followers) {
+        Ok((driven, actors, _)) => (driven, actors),
         Err(_) => panic!(rt; "no memory"),
     }
 }

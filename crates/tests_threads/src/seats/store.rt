@@ -1,5 +1,5 @@
 // Shared stores that were just formatted, each actor with its seat.
-ghost use Rattle.std.specs.Prelude.{IfOk, length, ◌≡◌};
+ghost use Rattle.std.specs.Prelude.{IfOk, false, length, ◌≡◌};
 ghost use Rattle.redo_drive.specs.Startable.{MayBegin};
 ghost use Rattle.redo_drive.specs.Views.{views_of};
 ghost use Rattle.redo_rule.specs.Sharing.{AreSeatsOf, IsSeated, IsUnseated, starts_of, table_of};
@@ -25,10 +25,11 @@ fn shared_of(
     log_only: bool,
 ) -> Result<(Shared<Device, Device>, Vec<Actor<Tally>>), Fail>
     requires { MayBegin ready.opened ready.script log_only }
-    ensures { IfOk result (λ made. IsUnseated made.0 (views_of made.1.items)) }
+    ensures new { IfOk result (λ made. IsUnseated made.0 (views_of made.1.items)) }
+    ensures apart { IfOk result (λ made. made.0.board.shared.key.archive ≡ false) }
 {
     let Ready { opened, script } = ready;
-    match Shared::new(alloc, opened, &script, log_only, no_followers(alloc)) {
+    match Shared::new(alloc, opened, &script, log_only, false, no_followers(alloc)) {
         Ok(made) => Ok(made),
         Err(_) => Err(Fail::from("no memory")),
     }
@@ -36,10 +37,12 @@ fn shared_of(
 
 /// The store, each of whose actors has its seat.
 fn seated(mut shared: Shared<Device, Device>, actors: Vec<Actor<Tally>>) -> Playing
-    requires { IsUnseated shared (views_of actors.items) }
+    requires new { IsUnseated shared (views_of actors.items) }
+    requires apart { shared.board.shared.key.archive ≡ false }
     ensures seated { IsSeated result.shared }
     ensures seats { AreSeatsOf (table_of result.shared) result.seats.items (views_of result.actors.items) }
     ensures all { length result.actors.items ≡ length (starts_of result.shared) }
+    ensures apart { result.shared.board.shared.key.archive ≡ false }
 {
     let seats = shared.seats(actors.as_slice());
     Playing {
@@ -54,6 +57,7 @@ pub fn begin(alloc: Global, text: &[u8], way: Way) -> Result<Playing, Fail>
     ensures seated { IfOk result (λ made. IsSeated made.shared) }
     ensures seats { IfOk result (λ made. AreSeatsOf (table_of made.shared) made.seats.items (views_of made.actors.items)) }
     ensures all { IfOk result (λ made. length made.actors.items ≡ length (starts_of made.shared)) }
+    ensures apart { IfOk result (λ made. made.shared.board.shared.key.archive ≡ false) }
 {
     let ready = make_ready(alloc, text, way)?;
     let (shared, actors) = shared_of(alloc, ready, way.log_only)?;

@@ -167,7 +167,7 @@ fn left_by(rt: &impl Abort, alloc: Global, run: &Run) -> Result<Closed<Device, D
     play_all(rt, shared.ring(), &mut seats, &mut actors, run);
     let actors = actors.as_slice();
     assert!(rt; all_hold_nothing(actors));
-    Ok(shared.finish(seats, actors))
+    Ok(shared.finish(seats, actors, None))
 }
 
 /// A byte of a page's place on the data device.

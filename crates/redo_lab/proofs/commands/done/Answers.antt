@@ -1,26 +1,55 @@
-use Rattle.std.proofs.Common.{rules, subst}
+use Rattle.std.proofs.Common.{ap, rules, subst, sym, ◌∙◌, Some}
+use Rattle.std.proofs.lemmas.Bool.{false≢true}
+use Rattle.model_script.specs.declared.asked.Command.{Command}
 use Rattle.redo_lab.proofs.Alone.{all-left}
 use Rattle.redo_lab.proofs.Sizes.{asked_within}
 use Rattle.redo_lab.proofs.commands.done.Goals as goal
-use Rattle.redo_lab.specs.Asked.{HasAllowedNumbers}
+use Rattle.redo_lab.specs.Asked.{HasAllowedNumbers, calls_archive}
 
 pub returns-in-Format-clause-ends : goal.returns-in-Format-clause-ends
-returns-in-Format-clause-ends g c = λ words. rw c.in-Format.is (c.format_devices.ensures.ends words _)
+returns-in-Format-clause-ends g c = λ words. rw c.in-Format.is (c.format_devices.ensures.ends words _ _)
 
 pub returns-in-Run-clause-ends : goal.returns-in-Run-clause-ends
-returns-in-Run-clause-ends g c = λ words. rw c.in-Run.is (c.source_by_turns.ensures.ends words)
+returns-in-Run-clause-ends g c = λ words. rw c.in-Run.is (c.source_by_turns.ensures.ends words _)
 
 pub returns-in-Crash-clause-ends : goal.returns-in-Crash-clause-ends
-returns-in-Crash-clause-ends g c = λ words. rw c.in-Crash.is (c.source_by_turns-in-Crash.ensures.ends words)
+returns-in-Crash-clause-ends g c = λ words. rw c.in-Crash.is (c.source_by_turns-in-Crash.ensures.ends words _)
 
 pub returns-in-Recover-clause-ends : goal.returns-in-Recover-clause-ends
-returns-in-Recover-clause-ends g c = λ words. rw c.in-Recover.is (c.print_pages.ensures.ends words _)
+returns-in-Recover-clause-ends g c = λ words. rw c.in-Recover.is (c.print_pages.ensures.ends words _ _)
 
 pub returns-in-Dump-clause-ends : goal.returns-in-Dump-clause-ends
-returns-in-Dump-clause-ends g c = λ words. rw c.in-Dump.is (c.print_store.ensures.ends words _)
+returns-in-Dump-clause-ends g c = λ words. rw c.in-Dump.is (c.print_store.ensures.ends words _ _)
+
+pub returns-in-Restore-clause-ends : goal.returns-in-Restore-clause-ends
+returns-in-Restore-clause-ends g c = λ words. rw c.in-Restore.is (c.restore_command.ensures.ends words _)
 
 pub returns-in-Gen-clause-ends : goal.returns-in-Gen-clause-ends
-returns-in-Gen-clause-ends g c = λ words. rw c.in-Gen.is (c.gen_command.ensures.ends words _)
+returns-in-Gen-clause-ends g c = λ words. rw c.in-Gen.is (c.gen_command-done.ensures.ends words _ _)
+
+pub returns-in-Format-clause-restores : goal.returns-in-Format-clause-restores
+returns-in-Format-clause-restores g c = λ words to is. let was = c.in-Format.is in cc
+
+pub returns-in-Run-clause-restores : goal.returns-in-Run-clause-restores
+returns-in-Run-clause-restores g c = λ words to is. let was = c.in-Run.is in cc
+
+pub returns-in-Crash-clause-restores : goal.returns-in-Crash-clause-restores
+returns-in-Crash-clause-restores g c = λ words to is. let was = c.in-Crash.is in cc
+
+pub returns-in-Recover-clause-restores : goal.returns-in-Recover-clause-restores
+returns-in-Recover-clause-restores g c = λ words to is. let was = c.in-Recover.is in cc
+
+pub returns-in-Dump-clause-restores : goal.returns-in-Dump-clause-restores
+returns-in-Dump-clause-restores g c = λ words to is. let was = c.in-Dump.is in cc
+
+pub returns-in-Restore-clause-restores : goal.returns-in-Restore-clause-restores
+returns-in-Restore-clause-restores g c = λ words to is. c.restore_command.ensures.restores words (g.S.Source.seen c.args.src.now) (g.S.Source.seen c.args.src.now)
+
+pub returns-in-Gen-clause-restores : goal.returns-in-Gen-clause-restores
+returns-in-Gen-clause-restores g c = λ words to is. let was = c.in-Gen.is in cc
+
+pub returns-in-Restore-clause-untouched : goal.returns-in-Restore-clause-untouched
+returns-in-Restore-clause-untouched g c = λ calls. absurd (false≢true (sym calls ∙ ap (λ (command : Command). calls_archive (Some command)) c.in-Restore.is))
 
 pub returns-in-Format-clause-entered : goal.returns-in-Format-clause-entered
 returns-in-Format-clause-entered g c = c.format_devices.ensures.entered
@@ -37,8 +66,11 @@ returns-in-Recover-clause-entered g c = c.print_pages.ensures.entered
 pub returns-in-Dump-clause-entered : goal.returns-in-Dump-clause-entered
 returns-in-Dump-clause-entered g c = c.print_store.ensures.entered
 
+pub returns-in-Restore-clause-entered : goal.returns-in-Restore-clause-entered
+returns-in-Restore-clause-entered g c = c.restore_command.ensures.entered
+
 pub returns-in-Gen-clause-entered : goal.returns-in-Gen-clause-entered
-returns-in-Gen-clause-entered g c = c.gen_command.ensures.entered
+returns-in-Gen-clause-entered g c = c.gen_command-done.ensures.entered
 
 pub returns-in-Format-clause-taken : goal.returns-in-Format-clause-taken
 returns-in-Format-clause-taken g c = all-left (g.S.Source.seen c.args.src.now).left
@@ -48,6 +80,9 @@ returns-in-Recover-clause-taken g c = all-left (g.S.Source.seen c.args.src.now).
 
 pub returns-in-Dump-clause-taken : goal.returns-in-Dump-clause-taken
 returns-in-Dump-clause-taken g c = all-left (g.S.Source.seen c.args.src.now).left
+
+pub returns-in-Restore-clause-taken : goal.returns-in-Restore-clause-taken
+returns-in-Restore-clause-taken g c = all-left (g.S.Source.seen c.args.src.now).left
 
 pub returns-in-Gen-clause-taken : goal.returns-in-Gen-clause-taken
 returns-in-Gen-clause-taken g c = all-left (g.S.Source.seen c.args.src.now).left

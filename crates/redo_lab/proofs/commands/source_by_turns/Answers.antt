@@ -1,6 +1,6 @@
 use Rattle.std.proofs.Common.{ap}
 use Rattle.redo_lab.proofs.Alone.{scripted-unscripted}
-use Rattle.redo_lab.proofs.AskedLimits.{within-followers, within-workers}
+use Rattle.redo_lab.proofs.AskedLimits.{within-followers, within-unarchived, within-workers}
 use Rattle.redo_lab.proofs.Ends.{runs-scripted}
 use Rattle.redo_lab.proofs.commands.source_by_turns.Goals as goal
 
@@ -11,16 +11,19 @@ by_turns-ran-requires-clause-lines g c =
 pub by_turns-ran-requires-clause-few : goal.by_turns-ran-requires-clause-few
 by_turns-ran-requires-clause-few g c = within-followers c.args.asked.drive c.args.asked.crash c.requires.within
 
+pub by_turns-ran-requires-clause-unarchived : goal.by_turns-ran-requires-clause-unarchived
+by_turns-ran-requires-clause-unarchived g c = within-unarchived c.args.asked.drive c.args.asked.crash c.requires.within
+
 pub after_run-requires-clause-workers : goal.after_run-requires-clause-workers
 after_run-requires-clause-workers g c = λ κs live. within-workers c.args.asked.drive c.args.asked.crash c.requires.within
 
 pub returns-in-Ok-clause-ends : goal.returns-in-Ok-clause-ends
-returns-in-Ok-clause-ends g c = λ words. c.after_run.ensures.ends c.args.asked.drive words _ _ c.args.log c.args.store
-    (rw c.stops_of-stops.ensures at c.by_turns-ran.ensures.comes_to words _ _ _
-    (runs-scripted c.args.asked.drive c.args.asked.crash c.in-Ok.ensures.script) c.requires.by_turns) c.in-Ok.ensures.script
+returns-in-Ok-clause-ends g c = λ words archive. c.after_run.ensures.ends c.args.asked.drive words archive _ _ c.args.log c.args.store
+    (rw c.stops_of-stops.ensures at c.by_turns-ran.ensures.comes_to words archive _ _ _
+    (runs-scripted c.args.asked.drive c.args.asked.crash c.in-Ok.ensures.script) c.requires.by_turns) c.in-Ok.ensures.script c.requires.within
 
 pub returns-in-Err-clause-ends : goal.returns-in-Err-clause-ends
-returns-in-Err-clause-ends g c = λ words.
+returns-in-Err-clause-ends g c = λ words archive.
     let unasked = c.unasked.ensures in
     rw unasked.outcome_is (scripted-unscripted _ c.args.asked.drive c.args.asked.crash c.in-Err.fault (
       record { seen = ap g.L.Sectors.seen unasked.log_inner; fuse = unasked.log_fuse },

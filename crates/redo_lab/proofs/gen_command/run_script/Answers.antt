@@ -12,12 +12,12 @@ pub by_turns-course-requires-clause-few : goal.by_turns-course-requires-clause-f
 by_turns-course-requires-clause-few g c = rw c.drive_of_seed-drive.ensures (lit≤ tt)
 
 pub returns-clause-ends : goal.returns-clause-ends
-returns-clause-ends g c = λ words source users groups is.
+returns-clause-ends g c = λ words archive source users groups is.
     let seed = c.args.seed in
     let max = c.args.max in
     let running : CommandRuns source source (Gen seed users groups true max) (drive_of_seed seed max) c.args.script.now =
     record { asked = refl; is_script = is; unread = λ plain. refl } in
-    let comes_to = rw c.drive_of_seed-drive.ensures at c.by_turns-course.ensures.comes_to words source source
+    let comes_to = rw c.drive_of_seed-drive.ensures at c.by_turns-course.ensures.comes_to words archive source source
     (Gen seed users groups true max) running refl in
     elim c.match-course.branch [
       | in-Ended2 w ↦ rw (w.outcome-is, w.log-is, w.store-is) (elim w.in-Ended.is [
@@ -31,7 +31,7 @@ returns-clause-ends g c = λ words source users groups is.
             ends-failed _ (Gen seed users groups true max) (drive_of_seed seed max) c.args.script.now running c.laws.ensures
             (uncrashing-gen _ seed users groups max) cut.in-Some.fault was.0 tt was.2)
         | in-None done ↦ rw (done.outcome-is, done.log-is, done.store-is)
-            (done.read_after.ensures.ends words source c.args.log c.args.store seed users groups max c.args.script.now running (rw (w.in-Played.is, done.in-None.is) at comes_to))
+            (done.read_after.ensures.ends words archive source c.args.log c.args.store seed users groups max c.args.script.now running (rw (w.in-Played.is, done.in-None.is) at comes_to))
       ])
     ]
 

@@ -3,10 +3,10 @@ use Rattle.redo_lab.proofs.Alone.{gen-unscripted}
 use Rattle.redo_lab.proofs.gen_command.run_seed.Goals as goal
 
 pub returns-in-Ok-clause-ends : goal.returns-in-Ok-clause-ends
-returns-in-Ok-clause-ends g c = λ words source. c.run_script.ensures.ends words source c.args.users c.args.groups c.in-Ok.ensures
+returns-in-Ok-clause-ends g c = λ words archive source. c.run_script.ensures.ends words archive source c.args.users c.args.groups c.in-Ok.ensures
 
 pub returns-in-Err-clause-ends : goal.returns-in-Err-clause-ends
-returns-in-Err-clause-ends g c = λ words source.
+returns-in-Err-clause-ends g c = λ words archive source.
     let unasked = c.unasked.ensures in
     rw unasked.outcome_is (gen-unscripted _ c.args.seed c.args.users c.args.groups c.args.max (
       record { seen = ap g.L.Sectors.seen unasked.log_inner; fuse = unasked.log_fuse },

@@ -1,7 +1,9 @@
-use Rattle.std.proofs.Common.{ap, inr, refl, subst}
+use Rattle.std.proofs.Common.{ap, inr, refl, subst, sym, ◌∙◌}
+use Rattle.redo_lab.specs.Call.{unfused}
 use Rattle.redo_lab.proofs.AskedLimits.{command-of-within}
 use Rattle.redo_lab.specs.Asked.{HasAllowedNumbers}
 use Rattle.redo_lab.proofs.Alone.{all-left, nothing-ends}
+use Rattle.redo_lab.proofs.Unarchived.{never-restores, spares-untouched}
 use Rattle.redo_lab.proofs.lab_call.lab.Goals as goal
 
 pub source_in_threads-done-requires-clause-within : goal.source_in_threads-done-requires-clause-within
@@ -16,22 +18,24 @@ lab_turns-requires-clause-within g c = λ κs live. command-of-within _ c.in-Ok.
 pub returns-in-Err-clause-call : goal.returns-in-Err-clause-call
 returns-in-Err-clause-call g c =
     let unasked = c.unasked.ensures in
-    rw (c.end.ensures.log, c.end.ensures.store) (nothing-ends _ _ _ _ c.in-Err.fault c.in-Err.ensures.fault refl (
+    rw (c.end.ensures.log, c.end.ensures.store, c.end.ensures.arch) (nothing-ends _ _ _ _ c.in-Err.fault c.in-Err.ensures.fault refl (
       record { seen = ap g.L.Sectors.seen unasked.log_inner; fuse = unasked.log_fuse },
       record { seen = ap g.D.Sectors.seen unasked.data_inner; fuse = unasked.data_fuse },
     )
-    c.laws.ensures (rw unasked.outcome_is at c.end.ensures.printed) (all-left (g.S.Source.seen c.args.src.now).left))
+    refl c.laws.ensures (rw unasked.outcome_is at c.end.ensures.printed) (all-left (g.S.Source.seen c.args.src.now).left))
 
 pub returns-in-Some-clause-call : goal.returns-in-Some-clause-call
 returns-in-Some-clause-call g c =
     let is = c.in-Some.ensures.some in
-    rw (c.end-in-Some.ensures.log, c.end-in-Some.ensures.store) (record {
+    rw (c.end-in-Some.ensures.log, c.end-in-Some.ensures.store, c.end-in-Some.ensures.arch) (record {
       way = inr (
         c.in-Ok.command,
         record {
           asked = c.in-Ok.ensures.asked;
           outcome = c.source_in_threads-done.result.outcome;
-          ends = rw is.0 (c.source_in_threads-done.ensures.ends _);
+          ends = rw is.0 (c.source_in_threads-done.ensures.ends _ _);
+          restores = λ to restore. absurd (never-restores c.in-Some.asked.drive c.in-Some.asked.crash to (sym is.0 ∙ restore));
+          spares = λ drive run. spares-untouched (unfused g.A.Sectors.seen c.args.arch c.args.arch) _ refl;
           printed = c.end-in-Some.ensures.printed;
         },
       );

@@ -1,36 +1,44 @@
 -- Both devices are prepared, and their fuses are armed.
 use Rattle.std.proofs.Common.{ap, sym, ◌∙◌, ◌≡◌, [], None}
 use Rattle.std.specs.Option.{option_and_then}
+use Rattle.redo_disk.specs.Seen.{Seen}
 use Rattle.redo_io.specs.{SourceSeen}
 use Rattle.redo_memdisk.specs.{armed_from}
 use Rattle.redo_memdisk.specs.declared.fuse.Fuse.{Fuse}
 use Rattle.redo_lab.proofs.Entered.{entered-then}
 use Rattle.redo_lab.proofs.Fuses.{armed-now}
+use Rattle.redo_lab.specs.Call.{Unfused}
 use Rattle.redo_lab.proofs.Rereading.{prepared-later}
 use Rattle.redo_lab.proofs.playing.ready.Goals as goal
 
--- whatever the source is
+-- whatever the archive's device and the source are
+abbrev no_device : Seen
+no_device = record { size = 0; tells = None; crashed_from = None; faults = 0 }
+
+abbrev no_archive : Unfused
+no_archive = record { entry = no_device; now = no_device }
+
 abbrev no_source : SourceSeen
 no_source = record { left = None; faults = 0 }
 
 pub arm-requires : goal.arm-requires
-arm-requires g c = (c.in-Ok.ensures.prepares [] no_source no_source).0.0.stage
+arm-requires g c = (c.in-Ok.ensures.prepares [] no_archive no_source no_source).0.0.stage
 
 pub arm-requires-2 : goal.arm-requires-2
-arm-requires-2 g c = (c.in-Ok.ensures.prepares [] no_source no_source).0.1.stage
+arm-requires-2 g c = (c.in-Ok.ensures.prepares [] no_archive no_source no_source).0.1.stage
 
 pub returns-in-Err-clause-ready : goal.returns-in-Err-clause-ready
-returns-in-Err-clause-ready g c = λ words source source_now command asked running same.
-    rw c.fault_of.ensures ((rw (c.plain-log.ensures.inner, c.plain-store.ensures.inner) at c.in-Err.ensures.prepares words source source_now) command asked c.args.script.now running)
+returns-in-Err-clause-ready g c = λ words archive source source_now command asked running same room.
+    rw c.fault_of.ensures ((rw (c.plain-log.ensures.inner, c.plain-store.ensures.inner) at c.in-Err.ensures.prepares words archive source source_now) command asked c.args.script.now running)
 
 pub returns-clause-ready : goal.returns-clause-ready
-returns-clause-ready g c = λ words source source_now command asked running same.
-    let prepared = rw (c.plain-log.ensures.inner, c.plain-store.ensures.inner) at c.in-Ok.ensures.prepares words source source_now in
+returns-clause-ready g c = λ words archive source source_now command asked running same room.
+    let prepared = rw (c.plain-log.ensures.inner, c.plain-store.ensures.inner) at c.in-Ok.ensures.prepares words archive source source_now in
     let log_told : armed_from g.L.Sectors.seen c.arm.new.self ≡ (g.L.Sectors.seen c.prepare.new.log.inner).tells =
     ap (option_and_then (λ device. (g.L.Sectors.seen device).tells)) c.arm.ensures.armed in
     let data_told : armed_from g.D.Sectors.seen c.arm-2.new.self ≡ (g.D.Sectors.seen c.prepare.new.store.inner).tells =
     ap (option_and_then (λ device. (g.D.Sectors.seen device).tells)) c.arm-2.ensures.armed in
-    c.open_fitted.ensures.ready words source source_now c.args.log c.args.store command asked c.args.stops running same
+    c.open_fitted.ensures.ready words archive source source_now c.args.log c.args.store command asked c.args.stops running same room
     (record {
       prepared = prepared-later _
           (record { now = g.L.Sectors.seen c.prepare.new.log.inner; fuse = c.prepare.new.log.fuse; armed_from = (g.L.Sectors.seen c.prepare.new.log.inner).tells })

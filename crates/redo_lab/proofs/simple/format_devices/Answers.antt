@@ -10,8 +10,8 @@ use Rattle.redo_lab.proofs.simple.format_devices.Goals as goal
 use Rattle.redo_lab.proofs.simple.format_devices.Goals.{in-Ok, in-Err}
 
 pub returns-clause-ends : goal.returns-clause-ends
-returns-clause-ends g c = λ words source.
-    let call = call_on g.L.Sectors.seen g.L.Sectors.gives g.D.Sectors.seen g.D.Sectors.gives words source source
+returns-clause-ends g c = λ words archive source.
+    let call = call_on g.L.Sectors.seen g.L.Sectors.gives g.D.Sectors.seen g.D.Sectors.gives words archive source source
     c.args.log c.args.store c.format.new.log c.format.new.data_device in
     let shape = asked_shape c.args.pages c.args.space c.args.log_blocks in
     elim c.match-format.branch [

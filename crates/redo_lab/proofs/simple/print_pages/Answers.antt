@@ -7,7 +7,7 @@ use Rattle.redo_lab.proofs.simple.print_pages.Goals as goal
 use Rattle.redo_lab.proofs.simple.print_pages.Goals.{in-Ok, in-Err}
 
 pub returns-clause-ends : goal.returns-clause-ends
-returns-clause-ends g c = λ words source.
+returns-clause-ends g c = λ words archive source.
     elim c.match-recover_with.branch [
       | in-Ok w ↦ rw (w.outcome-is, w.of_text-outcome.ensures) (reading-ends (plain-reads (recovers-off _ c.args.workers refl) c.laws.ensures) _ _ refl refl (reading_of w.in-Ok.recovered) _ (
         only-read c.plain-log.ensures.inner c.plain-log.ensures.fuse (log-reads w.in-Ok.ensures.log.calls),

@@ -1,38 +1,70 @@
 -- The machine begins the run, its turns lead to the end, and what `finish` tells of that end is what the run comes to.
-use Rattle.std.proofs.Common.{List, arith, length, rules, subst, sym}
+use Rattle.std.proofs.Common.{Global, List, Option, Vec, arith, is_some, length, refl, rules, subst, sym, vec_capacity, ◌≤◌}
+use Rattle.model_report.specs.declared.entry.Entry.{Entry}
+use Rattle.redo_archive.specs.Part.{Part}
 use Rattle.redo_drive.proofs.LogCount.{log_within_script}
+use Rattle.redo_drive.specs.Archiving.{HasComeTo}
+use Rattle.redo_drive.specs.Archived.{HaveArchived}
 use Rattle.redo_drive.specs.Followed.{HaveFollowed}
 use Rattle.redo_drive.specs.Views.{views_of}
 use Rattle.redo_drive.specs.declared.actor.Actor.{Actor}
 use Rattle.redo_drive.specs.declared.drive.Driven.{Driven}
-use Rattle.redo_machine.proofs.RunLeft.{TurnsLead, by_turns, followed, owes}
+use Rattle.redo_machine.proofs.ArchiveStarts.{comes}
+use Rattle.redo_machine.proofs.RunLeft.{TurnsLead, archived, by_turns, followed, owes}
+use Rattle.redo_machine.specs.Appending.{ComesFrom}
 use Rattle.redo_machine.specs.ByTurns.{RunsByTurns}
 use Rattle.redo_machine.proofs.drive.run_by_turns.Given as given
 use Rattle.redo_machine.proofs.drive.run_by_turns.Goals as goal
 
 pub run-ended-requires : goal.run-ended-requires
-run-ended-requires g c = let B = c.in_ok-machine.ensures.begins in record { run = B.run; runs = B.from.runs }
+run-ended-requires g c = c.in_ok-machine.ensures.on_run
 
 pub finish-closed-requires : goal.finish-closed-requires
-finish-closed-requires g c = let B = c.in_ok-machine.ensures.begins in record
-    { run = B.run; runs = c.run-ended.ensures.runs B.run B.from.runs }
+finish-closed-requires g c = let O = c.run-ended.ensures.on_run in
+    record { run = O.run; archive = is_some c.run-ended.new.self.archive; runs = O.runs }
+
+-- the archive comes to the end with the run
+came : (g : given.Over) (c : goal.After-finish-closed g)
+    → (let B = c.in_ok-machine.ensures.begins in
+    ComesFrom g.L.Sectors.seen g.D.Sectors.seen g.A.Sectors.seen g.R.Receiver.stands_for B.run (is_some c.args.archive)
+    c.in_ok-machine.machine.actors.items c.args.archive c.run-ended.new.self)
+came g c =
+    let B = c.in_ok-machine.ensures.begins in
+    c.run-ended.ensures.from B.run (is_some c.args.archive) c.in_ok-machine.machine.actors.items c.args.archive (record {
+      from = B.from;
+      come = subst (λ (a : Option (Part g.row.A.Denot)). HasComeTo g.L.Sectors.seen g.D.Sectors.seen g.A.Sectors.seen B.run
+          c.in_ok-machine.machine.parts (views_of c.in_ok-machine.machine.actors.items) B.from.runs c.args.archive a)
+          (sym c.in_ok-machine.ensures.archive)
+          (comes g.L.Sectors.seen g.D.Sectors.seen g.A.Sectors.seen g.R.Receiver.stands_for c.args.opened c.args.script.now
+          c.args.turns.now.log_only (is_some c.args.archive) c.args.followers.items _ B c.requires.may c.args.archive refl
+          c.requires.archive);
+    })
 
 leads : (g : given.Over) (c : goal.After-finish-closed g)
-    → TurnsLead g.L.Sectors.seen g.L.Sectors.gives g.D.Sectors.seen g.D.Sectors.gives g.R.Receiver.stands_for
-    c.args.opened c.args.script.now c.args.turns.now
+    → TurnsLead g.L.Sectors.seen g.L.Sectors.gives g.D.Sectors.seen g.D.Sectors.gives g.A.Sectors.seen
+    g.R.Receiver.stands_for c.args.opened c.args.script.now c.args.turns.now c.args.archive
     c.args.followers.items c.run-ended.new.self.actors.items
-    (record { ended = c.run-ended.result; closed = c.finish-closed.result.0 })
+    (record { ended = c.run-ended.result; closed = c.finish-closed.result.0 }) c.run-ended.new.self.archive
 leads g c =
     let B = c.in_ok-machine.ensures.begins in
-    let from = c.run-ended.ensures.from B.run c.in_ok-machine.machine.actors.items B.from in
-    let R = from.runs in
-    let E = c.run-ended.ensures.ends B.run B.from.runs in
-    let within = log_within_script B.run.setup c.args.script.now c.args.opened.shape R.running.shared.sn R.running.log_ghost.log R.running.log_ghost.place R.running.both.logged.global.tiled B.is_run.of_script in
+    let end = came g c in
+    let R = end.from.runs in
+    let E = c.run-ended.ensures.ends B.run (is_some c.args.archive) B.from.runs in
+    let within = log_within_script B.run.setup c.args.script.now c.args.opened.shape R.running.shared.sn
+    R.running.log_ghost.log R.running.log_ghost.place R.running.both.logged.global.tiled B.is_run.of_script in
+    let room = subst (λ (entries : Vec Entry Global). length R.running.log_ghost.log ≤ vec_capacity entries)
+    (sym c.run-ended.ensures.entries) (omega arith) in
     record {
-      first = record { parts = c.in_ok-machine.machine.parts; actors = c.in_ok-machine.machine.actors; entries = c.in_ok-machine.machine.entries };
+      first = record {
+        parts = c.in_ok-machine.machine.parts;
+        actors = c.in_ok-machine.machine.actors;
+        entries = c.in_ok-machine.machine.entries;
+      };
       begins = B;
       last = c.run-ended.new.self.parts;
-      from = from;
+      from = end.from;
+      come = end.come;
+      lost = c.finish-closed.ensures.kept.2;
       ends = E.ends;
       asked = E.asked;
       calls = c.run-ended.ensures.calls;
@@ -40,34 +72,48 @@ leads g c =
       data_part = c.finish-closed.ensures.parts.1;
       marks = c.finish-closed.ensures.marks;
       code = c.finish-closed.ensures.code;
-      history = c.finish-closed.ensures.history B.run R (rw c.run-ended.ensures.entries B.no_entries) (rw c.run-ended.ensures.entries (omega arith));
-      listed = c.finish-closed.ensures.listed B.run R (rw c.run-ended.ensures.entries B.no_entries) (rw c.run-ended.ensures.entries (omega arith));
+      history = c.finish-closed.ensures.history B.run (is_some c.args.archive) R
+          (rw c.run-ended.ensures.entries B.no_entries) room;
+      listed = c.finish-closed.ensures.listed B.run (is_some c.args.archive) R
+          (rw c.run-ended.ensures.entries B.no_entries) room;
     }
 
 pub returns-in_err-machine : goal.returns-in_err-machine
 returns-in_err-machine g c = search rules
 
 pub returns-clause-owed : goal.returns-clause-owed
-returns-clause-owed g c = owes g.L.Sectors.seen g.L.Sectors.gives g.D.Sectors.seen g.D.Sectors.gives
+returns-clause-owed g c = owes g.L.Sectors.seen g.L.Sectors.gives g.D.Sectors.seen g.D.Sectors.gives g.A.Sectors.seen
     g.R.Receiver.stands_for c.args.opened c.args.script.now
-    c.args.turns.now c.args.followers.items c.run-ended.new.self.actors.items _ (leads g c) c.requires.may
+    c.args.turns.now c.args.archive c.args.followers.items c.run-ended.new.self.actors.items _
+    c.run-ended.new.self.archive (leads g c) c.requires.may
 
 pub returns-clause-turns : goal.returns-clause-turns
 returns-clause-turns g c =
     let driven : Driven g.row.L.Denot g.row.D.Denot =
     record { ended = c.run-ended.result; closed = c.finish-closed.result.0 } in
     subst (λ (actors : List (Actor g.row.R.Denot)). RunsByTurns g.L.Sectors.seen g.L.Sectors.gives g.D.Sectors.seen
-    g.D.Sectors.gives c.args.opened c.args.script.now c.args.turns.now (length c.args.followers.items)
-    (views_of actors) driven) (sym c.finish-closed.ensures.actors)
-    (by_turns g.L.Sectors.seen g.L.Sectors.gives g.D.Sectors.seen g.D.Sectors.gives
+    g.D.Sectors.gives c.args.opened c.args.script.now c.args.turns.now (is_some c.args.archive)
+    (length c.args.followers.items) (views_of actors) driven) (sym c.finish-closed.ensures.kept.0)
+    (by_turns g.L.Sectors.seen g.L.Sectors.gives g.D.Sectors.seen g.D.Sectors.gives g.A.Sectors.seen
     g.R.Receiver.stands_for c.args.opened c.args.script.now
-    c.args.turns.now c.args.followers.items c.run-ended.new.self.actors.items driven (leads g c) c.requires.may)
+    c.args.turns.now c.args.archive c.args.followers.items c.run-ended.new.self.actors.items driven
+    c.run-ended.new.self.archive (leads g c) c.requires.may)
 
 pub returns-clause-followed : goal.returns-clause-followed
 returns-clause-followed g c =
     subst (λ (actors : List (Actor g.row.R.Denot)). HaveFollowed g.L.Sectors.seen g.D.Sectors.seen
     g.R.Receiver.stands_for c.args.opened
-    c.args.script.now c.args.followers.items actors c.finish-closed.result.0) (sym c.finish-closed.ensures.actors)
-    (followed g.L.Sectors.seen g.L.Sectors.gives g.D.Sectors.seen g.D.Sectors.gives g.R.Receiver.stands_for
-    c.args.opened c.args.script.now
-    c.args.turns.now c.args.followers.items c.run-ended.new.self.actors.items _ (leads g c) c.requires.new)
+    c.args.script.now c.args.followers.items actors c.finish-closed.result.0) (sym c.finish-closed.ensures.kept.0)
+    (followed g.L.Sectors.seen g.L.Sectors.gives g.D.Sectors.seen g.D.Sectors.gives g.A.Sectors.seen
+    g.R.Receiver.stands_for c.args.opened c.args.script.now
+    c.args.turns.now c.args.archive c.args.followers.items c.run-ended.new.self.actors.items _
+    c.run-ended.new.self.archive (leads g c) c.requires.new)
+
+pub returns-clause-archived : goal.returns-clause-archived
+returns-clause-archived g c =
+    subst (λ (a : Option (Part g.row.A.Denot)). HaveArchived g.L.Sectors.seen g.D.Sectors.seen g.A.Sectors.seen
+    c.args.opened c.args.script.now c.finish-closed.result.0 c.args.archive a) (sym c.finish-closed.ensures.kept.1)
+    (archived g.L.Sectors.seen g.L.Sectors.gives g.D.Sectors.seen g.D.Sectors.gives g.A.Sectors.seen
+    g.R.Receiver.stands_for c.args.opened c.args.script.now
+    c.args.turns.now c.args.archive c.args.followers.items c.run-ended.new.self.actors.items _
+    c.run-ended.new.self.archive (leads g c))

@@ -1,5 +1,4 @@
 use Rattle.redo_ownrule.proofs.OwnAnswers.{has_played, keeps_seat, mine_alone}
-use Rattle.std.proofs.Common.{false}
 use Rattle.redo_ownrule.proofs.answering.answered_alone.Goals as goal
 
 pub returns-clause-mine : goal.returns-clause-mine

@@ -1,5 +1,4 @@
 use Rattle.redo_ownrule.proofs.OwnAnswers.{ends_so, has_played, keeps_seat, lends_slot, may_take, mine_at, x_is}
-use Rattle.std.proofs.Common.{true}
 use Rattle.redo_ownrule.proofs.answering.answered_at.Goals as goal
 
 pub slot_mut-requires : goal.slot_mut-requires

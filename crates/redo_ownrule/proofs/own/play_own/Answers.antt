@@ -15,7 +15,8 @@ unreachable-requires g c =
     ⊎_elim (λ t. none (op.TakeRemove t.0) tt t.1)
     (λ r. ⊎_elim (λ t. none (op.TakeOldest t.0) tt t.1)
     (λ r. ⊎_elim (λ t. none (op.Checkpoint t.0) tt t.1)
-    (λ r. ⊎_elim (λ t. none (op.ReadBlock t.0) tt t.1) (λ t. none op.WriteBatch tt t) r) r) r)
+    (λ r. ⊎_elim (λ t. none (op.ReadBlock t.0) tt t.1)
+    (λ r. ⊎_elim (λ t. none op.WriteBatch tt t) (λ t. none (op.Append t.0) tt t.1) r) r) r) r)
     c.in-TakeRemove.is
 
 pub returns-in-Rest-clause-played : goal.returns-in-Rest-clause-played

@@ -1,4 +1,4 @@
-use Rattle.std.proofs.Common.{ap, sym, ◌∙◌}
+use Rattle.std.proofs.Common.{ap}
 use Rattle.redo_ownrule.specs.OwnPlays.{with_work}
 use Rattle.redo_rule.specs.declared.law.Slot.TheVariants as slot
 use Rattle.redo_ownrule.proofs.slots.took_at.Goals as goal

@@ -1,6 +1,4 @@
-use Rattle.std.proofs.Common.{ap, refl, subst, sym, ◌∙◌}
-use Rattle.redo_ownrule.proofs.OwnListed as may
-use Rattle.redo_ownrule.proofs.OwnCalls as kept
+use Rattle.std.proofs.Common.{refl}
 use Rattle.redo_ownrule.proofs.slots.write_at.Goals as goal
 
 pub returns : goal.returns

@@ -1,4 +1,4 @@
-use Rattle.std.proofs.Common.{ap, refl, subst, sym, ◌∙◌}
+use Rattle.std.proofs.Common.{refl, subst, sym, ◌∙◌}
 use Rattle.model_own.specs.OwnWrites.{own_lends}
 use Rattle.redo_ownrule.proofs.OwnDesk.{same_work}
 use Rattle.redo_rule.proofs.Calling.{write_live}

@@ -1,4 +1,4 @@
-use Rattle.std.proofs.Common.{Bool, false, subst, sym, true, ◌∙◌, ◌≡◌}
+use Rattle.std.proofs.Common.{subst, sym, ◌∙◌}
 use Rattle.model_core.specs.declared.ops.Answer.TheVariants as answer
 use Rattle.redo_ownrule.specs.OwnMine.{IsAnswering}
 use Rattle.redo_ownrule.proofs.steps.saw.Goals as goal

@@ -1,5 +1,5 @@
 use Rattle.std.proofs.Common.{List, Option, ap, subst, sym, ℕ, ◌∙◌}
-use Rattle.model_core.specs.{lent, LogServed, next}
+use Rattle.model_core.specs.{lent, LogServed}
 use Rattle.model_core.specs.Actors as model
 use Rattle.model_core.specs.declared.ops.Op.TheVariants as op
 use Rattle.redo_disk.specs.declared.error.DevError.{DevError}
@@ -7,12 +7,10 @@ use Rattle.redo_drive.proofs.SomeLent.{some_lent}
 use Rattle.redo_drive.specs.Devices.{call_answer, call_code}
 use Rattle.redo_drive.specs.LogPartSide as log_part
 use Rattle.redo_drive.specs.Views.{view_of}
-use Rattle.redo_drive.specs.declared.actor.Actor.{Actor}
-use Rattle.redo_drive.specs.declared.actor.Actor.TheVariants as own
 use Rattle.redo_drive.specs.declared.device.Device.TheVariants.{Log}
 use Rattle.redo_rule.proofs.Calling.{called_leaves, called_ok, lends_slot, may_call}
 use Rattle.redo_rule.proofs.Filled.{lent_read}
-use Rattle.redo_rule.proofs.Took.{took_read, TookWith}
+use Rattle.redo_rule.proofs.Took.{took_block, TookWith}
 use Rattle.redo_rule.specs.Plays.{block_filling}
 use Rattle.redo_rule.specs.Slots.{block_of}
 use Rattle.redo_rule.proofs.device.read_block.Goals as goal
@@ -57,12 +55,8 @@ returns g c =
     c.load.new.seat c.load.ensures.0 c.load.result c.load.ensures.2 c.answer_of.result
     (c.answer_of.ensures ∙ ap (λ (met : Option DevError). call_answer Log met 0) (sym e.told))
     g.R.Receiver.stands_for c.took.result c.took.new.self
-    (subst (λ (z : Actor _). TookWith g.R.Receiver.stands_for (block_filling e.now.block) z c.answer_of.result
-    c.took.result c.took.new.self)
-    (sym c.in-Follower.is)
-    (subst (λ (b : List ℕ). TookWith g.R.Receiver.stands_for (block_filling b) (own.Follower c.in-Follower.follower)
-    c.answer_of.result c.took.result c.took.new.self) bytes
-    (took_read g.R.Receiver.stands_for c.answer_of.result c.took.result c.took.new.self c.in-Follower.follower
-    c.read_slot-ended.new.room c.args.lsn (ap (λ (z : Actor _). next (view_of z)) (sym c.in-Follower.is) ∙
-    c.requires.asks) c.took.ensures))) in
+    (subst (λ (b : List ℕ). TookWith g.R.Receiver.stands_for (block_filling b) c.args.actor.now c.answer_of.result
+    c.took.result c.took.new.self) bytes
+    (took_block g.R.Receiver.stands_for c.answer_of.result c.took.result c.took.new.self c.args.actor.now
+    c.put_block.new.actor c.read_slot-ended.new.room c.args.lsn c.put_block.ensures c.requires.asks c.took.ensures)) in
     record { mine = l.mine; played = l.played; seat = c.load.ensures.1; stays = l.stays }

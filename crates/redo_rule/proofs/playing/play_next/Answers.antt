@@ -37,3 +37,13 @@ returns-in_default g c = record {
 
 pub write_batch-requires-clause-part : goal.write_batch-requires-clause-part
 write_batch-requires-clause-part g c = c.requires.seat.cleaner (batch_cleaner (view_of c.args.actor.now) (c.requires.asks ∙ c.in-WriteBatch.is))
+
+pub append-requires-clause-asks : goal.append-requires-clause-asks
+append-requires-clause-asks g c = (c.in-Append.field-0, c.requires.asks ∙ c.in-Append.is)
+
+pub returns-in-Append : goal.returns-in-Append
+returns-in-Append g c = record {
+  seat = c.append.ensures.seat;
+  same = c.append.ensures.same;
+  played = inr c.append.ensures.played;
+}

@@ -1,6 +1,5 @@
 use Rattle.redo_rule.proofs.Cuts.{cut_mine, look_ok}
 use Rattle.std.proofs.Common.{ap, sym, ◌∙◌}
-use Rattle.redo_rule.specs.declared.law.View.{View}
 use Rattle.redo_rule.proofs.seating.cut_off.Goals as goal
 
 pub load-requires : goal.load-requires

@@ -1,4 +1,4 @@
-use Rattle.std.proofs.Common.{ap, ◌∙◌}
+use Rattle.std.proofs.Common.{◌∙◌}
 use Rattle.redo_rule.proofs.Cuts.{cut_ok, first_left}
 use Rattle.redo_rule.proofs.seating.cut_seat.Goals as goal
 

@@ -1,4 +1,5 @@
-use Rattle.std.proofs.Common.{sym, ◌∙◌}
+use Rattle.std.proofs.Common.{subst, sym, ◌∙◌, ◌≡◌}
+use Rattle.redo_drive.specs.Setups.{seated_actors}
 use Rattle.redo_drive.specs.Views.{views_of}
 use Rattle.redo_ownrule.specs.Players.{crew}
 use Rattle.redo_ownrule.specs.Sharing.{opened_of, shared_script}
@@ -48,4 +49,7 @@ returns-clause-followed g c =
     (shared_script shared) c.args.script.now c.run_threads-closed.result.0 new.opened_is new.script_is
     g.F.Receiver.stands_for shared.board.shared.key.log_only shared.board.shared.key.followers
     (crew new.work c.in_ok-shared.players.items) c.run_threads-closed.result.1.items (c.run_threads-closed.ensures.leaves new.work (new.works ∙ sym new.own_is))
-    c.args.followers.items c.requires.new new.follow new.actors_are new.followers_are
+    c.args.followers.items c.requires.new new.readers
+    (subst (λ b. seated_actors (opened_of shared).shape (shared_script shared) (opened_of shared).start
+    shared.board.shared.key.log_only b shared.board.shared.key.followers
+    ≡ views_of (crew new.work c.in_ok-shared.players.items)) new.archive_is new.actors_are) new.followers_are

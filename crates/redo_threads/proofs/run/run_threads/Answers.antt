@@ -1,13 +1,12 @@
-use Rattle.std.proofs.Common.{ap, length, subst, sym, ◌+◌, ◌∙◌, ◌≡◌}
+use Rattle.std.proofs.Common.{None, ap, is_some, length, map, refl, subst, sym, ◌+◌, ◌∙◌, ◌≡◌}
 use Rattle.std.specs.List.{AllZip}
 use Rattle.model_core.specs.Later.{IsSameActor}
 use Rattle.redo_drive.proofs.LeftRun.{reads_to_marks}
-use Rattle.redo_drive.specs.Leaving.{LeavesRun}
+use Rattle.redo_drive.specs.Leaving.{LeavesWith}
 use Rattle.redo_drive.specs.Views.{views_of}
-use Rattle.redo_ownrule.proofs.Crews.{crew_later, same_order}
-use Rattle.redo_ownrule.specs.Players.{AreInOrder, crew, workers}
+use Rattle.redo_ownrule.specs.Players.{actor_of, AreInOrder, crew, workers}
 use Rattle.redo_ownrule.specs.Sharing.{AreSeatsOf, opened_of, own_of, shared_script, table_of}
-use Rattle.redo_rule.specs.Closing.{done_with}
+use Rattle.redo_rule.specs.Closing.{done_with, TellsLoss}
 use Rattle.redo_rule.specs.Ruled.{starts_about}
 use Rattle.redo_threads.proofs.Ending.{all_rest, have_answered, have_ended}
 use Rattle.redo_threads.proofs.Heard.{all_same, have_heard, in_order, seated}
@@ -43,7 +42,7 @@ finish-requires-clause-order g c =
     let y = c.play_all-seats.result in
     let many = c.seats-seats.ensures.seats.count ∙ ap length c.as_slice-3.ensures.value in
     let order = subst (λ b. AreInOrder b.shared.key.own_writes c.args.players.items) (sym c.seats-seats.ensures.same)
-    c.requires.order in
+    c.requires.unseated.order in
     same_order (own_of S) c.args.players.items y.players.items
     (all_same g.F.Receiver.stands_for c.ring.result.now.table_id x y many c.play_all-seats.ensures.goes_on) order
 
@@ -56,7 +55,7 @@ finish-requires-clause-all g c =
     ap (λ n. n + workers (own_of S))
     (keep_long g.F.Receiver.stands_for c.ring.result.now.table_id x y many c.play_all-seats.ensures.goes_on)
     ∙ subst (λ b. length c.args.players.items + workers b.shared.key.own_writes ≡ length (starts_about b.shared.key))
-    (sym c.seats-seats.ensures.same) c.requires.count
+    (sym c.seats-seats.ensures.same) c.requires.unseated.count
 
 pub finish-requires-clause-rest : goal.finish-requires-clause-rest
 finish-requires-clause-rest g c = all_rest c.play_all-seats.result.players.items c.play_all-seats.ensures.at_end
@@ -73,9 +72,13 @@ returns-clause-leaves g c work works =
     let left = c.finish.ensures.leaves work starts (works ∙ ap (λ b. b.shared.key.own_writes) (sym same))
     (all_same g.F.Receiver.stands_for table x y many keep)
     (have_heard g.F.Receiver.stands_for table x y many keep _ c.seats-seats.ensures.fresh) in
-    subst (λ b. LeavesRun g.L.Sectors.seen g.L.Sectors.gives g.D.Sectors.seen g.D.Sectors.gives
+    let key = c.args.shared.board.shared.key in
+    subst (λ archive. LeavesWith g.L.Sectors.seen g.L.Sectors.gives g.D.Sectors.seen g.D.Sectors.gives
+    g.F.Receiver.stands_for key.opened.value key.script.value key.log_only archive
+    key.followers (crew work starts) c.finish.result.1.items c.finish.result.0) c.requires.apart
+    (subst (λ b. LeavesWith g.L.Sectors.seen g.L.Sectors.gives g.D.Sectors.seen g.D.Sectors.gives
     g.F.Receiver.stands_for b.shared.key.opened.value b.shared.key.script.value b.shared.key.log_only
-    b.shared.key.followers (crew work starts) c.finish.result.1.items c.finish.result.0) same left
+    b.shared.key.archive b.shared.key.followers (crew work starts) c.finish.result.1.items c.finish.result.0) same left)
 
 pub returns-clause-run : goal.returns-clause-run
 returns-clause-run g c work works =
@@ -107,4 +110,9 @@ returns-clause-reads g c =
     reads_to_marks g.L.Sectors.seen g.L.Sectors.gives g.D.Sectors.seen g.D.Sectors.gives g.F.Receiver.stands_for
     (opened_of c.args.shared) (shared_script c.args.shared) key.log_only key.followers
     (crew end.work c.args.players.items) c.finish.result.1.items (done_with c.finish.result.0)
-    (returns-clause-leaves g c end.work works) c.requires.ready.may c.finish.ensures.rest
+    (returns-clause-leaves g c end.work works) c.requires.unseated.ready.may c.finish.ensures.rest
+
+-- nothing is archived
+pub finish-requires-clause-lost : goal.finish-requires-clause-lost
+finish-requires-clause-lost g c = subst (λ b. TellsLoss b (views_of (map actor_of c.play_all-seats.result.players.items)) None)
+    (sym (ap (λ b. b.shared.key.archive) c.seats-seats.ensures.same ∙ c.requires.apart)) refl

@@ -19,6 +19,7 @@ returns g c =
       at = f.at;
       kept = f.kept.items;
       texts = [];
+      lost = 0;
       code = f.code;
       checks = f.checks;
       step = f.step;

@@ -28,7 +28,7 @@ history_of-history-requires g c = let R = c.requires in
 
 -- there is room for the groups of all
 lists : goal.returns-clause-listed
-lists g c = λ run runs empty room.
+lists g c = λ run archive runs empty room.
     let actors = c.args.self.actors.items in
     let marks : Marks = word_marks runs.running.shared in
     let marks_are : ◌≡◌ {A = Marks} c.marks_in-marks.result marks = c.marks_in-marks.ensures.marks ∙ marks_same c.args.self.parts.words.words runs.running.shared runs.running.flat_is in
@@ -44,11 +44,11 @@ pub returns-clause-listed : goal.returns-clause-listed
 returns-clause-listed g c = lists g c
 
 pub returns-clause-history : goal.returns-clause-history
-returns-clause-history g c = λ run runs empty room.
+returns-clause-history g c = λ run archive runs empty room.
     let actors = c.args.self.actors.items in
     let marks : Marks = word_marks runs.running.shared in
     let marks_are : ◌≡◌ {A = Marks} c.marks_in-marks.result marks = c.marks_in-marks.ensures.marks ∙ marks_same c.args.self.parts.words.words runs.running.shared runs.running.flat_is in
     history_is g.L.Sectors.seen g.D.Sectors.seen run c.args.self.parts (views_of actors) runs
     c.history_of-history.result
     (subst (λ (z : Marks). ListsInOrder z (views_of actors) c.history_of-history.result) marks_are
-    (lists g c run runs empty room))
+    (lists g c run archive runs empty room))

@@ -1,4 +1,4 @@
-use Rattle.std.proofs.Common.{ap, arith, subst, sym, ◌-◌, ◌∙◌}
+use Rattle.std.proofs.Common.{ap, arith, refl, subst, sym, ◌-◌, ◌∙◌}
 use mathlib.Core.Option.{some}
 use Rattle.model_core.specs.{lent, next}
 use Rattle.redo_drive.proofs.Viewed.{view_at}
@@ -69,7 +69,7 @@ serve-requires g c =
     let j = c.args.seat - c.len-users.result in
     subst (λ (z : Actor g.row.R.Denot). MayServe m.parts (view_of z)) (sym c.index_mut-else-seat-users.ensures.value)
     (may_serve_other g.L.Sectors.seen g.D.Sectors.seen R.run m.parts (seats_of m) R.runs j _
-    (view_at m.others.items j _ (let in_seat = c.requires.seat in omega arith)))
+    (view_at m.others.items j _ (let in_seat = c.requires.seat in omega arith)) refl)
 
 pub returns-else-seat-users-clause-turn : goal.returns-else-seat-users-clause-turn
 returns-else-seat-users-clause-turn g c = λ run R.

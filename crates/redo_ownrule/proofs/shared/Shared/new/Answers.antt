@@ -2,7 +2,7 @@ use Rattle.std.proofs.Common.{List, Option, Some, ap, arith, length, refl, subst
 use Rattle.std.specs.Prelude.{replicate}
 use Rattle.model_base.specs.declared.limits.TheConstants.{BLOCK_SIZE}
 use Rattle.model_own.specs.OwnWrites.{LogWork}
-use Rattle.redo_drive.specs.Making.{EndsWithFollowers}
+use Rattle.redo_drive.specs.Making.{EndsWithReaders}
 use Rattle.redo_drive.specs.declared.actor.Actor.{Actor}
 use Rattle.redo_ownmachine.proofs.Begins.{have_workers}
 use Rattle.redo_ownrule.proofs.Opened.{opens_players, starts_are, unseated}
@@ -23,6 +23,7 @@ make_board-requires g c =
       opened = c.of-opened_is.result;
       script = c.of.result;
       log_only = c.args.log_only;
+      archive = c.args.archive;
       followers = c.len-count.result;
       own_writes = c.args.own_writes;
     } in
@@ -53,6 +54,7 @@ returns-in-Ok-make_board-clause-new g c =
       opened = c.of-opened_is.result;
       script = c.of.result;
       log_only = c.args.log_only;
+      archive = c.args.archive;
       followers = c.len-count.result;
       own_writes = c.args.own_writes;
     } in
@@ -75,7 +77,9 @@ returns-in-Ok-make_board-clause-new g c =
       actors_are = ap (λ (z : About _ _). starts_about z) made.key
           ∙ starts_are g.L.Sectors.seen g.D.Sectors.seen g.R.Receiver.stands_for about c.args.followers.items many start
           B may c.in-Ok.field-0 c.in-Ok.ensures;
-      follow = subst (λ (l : List (Actor g.row.R.Denot)). EndsWithFollowers l c.args.followers.items)
+      archive_is = ap (λ (z : About _ _). z.archive) made.key;
+      readers = subst (λ (l : List (Actor g.row.R.Denot)). EndsWithReaders c.args.opened.start c.args.archive l
+          c.args.followers.items)
           (sym c.in-Ok.ensures.are) c.in_ok-parts.ensures.begins.followers;
       unseated = unseated g.L.Sectors.seen g.D.Sectors.seen g.R.Receiver.stands_for about c.args.followers.items many
           start B may c.in-Ok.field-0 c.in-Ok.ensures

@@ -76,25 +76,29 @@ returns g c =
     (has_room g.L.Sectors.seen g.L.Sectors.gives g.D.Sectors.seen g.D.Sectors.gives c.args.self.board.shared.key
     heard (views_of c.args.actors.now) c.close_table-log.result left _ c.requires.seated.ready.room) in
     let own = leaves_own g.L.Sectors.seen g.L.Sectors.gives g.D.Sectors.seen g.D.Sectors.gives
-    c.args.self.board.shared.key heard c.args.actors.now c.close_table-log.result left _ refl refl refl refl listed in
+    c.args.self.board.shared.key heard c.args.actors.now c.close_table-log.result left _ refl refl refl refl listed
+    c.requires.lost in
     record {
       leaves = λ starts began. leaves g.L.Sectors.seen g.L.Sectors.gives g.D.Sectors.seen g.D.Sectors.gives
           c.args.self.board.shared.key c.args.seats.items c.args.actors.now c.close_table-log.result left
-          (c.requires.seats.count ∙ length_views c.args.actors.now) _ refl refl refl refl listed
+          (c.requires.seats.count ∙ length_views c.args.actors.now) _ refl refl refl refl listed c.requires.lost
           g.R.Receiver.stands_for starts began;
       listed = listed;
       owed = is_owed g.L.Sectors.seen g.L.Sectors.gives g.D.Sectors.seen g.D.Sectors.gives
           c.args.self.board.shared.key heard c.args.actors.now c.close_table-log.result left _ refl refl refl refl
-          listed
+          listed c.requires.lost
           c.requires.seated.ready.may;
       reaches = reaches_all g.L.Sectors.seen g.L.Sectors.gives g.D.Sectors.seen g.D.Sectors.gives (λ r l. Unit {0})
           c.args.self.board.shared.key.opened.value c.args.self.board.shared.key.script.value
-          c.args.self.board.shared.key.log_only c.args.self.board.shared.key.followers c.args.actors.now
+          c.args.self.board.shared.key.log_only c.args.self.board.shared.key.archive
+          c.args.self.board.shared.key.followers c.args.actors.now
           c.args.actors.now
           _ own;
       cause = code_has_cause g.L.Sectors.seen g.L.Sectors.gives g.D.Sectors.seen g.D.Sectors.gives (λ r l. Unit {0})
           c.args.self.board.shared.key.opened.value c.args.self.board.shared.key.script.value
-          c.args.self.board.shared.key.log_only c.args.self.board.shared.key.followers c.args.actors.now
+          c.args.self.board.shared.key.log_only c.args.self.board.shared.key.archive
+          c.args.self.board.shared.key.followers c.args.actors.now
           c.args.actors.now
           _ own;
+      loses = refl;
     }

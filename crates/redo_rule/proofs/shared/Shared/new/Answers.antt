@@ -14,6 +14,7 @@ make_board-requires g c = opens_ok g.L.Sectors.seen g.L.Sectors.gives g.D.Sector
       script = c.of.result;
       log_only =
           c.args.log_only;
+      archive = c.args.archive;
       followers = c.len-count.result;
       own_writes = false;
     })
@@ -22,6 +23,7 @@ make_board-requires g c = opens_ok g.L.Sectors.seen g.L.Sectors.gives g.D.Sector
       opened = c.of-opened_is.result;
       script = c.of.result;
       log_only = c.args.log_only;
+      archive = c.args.archive;
       followers = c.len-count.result;
       own_writes = false;
     })
@@ -32,6 +34,7 @@ make_board-requires g c = opens_ok g.L.Sectors.seen g.L.Sectors.gives g.D.Sector
       opened = c.of-opened_is.result;
       script = c.of.result;
       log_only = c.args.log_only;
+      archive = c.args.archive;
       followers = c.len-count.result;
       own_writes = false;
     }) c.args.followers.items (let n = c.len-count.ensures in omega arith) _ (about_begins g.L.Sectors.seen
@@ -39,6 +42,7 @@ make_board-requires g c = opens_ok g.L.Sectors.seen g.L.Sectors.gives g.D.Sector
       opened = c.of-opened_is.result;
       script = c.of.result;
       log_only = c.args.log_only;
+      archive = c.args.archive;
       followers = c.len-count.result;
       own_writes = false;
     })
@@ -58,6 +62,7 @@ returns-in-Ok-make_board-clause-new g c = record {
   opened_is = ap (λ (z : About _ _). z.opened.value) c.in-Ok-make_board.ensures.key ∙ c.of-opened_is.ensures;
   script_is = ap (λ (z : About _ _). z.script.value) c.in-Ok-make_board.ensures.key ∙ c.of.ensures;
   log_only_is = ap (λ (z : About _ _). z.log_only) c.in-Ok-make_board.ensures.key;
+  archive_is = ap (λ (z : About _ _). z.archive) c.in-Ok-make_board.ensures.key;
   followers_are = ap (λ (z : About _ _). z.followers) c.in-Ok-make_board.ensures.key ∙ (let n = c.len-count.ensures in
       omega arith);
   unseated = unseated g.L.Sectors.seen g.D.Sectors.seen g.R.Receiver.stands_for (record {
@@ -65,6 +70,7 @@ returns-in-Ok-make_board-clause-new g c = record {
         c.of-opened_is.result;
     script = c.of.result;
     log_only = c.args.log_only;
+    archive = c.args.archive;
     followers = c.len-count.result;
     own_writes = false;
   })
@@ -74,6 +80,7 @@ returns-in-Ok-make_board-clause-new g c = record {
             c.of-opened_is.result;
         script = c.of.result;
         log_only = c.args.log_only;
+        archive = c.args.archive;
         followers = c.len-count.result;
         own_writes = false;
       })
@@ -83,6 +90,7 @@ returns-in-Ok-make_board-clause-new g c = record {
         opened = c.of-opened_is.result;
         script = c.of.result;
         log_only = c.args.log_only;
+        archive = c.args.archive;
         followers = c.len-count.result;
         own_writes = false;
       })

@@ -1,0 +1,31 @@
+-- What a command leaves alone that archives no run.
+use Rattle.std.proofs.Common.{ℕ, ◌≡◌, false, if◌then◌else◌, Bool, Option, Some, None, refl, sym, ap}
+use Rattle.model_report.specs.declared.fault.Fault.TheVariants as fault
+use Rattle.model_script.specs.declared.asked.Command.TheVariants.{Restore}
+use Rattle.model_script.specs.declared.asked.Drive.{Drive}
+use Rattle.redo_lab.specs.Ending.{SparesArchive}
+use Rattle.redo_lab.specs.declared.crash_command.Crashing.{Crashing}
+use Rattle.redo_lab.specs.declared.outcome.Outcome.{Outcome}
+use Rattle.redo_lab.specs.declared.outcome.Outcome.TheVariants as outcome
+use Rattle.redo_lab.specs.Asked.{HasAllowedNumbers, calls_archive}
+use Rattle.redo_lab.specs.Call.{Unfused}
+use Rattle.redo_lab.specs.Cause.{archive_size}
+use Rattle.redo_lab.specs.Runs.{command_with}
+
+-- its script isn't judged by the archive's device
+pub no-archive : (archive : Unfused) (drive : Drive) → drive.archive ≡ false → None ≡ archive_size archive drive
+no-archive archive drive is = sym (ap (λ (archived : Bool). if archived then Some archive.entry.size else None) is)
+
+-- a run of a script, and its crash, restore nothing
+pub never-restores : (drive : Drive) (crash : Option Crashing) (to : ℕ) → command_with drive crash ≡ Restore to → ⊥
+never-restores drive None to is = cc
+never-restores drive (Some crash) to is = cc
+
+-- an archive's device that is as it was is spared
+pub spares-untouched : (archive : Unfused) (o : Outcome) → archive.now ≡ archive.entry → SparesArchive archive o
+spares-untouched archive (outcome.Text text) same = tt
+spares-untouched archive (outcome.Report text f) same = tt
+spares-untouched archive (outcome.Fault fault.Memory) same = tt
+spares-untouched archive (outcome.Fault fault.ArchiveDevice) same = tt
+spares-untouched archive (outcome.Fault (fault.Turns turns user)) same = tt
+spares-untouched archive (outcome.Fault f) same = same

@@ -1,0 +1,42 @@
+use Rattle.std.proofs.Common.{◌≡◌, ap, refl, Err}
+use Rattle.redo_archive.specs.declared.restored.Restored.{Restored}
+use Rattle.redo_archive.specs.declared.restored.RestoreFault.{RestoreFault}
+use Rattle.redo_archive.specs.declared.restored.RestoreFault.TheVariants.{Dev}
+use Rattle.redo_archive.specs.{device_error_of}
+use Rattle.redo_lab.proofs.Alone.{IsLeftAlone}
+use Rattle.redo_lab.specs.Call.{guarded}
+use Rattle.redo_lab.proofs.Restoring.{restored-ends, unrestored-ends}
+use Rattle.redo_lab.proofs.restore_command.restore_command.Goals as goal
+use Rattle.redo_lab.proofs.restore_command.restore_command.Goals.{in-Ok, in-Err}
+
+pub returns-clause-ends : goal.returns-clause-ends
+returns-clause-ends g c = λ words source.
+    let alone : (IsLeftAlone (guarded g.L.Sectors.seen c.args.log c.plain-log.result)
+    × IsLeftAlone (guarded g.D.Sectors.seen c.args.store c.plain-store.result)) = (
+      record { seen = ap g.L.Sectors.seen c.plain-log.ensures.inner; fuse = c.plain-log.ensures.fuse },
+      record { seen = ap g.D.Sectors.seen c.plain-store.ensures.inner; fuse = c.plain-store.ensures.fuse },
+    ) in
+    elim c.match-restore.branch [
+      | in-Ok w ↦ rw (w.outcome-is, w.of_text-outcome.ensures) (restored-ends _ c.args.to refl alone
+          w.in-Ok.ensures.reads.unchanged.tells w.text_of.result w.in-Ok.found.n w.in-Ok.found.end w.in-Ok.found.pages
+          w.in-Ok.ensures.restored w.text_of.ensures)
+      | in-Err w ↦ rw (w.outcome-is, w.unrestored.ensures) (unrestored-ends _ c.args.to refl alone
+          w.in-Err.ensures.reads.unchanged.tells c.one_restore.ensures.not_both w.in-Err.fault w.in-Err.ensures.caused
+          (λ is. w.in-Err.ensures.reads.failed
+          (ap (λ (f : RestoreFault). device_error_of {T = Restored} (Err f)) is)))
+    ]
+
+pub returns-clause-restores : goal.returns-clause-restores
+returns-clause-restores g c = λ words source source_now.
+    let same : (g.L.Sectors.seen c.plain-log.result.inner ≡ g.L.Sectors.seen c.args.log) × (g.D.Sectors.seen c.plain-store.result.inner ≡ g.D.Sectors.seen c.args.store) =
+    (ap g.L.Sectors.seen c.plain-log.ensures.inner, ap g.D.Sectors.seen c.plain-store.ensures.inner) in
+    elim c.match-restore.branch [
+      | in-Ok w ↦ (w.in-Ok.ensures.reads.unchanged.tells, same)
+      | in-Err w ↦ (w.in-Err.ensures.reads.unchanged.tells, same)
+    ]
+
+pub returns-clause-entered : goal.returns-clause-entered
+returns-clause-entered g c = record { log_device = c.plain-log.ensures.entry; data_device = c.plain-store.ensures.entry }
+
+pub text_of-requires : goal.text_of-requires
+text_of-requires g c = c.in-Ok.ensures.few
