@@ -4,7 +4,7 @@ use Rattle.std.proofs.Common.{◌+◌, ◌<◌, ◌∙◌, ◌≡◌, ◌≢◌,
 use Rattle.std.specs.Prelude.{IfSome}
 use lib.ListN.{get_elem?}
 use mathlib.Core.Option.{some, some-injective}
-use Rattle.model_base.specs.declared.limits.TheConstants.{BLOCK_SIZE}
+use Rattle.model_base.specs.declared.limits.TheConstants.{BLOCK_HEADER, BLOCK_SIZE}
 use Rattle.model_core.specs.{archive_device_code, archives, Given, HasLost, lsn, ReaderState, SharedWords}
 use Rattle.model_core.specs.Actors as model
 use Rattle.model_core.specs.DataSide.{DataSide}
@@ -127,6 +127,15 @@ module _ {L D A R : Type 0} {archive : Bool} (log_seen : L → Seen) (log_gives 
       not_data Failed e = absurd (cc)
       not_data NoMemory e = absurd (cc)
 
+  -- the archiver among the actors is the one beside which the archive stands
+  reached : (seat : ℕ) (r : ReaderState) → get_elem? (views_of actors) seat ≡ some (model.Reader r) → archives r ≡ true
+      → after.marks.mark ≡ r.place + BLOCK_HEADER
+  reached seat r at archiving =
+      let here = S.only seat r at archiving in
+      let mine : ◌≡◌ {A = ReaderState} S.archiver r = one_reader S.archiver r
+      (some-injective (model.Reader S.archiver) (model.Reader r) (sym S.at ∙ ap (get_elem? (views_of actors)) (sym here) ∙ at)) in
+      subst (λ (x : ReaderState). after.marks.mark ≡ x.place + BLOCK_HEADER) mine S.pace.mark
+
   to_finish : IsToFinish seen driven.closed.marks.flushed after
   to_finish = subst (λ (n : ℕ). IsToFinish seen n after) (sym flushed_same) (
       let pace = S.pace in
@@ -185,11 +194,12 @@ module _ {L D A R : Type 0} {archive : Bool} (log_seen : L → Seen) (log_gives 
     }
 
   -- SO THE RUN LEAVES IT.
-  pub has_archived : HasArchived log_seen data_seen seen opened script driven.closed before after
+  pub has_archived : HasArchived log_seen data_seen seen opened script driven.closed (views_of actors) before after
   has_archived = record {
     same = C.same;
     failed = failed;
     code = code;
+    reached = reached;
     flushed = (let e = flushed_same in let up = S.pace.up_to in omega arith);
     asked = subst (λ (n : ℕ). AsksUpTo n after) (sym flushed_same) S.asked;
     to_finish = to_finish;

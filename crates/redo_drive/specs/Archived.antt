@@ -1,6 +1,10 @@
 -- What an archive is left with by a run.
-use Rattle.std.specs.Prelude.{IfSome, List, [], None, Option, Some, ℕ, ◌≡◌, ◌≤◌}
-use Rattle.model_core.specs.{archive_device_code}
+use Rattle.std.specs.Prelude.{IfSome, List, [], None, Option, Some, true, ℕ, ◌+◌, ◌≡◌, ◌≤◌}
+use lib.ListN.{get_elem?}
+use mathlib.Core.Option.{some}
+use Rattle.model_base.specs.declared.limits.TheConstants.{BLOCK_HEADER}
+use Rattle.model_core.specs.{archive_device_code, archives, ReaderState}
+use Rattle.model_core.specs.Actors as model
 use Rattle.model_log.specs.{block_of, IsRunOf}
 use Rattle.model_log.specs.declared.group.Whole.{Whole}
 use Rattle.model_page.specs.declared.content.Content.{Content}
@@ -38,15 +42,17 @@ pub record ArchivesRun {L D A : Type 0} (log_seen : L → Seen) (arch_seen : A �
       (block_of part.marks.mark) closed.marks.flushed closed.log
 
 -- WHAT A DRIVE LEAVES OF AN ARCHIVE that was begun for its run. It is the same archive, later; it has failed as the closed run
--- tells, and FAILED is 4 only by a failure of its device. Its mark, and the one that it was asked for last, are at most FLUSHED,
--- up to where it may be finished. And
--- where both devices told before the run, of a store that was ready, and the log device tells after it, it archives the run,
--- if it was begun with the opened pages.
+-- tells, and FAILED is 4 only by a failure of its device. It is as far as the archiver among the actors. Its mark, and the one
+-- that it was asked for last, are at most FLUSHED, up to where it may be finished. And where both devices told before the run,
+-- of a store that was ready, and the log device tells after it, it archives the run, if it was begun with the opened pages.
 pub record HasArchived {L D A : Type 0} (log_seen : L → Seen) (data_seen : D → Seen) (arch_seen : A → Seen)
-    (opened : Opened L D) (script : List ScriptLine) (closed : Closed L D) (before after : Part A) : Type 0 where
+    (opened : Opened L D) (script : List ScriptLine) (closed : Closed L D) (actors : List model.Actor)
+    (before after : Part A) : Type 0 where
   pub same : IsSameArchive arch_seen before after
   pub failed : after.failed ≡ closed.lost
   pub code : closed.code ≡ archive_device_code → after.failed ≡ Some Failed
+  pub reached : (seat : ℕ) (r : ReaderState) → get_elem? actors seat ≡ some (model.Reader r) → archives r ≡ true
+      → after.marks.mark ≡ r.place + BLOCK_HEADER
   pub flushed : after.marks.mark ≤ closed.marks.flushed
   pub asked : AsksUpTo closed.marks.flushed after
   pub to_finish : IsToFinish arch_seen closed.marks.flushed after
@@ -56,11 +62,11 @@ pub record HasArchived {L D A : Type 0} (log_seen : L → Seen) (data_seen : D �
 
 -- the same where there is an archive; and where there is none, there is none then, and nothing failed of it
 abbrev pub HaveArchived : {L D A : Type 0} → (L → Seen) → (D → Seen) → (A → Seen) → Opened L D → List ScriptLine → Closed L D
-    → Option (Part A) → Option (Part A) → Type 0
-HaveArchived log_seen data_seen arch_seen opened script closed None None = closed.lost ≡ None
-HaveArchived log_seen data_seen arch_seen opened script closed (Some before) (Some after) =
-    HasArchived log_seen data_seen arch_seen opened script closed before after
-HaveArchived log_seen data_seen arch_seen opened script closed _ _ = ⊥
+    → List model.Actor → Option (Part A) → Option (Part A) → Type 0
+HaveArchived log_seen data_seen arch_seen opened script closed actors None None = closed.lost ≡ None
+HaveArchived log_seen data_seen arch_seen opened script closed actors (Some before) (Some after) =
+    HasArchived log_seen data_seen arch_seen opened script closed actors before after
+HaveArchived log_seen data_seen arch_seen opened script closed actors _ _ = ⊥
 
 -- A log part from which blocks were read: nothing else was asked of its device, which tells what it told or nothing any more.
 pub record IsReadBack {L : Type 0} (seen : L → Seen) (gives : L → Call → L → Type 0) (old new : log.Part L) : Type 0 where

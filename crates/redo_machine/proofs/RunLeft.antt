@@ -206,13 +206,13 @@ module _ {L D A R : Type 0} (log_seen : L → Seen) (log_gives : L → Call → 
       by.begins.followers
 
   -- WHAT IT LEAVES OF THE ARCHIVE.
-  pub archived : HaveArchived log_seen data_seen arch_seen opened script driven.closed before after
+  pub archived : HaveArchived log_seen data_seen arch_seen opened script driven.closed (views_of actors) before after
   unfolding leaves
   archived = of_archive before after by.lost by.come
     where
       of_archive : (b a : Option (Part A)) → driven.closed.lost ≡ lost_by a
           → HasComeTo log_seen data_seen arch_seen by.begins.run by.last (views_of actors) by.from.runs b a
-          → HaveArchived log_seen data_seen arch_seen opened script driven.closed b a
+          → HaveArchived log_seen data_seen arch_seen opened script driven.closed (views_of actors) b a
       of_archive None None is come = is
       of_archive None (Some later) is come = absurd come
       of_archive (Some part) None is come = absurd come

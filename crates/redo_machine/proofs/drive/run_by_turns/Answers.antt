@@ -112,8 +112,11 @@ returns-clause-followed g c =
 pub returns-clause-archived : goal.returns-clause-archived
 returns-clause-archived g c =
     subst (λ (a : Option (Part g.row.A.Denot)). HaveArchived g.L.Sectors.seen g.D.Sectors.seen g.A.Sectors.seen
-    c.args.opened c.args.script.now c.finish-closed.result.0 c.args.archive a) (sym c.finish-closed.ensures.kept.1)
-    (archived g.L.Sectors.seen g.L.Sectors.gives g.D.Sectors.seen g.D.Sectors.gives g.A.Sectors.seen
+    c.args.opened c.args.script.now c.finish-closed.result.0 (views_of c.finish-closed.result.1.items) c.args.archive a)
+    (sym c.finish-closed.ensures.kept.1)
+    (subst (λ (actors : List (Actor g.row.R.Denot)). HaveArchived g.L.Sectors.seen g.D.Sectors.seen g.A.Sectors.seen
+    c.args.opened c.args.script.now c.finish-closed.result.0 (views_of actors) c.args.archive c.run-ended.new.self.archive)
+    (sym c.finish-closed.ensures.kept.0) (archived g.L.Sectors.seen g.L.Sectors.gives g.D.Sectors.seen g.D.Sectors.gives g.A.Sectors.seen
     g.R.Receiver.stands_for c.args.opened c.args.script.now
     c.args.turns.now c.args.archive c.args.followers.items c.run-ended.new.self.actors.items _
-    c.run-ended.new.self.archive (leads g c))
+    c.run-ended.new.self.archive (leads g c)))
