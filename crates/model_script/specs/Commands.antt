@@ -52,18 +52,10 @@ number_or least greatest default (Some n) = number_within least greatest n
 abbrev pub given_followers : List Given → Option ℕ
 given_followers options = number_or 1 MAX_FOLLOWERS 0 (given_number name.Followers options)
 
--- options that don't go together
-abbrev pub is_no_drive : Drive → Bool
-is_no_drive drive = drive.threads && drive.archive || drive.own_writes && drive.archive
-
--- the drive, if its options go together
-abbrev pub where_driven : Drive → Option Drive
-where_driven drive = if is_no_drive drive then None else Some drive
-
 -- how a script is run, and whether the run is archived: by turns of the seed 0 where nothing else is asked
 abbrev pub given_drive : Bool → List Given → Option Drive
 given_drive archive options =
-    option_and_then where_driven (option_and_then (λ max. option_map (λ followers. record {
+    option_and_then (λ max. option_map (λ followers. record {
       seed = unwrap_or (given_number name.Turns options) 0;
       max = max;
       threads = is_given name.Threads options;
@@ -71,7 +63,7 @@ given_drive archive options =
       own_writes = is_given name.OwnWrites options;
       followers = followers;
       archive = archive;
-    }) (given_followers options)) (number_or 0 MAX_TURNS DEFAULT_TURNS (given_number name.Max options)))
+    }) (given_followers options)) (number_or 0 MAX_TURNS DEFAULT_TURNS (given_number name.Max options))
 
 abbrev pub drive_names : List Name
 drive_names = name.Turns ∷ name.Max ∷ name.Threads ∷ name.LogOnly ∷ name.OwnWrites ∷ name.Followers ∷ []

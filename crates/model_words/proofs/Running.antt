@@ -2,7 +2,7 @@
 use Rattle.std.proofs.Common.{◌≡◌, ◌∙◌, ◌-◌, ◌^◌, inl, inr, refl, sym, ap, ℕ, Bool, true, false, List, map, codes, Option, Some, None, option_map, true≢false}
 use Rattle.std.specs.Prelude.{option_and_then, fold}
 use Rattle.clap.specs.Walk.{Row, Text, first_of, with_default}
-use Rattle.model_script.specs.{are_different, given_crash, given_run, is_flag, is_given, where_driven, word_number}
+use Rattle.model_script.specs.{are_different, given_crash, given_run, is_flag, is_given, word_number}
 use Rattle.model_script.specs.declared.asked.Asked.{Asked}
 use Rattle.model_script.specs.declared.asked.Command.TheVariants as asked
 use Rattle.model_script.specs.declared.asked.Drive.{Drive}
@@ -23,7 +23,7 @@ use Rattle.model_words.proofs.Uses.{use_row}
 
 abbrev drive_with : (threads log_only own_writes archive : Bool) → (seed max followers : Option ℕ) → Option Drive
 drive_with threads log_only own_writes archive seed max followers =
-    option_and_then where_driven (option_and_then (λ seed. option_and_then (λ max. option_map (λ followers. record {
+    option_and_then (λ seed. option_and_then (λ max. option_map (λ followers. record {
       seed = seed;
       max = max;
       threads = threads;
@@ -31,16 +31,16 @@ drive_with threads log_only own_writes archive seed max followers =
       own_writes = own_writes;
       followers = followers;
       archive = archive;
-    }) followers) max) seed)
+    }) followers) max) seed
 
 no_drive : (threads log_only own_writes archive : Bool) (seed followers : Option ℕ)
     → drive_with threads log_only own_writes archive seed None followers ≡ None
-no_drive threads log_only own_writes archive seed followers = ap (option_and_then where_driven) (none_then seed)
+no_drive threads log_only own_writes archive seed followers = none_then seed
 
 no_followers : (threads log_only own_writes archive : Bool) (seed max : Option ℕ)
     → drive_with threads log_only own_writes archive seed max None ≡ None
 no_followers threads log_only own_writes archive None max = refl
-no_followers threads log_only own_writes archive (Some seed) max = ap (option_and_then where_driven) (none_then max)
+no_followers threads log_only own_writes archive (Some seed) max = none_then max
 
 abbrev run_with : Bool → Option Drive → Option Asked
 run_with files drive = as_asked files (option_map asked.Run drive)

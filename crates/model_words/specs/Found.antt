@@ -39,7 +39,7 @@ followers_from rows = text_number_or 1 MAX_FOLLOWERS 0 (first_of (codes "followe
 
 abbrev pub drive_from : Bool → List Row → Option Drive
 drive_from archive rows =
-    option_and_then where_driven (option_and_then (λ seed. option_and_then (λ max. option_map (λ followers. record {
+    option_and_then (λ seed. option_and_then (λ max. option_map (λ followers. record {
       seed = seed;
       max = max;
       threads = is_true (first_of (codes "threads") rows);

@@ -2,7 +2,7 @@
 ghost use Rattle.std.specs.Prelude.{◌≡◌, codes, option_and_then, option_map};
 ghost use Rattle.clap.specs.Words.{first_of, found_of, rows_of};
 ghost use Rattle.model_base.specs.declared.limits.TheConstants.{DEFAULT_LOG_BLOCKS, DEFAULT_PAGES, DEFAULT_SPACE, MAX_LOG_BLOCKS, MAX_PAGES, MIN_LOG_BLOCKS};
-ghost use Rattle.model_script.specs.{is_no_drive, number_within, where_driven, word_number};
+ghost use Rattle.model_script.specs.{number_within, word_number};
 ghost use Rattle.model_words.specs.Found.{asked_with, command_from, crash_from, drive_from, followers_from, format_from, gen_from, is_true, restore_from, run_from, text_number, text_number_or, text_number_within, workers_from};
 
 use clap::ArgMatches;
@@ -100,20 +100,6 @@ fn read_followers(found: &ArgMatches<'_>) -> Option<u32>
 {
     let followers = number_or(found, "followers", 1, u64::from(MAX_FOLLOWERS), 0)?;
     Some(followers as u32)
-}
-
-// The options don't go together.
-fn is_no_drive(drive: &Drive) -> bool
-    ensures { result ≡ is_no_drive drive.now }
-{
-    drive.threads && drive.archive || drive.own_writes && drive.archive
-}
-
-// The drive, if its options go together.
-fn driven(drive: Drive) -> Option<Drive>
-    ensures { result ≡ where_driven drive }
-{
-    (!is_no_drive(&drive)).then_some(drive)
 }
 
 fn read_drive(found: &ArgMatches<'_>, archive: bool) -> Option<Drive>

@@ -4,7 +4,7 @@ use Rattle.std.specs.Option.{option_map, option_and_then}
 use Rattle.std.specs.Str.{bytes_eq}
 use Rattle.model_base.specs.declared.limits.TheConstants.{DEFAULT_LOG_BLOCKS, DEFAULT_PAGES, DEFAULT_SPACE, MAX_LOG_BLOCKS, MAX_PAGES, MIN_LOG_BLOCKS}
 use Rattle.model_script.specs.Commands as commands
-use Rattle.model_script.specs.{are_among, are_different, asked_of, given_crash, drive_names, given_drive, given_followers, given_format, given_gen, given_number, given_run, number_or, number_within, is_given, is_no_drive, plain_command, said_from, where_allowed, where_driven, given_workers}
+use Rattle.model_script.specs.{are_among, are_different, asked_of, given_crash, drive_names, given_drive, given_followers, given_format, given_gen, given_number, given_run, number_or, number_within, is_given, plain_command, said_from, where_allowed, given_workers}
 use Rattle.model_script.specs.declared.asked.Asked.{Asked}
 use Rattle.model_script.specs.declared.asked.Command.{Command}
 use Rattle.model_script.specs.declared.asked.Command.TheVariants.{Run, Recover, Dump, Restore}
@@ -80,21 +80,15 @@ format-within options command is =
     or-between MIN_LOG_BLOCKS MAX_LOG_BLOCKS DEFAULT_LOG_BLOCKS blocks.0 (given_number name.LogBlocks options) (lit≤ tt, lit≤ tt) blocks.1 in
     subst IsAllowed blocks.2 (λ no. (some.0, some.1, many.0, many.1))
 
--- a drive that there is
-driven-some : (none : Bool) (given drive : Drive) → (if none then None else Some given) ≡ Some drive → given ≡ drive
-driven-some true given drive is = cc
-driven-some false given drive is = cc
-
 -- the drive's followers are few, and it archives its run just where that is asked
 abbrev IsDriveOf : Bool → Drive → Type 0
 IsDriveOf archive drive = (drive.followers ≤ MAX_FOLLOWERS) × (drive.archive ≡ archive)
 
 drive-within : (archive : Bool) (options : List Given) (drive : Drive) → given_drive archive options ≡ Some drive → IsDriveOf archive drive
 drive-within archive options drive is =
-    let given = and_then-some where_driven _ drive is in
-    let max = and_then-some _ (number_or 0 MAX_TURNS DEFAULT_TURNS (given_number name.Max options)) given.0 given.1 in
-    let followers = map-some _ (given_followers options) given.0 max.2 in
-    subst (IsDriveOf archive) (followers.2 ∙ driven-some (is_no_drive given.0) given.0 drive given.2)
+    let max = and_then-some _ (number_or 0 MAX_TURNS DEFAULT_TURNS (given_number name.Max options)) drive is in
+    let followers = map-some _ (given_followers options) drive max.2 in
+    subst (IsDriveOf archive) followers.2
     (or-at-most 1 MAX_FOLLOWERS 0 followers.0 (given_number name.Followers options) (lit≤ tt) followers.1, refl)
 
 run-within : (options : List Given) (command : Command) → given_run options ≡ Some command → IsAllowed command
