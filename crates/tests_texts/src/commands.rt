@@ -30,6 +30,8 @@ run --max=9 --own-writes --files | 0                    9                   fals
 run --archive                    | 0                    100000000           false false false 0 true  false
 run --archive --log-only --files | 0                    100000000           false true  false 0 true  true
 run --followers=2 --archive      | 0                    100000000           false false false 2 true  false
+run --archive --threads          | 0                    100000000           true  false false 0 true  false
+run --own-writes --archive       | 0                    100000000           false false true  0 true  false
 run --max 6 --turns 1            | 1                    6                   false false false 0 false false
 run --turns 1 --max=6 --files    | 1                    6                   false false false 0 false true
 run --                           | 0                    100000000           false false false 0 false false

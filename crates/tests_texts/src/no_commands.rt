@@ -58,9 +58,6 @@ run --archive --archive
 run --archive=1
 run --archive 1
 run --archives
-run --archive --threads
-run --threads --log-only --archive
-run --own-writes --archive
 run --followers
 run --followers 0
 run --followers 5
