@@ -14,9 +14,10 @@ use Rattle.model_log.specs.{block_of, blocks_between, IsAtDataStart, IsDataLsn, 
 use Rattle.model_page.specs.declared.content.Content.{Content}
 use Rattle.model_parts.proofs.Torn.{synced-stands}
 use Rattle.model_archive.specs.Holds.{ArchiveHolds, AreArchivedBlocks, HoldsUpTo, IsArchivedBlock, IsOlderMark, IsSteadyArchive}
-use Rattle.model_archive.specs.Layout.{archive_block, archive_length, archive_place, IsRunStart, mark_place, other_mark_place, pages_end, read_mark}
+use Rattle.model_archive.specs.Layout.{archive_block, archive_length, archive_place, mark_place, pages_end, read_mark}
 use Rattle.model_archive.specs.Marks.{after_asking}
 use Rattle.model_archive.specs.declared.marks.ArchMarks.{ArchMarks}
+use Rattle.model_archive.specs.Texts.{IsRunStart, other_mark_place}
 use Rattle.model_archive.proofs.Images.{block-is, pages-sector, starts-below}
 use Rattle.model_archive.proofs.Newest.{mark-is, other-is}
 use Rattle.model_archive.proofs.Writes.{older-beside, Spares, pended-archive, kept-sector, stays-holds, synced-written}

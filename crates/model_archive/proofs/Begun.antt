@@ -23,10 +23,10 @@ use Rattle.model_page.proofs.ReadBack.{page_check-page_text, user_part-page_text
 use Rattle.model_parts.proofs.Batches.{length-page_text}
 use Rattle.model_parts.proofs.Torn.{synced-stands}
 use Rattle.model_archive.specs.Holds.{ArchiveHolds, HoldsUpTo, IsBesideMark, IsOlderMark, IsSteadyArchive}
-use Rattle.model_archive.specs.Layout.{archive_head_text, base_bytes, base_text, begun_bytes, IsRunStart, mark_text, pages_end, read_archive_head, read_mark}
+use Rattle.model_archive.specs.Layout.{base_bytes, pages_end, read_archive_head, read_mark}
 use Rattle.model_archive.specs.Marks.{begun_marks}
 use Rattle.model_archive.specs.Restore.{AreBasePages}
-use Rattle.model_archive.specs.Texts.{AreTexts}
+use Rattle.model_archive.specs.Texts.{AreTexts, archive_head_text, base_text, begun_bytes, IsRunStart, mark_text}
 use Rattle.model_archive.proofs.Images.{PageStands, page-stands}
 use Rattle.model_archive.proofs.RoundTrips.{head-reads_back, length-head_text, length-mark_text, mark-elsewhere, mark-reads_back}
 

@@ -17,10 +17,12 @@ use Rattle.model_log.specs.{fits_checksum, groups_of, newer}
 use Rattle.model_page.specs.declared.content.Content.{Content}
 use Rattle.model_parts.specs.Held.{MayStand}
 use Rattle.model_store.specs.{IsStorable, IsWholeSector}
-use Rattle.model_archive.specs.Holds.{ArchiveHolds, HoldsUpTo, IsBesideMark, IsFairArchive}
-use Rattle.model_archive.specs.Layout.{mark_place, newest_mark, other_mark_place, read_mark}
+use Rattle.model_archive.specs.Holds.{ArchiveHolds, HoldsUpTo, IsBesideMark}
+use Rattle.model_archive.specs.Layout.{mark_place, newest_mark, read_mark}
 use Rattle.model_archive.specs.Reads.{ReadsArchive}
 use Rattle.model_archive.specs.declared.marks.ArchMarks.{ArchMarks}
+use Rattle.model_archive.specs.Texts.{other_mark_place}
+use Rattle.model_archive.specs.Fair.{IsFairArchive}
 use Rattle.model_archive.proofs.Restored.{restores-up_to}
 
 -- what stands in a sector after some writes: what stood there before, or what one of them put there

@@ -12,9 +12,10 @@ use Rattle.model_log.specs.{IsDataLsn}
 use Rattle.model_page.specs.declared.content.Content.{Content}
 use Rattle.model_parts.proofs.Torn.{synced-stands}
 use Rattle.model_archive.specs.Holds.{ArchiveHolds, HoldsUpTo, IsBesideMark, IsOlderMark, IsSteadyArchive}
-use Rattle.model_archive.specs.Layout.{archive_length, mark_place, mark_text, other_mark_place, read_mark}
+use Rattle.model_archive.specs.Layout.{archive_length, mark_place, read_mark}
 use Rattle.model_archive.specs.Marks.{after_append, after_asking}
 use Rattle.model_archive.specs.declared.marks.ArchMarks.{ArchMarks}
+use Rattle.model_archive.specs.Texts.{mark_text, other_mark_place}
 use Rattle.model_archive.proofs.Newest.{mark-is}
 use Rattle.model_archive.proofs.RoundTrips.{length-mark_text, mark-broken, mark-reads_back, next-other, next-place}
 use Rattle.model_archive.proofs.Writes.{older-beside, Pends, put-pends, Spares, pended-holds, pended-archive, kept-sector, stays-holds, synced-written}

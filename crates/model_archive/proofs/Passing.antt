@@ -8,7 +8,8 @@ use Rattle.model_base.specs.declared.shape.Shape.{Shape}
 use Rattle.model_log.specs.Block.{fits_checksum}
 use Rattle.model_log.specs.{IsDataLsn, newer, shape_of}
 use Rattle.model_store.proofs.Places.{same_some}
-use Rattle.model_archive.specs.Layout.{is_mark_lsn, is_run_start, IsRunStart, mark_place, read_archive_head, read_mark}
+use Rattle.model_archive.specs.Layout.{is_mark_lsn, is_run_start, mark_place, read_archive_head, read_mark}
+use Rattle.model_archive.specs.Texts.{IsRunStart}
 
 when-head : (t : Bool) (found : ℕ × Shape) (s : ℕ) (shape : Shape)
     → (let wanted : Option (ℕ × Shape) = Some (s, shape) in cond t (Some found) None ≡ wanted)

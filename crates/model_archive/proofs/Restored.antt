@@ -14,10 +14,11 @@ use Rattle.model_parts.proofs.Bytes.{stream-bytes}
 use Rattle.model_parts.proofs.Splits.{Cuts, cut-at}
 use Rattle.model_store.specs.{folded, IsStorable}
 use Rattle.model_archive.specs.Holds.{HoldsUpTo, IsArchivedBlock}
-use Rattle.model_archive.specs.Layout.{archive_block, archive_length, IsRunStart, newest_mark, read_archive_head}
-use Rattle.model_archive.specs.Reads.{RestoresUpTo}
+use Rattle.model_archive.specs.Layout.{archive_block, archive_length, newest_mark, read_archive_head}
 use Rattle.model_archive.specs.declared.extent.Extent.{Extent}
 use Rattle.model_archive.specs.Restore.{archived_at, archived_bytes, data_of_blocks, ending_by, IsArchive}
+use Rattle.model_archive.specs.Texts.{IsRunStart}
+use Rattle.model_archive.specs.Fair.{RestoresUpTo}
 use Rattle.model_archive.proofs.Ending.{cut-ending}
 use Rattle.model_archive.proofs.Images.{between-block, gives-data, image-block, image-page, ReadsBlock, reads-block, same-pages, settled-sector, starts-below}
 use Rattle.model_archive.proofs.Stream.{blocks-stream}

@@ -13,10 +13,11 @@ use Rattle.model_page.specs.declared.content.Content.{Content}
 use Rattle.model_parts.specs.Held.{MayStand}
 use Rattle.model_parts.proofs.Torn.{AddsTorn, IsWhole, put-torn, synced-stands}
 use Rattle.model_archive.specs.Holds.{ArchiveHolds, HoldsUpTo, IsArchivedBlock, IsBesideMark, IsOlderMark, IsSteadyArchive}
-use Rattle.model_archive.specs.Layout.{archive_block, archive_length, base_bytes, mark_place, other_mark_place, pages_end, read_archive_head, read_mark}
+use Rattle.model_archive.specs.Layout.{archive_block, archive_length, base_bytes, mark_place, pages_end, read_archive_head, read_mark}
 use Rattle.model_archive.specs.Marks.{after_asking}
 use Rattle.model_archive.specs.Restore.{AreBasePages}
 use Rattle.model_archive.specs.declared.marks.ArchMarks.{ArchMarks}
+use Rattle.model_archive.specs.Texts.{other_mark_place}
 use Rattle.model_archive.proofs.Images.{block-is, page-stands, PageStands, pages-sector, same-pages}
 use Rattle.model_archive.proofs.Sectors.{stretch-sectors}
 

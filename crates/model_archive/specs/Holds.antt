@@ -1,18 +1,18 @@
 -- What an archive device holds of a run, whatever a crash leaves of it.
-use Rattle.std.specs.Prelude.{ℕ, ◌≡◌, ◌≤◌, ◌<◌, ◌+◌, ◌*◌, ◌⊎◌, min, true, List, length, Option, Some, None}
+use Rattle.std.specs.Prelude.{ℕ, ◌≡◌, ◌≤◌, ◌<◌, ◌+◌, ◌*◌, ◌⊎◌, min, List, length, Option, Some, None}
 use Rattle.model_base.specs.{IsWithinLimits}
 use Rattle.model_base.specs.declared.shape.Shape.{Shape}
 use Rattle.model_base.specs.declared.limits.TheConstants.{BLOCK_SIZE, LSN_LIMIT}
-use Rattle.model_device.specs.{AreSectorWrites, IsCovered, IsImage, sector}
+use Rattle.model_device.specs.{AreSectorWrites, IsCovered, sector}
 use Rattle.model_device.specs.Disk.{Disk}
 use Rattle.model_log.specs.declared.group.Whole.{Whole}
-use Rattle.model_log.specs.{block_of, blocks_between, fits_checksum, IsBoundary, IsBoundaryBlock, IsDataLsn, IsRunOf, last_span_end, lsn_at, spans_of}
+use Rattle.model_log.specs.{block_of, blocks_between, IsBoundary, IsBoundaryBlock, IsDataLsn, IsRunOf, last_span_end, lsn_at, spans_of}
 use Rattle.model_page.specs.declared.content.Content.{Content}
 use Rattle.model_parts.specs.Held.{MayStand, NEXT_DATA}
 use Rattle.model_parts.specs.Stored.{HasNothingPending}
-use Rattle.model_store.specs.{IsWholeSector}
-use Rattle.model_archive.specs.Layout.{archive_block, archive_length, IsRunStart, mark_place, other_mark_place, read_archive_head, read_mark}
+use Rattle.model_archive.specs.Layout.{archive_block, archive_length, mark_place, read_archive_head, read_mark}
 use Rattle.model_archive.specs.Restore.{AreBasePages}
+use Rattle.model_archive.specs.Texts.{IsRunStart, other_mark_place}
 use Rattle.model_archive.specs.declared.marks.ArchMarks.{ArchMarks}
 
 -- The block at b as an archive holds it: that of the run for a boundary of it, which is no earlier than the mark or
@@ -59,13 +59,6 @@ pub record ArchiveHolds (shape : Shape) (s : ℕ) (pages : List Content) (wholes
       → read_mark (mark_place marks.number) s bytes ≡ Some (marks.number, marks.mark)
   pub beside : (bytes : List ℕ) → MayStand disk (other_mark_place marks.number) bytes
       → IsBesideMark shape s pages wholes marks disk (read_mark (other_mark_place marks.number) s bytes)
-
--- A fair image of an archive device: each mark block whose checksum fits holds one of its whole contents since the last
--- sync.
-pub record IsFairArchive (disk : Disk) (image : List ℕ) : Type 0 where
-  pub possible : IsImage disk image
-  pub marks : (k : ℕ) → (k ≡ 1) ⊎ (k ≡ 2) → fits_checksum (sector k image) ≡ true
-      → IsWholeSector disk k (sector k image)
 
 -- blocks that are side by side are those of the run from a block on, as an archive holds them
 abbrev pub AreArchivedBlocks : ℕ → List Whole → ℕ → ℕ → List ℕ → Type 0

@@ -1,36 +1,16 @@
 -- The layout of an archive device: a head in block 0, a mark of even number in block 1 and one of odd number in block
 -- 2, the pages with which the run was opened, each sealed, and then the run's log blocks from that of its start on,
 -- side by side, each written once.
-use Rattle.std.specs.Prelude.{ℕ, ◌≤◌, ◌<◌, ◌+◌, ◌-◌, ◌*◌, ◌%◌, ◌==◌, ◌&&◌, nat_le, nat_lt, if◌then◌else◌, Bool, List, [], ◌∷◌, ◌++◌, replicate, codes, take, drop, Option, Some, None}
-use Rattle.std.specs.Int.{bytes_high_first}
-use Rattle.model_base.specs.{field, is_within_limits, overwritten, padded_to}
+use Rattle.std.specs.Prelude.{ℕ, ◌+◌, ◌-◌, ◌*◌, ◌%◌, ◌==◌, ◌&&◌, nat_le, nat_lt, if◌then◌else◌, Bool, List, take, drop, Option, Some, None}
+use Rattle.model_base.specs.{field, is_within_limits}
 use Rattle.model_base.specs.declared.shape.Shape.{Shape}
 use Rattle.model_base.specs.declared.limits.TheConstants.{BLOCK_SIZE, FIRST_DATA_LSN, LSN_LIMIT}
-use Rattle.model_log.specs.Block.{fits_checksum, with_checksum}
+use Rattle.model_log.specs.Block.{fits_checksum}
 use Rattle.model_log.specs.declared.layout.TheConstants.{BLOCK_DATA_END, BLOCK_HEADER}
-use Rattle.model_log.specs.{block_of, blocks_between, header_block, IsAtDataStart, newer, sector_at, shape_of}
-use Rattle.model_page.specs.{page_text}
-use Rattle.model_page.specs.declared.content.Content.{Content}
+use Rattle.model_log.specs.{block_of, blocks_between, header_block, newer, sector_at, shape_of}
 use Rattle.model_archive.specs.declared.layout.TheConstants.{ARCHIVE_FORMAT, ARCHIVE_HEADER}
 
--- who made it, in 32 bytes
-abbrev pub archive_creator : List ℕ
-archive_creator = padded_to 32 (codes "redolab A")
-
--- the head of an archive of a run of a store of this shape that starts there
-unfoldable pub archive_head_text : ℕ → Shape → List ℕ
-archive_head_text s shape =
-    with_checksum (padded_to BLOCK_DATA_END (bytes_high_first 4 ARCHIVE_FORMAT ++ bytes_high_first 4 0
-    ++ bytes_high_first 8 s ++ archive_creator
-    ++ bytes_high_first 4 shape.page_size ++ bytes_high_first 4 shape.pages ++ bytes_high_first 4 shape.space
-    ++ bytes_high_first 4 shape.log_blocks ++ bytes_high_first 4 shape.slots))
-
 -- a run may start there: at the first data byte of a block
-pub record IsRunStart (s : ℕ) : Type 0 where
-  pub place : IsAtDataStart s
-  pub first : FIRST_DATA_LSN ≤ s
-  pub small : s < LSN_LIMIT
-
 abbrev pub is_run_start : ℕ → Bool
 is_run_start s = s % BLOCK_SIZE == BLOCK_HEADER && nat_le FIRST_DATA_LSN s && nat_lt s LSN_LIMIT
 
@@ -45,14 +25,6 @@ read_archive_head bytes =
 -- which block a mark stands in: 1 where its number is even, 2 where it is odd
 abbrev pub mark_place : ℕ → ℕ
 mark_place number = if number % 2 == 0 then 1 else 2
-
--- the other of the two
-abbrev pub other_mark_place : ℕ → ℕ
-other_mark_place number = 3 - mark_place number
-
--- the block of the mark of this number at this lsn
-unfoldable pub mark_text : ℕ → ℕ → List ℕ
-mark_text number lsn = with_checksum (padded_to BLOCK_DATA_END (bytes_high_first 8 number ++ bytes_high_first 8 lsn))
 
 -- the lsn is the place of a byte of a group, from the run's start on
 abbrev pub is_mark_lsn : ℕ → ℕ → Bool
@@ -88,14 +60,3 @@ archive_block shape s b image = sector_at (archive_place shape s b) image
 -- the bytes of page p
 unfoldable pub base_bytes : Shape → ℕ → List ℕ → List ℕ
 base_bytes shape p image = take shape.page_size (drop (ARCHIVE_HEADER + p * shape.page_size) image)
-
--- the texts of pages, of which the first has the number p, one after the other
-abbrev pub base_text : ℕ → ℕ → List Content → List ℕ
-base_text p space [] = []
-base_text p space (page ∷ pages) = page_text p space page.lsn page.user ++ base_text (p + 1) space pages
-
--- what stands on a device once an archive was begun on it
-abbrev pub begun_bytes : Shape → ℕ → List ℕ → List ℕ → List ℕ
-begun_bytes shape s texts old =
-    overwritten 0 (archive_head_text s shape) (overwritten BLOCK_SIZE (mark_text 0 s)
-    (overwritten ARCHIVE_HEADER texts (overwritten 0 (replicate ARCHIVE_HEADER 0) old)))

@@ -8,11 +8,12 @@ ghost use Rattle.model_log.specs.{block_of, blocks_between, groups_of, IsAtDataS
 ghost use Rattle.model_log.specs.declared.group.Whole.{Whole};
 ghost use Rattle.model_page.specs.declared.content.Content.{Content};
 ghost use Rattle.model_store.specs.{folded, IsStorable};
-ghost use Rattle.model_archive.specs.Holds.{ArchiveHolds, AreArchivedBlocks, IsArchivedBlock, IsFairArchive};
-ghost use Rattle.model_archive.specs.Reads.{ReadsArchive, RestoresUpTo};
+ghost use Rattle.model_archive.specs.Holds.{ArchiveHolds, AreArchivedBlocks, IsArchivedBlock};
+ghost use Rattle.model_archive.specs.Reads.{ReadsArchive};
 ghost use Rattle.model_archive.specs.Restore.{ending_by, IsRestored, RefusesRestore};
 ghost use Rattle.model_archive.specs.declared.marks.ArchMarks.{ArchMarks};
 ghost use Rattle.model_archive.specs.declared.refusal.RestoreRefusal.{RestoreRefusal};
+ghost use Rattle.model_archive.specs.Fair.{IsFairArchive, RestoresUpTo};
 
 use model_log::one_group;
 

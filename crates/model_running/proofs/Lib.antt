@@ -1,5 +1,4 @@
 pub mod AnswersFitAll
-pub mod Appends
 pub mod ArchiverStays
 pub mod Archiving
 pub mod BlockGives

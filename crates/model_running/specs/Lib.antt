@@ -20,7 +20,7 @@ pub mod Seating
 pub mod StartStore
 pub mod UsersClosed
 pub mod Watermarks
-pub use Rattle.model_running.specs.Appending.{CanAppend, IsNoAppend}
+pub use Rattle.model_running.specs.Appending.{IsNoAppend}
 pub use Rattle.model_running.specs.Bounds.{HasBytes, HaveSmallCodes}
 pub use Rattle.model_running.specs.ClosedStore.{DataTells, LogTells}
 pub use Rattle.model_running.specs.DataReady.{CanLendBatch}
