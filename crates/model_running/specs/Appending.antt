@@ -1,5 +1,4 @@
 -- Ops beside the archive.
-use Rattle.std.specs.Prelude.{Unit, ⊥}
 use Rattle.model_core.specs.declared.ops.Op.{Op}
 use Rattle.model_core.specs.declared.ops.Op.TheVariants as op
 
