@@ -44,9 +44,9 @@ got_by_none : {R : Type 0} (stands : R → List Given → Type 0) (o : Option (F
 got_by_none stands None groups = tt
 got_by_none stands (Some f) groups = tt
 
-module _ {L D X R : Type 0} {archive : Bool} (log_seen : L → Seen) (data_seen : D → Seen) (seen : X → Seen)
-    (stands : R → List Given → Type 0) (run : RunOf L D) (starts : List (Actor R)) (first : Option (Part X))
-    (parts : Parts L D) (actors : List (Actor R)) (part : Option (Part X)) where
+module _ {L D X R : Type 0} (log_seen : L → Seen) (data_seen : D → Seen) (seen : X → Seen)
+    (stands : R → List Given → Type 0) (run : RunOf L D) (archive : Bool) (starts : List (Actor R))
+    (first : Option (Part X)) (parts : Parts L D) (actors : List (Actor R)) (part : Option (Part X)) where
   -- the run that began with the first of these actors and with this archive has come to these
   abbrev pub HasComeWith : Type 0
   HasComeWith = (F : RunsFromWith log_seen data_seen stands run archive starts parts actors)
@@ -102,8 +102,7 @@ module _ {L D R : Type 0} (log_seen : L → Seen) (data_seen : D → Seen) (run 
       → OwnRunsWith log_seen data_seen run archive new left_held)
       (starts : List (Actor R)) (first part : Option (Part X)) where
     abbrev Over : Parts L D → List (Actor R) → List model.Actor → Type 0
-    Over parts actors views = ComesOver {archive = archive} log_seen data_seen seen stands run starts first parts actors
-        part views
+    Over parts actors views = ComesOver log_seen data_seen seen stands run archive starts first parts actors part views
 
     goes_to : Over old (crew users work others) (actors_of held) → Over new now (actors_of left_held)
     goes_to F = record {
@@ -148,13 +147,12 @@ module _ {L D R : Type 0} (log_seen : L → Seen) (data_seen : D → Seen) (run 
             ∙ views_at (crew users work others) j a there)
 
     -- THE RUN COMES TO IT AGAIN.
-    pub user_comes : HasComeWith {archive = archive} log_seen data_seen seen stands run starts first old
-        (crew users work others) part
-        → HasComeWith {archive = archive} log_seen data_seen seen stands run starts first new now part
-    user_comes C = come_with log_seen data_seen seen stands run starts first new now part
+    pub user_comes : HasComeWith log_seen data_seen seen stands run archive starts first old (crew users work others) part
+        → HasComeWith log_seen data_seen seen stands run archive starts first new now part
+    user_comes C = come_with log_seen data_seen seen stands run archive starts first new now part
         (subst (Over new now) (sym (crew_views left (set users seat then) others))
         (goes_to (subst (Over old (crew users work others)) (crew_views work users others)
-        (over log_seen data_seen seen stands run starts first old (crew users work others) part C))))
+        (over log_seen data_seen seen stands run archive starts first old (crew users work others) part C))))
 
 -- where it has come the invariant holds
 pub runs_there : {L D X R : Type 0} (log_seen : L → Seen) (data_seen : D → Seen) (seen : X → Seen)

@@ -109,13 +109,11 @@ module _ {L D X R : Type 0} (log_seen : L → Seen) (data_seen : D → Seen) (se
       (crew_beside users work actors seat j past place below log_seen data_seen seen run old runs before beside))
 
   -- THE RUN THAT CAME TO THE MACHINE has come to it then.
-  pub come_other : {archive : Bool} (starts : List (Actor R)) (first : Option (Part X))
-      → HasComeWith {archive = archive} log_seen data_seen seen stands run starts first old crew_now before
-      → HasComeWith {archive = archive} log_seen data_seen seen stands run starts first new
-      (crew users work (set actors j then)) after
-  come_other {archive} starts first C = subst
-      (λ (l : List (Actor R)). HasComeWith {archive = archive} log_seen data_seen seen stands run starts first new l after)
-      put (
+  pub come_other : (archive : Bool) (starts : List (Actor R)) (first : Option (Part X))
+      → HasComeWith log_seen data_seen seen stands run archive starts first old crew_now before
+      → HasComeWith log_seen data_seen seen stands run archive starts first new (crew users work (set actors j then)) after
+  come_other archive starts first C = subst
+      (λ (l : List (Actor R)). HasComeWith log_seen data_seen seen stands run archive starts first new l after) put (
         runs_from log_seen data_seen stands run old new crew_now (behind users j) d then step its_place in_its_seat.served
             (its_log_laws log_seen data_seen run) (its_data_laws log_seen data_seen run) same starts C.0,
         turned.come_then log_seen data_seen seen stands run old new crew_now (behind users j) d then step its_place before

@@ -40,7 +40,7 @@ abbrev pub LeavesWord : List ℕ → ℕ → Op → Type 0
 LeavesWord ws i o = slice_index (words_left ws o) i ≡ slice_index ws i
 
 -- DEVICE's turn is another word
-module _ (ws : List ℕ) (i : ℕ) (other : 7 ≡ i → ⊥) where
+module _ (ws : List ℕ) (i : ℕ) (other : i ≡ 7 → ⊥) where
   device_aside : (x : ℕ) → slice_index (slice_set ws 7 x) i ≡ slice_index ws i
   device_aside x = get_or-set_other ws 7 i x 0 other
 
@@ -50,7 +50,7 @@ module _ (ws : List ℕ) (i : ℕ) (other : 7 ≡ i → ⊥) where
 
 module _ (D : LogSide) (p : D.Part) (users : List OwnUser) (k : LogWork) (others : List Actor)
     (errands : Errands D p users k) (seat : ℕ) (o : OwnUser) (at : get_elem? users seat ≡ some o) (ws : List ℕ) (i : ℕ)
-    (other : 7 ≡ i → ⊥) where
+    (other : i ≡ 7 → ⊥) where
   abbrev asked : Bool → Op → Op
   asked b x = cond b (op.Load word.Failed) x
 

@@ -32,8 +32,8 @@ module _ {L D A R : Type 0} (log_seen : L → Seen) (data_seen : D → Seen) (se
     (may : MayBegin opened script log_only) (archived : IfSome before (IsNewArchive seen opened script))
     (is : m.archive ≡ before) where
   abbrev Has : Parts L D → List (Actor R) → Option (Part A) → Type 0
-  Has parts actors part = HasComeWith {archive = is_some before} log_seen data_seen seen stands B.begins.run
-      B.start.actors.items before parts actors part
+  Has parts actors part = HasComeWith log_seen data_seen seen stands B.begins.run (is_some before) B.start.actors.items
+      before parts actors part
 
   came : Has m.parts (crew_of m) m.archive
   came = subst (λ (p : Parts L D). Has p (crew_of m) m.archive) (sym B.parts)

@@ -75,6 +75,7 @@ returns-clause-followed g c = followed g.L.Sectors.seen g.L.Sectors.gives g.D.Se
     c.args.followers.items c.finish-closed.result.1.items _ (leads g c) c.requires.new
 
 pub returns-clause-archived : goal.returns-clause-archived
+unfolding leads
 returns-clause-archived g c =
     subst (λ (a : Option (Part g.row.A.Denot)). HaveArchived g.L.Sectors.seen g.D.Sectors.seen g.A.Sectors.seen
     c.args.opened c.args.script.now c.finish-closed.result.0 (views_of c.finish-closed.result.1.items) c.args.archive a)

@@ -20,7 +20,7 @@ finish-requires g c =
     }
 
 pub returns-clause-kept : goal.returns-clause-kept
-returns-clause-kept g c = let kept = c.finish.ensures.kept in (kept.0 ∙ c.give_seats-actors.ensures, (kept.1, kept.2))
+returns-clause-kept g c = let kept = c.finish.ensures.kept in (kept.0 ∙ c.give_seats-actors.ensures, kept.1, kept.2)
 
 pub returns-clause-history : goal.returns-clause-history
 returns-clause-history g c = λ run archive. let m = c.args.self in

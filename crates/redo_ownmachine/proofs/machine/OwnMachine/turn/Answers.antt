@@ -1,4 +1,4 @@
-use Rattle.std.proofs.Common.{Bool, ap, arith, is_some, subst, sym, ◌-◌, ◌∙◌}
+use Rattle.std.proofs.Common.{Bool, ap, arith, is_some, set, subst, sym, ◌-◌, ◌∙◌}
 use mathlib.Core.Option.{some}
 use Rattle.model_core.specs.{lent, next}
 use Rattle.redo_drive.specs.Asking.{AskOfBoth}
@@ -119,7 +119,8 @@ returns-else-seat-users-clause-on_run g c =
     (omega arith) (let in_seat = c.requires.seat in omega arith) served.served asked in
     record {
       run = O.run;
-      runs = subst (λ (b : Bool). OwnRunsWith g.L.Sectors.seen g.D.Sectors.seen O.run b did.new.parts _)
+      runs = subst (λ (b : Bool). OwnRunsWith g.L.Sectors.seen g.D.Sectors.seen O.run b did.new.parts
+          (record { users = m.users.items; work = m.work; others = views_of (set m.others.items j did.new.actor) }))
           (sym (other.some_stays g.L.Sectors.seen g.D.Sectors.seen g.A.Sectors.seen g.R.Receiver.stands_for O.run m.parts
           did.new.parts m.users.items m.work m.others.items c.args.seat j d did.new.actor did.result (omega arith) (omega arith)
           (let in_seat = c.requires.seat in omega arith) m.archive did.new.archive served did.ensures.pages))
@@ -164,7 +165,8 @@ returns-else-seat-users-clause-from g c = λ run archive starts before F.
     (omega arith) (let in_seat = c.requires.seat in omega arith) served.served asked in
     let C = other.come_other g.L.Sectors.seen g.D.Sectors.seen g.A.Sectors.seen g.R.Receiver.stands_for run m.parts
     did.new.parts m.users.items m.work m.others.items c.args.seat j d did.new.actor did.result (omega arith) (omega arith)
-    (let in_seat = c.requires.seat in omega arith) m.archive did.new.archive served did.ensures.pages starts before (F.from, F.come) in
+    (let in_seat = c.requires.seat in omega arith) m.archive did.new.archive served did.ensures.pages archive starts before
+    (F.from, F.come) in
     record {
       from = C.0;
       errands = (runs_then g.L.Sectors.seen g.D.Sectors.seen run m.parts did.new.parts (seats_of m) _ c.args.seat t.answer
