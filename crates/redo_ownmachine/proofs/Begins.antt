@@ -1,5 +1,5 @@
 -- A run whose users write for themselves begins as any run does.
-use Rattle.std.proofs.Common.{Bool, List, [], ap, append_assoc, arith, false, length, map, refl, subst, suc, sym, true}
+use Rattle.std.proofs.Common.{Bool, List, [], ap, append_assoc, arith, false, length, map, subst, suc, sym, true}
 use Rattle.std.proofs.Common.{zero, ℕ, ◌++◌, ◌+◌, ◌<◌, ◌∙◌, ◌∷◌, ◌≡◌, ◌≤◌}
 use Rattle.std.specs.Prelude.{IfSome}
 use Rattle.model_base.specs.declared.limits.TheConstants.{LSN_LIMIT}

@@ -1,6 +1,6 @@
 -- After a turn of a user the run that has come to a machine comes to it again: with what followers' receivers have got, and
 -- with its archive.
-use Rattle.std.proofs.Common.{Bool, List, None, Option, Some, ap, arith, length, set, subst, sym, ℕ, ⊎_elim, ◌+◌, ◌∙◌, ◌≡◌, ◌≤◌}
+use Rattle.std.proofs.Common.{Bool, List, None, Option, Some, ap, length, set, subst, sym, ℕ, ⊎_elim, ◌+◌, ◌∙◌, ◌≡◌, ◌≤◌}
 use Rattle.std.proofs.lemmas.List.{length-set}
 use lib.ListN.{get_elem?}
 use mathlib.Core.Option.{some}

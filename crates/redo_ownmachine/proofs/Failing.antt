@@ -4,7 +4,7 @@ use Rattle.std.proofs.Common.{◌+◌, ◌<◌, ◌==◌, ◌∙◌, ◌≡◌, 
 use Rattle.std.specs.Prelude.{slice_index, slice_set}
 use lib.ListN.{get_elem?}
 use mathlib.Core.Option.{some}
-use Rattle.model_core.specs.{answer_of, DataServed, filled, HasLost, lent, lists_left, LogServed, next}
+use Rattle.model_core.specs.{answer_of, DataServed, filled, HasLost, lists_left, LogServed, next}
 use Rattle.model_core.specs.{old_of, step_of, took, user_ending, words_left}
 use Rattle.model_core.specs.Actors as actor
 use Rattle.model_core.specs.Actors.{Lent}

@@ -1,5 +1,5 @@
 -- A turn of a user leaves the groups of the log, and those that followers have handed on.
-use Rattle.std.proofs.Common.{Bool, List, [], ap, arith, cond, false, refl, set, subst, sym, true, ℕ, ◌∙◌, ◌≡◌, ◌≤◌}
+use Rattle.std.proofs.Common.{Bool, List, [], arith, cond, false, refl, set, subst, sym, true, ℕ, ◌≡◌, ◌≤◌}
 use lib.ListN.{get_elem?}
 use mathlib.Core.Option.{some}
 use Rattle.model_core.specs.Actors as model

@@ -1,5 +1,5 @@
 -- A turn of another actor, beside an archive or none: it is one of the store with the users, a writer and a flusher.
-use Rattle.std.proofs.Common.{Bool, List, Option, ap, arith, get_or, length, set, subst, sym, ℕ, ◌+◌, ◌-◌, ◌<◌, ◌∙◌, ◌≡◌, ◌≤◌}
+use Rattle.std.proofs.Common.{Bool, List, Option, ap, arith, get_or, length, set, subst, sym, ℕ, ◌-◌, ◌<◌, ◌∙◌, ◌≡◌, ◌≤◌}
 use Rattle.std.specs.Prelude.{is_some}
 use Rattle.model_core.specs.Actors as model
 use Rattle.model_core.specs.{Given, next, ReaderState}

@@ -1,6 +1,6 @@
 -- Whose Op a user plays that writes for itself: its own, or one of the writer or the flusher, had the store these. Else it
 -- takes or gives DEVICE, or loads FAILED.
-use Rattle.std.proofs.Common.{Bool, List, ap, cond, false, get_or-set_other, inl, inr, refl, subst, sym, true, ℕ, ⊎_elim}
+use Rattle.std.proofs.Common.{Bool, List, ap, cond, false, get_or-set_other, inl, inr, refl, subst, sym, true, ℕ}
 use Rattle.std.proofs.Common.{◌==◌, ◌∙◌, ◌≡◌, ◌⊎◌, []}
 use Rattle.std.specs.Prelude.{slice_index, slice_set}
 use lib.ListN.{get_elem?}

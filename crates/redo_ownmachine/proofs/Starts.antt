@@ -8,7 +8,7 @@ use Rattle.model_report.specs.declared.entry.Entry.{Entry}
 use Rattle.model_script.specs.declared.script.ScriptLine.{ScriptLine}
 use Rattle.redo_archive.specs.Part.{Part}
 use Rattle.redo_disk.specs.Seen.{Seen}
-use Rattle.redo_drive.specs.Archiving.{HasComeTo, IsBeside}
+use Rattle.redo_drive.specs.Archiving.{IsBeside}
 use Rattle.redo_drive.specs.Startable.{AreNewFollowers, IsNewArchive, MayBegin}
 use Rattle.redo_drive.specs.Views.{views_of}
 use Rattle.redo_drive.specs.declared.actor.Actor.{Actor}
@@ -20,7 +20,6 @@ use Rattle.redo_ownmachine.proofs.Comes.{HasComeWith}
 use Rattle.redo_ownmachine.proofs.Places.{crew_views}
 use Rattle.redo_ownmachine.specs.OwnBegins.{OwnBeginsRun}
 use Rattle.redo_ownmachine.specs.OwnCrew.{HasRoom, HasSameSeats, crew_of, seats_of}
-use Rattle.redo_ownmachine.specs.OwnSeats.{actors_of}
 use Rattle.redo_ownmachine.specs.OwnStore.{OwnComesFrom, OwnIsOnRun, OwnRunsWith}
 use Rattle.redo_ownmachine.specs.declared.machine.OwnMachine.{OwnMachine}
 use Rattle.redo_store.specs.declared.opened.Opened.{Opened}

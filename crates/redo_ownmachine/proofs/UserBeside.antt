@@ -18,7 +18,6 @@ use Rattle.model_logcore.specs.LogHalf.{lengths}
 use Rattle.model_own.specs.OwnTurn.{all_actors}
 use Rattle.model_own.specs.OwnWrites.{LogWork, OwnUser, own_next}
 use Rattle.model_ownrun.proofs.OwnSeats.{own_same}
-use Rattle.model_page.specs.declared.content.Content.{Content}
 use Rattle.model_running.proofs.ArchiverStays.{rises}
 use Rattle.model_running.proofs.FlatWords.{flat_left}
 use Rattle.model_running.proofs.Groups.{run_of_log}
@@ -31,7 +30,7 @@ use Rattle.redo_disk.specs.Seen.{Seen}
 use Rattle.redo_drive.proofs.ArchiveGroups.{front_of}
 use Rattle.redo_drive.proofs.ArchiveTurns.{flushed_reserved}
 use Rattle.redo_drive.proofs.Viewed.{none_joined}
-use Rattle.redo_drive.specs.Archiving.{HasCome, HasComeTo, IsBeside, StandsBeside}
+use Rattle.redo_drive.specs.Archiving.{HasComeTo, IsBeside, StandsBeside}
 use Rattle.redo_drive.specs.Lists.{lists_of}
 use Rattle.redo_drive.specs.Playing.{RunOf, run_data_side, run_log_side}
 use Rattle.redo_drive.specs.Views.{views_of}

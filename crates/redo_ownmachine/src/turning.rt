@@ -71,7 +71,11 @@ impl<L: Sectors, D: Sectors, A: Sectors, R: Receiver> OwnMachine<L, D, A, R> {
         if seat < users {
             serve_user(&mut self.parts, &mut self.work, &mut self.users[seat])
         } else {
-            serve_with(&mut self.parts, &mut self.archive, &mut self.others[seat - users])
+            serve_with(
+                &mut self.parts,
+                &mut self.archive,
+                &mut self.others[seat - users],
+            )
         }
     }
 }

@@ -1,10 +1,9 @@
-use Rattle.std.proofs.Common.{Bool, List, ap, arith, is_some, length, refl, subst}
+use Rattle.std.proofs.Common.{Bool, List, ap, arith, length, refl, subst}
 use Rattle.redo_drive.specs.Begins.{BeginsWith}
 use Rattle.redo_drive.specs.declared.actor.Actor.{Actor}
 use Rattle.redo_ownmachine.proofs.Begins.{have_workers, own_begins}
 use Rattle.redo_ownmachine.proofs.Places.{crew_length}
 use Rattle.redo_ownmachine.proofs.Starts.{on_its_run}
-use Rattle.redo_ownmachine.proofs.machine.OwnMachine.new.Given as given
 use Rattle.redo_ownmachine.proofs.machine.OwnMachine.new.Goals as goal
 
 pub take_seats-requires : goal.take_seats-requires

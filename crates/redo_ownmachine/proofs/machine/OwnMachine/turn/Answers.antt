@@ -1,4 +1,4 @@
-use Rattle.std.proofs.Common.{Bool, ap, arith, is_some, set, subst, sym, ◌-◌, ◌∙◌}
+use Rattle.std.proofs.Common.{Bool, ap, arith, set, subst, sym, ◌-◌, ◌∙◌}
 use mathlib.Core.Option.{some}
 use Rattle.model_core.specs.{lent, next}
 use Rattle.redo_drive.specs.Asking.{AskOfBoth}
