@@ -1,6 +1,6 @@
 -- What a run by turns leaves, and so what it comes to.
-use Rattle.std.proofs.Common.{Bool, List, None, Option, Some, ap, arith, cond, false, is_some, length, slice_index, subst, sym}
-use Rattle.std.proofs.Common.{true, ⊎_elim, inl, inr, ℕ, ◌∙◌, ◌<◌, ◌≡◌}
+use Rattle.std.proofs.Common.{Bool, List, Option, ap, arith, cond, false, is_some, length, slice_index, subst, sym}
+use Rattle.std.proofs.Common.{true, ℕ, ◌∙◌, ◌<◌, ◌≡◌}
 use Rattle.model_core.specs.{Given, HasLost, index, lsn}
 use Rattle.model_core.specs.Actors as model
 use Rattle.model_core.specs.declared.words.Word.TheVariants as word
@@ -32,7 +32,7 @@ use Rattle.redo_machine.specs.ByTurns.{RunsByTurns}
 use Rattle.redo_drive.specs.Begins.{BeginsWith}
 use Rattle.redo_drive.specs.History.{ListsInOrder}
 use Rattle.redo_drive.specs.Leaving.{LeavesWith}
-use Rattle.redo_drive.specs.Running.{RunsFromWith, RunsWith}
+use Rattle.redo_drive.specs.Running.{RunsFromWith}
 use Rattle.redo_drive.specs.declared.making.Beginning.{Beginning}
 use Rattle.redo_drive.specs.Playing.{RunOf, run_data_side, run_log_side}
 use Rattle.redo_drive.specs.Turning.{core_of}
