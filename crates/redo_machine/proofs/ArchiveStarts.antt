@@ -1,38 +1,36 @@
 -- At a run's start its archive stands beside its actors.
-use Rattle.std.proofs.Common.{Bool, List, None, Option, Some, [], ap, arith, eqb-true, false, is_some, length, refl, slice_index, subst, suc, sym}
-use Rattle.std.proofs.Common.{true, zero, ℕ, ◌*◌, ◌++◌, ◌+◌, ◌<◌, ◌==◌, ◌∙◌, ◌∷◌, ◌≡◌, ◌≤◌}
+use Rattle.std.proofs.Common.{Bool, List, None, Option, Some, [], ap, arith, eqb-true, false, is_some, length, refl, slice_index, subst, sym}
+use Rattle.std.proofs.Common.{true, ℕ, ◌*◌, ◌++◌, ◌+◌, ◌<◌, ◌∙◌, ◌∷◌, ◌≡◌}
 use Rattle.std.proofs.lemmas.Bool.{ne_eqb}
 use Rattle.std.specs.Prelude.{IfSome}
 use lib.ListN.{get_elem?}
 use mathlib.Core.Option.{some}
 use Rattle.model_base.specs.declared.shape.Shape.{Shape}
 use Rattle.model_core.proofs.Lsns.{lsn_le}
-use Rattle.model_core.specs.{archives, flat, Given, lsn, new_reader, ReaderState, SharedWords}
+use Rattle.model_core.specs.{flat, Given, new_reader, ReaderState}
 use Rattle.model_core.specs.Actors as model
 use Rattle.model_core.specs.Groups as core
 use Rattle.model_core.specs.Setup.{Setup}
-use Rattle.model_ends.specs.Bound.{bytes_of, last_lsn}
+use Rattle.model_ends.specs.Bound.{bytes_of}
 use Rattle.model_log.specs.{IsAtDataStart}
 use Rattle.model_log.specs.declared.group.Whole.{Whole}
-use Rattle.model_logcore.specs.{StartActor, sum_over_actors}
+use Rattle.model_logcore.specs.{sum_over_actors}
 use Rattle.model_running.specs.History.{AreWholesOf}
 use Rattle.model_script.specs.{script_end}
 use Rattle.model_script.specs.declared.script.ScriptLine.{ScriptLine}
 use Rattle.redo_archive.specs.Part.{Part, PartArchives}
 use Rattle.redo_archiver.specs.{append_code, KeepsPace}
 use Rattle.redo_disk.specs.Seen.{Seen}
-use Rattle.redo_disk.specs.declared.error.DevError.{DevError}
 use Rattle.redo_disk.specs.declared.error.DevError.TheVariants.{Failed}
 use Rattle.redo_drive.proofs.FollowersLeft.{among, starts_with}
 use Rattle.redo_drive.proofs.RunStarts.{no_log}
-use Rattle.redo_drive.specs.Archiving.{HasCome, HasComeTo, HasNoArchiver, IsBeside, IsSameArchive, StandsBeside}
+use Rattle.redo_drive.specs.Archiving.{HasCome, HasComeTo, HasNoArchiver, IsBeside, StandsBeside}
 use Rattle.redo_drive.specs.Begins.{BeginsWith}
 use Rattle.redo_drive.specs.Playing.{RunOf}
 use Rattle.redo_drive.specs.Running.{RunsWith}
-use Rattle.redo_drive.specs.Setups.{first_reader, followers_from, readers_of, seated_actors, seated_before}
+use Rattle.redo_drive.specs.Setups.{first_reader, followers_from, readers_of, seated_before}
 use Rattle.redo_drive.specs.Startable.{AreNewFollowers, IsNewArchive, MayBegin}
 use Rattle.redo_drive.specs.Views.{followers_in, views_of}
-use Rattle.redo_drive.specs.declared.actor.Actor.{Actor}
 use Rattle.redo_drive.specs.declared.making.Beginning.{Beginning}
 use Rattle.redo_drive.specs.declared.parts.Parts.{Parts}
 use Rattle.redo_drive.specs.declared.seating.TheConstants.{FIRST_FOLLOWER}

@@ -1,11 +1,12 @@
 mod Alone
-mod ArchiveStarts
+pub mod ArchiveEnds
+pub mod ArchiveStarts
 pub mod Beside
 pub mod Ended
 pub mod FollowsRun
 pub mod PlayedNext
 pub mod RunLeft
 pub mod Runs
-mod TurnBeside
+pub mod TurnBeside
 pub mod UserSeats
 pub mod WriteAsks

@@ -1,6 +1,6 @@
 -- What a run by turns leaves, and so what it comes to.
-use Rattle.std.proofs.Common.{Bool, List, None, Option, Some, ap, arith, cond, false, is_some, length, slice_index, subst, sym}
-use Rattle.std.proofs.Common.{true, ⊎_elim, inl, inr, ℕ, ◌∙◌, ◌<◌, ◌≡◌}
+use Rattle.std.proofs.Common.{Bool, List, Option, ap, arith, cond, false, is_some, length, slice_index, subst, sym}
+use Rattle.std.proofs.Common.{true, ℕ, ◌∙◌, ◌<◌, ◌≡◌}
 use Rattle.model_core.specs.{Given, HasLost, index, lsn}
 use Rattle.model_core.specs.Actors as model
 use Rattle.model_core.specs.declared.words.Word.TheVariants as word
@@ -15,7 +15,6 @@ use Rattle.redo_disk.specs.Seen.{Seen}
 use Rattle.redo_logdev.specs.Part as log
 use Rattle.redo_archive.specs.Part.{Part}
 use Rattle.redo_archiver.specs.{append_code}
-use Rattle.redo_drive.proofs.ArchiveLeft.{has_archived, lost_with}
 use Rattle.redo_drive.proofs.ShapeStays.{run_shape}
 use Rattle.redo_drive.specs.Archived.{HaveArchived}
 use Rattle.redo_drive.specs.Archiving.{HasComeTo}
@@ -27,12 +26,13 @@ use Rattle.redo_drive.specs.Startable.{AreNewFollowers, MayBegin}
 use Rattle.redo_drive.specs.Calls.{CallOnBoth, CallsOn}
 use Rattle.redo_drive.specs.Drive.{HasMetError, Owes}
 use Rattle.redo_machine.proofs.Alone as alone
+use Rattle.redo_machine.proofs.ArchiveEnds.{have_archived, loses_by}
 use Rattle.redo_machine.specs.Appending.{lost_by}
 use Rattle.redo_machine.specs.ByTurns.{RunsByTurns}
 use Rattle.redo_drive.specs.Begins.{BeginsWith}
 use Rattle.redo_drive.specs.History.{ListsInOrder}
 use Rattle.redo_drive.specs.Leaving.{LeavesWith}
-use Rattle.redo_drive.specs.Running.{RunsFromWith, RunsWith}
+use Rattle.redo_drive.specs.Running.{RunsFromWith}
 use Rattle.redo_drive.specs.declared.making.Beginning.{Beginning}
 use Rattle.redo_drive.specs.Playing.{RunOf, run_data_side, run_log_side}
 use Rattle.redo_drive.specs.Turning.{core_of}
@@ -130,17 +130,8 @@ module _ {L D A R : Type 0} (log_seen : L → Seen) (log_gives : L → Call → 
   -- an archiver that has lost its archive did so by the error of the archive
   lost_by_archive : cond (is_some before)
       ((code : ℕ) → HasLost (views_of actors) code → code ≡ append_code driven.closed.lost) (Unit {0})
-  lost_by_archive = by_archive before after (is_some before) by.lost by.from.runs by.come
-    where
-      by_archive : (b a : Option (Part A)) (archive : Bool) → driven.closed.lost ≡ lost_by a
-          → (runs : RunsWith log_seen data_seen by.begins.run archive by.last (views_of actors))
-          → HasComeTo log_seen data_seen arch_seen by.begins.run by.last (views_of actors) runs b a
-          → cond (is_some b) ((code : ℕ) → HasLost (views_of actors) code → code ≡ append_code driven.closed.lost) (Unit {0})
-      by_archive None a archive is runs come = tt
-      by_archive (Some part) None archive is runs come = absurd come
-      by_archive (Some part) (Some later) archive is runs come = λ code lost.
-          lost_with log_seen data_seen arch_seen by.begins.run by.last (views_of actors) runs later come.beside code lost
-          ∙ ap append_code (sym is)
+  lost_by_archive = loses_by log_seen data_seen arch_seen by.begins.run by.last (views_of actors) by.from.runs before after
+      driven.closed.lost by.come by.lost
 
   pub leaves : LeavesWith log_seen log_gives data_seen data_gives stands opened script turns.log_only (is_some before) (length followers)
       by.first.actors.items actors driven.closed
@@ -208,14 +199,5 @@ module _ {L D A R : Type 0} (log_seen : L → Seen) (log_gives : L → Call → 
   -- WHAT IT LEAVES OF THE ARCHIVE.
   pub archived : HaveArchived log_seen data_seen arch_seen opened script driven.closed (views_of actors) before after
   unfolding leaves
-  archived = of_archive before after by.lost by.come
-    where
-      of_archive : (b a : Option (Part A)) → driven.closed.lost ≡ lost_by a
-          → HasComeTo log_seen data_seen arch_seen by.begins.run by.last (views_of actors) by.from.runs b a
-          → HaveArchived log_seen data_seen arch_seen opened script driven.closed (views_of actors) b a
-      of_archive None None is come = is
-      of_archive None (Some later) is come = absurd come
-      of_archive (Some part) None is come = absurd come
-      of_archive (Some part) (Some later) is come =
-          has_archived log_seen log_gives data_seen data_gives arch_seen stands opened script turns.log_only
-          (length followers) by.first.actors.items actors driven leaves part later come (sym is)
+  archived = have_archived log_seen log_gives data_seen data_gives arch_seen stands opened script turns.log_only
+      (length followers) by.first.actors.items actors driven leaves before after by.come by.lost

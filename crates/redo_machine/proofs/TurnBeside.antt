@@ -16,12 +16,12 @@ use Rattle.redo_disk.specs.Seen.{Seen}
 use Rattle.redo_drive.proofs.ArchiveGroups.{comes_on}
 use Rattle.redo_drive.proofs.ArchiveTurns as turns
 use Rattle.redo_drive.proofs.FailedTurns.{failed_turn_has_some}
-use Rattle.redo_drive.proofs.TurnsOf.{its_turn, runs_from, runs_on}
+use Rattle.redo_drive.proofs.TurnsOf.{its_turn, runs_on}
 use Rattle.redo_drive.proofs.Viewed.{none_joined, own_at}
 use Rattle.redo_drive.specs.Archiving.{Appends, HasComeTo, HasNoArchiver, IsBeside}
 use Rattle.redo_drive.specs.Playing.{HasSamePages, RunOf, run_data_side, run_log_side}
 use Rattle.redo_drive.specs.Receiving.{follower_of, IsSameFollower}
-use Rattle.redo_drive.specs.Running.{RunsFromWith, RunsWith}
+use Rattle.redo_drive.specs.Running.{RunsWith}
 use Rattle.redo_drive.specs.Turning.{FailedHasCause, code_in, core_of}
 use Rattle.redo_drive.specs.Views.{view_of, views_of}
 use Rattle.redo_drive.specs.declared.actor.Actor.{Actor}

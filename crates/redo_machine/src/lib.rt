@@ -18,4 +18,4 @@ pub use open_users::number_if_open;
 pub use playing::play;
 pub use redo_words::Step as Turned;
 pub use running::seat_of;
-pub use turning::serve;
+pub use turning::{serve, serve_with};

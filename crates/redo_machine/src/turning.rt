@@ -105,7 +105,7 @@ fn append<A: Sectors, R: Receiver>(
 }
 
 /// Gives an actor its turn, beside an archive or none.
-fn serve_with<L: Sectors, D: Sectors, A: Sectors, R: Receiver>(
+pub fn serve_with<L: Sectors, D: Sectors, A: Sectors, R: Receiver>(
     parts: &mut Parts<L, D>,
     archive: &mut Option<ArchPart<A>>,
     actor: &mut Actor<R>,

@@ -1,5 +1,5 @@
 -- A run whose users write for themselves begins as any run does.
-use Rattle.std.proofs.Common.{Bool, List, [], ap, append_assoc, arith, false, length, map, refl, subst, suc, sym, true}
+use Rattle.std.proofs.Common.{Bool, List, [], ap, append_assoc, arith, false, length, map, subst, suc, sym, true}
 use Rattle.std.proofs.Common.{zero, ℕ, ◌++◌, ◌+◌, ◌<◌, ◌∙◌, ◌∷◌, ◌≡◌, ◌≤◌}
 use Rattle.std.specs.Prelude.{IfSome}
 use Rattle.model_base.specs.declared.limits.TheConstants.{LSN_LIMIT}
@@ -21,7 +21,7 @@ use Rattle.model_script.specs.declared.misfit.TheConstants.{MARGIN}
 use Rattle.model_script.specs.declared.script.ScriptLine.{ScriptLine}
 use Rattle.redo_disk.specs.Seen.{Seen}
 use Rattle.redo_drive.proofs.ScriptRoom.{actors_reserve, room_for_all}
-use Rattle.redo_drive.specs.Begins.{BeginsRun, BeginsWith}
+use Rattle.redo_drive.specs.Begins.{BeginsWith}
 use Rattle.redo_drive.specs.Playing.{RunOf, run_data_side, run_log_side}
 use Rattle.redo_drive.specs.Running.{RunsWith}
 use Rattle.redo_drive.specs.Setups.{followers_from, page_actors, readers_of, users_of}
@@ -40,7 +40,7 @@ use Rattle.redo_ownmachine.specs.OwnBegins.{OwnBeginsRun}
 use Rattle.redo_ownmachine.specs.OwnCrew.{HasRoom, HaveWorkers, crew, crew_of, seats_of}
 use Rattle.redo_ownmachine.specs.OwnSeats.{AreAtHome, OwnSeats, actors_of}
 use Rattle.redo_ownmachine.specs.OwnAsking.{own_core_of}
-use Rattle.redo_ownmachine.specs.OwnStore.{OwnAlone, OwnRunsOn, OwnRunsWith}
+use Rattle.redo_ownmachine.specs.OwnStore.{OwnAlone, OwnRunsWith}
 use Rattle.redo_ownmachine.specs.declared.machine.OwnMachine.{OwnMachine}
 use Rattle.redo_store.specs.declared.opened.Opened.{Opened}
 
@@ -189,14 +189,14 @@ module _ {L D R : Type 0} {archive : Bool} (log_seen : L → Seen) (data_seen : 
           omega arith)
 
 -- So the machine stands at the beginning of the run.
-module _ {L D R : Type 0} (log_seen : L → Seen) (data_seen : D → Seen) (stands : R → List Given → Type 0)
-    (opened : Opened L D) (script : List ScriptLine) (log_only : Bool) (followers : List (Following R))
-    (start : Beginning L D R)
-    (begins : BeginsRun log_seen data_seen stands opened script log_only followers start)
-    (may : MayBegin opened script log_only) (m : OwnMachine L D R) (parts : m.parts ≡ start.parts)
+module _ {L D A R : Type 0} {archive : Bool} (log_seen : L → Seen) (data_seen : D → Seen)
+    (stands : R → List Given → Type 0) (opened : Opened L D) (script : List ScriptLine) (log_only : Bool)
+    (followers : List (Following R)) (start : Beginning L D R)
+    (begins : BeginsWith log_seen data_seen stands opened script log_only archive followers start)
+    (may : MayBegin opened script log_only) (m : OwnMachine L D A R) (parts : m.parts ≡ start.parts)
     (entries : m.entries ≡ start.entries) (are : ◌≡◌ {A = List (Actor R)} (crew_of m) start.actors.items)
     (home : AreAtHome m.users.items) (room : HasRoom m) where
-  pub own_begins : OwnBeginsRun log_seen data_seen stands opened script log_only followers m
+  pub own_begins : OwnBeginsRun log_seen data_seen stands opened script log_only archive followers m
   own_begins = record {
     start = start;
     begins = begins;
@@ -205,11 +205,11 @@ module _ {L D R : Type 0} (log_seen : L → Seen) (data_seen : D → Seen) (stan
     crew = are;
     at_home = home;
     has_room = room;
-    runs = subst (λ (p : Parts L D). OwnRunsOn log_seen data_seen begins.run p (seats_of m)) (sym parts)
+    runs = subst (λ (p : Parts L D). OwnRunsWith log_seen data_seen begins.run archive p (seats_of m)) (sym parts)
         (runs log_seen data_seen stands opened script log_only followers start begins may m.users.items m.work
         m.others.items are home);
-    alone = λ only none o one. subst (λ (p : Parts L D). OwnAlone log_seen data_seen begins.run p (seats_of m))
+    alone = λ only apart none o one. subst (λ (p : Parts L D). OwnAlone log_seen data_seen begins.run p (seats_of m))
         (sym parts)
         (alone log_seen data_seen stands opened script log_only followers start begins may m.users.items m.work
-        m.others.items are home refl only none o one);
+        m.others.items are home apart only none o one);
   }

@@ -1,10 +1,13 @@
 pub mod Begins
+pub mod Comes
 pub mod Failing
 pub mod From
 pub mod Grows
 pub mod OpenLoop
 pub mod OpenSeats
+pub mod OtherBeside
 pub mod Places
+pub mod Plays
 pub mod Putting
 pub mod RunLeft
 pub mod Runs
@@ -13,3 +16,4 @@ pub mod Sorting
 pub mod Starts
 pub mod Turned
 pub mod Unique
+pub mod UserBeside

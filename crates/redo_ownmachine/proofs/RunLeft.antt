@@ -1,5 +1,5 @@
 -- What a run by turns leaves whose users write for themselves, and so what it comes to.
-use Rattle.std.proofs.Common.{Bool, List, ap, length, slice_index, subst, suc, sym, zero, ⊎_elim, inl, inr, ℕ, ◌∙◌, ◌≡◌}
+use Rattle.std.proofs.Common.{Bool, List, Option, ap, is_some, length, slice_index, subst, suc, sym, zero, ⊎_elim, ℕ, ◌∙◌, ◌≡◌}
 use lib.ListN.{get_elem?}
 use Rattle.model_base.specs.declared.shape.Shape.{Shape}
 use Rattle.model_core.specs.{filled, Given, index, lent, lsn, next}
@@ -14,19 +14,21 @@ use Rattle.model_running.proofs.Seated.{seated_seats}
 use Rattle.model_running.specs.{HaveEnded, history_of, LeavesOpen, marks_in, word_marks}
 use Rattle.model_report.specs.declared.entry.Entry.{Entry}
 use Rattle.model_script.specs.declared.script.ScriptLine.{ScriptLine}
+use Rattle.redo_archive.specs.Part.{Part}
 use Rattle.redo_disk.specs.{Call}
 use Rattle.redo_disk.specs.Seen.{Seen}
 use Rattle.redo_drive.proofs.LeftRun as left_run
 use Rattle.redo_drive.proofs.ShapeStays.{served_shape}
-use Rattle.redo_drive.specs.Beginning.{StandsAtStart}
+use Rattle.redo_drive.specs.Archived.{HaveArchived}
+use Rattle.redo_drive.specs.Beginning.{StandsWith}
 use Rattle.redo_drive.specs.Calls.{CallOnBoth, CallsOn}
 use Rattle.redo_drive.specs.Drive.{HasMetError, Owes}
 use Rattle.redo_drive.specs.Followed.{HaveFollowed}
 use Rattle.redo_drive.specs.History.{ListsInOrder}
-use Rattle.redo_drive.specs.Leaving.{LeavesRun}
+use Rattle.redo_drive.specs.Leaving.{LeavesWith}
 use Rattle.redo_drive.specs.LogPartSide as log_part
 use Rattle.redo_drive.specs.Playing.{RunOf, run_data_side, run_log_side}
-use Rattle.redo_drive.specs.Setups.{start_actors}
+use Rattle.redo_drive.specs.Setups.{seated_actors}
 use Rattle.redo_drive.specs.Startable.{AreNewFollowers, MayBegin}
 use Rattle.redo_drive.specs.Views.{views_of}
 use Rattle.redo_drive.specs.declared.actor.Actor.{Actor}
@@ -36,6 +38,8 @@ use Rattle.redo_drive.specs.declared.drive.RunEnd.TheVariants as ended
 use Rattle.redo_drive.specs.declared.parts.Parts.{Parts}
 use Rattle.redo_follow.specs.Handing.{Following}
 use Rattle.redo_logdev.specs.Part as log
+use Rattle.redo_machine.proofs.ArchiveEnds.{have_archived, loses_by}
+use Rattle.redo_machine.specs.Appending.{lost_by}
 use Rattle.redo_machine.specs.declared.drive.Turns.{Turns}
 use Rattle.redo_ownmachine.proofs.Places.{crew_views}
 use Rattle.redo_ownmachine.proofs.Serves.{its_data_laws, its_log_laws}
@@ -44,7 +48,7 @@ use Rattle.redo_ownmachine.specs.OwnByTurns.{OwnRunsByTurns}
 use Rattle.redo_ownmachine.specs.OwnCrew.{crew_of, seats_of}
 use Rattle.redo_ownmachine.specs.OwnSeats.{OwnSeats, actors_of}
 use Rattle.redo_ownmachine.specs.OwnAsking.{own_core_of}
-use Rattle.redo_ownmachine.specs.OwnStore.{OwnAlone, OwnRunsFrom}
+use Rattle.redo_ownmachine.specs.OwnStore.{OwnAlone, OwnComesFrom}
 use Rattle.redo_ownmachine.specs.OwnTurns.{NoneWaits, OwnEndsAs, OwnEndsAsking}
 use Rattle.redo_ownmachine.specs.declared.machine.OwnMachine.{OwnMachine}
 use Rattle.redo_store.specs.Part as store
@@ -104,16 +108,18 @@ module _ {L D : Type 0} (log_seen : L → Seen) (data_seen : D → Seen) (run : 
       ends.1.turns).1
 
 -- The machine began the run of the script on the store, and the turns of the seed led from there to its end, at which the
--- invariant holds, with what the followers' receivers have got, and of which the closed run tells.
-pub record OwnTurnsLead {L D R : Type 0} (log_seen : L → Seen) (log_gives : L → Call → L → Type 0)
-    (data_seen : D → Seen) (data_gives : D → Call → D → Type 0) (stands : R → List Given → Type 0)
-    (opened : Opened L D) (script : List ScriptLine) (turns : Turns) (followers : List (Following R))
-    (actors : List (Actor R)) (driven : Driven L D) : Type 0 where
-  pub first : OwnMachine L D R
-  pub start : OwnBeginsRun log_seen data_seen stands opened script turns.log_only followers first
-  pub last : OwnMachine L D R
+-- invariant holds, with what the followers' receivers have got and with the archive, and of which the closed run tells.
+pub record OwnTurnsLead {L D A R : Type 0} (log_seen : L → Seen) (log_gives : L → Call → L → Type 0)
+    (data_seen : D → Seen) (data_gives : D → Call → D → Type 0) (arch_seen : A → Seen)
+    (stands : R → List Given → Type 0) (opened : Opened L D) (script : List ScriptLine) (turns : Turns)
+    (before : Option (Part A)) (followers : List (Following R)) (actors : List (Actor R)) (driven : Driven L D) : Type 0 where
+  pub first : OwnMachine L D A R
+  pub start : OwnBeginsRun log_seen data_seen stands opened script turns.log_only (is_some before) followers first
+  pub last : OwnMachine L D A R
   pub actors_are : ◌≡◌ {A = List (Actor R)} actors (crew_of last)
-  pub from : OwnRunsFrom log_seen data_seen stands start.begins.run start.start.actors.items last
+  pub comes : OwnComesFrom log_seen data_seen arch_seen stands start.begins.run (is_some before) start.start.actors.items
+      before last
+  pub lost : driven.closed.lost ≡ lost_by last.archive
   pub ends : OwnEndsAsking log_seen log_gives data_seen data_gives start.begins.run turns.seed turns.max first.parts
       (seats_of first) driven.ended last.parts (seats_of last)
   pub calls : CallOnBoth log_gives data_gives first.parts last.parts
@@ -121,15 +127,16 @@ pub record OwnTurnsLead {L D R : Type 0} (log_seen : L → Seen) (log_gives : L 
   pub data_part : driven.closed.store ≡ last.parts.store
   pub marks : driven.closed.marks ≡ marks_in last.parts.words.words
   pub code : driven.closed.code ≡ slice_index last.parts.words.words (index word.Failed)
-  pub history : driven.closed.history ≡ history_of from.runs.running.log_ghost.answered
-      (word_marks from.runs.running.shared) from.runs.running.log_ghost.log
+  pub history : driven.closed.history ≡ history_of comes.from.runs.running.log_ghost.answered
+      (word_marks comes.from.runs.running.shared) comes.from.runs.running.log_ghost.log
   pub listed : ListsInOrder driven.closed.marks (views_of (crew_of last)) driven.closed.history
 
-module _ {L D R : Type 0} (log_seen : L → Seen) (log_gives : L → Call → L → Type 0) (data_seen : D → Seen)
-    (data_gives : D → Call → D → Type 0) (stands : R → List Given → Type 0) (opened : Opened L D)
-    (script : List ScriptLine) (turns : Turns) (followers : List (Following R)) (actors : List (Actor R))
-    (driven : Driven L D)
-    (by : OwnTurnsLead log_seen log_gives data_seen data_gives stands opened script turns followers actors driven) where
+module _ {L D A R : Type 0} (log_seen : L → Seen) (log_gives : L → Call → L → Type 0) (data_seen : D → Seen)
+    (data_gives : D → Call → D → Type 0) (arch_seen : A → Seen) (stands : R → List Given → Type 0)
+    (opened : Opened L D) (script : List ScriptLine) (turns : Turns) (before : Option (Part A))
+    (followers : List (Following R)) (actors : List (Actor R)) (driven : Driven L D)
+    (by : OwnTurnsLead log_seen log_gives data_seen data_gives arch_seen stands opened script turns before followers actors
+    driven) where
   abbrev run : RunOf L D
   run = by.start.begins.run
 
@@ -147,15 +154,16 @@ module _ {L D R : Type 0} (log_seen : L → Seen) (log_gives : L → Call → L 
   starts_views = ap views_of (sym by.start.crew)
       ∙ crew_views by.first.work by.first.users.items by.first.others.items
 
-  begins_at : StandsAtStart opened script (length followers) run by.first.parts (actors_of (seats_of by.first))
-  begins_at = subst (λ (p : Parts L D). StandsAtStart opened script (length followers) run p
+  begins_at : StandsWith opened script (is_some before) (length followers) run by.first.parts
+      (actors_of (seats_of by.first))
+  begins_at = subst (λ (p : Parts L D). StandsWith opened script (is_some before) (length followers) run p
       (actors_of (seats_of by.first))) (sym by.start.parts)
-      (subst (λ (l : List model.Actor). StandsAtStart opened script (length followers) run by.start.start.parts l)
-      starts_views by.start.begins.stands)
+      (subst (λ (l : List model.Actor). StandsWith opened script (is_some before) (length followers) run
+      by.start.start.parts l) starts_views by.start.begins.stands)
 
   -- so the run is by turns
-  pub by_turns : OwnRunsByTurns log_seen log_gives data_seen data_gives opened script turns (length followers)
-      (views_of actors) driven
+  pub by_turns : OwnRunsByTurns log_seen log_gives data_seen data_gives opened script turns (is_some before)
+      (length followers) (views_of actors) driven
   by_turns = record {
     run = run;
     is_run = by.start.begins.is_run;
@@ -174,9 +182,9 @@ module _ {L D R : Type 0} (log_seen : L → Seen) (log_gives : L → Call → L 
     code = by.code;
     history = subst (λ (l : List (Actor R)). ListsInOrder driven.closed.marks (views_of l) driven.closed.history)
         (sym by.actors_are) by.listed;
-    alone = λ only none user one. none_waits log_seen data_seen run turns.seed turns.max by.first.parts
+    alone = λ only apart none user one. none_waits log_seen data_seen run turns.seed turns.max by.first.parts
         (seats_of by.first) driven.ended by.last.parts (seats_of by.last) log_gives data_gives by.ends.ends
-        (by.start.alone only none user one);
+        (by.start.alone only apart none user one);
   }
 
   log_is : ◌≡◌ {A = log.Part L} by.first.parts.log opened.log
@@ -185,14 +193,14 @@ module _ {L D R : Type 0} (log_seen : L → Seen) (log_gives : L → Call → L 
   data_is : ◌≡◌ {A = store.Part D} by.first.parts.store opened.store
   data_is = ap (λ (p : Parts L D). p.store) by.start.parts ∙ by.start.begins.data_part
 
-  pub leaves : LeavesRun log_seen log_gives data_seen data_gives stands opened script turns.log_only (length followers)
-      starts ending driven.closed
+  pub leaves : LeavesWith log_seen log_gives data_seen data_gives stands opened script turns.log_only (is_some before)
+      (length followers) starts ending driven.closed
   leaves = record {
     run = run;
     is_run = by.start.begins.is_run;
     begun = by.start.begins.begun;
     last = by.last.parts;
-    from = by.from;
+    from = by.comes.from;
     log_calls = subst (λ (z : log.Part L). CallsOn log_gives z.dev z.failed by.last.parts.log.dev
         by.last.parts.log.failed) log_is by.calls.log;
     data_calls = subst (λ (z : store.Part D). CallsOn data_gives z.dev z.failed by.last.parts.store.dev
@@ -205,7 +213,8 @@ module _ {L D R : Type 0} (log_seen : L → Seen) (log_gives : L → Call → L 
     marks = by.marks;
     code = by.code;
     history = by.history;
-    lost = tt;
+    lost = loses_by log_seen data_seen arch_seen run by.last.parts (views_of ending) by.comes.from.runs before
+        by.last.archive driven.closed.lost by.comes.come by.lost;
   }
 
   abbrev Ends : RunEnd → Type 0
@@ -220,16 +229,15 @@ module _ {L D R : Type 0} (log_seen : L → Seen) (log_gives : L → Call → L 
   unfolding leaves
   leaves_open count user spent =
       let end = (subst Ends spent by.ends.ends).1 in
-      let c = run.setup in let g = by.from.runs.running.log_ghost in let m = by.from.runs.running.shared in
+      let c = run.setup in let g = by.comes.from.runs.running.log_ghost in let m = by.comes.from.runs.running.shared in
       subst (λ (z : List Entry). LeavesOpen script z (HasMetError driven.closed) user) (sym by.history)
       (open_lines.leaves_open (run_log_side log_seen data_seen run) c 0 m g by.last.parts.log (views_of ending)
-      by.from.runs.running.both.logged (word_marks m) script opened.shape by.start.begins.is_run.of_script
-      (seated_seats c (views_of ending) by.from.runs.seated script opened.shape by.start.begins.is_run.of_script)
+      by.comes.from.runs.running.both.logged (word_marks m) script opened.shape by.start.begins.is_run.of_script
+      (seated_seats c (views_of ending) by.comes.from.runs.seated script opened.shape by.start.begins.is_run.of_script)
       (HasMetError driven.closed)
       (λ failed. left_run.met_error log_seen log_gives data_seen data_gives stands opened script turns.log_only
       (length followers) starts ending driven leaves
-      (⊎_elim (λ cause. (m.failed, inl cause)) (λ cause. (m.failed, inr cause))
-      (by.from.runs.running.both.cause failed))) user end.seat end.state
+      (m.failed, by.comes.from.runs.running.both.cause failed)) user end.seat end.state
       (ap (λ (l : List model.Actor). get_elem? l end.seat) ending_views ∙ end.is) end.number end.not_ended
       (λ j u there. end.least j u (ap (λ (l : List model.Actor). get_elem? l j) (sym ending_views) ∙ there)))
 
@@ -244,6 +252,15 @@ module _ {L D R : Type 0} (log_seen : L → Seen) (log_gives : L → Call → L 
       (left_run.have_followed log_seen log_gives data_seen data_gives stands opened script turns.log_only
       (length followers) starts ending driven leaves followers new
       (by.start.begins.stands.are_new
-      ∙ ap (λ (b : Bool). start_actors opened.shape script opened.start b (length followers))
+      ∙ ap (λ (b : Bool). seated_actors opened.shape script opened.start b (is_some before) (length followers))
       by.start.begins.is_run.log_only_is)
       by.start.begins.followers)
+
+  -- WHAT IT LEAVES OF THE ARCHIVE.
+  pub archived : HaveArchived log_seen data_seen arch_seen opened script driven.closed (views_of actors) before
+      by.last.archive
+  unfolding leaves
+  archived = subst (λ (l : List (Actor R)). HaveArchived log_seen data_seen arch_seen opened script driven.closed
+      (views_of l) before by.last.archive) (sym by.actors_are)
+      (have_archived log_seen log_gives data_seen data_gives arch_seen stands opened script turns.log_only
+      (length followers) starts ending driven leaves before by.last.archive by.comes.come by.lost)

@@ -1,6 +1,6 @@
 -- Whoever has a turn may take it: a user asks for what its own seat asks for, or those of the writer and the flusher, had
 -- the store these.
-use Rattle.std.proofs.Common.{Bool, ap, cond, false, refl, subst, sym, true, ℕ, ⊎_elim, ◌<◌, ◌∙◌, ◌≡◌, is_some}
+use Rattle.std.proofs.Common.{Bool, ap, cond, false, refl, subst, sym, true, ℕ, ⊎_elim, ◌∙◌, ◌≡◌, is_some}
 use lib.ListN.{get_elem?}
 use mathlib.Core.Option.{some}
 use Rattle.model_core.specs.Actors as model
@@ -22,7 +22,7 @@ use Rattle.redo_disk.specs.Seen.{Seen}
 use Rattle.redo_drive.proofs.DataPartLaws.{data_laws}
 use Rattle.redo_drive.proofs.Filled.{IsNoRead, reader_or_no_read}
 use Rattle.redo_drive.proofs.LogPartLaws.{log_laws}
-use Rattle.model_running.proofs.Archiving.{none_appends, others_append_not}
+use Rattle.model_running.proofs.Archiving.{others_append_not}
 use Rattle.model_running.specs.{IsNoAppend}
 use Rattle.redo_drive.proofs.MayTurn.{serves_other}
 use Rattle.redo_drive.proofs.TurnsOf.{some_run}
@@ -32,7 +32,6 @@ use Rattle.redo_drive.specs.Lists.{lists_of}
 use Rattle.redo_drive.specs.Playing.{HasWholePages, IsPlayable, IsPlayed, RunOf, run_data_side, run_log_side}
 use Rattle.redo_drive.specs.Turning.{MayServe}
 use Rattle.redo_drive.specs.declared.parts.Parts.{Parts}
-use Rattle.redo_ownmachine.proofs.Places.{behind, other_at}
 use Rattle.redo_ownmachine.specs.OwnSeats.{OwnSeats, actors_of}
 use Rattle.redo_ownmachine.specs.OwnStore.{OwnRunsWith}
 use Rattle.redo_ownmachine.specs.Serving.{MayServeUser}
@@ -194,12 +193,6 @@ module _ {L D : Type 0} {archive : Bool} (log_seen : L → Seen) (data_seen : D 
       (may_at (flusher_seat seats.users) (model.Flusher seats.work.flusher)
       (flusher_there seats.users seats.work seats.others)
       (others_append_not (model.Flusher seats.work.flusher) tt))
-
-  pub may_serve_other : (j : ℕ) (a : model.Actor) → get_elem? seats.others j ≡ some a → archive ≡ false → MayServe parts a
-  may_serve_other j a at alone =
-      let there = other_at seats.work seats.users seats.others j ∙ at in
-      may_at (behind seats.users j) a there (none_appends run.setup a (R.runs.running.both.in_run (behind seats.users j) a
-      there) (subst (λ (b : Bool). cond {A = Type 0} b (Unit {0}) (0 < run.setup.first_reader)) alone R.runs.followers))
 
 -- the answer to what was played for it is one that it may take
 pub user_fits : {L D : Type 0} (log_seen : L → Seen) (data_seen : D → Seen) (old new : Parts L D) (o : OwnUser)

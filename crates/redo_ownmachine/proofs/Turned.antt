@@ -1,11 +1,12 @@
 -- What was played for whoever had its turn is a turn of the definition, and the run goes on.
-use Rattle.std.proofs.Common.{Bool, List, ap, arith, get_or, inl, inr, length, refl, set, subst, sym, ℕ, ◌+◌, ◌-◌, ◌<◌, ◌∙◌, ◌≡◌, ◌≤◌}
+use Rattle.std.proofs.Common.{Bool, List, ap, arith, get_or, inl, inr, length, refl, set, subst, sym, ℕ, ⊎_elim, ◌+◌, ◌-◌, ◌<◌, ◌∙◌}
+use Rattle.std.proofs.Common.{◌≡◌, ◌≤◌, ◌⊎◌}
 use Rattle.std.proofs.lemmas.List.{map-set}
 use lib.ListN.{get_elem?}
 use mathlib.Core.Option.{some, some-injective}
 use Rattle.model_core.specs.Actors as model
 use Rattle.model_core.specs.DataSide.{DataSide}
-use Rattle.model_core.specs.{filled, Given, lent, next, took}
+use Rattle.model_core.specs.{filled, Given, HasLost, lent, next, took}
 use Rattle.model_core.specs.LogSide.{LogSide}
 use Rattle.model_core.specs.Turn.{Turn}
 use Rattle.model_core.specs.declared.ops.Answer.{Answer}
@@ -20,17 +21,17 @@ use Rattle.redo_disk.specs.{Call}
 use Rattle.redo_disk.specs.Seen.{Seen}
 use Rattle.redo_drive.specs.Asking.{AskOfBoth}
 use Rattle.redo_drive.specs.Playing.{HasSamePages, RunOf, run_data_side, run_log_side}
-use Rattle.redo_drive.specs.Turning.{FailedHasCause, IsServed, core_of}
+use Rattle.redo_drive.specs.Turning.{FailedHasCause, IsServed, code_in, core_of}
 use Rattle.redo_drive.specs.Views.{view_of, views_of}
 use Rattle.redo_drive.specs.declared.actor.Actor.{Actor}
 use Rattle.redo_drive.specs.declared.parts.Parts.{Parts}
 use Rattle.redo_drive.proofs.Viewed.{view_at}
-use Rattle.redo_ownmachine.proofs.Failing.{own_failed_turn_has_cause}
+use Rattle.redo_ownmachine.proofs.Failing.{own_failed_turn_has_some}
 use Rattle.redo_ownmachine.proofs.Places.{behind, behind_seat, other_at, other_put, sits_below}
 use Rattle.redo_ownmachine.proofs.Serves.{its_data_laws, its_log_laws}
 use Rattle.redo_ownmachine.specs.OwnSeats.{OwnSeats, actors_of}
 use Rattle.redo_ownmachine.specs.OwnAsking.{own_core_of}
-use Rattle.redo_ownmachine.specs.OwnStore.{OwnAlone, OwnRunsOn, OwnRunsWith, TakesOwnTurn}
+use Rattle.redo_ownmachine.specs.OwnStore.{OwnAlone, OwnRunsWith, TakesOwnTurn}
 use Rattle.redo_ownmachine.specs.Serving.{IsUserServed}
 
 module _ {L D : Type 0} (log_seen : L → Seen) (data_seen : D → Seen) (run : RunOf L D) (old new : Parts L D)
@@ -79,20 +80,20 @@ module _ {L D : Type 0} (log_seen : L → Seen) (data_seen : D → Seen) (run : 
       (left.1, left.0)
 
   -- where it ends by a failure, FAILED's code has a cause
-  pub cause_then : HasSamePages old new → ATurn → OwnRunsOn log_seen data_seen run old seats → (code : ℕ)
-      → step ≡ step_is.Failed code → FailedHasCause log_seen data_seen run new
+  pub cause_then : {archive : Bool} → HasSamePages old new → ATurn → OwnRunsWith log_seen data_seen run archive old seats
+      → (code : ℕ) → step ≡ step_is.Failed code
+      → FailedHasCause log_seen data_seen run new ⊎ HasLost (actors_of after) (code_in new)
   cause_then same t R code failed =
-      own_failed_turn_has_cause A (its_log_laws log_seen data_seen run) B (its_data_laws log_seen data_seen run)
+      ⊎_elim (λ cause. inl (inl cause)) (⊎_elim (λ cause. inl (inr cause)) (λ lost. inr lost))
+      (own_failed_turn_has_some A (its_log_laws log_seen data_seen run) B (its_data_laws log_seen data_seen run)
       run.setup 0 (own_core_of log_seen data_seen run old seats) (own_core_of log_seen data_seen run new after) seat
-      answer step (runs_then same t R).runs.running R.runs.followers t code failed
+      answer step (runs_then same t R).runs.running t code failed)
 
 -- THE TURN OF A USER.
-module _ {L D : Type 0} (log_seen : L → Seen) (log_gives : L → Call → L → Type 0) (data_seen : D → Seen)
-    (data_gives : D → Call → D → Type 0) (run : RunOf L D) (old new : Parts L D) (users : List OwnUser)
-    (work left : LogWork) (others : List model.Actor) (seat : ℕ) (who then : OwnUser) (step : Step)
-    (at : get_elem? users seat ≡ some who)
-    (served : IsUserServed log_seen data_seen run old who work step new then left)
-    (asked : AskOfBoth log_gives data_gives (own_lends who work) (own_next who work) old new) where
+module _ {L D : Type 0} (log_seen : L → Seen) (data_seen : D → Seen) (run : RunOf L D) (old new : Parts L D)
+    (users : List OwnUser) (work left : LogWork) (others : List model.Actor) (seat : ℕ) (who then : OwnUser)
+    (step : Step) (at : get_elem? users seat ≡ some who)
+    (served : IsUserServed log_seen data_seen run old who work step new then left) where
   abbrev pub seats : OwnSeats
   seats = record { users = users; work = work; others = others }
 
@@ -117,16 +118,19 @@ module _ {L D : Type 0} (log_seen : L → Seen) (log_gives : L → Call → L �
     ends = served.ends;
   }
 
-  pub user_takes : TakesOwnTurn log_seen log_gives data_seen data_gives run old seats seat step new after
-  user_takes = record {
-    answer = served.answer;
-    turn = inl user_turn;
-    asked = record {
-      user = λ o there. subst (λ (x : OwnUser). AskOfBoth log_gives data_gives (own_lends x work) (own_next x work) old
-          new) (some-injective who o (sym at ∙ there)) asked;
-      other = λ a past there. absurd (let low = sits_below users seat who at in omega arith);
-    };
-  }
+  -- with what it asked of both devices
+  module _ (log_gives : L → Call → L → Type 0) (data_gives : D → Call → D → Type 0)
+      (asked : AskOfBoth log_gives data_gives (own_lends who work) (own_next who work) old new) where
+    pub user_takes : TakesOwnTurn log_seen log_gives data_seen data_gives run old seats seat step new after
+    user_takes = record {
+      answer = served.answer;
+      turn = inl user_turn;
+      asked = record {
+        user = λ o there. subst (λ (x : OwnUser). AskOfBoth log_gives data_gives (own_lends x work) (own_next x work)
+            old new) (some-injective who o (sym at ∙ there)) asked;
+        other = λ a past there. absurd (let low = sits_below users seat who at in omega arith);
+      };
+    }
 
 -- THE TURN OF ANOTHER ACTOR.
 module _ {L D R : Type 0} (log_seen : L → Seen) (log_gives : L → Call → L → Type 0) (data_seen : D → Seen)

@@ -8,7 +8,7 @@ use Rattle.redo_drive.specs.declared.actor.Actor.TheVariants as own
 use Rattle.redo_ownmachine.specs.OwnSeats.{OwnSeats}
 use Rattle.redo_ownmachine.specs.declared.machine.OwnMachine.{OwnMachine}
 
-abbrev pub seats_of : {L D R : Type 0} → OwnMachine L D R → OwnSeats
+abbrev pub seats_of : {L D A R : Type 0} → OwnMachine L D A R → OwnSeats
 seats_of m = record { users = m.users.items; work = m.work; others = views_of m.others.items }
 
 -- the users as actors, without their errands
@@ -19,7 +19,7 @@ users_alone users = map (λ o. own.User o.user) users
 abbrev pub crew : {R : Type 0} → List OwnUser → LogWork → List (Actor R) → List (Actor R)
 crew users work others = users_alone users ++ own.Writer work.writer ∷ own.Flusher work.flusher ∷ others
 
-abbrev pub crew_of : {L D R : Type 0} → OwnMachine L D R → List (Actor R)
+abbrev pub crew_of : {L D A R : Type 0} → OwnMachine L D A R → List (Actor R)
 crew_of m = crew m.users.items m.work m.others.items
 
 -- no user, writer or flusher
@@ -43,12 +43,12 @@ pub record HaveWorkers {R : Type 0} (actors : List (Actor R)) : Type 0 where
   pub kinds : AreOthers others
 
 -- there is room for all as actors
-pub record HasRoom {L D R : Type 0} (m : OwnMachine L D R) : Type 0 where
+pub record HasRoom {L D A R : Type 0} (m : OwnMachine L D A R) : Type 0 where
   pub empty : m.room.items ≡ []
   pub enough : length m.users.items + 2 + length m.others.items ≤ vec_capacity m.room
 
 -- nobody has come or gone, and both rooms are as they were
-pub record HasSameSeats {L D R : Type 0} (old new : OwnMachine L D R) : Type 0 where
+pub record HasSameSeats {L D A R : Type 0} (old new : OwnMachine L D A R) : Type 0 where
   pub users : length new.users.items ≡ length old.users.items
   pub others : length new.others.items ≡ length old.others.items
   pub entries : new.entries ≡ old.entries

@@ -1,20 +1,24 @@
 -- The invariant of a running store whose users write for themselves, over its parts and seats, in a run that is its own;
 -- and one turn of it.
-use Rattle.std.specs.Prelude.{Bool, List, false, ℕ}
+use Rattle.std.specs.Prelude.{Bool, List, Option, is_some, ℕ}
 use Rattle.model_core.specs.{Given}
 use Rattle.model_core.specs.declared.ops.Answer.{Answer}
 use Rattle.model_core.specs.declared.ops.Step.{Step}
 use Rattle.model_own.specs.OwnTurn.{OwnTurn}
 use Rattle.model_ownrun.specs.Alone.{AloneRunning}
 use Rattle.model_ownrun.specs.OwnRunning.{Errands}
+use Rattle.redo_archive.specs.Part.{Part}
 use Rattle.redo_disk.specs.{Call}
 use Rattle.redo_disk.specs.Seen.{Seen}
+use Rattle.redo_drive.specs.Archiving.{HasComeTo, IsBeside}
 use Rattle.redo_drive.specs.Playing.{RunOf, run_data_side, run_log_side}
-use Rattle.redo_drive.specs.Running.{RunsFrom, RunsWith}
+use Rattle.redo_drive.specs.Running.{RunsFromWith, RunsWith}
+use Rattle.redo_drive.specs.Views.{views_of}
 use Rattle.redo_drive.specs.declared.actor.Actor.{Actor}
 use Rattle.redo_drive.specs.declared.parts.Parts.{Parts}
+use Rattle.redo_machine.specs.Appending.{AreNumbered}
 use Rattle.redo_ownmachine.specs.OwnAsking.{AskAtSeat, own_core_of}
-use Rattle.redo_ownmachine.specs.OwnCrew.{crew_of}
+use Rattle.redo_ownmachine.specs.OwnCrew.{crew_of, seats_of}
 use Rattle.redo_ownmachine.specs.OwnSeats.{OwnSeats, actors_of}
 use Rattle.redo_ownmachine.specs.declared.machine.OwnMachine.{OwnMachine}
 
@@ -25,25 +29,28 @@ module _ {L D : Type 0} (log_seen : L → Seen) (data_seen : D → Seen) (run : 
     pub runs : RunsWith log_seen data_seen run archive parts (actors_of seats)
     pub errands : Errands (run_log_side log_seen data_seen run) parts.log seats.users seats.work
 
-  -- the same where nothing is archived
-  abbrev pub OwnRunsOn : Parts L D → OwnSeats → Type 0
-  OwnRunsOn parts seats = OwnRunsWith false parts seats
-
   -- one user, the log alone and no other actor
   abbrev pub OwnAlone : Parts L D → OwnSeats → Type 0
   OwnAlone parts seats = AloneRunning (run_log_side log_seen data_seen run) (run_data_side log_seen data_seen run)
       run.setup 0 (own_core_of log_seen data_seen run parts seats)
 
--- they are on some run
-pub record OwnIsOnRun {L D : Type 0} (log_seen : L → Seen) (data_seen : D → Seen) (parts : Parts L D)
-    (seats : OwnSeats) : Type 0 where
+-- A machine on some run, with its archive beside its actors, if it has one.
+pub record OwnIsOnRun {L D A R : Type 0} (log_seen : L → Seen) (data_seen : D → Seen) (arch_seen : A → Seen)
+    (machine : OwnMachine L D A R) : Type 0 where
   pub run : RunOf L D
-  pub runs : OwnRunsOn log_seen data_seen run parts seats
+  pub runs : OwnRunsWith log_seen data_seen run (is_some machine.archive) machine.parts (seats_of machine)
+  pub beside : IsBeside arch_seen run.setup machine.parts.words.words (actors_of (seats_of machine)) machine.archive
+  pub numbered : AreNumbered (crew_of machine)
 
--- the run that began with the first of these actors has come to the machine, with what followers' receivers have got
-abbrev pub OwnRunsFrom : {L D R : Type 0} → (L → Seen) → (D → Seen) → (R → List Given → Type 0) → RunOf L D
-    → List (Actor R) → OwnMachine L D R → Type 0
-OwnRunsFrom log_seen data_seen stands run starts m = RunsFrom log_seen data_seen stands run starts m.parts (crew_of m)
+-- The run that began with the first of these actors, and with this archive, has come to the machine, with what
+-- followers' receivers have got.
+pub record OwnComesFrom {L D A R : Type 0} (log_seen : L → Seen) (data_seen : D → Seen) (arch_seen : A → Seen)
+    (stands : R → List Given → Type 0) (run : RunOf L D) (archive : Bool) (starts : List (Actor R))
+    (before : Option (Part A)) (machine : OwnMachine L D A R) : Type 0 where
+  pub from : RunsFromWith log_seen data_seen stands run archive starts machine.parts (crew_of machine)
+  pub errands : Errands (run_log_side log_seen data_seen run) machine.parts.log machine.users.items machine.work
+  pub come : HasComeTo log_seen data_seen arch_seen run machine.parts (views_of (crew_of machine)) from.runs before
+      machine.archive
 
 module _ {L D : Type 0} (log_seen : L → Seen) (log_gives : L → Call → L → Type 0) (data_seen : D → Seen)
     (data_gives : D → Call → D → Type 0) (run : RunOf L D) where

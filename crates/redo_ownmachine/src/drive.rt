@@ -1,6 +1,7 @@
 // The drive by turns, where users write for themselves.
-ghost use Rattle.std.specs.Prelude.{◌≡◌, IfErr, IfOk, None, length};
-ghost use Rattle.redo_drive.specs.Startable.{AreNewFollowers, MayBegin};
+ghost use Rattle.std.specs.Prelude.{◌≡◌, IfErr, IfOk, IfSome, is_some, length};
+ghost use Rattle.redo_drive.specs.Archived.{HaveArchived};
+ghost use Rattle.redo_drive.specs.Startable.{AreNewFollowers, IsNewArchive, MayBegin};
 ghost use Rattle.redo_drive.specs.Drive.{Owes};
 ghost use Rattle.redo_drive.specs.Followed.{HaveFollowed};
 ghost use Rattle.redo_drive.specs.Views.{views_of};
@@ -8,6 +9,7 @@ ghost use Rattle.redo_ownmachine.specs.OwnByTurns.{OwnRunsByTurns};
 
 use crate::machine::OwnMachine;
 use model_script::Script;
+use redo_archive::ArchPart;
 use redo_disk::Sectors;
 use redo_drive::{Actor, Driven};
 use redo_follow::{Follower, Receiver};
@@ -17,23 +19,28 @@ use redo_store::Opened;
 use std::alloc::Global;
 
 /// Runs a script on an opened store by turns, as `run_by_turns` does, but its users write for themselves.
-pub fn run_own_by_turns<L: Sectors, D: Sectors, R: Receiver + Drop>(
+pub fn run_own_by_turns<L: Sectors, D: Sectors, A: Sectors, R: Receiver + Drop>(
     alloc: Global,
     opened: Opened<L, D>,
     script: &Script,
     turns: &Turns,
+    archive: Option<ArchPart<A>>,
     followers: Vec<Follower<R>>,
-) -> Result<(Driven<L, D>, Vec<Actor<R>>), (NoMemory, L, D)>
+) -> Result<
+    (Driven<L, D>, Vec<Actor<R>>, Option<ArchPart<A>>),
+    (NoMemory, L, D, Option<ArchPart<A>>),
+>
     requires may { MayBegin opened script.now turns.now.log_only }
+    requires archive { IfSome archive (IsNewArchive A.seen opened script.now) }
     requires new { AreNewFollowers opened.start followers.items }
-    ensures err { IfErr result (λ error. (error.1 ≡ opened.log.dev) × (error.2 ≡ opened.store.dev)) }
-    ensures lost { IfOk result (λ left. left.0.closed.lost ≡ None) }
+    ensures err { IfErr result (λ error. (error.1 ≡ opened.log.dev) × (error.2 ≡ opened.store.dev) × (error.3 ≡ archive)) }
     ensures owed { IfOk result (λ left. Owes L.seen L.gives D.seen D.gives opened script.now left.0) }
+    ensures turns { IfOk result (λ left. OwnRunsByTurns L.seen L.gives D.seen D.gives opened script.now turns.now (is_some archive) (length followers.items) (views_of left.1.items) left.0) }
     ensures followed { IfOk result (λ left. HaveFollowed L.seen D.seen R.stands_for opened script.now followers.items left.1.items left.0.closed) }
-    ensures turns { IfOk result (λ left. OwnRunsByTurns L.seen L.gives D.seen D.gives opened script.now turns.now (length followers.items) (views_of left.1.items) left.0) }
+    ensures archived { IfOk result (λ left. HaveArchived L.seen D.seen A.seen opened script.now left.0.closed (views_of left.1.items) archive left.2) }
 {
-    let mut machine = OwnMachine::new(alloc, opened, script, turns.log_only, followers)?;
+    let mut machine = OwnMachine::new(alloc, opened, script, turns.log_only, archive, followers)?;
     let ended = machine.run(turns.seed, turns.max);
-    let (closed, actors) = machine.finish();
-    Ok((Driven { ended, closed }, actors))
+    let (closed, actors, archive) = machine.finish();
+    Ok((Driven { ended, closed }, actors, archive))
 }

@@ -1,37 +1,38 @@
 // A store after its run, where users wrote for themselves.
-ghost use Rattle.std.specs.Prelude.{◌≡◌, ◌≤◌, [], None, length, slice_index, vec_capacity};
+ghost use Rattle.std.specs.Prelude.{◌≡◌, ◌≤◌, [], Bool, length, slice_index, vec_capacity};
 ghost use Rattle.model_core.specs.{index};
 ghost use Rattle.model_core.specs.declared.words.Word.TheVariants as word_is;
 ghost use Rattle.model_running.specs.{history_of, marks_in, word_marks};
 ghost use Rattle.redo_drive.specs.History.{ListsInOrder};
 ghost use Rattle.redo_drive.specs.Playing.{RunOf};
-ghost use Rattle.redo_drive.specs.Running.{RunsOn};
+ghost use Rattle.redo_drive.specs.Running.{RunsWith};
 ghost use Rattle.redo_drive.specs.Views.{views_of};
-ghost use Rattle.redo_ownmachine.specs.OwnCrew.{HasRoom, crew_of, seats_of};
+ghost use Rattle.redo_machine.specs.Appending.{lost_by};
+ghost use Rattle.redo_ownmachine.specs.OwnCrew.{HasRoom, crew_of};
 ghost use Rattle.redo_ownmachine.specs.OwnStore.{OwnIsOnRun};
 
 use crate::machine::OwnMachine;
 use crate::seats::give_seats;
+use redo_archive::ArchPart;
 use redo_disk::Sectors;
 use redo_drive::{Actor, Closed};
 use redo_follow::Receiver;
 use redo_machine::Machine;
 
-impl<L: Sectors, D: Sectors, R: Receiver + Drop> OwnMachine<L, D, R> {
-    /// What the run leaves, as `Machine::finish` without an archive: its actors are the users, the writer and the flusher as far as the users have
+impl<L: Sectors, D: Sectors, A: Sectors, R: Receiver + Drop> OwnMachine<L, D, A, R> {
+    /// What the run leaves, as `Machine::finish`: its actors are the users, the writer and the flusher as far as the users have
     /// brought them, and the others, the followers among them.
-    pub fn finish(self) -> (Closed<L, D>, Vec<Actor<R>>)
-        requires on_run { OwnIsOnRun L.seen D.seen self.parts (seats_of self) }
+    pub fn finish(self) -> (Closed<L, D>, Vec<Actor<R>>, Option<ArchPart<A>>)
+        requires on_run { OwnIsOnRun L.seen D.seen A.seen self }
         requires room { HasRoom self }
         ensures parts { (result.0.log ≡ self.parts.log) × (result.0.store ≡ self.parts.store) }
-        ensures actors { result.1.items ≡ crew_of self }
-        ensures lost { result.0.lost ≡ None }
+        ensures kept { (result.1.items ≡ crew_of self) × (result.2 ≡ self.archive) × (result.0.lost ≡ lost_by self.archive) }
         ensures code { result.0.code ≡ slice_index self.parts.words.words (index word_is.Failed) }
         ensures marks { result.0.marks ≡ marks_in self.parts.words.words }
-        ensures history { (run : RunOf L D) (runs : RunsOn L.seen D.seen run self.parts (views_of (crew_of self)))
+        ensures history { (run : RunOf L D) (archive : Bool) (runs : RunsWith L.seen D.seen run archive self.parts (views_of (crew_of self)))
             → self.entries.items ≡ [] → length runs.running.log_ghost.log ≤ vec_capacity self.entries
             → result.0.history ≡ history_of runs.running.log_ghost.answered (word_marks runs.running.shared) runs.running.log_ghost.log }
-        ensures listed { (run : RunOf L D) (runs : RunsOn L.seen D.seen run self.parts (views_of (crew_of self)))
+        ensures listed { (run : RunOf L D) (archive : Bool) (runs : RunsWith L.seen D.seen run archive self.parts (views_of (crew_of self)))
             → self.entries.items ≡ [] → length runs.running.log_ghost.log ≤ vec_capacity self.entries
             → ListsInOrder result.0.marks (views_of (crew_of self)) result.0.history }
     {
@@ -42,19 +43,15 @@ impl<L: Sectors, D: Sectors, R: Receiver + Drop> OwnMachine<L, D, R> {
             others,
             entries,
             room,
+            archive,
         } = self;
         let actors = give_seats(room, users, work, others);
-        let machine: Machine<L, D, L, R> = Machine {
+        let machine = Machine {
             parts,
             actors,
             entries,
-            archive: None,
+            archive,
         };
-        let (closed, actors, archive) = machine.finish();
-        match archive {
-            None => {}
-            Some(_part) => unreachable!(),
-        }
-        (closed, actors)
+        machine.finish()
     }
 }

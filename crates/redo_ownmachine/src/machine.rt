@@ -1,13 +1,15 @@
 // A running store whose users write for themselves.
-ghost use Rattle.std.specs.Prelude.{◌≡◌, IfErr, IfOk};
-ghost use Rattle.redo_drive.specs.Startable.{AreNewFollowers, MayBegin};
+ghost use Rattle.std.specs.Prelude.{◌≡◌, IfErr, IfOk, IfSome, is_some};
+ghost use Rattle.redo_drive.specs.Startable.{AreNewFollowers, IsNewArchive, MayBegin};
 ghost use Rattle.redo_ownmachine.specs.OwnBegins.{OwnBeginsRun};
+ghost use Rattle.redo_ownmachine.specs.OwnStore.{OwnIsOnRun};
 
 use crate::seats::{Seats, take_seats};
 use model_report::Entry;
 use model_script::Script;
+use redo_archive::ArchPart;
 use redo_disk::Sectors;
-use redo_drive::{Actor, Beginning, Parts, begin_run};
+use redo_drive::{Actor, Beginning, Parts, begin_run_with};
 use redo_follow::{Follower, Receiver};
 use redo_lsn::NoMemory;
 use redo_ownuser::{LogWork, OwnUser};
@@ -15,9 +17,10 @@ use redo_store::Opened;
 use std::alloc::Global;
 
 /// A running store whose users write for themselves, and whose actors take turns: users that have lines, by their numbers,
-/// then, unless the log runs alone, the closer, the cleaner and the checkpointer, and at last the followers.
+/// then, unless the log runs alone, the closer, the cleaner and the checkpointer, and at last the readers of the log: the
+/// archiver, where there is an archive, and the followers.
 #[derive(Drop)]
-pub struct OwnMachine<L: Sectors, D: Sectors, R: Receiver> {
+pub struct OwnMachine<L: Sectors, D: Sectors, A: Sectors, R: Receiver> {
     pub(crate) parts: Parts<L, D>,
     /// The log's work lies here also while a user has it in hand, as the log part lies in `parts`.
     pub(crate) work: LogWork,
@@ -27,30 +30,46 @@ pub struct OwnMachine<L: Sectors, D: Sectors, R: Receiver> {
     pub(crate) entries: Vec<Entry>,
     /// Room for the actors that the run leaves.
     pub(crate) room: Vec<Actor<R>>,
+    /// Where the run is archived, if it is.
+    pub(crate) archive: Option<ArchPart<A>>,
 }
 
-impl<L: Sectors, D: Sectors, R: Receiver + Drop> OwnMachine<L, D, R> {
-    /// The store as the run of a script begins, with the log alone or with the pages, and with these followers. It takes all
-    /// memory; where there is none it gives both devices back as they were.
+impl<L: Sectors, D: Sectors, A: Sectors, R: Receiver + Drop> OwnMachine<L, D, A, R> {
+    /// The store as the run of a script begins, with the log alone or with the pages, with this archive or none, and with these
+    /// followers. It takes all memory; where there is none it gives both devices back as they were, and the archive.
     pub fn new(
         alloc: Global,
         opened: Opened<L, D>,
         script: &Script,
         log_only: bool,
+        archive: Option<ArchPart<A>>,
         followers: Vec<Follower<R>>,
-    ) -> Result<OwnMachine<L, D, R>, (NoMemory, L, D)>
+    ) -> Result<OwnMachine<L, D, A, R>, (NoMemory, L, D, Option<ArchPart<A>>)>
         requires may { MayBegin opened script.now log_only }
+        requires archive { IfSome archive (IsNewArchive A.seen opened script.now) }
         requires new { AreNewFollowers opened.start followers.items }
-        ensures err { IfErr result (λ error. (error.1 ≡ opened.log.dev) × (error.2 ≡ opened.store.dev)) }
-        ensures begins { IfOk result (OwnBeginsRun L.seen D.seen R.stands_for opened script.now log_only followers.items) }
+        ensures err { IfErr result (λ error. (error.1 ≡ opened.log.dev) × (error.2 ≡ opened.store.dev) × (error.3 ≡ archive)) }
+        ensures begins { IfOk result (OwnBeginsRun L.seen D.seen R.stands_for opened script.now log_only (is_some archive) followers.items) }
+        ensures archive { IfOk result (λ machine. machine.archive ≡ archive) }
+        ensures on_run { IfOk result (OwnIsOnRun L.seen D.seen A.seen) }
     {
+        let archives = archive.is_some();
+        let begun = match begin_run_with(alloc, opened, script, log_only, archives, followers) {
+            Err((error, log, store)) => return Err((error, log, store, archive)),
+            Ok(begun) => begun,
+        };
         let Beginning {
             parts,
             actors,
             entries,
-        } = begin_run(alloc, opened, script, log_only, followers)?;
+        } = begun;
         match take_seats(alloc, actors) {
-            Err(_) => Err((NoMemory, parts.log.into_dev(), parts.store.into_dev())),
+            Err(_) => Err((
+                NoMemory,
+                parts.log.into_dev(),
+                parts.store.into_dev(),
+                archive,
+            )),
             Ok(
                 Seats {
                     users,
@@ -65,6 +84,7 @@ impl<L: Sectors, D: Sectors, R: Receiver + Drop> OwnMachine<L, D, R> {
                 others,
                 entries,
                 room,
+                archive,
             }),
         }
     }

@@ -1,10 +1,11 @@
 // A run by turns, where users write for themselves.
-ghost use Rattle.std.specs.Prelude.{List, ◌<◌, ◌+◌, length};
+ghost use Rattle.std.specs.Prelude.{Bool, List, Option};
+ghost use Rattle.redo_archive.specs.Part.{Part};
 ghost use Rattle.redo_drive.specs.Calls.{CallOnBoth};
 ghost use Rattle.redo_drive.specs.Playing.{RunOf};
 ghost use Rattle.redo_drive.specs.declared.actor.Actor.{Actor as TheActor};
 ghost use Rattle.redo_ownmachine.specs.OwnCrew.{HasSameSeats, seats_of};
-ghost use Rattle.redo_ownmachine.specs.OwnStore.{OwnIsOnRun, OwnRunsFrom, OwnRunsOn};
+ghost use Rattle.redo_ownmachine.specs.OwnStore.{OwnComesFrom, OwnIsOnRun, OwnRunsWith};
 ghost use Rattle.redo_ownmachine.specs.OwnTurns.{OwnEndsAsking};
 
 use crate::machine::OwnMachine;
@@ -15,15 +16,15 @@ use redo_follow::Receiver;
 use redo_machine::seat_of;
 use redo_script::Draws;
 
-impl<L: Sectors, D: Sectors, R: Receiver> OwnMachine<L, D, R> {
+impl<L: Sectors, D: Sectors, A: Sectors, R: Receiver> OwnMachine<L, D, A, R> {
     /// Gives turns to users and other actors, at most so many, until each user has ended.
     pub fn run(&mut self, seed: u64, max: u64) -> RunEnd
-        requires { OwnIsOnRun L.seen D.seen self.old.parts (seats_of self.old) }
-        ensures runs { (run : RunOf L D) → OwnRunsOn L.seen D.seen run self.old.parts (seats_of self.old)
-            → OwnRunsOn L.seen D.seen run self.new.parts (seats_of self.new) }
-        ensures from { (run : RunOf L D) (starts : List (TheActor R)) → OwnRunsOn L.seen D.seen run self.old.parts (seats_of self.old)
-            → OwnRunsFrom L.seen D.seen R.stands_for run starts self.old → OwnRunsFrom L.seen D.seen R.stands_for run starts self.new }
-        ensures ends { (run : RunOf L D) → OwnRunsOn L.seen D.seen run self.old.parts (seats_of self.old)
+        requires { OwnIsOnRun L.seen D.seen A.seen self.old }
+        ensures on_run { OwnIsOnRun L.seen D.seen A.seen self.new }
+        ensures from { (run : RunOf L D) (archive : Bool) (starts : List (TheActor R)) (before : Option (Part A))
+            → OwnComesFrom L.seen D.seen A.seen R.stands_for run archive starts before self.old
+            → OwnComesFrom L.seen D.seen A.seen R.stands_for run archive starts before self.new }
+        ensures ends { (run : RunOf L D) (archive : Bool) → OwnRunsWith L.seen D.seen run archive self.old.parts (seats_of self.old)
             → OwnEndsAsking L.seen L.gives D.seen D.gives run seed max self.old.parts (seats_of self.old) result self.new.parts (seats_of self.new) }
         ensures calls { CallOnBoth L.gives D.gives self.old.parts self.new.parts }
         ensures seats { HasSameSeats self.old self.new }

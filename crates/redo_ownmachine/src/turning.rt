@@ -1,20 +1,24 @@
 // One turn, where users write for themselves.
-ghost use Rattle.std.specs.Prelude.{◌≡◌, ◌≢◌, ◌<◌, ◌+◌, ℕ, List, length};
+ghost use Rattle.std.specs.Prelude.{◌≡◌, ◌≢◌, ◌<◌, ◌+◌, ◌⊎◌, ℕ, Bool, List, Option, length};
+ghost use Rattle.model_core.specs.{HasLost};
 ghost use Rattle.model_own.specs.OwnWrites.{own_lends, own_next};
+ghost use Rattle.redo_archive.specs.Part.{Part};
 ghost use Rattle.redo_drive.specs.Asking.{AskOfBoth};
 ghost use Rattle.redo_drive.specs.Calls.{CallOnBoth};
 ghost use Rattle.redo_drive.specs.Playing.{HasSamePages, RunOf};
-ghost use Rattle.redo_drive.specs.Turning.{FailedHasCause};
+ghost use Rattle.redo_drive.specs.Turning.{FailedHasCause, code_in};
 ghost use Rattle.redo_drive.specs.declared.actor.Actor.{Actor as TheActor};
 ghost use Rattle.redo_ownmachine.specs.OwnCrew.{HasSameSeats, seats_of};
-ghost use Rattle.redo_ownmachine.specs.OwnStore.{OwnAlone, OwnIsOnRun, OwnRunsFrom, OwnRunsOn, TakesOwnTurn};
+ghost use Rattle.redo_ownmachine.specs.OwnSeats.{actors_of};
+ghost use Rattle.redo_ownmachine.specs.OwnStore.{OwnAlone, OwnComesFrom, OwnIsOnRun, OwnRunsWith, TakesOwnTurn};
 ghost use Rattle.redo_ownmachine.specs.Serving.{IsUserServed, MayServeUser};
 
 use crate::machine::OwnMachine;
+use redo_archiver::{archive_stays, archiver_may_append};
 use redo_disk::Sectors;
 use redo_drive::Parts;
 use redo_follow::Receiver;
-use redo_machine::{play, serve};
+use redo_machine::{play, serve_with};
 use redo_ownuser::{LogWork, OwnUser};
 use redo_words::Step;
 
@@ -34,7 +38,7 @@ fn serve_user<L: Sectors, D: Sectors>(
     user.took(work, answer)
 }
 
-impl<L: Sectors, D: Sectors, R: Receiver> OwnMachine<L, D, R> {
+impl<L: Sectors, D: Sectors, A: Sectors, R: Receiver> OwnMachine<L, D, A, R> {
     /// How many seats there are: those of the users, and behind them those of the other actors.
     pub fn seats(&self) -> usize
         ensures { result ≡ length self.now.users.items + length self.now.others.items }
@@ -44,25 +48,34 @@ impl<L: Sectors, D: Sectors, R: Receiver> OwnMachine<L, D, R> {
 
     /// Gives the one at a seat its turn.
     pub fn turn(&mut self, seat: usize) -> Step
-        requires on_run { OwnIsOnRun L.seen D.seen self.old.parts (seats_of self.old) }
+        requires on_run { OwnIsOnRun L.seen D.seen A.seen self.old }
         requires seat { seat < length self.old.users.items + length self.old.others.items }
-        ensures turn { (run : RunOf L D) → OwnRunsOn L.seen D.seen run self.old.parts (seats_of self.old)
+        ensures on_run { OwnIsOnRun L.seen D.seen A.seen self.new }
+        ensures turn { (run : RunOf L D) (archive : Bool) → OwnRunsWith L.seen D.seen run archive self.old.parts (seats_of self.old)
             → TakesOwnTurn L.seen L.gives D.seen D.gives run self.old.parts (seats_of self.old) seat result self.new.parts (seats_of self.new)
-            × OwnRunsOn L.seen D.seen run self.new.parts (seats_of self.new) }
-        ensures from { (run : RunOf L D) (starts : List (TheActor R)) → OwnRunsOn L.seen D.seen run self.old.parts (seats_of self.old)
-            → OwnRunsFrom L.seen D.seen R.stands_for run starts self.old → OwnRunsFrom L.seen D.seen R.stands_for run starts self.new }
-        ensures cause { (run : RunOf L D) (code : ℕ) → OwnRunsOn L.seen D.seen run self.old.parts (seats_of self.old) → result ≡ Step.Failed code
-            → FailedHasCause L.seen D.seen run self.new.parts }
+            × OwnRunsWith L.seen D.seen run archive self.new.parts (seats_of self.new) }
+        ensures from { (run : RunOf L D) (archive : Bool) (starts : List (TheActor R)) (before : Option (Part A))
+            → OwnComesFrom L.seen D.seen A.seen R.stands_for run archive starts before self.old
+            → OwnComesFrom L.seen D.seen A.seen R.stands_for run archive starts before self.new }
+        ensures cause { (run : RunOf L D) (archive : Bool) (code : ℕ) → OwnRunsWith L.seen D.seen run archive self.old.parts (seats_of self.old)
+            → result ≡ Step.Failed code
+            → FailedHasCause L.seen D.seen run self.new.parts ⊎ HasLost (actors_of (seats_of self.new)) (code_in self.new.parts) }
         ensures alone { (run : RunOf L D) → OwnAlone L.seen D.seen run self.old.parts (seats_of self.old)
             → (result ≢ Step.Idle) × OwnAlone L.seen D.seen run self.new.parts (seats_of self.new) }
         ensures calls { CallOnBoth L.gives D.gives self.old.parts self.new.parts }
         ensures seats { HasSameSeats self.old self.new }
     {
+        archive_stays::<A>();
+        archiver_may_append::<A>();
         let users = self.users.len();
         if seat < users {
             serve_user(&mut self.parts, &mut self.work, &mut self.users[seat])
         } else {
-            serve(&mut self.parts, &mut self.others[seat - users])
+            serve_with(
+                &mut self.parts,
+                &mut self.archive,
+                &mut self.others[seat - users],
+            )
         }
     }
 }

@@ -1,5 +1,5 @@
 // Runs by turns whose users write for themselves.
-ghost use Rattle.redo_ownmachine.specs.OwnCrew.{HasRoom, seats_of};
+ghost use Rattle.redo_ownmachine.specs.OwnCrew.{HasRoom};
 ghost use Rattle.redo_ownmachine.specs.OwnStore.{OwnIsOnRun};
 
 use super::runs::{left_of, spelled, turns_of};
@@ -56,15 +56,15 @@ const ALL_BUT_ONE_WAIT: &str =
 3+7 5+379 1+4 2-2 4-2";
 
 /// Gives the one at a seat turns until one doesn't move it on, at most so many. Answers how many, and how the last ends.
-fn take_own_turns<L: Sectors, D: Sectors, R: Receiver>(
+fn take_own_turns<L: Sectors, D: Sectors, A: Sectors, R: Receiver>(
     rt: &impl Abort,
-    machine: &mut OwnMachine<L, D, R>,
+    machine: &mut OwnMachine<L, D, A, R>,
     seat: usize,
     most: u64,
 ) -> (u64, Turned)
-    requires on_run { OwnIsOnRun L.seen D.seen machine.old.parts (seats_of machine.old) }
+    requires on_run { OwnIsOnRun L.seen D.seen A.seen machine.old }
     requires room { HasRoom machine.old }
-    ensures on_run { OwnIsOnRun L.seen D.seen machine.new.parts (seats_of machine.new) }
+    ensures on_run { OwnIsOnRun L.seen D.seen A.seen machine.new }
     ensures room { HasRoom machine.new }
 {
     for turn in 0..most {
@@ -78,14 +78,14 @@ fn take_own_turns<L: Sectors, D: Sectors, R: Receiver>(
 }
 
 /// Gives the turns that a word spells, and sees that they go as it says.
-fn see_own_turns<L: Sectors, D: Sectors, R: Receiver>(
+fn see_own_turns<L: Sectors, D: Sectors, A: Sectors, R: Receiver>(
     rt: &impl Abort,
-    machine: &mut OwnMachine<L, D, R>,
+    machine: &mut OwnMachine<L, D, A, R>,
     word: &str,
 )
-    requires on_run { OwnIsOnRun L.seen D.seen machine.old.parts (seats_of machine.old) }
+    requires on_run { OwnIsOnRun L.seen D.seen A.seen machine.old }
     requires room { HasRoom machine.old }
-    ensures on_run { OwnIsOnRun L.seen D.seen machine.new.parts (seats_of machine.new) }
+    ensures on_run { OwnIsOnRun L.seen D.seen A.seen machine.new }
     ensures room { HasRoom machine.new }
 {
     let Some((seat, count, last)) = turns_of(word) else {
@@ -99,13 +99,13 @@ fn see_own_turns<L: Sectors, D: Sectors, R: Receiver>(
 }
 
 /// Gives the turns after which all but one wait for that one.
-fn bring_to_waits<L: Sectors, D: Sectors, R: Receiver>(
+fn bring_to_waits<L: Sectors, D: Sectors, A: Sectors, R: Receiver>(
     rt: &impl Abort,
-    machine: &mut OwnMachine<L, D, R>,
+    machine: &mut OwnMachine<L, D, A, R>,
 )
-    requires on_run { OwnIsOnRun L.seen D.seen machine.old.parts (seats_of machine.old) }
+    requires on_run { OwnIsOnRun L.seen D.seen A.seen machine.old }
     requires room { HasRoom machine.old }
-    ensures on_run { OwnIsOnRun L.seen D.seen machine.new.parts (seats_of machine.new) }
+    ensures on_run { OwnIsOnRun L.seen D.seen A.seen machine.new }
     ensures room { HasRoom machine.new }
 {
     for word in ALL_BUT_ONE_WAIT.split_whitespace() {
@@ -114,14 +114,14 @@ fn bring_to_waits<L: Sectors, D: Sectors, R: Receiver>(
 }
 
 /// Gives rounds of one turn for each seat until each user has ended, at most so many, and answers how it then stands.
-fn take_rounds<L: Sectors, D: Sectors, R: Receiver>(
+fn take_rounds<L: Sectors, D: Sectors, A: Sectors, R: Receiver>(
     rt: &impl Abort,
-    machine: &mut OwnMachine<L, D, R>,
+    machine: &mut OwnMachine<L, D, A, R>,
     most: u64,
 ) -> RunEnd
-    requires on_run { OwnIsOnRun L.seen D.seen machine.old.parts (seats_of machine.old) }
+    requires on_run { OwnIsOnRun L.seen D.seen A.seen machine.old }
     requires room { HasRoom machine.old }
-    ensures on_run { OwnIsOnRun L.seen D.seen machine.new.parts (seats_of machine.new) }
+    ensures on_run { OwnIsOnRun L.seen D.seen A.seen machine.new }
     ensures room { HasRoom machine.new }
 {
     for _ in 0..most {
@@ -143,7 +143,7 @@ fn rounds_end_where_all_but_one_wait(rt: HostRuntime) -> Result<(), Fail> {
     let text = spelled(alloc, SEVEN_USERS)?;
     let mut machine = own_machine_on(&rt, alloc, opened(alloc, 511)?, text.as_bytes());
     bring_to_waits(&rt, &mut machine);
-    let (closed, _) = machine.finish();
+    let (closed, _, _) = machine.finish();
     let told = left_of(alloc, RunEnd::Done, &closed)?;
     let stands = told.contains("(1, 1, 40984, 49240, ") && told.contains("(6, 1, 74212, 77236, ");
     assert!(rt;
@@ -153,7 +153,7 @@ fn rounds_end_where_all_but_one_wait(rt: HostRuntime) -> Result<(), Fail> {
     let mut machine = own_machine_on(&rt, alloc, opened(alloc, 511)?, text.as_bytes());
     bring_to_waits(&rt, &mut machine);
     let ended = take_rounds(&rt, &mut machine, 12_000);
-    let (closed, _) = machine.finish();
+    let (closed, _, _) = machine.finish();
     let told = left_of(alloc, ended, &closed)?;
     assert!(rt;
         told.starts_with("Done 0 14: (") && !told.contains("Lost"),

@@ -3,7 +3,7 @@ ghost use Rattle.std.specs.Prelude.{false, ℕ, ◌<◌, ◌≡◌, ◌≤◌, �
 ghost use Rattle.model_base.specs.{IsWithinLimits};
 ghost use Rattle.model_log.specs.declared.layout.TheConstants.{BLOCK_HEADER};
 ghost use Rattle.redo_drive.specs.Startable.{AreNewFollowers, MayBegin, room_from};
-ghost use Rattle.redo_ownmachine.specs.OwnCrew.{HasRoom, seats_of};
+ghost use Rattle.redo_ownmachine.specs.OwnCrew.{HasRoom};
 ghost use Rattle.redo_ownmachine.specs.OwnStore.{OwnIsOnRun};
 ghost use Rattle.redo_store.specs.{IsRunnable};
 ghost use Rattle.redo_machine.specs.Appending.{IsOnRun};
@@ -168,8 +168,8 @@ pub fn own_driven_on<L: Sectors + Drop, D: Sectors + Drop, R: Receiver + Drop>(
         max: 100_000_000,
         log_only: false,
     };
-    match run_own_by_turns(alloc, opened, &script, &turns, followers) {
-        Ok(left) => left,
+    match run_own_by_turns::<L, D, L, R>(alloc, opened, &script, &turns, None, followers) {
+        Ok((driven, actors, _)) => (driven, actors),
         Err(_) => panic!(rt; "no memory"),
     }
 }
@@ -181,13 +181,13 @@ pub fn own_machine_on<L: Sectors + Drop, D: Sectors + Drop>(
     alloc: Global,
     opened: Opened<L, D>,
     text: &[u8],
-) -> OwnMachine<L, D, Tally>
+) -> OwnMachine<L, D, L, Tally>
     requires { IsRunnable opened }
-    ensures on_run { OwnIsOnRun L.seen D.seen result.parts (seats_of result) }
+    ensures on_run { OwnIsOnRun L.seen D.seen L.seen result }
     ensures room { HasRoom result }
 {
     let script = script_on(rt, alloc, &opened, text, true);
-    match OwnMachine::new(alloc, opened, &script, true, no_followers(alloc)) {
+    match OwnMachine::new(alloc, opened, &script, true, None, no_followers(alloc)) {
         Ok(machine) => machine,
         Err(_) => panic!(rt; "no memory"),
     }

@@ -1,4 +1,4 @@
-use Rattle.std.proofs.Common.{Option, ap, refl, subst, sym, ◌∙◌, ◌≡◌}
+use Rattle.std.proofs.Common.{Option, ap, refl, subst, sym, ◌∙◌}
 use Rattle.model_core.specs.Actors as model
 use Rattle.model_core.specs.declared.ops.Op.TheVariants as op
 use Rattle.redo_archiver.specs.Lending as archiving

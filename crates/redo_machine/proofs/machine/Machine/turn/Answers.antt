@@ -1,4 +1,4 @@
-use Rattle.std.proofs.Common.{Bool, List, set, subst, sym}
+use Rattle.std.proofs.Common.{Bool, set, subst, sym}
 use Rattle.model_core.specs.{lsn}
 use Rattle.model_logcore.specs.LogLaws.{LogLaws}
 use Rattle.model_pagecore.specs.DataLaws.{DataLaws}

@@ -1,7 +1,7 @@
 -- The machine stays on its run, and has room for all its actors.
-use Rattle.redo_ownmachine.specs.OwnCrew.{HasRoom, seats_of}
+use Rattle.redo_ownmachine.specs.OwnCrew.{HasRoom}
 use Rattle.redo_ownmachine.specs.OwnStore.{OwnIsOnRun}
 use Rattle.tests_store.proofs.turns.own.bring_to_waits.Given as goal
 
 abbrev pub invariant-loop-word : goal.invariant-loop-word
-invariant-loop-word g l = OwnIsOnRun g.L.Sectors.seen g.D.Sectors.seen l.machine.parts (seats_of l.machine) × HasRoom l.machine
+invariant-loop-word g l = OwnIsOnRun g.L.Sectors.seen g.D.Sectors.seen g.A.Sectors.seen l.machine × HasRoom l.machine
