@@ -25,6 +25,7 @@ pub mod OwnOps
 pub mod OwnPlaying
 pub mod OwnStepping
 pub mod OwnTakes
+pub mod OwnTold
 pub mod OwnTurns
 pub mod OwnUserHands
 pub mod OwnWords

@@ -1,6 +1,7 @@
--- Why an answer of `play` came, of a user that writes for itself: a wait met its condition, an end was one, and a failure had
--- a cause.
-use Rattle.std.proofs.Common.{Bool, List, ap, cond, inl, inr, is_some, length, subst, sym, true, ℕ, ⊎_elim, ◌∙◌, ◌≡◌, ◌⊎◌, ◌<◌}
+-- Why an answer of `play` came, of a user that writes for itself: a wait met its condition, an end was one, and a
+-- failure had a cause.
+use Rattle.std.proofs.Common.{Bool, List, ap, cond, inl, inr, is_some, length, subst, sym, true, ℕ, ⊎_elim}
+use Rattle.std.proofs.Common.{◌<◌, ◌∙◌, ◌≡◌, ◌⊎◌}
 use lib.ListN.{get_elem?}
 use mathlib.Core.Option.{some, some-injective}
 use Rattle.model_core.proofs.Endings.{ended_of, idle_of, quiet, resting_code, resting_free, turn_ends}
@@ -36,8 +37,8 @@ use Rattle.redo_rule.specs.Causes.{HasEndedBy, IsFinishedUser}
 use Rattle.redo_rule.specs.Mine.{number_of}
 use Rattle.redo_rule.specs.declared.law.View.{View}
 
-module _ {L D : Type 0} (log_seen : L → Seen) (data_seen : D → Seen) (v : View L D) (o : OwnUser) (k : LogWork) (r : Answer)
-    (s : OwnShown log_seen data_seen v.about (number_of v) o k r) where
+module _ {L D : Type 0} (log_seen : L → Seen) (data_seen : D → Seen) (v : View L D) (o : OwnUser) (k : LogWork)
+    (r : Answer) (s : OwnShown log_seen data_seen v.about (number_of v) o k r) where
   abbrev number : ℕ
   number = number_of v
 
@@ -60,18 +61,24 @@ module _ {L D : Type 0} (log_seen : L → Seen) (data_seen : D → Seen) (v : Vi
       (set_at s.seats.users number s.turn.who now s.turn.who_is)))
 
   pub done_behind : then.user.step ≡ user_step.Done → then.user.k ≡ length then.user.lines
-  done_behind at_end = let g = s.runs_on.runs.running in all_answered A s.run.setup g.shared g.log_ghost s.new.log number
-      then.user at_end (g.both.logged.each number (model.User then.user)
+  done_behind at_end =
+      let g = s.runs_on.runs.running in
+      all_answered A s.run.setup g.shared g.log_ghost s.new.log number then.user at_end
+      (g.both.logged.each number (model.User then.user)
       (user_there s.after.users s.after.work s.after.others number then there))
 
   free_behind : then.user.step ≡ user_step.Done → then.user.checks ≡ false
-  free_behind at_end = let g = s.runs_on.runs.running in done_is_free A s.run.setup g.shared g.log_ghost s.new.log number
-      then.user at_end (g.both.logged.each number (model.User then.user)
+  free_behind at_end =
+      let g = s.runs_on.runs.running in
+      done_is_free A s.run.setup g.shared g.log_ghost s.new.log number then.user at_end
+      (g.both.logged.each number (model.User then.user)
       (user_there s.after.users s.after.work s.after.others number then there))
 
   free_before : o.user.step ≡ user_step.Done → o.user.checks ≡ false
-  free_before at_end = let g = s.runs.runs.running in done_is_free A s.run.setup g.shared g.log_ghost s.old.log number
-      o.user at_end (g.both.logged.each number (model.User o.user)
+  free_before at_end =
+      let g = s.runs.runs.running in
+      done_is_free A s.run.setup g.shared g.log_ghost s.old.log number o.user at_end
+      (g.both.logged.each number (model.User o.user)
       (user_there s.seats.users s.seats.work s.seats.others number o s.at))
 
   pub ends_there : then.user.step ≡ user_step.Done → own_step_of o k r ≡ step.Ended
@@ -90,11 +97,13 @@ module _ {L D : Type 0} (log_seen : L → Seen) (data_seen : D → Seen) (v : Vi
       )
 
   -- its code has its cause
-  failure_code : (code : ℕ) → ((own_next o k ≡ op.Load word.Failed) × (code ≡ code_in s.old)) ⊎ ErrandGivesFailed o.errand k code
+  failure_code : (code : ℕ)
+      → ((own_next o k ≡ op.Load word.Failed) × (code ≡ code_in s.old)) ⊎ ErrandGivesFailed o.errand k code
       → (0 < code → met.FailedBy log_seen data_seen s.about s.run s.old (actors_of s.seats) s.runs.runs code)
       → OwnHasFailureCode log_seen data_seen v o code
   failure_code code way failed =
-      let cause = met.met_cause log_seen data_seen s.about s.run s.old (actors_of s.seats) s.runs.runs code failed in record {
+      let cause = met.met_cause log_seen data_seen s.about s.run s.old (actors_of s.seats) s.runs.runs code failed in
+      record {
         work = k;
         answer = r;
         shown = s;
@@ -120,8 +129,8 @@ module _ {L D : Type 0} (log_seen : L → Seen) (data_seen : D → Seen) (v : Vi
       (λ ended. inl ended))
       (own_fails o k r code (s.runs.errands.fits number o s.at) hand e)
 
-module _ {L D : Type 0} (log_seen : L → Seen) (data_seen : D → Seen) (v : View L D) (o : OwnUser) (ends : Step) (x : OwnUser)
-    (gone : OwnHasGone log_seen data_seen v o ends x) where
+module _ {L D : Type 0} (log_seen : L → Seen) (data_seen : D → Seen) (v : View L D) (o : OwnUser) (ends : Step)
+    (x : OwnUser) (gone : OwnHasGone log_seen data_seen v o ends x) where
   abbrev a : model.Actor
   a = model.User o.user
 

@@ -23,8 +23,8 @@ use Rattle.model_core.specs.declared.steps.WriterStep.TheVariants as writer_step
 use Rattle.model_core.specs.declared.words.Word.TheVariants as word
 use Rattle.model_own.proofs.SetsOut.{out_at}
 use Rattle.model_own.specs.OwnWrites.{after_flusher, after_writer, begins_again, errand_took, errand_waits, ErrandFits}
-use Rattle.model_own.specs.OwnWrites.{keeps_helped, loads_again, LogWork, MayHelpAt, own_checked, own_goes_on, own_step_of}
-use Rattle.model_own.specs.OwnWrites.{OwnUser, sets_out, written}
+use Rattle.model_own.specs.OwnWrites.{keeps_helped, loads_again, LogWork, MayHelpAt, own_checked, own_goes_on}
+use Rattle.model_own.specs.OwnWrites.{own_step_of, OwnUser, sets_out, written}
 use Rattle.model_own.specs.declared.errand.ErrandStep.{ErrandStep}
 use Rattle.model_own.specs.declared.errand.ErrandStep.TheVariants as errand_step
 use Rattle.redo_ownrule.proofs.OwnFree.{begins}
@@ -87,10 +87,12 @@ module _ (o : OwnUser) (k : LogWork) (r : Answer) where
   left b = (cond {A = OwnUser × LogWork} b (own_checked o (old_of r), k) (errand_took o k r o.errand)).0
 
   pub own_idle : own_step_of o k r ≡ step.Idle → (o.user.checks ≡ false) × (errand_waits o r o.errand ≡ true)
-  own_idle e = flags_idle o.user.checks (old_of r == 0) (errand_waits o r o.errand) (old_of r) then.user.code then.user.step e
+  own_idle e = flags_idle o.user.checks (old_of r == 0) (errand_waits o r o.errand) (old_of r) then.user.code
+      then.user.step e
 
   pub own_ended : own_step_of o k r ≡ step.Ended → then.user.step ≡ user_step.Done
-  own_ended e = flags_ended o.user.checks (old_of r == 0) (errand_waits o r o.errand) (old_of r) then.user.code then.user.step e
+  own_ended e = flags_ended o.user.checks (old_of r == 0) (errand_waits o r o.errand) (old_of r) then.user.code
+      then.user.step e
 
   -- whoever waits checks then
   waits_check : (x : ErrandStep) → errand_waits o r x ≡ true → (errand_took o k r x).0.user.checks ≡ true
@@ -133,7 +135,8 @@ module _ (o : OwnUser) (k : LogWork) (r : Answer) where
 
       goes : (b : Bool) → errand_waits o r o.errand ≡ b → errand_waits o r o.errand ≡ false
       goes true w =
-          let checks : then.user.checks ≡ true = ap (λ (b : Bool). (left b).user.checks) free ∙ waits_check o.errand w in
+          let checks : then.user.checks ≡ true =
+          ap (λ (b : Bool). (left b).user.checks) free ∙ waits_check o.errand w in
           let z : true ≡ false = sym checks ∙ free_then at in absurd (cc)
       goes false w = w
 
@@ -175,8 +178,8 @@ writer_gave s r hand e = ⊎_elim
     (λ q. absurd (subst WriterInHand q hand)) u) t)
     (writer_near_or s.step)
 
-flusher_gave : (t : FlusherState) (r : Answer) → FlusherInHand t.step → (flusher_took t r t.step).step ≡ flusher_step.Failed
-    → GivesFailed (model.Flusher t) (flusher_took t r t.step).code
+flusher_gave : (t : FlusherState) (r : Answer) → FlusherInHand t.step
+    → (flusher_took t r t.step).step ≡ flusher_step.Failed → GivesFailed (model.Flusher t) (flusher_took t r t.step).code
 flusher_gave t r hand e = ⊎_elim
     (λ near. absurd (flusher_loud (flusher_took t r t.step).step (flusher_on t r t.step near) e))
     (λ t'. ⊎_elim
@@ -201,7 +204,8 @@ module _ (o : OwnUser) (k : LogWork) (r : Answer) (code : ℕ) where
 
     wrote : (s : WriterState) (f : WriterStep) → FailsBy (after_writer o k s f).0
         → (f ≡ writer_step.Failed) × (s.code ≡ code)
-    wrote s (writer_step.Advance v) e = absurd (writes s.checks (written o k s) (o, record k { writer = s }) goes_on goes_on e)
+    wrote s (writer_step.Advance v) e =
+        absurd (writes s.checks (written o k s) (o, record k { writer = s }) goes_on goes_on e)
     wrote s writer_step.LoadCheckpoint e =
         absurd (writes s.checks (written o k s) (o, record k { writer = s }) goes_on goes_on e)
     wrote s writer_step.Failed e = (refl, ap code_or e)
@@ -245,8 +249,8 @@ module _ (o : OwnUser) (k : LogWork) (r : Answer) (code : ℕ) where
       (user_ending then.code then.step)) asks
       ∙ ap (λ (b : Bool). cond b step.Idle (user_ending then.code then.step)) goes ∙ e))
 
-  -- A step ends by this code where the user finds it in FAILED, where its errand gives the log part back after a failed call,
-  -- or where it had ended so.
+  -- A step ends by this code where the user finds it in FAILED, where its errand gives the log part back after a failed
+  -- call, or where it had ended so.
   pub own_fails : ErrandFits o.user o.errand → WorkInHand o.errand k → own_step_of o k r ≡ step.Failed code
       → ((o.user.checks ≡ true) × (old_of r ≡ code))
       ⊎ (ErrandGivesFailed o.errand k code ⊎ HasEndedBy (model.User o.user) code)

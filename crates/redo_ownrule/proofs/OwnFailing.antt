@@ -1,4 +1,5 @@
--- Who gives the log part back after a failed call, in the hand of a user that writes for itself: it has just stored its code.
+-- Who gives the log part back after a failed call, in the hand of a user that writes for itself: it has just stored its
+-- code.
 use Rattle.std.proofs.Common.{Bool, List, [], ap, arith, cond, false, inl, inr, length, subst, suc, sym, true, zero, ℕ}
 use Rattle.std.proofs.Common.{⊎_elim, ◌+◌, ◌∙◌, ◌∷◌, ◌≡◌, ◌≤◌, ◌⊎◌}
 use Rattle.std.specs.Prelude.{nat_lt}
@@ -29,7 +30,7 @@ use Rattle.model_own.specs.declared.errand.ErrandStep.TheVariants as errand_step
 use Rattle.model_ownrun.specs.OwnRunning.{IsWriterAtRest, WorkAt, WorkFits, WritesAt}
 use Rattle.redo_ownrule.specs.OwnPlays.{ErrandGivesFailed}
 
--- the writer or the flusher of the log's work gives the log part back after a failed call, or is about to store the code
+-- the writer or the flusher of the log's work gives the log part back after a failed call, or is about to store its code
 abbrev pub WorkGives : LogWork → ℕ → Type 0
 WorkGives k code = GivesFailed (model.Writer k.writer) code ⊎ GivesFailed (model.Flusher k.flusher) code
 
@@ -46,9 +47,11 @@ pub gives_where : (users : List OwnUser) (k : LogWork) (others : List model.Acto
     → get_elem? (all_actors users k others) n ≡ maybe.some c → GivesFailed c code
     → (length users + 2 ≤ n) ⊎ WorkGives k code
 gives_where [] k others zero c code at g =
-    inr (inl (subst (λ (z : model.Actor). GivesFailed z code) (sym (maybe.some-injective (model.Writer k.writer) c at)) g))
+    let is = maybe.some-injective (model.Writer k.writer) c at in
+    inr (inl (subst (λ (z : model.Actor). GivesFailed z code) (sym is) g))
 gives_where [] k others (suc zero) c code at g =
-    inr (inr (subst (λ (z : model.Actor). GivesFailed z code) (sym (maybe.some-injective (model.Flusher k.flusher) c at)) g))
+    let is = maybe.some-injective (model.Flusher k.flusher) c at in
+    inr (inr (subst (λ (z : model.Actor). GivesFailed z code) (sym is) g))
 gives_where [] k others (suc (suc n)) c code at g = inl (omega arith)
 gives_where (x ∷ xs) k others zero c code at g =
     absurd (subst (λ (z : model.Actor). GivesFailed z code) (sym (maybe.some-injective (model.User x.user) c at)) g)
@@ -148,7 +151,7 @@ module _ (D : LogSide) (p : D.Part) where
   writes_quiet writer_step.GiveFailed f z e = let n = sym z.0 ∙ e in absurd (cc)
   writes_quiet _ f z e = absurd z
 
-  -- A turn of the user that has the log's work in hand, after which that gives the log part back so, has stored the code.
+  -- A turn of the user that has the log's work in hand, after which that gives the log part back so, stores the code.
   pub busy_stores : (o : OwnUser) (k : LogWork) (r : Answer) (code : ℕ) → o.user.checks ≡ false
       → has_work o.errand ≡ true → WorkFits D p o.errand k → WorkGives (own_goes_on o k r).1 code
       → WorkStores k code × (own_next o k ≡ op.Store word.Failed code)
@@ -157,7 +160,8 @@ module _ (D : LogSide) (p : D.Part) where
       (errand_took o k r o.errand)).1 code) asks g)
     where
       Stores : ErrandStep → Type 0
-      Stores x = WorkStores k code × (cond o.user.checks (op.Load word.Failed) (errand_op o k x) ≡ op.Store word.Failed code)
+      Stores x = WorkStores k code
+          × (cond o.user.checks (op.Load word.Failed) (errand_op o k x) ≡ op.Store word.Failed code)
 
       unchecked : (a : Op) → cond o.user.checks (op.Load word.Failed) a ≡ a
       unchecked a = ap (λ (b : Bool). cond b (op.Load word.Failed) a) asks
@@ -180,7 +184,8 @@ module _ (D : LogSide) (p : D.Part) where
           (λ w. let z = sym at.0 ∙ w.0 in absurd (cc))
           (λ f. let h = flusher_stored k.flusher r code fits.flusher_goes_on f in (
             inr h,
-            unchecked (flusher_op k.flusher k.flusher.step) ∙ ap (flusher_op k.flusher) h.0 ∙ ap (op.Store word.Failed) h.1,
+            unchecked (flusher_op k.flusher k.flusher.step) ∙ ap (flusher_op k.flusher) h.0
+                ∙ ap (op.Store word.Failed) h.1,
           ))
           (flushed o k code t t.step g)
       by _ has at g = absurd (cc)

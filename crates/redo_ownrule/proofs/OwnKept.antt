@@ -5,18 +5,15 @@ use lib.ListN.{get_elem?}
 use mathlib.Core.Option as maybe
 use Rattle.atomic_table.specs.Table.{State}
 use Rattle.model_core.proofs.Lists.{set_at, set_else}
-use Rattle.model_core.specs.{Entry, Given, LogServed, UserState}
+use Rattle.model_core.specs.{Entry, Given, UserState}
 use Rattle.model_core.specs.Actors as model
 use Rattle.model_core.specs.DataSide.{DataSide}
 use Rattle.model_core.specs.Hands.{GivesFailed, IsFreeToCheck}
 use Rattle.model_core.specs.LogSide.{LogSide}
 use Rattle.model_core.specs.declared.ops.Answer.{Answer}
-use Rattle.model_core.specs.declared.ops.Op.{Op}
 use Rattle.model_own.specs.OwnTurn.{all_actors, UserTurn}
-use Rattle.model_logcore.proofs.Failures.{stored_cause}
 use Rattle.model_own.specs.OwnWrites.{has_work, LogWork, own_goes_on, own_lends, own_next, own_step_of, OwnUser}
-use Rattle.model_ownrun.proofs.Errands.{in_hand}
-use Rattle.model_ownrun.proofs.Seats.{flusher_seat, flusher_there, user_there, writer_seat, writer_there}
+use Rattle.model_ownrun.proofs.Seats.{user_there}
 use Rattle.redo_disk.specs.{Call}
 use Rattle.redo_disk.specs.Seen.{Seen}
 use Rattle.redo_drive.specs.Playing.{HasSamePages, IsPlayed, run_data_side, run_log_side, RunOf}
@@ -28,10 +25,9 @@ use Rattle.redo_ownmachine.specs.OwnSeats.{actors_of, OwnSeats}
 use Rattle.redo_ownmachine.specs.OwnAsking.{own_core_of}
 use Rattle.redo_ownmachine.specs.OwnStore.{OwnRunsWith}
 use Rattle.redo_ownmachine.specs.Serving.{IsUserServed}
-use Rattle.redo_logdev.specs.Part as log
-use Rattle.redo_ownrule.proofs.OwnFailing.{aside_gives, busy_stores, gives_where, WorkGives, WorkStores}
-use Rattle.redo_ownrule.proofs.OwnMay.{its_hand}
-use Rattle.redo_ownrule.proofs.OwnOps.{no_check}
+use Rattle.redo_logdev.specs.Part as log_part
+use Rattle.redo_ownrule.proofs.OwnFailing.{gives_where, WorkGives}
+use Rattle.redo_ownrule.proofs.OwnTold as causes
 use Rattle.redo_ownrule.specs.OwnPlays.{errand_of, own_behind}
 use Rattle.redo_rule.proofs.Kept as kept
 use Rattle.redo_rule.specs.OwnSide.{Beside, HasItsWork, IsWorked, OwnSide, SitsAs}
@@ -161,27 +157,13 @@ module _ {L D : Type 0} (log_seen : L → Seen) (log_gives : L → Call → L �
       → get_elem? R.actors n ≡ maybe.some a
   in_actors n a there = ap (λ (l : List model.Actor). get_elem? l n) worked.are ∙ there
 
-  -- the writer or the flusher that gives the log part back after a failed call has a code that the part has
-  pub work_told : (code : ℕ) → WorkGives side.work code → A.Cause R.parts.log code
-  work_told code gives = ⊎_elim
-      (R.told (writer_seat side.users) (model.Writer side.work.writer) code
-      (in_actors _ _ (writer_there side.users side.work worked.others)))
-      (R.told (flusher_seat side.users) (model.Flusher side.work.flusher) code
-      (in_actors _ _ (flusher_there side.users side.work worked.others)))
-      gives
+  -- whoever gives the log part back after a failed call has a code that the part has
+  its_told : (n : ℕ) (a : model.Actor) (code : ℕ) → get_elem? (actors_of seats) n ≡ maybe.some a → GivesFailed a code
+      → A.Cause R.parts.log code
+  its_told n a code there = R.told n a code (in_actors n a there)
 
-  -- and the one that is about to store it
-  stored_told : (code : ℕ) → WorkStores side.work code → A.Cause R.parts.log code
-  stored_told code stores =
-      let W = before.runs.running in
-      ⊎_elim
-      (λ h. stored_cause A R.run.setup W.shared W.log_ghost R.parts.log (writer_seat side.users)
-      (model.Writer side.work.writer) code h
-      (W.both.logged.each _ _ (writer_there side.users side.work worked.others)))
-      (λ h. stored_cause A R.run.setup W.shared W.log_ghost R.parts.log (flusher_seat side.users)
-      (model.Flusher side.work.flusher) code h
-      (W.both.logged.each _ _ (flusher_there side.users side.work worked.others)))
-      stores
+  pub work_told : (code : ℕ) → WorkGives side.work code → A.Cause R.parts.log code
+  work_told = causes.work_told log_seen data_seen R.run R.parts seats before its_told
 
   module _ (r : Answer) (new : Parts L D) (same : HasSamePages R.parts new)
       (played : IsPlayed log_seen data_seen R.run (own_next o side.work) (own_lends o side.work) R.parts r new)
@@ -247,29 +229,10 @@ module _ {L D : Type 0} (log_seen : L → Seen) (log_gives : L → Call → L �
         w.2
 
     module _ (free : IsFreeToCheck (model.User then.user))
-        (same_log : has_work o.errand ≡ false → ◌≡◌ {A = log.Part L} new.log R.parts.log)
+        (same_log : has_work o.errand ≡ false → ◌≡◌ {A = log_part.Part L} new.log R.parts.log)
         (told_still : (n : ℕ) (c : model.Actor) (code : ℕ) → length side.users + 2 ≤ n
         → get_elem? R.actors n ≡ maybe.some c → GivesFailed c code → A.Cause R.parts.log code → A.Cause new.log code)
       where
-        as_it_was : (code : ℕ) → ◌≡◌ {A = log.Part L} new.log R.parts.log → A.Cause R.parts.log code → A.Cause new.log code
-        as_it_was code is cause = subst (λ (p : log.Part L). A.Cause p code) (sym is) cause
-
-        -- the log's work in this user's hand has stored the code now, or the work is as it was, and so is the part
-        told_work : (code : ℕ) → WorkGives left code → A.Cause new.log code
-        told_work code gives = by (has_work o.errand) refl
-          where
-            by : (b : Bool) → has_work o.errand ≡ b → A.Cause new.log code
-            by true has =
-                let fits = in_hand A R.parts.log side.users side.work worked.errands x.number o its_seat has in
-                let asks = no_check o side.work
-                (its_hand log_seen data_seen R.run R.parts seats before x.number o its_seat) has
-                (worked.errands.fits x.number o its_seat) in
-                let t = busy_stores A R.parts.log o side.work r code asks has fits gives in
-                as_it_was code (subst (λ (a : Op). LogServed A R.parts.log (own_lends o side.work) a played.code new.log) t.1
-                played.log_served) (stored_told code t.0)
-            by false none =
-                as_it_was code (same_log none) (work_told code (aside_gives side.work code o r none gives))
-
         told_behind : (n : ℕ) (c : model.Actor) (code : ℕ) → get_elem? (actors_of after) n ≡ maybe.some c
             → GivesFailed c code → A.Cause new.log code
         told_behind n c code there gives = ⊎_elim
@@ -278,7 +241,8 @@ module _ {L D : Type 0} (log_seen : L → Seen) (log_gives : L → Call → L �
             let was_it : get_elem? R.actors n ≡ maybe.some c = in_actors n c
             (sym (behind_same side.users now.users side.work left worked.others many n beyond) ∙ there) in
             told_still n c code beyond was_it gives (R.told n c code was_it gives))
-            (told_work code)
+            (causes.left_told log_seen data_seen R.run R.parts seats before its_told x.number o its_seat r played.code
+            new.log played.log_served same_log code)
             (gives_where now.users left worked.others n c code there gives)
 
         others_sit : (n : ℕ) (f : Option Errand) → n ≢ x.number → SitsAs (Some side) f n

@@ -21,8 +21,8 @@ use Rattle.redo_rule.specs.Mine.{number_of}
 use Rattle.redo_rule.specs.declared.law.View.{View}
 
 module _ {L D : Type 0} (log_seen : L → Seen) (data_seen : D → Seen) (v : View L D) where
-  -- At that moment the condition of its step didn't hold yet, and it went on no errand for it; or it was to set out on one, and
-  -- the log part was held.
+  -- At that moment the condition of its step didn't hold yet, and it set out on no errand for that; or it was to take the
+  -- log part for its errand, and somebody held it.
   pub record OwnHasWaited (o : OwnUser) : Type 0 where
     pub work : LogWork
     pub answer : Answer
@@ -30,9 +30,9 @@ module _ {L D : Type 0} (log_seen : L → Seen) (data_seen : D → Seen) (v : Vi
     pub goes_on : o.user.checks ≡ false
     pub waits : errand_waits o answer o.errand ≡ true
 
-  -- THE CODE BY WHICH ITS STEP ENDED, at that moment: the user found it in FAILED; or a device call of its errand had failed
-  -- with it, and the user had stored it and gave the log part back. The code has its cause in what the devices had met since
-  -- the run began, the archive's among them.
+  -- THE CODE BY WHICH ITS STEP ENDED, at that moment: the user found it in FAILED; or a device call of its errand had
+  -- failed with it, and the user had stored it and gave the log part back. The code has its cause in what the devices had
+  -- met since the run began, the archive's among them.
   pub record OwnHasFailureCode (o : OwnUser) (code : ℕ) : Type 0 where
     pub work : LogWork
     pub answer : Answer

@@ -81,8 +81,8 @@ WorkInHand errand_step.Write k = WriterInHand k.writer.step
 WorkInHand errand_step.Flush k = FlusherInHand k.flusher.step
 WorkInHand _ k = Unit {0}
 
--- a call of the errand has failed with this code: the writer or the flusher in the user's hand has stored it in FAILED, and
--- gives the log part back
+-- a call of the errand has failed with this code: the writer or the flusher in the user's hand has stored it in FAILED,
+-- and gives the log part back
 abbrev pub ErrandGivesFailed : ErrandStep → LogWork → ℕ → Type 0
 ErrandGivesFailed errand_step.Write k code = GivesFailed (model.Writer k.writer) code
 ErrandGivesFailed errand_step.Flush k code = GivesFailed (model.Flusher k.flusher) code
