@@ -179,7 +179,8 @@ writer_gave s r hand e = ⊎_elim
     (writer_near_or s.step)
 
 flusher_gave : (t : FlusherState) (r : Answer) → FlusherInHand t.step
-    → (flusher_took t r t.step).step ≡ flusher_step.Failed → GivesFailed (model.Flusher t) (flusher_took t r t.step).code
+    → (flusher_took t r t.step).step ≡ flusher_step.Failed
+    → GivesFailed (model.Flusher t) (flusher_took t r t.step).code
 flusher_gave t r hand e = ⊎_elim
     (λ near. absurd (flusher_loud (flusher_took t r t.step).step (flusher_on t r t.step near) e))
     (λ t'. ⊎_elim

@@ -30,7 +30,7 @@ use Rattle.model_own.specs.declared.errand.ErrandStep.TheVariants as errand_step
 use Rattle.model_ownrun.specs.OwnRunning.{IsWriterAtRest, WorkAt, WorkFits, WritesAt}
 use Rattle.redo_ownrule.specs.OwnPlays.{ErrandGivesFailed}
 
--- the writer or the flusher of the log's work gives the log part back after a failed call, or is about to store its code
+-- the writer or the flusher of the log's work gives the log part back after a failure, or is about to store the code
 abbrev pub WorkGives : LogWork → ℕ → Type 0
 WorkGives k code = GivesFailed (model.Writer k.writer) code ⊎ GivesFailed (model.Flusher k.flusher) code
 

@@ -52,8 +52,7 @@ module _ {L D : Type 0} {archive : Bool} (log_seen : L → Seen) (data_seen : D 
       (flusher_there seats.users seats.work seats.others)))
       stores
 
-  -- After a user's turn: with the log's work in hand it has stored the code now, and else the work and the part are as they
-  -- were.
+  -- After a user's turn: with the log's work in hand it has stored the code now, and else work and part are as they were.
   pub left_told : (n : ℕ) (o : OwnUser) → get_elem? seats.users n ≡ some o → (r : Answer) (call : ℕ) (new : log.Part L)
       → LogServed A parts.log (own_lends o seats.work) (own_next o seats.work) call new
       → (has_work o.errand ≡ false → ◌≡◌ {A = log.Part L} new parts.log)
