@@ -30,8 +30,8 @@ use Rattle.redo_ownrule.proofs.OwnMay.{its_hand}
 use Rattle.redo_ownrule.specs.OwnCauses.{OwnEndsSo, OwnHasFailureCode, OwnHasWaited}
 use Rattle.redo_ownrule.specs.OwnMine.{OwnHasGone}
 use Rattle.redo_ownrule.specs.OwnPlays.{ErrandGivesFailed, OwnShown, WorkInHand}
+use Rattle.redo_rule.proofs.Caused as caused
 use Rattle.redo_rule.proofs.Kept.{all_answered, done_is_free}
-use Rattle.redo_rule.proofs.Met as met
 use Rattle.redo_rule.proofs.Reached.{has_cause}
 use Rattle.redo_rule.specs.Causes.{HasEndedBy, IsFinishedUser}
 use Rattle.redo_rule.specs.Mine.{number_of}
@@ -99,10 +99,10 @@ module _ {L D : Type 0} (log_seen : L → Seen) (data_seen : D → Seen) (v : Vi
   -- its code has its cause
   failure_code : (code : ℕ)
       → ((own_next o k ≡ op.Load word.Failed) × (code ≡ code_in s.old)) ⊎ ErrandGivesFailed o.errand k code
-      → (0 < code → met.FailedBy log_seen data_seen s.about s.run s.old (actors_of s.seats) s.runs.runs code)
+      → (0 < code → caused.FailedBy log_seen data_seen s.about s.run s.old (actors_of s.seats) s.runs.runs code)
       → OwnHasFailureCode log_seen data_seen v o code
   failure_code code way failed =
-      let cause = met.met_cause log_seen data_seen s.about s.run s.old (actors_of s.seats) s.runs.runs code failed in
+      let cause = caused.met_cause log_seen data_seen s.about s.run s.old (actors_of s.seats) s.runs.runs code failed in
       record {
         work = k;
         answer = r;

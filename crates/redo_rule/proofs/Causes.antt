@@ -28,9 +28,9 @@ use Rattle.redo_drive.specs.Playing.{run_data_side, run_log_side}
 use Rattle.redo_drive.specs.Turning.{code_in}
 use Rattle.redo_drive.specs.Views.{view_of}
 use Rattle.redo_drive.specs.declared.actor.Actor.{Actor}
+use Rattle.redo_rule.proofs.Caused as caused
 use Rattle.redo_rule.proofs.Filled.{checks_filled, ending_filled, gives_filled, stores_filled, waits_filled}
 use Rattle.redo_rule.proofs.Kept.{all_answered, done_is_free}
-use Rattle.redo_rule.proofs.Met as met
 use Rattle.redo_rule.proofs.Reached.{has_cause, is_archived}
 use Rattle.redo_rule.specs.Causes.{EndsSo, HasEndedBy, HasFailureCode, HasWaited, IsFinishedUser}
 use Rattle.redo_rule.specs.Mine.{HasGone, heard_of, number_of}
@@ -80,7 +80,7 @@ module _ {L D : Type 0} (log_seen : L → Seen) (data_seen : D → Seen) (v : Vi
       (asks, ap old_of (s.turn.answered ∙ ap (answer_of (lists_of s.old.lists) (is_some s.old.log.failed) s.turn.code s.new.log.marks.stable s.old.words.words) (ap next same ∙ asks)))
 
   abbrev FailedBy : ℕ → Type 0
-  FailedBy = met.FailedBy log_seen data_seen s.about s.run s.old s.actors s.runs
+  FailedBy = caused.FailedBy log_seen data_seen s.about s.run s.old s.actors s.runs
 
   -- its code, if it tells a failure of its own
   own_cause : (b : model.Actor) (code : ℕ) → get_elem? s.actors number ≡ some b → StoresFailed b code → FailedBy code
@@ -104,7 +104,7 @@ module _ {L D : Type 0} (log_seen : L → Seen) (data_seen : D → Seen) (v : Vi
   failure_code : (code : ℕ) → ((next a ≡ op.Load word.Failed) × (code ≡ code_in s.old)) ⊎ (GivesFailed a code ⊎ StoresFailed a code)
       → (0 < code → FailedBy code) → HasFailureCode log_seen data_seen v a code
   failure_code code way failed =
-      let cause = met.met_cause log_seen data_seen s.about s.run s.old s.actors s.runs code failed in record {
+      let cause = caused.met_cause log_seen data_seen s.about s.run s.old s.actors s.runs code failed in record {
         answer = r;
         shown = s;
         way = way;

@@ -7,6 +7,7 @@ pub mod AtRest
 pub mod Batching
 pub mod Behind
 pub mod Calling
+pub mod Caused
 pub mod Causes
 pub mod Cuts
 pub mod Ends
@@ -19,7 +20,6 @@ pub mod Hearing
 pub mod Holders
 pub mod Kept
 pub mod Laid
-pub mod Met
 pub mod Opens
 pub mod OwnStays
 pub mod Reached
