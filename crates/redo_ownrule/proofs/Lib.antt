@@ -8,8 +8,11 @@ pub mod Opened
 pub mod OwnAllowed
 pub mod OwnAnswers
 pub mod OwnCalls
+pub mod OwnCauses
 pub mod OwnDesk
 pub mod OwnDevice
+pub mod OwnEnds
+pub mod OwnFailing
 pub mod OwnFree
 pub mod OwnGives
 pub mod OwnHands
@@ -22,6 +25,7 @@ pub mod OwnOps
 pub mod OwnPlaying
 pub mod OwnStepping
 pub mod OwnTakes
+pub mod OwnTold
 pub mod OwnTurns
 pub mod OwnUserHands
 pub mod OwnWords

@@ -12,7 +12,7 @@ use Rattle.model_core.specs.Hands.{GivesFailed, IsFreeToCheck}
 use Rattle.model_core.specs.LogSide.{LogSide}
 use Rattle.model_core.specs.declared.ops.Answer.{Answer}
 use Rattle.model_own.specs.OwnTurn.{all_actors, UserTurn}
-use Rattle.model_own.specs.OwnWrites.{LogWork, own_goes_on, own_lends, own_next, own_step_of, OwnUser}
+use Rattle.model_own.specs.OwnWrites.{has_work, LogWork, own_goes_on, own_lends, own_next, own_step_of, OwnUser}
 use Rattle.model_ownrun.proofs.Seats.{user_there}
 use Rattle.redo_disk.specs.{Call}
 use Rattle.redo_disk.specs.Seen.{Seen}
@@ -25,6 +25,9 @@ use Rattle.redo_ownmachine.specs.OwnSeats.{actors_of, OwnSeats}
 use Rattle.redo_ownmachine.specs.OwnAsking.{own_core_of}
 use Rattle.redo_ownmachine.specs.OwnStore.{OwnRunsWith}
 use Rattle.redo_ownmachine.specs.Serving.{IsUserServed}
+use Rattle.redo_logdev.specs.Part as log_part
+use Rattle.redo_ownrule.proofs.OwnFailing.{gives_where, WorkGives}
+use Rattle.redo_ownrule.proofs.OwnTold as causes
 use Rattle.redo_ownrule.specs.OwnPlays.{errand_of, own_behind}
 use Rattle.redo_rule.proofs.Kept as kept
 use Rattle.redo_rule.specs.OwnSide.{Beside, HasItsWork, IsWorked, OwnSide, SitsAs}
@@ -150,6 +153,18 @@ module _ {L D : Type 0} (log_seen : L → Seen) (log_gives : L → Call → L �
   abbrev pub before : OwnRunsWith log_seen data_seen R.run about.archive R.parts seats
   before = record { runs = by_seats.runs; errands = worked.errands }
 
+  in_actors : (n : ℕ) (a : model.Actor) → get_elem? (actors_of seats) n ≡ maybe.some a
+      → get_elem? R.actors n ≡ maybe.some a
+  in_actors n a there = ap (λ (l : List model.Actor). get_elem? l n) worked.are ∙ there
+
+  -- whoever gives the log part back after a failed call has a code that the part has
+  its_told : (n : ℕ) (a : model.Actor) (code : ℕ) → get_elem? (actors_of seats) n ≡ maybe.some a → GivesFailed a code
+      → A.Cause R.parts.log code
+  its_told n a code there = R.told n a code (in_actors n a there)
+
+  pub work_told : (code : ℕ) → WorkGives side.work code → A.Cause R.parts.log code
+  work_told = causes.work_told log_seen data_seen R.run R.parts seats before its_told
+
   module _ (r : Answer) (new : Parts L D) (same : HasSamePages R.parts new)
       (played : IsPlayed log_seen data_seen R.run (own_next o side.work) (own_lends o side.work) R.parts r new)
       (block : List ℕ) where
@@ -198,10 +213,6 @@ module _ {L D : Type 0} (log_seen : L → Seen) (log_gives : L → Call → L �
     was : (n : ℕ) (b : model.Actor) → get_elem? (actors_of after) n ≡ maybe.some b → Was (actors_of seats) n b
     was = was_there side.users now.users side.work left worked.others many
 
-    in_actors : (n : ℕ) (a : model.Actor) → get_elem? (actors_of seats) n ≡ maybe.some a
-        → get_elem? R.actors n ≡ maybe.some a
-    in_actors n a there = ap (λ (l : List model.Actor). get_elem? l n) worked.are ∙ there
-
     hears_behind : A.Tells new.log → (n : ℕ) (b : model.Actor) → get_elem? (actors_of after) n ≡ maybe.some b
         → ◌≡◌ {A = List Given} (R.heard n) (groups_of b runs_behind.runs.running.log_ghost.log)
     hears_behind told n b there =
@@ -218,17 +229,21 @@ module _ {L D : Type 0} (log_seen : L → Seen) (log_gives : L → Call → L �
         w.2
 
     module _ (free : IsFreeToCheck (model.User then.user))
+        (same_log : has_work o.errand ≡ false → ◌≡◌ {A = log_part.Part L} new.log R.parts.log)
         (told_still : (n : ℕ) (c : model.Actor) (code : ℕ) → length side.users + 2 ≤ n
         → get_elem? R.actors n ≡ maybe.some c → GivesFailed c code → A.Cause R.parts.log code → A.Cause new.log code)
       where
-        told_behind : (n : ℕ) (c : model.Actor) (code : ℕ) → SitsAs (Some now) None n
-            → get_elem? (actors_of after) n ≡ maybe.some c → GivesFailed c code → A.Cause new.log code
-        told_behind n c code far there gives =
+        told_behind : (n : ℕ) (c : model.Actor) (code : ℕ) → get_elem? (actors_of after) n ≡ maybe.some c
+            → GivesFailed c code → A.Cause new.log code
+        told_behind n c code there gives = ⊎_elim
+            (λ far.
             let beyond : length side.users + 2 ≤ n = (let m = many in omega arith) in
             let was_it : get_elem? R.actors n ≡ maybe.some c = in_actors n c
             (sym (behind_same side.users now.users side.work left worked.others many n beyond) ∙ there) in
-            told_still n c code beyond was_it gives
-            (R.told n c code (subst (λ (z : Option OwnSide). SitsAs z None n) (sym own_is) beyond) was_it gives)
+            told_still n c code beyond was_it gives (R.told n c code was_it gives))
+            (causes.left_told log_seen data_seen R.run R.parts seats before its_told x.number o its_seat r played.code
+            new.log played.log_served same_log code)
+            (gives_where now.users left worked.others n c code there gives)
 
         others_sit : (n : ℕ) (f : Option Errand) → n ≢ x.number → SitsAs (Some side) f n
             → (get_elem? (actors_of after) n ≡ get_elem? (actors_of seats) n) × SitsAs (Some now) f n

@@ -37,6 +37,7 @@ use Rattle.redo_ownmachine.specs.OwnStore.{OwnRunsWith}
 use Rattle.redo_ownmachine.specs.Serving.{MayServeUser}
 use Rattle.redo_ownrule.specs.OwnPlays.{FlusherInHand, OwnMayGo, WorkInHand, WriterInHand}
 use Rattle.redo_ownuser.specs.OwnFits.{OwnAnswerFits}
+use Rattle.redo_rule.proofs.Kept.{all_answered}
 use Rattle.redo_rule.specs.declared.law.Desk.{Desk}
 use Rattle.redo_rule.specs.declared.law.Slot.{Slot}
 use Rattle.redo_rule.specs.declared.law.Slot.TheVariants as slot
@@ -134,6 +135,8 @@ module _ {L D : Type 0} {archive : Bool} (log_seen : L → Seen) (data_seen : D 
     stands = serves.stands;
     goes_on = serves.goes_on;
     in_hand = its_hand;
+    done = λ at_end. let W = R.runs.running in all_answered A run.setup W.shared W.log_ghost parts.log n o.user at_end
+        (W.both.logged.each n (model.User o.user) (user_there seats.users seats.work seats.others n o at));
     rest = λ e. subst (λ (z : Op). AnswerFits (model.User o.user) (answer_to z))
         (own_rests o seats.work its_hand e) (as_user.fits 0 0);
     give = λ e. subst (λ (z : Op). OwnAnswerFits o seats.work (answer_to z)) e (serves.fits 0 0);

@@ -318,6 +318,7 @@ module _ {L D : Type 0} (o : OwnUser) (k j : LogWork) (pages : ℕ) (held : Opti
         stands = go.stands;
         goes_on = goes o.errand none;
         in_hand = stands o.errand none;
+        done = go.done;
         rest = λ e. go.rest (same ∙ e);
         give = λ e. fits o.user.checks o.errand none (go.give (same ∙ e));
         there = subst (OpWords pages) same go.there;

@@ -27,6 +27,7 @@ use Rattle.redo_ownmachine.specs.OwnSeats.{actors_of, OwnSeats}
 use Rattle.redo_ownmachine.specs.OwnStore.{OwnRunsWith}
 use Rattle.redo_ownmachine.specs.Serving.{MayServeUser}
 use Rattle.redo_ownrule.proofs.OwnDesk.{same_work}
+use Rattle.redo_ownrule.proofs.OwnFailing.{errand_gives}
 use Rattle.redo_ownrule.proofs.OwnFree.{own_free}
 use Rattle.redo_ownrule.proofs.OwnHands.{held_still, holder_has}
 use Rattle.redo_ownrule.proofs.OwnKept as turns
@@ -251,7 +252,8 @@ module _ {L D : Type 0} (log_seen : L → Seen) (log_gives : L → Call → L �
     leaves : Keeps → kept.Leaves log_seen log_gives data_seen data_gives about s R id v x one at (own_behind x then) new
         beside (actors_of after) R.heard
     leaves keeps = turns.leaves log_seen log_gives data_seen data_gives about s R id v x one at side own_is o there r
-        new same played block (own_free o work r serves.stands) (told_still keeps)
+        new same played block (own_free o work r serves.stands)
+        (λ none. ⊎_elim (λ e. e) (λ has. let z : true ≡ false = sym has ∙ none in absurd (cc)) keeps) (told_still keeps)
 
     -- WHAT THE TURN TELLS
     pub steps : (held : Option (Slot L D)) (carried : List (ℕ × Slot L D))
@@ -273,6 +275,8 @@ module _ {L D : Type 0} (log_seen : L → Seen) (log_gives : L → Call → L �
         runs_on = runs_behind;
         at = there;
         work = refl;
+        has_cause = λ code gives. turns.work_told log_seen log_gives data_seen data_gives about s R id v x one at side
+            own_is o there code (errand_gives o.errand work code gives);
         ends = own_step_of o work r;
         turn = turns.turn log_seen log_gives data_seen data_gives about s R id v x one at side own_is o there r new same
             played block;

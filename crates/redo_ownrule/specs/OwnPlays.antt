@@ -1,15 +1,17 @@
 -- What each step of the table tells the seat of a user that writes for itself: its state and the log's work took an answer,
 -- and what it may do next.
-use Rattle.std.specs.Prelude.{List, None, Option, Some, [], cond, true, ℕ, ◌∷◌, ◌≡◌, ◌≢◌, is_some}
+use Rattle.std.specs.Prelude.{List, None, Option, Some, [], cond, length, true, ℕ, ◌∷◌, ◌≡◌, ◌≢◌, is_some}
 use lib.ListN.{get_elem?}
 use mathlib.Core.Option.{some}
 use Rattle.atomic_table.specs.Table.{Me, rest}
 use Rattle.model_core.specs.{OpWords, user_op}
 use Rattle.model_core.specs.Actors as model
 use Rattle.model_core.specs.AnswerFits.{AnswerFits}
+use Rattle.model_core.specs.Hands.{GivesFailed}
 use Rattle.model_core.specs.declared.ops.Op.TheVariants as op
 use Rattle.model_core.specs.declared.steps.FlusherStep.{FlusherStep}
 use Rattle.model_core.specs.declared.steps.FlusherStep.TheVariants as flusher_step
+use Rattle.model_core.specs.declared.steps.UserStep.TheVariants as user_step
 use Rattle.model_core.specs.declared.steps.WriterStep.{WriterStep}
 use Rattle.model_core.specs.declared.steps.WriterStep.TheVariants as writer_step
 use Rattle.model_own.specs.declared.errand.ErrandStep.{ErrandStep}
@@ -79,6 +81,13 @@ WorkInHand errand_step.Write k = WriterInHand k.writer.step
 WorkInHand errand_step.Flush k = FlusherInHand k.flusher.step
 WorkInHand _ k = Unit {0}
 
+-- a call of the errand has failed with this code: the writer or the flusher in the user's hand has stored it in FAILED,
+-- and gives the log part back
+abbrev pub ErrandGivesFailed : ErrandStep → LogWork → ℕ → Type 0
+ErrandGivesFailed errand_step.Write k code = GivesFailed (model.Writer k.writer) code
+ErrandGivesFailed errand_step.Flush k code = GivesFailed (model.Flusher k.flusher) code
+ErrandGivesFailed _ k code = ⊥
+
 -- what lies in the log part's slot, with the log's work so far
 abbrev pub with_work : {L : Type 0} → Desk L → LogWork → Desk L
 with_work desk k = record { part = desk.part; block = desk.block; work = Some k }
@@ -99,6 +108,7 @@ module _ {L D : Type 0} where
     pub stands : ErrandFits o.user o.errand
     pub goes_on : WorkGoesOn o.errand k
     pub in_hand : WorkInHand o.errand k
+    pub done : o.user.step ≡ user_step.Done → o.user.k ≡ length o.user.lines
     pub rest : own_next o k ≡ op.Rest → AnswerFits (model.User o.user) answer.Rested
     pub give : own_next o k ≡ op.GiveDevice → OwnAnswerFits o k (answer.Taken None)
     pub there : OpWords pages (own_next o k)
@@ -130,6 +140,9 @@ module _ {L D : Type 0} (log_seen : L → Seen) (data_seen : D → Seen) where
     pub runs_on : OwnRunsWith log_seen data_seen run about.archive new after
     pub at : get_elem? seats.users number ≡ some o
     pub work : seats.work ≡ k
+    -- where its errand gives the log part back after a failed call, its code is one that the part has
+    pub has_cause : (code : ℕ) → ErrandGivesFailed o.errand k code
+        → (run_log_side log_seen data_seen run).Cause old.log code
     pub ends : Step
     pub turn : UserTurn (run_log_side log_seen data_seen run) (run_data_side log_seen data_seen run)
         (own_core_of log_seen data_seen run old seats) number r ends (own_core_of log_seen data_seen run new after)

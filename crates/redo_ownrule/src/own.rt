@@ -1,5 +1,6 @@
 // One Op of a user that writes for itself, on the shared table.
 ghost use Rattle.std.specs.Prelude.{◌≡◌};
+ghost use Rattle.redo_ownrule.specs.OwnCauses.{OwnEndsSo};
 ghost use Rattle.redo_ownrule.specs.OwnMine.{IsOwnSeat, KeepsOwnSeat, OwnHasGone};
 ghost use Rattle.redo_ownrule.specs.Playing.{OwnAsks};
 
@@ -33,8 +34,8 @@ pub(crate) fn ask_own<L: Sectors, D: Sectors>(
     }
 }
 
-/// Plays the Op that a user asks for whose state is the seat's view, and tells how its step ended.
-pub(crate) fn play_own<L: Sectors, D: Sectors>(
+/// Plays the Op that a user asks for.
+fn play_next<L: Sectors, D: Sectors>(
     table: &Ring<L, D>,
     seat: &mut Seat<L, D>,
     user: &mut OwnUser,
@@ -66,4 +67,21 @@ pub(crate) fn play_own<L: Sectors, D: Sectors>(
         | Op::WriteBatch
         | Op::Append(_) => unreachable!(),
     }
+}
+
+/// Plays the Op that a user asks for whose state is the seat's view, and tells how its step ended.
+pub(crate) fn play_own<L: Sectors, D: Sectors>(
+    table: &Ring<L, D>,
+    seat: &mut Seat<L, D>,
+    user: &mut OwnUser,
+    op: Op,
+) -> Step
+    requires seat { IsOwnSeat table.now.table_id seat.old user.old }
+    requires asks { OwnAsks seat.old.me.0 user.old op }
+    ensures seat { IsOwnSeat table.now.table_id seat.new user.new }
+    ensures same { KeepsOwnSeat seat.old.me.0 seat.new.me.0 }
+    ensures played { OwnHasGone L.seen D.seen seat.old.me.0 user.old result user.new }
+    ensures ends { OwnEndsSo L.seen D.seen seat.old.me.0 user.old result user.new }
+{
+    play_next(table, seat, user, op)
 }

@@ -1,5 +1,6 @@
 // Who plays at a table.
 ghost use Rattle.std.specs.Prelude.{true, ◌≡◌};
+ghost use Rattle.redo_ownrule.specs.OwnCauses.{PlayerEndsSo};
 ghost use Rattle.redo_ownrule.specs.Players.{IsAtRest, IsSamePlayer, MayRest, actor_of};
 ghost use Rattle.redo_ownrule.specs.Playing.{IsPlayerSeat, PlayerAsks, PlayerHasGone};
 ghost use Rattle.redo_rule.specs.Mine.{IsSameSeat};
@@ -60,6 +61,7 @@ pub fn play<L: Sectors, D: Sectors, R: Receiver>(
     ensures same { IsSameSeat R.stands_for seat.old.me.0 (actor_of player.old) seat.new.me.0 (actor_of player.new) }
     ensures player { IsSamePlayer player.old player.new }
     ensures played { PlayerHasGone L.seen D.seen seat.old.me.0 player.old result player.new }
+    ensures ends { PlayerEndsSo L.seen D.seen seat.old.me.0 player.old result player.new }
 {
     match player {
         Player::Plain(actor) => redo_rule::play(table, seat, actor, op),

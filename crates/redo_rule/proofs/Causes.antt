@@ -1,5 +1,6 @@
 -- Why an answer of `play` came: a wait met its condition, an end was one, and a failure had a cause.
-use Rattle.std.proofs.Common.{Bool, List, None, Option, Some, ap, arith, cond, false, inl, inr, length, refl, subst, sym, true, ℕ, ⊎_elim, ◌<◌, ◌∙◌, ◌≡◌, ◌⊎◌, is_some}
+use Rattle.std.proofs.Common.{Bool, List, ap, arith, cond, false, inl, inr, is_some, length, refl, subst, sym, true, ℕ, ⊎_elim}
+use Rattle.std.proofs.Common.{◌<◌, ◌∙◌, ◌≡◌, ◌⊎◌}
 use lib.ListN.{get_elem?}
 use mathlib.Core.Option.{some, some-injective}
 use Rattle.model_core.proofs.Endings.{ended_of, ended_well, idle_of, quiet, resting_code, resting_free, turn_ends}
@@ -17,28 +18,21 @@ use Rattle.model_core.specs.declared.ops.Step.{Step}
 use Rattle.model_core.specs.declared.ops.Step.TheVariants as step
 use Rattle.model_core.specs.declared.steps.UserStep.TheVariants as user_step
 use Rattle.model_core.specs.declared.words.Word.TheVariants as word
-use native.Mathlib.Decide.{dec_le}
-use Rattle.model_running.proofs.Archiving.{lost_code}
 use Rattle.model_running.proofs.Filling.{next_filled}
 use Rattle.model_running.specs.ReadHalf.{ReadsInRun}
 use Rattle.model_core.specs.declared.steps.ReaderStep.TheVariants as reader_step
-use Rattle.redo_archiver.specs.{append_code}
 use Rattle.redo_disk.specs.Seen.{Seen}
-use Rattle.redo_disk.specs.declared.error.DevError.{DevError}
-use Rattle.redo_disk.specs.declared.error.DevError.TheVariants.{Failed, NoMemory}
-use Rattle.redo_drive.specs.Devices.{HasFailedBy}
-use Rattle.redo_drive.specs.declared.device.Device.TheVariants.{Data, Log}
 use Rattle.redo_drive.proofs.Viewed.{not_joined}
 use Rattle.redo_drive.specs.Lists.{lists_of}
 use Rattle.redo_drive.specs.Playing.{run_data_side, run_log_side}
 use Rattle.redo_drive.specs.Turning.{code_in}
 use Rattle.redo_drive.specs.Views.{view_of}
 use Rattle.redo_drive.specs.declared.actor.Actor.{Actor}
-use Rattle.redo_rule.proofs.Failing.{caused}
+use Rattle.redo_rule.proofs.Caused as caused
 use Rattle.redo_rule.proofs.Filled.{checks_filled, ending_filled, gives_filled, stores_filled, waits_filled}
 use Rattle.redo_rule.proofs.Kept.{all_answered, done_is_free}
 use Rattle.redo_rule.proofs.Reached.{has_cause, is_archived}
-use Rattle.redo_rule.specs.Causes.{EndsSo, HasEndedBy, HasFailureCode, HasMet, HasWaited, IsFinishedUser}
+use Rattle.redo_rule.specs.Causes.{EndsSo, HasEndedBy, HasFailureCode, HasWaited, IsFinishedUser}
 use Rattle.redo_rule.specs.Mine.{HasGone, heard_of, number_of}
 use Rattle.redo_rule.specs.Plays.{Shown}
 use Rattle.redo_rule.specs.declared.law.View.{View}
@@ -85,11 +79,8 @@ module _ {L D : Type 0} (log_seen : L → Seen) (data_seen : D → Seen) (v : Vi
       let asks : next a ≡ op.Load word.Failed = ap (λ (b : Bool). cond b (op.Load word.Failed) (own_op a)) checks in
       (asks, ap old_of (s.turn.answered ∙ ap (answer_of (lists_of s.old.lists) (is_some s.old.log.failed) s.turn.code s.new.log.marks.stable s.old.words.words) (ap next same ∙ asks)))
 
-  -- what has failed by a code that the actor tells: a call of a part, or an append of the archiver
   abbrev FailedBy : ℕ → Type 0
-  FailedBy code = HasFailedBy log_seen Log (log_seen s.run.first_log.dev).faults s.old.log.dev s.old.log.failed code
-      ⊎ HasFailedBy data_seen Data (data_seen s.run.first_data.dev).faults s.old.store.dev s.old.store.failed code
-      ⊎ ((s.about.archive ≡ true) × HasLost s.actors code)
+  FailedBy = caused.FailedBy log_seen data_seen s.about s.run s.old s.actors s.runs
 
   -- its code, if it tells a failure of its own
   own_cause : (b : model.Actor) (code : ℕ) → get_elem? s.actors number ≡ some b → StoresFailed b code → FailedBy code
@@ -112,38 +103,15 @@ module _ {L D : Type 0} (log_seen : L → Seen) (data_seen : D → Seen) (v : Vi
   -- so it has its cause
   failure_code : (code : ℕ) → ((next a ≡ op.Load word.Failed) × (code ≡ code_in s.old)) ⊎ (GivesFailed a code ⊎ StoresFailed a code)
       → (0 < code → FailedBy code) → HasFailureCode log_seen data_seen v a code
-  failure_code code way failed = elim (dec_le 1 code) [
-    | yes positive ↦ by_cause (failed positive)
-    | no none ↦ by_met None (λ fault is. let bad : None ≡ Some fault = is in absurd (cc)) (λ positive. absurd (omega arith))
-  ]
-    where
-      by_met : (lost : Option DevError) → HasMet s.about s.actors lost
-          → (0 < code → HasFailedBy log_seen Log (log_seen s.run.first_log.dev).faults s.old.log.dev s.old.log.failed code
-          ⊎ HasFailedBy data_seen Data (data_seen s.run.first_data.dev).faults s.old.store.dev s.old.store.failed code
-          ⊎ (code ≡ append_code lost)) → HasFailureCode log_seen data_seen v a code
-      by_met lost met cause = record {
+  failure_code code way failed =
+      let cause = caused.met_cause log_seen data_seen s.about s.run s.old s.actors s.runs code failed in record {
         answer = r;
         shown = s;
         way = way;
-        lost = lost;
-        has_met = met;
-        cause = caused log_seen data_seen code s.run.first_log s.old.log s.run.first_data s.old.store lost cause;
+        lost = cause.lost;
+        has_met = cause.has_met;
+        cause = cause.cause;
       }
-
-      none_met : HasMet s.about s.actors None
-      none_met fault is = let bad : None ≡ Some fault = is in absurd (cc)
-
-      met_by : (fault : DevError) → code ≡ append_code (Some fault) → (s.about.archive ≡ true) × HasLost s.actors code
-          → HasFailureCode log_seen data_seen v a code
-      met_by fault is lost = by_met (Some fault)
-          (λ other same. (lost.0, subst (HasLost s.actors) is lost.1)) (λ positive. inr (inr is))
-
-      by_cause : FailedBy code → HasFailureCode log_seen data_seen v a code
-      by_cause h = ⊎_elim (λ of_log. by_met None none_met (λ positive. inl of_log))
-          (⊎_elim (λ of_data. by_met None none_met (λ positive. inr (inl of_data)))
-          (λ lost. ⊎_elim (λ e. met_by Failed e lost) (λ e. met_by NoMemory e lost)
-          (lost_code s.run.setup s.actors s.runs.running.both.in_run code lost.1)))
-          h
 
   found_failure : (code : ℕ) → is_checking a ≡ true → old_of r ≡ code → HasFailureCode log_seen data_seen v a code
   found_failure code checks is =

@@ -229,8 +229,8 @@ module _ {L D : Type 0} (log_seen : L → Seen) (log_gives : L → Call → L �
     pub own : HasItsWork (run_log_side log_seen data_seen R.run) new.log beside.own after
     pub hears : HaveGroups (run_log_side log_seen data_seen R.run) new.log heard after runs.running.log_ghost.log
     pub count : length after ≡ length R.actors
-    pub told : (n : ℕ) (c : model.Actor) (code : ℕ) → SitsAs beside.own None n → get_elem? after n ≡ maybe.some c
-        → GivesFailed c code → (run_log_side log_seen data_seen R.run).Cause new.log code
+    pub told : (n : ℕ) (c : model.Actor) (code : ℕ) → get_elem? after n ≡ maybe.some c → GivesFailed c code
+        → (run_log_side log_seen data_seen R.run).Cause new.log code
     pub number : then.number ≡ x.number
     pub here : get_elem? after x.number ≡ maybe.some then.actor
     pub its_heard : ◌≡◌ {A = List Given} (heard x.number) then.heard
@@ -396,7 +396,7 @@ module _ {L D : Type 0} (log_seen : L → Seen) (log_gives : L → Call → L �
       runs_on = runs_behind;
       at = here;
       hears = λ told. sym (known.mine 0 x first).2 ∙ R.hears told x.number a here;
-      has_cause = λ code gives. R.told x.number a code sits_plain here gives;
+      has_cause = λ code gives. R.told x.number a code here gives;
       ends = step_of (filled a f) r;
       turn = turn;
     }
@@ -476,14 +476,14 @@ module _ {L D : Type 0} (log_seen : L → Seen) (log_gives : L → Call → L �
             let low = h.worker in
             others h.seat h.who 0 (λ e. omega arith) h.there h.holds
 
-        told_behind : (n : ℕ) (c : model.Actor) (code : ℕ) → SitsAs beside.own None n → get_elem? after n ≡ maybe.some c
-            → GivesFailed c code → (run_log_side log_seen data_seen R.run).Cause new.log code
-        told_behind n c code sits e gives = ⊎_elim
+        told_behind : (n : ℕ) (c : model.Actor) (code : ℕ) → get_elem? after n ≡ maybe.some c → GivesFailed c code
+            → (run_log_side log_seen data_seen R.run).Cause new.log code
+        told_behind n c code e gives = ⊎_elim
             (λ t. told_here code (subst (λ (z : model.Actor). GivesFailed z code) (sym t.1) gives))
             (λ t. subst (λ (p : log.Part L). (run_log_side log_seen data_seen R.run).Cause p code)
             (same_log (desk_with R.parts.log R.beside) (desk_with new.log beside)
             (others n c 0 t.0 t.1 (gives_hand c code gives)))
-            (R.told n c code (subst (λ (z : Option OwnSide). SitsAs z None n) same_own sits) t.1 gives))
+            (R.told n c code t.1 gives))
             (at_set R.actors x.number n b c e)
 
         leaves : Leaves (behind x f r) new beside after heard

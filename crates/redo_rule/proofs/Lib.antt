@@ -7,6 +7,7 @@ pub mod AtRest
 pub mod Batching
 pub mod Behind
 pub mod Calling
+pub mod Caused
 pub mod Causes
 pub mod Cuts
 pub mod Ends

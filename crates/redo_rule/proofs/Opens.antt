@@ -218,7 +218,7 @@ module _ {L D R : Type 0} (log_seen : L → Seen) (log_gives : L → Call → L 
     keeper = 0;
     out = false;
     data_home = λ z. refl;
-    told = λ n a code sits at g. let held = (holding log_seen data_seen B.run start.parts all B.from.runs n a at 0
+    told = λ n a code at g. let held = (holding log_seen data_seen B.run start.parts all B.from.runs n a at 0
         (gives_hand a code g)).word_is in let free = free_word 0 (omega arith) in absurd (omega arith);
     taken = λ k l busy. absurd (busy (free_word k l));
     knows = one_view;

@@ -139,9 +139,9 @@ pub record Ruled {L D : Type 0} (log_seen : L → Seen) (log_gives : L → Call 
   -- what isn't held is at home
   pub slots : length s.homes ≡ 6
   pub home : (k : ℕ) → k < 5 → slice_index s.words (7 + k) ≡ 0 → get_elem? s.homes k ≡ some (some (slot_content parts beside k))
-  -- who plays by its own program, and gives the log part back after a failed call, has a code that the part has
-  pub told : (n : ℕ) (a : model.Actor) (code : ℕ) → SitsAs beside.own None n → get_elem? actors n ≡ some a
-      → GivesFailed a code → (run_log_side log_seen data_seen run).Cause parts.log code
+  -- who gives the log part back after a failed call has a code that the part has, in a user's hand also
+  pub told : (n : ℕ) (a : model.Actor) (code : ℕ) → get_elem? actors n ≡ some a → GivesFailed a code
+      → (run_log_side log_seen data_seen run).Cause parts.log code
   -- a turn word that isn't 0 has an actor that holds it
   pub taken : (k : ℕ) → k < 5 → slice_index s.words (7 + k) ≢ 0 → IsSlotHeld actors k
   pub seat_of : ℕ → ℕ

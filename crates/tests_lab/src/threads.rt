@@ -123,6 +123,44 @@ fn gate_two_users(rt: HostRuntime) -> Result<(), Fail> {
     Ok(())
 }
 
+/// Counts the players that ask for a thread.
+#[derive(Drop)]
+struct Players {
+    count: AtomicU64,
+}
+
+impl Gate for Players {
+    fn pass(&self, _who: u32, _point: Point) {}
+
+    fn refuses(&self, _number: usize) -> bool {
+        self.count.fetch_add(1, Ordering::SeqCst);
+        false
+    }
+}
+
+/// Beside two users play writer, flusher, and with the pages closer, cleaner and checkpointer. Where users write for themselves,
+/// nobody plays the writer or the flusher.
+#[test]
+fn users_that_write_have_no_writer(rt: HostRuntime) -> Result<(), Fail> {
+    for (words, players) in [
+        ("run --threads --log-only", 4),
+        ("run --threads", 7),
+        ("run --threads --own-writes --log-only", 2),
+        ("run --threads --own-writes", 5),
+    ] {
+        let gate = Players {
+            count: AtomicU64::new(0),
+        };
+        let devices = blank(rt.alloc())?;
+        let script = "1 f b1 3 100 7\n2 f b1 4 100 8\n";
+        let mut call = Call::by(rt.alloc(), "", words, script)?;
+        let _left = call.make(&rt, devices, &gate)?;
+        let count = gate.count.load(Ordering::SeqCst);
+        assert!(rt; count == players, "{words}: {count}");
+    }
+    Ok(())
+}
+
 /// Crashes in threads with these stops, where `@` is the number of calls before them. In threads no number of calls is sure to be
 /// all of them, so it isn't asked whether a stop shows.
 fn stop_threads(
