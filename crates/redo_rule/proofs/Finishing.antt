@@ -46,6 +46,7 @@ use Rattle.redo_rule.specs.declared.law.About.{About}
 use Rattle.model_own.specs.OwnWrites.{LogWork}
 use Rattle.redo_rule.specs.OwnSide.{desk_with, work_of}
 use Rattle.redo_rule.specs.declared.law.Desk.{Desk}
+use Rattle.redo_rule.specs.declared.law.Heard.{Heard}
 use Rattle.redo_rule.specs.declared.law.Slot.{Slot}
 use Rattle.redo_rule.specs.declared.law.Slot.TheVariants as slot
 use Rattle.redo_rule.specs.declared.law.View.{View}
@@ -119,14 +120,14 @@ nothing_left (x ∷ xs) = nothing_left xs
 
 module _ {L D : Type 0} (log_seen : L → Seen) (log_gives : L → Call → L → Type 0) (data_seen : D → Seen) (data_gives : D → Call → D → Type 0) (about : About L D) where
   -- what is left where the table is closed
-  pub ends_with : (table : TableId) (heard : ℕ → List Given) (actors : List model.Actor) (first : Seat (Slot L D)
+  pub ends_with : (table : TableId) (heard : ℕ → Heard) (actors : List model.Actor) (first : Seat (Slot L D)
       (View L D)) → MayClose about table heard actors first → (ws : List ℕ) (xs : List (Slot L D))
       → Final (SeenBy (Ruled log_seen log_gives data_seen data_gives about) first.id first.me.0) ws xs → RunReaches
       log_seen log_gives data_seen data_gives about heard actors ws xs
   ends_with table heard actors first may ws xs final = ends_ok log_seen log_gives data_seen data_gives about first.id
       first.me.0 ws xs heard actors final may.all may.count may.rest may.cleaner may.alone
 
-  module _ (heard : ℕ → List Given) (actors : List model.Actor) (ws : List ℕ) (xs : List (Slot L D)) (E : RunReaches
+  module _ (heard : ℕ → Heard) (actors : List model.Actor) (ws : List ℕ) (xs : List (Slot L D)) (E : RunReaches
       log_seen log_gives data_seen data_gives about heard actors ws xs) where
     abbrev desk : Desk L
     desk = desk_with E.parts.log E.beside
@@ -171,6 +172,7 @@ module _ {L D : Type 0} (log_seen : L → Seen) (log_gives : L → Call → L �
       last = E.parts;
       runs = E.runs;
       hears = E.hears;
+      loaded = E.loaded;
       log_calls = E.log_calls;
       data_calls = E.data_calls;
       log_shape = E.log_shape;
@@ -180,7 +182,7 @@ module _ {L D : Type 0} (log_seen : L → Seen) (log_gives : L → Call → L �
       code = code ∙ ap (λ (z : List ℕ). slice_index z (index word.Failed)) (sym E.words_are);
     }
 
-  module _ (heard : ℕ → List Given) (actors : List model.Actor) (left : Left L D) (P : LeavesParts log_seen log_gives
+  module _ (heard : ℕ → Heard) (actors : List model.Actor) (left : Left L D) (P : LeavesParts log_seen log_gives
       data_seen data_gives about heard actors left) where
     its_marks : ◌≡◌ {A = Marks} left.marks (word_marks P.runs.running.shared)
     its_marks = P.marks ∙ marks_same P.last.words.words P.runs.running.shared P.runs.running.flat_is
@@ -198,7 +200,7 @@ module _ {L D : Type 0} (log_seen : L → Seen) (log_gives : L → Call → L �
     its_history history l = history_is log_seen data_seen P.run P.last actors P.runs history (subst (λ (z : Marks). ListsInOrder z actors history) its_marks l)
 
   -- the same of the actors themselves
-  module _ {R : Type 0} (heard : ℕ → List Given) (actors : List (Actor R)) (left : Left L D)
+  module _ {R : Type 0} (heard : ℕ → Heard) (actors : List (Actor R)) (left : Left L D)
       (P : LeavesParts log_seen log_gives data_seen data_gives about heard (views_of actors) left) where
     pub groups : (seat : ℕ) (actor : Actor R) → seat < length actors → HasGroups (view_of (get_or actors seat actor))
     groups = have_groups log_seen data_seen P.run P.last actors P.runs
@@ -281,7 +283,8 @@ module _ {L D : Type 0} (log_seen : L → Seen) (log_gives : L → Call → L �
       (λ told n a b began at.
       let s = there seats n (let l = past actors n b at in omega arith) in
       subst (λ (l : List Given). HasGot stands (follower_of a) l (follower_of b))
-      (heard_at seats n s.0 s.1 ∙ P.hears told n (view_of b) (views_at actors n b at)) (H.got n s.0 a b s.1 began at))
+      (ap (λ (h : Heard). h.groups) (heard_at seats n s.0 s.1) ∙ (P.hears told n (view_of b) (views_at actors n b at)).groups)
+      (H.got n s.0 a b s.1 began at))
     where
       past : (l : List (Actor R)) (i : ℕ) (a : Actor R) → get_elem? l i ≡ maybe.some a → i < length l
       past [] i a at = absurd (maybe.some-ne-none a (sym at))
