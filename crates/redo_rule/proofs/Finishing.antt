@@ -7,10 +7,13 @@ use Rattle.atomic_table.specs.Seated.{TableId}
 use Rattle.atomic_table.specs.Table.{Final, Seen as SeenBy}
 use Rattle.atomic_table.specs.declared.shared.Seat.{Seat}
 use Rattle.model_core.specs.Actors as model
-use Rattle.model_core.specs.{Given, HasLost, index, tail_of}
+use Rattle.model_core.specs.{Given, HasLost, index, ReaderState, tail_of}
+use Rattle.model_core.specs.Setup.{Setup}
 use Rattle.model_core.specs.declared.words.Word.TheVariants as word
+use Rattle.model_running.proofs.Archiving.{losing_at}
 use Rattle.model_running.proofs.Finished.{marks_same}
 use Rattle.model_running.specs.{history_of, marks_in, word_marks}
+use Rattle.model_running.specs.ReadHalf.{ReadsInRun, StaysInRun}
 use Rattle.model_report.specs.declared.entry.Entry.{Entry}
 use Rattle.model_report.specs.declared.entry.Marks.{Marks}
 use Rattle.redo_archiver.specs.{append_code}
@@ -58,10 +61,18 @@ read_at (y ∷ ys) zero x e = sym (maybe.some-injective y x e)
 read_at (y ∷ ys) (suc i) x e = read_at ys i x e
 
 -- what a run tells of the append that failed
-pub its_loss : (archive : Bool) (actors : List model.Actor) (lost : Option DevError) → TellsLoss archive actors lost
+pub its_loss : (c : Setup) (archive : Bool) (actors : List model.Actor)
+    → ((seat : ℕ) (a : model.Actor) → get_elem? actors seat ≡ maybe.some a → StaysInRun c a)
+    → (lost : Option DevError) → TellsLoss archive actors lost
     → cond archive ((code : ℕ) → HasLost actors code → code ≡ append_code lost) (Unit {0})
-its_loss true actors lost loss = loss
-its_loss false actors lost loss = tt
+its_loss c true actors in_run lost loss = λ code met.
+    let r : ReaderState = met.archiver in
+    let I : ReadsInRun c r = in_run met.seat (model.Reader r) met.at in
+    let is = met.lost in
+    let some_code = met.some_code in
+    let losing = losing_at r r.step I.lost (omega arith) in
+    sym is ∙ loss met.seat r met.at losing.archiver
+its_loss c false actors in_run lost loss = tt
 
 -- a slot that was taken is empty, and the others are as they were
 still_full : (l : List Bool) (i k : ℕ) → k ≢ i → get_or l k false ≡ true → get_or (slice_set l i false) k false ≡ true
@@ -231,7 +242,7 @@ module _ {L D : Type 0} (log_seen : L → Seen) (log_gives : L → Call → L �
         marks = marks_is ∙ P.marks;
         code = code_is ∙ P.code;
         history = its_history heard (views_of actors) left P closed.history listed;
-        lost = its_loss about.archive (views_of actors) closed.lost loss;
+        lost = its_loss P.run.setup about.archive (views_of actors) P.runs.running.both.in_run closed.lost loss;
       }
 
       -- of actors that began with whatever they are, and of receivers of which nothing is told

@@ -5,7 +5,7 @@ use mathlib.Core.Option.{some}
 use Rattle.atomic_table.specs.Seated.{TableId}
 use Rattle.atomic_table.specs.Table.{Final, Seen as SeenBy, State}
 use Rattle.atomic_table.specs.declared.shared.Seat.{Seat}
-use Rattle.model_core.specs.{HasLost, index}
+use Rattle.model_core.specs.{archives, index, ReaderState}
 use Rattle.model_core.specs.Actors as model
 use Rattle.model_core.specs.declared.words.Word.TheVariants as word
 use Rattle.model_running.specs.{HaveEnded, marks_in}
@@ -35,10 +35,11 @@ use Rattle.redo_rule.specs.declared.law.Heard.{Heard}
 use Rattle.redo_rule.specs.declared.law.Slot.{Slot}
 use Rattle.redo_rule.specs.declared.law.View.{View}
 
--- what an append to the archive has met: an archiver that has lost its archive did so by that; without an archive nothing
+-- what an append to the archive has met: the archiver has lost its archive by that, or hasn't; without an archive nothing
 abbrev pub TellsLoss : (archive : Bool) → List model.Actor → Option DevError → Type 0
-TellsLoss archive actors lost =
-    cond archive ((code : ℕ) → HasLost actors code → code ≡ append_code lost) (lost ≡ None)
+TellsLoss archive actors lost = cond archive
+    ((seat : ℕ) (r : ReaderState) → get_elem? actors seat ≡ some (model.Reader r) → archives r ≡ true → r.lost ≡ append_code lost)
+    (lost ≡ None)
 
 module _ {L D : Type 0} where
   -- the first seat knows all actors, of which none holds anything, and keeps the data part
