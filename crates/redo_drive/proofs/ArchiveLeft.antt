@@ -4,13 +4,14 @@ use Rattle.std.proofs.Common.{◌+◌, ◌<◌, ◌∙◌, ◌≡◌, ◌≢◌,
 use Rattle.std.specs.Prelude.{IfSome}
 use lib.ListN.{get_elem?}
 use mathlib.Core.Option.{some, some-injective}
-use Rattle.model_base.specs.declared.limits.TheConstants.{BLOCK_HEADER, BLOCK_SIZE}
+use Rattle.model_base.specs.declared.limits.TheConstants.{BLOCK_SIZE}
 use Rattle.model_core.specs.{archive_device_code, archives, Given, HasLost, lsn, ReaderState, SharedWords}
 use Rattle.model_core.specs.Actors as model
 use Rattle.model_core.specs.DataSide.{DataSide}
 use Rattle.model_core.specs.LogSide.{LogSide}
 use Rattle.model_device.specs.Disk.{Disk}
 use Rattle.model_log.specs.{block_of, IsRunOf}
+use Rattle.model_log.specs.declared.layout.TheConstants.{BLOCK_HEADER}
 use Rattle.model_log.specs.declared.group.Whole.{Whole}
 use Rattle.model_logcore.specs.{LogGhost}
 use Rattle.model_report.specs.{wholes_of}

@@ -2,7 +2,7 @@
 use Rattle.std.specs.Prelude.{IfSome, List, [], None, Option, Some, true, ℕ, ◌+◌, ◌≡◌, ◌≤◌}
 use lib.ListN.{get_elem?}
 use mathlib.Core.Option.{some}
-use Rattle.model_base.specs.declared.limits.TheConstants.{BLOCK_HEADER}
+use Rattle.model_log.specs.declared.layout.TheConstants.{BLOCK_HEADER}
 use Rattle.model_core.specs.{archive_device_code, archives, ReaderState}
 use Rattle.model_core.specs.Actors as model
 use Rattle.model_log.specs.{block_of, IsRunOf}
