@@ -135,8 +135,6 @@ pub record EndsAs {L D R : Type 0} (log_seen : L → Seen) (log_gives : L → Ca
   pub rest : HoldNothing (views_of (crew work ps))
   pub heard_is : (i : ℕ) (p : Player R) → get_elem? ps i ≡ maybe.some p
       → ◌≡◌ {A = Heard} (all_heard (place own ps i)) (heard i)
-  pub there : (i : ℕ) (p : Player R) → get_elem? ps i ≡ maybe.some p
-      → get_elem? (views_of (crew work ps)) (place own ps i) ≡ maybe.some (view_of (actor_of p))
 
 module _ {L D R : Type 0} (log_seen : L → Seen) (log_gives : L → Call → L → Type 0) (data_seen : D → Seen)
     (data_gives : D → Call → D → Type 0) (about : About L D) (own : Bool) (own_is : about.own_writes ≡ own)
@@ -219,5 +217,4 @@ module _ {L D R : Type 0} (log_seen : L → Seen) (log_gives : L → Call → L 
         work_is = refl;
         rest = A.rest;
         heard_is = λ i p at. (known i p at).heard_is;
-        there = λ i p at. ap (λ (l : List model.Actor). get_elem? l (place own ps i)) (sym A.are) ∙ (known i p at).there;
       }

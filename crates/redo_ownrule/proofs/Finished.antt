@@ -77,8 +77,6 @@ pub record Finished {L D R : Type 0} (log_seen : L → Seen) (log_gives : L → 
   pub all_heard : ℕ → Heard
   pub heard_is : (i : ℕ) (p : Player R) → get_elem? players i ≡ maybe.some p
       → ◌≡◌ {A = Heard} (all_heard (place own players i)) (heard i)
-  pub there : (i : ℕ) (p : Player R) → get_elem? players i ≡ maybe.some p
-      → get_elem? (views_of actors) (place own players i) ≡ maybe.some (view_of (actor_of p))
   pub work : Option LogWork
   pub works : is_some work ≡ own
   pub are : ◌≡◌ {A = List (Actor R)} actors (crew work players)
@@ -109,8 +107,6 @@ module _ {L D R : Type 0} (log_seen : L → Seen) (log_gives : L → Call → L 
         is ∙ ap (λ (k : Option LogWork). crew k players) work_left in record {
           all_heard = E.all_heard;
           heard_is = E.heard_is;
-          there = λ i p at. subst (λ (l : List (Actor R)). get_elem? (views_of l) (place own players i)
-              ≡ maybe.some (view_of (actor_of p))) (sym are) (E.there i p at);
           work = E.work;
           works = E.works;
           are = are;

@@ -22,6 +22,7 @@ use Rattle.redo_drive.specs.declared.actor.Actor.TheVariants as actor
 use Rattle.redo_drive.specs.declared.closed.Closed.{Closed}
 use Rattle.redo_follow.specs.Handing.{Following}
 use Rattle.redo_ownrule.proofs.Placed.{alone, length_crew}
+use Rattle.redo_ownrule.proofs.Standing.{crew_there}
 use Rattle.redo_ownrule.specs.Leaving.{LeavesHeard}
 use Rattle.redo_ownrule.specs.Players.{actor_of, crew, IsSamePlayer, place, workers, workers_of}
 use Rattle.redo_ownrule.specs.declared.player.Player.{Player}
@@ -110,9 +111,7 @@ module _ {L D R : Type 0} (log_seen : L → Seen) (log_gives : L → Call → L 
     (heard_is : (i : ℕ) (p : Player R) → get_elem? ps i ≡ maybe.some p
     → ◌≡◌ {A = Heard} (all_heard (place own ps i)) (heard_by seats i))
     (work : Option LogWork) (works : is_some work ≡ own) (actors : List (Actor R))
-    (are : ◌≡◌ {A = List (Actor R)} actors (crew work ps))
-    (its_place : (i : ℕ) (p : Player R) → get_elem? ps i ≡ maybe.some p
-    → get_elem? (views_of actors) (place own ps i) ≡ maybe.some (view_of (actor_of p))) (left : Left L D)
+    (are : ◌≡◌ {A = List (Actor R)} actors (crew work ps)) (left : Left L D)
     (P : LeavesParts log_seen log_gives data_seen data_gives about all_heard (views_of actors) left)
     (closed : Closed L D)
     (log_is : closed.log ≡ left.log) (store_is : closed.store ≡ left.store)
@@ -185,7 +184,8 @@ module _ {L D R : Type 0} (log_seen : L → Seen) (log_gives : L → Call → L 
         subst (λ (h : Heard). AllByRecursion (IsOfRun (run_log_side log_seen data_seen P.run) P.run.setup.base
         P.runs.running.log_ghost.log) h.blocks)
         (heard_is i p.0 p.1 ∙ sym (heard_at seats i seat at))
-        (P.hears told (place own ps i) (view_of (actor_of p.0)) (its_place i p.0 p.1)).blocks;
+        (P.hears told (place own ps i) (view_of (actor_of p.0)) (subst (λ (l : List (Actor R)). get_elem? (views_of l) (place own ps i)
+        ≡ maybe.some (view_of (actor_of p.0))) (sym are) (crew_there own work works ps i p.0 p.1))).blocks;
   }
     where
       seat_below : {A : Type 0} (l : List A) (i : ℕ) (a : A) → get_elem? l i ≡ maybe.some a → i < length l

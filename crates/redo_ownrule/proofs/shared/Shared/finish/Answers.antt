@@ -97,7 +97,7 @@ returns g c =
       rest = F.rest;
       leaves = λ work starts works same heard. leaves_players g.L.Sectors.seen g.L.Sectors.gives g.D.Sectors.seen
           g.D.Sectors.gives c.args.self.board.shared.key (own_of c.args.self) F.all_heard c.args.seats.items
-          c.args.players.items c.requires.seats.count F.heard_is F.work F.works c.give_actors-actors.result.items F.are F.there
+          c.args.players.items c.requires.seats.count F.heard_is F.work F.works c.give_actors-actors.result.items F.are
           c.close_table-log.result F.parts _ refl refl refl refl listed loss g.R.Receiver.stands_for work starts works same
           heard;
       listed = listed;
