@@ -78,6 +78,13 @@ filled_loads r f answer w reader_step.ReadBlock l is = l
 filled_loads r f answer w reader_step.GiveDevice l is = l
 filled_loads r f answer w _ l is = l
 
+-- so a reader keeps its mark through its turn, or gets what a load of FLUSHED has told
+pub reader_loads : (r : ReaderState) (f : Filling) (answer : Answer)
+    → Loads r r.checks r.step answer (after_of reader_program (reader_filled r f r.step) answer)
+reader_loads r f answer =
+    let s : ReaderState = reader_filled r f r.step in
+    filled_loads r f answer (after_of reader_program s answer) r.step (loads answer s) refl
+
 -- a load of FLUSHED tells the word
 told_flushed : (ls : ℕ → List Listed) (broken : Bool) (code mark : ℕ) (ws : List ℕ) (r : ReaderState) (b : Bool) (st : ReaderStep)
     → b ≡ false → st ≡ reader_step.LoadFlushed
@@ -123,7 +130,7 @@ module _ {L D : Type 0} {archive : Bool} (log_seen : L → Seen) (data_seen : D 
       let same : ◌≡◌ {A = ReaderState} (after_of reader_program s answer) w =
       reader_is (after_of reader_program s answer) w (sym (took_reader s answer) ∙ left) in
       let l : Loads r r.checks r.step answer w =
-      filled_loads r t.filling answer w r.step (subst (Loads s s.checks s.step answer) same (loads answer s)) refl in
+      subst (Loads r r.checks r.step answer) same (reader_loads r t.filling answer) in
       let low = loaded seat r (t.who_is ∙ ap some is) in
       ⊎_elim (λ e. omega arith)
       (λ e.
