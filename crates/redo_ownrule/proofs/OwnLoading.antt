@@ -1,6 +1,6 @@
 -- A turn of a user that writes for itself takes FLUSHED no further back, and the log only goes on.
 use Rattle.std.proofs.Common.{Bool, List, ap, arith, cond, eqb, false, refl, set, slice_index, subst, sym, true, ℕ}
-use Rattle.std.proofs.Common.{◌++◌, ◌==◌, ◌∙◌, ◌≡◌, ◌≤◌}
+use Rattle.std.proofs.Common.{◌∙◌, ◌≡◌, ◌≤◌}
 use lib.ListN.{get_elem?}
 use mathlib.Core.Option.{some}
 use Rattle.model_core.specs.Actors as model
@@ -11,7 +11,7 @@ use Rattle.model_core.specs.declared.ops.Op.TheVariants as op
 use Rattle.model_core.specs.declared.ops.Step.{Step}
 use Rattle.model_core.specs.declared.words.Word.TheVariants as word
 use Rattle.model_core.specs.{Entry, flat, flusher_op, next, OpWords, shared_left, SharedWords, words_left, writer_op}
-use Rattle.model_own.specs.OwnWrites.{errand_op, LogWork, own_goes_on, OwnUser}
+use Rattle.model_own.specs.OwnWrites.{errand_op, LogWork, OwnUser}
 use Rattle.model_own.specs.declared.errand.ErrandStep.{ErrandStep}
 use Rattle.model_own.specs.declared.errand.ErrandStep.TheVariants as errand_step
 use Rattle.model_ownrun.proofs.Seats.{flusher_seat, flusher_there, user_there, writer_seat, writer_there}

@@ -7,7 +7,7 @@ use mathlib.Core.Option.{some}
 use Rattle.model_core.specs.Actors as model
 use Rattle.model_core.specs.DataSide.{DataSide}
 use Rattle.model_core.specs.LogSide.{LogSide}
-use Rattle.model_core.specs.{archives, Entry, filled, Given, LostAt, ReaderState}
+use Rattle.model_core.specs.{Entry, filled, Given, LostAt}
 use Rattle.model_core.specs.Turn.{Turn}
 use Rattle.model_core.specs.declared.ops.Answer.{Answer}
 use Rattle.model_core.specs.declared.ops.Step.{Step}
@@ -19,7 +19,7 @@ use Rattle.model_running.proofs.EachTurn.{actors_filled, both_filled, filled_at,
 use Rattle.model_running.proofs.ReadKeeps.{LogGrows}
 use Rattle.model_running.proofs.RunBlocks.{grown}
 use Rattle.model_running.proofs.Receivers.{told_then}
-use Rattle.model_running.specs.ReadHalf.{HasRunBlock, HaveRunBlocks, RunBlockAt}
+use Rattle.model_running.specs.ReadHalf.{HasRunBlock, RunBlockAt}
 use Rattle.redo_disk.specs.Seen.{Seen}
 use Rattle.redo_drive.proofs.TurnsOf.{goes_on, groups_grow, runs_then}
 use Rattle.redo_drive.specs.Lists.{lists_of}

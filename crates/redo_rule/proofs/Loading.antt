@@ -1,5 +1,5 @@
 -- What the readers of the log have loaded of FLUSHED is at most that, after a turn too.
-use Rattle.std.proofs.Common.{Bool, List, ap, arith, cond, eqb, false, refl, slice_index, subst, sym, true, ⊎_elim, ℕ, inl, inr}
+use Rattle.std.proofs.Common.{Bool, List, ap, arith, cond, false, refl, slice_index, subst, sym, true, ⊎_elim, ℕ, inl, inr}
 use Rattle.std.proofs.Common.{◌==◌, ◌∙◌, ◌≡◌, ◌≤◌, ◌⊎◌, is_some}
 use lib.ListN.{get_elem?}
 use mathlib.Core.Option.{some}

@@ -1,6 +1,6 @@
 -- FLUSHED stays within the script: what the actors of a run have in their lines is the script's text.
-use Rattle.std.proofs.Common.{Bool, List, Some, [], ap, arith, cond, eqb, false, length, length-append, map, ne_eqb, refl, slice_index, subst}
-use Rattle.std.proofs.Common.{suc, sym, true, zero, ℕ, ◌++◌, ◌+◌, ◌<◌, ◌==◌, ◌∙◌, ◌∷◌, ◌≡◌, ◌≤◌}
+use Rattle.std.proofs.Common.{Bool, List, Some, [], ap, arith, cond, eqb, false, length, length-append, map, ne_eqb, refl, slice_index}
+use Rattle.std.proofs.Common.{suc, sym, true, ℕ, ◌++◌, ◌+◌, ◌<◌, ◌∙◌, ◌∷◌, ◌≡◌, ◌≤◌}
 use Rattle.std.specs.Prelude.{slice_get}
 use Rattle.std.specs.List.{flat_map}
 use native.Mathlib.Decide.{ℕ_discrete}
@@ -9,7 +9,7 @@ use mathlib.Core.Option as maybe
 use Rattle.atomic_table.proofs.Lists.{at_longer}
 use Rattle.model_base.specs.declared.shape.Shape.{Shape}
 use Rattle.model_core.proofs.Lsns.{lsn_le}
-use Rattle.model_core.specs.{Entry, index, Line, line_at, lsn, ReaderState, UserState}
+use Rattle.model_core.specs.{index, Line, line_at, ReaderState, UserState}
 use Rattle.model_core.specs.Actors as model
 use Rattle.model_core.specs.Setup.{Setup}
 use Rattle.model_core.specs.declared.words.Word.TheVariants as word
@@ -31,7 +31,7 @@ use Rattle.redo_drive.specs.Playing.{RunOf, run_log_side}
 use Rattle.redo_drive.specs.Running.{RunsWith}
 use Rattle.redo_drive.specs.declared.parts.Parts.{Parts}
 use Rattle.redo_store.specs.declared.opened.Opened.{Opened}
-use Rattle.redo_threads.proofs.Scripted.{at_map}
+use Rattle.redo_rule.proofs.Retook.{at_map}
 
 module _ (shape : Shape) where
   abbrev text_of : ScriptLine → ℕ

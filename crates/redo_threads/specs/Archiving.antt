@@ -5,17 +5,15 @@ use lib.ListN.{get_elem?}
 use mathlib.Core.Option.{some}
 use Rattle.atomic_table.specs.Seated.{TableId}
 use Rattle.atomic_table.specs.declared.shared.Seat.{Seat}
-use Rattle.model_core.specs.{after_of, Given, next, reader_program, ReaderState}
+use Rattle.model_core.specs.{Given, next, ReaderState, took}
 use Rattle.model_core.specs.Actors as model
-use Rattle.model_core.specs.ReaderProgram.{reader_filled}
-use Rattle.model_core.specs.declared.ops.Answer.{Answer}
 use Rattle.model_core.specs.declared.ops.Op.TheVariants as op
 use Rattle.model_log.specs.{IsRunOf}
 use Rattle.model_log.specs.declared.group.Whole.{Whole}
 use Rattle.model_page.specs.declared.content.Content.{Content}
 use Rattle.model_script.specs.{script_end}
 use Rattle.redo_archive.specs.Part.{Part, PartArchives}
-use Rattle.redo_archiver.specs.{IsFullBlock, KeepsPace}
+use Rattle.redo_archiver.specs.{append_answer, IsFullBlock, KeepsPace}
 use Rattle.redo_disk.specs.Seen.{Seen}
 use Rattle.redo_drive.specs.Archiving.{Appends, IsSameArchive}
 use Rattle.redo_drive.specs.Startable.{MayBegin}
@@ -25,6 +23,7 @@ use Rattle.redo_drive.specs.declared.actor.Actor.TheVariants as actor
 use Rattle.redo_ownrule.specs.Playing.{IsPlayerSeat}
 use Rattle.redo_ownrule.specs.declared.player.Player.{Player}
 use Rattle.redo_ownrule.specs.declared.player.Player.TheVariants as player
+use Rattle.redo_rule.specs.Handing.{appended_by}
 use Rattle.redo_rule.specs.Mine.{heard_of, IsSameSeat}
 use Rattle.redo_rule.specs.Seating.{IsSeatOf}
 use Rattle.redo_rule.specs.declared.law.About.{About}
@@ -68,6 +67,19 @@ pub record Archives {L D A : Type 0} (seen : A → Seen) (about : About L D) (be
 abbrev pub IsArchiver : {F : Type 0} → Actor F → Type 0
 IsArchiver (actor.Archiver r) = Unit {0}
 IsArchiver _ = ⊥
+
+-- THE BLOCK THAT THE ARCHIVER HAS READ WAS APPENDED: its archive tells what that met, and its seat has heard of the block.
+pub record HasAppended {L D A F : Type 0} (seen : A → Seen) (stands : F → List Given → Type 0) (table : TableId) (mark : ℕ)
+    (s : Seat (Slot L D) (View L D)) (a : Actor F) (old : Part A) (t : Seat (Slot L D) (View L D)) (b : Actor F)
+    (new : Part A) : Type 0 where
+  pub archiver : ReaderState
+  pub is : ◌≡◌ {A = Actor F} a (actor.Archiver archiver)
+  pub asks : next (model.Reader archiver) ≡ op.Append mark
+  pub appends : Appends seen archiver old (append_answer new.failed) new
+  pub sits : IsSeatOf table t (view_of b)
+  pub same : IsSameSeat stands s.me.0 a t.me.0 b
+  pub took : view_of b ≡ took (view_of a) (append_answer new.failed)
+  pub blocks : (heard_of t.me.0).blocks ≡ (heard_of s.me.0).blocks ++ appended_by (view_of a)
 
 module _ {L D A F : Type 0} (seen : A → Seen) where
   -- the player is the archiver, and this its archive
