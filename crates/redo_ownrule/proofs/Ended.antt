@@ -6,7 +6,7 @@ use lib.ListN.{get_elem?}
 use mathlib.Core.Option as maybe
 use native.Mathlib.Decide.{ℕ_discrete}
 use Rattle.atomic_table.specs.Table.{Final, Seen as SeenBy}
-use Rattle.model_core.specs.{CleanerState, Given}
+use Rattle.model_core.specs.{CleanerState}
 use Rattle.model_core.specs.Actors as model
 use Rattle.model_core.specs.Hands.{hand}
 use Rattle.model_core.specs.LogSide.{LogSide}
@@ -29,11 +29,13 @@ use Rattle.redo_ownrule.specs.declared.player.Player.{Player}
 use Rattle.redo_ownrule.specs.declared.player.Player.TheVariants as player
 use Rattle.redo_rule.specs.Cutting.{HoldNothing}
 use Rattle.redo_rule.specs.Ending.{RunReaches}
+use Rattle.redo_rule.specs.Handing.{HaveHandedOn, HaveLoaded}
 use Rattle.redo_rule.specs.OwnSide.{desk_with, HasItsWork, OwnSide, SitsAs, work_of}
-use Rattle.redo_rule.specs.Ruled.{HaveGroups, Knows, Ruled, starts_about}
+use Rattle.redo_rule.specs.Ruled.{Knows, Ruled, starts_about}
 use Rattle.redo_rule.specs.Seating.{HasPart, IsCleaner}
 use Rattle.redo_rule.specs.declared.law.About.{About}
 use Rattle.redo_rule.specs.declared.law.Errand.{Errand}
+use Rattle.redo_rule.specs.declared.law.Heard.{Heard}
 use Rattle.redo_rule.specs.declared.law.Numbered.{Numbered}
 use Rattle.redo_rule.specs.declared.law.Slot.{Slot}
 use Rattle.redo_rule.specs.declared.law.Slot.TheVariants as slot
@@ -65,9 +67,11 @@ either_way false P one other = other refl
 
 -- what a run runs on, and what each has handed on
 record GoesOn {L D : Type 0} (log_seen : L → Seen) (data_seen : D → Seen) (archive : Bool) (run : RunOf L D) (parts : Parts L D)
-    (heard : ℕ → List Given) (actors : List model.Actor) : Type 0 where
+    (heard : ℕ → Heard) (actors : List model.Actor) : Type 0 where
   pub runs : RunsWith log_seen data_seen run archive parts actors
-  pub hears : HaveGroups (run_log_side log_seen data_seen run) parts.log heard actors runs.running.log_ghost.log
+  pub hears : HaveHandedOn (run_log_side log_seen data_seen run) run.setup.base parts.log heard actors
+      runs.running.log_ghost.log
+  pub loaded : HaveLoaded parts.words.words actors
 
 -- these are the actors of the players with the log's work, and at rest
 record AreActors {R : Type 0} (own : Option OwnSide) (actors : List model.Actor) (ps : List (Player R)) : Type 0 where
@@ -80,10 +84,10 @@ its_errand (player.Plain a) = None
 its_errand (player.Own o) = Some (errand_of o)
 
 -- what a seat of a table knows of a player, which has this place among them
-record IsKnown {R : Type 0} (own : Option OwnSide) (actors : List model.Actor) (all_heard heard : ℕ → List Given)
+record IsKnown {R : Type 0} (own : Option OwnSide) (actors : List model.Actor) (all_heard heard : ℕ → Heard)
     (n i : ℕ) (p : Player R) : Type 0 where
   pub there : get_elem? actors n ≡ maybe.some (view_of (actor_of p))
-  pub heard_is : ◌≡◌ {A = List Given} (all_heard n) (heard i)
+  pub heard_is : ◌≡◌ {A = Heard} (all_heard n) (heard i)
   pub sits : SitsAs own (its_errand p) n
 
 works_is : (own : Option OwnSide) → is_some (work_of own) ≡ is_some own
@@ -96,7 +100,7 @@ sits_here side n (player.Plain a) sits = sits
 sits_here side n (player.Own o) sits = sits
 
 are_actors : {R : Type 0} (D : LogSide) (part : D.Part) (own : Bool) (side : Option OwnSide) (actors : List model.Actor)
-    (all_heard heard : ℕ → List Given) (ps : List (Player R)) → own ≡ is_some side → HasItsWork D part side actors
+    (all_heard heard : ℕ → Heard) (ps : List (Player R)) → own ≡ is_some side → HasItsWork D part side actors
     → length actors ≡ length ps + workers own
     → ((i : ℕ) (p : Player R) → get_elem? ps i ≡ maybe.some p
     → IsKnown side actors all_heard heard (place own ps i) i p)
@@ -121,20 +125,20 @@ are_actors {R} D part true (Some side) actors all_heard heard ps is W count know
 
 -- The run came to these players, with this work of the log and with what each has handed on.
 pub record EndsAs {L D R : Type 0} (log_seen : L → Seen) (log_gives : L → Call → L → Type 0) (data_seen : D → Seen)
-    (data_gives : D → Call → D → Type 0) (about : About L D) (own : Bool) (heard : ℕ → List Given)
+    (data_gives : D → Call → D → Type 0) (about : About L D) (own : Bool) (heard : ℕ → Heard)
     (ps : List (Player R)) (ws : List ℕ) (xs : List (Slot L D)) : Type 0 where
-  pub all_heard : ℕ → List Given
+  pub all_heard : ℕ → Heard
   pub work : Option LogWork
   pub works : is_some work ≡ own
   pub reaches : RunReaches log_seen log_gives data_seen data_gives about all_heard (views_of (crew work ps)) ws xs
   pub work_is : ◌≡◌ {A = Option LogWork} (work_of reaches.beside.own) work
   pub rest : HoldNothing (views_of (crew work ps))
   pub heard_is : (i : ℕ) (p : Player R) → get_elem? ps i ≡ maybe.some p
-      → ◌≡◌ {A = List Given} (all_heard (place own ps i)) (heard i)
+      → ◌≡◌ {A = Heard} (all_heard (place own ps i)) (heard i)
 
 module _ {L D R : Type 0} (log_seen : L → Seen) (log_gives : L → Call → L → Type 0) (data_seen : D → Seen)
     (data_gives : D → Call → D → Type 0) (about : About L D) (own : Bool) (own_is : about.own_writes ≡ own)
-    (heard : ℕ → List Given) (ps : List (Player R)) (id : ℕ) (v : View L D) (ws : List ℕ) (xs : List (Slot L D))
+    (heard : ℕ → Heard) (ps : List (Player R)) (id : ℕ) (v : View L D) (ws : List ℕ) (xs : List (Slot L D))
     (final : Final (SeenBy (Ruled log_seen log_gives data_seen data_gives about) id v) ws xs)
     (all : v.seats ≡ seated (place own ps) heard 0 ps) (count : length ps + workers own ≡ length (starts_about about))
     (rest : AllAtRest ps)
@@ -174,7 +178,7 @@ module _ {L D R : Type 0} (log_seen : L → Seen) (log_gives : L → Call → L 
       let s = final.0 in
       let A = its_actors in
       let now = subst (GoesOn log_seen data_seen about.archive Q.run Q.parts Q.heard) A.are
-      (record { runs = Q.runs; hears = Q.hears }) in
+      (record { runs = Q.runs; hears = Q.hears; loaded = Q.loaded }) in
       let free : (k : ℕ) → k < 5 → slice_index s.words (7 + k) ≡ 0 = λ k l.
       elim (ℕ_discrete (slice_index s.words (7 + k)) 0) [
         | yes z ↦ z
@@ -198,6 +202,7 @@ module _ {L D R : Type 0} (log_seen : L → Seen) (log_gives : L → Call → L 
           parts = Q.parts;
           runs = now.runs;
           hears = now.hears;
+          loaded = now.loaded;
           words_are = Q.words_are ∙ final.2;
           beside = Q.beside;
           log = final.4 0 (slot.Log (desk_with Q.parts.log Q.beside)) (Q.home 0 (omega arith) (free 0 (omega arith)));

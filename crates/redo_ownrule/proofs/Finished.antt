@@ -6,7 +6,6 @@ use mathlib.Core.Option as maybe
 use Rattle.atomic_table.specs.Seated.{TableId}
 use Rattle.atomic_table.specs.Table.{Final, Seen as SeenBy}
 use Rattle.atomic_table.specs.declared.shared.Seat.{Seat}
-use Rattle.model_core.specs.{Given}
 use Rattle.model_core.specs.Actors as model
 use Rattle.model_own.specs.OwnWrites.{LogWork}
 use Rattle.model_report.specs.declared.entry.Entry.{Entry}
@@ -31,6 +30,7 @@ use Rattle.redo_rule.specs.Seating.{HasPart, IsCleaner}
 use Rattle.redo_rule.specs.Sharing.{heard_by}
 use Rattle.redo_rule.specs.declared.closing.Left.{Left}
 use Rattle.redo_rule.specs.declared.law.About.{About}
+use Rattle.redo_rule.specs.declared.law.Heard.{Heard}
 use Rattle.redo_rule.specs.declared.law.Slot.{Slot}
 use Rattle.redo_rule.specs.declared.law.View.{View}
 
@@ -50,7 +50,7 @@ all_out {L} {D} {R} table own players slice is seats first S is_first none =
 
 -- and all are in again
 pub closes : {L D R : Type 0} (log_seen : L → Seen) (log_gives : L → Call → L → Type 0) (data_seen : D → Seen)
-    (data_gives : D → Call → D → Type 0) (about : About L D) (heard : ℕ → List Given) (players slice : List (Player R))
+    (data_gives : D → Call → D → Type 0) (about : About L D) (heard : ℕ → Heard) (players slice : List (Player R))
     (is : slice ≡ players) (first : Seat (Slot L D) (View L D))
     → first.me.0.seats ≡ seated (place about.own_writes slice) heard 0 slice
     → length players + workers about.own_writes ≡ length (starts_about about) → AllAtRest players
@@ -72,11 +72,11 @@ closes {L} {D} {R} log_seen log_gives data_seen data_gives about heard players s
 
 -- WHAT IS LEFT of the players: these actors
 pub record Finished {L D R : Type 0} (log_seen : L → Seen) (log_gives : L → Call → L → Type 0) (data_seen : D → Seen)
-    (data_gives : D → Call → D → Type 0) (about : About L D) (own : Bool) (heard : ℕ → List Given)
+    (data_gives : D → Call → D → Type 0) (about : About L D) (own : Bool) (heard : ℕ → Heard)
     (players : List (Player R)) (left : Left L D) (actors : List (Actor R)) : Type 0 where
-  pub all_heard : ℕ → List Given
+  pub all_heard : ℕ → Heard
   pub heard_is : (i : ℕ) (p : Player R) → get_elem? players i ≡ maybe.some p
-      → ◌≡◌ {A = List Given} (all_heard (place own players i)) (heard i)
+      → ◌≡◌ {A = Heard} (all_heard (place own players i)) (heard i)
   pub work : Option LogWork
   pub works : is_some work ≡ own
   pub are : ◌≡◌ {A = List (Actor R)} actors (crew work players)
@@ -84,7 +84,7 @@ pub record Finished {L D R : Type 0} (log_seen : L → Seen) (log_gives : L → 
   pub rest : HoldNothing (views_of actors)
 
 module _ {L D R : Type 0} (log_seen : L → Seen) (log_gives : L → Call → L → Type 0) (data_seen : D → Seen)
-    (data_gives : D → Call → D → Type 0) (about : About L D) (own : Bool) (heard : ℕ → List Given)
+    (data_gives : D → Call → D → Type 0) (about : About L D) (own : Bool) (heard : ℕ → Heard)
     (players : List (Player R)) where
   module _ (first : Seat (Slot L D) (View L D)) (left : Left L D)
       (T : LeavesTable log_seen log_gives data_seen data_gives about first left)

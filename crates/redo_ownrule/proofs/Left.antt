@@ -2,7 +2,7 @@
 use Rattle.std.proofs.Common.{Bool, List, None, Option, Some, [], ap, arith, inl, inr, is_some, length, map, refl}
 use Rattle.std.proofs.Common.{subst, suc, sym, zero, ℕ, ⊎_elim, ◌<◌, ◌∙◌, ◌∷◌, ◌≡◌, ◌⊎◌}
 use Rattle.std.proofs.lemmas.List.{length-map}
-use Rattle.std.specs.List.{AllZip}
+use Rattle.std.specs.List.{AllByRecursion, AllZip}
 use lib.ListN.{get_elem?}
 use mathlib.Core.Option as maybe
 use Rattle.atomic_table.specs.declared.shared.Seat.{Seat}
@@ -14,6 +14,7 @@ use Rattle.redo_disk.specs.Seen.{Seen}
 use Rattle.redo_drive.proofs.Viewed.{views_at}
 use Rattle.redo_drive.specs.History.{ListsInOrder}
 use Rattle.redo_drive.specs.Leaving.{LeavesWith}
+use Rattle.redo_drive.specs.Playing.{run_log_side}
 use Rattle.redo_drive.specs.Receiving.{follower_of, HasGot, IsSameFollower}
 use Rattle.redo_drive.specs.Views.{view_of, views_of}
 use Rattle.redo_drive.specs.declared.actor.Actor.{Actor}
@@ -21,16 +22,20 @@ use Rattle.redo_drive.specs.declared.actor.Actor.TheVariants as actor
 use Rattle.redo_drive.specs.declared.closed.Closed.{Closed}
 use Rattle.redo_follow.specs.Handing.{Following}
 use Rattle.redo_ownrule.proofs.Placed.{alone, length_crew}
+use Rattle.redo_ownrule.proofs.Standing.{crew_there}
+use Rattle.redo_ownrule.specs.Leaving.{LeavesHeard}
 use Rattle.redo_ownrule.specs.Players.{actor_of, crew, IsSamePlayer, place, workers, workers_of}
 use Rattle.redo_ownrule.specs.declared.player.Player.{Player}
 use Rattle.redo_ownrule.specs.declared.player.Player.TheVariants as player
 use Rattle.redo_rule.proofs.Finishing.{its_history, its_loss}
 use Rattle.redo_rule.proofs.Gathered.{heard_at, there}
 use Rattle.redo_rule.specs.Closing.{LeavesParts, TellsLoss}
+use Rattle.redo_rule.specs.Handing.{IsOfRun}
 use Rattle.redo_rule.specs.Mine.{heard_of}
 use Rattle.redo_rule.specs.Sharing.{HaveHeard, heard_by}
 use Rattle.redo_rule.specs.declared.closing.Left.{Left}
 use Rattle.redo_rule.specs.declared.law.About.{About}
+use Rattle.redo_rule.specs.declared.law.Heard.{Heard}
 use Rattle.redo_rule.specs.declared.law.Slot.{Slot}
 use Rattle.redo_rule.specs.declared.law.View.{View}
 
@@ -101,10 +106,10 @@ player_of (p ∷ ps) (suc i) b at = let r = player_of ps i b at in (r.0, r.1, (l
 
 -- WHAT THE SEATS HAVE HEARD, the receivers got
 module _ {L D R : Type 0} (log_seen : L → Seen) (log_gives : L → Call → L → Type 0) (data_seen : D → Seen)
-    (data_gives : D → Call → D → Type 0) (about : About L D) (own : Bool) (all_heard : ℕ → List Given)
+    (data_gives : D → Call → D → Type 0) (about : About L D) (own : Bool) (all_heard : ℕ → Heard)
     (seats : List (Seat (Slot L D) (View L D))) (ps : List (Player R)) (many : length seats ≡ length ps)
     (heard_is : (i : ℕ) (p : Player R) → get_elem? ps i ≡ maybe.some p
-    → ◌≡◌ {A = List Given} (all_heard (place own ps i)) (heard_by seats i))
+    → ◌≡◌ {A = Heard} (all_heard (place own ps i)) (heard_by seats i))
     (work : Option LogWork) (works : is_some work ≡ own) (actors : List (Actor R))
     (are : ◌≡◌ {A = List (Actor R)} actors (crew work ps)) (left : Left L D)
     (P : LeavesParts log_seen log_gives data_seen data_gives about all_heard (views_of actors) left)
@@ -113,12 +118,12 @@ module _ {L D R : Type 0} (log_seen : L → Seen) (log_gives : L → Call → L 
     (marks_is : ◌≡◌ {A = Marks} closed.marks left.marks) (code_is : closed.code ≡ left.code)
     (listed : ListsInOrder left.marks (views_of actors) closed.history)
     (loss : TellsLoss about.archive (views_of actors) closed.lost) where
-  pub leaves_players : (stands : R → List Given → Type 0) (first : Option LogWork) (starts : List (Player R))
+  abbrev its_run : (stands : R → List Given → Type 0) (first : Option LogWork) (starts : List (Player R))
       → is_some first ≡ own → AllZip IsSamePlayer starts ps
       → HaveHeard stands (map actor_of starts) seats (map actor_of ps)
       → LeavesWith log_seen log_gives data_seen data_gives stands about.opened.value about.script.value
       about.log_only about.archive about.followers (crew first starts) actors closed
-  leaves_players stands first starts works_first same H = record {
+  its_run stands first starts works_first same H = record {
     run = P.run;
     is_run = P.is_about.is_run;
     begun = P.is_about.begun;
@@ -139,11 +144,11 @@ module _ {L D R : Type 0} (log_seen : L → Seen) (log_gives : L → Call → L 
           (λ z.
           let p = player_of ps z.0 b z.2 in
           let s = there seats z.0 (let l = p.2 in omega arith) in
-          let heard : ◌≡◌ {A = List Given} (heard_of s.0.me.0) (all_heard n) =
+          let heard : ◌≡◌ {A = Heard} (heard_of s.0.me.0) (all_heard n) =
           heard_at seats z.0 s.0 s.1 ∙ sym (heard_is z.0 p.0 p.1)
           ∙ ap all_heard (ap (λ (o : Bool). place o ps z.0) (sym works) ∙ sym z.3) in
           subst (λ (l : List Given). HasGot stands (follower_of a) l (follower_of b))
-          (heard ∙ P.hears told n (view_of b) (views_at actors n b bt)) (H.got z.0 s.0 a b s.1 z.1 z.2))
+          (ap (λ (h : Heard). h.groups) heard ∙ (P.hears told n (view_of b) (views_at actors n b bt)).groups) (H.got z.0 s.0 a b s.1 z.1 z.2))
           (λ z. got_none stands (follower_of a) _ (follower_of b) z.0)
           (pair n a b at bt);
     };
@@ -156,7 +161,7 @@ module _ {L D R : Type 0} (log_seen : L → Seen) (log_gives : L → Call → L 
     code = code_is ∙ P.code;
     history = its_history log_seen log_gives data_seen data_gives about all_heard (views_of actors) left P
         closed.history listed;
-    lost = its_loss about.archive (views_of actors) closed.lost loss;
+    lost = its_loss P.run.setup about.archive (views_of actors) P.runs.running.both.in_run closed.lost loss;
   }
     where
       pair : (n : ℕ) (a b : Actor R) → get_elem? (crew first starts) n ≡ maybe.some a
@@ -164,3 +169,26 @@ module _ {L D R : Type 0} (log_seen : L → Seen) (log_gives : L → Call → L 
           → InBoth work starts ps n a b ⊎ ((follower_of a ≡ None) × (follower_of b ≡ None))
       pair n a b at bt = in_both first work (works_first ∙ sym works) starts ps same n a b at
           (ap (λ (l : List (Actor R)). get_elem? l n) (sym are) ∙ bt)
+
+  -- with what they have heard
+  pub leaves_players : (stands : R → List Given → Type 0) (first : Option LogWork) (starts : List (Player R))
+      → is_some first ≡ own → AllZip IsSamePlayer starts ps
+      → HaveHeard stands (map actor_of starts) seats (map actor_of ps)
+      → LeavesHeard log_seen log_gives data_seen data_gives stands about.opened.value about.script.value
+      about.log_only about.archive about.followers (crew first starts) actors seats closed
+  leaves_players stands first starts works_first same H = record {
+    by = its_run stands first starts works_first same H;
+    loaded = P.loaded;
+    blocks = λ told i seat at.
+        let p = there ps i (let l = seat_below seats i seat at in omega arith) in
+        subst (λ (h : Heard). AllByRecursion (IsOfRun (run_log_side log_seen data_seen P.run) P.run.setup.base
+        P.runs.running.log_ghost.log) h.blocks)
+        (heard_is i p.0 p.1 ∙ sym (heard_at seats i seat at))
+        (P.hears told (place own ps i) (view_of (actor_of p.0)) (subst (λ (l : List (Actor R)). get_elem? (views_of l) (place own ps i)
+        ≡ maybe.some (view_of (actor_of p.0))) (sym are) (crew_there own work works ps i p.0 p.1))).blocks;
+  }
+    where
+      seat_below : {A : Type 0} (l : List A) (i : ℕ) (a : A) → get_elem? l i ≡ maybe.some a → i < length l
+      seat_below [] i a e = absurd (maybe.some-ne-none a (sym e))
+      seat_below (x ∷ xs) zero a e = omega arith
+      seat_below (x ∷ xs) (suc i) a e = let r = seat_below xs i a e in omega arith

@@ -20,6 +20,7 @@ pub mod OwnKept
 pub mod OwnLater
 pub mod OwnList
 pub mod OwnListed
+pub mod OwnLoading
 pub mod OwnMay
 pub mod OwnOps
 pub mod OwnPlaying

@@ -1,4 +1,4 @@
--- Who has lost an append to the archive is a player, and not the writer or the flusher.
+-- The archiver is a player, and not the writer or the flusher.
 use Rattle.std.proofs.Common.{Bool, List, None, Option, Some, [], ap, false, map, suc, sym, true, zero, ℕ, ◌∙◌, ◌∷◌, ◌≡◌}
 use lib.ListN.{get_elem?}
 use mathlib.Core.Option as maybe
@@ -36,14 +36,7 @@ found_reader (Some k) (player.Own o ∷ ps) (suc n) r at =
 pub its_losses : {R : Type 0} (archive : Bool) (work : Option LogWork) (ps : List (Player R)) (actors : List (Actor R))
     → ◌≡◌ {A = List (Actor R)} actors (crew work ps) → (lost : Option DevError)
     → TellsLoss archive (views_of (map actor_of ps)) lost → TellsLoss archive (views_of actors) lost
-its_losses {R} true work ps actors are lost told = λ code met.
-    let f = found_reader work ps met.seat met.archiver
-    (ap (λ (l : List (Actor R)). get_elem? (views_of l) met.seat) (sym are) ∙ met.at) in
-    told code (record {
-      seat = f.0;
-      archiver = met.archiver;
-      at = f.1;
-      lost = met.lost;
-      some_code = met.some_code;
-    })
+its_losses {R} true work ps actors are lost told = λ seat r at kind.
+    let f = found_reader work ps seat r (ap (λ (l : List (Actor R)). get_elem? (views_of l) seat) (sym are) ∙ at) in
+    told f.0 r f.1 kind
 its_losses false work ps actors are lost told = told

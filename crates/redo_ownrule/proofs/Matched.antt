@@ -3,7 +3,7 @@ use Rattle.std.proofs.Common.{List, None, Some, [], ap, arith, false, length, le
 use Rattle.std.proofs.Common.{subst, suc, sym, zero, ℕ, ⊎_elim, ◌+◌, ◌∙◌, ◌∷◌, ◌≡◌, ◌≤◌}
 use lib.ListN.{get_elem?}
 use mathlib.Core.Option as maybe
-use Rattle.model_core.specs.{FlusherState, Given, UserState, WriterState}
+use Rattle.model_core.specs.{FlusherState, UserState, WriterState}
 use Rattle.model_core.specs.Actors as model
 use Rattle.model_core.specs.Hands.{flusher_hand, HoldsNothing, writer_hand}
 use Rattle.model_core.specs.Holding.{writer_holds_tail}
@@ -25,6 +25,7 @@ use Rattle.redo_ownrule.specs.Sharing.{AllAtRest}
 use Rattle.redo_ownrule.specs.declared.player.Player.{Player}
 use Rattle.redo_ownrule.specs.declared.player.Player.TheVariants as player
 use Rattle.redo_rule.specs.Cutting.{HoldNothing}
+use Rattle.redo_rule.specs.declared.law.Heard.{Heard}
 
 -- how a user of a store whose users write for themselves, and who plays beside them, sit as the actor of a number
 abbrev pub SitsHere : {R : Type 0} → List OwnUser → ℕ → Player R → Type 0
@@ -41,7 +42,7 @@ pub record AreMatched {R : Type 0} (users : List OwnUser) (k : LogWork) (others 
   pub sits : (i : ℕ) (p : Player R) → get_elem? ps i ≡ maybe.some p → SitsHere users (place_behind ps i) p
 
 module _ {R : Type 0} where
-  pub seated_there : (number : ℕ → ℕ) (heard : ℕ → List Given) (k : ℕ) (ps : List (Player R)) (i : ℕ) (p : Player R)
+  pub seated_there : (number : ℕ → ℕ) (heard : ℕ → Heard) (k : ℕ) (ps : List (Player R)) (i : ℕ) (p : Player R)
       → get_elem? ps i ≡ maybe.some p
       → get_elem? (seated number heard k ps) i ≡ maybe.some (numbered_as (number (k + i)) (heard (k + i)) p)
   seated_there number heard k [] i p at = absurd (maybe.some-ne-none p (sym at))

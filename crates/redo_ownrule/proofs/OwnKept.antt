@@ -28,12 +28,16 @@ use Rattle.redo_ownmachine.specs.Serving.{IsUserServed}
 use Rattle.redo_logdev.specs.Part as log_part
 use Rattle.redo_ownrule.proofs.OwnFailing.{gives_where, WorkGives}
 use Rattle.redo_ownrule.proofs.OwnTold as causes
+use Rattle.redo_ownrule.proofs.OwnLoading.{flushed_up, log_longer}
 use Rattle.redo_ownrule.specs.OwnPlays.{errand_of, own_behind}
+use Rattle.redo_rule.proofs.Hearing.{of_longer}
 use Rattle.redo_rule.proofs.Kept as kept
+use Rattle.redo_rule.specs.Handing.{HaveHandedOn, HaveLoaded}
 use Rattle.redo_rule.specs.OwnSide.{Beside, HasItsWork, IsWorked, OwnSide, SitsAs}
-use Rattle.redo_rule.specs.Ruled.{HaveGroups, Knows, Ruled}
+use Rattle.redo_rule.specs.Ruled.{Knows, Ruled}
 use Rattle.redo_rule.specs.declared.law.About.{About}
 use Rattle.redo_rule.specs.declared.law.Errand.{Errand}
+use Rattle.redo_rule.specs.declared.law.Heard.{Heard}
 use Rattle.redo_rule.specs.declared.law.Numbered.{Numbered}
 use Rattle.redo_rule.specs.declared.law.Slot.{Slot}
 use Rattle.redo_rule.specs.declared.law.View.{View}
@@ -115,11 +119,13 @@ all_length : (users : List OwnUser) (k : LogWork) (others : List model.Actor)
 all_length [] k others = omega arith
 all_length (x ∷ xs) k others = let e = all_length xs k others in omega arith
 
--- the run goes on, and each has handed on its groups
+-- the run goes on, and what each has handed on is the run's
 pub record RunsSo {L D : Type 0} (log_seen : L → Seen) (data_seen : D → Seen) (archive : Bool) (run : RunOf L D) (parts : Parts L D)
-    (heard : ℕ → List Given) (actors : List model.Actor) : Type 0 where
+    (heard : ℕ → Heard) (actors : List model.Actor) : Type 0 where
   pub runs : RunsWith log_seen data_seen run archive parts actors
-  pub hears : HaveGroups (run_log_side log_seen data_seen run) parts.log heard actors runs.running.log_ghost.log
+  pub hears : HaveHandedOn (run_log_side log_seen data_seen run) run.setup.base parts.log heard actors
+      runs.running.log_ghost.log
+  pub loaded : HaveLoaded parts.words.words actors
 
 module _ {L D : Type 0} (log_seen : L → Seen) (log_gives : L → Call → L → Type 0) (data_seen : D → Seen)
     (data_gives : D → Call → D → Type 0) (about : About L D) (s : State (Slot L D) (View L D))
@@ -148,7 +154,7 @@ module _ {L D : Type 0} (log_seen : L → Seen) (log_gives : L → Call → L �
   -- the same run, by the list of its users, of the log's work and of the others
   abbrev by_seats : RunsSo log_seen data_seen about.archive R.run R.parts R.heard (actors_of seats)
   by_seats = subst (RunsSo log_seen data_seen about.archive R.run R.parts R.heard) worked.are
-      (record { runs = R.runs; hears = R.hears })
+      (record { runs = R.runs; hears = R.hears; loaded = R.loaded })
 
   abbrev pub before : OwnRunsWith log_seen data_seen R.run about.archive R.parts seats
   before = record { runs = by_seats.runs; errands = worked.errands }
@@ -213,19 +219,40 @@ module _ {L D : Type 0} (log_seen : L → Seen) (log_gives : L → Call → L �
     was : (n : ℕ) (b : model.Actor) → get_elem? (actors_of after) n ≡ maybe.some b → Was (actors_of seats) n b
     was = was_there side.users now.users side.work left worked.others many
 
-    hears_behind : A.Tells new.log → (n : ℕ) (b : model.Actor) → get_elem? (actors_of after) n ≡ maybe.some b
-        → ◌≡◌ {A = List Given} (R.heard n) (groups_of b runs_behind.runs.running.log_ghost.log)
+    in_actors : (n : ℕ) (a : model.Actor) → get_elem? (actors_of seats) n ≡ maybe.some a
+        → get_elem? R.actors n ≡ maybe.some a
+    in_actors n a there = ap (λ (l : List model.Actor). get_elem? l n) worked.are ∙ there
+
+    hears_behind : HaveHandedOn A R.run.setup.base new.log R.heard (actors_of after)
+        runs_behind.runs.running.log_ghost.log
     hears_behind told n b there =
         let w = was n b there in
         let log = before.runs.running.log_ghost.log in
         let log_now = runs_behind.runs.running.log_ghost.log in
         let told_before = from.told_earlier log_seen data_seen R.run R.parts new side.users side.work left worked.others
         x.number o then (own_step_of o side.work r) its_seat served before runs_behind told in
-        by_seats.hears told_before n w.0 w.1 ∙ ⊎_elim
-        (λ is. sym (from.groups_same log_seen data_seen R.run R.parts new side.users side.work left worked.others
-        x.number o then (own_step_of o side.work r) its_seat served before runs_behind told n w.0 w.1)
-        ∙ ap (λ (z : model.Actor). groups_of z log_now) (sym is))
-        (λ both. no_groups w.0 log both.0 ∙ sym (no_groups b log_now both.1))
+        let longer = log_longer log_seen data_seen R.run R.parts new side.users side.work left worked.others x.number o
+        then (own_step_of o side.work r) its_seat served before runs_behind in
+        let h = by_seats.hears told_before n w.0 w.1 in
+        record {
+          groups = h.groups ∙ ⊎_elim
+              (λ is. sym (from.groups_same log_seen data_seen R.run R.parts new side.users side.work left worked.others
+              x.number o then (own_step_of o side.work r) its_seat served before runs_behind told n w.0 w.1)
+              ∙ ap (λ (z : model.Actor). groups_of z log_now) (sym is))
+              (λ both. no_groups w.0 log both.0 ∙ sym (no_groups b log_now both.1))
+              w.2;
+          blocks = of_longer A R.run.setup.base log log_now longer.0 longer.1 (R.heard n).blocks h.blocks;
+        }
+
+    -- no reader of the log has had a turn
+    loaded_behind : HaveLoaded new.words.words (actors_of after)
+    loaded_behind n reader there =
+        let w = was n (model.Reader reader) there in
+        let up = flushed_up log_seen data_seen R.run R.parts new side.users side.work left worked.others x.number o then
+        (own_step_of o side.work r) its_seat served before runs_behind in
+        ⊎_elim
+        (λ is. let low = by_seats.loaded n reader (w.1 ∙ ap (λ (z : model.Actor). maybe.some z) (sym is)) in omega arith)
+        (λ both. absurd both.1)
         w.2
 
     module _ (free : IsFreeToCheck (model.User then.user))
@@ -268,6 +295,7 @@ module _ {L D : Type 0} (log_seen : L → Seen) (log_gives : L → Call → L �
           own_is = ap (λ (z : Option OwnSide). is_some z) (sym own_is);
           own = record { others = worked.others; are = refl; errands = runs_behind.errands };
           hears = hears_behind;
+          loaded = loaded_behind;
           count = all_length now.users left worked.others
               ∙ ap (λ (n : ℕ). n + 2 + length worked.others) many
               ∙ sym (all_length side.users side.work worked.others) ∙ ap length (sym worked.are);

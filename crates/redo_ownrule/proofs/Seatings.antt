@@ -8,7 +8,7 @@ use Rattle.atomic_table.proofs.Lists.{at_last, at_longer, drop_at}
 use Rattle.atomic_table.specs.Seated.{TableId}
 use Rattle.atomic_table.specs.Table.{Allows, Me}
 use Rattle.atomic_table.specs.declared.shared.Seat.{Seat}
-use Rattle.model_core.specs.{Given, word_count}
+use Rattle.model_core.specs.{word_count}
 use Rattle.model_core.specs.Actors as model
 use Rattle.model_core.specs.Hands.{HoldsNothing}
 use Rattle.model_own.specs.OwnWrites.{has_work, OwnUser}
@@ -29,6 +29,7 @@ use Rattle.redo_rule.proofs.Gathered.{there}
 use Rattle.redo_rule.proofs.Seated.{at_end}
 use Rattle.redo_rule.specs.Cutting.{IsFirst, IsHome, MayTakeIn}
 use Rattle.redo_rule.specs.Gathering.{HasOneCleaner, PartIsKept}
+use Rattle.redo_rule.specs.Handing.{nothing}
 use Rattle.redo_rule.specs.Mine.{heard_in, heard_of, number_in, number_of}
 use Rattle.redo_rule.specs.OwnSide.{HasNoWork}
 use Rattle.redo_rule.specs.Plays.{Carries}
@@ -37,6 +38,7 @@ use Rattle.redo_rule.specs.Seating.{HasPart, IsCleaner}
 use Rattle.redo_rule.specs.Seats.{cut_left, cut_right, first_numbered, first_some, heads_cleaner, is_cleaner, rest_numbered, taken_in}
 use Rattle.redo_rule.specs.declared.law.About.{About}
 use Rattle.redo_rule.specs.declared.law.Errand.{Errand}
+use Rattle.redo_rule.specs.declared.law.Heard.{Heard}
 use Rattle.redo_rule.specs.declared.law.Keeping.{Keeping}
 use Rattle.redo_rule.specs.declared.law.Numbered.{Numbered}
 use Rattle.redo_rule.specs.declared.law.Slot.{Slot}
@@ -79,26 +81,26 @@ module _ {R : Type 0} where
   views_length [] = refl
   views_length (x ∷ xs) = let e = views_length xs in omega arith
 
-  number_same : (n : ℕ) (h : List Given) (p : Player R) → (numbered_as n h p).number ≡ n
+  number_same : (n : ℕ) (h : Heard) (p : Player R) → (numbered_as n h p).number ≡ n
   number_same n h (player.Plain a) = refl
   number_same n h (player.Own o) = refl
 
-  actor_same : (n : ℕ) (h : List Given) (p : Player R) → (numbered_as n h p).actor ≡ seen p
+  actor_same : (n : ℕ) (h : Heard) (p : Player R) → (numbered_as n h p).actor ≡ seen p
   actor_same n h (player.Plain a) = refl
   actor_same n h (player.Own o) = refl
 
-  heard_same : (n : ℕ) (h : List Given) (p : Player R) → ◌≡◌ {A = List Given} (numbered_as n h p).heard h
+  heard_same : (n : ℕ) (h : Heard) (p : Player R) → ◌≡◌ {A = Heard} (numbered_as n h p).heard h
   heard_same n h (player.Plain a) = refl
   heard_same n h (player.Own o) = refl
 
   -- at rest it holds nothing and has no work
-  at_rest : (n : ℕ) (h : List Given) (p : Player R) → IsAtRest p
+  at_rest : (n : ℕ) (h : Heard) (p : Player R) → IsAtRest p
       → HoldsNothing (numbered_as n h p).actor × HasNoWork (numbered_as n h p).errand
   at_rest n h (player.Plain a) rest = (rest, tt)
   at_rest n h (player.Own o) rest = (rest.0, rest.1)
 
   -- who stands in the list
-  pub seated_at : (number : ℕ → ℕ) (heard : ℕ → List Given) (k : ℕ) (l : List (Player R)) (i : ℕ) (x : Numbered)
+  pub seated_at : (number : ℕ → ℕ) (heard : ℕ → Heard) (k : ℕ) (l : List (Player R)) (i : ℕ) (x : Numbered)
       → get_elem? (seated number heard k l) i ≡ maybe.some x
       → (p : Player R) × (get_elem? l i ≡ maybe.some p)
       × ◌≡◌ {A = Numbered} (numbered_as (number (k + i)) (heard (k + i)) p) x
@@ -148,8 +150,8 @@ module _ {L D R : Type 0} where
   seat_cleaner table seat (player.Own o) S is = absurd is
 
   -- what its view has
-  seats_of : (table : TableId) (seat : Seat (Slot L D) (View L D)) (p : Player R) (n : ℕ) (h : List Given)
-      → IsPlayerSeat table seat p → number_of seat.me.0 ≡ n → ◌≡◌ {A = List Given} (heard_of seat.me.0) h
+  seats_of : (table : TableId) (seat : Seat (Slot L D) (View L D)) (p : Player R) (n : ℕ) (h : Heard)
+      → IsPlayerSeat table seat p → number_of seat.me.0 ≡ n → ◌≡◌ {A = Heard} (heard_of seat.me.0) h
       → seat.me.0.seats ≡ numbered_as n h p ∷ []
   seats_of table seat (player.Plain a) n h S number heard =
       let who = S.mine.who in
@@ -158,7 +160,7 @@ module _ {L D R : Type 0} where
       ∙ ap (λ (n : ℕ). record { number = n; actor = who.actor; heard = who.heard; errand = None })
       (sym (ap number_in S.mine.one) ∙ number)
       ∙ ap (λ (b : model.Actor). record { number = n; actor = b; heard = who.heard; errand = None }) S.mine.state
-      ∙ ap (λ (l : List Given). record { number = n; actor = view_of a; heard = l; errand = None })
+      ∙ ap (λ (l : Heard). record { number = n; actor = view_of a; heard = l; errand = None })
       (sym (ap heard_in S.mine.one) ∙ heard))
   seats_of table seat (player.Own o) n h S number heard =
       let who = S.mine.who in
@@ -168,7 +170,7 @@ module _ {L D R : Type 0} where
       (sym (ap number_in S.mine.one) ∙ number)
       ∙ ap (λ (b : model.Actor). record { number = n; actor = b; heard = who.heard; errand = Some (errand_of o) })
       S.mine.own.state
-      ∙ ap (λ (l : List Given). record { number = n; actor = model.User o.user; heard = l; errand = Some (errand_of o) })
+      ∙ ap (λ (l : Heard). record { number = n; actor = model.User o.user; heard = l; errand = Some (errand_of o) })
       (sym (ap heard_in S.mine.one) ∙ heard))
 
   seat_table : (table : TableId) (seat : Seat (Slot L D) (View L D)) (p : Player R) → IsPlayerSeat table seat p
@@ -183,7 +185,7 @@ module _ {L D R : Type 0} where
   seat_bare table seat (player.Own o) S rest = subst (λ (h : Option ℕ). Carries h seat.me) rest.0.no_slot
       (subst (λ (b : Bool). CarriesWork b (model.User o.user) seat.me) rest.1 S.mine.carries)
 
-  module _ (table : TableId) (number : ℕ → ℕ) (inj : (i j : ℕ) → number i ≡ number j → i ≡ j) (heard : ℕ → List Given)
+  module _ (table : TableId) (number : ℕ → ℕ) (inj : (i j : ℕ) → number i ≡ number j → i ≡ j) (heard : ℕ → Heard)
       (players : List (Player R)) (first : Seat (Slot L D) (View L D)) (seats : List (Seat (Slot L D) (View L D)))
       (A : AreHandedOut table number heard players first seats) where
     module _ (p : Player R) (p_at : get_elem? players (length seats) ≡ maybe.some p) where
@@ -263,7 +265,7 @@ module _ {L D R : Type 0} where
               (λ t. let same : ◌≡◌ {A = Player R} p q = maybe.some-injective p q (sym p_at ∙ ap (get_elem? players) (sym t.0)
               ∙ at) in
               subst (λ (s : Seat (Slot L D) (View L D)). IsPlayerSeat table s q × (number_of s.me.0 ≡ number i)
-              × ◌≡◌ {A = List Given} (heard_of s.me.0) (heard i)) t.1 (
+              × ◌≡◌ {A = Heard} (heard_of s.me.0) (heard i)) t.1 (
                 subst (λ (z : Player R). IsPlayerSeat table token z) same cut_seat,
                 ap number_in token_seats ∙ number_same (number n) (heard n) p ∙ ap number (sym t.0),
                 ap heard_in token_seats ∙ heard_same (number n) (heard n) p ∙ ap heard (sym t.0),
@@ -391,9 +393,9 @@ module _ {L D R : Type 0} where
         ]
 
     -- where nothing was handed on, each seat has heard nothing
-    pub none_heard_yet : ((n : ℕ) → ◌≡◌ {A = List Given} (heard n) [])
+    pub none_heard_yet : ((n : ℕ) → ◌≡◌ {A = Heard} (heard n) nothing)
         → (i : ℕ) (seat : Seat (Slot L D) (View L D)) → get_elem? seats i ≡ maybe.some seat
-        → ◌≡◌ {A = List Given} (heard_of seat.me.0) []
+        → ◌≡◌ {A = Heard} (heard_of seat.me.0) nothing
     none_heard_yet none i seat at =
         let few = A.few in
         let p = there players i (let l = below seats i seat at in omega arith) in
@@ -416,7 +418,7 @@ module _ {L D R : Type 0} where
   one_part players first part none = ⊎_elim (λ p. p) (λ t. absurd (none t.0 t.1 t.3 t.4)) part
 
   -- nobody has a seat yet, and each has
-  module _ (table : TableId) (number : ℕ → ℕ) (heard : ℕ → List Given) (players : List (Player R))
+  module _ (table : TableId) (number : ℕ → ℕ) (heard : ℕ → Heard) (players : List (Player R))
       (first : Seat (Slot L D) (View L D)) (seats : List (Seat (Slot L D) (View L D))) where
     pub all_in_first : IsFirst table first → first.me.0.seats ≡ seated number heard 0 players → seats ≡ []
         → AreHandedOut table number heard players first seats

@@ -21,6 +21,7 @@ use Rattle.redo_ownrule.specs.Staffing.{HaveOthers, StandAtHome}
 use Rattle.redo_ownrule.specs.declared.player.Player.{Player}
 use Rattle.redo_ownrule.specs.declared.player.Player.TheVariants as player
 use Rattle.redo_rule.proofs.Opens.{AllStand, Stands}
+use Rattle.redo_rule.specs.Handing.{nothing}
 use Rattle.redo_rule.specs.OwnSide.{OwnSide, work_of}
 use Rattle.redo_rule.specs.Ruled.{none_heard, numbered, own_numbered}
 use Rattle.redo_rule.specs.declared.law.Numbered.{Numbered}
@@ -50,12 +51,12 @@ abbrev on_errand : ℕ → OwnUser → ErrandStep → Bool → Numbered
 on_errand n o step helped = record {
   number = n;
   actor = model.User o.user;
-  heard = [];
+  heard = nothing;
   errand = Some (record { step = step; helped = helped });
 }
 
 home_is : (R : Type 0) (n : ℕ) (o : OwnUser) → o.errand ≡ errand_step.Done → o.helped ≡ false
-    → ◌≡◌ {A = Numbered} (on_errand n o errand_step.Done false) (numbered_as {R = R} n [] (player.Own o))
+    → ◌≡◌ {A = Numbered} (on_errand n o errand_step.Done false) (numbered_as {R = R} n nothing (player.Own o))
 home_is R n o done none =
     ap (λ (e : ErrandStep). on_errand n o e false) (sym done) ∙ ap (on_errand n o o.errand) (sym none)
 
@@ -129,11 +130,11 @@ module _ {R : Type 0} where
       (numbered none_heard k (views_of (map actor_of ps))) (seated (λ n. n) none_heard k ps)
   numbered_plain k [] plain = refl
   numbered_plain k (player.Plain a ∷ ps) plain =
-      ap (λ (l : List Numbered). numbered_as k [] (player.Plain a) ∷ l) (numbered_plain (k + 1) ps plain)
+      ap (λ (l : List Numbered). numbered_as k nothing (player.Plain a) ∷ l) (numbered_plain (k + 1) ps plain)
   numbered_plain k (player.Own o ∷ ps) plain = absurd plain
 
   one_other : (n : ℕ) (a : Actor R) (xs : List model.Actor) → IsOther a → ◌≡◌ {A = List Numbered}
-      (own_numbered n (view_of a ∷ xs)) (numbered_as n [] (player.Plain a) ∷ own_numbered (n + 1) xs)
+      (own_numbered n (view_of a ∷ xs)) (numbered_as n nothing (player.Plain a) ∷ own_numbered (n + 1) xs)
   one_other n (actor.User u) xs other = absurd other
   one_other n (actor.Writer w) xs other = absurd other
   one_other n (actor.Flusher f) xs other = absurd other
@@ -145,10 +146,10 @@ module _ {R : Type 0} where
   others_numbered number n k [] plain others by = refl
   others_numbered number n k (player.Plain a ∷ ps) plain others by =
       one_other n a (views_of (map actor_of ps)) others.0
-      ∙ ap (λ (m : ℕ). numbered_as m [] (player.Plain a) ∷ own_numbered (n + 1) (views_of (map actor_of ps)))
+      ∙ ap (λ (m : ℕ). numbered_as m nothing (player.Plain a) ∷ own_numbered (n + 1) (views_of (map actor_of ps)))
       (let z = by 0 in let same : number (k + 0) ≡ number k = ap number (let e : k + 0 ≡ k = omega arith in e) in
       let e : n ≡ number k = omega arith in e)
-      ∙ ap (λ (l : List Numbered). numbered_as (number k) [] (player.Plain a) ∷ l)
+      ∙ ap (λ (l : List Numbered). numbered_as (number k) nothing (player.Plain a) ∷ l)
       (others_numbered number (n + 1) (k + 1) ps plain others.1 (λ i.
       let z = by (suc i) in
       let same : number (k + suc i) ≡ number (k + 1 + i) =
@@ -164,10 +165,10 @@ module _ {R : Type 0} where
       others_numbered number (n + 1 + 1) k (player.Plain a ∷ ps) first others (λ i. let z = by i in omega arith)
   own_is_numbered w number n k (player.Own o ∷ ps) first others home by =
       ap (λ (x : Numbered). x ∷ own_numbered (n + 1) (views_of (crew (Some w) ps))) (home_is R n o home.0 home.1)
-      ∙ ap (λ (m : ℕ). numbered_as {R = R} m [] (player.Own o) ∷ own_numbered (n + 1) (views_of (crew (Some w) ps)))
+      ∙ ap (λ (m : ℕ). numbered_as {R = R} m nothing (player.Own o) ∷ own_numbered (n + 1) (views_of (crew (Some w) ps)))
       (let z = by 0 in let same : number (k + 0) ≡ number k = ap number (let e : k + 0 ≡ k = omega arith in e) in
       let e : n ≡ number k = omega arith in e)
-      ∙ ap (λ (l : List Numbered). numbered_as {R = R} (number k) [] (player.Own o) ∷ l)
+      ∙ ap (λ (l : List Numbered). numbered_as {R = R} (number k) nothing (player.Own o) ∷ l)
       (own_is_numbered w number (n + 1) (k + 1) ps first others home.2 (λ i.
       let z = by (suc i) in
       let same : number (k + suc i) ≡ number (k + 1 + i) =
@@ -191,19 +192,19 @@ module _ {R : Type 0} where
   -- so each who sits there stands as it should
   seat_is : (number : ℕ → ℕ) (k : ℕ) (ps : List (Player R)) (i : ℕ) (x : Numbered)
       → get_elem? (seated number none_heard k ps) i ≡ maybe.some x
-      → (p : Player R) × (get_elem? ps i ≡ maybe.some p) × ◌≡◌ {A = Numbered} (numbered_as (number (k + i)) [] p) x
+      → (p : Player R) × (get_elem? ps i ≡ maybe.some p) × ◌≡◌ {A = Numbered} (numbered_as (number (k + i)) nothing p) x
   seat_is number k [] i x at = absurd (maybe.some-ne-none x (sym at))
   seat_is number k (q ∷ ps) zero x at = (
     q,
     refl,
-    ap (λ (n : ℕ). numbered_as (number n) [] q) (let e : k + 0 ≡ k = omega arith in e)
-        ∙ maybe.some-injective (numbered_as (number k) [] q) x at,
+    ap (λ (n : ℕ). numbered_as (number n) nothing q) (let e : k + 0 ≡ k = omega arith in e)
+        ∙ maybe.some-injective (numbered_as (number k) nothing q) x at,
   )
   seat_is number k (q ∷ ps) (suc i) x at =
       let r = seat_is number (k + 1) ps i x at in (
         r.0,
         r.1,
-        ap (λ (n : ℕ). numbered_as (number n) [] r.0) (let e : k + suc i ≡ k + 1 + i = omega arith in e) ∙ r.2,
+        ap (λ (n : ℕ). numbered_as (number n) nothing r.0) (let e : k + suc i ≡ k + 1 + i = omega arith in e) ∙ r.2,
       )
 
   sits_first : (ps : List (Player R)) → UsersFirst ps → (i : ℕ) (a : Actor R)
@@ -247,7 +248,7 @@ module _ {R : Type 0} where
 
   stands_at : (own : Bool) (work : Option LogWork) → is_some work ≡ own → (ps : List (Player R)) → AreInOrder own ps
       → StandAtHome ps → (i : ℕ) (p : Player R) → get_elem? ps i ≡ maybe.some p
-      → Stands (side_of work ps) (views_of (crew work ps)) (numbered_as (place own ps i) [] p)
+      → Stands (side_of work ps) (views_of (crew work ps)) (numbered_as (place own ps i) nothing p)
   stands_at true None works ps order home i p at = absurd (cc)
   stands_at false (Some k) works ps order home i p at = absurd (cc)
   stands_at false None works ps order home i (player.Plain a) at = record {
@@ -277,6 +278,6 @@ module _ {R : Type 0} where
   all_stand own work works ps order home actors are seats seated_is i x at =
       let r = seat_is (place own ps) 0 ps i x (ap (λ (l : List Numbered). get_elem? l i) (sym seated_is) ∙ at) in
       subst (Stands (side_of work ps) actors)
-      (ap (λ (n : ℕ). numbered_as (place own ps n) [] r.0) (let e : i ≡ 0 + i = omega arith in e) ∙ r.2)
-      (subst (λ (l : List model.Actor). Stands (side_of work ps) l (numbered_as (place own ps i) [] r.0)) (sym are)
+      (ap (λ (n : ℕ). numbered_as (place own ps n) nothing r.0) (let e : i ≡ 0 + i = omega arith in e) ∙ r.2)
+      (subst (λ (l : List model.Actor). Stands (side_of work ps) l (numbered_as (place own ps i) nothing r.0)) (sym are)
       (stands_at own work works ps order home i r.0 r.1))

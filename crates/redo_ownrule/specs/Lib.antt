@@ -1,4 +1,5 @@
 pub mod Gathering
+pub mod Leaving
 pub mod OwnCauses
 pub mod OwnMine
 pub mod OwnPlays

@@ -1,6 +1,5 @@
 -- Who plays at a table, and the actors that they leave.
 use Rattle.std.specs.Prelude.{Bool, List, None, Option, Some, [], false, map, true, suc, zero, ℕ, ◌++◌, ◌+◌, ◌∷◌, ◌≡◌}
-use Rattle.model_core.specs.{Given}
 use Rattle.model_core.specs.Actors as model
 use Rattle.model_core.specs.Hands.{HoldsNothing, IsFreeToCheck}
 use Rattle.model_core.specs.Later.{IsSameActor}
@@ -11,6 +10,7 @@ use Rattle.redo_drive.specs.declared.actor.Actor.TheVariants as actor
 use Rattle.redo_ownrule.specs.OwnPlays.{errand_of}
 use Rattle.redo_ownrule.specs.declared.player.Player.{Player}
 use Rattle.redo_ownrule.specs.declared.player.Player.TheVariants as player
+use Rattle.redo_rule.specs.declared.law.Heard.{Heard}
 use Rattle.redo_rule.specs.declared.law.Numbered.{Numbered}
 
 -- how many actors have no seat
@@ -76,11 +76,11 @@ module _ {R : Type 0} where
   place false ps i = i
 
   -- the players as a seat knows them, each with its number and with what it has handed on
-  abbrev pub numbered_as : ℕ → List Given → Player R → Numbered
+  abbrev pub numbered_as : ℕ → Heard → Player R → Numbered
   numbered_as n heard (player.Plain a) = record { number = n; actor = view_of a; heard = heard; errand = None }
   numbered_as n heard (player.Own o) =
       record { number = n; actor = model.User o.user; heard = heard; errand = Some (errand_of o) }
 
-  abbrev pub seated : (ℕ → ℕ) → (ℕ → List Given) → ℕ → List (Player R) → List Numbered
+  abbrev pub seated : (ℕ → ℕ) → (ℕ → Heard) → ℕ → List (Player R) → List Numbered
   seated number heard i [] = []
   seated number heard i (p ∷ ps) = numbered_as (number i) (heard i) p ∷ seated number heard (i + 1) ps

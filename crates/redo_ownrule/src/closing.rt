@@ -3,8 +3,8 @@ ghost use Rattle.std.specs.Prelude.{◌≡◌, ◌+◌, List, is_some, length, m
 ghost use Rattle.std.specs.List.{AllZip};
 ghost use Rattle.model_own.specs.OwnWrites.{LogWork};
 ghost use Rattle.redo_drive.specs.History.{ListsInOrder};
-ghost use Rattle.redo_drive.specs.Leaving.{LeavesWith};
 ghost use Rattle.redo_drive.specs.Views.{views_of};
+ghost use Rattle.redo_ownrule.specs.Leaving.{LeavesHeard};
 ghost use Rattle.redo_ownrule.specs.Players.{AreInOrder, IsSamePlayer, actor_of, crew, workers};
 ghost use Rattle.redo_ownrule.specs.Sharing.{AllAtRest, AreActorsOf, AreSeatsOf, IsSeated, opened_of, own_of, shared_script, starts_of, table_of};
 ghost use Rattle.redo_ownrule.specs.declared.player.Player.{Player as ThePlayer};
@@ -44,8 +44,8 @@ impl<L: Sectors, D: Sectors, R: Receiver + Drop> Shared<L, D, R> {
         ensures leaves { (work : Option LogWork) (starts : List (ThePlayer R)) → is_some work ≡ own_of self
             → AllZip IsSamePlayer starts players.items
             → HaveHeard R.stands_for (map actor_of starts) seats.items (map actor_of players.items)
-            → LeavesWith L.seen L.gives D.seen D.gives R.stands_for (opened_of self) (shared_script self) self.board.shared.key.log_only
-            self.board.shared.key.archive self.board.shared.key.followers (crew work starts) result.1.items result.0 }
+            → LeavesHeard L.seen L.gives D.seen D.gives R.stands_for (opened_of self) (shared_script self) self.board.shared.key.log_only
+            self.board.shared.key.archive self.board.shared.key.followers (crew work starts) result.1.items seats.items result.0 }
         ensures listed { ListsInOrder result.0.marks (views_of result.1.items) result.0.history }
         ensures owed { IsOwedRun L.seen L.gives D.seen D.gives (opened_of self) (shared_script self) (views_of result.1.items) result.0 }
         ensures reaches { ReachesAll (views_of result.1.items) result.0 }

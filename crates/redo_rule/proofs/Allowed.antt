@@ -36,6 +36,7 @@ use Rattle.redo_rule.proofs.Words.{plain_off, swapped}
 use Rattle.atomic_table.proofs.Lists.{set_here}
 use Rattle.model_core.proofs.Hands.{Handles}
 use Rattle.model_core.specs.Hands.{hand, IsFreeToCheck}
+use Rattle.redo_rule.specs.Handing.{appended_by, with_more}
 use Rattle.redo_rule.specs.Plays.{behind, gave, KeepsTexts, list_behind, list_said, ListFits, looked, no_filling, saw, seized, Stepped, TakesList, taking, view_behind}
 use Rattle.redo_rule.specs.OwnSide.{Beside, desk_with}
 use Rattle.redo_rule.specs.Ruled.{Knows, Ruled, slot_content}
@@ -462,7 +463,7 @@ module _ {L D : Type 0} (log_seen : L → Seen) (log_gives : L → Call → L �
           seats = (record {
             number = x.number;
             actor = took z (answer.Taken None);
-            heard = x.heard ++ handed_by z;
+            heard = with_more x.heard (handed_by z) (appended_by x.actor);
             errand = x.errand;
           }) ∷ [];
           held = None;

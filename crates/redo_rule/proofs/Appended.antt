@@ -1,5 +1,5 @@
 -- The seat after an append is still the archiver's.
-use Rattle.std.proofs.Common.{List, Option, ℕ, ◌≡◌}
+use Rattle.std.proofs.Common.{List, Option, ℕ, ◌++◌, ◌≡◌}
 use Rattle.atomic_table.specs.Seated.{TableId}
 use Rattle.atomic_table.specs.declared.shared.Seat.{Seat}
 use Rattle.model_core.specs.{Given}
@@ -13,7 +13,8 @@ use Rattle.redo_drive.specs.declared.actor.Actor.{Actor}
 use Rattle.redo_rule.proofs.Behind.{seat_behind, was_cleaner}
 use Rattle.redo_rule.proofs.Stepping.{append_leaves}
 use Rattle.redo_rule.proofs.Took.{Steps}
-use Rattle.redo_rule.specs.Mine.{HasPlayed, IsSameSeat}
+use Rattle.redo_rule.specs.Handing.{appended_by}
+use Rattle.redo_rule.specs.Mine.{HasPlayed, heard_of, IsSameSeat}
 use Rattle.redo_rule.specs.Plays.{appended}
 use Rattle.redo_rule.specs.Seating.{Appends, IsSeatOf}
 use Rattle.redo_rule.specs.declared.law.Slot.{Slot}
@@ -34,6 +35,9 @@ module _ {L D R : Type 0} (table : TableId) (seat : Seat (Slot L D) (View L D)) 
 
   pub same_after : IsSameSeat stands seat.me.0 old after.me.0 new
   same_after = its.stays.seat
+
+  pub blocks_after : (heard_of after.me.0).blocks ≡ (heard_of seat.me.0).blocks ++ appended_by (view_of old)
+  blocks_after = its.blocks
 
   pub played_after : HasPlayed log_seen data_seen seat.me.0 (view_of old) step (view_of new)
   played_after = its.played

@@ -182,6 +182,8 @@ module _ {L D R : Type 0} (table : TableId) (seat : Seat (Slot L D) (View L D)) 
                     same = l.same.same;
                     since = l.same.since;
                     heard = l.same.heard;
+                    appended = l.same.appended;
+                    blocks = l.same.blocks;
                     got = l.same.got;
                   };
                 }

@@ -81,7 +81,9 @@ rested stands v old step new is free h =
         number = refl;
         same = t.same;
         since = [];
-        heard = sym (append-nil (heard_of v));
+        heard = sym (append-nil (heard_of v).groups);
+        appended = [];
+        blocks = sym (append-nil (heard_of v).blocks);
         got = subst (λ (l : List Given). HasGot stands (follower_of old) l (follower_of new))
             (ap handed_by same ∙ plain_hands a free plain) t.got;
       },

@@ -6,7 +6,6 @@ use mathlib.Core.Option as maybe
 use native.Mathlib.Decide.{ℕ_discrete}
 use Rattle.atomic_table.specs.Table.{Final, Seen as SeenBy}
 use Rattle.model_core.specs.Actors as model
-use Rattle.model_core.specs.{Given}
 use Rattle.model_core.specs.Setup.{Setup}
 use Rattle.model_running.proofs.Seated.{has_cleaner}
 use Rattle.model_running.specs.{AreSeated}
@@ -18,10 +17,12 @@ use Rattle.redo_drive.specs.Running.{RunsWith}
 use Rattle.redo_drive.specs.declared.parts.Parts.{Parts}
 use Rattle.redo_rule.specs.Ending.{RunReaches}
 use Rattle.model_core.specs.Hands.{hand, HoldsNothing}
+use Rattle.redo_rule.specs.Handing.{HasHandedOn, HaveHandedOn, HaveLoaded}
 use Rattle.redo_rule.specs.OwnSide.{desk_with}
-use Rattle.redo_rule.specs.Ruled.{HaveGroups, Knows, numbered, Ruled, starts_about}
+use Rattle.redo_rule.specs.Ruled.{Knows, numbered, Ruled, starts_about}
 use Rattle.redo_rule.specs.Seating.{HasPart, IsCleaner}
 use Rattle.redo_rule.specs.declared.law.About.{About}
+use Rattle.redo_rule.specs.declared.law.Heard.{Heard}
 use Rattle.redo_rule.specs.declared.law.Numbered.{Numbered}
 use Rattle.redo_rule.specs.declared.law.Slot.{Slot}
 use Rattle.redo_rule.specs.declared.law.Slot.TheVariants as slot
@@ -34,7 +35,7 @@ same_list [] (y ∷ ys) e h = absurd (omega arith)
 same_list (x ∷ xs) [] e h = absurd (omega arith)
 same_list (x ∷ xs) (y ∷ ys) e h = λ k. maybe.some-injective x y (h 0 y refl) k ∷ same_list xs ys (omega arith) (λ i a f. h (suc i) a f) k
 
-number_there : (heard : ℕ → List Given) (k : ℕ) (l : List model.Actor) (i : ℕ) (a : model.Actor) → get_elem? l i ≡
+number_there : (heard : ℕ → Heard) (k : ℕ) (l : List model.Actor) (i : ℕ) (a : model.Actor) → get_elem? l i ≡
     maybe.some a
     → get_elem? (numbered heard k l) i ≡ maybe.some (record { number = k + i; actor = a; heard = heard (k + i); errand = None })
 number_there heard k [] i a e = absurd (maybe.some-ne-none a (sym e))
@@ -56,14 +57,15 @@ either_way : (b : Bool) (P : Type 0) → (b ≡ true → P) → (b ≡ false →
 either_way true P one other = one refl
 either_way false P one other = other refl
 
--- the run goes on, and each has handed on its groups
+-- the run goes on, and what each has handed on is the run's
 record GoesOn {L D : Type 0} (log_seen : L → Seen) (data_seen : D → Seen) (archive : Bool) (run : RunOf L D) (parts : Parts L D)
-    (heard : ℕ → List Given) (actors : List model.Actor) : Type 0 where
+    (heard : ℕ → Heard) (actors : List model.Actor) : Type 0 where
   pub runs : RunsWith log_seen data_seen run archive parts actors
-  pub hears : HaveGroups (run_log_side log_seen data_seen run) parts.log heard actors runs.running.log_ghost.log
+  pub hears : HaveHandedOn (run_log_side log_seen data_seen run) run.setup.base parts.log heard actors runs.running.log_ghost.log
+  pub loaded : HaveLoaded parts.words.words actors
 
 module _ {L D : Type 0} (log_seen : L → Seen) (log_gives : L → Call → L → Type 0) (data_seen : D → Seen) (data_gives : D → Call → D → Type 0) (about : About L D) where
-  pub ends_ok : (id : ℕ) (v : View L D) (ws : List ℕ) (xs : List (Slot L D)) (heard : ℕ → List Given) (actors : List
+  pub ends_ok : (id : ℕ) (v : View L D) (ws : List ℕ) (xs : List (Slot L D)) (heard : ℕ → Heard) (actors : List
       model.Actor) → Final (SeenBy (Ruled log_seen log_gives data_seen data_gives about) id v) ws xs → v.seats ≡
       numbered heard 0 actors → length actors ≡ length (starts_about about)
       → ((i : ℕ) (a : model.Actor) → get_elem? actors i ≡ maybe.some a → HoldsNothing a)
@@ -84,7 +86,7 @@ module _ {L D : Type 0} (log_seen : L → Seen) (log_gives : L → Call → L �
       same_list R.actors actors (R.count ∙ sym long) (λ i a e. (known i a e).0) in
       let its : (l : List model.Actor) → ◌≡◌ {A = List model.Actor} R.actors l → GoesOn log_seen data_seen about.archive
       R.run R.parts R.heard l =
-      λ l e. subst (GoesOn log_seen data_seen about.archive R.run R.parts R.heard) e (record { runs = R.runs; hears = R.hears }) in
+      λ l e. subst (GoesOn log_seen data_seen about.archive R.run R.parts R.heard) e (record { runs = R.runs; hears = R.hears; loaded = R.loaded }) in
       let now = its actors all in
       let runs : RunsWith log_seen data_seen R.run about.archive R.parts actors = now.runs in
       let free : (k : ℕ) → k < 5 → slice_index s.words (7 + k) ≡ 0 = λ k l. elim (ℕ_discrete (slice_index s.words (7 + k)) 0) [
@@ -99,7 +101,9 @@ module _ {L D : Type 0} (log_seen : L → Seen) (log_gives : L → Call → L �
         is_about = R.is_about;
         parts = R.parts;
         runs = runs;
-        hears = λ told n a at. sym (known n a at).1 ∙ now.hears told n a at;
+        hears = λ told n a at. subst (HasHandedOn (run_log_side log_seen data_seen R.run) R.run.setup.base
+            runs.running.log_ghost.log a) (known n a at).1 (now.hears told n a at);
+        loaded = now.loaded;
         words_are = R.words_are ∙ final.2;
         beside = R.beside;
         log = final.4 0 (slot.Log (desk_with R.parts.log R.beside)) (R.home 0 (omega arith) (free 0

@@ -7,10 +7,13 @@ use Rattle.atomic_table.specs.Seated.{TableId}
 use Rattle.atomic_table.specs.Table.{Final, Seen as SeenBy}
 use Rattle.atomic_table.specs.declared.shared.Seat.{Seat}
 use Rattle.model_core.specs.Actors as model
-use Rattle.model_core.specs.{Given, HasLost, index, tail_of}
+use Rattle.model_core.specs.{Given, HasLost, index, ReaderState, tail_of}
+use Rattle.model_core.specs.Setup.{Setup}
 use Rattle.model_core.specs.declared.words.Word.TheVariants as word
+use Rattle.model_running.proofs.Archiving.{losing_at}
 use Rattle.model_running.proofs.Finished.{marks_same}
 use Rattle.model_running.specs.{history_of, marks_in, word_marks}
+use Rattle.model_running.specs.ReadHalf.{ReadsInRun, StaysInRun}
 use Rattle.model_report.specs.declared.entry.Entry.{Entry}
 use Rattle.model_report.specs.declared.entry.Marks.{Marks}
 use Rattle.redo_archiver.specs.{append_code}
@@ -46,6 +49,7 @@ use Rattle.redo_rule.specs.declared.law.About.{About}
 use Rattle.model_own.specs.OwnWrites.{LogWork}
 use Rattle.redo_rule.specs.OwnSide.{desk_with, work_of}
 use Rattle.redo_rule.specs.declared.law.Desk.{Desk}
+use Rattle.redo_rule.specs.declared.law.Heard.{Heard}
 use Rattle.redo_rule.specs.declared.law.Slot.{Slot}
 use Rattle.redo_rule.specs.declared.law.Slot.TheVariants as slot
 use Rattle.redo_rule.specs.declared.law.View.{View}
@@ -57,10 +61,18 @@ read_at (y ∷ ys) zero x e = sym (maybe.some-injective y x e)
 read_at (y ∷ ys) (suc i) x e = read_at ys i x e
 
 -- what a run tells of the append that failed
-pub its_loss : (archive : Bool) (actors : List model.Actor) (lost : Option DevError) → TellsLoss archive actors lost
+pub its_loss : (c : Setup) (archive : Bool) (actors : List model.Actor)
+    → ((seat : ℕ) (a : model.Actor) → get_elem? actors seat ≡ maybe.some a → StaysInRun c a)
+    → (lost : Option DevError) → TellsLoss archive actors lost
     → cond archive ((code : ℕ) → HasLost actors code → code ≡ append_code lost) (Unit {0})
-its_loss true actors lost loss = loss
-its_loss false actors lost loss = tt
+its_loss c true actors in_run lost loss = λ code met.
+    let r : ReaderState = met.archiver in
+    let I : ReadsInRun c r = in_run met.seat (model.Reader r) met.at in
+    let is = met.lost in
+    let some_code = met.some_code in
+    let losing = losing_at r r.step I.lost (omega arith) in
+    sym is ∙ loss met.seat r met.at losing.archiver
+its_loss c false actors in_run lost loss = tt
 
 -- a slot that was taken is empty, and the others are as they were
 still_full : (l : List Bool) (i k : ℕ) → k ≢ i → get_or l k false ≡ true → get_or (slice_set l i false) k false ≡ true
@@ -119,14 +131,14 @@ nothing_left (x ∷ xs) = nothing_left xs
 
 module _ {L D : Type 0} (log_seen : L → Seen) (log_gives : L → Call → L → Type 0) (data_seen : D → Seen) (data_gives : D → Call → D → Type 0) (about : About L D) where
   -- what is left where the table is closed
-  pub ends_with : (table : TableId) (heard : ℕ → List Given) (actors : List model.Actor) (first : Seat (Slot L D)
+  pub ends_with : (table : TableId) (heard : ℕ → Heard) (actors : List model.Actor) (first : Seat (Slot L D)
       (View L D)) → MayClose about table heard actors first → (ws : List ℕ) (xs : List (Slot L D))
       → Final (SeenBy (Ruled log_seen log_gives data_seen data_gives about) first.id first.me.0) ws xs → RunReaches
       log_seen log_gives data_seen data_gives about heard actors ws xs
   ends_with table heard actors first may ws xs final = ends_ok log_seen log_gives data_seen data_gives about first.id
       first.me.0 ws xs heard actors final may.all may.count may.rest may.cleaner may.alone
 
-  module _ (heard : ℕ → List Given) (actors : List model.Actor) (ws : List ℕ) (xs : List (Slot L D)) (E : RunReaches
+  module _ (heard : ℕ → Heard) (actors : List model.Actor) (ws : List ℕ) (xs : List (Slot L D)) (E : RunReaches
       log_seen log_gives data_seen data_gives about heard actors ws xs) where
     abbrev desk : Desk L
     desk = desk_with E.parts.log E.beside
@@ -171,6 +183,7 @@ module _ {L D : Type 0} (log_seen : L → Seen) (log_gives : L → Call → L �
       last = E.parts;
       runs = E.runs;
       hears = E.hears;
+      loaded = E.loaded;
       log_calls = E.log_calls;
       data_calls = E.data_calls;
       log_shape = E.log_shape;
@@ -180,7 +193,7 @@ module _ {L D : Type 0} (log_seen : L → Seen) (log_gives : L → Call → L �
       code = code ∙ ap (λ (z : List ℕ). slice_index z (index word.Failed)) (sym E.words_are);
     }
 
-  module _ (heard : ℕ → List Given) (actors : List model.Actor) (left : Left L D) (P : LeavesParts log_seen log_gives
+  module _ (heard : ℕ → Heard) (actors : List model.Actor) (left : Left L D) (P : LeavesParts log_seen log_gives
       data_seen data_gives about heard actors left) where
     its_marks : ◌≡◌ {A = Marks} left.marks (word_marks P.runs.running.shared)
     its_marks = P.marks ∙ marks_same P.last.words.words P.runs.running.shared P.runs.running.flat_is
@@ -198,7 +211,7 @@ module _ {L D : Type 0} (log_seen : L → Seen) (log_gives : L → Call → L �
     its_history history l = history_is log_seen data_seen P.run P.last actors P.runs history (subst (λ (z : Marks). ListsInOrder z actors history) its_marks l)
 
   -- the same of the actors themselves
-  module _ {R : Type 0} (heard : ℕ → List Given) (actors : List (Actor R)) (left : Left L D)
+  module _ {R : Type 0} (heard : ℕ → Heard) (actors : List (Actor R)) (left : Left L D)
       (P : LeavesParts log_seen log_gives data_seen data_gives about heard (views_of actors) left) where
     pub groups : (seat : ℕ) (actor : Actor R) → seat < length actors → HasGroups (view_of (get_or actors seat actor))
     groups = have_groups log_seen data_seen P.run P.last actors P.runs
@@ -229,7 +242,7 @@ module _ {L D : Type 0} (log_seen : L → Seen) (log_gives : L → Call → L �
         marks = marks_is ∙ P.marks;
         code = code_is ∙ P.code;
         history = its_history heard (views_of actors) left P closed.history listed;
-        lost = its_loss about.archive (views_of actors) closed.lost loss;
+        lost = its_loss P.run.setup about.archive (views_of actors) P.runs.running.both.in_run closed.lost loss;
       }
 
       -- of actors that began with whatever they are, and of receivers of which nothing is told
@@ -281,7 +294,8 @@ module _ {L D : Type 0} (log_seen : L → Seen) (log_gives : L → Call → L �
       (λ told n a b began at.
       let s = there seats n (let l = past actors n b at in omega arith) in
       subst (λ (l : List Given). HasGot stands (follower_of a) l (follower_of b))
-      (heard_at seats n s.0 s.1 ∙ P.hears told n (view_of b) (views_at actors n b at)) (H.got n s.0 a b s.1 began at))
+      (ap (λ (h : Heard). h.groups) (heard_at seats n s.0 s.1) ∙ (P.hears told n (view_of b) (views_at actors n b at)).groups)
+      (H.got n s.0 a b s.1 began at))
     where
       past : (l : List (Actor R)) (i : ℕ) (a : Actor R) → get_elem? l i ≡ maybe.some a → i < length l
       past [] i a at = absurd (maybe.some-ne-none a (sym at))

@@ -6,12 +6,13 @@ use native.Mathlib.Decide.{ℕ_discrete}
 use Rattle.atomic_table.proofs.Lists.{at_last, at_longer, drop_at}
 use Rattle.atomic_table.specs.Seated.{TableId}
 use Rattle.atomic_table.specs.declared.shared.Seat.{Seat}
-use Rattle.model_core.specs.{Given, word_count}
+use Rattle.model_core.specs.{word_count}
 use Rattle.model_core.specs.Actors as model
 use Rattle.redo_rule.proofs.Opens.{numbered_at}
 use Rattle.redo_rule.proofs.Seated.{at_end}
 use Rattle.redo_rule.specs.Cutting.{HoldNothing, IsFirst, MayCut, MayTakeIn}
 use Rattle.redo_rule.specs.Gathering.{AreHandedOut, HasOneCleaner, PartIsKept}
+use Rattle.redo_rule.specs.Handing.{nothing}
 use Rattle.model_core.specs.Hands.{HoldsNothing}
 use Rattle.redo_rule.specs.Mine.{heard_in, heard_of, Mine, number_in, number_of}
 use Rattle.redo_rule.specs.Plays.{Carries}
@@ -23,6 +24,7 @@ use Rattle.redo_rule.specs.Sharing.{heard_by}
 use Rattle.redo_rule.specs.declared.law.About.{About}
 use Rattle.redo_rule.specs.declared.law.Keeping.{Keeping}
 use Rattle.redo_rule.specs.declared.law.Errand.{Errand}
+use Rattle.redo_rule.specs.declared.law.Heard.{Heard}
 use Rattle.redo_rule.specs.declared.law.Numbered.{Numbered}
 use Rattle.redo_rule.specs.declared.law.Slot.{Slot}
 use Rattle.redo_rule.specs.declared.law.View.{View}
@@ -68,7 +70,7 @@ none_beyond [] i a le e = maybe.some-ne-none a (sym e)
 none_beyond (x ∷ xs) zero a le e = absurd (omega arith)
 none_beyond (x ∷ xs) (suc i) a le e = none_beyond xs i a (omega arith) e
 
-module _ {L D : Type 0} (table : TableId) (heard : ℕ → List Given) (actors : List model.Actor) (first : Seat (Slot L
+module _ {L D : Type 0} (table : TableId) (heard : ℕ → Heard) (actors : List model.Actor) (first : Seat (Slot L
     D) (View L D)) (seats : List (Seat (Slot L D) (View L D))) (A : AreHandedOut table heard actors first seats) where
   module _ (less : length seats < length actors) where
     abbrev next_actor : model.Actor
@@ -174,7 +176,7 @@ module _ {L D : Type 0} (table : TableId) (heard : ℕ → List Given) (actors :
     its_number : number_of seat.me.0 ≡ length before
     its_number = (A.each (length before) seat last_actor seat_at last_at).1
 
-    its_heard : ◌≡◌ {A = List Given} (heard_of seat.me.0) (heard (length before))
+    its_heard : ◌≡◌ {A = Heard} (heard_of seat.me.0) (heard (length before))
     its_heard = (A.each (length before) seat last_actor seat_at last_at).2
 
     free : HoldsNothing last_actor
@@ -199,7 +201,7 @@ module _ {L D : Type 0} (table : TableId) (heard : ℕ → List Given) (actors :
         (sym (ap number_in own_seat.mine.one) ∙ its_number)
         ∙ ap (λ (a : model.Actor). record { number = length before; actor = a; heard = who.heard; errand = None })
         own_seat.mine.state
-        ∙ ap (λ (l : List Given). record { number = length before; actor = last_actor; heard = l; errand = None })
+        ∙ ap (λ (l : Heard). record { number = length before; actor = last_actor; heard = l; errand = None })
         (sym (ap heard_in own_seat.mine.one) ∙ its_heard)
 
     same_count : (p q : ℕ) → word_count p ≡ word_count q → p ≡ q
@@ -266,9 +268,9 @@ module _ {L D : Type 0} (table : TableId) (heard : ℕ → List Given) (actors :
       ]
 
   -- where nothing was handed on, each seat has heard nothing
-  pub none_heard_yet : ((n : ℕ) → ◌≡◌ {A = List Given} (heard n) [])
+  pub none_heard_yet : ((n : ℕ) → ◌≡◌ {A = Heard} (heard n) nothing)
       → (i : ℕ) (seat : Seat (Slot L D) (View L D)) → get_elem? seats i ≡ maybe.some seat
-      → ◌≡◌ {A = List Given} (heard_of seat.me.0) []
+      → ◌≡◌ {A = Heard} (heard_of seat.me.0) nothing
   none_heard_yet none i seat at =
       let few = A.few in
       let a = there actors i (let l = below seats i seat at in omega arith) in
@@ -281,13 +283,13 @@ module _ {L D : Type 0} (table : TableId) (heard : ℕ → List Given) (actors :
 
 -- what the seat of an actor's number has heard
 pub heard_at : {L D : Type 0} (seats : List (Seat (Slot L D) (View L D))) (i : ℕ) (seat : Seat (Slot L D) (View L D))
-    → get_elem? seats i ≡ maybe.some seat → ◌≡◌ {A = List Given} (heard_of seat.me.0) (heard_by seats i)
+    → get_elem? seats i ≡ maybe.some seat → ◌≡◌ {A = Heard} (heard_of seat.me.0) (heard_by seats i)
 heard_at [] i seat e = absurd (maybe.some-ne-none seat (sym e))
 heard_at (x ∷ xs) zero seat e = ap (λ (z : Seat _ _). heard_of z.me.0) (sym (maybe.some-injective x seat e))
 heard_at (x ∷ xs) (suc i) seat e = heard_at xs i seat e
 
 -- no actor has its seat yet, and each has
-module _ {L D : Type 0} (table : TableId) (heard : ℕ → List Given) (actors : List model.Actor) (first : Seat (Slot L
+module _ {L D : Type 0} (table : TableId) (heard : ℕ → Heard) (actors : List model.Actor) (first : Seat (Slot L
     D) (View L D)) (seats : List (Seat (Slot L D) (View L D))) where
   pub all_in_first : IsFirst table first → first.me.0.seats ≡ numbered heard 0 actors → seats ≡ [] → AreHandedOut
       table heard actors first seats

@@ -1,12 +1,12 @@
 -- A turn of one actor keeps the rule, whatever it does to the slots.
-use Rattle.std.proofs.Common.{Bool, List, None, Option, Some, [], ap, arith, false, length, length-set, refl, set, subst, suc, sym, true, zero, ℕ, ⊎_elim, inl, inr, ◌++◌, ◌+◌, ◌<◌, ◌∙◌, ◌∷◌, ◌≡◌, ◌≢◌, ◌⊎◌, is_some}
+use Rattle.std.proofs.Common.{Bool, List, None, Option, Some, [], ap, arith, false, length, length-set, refl, set, subst, suc, sym, true, zero, ℕ, ⊎_elim, inl, inr, ◌+◌, ◌<◌, ◌∙◌, ◌∷◌, ◌≡◌, ◌≢◌, ◌⊎◌, is_some}
 use Rattle.std.specs.Prelude.{slice_index, slice_set}
 use lib.ListN.{get_elem?}
 use mathlib.Core.Option as maybe
 use native.Mathlib.Decide.{ℕ_discrete}
 use Rattle.atomic_table.specs.Table.{State}
 use Rattle.model_core.proofs.Lists.{at_set, set_at, set_else}
-use Rattle.model_core.specs.{answer_of, filled, Filling, Fills, Given, lent, lsn, next, OpWords, SharedWords, step_of, took}
+use Rattle.model_core.specs.{answer_of, filled, Filling, Fills, lent, lsn, next, OpWords, SharedWords, step_of, took}
 use Rattle.model_core.specs.{UserState}
 use Rattle.model_core.specs.Actors as model
 use Rattle.model_core.specs.AnswerFits.{AnswerFits}
@@ -46,14 +46,17 @@ use Rattle.model_core.proofs.FailedCalls.{gives_hand, has_stored, stores}
 use Rattle.model_core.proofs.Hands.{stays_free}
 use Rattle.redo_rule.proofs.Filled.{free_filled, stored_before}
 use Rattle.redo_rule.proofs.Hearing.{hears_then, heard_else, heard_here, heard_then}
+use Rattle.redo_rule.proofs.Loading.{loaded_then}
 use Rattle.model_core.specs.Hands.{GivesFailed, hand, IsFreeToCheck}
 use Rattle.redo_rule.proofs.OwnStays.{work_stays, worker_holds}
+use Rattle.redo_rule.specs.Handing.{appended_by, HaveHandedOn, HaveLoaded, with_more}
 use Rattle.redo_rule.specs.OwnSide.{Beside, desk_with, HasItsWork, OwnSide, SitsAs}
 use Rattle.redo_rule.specs.Plays.{behind, MayGo, Shown, Stepped, view_behind}
-use Rattle.redo_rule.specs.Ruled.{HaveGroups, IsSlotHeld, Knows, Ruled, slot_content}
+use Rattle.redo_rule.specs.Ruled.{IsSlotHeld, Knows, Ruled, slot_content}
 use Rattle.redo_rule.specs.declared.law.About.{About}
 use Rattle.redo_rule.specs.declared.law.Desk.{Desk}
 use Rattle.redo_rule.specs.declared.law.Errand.{Errand}
+use Rattle.redo_rule.specs.declared.law.Heard.{Heard}
 use Rattle.redo_rule.specs.declared.law.Keeping.{Keeping}
 use Rattle.redo_rule.specs.declared.law.Numbered.{Numbered}
 use Rattle.redo_rule.specs.declared.law.Slot.{Slot}
@@ -222,26 +225,28 @@ module _ {L D : Type 0} (log_seen : L → Seen) (log_gives : L → Call → L �
 
   -- WHAT A TURN LEAVES OF THE RUN, by which the seat's actor comes to this state: all but where the slots are.
   pub record Leaves (then : Numbered) (new : Parts L D) (beside : Beside) (after : List model.Actor)
-      (heard : ℕ → List Given) : Type 0 where
+      (heard : ℕ → Heard) : Type 0 where
     pub same : HasSamePages R.parts new
     pub runs : RunsWith log_seen data_seen R.run about.archive new after
     pub own_is : is_some beside.own ≡ is_some R.beside.own
     pub own : HasItsWork (run_log_side log_seen data_seen R.run) new.log beside.own after
-    pub hears : HaveGroups (run_log_side log_seen data_seen R.run) new.log heard after runs.running.log_ghost.log
+    pub hears : HaveHandedOn (run_log_side log_seen data_seen R.run) R.run.setup.base new.log heard after
+        runs.running.log_ghost.log
+    pub loaded : HaveLoaded new.words.words after
     pub count : length after ≡ length R.actors
     pub told : (n : ℕ) (c : model.Actor) (code : ℕ) → get_elem? after n ≡ maybe.some c → GivesFailed c code
         → (run_log_side log_seen data_seen R.run).Cause new.log code
     pub number : then.number ≡ x.number
     pub here : get_elem? after x.number ≡ maybe.some then.actor
-    pub its_heard : ◌≡◌ {A = List Given} (heard x.number) then.heard
+    pub its_heard : ◌≡◌ {A = Heard} (heard x.number) then.heard
     pub free : IsFreeToCheck then.actor
     pub sits : SitsAs beside.own then.errand x.number
     -- whoever else has a seat is as it was
     pub others : (n : ℕ) (e : Option Errand) → n ≢ x.number → SitsAs R.beside.own e n
-        → (get_elem? after n ≡ get_elem? R.actors n) × (◌≡◌ {A = List Given} (heard n) (R.heard n))
+        → (get_elem? after n ≡ get_elem? R.actors n) × (◌≡◌ {A = Heard} (heard n) (R.heard n))
         × SitsAs beside.own e n
 
-  module _ (then : Numbered) (new : Parts L D) (beside : Beside) (after : List model.Actor) (heard : ℕ → List Given)
+  module _ (then : Numbered) (new : Parts L D) (beside : Beside) (after : List model.Actor) (heard : ℕ → Heard)
       (left : Leaves then new beside after heard) (w : View L D) (out : Bool) (about_w : w.about ≡ v.about)
       (pages_w : w.pages ≡ v.pages) (seats_w : w.seats ≡ then ∷ [])
       (own : (k : ℕ) → hand then.actor ≡ Some k → w.held ≡ Some (slot_content new beside k))
@@ -250,11 +255,11 @@ module _ {L D : Type 0} (log_seen : L → Seen) (log_gives : L → Call → L �
       (data_w : (d : Keeping D) → w.data_part ≡ Some d
       → (R.keeper ≡ id) × ◌≡◌ {A = store.Part D} d.part new.store × (out ≡ d.out)) where
     sits_at : (y : Numbered) → ◌≡◌ {A = Numbered} then y → (R.seat_of y.number ≡ id)
-        × (get_elem? after y.number ≡ maybe.some y.actor) × ◌≡◌ {A = List Given} (heard y.number) y.heard
+        × (get_elem? after y.number ≡ maybe.some y.actor) × ◌≡◌ {A = Heard} (heard y.number) y.heard
     sits_at y is = subst (λ (z : Numbered). (R.seat_of z.number ≡ id)
-        × (get_elem? after z.number ≡ maybe.some z.actor) × ◌≡◌ {A = List Given} (heard z.number) z.heard) is
+        × (get_elem? after z.number ≡ maybe.some z.actor) × ◌≡◌ {A = Heard} (heard z.number) z.heard) is
         (subst (λ (n : ℕ). (R.seat_of n ≡ id) × (get_elem? after n ≡ maybe.some then.actor)
-        × ◌≡◌ {A = List Given} (heard n) then.heard) (sym left.number) (seated, left.here, left.its_heard))
+        × ◌≡◌ {A = Heard} (heard n) then.heard) (sym left.number) (seated, left.here, left.its_heard))
 
     knows_then : Knows about new beside after heard R.seat_of R.keeper out id w
     knows_then = record {
@@ -324,6 +329,7 @@ module _ {L D : Type 0} (log_seen : L → Seen) (log_gives : L → Call → L �
         own = left.own;
         runs = left.runs;
         hears = left.hears;
+        loaded = left.loaded;
         count = left.count ∙ R.count;
         log_calls = log_calls;
         data_calls = data_calls;
@@ -356,8 +362,8 @@ module _ {L D : Type 0} (log_seen : L → Seen) (log_gives : L → Call → L �
     abbrev after : List model.Actor
     after = set R.actors x.number b
 
-    abbrev heard : ℕ → List Given
-    heard = heard_then R.heard x.number (handed_by (filled a f))
+    abbrev heard : ℕ → Heard
+    heard = heard_then R.heard x.number (handed_by (filled a f)) (appended_by a)
 
     abbrev pub turn : Turn (run_log_side log_seen data_seen R.run) (run_data_side log_seen data_seen R.run) (core_of
         log_seen data_seen R.run R.parts R.actors) x.number r (step_of (filled a f) r) (core_of log_seen data_seen
@@ -395,7 +401,7 @@ module _ {L D : Type 0} (log_seen : L → Seen) (log_gives : L → Call → L �
       after = after;
       runs_on = runs_behind;
       at = here;
-      hears = λ told. sym (known.mine 0 x first).2 ∙ R.hears told x.number a here;
+      hears = λ told. sym (ap (λ (h : Heard). h.groups) (known.mine 0 x first).2) ∙ (R.hears told x.number a here).groups;
       has_cause = λ code gives. R.told x.number a code here gives;
       ends = step_of (filled a f) r;
       turn = turn;
@@ -422,7 +428,7 @@ module _ {L D : Type 0} (log_seen : L → Seen) (log_gives : L → Call → L �
         → (d : model.Actor) × (get_elem? R.actors n ≡ maybe.some d)
     was n c e = ⊎_elim (λ t. (a, ap (get_elem? R.actors) t.0 ∙ here)) (λ t. (c, t.1)) (at_set R.actors x.number n b c e)
 
-    hears_behind : HaveGroups (run_log_side log_seen data_seen R.run) new.log heard after
+    hears_behind : HaveHandedOn (run_log_side log_seen data_seen R.run) R.run.setup.base new.log heard after
         runs_behind.running.log_ghost.log
     hears_behind = hears_then log_seen data_seen R.run R.parts new R.actors after x.number r (step_of (filled a f) r)
         (laws_of_log log_seen data_seen R.run) (laws_of_data log_seen data_seen R.run) same R.runs turn R.heard was
@@ -493,17 +499,19 @@ module _ {L D : Type 0} (log_seen : L → Seen) (log_gives : L → Call → L �
           own_is = ap (λ (z : Option OwnSide). is_some z) same_own;
           own = own_behind;
           hears = hears_behind;
+          loaded = loaded_then log_seen data_seen R.run R.parts new R.actors after x.number r (step_of (filled a f) r) R.runs
+              turn R.loaded;
           count = length-set R.actors x.number b;
           told = told_behind;
           number = refl;
           here = here_behind;
-          its_heard = heard_here R.heard x.number (handed_by (filled a f))
-              ∙ ap (λ (l : List Given). l ++ handed_by (filled a f)) (known.mine 0 x first).2;
+          its_heard = heard_here R.heard x.number (handed_by (filled a f)) (appended_by a)
+              ∙ ap (λ (h : Heard). with_more h (handed_by (filled a f)) (appended_by a)) (known.mine 0 x first).2;
           free = stays_free (filled a f) r;
           sits = subst (λ (z : Option OwnSide). SitsAs z x.errand x.number) (sym same_own) (known.errand 0 x first);
           others = λ n e far sits. (
             set_else R.actors x.number n b far,
-            heard_else R.heard x.number (handed_by (filled a f)) n far,
+            heard_else R.heard x.number (handed_by (filled a f)) (appended_by a) n far,
             subst (λ (z : Option OwnSide). SitsAs z e n) (sym same_own) sits,
           );
         }

@@ -20,6 +20,7 @@ pub mod Hearing
 pub mod Holders
 pub mod Kept
 pub mod Laid
+pub mod Loading
 pub mod Opens
 pub mod OwnStays
 pub mod Reached

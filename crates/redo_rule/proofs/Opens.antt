@@ -8,7 +8,7 @@ use Rattle.model_base.specs.declared.shape.Shape.{Shape}
 use Rattle.model_core.proofs.Lsns.{lsn_block}
 use Rattle.model_core.specs.Actors as model
 use Rattle.model_core.specs.Setup.{Setup}
-use Rattle.model_core.specs.{archives, Entry, flat, Given, ReaderState, Tiles}
+use Rattle.model_core.specs.{archives, Entry, flat, Given, index, ReaderState, Tiles}
 use Rattle.model_core.specs.declared.words.Word.TheVariants as word
 use Rattle.model_logcore.proofs.StartEmpty.{start_empty}
 use Rattle.model_logcore.specs.{StartActor}
@@ -34,10 +34,12 @@ use Rattle.model_core.specs.Hands.{HoldsNothing}
 use Rattle.redo_follow.specs.Handing.{Following}
 use Rattle.redo_rule.proofs.Seated.{not_working}
 use Rattle.redo_drive.specs.Playing.{run_log_side}
+use Rattle.redo_rule.specs.Handing.{nothing}
 use Rattle.redo_rule.specs.OwnSide.{Beside, desk_with, HasItsWork, HasNoWork, OwnSide, SitsAs}
 use Rattle.redo_rule.specs.Ruled.{first_view, Knows, none_heard, numbered, own_numbered, Ruled, slot_content, starts_about}
 use Rattle.redo_rule.specs.declared.law.About.{About}
 use Rattle.redo_rule.specs.declared.law.Errand.{Errand}
+use Rattle.redo_rule.specs.declared.law.Heard.{Heard}
 use Rattle.redo_rule.specs.declared.law.Keeping.{Keeping}
 use Rattle.redo_rule.specs.declared.law.Numbered.{Numbered}
 use Rattle.redo_rule.specs.declared.law.Slot.{Slot}
@@ -54,9 +56,9 @@ abbrev pub is_out : {D : Type 0} → Option (Keeping D) → Bool
 is_out None = false
 is_out (Some k) = k.out
 
-pub numbered_at : (heard : ℕ → List Given) (k : ℕ) (l : List model.Actor) (i : ℕ) (x : Numbered)
+pub numbered_at : (heard : ℕ → Heard) (k : ℕ) (l : List model.Actor) (i : ℕ) (x : Numbered)
     → get_elem? (numbered heard k l) i ≡ maybe.some x
-    → (k + i ≡ x.number) × (get_elem? l i ≡ maybe.some x.actor) × (◌≡◌ {A = List Given} (heard x.number) x.heard)
+    → (k + i ≡ x.number) × (get_elem? l i ≡ maybe.some x.actor) × (◌≡◌ {A = Heard} (heard x.number) x.heard)
     × ◌≡◌ {A = Option Errand} x.errand None
 numbered_at heard k [] i x e = absurd (maybe.some-ne-none x (sym e))
 numbered_at heard k (y ∷ ys) zero x e =
@@ -99,10 +101,16 @@ none_at_start c seat_of writer n sn log (model.Reader r) tiles is =
     pick false l e = e
 none_at_start c seat_of writer n sn log _ tiles is = refl
 
+-- and has loaded no mark
+none_loaded : (c : Setup) (seat_of : ℕ → ℕ) (writer n flushed : ℕ) (r : ReaderState)
+    → StartActor c seat_of writer n (model.Reader r) → r.mark ≤ flushed
+none_loaded c seat_of writer n flushed r is =
+    let mark : r.mark ≡ 0 = ap (λ (x : ReaderState). x.mark) is.3 in omega arith
+
 -- WHO SITS IN THE FIRST SEAT as a run begins: an actor of that number, which has handed on nothing, and on no errand
 pub record Stands (own : Option OwnSide) (actors : List model.Actor) (x : Numbered) : Type 0 where
   pub here : get_elem? actors x.number ≡ maybe.some x.actor
-  pub silent : ◌≡◌ {A = List Given} [] x.heard
+  pub silent : ◌≡◌ {A = Heard} nothing x.heard
   pub sits : SitsAs own x.errand x.number
   pub idle : HasNoWork x.errand
 
@@ -205,9 +213,14 @@ module _ {L D R : Type 0} (log_seen : L → Seen) (log_gives : L → Call → L 
     own_is = own_is;
     own = worked;
     runs = B.from.runs;
-    hears = λ told n a at. sym (none_at_start B.run.setup B.at_start.seat_of B.at_start.writer n
-        B.from.runs.running.shared.sn B.from.runs.running.log_ghost.log a
-        B.from.runs.running.both.logged.global.tiled.tiles (B.at_start.starts.each n a at));
+    hears = λ told n a at. record {
+      groups = sym (none_at_start B.run.setup B.at_start.seat_of B.at_start.writer n
+          B.from.runs.running.shared.sn B.from.runs.running.log_ghost.log a
+          B.from.runs.running.both.logged.global.tiled.tiles (B.at_start.starts.each n a at));
+      blocks = tt;
+    };
+    loaded = λ n r at. none_loaded B.run.setup B.at_start.seat_of B.at_start.writer n
+        (slice_index start.parts.words.words (index word.Flushed)) r (B.at_start.starts.each n (model.Reader r) at);
     count = ap length (are log_seen data_seen stands about followers many start B);
     log_calls = subst (λ (z : log.Part L). CallsOn log_gives about.opened.value.log.dev about.opened.value.log.failed z.dev z.failed) (sym B.log) (not_called log_gives about.opened.value.log.dev about.opened.value.log.failed);
     data_calls = subst (λ (z : store.Part D). CallsOn data_gives about.opened.value.store.dev about.opened.value.store.failed z.dev z.failed) (sym B.data_part) (not_called data_gives about.opened.value.store.dev about.opened.value.store.failed);

@@ -20,10 +20,12 @@ use Rattle.redo_drive.specs.declared.actor.Actor.TheVariants as own
 use Rattle.redo_follow.specs.Handing.{Following}
 use Rattle.redo_follow.specs.Lending.{with_block}
 use Rattle.redo_rule.proofs.Filled.{IsPlainOp, plain_filled, read_filled}
+use Rattle.redo_rule.specs.Handing.{appended_by}
 use Rattle.redo_rule.specs.Mine.{HasPlayed, heard_in, heard_of, IsSameSeat, KeepsSeat, Mine, number_in, number_of}
 use Rattle.redo_rule.specs.Readers.{HasBlock}
 use Rattle.redo_rule.specs.Plays.{behind, block_filling, Carries, MayGo, Shown, Stepped, view_behind}
 use Rattle.redo_rule.specs.declared.law.Errand.{Errand}
+use Rattle.redo_rule.specs.declared.law.Heard.{Heard}
 use Rattle.redo_rule.specs.declared.law.Keeping.{Keeping}
 use Rattle.redo_rule.specs.declared.law.Numbered.{Numbered}
 use Rattle.redo_rule.specs.declared.law.Slot.{Slot}
@@ -136,6 +138,7 @@ pub record Steps {L D R : Type 0} (table : TableId) (log_seen : L → Seen) (dat
   pub mine : Mine table last (view_of new)
   pub played : HasPlayed log_seen data_seen v (view_of old) step (view_of new)
   pub stays : KeepsSeat stands v old last.me.0 new
+  pub blocks : (heard_of last.me.0).blocks ≡ (heard_of v).blocks ++ appended_by (view_of old)
 
 module _ {L D R : Type 0} (table : TableId) (log_seen : L → Seen) (data_seen : D → Seen)
     (stands : R → List Given → Type 0) (v : View L D) (x : Numbered) (old new : Actor R) (step : Step) (f : Filling)
@@ -177,6 +180,12 @@ module _ {L D R : Type 0} (table : TableId) (log_seen : L → Seen) (data_seen :
         ends = t.ends ∙ ap (λ (g : Filling). step_of (filled (view_of old) g) r) (sym p.1);
       }
 
+  -- an append is known by its block
+  pub blocks_then : (heard_of last.me.0).blocks ≡ (heard_of v).blocks ++ appended_by (view_of old)
+  blocks_then = ap (λ (w : View L D). (heard_of w).blocks) view
+      ∙ ap (λ (z : model.Actor). x.heard.blocks ++ appended_by z) state
+      ∙ ap (λ (h : Heard). h.blocks ++ appended_by (view_of old)) (sym (ap heard_in one))
+
   same_seat : IsSameSeat stands v old last.me.0 new
   same_seat =
       let more : List Given = handed_by (filled (view_of old) f) in record {
@@ -184,9 +193,11 @@ module _ {L D R : Type 0} (table : TableId) (log_seen : L → Seen) (data_seen :
         number = ap (λ (w : View L D). number_of w) view ∙ sym (ap number_in one);
         same = t.same;
         since = more;
-        heard = ap (λ (w : View L D). heard_of w) view
-            ∙ ap (λ (z : model.Actor). x.heard ++ handed_by (filled z f)) state
-            ∙ ap (λ (l : List Given). l ++ more) (sym (ap heard_in one));
+        heard = ap (λ (w : View L D). (heard_of w).groups) view
+            ∙ ap (λ (z : model.Actor). x.heard.groups ++ handed_by (filled z f)) state
+            ∙ ap (λ (h : Heard). h.groups ++ more) (sym (ap heard_in one));
+        appended = appended_by (view_of old);
+        blocks = blocks_then;
         got = t.got;
       }
 
@@ -198,4 +209,5 @@ module _ {L D R : Type 0} (table : TableId) (log_seen : L → Seen) (data_seen :
     mine = its;
     played = has_played;
     stays = record { seat = same_seat; data_part = ap (λ (w : View L D). w.data_part) view ∙ e };
+    blocks = blocks_then;
   }

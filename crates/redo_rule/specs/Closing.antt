@@ -5,7 +5,7 @@ use mathlib.Core.Option.{some}
 use Rattle.atomic_table.specs.Seated.{TableId}
 use Rattle.atomic_table.specs.Table.{Final, Seen as SeenBy, State}
 use Rattle.atomic_table.specs.declared.shared.Seat.{Seat}
-use Rattle.model_core.specs.{Given, HasLost, index}
+use Rattle.model_core.specs.{archives, index, ReaderState}
 use Rattle.model_core.specs.Actors as model
 use Rattle.model_core.specs.declared.words.Word.TheVariants as word
 use Rattle.model_running.specs.{HaveEnded, marks_in}
@@ -25,22 +25,25 @@ use Rattle.redo_drive.specs.declared.closed.Closed.{Closed}
 use Rattle.redo_store.specs.declared.opened.Opened.{Opened}
 use Rattle.redo_rule.specs.Cutting.{HoldNothing, IsFirst}
 use Rattle.redo_rule.specs.Ending.{RunReaches}
+use Rattle.redo_rule.specs.Handing.{HaveHandedOn, HaveLoaded}
 use Rattle.redo_rule.specs.OwnSide.{work_of}
-use Rattle.redo_rule.specs.Ruled.{HaveGroups, IsRunAbout, numbered, Ruled, starts_about}
+use Rattle.redo_rule.specs.Ruled.{IsRunAbout, numbered, Ruled, starts_about}
 use Rattle.redo_rule.specs.Seating.{HasPart, IsCleaner}
 use Rattle.redo_rule.specs.declared.closing.Left.{Left}
 use Rattle.redo_rule.specs.declared.law.About.{About}
+use Rattle.redo_rule.specs.declared.law.Heard.{Heard}
 use Rattle.redo_rule.specs.declared.law.Slot.{Slot}
 use Rattle.redo_rule.specs.declared.law.View.{View}
 
--- what an append to the archive has met: an archiver that has lost its archive did so by that; without an archive nothing
+-- what an append to the archive has met: the archiver has lost its archive by that, or hasn't; without an archive nothing
 abbrev pub TellsLoss : (archive : Bool) → List model.Actor → Option DevError → Type 0
-TellsLoss archive actors lost =
-    cond archive ((code : ℕ) → HasLost actors code → code ≡ append_code lost) (lost ≡ None)
+TellsLoss archive actors lost = cond archive
+    ((seat : ℕ) (r : ReaderState) → get_elem? actors seat ≡ some (model.Reader r) → archives r ≡ true → r.lost ≡ append_code lost)
+    (lost ≡ None)
 
 module _ {L D : Type 0} where
   -- the first seat knows all actors, of which none holds anything, and keeps the data part
-  pub record MayClose (about : About L D) (table : TableId) (heard : ℕ → List Given) (actors : List model.Actor) (first : Seat (Slot L D) (View L D)) : Type 0 where
+  pub record MayClose (about : About L D) (table : TableId) (heard : ℕ → Heard) (actors : List model.Actor) (first : Seat (Slot L D) (View L D)) : Type 0 where
     pub is_first : IsFirst table first
     pub all : first.me.0.seats ≡ numbered heard 0 actors
     pub count : length actors ≡ length (starts_about about)
@@ -54,12 +57,13 @@ module _ {L D : Type 0} where
 
 module _ {L D : Type 0} (log_seen : L → Seen) (log_gives : L → Call → L → Type 0) (data_seen : D → Seen) (data_gives : D → Call → D → Type 0) where
   -- The run of the script on the opened store came to these actors, who have handed on this, and this is what its parts tell.
-  pub record LeavesParts (about : About L D) (heard : ℕ → List Given) (actors : List model.Actor) (left : Left L D) : Type 0 where
+  pub record LeavesParts (about : About L D) (heard : ℕ → Heard) (actors : List model.Actor) (left : Left L D) : Type 0 where
     pub run : RunOf L D
     pub is_about : IsRunAbout log_seen data_seen about run
     pub last : Parts L D
     pub runs : RunsWith log_seen data_seen run about.archive last actors
-    pub hears : HaveGroups (run_log_side log_seen data_seen run) last.log heard actors runs.running.log_ghost.log
+    pub hears : HaveHandedOn (run_log_side log_seen data_seen run) run.setup.base last.log heard actors runs.running.log_ghost.log
+    pub loaded : HaveLoaded last.words.words actors
     pub log_calls : CallsOn log_gives about.opened.value.log.dev about.opened.value.log.failed last.log.dev last.log.failed
     pub data_calls : CallsOn data_gives about.opened.value.store.dev about.opened.value.store.failed last.store.dev last.store.failed
     pub log_shape : last.log.shape ≡ about.opened.value.log.shape
@@ -74,7 +78,7 @@ module _ {L D : Type 0} (log_seen : L → Seen) (log_gives : L → Call → L �
 
   abbrev pub EndsRun : About L D → Seat (Slot L D) (View L D) → Type 0
   EndsRun about first = (words : List ℕ) (slots : List (Slot L D)) → Final (SeenBy (Holds about) first.id first.me.0) words slots
-      → (heard : ℕ → List Given) × (actors : List model.Actor)
+      → (heard : ℕ → Heard) × (actors : List model.Actor)
       × RunReaches log_seen log_gives data_seen data_gives about heard actors words slots
 
   -- The table was closed with these words and slots; to whatever actors a run has come with these, its parts tell this.
@@ -82,10 +86,10 @@ module _ {L D : Type 0} (log_seen : L → Seen) (log_gives : L → Call → L �
     pub words : List ℕ
     pub slots : List (Slot L D)
     pub final : Final (SeenBy (Holds about) first.id first.me.0) words slots
-    pub leaves : (heard : ℕ → List Given) (actors : List model.Actor)
+    pub leaves : (heard : ℕ → Heard) (actors : List model.Actor)
         → RunReaches log_seen log_gives data_seen data_gives about heard actors words slots
         → LeavesParts about heard actors left
-    pub work : (heard : ℕ → List Given) (actors : List model.Actor)
+    pub work : (heard : ℕ → Heard) (actors : List model.Actor)
         → (E : RunReaches log_seen log_gives data_seen data_gives about heard actors words slots)
         → left.work ≡ work_of E.beside.own
 

@@ -2,7 +2,6 @@
 use Rattle.std.specs.Prelude.{List, suc, ℕ, ◌<◌, ◌≡◌}
 use lib.ListN.{get_elem?}
 use mathlib.Core.Option.{some}
-use Rattle.model_core.specs.{Given}
 use Rattle.model_core.specs.Actors as model
 use Rattle.redo_disk.specs.{Call}
 use Rattle.redo_disk.specs.Seen.{Seen}
@@ -11,21 +10,24 @@ use Rattle.redo_drive.specs.Lists.{listing_at}
 use Rattle.redo_drive.specs.Playing.{RunOf, run_log_side}
 use Rattle.redo_drive.specs.Running.{RunsWith}
 use Rattle.redo_drive.specs.declared.parts.Parts.{Parts}
+use Rattle.redo_rule.specs.Handing.{HaveHandedOn, HaveLoaded}
 use Rattle.redo_rule.specs.OwnSide.{Beside, desk_with}
-use Rattle.redo_rule.specs.Ruled.{HaveGroups, IsRunAbout}
+use Rattle.redo_rule.specs.Ruled.{IsRunAbout}
 use Rattle.redo_rule.specs.declared.law.About.{About}
+use Rattle.redo_rule.specs.declared.law.Heard.{Heard}
 use Rattle.redo_rule.specs.declared.law.Slot.{Slot}
 use Rattle.redo_rule.specs.declared.law.Slot.TheVariants as slot
 
 -- The run of the script on the opened store has come to these parts and actors, of which the words and the log part are what
 -- the table had: ALL THAT `Machine::finish` IS GIVEN.
 pub record RunReaches {L D : Type 0} (log_seen : L → Seen) (log_gives : L → Call → L → Type 0) (data_seen : D → Seen) (data_gives : D → Call → D → Type 0)
-    (about : About L D) (heard : ℕ → List Given) (actors : List model.Actor) (words : List ℕ) (slots : List (Slot L D)) : Type 0 where
+    (about : About L D) (heard : ℕ → Heard) (actors : List model.Actor) (words : List ℕ) (slots : List (Slot L D)) : Type 0 where
   pub run : RunOf L D
   pub is_about : IsRunAbout log_seen data_seen about run
   pub parts : Parts L D
   pub runs : RunsWith log_seen data_seen run about.archive parts actors
-  pub hears : HaveGroups (run_log_side log_seen data_seen run) parts.log heard actors runs.running.log_ghost.log
+  pub hears : HaveHandedOn (run_log_side log_seen data_seen run) run.setup.base parts.log heard actors runs.running.log_ghost.log
+  pub loaded : HaveLoaded parts.words.words actors
   pub words_are : parts.words.words ≡ words
   pub beside : Beside
   pub log : get_elem? slots 0 ≡ some (slot.Log (desk_with parts.log beside))

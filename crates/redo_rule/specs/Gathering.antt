@@ -4,12 +4,12 @@ use lib.ListN.{get_elem?}
 use mathlib.Core.Option.{some}
 use Rattle.atomic_table.specs.Seated.{TableId}
 use Rattle.atomic_table.specs.declared.shared.Seat.{Seat}
-use Rattle.model_core.specs.{Given}
 use Rattle.model_core.specs.Actors as model
 use Rattle.redo_rule.specs.Cutting.{IsFirst}
 use Rattle.redo_rule.specs.Mine.{heard_of, number_of}
 use Rattle.redo_rule.specs.Ruled.{numbered}
 use Rattle.redo_rule.specs.Seating.{HasPart, IsCleaner, IsSeatOf}
+use Rattle.redo_rule.specs.declared.law.Heard.{Heard}
 use Rattle.redo_rule.specs.declared.law.Slot.{Slot}
 use Rattle.redo_rule.specs.declared.law.View.{View}
 
@@ -19,7 +19,7 @@ HasOneCleaner actors = (i j : ℕ) (a b : model.Actor) → get_elem? actors i �
 module _ {L D : Type 0} where
   -- Of the actors, who have handed on this by their numbers, the first so many have these seats, and the first seat has the
   -- others.
-  pub record AreHandedOut (table : TableId) (heard : ℕ → List Given) (actors : List model.Actor) (first : Seat (Slot L D) (View L D)) (seats : List (Seat (Slot L D) (View L D))) : Type 0 where
+  pub record AreHandedOut (table : TableId) (heard : ℕ → Heard) (actors : List model.Actor) (first : Seat (Slot L D) (View L D)) (seats : List (Seat (Slot L D) (View L D))) : Type 0 where
     pub is_first : IsFirst table first
     pub few : length seats ≤ length actors
     pub others : first.me.0.seats ≡ numbered heard (length seats) (drop (length seats) actors)

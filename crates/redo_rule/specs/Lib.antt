@@ -4,6 +4,7 @@ pub mod Cutting
 pub mod Ending
 pub mod Failing
 pub mod Gathering
+pub mod Handing
 pub mod Mine
 pub mod OwnSide
 pub mod Plays

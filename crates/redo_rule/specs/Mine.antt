@@ -12,8 +12,11 @@ use Rattle.redo_disk.specs.Seen.{Seen}
 use Rattle.model_core.specs.Hands.{hand}
 use Rattle.redo_drive.specs.Receiving.{follower_of, HasGot, IsSameFollower}
 use Rattle.redo_drive.specs.declared.actor.Actor.{Actor}
+use Rattle.redo_rule.specs.Handing.{nothing}
 use Rattle.redo_rule.specs.Plays.{Carries, MayGo, Shown}
+use Rattle.redo_rule.specs.declared.law.Block.{Block}
 use Rattle.redo_rule.specs.declared.law.Errand.{Errand}
+use Rattle.redo_rule.specs.declared.law.Heard.{Heard}
 use Rattle.redo_rule.specs.declared.law.Numbered.{Numbered}
 use Rattle.redo_rule.specs.declared.law.Slot.{Slot}
 use Rattle.redo_rule.specs.declared.law.View.{View}
@@ -27,21 +30,23 @@ abbrev pub number_of : {L D : Type 0} → View L D → ℕ
 number_of v = number_in v.seats
 
 -- all that a seat's actor has handed on
-abbrev pub heard_in : List Numbered → List Given
-heard_in [] = []
+abbrev pub heard_in : List Numbered → Heard
+heard_in [] = nothing
 heard_in (x ∷ xs) = x.heard
 
-abbrev pub heard_of : {L D : Type 0} → View L D → List Given
+abbrev pub heard_of : {L D : Type 0} → View L D → Heard
 heard_of v = heard_in v.seats
 
--- THE SEAT OF AN ACTOR, LATER. It keeps its number and what it knows of its table; and what it has heard since, the
--- actor's receiver got.
+-- THE SEAT OF AN ACTOR, LATER. It keeps its number and what it knows of its table; the groups that it has heard since, the
+-- actor's receiver got; and it has appended no fewer blocks.
 pub record IsSameSeat {L D R : Type 0} (stands : R → List Given → Type 0) (v : View L D) (a : Actor R) (w : View L D) (b : Actor R) : Type 0 where
   pub about : w.about ≡ v.about
   pub number : number_of w ≡ number_of v
   pub same : IsSameFollower (follower_of a) (follower_of b)
   pub since : List Given
-  pub heard : heard_of w ≡ heard_of v ++ since
+  pub heard : (heard_of w).groups ≡ (heard_of v).groups ++ since
+  pub appended : List Block
+  pub blocks : (heard_of w).blocks ≡ (heard_of v).blocks ++ appended
   pub got : HasGot stands (follower_of a) since (follower_of b)
 
 -- and what it knows of the data part

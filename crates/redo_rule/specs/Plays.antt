@@ -3,7 +3,7 @@ use Rattle.std.specs.Prelude.{Bool, List, None, Option, Some, [], cond, false, l
 use lib.ListN.{get_elem?}
 use mathlib.Core.Option.{some}
 use Rattle.atomic_table.specs.Table.{Me, rest}
-use Rattle.model_core.specs.{archives, filled, Filling, Fills, Given, lent, next, oldest_end, OpWords, took, UserState}
+use Rattle.model_core.specs.{archives, filled, Filling, Fills, lent, next, oldest_end, OpWords, took, UserState}
 use Rattle.model_core.specs.Actors as model
 use Rattle.model_core.specs.AnswerFits.{AnswerFits}
 use Rattle.model_core.specs.Turn.{Turn}
@@ -27,9 +27,11 @@ use Rattle.redo_drive.specs.Receiving.{handed_by, MarkFits}
 use Rattle.redo_drive.specs.declared.device.Device.TheVariants.{Data, Log}
 use Rattle.redo_drive.specs.declared.parts.Parts.{Parts}
 use Rattle.model_core.specs.Hands.{GivesFailed, hand, IsFreeToCheck}
+use Rattle.redo_rule.specs.Handing.{appended_by, with_more}
 use Rattle.redo_rule.specs.Ruled.{IsRunAbout}
 use Rattle.redo_rule.specs.declared.law.About.{About}
 use Rattle.redo_rule.specs.declared.law.Desk.{Desk}
+use Rattle.redo_rule.specs.declared.law.Heard.{Heard}
 use Rattle.redo_rule.specs.declared.law.Keeping.{Keeping}
 use Rattle.redo_rule.specs.declared.law.Numbered.{Numbered}
 use Rattle.redo_rule.specs.declared.law.Slot.{Slot}
@@ -47,7 +49,7 @@ abbrev pub behind : Numbered → Filling → Answer → Numbered
 behind x f r = record {
   number = x.number;
   actor = took (filled x.actor f) r;
-  heard = x.heard ++ handed_by (filled x.actor f);
+  heard = with_more x.heard (handed_by (filled x.actor f)) (appended_by x.actor);
   errand = x.errand;
 }
 
@@ -137,7 +139,7 @@ module _ {L D : Type 0} (log_seen : L → Seen) (data_seen : D → Seen) where
   -- THERE WAS A MOMENT in the run that the table is about, as its seat was told, at which the invariant held, and one
   -- turn of the definition was this actor's, with this answer; its step ended so. What the actor had handed on by then
   -- was, where the log device told, the groups of the log up to its place: for a follower those that end at or below it.
-  pub record Shown (told : Option (About L D)) (number : ℕ) (heard : List Given) (a : model.Actor) (r : Answer) : Type 0 where
+  pub record Shown (told : Option (About L D)) (number : ℕ) (heard : Heard) (a : model.Actor) (r : Answer) : Type 0 where
     pub about : About L D
     pub about_is : told ≡ Some about
     pub run : RunOf L D
@@ -149,7 +151,7 @@ module _ {L D : Type 0} (log_seen : L → Seen) (data_seen : D → Seen) where
     pub after : List model.Actor
     pub runs_on : RunsWith log_seen data_seen run about.archive new after
     pub at : get_elem? actors number ≡ some a
-    pub hears : (run_log_side log_seen data_seen run).Tells old.log → heard ≡ groups_of a runs.running.log_ghost.log
+    pub hears : (run_log_side log_seen data_seen run).Tells old.log → heard.groups ≡ groups_of a runs.running.log_ghost.log
     -- where it gives the log part back after a failed call, its code is one that the part has
     pub has_cause : (code : ℕ) → GivesFailed a code → (run_log_side log_seen data_seen run).Cause old.log code
     pub ends : Step

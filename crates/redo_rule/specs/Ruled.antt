@@ -4,8 +4,6 @@ use Rattle.std.specs.Prelude.{Bool, IfSome, List, None, Some, [], cond, false, i
 use lib.ListN.{get_elem?}
 use mathlib.Core.Option.{some}
 use Rattle.atomic_table.specs.Table.{State}
-use Rattle.model_core.specs.{Entry, Given}
-use Rattle.model_core.specs.LogSide.{LogSide}
 use Rattle.model_own.specs.OwnWrites.{has_work}
 use Rattle.model_own.specs.declared.errand.ErrandStep.TheVariants as errand_step
 use Rattle.model_core.specs.Actors as model
@@ -18,13 +16,15 @@ use Rattle.redo_drive.specs.Startable.{HasReading}
 use Rattle.redo_drive.specs.Calls.{CallsOn}
 use Rattle.redo_drive.specs.Lists.{AreLists, listing_at}
 use Rattle.redo_drive.specs.Playing.{RunOf, run_log_side}
-use Rattle.redo_drive.specs.Running.{groups_of, RunsWith}
+use Rattle.redo_drive.specs.Running.{RunsWith}
 use Rattle.redo_drive.specs.Setups.{seated_actors}
 use Rattle.redo_drive.specs.declared.parts.Parts.{Parts}
 use Rattle.model_core.specs.Hands.{GivesFailed, hand, IsFreeToCheck}
+use Rattle.redo_rule.specs.Handing.{HaveHandedOn, HaveLoaded, nothing}
 use Rattle.redo_rule.specs.OwnSide.{Beside, desk_with, HasItsWork, SitsAs}
 use Rattle.redo_rule.specs.declared.law.About.{About}
 use Rattle.redo_rule.specs.declared.law.Errand.{Errand}
+use Rattle.redo_rule.specs.declared.law.Heard.{Heard}
 use Rattle.redo_rule.specs.declared.law.Keeping.{Keeping}
 use Rattle.redo_rule.specs.declared.law.Numbered.{Numbered}
 use Rattle.redo_rule.specs.declared.law.Slot.{Slot}
@@ -33,7 +33,7 @@ use Rattle.redo_rule.specs.declared.law.View.{View}
 
 -- the actors, each with its number and with what one of this number has handed on, and no user that writes for itself among
 -- them
-abbrev pub numbered : (ℕ → List Given) → ℕ → List model.Actor → List Numbered
+abbrev pub numbered : (ℕ → Heard) → ℕ → List model.Actor → List Numbered
 numbered heard k [] = []
 numbered heard k (x ∷ xs) =
     record { number = k; actor = x; heard = heard k; errand = None } ∷ numbered heard (k + 1) xs
@@ -44,25 +44,20 @@ own_numbered k [] = []
 own_numbered k (model.User u ∷ xs) = record {
   number = k;
   actor = model.User u;
-  heard = [];
+  heard = nothing;
   errand = Some (record { step = errand_step.Done; helped = false });
 } ∷ own_numbered (k + 1) xs
 own_numbered k (model.Writer s ∷ xs) = own_numbered (k + 1) xs
 own_numbered k (model.Flusher t ∷ xs) = own_numbered (k + 1) xs
-own_numbered k (x ∷ xs) = record { number = k; actor = x; heard = []; errand = None } ∷ own_numbered (k + 1) xs
+own_numbered k (x ∷ xs) = record { number = k; actor = x; heard = nothing; errand = None } ∷ own_numbered (k + 1) xs
 
 -- none has handed on anything
-abbrev pub none_heard : ℕ → List Given
-none_heard number = []
+abbrev pub none_heard : ℕ → Heard
+none_heard number = nothing
 
 -- one of the actors holds the slot
 abbrev pub IsSlotHeld : List model.Actor → ℕ → Type 0
 IsSlotHeld actors k = (n : ℕ) × (a : model.Actor) × (get_elem? actors n ≡ some a) × (hand a ≡ Some k)
-
--- where the log device tells, each actor has handed on the groups of the log up to its place; the archiver hands on none
-abbrev pub HaveGroups : (D : LogSide) → D.Part → (heard : ℕ → List Given) → List model.Actor → List Entry → Type 0
-HaveGroups D part heard actors log =
-    D.Tells part → (n : ℕ) (a : model.Actor) → get_elem? actors n ≡ some a → heard n ≡ groups_of a log
 
 module _ {L D : Type 0} where
   -- what belongs in a slot that has a turn word: the log part, with what lies beside it, or a flush list
@@ -93,7 +88,7 @@ module _ {L D : Type 0} where
   -- What a seat knows of its table, and of a run with these parts and actors, each of which has handed on what `heard` has
   -- of its number. `seat_of` gives the seat of an actor, `keeper` that of the data part, and `out` tells whether that is out
   -- of its slot.
-  pub record Knows (about : About L D) (parts : Parts L D) (beside : Beside) (actors : List model.Actor) (heard : ℕ → List Given)
+  pub record Knows (about : About L D) (parts : Parts L D) (beside : Beside) (actors : List model.Actor) (heard : ℕ → Heard)
       (seat_of : ℕ → ℕ) (keeper : ℕ) (out : Bool) (id : ℕ) (v : View L D) : Type 0 where
     pub told : (i : ℕ) (x : Numbered) → get_elem? v.seats i ≡ some x → v.about ≡ Some about
     pub pages : (i : ℕ) (x : Numbered) → get_elem? v.seats i ≡ some x → v.pages ≡ parts.words.pages
@@ -124,14 +119,15 @@ pub record Ruled {L D : Type 0} (log_seen : L → Seen) (log_gives : L → Call 
   pub beside : Beside
   pub actors : List model.Actor
   -- all that each has handed on
-  pub heard : ℕ → List Given
+  pub heard : ℕ → Heard
   pub words_are : parts.words.words ≡ s.words
   pub lists_are : AreLists parts.lists
   -- where users write for themselves, the writer and the flusher among the actors are the log's work
   pub own_is : about.own_writes ≡ is_some beside.own
   pub own : HasItsWork (run_log_side log_seen data_seen run) parts.log beside.own actors
   pub runs : RunsWith log_seen data_seen run about.archive parts actors
-  pub hears : HaveGroups (run_log_side log_seen data_seen run) parts.log heard actors runs.running.log_ghost.log
+  pub hears : HaveHandedOn (run_log_side log_seen data_seen run) run.setup.base parts.log heard actors runs.running.log_ghost.log
+  pub loaded : HaveLoaded parts.words.words actors
   pub count : length actors ≡ length (starts_about about)
   pub log_calls : CallsOn log_gives about.opened.value.log.dev about.opened.value.log.failed parts.log.dev parts.log.failed
   pub data_calls : CallsOn data_gives about.opened.value.store.dev about.opened.value.store.failed parts.store.dev parts.store.failed

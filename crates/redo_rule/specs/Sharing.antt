@@ -14,11 +14,13 @@ use Rattle.redo_drive.specs.declared.actor.Actor.{Actor}
 use Rattle.redo_store.specs.declared.opened.Opened.{Opened}
 use Rattle.redo_rule.specs.Cutting.{IsFirst}
 use Rattle.redo_rule.specs.Gathering.{HasOneCleaner}
+use Rattle.redo_rule.specs.Handing.{nothing}
 use Rattle.redo_rule.specs.Mine.{heard_of, number_of}
 use Rattle.redo_rule.specs.Ruled.{none_heard, numbered, starts_about}
 use Rattle.redo_rule.specs.Seating.{HasPart, IsCleaner, IsSeatOf}
 use Rattle.redo_rule.specs.declared.law.About.{About}
 use Rattle.redo_rule.specs.declared.law.Desk.{Desk}
+use Rattle.redo_rule.specs.declared.law.Heard.{Heard}
 use Rattle.redo_rule.specs.declared.law.Slot.{Slot}
 use Rattle.redo_rule.specs.declared.law.Slot.TheVariants as slot
 use Rattle.redo_rule.specs.declared.law.View.{View}
@@ -55,11 +57,11 @@ module _ {L D : Type 0} where
   -- each of these seats knows this of its table, and its actor has handed on nothing yet
   pub record AreFresh (told : Option (About L D)) (seats : List (Seat (Slot L D) (View L D))) : Type 0 where
     pub knows : (i : ℕ) (seat : Seat (Slot L D) (View L D)) → get_elem? seats i ≡ some seat → seat.me.0.about ≡ told
-    pub none : (i : ℕ) (seat : Seat (Slot L D) (View L D)) → get_elem? seats i ≡ some seat → heard_of seat.me.0 ≡ []
+    pub none : (i : ℕ) (seat : Seat (Slot L D) (View L D)) → get_elem? seats i ≡ some seat → heard_of seat.me.0 ≡ nothing
 
   -- all that has been handed on by the actor of each number, as these seats know it
-  abbrev pub heard_by : List (Seat (Slot L D) (View L D)) → ℕ → List Given
-  heard_by [] number = []
+  abbrev pub heard_by : List (Seat (Slot L D) (View L D)) → ℕ → Heard
+  heard_by [] number = nothing
   heard_by (seat ∷ seats) zero = heard_of seat.me.0
   heard_by (seat ∷ seats) (suc n) = heard_by seats n
 
@@ -107,4 +109,4 @@ pub record HaveHeard {L D R : Type 0} (stands : R → List Given → Type 0) (st
       → IsSameFollower (follower_of a) (follower_of b)
   pub got : (i : ℕ) (seat : Seat (Slot L D) (View L D)) (a b : Actor R) → get_elem? seats i ≡ some seat
       → get_elem? starts i ≡ some a → get_elem? actors i ≡ some b
-      → HasGot stands (follower_of a) (heard_of seat.me.0) (follower_of b)
+      → HasGot stands (follower_of a) (heard_of seat.me.0).groups (follower_of b)

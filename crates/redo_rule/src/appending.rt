@@ -1,9 +1,10 @@
 // One Op of one actor, on the shared table: the append of the archiver.
-ghost use Rattle.std.specs.Prelude.{◌≡◌};
+ghost use Rattle.std.specs.Prelude.{◌++◌, ◌≡◌};
 ghost use Rattle.model_core.specs.{took};
 ghost use Rattle.redo_archiver.specs.{append_answer};
 ghost use Rattle.redo_drive.specs.Views.{view_of};
-ghost use Rattle.redo_rule.specs.Mine.{HasPlayed, IsSameSeat};
+ghost use Rattle.redo_rule.specs.Handing.{appended_by};
+ghost use Rattle.redo_rule.specs.Mine.{HasPlayed, heard_of, IsSameSeat};
 ghost use Rattle.redo_rule.specs.Seating.{Appends, IsSeatOf};
 
 use crate::law::{Ring, Seat};
@@ -27,6 +28,7 @@ pub fn append<L: Sectors, D: Sectors, R: Receiver>(
     ensures same { IsSameSeat R.stands_for seat.old.me.0 actor.old seat.new.me.0 actor.new }
     ensures played { HasPlayed L.seen D.seen seat.old.me.0 (view_of actor.old) result (view_of actor.new) }
     ensures took { view_of actor.new ≡ took (view_of actor.old) (append_answer failed) }
+    ensures appends { (heard_of seat.new.me.0).blocks ≡ (heard_of seat.old.me.0).blocks ++ appended_by (view_of actor.old) }
 {
     match failed {
         None => {

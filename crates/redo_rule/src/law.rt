@@ -54,17 +54,32 @@ struct Group {
 
 /// Groups that were handed on, in their order. No value of it is made.
 #[derive(Drop)]
-pub struct Heard {
+pub struct Groups {
     groups: LinkedList<Group>,
 }
 
-impl Model for Heard {
+impl Model for Groups {
     ghost use Rattle.std.specs.Prelude.{List, map};
     ghost use Rattle.model_core.specs.{Given};
 
     ghost Value = { List Given };
 
     ghost view = { λ heard. map (λ group. record { start = group.start; end = group.end; text = group.text }) heard.groups };
+}
+
+/// A block of the log that was appended to the archive, by its place.
+#[derive(Drop)]
+pub struct Block {
+    pub place: u64,
+    pub bytes: LinkedList<u8>,
+}
+
+/// What an actor has handed on: a follower groups, to its receiver, and the archiver blocks, to its archive. No value of it is
+/// made.
+#[derive(Drop)]
+pub struct Heard {
+    pub groups: Groups,
+    pub blocks: LinkedList<Block>,
 }
 
 /// Of a user that writes for itself: where it is on its errand, and whether it has been on one for its condition.

@@ -23,7 +23,9 @@ mod steps;
 
 pub use appending::append;
 pub use closing::{Left, close_table};
-pub use law::{About, Desk, Errand, Heard, Keeping, Law, Numbered, Ring, Seat, Slot, View, Viewed};
+pub use law::{
+    About, Block, Desk, Errand, Groups, Heard, Keeping, Law, Numbered, Ring, Seat, Slot, View, Viewed,
+};
 pub use laying::{lay_out, make_board, parts_in};
 pub use listing::{list_slot, list_turn};
 pub use playing::play;

@@ -1,3 +1,4 @@
+pub mod Archiving
 pub mod Ended
 pub mod InThreads
 pub mod Working

@@ -1,22 +1,25 @@
 // Players with their seats, in their order.
 ghost use Rattle.std.specs.Prelude.{length, ◌<◌, ◌≡◌};
+ghost use Rattle.redo_threads.specs.Archiving.{MayWork, WorksOn};
 ghost use Rattle.redo_threads.specs.Working.{AreAtEnd, AreSeated, HasPlace, IsPutBack, IsTakenOut, KeepOn};
 
 use crate::bells::{Bells, Call};
 use crate::gate::Gate;
 use crate::pace::Pace;
 use crate::work::{stint, work};
+use redo_archive::ArchPart;
 use redo_disk::Sectors;
 use redo_follow::Receiver;
 use redo_ownrule::Player;
 use redo_rule::{Ring, Seat};
 use std::sync::Wait;
 
-/// A player in its seat.
+/// A player in its seat; and its archive, if it is the archiver.
 #[derive(Drop)]
-pub(crate) struct Worker<L: Sectors, D: Sectors, F: Receiver> {
+pub(crate) struct Worker<L: Sectors, D: Sectors, A: Sectors, F: Receiver> {
     pub(crate) seat: Seat<L, D>,
     pub(crate) player: Player<F>,
+    pub(crate) archive: Option<ArchPart<A>>,
 }
 
 /// Players with their seats, in their order.
@@ -27,32 +30,51 @@ pub(crate) struct Crew<L: Sectors, D: Sectors, F: Receiver> {
 }
 
 impl<L: Sectors, D: Sectors, F: Receiver + Drop> Crew<L, D, F> {
-    /// Takes out the player at a place, in its seat.
-    pub(crate) fn take_out(&mut self, at: usize) -> Worker<L, D, F>
+    /// Takes out the player at a place, in its seat, with this archive.
+    pub(crate) fn take_out<A: Sectors>(
+        &mut self,
+        at: usize,
+        archive: Option<ArchPart<A>>,
+    ) -> Worker<L, D, A, F>
         requires seated { length self.old.seats.items ≡ length self.old.players.items }
         requires there { at < length self.old.players.items }
-        ensures { IsTakenOut self.old at result self.new }
+        ensures out { IsTakenOut self.old at result.seat result.player self.new }
+        ensures archive { result.archive ≡ archive }
     {
         let player = self.players.remove(at);
         let seat = self.seats.remove(at);
-        Worker { seat, player }
+        Worker {
+            seat,
+            player,
+            archive,
+        }
     }
 
-    /// Puts a player in its seat back at its place.
-    pub(crate) fn put_back(&mut self, at: usize, worker: Worker<L, D, F>)
+    /// Puts a player in its seat back at its place. Gives its archive back.
+    pub(crate) fn put_back<A: Sectors>(
+        &mut self,
+        at: usize,
+        worker: Worker<L, D, A, F>,
+    ) -> Option<ArchPart<A>>
         requires { HasPlace self.old at }
-        ensures { IsPutBack self.old at worker self.new }
+        ensures back { IsPutBack self.old at worker.seat worker.player self.new }
+        ensures archive { result ≡ worker.archive }
     {
-        let Worker { seat, player } = worker;
+        let Worker {
+            seat,
+            player,
+            archive,
+        } = worker;
         let (Ok(()), Ok(())) = (self.seats.insert(at, seat), self.players.insert(at, player)) else {
             unreachable!()
         };
+        archive
     }
 }
 
 /// Plays each of the players that haven't come to their end until it waits. `None` where there are none; else whether
 /// one of them has gone on.
-fn round<L: Sectors, D: Sectors, F: Receiver, G: Gate>(
+fn round<L: Sectors, D: Sectors, A: Sectors, F: Receiver, G: Gate>(
     table: &Ring<L, D>,
     bells: &Bells,
     gate: &G,
@@ -63,30 +85,74 @@ fn round<L: Sectors, D: Sectors, F: Receiver, G: Gate>(
 {
     let mut open = None;
     for k in 0..crew.players.len() {
-        if let Some(went_on) = stint(table, bells, gate, &mut crew.seats[k], &mut crew.players[k]) {
-            open = Some(went_on || open == Some(true));
-        }
+        let mut none: Option<ArchPart<A>> = None;
+        let went_on = stint(
+            table,
+            bells,
+            gate,
+            &mut crew.seats[k],
+            &mut crew.players[k],
+            &mut none,
+        );
+        open = either(open, went_on);
     }
     open
 }
 
+/// Whether one of two has gone on, if one isn't at its end.
+fn either(one: Option<bool>, other: Option<bool>) -> Option<bool> {
+    match (one, other) {
+        (Some(one), Some(other)) => Some(one || other),
+        (None, open) => open,
+        (open, None) => open,
+    }
+}
+
+/// Lets the archiver play for a stint, if it has no thread, as a player of `round`.
+fn archiver_round<L: Sectors, D: Sectors, A: Sectors, F: Receiver, G: Gate>(
+    table: &Ring<L, D>,
+    bells: &Bells,
+    gate: &G,
+    archiver: &mut Option<Worker<L, D, A, F>>,
+) -> Option<bool>
+    requires { MayWork A.seen table.now.table_id archiver.old }
+    ensures { WorksOn A.seen F.stands_for table.now.table_id archiver.old archiver.new }
+{
+    match archiver {
+        Some(worker) => stint(
+            table,
+            bells,
+            gate,
+            &mut worker.seat,
+            &mut worker.player,
+            &mut worker.archive,
+        ),
+        None => None,
+    }
+}
+
 /// Plays players up to their ends, each until it waits, in turn. It waits itself only where none of them has gone on.
-pub(crate) fn play_here<R: Wait, L: Sectors, D: Sectors, F: Receiver, G: Gate>(
+pub(crate) fn play_here<R: Wait, L: Sectors, D: Sectors, A: Sectors, F: Receiver, G: Gate>(
     rt: &R,
     table: &Ring<L, D>,
     bells: &Bells,
     gate: &G,
     crew: &mut Crew<L, D, F>,
+    archiver: &mut Option<Worker<L, D, A, F>>,
 )
-    requires { AreSeated table.now.table_id crew.old.seats.items crew.old.players.items }
-    ensures { KeepOn F.stands_for table.now.table_id crew.old crew.new }
+    requires seated { AreSeated table.now.table_id crew.old.seats.items crew.old.players.items }
+    requires archiver { MayWork A.seen table.now.table_id archiver.old }
+    ensures crew { KeepOn F.stands_for table.now.table_id crew.old crew.new }
+    ensures archiver { WorksOn A.seen F.stands_for table.now.table_id archiver.old archiver.new }
 {
-    if !crew.players.is_empty() {
+    if !crew.players.is_empty() || archiver.is_some() {
         bells.stand_in();
     }
     let mut pace = Pace::of_many(bells);
     for _ in rt.forever() {
-        match round(table, bells, gate, crew) {
+        let others = round::<L, D, A, F, G>(table, bells, gate, crew);
+        let its = archiver_round(table, bells, gate, archiver);
+        match either(others, its) {
             None => {
                 pace.leave(bells);
                 return;
@@ -99,7 +165,7 @@ pub(crate) fn play_here<R: Wait, L: Sectors, D: Sectors, F: Receiver, G: Gate>(
 }
 
 /// Lets each player play up to its end, at which it stands already where it was played in a thread or in turn.
-pub(crate) fn to_ends<R: Wait, L: Sectors, D: Sectors, F: Receiver, G: Gate>(
+pub(crate) fn to_ends<R: Wait, L: Sectors, D: Sectors, A: Sectors, F: Receiver, G: Gate>(
     rt: &R,
     table: &Ring<L, D>,
     bells: &Bells,
@@ -111,6 +177,7 @@ pub(crate) fn to_ends<R: Wait, L: Sectors, D: Sectors, F: Receiver, G: Gate>(
     ensures at_end { AreAtEnd crew.new.players.items }
 {
     for number in 0..crew.players.len() {
+        let mut none: Option<ArchPart<A>> = None;
         work(
             rt,
             table,
@@ -118,6 +185,7 @@ pub(crate) fn to_ends<R: Wait, L: Sectors, D: Sectors, F: Receiver, G: Gate>(
             gate,
             &mut crew.seats[number],
             &mut crew.players[number],
+            &mut none,
         );
     }
 }

@@ -5,6 +5,7 @@
 //! and refuse threads there. Users that write for themselves play as others do.
 #![tactic(auto)]
 
+mod archiving;
 mod bells;
 mod crew;
 mod drive;

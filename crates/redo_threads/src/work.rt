@@ -3,15 +3,18 @@ ghost use Rattle.std.specs.Prelude.{MatchOption, true, ◌≡◌};
 ghost use Rattle.model_running.specs.Schedule.{HasEnded};
 ghost use Rattle.redo_ownrule.specs.Players.{MayRest};
 ghost use Rattle.redo_ownrule.specs.Playing.{IsPlayerSeat, PlayerAsks};
-ghost use Rattle.redo_threads.specs.Working.{AtEnd, GoesOn, IsOver};
+ghost use Rattle.redo_threads.specs.Archiving.{GoesOnWith, MayArchive};
+ghost use Rattle.redo_threads.specs.Working.{AtEnd, IsOver};
 
+use crate::archiving::play_with;
 use crate::bells::{Bells, call_of};
 use crate::gate::{Gate, point_after};
 use crate::pace::{Pace, has_gone_on, steps_in_vain};
+use redo_archive::ArchPart;
 use redo_disk::Sectors;
 use redo_drive::Actor;
 use redo_follow::Receiver;
-use redo_ownrule::{Player, ask, is_at_rest, play};
+use redo_ownrule::{Player, ask, is_at_rest};
 use redo_rule::{Ring, Seat};
 use redo_useractor::UserActor;
 use redo_words::{Op, Step, Word};
@@ -110,20 +113,22 @@ fn follow<R: Wait, F: Receiver>(
 }
 
 /// A player that hasn't come to its end plays the Op that it asks for. Answers how its step ended, and the Op that it asks for now.
-fn turn<L: Sectors, D: Sectors, F: Receiver, G: Gate>(
+fn turn<L: Sectors, D: Sectors, A: Sectors, F: Receiver, G: Gate>(
     table: &Ring<L, D>,
     bells: &Bells,
     gate: &G,
     seat: &mut Seat<L, D>,
     player: &mut Player<F>,
+    archive: &mut Option<ArchPart<A>>,
     op: Op,
 ) -> (Step, Op)
     requires seat { IsPlayerSeat table.now.table_id seat.old player.old }
     requires asks { PlayerAsks seat.old.me.0 player.old op }
-    ensures goes_on { GoesOn F.stands_for table.now.table_id seat.old player.old seat.new player.new }
+    requires archive { MayArchive A.seen seat.old.me.0 player.old archive.old }
+    ensures goes_on { GoesOnWith A.seen F.stands_for table.now.table_id seat.old player.old archive.old seat.new player.new archive.new }
     ensures asks { PlayerAsks seat.new.me.0 player.new result.1 }
 {
-    let step = play(table, seat, player, op);
+    let step = play_with(table, seat, player, archive, op);
     let now = ask(table, seat, &*player);
     tell(&*player, op, step, now, bells, gate);
     (step, now)
@@ -131,15 +136,17 @@ fn turn<L: Sectors, D: Sectors, F: Receiver, G: Gate>(
 
 /// Plays until the player waits or has come to its end, or for a stint. `None` where it is at its end already; else
 /// whether it has gone on, and not only looked in vain.
-pub(crate) fn stint<L: Sectors, D: Sectors, F: Receiver, G: Gate>(
+pub(crate) fn stint<L: Sectors, D: Sectors, A: Sectors, F: Receiver, G: Gate>(
     table: &Ring<L, D>,
     bells: &Bells,
     gate: &G,
     seat: &mut Seat<L, D>,
     player: &mut Player<F>,
+    archive: &mut Option<ArchPart<A>>,
 ) -> Option<bool>
-    requires { IsPlayerSeat table.now.table_id seat.old player.old }
-    ensures { GoesOn F.stands_for table.now.table_id seat.old player.old seat.new player.new }
+    requires seat { IsPlayerSeat table.now.table_id seat.old player.old }
+    requires archive { MayArchive A.seen seat.old.me.0 player.old archive.old }
+    ensures { GoesOnWith A.seen F.stands_for table.now.table_id seat.old player.old archive.old seat.new player.new archive.new }
 {
     let mut op = ask(table, seat, &*player);
     if is_at_end(&*player, op, bells) {
@@ -148,7 +155,7 @@ pub(crate) fn stint<L: Sectors, D: Sectors, F: Receiver, G: Gate>(
     let in_vain = steps_in_vain(&*player);
     let mut went_on = false;
     for steps in 0..STINT {
-        let (step, now) = turn(table, bells, gate, seat, player, op);
+        let (step, now) = turn(table, bells, gate, seat, player, archive, op);
         match step {
             Step::Moved => {
                 went_on = went_on | has_gone_on(op, steps, in_vain);
@@ -162,16 +169,18 @@ pub(crate) fn stint<L: Sectors, D: Sectors, F: Receiver, G: Gate>(
 }
 
 /// Plays until the player has come to its end.
-pub(crate) fn work<R: Wait, L: Sectors, D: Sectors, F: Receiver, G: Gate>(
+pub(crate) fn work<R: Wait, L: Sectors, D: Sectors, A: Sectors, F: Receiver, G: Gate>(
     rt: &R,
     table: &Ring<L, D>,
     bells: &Bells,
     gate: &G,
     seat: &mut Seat<L, D>,
     player: &mut Player<F>,
+    archive: &mut Option<ArchPart<A>>,
 )
-    requires { IsPlayerSeat table.now.table_id seat.old player.old }
-    ensures goes_on { GoesOn F.stands_for table.now.table_id seat.old player.old seat.new player.new }
+    requires seat { IsPlayerSeat table.now.table_id seat.old player.old }
+    requires archive { MayArchive A.seen seat.old.me.0 player.old archive.old }
+    ensures goes_on { GoesOnWith A.seen F.stands_for table.now.table_id seat.old player.old archive.old seat.new player.new archive.new }
     ensures at_end { AtEnd player.new }
 {
     let mut pace = Pace::new(&*player, bells);
@@ -182,7 +191,7 @@ pub(crate) fn work<R: Wait, L: Sectors, D: Sectors, F: Receiver, G: Gate>(
             pace.leave(bells);
             return;
         }
-        let (step, now) = turn(table, bells, gate, seat, player, op);
+        let (step, now) = turn(table, bells, gate, seat, player, archive, op);
         moved = step == Step::Moved;
         follow(rt, bells, &mut pace, &*player, op, step, now);
         op = now;

@@ -1,7 +1,7 @@
 use Rattle.std.proofs.Common.{None, Some}
 use Rattle.redo_disk.specs.declared.error.DevError.TheVariants.{Failed, NoMemory}
 use Rattle.redo_drive.specs.Views.{view_of}
-use Rattle.redo_rule.proofs.Appended.{played_after, same_after, seat_after}
+use Rattle.redo_rule.proofs.Appended.{blocks_after, played_after, same_after, seat_after}
 use Rattle.redo_rule.proofs.Stepping.{append_ok}
 use Rattle.redo_rule.proofs.appending.append.Goals as goal
 
@@ -38,6 +38,12 @@ returns-in-None-clause-played g c = played_after c.args.table.now.table_id c.arg
     c.took.new.self c.took.result c.requires.asks None c.load.result c.load.ensures.2
     c.took.ensures
 
+pub returns-in-None-clause-appends : goal.returns-in-None-clause-appends
+returns-in-None-clause-appends g c = blocks_after c.args.table.now.table_id c.args.seat.now c.args.actor.now
+    c.requires.seat g.L.Sectors.seen g.D.Sectors.seen g.R.Receiver.stands_for c.load.new.seat c.load.ensures.0
+    c.took.new.self c.took.result c.requires.asks None c.load.result c.load.ensures.2
+    c.took.ensures
+
 pub returns-in-Some-Failed-clause-seat : goal.returns-in-Some-Failed-clause-seat
 returns-in-Some-Failed-clause-seat g c = seat_after c.args.table.now.table_id c.args.seat.now c.args.actor.now
     c.requires.seat g.L.Sectors.seen g.D.Sectors.seen g.R.Receiver.stands_for c.load-in-Some-Failed.new.seat c.load-in-Some-Failed.ensures.0
@@ -56,6 +62,12 @@ returns-in-Some-Failed-clause-played g c = played_after c.args.table.now.table_i
     c.took-in-Some-Failed.new.self c.took-in-Some-Failed.result c.requires.asks (Some Failed) c.load-in-Some-Failed.result c.load-in-Some-Failed.ensures.2
     c.took-in-Some-Failed.ensures
 
+pub returns-in-Some-Failed-clause-appends : goal.returns-in-Some-Failed-clause-appends
+returns-in-Some-Failed-clause-appends g c = blocks_after c.args.table.now.table_id c.args.seat.now c.args.actor.now
+    c.requires.seat g.L.Sectors.seen g.D.Sectors.seen g.R.Receiver.stands_for c.load-in-Some-Failed.new.seat c.load-in-Some-Failed.ensures.0
+    c.took-in-Some-Failed.new.self c.took-in-Some-Failed.result c.requires.asks (Some Failed) c.load-in-Some-Failed.result c.load-in-Some-Failed.ensures.2
+    c.took-in-Some-Failed.ensures
+
 pub returns-in-Some-NoMemory-clause-seat : goal.returns-in-Some-NoMemory-clause-seat
 returns-in-Some-NoMemory-clause-seat g c = seat_after c.args.table.now.table_id c.args.seat.now c.args.actor.now
     c.requires.seat g.L.Sectors.seen g.D.Sectors.seen g.R.Receiver.stands_for c.load-in-Some-NoMemory.new.seat c.load-in-Some-NoMemory.ensures.0
@@ -70,6 +82,12 @@ returns-in-Some-NoMemory-clause-same g c = same_after c.args.table.now.table_id 
 
 pub returns-in-Some-NoMemory-clause-played : goal.returns-in-Some-NoMemory-clause-played
 returns-in-Some-NoMemory-clause-played g c = played_after c.args.table.now.table_id c.args.seat.now c.args.actor.now
+    c.requires.seat g.L.Sectors.seen g.D.Sectors.seen g.R.Receiver.stands_for c.load-in-Some-NoMemory.new.seat c.load-in-Some-NoMemory.ensures.0
+    c.took-in-Some-NoMemory.new.self c.took-in-Some-NoMemory.result c.requires.asks (Some NoMemory) c.load-in-Some-NoMemory.result c.load-in-Some-NoMemory.ensures.2
+    c.took-in-Some-NoMemory.ensures
+
+pub returns-in-Some-NoMemory-clause-appends : goal.returns-in-Some-NoMemory-clause-appends
+returns-in-Some-NoMemory-clause-appends g c = blocks_after c.args.table.now.table_id c.args.seat.now c.args.actor.now
     c.requires.seat g.L.Sectors.seen g.D.Sectors.seen g.R.Receiver.stands_for c.load-in-Some-NoMemory.new.seat c.load-in-Some-NoMemory.ensures.0
     c.took-in-Some-NoMemory.new.self c.took-in-Some-NoMemory.result c.requires.asks (Some NoMemory) c.load-in-Some-NoMemory.result c.load-in-Some-NoMemory.ensures.2
     c.took-in-Some-NoMemory.ensures
