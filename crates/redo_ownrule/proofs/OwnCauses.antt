@@ -1,6 +1,6 @@
 -- Why an answer of `play` came, of a user that writes for itself: a wait met its condition, an end was one, and a
 -- failure had a cause.
-use Rattle.std.proofs.Common.{Bool, List, ap, cond, inl, inr, is_some, length, subst, sym, true, ℕ, ⊎_elim}
+use Rattle.std.proofs.Common.{Bool, List, ap, cond, false, inl, inr, is_some, length, subst, sym, true, ℕ, ⊎_elim}
 use Rattle.std.proofs.Common.{◌<◌, ◌∙◌, ◌≡◌, ◌⊎◌}
 use lib.ListN.{get_elem?}
 use mathlib.Core.Option.{some, some-injective}

@@ -1,5 +1,6 @@
 -- A turn of a user that writes for itself keeps the rule, whatever it does to the slots.
-use Rattle.std.proofs.Common.{Bool, List, None, Option, Some, [], ap, arith, inl, inr, is_some, length, length-set, refl, set, subst, suc, sym, zero, ℕ}
+use Rattle.std.proofs.Common.{Bool, List, None, Option, Some, [], ap, arith, false, inl, inr, is_some, length, length-set}
+use Rattle.std.proofs.Common.{refl, set, subst, suc, sym, zero, ℕ}
 use Rattle.std.proofs.Common.{⊎_elim, ◌+◌, ◌∙◌, ◌∷◌, ◌≡◌, ◌≢◌, ◌≤◌, ◌⊎◌}
 use lib.ListN.{get_elem?}
 use mathlib.Core.Option as maybe
