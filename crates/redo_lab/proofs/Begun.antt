@@ -1,12 +1,12 @@
 -- The archive of a run, begun on a device that was handed on for it.
-use Rattle.std.proofs.Common.{ℕ, ◌≡◌, ◌≤◌, ◌+◌, Bool, true, false, Option, Some, None, IfSome, IsSome, List, if◌then◌else◌, is_some, option_map, refl, sym, ap, subst, ◌∙◌, ⊎_elim, arith, nat_tests}
+use Rattle.std.proofs.Common.{ℕ, ◌≡◌, ◌≤◌, ◌+◌, Bool, true, false, Option, Some, None, IfSome, IsSome, List, if◌then◌else◌, is_some, option_map, refl, sym, ap, subst, ◌∙◌, ⊎_elim, arith, length, map}
 use Rattle.model_archive.specs.{IsRunStart, pages_end}
 use Rattle.model_base.specs.declared.shape.Shape.{Shape}
 use Rattle.model_base.specs.{HasRisen}
-use Rattle.model_log.specs.{IsAtDataStart, lsn_of, sn_of}
+use Rattle.model_log.specs.{IsAtDataStart, lsn_of, sn_of, stream_of}
 use Rattle.model_report.specs.declared.fault.Fault.{Fault}
 use Rattle.model_report.specs.declared.fault.Fault.TheVariants as fault
-use Rattle.model_script.specs.{ArchiveFits, script_end}
+use Rattle.model_script.specs.{ArchiveFits, group_of}
 use Rattle.model_script.specs.declared.asked.Command.{Command}
 use Rattle.model_script.specs.declared.asked.Command.TheVariants.{Run}
 use Rattle.model_script.specs.declared.asked.Drive.{Drive}
@@ -42,7 +42,7 @@ pub archive-start : {L D : Type 0} (given : Opened L D) (script : List ScriptLin
 archive-start given script log_only may = record {
   place = may.runnable.place;
   first = (let low = may.runnable.first in omega arith);
-  small = (let high = may.fits.end in let up = rises given.start _ may.runnable.place in omega arith);
+  small = (let high = may.fits.end in let up = rises given.start (length (stream_of (map (group_of given.shape.space) script))) may.runnable.place in omega arith);
 }
 
 -- a device that has room for the run has room for the pages
@@ -90,7 +90,7 @@ given-same seen (course.Played played f) (Some device) = tt
 -- it is given back
 pub given-some : {A : Type 0} (seen : A → Seen) (Is : Unfused → Type 0) (device : A) (now : Option A) → IsGivenBack seen Is (Some device) now → IsSome now
 given-some seen Is device None back = absurd back
-given-some seen Is device (Some left) back = tt
+given-some seen Is device (Some left) back = refl
 
 pub given-is : {A : Type 0} (seen : A → Seen) (Is : Unfused → Type 0) (device : A) (now : Option A) (left : A) → now ≡ Some left
     → IsGivenBack seen Is (Some device) now → Is (unfused seen device left)

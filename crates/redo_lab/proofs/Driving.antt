@@ -237,8 +237,8 @@ module _ {L D : Type 0} (log_seen : L → Seen) (log_gives : L → Call → L �
   loses-by : (e : Option DevError) → error ≡ e → driven.ended ≡ Done → HasMemory driven.closed → (left : List (ℕ × ℕ)) → IsLeft script run.entries left
       → LosesOnlyBy call drive (Some run) left
   loses-by (Some device.Failed) is done memory left left_is = inr (kept.risen is)
-  loses-by None is done memory = loses-so done memory (λ failed. let z = sym is ∙ failed in cc)
-  loses-by (Some device.NoMemory) is done memory = loses-so done memory (λ failed. let z = sym is ∙ failed in cc)
+  loses-by None is done memory left left_is = loses-so done memory (λ failed. let z = sym is ∙ failed in cc) left left_is
+  loses-by (Some device.NoMemory) is done memory left left_is = loses-so done memory (λ failed. let z = sym is ∙ failed in cc) left left_is
 
   -- and where no call answered an error, what reads give is read
   read-now : driven.ended ≡ Done → HasMemory driven.closed → driven.closed.log.failed ≡ None → driven.closed.store.failed ≡ None

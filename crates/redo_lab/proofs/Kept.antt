@@ -99,8 +99,8 @@ module _ {L D : Type 0} (log_seen : L → Seen) (log_gives : L → Call → L �
         (finishes : Finishes (seen_through log_seen) (CallsThrough log_seen log_gives) seen first.closed.marks.flushed
         first.closed.log part after new)
         (done : first.ended ≡ Done → part.failed ≡ None → new.failed ≡ None → new.marks.mark ≡ first.closed.marks.flushed) where
-      abbrev driven : Driven (Fused L) (Fused D)
-      driven = read_back first part
+      abbrev read : Driven (Fused L) (Fused D)
+      read = read_back first part
 
       abbrev run : Ran
       run = closed_run given.start first.closed
@@ -147,10 +147,10 @@ module _ {L D : Type 0} (log_seen : L → Seen) (log_gives : L → Call → L �
 
       left-archived : ArchivesRun (seen_through log_seen) seen given script first.closed after
           → PartArchives seen given.pages (wholes_of script given.shape.space first.closed.history) new
-          → IsLeftArchived (unfused seen device new.dev) driven new.failed
+          → IsLeftArchived (unfused seen device new.dev) read new.failed
       left-archived ran archives = λ opened is disk image told fair.
           let are = archives-ran opened is ran archives in
-          archived-as seen reads script opened run new disk image told fair (UpTo driven new.failed) are
+          archived-as seen reads script opened run new disk image told fair (UpTo read new.failed) are
           (λ mark from up_to. (
             omega (arith, up_to, are.flushed),
             λ ended log_none none. (let all = done ended log_none none in omega (arith, all, from, up_to, are.flushed)),
@@ -161,11 +161,11 @@ module _ {L D : Type 0} (log_seen : L → Seen) (log_gives : L → Call → L �
       finished-archives ran = finishes.archives given.pages (wholes_of script given.shape.space first.closed.history)
           (subst (λ s. HoldsSo s) (sym (has.same.start ∙ is_begun.start_is)) ran.rest) ran.archives
         where
-          abbrev HoldsSo : ℕ → Type 0
+          HoldsSo : ℕ → Type 0
           HoldsSo s = HoldsFrom (seen_through log_seen) s (wholes_of script given.shape.space first.closed.history)
               (block_of after.marks.mark) first.closed.marks.flushed first.closed.log
 
-      kept-some : IsKept (unfused seen device new.dev) true driven new.failed
+      kept-some : IsKept (unfused seen device new.dev) true read new.failed
       kept-some = record {
         over = λ lost. ap (λ (p : Part A). p.failed) (finishes.over (λ none. lost (sym has.failed ∙ none))) ∙ has.failed;
         risen = λ failed. (refl, risen-so after.failed refl failed);

@@ -94,7 +94,7 @@ pub returns-in-Run-clause-spares : goal.returns-in-Run-clause-spares
 returns-in-Run-clause-spares g c = λ drive is. c.run_source.ensures.archive.0
 
 pub source_by_turns-requires-clause-unarchived : goal.source_by_turns-requires-clause-unarchived
-source_by_turns-requires-clause-unarchived g c = (subst HasAllowedNumbers c.in-Crash.is c.requires.within).1
+source_by_turns-requires-clause-unarchived g c = λ κs live. (subst HasAllowedNumbers c.in-Crash.is c.requires.within).1
 
 pub returns-in-Format-clause-spares : goal.returns-in-Format-clause-spares
 returns-in-Format-clause-spares g c = λ drive is. let was = c.in-Format.is in cc
