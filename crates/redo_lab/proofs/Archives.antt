@@ -25,7 +25,7 @@ ArchiveReads = (shape : Shape) (s : ℕ) (pages : List Content) (wholes : List W
     (image : List ℕ) → AllByRecursion (IsStorable shape) (groups_of wholes) → ArchiveHolds shape s pages wholes marks disk
     → IsFairArchive disk image → ReadsArchive s pages wholes marks image
 
-block-rises : (low high : ℕ) → low ≤ high → block_of low ≤ block_of high
+pub block-rises : (low high : ℕ) → low ≤ high → block_of low ≤ block_of high
 block-rises low high less = omega arith
 
 module _ {A : Type 0} (seen : A → Seen) (reads : ArchiveReads) (script : List ScriptLine) (opened : Opened) (run : Ran)
@@ -40,7 +40,7 @@ module _ {A : Type 0} (seen : A → Seen) (reads : ArchiveReads) (script : List 
       (DiskArchives (seen part.dev).size part.shape part.start opened.pages wholes part.marks part.failed) disk
       is.archives told
 
-  archived-as : (IsUpTo : (mark flushed : ℕ) → Type 0) → ArchivesRan seen script opened run part
+  pub archived-as : (IsUpTo : (mark flushed : ℕ) → Type 0) → ArchivesRan seen script opened run part
       → ((mark : ℕ) → part.marks.mark ≤ mark → mark ≤ part.marks.asked → IsUpTo mark run.marks.flushed)
       → IsArchiveOf IsUpTo script opened run image
   archived-as IsUpTo is within =
@@ -60,13 +60,14 @@ module _ {A : Type 0} (seen : A → Seen) (reads : ArchiveReads) (script : List 
         checkpoint = omega (arith, is.checkpoint, block-rises part.marks.mark found.mark from);
       }
 
-  pub archived-ran : ArchivesRan seen script opened run part
-      → IsArchiveOf (λ mark flushed. mark ≤ flushed) script opened run image
-  archived-ran is = archived-as (λ mark flushed. mark ≤ flushed) is
-      (λ mark from up_to. omega (arith, up_to, is.flushed))
-
-  -- and where no call of the device failed
-  pub archived-all : ArchivesRan seen script opened run part → part.marks.mark ≡ run.marks.flushed
-      → IsArchiveOf (λ mark flushed. mark ≡ flushed) script opened run image
-  archived-all is all = archived-as (λ mark flushed. mark ≡ flushed) is
-      (λ mark from up_to. omega (arith, all, from, up_to, is.flushed))
+-- of which something else is so of its mark, too
+pub archived-also : (P Q : (mark flushed : ℕ) → Type 0) (script : List ScriptLine) (opened : Opened) (run : Ran) (image : List ℕ)
+    → ((mark flushed : ℕ) → P mark flushed → Q mark flushed) → IsArchiveOf P script opened run image → IsArchiveOf Q script opened run image
+archived-also P Q script opened run image weaker is = record {
+  number = is.number;
+  mark = is.mark;
+  newest = is.newest;
+  up_to = weaker is.mark run.marks.flushed is.up_to;
+  restores = is.restores;
+  checkpoint = is.checkpoint;
+}

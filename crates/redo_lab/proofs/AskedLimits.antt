@@ -1,5 +1,5 @@
 -- The numbers of a command that is asked for are within its limits.
-use Rattle.std.proofs.Common.{ℕ, ◌≡◌, ◌≤◌, ◌-◌, ◌^◌, ◌&&◌, Bool, true, false, nat_le, if◌then◌else◌, List, [], ◌∷◌, codes, Option, Some, None, IfSome, refl, subst, ◌∙◌, arith, lit≤}
+use Rattle.std.proofs.Common.{ℕ, ◌≡◌, ◌≤◌, ◌-◌, ◌^◌, ◌&&◌, ◌||◌, Bool, true, false, nat_le, if◌then◌else◌, List, [], ◌∷◌, codes, Option, Some, None, IfSome, refl, subst, sym, ◌∙◌, arith, lit≤}
 use Rattle.std.specs.Option.{option_map, option_and_then}
 use Rattle.std.specs.Str.{bytes_eq}
 use Rattle.model_base.specs.declared.limits.TheConstants.{DEFAULT_LOG_BLOCKS, DEFAULT_PAGES, DEFAULT_SPACE, MAX_LOG_BLOCKS, MAX_PAGES, MIN_LOG_BLOCKS}
@@ -17,7 +17,7 @@ use Rattle.model_script.specs.declared.misfit.TheConstants.{MAX_USERS}
 use borrow.Author.Tests.{leb-true}
 use Rattle.model_script.specs.declared.asked.Drive.{Drive}
 use Rattle.redo_lab.specs.declared.crash_command.Crashing.{Crashing}
-use Rattle.redo_lab.specs.Asked.{HasAllowedNumbers, archives, command_of}
+use Rattle.redo_lab.specs.Asked.{HasAllowedNumbers, command_of, is_undriven}
 use Rattle.redo_lab.specs.Runs.{command_with}
 
 -- the number is between these
@@ -66,9 +66,9 @@ allowed-some false different o command is = cc
 allowed-command : (names : List Name) (options : List Given) (o : Option Command) (command : Command) → where_allowed names options o ≡ Some command → o ≡ Some command
 allowed-command names options o command is = allowed-some (are_among names options) (are_different options) o command is
 
--- the numbers of a command that archives no run
+-- the numbers of a command for which there is a drive
 abbrev IsAllowed : Command → Type 0
-IsAllowed command = archives command ≡ false → HasAllowedNumbers command
+IsAllowed command = is_undriven command ≡ false → HasAllowedNumbers command
 
 format-within : (options : List Given) (command : Command) → given_format options ≡ Some command → IsAllowed command
 format-within options command is =
@@ -182,15 +182,15 @@ asked-within (text ∷ texts) asked is =
     let command = map-some _ (commands.named_command text said.0.options said.0.values) asked said.2 in
     subst (λ (asked : Asked). IsAllowed asked.command) command.2 (command-within text said.0.options said.0.values _ command.0 command.1)
 
-kept-command : (archive : Bool) (asked command : Command) → archives asked ≡ archive → (if archive then None else Some asked) ≡ Some command
-    → (asked ≡ command) × (archives asked ≡ false)
+kept-command : (undriven : Bool) (asked command : Command) → is_undriven asked ≡ undriven → (if undriven then None else Some asked) ≡ Some command
+    → (asked ≡ command) × (is_undriven asked ≡ false)
 kept-command true asked command is some = cc
 kept-command false asked command is some = (cc, is)
 
 pub command-of-within : (words : List (List ℕ)) (command : Command) → command_of words ≡ Some command → HasAllowedNumbers command
 command-of-within words command is =
     let asked = and_then-some _ (asked_of words) command is in
-    let kept = kept-command (archives asked.0.command) asked.0.command command refl asked.2 in
+    let kept = kept-command (is_undriven asked.0.command) asked.0.command command refl asked.2 in
     subst HasAllowedNumbers kept.0 (asked-within words asked.0 asked.1 kept.1)
 
 -- of a script's crash
@@ -205,7 +205,23 @@ pub within-followers : (asked : Drive) (crash : Option Crashing) → HasAllowedN
 within-followers asked None is = is.0
 within-followers asked (Some crash) is = is.0
 
--- and that it isn't archived
-pub within-unarchived : (asked : Drive) (crash : Option Crashing) → HasAllowedNumbers (command_with asked crash) → asked.archive ≡ false
-within-unarchived asked None is = is.1
-within-unarchived asked (Some crash) is = is.1
+-- one that is archived is run by turns, and its users don't write for themselves
+driven-so : (archive threads own_writes : Bool) → (archive && (threads || own_writes)) ≡ false → archive ≡ true
+    → (threads ≡ false) × (own_writes ≡ false)
+driven-so true false false driven is = (refl, refl)
+driven-so true true own_writes driven is = absurd (cc)
+driven-so true false true driven is = absurd (cc)
+driven-so false threads own_writes driven is = absurd (cc)
+
+pub within-archived : (drive : Drive) → HasAllowedNumbers (Run drive) → drive.archive ≡ true → (drive.threads ≡ false) × (drive.own_writes ≡ false)
+within-archived drive is archived = driven-so drive.archive drive.threads drive.own_writes is.1 archived
+
+by-archive : (archive : Bool) → (archive ≡ true → ⊥) → archive ≡ false
+by-archive true not = absurd (not refl)
+by-archive false not = refl
+
+-- a run in threads isn't archived, nor one that is crashed
+pub within-unarchived : (asked : Drive) (crash : Option Crashing) → HasAllowedNumbers (command_with asked crash) → asked.threads ≡ true → asked.archive ≡ false
+within-unarchived asked None is threads =
+    by-archive asked.archive (λ archived. let none = (within-archived asked is archived).0 in let z = sym none ∙ threads in cc)
+within-unarchived asked (Some crash) is threads = is.1

@@ -1,6 +1,6 @@
 -- The drives serve what is asked for.
 use Rattle.redo_drive.specs.declared.drive.RunEnd.{RunEnd}
-use Rattle.std.proofs.Common.{ℕ, ◌≡◌, Bool, true, false, List, Option, refl, sym, subst, ◌∙◌}
+use Rattle.std.proofs.Common.{ℕ, ◌≡◌, Bool, true, false, List, Option, Some, None, IfSome, refl, sym, subst, ◌∙◌}
 use Rattle.std.proofs.lemmas.Bool.{false≢true}
 use Rattle.model_script.specs.declared.asked.Drive.{Drive}
 use Rattle.model_device.specs.Disk.{Disk}
@@ -58,6 +58,17 @@ driven-later log_seen log_gives data_seen data_gives log_same data_same =
       log_is = still-then _ _ _ so.log_is log_still;
       store_is = still-then _ _ _ so.store_is data_still;
     }
+
+-- users that write for themselves get no archive, and of another drive it is a new one
+pub none-owned : {P : Type 0} (own_writes : Bool) (archive : Option P) (IsNew : P → Type 0)
+    → IfSome archive (λ part. IsNew part × (own_writes ≡ false)) → own_writes ≡ true → archive ≡ None
+none-owned own_writes None IsNew new own = refl
+none-owned own_writes (Some part) IsNew new own = absurd (false≢true (sym new.1 ∙ own))
+
+pub one-new : {P : Type 0} (own_writes : Bool) (archive : Option P) (IsNew : P → Type 0)
+    → IfSome archive (λ part. IsNew part × (own_writes ≡ false)) → IfSome archive IsNew
+one-new own_writes None IsNew new = tt
+one-new own_writes (Some part) IsNew new = new.0
 
 module _ {L D : Type 0} (log_seen : L → Seen) (log_gives : L → Call → L → Type 0) (data_seen : D → Seen) (data_gives : D → Call → D → Type 0) where
   -- what the drive tells that is in threads or isn't, and whose users write for themselves or don't

@@ -160,8 +160,8 @@ module _ (call : LabCall) (drives : Drives) (later : DrivesLater drives call.dri
             → AreMarksRead call drive run log_met store_met
         met-on None log_met store_met log_same store_same read = tt
         met-on (Some run) log_met store_met log_same store_same read =
-            λ threads unfailed opened log data_disk log_is data_is log_on data_on log_fresh data_fresh opens
-            log_at data_at log_at_is data_at_is. read threads (omega (arith, unfailed, since.0.mid, since.1.mid))
+            λ threads unfailed alive opened log data_disk log_is data_is log_on data_on log_fresh data_fresh opens
+            log_at data_at log_at_is data_at_is. read threads (omega (arith, unfailed, since.0.mid, since.1.mid)) alive
             opened log data_disk log_is data_is (since.0.arming.back log_on) (since.1.arming.back data_on)
             log_fresh data_fresh opens log_at data_at (sym log_same ∙ log_at_is) (sym store_same ∙ data_at_is)
 

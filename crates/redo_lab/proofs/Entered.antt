@@ -9,9 +9,9 @@ use Rattle.redo_open.specs.{FormatCalls}
 use Rattle.redo_store.specs.declared.opened.Opened.{Opened}
 use Rattle.redo_recover.specs.declared.fault.RecFault.{RecFault}
 use Rattle.redo_recover.specs.declared.fault.RecFault.TheVariants.{LogDev, DataDev, NoMemory}
-use Rattle.redo_drive.specs.{Owes}
 use Rattle.redo_drive.specs.declared.drive.Driven.{Driven}
 use Rattle.redo_lab.proofs.Behind.{calls-same}
+use Rattle.redo_lab.proofs.Owed.{IsOwed}
 use Rattle.redo_lab.specs.declared.playing.Ran.{Ran}
 use Rattle.redo_lab.specs.Handed.{AreOf}
 use Rattle.redo_lab.specs.Runs.{AreEntered}
@@ -53,9 +53,9 @@ format-entries log_seen log_gives data_seen data_gives log_old log_new data_old 
 pub owed-entries : {L D : Type 0} {see_log : Fused L → Seen} {see_data : Fused D → Seen} {log_seen : L → Seen} {log_gives : L → Call → L → Type 0}
     {data_seen : D → Seen} {data_gives : D → Call → D → Type 0}
     {opened : Opened (Fused L) (Fused D)} {script : List ScriptLine} {driven : Driven (Fused L) (Fused D)}
-    → Owes see_log (CallsThrough log_seen log_gives) see_data (CallsThrough data_seen data_gives) opened script driven
+    → IsOwed see_log (CallsThrough log_seen log_gives) see_data (CallsThrough data_seen data_gives) opened script driven
     → AreOf (entry_of opened.log.dev) (entry_of opened.store.dev) driven.closed.log.dev driven.closed.store.dev
-owed-entries owes = record { log_device = calls-entry (owes.comes_to.log_calls.live refl); data_device = calls-entry (owes.comes_to.data_calls.live refl) }
+owed-entries owes = record { log_device = calls-entry (owes.log_calls.live refl); data_device = calls-entry (owes.data_calls.live refl) }
 
 -- and devices that were handed in before
 pub entered-then : {L D : Type 0} {log : L} {store : D} (log_old : Fused L) (data_old : Fused D) (r : Result (Opened (Fused L) (Fused D)) (Ran L D))

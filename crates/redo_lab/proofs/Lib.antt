@@ -2,6 +2,7 @@ pub mod Alone
 pub mod Archives
 pub mod AskedLimits
 pub mod AtRest
+pub mod Begun
 pub mod Behind
 pub mod ByDrive
 pub mod Contents
@@ -16,6 +17,7 @@ pub mod Formats
 pub mod Found
 pub mod Fronts
 pub mod Fuses
+pub mod Kept
 pub mod Opened
 pub mod Opening
 pub mod Owed

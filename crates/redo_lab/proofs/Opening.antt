@@ -56,7 +56,7 @@ pub record HasEnd {L D : Type 0} (log data_told log_now data_now : Option Disk) 
   pub start : given.start ≡ start_after end
   pub read : WhereStillTold log_now data_now (OnContents log data_told (IsReadOff given end))
 
-at-start : (start : ℕ) → IsAtDataStart start → start ≡ start_after start
+pub at-start : (start : ℕ) → IsAtDataStart start → start ≡ start_after start
 at-start start place = sym (ap (λ b. cond b start (block_of start + BLOCK_SIZE + BLOCK_HEADER)) (eq-eqb _ _ place))
 
 end-of : {L D : Type 0} (log data_told log_now data_now : Option Disk) (given : store.Opened L D) → IsRunnable given

@@ -17,13 +17,15 @@ use Rattle.redo_drive.proofs.CallsOn.{calls_then}
 use Rattle.redo_drive.specs.{HasMemory, HoldsRun, IsOwedSynced, Owes, closed_run}
 use Rattle.redo_drive.specs.Archived.{IsReadBack}
 use Rattle.redo_drive.specs.Calls.{CallsOn}
-use Rattle.redo_drive.specs.Drive.{failed_in}
+use Rattle.redo_drive.specs.Drive.{ReadsToMarks, failed_in}
 use Rattle.redo_drive.specs.declared.drive.Driven.{Driven}
 use Rattle.redo_drive.specs.declared.drive.RunEnd.TheVariants as ended
 use Rattle.redo_logdev.specs.Part as log
+use Rattle.redo_memdisk.specs.{CallsThrough, seen_through}
 use Rattle.redo_memdisk.specs.declared.fused.Fused.{Fused}
 use Rattle.redo_store.specs.declared.opened.Opened.{Opened}
-use Rattle.redo_lab.proofs.Behind.{same-fused}
+use Rattle.redo_lab.proofs.Behind.{calls-same, same-fused}
+use Rattle.redo_lab.specs.Archiving.{read_back}
 use Rattle.redo_lab.specs.Handed.{IsSameFused}
 
 -- A run, and the same once blocks were read back: it ended so, and came so far; and the devices are the same, later.
@@ -44,6 +46,27 @@ read-none log_seen data_seen start driven = record {
   log_device = same-fused driven.closed.log.dev;
   data_device = same-fused driven.closed.store.dev;
   log_tells = still-same _ _ refl;
+  store_tells = still-same _ _ refl;
+}
+
+-- a device is the same after calls, or after none
+same-called : {D : Type 0} (seen : D → Seen) (gives : D → Call → D → Type 0) (old new : Fused D) (was now : Option DevError)
+    → CallsOn (CallsThrough seen gives) old was new now → IsSameFused old new
+same-called seen gives old new None now calls = calls-same (calls.live refl)
+same-called seen gives old new (Some e) now calls =
+    subst (λ (d : Fused _). IsSameFused old d) (sym (calls.over (λ none. cc)).0) (same-fused old)
+
+-- where blocks were
+pub read-some : {L D : Type 0} (log_seen : L → Seen) (log_gives : L → Call → L → Type 0) (data_seen : D → Seen) (start : ℕ)
+    (first : Driven (Fused L) (Fused D)) (part : log.Part (Fused L))
+    → IsReadBack (seen_through log_seen) (CallsThrough log_seen log_gives) first.closed.log part
+    → IsReadAfter log_seen data_seen start first (read_back first part)
+read-some log_seen log_gives data_seen start first part back = record {
+  ends = refl;
+  run = refl;
+  log_device = same-called log_seen log_gives first.closed.log.dev part.dev first.closed.log.failed part.failed back.calls;
+  data_device = same-fused first.closed.store.dev;
+  log_tells = back.told;
   store_tells = still-same _ _ refl;
 }
 
@@ -69,10 +92,6 @@ module _ {L D : Type 0} (log_seen : L → Seen) (log_gives : L → Call → L �
     holds = owes.holds;
     owed_synced = owes.owed_synced;
   }
-
-  -- the run, with the log part from which blocks were read back
-  abbrev pub read_back : Driven L D → log.Part L → Driven L D
-  read_back first part = record first { closed = record first.closed { log = part } }
 
   module _ (first : Driven L D) (part : log.Part L) (back : IsReadBack log_seen log_gives first.closed.log part) (owed : IsOwed first) where
     abbrev driven : Driven L D
@@ -142,3 +161,10 @@ module _ {L D : Type 0} (log_seen : L → Seen) (log_gives : L → Call → L �
           (λ data_disk so started. still-known (log_seen first.closed.log.dev).tells (log_seen part.dev).tells _ back.told (so started)))
           (owed.owed_synced before data_none reading left done memory_before as_read left_is));
     }
+
+    -- and reads give the marks that they gave
+    pub reads-back : ReadsToMarks log_seen data_seen opened script first.closed → ReadsToMarks log_seen data_seen opened script driven.closed
+    reads-back reads = λ log_none data_none reading as_read. known-as (log_seen opened.log.dev).tells _ _ (λ log_disk. known-as
+        (data_seen opened.store.dev).tells _ _
+        (λ data_disk so started. still-known (log_seen first.closed.log.dev).tells (log_seen part.dev).tells _ back.told (so started)))
+        (reads (none-before first.closed.log.failed refl log_none) data_none reading as_read)

@@ -25,15 +25,15 @@ use Rattle.redo_lab.proofs.ByDrive.{Drives, DrivesLater}
 use Rattle.redo_lab.proofs.Rereading.{IsReadSince, ReadsTo, Was, before, prepared-later}
 use Rattle.redo_lab.proofs.SomeLeft.{some-left}
 use Rattle.redo_lab.specs.Asked.{IsScriptFor, IsScriptRead, drive_of_seed}
-use Rattle.redo_lab.specs.Call.{Guarded, LabCall, WhereToldNow, mids}
+use Rattle.redo_lab.specs.Call.{Guarded, LabCall, Unfused, WhereToldNow, mids}
 use Rattle.redo_lab.specs.Cause.{CanPlay}
 use Rattle.redo_lab.specs.Devices.{IsArmed}
 use Rattle.redo_lab.specs.Laws.{Laws}
-use Rattle.redo_lab.specs.Runs.{ComesTo, CommandRuns, IsLeftBy, IsPlayedTo, IsReportOf, IsRunPrinted, IsToldRightly, ran_of, summary_of}
+use Rattle.redo_lab.specs.Runs.{ComesTo, CommandRuns, HasEnded, HasFailed, IsLeftBy, IsPlayedTo, IsReportOf, IsRunPrinted, IsToldRightly, ran_of, summary_of}
 use Rattle.redo_lab.specs.Store.{AreRefused}
 use Rattle.redo_lab.specs.Archived.{IsArchived, IsReportWith}
 use Rattle.redo_lab.specs.Told.{IsRunText, IsSummaryText}
-use Rattle.redo_lab.specs.Ending.{EndsWith}
+use Rattle.redo_lab.specs.Ending.{EndsWith, SparesArchive}
 
 -- OPENING WAS STOPPED.
 pub ends-stopped : (call : LabCall) (command : Command) (drive : Drive) (script : List ScriptLine) → CommandRuns call.source call.source_now command drive script → Laws
@@ -46,6 +46,18 @@ ends-stopped call command drive script running laws uncrashing f is = ends-faile
           (is.0.reads opened log data_disk log_is data_is log_on data_on log_fresh data_fresh opens log_now data_now log_now_is data_now_is log_bytes data_bytes image fair),
     ))
     is.1
+
+-- a run that isn't archived is ended by one of the two devices
+pub only-failed : (call : LabCall) (drive : Drive) → drive.archive ≡ false → (f : Fault) → HasEnded call drive f → HasFailed call f
+only-failed call drive not fault.ArchiveDevice ended = absurd (false≢true (sym not ∙ ended.0.0))
+only-failed call drive not f ended = ended
+
+-- a run whose lines were run isn't bound to spare its archive's device
+pub spares-printed : (archive : Unfused) (script : List ScriptLine) (played : declared.Played) (f : Option Fault) (o : Outcome)
+    → IsRunPrinted script (ran_of played) played.follows.items f o → SparesArchive archive o
+spares-printed archive script played f (outcome.Text text) printed = tt
+spares-printed archive script played f (outcome.Report text cut) printed = tt
+spares-printed archive script played f (outcome.Fault fault) printed = subst (λ (f : Fault). SparesArchive archive (outcome.Fault f)) (sym printed) tt
 
 -- A TEXT OF A RUN
 run-text : (call : LabCall) (command : Command) (drive : Drive) (script : List ScriptLine) (run : Ran) (left : List (ℕ × ℕ))
@@ -96,6 +108,9 @@ module _ (call : LabCall) (drive : Drive) (script : List ScriptLine) (played : d
   run-reported fault.DataDevice text was report = ends-left call (Run drive) drive script (runs-scripted drive None read) laws was.0 (outcome.Report text fault.DataDevice)
       (run-told (λ mark flushed. mark ≤ flushed) (Some fault.DataDevice) text was was.3 report, (risen-unstopped was.0.armed.data_device was.2.0, was.2.0, was.2.1), aside-armed was.0.armed)
       (λ can unfailed. absurd (omega (arith, unfailed.1.1, was.2.0)))
+  run-reported fault.ArchiveDevice text was report = ends-left call (Run drive) drive script (runs-scripted drive None read) laws was.0 (outcome.Report text fault.ArchiveDevice)
+      (run-told (λ mark flushed. mark ≤ flushed) (Some fault.ArchiveDevice) text was was.3 report, (was.2.0.1, was.2.1), aside-armed was.0.armed)
+      (λ can unfailed. absurd (can.archive_unfailed was.2.0.0 was.2.0.1))
   run-reported f text was report = absurd was.2
 
   -- THE LINES WERE RUN.
@@ -115,7 +130,7 @@ module _ (call : LabCall) (drives : Drives) (later : DrivesLater drives call.dri
     (running : CommandRuns call.source call.source_now (Gen seed users groups true max) (drive_of_seed seed max) script)
     (left_by : IsLeftBy (before call drives log_was data_was) (Gen seed users groups true max) (drive_of_seed seed max) no_stops script (Some run) follows Done)
     (told : IsToldRightly (before call drives log_was data_was) (drive_of_seed seed max) script (Some run) follows)
-    (played : IsPlayedTo (before call drives log_was data_was) None) where
+    (played : IsPlayedTo (before call drives log_was data_was) (drive_of_seed seed max) None) where
   abbrev asked : Command
   asked = Gen seed users groups true max
 

@@ -1,5 +1,5 @@
--- How a run is archived: its archive is begun, and what a drive leaves of it.
-use Rattle.std.specs.Prelude.{◌≡◌, ◌≤◌, ◌⊎◌, List}
+-- How a run is archived: its archive is begun, what a drive leaves of it, and what is appended to that.
+use Rattle.std.specs.Prelude.{◌≡◌, ◌≤◌, ◌⊎◌, List, None, Option, Some, ⊤}
 use Rattle.std.specs.List.{AllByRecursion}
 use Rattle.model_base.specs.{HasRisen}
 use Rattle.model_log.specs.{block_of, groups_of}
@@ -9,14 +9,61 @@ use Rattle.model_report.specs.declared.fault.Fault.TheVariants.{ArchiveDevice, M
 use Rattle.model_script.specs.declared.script.ScriptLine.{ScriptLine}
 use Rattle.model_store.specs.{IsStorable}
 use Rattle.model_theorem.specs.{Opened, Ran}
-use Rattle.redo_archive.specs.{PartArchives}
+use Rattle.redo_archive.specs.{IsBegun, PartArchives}
 use Rattle.redo_archive.specs.Part.{Part}
+use Rattle.redo_disk.specs.{Call}
 use Rattle.redo_disk.specs.Seen.{Seen}
+use Rattle.redo_disk.specs.declared.error.DevError.{DevError}
+use Rattle.redo_drive.specs.declared.drive.Driven.{Driven}
+use Rattle.redo_drive.specs.declared.drive.RunEnd.TheVariants.{Done}
+use Rattle.redo_finish.specs.{Finishes}
+use Rattle.redo_logdev.specs.Part as log
+use Rattle.redo_store.specs.declared.opened.Opened as store
 
 -- why no archive is begun on a device that has room: it failed, or memory ran out
 abbrev pub IsUnbegunBy : {A : Type 0} → (A → Seen) → A → Fault → A → Type 0
 IsUnbegunBy seen device fault left =
     ((fault ≡ ArchiveDevice) × HasRisen (seen device).faults (seen left).faults) ⊎ (fault ≡ Memory)
+
+-- an archive is begun on a device, if one was handed on
+abbrev pub AreBegun : {L D A : Type 0} → (A → Seen) → store.Opened L D → Option A → Option (Part A) → Type 0
+AreBegun seen opened None None = ⊤
+AreBegun seen opened (Some device) (Some part) = IsBegun seen opened.shape opened.start opened.pages device part
+AreBegun seen opened device part = ⊥
+
+-- none is, though a device was handed on
+abbrev pub AreUnbegunBy : {A : Type 0} → (A → Seen) → Option A → Fault → A → Type 0
+AreUnbegunBy seen None fault left = ⊥
+AreUnbegunBy seen (Some device) fault left = IsUnbegunBy seen device fault left
+
+-- what a call of the archive's device answered that failed, and that device
+abbrev pub failed_of : {A : Type 0} → Option (Part A) → Option DevError
+failed_of None = None
+failed_of (Some part) = part.failed
+
+abbrev pub device_of : {A : Type 0} → Option (Part A) → Option A
+device_of None = None
+device_of (Some part) = Some part.dev
+
+-- a run, with the log part from which blocks were read back
+abbrev pub read_back : {L D : Type 0} → Driven L D → log.Part L → Driven L D
+read_back driven part = record driven { closed = record driven.closed { log = part } }
+
+-- WHAT A RUN'S ARCHIVE LACKED WAS APPENDED: the log part was read alone. Where all users had ended and neither part failed, the
+-- archive has the run up to FLUSHED then.
+pub record HasFinished {L D A : Type 0} (log_seen : L → Seen) (gives : L → Call → L → Type 0) (seen : A → Seen)
+    (before after : Driven L D) (old new : Part A) : Type 0 where
+  pub read : after ≡ read_back before after.closed.log
+  pub finishes : Finishes log_seen gives seen before.closed.marks.flushed before.closed.log after.closed.log old new
+  pub done : before.ended ≡ Done → after.closed.log.failed ≡ None → new.failed ≡ None
+      → new.marks.mark ≡ before.closed.marks.flushed
+
+-- the same of a run that has an archive; of another there is nothing to be done
+abbrev pub HaveFinished : {L D A : Type 0} → (L → Seen) → (L → Call → L → Type 0) → (A → Seen)
+    → (before after : Driven L D) → (old new : Option (Part A)) → Type 0
+HaveFinished log_seen gives seen before after None None = after ≡ before
+HaveFinished log_seen gives seen before after (Some old) (Some new) = HasFinished log_seen gives seen before after old new
+HaveFinished log_seen gives seen before after old new = ⊥
 
 -- WHAT A DRIVE LEAVES OF AN ARCHIVE that was begun for its run: the groups of the run over the opened pages, up to a mark that is at
 -- most FLUSHED, as is the one asked for last; and no checkpoint is above the block of the mark. Each group fits the store.

@@ -1,5 +1,5 @@
 -- A call of `lab`, as it is seen from outside.
-use Rattle.std.specs.Prelude.{ℕ, ◌≡◌, ◌≢◌, ◌+◌, List, Option, Some, None}
+use Rattle.std.specs.Prelude.{ℕ, ◌≡◌, ◌≢◌, ◌+◌, List, Option, Some, None, ⊤}
 use Rattle.model_script.specs.declared.asked.Command.{Command}
 use Rattle.model_script.specs.declared.asked.Command.TheVariants.{Crash}
 use Rattle.model_script.specs.declared.asked.Drive.{Drive}
@@ -36,6 +36,12 @@ pub record Unfused : Type 0 where
 -- what is seen from outside of the device that was handed in, and is given back
 abbrev pub unfused : {A : Type 0} → (A → Seen) → A → A → Unfused
 unfused seen device now = record { entry = seen device; now = seen now }
+
+-- and of one that was handed on for a run to be archived, if one was
+abbrev pub IsUnfused : {A : Type 0} → (A → Seen) → (device now : Option A) → Unfused → Type 0
+IsUnfused seen None None archive = ⊤
+IsUnfused seen (Some device) (Some now) archive = archive ≡ unfused seen device now
+IsUnfused seen device now archive = ⊥
 
 -- What a call was handed, and what has become of it. `drives` says that the run of this script on this opened store is the one to
 -- which the drive leads, that this is told of the followers that it leaves, that it ended so, and what both devices meant then: the

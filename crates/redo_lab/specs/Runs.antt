@@ -1,6 +1,6 @@
 -- A command that runs a script: how far its run came, and what that leaves of the two devices.
 use Rattle.std.specs.Prelude.{ℕ, ◌≡◌, ◌≢◌, ◌≤◌, ◌<◌, ◌+◌, false, List, [], Option, Some, None, IfSome, Result, Ok, Err, length}
-use Rattle.std.specs.Prelude.{Vec}
+use Rattle.std.specs.Prelude.{Vec, ⊤}
 use Rattle.std.specs.Borrow.{Bor}
 use Rattle.std.specs.declared.alloc.Global.{Global}
 use Rattle.model_device.specs.Disk.{Disk}
@@ -45,12 +45,12 @@ use Rattle.redo_lab.specs.declared.playing.Ran as declared
 use Rattle.redo_lab.specs.declared.playing.Stops.{Stops}
 use Rattle.redo_lab.specs.Archived.{IsArchived}
 use Rattle.redo_lab.specs.Asked.{IsScriptFor, drive_of, reads_script}
-use Rattle.redo_lab.specs.Call.{BothDevices, LabCall, WhereOpened, WhereToldAtEntry, WhereToldNow, mids}
+use Rattle.redo_lab.specs.Call.{BothDevices, LabCall, Unfused, WhereOpened, WhereToldAtEntry, WhereToldNow, mids, unfused}
 use Rattle.redo_lab.specs.Devices.{AreArmed, ArePrepared, IsUnarmed, to_be_armed}
 use Rattle.redo_lab.specs.Handed.{AreOf, IsOpenedAt}
-use Rattle.redo_lab.specs.Ending.{EndsWith}
+use Rattle.redo_lab.specs.Ending.{EndsWith, SparesArchive}
 use Rattle.redo_lab.specs.Store.{DevicesOpenAs}
-use Rattle.redo_lab.specs.Told.{AreToldOf, AreLeftRead, AreMarksRead, HasRunScript, IsOpenedFirst, LosesOnlyBy}
+use Rattle.redo_lab.specs.Told.{AreToldOf, AreLeftRead, AreMarksRead, HasArchiveFailed, HasRunScript, IsOpenedFirst, LosesOnlyBy}
 
 -- the fault of a call whose store isn't formatted, read or opened
 abbrev pub fault_of : RecFault → Fault
@@ -108,11 +108,16 @@ HasFailed call fault.LogDevice = 0 < call.log.fuse.mid
 HasFailed call fault.DataDevice = (0 < call.store.fuse.mid) × (call.log.fuse.mid ≡ 0)
 HasFailed call _ = ⊥
 
--- no device failed, and what reads of the two give is read; or this one did
-abbrev pub IsPlayedTo : LabCall → Option Fault → Type 0
-IsPlayedTo call None = (mids call ≡ 0) × ((store : Opened) → WhereOpened call store (WhereToldNow call (λ log_disk data_disk.
+-- or the archive's device did, where no other did
+abbrev pub HasEnded : LabCall → Drive → Fault → Type 0
+HasEnded call drive fault.ArchiveDevice = HasArchiveFailed call drive × (mids call ≡ 0)
+HasEnded call drive fault = HasFailed call fault
+
+-- no device failed, and what reads of the two give is read; or this one ended the run
+abbrev pub IsPlayedTo : LabCall → Drive → Option Fault → Type 0
+IsPlayedTo call drive None = (mids call ≡ 0) × ((store : Opened) → WhereOpened call store (WhereToldNow call (λ log_disk data_disk.
     (reading : Reading) × IsReading log_disk.reads data_disk.reads reading)))
-IsPlayedTo call (Some fault) = HasFailed call fault
+IsPlayedTo call drive (Some fault) = HasEnded call drive fault
 
 -- what its archive is left with, if it has one: the run up to FLUSHED, if no device failed
 abbrev pub IsArchivedTo : LabCall → Drive → List ScriptLine → Ran → Option Fault → Type 0
@@ -130,12 +135,24 @@ ComesTo call command drive stops script (course.Stopped fault) =
     IsLeftBy call command drive stops script None [] ended.Done × HasFailed call fault
 ComesTo call command drive stops script (course.Played played fault) =
     IsLeftBy call command drive stops script (Some (ran_of played)) played.follows.items ended.Done
-    × IsToldRightly call drive script (Some (ran_of played)) played.follows.items × IsPlayedTo call fault
+    × IsToldRightly call drive script (Some (ran_of played)) played.follows.items × IsPlayedTo call drive fault
     × IsArchivedTo call drive script (ran_of played) fault
 
 -- the same of the devices that are given back, with which the call is this
 abbrev pub IsRanBy : {L D : Type 0} → (Fused L → Fused D → LabCall) → Command → Drive → Stops → List ScriptLine → declared.Ran L D → Type 0
 IsRanBy call command drive stops script ran = ComesTo (call ran.log ran.store) command drive stops script ran.course
+
+-- the archive's device is as it was, where the run ended before its archive was begun
+abbrev pub SparedBy : Course → Unfused → Type 0
+SparedBy (course.Ended fault) archive = SparesArchive archive (outcome.Fault fault)
+SparedBy (course.Stopped fault) archive = SparesArchive archive (outcome.Fault fault)
+SparedBy (course.Played played fault) archive = ⊤
+
+-- WHAT BECOMES OF THE ARCHIVE'S DEVICE, if one was handed on: it is given back, and so
+abbrev pub IsGivenBack : {A : Type 0} → (A → Seen) → (Unfused → Type 0) → (device now : Option A) → Type 0
+IsGivenBack seen Is None None = ⊤
+IsGivenBack seen Is (Some device) (Some now) = Is (unfused seen device now)
+IsGivenBack seen Is device now = ⊥
 
 -- THE STORE STANDS OPENED on both devices after their fuses were armed, the script fits it, and no call failed.
 pub record StandsReady {L D : Type 0} (log_seen : L → Seen) (data_seen : D → Seen) (call : LabCall) (drive : Drive) (stops : Stops) (script : List ScriptLine)
@@ -175,12 +192,13 @@ abbrev pub played_of : {L D : Type 0} → ℕ → Closed L D → Vec Followed Gl
 played_of start closed follows = record { start = start; history = closed.history; marks = closed.marks; follows = follows }
 
 -- why a run that all users ended comes to no text, or with a fault after it, by what a call of each device answered that
--- failed: a log fault goes before a data fault, and both before want of memory
-abbrev pub ended_by : (log_error data_error : Option DevError) → Option Fault
-ended_by (Some device.Failed) data_error = Some fault.LogDevice
-ended_by log_error (Some device.Failed) = Some fault.DataDevice
-ended_by None None = None
-ended_by log_error data_error = Some fault.Memory
+-- failed: a log fault goes before a data fault, both before the archive's, and all before want of memory
+abbrev pub ended_by : (log_error data_error archive_error : Option DevError) → Option Fault
+ended_by (Some device.Failed) data_error archive_error = Some fault.LogDevice
+ended_by log_error (Some device.Failed) archive_error = Some fault.DataDevice
+ended_by log_error data_error (Some device.Failed) = Some fault.ArchiveDevice
+ended_by None None None = None
+ended_by log_error data_error archive_error = Some fault.Memory
 
 -- what a run comes to that all users ended
 abbrev pub course_done : Played → Option Fault → Course

@@ -35,10 +35,14 @@ abbrev pub IsOpenedFirst : LabCall → Option Disk → Option Ran → Type 0
 IsOpenedFirst call log_met run = (store : Opened) → WhereOpened call store
     ((armed_from disk : Disk) → call.log.armed_from ≡ Some armed_from → log_met ≡ Some disk → IsOpenedBefore store.shape armed_from disk run)
 
+-- the device failed on which the run is archived
+abbrev pub HasArchiveFailed : LabCall → Drive → Type 0
+HasArchiveFailed call drive = (drive.archive ≡ true) × HasRisen call.archive.entry.faults call.archive.now.faults
+
 -- The marks of a run in threads are read, where both told and open a store and no call failed: what reads give of the
 -- devices that it left is a store whose log ends at WRITE, and whose newest checkpoint is CKPT.
 abbrev pub AreMarksRead : LabCall → Drive → Option Ran → (log_met store_met : Option Disk) → Type 0
-AreMarksRead call drive run log_met store_met = IfSome run (λ run. drive.threads ≡ true → mids call ≡ 0
+AreMarksRead call drive run log_met store_met = IfSome run (λ run. drive.threads ≡ true → mids call ≡ 0 → (HasArchiveFailed call drive → ⊥)
     → (opened : Opened) → WhereOpened call opened ((log store : Disk) → log_met ≡ Some log → store_met ≡ Some store
     → (reading : Reading) × IsReading log.reads store.reads reading
     × (reading.end ≡ run.marks.write) × (reading.ckpt ≡ run.marks.ckpt)))
@@ -67,9 +71,7 @@ AreToldOf call drive script (Some run) follows log_met store_met = AreFollowed c
 
 -- Something is lost of it only where a device failed since its fuse was armed, or the device on which it is archived.
 abbrev pub LosesOnlyBy : LabCall → Drive → Option Ran → List (ℕ × ℕ) → Type 0
-LosesOnlyBy call drive run left =
-    LosesOnlyByFailure (mids call) run left
-    ⊎ ((drive.archive ≡ true) × HasRisen call.archive.entry.faults call.archive.now.faults)
+LosesOnlyBy call drive run left = LosesOnlyByFailure (mids call) run left ⊎ HasArchiveFailed call drive
 
 -- The run, if opening wasn't stopped, and what is left of the script.
 pub record IsAccount (call : LabCall) (command : Command) (drive : Drive) (opened : Opened) (script : List ScriptLine) (run : Option Ran)

@@ -1,7 +1,7 @@
 // A command, done on its devices.
 ghost use Rattle.std.specs.Prelude.{ℕ, List, ◌≡◌, ◌+◌, ◌≤◌, true, false, IfSome, Some};
 ghost use Rattle.model_base.specs.declared.limits.TheConstants.{MAX_SCRIPT};
-ghost use Rattle.model_script.specs.declared.asked.Command.TheVariants.{Restore};
+ghost use Rattle.model_script.specs.declared.asked.Command.TheVariants.{Restore, Run};
 ghost use Rattle.model_script.specs.declared.asked.Drive.{Drive as Asked};
 ghost use Rattle.model_script.specs.declared.words.TheConstants.{MAX_WORKERS};
 ghost use Rattle.redo_io.specs.{SourceSeen, TakesAtMost};
@@ -9,7 +9,7 @@ ghost use Rattle.redo_io.specs.declared.read.TheConstants.{PIECE};
 ghost use Rattle.redo_lab.specs.Asked.{HasAllowedNumbers, IsScriptRead, calls_archive, runs_in_threads};
 ghost use Rattle.redo_lab.specs.Call.{Unfused, unfused};
 ghost use Rattle.redo_lab.specs.Handed.{AreOf, call_on};
-ghost use Rattle.redo_lab.specs.Ending.{EndsWith, OnlyReadsArchive};
+ghost use Rattle.redo_lab.specs.Ending.{EndsWith, OnlyReadsArchive, SparesArchive};
 ghost use Rattle.redo_lab.specs.Runs.{IsRanBy, command_with, stops_of};
 
 use crate::asked::Scripted;
@@ -17,12 +17,12 @@ use crate::crash_command::{Crashing, crash_command};
 use crate::gen_command::gen_command;
 use crate::laws::laws;
 use crate::outcome::{Done, unasked};
-use crate::playing::{Ran, Stops, by_turns, in_threads};
+use crate::playing::{Ran, Stops, by_turns, by_turns_with, in_threads};
 use crate::restore_command::restore_command;
 use crate::run_command::run_command;
 use crate::script::read_script;
 use crate::simple::{format_devices, print_pages, print_store};
-use model_script::{Command, Script, read_lines_are_ranged};
+use model_script::{Command, Drive, Script, read_lines_are_ranged};
 use redo_disk::Sectors;
 use redo_io::Source;
 use redo_threads::Gate;
@@ -75,6 +75,7 @@ fn source_by_turns<R: Threads + Sync, S: Source, L: Sectors, D: Sectors>(
 ) -> Done<L, D>
     requires within { HasAllowedNumbers (command_with asked.drive asked.crash) }
     requires by_turns { asked.drive.threads ≡ false }
+    requires unarchived { asked.drive.archive ≡ false }
     ensures ends { (words : List (List ℕ)) (archive : Unfused)
         → EndsWith (call_on L.seen L.gives D.seen D.gives words archive (S.seen src.old) (S.seen src.new) log store result.log result.store) (command_with asked.drive asked.crash) result.outcome }
     ensures entered { AreOf log store result.log result.store }
@@ -89,6 +90,63 @@ fn source_by_turns<R: Threads + Sync, S: Source, L: Sectors, D: Sectors>(
             after_run(rt, alloc, &script, ran, asked.crash)
         }
         Err(fault) => unasked(fault, log, store),
+    }
+}
+
+/// Runs the script of the source by turns, and archives the run on this device.
+fn source_archived<S: Source, L: Sectors, D: Sectors, A: Sectors>(
+    alloc: Global,
+    src: &mut S,
+    drive: Drive,
+    log: L,
+    store: D,
+    arch: A,
+) -> (Done<L, D>, A)
+    requires within { HasAllowedNumbers (Run drive) }
+    requires archived { drive.archive ≡ true }
+    ensures ends { (words : List (List ℕ))
+        → EndsWith (call_on L.seen L.gives D.seen D.gives words (unfused A.seen arch result.1) (S.seen src.old) (S.seen src.new) log store result.0.log result.0.store)
+        (Run drive) result.0.outcome }
+    ensures spares { SparesArchive (unfused A.seen arch result.1) result.0.outcome }
+    ensures entered { AreOf log store result.0.log result.0.store }
+    ensures taken { TakesAtMost (MAX_SCRIPT + PIECE) (S.seen src.old).left (S.seen src.new).left }
+{
+    laws();
+    read_lines_are_ranged();
+    match read_script(alloc, src) {
+        Ok(script) => {
+            let stops = stops_of(None);
+            let (ran, left) = by_turns_with(alloc, &script, &drive, stops, log, store, Some(arch));
+            (run_command(alloc, &script, ran), left.unwrap())
+        }
+        Err(fault) => (unasked(fault, log, store), arch),
+    }
+}
+
+/// Runs the script of the source by turns, and archives the run where that is asked.
+fn run_source<R: Threads + Sync, S: Source, L: Sectors, D: Sectors, A: Sectors>(
+    rt: &R,
+    alloc: Global,
+    src: &mut S,
+    drive: Drive,
+    log: L,
+    store: D,
+    arch: A,
+) -> (Done<L, D>, A)
+    requires within { HasAllowedNumbers (Run drive) }
+    requires by_turns { drive.threads ≡ false }
+    ensures ends { (words : List (List ℕ))
+        → EndsWith (call_on L.seen L.gives D.seen D.gives words (unfused A.seen arch result.1) (S.seen src.old) (S.seen src.new) log store result.0.log result.0.store)
+        (Run drive) result.0.outcome }
+    ensures archive { SparesArchive (unfused A.seen arch result.1) result.0.outcome × (drive.archive ≡ false → result.1 ≡ arch) }
+    ensures entered { AreOf log store result.0.log result.0.store }
+    ensures taken { TakesAtMost (MAX_SCRIPT + PIECE) (S.seen src.old).left (S.seen src.new).left }
+{
+    if drive.archive {
+        source_archived(alloc, src, drive, log, store, arch)
+    } else {
+        let asked = Scripted { drive, crash: None };
+        (source_by_turns(rt, alloc, src, asked, log, store), arch)
     }
 }
 
@@ -124,7 +182,8 @@ pub(crate) fn source_in_threads<
     }
 }
 
-/// A command that runs no script in threads, done on two devices; and the archive's device, which `restore` reads.
+/// A command that runs no script in threads, done on two devices; and the archive's device, which `restore` reads, and on which a
+/// run may be archived.
 pub(crate) fn done<R: Threads + Sync, S: Source, L: Sectors, D: Sectors, A: Sectors>(
     rt: &R,
     alloc: Global,
@@ -141,6 +200,7 @@ pub(crate) fn done<R: Threads + Sync, S: Source, L: Sectors, D: Sectors, A: Sect
         command result.0.outcome }
     ensures restores { (words : List (List ℕ)) (to : ℕ) → command ≡ Restore to
         → OnlyReadsArchive (call_on L.seen L.gives D.seen D.gives words (unfused A.seen arch result.1) (S.seen src.old) (S.seen src.new) log store result.0.log result.0.store) }
+    ensures spares { (drive : Asked) → command ≡ Run drive → SparesArchive (unfused A.seen arch result.1) result.0.outcome }
     ensures untouched { calls_archive (Some command) ≡ false → result.1 ≡ arch }
     ensures entered { AreOf log store result.0.log result.0.store }
     ensures taken { TakesAtMost (MAX_SCRIPT + PIECE) (S.seen src.old).left (S.seen src.new).left }
@@ -154,10 +214,7 @@ pub(crate) fn done<R: Threads + Sync, S: Source, L: Sectors, D: Sectors, A: Sect
             format_devices(alloc, pages, space, log_blocks, log, store),
             arch,
         ),
-        Command::Run { drive } => {
-            let asked = Scripted { drive, crash: None };
-            (source_by_turns(rt, alloc, src, asked, log, store), arch)
-        }
+        Command::Run { drive } => run_source(rt, alloc, src, drive, log, store, arch),
         Command::Crash {
             drive,
             stop_log,

@@ -8,6 +8,7 @@ mod commands;
 mod crash_command;
 mod ended;
 mod faults;
+mod fitted;
 mod following;
 mod gen_command;
 mod in_files;

@@ -1,41 +1,28 @@
-// The run of a script on two devices: they are prepared and opened, the script is judged, and its lines are run.
-ghost use Rattle.std.specs.Prelude.{◌≡◌, ◌≤◌, ◌<◌, ◌^◌, ℕ, List, true, false, IfOk};
+// The run of a script on two devices that stand ready for it: its lines are run, by turns or in threads, and archived or not.
+ghost use Rattle.std.specs.Prelude.{◌≡◌, ◌≤◌, ℕ, List, true, false, is_some};
 ghost use Rattle.std.specs.List.{AllByRecursion};
-ghost use Rattle.model_base.specs.{IsWithinLimits};
-ghost use Rattle.model_log.specs.declared.layout.TheConstants.{BLOCK_HEADER};
-ghost use Rattle.model_report.specs.declared.fault.Fault.TheVariants.{Memory};
 ghost use Rattle.model_script.specs.{IsScriptLine};
 ghost use Rattle.model_script.specs.declared.asked.Command.{Command};
+ghost use Rattle.model_script.specs.declared.asked.Command.TheVariants.{Run};
 ghost use Rattle.model_script.specs.declared.asked.Drive.{Drive as Asked};
 ghost use Rattle.model_script.specs.declared.words.TheConstants.{MAX_FOLLOWERS};
-ghost use Rattle.redo_drive.specs.{room_from};
-ghost use Rattle.redo_drive.specs.Startable.{MayBegin};
 ghost use Rattle.redo_io.specs.{SourceSeen};
-ghost use Rattle.redo_memdisk.specs.{entry_of};
 ghost use Rattle.redo_lab.specs.declared.playing.Course.TheVariants as ended;
-ghost use Rattle.redo_lab.specs.declared.playing.Stops.{Stops};
-ghost use Rattle.redo_lab.specs.Devices.{AreArmed, AreAsArmed};
-ghost use Rattle.redo_lab.specs.Call.{Unfused};
-ghost use Rattle.redo_lab.specs.Cause.{archive_size};
+ghost use Rattle.redo_lab.specs.Call.{IsUnfused, Unfused};
 ghost use Rattle.redo_lab.specs.Handed.{AreOf, call_on};
-ghost use Rattle.redo_lab.specs.Runs.{AreEntered, AreReady, CommandRuns, IsRanBy, course_done, course_of, ended_by, played_of, unopened};
+ghost use Rattle.redo_lab.specs.Runs.{CommandRuns, IsGivenBack, IsRanBy, SparedBy, course_done, course_of, ended_by, played_of};
 
-use crate::faults::fault_of;
+use crate::archiving::{begin_on, device_of, failed_of, finish_run, room_on};
+use crate::fitted::{ready, unplayed};
 use crate::following::{make_followers, told_of};
 use crate::laws::laws;
-use crate::prepare::prepare;
 use crate::turns::run_turns;
-use model_base::Shape;
-use model_log::BLOCK_HEADER;
+use model_archive::archive_reads;
 use model_report::{Fault, Followed, History, Marks};
-use model_script::{Drive, Script, fitting_archive, fitting_script};
+use model_script::{Drive, Script};
 use redo_disk::{DevError, Sectors};
 use redo_drive::{Driven, RunEnd};
-use redo_lsn::{round_of, run_layout};
 use redo_memdisk::Fused;
-use redo_open::open_store;
-use redo_recover::RecFault;
-use redo_script::{Unfit, judge};
 use redo_store::Opened;
 use redo_threads::{Gate, drive_in_threads};
 use std::alloc::Global;
@@ -78,29 +65,20 @@ pub struct Ran<L, D> {
     pub store: Fused<D>,
 }
 
-/// How far the log has room where it runs alone: one round from the checkpoint on, which stands where a run begins.
-fn room_from(log_only: bool, shape: &Shape, start: u64) -> Option<u64>
-    requires limits { IsWithinLimits shape.now }
-    requires header { BLOCK_HEADER ≤ start }
-    requires small { start < 2 ^ 61 }
-    ensures { result ≡ room_from log_only shape.now start }
-{
-    if log_only {
-        Some(start - BLOCK_HEADER + round_of(&run_layout(shape)))
-    } else {
-        None
-    }
-}
-
 /// Why a run that all users ended comes to no text, or with a fault after it, by what a call of each device answered that
-/// failed: a log fault goes before a data fault, and both before want of memory.
-fn ended_by(log: Option<DevError>, store: Option<DevError>) -> Option<Fault>
-    ensures { result ≡ ended_by log store }
+/// failed: a log fault goes before a data fault, both before the archive's, and all before want of memory.
+fn ended_by(
+    log: Option<DevError>,
+    store: Option<DevError>,
+    archive: Option<DevError>,
+) -> Option<Fault>
+    ensures { result ≡ ended_by log store archive }
 {
-    match (log, store) {
-        (Some(DevError::Failed), _) => Some(Fault::LogDevice),
-        (_, Some(DevError::Failed)) => Some(Fault::DataDevice),
-        (None, None) => None,
+    match (log, store, archive) {
+        (Some(DevError::Failed), _, _) => Some(Fault::LogDevice),
+        (_, Some(DevError::Failed), _) => Some(Fault::DataDevice),
+        (_, _, Some(DevError::Failed)) => Some(Fault::ArchiveDevice),
+        (None, None, None) => None,
         _ => Some(Fault::Memory),
     }
 }
@@ -115,19 +93,20 @@ fn course_done(played: Played, fault: Option<Fault>) -> Course
     }
 }
 
-/// What a run comes to that was driven.
+/// What a run comes to that was driven, by what a call of its archive's device answered that failed, too.
 fn close<L: Sectors, D: Sectors>(
     start: u64,
     driven: Driven<Fused<L>, Fused<D>>,
+    archive: Option<DevError>,
     follows: Vec<Followed>,
 ) -> Ran<L, D>
     ensures course { result.course ≡ course_of driven.ended (played_of start driven.closed follows)
-        (ended_by driven.closed.log.failed driven.closed.store.failed) }
+        (ended_by driven.closed.log.failed driven.closed.store.failed archive) }
     ensures log { result.log ≡ driven.closed.log.dev }
     ensures store { result.store ≡ driven.closed.store.dev }
 {
     let Driven { ended, closed } = driven;
-    let fault = ended_by(closed.log.failed(), closed.store.failed());
+    let fault = ended_by(closed.log.failed(), closed.store.failed(), archive);
     let played = Played {
         start,
         history: closed.history,
@@ -145,128 +124,65 @@ fn close<L: Sectors, D: Sectors>(
     }
 }
 
-/// A run that ended so before its first line, with both devices as they were.
-fn unplayed<L: Sectors, D: Sectors>(fault: Fault, log: Fused<L>, store: Fused<D>) -> Ran<L, D>
+/// A run on an opened store that ended so before its first line.
+fn unbegun<L: Sectors, D: Sectors>(fault: Fault, opened: Opened<Fused<L>, Fused<D>>) -> Ran<L, D>
     ensures course { result.course ≡ ended.Ended fault }
-    ensures log { result.log ≡ log }
-    ensures store { result.store ≡ store }
-{
-    Ran {
-        course: Course::Ended(fault),
-        log,
-        store,
-    }
-}
-
-/// A run on an opened store for which there was no memory.
-fn unbegun<L: Sectors, D: Sectors>(opened: Opened<Fused<L>, Fused<D>>) -> Ran<L, D>
-    ensures course { result.course ≡ ended.Ended Memory }
     ensures log { result.log ≡ opened.log.dev }
     ensures store { result.store ≡ opened.store.dev }
 {
-    unplayed(
-        Fault::Memory,
-        opened.log.into_dev(),
-        opened.store.into_dev(),
-    )
-}
-
-/// How a run came to an end whose store wasn't opened.
-fn unopened(fault: RecFault) -> Course
-    ensures { result ≡ unopened fault }
-{
-    match fault {
-        RecFault::LogDev | RecFault::DataDev => Course::Stopped(fault_of(fault)),
-        _ => Course::Ended(fault_of(fault)),
-    }
-}
-
-/// Opens the store on both devices, whose fuses are armed, for the run of a script that fits it, and an archive's
-/// device of so many bytes, if there is one.
-fn open_fitted<L: Sectors, D: Sectors>(
-    alloc: Global,
-    script: &Script,
-    log_only: bool,
-    archive_len: Option<u64>,
-    log: Fused<L>,
-    store: Fused<D>,
-) -> Result<Opened<Fused<L>, Fused<D>>, Ran<L, D>>
-    requires { AllByRecursion IsScriptLine script.now }
-    ensures begins { IfOk result (λ opened. MayBegin opened script.now log_only) }
-    ensures ready { (words : List (List ℕ)) (archive : Unfused) (source source_now : SourceSeen) (log_entry : L) (data_entry : D) (command : Command) (asked : Asked) (stops : Stops)
-        → CommandRuns source source_now command asked script.now → log_only ≡ asked.log_only → archive_len ≡ archive_size archive asked
-        → AreArmed (call_on L.seen L.gives D.seen D.gives words archive source source_now log_entry data_entry log store) stops
-        → AreAsArmed (call_on L.seen L.gives D.seen D.gives words archive source source_now log_entry data_entry log store)
-        → AreReady L.seen D.seen (call_on L.seen L.gives D.seen D.gives words archive source source_now log_entry data_entry) command asked stops script.now result }
-    ensures entered { AreEntered (entry_of log) (entry_of store) result }
-{
-    laws();
-    fitting_script();
-    fitting_archive();
-    let opened = match open_store(alloc, log, store) {
-        Ok(opened) => opened,
-        Err((fault, log, store)) => {
-            return Err(Ran {
-                course: unopened(fault),
-                log,
-                store,
-            });
-        }
-    };
-    let start = opened.start;
-    let room_end = room_from(log_only, &opened.shape, start);
-    match judge(alloc, &opened.shape, start, room_end, archive_len, script) {
-        Ok(()) => Ok(opened),
-        Err(Unfit::Misfit(misfit)) => Err(unplayed(
-            Fault::Fit(misfit),
-            opened.log.into_dev(),
-            opened.store.into_dev(),
-        )),
-        Err(Unfit::NoMemory) => Err(unplayed(
-            Fault::Memory,
-            opened.log.into_dev(),
-            opened.store.into_dev(),
-        )),
-    }
-}
-
-/// Prepares both devices, arms their fuses, and opens the store for the run of a script that fits it, and an archive's
-/// device of so many bytes, if there is one.
-fn ready<L: Sectors, D: Sectors>(
-    alloc: Global,
-    script: &Script,
-    log_only: bool,
-    archive_len: Option<u64>,
-    stops: Stops,
-    log: L,
-    store: D,
-) -> Result<Opened<Fused<L>, Fused<D>>, Ran<L, D>>
-    requires { AllByRecursion IsScriptLine script.now }
-    ensures begins { IfOk result (λ opened. MayBegin opened script.now log_only) }
-    ensures ready { (words : List (List ℕ)) (archive : Unfused) (source source_now : SourceSeen) (command : Command) (asked : Asked)
-        → CommandRuns source source_now command asked script.now → log_only ≡ asked.log_only → archive_len ≡ archive_size archive asked
-        → AreReady L.seen D.seen (call_on L.seen L.gives D.seen D.gives words archive source source_now log store) command asked stops script.now result }
-    ensures entered { AreEntered log store result }
-{
-    let mut log = Fused::plain(log);
-    let mut store = Fused::plain(store);
-    match prepare(&mut log, &mut store) {
-        Ok(()) => {}
-        Err(fault) => {
-            return Err(Ran {
-                course: Course::Ended(fault_of(fault)),
-                log,
-                store,
-            });
-        }
-    }
-    log.arm(stops.log);
-    store.arm(stops.store);
-    open_fitted(alloc, script, log_only, archive_len, log, store)
+    unplayed(fault, opened.log.into_dev(), opened.store.into_dev())
 }
 
 /// Runs the lines of a script by the turns of this drive, with its followers: on both devices, prepared, and with these stops
-/// once their fuses are armed.
+/// once their fuses are armed. Where a device is handed on for it, the run is archived.
+pub(crate) fn by_turns_with<L: Sectors, D: Sectors, A: Sectors>(
+    alloc: Global,
+    script: &Script,
+    drive: &Drive,
+    stops: Stops,
+    log: L,
+    store: D,
+    arch: Option<A>,
+) -> (Ran<L, D>, Option<A>)
+    requires lines { AllByRecursion IsScriptLine script.now }
+    requires few { drive.now.followers ≤ MAX_FOLLOWERS }
+    requires archives { (is_some arch ≡ drive.now.archive) × (drive.now.archive ≡ true → drive.now.own_writes ≡ false) }
+    ensures comes_to { (words : List (List ℕ)) (archive : Unfused) (source source_now : SourceSeen) (command : Command)
+        → CommandRuns source source_now command drive.now script.now → drive.now.threads ≡ false → (drive.now.archive ≡ true → command ≡ Run drive.now)
+        → IsUnfused A.seen arch result.1 archive
+        → IsRanBy (call_on L.seen L.gives D.seen D.gives words archive source source_now log store) command drive.now stops script.now result.0 }
+    ensures given_back { IsGivenBack A.seen (SparedBy result.0.course) arch result.1 }
+    ensures entered { AreOf log store result.0.log result.0.store }
+{
+    laws();
+    archive_reads();
+    let room = room_on(&arch);
+    let opened = match ready(alloc, script, drive.log_only, room, stops, log, store) {
+        Ok(opened) => opened,
+        Err(ran) => return (ran, arch),
+    };
+    let start = opened.start;
+    let Ok((followers, follows)) = make_followers(alloc, drive.followers, start) else {
+        return (unbegun(Fault::Memory, opened), arch);
+    };
+    let archive = match begin_on(alloc, &opened, arch) {
+        Ok(archive) => archive,
+        Err((fault, arch)) => return (unbegun(fault, opened), Some(arch)),
+    };
+    match run_turns(alloc, opened, script, drive, archive, followers) {
+        Ok((driven, actors, archive)) => {
+            let (driven, archive) = finish_run(driven, archive);
+            let follows = told_of(follows, actors.as_slice());
+            let ran = close(start, driven, failed_of(&archive), follows);
+            (ran, device_of(archive))
+        }
+        Err((_, log, store, archive)) => {
+            (unplayed(Fault::Memory, log, store), device_of(archive))
+        }
+    }
+}
+
+/// The same of a run that isn't archived.
 pub(crate) fn by_turns<L: Sectors, D: Sectors>(
     alloc: Global,
     script: &Script,
@@ -283,18 +199,11 @@ pub(crate) fn by_turns<L: Sectors, D: Sectors>(
         → IsRanBy (call_on L.seen L.gives D.seen D.gives words archive source source_now log store) command drive.now stops script.now result }
     ensures entered { AreOf log store result.log result.store }
 {
-    laws();
-    let opened = match ready(alloc, script, drive.log_only, None, stops, log, store) {
-        Ok(opened) => opened,
-        Err(ran) => return ran,
-    };
-    let start = opened.start;
-    let Ok((followers, follows)) = make_followers(alloc, drive.followers, start) else {
-        return unbegun(opened);
-    };
-    match run_turns(alloc, opened, script, drive, followers) {
-        Ok((driven, actors)) => close(start, driven, told_of(follows, actors.as_slice())),
-        Err((_, log, store)) => unplayed(Fault::Memory, log, store),
+    let arch: Option<L> = None;
+    let (ran, left) = by_turns_with(alloc, script, drive, stops, log, store, arch);
+    match left {
+        None => ran,
+        Some(_arch) => unreachable!(),
     }
 }
 
@@ -326,12 +235,15 @@ pub(crate) fn in_threads<R: Threads + Wait + Sync, L: Sectors + Send, D: Sectors
     };
     let start = opened.start;
     let Ok((followers, follows)) = make_followers(alloc, followers, start) else {
-        return unbegun(opened);
+        return unbegun(Fault::Memory, opened);
     };
     match drive_in_threads(
         rt, alloc, opened, script, log_only, own_writes, followers, gate,
     ) {
-        Ok((driven, actors)) => close(start, driven, told_of(follows, actors.as_slice())),
+        Ok((driven, actors)) => {
+            let follows = told_of(follows, actors.as_slice());
+            close(start, driven, None, follows)
+        }
         Err((_, log, store)) => unplayed(Fault::Memory, log, store),
     }
 }

@@ -2,8 +2,7 @@
 use crate::devices::{Devices, MemDevices, blank};
 use redo_disk::Sectors;
 use redo_io::{MemSink, MemSource};
-use redo_lab::{Ended, lab};
-use redo_memdisk::MemDisk;
+use redo_lab::lab;
 use redo_threads::{Gate, NoGate};
 use std::alloc::{AllocError, Global};
 use std::sync::Wait;
@@ -12,9 +11,6 @@ use std::thread::Threads;
 
 /// The script of most calls.
 pub(crate) const LINE: &str = "1 f b1 3 100 7";
-
-/// Bytes of the archive's device.
-const ARCHIVE: u64 = 65_536;
 
 /// A call, and what it came to once it was made.
 #[derive(Drop)]
@@ -56,22 +52,6 @@ fn sink_of(alloc: Global, way: &str) -> Result<MemSink, AllocError> {
     }
 }
 
-/// Makes the call of these words with this source and this sink on these devices and an archive's that holds zeros, whose users this
-/// gate may hold.
-fn ended_of<L: Sectors + Send + Drop, D: Sectors + Send + Drop, G: Gate>(
-    rt: &(impl AllocGlobal + Threads + Wait + Sync),
-    words: &[String],
-    source: &mut MemSource,
-    sink: &mut MemSink,
-    log: L,
-    store: D,
-    gate: &G,
-) -> Result<Ended<L, D, MemDisk>, AllocError> {
-    let alloc = rt.alloc();
-    let arch = MemDisk::new(alloc, ARCHIVE)?;
-    Ok(lab(rt, alloc, words, source, sink, log, store, arch, gate))
-}
-
 impl Call {
     /// A call with these words and this script, which goes `in pieces`, or where the `source fails` or the `sink fails`.
     pub(crate) fn by(
@@ -100,17 +80,20 @@ impl Call {
         devices: Devices<L, D>,
         gate: &G,
     ) -> Result<Devices<L, D>, AllocError> {
-        let Devices { log, store } = devices;
+        let Devices { log, store, arch } = devices;
         let words = self.words.as_slice();
-        let ended = ended_of(
+        let (source, sink) = (&mut self.source, &mut self.sink);
+        let ended = lab(
             rt,
+            rt.alloc(),
             words,
-            &mut self.source,
-            &mut self.sink,
+            source,
+            sink,
             log,
             store,
+            arch,
             gate,
-        )?;
+        );
         let fuse = ended.log.fuse();
         self.status = ended.status;
         self.early = fuse.early_calls;
@@ -118,6 +101,7 @@ impl Call {
         Ok(Devices {
             log: ended.log.into_inner(),
             store: ended.store.into_inner(),
+            arch: ended.arch,
         })
     }
 

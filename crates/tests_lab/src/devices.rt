@@ -37,11 +37,26 @@ const PAGE: u64 = 4096;
 /// Where the place of page 5 stands: after eight slots and five places.
 const PLACE: u64 = 13 * PAGE;
 
-/// A log device and a data device.
+/// Bytes of the archive's device.
+const ARCHIVE: u64 = 65_536;
+
+/// A log device and a data device, and the archive's.
 #[derive(Drop)]
 pub(crate) struct Devices<L, D> {
     pub(crate) log: L,
     pub(crate) store: D,
+    pub(crate) arch: MemDisk,
+}
+
+impl<L: Drop, D: Drop> Devices<L, D> {
+    /// Such devices, with an archive's that holds zeros.
+    pub(crate) fn of(alloc: Global, log: L, store: D) -> Result<Self, AllocError> {
+        Ok(Devices {
+            log,
+            store,
+            arch: MemDisk::new(alloc, ARCHIVE)?,
+        })
+    }
 }
 
 /// Such devices in memory.
@@ -49,10 +64,9 @@ pub(crate) type MemDevices = Devices<MemDisk, MemDisk>;
 
 /// Devices of the default sizes, which hold zeros.
 pub(crate) fn blank(alloc: Global) -> Result<MemDevices, AllocError> {
-    Ok(Devices {
-        log: MemDisk::new(alloc, LOG_LENGTH)?,
-        store: MemDisk::new(alloc, STORE_LENGTH)?,
-    })
+    let log = MemDisk::new(alloc, LOG_LENGTH)?;
+    let store = MemDisk::new(alloc, STORE_LENGTH)?;
+    Devices::of(alloc, log, store)
 }
 
 /// How many bytes of a sector's write a crash leaves where that is torn.
@@ -60,10 +74,9 @@ pub(crate) const CUT: usize = 100;
 
 /// Such devices, of which a crash tears the sectors that it loses.
 fn tearing(alloc: Global) -> Result<MemDevices, AllocError> {
-    Ok(Devices {
-        log: MemDisk::tearing(alloc, LOG_LENGTH, CUT)?,
-        store: MemDisk::tearing(alloc, STORE_LENGTH, CUT)?,
-    })
+    let log = MemDisk::tearing(alloc, LOG_LENGTH, CUT)?;
+    let store = MemDisk::tearing(alloc, STORE_LENGTH, CUT)?;
+    Devices::of(alloc, log, store)
 }
 
 /// A device of so many zeros, which fails this call, and of which a crash tears the sectors that it loses.
@@ -232,16 +245,16 @@ fn shortened(alloc: Global, device: &mut MemDisk, sectors: u32) -> Result<MemDis
     Ok(short)
 }
 
-/// The devices, of which one is cut as a name says: `log of SECTORS` or `data of SECTORS`.
+/// The devices, of which one is cut as a name says: `log of SECTORS`, `data of SECTORS` or `archive of SECTORS`.
 pub(crate) fn shorten(alloc: Global, devices: &mut MemDevices, name: &str) -> Result<bool, Fail> {
     let Some((device, sectors)) = name.split_once(" of ") else {
         return Ok(false);
     };
     let sectors = sectors.parse::<u32>()?;
-    if device == "log" {
-        devices.log = shortened(alloc, &mut devices.log, sectors)?;
-    } else {
-        devices.store = shortened(alloc, &mut devices.store, sectors)?;
+    match device {
+        "log" => devices.log = shortened(alloc, &mut devices.log, sectors)?,
+        "archive" => devices.arch = shortened(alloc, &mut devices.arch, sectors)?,
+        _ => devices.store = shortened(alloc, &mut devices.store, sectors)?,
     }
     Ok(true)
 }
@@ -286,8 +299,8 @@ pub(crate) fn change(devices: &mut MemDevices, name: &str) -> Result<(), DevErro
     }
 }
 
-/// New devices; those of `tearing` tear the sectors that a crash loses, and so do those of `log fails CALL` or
-/// `data fails CALL`, of which one fails a call.
+/// New devices; those of `tearing` tear the sectors that a crash loses, and so do those of `log fails CALL`,
+/// `data fails CALL` or `archive fails CALL`, of which one fails a call.
 pub(crate) fn new_devices(alloc: Global, name: &str) -> Result<MemDevices, Fail> {
     let Some((device, call)) = name.split_once(" fails ") else {
         let devices = match name {
@@ -298,10 +311,10 @@ pub(crate) fn new_devices(alloc: Global, name: &str) -> Result<MemDevices, Fail>
     };
     let call = call.parse::<u64>()?;
     let mut devices = tearing(alloc)?;
-    if device == "log" {
-        devices.log = failing(alloc, LOG_LENGTH, call)?;
-    } else {
-        devices.store = failing(alloc, STORE_LENGTH, call)?;
+    match device {
+        "log" => devices.log = failing(alloc, LOG_LENGTH, call)?,
+        "archive" => devices.arch = failing(alloc, ARCHIVE, call)?,
+        _ => devices.store = failing(alloc, STORE_LENGTH, call)?,
     }
     Ok(devices)
 }

@@ -60,13 +60,13 @@ const SIX_LINES: &str =
     "1 f b1 3 100 7\n2 w s 4 38 0102\n1 n i 5\n2 f b8 6 40 1;b1 7 101 9\n1 w b1 3 101 8\n2 n b4 2 40 5\n";
 
 /// The word of a line at this place, as a number; of another word the greatest.
-fn number(line: &str, place: usize) -> u64 {
+pub(crate) fn number(line: &str, place: usize) -> u64 {
     let word = line.split(' ').nth(place).unwrap_or("");
     word.parse::<u64>().unwrap_or(u64::MAX)
 }
 
 /// How many groups a report tells of that end at or below an lsn: lines `g START END USER K STATE`.
-fn groups_up_to(report: &str, lsn: u64) -> u64 {
+pub(crate) fn groups_up_to(report: &str, lsn: u64) -> u64 {
     let mut count = 0u64;
     for line in report.lines() {
         if line.starts_with("g ") && number(line, 2) <= lsn {
@@ -77,7 +77,7 @@ fn groups_up_to(report: &str, lsn: u64) -> u64 {
 }
 
 /// FLUSHED and the checkpoint, as a report tells them: `marks WTAIL WRITE FLUSHED CKPT`.
-fn marks_of(report: &str) -> Option<(u64, u64)> {
+pub(crate) fn marks_of(report: &str) -> Option<(u64, u64)> {
     for line in report.lines() {
         if line.starts_with("marks ") {
             return Some((number(line, 3), number(line, 4)));

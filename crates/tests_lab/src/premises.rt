@@ -140,10 +140,9 @@ fn silent_devices(
     log: Option<Harm>,
     store: Option<Harm>,
 ) -> Result<Devices<SilentDisk, SilentDisk>, AllocError> {
-    Ok(Devices {
-        log: SilentDisk::new(alloc, LOG_LENGTH, log)?,
-        store: SilentDisk::new(alloc, STORE_LENGTH, store)?,
-    })
+    let log = SilentDisk::new(alloc, LOG_LENGTH, log)?;
+    let store = SilentDisk::new(alloc, STORE_LENGTH, store)?;
+    Devices::of(alloc, log, store)
 }
 
 /// Plays a table on such devices, of which this sector of the log device comes to harm in a crash.
@@ -274,10 +273,9 @@ fn invalid_devices(
     log: u64,
     store: u64,
 ) -> Result<Devices<InvalidDisk, InvalidDisk>, AllocError> {
-    Ok(Devices {
-        log: InvalidDisk::new(alloc, log)?,
-        store: InvalidDisk::new(alloc, store)?,
-    })
+    let log = InvalidDisk::new(alloc, log)?;
+    let store = InvalidDisk::new(alloc, store)?;
+    Devices::of(alloc, log, store)
 }
 
 /// New devices that tell what they hold, which end within a sector, or which tell of a write of fewer bytes than a sector. They have
@@ -331,10 +329,10 @@ fn devices_that_tell_nothing_serve_as_well(rt: HostRuntime) -> Result<(), Fail> 
     play_harming_log(&rt, None, CRASH)?;
     let log = MemDisk::new(rt.alloc(), LOG_LENGTH)?;
     let store = SilentDisk::new(rt.alloc(), STORE_LENGTH, None)?;
-    left_of(&rt, Devices { log, store }, CRASH)?;
+    left_of(&rt, Devices::of(rt.alloc(), log, store)?, CRASH)?;
     let log = SilentDisk::new(rt.alloc(), LOG_LENGTH, None)?;
     let store = MemDisk::new(rt.alloc(), STORE_LENGTH)?;
-    left_of(&rt, Devices { log, store }, CRASH)?;
+    left_of(&rt, Devices::of(rt.alloc(), log, store)?, CRASH)?;
     Ok(())
 }
 
@@ -357,14 +355,14 @@ fn a_count_at_its_end(rt: HostRuntime) -> Result<(), Fail> {
     let store = MemDisk::new(rt.alloc(), STORE_LENGTH)?;
     left_of(
         &rt,
-        Devices { log, store },
+        Devices::of(rt.alloc(), log, store)?,
         "crash | 1 f b1 3 100 7 / 1 f b1 3 100 8 / | 0 | open 8204 / g 8204 8210 1 0 lost / left 1 1 / marks 8210 8210 8204 8192 / recovered 0 8204",
     )?;
     let log = MemDisk::new(rt.alloc(), LOG_LENGTH)?;
     let store = worn(rt.alloc(), STORE_LENGTH, 0)?;
     left_of(
         &rt,
-        Devices { log, store },
+        Devices::of(rt.alloc(), log, store)?,
         "crash | 1 f b1 3 100 7 / 1 f b1 3 100 8 / | 7 | fault data device",
     )?;
     Ok(())

@@ -209,10 +209,9 @@ fn crash_on(
 /// Small devices that tear the sectors which a crash loses. The device of this name fails this call, the first of which come in
 /// formatting.
 fn small_devices(alloc: Global, failing: &str, call: u64) -> Result<MemDevices, AllocError> {
-    let mut devices = Devices {
-        log: MemDisk::tearing(alloc, SMALL_LOG, CUT)?,
-        store: MemDisk::tearing(alloc, SMALL_STORE, CUT)?,
-    };
+    let log = MemDisk::tearing(alloc, SMALL_LOG, CUT)?;
+    let store = MemDisk::tearing(alloc, SMALL_STORE, CUT)?;
+    let mut devices = Devices::of(alloc, log, store)?;
     let calls = vec![in alloc; call]?;
     match failing {
         "log" => devices.log = MemDisk::tearing_and_failing(alloc, SMALL_LOG, CUT, calls)?,

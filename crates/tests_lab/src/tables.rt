@@ -1,8 +1,10 @@
 // Tables of calls. A row is `DEVICES | WORDS | SCRIPT | STATUS | PRINTED`.
 //
-// DEVICES: `new`, `tearing`, `log fails CALL` and `data fails CALL` are new ones, `same` are those that the row above left.
+// DEVICES: `new`, `tearing`, `log fails CALL`, `data fails CALL` and `archive fails CALL` are new ones, `same` are those that the row
+// above left.
 // `in pieces`, `source fails` and `sink fails` are new ones too, and say how the script comes and the report goes.
-// `log of SECTORS` and `data of SECTORS` cut one of those that were left, and any other name is a change of them (`change`).
+// `log of SECTORS`, `data of SECTORS` and `archive of SECTORS` cut one of those that were left, and any other name is a change of
+// them (`change`).
 // SCRIPT and PRINTED: ` /` ends a line; after the last printed line it is left out. `(07*62)` stands for 62 times `07`, and
 // `[LINE*130]` for 130 times LINE. `..` stands for any printed text; where nothing is printed the cell is left out.
 use crate::calls::{Call, calls_of_opening};

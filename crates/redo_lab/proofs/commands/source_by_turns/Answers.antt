@@ -1,6 +1,6 @@
 use Rattle.std.proofs.Common.{ap}
 use Rattle.redo_lab.proofs.Alone.{scripted-unscripted}
-use Rattle.redo_lab.proofs.AskedLimits.{within-followers, within-unarchived, within-workers}
+use Rattle.redo_lab.proofs.AskedLimits.{within-followers, within-workers}
 use Rattle.redo_lab.proofs.Ends.{runs-scripted}
 use Rattle.redo_lab.proofs.commands.source_by_turns.Goals as goal
 
@@ -10,9 +10,6 @@ by_turns-ran-requires-clause-lines g c =
 
 pub by_turns-ran-requires-clause-few : goal.by_turns-ran-requires-clause-few
 by_turns-ran-requires-clause-few g c = within-followers c.args.asked.drive c.args.asked.crash c.requires.within
-
-pub by_turns-ran-requires-clause-unarchived : goal.by_turns-ran-requires-clause-unarchived
-by_turns-ran-requires-clause-unarchived g c = within-unarchived c.args.asked.drive c.args.asked.crash c.requires.within
 
 pub after_run-requires-clause-workers : goal.after_run-requires-clause-workers
 after_run-requires-clause-workers g c = λ κs live. within-workers c.args.asked.drive c.args.asked.crash c.requires.within

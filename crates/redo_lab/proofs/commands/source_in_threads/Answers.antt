@@ -19,7 +19,7 @@ pub returns-in-Ok-clause-ends : goal.returns-in-Ok-clause-ends
 returns-in-Ok-clause-ends g c = λ words archive. c.after_run.ensures.ends c.args.asked.drive words archive _ _ c.args.log c.args.store
     (rw c.stops_of-stops.ensures at c.in_threads-ran.ensures.comes_to words archive _ _ _ c.args.asked.drive
     (runs-scripted c.args.asked.drive c.args.asked.crash c.in-Ok.ensures.script) refl refl c.requires.in_threads
-    (within-unarchived c.args.asked.drive c.args.asked.crash c.requires.within))
+    (within-unarchived c.args.asked.drive c.args.asked.crash c.requires.within c.requires.in_threads))
     c.in-Ok.ensures.script c.requires.within
 
 pub returns-in-Err-clause-ends : goal.returns-in-Err-clause-ends

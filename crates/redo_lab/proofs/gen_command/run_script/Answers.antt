@@ -2,8 +2,9 @@ use Rattle.std.proofs.Common.{refl, inl, inr, lit≤, true}
 use Rattle.model_script.specs.declared.asked.Command.TheVariants.{Gen}
 use Rattle.redo_lab.proofs.Ends.{ends-failed, uncrashing-gen}
 use Rattle.redo_lab.proofs.Entered.{entries-then}
-use Rattle.redo_lab.proofs.RunEnds.{ends-stopped}
+use Rattle.redo_lab.proofs.RunEnds.{ends-stopped, only-failed}
 use Rattle.redo_lab.specs.Asked.{drive_of_seed}
+use Rattle.redo_lab.specs.Handed.{call_on}
 use Rattle.redo_lab.specs.Runs.{CommandRuns}
 use Rattle.redo_lab.proofs.gen_command.run_script.Goals as goal
 use Rattle.redo_lab.proofs.gen_command.run_script.Goals.{in-Ended2, in-None, in-Played, in-Some}
@@ -29,7 +30,9 @@ returns-clause-ends g c = λ words archive source users groups is.
         | in-Some cut ↦ rw (cut.outcome-is, cut.log-is, cut.store-is)
             (let was = rw (w.in-Played.is, cut.in-Some.is) at comes_to in
             ends-failed _ (Gen seed users groups true max) (drive_of_seed seed max) c.args.script.now running c.laws.ensures
-            (uncrashing-gen _ seed users groups max) cut.in-Some.fault was.0 tt was.2)
+            (uncrashing-gen _ seed users groups max) cut.in-Some.fault was.0 tt
+            (only-failed (call_on g.L.Sectors.seen g.L.Sectors.gives g.D.Sectors.seen g.D.Sectors.gives words archive source source c.args.log c.args.store
+            c.by_turns-course.result.log c.by_turns-course.result.store) (drive_of_seed seed max) refl cut.in-Some.fault was.2))
         | in-None done ↦ rw (done.outcome-is, done.log-is, done.store-is)
             (done.read_after.ensures.ends words archive source c.args.log c.args.store seed users groups max c.args.script.now running (rw (w.in-Played.is, done.in-None.is) at comes_to))
       ])

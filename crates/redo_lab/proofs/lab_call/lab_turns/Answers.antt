@@ -1,8 +1,4 @@
-use Rattle.std.proofs.Common.{ap, inr, subst, ◌∙◌, Some}
-use Rattle.model_script.specs.declared.asked.Command.{Command}
-use Rattle.redo_lab.specs.Call.{unfused}
-use Rattle.redo_lab.proofs.Unarchived.{spares-untouched}
-use Rattle.redo_lab.specs.Asked.{HasAllowedNumbers, calls_archive}
+use Rattle.std.proofs.Common.{inr}
 use Rattle.redo_lab.proofs.lab_call.lab_turns.Goals as goal
 
 pub returns-clause-call : goal.returns-clause-call
@@ -14,8 +10,7 @@ returns-clause-call g c = λ words asked. rw (c.end.ensures.log, c.end.ensures.s
       outcome = c.done-done.result.0.outcome;
       ends = c.done-done.ensures.ends words;
       restores = c.done-done.ensures.restores words;
-      spares = λ drive run. spares-untouched (unfused g.A.Sectors.seen c.args.arch c.done-done.result.1) _ (ap g.A.Sectors.seen (c.done-done.ensures.untouched
-          (ap (λ (command : Command). calls_archive (Some command)) run ∙ (subst HasAllowedNumbers run c.requires.within).1)));
+      spares = c.done-done.ensures.spares;
       printed = c.end.ensures.printed;
     },
   );

@@ -1,9 +1,10 @@
-use Rattle.std.proofs.Common.{subst, ℕ}
+use Rattle.std.proofs.Common.{None, subst, ℕ}
 use Rattle.redo_drive.specs.Views.{views_of}
 use Rattle.redo_lab.proofs.ByDrive.{spends-turns, tells-threads}
 use Rattle.redo_lab.proofs.Driving.{driven-comes}
 use Rattle.redo_lab.proofs.Entered.{both-same, entries-then, owed-entries}
 use Rattle.redo_lab.proofs.Followers.{told-in-room}
+use Rattle.redo_lab.proofs.Kept.{kept-none}
 use Rattle.redo_lab.proofs.Opening.{unplayed-memory}
 use Rattle.redo_lab.proofs.Owed.{as-owed, read-none}
 use Rattle.redo_memdisk.specs.{CallsThrough, seen_through}
@@ -32,16 +33,18 @@ returns-in-Ok-drive_in_threads-clause-comes_to g c = λ words archive source sou
     (as-owed (seen_through g.L.Sectors.seen) (CallsThrough g.L.Sectors.seen g.L.Sectors.gives) (seen_through g.D.Sectors.seen) (CallsThrough g.D.Sectors.seen g.D.Sectors.gives)
     c.in-Ok.opened c.args.script.now c.in-Ok-drive_in_threads.driven c.in-Ok-drive_in_threads.ensures.owed)
     (λ threads. c.in-Ok-drive_in_threads.ensures.reads)
-    c.in-Ok-make_followers.followers.items c.told_of.result
+    c.in-Ok-make_followers.followers.items c.told_of-follows.result
     c.in-Ok-make_followers.ensures.new
     (subst (λ (n : ℕ). AreUntold n c.in-Ok-make_followers.followers.items) few c.in-Ok-make_followers.ensures.untold)
     c.in-Ok-drive_in_threads.ensures.followed
     (told-in-room c.args.followers _ c.in-Ok-make_followers.followers.items c.as_slice.result.now
-    c.in-Ok-drive_in_threads.actors.items c.told_of.result.items c.as_slice.ensures.value
+    c.in-Ok-drive_in_threads.actors.items c.told_of-follows.result.items c.as_slice.ensures.value
     c.in-Ok-make_followers.ensures.untold c.in-Ok-drive_in_threads.ensures.followed.same
-    c.in-Ok-make_followers.ensures.room.1 (c.told_of.ensures c.in-Ok-make_followers.ensures.room.0))
+    c.in-Ok-make_followers.ensures.room.1 (c.told_of-follows.ensures c.in-Ok-make_followers.ensures.room.0))
     (spends-turns g.L.Sectors.seen g.L.Sectors.gives g.D.Sectors.seen g.D.Sectors.gives _ _ asked)
-    none c.in-Ok-drive_in_threads.ensures.lost)
+    None
+    (kept-none g.L.Sectors.seen g.L.Sectors.gives g.D.Sectors.seen g.D.Sectors.gives c.in-Ok.opened c.args.script.now archive asked.archive
+    c.in-Ok-drive_in_threads.driven none c.in-Ok-drive_in_threads.ensures.lost))
 
 pub returns-in-Err-drive_in_threads-clause-comes_to : goal.returns-in-Err-drive_in_threads-clause-comes_to
 returns-in-Err-drive_in_threads-clause-comes_to g c = λ words archive source source_now command asked running same few is none.
@@ -51,7 +54,9 @@ returns-in-Err-drive_in_threads-clause-comes_to g c = λ words archive source so
 
 pub returns-in-Ok-drive_in_threads-clause-entered : goal.returns-in-Ok-drive_in_threads-clause-entered
 returns-in-Ok-drive_in_threads-clause-entered g c = rw (c.close.ensures.log, c.close.ensures.store)
-    (entries-then c.in-Ok.ensures.entered (owed-entries c.in-Ok-drive_in_threads.ensures.owed))
+    (entries-then c.in-Ok.ensures.entered (owed-entries
+    (as-owed (seen_through g.L.Sectors.seen) (CallsThrough g.L.Sectors.seen g.L.Sectors.gives) (seen_through g.D.Sectors.seen) (CallsThrough g.D.Sectors.seen g.D.Sectors.gives)
+    c.in-Ok.opened c.args.script.now c.in-Ok-drive_in_threads.driven c.in-Ok-drive_in_threads.ensures.owed)))
 
 pub returns-in-Err-drive_in_threads-clause-entered : goal.returns-in-Err-drive_in_threads-clause-entered
 returns-in-Err-drive_in_threads-clause-entered g c = rw (c.unplayed.ensures.log, c.unplayed.ensures.store)

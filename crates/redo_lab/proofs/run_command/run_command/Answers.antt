@@ -1,7 +1,7 @@
 use Rattle.std.proofs.Common.{None, inl, inr}
 use Rattle.model_script.specs.declared.asked.Command.TheVariants.{Run}
 use Rattle.redo_lab.proofs.Ends.{runs-scripted, uncrashing-run}
-use Rattle.redo_lab.proofs.RunEnds.{ends-stopped, run-played}
+use Rattle.redo_lab.proofs.RunEnds.{ends-stopped, run-played, spares-printed}
 use Rattle.redo_lab.proofs.run_command.run_command.Goals as goal
 use Rattle.redo_lab.proofs.run_command.run_command.Goals.{in-Ended2, in-Played}
 
@@ -19,3 +19,13 @@ returns-clause-ends g c = λ asked words archive source source_now log store ran
 
 pub returns-clause-entered : goal.returns-clause-entered
 returns-clause-entered g c = λ log store entered. entered
+
+pub returns-clause-spares : goal.returns-clause-spares
+returns-clause-spares g c = λ archive spared.
+    elim c.match-course.branch [
+      | in-Ended2 w ↦ rw w.outcome-is (elim w.in-Ended.is [
+        | inl ended ↦ rw ended at spared
+        | inr stopped ↦ rw stopped at spared
+      ])
+      | in-Played w ↦ rw w.outcome-is (spares-printed archive c.args.script.now w.in-Played.played w.in-Played.fault w.print_run-outcome.result w.print_run-outcome.ensures)
+    ]

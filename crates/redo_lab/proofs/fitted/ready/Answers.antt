@@ -9,7 +9,7 @@ use Rattle.redo_lab.proofs.Entered.{entered-then}
 use Rattle.redo_lab.proofs.Fuses.{armed-now}
 use Rattle.redo_lab.specs.Call.{Unfused}
 use Rattle.redo_lab.proofs.Rereading.{prepared-later}
-use Rattle.redo_lab.proofs.playing.ready.Goals as goal
+use Rattle.redo_lab.proofs.fitted.ready.Goals as goal
 
 -- whatever the archive's device and the source are
 abbrev no_device : Seen
@@ -77,3 +77,6 @@ returns-clause-entered g c = entered-then c.arm.new.self c.arm-2.new.self c.open
 
 pub returns-clause-begins : goal.returns-clause-begins
 returns-clause-begins g c = c.open_fitted.ensures.begins
+
+pub returns-clause-archive_fits : goal.returns-clause-archive_fits
+returns-clause-archive_fits g c = c.open_fitted.ensures.archive_fits

@@ -3,7 +3,7 @@ use Rattle.std.proofs.Common.{refl, ◌∙◌}
 use Rattle.redo_lab.proofs.Entered.{both-entries, both-same, entries-then}
 use Rattle.redo_lab.proofs.Opened.{is-opening, misfits, opens-keeps, opens-ready, opens-unmoved, stands-ready, unjudged, unopened-comes}
 use Rattle.redo_lab.specs.Handed.{call_on}
-use Rattle.redo_lab.proofs.playing.open_fitted.Goals as goal
+use Rattle.redo_lab.proofs.fitted.open_fitted.Goals as goal
 
 pub returns-in-Err-clause-ready : goal.returns-in-Err-clause-ready
 returns-in-Err-clause-ready g c = λ words archive source source_now log_entry data_entry command asked stops running same room armed uncalled. rw c.unopened.ensures
@@ -47,3 +47,6 @@ returns-in-Err-Misfit-clause-entered g c = entries-then (both-entries c.in-Ok.en
 pub returns-clause-entered : goal.returns-clause-entered
 returns-clause-entered g c = entries-then (both-entries c.in-Ok.ensures.called.log_calls c.in-Ok.ensures.called.data_calls)
     (both-same (c.unplayed-in-Err-NoMemory.ensures.log ∙ c.into_dev-in-Err-NoMemory.ensures) (c.unplayed-in-Err-NoMemory.ensures.store ∙ c.into_dev-in-Err-NoMemory-2.ensures))
+
+pub returns-in-Ok-judge-clause-archive_fits : goal.returns-in-Ok-judge-clause-archive_fits
+returns-in-Ok-judge-clause-archive_fits g c = c.fitting_archive.ensures _ _ _ _ _ c.in-Ok-judge.ensures.fits
