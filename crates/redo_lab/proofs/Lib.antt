@@ -8,6 +8,7 @@ pub mod ByDrive
 pub mod Contents
 pub mod CrashEnds
 pub mod CrashTold
+pub mod DrivenEnds
 pub mod Driving
 pub mod Ends
 pub mod Entered
