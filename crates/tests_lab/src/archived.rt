@@ -91,8 +91,8 @@ same | restore --to 8205     |                | 10 | fault fit to 8205
     )
 }
 
-/// Four lines: the groups of two take a block each.
-const LINES: &str = "1 f s 3 38 (07*489) / 1 f b1 4 100 7 / 1 w s 5 38 (08*489) / 1 f b1 4 101 8 /";
+/// Three lines: the groups of two take a block each.
+const LINES: &str = "1 f s 3 38 (07*489) / 1 f b1 4 100 7 / 1 w s 5 38 (08*489) /";
 
 /// The picks that keep no write, every other write, and all of them.
 const PICKS: [u64; 3] = [0, 6_148_914_691_236_517_205, 18_446_744_073_709_551_615];
@@ -116,8 +116,7 @@ fn see_restored(
     Ok((!is_above, left))
 }
 
-/// Sees what is restored of the archive of a reported run, at the end of each group and just before it; whether something is for
-/// FLUSHED.
+/// Sees what is restored of the archive of a reported run, where it starts and at the end of each group; whether something is for FLUSHED.
 fn see_archive(
     rt: &(impl Abort + AllocGlobal + Threads + Wait + Sync),
     report: &str,
@@ -132,21 +131,19 @@ fn see_archive(
     for line in report.lines() {
         if line.starts_with("g ") {
             let end = number(line, 2);
-            for lsn in [end.saturating_sub(1), end] {
-                let (is_there, devices) = see_restored(rt, report, flushed, lsn, left)?;
-                left = devices;
-                assert!(rt; is_restored || !is_there, "{report}");
-                is_restored = is_there;
-                if is_there {
-                    mark = lsn;
-                }
+            let (is_there, devices) = see_restored(rt, report, flushed, end, left)?;
+            left = devices;
+            assert!(rt; is_restored || !is_there, "{report}");
+            is_restored = is_there;
+            if is_there {
+                mark = end;
             }
         }
     }
     Ok(mark == flushed)
 }
 
-/// Runs the four lines, archived, on devices of this name: the report, and the devices after it.
+/// Runs the three lines, archived, on devices of this name: the report, and the devices after it.
 fn run_on(
     rt: &(impl AllocGlobal + Threads + Wait + Sync),
     words: &str,
@@ -169,7 +166,7 @@ fn restores_each_prefix_of_a_run(rt: HostRuntime) -> Result<(), Fail> {
         let (report, mut left) = run_on(&rt, words, "new")?;
         left.arch.crash(0);
         assert!(rt; report.starts_with("0\n"), "{words}: {report}");
-        assert!(rt; groups_up_to(&report, u64::MAX) == 4, "{words}: {report}");
+        assert!(rt; groups_up_to(&report, u64::MAX) == 3, "{words}: {report}");
         assert!(rt; see_archive(&rt, &report, left)?, "{words}: {report}");
     }
     Ok(())
