@@ -79,7 +79,7 @@ module _ {L D : Type 0} (log_seen : L → Seen) (log_gives : L → Call → L �
     (told : TellsOf drive.threads drive.own_writes log_seen log_gives data_seen data_gives drive given script (views_of actors) first)
     (after : IsReadAfter log_seen data_seen given.start first driven)
     (owes : IsOwed (seen_through log_seen) (CallsThrough log_seen log_gives) (seen_through data_seen) (CallsThrough data_seen data_gives) given script driven)
-    (reads : drive.threads ≡ true
+    (reads : drive.threads ≡ true → driven.closed.lost ≡ None
     → ReadsToMarks (seen_through log_seen) (seen_through data_seen) given script driven.closed)
     (followers : List (Following Kept)) (follows : Vec Followed Global)
     (new : AreNewFollowers given.start followers) (untold : AreUntold drive.followers followers)
@@ -261,17 +261,17 @@ module _ {L D : Type 0} (log_seen : L → Seen) (log_gives : L → Call → L �
       (read.reading, read.is_read)
 
   -- in threads with the marks that are told
-  marks-read : driven.ended ≡ Done → HasMemory driven.closed
+  marks-read : driven.ended ≡ Done → HasMemory driven.closed → driven.closed.lost ≡ None
       → driven.closed.log.failed ≡ None → driven.closed.store.failed ≡ None
       → AreMarksRead call drive (Some run) call.log.now.tells call.store.now.tells
-  marks-read done memory log_none data_none threads unfailed alive opened log_entry data_entry log_is data_is log_on data_on
+  marks-read done memory lost_none log_none data_none threads unfailed alive opened log_entry data_entry log_is data_is log_on data_on
       log_fresh data_fresh opens log_now data_now log_now_is data_now_is =
       let AtMarks : Reading → Disk → Disk → Type 0 = λ was log_disk data_disk. (reading : Reading)
       → IsReading log_disk.reads data_disk.reads reading
       → (reading.end ≡ driven.closed.marks.write) × (reading.ckpt ≡ driven.closed.marks.ckpt) in
       let read = read-now done memory log_none data_none opened log_entry data_entry log_is data_is log_on data_on
       log_fresh data_fresh opens log_now data_now log_now_is data_now_is in
-      let found = run-found AtMarks (reads threads log_none data_none)
+      let found = run-found AtMarks (reads threads lost_none log_none data_none)
       opened log_entry data_entry log_is data_is log_on data_on log_fresh data_fresh opens in
       let marks = found.1 log_now data_now log_now_is data_now_is read.0 read.1 in
       (read.0, read.1, marks.0, marks.1)
@@ -333,12 +333,12 @@ module _ {L D : Type 0} (log_seen : L → Seen) (log_gives : L → Call → L �
     followers = followers-told;
   }
 
-  told-unfailed : driven.ended ≡ Done → HasMemory driven.closed
+  told-unfailed : driven.ended ≡ Done → HasMemory driven.closed → driven.closed.lost ≡ None
       → driven.closed.log.failed ≡ None → driven.closed.store.failed ≡ None
       → IsToldRightly call drive script (Some run) follows.items
-  told-unfailed done memory log_none data_none = record {
+  told-unfailed done memory lost_none log_none data_none = record {
     loses = loses-by error refl done memory;
-    marks = marks-read done memory log_none data_none;
+    marks = marks-read done memory lost_none log_none data_none;
     followers = followers-told;
   }
 
@@ -415,7 +415,7 @@ module _ {L D : Type 0} (log_seen : L → Seen) (log_gives : L → Call → L �
       let memory : HasMemory driven.closed = λ lacks. ⊎_elim (λ log. let e = sym log_is ∙ log in absurd (cc)) (λ others.
       ⊎_elim (λ store. let e = sym data_is ∙ store in absurd (cc)) (λ lost. let e = sym (unlost error_is) ∙ lost in absurd (cc)) others) lacks in (
         left-so Done done,
-        told-unfailed done memory log_is data_is,
+        told-unfailed done memory (unlost error_is) log_is data_is,
         (omega (arith, log-mid, data-mid, ap failures log_is, ap failures data_is), read-now done memory log_is data_is),
         archived-whole done log_is error_is,
       )
