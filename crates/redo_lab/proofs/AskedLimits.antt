@@ -1,5 +1,6 @@
 -- The numbers of a command that is asked for are within its limits.
-use Rattle.std.proofs.Common.{ℕ, ◌≡◌, ◌≤◌, ◌-◌, ◌^◌, ◌&&◌, ◌||◌, Bool, true, false, nat_le, if◌then◌else◌, List, [], ◌∷◌, codes, Option, Some, None, IfSome, refl, subst, sym, ◌∙◌, arith, lit≤}
+use Rattle.std.proofs.Common.{ℕ, ◌≡◌, ◌≤◌, ◌-◌, ◌^◌, ◌&&◌, Bool, true, false, nat_le, if◌then◌else◌, List, [], ◌∷◌, codes, Option, Some, None, IfSome, refl, subst, sym, ◌∙◌, arith, lit≤}
+use Rattle.std.proofs.lemmas.Bool.{false≢true}
 use Rattle.std.specs.Option.{option_map, option_and_then}
 use Rattle.std.specs.Str.{bytes_eq}
 use Rattle.model_base.specs.declared.limits.TheConstants.{DEFAULT_LOG_BLOCKS, DEFAULT_PAGES, DEFAULT_SPACE, MAX_LOG_BLOCKS, MAX_PAGES, MIN_LOG_BLOCKS}
@@ -17,7 +18,7 @@ use Rattle.model_script.specs.declared.misfit.TheConstants.{MAX_USERS}
 use borrow.Author.Tests.{leb-true}
 use Rattle.model_script.specs.declared.asked.Drive.{Drive}
 use Rattle.redo_lab.specs.declared.crash_command.Crashing.{Crashing}
-use Rattle.redo_lab.specs.Asked.{HasAllowedNumbers, command_of, is_undriven}
+use Rattle.redo_lab.specs.Asked.{HasAllowedNumbers, command_of}
 use Rattle.redo_lab.specs.Runs.{command_with}
 
 -- the number is between these
@@ -66,11 +67,7 @@ allowed-some false different o command is = cc
 allowed-command : (names : List Name) (options : List Given) (o : Option Command) (command : Command) → where_allowed names options o ≡ Some command → o ≡ Some command
 allowed-command names options o command is = allowed-some (are_among names options) (are_different options) o command is
 
--- the numbers of a command for which there is a drive
-abbrev IsAllowed : Command → Type 0
-IsAllowed command = is_undriven command ≡ false → HasAllowedNumbers command
-
-format-within : (options : List Given) (command : Command) → given_format options ≡ Some command → IsAllowed command
+format-within : (options : List Given) (command : Command) → given_format options ≡ Some command → HasAllowedNumbers command
 format-within options command is =
     let pages = and_then-some _ (number_or 1 MAX_PAGES DEFAULT_PAGES (given_number name.Pages options)) command is in
     let space = and_then-some _ (number_or 0 (2 ^ 32 - 1) DEFAULT_SPACE (given_number name.Space options)) command pages.2 in
@@ -78,7 +75,7 @@ format-within options command is =
     let some : IsBetween 1 MAX_PAGES pages.0 = or-between 1 MAX_PAGES DEFAULT_PAGES pages.0 (given_number name.Pages options) (lit≤ tt, lit≤ tt) pages.1 in
     let many : IsBetween MIN_LOG_BLOCKS MAX_LOG_BLOCKS blocks.0 =
     or-between MIN_LOG_BLOCKS MAX_LOG_BLOCKS DEFAULT_LOG_BLOCKS blocks.0 (given_number name.LogBlocks options) (lit≤ tt, lit≤ tt) blocks.1 in
-    subst IsAllowed blocks.2 (λ no. (some.0, some.1, many.0, many.1))
+    subst HasAllowedNumbers blocks.2 (some.0, some.1, many.0, many.1)
 
 -- the drive's followers are few, and it archives its run just where that is asked
 abbrev IsDriveOf : Bool → Drive → Type 0
@@ -91,34 +88,34 @@ drive-within archive options drive is =
     subst (IsDriveOf archive) followers.2
     (or-at-most 1 MAX_FOLLOWERS 0 followers.0 (given_number name.Followers options) (lit≤ tt) followers.1, refl)
 
-run-within : (options : List Given) (command : Command) → given_run options ≡ Some command → IsAllowed command
+run-within : (options : List Given) (command : Command) → given_run options ≡ Some command → HasAllowedNumbers command
 run-within options command is =
     let run = map-some Run (given_drive (is_given name.Archive options) options) command is in
-    subst IsAllowed run.2 (λ no. ((drive-within (is_given name.Archive options) options run.0 run.1).0, no))
+    subst HasAllowedNumbers run.2 (drive-within (is_given name.Archive options) options run.0 run.1).0
 
 workers-within : (options : List Given) (workers : ℕ) → given_workers options ≡ Some workers → IsBetween 1 MAX_WORKERS workers
 workers-within options workers is = or-between 1 MAX_WORKERS 1 workers (given_number name.Workers options) (lit≤ tt, lit≤ tt) is
 
-crash-within : (options : List Given) (command : Command) → given_crash options ≡ Some command → IsAllowed command
+crash-within : (options : List Given) (command : Command) → given_crash options ≡ Some command → HasAllowedNumbers command
 crash-within options command is =
     let drive = and_then-some _ (given_drive false options) command is in
     let workers = map-some _ (given_workers options) command drive.2 in
     let between = workers-within options workers.0 workers.1 in
     let its = drive-within false options drive.0 drive.1 in
-    subst IsAllowed workers.2 (λ no. (its.0, its.1, between.0, between.1))
+    subst HasAllowedNumbers workers.2 (its.0, its.1, between.0, between.1)
 
-recover-within : (options : List Given) (command : Command) → option_map Recover (given_workers options) ≡ Some command → IsAllowed command
+recover-within : (options : List Given) (command : Command) → option_map Recover (given_workers options) ≡ Some command → HasAllowedNumbers command
 recover-within options command is =
     let workers = map-some Recover (given_workers options) command is in
-    subst IsAllowed workers.2 (λ no. workers-within options workers.0 workers.1)
+    subst HasAllowedNumbers workers.2 (workers-within options workers.0 workers.1)
 
-dump-within : (why : Bool) (command : Command) → Some (Dump why) ≡ Some command → IsAllowed command
-dump-within why command is = let same : Dump why ≡ command = cc in subst IsAllowed same (λ no. tt)
+dump-within : (why : Bool) (command : Command) → Some (Dump why) ≡ Some command → HasAllowedNumbers command
+dump-within why command is = let same : Dump why ≡ command = cc in subst HasAllowedNumbers same tt
 
-restore-within : (to : Option ℕ) (command : Command) → option_map Restore to ≡ Some command → IsAllowed command
-restore-within to command is = let restore = map-some Restore to command is in subst IsAllowed restore.2 (λ no. tt)
+restore-within : (to : Option ℕ) (command : Command) → option_map Restore to ≡ Some command → HasAllowedNumbers command
+restore-within to command is = let restore = map-some Restore to command is in subst HasAllowedNumbers restore.2 tt
 
-gen-within : (options : List Given) (values : List ℕ) (command : Command) → given_gen options values ≡ Some command → IsAllowed command
+gen-within : (options : List Given) (values : List ℕ) (command : Command) → given_gen options values ≡ Some command → HasAllowedNumbers command
 gen-within options [] command is = cc
 gen-within options (seed ∷ []) command is = cc
 gen-within options (seed ∷ users ∷ []) command is = cc
@@ -127,15 +124,15 @@ gen-within options (seed ∷ users ∷ groups ∷ []) command is =
     let many = and_then-some _ (number_within 0 _ groups) command some.2 in
     let max = map-some _ (number_or 0 _ _ (given_number name.Max options)) command many.2 in
     let between = within-between 1 MAX_USERS users some.0 some.1 in
-    subst IsAllowed max.2 (λ no. (between.0, between.1))
+    subst HasAllowedNumbers max.2 (between.0, between.1)
 gen-within options (seed ∷ users ∷ groups ∷ more ∷ values) command is = cc
 
 plain-within : (is_format is_run is_crash is_recover is_dump is_restore : Bool) (format run crash recover dump restore : Option Command) (command : Command)
-    → (format ≡ Some command → IsAllowed command) → (run ≡ Some command → IsAllowed command) → (crash ≡ Some command → IsAllowed command)
-    → (recover ≡ Some command → IsAllowed command) → (dump ≡ Some command → IsAllowed command) → (restore ≡ Some command → IsAllowed command)
+    → (format ≡ Some command → HasAllowedNumbers command) → (run ≡ Some command → HasAllowedNumbers command) → (crash ≡ Some command → HasAllowedNumbers command)
+    → (recover ≡ Some command → HasAllowedNumbers command) → (dump ≡ Some command → HasAllowedNumbers command) → (restore ≡ Some command → HasAllowedNumbers command)
     → (if is_format then format else (if is_run then run else (if is_crash then crash else (if is_recover then recover else (if is_dump then dump
     else (if is_restore then restore else None)))))) ≡ Some command
-    → IsAllowed command
+    → HasAllowedNumbers command
 plain-within true is_run is_crash is_recover is_dump is_restore format run crash recover dump restore command a b c d e f is = a is
 plain-within false true is_crash is_recover is_dump is_restore format run crash recover dump restore command a b c d e f is = b is
 plain-within false false true is_recover is_dump is_restore format run crash recover dump restore command a b c d e f is = c is
@@ -155,7 +152,7 @@ crash_names = name.StopLog ∷ name.StopData ∷ name.Pick ∷ name.Workers ∷ 
 
 command-within : (text : List ℕ) (options : List Given) (values : List ℕ) (is_gen : Bool) (command : Command)
     → (if is_gen then where_allowed (name.Run ∷ name.Max ∷ []) options (given_gen options values)
-    else elim values [ [] ↦ plain_command text options | value ∷ others ↦ None ]) ≡ Some command → IsAllowed command
+    else elim values [ [] ↦ plain_command text options | value ∷ others ↦ None ]) ≡ Some command → HasAllowedNumbers command
 command-within text options values true command is = gen-within options values command (allowed-command (name.Run ∷ name.Max ∷ []) options (given_gen options values) command is)
 command-within text options [] false command is = plain-within
     (bytes_eq text (codes "format")) (bytes_eq text (codes "run")) (bytes_eq text (codes "crash")) (bytes_eq text (codes "recover")) (bytes_eq text (codes "dump"))
@@ -174,24 +171,18 @@ command-within text options [] false command is = plain-within
 command-within text options (value ∷ others) false command is = cc
 
 -- what is asked for is within its limits
-asked-within : (words : List (List ℕ)) (asked : Asked) → asked_of words ≡ Some asked → IsAllowed asked.command
+asked-within : (words : List (List ℕ)) (asked : Asked) → asked_of words ≡ Some asked → HasAllowedNumbers asked.command
 unfolding asked_of
 asked-within [] asked is = cc
 asked-within (text ∷ texts) asked is =
     let said = and_then-some _ (said_from Any texts) asked is in
     let command = map-some _ (commands.named_command text said.0.options said.0.values) asked said.2 in
-    subst (λ (asked : Asked). IsAllowed asked.command) command.2 (command-within text said.0.options said.0.values _ command.0 command.1)
-
-kept-command : (undriven : Bool) (asked command : Command) → is_undriven asked ≡ undriven → (if undriven then None else Some asked) ≡ Some command
-    → (asked ≡ command) × (is_undriven asked ≡ false)
-kept-command true asked command is some = cc
-kept-command false asked command is some = (cc, is)
+    subst (λ (asked : Asked). HasAllowedNumbers asked.command) command.2 (command-within text said.0.options said.0.values _ command.0 command.1)
 
 pub command-of-within : (words : List (List ℕ)) (command : Command) → command_of words ≡ Some command → HasAllowedNumbers command
 command-of-within words command is =
-    let asked = and_then-some _ (asked_of words) command is in
-    let kept = kept-command (is_undriven asked.0.command) asked.0.command command refl asked.2 in
-    subst HasAllowedNumbers kept.0 (asked-within words asked.0 asked.1 kept.1)
+    let asked = map-some (λ (asked : Asked). asked.command) (asked_of words) command is in
+    subst HasAllowedNumbers asked.2 (asked-within words asked.0 asked.1)
 
 -- of a script's crash
 pub within-workers : (asked : Drive) (crash : Option Crashing) → HasAllowedNumbers (command_with asked crash)
@@ -202,26 +193,11 @@ within-workers asked (Some crash) is = (is.2, is.3)
 -- the followers of a script's run
 pub within-followers : (asked : Drive) (crash : Option Crashing) → HasAllowedNumbers (command_with asked crash)
     → asked.followers ≤ MAX_FOLLOWERS
-within-followers asked None is = is.0
+within-followers asked None is = is
 within-followers asked (Some crash) is = is.0
 
--- one that is archived is run by turns, and its users don't write for themselves
-driven-so : (archive threads own_writes : Bool) → (archive && (threads || own_writes)) ≡ false → archive ≡ true
-    → (threads ≡ false) × (own_writes ≡ false)
-driven-so true false false driven is = (refl, refl)
-driven-so true true own_writes driven is = absurd (cc)
-driven-so true false true driven is = absurd (cc)
-driven-so false threads own_writes driven is = absurd (cc)
-
-pub within-archived : (drive : Drive) → HasAllowedNumbers (Run drive) → drive.archive ≡ true → (drive.threads ≡ false) × (drive.own_writes ≡ false)
-within-archived drive is archived = driven-so drive.archive drive.threads drive.own_writes is.1 archived
-
-by-archive : (archive : Bool) → (archive ≡ true → ⊥) → archive ≡ false
-by-archive true not = absurd (not refl)
-by-archive false not = refl
-
--- a run in threads isn't archived, nor one that is crashed
-pub within-unarchived : (asked : Drive) (crash : Option Crashing) → HasAllowedNumbers (command_with asked crash) → asked.threads ≡ true → asked.archive ≡ false
-within-unarchived asked None is threads =
-    by-archive asked.archive (λ archived. let none = (within-archived asked is archived).0 in let z = sym none ∙ threads in cc)
-within-unarchived asked (Some crash) is threads = is.1
+-- a run that is archived isn't crashed
+pub within-run : (asked : Drive) (crash : Option Crashing) → HasAllowedNumbers (command_with asked crash) → asked.archive ≡ true
+    → crash ≡ None
+within-run asked None is archived = refl
+within-run asked (Some crash) is archived = absurd (false≢true (sym is.1 ∙ archived))

@@ -1,5 +1,5 @@
 -- The archive of a run, begun on a device that was handed on for it.
-use Rattle.std.proofs.Common.{ℕ, ◌≡◌, ◌≤◌, ◌+◌, Bool, true, false, Option, Some, None, IfSome, IsSome, List, if◌then◌else◌, is_some, option_map, refl, sym, ap, subst, ◌∙◌, ⊎_elim, arith, length, map}
+use Rattle.std.proofs.Common.{ℕ, ◌≡◌, ◌≤◌, ◌+◌, Bool, true, false, not, Option, Some, None, IfSome, List, if◌then◌else◌, is_some, option_map, refl, sym, ap, subst, ◌∙◌, ⊎_elim, arith, length, map}
 use Rattle.model_archive.specs.{IsRunStart, pages_end}
 use Rattle.model_base.specs.declared.shape.Shape.{Shape}
 use Rattle.model_base.specs.{HasRisen}
@@ -59,24 +59,20 @@ module _ {L D A : Type 0} (seen : A → Seen) (given : Opened L D) where
   begun-so None (Some begun) are = absurd are
   begun-so (Some device) None are = absurd are
 
-  -- an archive that a drive may go on with, of users that don't write for themselves
-  pub begun-new : (script : List ScriptLine) (archived own_writes : Bool) (device : Option A) (begun : Option (Part A))
+  -- an archive that a drive may go on with
+  pub begun-new : (script : List ScriptLine) (device : Option A) (begun : Option (Part A))
       → AreBegun seen given device begun → ArchiveFits given.shape given.start (option_map (λ device. (seen device).size) device) script
-      → is_some device ≡ archived → (archived ≡ true → own_writes ≡ false)
-      → IfSome begun (λ part. IsNewArchive seen given script part × (own_writes ≡ false))
-  begun-new script archived own_writes None None are fits is plain = tt
-  begun-new script archived own_writes (Some device) (Some begun) are fits is plain = (
-    record {
-      live = are.live;
-      shape = are.shape_is;
-      start = are.start_is;
-      begun = are.marks_are;
-      room = (let size = are.size in omega (arith, size, fits));
-    },
-    plain (sym is),
-  )
-  begun-new script archived own_writes None (Some begun) are fits is plain = absurd are
-  begun-new script archived own_writes (Some device) None are fits is plain = absurd are
+      → IfSome begun (IsNewArchive seen given script)
+  begun-new script None None are fits = tt
+  begun-new script (Some device) (Some begun) are fits = record {
+    live = are.live;
+    shape = are.shape_is;
+    start = are.start_is;
+    begun = are.marks_are;
+    room = (let size = are.size in omega (arith, size, fits));
+  }
+  begun-new script None (Some begun) are fits = absurd are
+  begun-new script (Some device) None are fits = absurd are
 
 -- WHAT BECOMES OF THE DEVICE
 
@@ -86,15 +82,6 @@ given-same seen course None = tt
 given-same seen (course.Ended f) (Some device) = spares-untouched (unfused seen device device) (outcome.Fault f) refl
 given-same seen (course.Stopped f) (Some device) = spares-untouched (unfused seen device device) (outcome.Fault f) refl
 given-same seen (course.Played played f) (Some device) = tt
-
--- it is given back
-pub given-some : {A : Type 0} (seen : A → Seen) (Is : Unfused → Type 0) (device : A) (now : Option A) → IsGivenBack seen Is (Some device) now → IsSome now
-given-some seen Is device None back = absurd back
-given-some seen Is device (Some left) back = refl
-
-pub given-is : {A : Type 0} (seen : A → Seen) (Is : Unfused → Type 0) (device : A) (now : Option A) (left : A) → now ≡ Some left
-    → IsGivenBack seen Is (Some device) now → Is (unfused seen device left)
-given-is seen Is device now left is back = subst (λ (now : Option _). IsGivenBack seen Is (Some device) now) is back
 
 -- of a run that ended for want of memory, or by it
 unspared : (f : Fault) (archive : Unfused) → (f ≡ fault.ArchiveDevice) → SparedBy (course.Ended f) archive
@@ -130,6 +117,59 @@ given-run seen how played cause None None is = tt
 given-run seen how played cause (Some device) (Some now) is = spared-run how played cause (unfused seen device now)
 given-run seen how played cause None (Some now) is = absurd (cc)
 given-run seen how played cause (Some device) None is = absurd (cc)
+
+-- as many are given back as are handed on
+given-as : {A : Type 0} (seen : A → Seen) (Is : Unfused → Type 0) (device now : Option A) → IsGivenBack seen Is device now
+    → is_some now ≡ is_some device
+given-as seen Is None None back = refl
+given-as seen Is (Some device) (Some now) back = refl
+given-as seen Is None (Some now) back = absurd back
+given-as seen Is (Some device) None back = absurd back
+
+-- one is handed on where a run is archived
+pub handed-on : {A : Type 0} (arch : A) (archived : Bool) (on : Option A) → on ≡ (if archived then Some arch else None) → is_some on ≡ archived
+handed-on arch true on is = ap is_some is
+handed-on arch false on is = ap is_some is
+
+-- ONE THAT WAS HANDED ON where a run is archived, and kept where it isn't
+module _ {A : Type 0} (seen : A → Seen) (Is : Unfused → Type 0) (arch : A) where
+  abbrev On : Bool → Option A
+  On archived = if archived then Some arch else None
+
+  abbrev Kept-back : Bool → Option A
+  Kept-back archived = if archived then None else Some arch
+
+  one-back : (archived : Bool) → is_some (On archived) ≡ not (is_some (Kept-back archived))
+  one-back true = refl
+  one-back false = refl
+
+  pub handed-one : (archived : Bool) (on kept left : Option A) → on ≡ On archived → kept ≡ Kept-back archived → IsGivenBack seen Is on left
+      → is_some left ≡ not (is_some kept)
+  handed-one archived on kept left is keeps back =
+      given-as seen Is on left back ∙ ap is_some is ∙ one-back archived ∙ sym (ap (λ (o : Option A). not (is_some o)) keeps)
+
+  same-handed : (archived : Bool) (device : A) → Some device ≡ On archived → arch ≡ device
+  same-handed true device is = cc
+  same-handed false device is = absurd (cc)
+
+  pub back-unfused : (archived : Bool) (on left : Option A) (now : A) → on ≡ On archived → IsGivenBack seen Is on left
+      → IfSome left (λ device. now ≡ device) → IsUnfused seen on left (unfused seen arch now)
+  back-unfused archived None None now is back same = tt
+  back-unfused archived (Some device) (Some left) now is back same =
+      ap (λ (a : A). unfused seen a now) (same-handed archived device is) ∙ ap (λ (a : A). unfused seen device a) same
+  back-unfused archived None (Some left) now is back same = absurd back
+  back-unfused archived (Some device) None now is back same = absurd back
+
+  pub back-is : (archived : Bool) (on left : Option A) (now : A) → on ≡ On archived → archived ≡ true → IsGivenBack seen Is on left
+      → IfSome left (λ device. now ≡ device) → Is (unfused seen arch now)
+  back-is archived None left now is handed back same = let none : None ≡ Some arch = is ∙ ap On handed in absurd (cc)
+  back-is archived (Some device) (Some left) now is handed back same =
+      subst Is (sym (ap (λ (a : A). unfused seen a now) (same-handed archived device is) ∙ ap (λ (a : A). unfused seen device a) same)) back
+  back-is archived (Some device) None now is handed back same = absurd back
+
+  pub back-kept : (archived : Bool) (kept : Option A) (now : A) → kept ≡ Kept-back archived → archived ≡ false
+      → IfSome kept (λ device. now ≡ device) → now ≡ arch
+  back-kept archived kept now keeps alone same = subst (λ (o : Option A). IfSome o (λ device. now ≡ device)) (keeps ∙ ap Kept-back alone) same
 
 -- and by its size the script is judged
 pub archive-sized : {A : Type 0} (seen : A → Seen) (archive : Unfused) (drive : Drive) (device now : Option A) → is_some device ≡ drive.archive

@@ -1,6 +1,6 @@
 -- The drives serve what is asked for.
 use Rattle.redo_drive.specs.declared.drive.RunEnd.{RunEnd}
-use Rattle.std.proofs.Common.{ℕ, ◌≡◌, Bool, true, false, List, Option, Some, None, IfSome, refl, sym, subst, ◌∙◌}
+use Rattle.std.proofs.Common.{ℕ, ◌≡◌, Bool, true, false, List, Option, refl, sym, subst, ◌∙◌}
 use Rattle.std.proofs.lemmas.Bool.{false≢true}
 use Rattle.model_script.specs.declared.asked.Drive.{Drive}
 use Rattle.model_device.specs.Disk.{Disk}
@@ -59,17 +59,6 @@ driven-later log_seen log_gives data_seen data_gives log_same data_same =
       store_is = still-then _ _ _ so.store_is data_still;
     }
 
--- users that write for themselves get no archive, and of another drive it is a new one
-pub none-owned : {P : Type 0} (own_writes : Bool) (archive : Option P) (IsNew : P → Type 0)
-    → IfSome archive (λ part. IsNew part × (own_writes ≡ false)) → own_writes ≡ true → archive ≡ None
-none-owned own_writes None IsNew new own = refl
-none-owned own_writes (Some part) IsNew new own = absurd (false≢true (sym new.1 ∙ own))
-
-pub one-new : {P : Type 0} (own_writes : Bool) (archive : Option P) (IsNew : P → Type 0)
-    → IfSome archive (λ part. IsNew part × (own_writes ≡ false)) → IfSome archive IsNew
-one-new own_writes None IsNew new = tt
-one-new own_writes (Some part) IsNew new = new.0
-
 module _ {L D : Type 0} (log_seen : L → Seen) (log_gives : L → Call → L → Type 0) (data_seen : D → Seen) (data_gives : D → Call → D → Type 0) where
   -- what the drive tells that is in threads or isn't, and whose users write for themselves or don't
   abbrev TellsIn : (threads own_writes : Bool) → Drive → Opened (Fused L) (Fused D) → List ScriptLine
@@ -92,11 +81,11 @@ module _ {L D : Type 0} (log_seen : L → Seen) (log_gives : L → Call → L �
       (CallsThrough log_seen log_gives) (seen_through data_seen) (CallsThrough data_seen data_gives)
       opened script (turns_of asked) archive followers actors driven
 
-  abbrev Own : Drive → ℕ → Opened (Fused L) (Fused D) → List ScriptLine → List model.Actor
+  abbrev Own : Drive → Bool → ℕ → Opened (Fused L) (Fused D) → List ScriptLine → List model.Actor
       → Driven (Fused L) (Fused D) → Type 0
-  Own asked followers opened script actors driven = OwnRunsByTurns (seen_through log_seen)
+  Own asked archive followers opened script actors driven = OwnRunsByTurns (seen_through log_seen)
       (CallsThrough log_seen log_gives) (seen_through data_seen) (CallsThrough data_seen data_gives)
-      opened script (turns_of asked) followers actors driven
+      opened script (turns_of asked) archive followers actors driven
 
   pub tells-plain : (asked : Drive) (archive : Bool) (followers : ℕ) (opened : Opened (Fused L) (Fused D))
       (script : List ScriptLine) (actors : List model.Actor) (driven : Driven (Fused L) (Fused D))
@@ -107,22 +96,22 @@ module _ {L D : Type 0} (log_seen : L → Seen) (log_gives : L → Call → L �
       (subst (λ (archive : Bool). Plain asked archive asked.followers opened script actors driven) archived
       (subst (λ (n : ℕ). Plain asked archive n opened script actors driven) as_many told))
 
-  pub tells-own : (asked : Drive) (followers : ℕ) (opened : Opened (Fused L) (Fused D))
+  pub tells-own : (asked : Drive) (archive : Bool) (followers : ℕ) (opened : Opened (Fused L) (Fused D))
       (script : List ScriptLine) (actors : List model.Actor) (driven : Driven (Fused L) (Fused D))
-      → asked.own_writes ≡ true → Own asked followers opened script actors driven → followers ≡ asked.followers
-      → TellsIn false asked.own_writes asked opened script actors driven
-  tells-own asked followers opened script actors driven is told as_many =
+      → asked.own_writes ≡ true → Own asked archive followers opened script actors driven → followers ≡ asked.followers
+      → archive ≡ asked.archive → TellsIn false asked.own_writes asked opened script actors driven
+  tells-own asked archive followers opened script actors driven is told as_many archived =
       subst (λ (own_writes : Bool). TellsIn false own_writes asked opened script actors driven) (sym is)
-      (subst (λ (n : ℕ). Own asked n opened script actors driven) as_many told)
+      (subst (λ (archive : Bool). Own asked archive asked.followers opened script actors driven) archived
+      (subst (λ (n : ℕ). Own asked archive n opened script actors driven) as_many told))
 
   -- in threads
-  pub tells-threads : (asked : Drive) (log_only : Bool) (opened : Opened (Fused L) (Fused D))
+  pub tells-threads : (asked : Drive) (opened : Opened (Fused L) (Fused D))
       (script : List ScriptLine) (actors : List model.Actor) (driven : Driven (Fused L) (Fused D))
-      → log_only ≡ asked.log_only → asked.threads ≡ true → RunsInThreads opened script log_only actors driven
+      → asked.threads ≡ true → RunsInThreads opened script asked.log_only actors driven
       → TellsIn asked.threads asked.own_writes asked opened script actors driven
-  tells-threads asked log_only opened script actors driven same is told =
-      subst (λ (threads : Bool). TellsIn threads asked.own_writes asked opened script actors driven) (sym is)
-      (subst (λ (log_only : Bool). RunsInThreads opened script log_only actors driven) same told)
+  tells-threads asked opened script actors driven is told =
+      subst (λ (threads : Bool). TellsIn threads asked.own_writes asked opened script actors driven) (sym is) told
 
   -- turns are spent by no drive in threads, and with the log alone, a writer and a flusher only where they are few
   may-spend : (threads own_writes : Bool) (asked : Drive) (store : Opened (Fused L) (Fused D))

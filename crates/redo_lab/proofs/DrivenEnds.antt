@@ -64,7 +64,8 @@ module _ {L D : Type 0} (call : LabCall) (command : Command) (drive : Drive) (st
         → LosesOnlyByFailure (failed_in driven.closed) (Some run) left)
     pub reads : IsGood ((opened : Opened) → WhereOpened call opened (WhereToldNow call (λ log_disk data_disk.
         (reading : Reading) × IsReading log_disk.reads data_disk.reads reading)))
-    pub marks : IsGood (AreMarksRead call drive (Some run) call.log.now.tells call.store.now.tells)
+    pub marks : IsDone (driven.closed.lost ≡ None → driven.closed.log.failed ≡ None → driven.closed.store.failed ≡ None
+        → AreMarksRead call drive (Some run) call.log.now.tells call.store.now.tells)
     pub followers : AreFollowed call drive script run follows.items call.log.now.tells call.store.now.tells
     pub archived : IsArchived (UpTo driven error) call drive script run
     pub spends : SpendsTurns call drive
@@ -116,10 +117,10 @@ module _ {L D : Type 0} (call : LabCall) (command : Command) (drive : Drive) (st
       followers = so.followers;
     }
 
-    told-unfailed : IsGood Told
-    told-unfailed done memory log_none data_none = record {
+    told-unfailed : IsDone (driven.closed.lost ≡ None → driven.closed.log.failed ≡ None → driven.closed.store.failed ≡ None → Told)
+    told-unfailed done memory lost_none log_none data_none = record {
       loses = loses-by error refl done memory;
-      marks = so.marks done memory log_none data_none;
+      marks = so.marks done memory lost_none log_none data_none;
       followers = so.followers;
     }
 
@@ -183,7 +184,7 @@ module _ {L D : Type 0} (call : LabCall) (command : Command) (drive : Drive) (st
         others)
         lacks in (
           so.left Done done,
-          told-unfailed done memory log_is data_is,
+          told-unfailed done memory (unlost error_is) log_is data_is,
           (omega (arith, so.log_mid, so.data_mid, ap failures log_is, ap failures data_is), so.reads done memory log_is data_is),
           archived-whole done log_is error_is,
         )

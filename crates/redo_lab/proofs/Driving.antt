@@ -80,7 +80,7 @@ module _ {L D : Type 0} (log_seen : L → Seen) (log_gives : L → Call → L �
     (told : TellsOf drive.threads drive.own_writes log_seen log_gives data_seen data_gives drive given script (views_of actors) first)
     (after : IsReadAfter log_seen data_seen given.start first driven)
     (owes : IsOwed (seen_through log_seen) (CallsThrough log_seen log_gives) (seen_through data_seen) (CallsThrough data_seen data_gives) given script driven)
-    (reads : drive.threads ≡ true
+    (reads : drive.threads ≡ true → driven.closed.lost ≡ None
     → ReadsToMarks (seen_through log_seen) (seen_through data_seen) given script driven.closed)
     (followers : List (Following Kept)) (follows : Vec Followed Global)
     (new : AreNewFollowers given.start followers) (untold : AreUntold drive.followers followers)
@@ -235,17 +235,17 @@ module _ {L D : Type 0} (log_seen : L → Seen) (log_gives : L → Call → L �
       (read.reading, read.is_read)
 
   -- in threads with the marks that are told
-  marks-read : driven.ended ≡ Done → HasMemory driven.closed
+  marks-read : driven.ended ≡ Done → HasMemory driven.closed → driven.closed.lost ≡ None
       → driven.closed.log.failed ≡ None → driven.closed.store.failed ≡ None
       → AreMarksRead call drive (Some run) call.log.now.tells call.store.now.tells
-  marks-read done memory log_none data_none threads unfailed alive opened log_entry data_entry log_is data_is log_on data_on
+  marks-read done memory lost_none log_none data_none threads unfailed alive opened log_entry data_entry log_is data_is log_on data_on
       log_fresh data_fresh opens log_now data_now log_now_is data_now_is =
       let AtMarks : Reading → Disk → Disk → Type 0 = λ was log_disk data_disk. (reading : Reading)
       → IsReading log_disk.reads data_disk.reads reading
       → (reading.end ≡ driven.closed.marks.write) × (reading.ckpt ≡ driven.closed.marks.ckpt) in
       let read = read-now done memory log_none data_none opened log_entry data_entry log_is data_is log_on data_on
       log_fresh data_fresh opens log_now data_now log_now_is data_now_is in
-      let found = run-found AtMarks (reads threads log_none data_none)
+      let found = run-found AtMarks (reads threads lost_none log_none data_none)
       opened log_entry data_entry log_is data_is log_on data_on log_fresh data_fresh opens in
       let marks = found.1 log_now data_now log_now_is data_now_is read.0 read.1 in
       (read.0, read.1, marks.0, marks.1)

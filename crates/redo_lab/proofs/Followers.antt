@@ -35,18 +35,20 @@ as-many count before after follows untold same told =
     AllZip-long IsToldOf after follows told ∙ AllZip-long HasSameNumber before after same ∙ untold.count_is
 
 -- and there is room for what is told of them
-pub told-in-room : (count room : ℕ) (before : List (Following Kept)) (seen actors : List (Actor Kept))
-    (follows : List Followed)
-    → seen ≡ actors → AreUntold count before → AllZip HasSameNumber before (followers_in actors) → count ≤ room
+pub room-for : (count room : ℕ) (before : List (Following Kept)) (actors : List (Actor Kept))
+    → AreUntold count before → AllZip HasSameNumber before (followers_in actors) → count ≤ room
+    → length (followers_in actors) ≤ room
+room-for count room before actors untold same enough =
+    let long : length (followers_in actors) ≡ length before = AllZip-long HasSameNumber before (followers_in actors) same in
+    omega (arith, long, untold.count_is, enough)
+
+-- which is told as they are seen
+pub told-seen : (room : ℕ) (seen actors : List (Actor Kept)) (follows : List Followed) → seen ≡ actors
     → (length (followers_in seen) ≤ room → AllZip IsToldOf (followers_in seen) follows)
-    → AllZip IsToldOf (followers_in actors) follows
-told-in-room count room before seen actors follows are untold same enough told =
-    let after : List (Following Kept) = followers_in actors in
-    let long : length after ≡ length before = AllZip-long HasSameNumber before after same in
-    let seen_long : length (followers_in seen) ≡ length (followers_in actors) =
-    ap (λ (l : List (Actor Kept)). length (followers_in l)) are in
-    subst (λ (l : List (Actor Kept)). AllZip IsToldOf (followers_in l) follows) are
-    (told (omega (arith, long, seen_long, untold.count_is, enough)))
+    → length (followers_in actors) ≤ room → AllZip IsToldOf (followers_in actors) follows
+told-seen room seen actors follows are =
+    subst (λ (l : List (Actor Kept)). (length (followers_in l) ≤ room → AllZip IsToldOf (followers_in l) follows)
+    → length (followers_in actors) ≤ room → AllZip IsToldOf (followers_in actors) follows) (sym are) (λ told. told)
 
 -- each has the number that it was made with
 numbered-from : (start number : ℕ) (before after : List (Following Kept)) (follows : List Followed)

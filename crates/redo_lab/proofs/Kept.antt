@@ -26,7 +26,7 @@ use Rattle.redo_disk.specs.declared.error.DevError.{DevError}
 use Rattle.redo_disk.specs.declared.error.DevError.TheVariants.{Failed}
 use Rattle.redo_drive.proofs.ArchiveGroups.{risen_since}
 use Rattle.redo_drive.specs.Archived.{ArchivesRun, HasArchived, HaveArchived, HoldsFrom}
-use Rattle.redo_drive.specs.Drive.{WhereStarted, closed_run}
+use Rattle.redo_drive.specs.Drive.{ReadsToMarks, WhereStarted, closed_run}
 use Rattle.redo_drive.specs.Startable.{MayBegin}
 use Rattle.redo_drive.specs.declared.drive.Driven.{Driven}
 use Rattle.redo_drive.specs.declared.drive.RunEnd.TheVariants.{Done}
@@ -214,6 +214,19 @@ module _ {L D : Type 0} (log_seen : L → Seen) (log_gives : L → Call → L �
         given script first driven.closed.log finished.finishes.log owed)
     finished-owed None (Some new) driven finished = absurd finished
     finished-owed (Some old) None driven finished = absurd finished
+
+    -- and what reads give, where no append was lost
+    abbrev ReadsSo : Driven (Fused L) (Fused D) → Type 0
+    ReadsSo driven = driven.closed.lost ≡ None → ReadsToMarks (seen_through log_seen) (seen_through data_seen) given script driven.closed
+
+    pub finished-reads : (old new : Option (Part A)) (driven : Driven (Fused L) (Fused D))
+        → HaveFinished (seen_through log_seen) (CallsThrough log_seen log_gives) seen first driven old new → ReadsSo first → ReadsSo driven
+    finished-reads None None driven finished reads = subst ReadsSo (sym finished) reads
+    finished-reads (Some old) (Some new) driven finished reads = subst ReadsSo (sym finished.read)
+        (λ none. reads-back (seen_through log_seen) (CallsThrough log_seen log_gives) (seen_through data_seen) (CallsThrough data_seen data_gives)
+        given script first driven.closed.log finished.finishes.log owed (reads none))
+    finished-reads None (Some new) driven finished reads = absurd finished
+    finished-reads (Some old) None driven finished reads = absurd finished
 
 -- WHAT MAY BE APPENDED after a run
 pub to-finish : {L D A : Type 0} (log_seen : L → Seen) (data_seen : D → Seen) (seen : A → Seen) (given : store.Opened L D) (script : List ScriptLine)

@@ -5,6 +5,7 @@ pub mod AtRest
 pub mod Begun
 pub mod Behind
 pub mod ByDrive
+pub mod Closed
 pub mod Contents
 pub mod CrashEnds
 pub mod CrashTold

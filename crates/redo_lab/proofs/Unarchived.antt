@@ -1,5 +1,5 @@
 -- What a command leaves alone that archives no run.
-use Rattle.std.proofs.Common.{ℕ, ◌≡◌, false, if◌then◌else◌, Bool, Option, Some, None, refl, sym, ap}
+use Rattle.std.proofs.Common.{ℕ, ◌≡◌, true, false, if◌then◌else◌, Bool, Option, Some, None, refl, sym, ap}
 use Rattle.model_report.specs.declared.fault.Fault.TheVariants as fault
 use Rattle.model_script.specs.declared.asked.Command.TheVariants.{Restore}
 use Rattle.model_script.specs.declared.asked.Drive.{Drive}
@@ -29,3 +29,15 @@ spares-untouched archive (outcome.Fault fault.Memory) same = tt
 spares-untouched archive (outcome.Fault fault.ArchiveDevice) same = tt
 spares-untouched archive (outcome.Fault (fault.Turns turns user)) same = tt
 spares-untouched archive (outcome.Fault f) same = same
+
+-- one that calls no archive's device archives nothing
+pub uncalled-alone : (drive : Drive) (crash : Option Crashing) → HasAllowedNumbers (command_with drive crash)
+    → calls_archive (Some (command_with drive crash)) ≡ false → drive.archive ≡ false
+uncalled-alone drive None within uncalled = uncalled
+uncalled-alone drive (Some crash) within uncalled = within.1
+
+-- a device is spared by what is so of a run that is archived, and where it is as it was
+pub spares-either : (archived : Bool) (archive : Unfused) (o : Outcome) → (archived ≡ true → SparesArchive archive o)
+    → (archived ≡ false → archive.now ≡ archive.entry) → SparesArchive archive o
+spares-either true archive o archived alone = archived refl
+spares-either false archive o archived alone = spares-untouched archive o (alone refl)

@@ -44,7 +44,7 @@ TellsOf false false log_seen log_gives data_seen data_gives drive store script a
     store script (turns_of drive) drive.archive drive.followers actors driven
 TellsOf false true log_seen log_gives data_seen data_gives drive store script actors driven =
     OwnRunsByTurns (seen_through log_seen) (CallsThrough log_seen log_gives) (seen_through data_seen) (CallsThrough data_seen data_gives)
-    store script (turns_of drive) drive.followers actors driven
+    store script (turns_of drive) drive.archive drive.followers actors driven
 TellsOf true own_writes log_seen log_gives data_seen data_gives drive store script actors driven =
     RunsInThreads store script drive.log_only actors driven
 

@@ -2,6 +2,7 @@ pub mod Answer
 pub mod Archived
 pub mod Archiving
 pub mod Asked
+pub mod Begun
 pub mod Call
 pub mod Cause
 pub mod Devices

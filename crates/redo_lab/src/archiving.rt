@@ -1,5 +1,5 @@
 // The archive of a run.
-ghost use Rattle.std.specs.Prelude.{◌≡◌, ◌≤◌, IfErr, IfOk, IfSome, option_map};
+ghost use Rattle.std.specs.Prelude.{◌≡◌, ◌≤◌, IfErr, IfOk, IfSome, None, Some, if◌then◌else◌, is_some, not, option_map};
 ghost use Rattle.model_archive.specs.{IsRunStart, pages_end};
 ghost use Rattle.model_base.specs.declared.limits.TheConstants.{START_LSN};
 ghost use Rattle.redo_archive.specs.{IsBegun};
@@ -22,6 +22,31 @@ pub(crate) fn room_on<A: Sectors>(arch: &Option<A>) -> Option<u64>
     match arch {
         Some(arch) => Some(arch.len()),
         None => None,
+    }
+}
+
+/// The archive's device, handed on where a run is archived, and kept where it isn't.
+pub(crate) fn hand_on<A>(archived: bool, arch: A) -> (Option<A>, Option<A>)
+    ensures on { result.0 ≡ (if archived then Some arch else None) }
+    ensures kept { result.1 ≡ (if archived then None else Some arch) }
+{
+    if archived {
+        (Some(arch), None)
+    } else {
+        (None, Some(arch))
+    }
+}
+
+/// The device again: given back, or kept.
+pub(crate) fn take_back<A>(left: Option<A>, kept: Option<A>) -> A
+    requires one { is_some left ≡ not (is_some kept) }
+    ensures left { IfSome left (λ device. result ≡ device) }
+    ensures kept { IfSome kept (λ device. result ≡ device) }
+{
+    match (left, kept) {
+        (Some(arch), None) | (None, Some(arch)) => arch,
+        (Some(_given), Some(_kept)) => unreachable!(),
+        (None, None) => unreachable!(),
     }
 }
 

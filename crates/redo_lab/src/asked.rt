@@ -2,7 +2,7 @@
 ghost use Rattle.std.specs.Prelude.{◌≡◌, ◌⊎◌, Some, None, true, false, IfSome, IfOk, IfErr, map};
 ghost use Rattle.std.specs.String.{string_bytes};
 ghost use Rattle.model_report.specs.declared.fault.Fault.TheVariants.{Memory, Words};
-ghost use Rattle.redo_lab.specs.Asked.{command_of, is_undriven, runs_in_threads};
+ghost use Rattle.redo_lab.specs.Asked.{command_of, runs_in_threads};
 ghost use Rattle.redo_lab.specs.Runs.{command_with};
 
 use crate::crash_command::Crashing;
@@ -50,23 +50,12 @@ pub(crate) fn threaded(command: &Command) -> Option<Scripted>
     }
 }
 
-/// Whether the command archives a run in threads, or of users that write for themselves, which no drive does yet.
-fn is_undriven(command: &Command) -> bool
-    ensures { result ≡ is_undriven command.now }
-{
-    match command {
-        Command::Run { drive } => drive.archive && (drive.threads || drive.own_writes),
-        _ => false,
-    }
-}
-
 /// The command that the words ask for.
 pub(crate) fn read_command(alloc: Global, words: &[String]) -> Result<Command, Fault>
     ensures asked { IfOk result (λ command. command_of (map (λ word. string_bytes word) words.now) ≡ Some command) }
     ensures fault { IfErr result (λ fault. ((command_of (map (λ word. string_bytes word) words.now) ≡ None) × (fault ≡ Words)) ⊎ (fault ≡ Memory)) }
 {
     match read_words(alloc, words) {
-        Ok(asked) if is_undriven(&asked.command) => Err(Fault::Words),
         Ok(asked) => Ok(asked.command),
         Err(WordsFault::NotCommand) => Err(Fault::Words),
         Err(WordsFault::NoMemory) => Err(Fault::Memory),

@@ -1,5 +1,5 @@
 // A command, done on its devices.
-ghost use Rattle.std.specs.Prelude.{ℕ, List, ◌≡◌, ◌+◌, ◌≤◌, true, false, IfSome, Some};
+ghost use Rattle.std.specs.Prelude.{ℕ, List, ◌≡◌, ◌+◌, ◌≤◌, true, false, IfSome, None, Some};
 ghost use Rattle.model_base.specs.declared.limits.TheConstants.{MAX_SCRIPT};
 ghost use Rattle.model_script.specs.declared.asked.Command.TheVariants.{Restore, Run};
 ghost use Rattle.model_script.specs.declared.asked.Drive.{Drive as Asked};
@@ -10,19 +10,20 @@ ghost use Rattle.redo_lab.specs.Asked.{HasAllowedNumbers, IsScriptRead, calls_ar
 ghost use Rattle.redo_lab.specs.Call.{Unfused, unfused};
 ghost use Rattle.redo_lab.specs.Handed.{AreOf, call_on};
 ghost use Rattle.redo_lab.specs.Ending.{EndsWith, OnlyReadsArchive, SparesArchive};
-ghost use Rattle.redo_lab.specs.Runs.{IsRanBy, command_with, stops_of};
+ghost use Rattle.redo_lab.specs.Runs.{IsRanBy, SparedBy, command_with, stops_of};
 
+use crate::archiving::{hand_on, take_back};
 use crate::asked::Scripted;
 use crate::crash_command::{Crashing, crash_command};
 use crate::gen_command::gen_command;
 use crate::laws::laws;
 use crate::outcome::{Done, unasked};
-use crate::playing::{Ran, Stops, by_turns, by_turns_with, in_threads};
+use crate::playing::{Ran, Stops, by_turns_with, in_threads};
 use crate::restore_command::restore_command;
 use crate::run_command::run_command;
 use crate::script::read_script;
 use crate::simple::{format_devices, print_pages, print_store};
-use model_script::{Command, Drive, Script, read_lines_are_ranged};
+use model_script::{Command, Script, read_lines_are_ranged};
 use redo_disk::Sectors;
 use redo_io::Source;
 use redo_threads::Gate;
@@ -56,6 +57,7 @@ fn after_run<R: Threads + Sync, L: Sectors, D: Sectors>(
         → IsRanBy (call_on L.seen L.gives D.seen D.gives words archive source source_now log store) (command_with asked crash) asked (stops_of crash) script.now ran
         → IsScriptRead source source_now script.now → HasAllowedNumbers (command_with asked crash)
         → EndsWith (call_on L.seen L.gives D.seen D.gives words archive source source_now log store result.log result.store) (command_with asked crash) result.outcome }
+    ensures spares { crash ≡ None → (archive : Unfused) → SparedBy ran.course archive → SparesArchive archive result.outcome }
     ensures entered { (log : L) (store : D) → AreOf log store ran.log ran.store → AreOf log store result.log result.store }
 {
     match crash {
@@ -64,50 +66,22 @@ fn after_run<R: Threads + Sync, L: Sectors, D: Sectors>(
     }
 }
 
-/// Runs the script of the source by turns.
-fn source_by_turns<R: Threads + Sync, S: Source, L: Sectors, D: Sectors>(
+/// Runs the script of the source by turns, and archives the run on this device where that is asked.
+fn source_by_turns<R: Threads + Sync, S: Source, L: Sectors, D: Sectors, A: Sectors>(
     rt: &R,
     alloc: Global,
     src: &mut S,
     asked: Scripted,
     log: L,
     store: D,
-) -> Done<L, D>
-    requires within { HasAllowedNumbers (command_with asked.drive asked.crash) }
-    requires by_turns { asked.drive.threads ≡ false }
-    requires unarchived { asked.drive.archive ≡ false }
-    ensures ends { (words : List (List ℕ)) (archive : Unfused)
-        → EndsWith (call_on L.seen L.gives D.seen D.gives words archive (S.seen src.old) (S.seen src.new) log store result.log result.store) (command_with asked.drive asked.crash) result.outcome }
-    ensures entered { AreOf log store result.log result.store }
-    ensures taken { TakesAtMost (MAX_SCRIPT + PIECE) (S.seen src.old).left (S.seen src.new).left }
-{
-    laws();
-    read_lines_are_ranged();
-    match read_script(alloc, src) {
-        Ok(script) => {
-            let stops = stops_of(asked.crash);
-            let ran = by_turns(alloc, &script, &asked.drive, stops, log, store);
-            after_run(rt, alloc, &script, ran, asked.crash)
-        }
-        Err(fault) => unasked(fault, log, store),
-    }
-}
-
-/// Runs the script of the source by turns, and archives the run on this device.
-fn source_archived<S: Source, L: Sectors, D: Sectors, A: Sectors>(
-    alloc: Global,
-    src: &mut S,
-    drive: Drive,
-    log: L,
-    store: D,
     arch: A,
 ) -> (Done<L, D>, A)
-    requires within { HasAllowedNumbers (Run drive) }
-    requires archived { drive.archive ≡ true }
+    requires within { HasAllowedNumbers (command_with asked.drive asked.crash) }
+    requires by_turns { asked.drive.threads ≡ false }
     ensures ends { (words : List (List ℕ))
         → EndsWith (call_on L.seen L.gives D.seen D.gives words (unfused A.seen arch result.1) (S.seen src.old) (S.seen src.new) log store result.0.log result.0.store)
-        (Run drive) result.0.outcome }
-    ensures spares { SparesArchive (unfused A.seen arch result.1) result.0.outcome }
+        (command_with asked.drive asked.crash) result.0.outcome }
+    ensures archive { SparesArchive (unfused A.seen arch result.1) result.0.outcome × (asked.drive.archive ≡ false → result.1 ≡ arch) }
     ensures entered { AreOf log store result.0.log result.0.store }
     ensures taken { TakesAtMost (MAX_SCRIPT + PIECE) (S.seen src.old).left (S.seen src.new).left }
 {
@@ -115,70 +89,56 @@ fn source_archived<S: Source, L: Sectors, D: Sectors, A: Sectors>(
     read_lines_are_ranged();
     match read_script(alloc, src) {
         Ok(script) => {
-            let stops = stops_of(None);
-            let (ran, left) = by_turns_with(alloc, &script, &drive, stops, log, store, Some(arch));
-            (run_command(alloc, &script, ran), left.unwrap())
+            let stops = stops_of(asked.crash);
+            let (on, kept) = hand_on(asked.drive.archive, arch);
+            let (ran, left) = by_turns_with(alloc, &script, &asked.drive, stops, log, store, on);
+            let done = after_run(rt, alloc, &script, ran, asked.crash);
+            (done, take_back(left, kept))
         }
         Err(fault) => (unasked(fault, log, store), arch),
     }
 }
 
-/// Runs the script of the source by turns, and archives the run where that is asked.
-fn run_source<R: Threads + Sync, S: Source, L: Sectors, D: Sectors, A: Sectors>(
-    rt: &R,
-    alloc: Global,
-    src: &mut S,
-    drive: Drive,
-    log: L,
-    store: D,
-    arch: A,
-) -> (Done<L, D>, A)
-    requires within { HasAllowedNumbers (Run drive) }
-    requires by_turns { drive.threads ≡ false }
-    ensures ends { (words : List (List ℕ))
-        → EndsWith (call_on L.seen L.gives D.seen D.gives words (unfused A.seen arch result.1) (S.seen src.old) (S.seen src.new) log store result.0.log result.0.store)
-        (Run drive) result.0.outcome }
-    ensures archive { SparesArchive (unfused A.seen arch result.1) result.0.outcome × (drive.archive ≡ false → result.1 ≡ arch) }
-    ensures entered { AreOf log store result.0.log result.0.store }
-    ensures taken { TakesAtMost (MAX_SCRIPT + PIECE) (S.seen src.old).left (S.seen src.new).left }
-{
-    if drive.archive {
-        source_archived(alloc, src, drive, log, store, arch)
-    } else {
-        let asked = Scripted { drive, crash: None };
-        (source_by_turns(rt, alloc, src, asked, log, store), arch)
-    }
-}
-
-/// Runs the script of the source in threads. A gate may hold the users.
+/// Runs the script of the source in threads, and archives the run on this device where that is asked. A gate may hold the users.
 pub(crate) fn source_in_threads<
     R: Threads + Wait + Sync,
     S: Source,
     L: Sectors + Send,
     D: Sectors + Send,
+    A: Sectors + Send,
     G: Gate,
->(rt: &R, alloc: Global, src: &mut S, gate: &G, asked: Scripted, log: L, store: D) -> Done<L, D>
+>(
+    rt: &R,
+    alloc: Global,
+    src: &mut S,
+    gate: &G,
+    asked: Scripted,
+    log: L,
+    store: D,
+    arch: A,
+) -> (Done<L, D>, A)
     requires within { HasAllowedNumbers (command_with asked.drive asked.crash) }
     requires in_threads { asked.drive.threads ≡ true }
-    ensures ends { (words : List (List ℕ)) (archive : Unfused)
-        → EndsWith (call_on L.seen L.gives D.seen D.gives words archive (S.seen src.old) (S.seen src.new) log store result.log result.store) (command_with asked.drive asked.crash) result.outcome }
-    ensures entered { AreOf log store result.log result.store }
+    ensures ends { (words : List (List ℕ))
+        → EndsWith (call_on L.seen L.gives D.seen D.gives words (unfused A.seen arch result.1) (S.seen src.old) (S.seen src.new) log store result.0.log result.0.store)
+        (command_with asked.drive asked.crash) result.0.outcome }
+    ensures archive { SparesArchive (unfused A.seen arch result.1) result.0.outcome × (asked.drive.archive ≡ false → result.1 ≡ arch) }
+    ensures entered { AreOf log store result.0.log result.0.store }
     ensures taken { TakesAtMost (MAX_SCRIPT + PIECE) (S.seen src.old).left (S.seen src.new).left }
 {
     laws();
     read_lines_are_ranged();
     match read_script(alloc, src) {
         Ok(script) => {
-            let log_only = asked.drive.log_only;
-            let own_writes = asked.drive.own_writes;
-            let followers = asked.drive.followers;
             let stops = stops_of(asked.crash);
-            let ran = in_threads(
-                rt, alloc, &script, log_only, own_writes, followers, gate, stops, log, store,
+            let (on, kept) = hand_on(asked.drive.archive, arch);
+            let (ran, left) = in_threads(
+                rt, alloc, &script, &asked.drive, gate, stops, log, store, on,
             );
-            after_run(rt, alloc, &script, ran, asked.crash)
+            let done = after_run(rt, alloc, &script, ran, asked.crash);
+            (done, take_back(left, kept))
         }
-        Err(fault) => unasked(fault, log, store),
+        Err(fault) => (unasked(fault, log, store), arch),
     }
 }
 
@@ -214,7 +174,10 @@ pub(crate) fn done<R: Threads + Sync, S: Source, L: Sectors, D: Sectors, A: Sect
             format_devices(alloc, pages, space, log_blocks, log, store),
             arch,
         ),
-        Command::Run { drive } => run_source(rt, alloc, src, drive, log, store, arch),
+        Command::Run { drive } => {
+            let asked = Scripted { drive, crash: None };
+            source_by_turns(rt, alloc, src, asked, log, store, arch)
+        }
         Command::Crash {
             drive,
             stop_log,
@@ -232,7 +195,7 @@ pub(crate) fn done<R: Threads + Sync, S: Source, L: Sectors, D: Sectors, A: Sect
                 workers,
             });
             let asked = Scripted { drive, crash };
-            (source_by_turns(rt, alloc, src, asked, log, store), arch)
+            source_by_turns(rt, alloc, src, asked, log, store, arch)
         }
         Command::Recover { workers } => (print_pages(rt, alloc, workers, log, store), arch),
         Command::Dump { why } => (print_store(alloc, why, log, store), arch),

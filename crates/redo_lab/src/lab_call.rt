@@ -76,7 +76,7 @@ pub fn lab<
     };
     match threaded(&command) {
         Some(asked) => {
-            let done = source_in_threads(rt, alloc, src, gate, asked, log, store);
+            let (done, arch) = source_in_threads(rt, alloc, src, gate, asked, log, store, arch);
             end(out, done, arch)
         }
         None => lab_turns(rt, alloc, command, src, out, log, store, arch),

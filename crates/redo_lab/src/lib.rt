@@ -4,6 +4,7 @@
 
 mod archiving;
 mod asked;
+mod closing;
 mod commands;
 mod crash_command;
 mod ended;
@@ -25,6 +26,7 @@ mod run_command;
 mod script;
 mod shapes;
 mod simple;
+mod start;
 mod turns;
 
 pub use ended::Ended;

@@ -1,5 +1,5 @@
 // The drive by turns: beside a writer and a flusher, or of users that write for themselves.
-ghost use Rattle.std.specs.Prelude.{◌≡◌, IfErr, IfOk, IfSome, None, false, is_some, length};
+ghost use Rattle.std.specs.Prelude.{◌≡◌, IfErr, IfOk, IfSome, false, is_some, length};
 ghost use Rattle.redo_drive.specs.{Owes};
 ghost use Rattle.redo_drive.specs.Archived.{HaveArchived};
 ghost use Rattle.redo_drive.specs.Followed.{HaveFollowed};
@@ -7,16 +7,14 @@ ghost use Rattle.redo_drive.specs.Startable.{AreNewFollowers, IsNewArchive, MayB
 ghost use Rattle.redo_drive.specs.Views.{views_of};
 ghost use Rattle.redo_follow.specs.Tallying.{HasTally};
 ghost use Rattle.redo_memdisk.specs.{CallsThrough, seen_through};
-ghost use Rattle.redo_ownmachine.specs.OwnByTurns.{OwnRunsByTurns};
 ghost use Rattle.redo_lab.specs.Asked.{turns_of};
 ghost use Rattle.redo_lab.specs.Handed.{TellsOf};
 
+use crate::closing::AfterDrive;
 use model_script::{Drive, Script};
 use redo_archive::ArchPart;
 use redo_disk::Sectors;
-use redo_drive::{Actor, Driven};
 use redo_follow::{Follower, Tally};
-use redo_lsn::NoMemory;
 use redo_machine::{Turns, run_by_turns};
 use redo_memdisk::Fused;
 use redo_ownmachine::run_own_by_turns;
@@ -34,43 +32,6 @@ fn turns_of(drive: &Drive) -> Turns
     }
 }
 
-/// What the drive by turns leaves: the run, the actors, the followers among them, and the archive; or both devices as they were,
-/// and the archive, where there was no memory.
-pub(crate) type Turned<L, D, A> = Result<
-    (
-        Driven<Fused<L>, Fused<D>>,
-        Vec<Actor<Tally>>,
-        Option<ArchPart<A>>,
-    ),
-    (NoMemory, Fused<L>, Fused<D>, Option<ArchPart<A>>),
->;
-
-/// Runs the lines of a script on an opened store by turns, of users that write for themselves, with these followers and no archive.
-fn run_own<L: Sectors, D: Sectors, A: Sectors>(
-    alloc: Global,
-    opened: Opened<Fused<L>, Fused<D>>,
-    script: &Script,
-    turns: &Turns,
-    archive: Option<ArchPart<A>>,
-    followers: Vec<Follower<Tally>>,
-) -> Turned<L, D, A>
-    requires may { MayBegin opened script.now turns.now.log_only }
-    requires archive { archive ≡ None }
-    requires new { AreNewFollowers opened.start followers.items }
-    ensures err { IfErr result (λ error. (error.1 ≡ opened.log.dev) × (error.2 ≡ opened.store.dev) × (error.3 ≡ archive)) }
-    ensures owed { IfOk result (λ left. Owes (seen_through L.seen) (CallsThrough L.seen L.gives) (seen_through D.seen) (CallsThrough D.seen D.gives)
-        opened script.now left.0) }
-    ensures turns { IfOk result (λ left. OwnRunsByTurns (seen_through L.seen) (CallsThrough L.seen L.gives) (seen_through D.seen) (CallsThrough D.seen D.gives)
-        opened script.now turns.now (length followers.items) (views_of left.1.items) left.0) }
-    ensures followed { IfOk result (λ left. HaveFollowed (seen_through L.seen) (seen_through D.seen) HasTally opened script.now followers.items left.1.items left.0.closed) }
-    ensures archived { IfOk result (λ left. HaveArchived (seen_through L.seen) (seen_through D.seen) A.seen opened script.now left.0.closed (views_of left.1.items) archive left.2) }
-{
-    match run_own_by_turns(alloc, opened, script, turns, followers) {
-        Ok((driven, actors)) => Ok((driven, actors, archive)),
-        Err((fault, log, store)) => Err((fault, log, store, archive)),
-    }
-}
-
 /// Runs the lines of a script on an opened store by the turns of this drive, with this archive or none, and with these followers.
 pub(crate) fn run_turns<L: Sectors, D: Sectors, A: Sectors>(
     alloc: Global,
@@ -79,9 +40,9 @@ pub(crate) fn run_turns<L: Sectors, D: Sectors, A: Sectors>(
     drive: &Drive,
     archive: Option<ArchPart<A>>,
     followers: Vec<Follower<Tally>>,
-) -> Turned<L, D, A>
+) -> AfterDrive<L, D, A>
     requires may { MayBegin opened script.now drive.now.log_only }
-    requires archive { IfSome archive (λ part. IsNewArchive A.seen opened script.now part × (drive.now.own_writes ≡ false)) }
+    requires archive { IfSome archive (IsNewArchive A.seen opened script.now) }
     requires new { AreNewFollowers opened.start followers.items }
     ensures err { IfErr result (λ error. (error.1 ≡ opened.log.dev) × (error.2 ≡ opened.store.dev) × (error.3 ≡ archive)) }
     ensures owed { IfOk result (λ left. Owes (seen_through L.seen) (CallsThrough L.seen L.gives) (seen_through D.seen) (CallsThrough D.seen D.gives)
@@ -93,7 +54,7 @@ pub(crate) fn run_turns<L: Sectors, D: Sectors, A: Sectors>(
 {
     let turns = turns_of(drive);
     if drive.own_writes {
-        run_own(alloc, opened, script, &turns, archive, followers)
+        run_own_by_turns(alloc, opened, script, &turns, archive, followers)
     } else {
         run_by_turns(alloc, opened, script, &turns, archive, followers)
     }

@@ -10,10 +10,10 @@ pub returns-in-Format-clause-ends : goal.returns-in-Format-clause-ends
 returns-in-Format-clause-ends g c = λ words. rw c.in-Format.is (c.format_devices.ensures.ends words _ _)
 
 pub returns-in-Run-clause-ends : goal.returns-in-Run-clause-ends
-returns-in-Run-clause-ends g c = λ words. rw c.in-Run.is (c.run_source.ensures.ends words)
+returns-in-Run-clause-ends g c = λ words. rw c.in-Run.is (c.source_by_turns.ensures.ends words)
 
 pub returns-in-Crash-clause-ends : goal.returns-in-Crash-clause-ends
-returns-in-Crash-clause-ends g c = λ words. rw c.in-Crash.is (c.source_by_turns.ensures.ends words _)
+returns-in-Crash-clause-ends g c = λ words. rw c.in-Crash.is (c.source_by_turns-in-Crash.ensures.ends words)
 
 pub returns-in-Recover-clause-ends : goal.returns-in-Recover-clause-ends
 returns-in-Recover-clause-ends g c = λ words. rw c.in-Recover.is (c.print_pages.ensures.ends words _ _)
@@ -55,10 +55,10 @@ pub returns-in-Format-clause-entered : goal.returns-in-Format-clause-entered
 returns-in-Format-clause-entered g c = c.format_devices.ensures.entered
 
 pub returns-in-Run-clause-entered : goal.returns-in-Run-clause-entered
-returns-in-Run-clause-entered g c = c.run_source.ensures.entered
+returns-in-Run-clause-entered g c = c.source_by_turns.ensures.entered
 
 pub returns-in-Crash-clause-entered : goal.returns-in-Crash-clause-entered
-returns-in-Crash-clause-entered g c = c.source_by_turns.ensures.entered
+returns-in-Crash-clause-entered g c = c.source_by_turns-in-Crash.ensures.entered
 
 pub returns-in-Recover-clause-entered : goal.returns-in-Recover-clause-entered
 returns-in-Recover-clause-entered g c = c.print_pages.ensures.entered
@@ -88,13 +88,13 @@ pub returns-in-Gen-clause-taken : goal.returns-in-Gen-clause-taken
 returns-in-Gen-clause-taken g c = all-left (g.S.Source.seen c.args.src.now).left
 
 pub returns-in-Run-clause-untouched : goal.returns-in-Run-clause-untouched
-returns-in-Run-clause-untouched g c = λ calls. c.run_source.ensures.archive.1 (sym (ap (λ (command : Command). calls_archive (Some command)) c.in-Run.is) ∙ calls)
+returns-in-Run-clause-untouched g c = λ calls. c.source_by_turns.ensures.archive.1 (sym (ap (λ (command : Command). calls_archive (Some command)) c.in-Run.is) ∙ calls)
 
 pub returns-in-Run-clause-spares : goal.returns-in-Run-clause-spares
-returns-in-Run-clause-spares g c = λ drive is. c.run_source.ensures.archive.0
+returns-in-Run-clause-spares g c = λ drive is. c.source_by_turns.ensures.archive.0
 
-pub source_by_turns-requires-clause-unarchived : goal.source_by_turns-requires-clause-unarchived
-source_by_turns-requires-clause-unarchived g c = λ κs live. (subst HasAllowedNumbers c.in-Crash.is c.requires.within).1
+pub returns-in-Crash-clause-untouched : goal.returns-in-Crash-clause-untouched
+returns-in-Crash-clause-untouched g c = λ calls. c.source_by_turns-in-Crash.ensures.archive.1 (subst HasAllowedNumbers c.in-Crash.is c.requires.within).1
 
 pub returns-in-Format-clause-spares : goal.returns-in-Format-clause-spares
 returns-in-Format-clause-spares g c = λ drive is. let was = c.in-Format.is in cc

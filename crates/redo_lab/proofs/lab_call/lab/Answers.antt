@@ -1,9 +1,8 @@
-use Rattle.std.proofs.Common.{ap, inr, refl, subst, sym, ◌∙◌}
-use Rattle.redo_lab.specs.Call.{unfused}
+use Rattle.std.proofs.Common.{Some, ap, inr, refl, subst, sym, ◌∙◌}
 use Rattle.redo_lab.proofs.AskedLimits.{command-of-within}
-use Rattle.redo_lab.specs.Asked.{HasAllowedNumbers}
+use Rattle.redo_lab.specs.Asked.{HasAllowedNumbers, calls_archive}
 use Rattle.redo_lab.proofs.Alone.{all-left, nothing-ends}
-use Rattle.redo_lab.proofs.Unarchived.{never-restores, spares-untouched}
+use Rattle.redo_lab.proofs.Unarchived.{never-restores, uncalled-alone}
 use Rattle.redo_lab.proofs.lab_call.lab.Goals as goal
 
 pub source_in_threads-done-requires-clause-within : goal.source_in_threads-done-requires-clause-within
@@ -32,15 +31,23 @@ returns-in-Some-clause-call g c =
         c.in-Ok.command,
         record {
           asked = c.in-Ok.ensures.asked;
-          outcome = c.source_in_threads-done.result.outcome;
-          ends = rw is.0 (c.source_in_threads-done.ensures.ends _ _);
+          outcome = c.source_in_threads-done.result.0.outcome;
+          ends = rw is.0 (c.source_in_threads-done.ensures.ends _);
           restores = λ to restore. absurd (never-restores c.in-Some.asked.drive c.in-Some.asked.crash to (sym is.0 ∙ restore));
-          spares = λ drive run. spares-untouched (unfused g.A.Sectors.seen c.args.arch c.args.arch) _ refl;
+          spares = λ drive run. c.source_in_threads-done.ensures.archive.0;
           printed = c.end-in-Some.ensures.printed;
         },
       );
       reads_little = c.source_in_threads-done.ensures.taken;
     })
+
+pub returns-in-Some-clause-untouched : goal.returns-in-Some-clause-untouched
+returns-in-Some-clause-untouched g c = λ uncalled.
+    let is = c.in-Some.ensures.some in
+    let asked = c.in-Ok.ensures.asked in
+    c.end-in-Some.ensures.arch ∙ c.source_in_threads-done.ensures.archive.1
+    (uncalled-alone c.in-Some.asked.drive c.in-Some.asked.crash (subst HasAllowedNumbers is.0 (command-of-within _ c.in-Ok.command asked))
+    (sym (ap calls_archive (asked ∙ ap Some is.0)) ∙ uncalled))
 
 pub returns-in-None-clause-call : goal.returns-in-None-clause-call
 returns-in-None-clause-call g c = c.lab_turns.ensures.call _ c.in-Ok.ensures.asked

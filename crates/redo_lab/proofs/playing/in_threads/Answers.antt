@@ -1,72 +1,50 @@
-use Rattle.std.proofs.Common.{None, subst, ℕ}
+use Rattle.std.proofs.lemmas.Result.{IfOk-weaker}
 use Rattle.redo_drive.specs.Views.{views_of}
-use Rattle.redo_lab.proofs.ByDrive.{spends-turns, tells-threads}
-use Rattle.redo_lab.proofs.Driving.{driven-comes}
-use Rattle.redo_lab.proofs.Entered.{both-same, entries-then, owed-entries}
-use Rattle.redo_lab.proofs.Followers.{told-in-room}
-use Rattle.redo_lab.proofs.Kept.{kept-none}
-use Rattle.redo_lab.proofs.Opening.{unplayed-memory}
-use Rattle.redo_lab.proofs.Owed.{as-owed, read-none}
-use Rattle.redo_memdisk.specs.{CallsThrough, seen_through}
-use Rattle.redo_lab.specs.Following.{AreUntold}
-use Rattle.redo_lab.proofs.Unarchived.{no-archive}
+use Rattle.redo_lab.proofs.ByDrive.{tells-threads}
+use Rattle.redo_lab.proofs.Closed.{after-comes, after-entered, after-finish, after-given, after-started}
 use Rattle.redo_lab.proofs.playing.in_threads.Goals as goal
 
+-- it isn't begun
+
 pub returns-in-Err-clause-comes_to : goal.returns-in-Err-clause-comes_to
-returns-in-Err-clause-comes_to g c = λ words archive source source_now command asked running same few is none.
-    c.in-Err.ensures.ready words archive source source_now command asked running same (no-archive archive asked none)
+returns-in-Err-clause-comes_to g c = λ words archive source source_now command running is only same.
+    c.in-Err.ensures.ready words archive source source_now command running only same
 
-pub returns-in-Err-clause-entered : goal.returns-in-Err-clause-entered
-returns-in-Err-clause-entered g c = c.in-Err.ensures.entered
+-- what it leaves
 
-pub returns-in-Ok-drive_in_threads-clause-comes_to : goal.returns-in-Ok-drive_in_threads-clause-comes_to
-returns-in-Ok-drive_in_threads-clause-comes_to g c = λ words archive source source_now command asked running same few is none.
-    rw (c.close.ensures.course, c.close.ensures.log, c.close.ensures.store)
-    (driven-comes g.L.Sectors.seen g.L.Sectors.gives g.D.Sectors.seen g.D.Sectors.gives words archive source source_now c.args.log c.args.store command asked c.args.stops c.args.script.now
-    c.in-Ok.opened c.in-Ok-drive_in_threads.driven c.in-Ok-drive_in_threads.driven running c.laws.ensures
-    (c.in-Ok.ensures.ready words archive source source_now command asked running same (no-archive archive asked none))
-    c.in-Ok-drive_in_threads.actors.items
-    (tells-threads g.L.Sectors.seen g.L.Sectors.gives g.D.Sectors.seen g.D.Sectors.gives asked c.args.log_only c.in-Ok.opened c.args.script.now
-    (views_of c.in-Ok-drive_in_threads.actors.items) c.in-Ok-drive_in_threads.driven same is
-    c.in-Ok-drive_in_threads.ensures.says)
-    (read-none g.L.Sectors.seen g.D.Sectors.seen c.in-Ok.opened.start c.in-Ok-drive_in_threads.driven)
-    (as-owed (seen_through g.L.Sectors.seen) (CallsThrough g.L.Sectors.seen g.L.Sectors.gives) (seen_through g.D.Sectors.seen) (CallsThrough g.D.Sectors.seen g.D.Sectors.gives)
-    c.in-Ok.opened c.args.script.now c.in-Ok-drive_in_threads.driven c.in-Ok-drive_in_threads.ensures.owed)
-    (λ threads. c.in-Ok-drive_in_threads.ensures.reads)
-    c.in-Ok-make_followers.followers.items c.told_of-follows.result
-    c.in-Ok-make_followers.ensures.new
-    (subst (λ (n : ℕ). AreUntold n c.in-Ok-make_followers.followers.items) few c.in-Ok-make_followers.ensures.untold)
-    c.in-Ok-drive_in_threads.ensures.followed
-    (told-in-room c.args.followers _ c.in-Ok-make_followers.followers.items c.as_slice.result.now
-    c.in-Ok-drive_in_threads.actors.items c.told_of-follows.result.items c.as_slice.ensures.value
-    c.in-Ok-make_followers.ensures.untold c.in-Ok-drive_in_threads.ensures.followed.same
-    c.in-Ok-make_followers.ensures.room.1 (c.told_of-follows.ensures c.in-Ok-make_followers.ensures.room.0))
-    (spends-turns g.L.Sectors.seen g.L.Sectors.gives g.D.Sectors.seen g.D.Sectors.gives _ _ asked)
-    None
-    (kept-none g.L.Sectors.seen g.L.Sectors.gives g.D.Sectors.seen g.D.Sectors.gives c.in-Ok.opened c.args.script.now archive asked.archive
-    c.in-Ok-drive_in_threads.driven none c.in-Ok-drive_in_threads.ensures.lost))
+pub close_run-requires-clause-finish : goal.close_run-requires-clause-finish
+close_run-requires-clause-finish g c = after-finish g.L.Sectors.seen g.L.Sectors.gives g.D.Sectors.seen g.D.Sectors.gives g.A.Sectors.seen
+    c.args.drive.now c.args.script.now c.args.arch c.in-Ok.begun c.in-Ok.ensures.begun c.drive_in_threads-after.result c.drive_in_threads-after.ensures.owed c.drive_in_threads-after.ensures.archived
 
-pub returns-in-Err-drive_in_threads-clause-comes_to : goal.returns-in-Err-drive_in_threads-clause-comes_to
-returns-in-Err-drive_in_threads-clause-comes_to g c = λ words archive source source_now command asked running same few is none.
-    let ready = c.in-Ok.ensures.ready words archive source source_now command asked running same (no-archive archive asked none) in
-    rw (c.unplayed.ensures.course, c.unplayed.ensures.log, c.unplayed.ensures.store, c.in-Err-drive_in_threads.ensures.err.0, c.in-Err-drive_in_threads.ensures.err.1)
-    (unplayed-memory _ command asked c.args.stops c.args.script.now running c.laws.ensures ready.armed ready.reads)
+pub close_run-requires-clause-started : goal.close_run-requires-clause-started
+close_run-requires-clause-started g c = after-started g.L.Sectors.seen g.L.Sectors.gives g.D.Sectors.seen g.D.Sectors.gives g.A.Sectors.seen
+    c.args.drive.now c.args.script.now c.args.arch c.in-Ok.begun c.in-Ok.ensures.begun c.drive_in_threads-after.result c.drive_in_threads-after.ensures.owed c.drive_in_threads-after.ensures.archived
 
-pub returns-in-Ok-drive_in_threads-clause-entered : goal.returns-in-Ok-drive_in_threads-clause-entered
-returns-in-Ok-drive_in_threads-clause-entered g c = rw (c.close.ensures.log, c.close.ensures.store)
-    (entries-then c.in-Ok.ensures.entered (owed-entries
-    (as-owed (seen_through g.L.Sectors.seen) (CallsThrough g.L.Sectors.seen g.L.Sectors.gives) (seen_through g.D.Sectors.seen) (CallsThrough g.D.Sectors.seen g.D.Sectors.gives)
-    c.in-Ok.opened c.args.script.now c.in-Ok-drive_in_threads.driven c.in-Ok-drive_in_threads.ensures.owed)))
+pub returns-clause-given_back : goal.returns-clause-given_back
+returns-clause-given_back g c = after-given g.L.Sectors.seen g.L.Sectors.gives g.D.Sectors.seen g.D.Sectors.gives g.A.Sectors.seen
+    c.args.drive.now c.args.script.now c.args.arch c.in-Ok.begun c.in-Ok.ensures.begun c.archive_reads.ensures c.close_run.result.0 c.close_run.result.1
+    c.drive_in_threads-after.result c.drive_in_threads-after.ensures.owed c.drive_in_threads-after.ensures.archived c.drive_in_threads-after.ensures.err c.close_run.ensures.closed c.close_run.ensures.unrun
 
-pub returns-in-Err-drive_in_threads-clause-entered : goal.returns-in-Err-drive_in_threads-clause-entered
-returns-in-Err-drive_in_threads-clause-entered g c = rw (c.unplayed.ensures.log, c.unplayed.ensures.store)
-    (entries-then c.in-Ok.ensures.entered (both-same c.in-Err-drive_in_threads.ensures.err.0 c.in-Err-drive_in_threads.ensures.err.1))
+pub returns-clause-entered : goal.returns-clause-entered
+returns-clause-entered g c = after-entered g.L.Sectors.seen g.L.Sectors.gives g.D.Sectors.seen g.D.Sectors.gives g.A.Sectors.seen
+    c.args.drive.now c.args.script.now c.args.arch c.in-Ok.begun c.in-Ok.ensures.begun c.archive_reads.ensures c.close_run.result.0 c.close_run.result.1
+    c.drive_in_threads-after.result c.drive_in_threads-after.ensures.owed c.drive_in_threads-after.ensures.archived c.drive_in_threads-after.ensures.err c.close_run.ensures.closed c.close_run.ensures.unrun
+    c.args.log c.args.store c.in-Ok.ensures.entered
 
-pub returns-in_default-clause-comes_to : goal.returns-in_default-clause-comes_to
-returns-in_default-clause-comes_to g c = λ words archive source source_now command asked running same few is none.
-    let ready = c.in-Ok.ensures.ready words archive source source_now command asked running same (no-archive archive asked none) in
-    rw (c.unbegun.ensures.course, c.unbegun.ensures.log, c.unbegun.ensures.store)
-    (unplayed-memory _ command asked c.args.stops c.args.script.now running c.laws.ensures ready.armed ready.reads)
-
-pub returns-in_default-clause-entered : goal.returns-in_default-clause-entered
-returns-in_default-clause-entered g c = rw (c.unbegun.ensures.log, c.unbegun.ensures.store) c.in-Ok.ensures.entered
+pub returns-clause-comes_to : goal.returns-clause-comes_to
+returns-clause-comes_to g c = λ words archive source source_now command running is only same.
+    let has = c.in-Ok.ensures.begun in
+    let drive = c.args.drive.now in
+    let script = c.args.script.now in
+    let given = c.in-Ok.begun.opened in
+    after-comes g.L.Sectors.seen g.L.Sectors.gives g.D.Sectors.seen g.D.Sectors.gives g.A.Sectors.seen
+    drive script c.args.arch c.in-Ok.begun has c.archive_reads.ensures c.close_run.result.0 c.close_run.result.1
+    words archive source source_now c.args.log c.args.store command c.args.stops running c.laws.ensures c.requires.archives
+    c.drive_in_threads-after.result c.drive_in_threads-after.ensures.owed c.drive_in_threads-after.ensures.archived c.drive_in_threads-after.ensures.err c.close_run.ensures.closed c.close_run.ensures.unrun
+    (c.in-Ok.ensures.ready words archive source source_now command running only)
+    (IfOk-weaker c.drive_in_threads-after.result _ _
+    (λ left told. tells-threads g.L.Sectors.seen g.L.Sectors.gives g.D.Sectors.seen g.D.Sectors.gives drive given script (views_of left.1.items) left.0 is told)
+    c.drive_in_threads-after.ensures.says)
+    (λ threads. c.drive_in_threads-after.ensures.reads)
+    c.drive_in_threads-after.ensures.followed
+    same
