@@ -220,10 +220,6 @@ module _ {L D : Type 0} (log_seen : L → Seen) (log_gives : L → Call → L �
     was : (n : ℕ) (b : model.Actor) → get_elem? (actors_of after) n ≡ maybe.some b → Was (actors_of seats) n b
     was = was_there side.users now.users side.work left worked.others many
 
-    in_actors : (n : ℕ) (a : model.Actor) → get_elem? (actors_of seats) n ≡ maybe.some a
-        → get_elem? R.actors n ≡ maybe.some a
-    in_actors n a there = ap (λ (l : List model.Actor). get_elem? l n) worked.are ∙ there
-
     hears_behind : HaveHandedOn A R.run.setup.base new.log R.heard (actors_of after)
         runs_behind.runs.running.log_ghost.log
     hears_behind told n b there =
