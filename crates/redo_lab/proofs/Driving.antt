@@ -49,7 +49,8 @@ use Rattle.redo_lab.proofs.Followers.{as-many, followed-all, numbered-so}
 use Rattle.redo_lab.proofs.Found.{WasFound, found-armed, held-older, one-opened}
 use Rattle.redo_lab.proofs.Fuses.{armed-calls}
 use Rattle.redo_lab.proofs.Opened.{armed-after}
-use Rattle.redo_lab.proofs.Kept.{IsKept, IsLeftArchived, UpTo}
+use Rattle.redo_lab.proofs.DrivenEnds.{UpTo, run-comes}
+use Rattle.redo_lab.proofs.Kept.{IsKept, IsLeftArchived}
 use Rattle.redo_lab.proofs.Owed.{IsOwed, IsReadAfter}
 use Rattle.redo_lab.proofs.Rereading.{armed-as}
 use Rattle.redo_lab.proofs.SomeLeft.{some-left}
@@ -212,34 +213,7 @@ module _ {L D : Type 0} (log_seen : L → Seen) (log_gives : L → Call → L �
         reads = run-reads;
       }
 
-  -- an append that lost something is told
-  lost-so : (lost : Option DevError) → driven.closed.lost ≡ lost → (error ≡ Some device.Failed → ⊥) → failures lost ≡ 0
-  lost-so None is alive = refl
-  lost-so (Some device.NoMemory) is alive = refl
-  lost-so (Some device.Failed) is alive = absurd (alive (kept.over (λ none. let z = sym none ∙ is in cc) ∙ is))
-
-  unlost : error ≡ None → driven.closed.lost ≡ None
-  unlost none = by driven.closed.lost refl
-    where
-      by : (lost : Option DevError) → driven.closed.lost ≡ lost → driven.closed.lost ≡ None
-      by None is = is
-      by (Some e) is = let z = sym none ∙ kept.over (λ none. let z = sym none ∙ is in cc) ∙ is in absurd (cc)
-
-  -- ALL USERS ENDED: something is lost only where a device failed.
-  loses-so : driven.ended ≡ Done → HasMemory driven.closed → (error ≡ Some device.Failed → ⊥) → (left : List (ℕ × ℕ)) → IsLeft script run.entries left
-      → LosesOnlyBy call drive (Some run) left
-  loses-so done memory alive left left_is =
-      let none : failures driven.closed.lost ≡ 0 = lost-so driven.closed.lost refl alive in
-      let counted : failed_in driven.closed ≡ mids call = omega (arith, log-mid, data-mid, none) in
-      inl (subst (λ (n : ℕ). LosesOnlyByFailure n (Some run) left) counted (owes.loses left done memory left_is))
-
-  loses-by : (e : Option DevError) → error ≡ e → driven.ended ≡ Done → HasMemory driven.closed → (left : List (ℕ × ℕ)) → IsLeft script run.entries left
-      → LosesOnlyBy call drive (Some run) left
-  loses-by (Some device.Failed) is done memory left left_is = inr (kept.risen is)
-  loses-by None is done memory left left_is = loses-so done memory (λ failed. let z = sym is ∙ failed in cc) left left_is
-  loses-by (Some device.NoMemory) is done memory left left_is = loses-so done memory (λ failed. let z = sym is ∙ failed in cc) left left_is
-
-  -- and where no call answered an error, what reads give is read
+  -- ALL USERS ENDED: where no call answered an error, what reads give is read
   read-now : driven.ended ≡ Done → HasMemory driven.closed → driven.closed.log.failed ≡ None → driven.closed.store.failed ≡ None
       → (opened : Opened) → WhereOpened call opened (WhereToldNow call (λ log_disk data_disk. (reading : Reading) × IsReading log_disk.reads data_disk.reads reading))
   read-now done memory log_none data_none opened log_entry data_entry log_is data_is log_on data_on log_fresh data_fresh opens log_now data_now log_now_is data_now_is =
@@ -316,31 +290,6 @@ module _ {L D : Type 0} (log_seen : L → Seen) (log_gives : L → Call → L �
         (followers_in actors) follows.items (found.1 log_now data_now log_now_is data_now_is) untold of_followers));
   }
 
-  -- what is told of the run is so, whether a device failed or none
-  told-failed : driven.ended ≡ Done → HasMemory driven.closed → 0 < mids call
-      → IsToldRightly call drive script (Some run) follows.items
-  told-failed done memory some = record {
-    loses = loses-by error refl done memory;
-    marks = λ threads none. absurd (omega (arith, some, none));
-    followers = followers-told;
-  }
-
-  told-archive : error ≡ Some device.Failed → IsToldRightly call drive script (Some run) follows.items
-  told-archive failed = record {
-    loses = λ left left_is. inr (kept.risen failed);
-    marks = λ threads none alive. absurd (alive (kept.risen failed));
-    followers = followers-told;
-  }
-
-  told-unfailed : driven.ended ≡ Done → HasMemory driven.closed → driven.closed.lost ≡ None
-      → driven.closed.log.failed ≡ None → driven.closed.store.failed ≡ None
-      → IsToldRightly call drive script (Some run) follows.items
-  told-unfailed done memory lost_none log_none data_none = record {
-    loses = loses-by error refl done memory;
-    marks = marks-read done memory lost_none log_none data_none;
-    followers = followers-told;
-  }
-
   -- WHAT IS LEFT OF ITS ARCHIVE is so.
   abbrev Archived-so : Type 0
   Archived-so = IsLeftArchived log_seen log_gives data_seen data_gives given script archive driven error
@@ -355,7 +304,7 @@ module _ {L D : Type 0} (log_seen : L → Seen) (log_gives : L → Call → L �
       (data_seen driven.closed.store.dev.inner).tells (λ log_disk. Archived-so) (so started))
       (kept.holds archived was as_read)
 
-  archived-as : IsArchived (UpTo log_seen log_gives data_seen data_gives given script driven error) call drive script run
+  archived-as : IsArchived (UpTo driven error) call drive script run
   archived-as archived opened log_entry data_entry log_is data_is log_on data_on log_fresh data_fresh opens disk image told fair =
       let found = run-found (λ was log_disk data_disk. Archived-so) (archived-run archived)
       opened log_entry data_entry log_is data_is log_on data_on log_fresh data_fresh opens in
@@ -363,92 +312,21 @@ module _ {L D : Type 0} (log_seen : L → Seen) (log_gives : L → Call → L �
       let data_now = some-told call.store.now.tells data_on in
       let same : ready.opened ≡ opened = one-opened laws log_entry data_entry ready.opened opened
       (ready.opens log_entry data_entry log_is data_is (log-before log_on) (data-before data_on)) opens in
-      subst (λ (o : Opened). IsArchiveOf (UpTo log_seen log_gives data_seen data_gives given script driven error) script o run image) same
+      subst (λ (o : Opened). IsArchiveOf (UpTo driven error) script o run image) same
       (found.1 log_now.0 data_now.0 log_now.1 data_now.1 ready.opened ready.is_opened disk image told fair)
-
-  archived-within : IsArchived (λ mark flushed. mark ≤ flushed) call drive script run
-  archived-within archived opened log_entry data_entry log_is data_is log_on data_on log_fresh data_fresh opens disk image told fair =
-      archived-also (UpTo log_seen log_gives data_seen data_gives given script driven error) (λ mark flushed. mark ≤ flushed)
-      script opened run image (λ mark flushed up_to. up_to.0)
-      (archived-as archived opened log_entry data_entry log_is data_is log_on data_on log_fresh data_fresh opens disk image told fair)
-
-  archived-whole : driven.ended ≡ Done → driven.closed.log.failed ≡ None → error ≡ None
-      → IsArchived (λ mark flushed. mark ≡ flushed) call drive script run
-  archived-whole done log_none none archived opened log_entry data_entry log_is data_is log_on data_on log_fresh data_fresh opens disk image told fair =
-      archived-also (UpTo log_seen log_gives data_seen data_gives given script driven error) (λ mark flushed. mark ≡ flushed)
-      script opened run image (λ mark flushed up_to. up_to.1 done log_none none)
-      (archived-as archived opened log_entry data_entry log_is data_is log_on data_on log_fresh data_fresh opens disk image told fair)
-
-  -- by what a call of each device answered that failed
-  abbrev Done-by : (log_error data_error archive_error : Option DevError) → Type 0
-  Done-by log_error data_error archive_error = driven.closed.log.failed ≡ log_error → driven.closed.store.failed ≡ data_error
-      → error ≡ archive_error → driven.ended ≡ Done
-      → ComesTo call command drive stops script (course_done played (ended_by log_error data_error archive_error))
-
-  by-log : (data_error archive_error : Option DevError) → Done-by (Some device.Failed) data_error archive_error
-  by-log data_error archive_error log_is data_is error_is done =
-      let some = ap failures log_is in
-      (left-so Done done, told-failed done (λ lacks. omega (arith, some)) (omega (arith, log-mid, some)), omega (arith, log-mid, some),
-      archived-within)
-
-  by-data : (log_error archive_error : Option DevError) → failures log_error ≡ 0 → driven.closed.log.failed ≡ log_error
-      → driven.closed.store.failed ≡ Some device.Failed → driven.ended ≡ Done
-      → ComesTo call command drive stops script (course.Played played (Some fault.DataDevice))
-  by-data log_error archive_error log_none log_is data_is done =
-      let none = ap failures log_is in
-      let some = ap failures data_is in
-      (left-so Done done, told-failed done (λ lacks. omega (arith, some)) (omega (arith, data-mid, some)),
-      (omega (arith, data-mid, some), omega (arith, log-mid, none, log_none)), archived-within)
-
-  by-archive : (log_error data_error : Option DevError) → failures log_error ≡ 0 → failures data_error ≡ 0
-      → driven.closed.log.failed ≡ log_error → driven.closed.store.failed ≡ data_error → error ≡ Some device.Failed → driven.ended ≡ Done
-      → ComesTo call command drive stops script (course.Played played (Some fault.ArchiveDevice))
-  by-archive log_error data_error log_none data_none log_is data_is error_is done =
-      let no_log = ap failures log_is in
-      let no_data = ap failures data_is in
-      (left-so Done done, told-archive error_is, (kept.risen error_is, omega (arith, log-mid, data-mid, no_log, no_data, log_none, data_none)),
-      archived-within)
-
-  by-none : Done-by None None None
-  by-none log_is data_is error_is done =
-      let memory : HasMemory driven.closed = λ lacks. ⊎_elim (λ log. let e = sym log_is ∙ log in absurd (cc)) (λ others.
-      ⊎_elim (λ store. let e = sym data_is ∙ store in absurd (cc)) (λ lost. let e = sym (unlost error_is) ∙ lost in absurd (cc)) others) lacks in (
-        left-so Done done,
-        told-unfailed done memory (unlost error_is) log_is data_is,
-        (omega (arith, log-mid, data-mid, ap failures log_is, ap failures data_is), read-now done memory log_is data_is),
-        archived-whole done log_is error_is,
-      )
-
-  lacks-memory : driven.ended ≡ Done → ComesTo call command drive stops script (course.Ended fault.Memory)
-  lacks-memory done = left-memory call command drive script running laws (left-so Done done)
-
-  done-by : (log_error data_error archive_error : Option DevError) → Done-by log_error data_error archive_error
-  done-by (Some device.Failed) data_error archive_error log_is data_is error_is done = by-log data_error archive_error log_is data_is error_is done
-  done-by None (Some device.Failed) archive_error log_is data_is error_is done = by-data None archive_error refl log_is data_is done
-  done-by (Some device.NoMemory) (Some device.Failed) archive_error log_is data_is error_is done =
-      by-data (Some device.NoMemory) archive_error refl log_is data_is done
-  done-by None None (Some device.Failed) log_is data_is error_is done = by-archive None None refl refl log_is data_is error_is done
-  done-by None (Some device.NoMemory) (Some device.Failed) log_is data_is error_is done =
-      by-archive None (Some device.NoMemory) refl refl log_is data_is error_is done
-  done-by (Some device.NoMemory) None (Some device.Failed) log_is data_is error_is done =
-      by-archive (Some device.NoMemory) None refl refl log_is data_is error_is done
-  done-by (Some device.NoMemory) (Some device.NoMemory) (Some device.Failed) log_is data_is error_is done =
-      by-archive (Some device.NoMemory) (Some device.NoMemory) refl refl log_is data_is error_is done
-  done-by None None None log_is data_is error_is done = by-none log_is data_is error_is done
-  done-by None None (Some device.NoMemory) log_is data_is error_is done = lacks-memory done
-  done-by None (Some device.NoMemory) None log_is data_is error_is done = lacks-memory done
-  done-by None (Some device.NoMemory) (Some device.NoMemory) log_is data_is error_is done = lacks-memory done
-  done-by (Some device.NoMemory) None None log_is data_is error_is done = lacks-memory done
-  done-by (Some device.NoMemory) None (Some device.NoMemory) log_is data_is error_is done = lacks-memory done
-  done-by (Some device.NoMemory) (Some device.NoMemory) None log_is data_is error_is done = lacks-memory done
-  done-by (Some device.NoMemory) (Some device.NoMemory) (Some device.NoMemory) log_is data_is error_is done = lacks-memory done
-
-  ended-so : (how : RunEnd) → driven.ended ≡ how
-      → ComesTo call command drive stops script (course_of how played (ended_by driven.closed.log.failed driven.closed.store.failed error))
-  ended-so Done how = done-by driven.closed.log.failed driven.closed.store.failed error refl refl refl how
-  ended-so (Spent turns user) how =
-      left-spent call command drive script running laws turns user spends (left-so (Spent turns user) how) archived-within
 
   -- WHAT THE RUN COMES TO.
   pub driven-comes : ComesTo call command drive stops script (course_of driven.ended played (ended_by driven.closed.log.failed driven.closed.store.failed error))
-  driven-comes = ended-so driven.ended refl
+  driven-comes = run-comes call command drive stops script running laws given.start driven follows error (record {
+    left = left-so;
+    log_mid = log-mid;
+    data_mid = data-mid;
+    over = kept.over;
+    risen = kept.risen;
+    loses = owes.loses;
+    reads = read-now;
+    marks = marks-read;
+    followers = followers-told;
+    archived = archived-as;
+    spends = spends;
+  })

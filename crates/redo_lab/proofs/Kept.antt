@@ -36,6 +36,7 @@ use Rattle.redo_memdisk.specs.{CallsThrough, seen_through}
 use Rattle.redo_memdisk.specs.declared.fused.Fused.{Fused}
 use Rattle.redo_store.specs.declared.opened.Opened as store
 use Rattle.redo_lab.proofs.Archives.{ArchiveReads, archived-as, block-rises}
+use Rattle.redo_lab.proofs.DrivenEnds.{UpTo}
 use Rattle.redo_lab.proofs.Opening.{at-start}
 use Rattle.redo_lab.proofs.Owed.{IsOwed, IsReadAfter, owed-back, read-none, read-some, reads-back}
 use Rattle.redo_lab.specs.Archived.{IsArchiveOf}
@@ -50,11 +51,6 @@ on-told (Some disk) so then both = both so (then so)
 
 module _ {L D : Type 0} (log_seen : L → Seen) (log_gives : L → Call → L → Type 0) (data_seen : D → Seen) (data_gives : D → Call → D → Type 0)
     (given : store.Opened (Fused L) (Fused D)) (script : List ScriptLine) where
-  -- how far a run is archived: up to FLUSHED at most, and so far where all users ended and no call failed of log and archive
-  abbrev pub UpTo : Driven (Fused L) (Fused D) → Option DevError → (mark flushed : ℕ) → Type 0
-  UpTo driven error mark flushed =
-      (mark ≤ flushed) × (driven.ended ≡ Done → driven.closed.log.failed ≡ None → error ≡ None → mark ≡ flushed)
-
   -- each fair image of the archive's device is so
   abbrev pub IsLeftArchived : Unfused → Driven (Fused L) (Fused D) → Option DevError → Type 0
   IsLeftArchived archive driven error = (opened : Opened) → IsOpenedAt opened given → (disk : Disk) (image : List ℕ)

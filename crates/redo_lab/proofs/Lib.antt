@@ -9,6 +9,7 @@ pub mod Closed
 pub mod Contents
 pub mod CrashEnds
 pub mod CrashTold
+pub mod DrivenEnds
 pub mod Driving
 pub mod Ends
 pub mod Entered

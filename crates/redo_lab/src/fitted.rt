@@ -50,7 +50,11 @@ fn room_from(log_only: bool, shape: &Shape, start: u64) -> Option<u64>
 }
 
 /// A run that ended so before its first line, with both devices as they were.
-pub(crate) fn unplayed<L: Sectors, D: Sectors>(fault: Fault, log: Fused<L>, store: Fused<D>) -> Ran<L, D>
+pub(crate) fn unplayed<L: Sectors, D: Sectors>(
+    fault: Fault,
+    log: Fused<L>,
+    store: Fused<D>,
+) -> Ran<L, D>
     ensures course { result.course ≡ ended.Ended fault }
     ensures log { result.log ≡ log }
     ensures store { result.store ≡ store }

@@ -7,7 +7,7 @@ use mathlib.Core.Option.{some, some-injective}
 use Rattle.model_core.proofs.Endings.{ended_of, idle_of, quiet, resting_code, resting_free, turn_ends}
 use Rattle.model_core.proofs.Lists.{set_at}
 use Rattle.model_core.proofs.Rests.{rests}
-use Rattle.model_core.specs.{answer_of, is_checking, next, old_of, own_op, UserState}
+use Rattle.model_core.specs.{answer_of, is_checking, old_of, own_op}
 use Rattle.model_core.specs.Actors as model
 use Rattle.model_core.specs.LogSide.{LogSide}
 use Rattle.model_core.specs.Waiting.{ending}

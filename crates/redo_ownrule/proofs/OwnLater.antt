@@ -1,7 +1,7 @@
 -- The same player, later.
-use Rattle.std.proofs.Common.{Bool, cond, false, refl, subst, sym, true, ⊎_elim, ◌≡◌}
+use Rattle.std.proofs.Common.{Bool, List, [], ap, append-nil, cond, false, refl, subst, sym, true, ⊎_elim, ◌∙◌, ◌≡◌}
 use Rattle.model_core.proofs.Later.{checked_keeps, Keeps, later_refl, took_keeps}
-use Rattle.model_core.specs.{FlusherState, flusher_took, heard, old_of, user_took, UserState, writer_took, WriterState}
+use Rattle.model_core.specs.{FlusherState, flusher_took, Given, heard, old_of, user_took, UserState, writer_took, WriterState}
 use Rattle.model_core.specs.Actors as model
 use Rattle.model_core.specs.Later.{IsSameActor}
 use Rattle.model_core.specs.declared.ops.Answer.{Answer}
@@ -18,12 +18,14 @@ use Rattle.model_own.specs.declared.errand.ErrandStep.TheVariants as errand_step
 use Rattle.redo_disk.specs.Seen.{Seen}
 use Rattle.redo_drive.specs.Views.{view_of}
 use Rattle.redo_drive.specs.declared.actor.Actor.{Actor}
-use Rattle.redo_ownrule.specs.OwnMine.{OwnHasGone}
-use Rattle.redo_ownrule.specs.Players.{IsSamePlayer}
+use Rattle.redo_drive.specs.declared.actor.Actor.TheVariants as own
+use Rattle.redo_ownrule.specs.OwnMine.{KeepsOwnSeat, OwnHasGone}
+use Rattle.redo_ownrule.specs.Players.{actor_of, IsSamePlayer}
 use Rattle.redo_ownrule.specs.declared.player.Player.{Player}
 use Rattle.redo_ownrule.specs.declared.player.Player.TheVariants as player
 use Rattle.redo_rule.proofs.Behind.{played_later}
-use Rattle.redo_rule.specs.Mine.{HasGone}
+use Rattle.redo_rule.specs.Mine.{HasGone, heard_of, IsSameSeat}
+use Rattle.redo_rule.specs.declared.law.Heard.{Heard}
 use Rattle.redo_rule.specs.declared.law.View.{View}
 
 -- what a turn on the table makes of an actor
@@ -100,3 +102,18 @@ module _ {L D R : Type 0} (log_seen : L → Seen) (data_seen : D → Seen) {v : 
       → IsSamePlayer p (player.Own x)
   user_later o x is gone = subst (λ (q : Player R). IsSamePlayer q (player.Own x)) (sym is)
       (own_later log_seen data_seen o step x gone)
+
+-- and its seat hears nothing by its turn
+pub same_seat : {L D R : Type 0} (stands : R → List Given → Type 0) (v w : View L D) (p : Player R) (o x : OwnUser)
+    → p ≡ player.Own o → KeepsOwnSeat v w → IsSameSeat stands v (actor_of p) w (own.User x.user)
+same_seat {L} {D} {R} stands v w p o x is keeps =
+    subst (λ (q : Player R). IsSameSeat stands v (actor_of q) w (own.User x.user)) (sym is) (record {
+      about = keeps.about;
+      number = keeps.number;
+      same = tt;
+      since = [];
+      heard = ap (λ (h : Heard). h.groups) keeps.heard ∙ sym (append-nil (heard_of v).groups);
+      appended = [];
+      blocks = ap (λ (h : Heard). h.blocks) keeps.heard ∙ sym (append-nil (heard_of v).blocks);
+      got = tt;
+    })

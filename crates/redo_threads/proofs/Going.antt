@@ -17,6 +17,7 @@ use Rattle.redo_ownrule.specs.declared.player.Player.TheVariants as player
 use Rattle.redo_rule.specs.Mine.{heard_of, IsSameSeat}
 use Rattle.redo_rule.specs.declared.law.Slot.{Slot}
 use Rattle.redo_rule.specs.declared.law.View.{View}
+use Rattle.redo_threads.specs.Archiving.{GoesOnWith, KeepsArchive, MayArchive}
 use Rattle.redo_threads.specs.Working.{GoesOn}
 use Rattle.redo_threads.specs.declared.crew.Worker.{Worker}
 
@@ -78,7 +79,9 @@ module _ {L D F : Type 0} (stands : F → List Given → Type 0) where
     number = refl;
     same = follower_refl (follower_of a);
     since = [];
-    heard = sym (append-nil (heard_of v));
+    heard = sym (append-nil (heard_of v).groups);
+    appended = [];
+    blocks = sym (append-nil (heard_of v).blocks);
     got = got_none stands (follower_of a);
   }
 
@@ -89,7 +92,10 @@ module _ {L D F : Type 0} (stands : F → List Given → Type 0) where
     number = k.number ∙ h.number;
     same = follower_trans (follower_of a) (follower_of b) (follower_of c) h.same k.same;
     since = h.since ++ k.since;
-    heard = k.heard ∙ ap (λ (l : List Given). l ++ k.since) h.heard ∙ append_assoc (heard_of v) h.since k.since;
+    heard = k.heard ∙ ap (λ (l : List Given). l ++ k.since) h.heard ∙ append_assoc (heard_of v).groups h.since k.since;
+    appended = h.appended ++ k.appended;
+    blocks = k.blocks ∙ ap (λ (l : List Block). l ++ k.appended) h.blocks
+        ∙ append_assoc (heard_of v).blocks h.appended k.appended;
     got = got_more stands (follower_of a) (follower_of b) (follower_of c) h.since k.since h.same k.same h.got k.got;
   }
 
@@ -115,11 +121,50 @@ module _ {L D F : Type 0} (stands : F → List Given → Type 0) where
       player = same_trans p q r h.player k.player;
     }
 
-    -- what the promise of a worker in its seat says
-    pub goes_promised : (p w v : Worker L D F) → p ≡ w → IsPlayerSeat table w.seat w.player
-        → GoesOn stands p.seat.table_id p.seat p.player v.seat v.player
-        → GoesOn stands table w.seat w.player v.seat v.player
-    goes_promised p w v e sits h =
-        subst (λ (m : TableId). GoesOn stands m w.seat w.player v.seat v.player)
-        (at_table table w.seat w.player sits)
-        (subst (λ (q : Worker L D F). GoesOn stands q.seat.table_id q.seat q.player v.seat v.player) e h)
+    -- THE SAME WITH AN ARCHIVE, or without
+    module _ {A : Type 0} (seen : A → Seen) where
+      pub with_refl : (s : Seat (Slot L D) (View L D)) (p : Player F) (a : Option (Part A)) → IsPlayerSeat table s p
+          → GoesOnWith seen stands table s p a s p a
+      with_refl s p a h = record {
+        player = goes_refl s p h;
+        archive = record { none = λ e. e; some = λ about before keeps. keeps };
+      }
+
+      pub with_asked : (s t : Seat (Slot L D) (View L D)) (p : Player F) (a : Option (Part A)) → IsPlayerSeat table t p
+          → t.me ≡ s.me → GoesOnWith seen stands table s p a t p a
+      with_asked s t p a h e = record {
+        player = goes_asked s t p h e;
+        archive = record {
+          none = λ e. e;
+          some = λ about before keeps. subst (λ m. KeepsArchive seen about before m.0 p a) (sym e) keeps;
+        };
+      }
+
+      pub with_trans : (s t u : Seat (Slot L D) (View L D)) (p q r : Player F) (a b c : Option (Part A))
+          → GoesOnWith seen stands table s p a t q b → GoesOnWith seen stands table t q b u r c
+          → GoesOnWith seen stands table s p a u r c
+      with_trans s t u p q r a b c h k = record {
+        player = goes_trans s t u p q r h.player k.player;
+        archive = record {
+          none = λ e. k.archive.none (h.archive.none e);
+          some = λ about before keeps. k.archive.some about before (h.archive.some about before keeps);
+        };
+      }
+
+      -- it may go on playing
+      pub may_still : (s t : Seat (Slot L D) (View L D)) (p q : Player F) (a b : Option (Part A))
+          → MayArchive seen s.me.0 p a → GoesOnWith seen stands table s p a t q b → MayArchive seen t.me.0 q b
+      may_still s t p q None None may on = tt
+      may_still s t p q None (Some part) may on = absurd (let z : Some part ≡ None = on.archive.none refl in cc)
+      may_still s t p q (Some part) None may on = tt
+      may_still s t p q (Some part) (Some later) may on = (may.0, may.1, on.archive.some may.0 may.1 may.2)
+
+      -- what the promise of a worker says
+      pub with_promised : (p w v : Worker L D A F) → p ≡ w → IsPlayerSeat table w.seat w.player
+          → GoesOnWith seen stands p.seat.table_id p.seat p.player p.archive v.seat v.player v.archive
+          → GoesOnWith seen stands table w.seat w.player w.archive v.seat v.player v.archive
+      with_promised p w v e sits h =
+          subst (λ (m : TableId). GoesOnWith seen stands m w.seat w.player w.archive v.seat v.player v.archive)
+          (at_table table w.seat w.player sits)
+          (subst (λ (q : Worker L D A F).
+          GoesOnWith seen stands q.seat.table_id q.seat q.player q.archive v.seat v.player v.archive) e h)

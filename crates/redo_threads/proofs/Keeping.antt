@@ -19,18 +19,17 @@ use Rattle.redo_threads.proofs.Going.{goes_refl, goes_trans}
 use Rattle.redo_threads.proofs.Workers.{has_both, insert_workers, long_workers, remove_workers, set_workers}
 use Rattle.redo_threads.proofs.Workers.{worker, worker_at, worker_there}
 use Rattle.redo_threads.proofs.Zips.{zip_back, zip_goes, zip_put_back, zip_removed, zip_trans}
-use Rattle.redo_threads.specs.Working.{AreSeated, GoesOn, HasPlace, IsLater, IsPutBack, IsTakenOut, KeepOn, workers}
+use Rattle.redo_threads.specs.Working.{AreSeated, GoesOn, HasPlace, IsLater, IsPutBack, IsTakenOut, KeepOn, Sitting, workers}
 use Rattle.redo_threads.specs.declared.crew.Crew.{Crew}
-use Rattle.redo_threads.specs.declared.crew.Worker.{Worker}
 
 module _ {L D F : Type 0} (stands : F → List Given → Type 0) (table : TableId) where
-  abbrev pub crew_of : Crew L D F → List (Worker L D F)
+  abbrev pub crew_of : Crew L D F → List (Sitting L D F)
   crew_of x = workers x.seats.items x.players.items
 
-  abbrev pub Later : Worker L D F → Worker L D F → Type 0
+  abbrev pub Later : Sitting L D F → Sitting L D F → Type 0
   Later = IsLater stands table
 
-  join : (w v u : Worker L D F) → Later w v → Later v u → Later w u
+  join : (w v u : Sitting L D F) → Later w v → Later v u → Later w u
   join w v u h k = goes_trans stands table w.seat v.seat u.seat w.player v.player u.player h k
 
   pub as_many : (seats : List (Seat (Slot L D) (View L D))) (players : List (Player F))
@@ -44,7 +43,7 @@ module _ {L D F : Type 0} (stands : F → List Given → Type 0) (table : TableI
   all_refl (s ∷ seats) [] A = tt
   all_refl (s ∷ seats) (a ∷ players) A = (goes_refl stands table s a A.0, all_refl seats players A.1)
 
-  all_seated : (ws : List (Worker L D F)) (seats : List (Seat (Slot L D) (View L D))) (players : List (Player F))
+  all_seated : (ws : List (Sitting L D F)) (seats : List (Seat (Slot L D) (View L D))) (players : List (Player F))
       → length seats ≡ length players → AllZip Later ws (workers seats players)
       → AreSeated table seats players
   all_seated ws [] [] e h = tt
@@ -139,8 +138,8 @@ module _ {L D F : Type 0} (stands : F → List Given → Type 0) (table : TableI
 
   -- a worker that is taken out sits in its seat, and so do the others: it is put back once these have gone on, or
   -- before
-  module _ (x rest : Crew L D F) (n : ℕ) (w : Worker L D F)
-      (A : AreSeated table x.seats.items x.players.items) (out : IsTakenOut x n w rest) where
+  module _ (x rest : Crew L D F) (n : ℕ) (w : Sitting L D F)
+      (A : AreSeated table x.seats.items x.players.items) (out : IsTakenOut x n w.seat w.player rest) where
     many : length x.seats.items ≡ length x.players.items
     many = as_many x.seats.items x.players.items A
 
@@ -166,7 +165,7 @@ module _ {L D F : Type 0} (stands : F → List Given → Type 0) (table : TableI
 
     pub rest_seated : AreSeated table rest.seats.items rest.players.items
     rest_seated = all_seated (crew_of rest) rest.seats.items rest.players.items others_many.0
-        (subst (λ (l : List (Worker L D F)). AllZip Later l l) (sym others_are)
+        (subst (λ (l : List (Sitting L D F)). AllZip Later l l) (sym others_are)
         (zip_removed Later (crew_of x) (crew_of x) n (all_refl x.seats.items x.players.items A)))
 
     pub has_place : (y : Crew L D F) → KeepOn stands table rest y → HasPlace y n
@@ -188,8 +187,8 @@ module _ {L D F : Type 0} (stands : F → List Given → Type 0) (table : TableI
     has_place_aside = has_place rest (keep_refl rest rest_seated)
 
     -- it went on, and is back at its place
-    pub keep_back : (y z : Crew L D F) (v : Worker L D F) → KeepOn stands table rest y
-        → GoesOn stands table w.seat w.player v.seat v.player → IsPutBack y n v z → KeepOn stands table x z
+    pub keep_back : (y z : Crew L D F) (v : Sitting L D F) → KeepOn stands table rest y
+        → GoesOn stands table w.seat w.player v.seat v.player → IsPutBack y n v.seat v.player z → KeepOn stands table x z
     keep_back y z v h g back =
         let less = out.there in
         let m = long_workers x.seats.items x.players.items many in
@@ -198,7 +197,7 @@ module _ {L D F : Type 0} (stands : F → List Given → Type 0) (table : TableI
         worker_at x.seats.items x.players.items n w.seat w.player many less out.seat out.player in
         let all : AllZip Later (crew_of x) (insert (crew_of y) n v) =
         zip_put_back Later (crew_of x) (crew_of y) n w v
-        (subst (λ (l : List (Worker L D F)). AllZip Later l (crew_of y)) others_are h.all) (omega arith) at g in
+        (subst (λ (l : List (Sitting L D F)). AllZip Later l (crew_of y)) others_are h.all) (omega arith) at g in
         let are : crew_of z ≡ workers (insert y.seats.items n v.seat) (insert y.players.items n v.player) =
         λ j. workers (back.seats j) (back.players j) in
         record {
@@ -214,6 +213,6 @@ module _ {L D F : Type 0} (stands : F → List Given → Type 0) (table : TableI
           players_fit = let f = h.players_fit in let e = out.players_fit in let k = back.players_fit in omega arith;
         }
 
-    pub keep_aside : (z : Crew L D F) (v : Worker L D F) → GoesOn stands table w.seat w.player v.seat v.player
-        → IsPutBack rest n v z → KeepOn stands table x z
+    pub keep_aside : (z : Crew L D F) (v : Sitting L D F) → GoesOn stands table w.seat w.player v.seat v.player
+        → IsPutBack rest n v.seat v.player z → KeepOn stands table x z
     keep_aside z v g back = keep_back rest z v (keep_refl rest rest_seated) g back

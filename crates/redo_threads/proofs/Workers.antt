@@ -7,11 +7,10 @@ use Rattle.atomic_table.specs.declared.shared.Seat.{Seat}
 use Rattle.redo_ownrule.specs.declared.player.Player.{Player}
 use Rattle.redo_rule.specs.declared.law.Slot.{Slot}
 use Rattle.redo_rule.specs.declared.law.View.{View}
-use Rattle.redo_threads.specs.Working.{workers}
-use Rattle.redo_threads.specs.declared.crew.Worker.{Worker}
+use Rattle.redo_threads.specs.Working.{Sitting, workers}
 
 module _ {L D F : Type 0} where
-  abbrev pub worker : Seat (Slot L D) (View L D) → Player F → Worker L D F
+  abbrev pub worker : Seat (Slot L D) (View L D) → Player F → Sitting L D F
   worker s a = record { seat = s; player = a }
 
   pub long_workers : (seats : List (Seat (Slot L D) (View L D))) (players : List (Player F))
@@ -29,7 +28,7 @@ module _ {L D F : Type 0} where
   set_workers (x ∷ seats) [] n s a e = absurd (omega arith)
   set_workers (x ∷ seats) (y ∷ players) zero s a e = refl
   set_workers (x ∷ seats) (y ∷ players) (suc n) s a e =
-      ap (λ (l : List (Worker L D F)). worker x y ∷ l) (set_workers seats players n s a (omega arith))
+      ap (λ (l : List (Sitting L D F)). worker x y ∷ l) (set_workers seats players n s a (omega arith))
 
   pub remove_workers : (seats : List (Seat (Slot L D) (View L D))) (players : List (Player F)) (n : ℕ)
       → length seats ≡ length players → remove (workers seats players) n ≡ workers (remove seats n) (remove players n)
@@ -39,7 +38,7 @@ module _ {L D F : Type 0} where
   remove_workers (x ∷ seats) [] n e = absurd (omega arith)
   remove_workers (x ∷ seats) (y ∷ players) zero e = refl
   remove_workers (x ∷ seats) (y ∷ players) (suc n) e =
-      ap (λ (l : List (Worker L D F)). worker x y ∷ l) (remove_workers seats players n (omega arith))
+      ap (λ (l : List (Sitting L D F)). worker x y ∷ l) (remove_workers seats players n (omega arith))
 
   pub insert_workers : (seats : List (Seat (Slot L D) (View L D))) (players : List (Player F)) (n : ℕ)
       (s : Seat (Slot L D) (View L D)) (a : Player F) → length seats ≡ length players
@@ -49,7 +48,7 @@ module _ {L D F : Type 0} where
   insert_workers [] (y ∷ players) (suc n) s a e = absurd (omega arith)
   insert_workers (x ∷ seats) [] (suc n) s a e = absurd (omega arith)
   insert_workers (x ∷ seats) (y ∷ players) (suc n) s a e =
-      ap (λ (l : List (Worker L D F)). worker x y ∷ l) (insert_workers seats players n s a (omega arith))
+      ap (λ (l : List (Sitting L D F)). worker x y ∷ l) (insert_workers seats players n s a (omega arith))
 
   -- the worker at a place
   pub worker_at : (seats : List (Seat (Slot L D) (View L D))) (players : List (Player F)) (n : ℕ)
@@ -73,12 +72,12 @@ module _ {L D F : Type 0} where
       λ j. maybe.some (worker (e j) (f j))
   worker_there (x ∷ seats) (y ∷ players) (suc n) s a p q = worker_there seats players n s a p q
 
-  pub has_both : (seats : List (Seat (Slot L D) (View L D))) (players : List (Player F)) (n : ℕ) (w : Worker L D F)
+  pub has_both : (seats : List (Seat (Slot L D) (View L D))) (players : List (Player F)) (n : ℕ) (w : Sitting L D F)
       → get_elem? (workers seats players) n ≡ maybe.some w
       → (get_elem? seats n ≡ maybe.some w.seat) × (get_elem? players n ≡ maybe.some w.player)
   has_both [] players n w p = absurd (maybe.some-ne-none w (sym p))
   has_both (x ∷ seats) [] n w p = absurd (maybe.some-ne-none w (sym p))
   has_both (x ∷ seats) (y ∷ players) zero w p =
-      let e : ◌≡◌ {A = Worker L D F} (worker x y) w = maybe.some-injective (worker x y) w p in
-      (ap (λ (z : Worker L D F). maybe.some z.seat) e, ap (λ (z : Worker L D F). maybe.some z.player) e)
+      let e : ◌≡◌ {A = Sitting L D F} (worker x y) w = maybe.some-injective (worker x y) w p in
+      (ap (λ (z : Sitting L D F). maybe.some z.seat) e, ap (λ (z : Sitting L D F). maybe.some z.player) e)
   has_both (x ∷ seats) (y ∷ players) (suc n) w p = has_both seats players n w p

@@ -1,5 +1,5 @@
 -- The archive beside its archiver, which has a seat among others.
-use Rattle.std.specs.Prelude.{IfSome, List, [], None, Option, Some, ℕ, ◌++◌, ◌≡◌, ◌≤◌}
+use Rattle.std.specs.Prelude.{IfSome, List, [], None, Option, Some, is_some, length, ℕ, ◌++◌, ◌≡◌, ◌≤◌}
 use Rattle.std.specs.List.{AllByRecursion}
 use lib.ListN.{get_elem?}
 use mathlib.Core.Option.{some}
@@ -10,19 +10,26 @@ use Rattle.model_core.specs.Actors as model
 use Rattle.model_core.specs.declared.ops.Op.TheVariants as op
 use Rattle.model_log.specs.{IsRunOf}
 use Rattle.model_log.specs.declared.group.Whole.{Whole}
+use Rattle.model_own.specs.OwnWrites.{LogWork}
 use Rattle.model_page.specs.declared.content.Content.{Content}
 use Rattle.model_script.specs.{script_end}
 use Rattle.redo_archive.specs.Part.{Part, PartArchives}
 use Rattle.redo_archiver.specs.{append_answer, IsFullBlock, KeepsPace}
 use Rattle.redo_disk.specs.Seen.{Seen}
+use Rattle.redo_disk.specs.declared.error.DevError.{DevError}
 use Rattle.redo_drive.specs.Archiving.{Appends, IsSameArchive}
-use Rattle.redo_drive.specs.Startable.{MayBegin}
-use Rattle.redo_drive.specs.Views.{view_of}
+use Rattle.redo_drive.specs.Making.{EndsWithReaders}
+use Rattle.redo_drive.specs.Startable.{AreNewFollowers, MayBegin}
+use Rattle.redo_drive.specs.Views.{view_of, views_of}
 use Rattle.redo_drive.specs.declared.actor.Actor.{Actor}
 use Rattle.redo_drive.specs.declared.actor.Actor.TheVariants as actor
+use Rattle.redo_follow.specs.Handing.{Following}
+use Rattle.redo_ownrule.specs.Players.{crew}
 use Rattle.redo_ownrule.specs.Playing.{IsPlayerSeat}
+use Rattle.redo_ownrule.specs.Sharing.{opened_of, own_of, starts_of}
 use Rattle.redo_ownrule.specs.declared.player.Player.{Player}
 use Rattle.redo_ownrule.specs.declared.player.Player.TheVariants as player
+use Rattle.redo_ownrule.specs.declared.shared.Shared.{Shared}
 use Rattle.redo_rule.specs.Handing.{appended_by}
 use Rattle.redo_rule.specs.Mine.{heard_of, IsSameSeat}
 use Rattle.redo_rule.specs.Seating.{IsSeatOf}
@@ -30,7 +37,7 @@ use Rattle.redo_rule.specs.declared.law.About.{About}
 use Rattle.redo_rule.specs.declared.law.Block.{Block}
 use Rattle.redo_rule.specs.declared.law.Slot.{Slot}
 use Rattle.redo_rule.specs.declared.law.View.{View}
-use Rattle.redo_threads.specs.Working.{GoesOn}
+use Rattle.redo_threads.specs.Working.{AtEnd, GoesOn}
 use Rattle.redo_threads.specs.declared.crew.Crew.{Crew}
 use Rattle.redo_threads.specs.declared.crew.Worker.{Worker}
 
@@ -81,6 +88,25 @@ pub record HasAppended {L D A F : Type 0} (seen : A → Seen) (stands : F → Li
   pub took : view_of b ≡ took (view_of a) (append_answer new.failed)
   pub blocks : (heard_of t.me.0).blocks ≡ (heard_of s.me.0).blocks ++ appended_by (view_of a)
 
+abbrev pub IsArchiving : {F : Type 0} → Player F → Type 0
+IsArchiving (player.Plain a) = IsArchiver a
+IsArchiving (player.Own o) = ⊥
+
+-- what an archive has met that failed, if there is one
+abbrev pub lost_of : {A : Type 0} → Option (Part A) → Option DevError
+lost_of None = None
+lost_of (Some part) = part.failed
+
+-- THE LAST OF THE PLAYERS READ THE LOG: a new archiver, if the run is archived, and new followers.
+pub record BeginsWithReaders {L D F : Type 0} (shared : Shared L D F) (players : List (Player F)) : Type 0 where
+  pub followers : List (Following F)
+  pub new : AreNewFollowers (opened_of shared).start followers
+  pub many : shared.board.shared.key.followers ≡ length followers
+  pub work : Option LogWork
+  pub works : is_some work ≡ own_of shared
+  pub actors_are : starts_of shared ≡ views_of (crew work players)
+  pub readers : EndsWithReaders (opened_of shared).start shared.board.shared.key.archive (crew work players) followers
+
 module _ {L D A F : Type 0} (seen : A → Seen) where
   -- the player is the archiver, and this its archive
   abbrev pub KeepsArchive : About L D → Part A → View L D → Player F → Option (Part A) → Type 0
@@ -113,10 +139,33 @@ module _ {L D A F : Type 0} (seen : A → Seen) where
   WorksOn stands table (Some w) (Some v) = GoesOnWith stands table w.seat w.player w.archive v.seat v.player v.archive
   WorksOn stands table _ _ = ⊥
 
-  -- the player at this place is the archiver, and this its archive
-  pub record StandsAt (about : About L D) (before : Part A) (place : ℕ) (crew : Crew L D F) (archive : Option (Part A)) : Type 0 where
+  -- and has come to its end
+  abbrev pub AtItsEnd : Option (Worker L D A F) → Type 0
+  AtItsEnd worker = IfSome worker (λ w. AtEnd w.player)
+
+  -- ONE OF THE PLAYERS IS THE ARCHIVER, and whichever is has this archive beside it.
+  pub record MayBeArchived (about : About L D) (before : Part A) (crew : Crew L D F) (part : Part A) : Type 0 where
+    pub place : ℕ
+    pub one : Player F
+    pub at : get_elem? crew.players.items place ≡ some one
+    pub archives : IsArchiving one
+    pub each : (i : ℕ) (s : Seat (Slot L D) (View L D)) (p : Player F) → get_elem? crew.seats.items i ≡ some s
+        → get_elem? crew.players.items i ≡ some p → IsArchiving p → KeepsArchive about before s.me.0 p (Some part)
+
+  -- the player at some place is the archiver, then and later, and has its archive beside it
+  pub record ArchiveStays (old : Crew L D F) (part : Part A) (new : Crew L D F) (later : Option (Part A)) : Type 0 where
+    pub place : ℕ
+    pub one : Player F
+    pub at : get_elem? old.players.items place ≡ some one
+    pub archives : IsArchiving one
     pub seat : Seat (Slot L D) (View L D)
-    pub player : Player F
-    pub sits : get_elem? crew.seats.items place ≡ some seat
-    pub at : get_elem? crew.players.items place ≡ some player
-    pub keeps : KeepsArchive about before seat.me.0 player archive
+    pub then : Player F
+    pub sits : get_elem? new.seats.items place ≡ some seat
+    pub then_at : get_elem? new.players.items place ≡ some then
+    pub keeps : (about : About L D) (before : Part A) → MayBeArchived about before old part
+        → KeepsArchive about before seat.me.0 then later
+
+  -- the same where there is an archive; else there is none then
+  abbrev pub LeavesArchive : (old : Crew L D F) → Option (Part A) → (new : Crew L D F) → Option (Part A) → Type 0
+  LeavesArchive old None new later = later ≡ None
+  LeavesArchive old (Some part) new later = ArchiveStays old part new later

@@ -16,7 +16,6 @@ use Rattle.redo_rule.specs.Mine.{IsSameSeat}
 use Rattle.redo_rule.specs.declared.law.Slot.{Slot}
 use Rattle.redo_rule.specs.declared.law.View.{View}
 use Rattle.redo_threads.specs.declared.crew.Crew.{Crew}
-use Rattle.redo_threads.specs.declared.crew.Worker.{Worker}
 
 -- a user has ended
 abbrev pub IsUserOver : model.Actor → Type 0
@@ -35,13 +34,18 @@ module _ {F : Type 0} where
   abbrev pub AreAtEnd : List (Player F) → Type 0
   AreAtEnd players = (i : ℕ) (p : Player F) → get_elem? players i ≡ some p → AtEnd p
 
+-- a player in its seat
+pub record Sitting (L D F : Type 0) : Type 0 where
+  pub seat : Seat (Slot L D) (View L D)
+  pub player : Player F
+
 module _ {L D F : Type 0} where
   -- each of these players has one of these seats, whatever the seat's number
   abbrev pub AreSeated : TableId → List (Seat (Slot L D) (View L D)) → List (Player F) → Type 0
   AreSeated table = AllZip (IsPlayerSeat table)
 
   -- each of these players in its seat of these
-  abbrev pub workers : List (Seat (Slot L D) (View L D)) → List (Player F) → List (Worker L D F)
+  abbrev pub workers : List (Seat (Slot L D) (View L D)) → List (Player F) → List (Sitting L D F)
   workers [] players = []
   workers (seat ∷ seats) [] = []
   workers (seat ∷ seats) (player ∷ players) = record { seat = seat; player = player } ∷ workers seats players
@@ -53,8 +57,8 @@ module _ {L D F : Type 0} (stands : F → List Given → Type 0) (table : TableI
     pub same : IsSameSeat stands before.me.0 (actor_of p) after.me.0 (actor_of q)
     pub player : IsSamePlayer p q
 
-  -- a worker, later
-  abbrev pub IsLater : Worker L D F → Worker L D F → Type 0
+  -- a player in its seat, later
+  abbrev pub IsLater : Sitting L D F → Sitting L D F → Type 0
   IsLater before after = GoesOn before.seat before.player after.seat after.player
 
   -- the same players, later, each in the seat that it had, with room for as many as they were
@@ -65,11 +69,11 @@ module _ {L D F : Type 0} (stands : F → List Given → Type 0) (table : TableI
     pub players_fit : vec_capacity old.players ≤ vec_capacity new.players
 
 module _ {L D F : Type 0} where
-  -- the worker at this place was taken out, and there is room for it
-  pub record IsTakenOut (old : Crew L D F) (place : ℕ) (worker : Worker L D F) (new : Crew L D F) : Type 0 where
+  -- the player at this place was taken out in its seat, and there is room for it
+  pub record IsTakenOut (old : Crew L D F) (place : ℕ) (s : Seat (Slot L D) (View L D)) (p : Player F) (new : Crew L D F) : Type 0 where
     pub there : place < length old.players.items
-    pub seat : worker.seat ≡ slice_index_or old.seats.items place worker.seat
-    pub player : worker.player ≡ slice_index_or old.players.items place worker.player
+    pub seat : s ≡ slice_index_or old.seats.items place s
+    pub player : p ≡ slice_index_or old.players.items place p
     pub seats : new.seats.items ≡ remove old.seats.items place
     pub players : new.players.items ≡ remove old.players.items place
     pub seats_fit : vec_capacity new.seats ≡ vec_capacity old.seats
@@ -77,16 +81,16 @@ module _ {L D F : Type 0} where
     pub seats_room : length new.seats.items < vec_capacity new.seats
     pub players_room : length new.players.items < vec_capacity new.players
 
-  -- a worker has room at this place
+  -- a player has room at this place
   pub record HasPlace (crew : Crew L D F) (place : ℕ) : Type 0 where
     pub seats : place ≤ length crew.seats.items
     pub players : place ≤ length crew.players.items
     pub seats_room : length crew.seats.items < vec_capacity crew.seats
     pub players_room : length crew.players.items < vec_capacity crew.players
 
-  -- a worker was put in at this place
-  pub record IsPutBack (old : Crew L D F) (place : ℕ) (worker : Worker L D F) (new : Crew L D F) : Type 0 where
-    pub seats : new.seats.items ≡ insert old.seats.items place worker.seat
-    pub players : new.players.items ≡ insert old.players.items place worker.player
+  -- a player was put in at this place, in its seat
+  pub record IsPutBack (old : Crew L D F) (place : ℕ) (s : Seat (Slot L D) (View L D)) (p : Player F) (new : Crew L D F) : Type 0 where
+    pub seats : new.seats.items ≡ insert old.seats.items place s
+    pub players : new.players.items ≡ insert old.players.items place p
     pub seats_fit : vec_capacity new.seats ≡ vec_capacity old.seats
     pub players_fit : vec_capacity new.players ≡ vec_capacity old.players

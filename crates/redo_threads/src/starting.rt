@@ -1,7 +1,8 @@
 // A thread for each player, where one can be started.
 ghost use Rattle.std.specs.Prelude.{IfErr, IfOk, length, ◌≡◌, ◌≤◌};
 ghost use Rattle.redo_ownrule.specs.Playing.{IsPlayerSeat};
-ghost use Rattle.redo_threads.specs.Working.{AreAtEnd, AreSeated, GoesOn, KeepOn};
+ghost use Rattle.redo_threads.specs.Archiving.{AtItsEnd, GoesOnWith, MayArchive, MayWork, WorksOn};
+ghost use Rattle.redo_threads.specs.Working.{AreAtEnd, AreSeated, KeepOn};
 
 use crate::bells::Bells;
 use crate::crew::{Crew, Worker, play_here, to_ends};
@@ -20,30 +21,43 @@ const NOBODY: u64 = u64::MAX;
 
 /// The promise of a player's thread: what it gives back has gone on from what it was given.
 #[derive(Drop)]
-pub(crate) struct FromWorker<L: Sectors, D: Sectors, F: Receiver>(Snapshot<Worker<L, D, F>>);
+pub(crate) struct FromWorker<L: Sectors, D: Sectors, A: Sectors, F: Receiver>(
+    Snapshot<Worker<L, D, A, F>>,
+);
 
-impl<L: Sectors, D: Sectors, F: Receiver> Promise<Worker<L, D, F>> for FromWorker<L, D, F> {
-    ghost use Rattle.redo_threads.specs.Working.{GoesOn};
+impl<L: Sectors, D: Sectors, A: Sectors, F: Receiver> Promise<Worker<L, D, A, F>>
+    for FromWorker<L, D, A, F>
+{
+    ghost use Rattle.redo_threads.specs.Archiving.{GoesOnWith};
 
-    ghost kept_by = { λ p r. GoesOn F.stands_for p.0.value.seat.table_id p.0.value.seat p.0.value.player r.seat r.player };
+    ghost kept_by = { λ p r. GoesOnWith A.seen F.stands_for p.0.value.seat.table_id p.0.value.seat p.0.value.player p.0.value.archive r.seat r.player r.archive };
 }
 
 /// What a thread does: it lets its player play up to the end. Where the thread couldn't be started, the caller has noted its
 /// number and calls this itself, to get the player back as it was.
-fn work_or_return<R: Wait, L: Sectors, D: Sectors, F: Receiver, G: Gate>(
+fn work_or_return<R: Wait, L: Sectors, D: Sectors, A: Sectors, F: Receiver, G: Gate>(
     rt: &R,
     table: &Ring<L, D>,
     bells: &Bells,
     refused: &AtomicU64,
     gate: &G,
     number: u64,
-    mut worker: Worker<L, D, F>,
-) -> Worker<L, D, F>
-    requires { IsPlayerSeat table.now.table_id worker.seat worker.player }
-    ensures { GoesOn F.stands_for table.now.table_id worker.seat worker.player result.seat result.player }
+    mut worker: Worker<L, D, A, F>,
+) -> Worker<L, D, A, F>
+    requires seat { IsPlayerSeat table.now.table_id worker.seat worker.player }
+    requires archive { MayArchive A.seen worker.seat.me.0 worker.player worker.archive }
+    ensures { GoesOnWith A.seen F.stands_for table.now.table_id worker.seat worker.player worker.archive result.seat result.player result.archive }
 {
     if refused.load(Ordering::SeqCst) != number {
-        work(rt, table, bells, gate, &mut worker.seat, &mut worker.player);
+        work(
+            rt,
+            table,
+            bells,
+            gate,
+            &mut worker.seat,
+            &mut worker.player,
+            &mut worker.archive,
+        );
     }
     worker
 }
@@ -56,6 +70,7 @@ fn start_one<
     R: Threads + Wait + Sync,
     L: Sectors + Send,
     D: Sectors + Send,
+    A: Sectors + Send + 's,
     F: Receiver + Drop + Send + 's,
     G: Gate,
 >(
@@ -66,11 +81,12 @@ fn start_one<
     refused: &'s AtomicU64,
     gate: &'s G,
     number: usize,
-    worker: Worker<L, D, F>,
-) -> Result<PromisedHandle<Worker<L, D, F>, FromWorker<L, D, F>>, Worker<L, D, F>>
-    requires { IsPlayerSeat table.now.table_id worker.seat worker.player }
+    worker: Worker<L, D, A, F>,
+) -> Result<PromisedHandle<Worker<L, D, A, F>, FromWorker<L, D, A, F>>, Worker<L, D, A, F>>
+    requires seat { IsPlayerSeat table.now.table_id worker.seat worker.player }
+    requires archive { MayArchive A.seen worker.seat.me.0 worker.player worker.archive }
     ensures ok { IfOk result (λ handle. handle.promise.0.value ≡ worker) }
-    ensures err { IfErr result (λ back. GoesOn F.stands_for table.now.table_id worker.seat worker.player back.seat back.player) }
+    ensures err { IfErr result (λ back. GoesOnWith A.seen F.stands_for table.now.table_id worker.seat worker.player worker.archive back.seat back.player back.archive) }
 {
     if gate.refuses(number) {
         return Err(worker);
@@ -79,9 +95,10 @@ fn start_one<
     let promise = FromWorker(Snapshot::of(&worker));
     match scope.spawn_with(
         promise,
-        move || -> Worker<L, D, F>
-            requires { IsPlayerSeat table.now.table_id worker.seat worker.player }
-            ensures { GoesOn F.stands_for table.entry.now.table_id worker.seat worker.player result.seat result.player }
+        move || -> Worker<L, D, A, F>
+            requires seat { IsPlayerSeat table.now.table_id worker.seat worker.player }
+            requires archive { MayArchive A.seen worker.seat.me.0 worker.player worker.archive }
+            ensures { GoesOnWith A.seen F.stands_for table.entry.now.table_id worker.seat worker.player worker.archive result.seat result.player result.archive }
         { work_or_return(rt, table, bells, refused, gate, number, worker) },
     ) {
         Ok(handle) => Ok(handle),
@@ -93,13 +110,15 @@ fn start_one<
 }
 
 /// Starts threads for the first players, as many as are left, the last of them first, and joins them. Who gets no
-/// thread stays behind those that are left: it plays these itself, once each of the others has been tried.
+/// thread stays behind those that are left: it plays these itself, and the archiver, if that is given, once each of the others
+/// has been tried.
 fn start<
     's,
     E,
     R: Threads + Wait + Sync,
     L: Sectors + Send,
     D: Sectors + Send,
+    A: Sectors + Send + 's,
     F: Receiver + Drop + Send + 's,
     G: Gate,
 >(
@@ -111,55 +130,144 @@ fn start<
     gate: &'s G,
     left: usize,
     mut crew: Crew<L, D, F>,
-) -> Crew<L, D, F>
+    mut archiver: Option<Worker<L, D, A, F>>,
+) -> (Crew<L, D, F>, Option<Worker<L, D, A, F>>)
     requires seated { AreSeated table.now.table_id crew.seats.items crew.players.items }
+    requires archiver { MayWork A.seen table.now.table_id archiver }
     requires left { left ≤ length crew.players.items }
-    ensures { KeepOn F.stands_for table.now.table_id crew result }
+    ensures crew { KeepOn F.stands_for table.now.table_id crew result.0 }
+    ensures archiver { WorksOn A.seen F.stands_for table.now.table_id archiver result.1 }
 {
     if left == 0 {
-        play_here(rt, table, bells, gate, &mut crew);
-        return crew;
+        play_here(rt, table, bells, gate, &mut crew, &mut archiver);
+        return (crew, archiver);
     }
     let number = left - 1;
-    let worker = crew.take_out(number);
+    let worker = crew.take_out::<A>(number, None);
     match start_one(scope, rt, table, bells, refused, gate, number, worker) {
         Ok(handle) => {
-            let mut crew = start(scope, rt, table, bells, refused, gate, number, crew);
+            let (mut crew, archiver) =
+                start(scope, rt, table, bells, refused, gate, number, crew, archiver);
             crew.put_back(number, handle.join(rt));
-            crew
+            (crew, archiver)
         }
         Err(worker) => {
             crew.put_back(number, worker);
-            start(scope, rt, table, bells, refused, gate, number, crew)
+            start(scope, rt, table, bells, refused, gate, number, crew, archiver)
         }
     }
 }
 
-/// All players play at once, up to their ends.
+/// The same for all players, of whom the archiver, if there is one, is tried first. Its number is that behind the others'.
+fn start_all<
+    's,
+    E,
+    R: Threads + Wait + Sync,
+    L: Sectors + Send,
+    D: Sectors + Send,
+    A: Sectors + Send + 's,
+    F: Receiver + Drop + Send + 's,
+    G: Gate,
+>(
+    scope: &'s Scope<'s, E>,
+    rt: &'s R,
+    table: &'s Ring<L, D>,
+    bells: &'s Bells,
+    refused: &'s AtomicU64,
+    gate: &'s G,
+    crew: Crew<L, D, F>,
+    archiver: Option<Worker<L, D, A, F>>,
+) -> (Crew<L, D, F>, Option<Worker<L, D, A, F>>)
+    requires seated { AreSeated table.now.table_id crew.seats.items crew.players.items }
+    requires archiver { MayWork A.seen table.now.table_id archiver }
+    ensures crew { KeepOn F.stands_for table.now.table_id crew result.0 }
+    ensures archiver { WorksOn A.seen F.stands_for table.now.table_id archiver result.1 }
+{
+    let left = crew.players.len();
+    let Some(worker) = archiver else {
+        return start(scope, rt, table, bells, refused, gate, left, crew, None);
+    };
+    match start_one(scope, rt, table, bells, refused, gate, left, worker) {
+        Ok(handle) => {
+            let (crew, _none) =
+                start::<E, R, L, D, A, F, G>(scope, rt, table, bells, refused, gate, left, crew, None);
+            (crew, Some(handle.join(rt)))
+        }
+        Err(worker) => start(
+            scope,
+            rt,
+            table,
+            bells,
+            refused,
+            gate,
+            left,
+            crew,
+            Some(worker),
+        ),
+    }
+}
+
+/// The archiver, if there is one, plays up to its end, at which it stands already where it was played in a thread or in turn.
+fn archiver_to_end<R: Wait, L: Sectors, D: Sectors, A: Sectors, F: Receiver, G: Gate>(
+    rt: &R,
+    table: &Ring<L, D>,
+    bells: &Bells,
+    gate: &G,
+    archiver: &mut Option<Worker<L, D, A, F>>,
+)
+    requires { MayWork A.seen table.now.table_id archiver.old }
+    ensures goes_on { WorksOn A.seen F.stands_for table.now.table_id archiver.old archiver.new }
+    ensures at_end { AtItsEnd archiver.new }
+{
+    if let Some(worker) = archiver {
+        work(
+            rt,
+            table,
+            bells,
+            gate,
+            &mut worker.seat,
+            &mut worker.player,
+            &mut worker.archive,
+        );
+    }
+}
+
+/// All players play at once, up to their ends, the archiver, if there is one, apart from the others.
 pub(crate) fn play_all<
     R: Threads + Wait + Sync,
     L: Sectors + Send,
     D: Sectors + Send,
+    A: Sectors + Send,
     F: Receiver + Drop + Send,
     G: Gate,
->(rt: &R, table: &Ring<L, D>, bells: &Bells, gate: &G, crew: Crew<L, D, F>) -> Crew<L, D, F>
-    requires { AreSeated table.now.table_id crew.seats.items crew.players.items }
-    ensures goes_on { KeepOn F.stands_for table.now.table_id crew result }
-    ensures at_end { AreAtEnd result.players.items }
+>(
+    rt: &R,
+    table: &Ring<L, D>,
+    bells: &Bells,
+    gate: &G,
+    crew: Crew<L, D, F>,
+    archiver: Option<Worker<L, D, A, F>>,
+) -> (Crew<L, D, F>, Option<Worker<L, D, A, F>>)
+    requires seated { AreSeated table.now.table_id crew.seats.items crew.players.items }
+    requires archiver { MayWork A.seen table.now.table_id archiver }
+    ensures goes_on { KeepOn F.stands_for table.now.table_id crew result.0 }
+    ensures at_end { AreAtEnd result.0.players.items }
+    ensures archiver { WorksOn A.seen F.stands_for table.now.table_id archiver result.1 }
+    ensures its_end { AtItsEnd result.1 }
 {
     let refused = AtomicU64::new(NOBODY);
     let refused_at = &refused;
-    let mut played = scope(
+    let (mut played, mut archived) = scope(
         scope_env(),
         rt,
-        |all| -> Crew<L, D, F>
-            requires { AreSeated table.now.table_id crew.seats.items crew.players.items }
-            ensures { KeepOn F.stands_for table.entry.now.table_id crew result }
-        {
-            let left = crew.players.len();
-            start(all, rt, table, bells, refused_at, gate, left, crew)
-        },
+        |all| -> (Crew<L, D, F>, Option<Worker<L, D, A, F>>)
+            requires seated { AreSeated table.now.table_id crew.seats.items crew.players.items }
+            requires archiver { MayWork A.seen table.now.table_id archiver }
+            ensures crew { KeepOn F.stands_for table.entry.now.table_id crew result.0 }
+            ensures archiver { WorksOn A.seen F.stands_for table.entry.now.table_id archiver result.1 }
+        { start_all(all, rt, table, bells, refused_at, gate, crew, archiver) },
     );
-    to_ends(rt, table, bells, gate, &mut played);
-    played
+    to_ends::<R, L, D, A, F, G>(rt, table, bells, gate, &mut played);
+    archiver_to_end(rt, table, bells, gate, &mut archived);
+    (played, archived)
 }

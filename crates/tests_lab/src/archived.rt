@@ -69,11 +69,11 @@ fn asks_for_room(rt: HostRuntime) -> Result<(), Fail> {
     play(
         &rt,
         "
-new           | format        |                | 0  | formatted 8192
-archive of 67 | run --archive | 1 f b1 3 100 7 | 10 | fault fit archive 34816
-new           | format        |                | 0  | formatted 8192
-archive of 68 | run --archive | 1 f b1 3 100 7 | 0  | open 8204 / g 8204 8210 1 0 flushed / marks 8210 8210 8210 8192
-same          | restore --to 8210 |            | 0  | restored 1 8210 / p 3 8210 (00*62)07
+new           | format            |                |  0 | formatted 8192
+archive of 67 | run --archive     | 1 f b1 3 100 7 | 10 | fault fit archive 34816
+new           | format            |                |  0 | formatted 8192
+archive of 68 | run --archive     | 1 f b1 3 100 7 |  0 | open 8204 / g 8204 8210 1 0 flushed / marks 8210 8210 8210 8192
+same          | restore --to 8210 |                |  0 | restored 1 8210 / p 3 8210 (00*62)07
 ",
     )
 }
@@ -91,8 +91,8 @@ same | restore --to 8205     |                | 10 | fault fit to 8205
     )
 }
 
-/// Four lines: the groups of two take a block each.
-const LINES: &str = "1 f s 3 38 (07*489) / 1 f b1 4 100 7 / 1 w s 5 38 (08*489) / 1 f b1 4 101 8 /";
+/// Three lines: the groups of two take a block each.
+const LINES: &str = "1 f s 3 38 (07*489) / 1 f b1 4 100 7 / 1 w s 5 38 (08*489) /";
 
 /// The picks that keep no write, every other write, and all of them.
 const PICKS: [u64; 3] = [0, 6_148_914_691_236_517_205, 18_446_744_073_709_551_615];
@@ -116,12 +116,12 @@ fn see_restored(
     Ok((!is_above, left))
 }
 
-/// Sees what is restored of the archive of a reported run, at the end of each group and just before it: up to which lsn something is.
+/// Sees what is restored of the archive of a reported run, where it starts and at the end of each group; whether something is for FLUSHED.
 fn see_archive(
     rt: &(impl Abort + AllocGlobal + Threads + Wait + Sync),
     report: &str,
     devices: MemDevices,
-) -> Result<u64, Fail> {
+) -> Result<bool, Fail> {
     let Some((flushed, _)) = marks_of(report) else {
         return Err(Fail::from("no run is reported"));
     };
@@ -131,37 +131,26 @@ fn see_archive(
     for line in report.lines() {
         if line.starts_with("g ") {
             let end = number(line, 2);
-            for lsn in [end.saturating_sub(1), end] {
-                let (is_there, devices) = see_restored(rt, report, flushed, lsn, left)?;
-                left = devices;
-                assert!(rt; is_restored || !is_there, "{report}");
-                is_restored = is_there;
-                if is_there {
-                    mark = lsn;
-                }
+            let (is_there, devices) = see_restored(rt, report, flushed, end, left)?;
+            left = devices;
+            assert!(rt; is_restored || !is_there, "{report}");
+            is_restored = is_there;
+            if is_there {
+                mark = end;
             }
         }
     }
-    Ok(mark)
+    Ok(mark == flushed)
 }
 
-/// Runs the four lines, archived, on devices of this name, and crashes the archive's device with this pick; where the run is reported,
-/// whether its archive goes up to FLUSHED.
-fn see_run(
-    rt: &(impl Abort + AllocGlobal + Threads + Wait + Sync),
+/// Runs the three lines, archived, on devices of this name: the report, and the devices after it.
+fn run_on(
+    rt: &(impl AllocGlobal + Threads + Wait + Sync),
     words: &str,
     devices: &str,
-    pick: u64,
-) -> Result<(String, bool), Fail> {
-    let devices = new_devices(rt.alloc(), devices)?;
+) -> Result<(String, MemDevices), Fail> {
     let script = spelled(rt.alloc(), LINES)?;
-    let (report, mut left) = call_on(rt, words, &script, devices)?;
-    let Some((flushed, _)) = marks_of(&report) else {
-        return Ok((report, false));
-    };
-    left.arch.crash(pick);
-    let mark = see_archive(rt, &report, left)?;
-    Ok((report, mark == flushed))
+    call_on(rt, words, &script, new_devices(rt.alloc(), devices)?)
 }
 
 #[test]
@@ -174,32 +163,38 @@ fn restores_each_prefix_of_a_run(rt: HostRuntime) -> Result<(), Fail> {
         "run --archive --followers 4",
         "run --archive --log-only --followers 1 --turns 3",
     ] {
-        let (report, is_whole) = see_run(&rt, words, "new", 0)?;
-        assert!(rt; report.starts_with("0\n") && is_whole, "{words}: {report}");
-        assert!(rt; groups_up_to(&report, u64::MAX) == 4, "{words}: {report}");
+        let (report, mut left) = run_on(&rt, words, "new")?;
+        left.arch.crash(0);
+        assert!(rt; report.starts_with("0\n"), "{words}: {report}");
+        assert!(rt; groups_up_to(&report, u64::MAX) == 3, "{words}: {report}");
+        assert!(rt; see_archive(&rt, &report, left)?, "{words}: {report}");
     }
     Ok(())
 }
 
 /// Sees to the archives of runs of which a device of this name fails a call, each alone, up to the last one that a run makes: that
-/// is told with this status; and where `whole` is, and the run is reported, its archive goes up to FLUSHED.
+/// is told with this status; and if `all` is set the archive of a reported run goes up to FLUSHED.
 fn see_failing(
     rt: &(impl Abort + AllocGlobal + Threads + Wait + Sync),
     device: &str,
     status: &str,
-    whole: bool,
+    all: bool,
     pick: u64,
 ) -> Result<(), Fail> {
     for call in 0..200u64 {
         let name = format!(in rt.alloc(); "{device} fails {call}")?;
-        let (report, is_whole) = see_run(rt, "run --archive --turns 1", &name, pick)?;
+        let (report, mut left) = run_on(rt, "run --archive --turns 1", &name)?;
         if report.starts_with("0\n") {
             // formatting and opening, or the archive's beginning, make more calls than these
-            assert!(rt; call > 3 && is_whole, "{name}: {report}");
+            assert!(rt; call > 3, "{name}: {report}");
             return Ok(());
         }
         assert!(rt; report.starts_with(status), "{name}: {report}");
-        assert!(rt; is_whole || !whole || marks_of(&report).is_none(), "{name}: {report}");
+        if marks_of(&report).is_some() {
+            left.arch.crash(pick);
+            let is_whole = see_archive(rt, &report, left)?;
+            assert!(rt; is_whole || !all, "{name}: {report}");
+        }
     }
     Err(Fail::from("no call comes behind all others"))
 }

@@ -76,7 +76,10 @@ pub fn take_turns<L: Sectors, D: Sectors, R: Receiver>(
 }
 
 /// Gives each actor turns until it doesn't move, the first one last.
-fn play_round<L: Sectors, D: Sectors, R: Receiver>(rt: &impl Abort, machine: &mut Machine<L, D, L, R>)
+fn play_round<L: Sectors, D: Sectors, R: Receiver>(
+    rt: &impl Abort,
+    machine: &mut Machine<L, D, L, R>,
+)
     requires { IsOnRun L.seen D.seen L.seen machine.old }
     ensures { IsOnRun L.seen D.seen L.seen machine.new }
 {

@@ -4,6 +4,7 @@ use Rattle.model_core.specs.Later.{IsSameActor}
 use Rattle.redo_drive.proofs.LeftRun.{reads_to_marks}
 use Rattle.redo_drive.specs.Leaving.{LeavesWith}
 use Rattle.redo_drive.specs.Views.{views_of}
+use Rattle.redo_ownrule.proofs.Crews.{crew_later, same_order}
 use Rattle.redo_ownrule.specs.Players.{actor_of, AreInOrder, crew, workers}
 use Rattle.redo_ownrule.specs.Sharing.{AreSeatsOf, opened_of, own_of, shared_script, table_of}
 use Rattle.redo_rule.specs.Closing.{done_with, TellsLoss}
