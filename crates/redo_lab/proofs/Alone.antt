@@ -1,6 +1,6 @@
 -- A command that called no device: its script wasn't read, or it has none to run.
 use Rattle.redo_disk.proofs.Told.{still-same}
-use Rattle.std.proofs.Common.{ℕ, [], ◌⊎◌, ◌+◌, ◌≡◌, ◌≢◌, ◌<◌, Bool, true, false, List, length, Option, Some, None, Result, Ok, Err, IfOk, refl, sym, ap, ◌∙◌, inl, arith}
+use Rattle.std.proofs.Common.{ℕ, [], ◌⊎◌, ◌+◌, ◌≡◌, ◌≢◌, ◌<◌, true, false, List, length, Option, Some, None, Result, Ok, Err, IfOk, refl, sym, ap, ◌∙◌, inl, arith}
 use Rattle.std.proofs.lemmas.Bool.{false≢true}
 use Rattle.model_base.specs.{HasRisen}
 use Rattle.model_base.specs.declared.limits.TheConstants.{MAX_SCRIPT}

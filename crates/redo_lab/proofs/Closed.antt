@@ -1,5 +1,5 @@
 -- A run that was begun, driven and closed, by whatever drive.
-use Rattle.std.proofs.Common.{ℕ, ◌≡◌, ◌≤◌, true, List, Option, None, Result, Ok, Err, IfSome, IfOk, IfErr, is_some, sym, ◌∙◌, arith, Global, Vec}
+use Rattle.std.proofs.Common.{ℕ, ◌≡◌, ◌≤◌, true, List, Option, None, Result, Ok, Err, IfSome, IfOk, IfErr, is_some, ◌∙◌, arith, Global, Vec}
 use Rattle.model_base.specs.declared.limits.TheConstants.{START_LSN}
 use Rattle.model_script.specs.declared.asked.Command.{Command}
 use Rattle.model_script.specs.declared.asked.Drive.{Drive}
@@ -12,7 +12,7 @@ use Rattle.redo_drive.specs.{Owes}
 use Rattle.redo_drive.specs.Archived.{HaveArchived}
 use Rattle.redo_drive.specs.Drive.{ReadsToMarks}
 use Rattle.redo_drive.specs.Followed.{HaveFollowed}
-use Rattle.redo_drive.specs.Views.{followers_in, views_of}
+use Rattle.redo_drive.specs.Views.{views_of}
 use Rattle.redo_drive.specs.declared.actor.Actor.{Actor}
 use Rattle.redo_drive.specs.declared.drive.Driven.{Driven}
 use Rattle.redo_follow.specs.Tallying.{HasTally, Kept}

@@ -38,7 +38,6 @@ use Rattle.redo_memdisk.specs.{CallsThrough, seen_through}
 use Rattle.redo_memdisk.specs.declared.fused.Fused.{Fused}
 use Rattle.redo_open.specs.{WhereBothTell}
 use Rattle.redo_store.specs.declared.opened.Opened as store
-use Rattle.model_report.specs.declared.fault.Fault.{Fault}
 use Rattle.model_report.specs.declared.fault.Fault.TheVariants as fault
 use Rattle.redo_lab.specs.declared.playing.Course.TheVariants as course
 use Rattle.redo_lab.specs.declared.playing.Played.{Played}

@@ -1,5 +1,5 @@
 -- A command that runs a script: what it comes to, by what is left of both devices.
-use Rattle.std.proofs.Common.{ℕ, ◌≡◌, ◌≢◌, ◌<◌, Bool, true, false, List, [], Option, Some, None, IfSome, refl, sym, ap, subst, ◌⊎◌, inl, inr, ⊎_elim, arith, ◌∙◌, ◌≤◌}
+use Rattle.std.proofs.Common.{ℕ, ◌≡◌, ◌≢◌, ◌<◌, true, false, List, [], Option, Some, None, IfSome, refl, sym, ap, subst, ◌⊎◌, inl, inr, ⊎_elim, arith, ◌∙◌, ◌≤◌}
 use Rattle.std.proofs.lemmas.Bool.{false≢true}
 use Rattle.model_base.specs.{HasRisen}
 use Rattle.model_base.specs.declared.shape.Shape.{Shape}

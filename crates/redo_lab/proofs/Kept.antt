@@ -8,7 +8,7 @@ use Rattle.model_base.specs.declared.limits.TheConstants.{START_LSN}
 use Rattle.model_base.specs.declared.shape.Shape.{Shape}
 use Rattle.model_core.specs.Actors as model
 use Rattle.model_device.specs.Disk.{Disk}
-use Rattle.model_log.specs.{block_of, groups_of, start_after}
+use Rattle.model_log.specs.{block_of, groups_of}
 use Rattle.model_page.specs.declared.content.Content.{Content}
 use Rattle.model_report.proofs.Groups.{have-lines}
 use Rattle.model_report.specs.{IsLegal, wholes_of}
@@ -40,7 +40,7 @@ use Rattle.redo_lab.proofs.DrivenEnds.{UpTo}
 use Rattle.redo_lab.proofs.Opening.{at-start}
 use Rattle.redo_lab.proofs.Owed.{IsOwed, IsReadAfter, owed-back, read-none, read-some, reads-back}
 use Rattle.redo_lab.specs.Archived.{IsArchiveOf}
-use Rattle.redo_lab.specs.Archiving.{ArchivesRan, AreBegun, HasFinished, HaveFinished, device_of, failed_of, read_back}
+use Rattle.redo_lab.specs.Archiving.{ArchivesRan, AreBegun, HaveFinished, device_of, failed_of, read_back}
 use Rattle.redo_lab.specs.Call.{IsUnfused, Unfused, unfused}
 use Rattle.redo_lab.specs.Handed.{IsOpenedAt}
 

@@ -1,5 +1,5 @@
 -- Two devices from the arming of their fuses on, while a store is opened on them.
-use Rattle.std.proofs.Common.{ℕ, ◌≡◌, ◌+◌, ◌⊎◌, cond, List, Option, Some, None, IfSome, sym, ap, subst, ◌∙◌, inl, inr, ⊎_elim, ◌≢◌, refl, true, ◌≤◌, ◌<◌}
+use Rattle.std.proofs.Common.{ℕ, ◌≡◌, ◌+◌, ◌⊎◌, cond, List, Option, Some, None, IfSome, sym, ap, subst, ◌∙◌, inl, inr, ⊎_elim, ◌≢◌, refl, true}
 use Rattle.std.proofs.lemmas.Bool.{eq-eqb}
 use Rattle.model_base.proofs.ShapeLimits.{default_within}
 use Rattle.model_base.specs.{default_shape, HasRisen}

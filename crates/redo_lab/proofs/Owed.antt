@@ -1,13 +1,11 @@
 -- What a drive owes of its run holds as well once blocks were read back from its log device.
 use Rattle.std.proofs.Common.{ℕ, zero, suc, ◌≡◌, ◌≤◌, ◌<◌, ◌+◌, List, Option, Some, None, IfSome, refl, sym, ap, subst, ◌∙◌, inl, inr, ⊎_elim, arith}
 use Rattle.model_device.specs.{synced}
-use Rattle.model_device.specs.Disk.{Disk}
 use Rattle.model_log.specs.{start_after}
 use Rattle.model_parts.specs.{numbers_taken}
 use Rattle.model_report.specs.{IsLeft}
 use Rattle.model_script.specs.declared.script.ScriptLine.{ScriptLine}
-use Rattle.model_store.specs.Reading.{Reading}
-use Rattle.model_theorem.specs.{IsClosed, IsHeld, IsRun, IsStart, LosesOnlyByFailure, opened_as}
+use Rattle.model_theorem.specs.{IsClosed, IsRun, IsStart, LosesOnlyByFailure, opened_as}
 use Rattle.redo_disk.proofs.Told.{known-as, still-known, still-same}
 use Rattle.redo_disk.specs.{Call, failures}
 use Rattle.redo_disk.specs.Seen.{Seen, StillTells}

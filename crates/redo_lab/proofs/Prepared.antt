@@ -1,5 +1,5 @@
 -- The two devices while a run prepares them.
-use Rattle.std.proofs.Common.{ℕ, ◌≡◌, ◌≤◌, ◌<◌, ◌↔◌, Bool, List, true, false, IsTrue, length, Option, Some, Ok, IfSome, refl, ap, ◌∙◌, inl, inr, ⊎_elim, arith, ◌≢◌, None}
+use Rattle.std.proofs.Common.{ℕ, ◌≡◌, ◌≤◌, ◌<◌, ◌↔◌, List, true, false, IsTrue, length, Option, Some, Ok, IfSome, refl, ap, ◌∙◌, inl, inr, ⊎_elim, arith, ◌≢◌, None}
 use Rattle.std.proofs.lemmas.Bool.{cases_lt, false≢true}
 use Rattle.model_base.specs.{default_shape}
 use Rattle.model_base.specs.declared.shape.Shape.{Shape}

@@ -1,5 +1,5 @@
 -- What `restore` comes to.
-use Rattle.std.proofs.Common.{ℕ, ◌≡◌, false, List, Option, Some, None, Result, Ok, Err, IfOk, IfSome, refl, ◌∙◌}
+use Rattle.std.proofs.Common.{ℕ, ◌≡◌, List, Result, Ok, Err, IfOk, IfSome, refl, ◌∙◌}
 use Rattle.std.proofs.lemmas.Bool.{false≢true}
 use Rattle.model_archive.specs.{IsRestored, RefusesRestore}
 use Rattle.model_archive.specs.declared.refusal.RestoreRefusal.{RestoreRefusal}

@@ -1,7 +1,7 @@
 -- Why a call ends without the text that it was asked for. The first cause that holds decides: the words, the source and its
 -- script, formatting or opening, the fit, the run, the crash and the reading after it. Want of memory decides where it is met.
 -- And what is owed of a call on devices that don't fail: it does what it is asked, or memory ran out, or turns were spent.
-use Rattle.std.specs.Prelude.{ℕ, if◌then◌else◌, ◌≡◌, ◌≢◌, ◌≤◌, ◌<◌, ◌+◌, ◌⊎◌, true, false, List, [], Option, Some, None, IfSome, ⊤, Bool, length, Ok}
+use Rattle.std.specs.Prelude.{ℕ, if◌then◌else◌, ◌≡◌, ◌≢◌, ◌≤◌, ◌<◌, ◌+◌, ◌⊎◌, true, false, List, [], Option, Some, None, IfSome, ⊤, length, Ok}
 use Rattle.model_base.specs.{default_shape, HasRisen}
 use Rattle.model_script.specs.declared.asked.Command.{Command}
 use Rattle.model_script.specs.declared.asked.Command.TheVariants.{Format, Run, Crash, Recover, Dump, Restore, Gen}

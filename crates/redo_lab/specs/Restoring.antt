@@ -1,5 +1,4 @@
 -- Why a call restores nothing.
-use Rattle.std.specs.Prelude.{Option, Some, None}
 use Rattle.model_report.specs.declared.fault.Fault.{Fault}
 use Rattle.model_report.specs.declared.fault.Fault.TheVariants as fault
 use Rattle.redo_archive.specs.declared.restored.RestoreFault.{RestoreFault}

@@ -17,7 +17,7 @@ use Rattle.model_script.specs.declared.asked.Drive.{Drive}
 use Rattle.model_script.specs.declared.script.ScriptLine.{ScriptLine}
 use Rattle.model_store.specs.{IsReading}
 use Rattle.model_store.specs.Reading.{Reading}
-use Rattle.model_theorem.specs.{entries_of, FitsOpened, LosesOnlyByFailure, marks_of, Opened, Ran, run_start}
+use Rattle.model_theorem.specs.{entries_of, FitsOpened, marks_of, Opened, Ran, run_start}
 use Rattle.redo_disk.specs.Seen.{Seen}
 use Rattle.redo_disk.specs.declared.error.DevError.{DevError}
 use Rattle.redo_disk.specs.declared.error.DevError.TheVariants as device

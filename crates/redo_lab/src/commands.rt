@@ -105,7 +105,7 @@ pub(crate) fn source_in_threads<
     S: Source,
     L: Sectors + Send,
     D: Sectors + Send,
-    A: Sectors + Send,
+    A: Sectors + Drop + Send,
     G: Gate,
 >(
     rt: &R,

@@ -50,7 +50,7 @@ pub fn lab<
     O: Sink,
     L: Sectors + Send,
     D: Sectors + Send,
-    A: Sectors + Send,
+    A: Sectors + Drop + Send,
     G: Gate,
     R: Threads + Wait + Sync,
 >(

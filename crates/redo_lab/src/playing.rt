@@ -128,7 +128,7 @@ pub(crate) fn in_threads<
     R: Threads + Wait + Sync,
     L: Sectors + Send,
     D: Sectors + Send,
-    A: Sectors + Send,
+    A: Sectors + Drop + Send,
     G: Gate,
 >(
     rt: &R,

@@ -3,6 +3,7 @@ pub mod Ending
 pub mod Going
 pub mod Heard
 pub mod Keeping
+pub mod ReadMarks
 pub mod Scripted
 pub mod Workers
 pub mod Zips

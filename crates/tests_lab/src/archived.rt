@@ -29,6 +29,27 @@ same | restore --to 8205 |                | 10 | fault fit to 8205
     )
 }
 
+/// Whoever writes the log, and in threads too.
+#[test]
+fn restores_a_group_of_each_drive(rt: HostRuntime) -> Result<(), Fail> {
+    play(
+        &rt,
+        "
+new  | run --archive --own-writes           | 1 f b1 3 100 7 |  0 | open 8204 / g 8204 8210 1 0 flushed / marks 8210 8210 8210 8192
+same | restore --to 8210                    |                |  0 | restored 1 8210 / p 3 8210 (00*62)07
+same | restore --to 8211                    |                | 10 | fault fit to 8211
+new  | run --archive --threads              | 1 f b1 3 100 7 |  0 | open 8204 / g 8204 8210 1 0 flushed / marks 8210 8210 8210 8192
+same | restore --to 8210                    |                |  0 | restored 1 8210 / p 3 8210 (00*62)07
+same | restore --to 8211                    |                | 10 | fault fit to 8211
+new  | run --archive --threads --own-writes | 1 f b1 3 100 7 |  0 | open 8204 / g 8204 8210 1 0 flushed / marks 8210 8210 8210 8192
+same | restore --to 8210                    |                |  0 | restored 1 8210 / p 3 8210 (00*62)07
+same | restore --to 8204                    |                |  0 | restored 0 8204
+new  | run --archive --threads              |                |  0 | open 8204 / marks 8204 8204 8204 8192
+same | restore --to 8204                    |                |  0 | restored 0 8204
+",
+    )
+}
+
 /// The next archive has the pages with which its run was opened, and nothing of the run before.
 #[test]
 fn begins_each_archive_anew(rt: HostRuntime) -> Result<(), Fail> {
@@ -54,7 +75,6 @@ new           | run --archive           | 1 f b1 3 100 7  |  0 | open 8204 / g 8
 same          | run                     | 1 f b1 3 101 8  |  0 | open 8716 / ..
 same          | run --archive           | 1 x             |  3 | fault script line 1
 same          | run --archive           | 1 f b2 3 4087 7 | 10 | fault fit offset 4087
-same          | run --archive --threads |                 |  2 | fault words
 same          | run --archive --page 1  |                 |  2 | fault words
 same          | crash --archive         |                 |  2 | fault words
 no checkpoint | run --archive           |                 |  8 | fault store checkpoint
@@ -84,9 +104,11 @@ fn archives_a_run_whose_turns_are_spent(rt: HostRuntime) -> Result<(), Fail> {
     play(
         &rt,
         "
-new  | run --archive --max 0 | 1 f b1 3 100 7 |  9 | fault turns 0 user 1
-same | restore --to 8204     |                |  0 | restored 0 8204
-same | restore --to 8205     |                | 10 | fault fit to 8205
+new  | run --archive --max 0              | 1 f b1 3 100 7 |  9 | fault turns 0 user 1
+same | restore --to 8204                  |                |  0 | restored 0 8204
+same | restore --to 8205                  |                | 10 | fault fit to 8205
+new  | run --archive --own-writes --max 0 | 1 f b1 3 100 7 |  9 | fault turns 0 user 1
+same | restore --to 8204                  |                |  0 | restored 0 8204
 ",
     )
 }
@@ -162,6 +184,13 @@ fn restores_each_prefix_of_a_run(rt: HostRuntime) -> Result<(), Fail> {
         "run --archive --log-only",
         "run --archive --followers 4",
         "run --archive --log-only --followers 1 --turns 3",
+        "run --archive --own-writes",
+        "run --archive --own-writes --turns 1",
+        "run --archive --own-writes --log-only --followers 1",
+        "run --archive --threads",
+        "run --archive --threads --log-only",
+        "run --archive --threads --followers 4",
+        "run --archive --threads --own-writes --followers 1",
     ] {
         let (report, mut left) = run_on(&rt, words, "new")?;
         left.arch.crash(0);
@@ -172,10 +201,19 @@ fn restores_each_prefix_of_a_run(rt: HostRuntime) -> Result<(), Fail> {
     Ok(())
 }
 
+/// The drives whose devices fail.
+const DRIVES: [&str; 4] = [
+    "run --archive --turns 1",
+    "run --archive --own-writes --turns 1",
+    "run --archive --threads",
+    "run --archive --threads --own-writes",
+];
+
 /// Sees to the archives of runs of which a device of this name fails a call, each alone, up to the last one that a run makes: that
 /// is told with this status; and if `all` is set the archive of a reported run goes up to FLUSHED.
 fn see_failing(
     rt: &(impl Abort + AllocGlobal + Threads + Wait + Sync),
+    words: &str,
     device: &str,
     status: &str,
     all: bool,
@@ -183,17 +221,17 @@ fn see_failing(
 ) -> Result<(), Fail> {
     for call in 0..200u64 {
         let name = format!(in rt.alloc(); "{device} fails {call}")?;
-        let (report, mut left) = run_on(rt, "run --archive --turns 1", &name)?;
+        let (report, mut left) = run_on(rt, words, &name)?;
         if report.starts_with("0\n") {
             // formatting and opening, or the archive's beginning, make more calls than these
-            assert!(rt; call > 3, "{name}: {report}");
+            assert!(rt; call > 3, "{words}, {name}: {report}");
             return Ok(());
         }
-        assert!(rt; report.starts_with(status), "{name}: {report}");
+        assert!(rt; report.starts_with(status), "{words}, {name}: {report}");
         if marks_of(&report).is_some() {
             left.arch.crash(pick);
             let is_whole = see_archive(rt, &report, left)?;
-            assert!(rt; is_whole || !all, "{name}: {report}");
+            assert!(rt; is_whole || !all, "{words}, {name}: {report}");
         }
     }
     Err(Fail::from("no call comes behind all others"))
@@ -201,19 +239,27 @@ fn see_failing(
 
 #[test]
 fn archives_a_run_that_the_archives_device_ends(rt: HostRuntime) -> Result<(), Fail> {
-    for pick in PICKS {
-        see_failing(&rt, "archive", "11\n", false, pick)?;
+    for words in DRIVES {
+        for pick in PICKS {
+            see_failing(&rt, words, "archive", "11\n", false, pick)?;
+        }
     }
     Ok(())
 }
 
 #[test]
 fn archives_a_run_that_the_log_device_ends(rt: HostRuntime) -> Result<(), Fail> {
-    see_failing(&rt, "log", "6\n", false, 0)
+    for words in DRIVES {
+        see_failing(&rt, words, "log", "6\n", false, 0)?;
+    }
+    Ok(())
 }
 
 /// What the archive lacks is appended though the data device has failed.
 #[test]
 fn archives_all_of_a_run_that_the_data_device_ends(rt: HostRuntime) -> Result<(), Fail> {
-    see_failing(&rt, "data", "7\n", true, 0)
+    for words in DRIVES {
+        see_failing(&rt, words, "data", "7\n", true, 0)?;
+    }
+    Ok(())
 }

@@ -1,7 +1,6 @@
 use Rattle.std.proofs.Common.{◌≡◌, ap, refl, Err}
 use Rattle.redo_archive.specs.declared.restored.Restored.{Restored}
 use Rattle.redo_archive.specs.declared.restored.RestoreFault.{RestoreFault}
-use Rattle.redo_archive.specs.declared.restored.RestoreFault.TheVariants.{Dev}
 use Rattle.redo_archive.specs.{device_error_of}
 use Rattle.redo_lab.proofs.Alone.{IsLeftAlone}
 use Rattle.redo_lab.specs.Call.{guarded}

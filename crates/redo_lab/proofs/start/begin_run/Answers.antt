@@ -1,4 +1,4 @@
-use Rattle.std.proofs.Common.{refl, sym, ◌∙◌}
+use Rattle.std.proofs.Common.{refl, ◌∙◌}
 use Rattle.redo_lab.proofs.Begun.{archive-room, archive-sized, archive-start, begun-new, given-same, given-unbegun, unbegun-comes}
 use Rattle.redo_lab.proofs.Opening.{unplayed-memory}
 use Rattle.redo_lab.proofs.start.begin_run.Goals as goal
