@@ -201,9 +201,9 @@ fn restores_each_prefix_of_a_run(rt: HostRuntime) -> Result<(), Fail> {
     Ok(())
 }
 
-/// The drives whose devices fail.
-const DRIVES: [&str; 4] = [
-    "run --archive --turns 1",
+/// A drive by turns, and others.
+const BY_TURNS: &str = "run --archive --turns 1";
+const OTHERS: [&str; 3] = [
     "run --archive --own-writes --turns 1",
     "run --archive --threads",
     "run --archive --threads --own-writes",
@@ -239,26 +239,36 @@ fn see_failing(
 
 #[test]
 fn archives_a_run_that_the_archives_device_ends(rt: HostRuntime) -> Result<(), Fail> {
-    for words in DRIVES {
-        for pick in PICKS {
-            see_failing(&rt, words, "archive", "11\n", false, pick)?;
-        }
+    for pick in PICKS {
+        see_failing(&rt, BY_TURNS, "archive", "11\n", false, pick)?;
     }
     Ok(())
 }
 
 #[test]
 fn archives_a_run_that_the_log_device_ends(rt: HostRuntime) -> Result<(), Fail> {
-    for words in DRIVES {
-        see_failing(&rt, words, "log", "6\n", false, 0)?;
-    }
-    Ok(())
+    see_failing(&rt, BY_TURNS, "log", "6\n", false, 0)
 }
 
 /// What the archive lacks is appended though the data device has failed.
 #[test]
 fn archives_all_of_a_run_that_the_data_device_ends(rt: HostRuntime) -> Result<(), Fail> {
-    for words in DRIVES {
+    see_failing(&rt, BY_TURNS, "data", "7\n", true, 0)
+}
+
+/// Of users that write for themselves, and in threads.
+#[test]
+fn archives_other_runs_that_the_archives_device_ends(rt: HostRuntime) -> Result<(), Fail> {
+    for words in OTHERS {
+        see_failing(&rt, words, "archive", "11\n", false, PICKS[1])?;
+    }
+    Ok(())
+}
+
+#[test]
+fn archives_other_runs_that_a_device_of_the_store_ends(rt: HostRuntime) -> Result<(), Fail> {
+    for words in OTHERS {
+        see_failing(&rt, words, "log", "6\n", false, 0)?;
         see_failing(&rt, words, "data", "7\n", true, 0)?;
     }
     Ok(())
