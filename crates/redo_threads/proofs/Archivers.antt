@@ -101,7 +101,7 @@ upper a b limit low high = elim (dec_le a b) [
   | no more ↦ record { most = a; first = omega arith; second = omega arith; within = low }
 ]
 
-all_front : (P : Block → Type 0) (xs ys : List Block) → AllByRecursion P (xs ++ ys) → AllByRecursion P xs
+pub all_front : (P : Block → Type 0) (xs ys : List Block) → AllByRecursion P (xs ++ ys) → AllByRecursion P xs
 all_front P [] ys all = tt
 all_front P (x ∷ xs) ys all = (all.0, all_front P xs ys all.1)
 

@@ -1,8 +1,16 @@
+pub mod ArchiveBegins
+pub mod ArchiveEnds
+pub mod ArchiverPlays
+pub mod Archivers
+pub mod CrewArchive
 pub mod Driving
 pub mod Ending
 pub mod Going
 pub mod Heard
 pub mod Keeping
+pub mod Readers
+pub mod ScriptBytes
 pub mod Scripted
+pub mod StaysReader
 pub mod Workers
 pub mod Zips

@@ -30,7 +30,7 @@ pub fn drive_in_threads<
     R: Threads + Wait + Sync,
     L: Sectors + Send,
     D: Sectors + Send,
-    A: Sectors + Send,
+    A: Sectors + Drop + Send,
     F: Receiver + Drop + Send,
     G: Gate,
 >(

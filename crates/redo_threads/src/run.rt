@@ -91,7 +91,7 @@ fn play_crew<
     R: Threads + Wait + Sync,
     L: Sectors + Send,
     D: Sectors + Send,
-    A: Sectors + Send,
+    A: Sectors + Drop + Send,
     F: Receiver + Drop + Send,
     G: Gate,
 >(
@@ -139,7 +139,7 @@ pub fn run_threads<
     R: Threads + Wait + Sync,
     L: Sectors + Send,
     D: Sectors + Send,
-    A: Sectors + Send,
+    A: Sectors + Drop + Send,
     F: Receiver + Drop + Send,
     G: Gate,
 >(

@@ -70,7 +70,7 @@ fn start_one<
     R: Threads + Wait + Sync,
     L: Sectors + Send,
     D: Sectors + Send,
-    A: Sectors + Send + 's,
+    A: Sectors + Drop + Send + 's,
     F: Receiver + Drop + Send + 's,
     G: Gate,
 >(
@@ -118,7 +118,7 @@ fn start<
     R: Threads + Wait + Sync,
     L: Sectors + Send,
     D: Sectors + Send,
-    A: Sectors + Send + 's,
+    A: Sectors + Drop + Send + 's,
     F: Receiver + Drop + Send + 's,
     G: Gate,
 >(
@@ -165,7 +165,7 @@ fn start_all<
     R: Threads + Wait + Sync,
     L: Sectors + Send,
     D: Sectors + Send,
-    A: Sectors + Send + 's,
+    A: Sectors + Drop + Send + 's,
     F: Receiver + Drop + Send + 's,
     G: Gate,
 >(
@@ -237,7 +237,7 @@ pub(crate) fn play_all<
     R: Threads + Wait + Sync,
     L: Sectors + Send,
     D: Sectors + Send,
-    A: Sectors + Send,
+    A: Sectors + Drop + Send,
     F: Receiver + Drop + Send,
     G: Gate,
 >(
