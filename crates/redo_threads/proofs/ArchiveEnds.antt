@@ -73,8 +73,8 @@ module _ {L D A F : Type 0} (log_seen : L → Seen) (log_gives : L → Call → 
       let below = has.below in
       let mark = S.pace.mark in
       let same = flushed_word log_seen data_seen left.by.run left.by.last (views_of actors) R in
-      let data : IsDataLsn flushed = flushed_place log_seen data_seen left.by.run left.by.last (views_of actors) R in
-      let low = data.0 in
+      let is_data : IsDataLsn flushed = flushed_place log_seen data_seen left.by.run left.by.last (views_of actors) R in
+      let low = is_data.0 in
       omega arith
 
   asked_up : part.marks.asked ≤ flushed

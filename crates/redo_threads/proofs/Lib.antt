@@ -1,5 +1,6 @@
 pub mod ArchiveBegins
 pub mod ArchiveEnds
+pub mod ArchiveRun
 pub mod ArchiverPlays
 pub mod Archivers
 pub mod CrewArchive

@@ -31,7 +31,7 @@ record Behind {A : Type 0} (xs ys : List A) (m : ℕ) (a : A) : Type 0 where
 
 behind : {A : Type 0} (xs ys : List A) (m : ℕ) (a : A) → length xs ≤ m → get_elem? (xs ++ ys) m ≡ maybe.some a
     → Behind xs ys m a
-behind [] ys m a more at = record { place = m; is = refl; there = at }
+behind [] ys m a more at = record { place = m; is = (let z : m ≡ 0 + m = omega arith in z); there = at }
 behind (x ∷ xs) ys zero a more at = absurd (omega arith)
 behind (x ∷ xs) ys (suc m) a more at = let b = behind xs ys m a (omega arith) at in record {
   place = b.place;
@@ -116,7 +116,7 @@ one_archiver x y e = cc
 
 module _ {R : Type 0} (shape : Shape) (script : List ScriptLine) (start : ℕ) (log_only : Bool) (fs : List (Following R))
     (cs : List (Actor R)) where
-  abbrev front : Bool → List model.Actor
+  abbrev pub front : Bool → List model.Actor
   front archive = seated_before shape script start log_only archive (length fs)
 
   before : (archive : Bool) (m : ℕ) (s : ReaderState) → get_elem? (front archive) m ≡ maybe.some (model.Reader s) → ⊥

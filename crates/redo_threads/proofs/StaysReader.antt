@@ -24,7 +24,7 @@ pub record Was {R : Type 0} (a : Actor R) : Type 0 where
   pub is : view_of a ≡ model.Reader state
   pub kind : (archives state ≡ true) ⊎ (◌≡◌ {A = Actor R} a (own.Archiver state))
 
-one_state : (x y : ReaderState) → model.Reader x ≡ model.Reader y → ◌≡◌ {A = ReaderState} x y
+pub one_state : (x y : ReaderState) → model.Reader x ≡ model.Reader y → ◌≡◌ {A = ReaderState} x y
 one_state x y e = cc
 
 module _ {R : Type 0} where

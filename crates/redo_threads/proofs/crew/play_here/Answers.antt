@@ -9,12 +9,12 @@ loop-init g c = record {
       c.requires.archiver;
 }
 
-pub returns-in-None-clause-crew : goal.returns-in-None-clause-crew
-returns-in-None-clause-crew g c = keep_trans g.F.Receiver.stands_for c.args.table.now.table_id c.args.crew.now c.loop.crew
+pub returns-in-None-either-clause-crew : goal.returns-in-None-either-clause-crew
+returns-in-None-either-clause-crew g c = keep_trans g.F.Receiver.stands_for c.args.table.now.table_id c.args.crew.now c.loop.crew
     c.round-others.new.crew c.loop.invariant.crew c.round-others.ensures
 
-pub returns-in-None-clause-archiver : goal.returns-in-None-clause-archiver
-returns-in-None-clause-archiver g c = works_trans g.F.Receiver.stands_for c.args.table.now.table_id g.A.Sectors.seen
+pub returns-in-None-either-clause-archiver : goal.returns-in-None-either-clause-archiver
+returns-in-None-either-clause-archiver g c = works_trans g.F.Receiver.stands_for c.args.table.now.table_id g.A.Sectors.seen
     c.args.archiver.now c.loop.archiver c.archiver_round-its.new.archiver c.loop.invariant.archiver
     c.archiver_round-its.ensures
 

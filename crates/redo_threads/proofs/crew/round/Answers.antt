@@ -28,6 +28,9 @@ stint-went_on-requires-clause-seat g c κs within =
     c.index_mut.result.now c.index_mut-in-loop-k.result.now c.loop-k.invariant (grind rules)
     c.index_mut.ensures.value c.index_mut-in-loop-k.ensures.value
 
+pub stint-went_on-requires-clause-archive : goal.stint-went_on-requires-clause-archive
+stint-went_on-requires-clause-archive g c κs within = tt
+
 pub loop-k-preserved : goal.loop-k-preserved
 loop-k-preserved g c =
     let was = c.args.crew.now in

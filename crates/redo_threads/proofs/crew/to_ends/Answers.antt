@@ -34,6 +34,9 @@ work-requires-clause-seat g c κs within =
     c.index_mut.result.now c.index_mut-in-loop-number.result.now on (grind rules)
     c.index_mut.ensures.value c.index_mut-in-loop-number.ensures.value
 
+pub work-requires-clause-archive : goal.work-requires-clause-archive
+work-requires-clause-archive g c κs within = tt
+
 pub loop-number-preserved : goal.loop-number-preserved
 loop-number-preserved g c =
     let was = c.args.crew.now in

@@ -4,6 +4,7 @@ use Rattle.model_core.specs.Later.{IsSameActor}
 use Rattle.redo_drive.proofs.LeftRun.{reads_to_marks}
 use Rattle.model_own.specs.OwnWrites.{LogWork}
 use Rattle.redo_drive.specs.Leaving.{LeavesWith}
+use Rattle.redo_ownrule.proofs.Crews.{crew_later, same_order}
 use Rattle.redo_ownrule.specs.Leaving.{LeavesHeard}
 use Rattle.redo_drive.specs.Views.{views_of}
 use Rattle.redo_ownrule.specs.Players.{actor_of, AreInOrder, crew, workers}
@@ -16,12 +17,15 @@ use Rattle.redo_rule.specs.Sharing.{AreFresh}
 use Rattle.redo_rule.specs.declared.law.About.{About}
 use Rattle.std.specs.Prelude.{IfSome}
 use Rattle.redo_threads.proofs.ArchiveBegins.{may_be}
+use Rattle.redo_threads.proofs.ArchiveRun.{leaves_archive, tells}
 use Rattle.redo_threads.proofs.Ending.{all_rest, have_answered, have_ended}
 use Rattle.redo_threads.proofs.Heard.{all_same, have_heard, in_order, seated}
 use Rattle.redo_threads.proofs.Keeping.{keep_long}
-use Rattle.redo_threads.specs.Archiving.{MayBeArchived}
+use Rattle.redo_drive.specs.Archived.{HaveArchived}
+use Rattle.redo_threads.specs.Archiving.{LeavesArchive, lost_of, MayBeArchived}
 use Rattle.redo_threads.specs.Working.{AreSeated, KeepOn}
 use Rattle.redo_threads.specs.declared.crew.Crew.{Crew}
+use Rattle.redo_threads.proofs.run.run_threads.Goals.{After-finish-closed}
 use Rattle.redo_threads.proofs.run.run_threads.Goals as goal
 
 pub play_crew-crew-requires-clause-seated : goal.play_crew-crew-requires-clause-seated
@@ -70,7 +74,7 @@ pub finish-closed-requires-clause-rest : goal.finish-closed-requires-clause-rest
 finish-closed-requires-clause-rest g c = all_rest c.play_crew-crew.result.0.players.items c.play_crew-crew.ensures.at_end
 
 -- what the run leaves, with what its seats have heard
-heard_so : (g : _) (c : goal.After-finish-closed g) (work : Option LogWork) → is_some work ≡ own_of c.args.shared
+heard_so : (g : _) (c : After-finish-closed g) (work : Option LogWork) → is_some work ≡ own_of c.args.shared
     → LeavesHeard g.L.Sectors.seen g.L.Sectors.gives g.D.Sectors.seen g.D.Sectors.gives g.F.Receiver.stands_for
     (opened_of c.args.shared) (shared_script c.args.shared) c.args.shared.board.shared.key.log_only
     c.args.shared.board.shared.key.archive c.args.shared.board.shared.key.followers (crew work c.args.players.items)
@@ -152,3 +156,72 @@ play_crew-crew-requires-clause-archive g c κs within = by c.args.archive refl
           c.seats-seats.ensures.fresh)
           (c.requires.is_archived ∙ ap is_some is),
     )
+
+pub finish-closed-requires-clause-lost : goal.finish-closed-requires-clause-lost
+finish-closed-requires-clause-lost g c =
+    subst (λ b. TellsLoss b.shared.key.archive (views_of (map actor_of y.players.items)) c.lost_by-lost.result)
+    (sym c.seats-seats.ensures.same) (by c.args.archive refl)
+  where
+    x : Crew g.row.L.Denot g.row.D.Denot g.row.F.Denot
+    x = record { seats = c.seats-seats.result; players = c.args.players }
+
+    y : Crew g.row.L.Denot g.row.D.Denot g.row.F.Denot
+    y = c.play_crew-crew.result.0
+
+    by : (a : Option (Part g.row.A.Denot)) → c.args.archive ≡ a → TellsLoss c.args.shared.board.shared.key.archive
+        (views_of (map actor_of y.players.items)) c.lost_by-lost.result
+    by None is =
+        let gone : c.play_crew-crew.result.1 ≡ None =
+        subst (λ a. LeavesArchive g.A.Sectors.seen x a y c.play_crew-crew.result.1) is c.play_crew-crew.ensures.archive in
+        subst (λ b. TellsLoss b (views_of (map actor_of y.players.items)) c.lost_by-lost.result)
+        (sym (c.requires.is_archived ∙ ap is_some is))
+        (c.lost_by-lost.ensures ∙ ap (λ (a : Option (Part g.row.A.Denot)). lost_of a) gone)
+    by (Some part) is =
+        tells g.A.Sectors.seen c.args.shared c.args.players.items c.requires.readers g.F.Receiver.stands_for
+        c.ring.result.now.table_id x y refl (c.seats-seats.ensures.seats.count ∙ ap length c.as_slice-3.ensures.value)
+        c.play_crew-crew.ensures.goes_on
+        (subst (λ b. AreFresh (Some b.shared.key) c.seats-seats.result.items) c.seats-seats.ensures.same
+        c.seats-seats.ensures.fresh) part
+        (subst (λ a. IfSome a (IsNewArchive g.A.Sectors.seen (opened_of c.args.shared) (shared_script c.args.shared))) is
+        c.requires.archive)
+        c.requires.unseated.ready.may (c.requires.is_archived ∙ ap is_some is) c.play_crew-crew.result.1
+        (subst (λ a. LeavesArchive g.A.Sectors.seen x a y c.play_crew-crew.result.1) is c.play_crew-crew.ensures.archive)
+        c.lost_by-lost.result c.lost_by-lost.ensures
+
+pub returns-clause-archived : goal.returns-clause-archived
+returns-clause-archived g c = by c.args.archive refl
+  where
+    x : Crew g.row.L.Denot g.row.D.Denot g.row.F.Denot
+    x = record { seats = c.seats-seats.result; players = c.args.players }
+
+    y : Crew g.row.L.Denot g.row.D.Denot g.row.F.Denot
+    y = c.play_crew-crew.result.0
+
+    abbrev Have : Option (Part g.row.A.Denot) → Option (Part g.row.A.Denot) → Type 0
+    Have = HaveArchived g.L.Sectors.seen g.D.Sectors.seen g.A.Sectors.seen (opened_of c.args.shared)
+        (shared_script c.args.shared) c.finish-closed.result.0 (views_of c.finish-closed.result.1.items)
+
+    told : c.finish-closed.result.0.lost ≡ lost_of c.play_crew-crew.result.1
+    told = c.finish-closed.ensures.loses ∙ c.lost_by-lost.ensures
+
+    by : (a : Option (Part g.row.A.Denot)) → c.args.archive ≡ a → Have c.args.archive c.play_crew-crew.result.1
+    by None is =
+        let gone : c.play_crew-crew.result.1 ≡ None =
+        subst (λ a. LeavesArchive g.A.Sectors.seen x a y c.play_crew-crew.result.1) is c.play_crew-crew.ensures.archive in
+        subst (λ a. Have a c.play_crew-crew.result.1) (sym is)
+        (subst (λ a. Have None a) (sym gone) (told ∙ ap (λ (a : Option (Part g.row.A.Denot)). lost_of a) gone))
+    by (Some part) is =
+        let end = c.finish-closed.ensures.actors in
+        let works = end.works ∙ ap (λ b. b.shared.key.own_writes) c.seats-seats.ensures.same in
+        subst (λ a. Have a c.play_crew-crew.result.1) (sym is)
+        (leaves_archive g.A.Sectors.seen c.args.shared c.args.players.items c.requires.readers g.F.Receiver.stands_for
+        c.ring.result.now.table_id x y refl (c.seats-seats.ensures.seats.count ∙ ap length c.as_slice-3.ensures.value)
+        c.play_crew-crew.ensures.goes_on
+        (subst (λ b. AreFresh (Some b.shared.key) c.seats-seats.result.items) c.seats-seats.ensures.same
+        c.seats-seats.ensures.fresh) part
+        (subst (λ a. IfSome a (IsNewArchive g.A.Sectors.seen (opened_of c.args.shared) (shared_script c.args.shared))) is
+        c.requires.archive)
+        c.requires.unseated.ready.may (c.requires.is_archived ∙ ap is_some is) c.play_crew-crew.result.1
+        (subst (λ a. LeavesArchive g.A.Sectors.seen x a y c.play_crew-crew.result.1) is c.play_crew-crew.ensures.archive)
+        g.L.Sectors.seen g.L.Sectors.gives g.D.Sectors.seen g.D.Sectors.gives end.work works c.finish-closed.result.1.items
+        end.are c.finish-closed.result.0 (heard_so g c end.work works) told)

@@ -1,4 +1,4 @@
-use Rattle.redo_threads.proofs.Going.{with_asked, with_trans}
+use Rattle.redo_threads.proofs.Going.{may_still, with_asked, with_trans}
 use Rattle.redo_threads.proofs.work.stint.Goals as goal
 
 pub returns-then-is_at_end : goal.returns-then-is_at_end
@@ -26,3 +26,9 @@ loop-steps-preserved g c = record {
       c.turn-step.new.seat c.args.player.now c.loop-steps.player c.turn-step.new.player c.args.archive.now c.loop-steps.archive c.turn-step.new.archive c.loop-steps.invariant.goes_on c.turn-step.ensures.goes_on;
   asks = c.turn-step.ensures.asks;
 }
+
+pub turn-step-requires-clause-archive : goal.turn-step-requires-clause-archive
+turn-step-requires-clause-archive g c κs within =
+    may_still g.F.Receiver.stands_for c.args.table.now.table_id g.A.Sectors.seen c.args.seat.now c.loop-steps.seat
+    c.args.player.now c.loop-steps.player c.args.archive.now c.loop-steps.archive c.requires.archive
+    c.loop-steps.invariant.goes_on
