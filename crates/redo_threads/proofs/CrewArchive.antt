@@ -21,7 +21,7 @@ use Rattle.redo_threads.specs.declared.crew.Crew.{Crew}
 use Rattle.redo_threads.specs.declared.crew.Worker.{Worker}
 
 -- what stands at a place
-at_index : {A : Type 0} (l : List A) (n : ℕ) (d : A) → n < length l → d ≡ get_or l n d → get_elem? l n ≡ maybe.some d
+pub at_index : {A : Type 0} (l : List A) (n : ℕ) (d : A) → n < length l → d ≡ get_or l n d → get_elem? l n ≡ maybe.some d
 at_index [] n d less is = absurd (omega arith)
 at_index (x ∷ xs) zero d less is = ap (λ (z : _). maybe.some z) (sym is)
 at_index (x ∷ xs) (suc n) d less is = at_index xs n d (omega arith) is
@@ -31,6 +31,18 @@ inserted_at [] zero a low = refl
 inserted_at [] (suc n) a low = absurd (omega arith)
 inserted_at (x ∷ xs) zero a low = refl
 inserted_at (x ∷ xs) (suc n) a low = inserted_at xs n a (omega arith)
+
+-- one more isn't the archiver
+pub none_more : {F : Type 0} (l : List (Player F)) (n : ℕ) (d : Player F) → n < length l → d ≡ get_or l n d
+    → ((i : ℕ) (p : Player F) → i < n → get_elem? l i ≡ maybe.some p → IsArchiving p → ⊥) → (IsArchiving d → ⊥)
+    → (i : ℕ) (p : Player F) → i < n + 1 → get_elem? l i ≡ maybe.some p → IsArchiving p → ⊥
+none_more [] n d less is below other i p low at its = absurd (omega arith)
+none_more (x ∷ xs) zero d less is below other zero p low at its =
+    other (subst (λ (z : Player _). IsArchiving z) (sym (is ∙ maybe.some-injective x p at)) its)
+none_more (x ∷ xs) zero d less is below other (suc i) p low at its = absurd (omega arith)
+none_more (x ∷ xs) (suc n) d less is below other zero p low at its = below zero p (omega arith) at its
+none_more (x ∷ xs) (suc n) d less is below other (suc i) p low at its = none_more xs n d (omega arith) is
+    (λ j q l bt. below (suc j) q (omega arith) bt) other i p (omega arith) at its
 
 -- all have come to their ends with one more
 pub ends_with : {F : Type 0} (players : List (Player F)) (n : ℕ) (q : Player F) → AreAtEnd players → AtEnd q

@@ -35,7 +35,7 @@ behind [] ys m a more at = record { place = m; is = (let z : m ≡ 0 + m = omega
 behind (x ∷ xs) ys zero a more at = absurd (omega arith)
 behind (x ∷ xs) ys (suc m) a more at = let b = behind xs ys m a (omega arith) at in record {
   place = b.place;
-  is = ap suc b.is;
+  is = (let e = b.is in let z : suc m ≡ suc (length xs) + b.place = omega arith in z);
   there = b.there;
 }
 

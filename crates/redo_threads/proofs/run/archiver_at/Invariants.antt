@@ -7,5 +7,5 @@ use Rattle.redo_threads.proofs.run.archiver_at.Given as goal
 
 -- none before this place is the archiver
 abbrev pub invariant-loop-place : goal.invariant-loop-place
-invariant-loop-place g l = (i : ℕ) (p : ThePlayer g.row.F.Denot) → i < l.place → get_elem? l.players.now i ≡ some p
+invariant-loop-place g l = (i : ℕ) (p : ThePlayer g.row.F.Denot) → i < l.place → get_elem? l.players i ≡ some p
     → IsArchiving p → ⊥

@@ -197,7 +197,7 @@ returns-clause-archived g c = by c.args.archive refl
     y : Crew g.row.L.Denot g.row.D.Denot g.row.F.Denot
     y = c.play_crew-crew.result.0
 
-    abbrev Have : Option (Part g.row.A.Denot) → Option (Part g.row.A.Denot) → Type 0
+    Have : Option (Part g.row.A.Denot) → Option (Part g.row.A.Denot) → Type 0
     Have = HaveArchived g.L.Sectors.seen g.D.Sectors.seen g.A.Sectors.seen (opened_of c.args.shared)
         (shared_script c.args.shared) c.finish-closed.result.0 (views_of c.finish-closed.result.1.items)
 
