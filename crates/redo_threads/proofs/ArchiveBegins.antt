@@ -1,7 +1,6 @@
 -- The archive of a run in threads, as it begins; and whose it is at its end.
 use Rattle.std.proofs.Common.{Bool, List, None, Option, Some, [], ap, arith, false, is_some, length, map, refl, subst, suc, sym, true, zero, ℕ}
-use Rattle.std.proofs.Common.{⊎_elim, ◌*◌, ◌++◌, ◌+◌, ◌-◌, ◌<◌, ◌∙◌, ◌∷◌, ◌≡◌, ◌≤◌}
-use Rattle.std.proofs.lemmas.List.{append-nil}
+use Rattle.std.proofs.Common.{⊎_elim, ◌*◌, ◌+◌, ◌∙◌, ◌∷◌, ◌≡◌, ◌≤◌}
 use lib.ListN.{get_elem?}
 use mathlib.Core.Option as maybe
 use Rattle.atomic_table.specs.Seated.{TableId}
@@ -14,7 +13,7 @@ use Rattle.model_own.specs.OwnWrites.{LogWork}
 use Rattle.model_script.specs.{group_of}
 use Rattle.redo_archive.specs.Part.{Part}
 use Rattle.redo_archiver.proofs.Longer.{part-longer}
-use Rattle.redo_archiver.specs.{append_code, KeepsPace}
+use Rattle.redo_archiver.specs.{append_code}
 use Rattle.redo_disk.specs.Seen.{Seen}
 use Rattle.redo_disk.specs.declared.error.DevError.{DevError}
 use Rattle.redo_disk.specs.declared.error.DevError.TheVariants.{Failed}
@@ -25,10 +24,9 @@ use Rattle.redo_drive.specs.Startable.{IsNewArchive, MayBegin}
 use Rattle.redo_drive.specs.Views.{view_of, views_of}
 use Rattle.redo_drive.specs.declared.actor.Actor.{Actor}
 use Rattle.redo_drive.specs.declared.actor.Actor.TheVariants as own
-use Rattle.redo_ownrule.proofs.Crews.{same_place}
 use Rattle.redo_ownrule.proofs.Placed.{alone}
 use Rattle.redo_ownrule.proofs.Standing.{places_apart}
-use Rattle.redo_ownrule.specs.Players.{actor_of, crew, place, place_behind}
+use Rattle.redo_ownrule.specs.Players.{actor_of, crew, place}
 use Rattle.redo_ownrule.specs.Sharing.{opened_of, own_of, shared_script}
 use Rattle.redo_ownrule.specs.declared.player.Player.{Player}
 use Rattle.redo_ownrule.specs.declared.player.Player.TheVariants as player
@@ -43,11 +41,10 @@ use Rattle.redo_rule.specs.declared.law.Heard.{Heard}
 use Rattle.redo_rule.specs.declared.law.Slot.{Slot}
 use Rattle.redo_rule.specs.declared.law.View.{View}
 use Rattle.redo_threads.proofs.Ending.{past}
-use Rattle.redo_threads.proofs.Heard.{all_same}
 use Rattle.redo_threads.proofs.Keeping.{gone_at, keep_long}
 use Rattle.redo_threads.proofs.Readers.{archiver_is, archiver_there, archives_at, front}
-use Rattle.redo_threads.proofs.StaysReader.{crew_at, one_state, same_actor, Was, was_reader}
-use Rattle.redo_threads.specs.Archiving.{Archives, ArchiveStays, BeginsWithReaders, end_about, IsArchiving, KeepsArchive, MayBeArchived}
+use Rattle.redo_threads.proofs.StaysReader.{crew_at, one_state, same_actor, was_reader}
+use Rattle.redo_threads.specs.Archiving.{Archives, BeginsWithReaders, IsArchiving, KeepsArchive, MayBeArchived}
 use Rattle.redo_threads.specs.Working.{KeepOn}
 use Rattle.redo_threads.specs.declared.crew.Crew.{Crew}
 

@@ -1,11 +1,10 @@
 -- What a run in threads leaves of its archive.
-use Rattle.std.proofs.Common.{Bool, List, None, Option, Some, [], ap, arith, false, length, refl, slice_index, subst, sym, true, ℕ, ⊎_elim}
-use Rattle.std.proofs.Common.{◌++◌, ◌+◌, ◌<◌, ◌∙◌, ◌∷◌, ◌≡◌, ◌≤◌}
+use Rattle.std.proofs.Common.{List, None, Option, Some, [], arith, refl, slice_index, subst, sym, true, ℕ}
+use Rattle.std.proofs.Common.{◌∙◌, ◌∷◌, ◌≡◌, ◌≤◌}
 use Rattle.std.specs.List.{AllByRecursion}
 use lib.ListN.{get_elem?}
 use mathlib.Core.Option as maybe
 use Rattle.atomic_table.specs.declared.shared.Seat.{Seat}
-use Rattle.model_core.proofs.Lsns.{lsn_offset}
 use Rattle.model_core.specs.Actors as model
 use Rattle.model_core.specs.LogSide.{LogSide}
 use Rattle.model_core.specs.{archives, Entry, Given, index, lsn, ReaderState}

@@ -1,5 +1,5 @@
 -- The archive of a run in threads, from its begin to what the run leaves.
-use Rattle.std.proofs.Common.{Bool, List, None, Option, Some, ap, is_some, length, map, subst, sym, true, ◌∙◌, ◌≡◌}
+use Rattle.std.proofs.Common.{Bool, List, Option, Some, ap, is_some, length, map, subst, sym, true, ◌∙◌, ◌≡◌}
 use Rattle.atomic_table.specs.Seated.{TableId}
 use Rattle.model_core.specs.{Given}
 use Rattle.model_own.specs.OwnWrites.{LogWork}

@@ -1,9 +1,8 @@
 -- The archive beside its archiver, through a turn of that.
 use Rattle.std.proofs.Common.{Bool, List, None, Option, Some, [], ap, arith, cond, false, refl, slice_index, subst, sym, true, ℕ, ⊎_elim}
-use Rattle.std.proofs.Common.{is_some, ◌++◌, ◌+◌, ◌<◌, ◌==◌, ◌∙◌, ◌∷◌, ◌≡◌, ◌≤◌}
+use Rattle.std.proofs.Common.{is_some, ◌++◌, ◌+◌, ◌∙◌, ◌∷◌, ◌≡◌, ◌≤◌}
 use Rattle.std.specs.List.{AllByRecursion}
 use native.Mathlib.Decide.{dec_le}
-use lib.ListN.{get_elem?}
 use mathlib.Core.Option as maybe
 use Rattle.model_archive.specs.declared.marks.ArchMarks.{ArchMarks}
 use Rattle.model_core.specs.Actors as model

@@ -1,4 +1,4 @@
-use Rattle.std.proofs.Common.{List, Option, ap, refl, subst, sym, ◌∙◌, ◌≡◌}
+use Rattle.std.proofs.Common.{List, Option, ap, subst, sym, ◌∙◌, ◌≡◌}
 use Rattle.model_core.specs.{next, took}
 use Rattle.model_core.specs.Actors as model
 use Rattle.model_core.specs.declared.ops.Answer.{Answer}

@@ -1,4 +1,4 @@
-use Rattle.std.proofs.Common.{Option, Some, subst, sym, ◌≡◌}
+use Rattle.std.proofs.Common.{Option, Some, subst, sym}
 use Rattle.redo_archive.specs.Part.{Part}
 use Rattle.redo_ownrule.specs.declared.player.Player.{Player}
 use Rattle.redo_ownrule.specs.declared.player.Player.TheVariants as player

@@ -1,4 +1,4 @@
-use Rattle.std.proofs.Common.{IfSome, subst, sym, ◌∙◌, ◌≡◌}
+use Rattle.std.proofs.Common.{IfSome, subst, sym, ◌∙◌}
 use Rattle.redo_drive.specs.Making.{EndsWithReaders}
 use Rattle.redo_drive.specs.Startable.{AreNewFollowers, IsNewArchive}
 use Rattle.redo_drive.specs.Views.{views_of}

@@ -1,4 +1,4 @@
-use Rattle.std.proofs.Common.{None, Option, Some, true, ap, is_some, length, map, refl, subst, sym, ◌+◌, ◌∙◌, ◌≡◌}
+use Rattle.std.proofs.Common.{None, Option, Some, ap, is_some, length, map, refl, subst, sym, ◌+◌, ◌∙◌, ◌≡◌}
 use Rattle.std.specs.List.{AllZip}
 use Rattle.model_core.specs.Later.{IsSameActor}
 use Rattle.redo_drive.proofs.LeftRun.{reads_to_marks}
@@ -25,7 +25,7 @@ use Rattle.redo_drive.specs.Archived.{HaveArchived}
 use Rattle.redo_threads.specs.Archiving.{LeavesArchive, lost_of, MayBeArchived}
 use Rattle.redo_threads.specs.Working.{AreSeated, KeepOn}
 use Rattle.redo_threads.specs.declared.crew.Crew.{Crew}
-use Rattle.redo_threads.proofs.run.run_threads.Goals.{After-finish-closed}
+use Rattle.redo_threads.proofs.run.run_threads.Goals.{After-drop-bells-20}
 use Rattle.redo_threads.proofs.run.run_threads.Goals as goal
 
 pub play_crew-crew-requires-clause-seated : goal.play_crew-crew-requires-clause-seated
@@ -74,7 +74,7 @@ pub finish-closed-requires-clause-rest : goal.finish-closed-requires-clause-rest
 finish-closed-requires-clause-rest g c = all_rest c.play_crew-crew.result.0.players.items c.play_crew-crew.ensures.at_end
 
 -- what the run leaves, with what its seats have heard
-heard_so : (g : _) (c : After-finish-closed g) (work : Option LogWork) → is_some work ≡ own_of c.args.shared
+heard_so : (g : _) (c : After-drop-bells-20 g) (work : Option LogWork) → is_some work ≡ own_of c.args.shared
     → LeavesHeard g.L.Sectors.seen g.L.Sectors.gives g.D.Sectors.seen g.D.Sectors.gives g.F.Receiver.stands_for
     (opened_of c.args.shared) (shared_script c.args.shared) c.args.shared.board.shared.key.log_only
     c.args.shared.board.shared.key.archive c.args.shared.board.shared.key.followers (crew work c.args.players.items)
