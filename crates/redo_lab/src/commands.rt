@@ -133,7 +133,15 @@ pub(crate) fn source_in_threads<
             let stops = stops_of(asked.crash);
             let (on, kept) = hand_on(asked.drive.archive, arch);
             let (ran, left) = in_threads(
-                rt, alloc, &script, &asked.drive, gate, stops, log, store, on,
+                rt,
+                alloc,
+                &script,
+                &asked.drive,
+                gate,
+                stops,
+                log,
+                store,
+                on,
             );
             let done = after_run(rt, alloc, &script, ran, asked.crash);
             (done, take_back(left, kept))

@@ -10,9 +10,9 @@ ghost use Rattle.redo_lab.specs.Call.{IsUnfused, Unfused};
 ghost use Rattle.redo_lab.specs.Handed.{AreOf, call_on};
 ghost use Rattle.redo_lab.specs.Runs.{CommandRuns, IsGivenBack, IsRanBy, SparedBy};
 
-use crate::start::{Begun, begin_run};
 use crate::closing::close_run;
 use crate::laws::laws;
+use crate::start::{Begun, begin_run};
 use crate::turns::run_turns;
 use model_archive::archive_reads;
 use model_report::{Fault, Followed, History, Marks};

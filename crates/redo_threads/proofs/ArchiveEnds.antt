@@ -1,11 +1,10 @@
 -- What a run in threads leaves of its archive.
-use Rattle.std.proofs.Common.{Bool, List, None, Option, Some, [], ap, arith, false, length, refl, slice_index, subst, sym, true, ℕ, ⊎_elim}
-use Rattle.std.proofs.Common.{◌++◌, ◌+◌, ◌<◌, ◌∙◌, ◌∷◌, ◌≡◌, ◌≤◌}
+use Rattle.std.proofs.Common.{List, None, Option, Some, [], arith, refl, slice_index, subst, sym, true, ℕ}
+use Rattle.std.proofs.Common.{◌∙◌, ◌∷◌, ◌≡◌, ◌≤◌}
 use Rattle.std.specs.List.{AllByRecursion}
 use lib.ListN.{get_elem?}
 use mathlib.Core.Option as maybe
 use Rattle.atomic_table.specs.declared.shared.Seat.{Seat}
-use Rattle.model_core.proofs.Lsns.{lsn_offset}
 use Rattle.model_core.specs.Actors as model
 use Rattle.model_core.specs.LogSide.{LogSide}
 use Rattle.model_core.specs.{archives, Entry, Given, index, lsn, ReaderState}
@@ -73,8 +72,8 @@ module _ {L D A F : Type 0} (log_seen : L → Seen) (log_gives : L → Call → 
       let below = has.below in
       let mark = S.pace.mark in
       let same = flushed_word log_seen data_seen left.by.run left.by.last (views_of actors) R in
-      let data : IsDataLsn flushed = flushed_place log_seen data_seen left.by.run left.by.last (views_of actors) R in
-      let low = data.0 in
+      let is_data : IsDataLsn flushed = flushed_place log_seen data_seen left.by.run left.by.last (views_of actors) R in
+      let low = is_data.0 in
       omega arith
 
   asked_up : part.marks.asked ≤ flushed

@@ -1,9 +1,8 @@
 -- The archive beside its archiver, through a turn of that.
 use Rattle.std.proofs.Common.{Bool, List, None, Option, Some, [], ap, arith, cond, false, refl, slice_index, subst, sym, true, ℕ, ⊎_elim}
-use Rattle.std.proofs.Common.{is_some, ◌++◌, ◌+◌, ◌<◌, ◌==◌, ◌∙◌, ◌∷◌, ◌≡◌, ◌≤◌}
+use Rattle.std.proofs.Common.{is_some, ◌++◌, ◌+◌, ◌∙◌, ◌∷◌, ◌≡◌, ◌≤◌}
 use Rattle.std.specs.List.{AllByRecursion}
 use native.Mathlib.Decide.{dec_le}
-use lib.ListN.{get_elem?}
 use mathlib.Core.Option as maybe
 use Rattle.model_archive.specs.declared.marks.ArchMarks.{ArchMarks}
 use Rattle.model_core.specs.Actors as model
@@ -101,7 +100,7 @@ upper a b limit low high = elim (dec_le a b) [
   | no more ↦ record { most = a; first = omega arith; second = omega arith; within = low }
 ]
 
-all_front : (P : Block → Type 0) (xs ys : List Block) → AllByRecursion P (xs ++ ys) → AllByRecursion P xs
+pub all_front : (P : Block → Type 0) (xs ys : List Block) → AllByRecursion P (xs ++ ys) → AllByRecursion P xs
 all_front P [] ys all = tt
 all_front P (x ∷ xs) ys all = (all.0, all_front P xs ys all.1)
 

@@ -1,17 +1,19 @@
 -- What a run in threads owes and tells, of the store that was opened.
-use Rattle.std.proofs.Common.{Bool, List, ap, length, refl, subst, sym, ℕ, ◌∙◌, ◌≡◌}
+use Rattle.std.proofs.Common.{Bool, List, Option, ap, length, refl, subst, sym, ℕ, ◌∙◌, ◌≡◌}
 use Rattle.model_core.specs.Actors as model
 use Rattle.model_core.specs.{Given}
 use Rattle.model_running.specs.Schedule.{HaveEnded}
 use Rattle.model_script.specs.declared.script.ScriptLine.{ScriptLine}
+use Rattle.redo_archive.specs.Part.{Part}
 use Rattle.redo_disk.specs.{Call}
 use Rattle.redo_disk.specs.Seen.{Seen}
 use Rattle.redo_drive.proofs.LeftRun.{have_followed}
 use Rattle.redo_drive.specs.Drive.{Owes, ReadsToMarks}
 use Rattle.redo_drive.specs.Followed.{HaveFollowed}
-use Rattle.redo_drive.specs.Leaving.{LeavesRun}
-use Rattle.redo_drive.specs.Making.{EndsWithFollowers}
-use Rattle.redo_drive.specs.Setups.{start_actors}
+use Rattle.redo_drive.specs.Archived.{HaveArchived}
+use Rattle.redo_drive.specs.Leaving.{LeavesWith}
+use Rattle.redo_drive.specs.Making.{EndsWithReaders}
+use Rattle.redo_drive.specs.Setups.{seated_actors}
 use Rattle.redo_drive.specs.Startable.{AreNewFollowers}
 use Rattle.redo_drive.specs.Views.{views_of}
 use Rattle.redo_drive.specs.declared.actor.Actor.{Actor}
@@ -46,8 +48,16 @@ module _ {L D : Type 0} (log_seen : L → Seen) (log_gives : L → Call → L �
       subst (λ (o : Opened L D). CodeHasCause log_seen data_seen closed.code o.log closed.log o.store closed.store closed.lost)
       opened_is
 
-  module _ {F : Type 0} (stands : F → List Given → Type 0) (alone : Bool) (count : ℕ) (starts actors : List (Actor F))
-      (left : LeavesRun log_seen log_gives data_seen data_gives stands known lines alone count starts actors closed)
+  -- and of its archive
+  pub archived : {A : Type 0} (seen : A → Seen) (actors : List model.Actor) (before after : Option (Part A))
+      → HaveArchived log_seen data_seen seen known lines closed actors before after
+      → HaveArchived log_seen data_seen seen opened script closed actors before after
+  archived seen actors before after have =
+      subst (λ (o : Opened L D). HaveArchived log_seen data_seen seen o script closed actors before after) opened_is
+      (subst (λ (s : List ScriptLine). HaveArchived log_seen data_seen seen known s closed actors before after) script_is have)
+
+  module _ {F : Type 0} (stands : F → List Given → Type 0) (alone archive : Bool) (count : ℕ) (starts actors : List (Actor F))
+      (left : LeavesWith log_seen log_gives data_seen data_gives stands known lines alone archive count starts actors closed)
     where
       pub runs_in_threads : (log_only : Bool) → alone ≡ log_only → HaveRun (views_of starts) (views_of actors) closed
           → RunsInThreads opened script log_only (views_of actors) (done_with closed)
@@ -63,8 +73,8 @@ module _ {L D : Type 0} (log_seen : L → Seen) (log_gives : L → Call → L �
       }
 
       -- what is left of the followers with which the run was made
-      pub followed : (fs : List (Following F)) → AreNewFollowers opened.start fs → EndsWithFollowers starts fs
-          → start_actors known.shape lines known.start alone count ≡ views_of starts → count ≡ length fs
+      pub followed : (fs : List (Following F)) → AreNewFollowers opened.start fs → EndsWithReaders opened.start archive starts fs
+          → seated_actors known.shape lines known.start alone archive count ≡ views_of starts → count ≡ length fs
           → HaveFollowed log_seen data_seen stands opened script fs actors closed
       followed fs new ends are count_is =
           subst (λ (o : Opened L D). HaveFollowed log_seen data_seen stands o script fs actors closed) opened_is
@@ -72,4 +82,5 @@ module _ {L D : Type 0} (log_seen : L → Seen) (log_gives : L → Call → L �
           (have_followed log_seen log_gives data_seen data_gives stands known lines alone count starts actors
           (done_with closed) left fs
           (subst (λ (o : Opened L D). AreNewFollowers o.start fs) (sym opened_is) new)
-          (sym are ∙ ap (start_actors known.shape lines known.start alone) count_is) ends))
+          (sym are ∙ ap (seated_actors known.shape lines known.start alone archive) count_is)
+          (subst (λ (o : Opened L D). EndsWithReaders o.start archive starts fs) (sym opened_is) ends)))

@@ -14,7 +14,7 @@ use Rattle.model_own.specs.OwnWrites.{LogWork}
 use Rattle.model_running.specs.Schedule.{HaveEnded}
 use Rattle.redo_disk.specs.{Call}
 use Rattle.redo_disk.specs.Seen.{Seen}
-use Rattle.redo_drive.specs.Leaving.{LeavesRun}
+use Rattle.redo_drive.specs.Leaving.{LeavesWith}
 use Rattle.redo_drive.specs.Playing.{run_log_side}
 use Rattle.redo_drive.specs.Views.{view_of, views_of}
 use Rattle.redo_drive.specs.declared.actor.Actor.{Actor}
@@ -94,10 +94,10 @@ module _ {F : Type 0} where
       subst (λ (l : List (Actor F)). HaveEnded (views_of l)) (sym are)
       (all_over (crew work players) (over_crew work players ends))
 
-module _ {L D F : Type 0} (log_seen : L → Seen) (log_gives : L → Call → L → Type 0) (data_seen : D → Seen)
+module _ {L D F : Type 0} {archive : Bool} (log_seen : L → Seen) (log_gives : L → Call → L → Type 0) (data_seen : D → Seen)
     (data_gives : D → Call → D → Type 0) (stands : F → List Given → Type 0) (opened : Opened L D)
     (script : List ScriptLine) (log_only : Bool) (followers : ℕ) (starts actors : List (Actor F)) (closed : Closed L D)
-    (left : LeavesRun log_seen log_gives data_seen data_gives stands opened script log_only followers starts actors
+    (left : LeavesWith log_seen log_gives data_seen data_gives stands opened script log_only archive followers starts actors
     closed) where
   -- a user that has ended by a failure has met it in FAILED
   pub have_answered : HaveEnded (views_of actors) → closed.code ≡ 0 → HaveAnswered (views_of actors)

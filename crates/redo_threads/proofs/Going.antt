@@ -6,6 +6,7 @@ use Rattle.atomic_table.specs.declared.shared.Seat.{Seat}
 use Rattle.model_core.proofs.Later.{later_refl, later_trans}
 use Rattle.model_core.specs.{Given}
 use Rattle.model_core.specs.Actors as model
+use Rattle.redo_disk.specs.Seen.{Seen}
 use Rattle.redo_drive.specs.Receiving.{follower_of, HasGot, IsSameFollower}
 use Rattle.redo_drive.specs.Views.{view_of}
 use Rattle.redo_drive.specs.declared.actor.Actor.{Actor}
@@ -17,7 +18,9 @@ use Rattle.redo_ownrule.specs.declared.player.Player.TheVariants as player
 use Rattle.redo_rule.specs.Mine.{heard_of, IsSameSeat}
 use Rattle.redo_rule.specs.declared.law.Slot.{Slot}
 use Rattle.redo_rule.specs.declared.law.View.{View}
-use Rattle.redo_threads.specs.Archiving.{GoesOnWith, KeepsArchive, MayArchive}
+use Rattle.redo_archive.specs.Part.{Part}
+use Rattle.redo_rule.specs.declared.law.Block.{Block}
+use Rattle.redo_threads.specs.Archiving.{GoesOnWith, KeepsArchive, MayArchive, MayWork, WorksOn}
 use Rattle.redo_threads.specs.Working.{GoesOn}
 use Rattle.redo_threads.specs.declared.crew.Worker.{Worker}
 
@@ -168,3 +171,26 @@ module _ {L D F : Type 0} (stands : F → List Given → Type 0) where
           (at_table table w.seat w.player sits)
           (subst (λ (q : Worker L D A F).
           GoesOnWith seen stands q.seat.table_id q.seat q.player q.archive v.seat v.player v.archive) e h)
+
+      -- a worker, if there is one
+      pub works_refl : (w : Option (Worker L D A F)) → MayWork seen table w → WorksOn seen stands table w w
+      works_refl None may = tt
+      works_refl (Some w) may = with_refl w.seat w.player w.archive may.0
+
+      pub works_trans : (w v u : Option (Worker L D A F)) → WorksOn seen stands table w v → WorksOn seen stands table v u
+          → WorksOn seen stands table w u
+      works_trans None None None h k = tt
+      works_trans None None (Some u) h k = absurd k
+      works_trans None (Some v) u h k = absurd h
+      works_trans (Some w) None u h k = absurd h
+      works_trans (Some w) (Some v) None h k = absurd k
+      works_trans (Some w) (Some v) (Some u) h k =
+          with_trans w.seat v.seat u.seat w.player v.player u.player w.archive v.archive u.archive h k
+
+      pub work_still : (w v : Option (Worker L D A F)) → MayWork seen table w → WorksOn seen stands table w v
+          → MayWork seen table v
+      work_still None None may on = tt
+      work_still None (Some v) may on = absurd on
+      work_still (Some w) None may on = absurd on
+      work_still (Some w) (Some v) may on =
+          (on.player.seat, may_still w.seat v.seat w.player v.player w.archive v.archive may.1 on)

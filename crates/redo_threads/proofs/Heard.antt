@@ -18,6 +18,7 @@ use Rattle.redo_rule.proofs.Gathered.{there}
 use Rattle.redo_rule.specs.Mine.{heard_of}
 use Rattle.redo_rule.specs.Sharing.{AreFresh, HaveHeard}
 use Rattle.redo_rule.specs.declared.law.About.{About}
+use Rattle.redo_rule.specs.declared.law.Heard.{Heard}
 use Rattle.redo_rule.specs.declared.law.Slot.{Slot}
 use Rattle.redo_rule.specs.declared.law.View.{View}
 use Rattle.redo_threads.proofs.Ending.{past}
@@ -92,10 +93,10 @@ module _ {L D F : Type 0} (stands : F → List Given → Type 0) (table : TableI
           let p = played_at x.players.items i a began in
           let q = played_at y.players.items i b at in
           let s = gone_at stands table x y h i t p.0 q.0 sits p.1 q.1 in
-          let all : heard_of t.me.0 ≡ s.2.same.since =
-          s.2.same.heard ∙ ap (λ (l : List Given). l ++ s.2.same.since) (fresh.none i s.0 s.1) in
-          subst (λ (z : Actor F). HasGot stands (follower_of z) (heard_of t.me.0) (follower_of b)) p.2
-          (subst (λ (z : Actor F). HasGot stands (follower_of (actor_of p.0)) (heard_of t.me.0) (follower_of z)) q.2
+          let all : (heard_of t.me.0).groups ≡ s.2.same.since =
+          s.2.same.heard ∙ ap (λ (h : Heard). h.groups ++ s.2.same.since) (fresh.none i s.0 s.1) in
+          subst (λ (z : Actor F). HasGot stands (follower_of z) (heard_of t.me.0).groups (follower_of b)) p.2
+          (subst (λ (z : Actor F). HasGot stands (follower_of (actor_of p.0)) (heard_of t.me.0).groups (follower_of z)) q.2
           (subst (λ (l : List Given). HasGot stands (follower_of (actor_of p.0)) l (follower_of (actor_of q.0)))
           (sym all) s.2.same.got));
     }

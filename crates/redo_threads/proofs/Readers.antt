@@ -1,6 +1,6 @@
 -- One of the actors archives: the one that began as a new archiver.
-use Rattle.std.proofs.Common.{Bool, List, None, Option, Some, [], ap, arith, drop, eqb, eqb-true, false, length, length-append, map, refl, subst}
-use Rattle.std.proofs.Common.{suc, sym, true, zero, ℕ, ◌++◌, ◌+◌, ◌-◌, ◌<◌, ◌==◌, ◌∙◌, ◌∷◌, ◌≡◌, ◌≤◌, ⊎_elim, ◌⊎◌, inl, inr}
+use Rattle.std.proofs.Common.{Bool, List, [], ap, arith, drop, eqb-true, false, length, length-append, map, refl}
+use Rattle.std.proofs.Common.{suc, sym, true, zero, ℕ, ◌++◌, ◌+◌, ◌-◌, ◌<◌, ◌∙◌, ◌∷◌, ◌≡◌, ◌≤◌}
 use native.Mathlib.Decide.{dec_le}
 use lib.ListN.{get_elem?}
 use mathlib.Core.Option as maybe
@@ -11,7 +11,7 @@ use Rattle.model_script.specs.declared.script.ScriptLine.{ScriptLine}
 use Rattle.redo_drive.proofs.Viewed.{length_views, views_at}
 use Rattle.redo_drive.specs.Making.{EndsWithReaders}
 use Rattle.redo_drive.specs.Setups.{followers_from, page_actors, readers_of, seated_actors, seated_before, users_of}
-use Rattle.redo_drive.specs.Views.{view_of, views_of}
+use Rattle.redo_drive.specs.Views.{views_of}
 use Rattle.redo_drive.specs.declared.actor.Actor.{Actor}
 use Rattle.redo_drive.specs.declared.actor.Actor.TheVariants as own
 use Rattle.redo_drive.specs.declared.seating.TheConstants.{FIRST_FOLLOWER}
@@ -31,11 +31,11 @@ record Behind {A : Type 0} (xs ys : List A) (m : ℕ) (a : A) : Type 0 where
 
 behind : {A : Type 0} (xs ys : List A) (m : ℕ) (a : A) → length xs ≤ m → get_elem? (xs ++ ys) m ≡ maybe.some a
     → Behind xs ys m a
-behind [] ys m a more at = record { place = m; is = refl; there = at }
+behind [] ys m a more at = record { place = m; is = (let z : m ≡ 0 + m = omega arith in z); there = at }
 behind (x ∷ xs) ys zero a more at = absurd (omega arith)
 behind (x ∷ xs) ys (suc m) a more at = let b = behind xs ys m a (omega arith) at in record {
   place = b.place;
-  is = ap suc b.is;
+  is = (let e = b.is in let z : suc m ≡ suc (length xs) + b.place = omega arith in z);
   there = b.there;
 }
 
@@ -116,7 +116,7 @@ one_archiver x y e = cc
 
 module _ {R : Type 0} (shape : Shape) (script : List ScriptLine) (start : ℕ) (log_only : Bool) (fs : List (Following R))
     (cs : List (Actor R)) where
-  abbrev front : Bool → List model.Actor
+  abbrev pub front : Bool → List model.Actor
   front archive = seated_before shape script start log_only archive (length fs)
 
   before : (archive : Bool) (m : ℕ) (s : ReaderState) → get_elem? (front archive) m ≡ maybe.some (model.Reader s) → ⊥

@@ -1,6 +1,6 @@
 -- FLUSHED stays within the script: what the actors of a run have in their lines is the script's text.
 use Rattle.std.proofs.Common.{Bool, List, Some, [], ap, arith, cond, eqb, false, length, length-append, map, ne_eqb, refl, slice_index}
-use Rattle.std.proofs.Common.{suc, sym, true, ℕ, ◌++◌, ◌+◌, ◌<◌, ◌∙◌, ◌∷◌, ◌≡◌, ◌≤◌}
+use Rattle.std.proofs.Common.{suc, sym, true, zero, ℕ, ◌++◌, ◌+◌, ◌<◌, ◌∙◌, ◌∷◌, ◌≡◌, ◌≤◌}
 use Rattle.std.specs.Prelude.{slice_get}
 use Rattle.std.specs.List.{flat_map}
 use native.Mathlib.Decide.{ℕ_discrete}
@@ -9,7 +9,7 @@ use mathlib.Core.Option as maybe
 use Rattle.atomic_table.proofs.Lists.{at_longer}
 use Rattle.model_base.specs.declared.shape.Shape.{Shape}
 use Rattle.model_core.proofs.Lsns.{lsn_le}
-use Rattle.model_core.specs.{index, Line, line_at, ReaderState, UserState}
+use Rattle.model_core.specs.{Entry, index, Line, line_at, ReaderState, UserState}
 use Rattle.model_core.specs.Actors as model
 use Rattle.model_core.specs.Setup.{Setup}
 use Rattle.model_core.specs.declared.words.Word.TheVariants as word
@@ -20,7 +20,6 @@ use Rattle.model_logcore.specs.{sum_over_actors}
 use Rattle.model_logcore.specs.LogHalf.{lengths}
 use Rattle.model_report.specs.{lines_of_user}
 use Rattle.model_running.proofs.Places.{lsn_is, sn_back}
-use Rattle.model_running.proofs.Seated.{none_joined}
 use Rattle.model_running.specs.{ArePageActors, AreSeated, IsOfScript}
 use Rattle.model_script.specs.{group_of, script_end}
 use Rattle.model_script.specs.declared.script.ScriptLine.{ScriptLine}
@@ -70,7 +69,7 @@ module _ (shape : Shape) where
       by : (b : Bool) → texts (cond b (line ∷ lines_of_user user script) (lines_of_user user script))
           ≡ cond b (text_of line) 0 + user_text script user
       by true = refl
-      by false = refl
+      by false = omega arith
 
   abbrev over : (ℕ → ℕ) → List UserState → ℕ
   over f [] = 0
@@ -116,7 +115,7 @@ module _ (shape : Shape) where
 
   over_zero : (users : List UserState) → over (user_text []) users ≡ 0
   over_zero [] = refl
-  over_zero (u ∷ us) = over_zero us
+  over_zero (u ∷ us) = let rest = over_zero us in omega arith
 
   -- the texts of all users are the script's
   all_texts : (script : List ScriptLine) (users : List UserState) → Ascend users → over (user_text script) users ≤ texts script
@@ -129,16 +128,62 @@ module _ (shape : Shape) where
 
 -- who reads the log or keeps its pages has no lines
 sum_append : (xs ys : List model.Actor) → sum_over_actors bytes_of (xs ++ ys) ≡ sum_over_actors bytes_of xs + sum_over_actors bytes_of ys
-sum_append [] ys = refl
+sum_append [] ys = omega arith
 sum_append (x ∷ xs) ys = let rest = sum_append xs ys in omega arith
 
 readers_none : (readers : List ReaderState) → sum_over_actors bytes_of (map model.Reader readers) ≡ 0
 readers_none [] = refl
-readers_none (r ∷ rs) = readers_none rs
+readers_none (r ∷ rs) = let rest = readers_none rs in omega arith
 
 others_none : (b : Bool) (others : List model.Actor) → ArePageActors b others → sum_over_actors bytes_of others ≡ 0
 others_none true others P = ap (sum_over_actors bytes_of) P.1 ∙ readers_none P.0
-others_none false others P = ap (sum_over_actors bytes_of) P.2 ∙ readers_none P.1
+others_none false others P =
+    let are = ap (sum_over_actors bytes_of) P.2 in let rest = readers_none P.1 in omega arith
+
+-- nobody has joined
+no_reader : (readers : List ReaderState) (i : ℕ) (es : List Entry)
+    → get_elem? (map model.Reader readers) i ≡ maybe.some (model.Joined es) → ⊥
+no_reader [] i es at = maybe.some-ne-none _ (sym at)
+no_reader (r ∷ rs) zero es at = let e = maybe.some-injective _ (model.Joined es) at in absurd (cc)
+no_reader (r ∷ rs) (suc i) es at = no_reader rs i es at
+
+no_page : (closer cleaner checkpointer : model.Actor) (readers : List ReaderState)
+    → ((es : List Entry) → closer ≡ model.Joined es → ⊥) → ((es : List Entry) → cleaner ≡ model.Joined es → ⊥)
+    → ((es : List Entry) → checkpointer ≡ model.Joined es → ⊥) → (i : ℕ) (es : List Entry)
+    → get_elem? (closer ∷ cleaner ∷ checkpointer ∷ map model.Reader readers) i ≡ maybe.some (model.Joined es) → ⊥
+no_page a b c readers one two three zero es at = one es (maybe.some-injective a (model.Joined es) at)
+no_page a b c readers one two three (suc zero) es at = two es (maybe.some-injective b (model.Joined es) at)
+no_page a b c readers one two three (suc (suc zero)) es at = three es (maybe.some-injective c (model.Joined es) at)
+no_page a b c readers one two three (suc (suc (suc i))) es at = no_reader readers i es at
+
+no_other : (b : Bool) (others : List model.Actor) → ArePageActors b others → (i : ℕ) (es : List Entry)
+    → get_elem? others i ≡ maybe.some (model.Joined es) → ⊥
+no_other true others P i es at = no_reader P.0 i es (ap (λ (l : List model.Actor). get_elem? l i) (sym P.1) ∙ at)
+no_other false others P i es at = no_page (model.Closer P.0.closer) (model.Cleaner P.0.cleaner)
+    (model.Checkpointer P.0.checkpointer) P.1 (λ x e. absurd (cc)) (λ x e. absurd (cc)) (λ x e. absurd (cc)) i es
+    (ap (λ (l : List model.Actor). get_elem? l i) (sym P.2) ∙ at)
+
+no_worker : (writer flusher : model.Actor) (others : List model.Actor) → ((es : List Entry) → writer ≡ model.Joined es → ⊥)
+    → ((es : List Entry) → flusher ≡ model.Joined es → ⊥)
+    → ((i : ℕ) (es : List Entry) → get_elem? others i ≡ maybe.some (model.Joined es) → ⊥) → (i : ℕ) (es : List Entry)
+    → get_elem? (writer ∷ flusher ∷ others) i ≡ maybe.some (model.Joined es) → ⊥
+no_worker a b others one two none zero es at = one es (maybe.some-injective a (model.Joined es) at)
+no_worker a b others one two none (suc zero) es at = two es (maybe.some-injective b (model.Joined es) at)
+no_worker a b others one two none (suc (suc i)) es at = none i es at
+
+no_user : (users : List UserState) (others : List model.Actor)
+    → ((i : ℕ) (es : List Entry) → get_elem? others i ≡ maybe.some (model.Joined es) → ⊥) → (i : ℕ) (es : List Entry)
+    → get_elem? (map model.User users ++ others) i ≡ maybe.some (model.Joined es) → ⊥
+no_user [] others none i es at = none i es at
+no_user (u ∷ us) others none zero es at = let e = maybe.some-injective _ (model.Joined es) at in absurd (cc)
+no_user (u ∷ us) others none (suc i) es at = no_user us others none i es at
+
+none_joined : (c : Setup) (actors : List model.Actor) → AreSeated c actors → (i : ℕ) (es : List Entry)
+    → get_elem? actors i ≡ maybe.some (model.Joined es) → ⊥
+none_joined c actors S i es at = no_user S.users (model.Writer S.writer ∷ model.Flusher S.flusher ∷ S.others)
+    (no_worker (model.Writer S.writer) (model.Flusher S.flusher) S.others (λ x e. absurd (cc)) (λ x e. absurd (cc))
+    (no_other c.log_only S.others S.page_actors)) i es
+    (ap (λ (l : List model.Actor). get_elem? l i) (sym S.are) ∙ at)
 
 module _ {L D : Type 0} {archive : Bool} (log_seen : L → Seen) (data_seen : D → Seen) (run : RunOf L D) (parts : Parts L D)
     (actors : List model.Actor) (R : RunsWith log_seen data_seen run archive parts actors) (opened : Opened L D)

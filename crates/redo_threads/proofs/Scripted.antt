@@ -10,7 +10,7 @@ use Rattle.model_running.specs.Seating.{ArePageActors}
 use Rattle.model_script.specs.declared.script.ScriptLine.{ScriptLine}
 use Rattle.redo_disk.specs.{Call}
 use Rattle.redo_disk.specs.Seen.{Seen}
-use Rattle.redo_drive.specs.Leaving.{LeavesRun}
+use Rattle.redo_drive.specs.Leaving.{LeavesWith}
 use Rattle.redo_drive.specs.Views.{views_of}
 use Rattle.redo_drive.specs.declared.actor.Actor.{Actor}
 use Rattle.redo_drive.specs.declared.closed.Closed.{Closed}
@@ -18,10 +18,10 @@ use Rattle.redo_store.specs.declared.opened.Opened.{Opened}
 use Rattle.redo_rule.proofs.Retook.{at_map}
 use Rattle.redo_threads.specs.InThreads.{AreActorsOf}
 
-module _ {L D F : Type 0} (log_seen : L → Seen) (log_gives : L → Call → L → Type 0) (data_seen : D → Seen)
+module _ {L D F : Type 0} {archive : Bool} (log_seen : L → Seen) (log_gives : L → Call → L → Type 0) (data_seen : D → Seen)
     (data_gives : D → Call → D → Type 0) (stands : F → List Given → Type 0) (opened : Opened L D)
     (script : List ScriptLine) (log_only : Bool) (followers : ℕ) (starts actors : List (Actor F)) (closed : Closed L D)
-    (left : LeavesRun log_seen log_gives data_seen data_gives stands opened script log_only followers starts actors
+    (left : LeavesWith log_seen log_gives data_seen data_gives stands opened script log_only archive followers starts actors
     closed) where
   user_at : (i : ℕ) (u : UserState) → get_elem? left.from.runs.seated.users i ≡ maybe.some u → get_elem? (views_of actors) i ≡ maybe.some (model.User u)
   user_at i u at = ap (λ (l : List model.Actor). get_elem? l i) left.from.runs.seated.are

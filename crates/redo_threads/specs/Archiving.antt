@@ -107,6 +107,10 @@ pub record BeginsWithReaders {L D F : Type 0} (shared : Shared L D F) (players :
   pub actors_are : starts_of shared ≡ views_of (crew work players)
   pub readers : EndsWithReaders (opened_of shared).start shared.board.shared.key.archive (crew work players) followers
 
+-- a worker has come to its end, if there is one
+abbrev pub AtItsEnd : {L D A F : Type 0} → Option (Worker L D A F) → Type 0
+AtItsEnd worker = IfSome worker (λ w. AtEnd w.player)
+
 module _ {L D A F : Type 0} (seen : A → Seen) where
   -- the player is the archiver, and this its archive
   abbrev pub KeepsArchive : About L D → Part A → View L D → Player F → Option (Part A) → Type 0
@@ -138,10 +142,6 @@ module _ {L D A F : Type 0} (seen : A → Seen) where
   WorksOn stands table None None = Unit {0}
   WorksOn stands table (Some w) (Some v) = GoesOnWith stands table w.seat w.player w.archive v.seat v.player v.archive
   WorksOn stands table _ _ = ⊥
-
-  -- and has come to its end
-  abbrev pub AtItsEnd : Option (Worker L D A F) → Type 0
-  AtItsEnd worker = IfSome worker (λ w. AtEnd w.player)
 
   -- ONE OF THE PLAYERS IS THE ARCHIVER, and whichever is has this archive beside it.
   pub record MayBeArchived (about : About L D) (before : Part A) (crew : Crew L D F) (part : Part A) : Type 0 where

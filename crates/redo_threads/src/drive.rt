@@ -30,7 +30,7 @@ pub fn drive_in_threads<
     R: Threads + Wait + Sync,
     L: Sectors + Send,
     D: Sectors + Send,
-    A: Sectors + Send,
+    A: Sectors + Drop + Send,
     F: Receiver + Drop + Send,
     G: Gate,
 >(
@@ -53,17 +53,24 @@ pub fn drive_in_threads<
     ensures err { IfErr result (λ error. (error.1 ≡ opened.log.dev) × (error.2 ≡ opened.store.dev) × (error.3 ≡ archive)) }
     ensures owed { IfOk result (λ left. Owes L.seen L.gives D.seen D.gives opened script.now left.0) }
     ensures says { IfOk result (λ left. RunsInThreads opened script.now log_only (views_of left.1.items) left.0) }
-    ensures reads { IfOk result (λ left. archive ≡ None → ReadsToMarks L.seen D.seen opened script.now left.0.closed) }
+    ensures reads { IfOk result (λ left. left.0.closed.lost ≡ None → ReadsToMarks L.seen D.seen opened script.now left.0.closed) }
     ensures cause { IfOk result (λ left. CodeHasCause L.seen D.seen left.0.closed.code opened.log left.0.closed.log opened.store left.0.closed.store left.0.closed.lost) }
     ensures followed { IfOk result (λ left. HaveFollowed L.seen D.seen F.stands_for opened script.now followers.items left.1.items left.0.closed) }
     ensures archived { IfOk result (λ left. HaveArchived L.seen D.seen A.seen opened script.now left.0.closed (views_of left.1.items) archive left.2) }
 {
     let is_archived = archive.is_some();
-    let (shared, players) =
-        match Shared::new(alloc, opened, script, log_only, own_writes, is_archived, followers) {
-            Ok(made) => made,
-            Err((none, log, data)) => return Err((none, log, data, archive)),
-        };
+    let (shared, players) = match Shared::new(
+        alloc,
+        opened,
+        script,
+        log_only,
+        own_writes,
+        is_archived,
+        followers,
+    ) {
+        Ok(made) => made,
+        Err((none, log, data)) => return Err((none, log, data, archive)),
+    };
     let (closed, actors, archive) = run_threads(rt, shared, players, archive, gate);
     let driven = Driven {
         ended: RunEnd::Done,

@@ -91,7 +91,7 @@ fn play_crew<
     R: Threads + Wait + Sync,
     L: Sectors + Send,
     D: Sectors + Send,
-    A: Sectors + Send,
+    A: Sectors + Drop + Send,
     F: Receiver + Drop + Send,
     G: Gate,
 >(
@@ -133,13 +133,14 @@ fn lost_by<A: Sectors>(archive: &Option<ArchPart<A>>) -> Option<DevError>
 }
 
 /// Plays the players of a store that they share, each in a thread of its own where one can be started, until each user has ended
-/// and nobody else holds a turn or a tail; the archiver among them, if the run is archived, with this archive. It takes no memory. With what the run leaves it gives its actors back, with the writer
-/// and the flusher as far as users that wrote for themselves have brought them, and the archive.
+/// and nobody else holds a turn or a tail; the archiver among them, if the run is archived, with this archive. It takes no
+/// memory. With what the run leaves it gives its actors back, with the writer and the flusher as far as users that wrote for
+/// themselves have brought them, and the archive.
 pub fn run_threads<
     R: Threads + Wait + Sync,
     L: Sectors + Send,
     D: Sectors + Send,
-    A: Sectors + Send,
+    A: Sectors + Drop + Send,
     F: Receiver + Drop + Send,
     G: Gate,
 >(
@@ -159,7 +160,7 @@ pub fn run_threads<
         → LeavesWith L.seen L.gives D.seen D.gives F.stands_for (opened_of shared) (shared_script shared) shared.board.shared.key.log_only
         shared.board.shared.key.archive shared.board.shared.key.followers (crew work players.items) result.1.items result.0 }
     ensures owed { IsOwedRun L.seen L.gives D.seen D.gives (opened_of shared) (shared_script shared) (views_of result.1.items) result.0 }
-    ensures reads { archive ≡ None → ReadsToMarks L.seen D.seen (opened_of shared) (shared_script shared) result.0 }
+    ensures reads { result.0.lost ≡ None → ReadsToMarks L.seen D.seen (opened_of shared) (shared_script shared) result.0 }
     ensures reaches { ReachesAll (views_of result.1.items) result.0 }
     ensures cause { CodeHasCause L.seen D.seen result.0.code (opened_of shared).log result.0.log (opened_of shared).store result.0.store result.0.lost }
     ensures archived { HaveArchived L.seen D.seen A.seen (opened_of shared) (shared_script shared) result.0 (views_of result.1.items) archive result.2 }

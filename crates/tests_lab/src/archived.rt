@@ -133,7 +133,10 @@ fn see_restored(
     let is_above = told == format!(in rt.alloc(); "10\nfault fit to {lsn}\n")?;
     if !is_above {
         let wanted = format!(in rt.alloc(); "0\nrestored {} ", groups_up_to(report, lsn))?;
-        assert!(rt; lsn <= flushed && told.starts_with(wanted.as_str()), "{report}{words}: {told}");
+        assert!(rt;
+            lsn <= flushed && told.starts_with(wanted.as_str()),
+            "{report}{words}: {told}"
+        );
     }
     Ok((!is_above, left))
 }
@@ -203,6 +206,7 @@ fn restores_each_prefix_of_a_run(rt: HostRuntime) -> Result<(), Fail> {
 
 /// A drive by turns, and others.
 const BY_TURNS: &str = "run --archive --turns 1";
+
 const OTHERS: [&str; 3] = [
     "run --archive --own-writes --turns 1",
     "run --archive --threads",

@@ -83,17 +83,7 @@ impl Call {
         let Devices { log, store, arch } = devices;
         let words = self.words.as_slice();
         let (source, sink) = (&mut self.source, &mut self.sink);
-        let ended = lab(
-            rt,
-            rt.alloc(),
-            words,
-            source,
-            sink,
-            log,
-            store,
-            arch,
-            gate,
-        );
+        let ended = lab(rt, rt.alloc(), words, source, sink, log, store, arch, gate);
         let fuse = ended.log.fuse();
         self.status = ended.status;
         self.early = fuse.early_calls;

@@ -9,7 +9,7 @@ use Rattle.redo_lab.specs.Runs.{SparedBy, command_with}
 use Rattle.redo_lab.proofs.commands.source_by_turns.Goals as goal
 
 pub by_turns_with-ran-requires-clause-lines : goal.by_turns_with-ran-requires-clause-lines
-by_turns_with-ran-requires-clause-lines g c = 
+by_turns_with-ran-requires-clause-lines g c =
     c.read_lines_are_ranged.ensures c.in-Ok.ensures.script.text c.in-Ok.script c.in-Ok.ensures.script.is_script
 
 pub by_turns_with-ran-requires-clause-few : goal.by_turns_with-ran-requires-clause-few

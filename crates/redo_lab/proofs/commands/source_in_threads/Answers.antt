@@ -9,7 +9,7 @@ use Rattle.redo_lab.specs.Runs.{SparedBy, command_with}
 use Rattle.redo_lab.proofs.commands.source_in_threads.Goals as goal
 
 pub in_threads-ran-requires-clause-lines : goal.in_threads-ran-requires-clause-lines
-in_threads-ran-requires-clause-lines g c = λ κs live. 
+in_threads-ran-requires-clause-lines g c = λ κs live.
     c.read_lines_are_ranged.ensures c.in-Ok.ensures.script.text c.in-Ok.script c.in-Ok.ensures.script.is_script
 
 pub in_threads-ran-requires-clause-few : goal.in_threads-ran-requires-clause-few

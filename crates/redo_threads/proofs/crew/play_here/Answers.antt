@@ -1,21 +1,45 @@
+use Rattle.redo_threads.proofs.Going.{work_still, works_refl, works_trans}
 use Rattle.redo_threads.proofs.Keeping.{keep_refl, keep_seated, keep_trans}
 use Rattle.redo_threads.proofs.crew.play_here.Goals as goal
 
 pub loop-init : goal.loop-init
-loop-init g c = keep_refl g.F.Receiver.stands_for c.args.table.now.table_id c.args.crew.now c.requires
+loop-init g c = record {
+  crew = keep_refl g.F.Receiver.stands_for c.args.table.now.table_id c.args.crew.now c.requires.seated;
+  archiver = works_refl g.F.Receiver.stands_for c.args.table.now.table_id g.A.Sectors.seen c.args.archiver.now
+      c.requires.archiver;
+}
 
-pub returns-in-None-round : goal.returns-in-None-round
-returns-in-None-round g c = keep_trans g.F.Receiver.stands_for c.args.table.now.table_id c.args.crew.now c.loop.crew
-    c.round.new.crew c.loop.invariant c.round.ensures
+pub returns-in-None-either-clause-crew : goal.returns-in-None-either-clause-crew
+returns-in-None-either-clause-crew g c = keep_trans g.F.Receiver.stands_for c.args.table.now.table_id c.args.crew.now c.loop.crew
+    c.round-others.new.crew c.loop.invariant.crew c.round-others.ensures
+
+pub returns-in-None-either-clause-archiver : goal.returns-in-None-either-clause-archiver
+returns-in-None-either-clause-archiver g c = works_trans g.F.Receiver.stands_for c.args.table.now.table_id g.A.Sectors.seen
+    c.args.archiver.now c.loop.archiver c.archiver_round-its.new.archiver c.loop.invariant.archiver
+    c.archiver_round-its.ensures
 
 pub loop-preserved-in-Some-true : goal.loop-preserved-in-Some-true
-loop-preserved-in-Some-true g c = keep_trans g.F.Receiver.stands_for c.args.table.now.table_id c.args.crew.now
-    c.loop.crew c.round.new.crew c.loop.invariant c.round.ensures
+loop-preserved-in-Some-true g c = record {
+  crew = keep_trans g.F.Receiver.stands_for c.args.table.now.table_id c.args.crew.now c.loop.crew
+      c.round-others.new.crew c.loop.invariant.crew c.round-others.ensures;
+  archiver = works_trans g.F.Receiver.stands_for c.args.table.now.table_id g.A.Sectors.seen
+      c.args.archiver.now c.loop.archiver c.archiver_round-its.new.archiver c.loop.invariant.archiver
+      c.archiver_round-its.ensures;
+}
 
 pub loop-preserved : goal.loop-preserved
-loop-preserved g c = keep_trans g.F.Receiver.stands_for c.args.table.now.table_id c.args.crew.now c.loop.crew
-    c.round.new.crew c.loop.invariant c.round.ensures
+loop-preserved g c = record {
+  crew = keep_trans g.F.Receiver.stands_for c.args.table.now.table_id c.args.crew.now c.loop.crew
+      c.round-others.new.crew c.loop.invariant.crew c.round-others.ensures;
+  archiver = works_trans g.F.Receiver.stands_for c.args.table.now.table_id g.A.Sectors.seen
+      c.args.archiver.now c.loop.archiver c.archiver_round-its.new.archiver c.loop.invariant.archiver
+      c.archiver_round-its.ensures;
+}
 
-pub round-requires-after_bounds : goal.round-requires-after_bounds
-round-requires-after_bounds g c κs within =
-    keep_seated g.F.Receiver.stands_for c.args.table.now.table_id c.args.crew.now c.loop.crew c.loop.invariant
+pub round-others-requires-after_bounds : goal.round-others-requires-after_bounds
+round-others-requires-after_bounds g c κs within =
+    keep_seated g.F.Receiver.stands_for c.args.table.now.table_id c.args.crew.now c.loop.crew c.loop.invariant.crew
+
+pub archiver_round-its-requires-after_bounds : goal.archiver_round-its-requires-after_bounds
+archiver_round-its-requires-after_bounds g c κs within = work_still g.F.Receiver.stands_for c.args.table.now.table_id
+    g.A.Sectors.seen c.args.archiver.now c.loop.archiver c.requires.archiver c.loop.invariant.archiver

@@ -19,8 +19,8 @@ index_mut-requires-in-loop-k g c =
     let m = keep_long g.F.Receiver.stands_for c.args.table.now.table_id was c.loop-k.crew count c.loop-k.invariant in
     grind rules
 
-pub stint-requires-after_bounds : goal.stint-requires-after_bounds
-stint-requires-after_bounds g c κs within =
+pub stint-went_on-requires-clause-seat : goal.stint-went_on-requires-clause-seat
+stint-went_on-requires-clause-seat g c κs within =
     let was = c.args.crew.now in
     let count = as_many g.F.Receiver.stands_for c.args.table.now.table_id was.seats.items was.players.items c.requires in
     let m = keep_long g.F.Receiver.stands_for c.args.table.now.table_id was c.loop-k.crew count c.loop-k.invariant in
@@ -28,12 +28,15 @@ stint-requires-after_bounds g c κs within =
     c.index_mut.result.now c.index_mut-in-loop-k.result.now c.loop-k.invariant (grind rules)
     c.index_mut.ensures.value c.index_mut-in-loop-k.ensures.value
 
+pub stint-went_on-requires-clause-archive : goal.stint-went_on-requires-clause-archive
+stint-went_on-requires-clause-archive g c κs within = tt
+
 pub loop-k-preserved : goal.loop-k-preserved
 loop-k-preserved g c =
     let was = c.args.crew.now in
     let count = as_many g.F.Receiver.stands_for c.args.table.now.table_id was.seats.items was.players.items c.requires in
     let m = keep_long g.F.Receiver.stands_for c.args.table.now.table_id was c.loop-k.crew count c.loop-k.invariant in
     keep_set g.F.Receiver.stands_for c.args.table.now.table_id was c.loop-k.crew _ c.loop-k.k
-    c.index_mut.result.now c.stint.new.seat c.index_mut-in-loop-k.result.now c.stint.new.player
+    c.index_mut.result.now c.stint-went_on.new.seat c.index_mut-in-loop-k.result.now c.stint-went_on.new.player
     c.loop-k.invariant (grind rules) c.index_mut.ensures.value c.index_mut-in-loop-k.ensures.value
-    c.stint.ensures refl refl refl refl
+    c.stint-went_on.ensures.player refl refl refl refl

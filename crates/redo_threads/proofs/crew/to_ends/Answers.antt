@@ -24,8 +24,8 @@ index_mut-requires-in-loop-number g c =
     let count = as_many g.F.Receiver.stands_for c.args.table.now.table_id was.seats.items was.players.items c.requires in
     let m = keep_long g.F.Receiver.stands_for c.args.table.now.table_id was c.loop-number.crew count on in grind rules
 
-pub work-requires-after_bounds : goal.work-requires-after_bounds
-work-requires-after_bounds g c κs within =
+pub work-requires-clause-seat : goal.work-requires-clause-seat
+work-requires-clause-seat g c κs within =
     let was = c.args.crew.now in
     let on = c.loop-number.invariant.goes_on in
     let count = as_many g.F.Receiver.stands_for c.args.table.now.table_id was.seats.items was.players.items c.requires in
@@ -33,6 +33,9 @@ work-requires-after_bounds g c κs within =
     sits_at g.F.Receiver.stands_for c.args.table.now.table_id was c.loop-number.crew c.loop-number.number
     c.index_mut.result.now c.index_mut-in-loop-number.result.now on (grind rules)
     c.index_mut.ensures.value c.index_mut-in-loop-number.ensures.value
+
+pub work-requires-clause-archive : goal.work-requires-clause-archive
+work-requires-clause-archive g c κs within = tt
 
 pub loop-number-preserved : goal.loop-number-preserved
 loop-number-preserved g c =
@@ -43,7 +46,7 @@ loop-number-preserved g c =
     record {
       goes_on = keep_set g.F.Receiver.stands_for c.args.table.now.table_id was c.loop-number.crew _ c.loop-number.number
           c.index_mut.result.now c.work.new.seat c.index_mut-in-loop-number.result.now c.work.new.player on (grind rules)
-          c.index_mut.ensures.value c.index_mut-in-loop-number.ensures.value c.work.ensures.goes_on refl refl refl refl;
+          c.index_mut.ensures.value c.index_mut-in-loop-number.ensures.value c.work.ensures.goes_on.player refl refl refl refl;
       ended = one_more c.loop-number.crew.players.items c.loop-number.number c.work.new.player
           c.loop-number.invariant.ended c.work.ensures.at_end;
     }

@@ -1,7 +1,8 @@
 use Rattle.std.proofs.Common.{◌-◌}
-use Rattle.redo_threads.proofs.Going.{goes_promised}
+use Rattle.redo_threads.proofs.Going.{with_promised}
 use Rattle.redo_threads.proofs.Keeping.{as_many, has_place, has_place_aside, keep_aside, keep_back}
 use Rattle.redo_threads.proofs.Keeping.{keep_seated, keep_trans, rest_seated, taken_sits}
+use Rattle.redo_threads.proofs.Workers.{worker as sitting}
 use Rattle.redo_threads.proofs.starting.+start.Goals as goal
 
 pub take_out-worker-requires-clause-seated : goal.take_out-worker-requires-clause-seated
@@ -9,58 +10,58 @@ take_out-worker-requires-clause-seated g t c =
     as_many g.F.Receiver.stands_for c.args.table.now.table_id c.args.crew.seats.items c.args.crew.players.items
     c.requires.seated
 
-pub start_one-requires-after_bounds : goal.start_one-requires-after_bounds
-start_one-requires-after_bounds g t c κs within = let rest = c.take_out-worker.new.self in
+pub start_one-requires-clause-seat : goal.start_one-requires-clause-seat
+start_one-requires-clause-seat g t c κs within = let rest = c.take_out-worker.new.self in
     taken_sits g.F.Receiver.stands_for c.args.table.now.table_id c.args.crew rest (c.args.left - 1)
-    c.take_out-worker.result
-    c.requires.seated c.take_out-worker.ensures
+    (sitting c.take_out-worker.result.seat c.take_out-worker.result.player)
+    c.requires.seated c.take_out-worker.ensures.out
 
 pub start-crew-requires-clause-seated : goal.start-crew-requires-clause-seated
 start-crew-requires-clause-seated g t c κs within = let rest = c.take_out-worker.new.self in
     rest_seated g.F.Receiver.stands_for c.args.table.now.table_id c.args.crew rest (c.args.left - 1)
-    c.take_out-worker.result
-    c.requires.seated c.take_out-worker.ensures
+    (sitting c.take_out-worker.result.seat c.take_out-worker.result.player)
+    c.requires.seated c.take_out-worker.ensures.out
 
 pub put_back-requires : goal.put_back-requires
 put_back-requires g t c = let rest = c.take_out-worker.new.self in
     has_place g.F.Receiver.stands_for c.args.table.now.table_id c.args.crew rest (c.args.left - 1)
-    c.take_out-worker.result
-    c.requires.seated c.take_out-worker.ensures c.start-crew.result c.start-crew.ensures
+    (sitting c.take_out-worker.result.seat c.take_out-worker.result.player)
+    c.requires.seated c.take_out-worker.ensures.out c.start-crew.result.0 c.start-crew.ensures.crew
 
 pub put_back-requires-in-Err : goal.put_back-requires-in-Err
 put_back-requires-in-Err g t c = let rest = c.take_out-worker.new.self in
     has_place_aside g.F.Receiver.stands_for c.args.table.now.table_id c.args.crew rest (c.args.left - 1)
-    c.take_out-worker.result
-    c.requires.seated c.take_out-worker.ensures
+    (sitting c.take_out-worker.result.seat c.take_out-worker.result.player)
+    c.requires.seated c.take_out-worker.ensures.out
 
 pub start-requires-clause-seated : goal.start-requires-clause-seated
 start-requires-clause-seated g t c κs within = let rest = c.take_out-worker.new.self in
     keep_seated g.F.Receiver.stands_for c.args.table.now.table_id c.args.crew c.put_back-in-Err.new.self
     (keep_aside g.F.Receiver.stands_for c.args.table.now.table_id c.args.crew rest (c.args.left - 1)
-    c.take_out-worker.result c.requires.seated c.take_out-worker.ensures c.put_back-in-Err.new.self c.in-Err.worker
-    c.in-Err.ensures.err c.put_back-in-Err.ensures)
+    (sitting c.take_out-worker.result.seat c.take_out-worker.result.player) c.requires.seated c.take_out-worker.ensures.out c.put_back-in-Err.new.self
+    (sitting c.in-Err.worker.seat c.in-Err.worker.player) c.in-Err.ensures.err.player c.put_back-in-Err.ensures.back)
 
-pub returns-in-Ok : goal.returns-in-Ok
-returns-in-Ok g t c =
+pub returns-in-Ok-clause-crew : goal.returns-in-Ok-clause-crew
+returns-in-Ok-clause-crew g t c =
     let rest = c.take_out-worker.new.self in
+    let w = c.take_out-worker.result in
     let sits = taken_sits g.F.Receiver.stands_for c.args.table.now.table_id c.args.crew rest (c.args.left - 1)
-    c.take_out-worker.result
-    c.requires.seated c.take_out-worker.ensures in
+    (sitting w.seat w.player) c.requires.seated c.take_out-worker.ensures.out in
+    let on = with_promised g.F.Receiver.stands_for c.args.table.now.table_id g.A.Sectors.seen c.in-Ok.handle.promise.0.value w c.join.result
+    c.in-Ok.ensures.ok sits c.join.ensures in
     keep_back g.F.Receiver.stands_for c.args.table.now.table_id c.args.crew rest (c.args.left - 1)
-    c.take_out-worker.result c.requires.seated
-    c.take_out-worker.ensures c.start-crew.result c.put_back.new.self c.join.result c.start-crew.ensures
-    (goes_promised g.F.Receiver.stands_for c.args.table.now.table_id c.in-Ok.handle.promise.0.value
-    c.take_out-worker.result c.join.result
-    c.in-Ok.ensures.ok sits c.join.ensures)
-    c.put_back.ensures
+    (sitting w.seat w.player) c.requires.seated
+    c.take_out-worker.ensures.out c.start-crew.result.0 c.put_back.new.self
+    (sitting c.join.result.seat c.join.result.player) c.start-crew.ensures.crew on.player
+    c.put_back.ensures.back
 
-pub returns-in-Err : goal.returns-in-Err
-returns-in-Err g t c =
+pub returns-in-Err-clause-crew : goal.returns-in-Err-clause-crew
+returns-in-Err-clause-crew g t c =
     let rest = c.take_out-worker.new.self in
     let back = c.put_back-in-Err.new.self in
-    keep_trans g.F.Receiver.stands_for c.args.table.now.table_id c.args.crew back c.start.result
+    keep_trans g.F.Receiver.stands_for c.args.table.now.table_id c.args.crew back c.start.result.0
     (keep_aside g.F.Receiver.stands_for c.args.table.now.table_id c.args.crew rest (c.args.left - 1)
-    c.take_out-worker.result
-    c.requires.seated c.take_out-worker.ensures back c.in-Err.worker
-    c.in-Err.ensures.err c.put_back-in-Err.ensures)
-    c.start.ensures
+    (sitting c.take_out-worker.result.seat c.take_out-worker.result.player)
+    c.requires.seated c.take_out-worker.ensures.out back (sitting c.in-Err.worker.seat c.in-Err.worker.player)
+    c.in-Err.ensures.err.player c.put_back-in-Err.ensures.back)
+    c.start.ensures.crew

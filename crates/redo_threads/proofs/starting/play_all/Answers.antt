@@ -1,4 +1,5 @@
 use Rattle.std.proofs.Common.{rules}
+use Rattle.redo_threads.proofs.Going.{work_still, works_trans}
 use Rattle.redo_threads.proofs.Keeping.{keep_seated, keep_trans}
 use Rattle.redo_threads.proofs.starting.play_all.Goals as goal
 
@@ -6,26 +7,39 @@ pub scoped-played-requires : goal.scoped-played-requires
 scoped-played-requires g c =
     let l = c.type_bounds.send-L in
     let d = c.type_bounds.send-D in
+    let a = c.type_bounds.send-A in
     let f = c.type_bounds.send-F in
     record {
-      at = λ a. (
-        c.requires,
+      at = λ at. (
+        c.requires.seated,
         (
-          search (rules, l),
-          search (rules, d),
-          search (rules, f),
-          record { shared = c.type_bounds.sync-R.shared },
-          record { shared = c.type_bounds.sync-G.shared },
+          c.requires.archiver,
+          (
+            search (rules, l),
+            search (rules, d),
+            search (rules, a),
+            search (rules, f),
+            record { shared = c.type_bounds.sync-R.shared },
+            record { shared = c.type_bounds.sync-G.shared },
+          ),
         ),
       );
     }
 
 pub to_ends-requires-after_bounds : goal.to_ends-requires-after_bounds
 to_ends-requires-after_bounds g c κs within =
-    keep_seated g.F.Receiver.stands_for c.args.table.now.table_id c.args.crew c.scoped-played.result
-    c.scoped-played.ensures.1
+    keep_seated g.F.Receiver.stands_for c.args.table.now.table_id c.args.crew c.scoped-played.result.0
+    c.scoped-played.ensures.1.0
+
+pub archiver_to_end-requires-after_bounds : goal.archiver_to_end-requires-after_bounds
+archiver_to_end-requires-after_bounds g c κs within = work_still g.F.Receiver.stands_for c.args.table.now.table_id g.A.Sectors.seen c.args.archiver
+    c.scoped-played.result.1 c.requires.archiver c.scoped-played.ensures.1.1
 
 pub returns-clause-goes_on : goal.returns-clause-goes_on
 returns-clause-goes_on g c =
-    keep_trans g.F.Receiver.stands_for c.args.table.now.table_id c.args.crew c.scoped-played.result c.to_ends.new.crew
-    c.scoped-played.ensures.1 c.to_ends.ensures.goes_on
+    keep_trans g.F.Receiver.stands_for c.args.table.now.table_id c.args.crew c.scoped-played.result.0 c.to_ends.new.crew
+    c.scoped-played.ensures.1.0 c.to_ends.ensures.goes_on
+
+pub returns-clause-archiver : goal.returns-clause-archiver
+returns-clause-archiver g c = works_trans g.F.Receiver.stands_for c.args.table.now.table_id g.A.Sectors.seen c.args.archiver c.scoped-played.result.1
+    c.archiver_to_end.new.archiver c.scoped-played.ensures.1.1 c.archiver_to_end.ensures.goes_on

@@ -1,12 +1,11 @@
-use Rattle.std.proofs.Common.{subst, sym}
-use Rattle.redo_ownrule.specs.Players.{actor_of}
-use Rattle.redo_rule.specs.Mine.{IsSameSeat}
+use Rattle.redo_threads.proofs.Going.{with_asked, with_trans}
 use Rattle.redo_threads.proofs.work.turn.Goals as goal
 
 pub returns-clause-goes_on : goal.returns-clause-goes_on
-returns-clause-goes_on g c = record {
-  seat = c.ask-now.ensures.seat;
-  same = subst (λ m. IsSameSeat g.F.Receiver.stands_for c.args.seat.now.me.0 (actor_of c.args.player.now) m.0
-      (actor_of c.play-step.new.player)) (sym c.ask-now.ensures.same) c.play-step.ensures.same;
-  player = c.play-step.ensures.player;
-}
+returns-clause-goes_on g c =
+    let played = c.play_with-step.new in
+    with_trans g.F.Receiver.stands_for c.args.table.now.table_id g.A.Sectors.seen c.args.seat.now played.seat
+    c.ask-now.new.seat c.args.player.now played.player played.player c.args.archive.now played.archive played.archive
+    c.play_with-step.ensures
+    (with_asked g.F.Receiver.stands_for c.args.table.now.table_id g.A.Sectors.seen played.seat c.ask-now.new.seat
+    played.player played.archive c.ask-now.ensures.seat c.ask-now.ensures.same)

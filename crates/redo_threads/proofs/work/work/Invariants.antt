@@ -1,9 +1,10 @@
 use Rattle.redo_ownrule.specs.Playing.{PlayerAsks}
-use Rattle.redo_threads.specs.Working.{GoesOn}
+use Rattle.redo_threads.specs.Archiving.{GoesOnWith}
 use Rattle.redo_threads.proofs.work.work.Given as goal
 
 abbrev pub invariant-loop : goal.invariant-loop
 invariant-loop g l = record {
-  goes_on : GoesOn g.F.Receiver.stands_for l.table.table_id l.fn.seat l.fn.player l.seat l.player;
+  goes_on : GoesOnWith g.A.Sectors.seen g.F.Receiver.stands_for l.table.table_id l.fn.seat l.fn.player l.fn.archive
+      l.seat l.player l.archive;
   asks : PlayerAsks l.seat.me.0 l.player l.op;
 }

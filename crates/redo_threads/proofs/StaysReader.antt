@@ -1,6 +1,6 @@
 -- The archiver of a run stays the archiver, and nobody else becomes one.
-use Rattle.std.proofs.Common.{Bool, List, None, Option, Some, [], ap, false, is_some, map, refl, subst, suc, sym, true, zero, ℕ}
-use Rattle.std.proofs.Common.{inl, inr, ⊎_elim, ◌++◌, ◌==◌, ◌∙◌, ◌∷◌, ◌≡◌, ◌⊎◌}
+use Rattle.std.proofs.Common.{Bool, List, None, Option, Some, [], ap, false, is_some, map, refl, suc, sym, true, zero, ℕ}
+use Rattle.std.proofs.Common.{inl, inr, ◌==◌, ◌∙◌, ◌∷◌, ◌≡◌, ◌⊎◌}
 use lib.ListN.{get_elem?}
 use mathlib.Core.Option as maybe
 use Rattle.model_core.specs.Actors as model
@@ -11,7 +11,6 @@ use Rattle.redo_drive.specs.Receiving.{follower_of, IsSameFollower}
 use Rattle.redo_drive.specs.Views.{view_of}
 use Rattle.redo_drive.specs.declared.actor.Actor.{Actor}
 use Rattle.redo_drive.specs.declared.actor.Actor.TheVariants as own
-use Rattle.redo_follow.specs.Handing.{Following}
 use Rattle.redo_ownrule.proofs.Placed.{alone}
 use Rattle.redo_ownrule.specs.Players.{actor_of, crew, IsSamePlayer, place, place_behind}
 use Rattle.redo_ownrule.specs.declared.player.Player.{Player}
@@ -24,7 +23,7 @@ pub record Was {R : Type 0} (a : Actor R) : Type 0 where
   pub is : view_of a ≡ model.Reader state
   pub kind : (archives state ≡ true) ⊎ (◌≡◌ {A = Actor R} a (own.Archiver state))
 
-one_state : (x y : ReaderState) → model.Reader x ≡ model.Reader y → ◌≡◌ {A = ReaderState} x y
+pub one_state : (x y : ReaderState) → model.Reader x ≡ model.Reader y → ◌≡◌ {A = ReaderState} x y
 one_state x y e = cc
 
 module _ {R : Type 0} where
