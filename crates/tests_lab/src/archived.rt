@@ -119,8 +119,8 @@ const LINES: &str = "1 f s 3 38 (07*489) / 1 f b1 4 100 7 / 1 w s 5 38 (08*489) 
 /// The picks that keep no write, every other write, and all of them.
 const PICKS: [u64; 3] = [0, 6_148_914_691_236_517_205, 18_446_744_073_709_551_615];
 
-/// Sees what is restored for this lsn: just the groups of the report that end at or below it, or nothing, since it is above the mark
-/// of the archive. Nothing is where it is above FLUSHED. It tells if something is.
+/// Sees what is restored for this lsn: just the groups of the report that end at or below it; or nothing, since it is above the
+/// mark of the archive, as it is where it is above FLUSHED. It tells if something is.
 fn see_restored(
     rt: &(impl Abort + AllocGlobal + Threads + Wait + Sync),
     report: &str,
@@ -130,18 +130,15 @@ fn see_restored(
 ) -> Result<(bool, MemDevices), Fail> {
     let words = format!(in rt.alloc(); "restore --to {lsn}")?;
     let (told, left) = call_on(rt, &words, "", devices)?;
-    let is_above = told == format!(in rt.alloc(); "10\nfault fit to {lsn}\n")?;
-    if !is_above {
-        let wanted = format!(in rt.alloc(); "0\nrestored {} ", groups_up_to(report, lsn))?;
-        assert!(rt;
-            lsn <= flushed && told.starts_with(wanted.as_str()),
-            "{report}{words}: {told}"
-        );
-    }
-    Ok((!is_above, left))
+    let groups = format!(in rt.alloc(); "0\nrestored {} ", groups_up_to(report, lsn))?;
+    let above = format!(in rt.alloc(); "10\nfault fit to {lsn}\n")?;
+    let is_there = lsn <= flushed && told.starts_with(groups.as_str());
+    assert!(rt; is_there || told == above, "{report}{words}: {told}");
+    Ok((is_there, left))
 }
 
-/// Sees what is restored of the archive of a reported run, where it starts and at the end of each group; whether something is for FLUSHED.
+/// Sees what is restored of the archive of a reported run, where it starts and at the end of each group; whether something is for
+/// FLUSHED.
 fn see_archive(
     rt: &(impl Abort + AllocGlobal + Threads + Wait + Sync),
     report: &str,
@@ -150,22 +147,23 @@ fn see_archive(
     let Some((flushed, _)) = marks_of(report) else {
         return Err(Fail::from("no run is reported"));
     };
-    let (mut is_restored, mut left) = see_restored(rt, report, flushed, 8204, devices)?;
-    assert!(rt; is_restored, "{report}");
-    let mut mark = 8204;
+    let (is_begun, mut left) = see_restored(rt, report, flushed, 8204, devices)?;
+    let mut mark = if is_begun { 8204 } else { 0 };
     for line in report.lines() {
         if line.starts_with("g ") {
             let end = number(line, 2);
             let (is_there, devices) = see_restored(rt, report, flushed, end, left)?;
             left = devices;
-            assert!(rt; is_restored || !is_there, "{report}");
-            is_restored = is_there;
             if is_there {
                 mark = end;
             }
         }
     }
-    Ok(mark == flushed)
+    if is_begun {
+        Ok(mark == flushed)
+    } else {
+        Err(Fail::from("the archive isn't there"))
+    }
 }
 
 /// Runs the three lines, archived, on devices of this name: the report, and the devices after it.
@@ -207,10 +205,9 @@ fn restores_each_prefix_of_a_run(rt: HostRuntime) -> Result<(), Fail> {
 /// A drive by turns, and others.
 const BY_TURNS: &str = "run --archive --turns 1";
 
-const OTHERS: [&str; 3] = [
+const OTHERS: [&str; 2] = [
     "run --archive --own-writes --turns 1",
     "run --archive --threads",
-    "run --archive --threads --own-writes",
 ];
 
 /// Sees to the archives of runs of which a device of this name fails a call, each alone, up to the last one that a run makes: that
@@ -226,17 +223,17 @@ fn see_failing(
     for call in 0..200u64 {
         let name = format!(in rt.alloc(); "{device} fails {call}")?;
         let (report, mut left) = run_on(rt, words, &name)?;
-        if report.starts_with("0\n") {
-            // formatting and opening, or the archive's beginning, make more calls than these
-            assert!(rt; call > 3, "{words}, {name}: {report}");
+        // formatting and opening, or the archive's beginning, make more calls than these
+        if call > 3 && report.starts_with("0\n") {
             return Ok(());
         }
-        assert!(rt; report.starts_with(status), "{words}, {name}: {report}");
+        let mut is_so = report.starts_with(status);
         if marks_of(&report).is_some() {
             left.arch.crash(pick);
             let is_whole = see_archive(rt, &report, left)?;
-            assert!(rt; is_whole || !all, "{words}, {name}: {report}");
+            is_so = is_so && (is_whole || !all);
         }
+        assert!(rt; is_so, "{words}, {name}: {report}");
     }
     Err(Fail::from("no call comes behind all others"))
 }
