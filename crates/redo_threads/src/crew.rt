@@ -132,14 +132,7 @@ fn archiver_round<L: Sectors, D: Sectors, A: Sectors, F: Receiver, G: Gate>(
 }
 
 /// Plays players up to their ends, each until it waits, in turn. It waits itself only where none of them has gone on.
-pub(crate) fn play_here<
-    R: Wait,
-    L: Sectors,
-    D: Sectors,
-    A: Sectors + Drop,
-    F: Receiver,
-    G: Gate,
->(
+pub(crate) fn play_here<R: Wait, L: Sectors, D: Sectors, A: Sectors + Drop, F: Receiver, G: Gate>(
     rt: &R,
     table: &Ring<L, D>,
     bells: &Bells,
@@ -172,14 +165,7 @@ pub(crate) fn play_here<
 }
 
 /// Lets each player play up to its end, at which it stands already where it was played in a thread or in turn.
-pub(crate) fn to_ends<
-    R: Wait,
-    L: Sectors,
-    D: Sectors,
-    A: Sectors + Drop,
-    F: Receiver,
-    G: Gate,
->(
+pub(crate) fn to_ends<R: Wait, L: Sectors, D: Sectors, A: Sectors + Drop, F: Receiver, G: Gate>(
     rt: &R,
     table: &Ring<L, D>,
     bells: &Bells,

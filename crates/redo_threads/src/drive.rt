@@ -59,11 +59,18 @@ pub fn drive_in_threads<
     ensures archived { IfOk result (λ left. HaveArchived L.seen D.seen A.seen opened script.now left.0.closed (views_of left.1.items) archive left.2) }
 {
     let is_archived = archive.is_some();
-    let (shared, players) =
-        match Shared::new(alloc, opened, script, log_only, own_writes, is_archived, followers) {
-            Ok(made) => made,
-            Err((none, log, data)) => return Err((none, log, data, archive)),
-        };
+    let (shared, players) = match Shared::new(
+        alloc,
+        opened,
+        script,
+        log_only,
+        own_writes,
+        is_archived,
+        followers,
+    ) {
+        Ok(made) => made,
+        Err((none, log, data)) => return Err((none, log, data, archive)),
+    };
     let (closed, actors, archive) = run_threads(rt, shared, players, archive, gate);
     let driven = Driven {
         ended: RunEnd::Done,

@@ -26,8 +26,7 @@ pub(crate) struct FromWorker<L: Sectors, D: Sectors, A: Sectors, F: Receiver>(
 );
 
 impl<L: Sectors, D: Sectors, A: Sectors, F: Receiver> Promise<Worker<L, D, A, F>>
-    for FromWorker<L, D, A, F>
-{
+    for FromWorker<L, D, A, F> {
     ghost use Rattle.redo_threads.specs.Archiving.{GoesOnWith};
 
     ghost kept_by = { λ p r. GoesOnWith A.seen F.stands_for p.0.value.seat.table_id p.0.value.seat p.0.value.player p.0.value.archive r.seat r.player r.archive };
@@ -146,14 +145,17 @@ fn start<
     let worker = crew.take_out::<A>(number, None);
     match start_one(scope, rt, table, bells, refused, gate, number, worker) {
         Ok(handle) => {
-            let (mut crew, archiver) =
-                start(scope, rt, table, bells, refused, gate, number, crew, archiver);
+            let (mut crew, archiver) = start(
+                scope, rt, table, bells, refused, gate, number, crew, archiver,
+            );
             crew.put_back(number, handle.join(rt));
             (crew, archiver)
         }
         Err(worker) => {
             crew.put_back(number, worker);
-            start(scope, rt, table, bells, refused, gate, number, crew, archiver)
+            start(
+                scope, rt, table, bells, refused, gate, number, crew, archiver,
+            )
         }
     }
 }
@@ -189,8 +191,9 @@ fn start_all<
     };
     match start_one(scope, rt, table, bells, refused, gate, left, worker) {
         Ok(handle) => {
-            let (crew, _none) =
-                start::<E, R, L, D, A, F, G>(scope, rt, table, bells, refused, gate, left, crew, None);
+            let (crew, _none) = start::<E, R, L, D, A, F, G>(
+                scope, rt, table, bells, refused, gate, left, crew, None,
+            );
             (crew, Some(handle.join(rt)))
         }
         Err(worker) => start(

@@ -133,7 +133,6 @@ returns-clause-reads g c none =
     (crew end.work c.args.players.items) c.finish-closed.result.1.items c.finish-closed.result.0)
     (c.requires.is_archived ∙ ap is_some none) (returns-clause-leaves g c end.work works)) c.requires.unseated.ready.may c.finish-closed.ensures.rest
 
-
 -- the archive as it begins, and what it has met
 pub play_crew-crew-requires-clause-archive : goal.play_crew-crew-requires-clause-archive
 play_crew-crew-requires-clause-archive g c κs within = by c.args.archive refl
