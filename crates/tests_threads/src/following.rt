@@ -58,17 +58,18 @@ fn left_by<R: Threads + Wait + Sync>(
 ) -> Result<(Closed<Device, Device>, Vec<Actor<Spans>>), Fail> {
     let Ready { opened, script } = make_ready(alloc, text.as_bytes(), way)?;
     let followers = two_followers(alloc, opened.start, groups)?;
-    match drive_in_threads(
+    match drive_in_threads::<R, Device, Device, Device, Spans, Watch>(
         rt,
         alloc,
         opened,
         &script,
         way.log_only,
         way.own_writes,
+        None,
         followers,
         watch,
     ) {
-        Ok((Driven { closed, .. }, actors)) => Ok((closed, actors)),
+        Ok((Driven { closed, .. }, actors, _)) => Ok((closed, actors)),
         Err(_) => Err(Fail::from("no memory")),
     }
 }

@@ -20,17 +20,18 @@ pub fn left_by<R: Threads + Wait + Sync, G: Gate>(
     gate: &G,
 ) -> Result<Closed<Device, Device>, Fail> {
     let Ready { opened, script } = make_ready(alloc, text.as_bytes(), way)?;
-    match drive_in_threads(
+    match drive_in_threads::<R, Device, Device, Device, Tally, G>(
         rt,
         alloc,
         opened,
         &script,
         way.log_only,
         way.own_writes,
+        None,
         no_followers(alloc),
         gate,
     ) {
-        Ok((Driven { closed, .. }, _)) => Ok(closed),
+        Ok((Driven { closed, .. }, _, _)) => Ok(closed),
         Err(_) => Err(Fail::from("no memory")),
     }
 }
