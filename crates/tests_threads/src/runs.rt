@@ -4,6 +4,7 @@ use crate::text::{lines_of, user_lines};
 use crate::told::{see_told, told_of};
 use crate::watch::{NOBODY, Watch};
 use redo_drive::{Closed, Driven};
+use redo_follow::Tally;
 use redo_threads::{Gate, drive_in_threads};
 use std::alloc::Global;
 use std::process::Abort;
