@@ -578,6 +578,11 @@ impl<'a> History<'a> {
             fate != Fate::Killed || old.is_none() || store.end <= known.end,
             || "a killed call has taken what was there before".to_string(),
         )?;
+        let extent = Reading::of(&self.files.contents[ARCHIVE]).extent;
+        let is_logged = extent.is_none_or(|extent| extent.mark <= known.end);
+        ensure(archiving != Archiving::Begun || is_logged, || {
+            "the archive holds what the log doesn't".to_string()
+        })?;
         let dropped = report.entries.iter().filter(|entry| known.end < entry.end);
         self.tally.dropped += dropped.count() as u64;
         let ring = store.shape.ring();
