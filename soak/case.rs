@@ -34,8 +34,10 @@ pub struct Tally {
     /// Runs with followers, and those whose users write for themselves.
     pub followed: u64,
     pub own: u64,
-    /// Runs that are archived, and what was restored of them.
+    /// Runs that are archived, those of them in threads, those whose users write for themselves, and what was restored.
     pub archived: u64,
+    pub archived_threads: u64,
+    pub archived_own: u64,
     pub restored: u64,
     pub chains: u64,
     /// How often a log has gone round.
@@ -55,6 +57,8 @@ impl Tally {
         self.followed += other.followed;
         self.own += other.own;
         self.archived += other.archived;
+        self.archived_threads += other.archived_threads;
+        self.archived_own += other.archived_own;
         self.restored += other.restored;
         self.chains += other.chains;
         self.rounds += other.rounds;
@@ -74,7 +78,7 @@ pub struct Case<'a> {
     /// Whether each run of a drawn script has followers, and users that write for themselves.
     pub all_followers: bool,
     pub all_own: bool,
-    /// Whether each run in files by turns is archived.
+    /// Whether each run in files is archived.
     pub all_archive: bool,
     pub draws: Draws,
     /// What these alone are drawn from, so that the draws of all else stay as they are without them.
@@ -141,7 +145,7 @@ impl Case<'_> {
     fn call_run(&mut self, options: &Options, text: &str, is_wide: bool) -> Result<Call, String> {
         let place = options
             .threads
-            .then(|| Place::draw(&mut self.draws, options.followers));
+            .then(|| Place::draw(&mut self.draws, options.others()));
         let mut variables = Vec::new();
         let mut kind = options.kind(is_wide);
         if let Some(place) = place {
@@ -173,10 +177,10 @@ impl Case<'_> {
         }
         let followers = draw_followers(&mut self.beside, self.all_followers);
         let own_writes = draw_own_writes(&mut self.beside, self.all_own, threads);
-        let archive = draw_archive(&mut self.beside, self.all_archive, files && !threads);
+        let archive = files && draw_archive(&mut self.beside, self.all_archive);
         let mut options = Options {
             followers,
-            own_writes: own_writes && !archive,
+            own_writes,
             ..Options::draw(&mut self.draws, files, threads, script.len())
         };
         if archive {
@@ -195,7 +199,7 @@ impl Case<'_> {
         let call = self.call_run(&options, &text, is_wide)?;
         let left = self.check_call(store, &script, &options, &call)?;
         if archive && !matches!(left, Left::Unrun) {
-            self.check_archive(store, &script, &call)?;
+            self.check_archive(store, &script, &options, &call)?;
         } else {
             self.archive_stays(before)?;
         }
@@ -220,9 +224,17 @@ impl Case<'_> {
     }
 
     /// What is restored of a run that came to its end, or that spent its turns.
-    fn check_archive(&mut self, store: &Store, script: &[Line], call: &Call) -> Result<(), String> {
+    fn check_archive(
+        &mut self,
+        store: &Store,
+        script: &[Line],
+        options: &Options,
+        call: &Call,
+    ) -> Result<(), String> {
         let file = self.archive_file().ok_or("there is no archive's file")?;
         self.tally.archived += 1;
+        self.tally.archived_threads += u64::from(options.threads);
+        self.tally.archived_own += u64::from(options.own_writes);
         let answers = if call.status == 0 {
             let report = Report::of(&call.printed)?;
             let archived = Archived::of(store, script, &report).ok_or("the run has no start")?;

@@ -54,7 +54,7 @@ pub struct History<'a> {
     store: Option<Store>,
     /// What the archive has to hold. Nothing where there is none, or one that wasn't begun to the end.
     archived: Option<Archived>,
-    /// Whether each run is archived that may be.
+    /// Whether each run is archived.
     all_archive: bool,
     since: Since,
     /// Whether half of its scripts are long ones, which bring a small log round.
@@ -554,7 +554,7 @@ impl<'a> History<'a> {
                 true => archived.told(&report),
                 false => archived,
             });
-            self.count_archive(&archiving, fate);
+            self.count_archive(&archiving, fate, &options);
         }
         self.learn_mark(first + kept);
         self.since.add_run(Run {
@@ -578,6 +578,11 @@ impl<'a> History<'a> {
             fate != Fate::Killed || old.is_none() || store.end <= known.end,
             || "a killed call has taken what was there before".to_string(),
         )?;
+        let extent = Reading::of(&self.files.contents[ARCHIVE]).extent;
+        let is_logged = extent.is_none_or(|extent| extent.mark <= known.end);
+        ensure(archiving != Archiving::Begun || is_logged, || {
+            "the archive holds what the log doesn't".to_string()
+        })?;
         let dropped = report.entries.iter().filter(|entry| known.end < entry.end);
         self.tally.dropped += dropped.count() as u64;
         let ring = store.shape.ring();
@@ -598,8 +603,10 @@ impl<'a> History<'a> {
         }
     }
 
-    fn count_archive(&mut self, archiving: &Archiving, fate: Fate) {
+    fn count_archive(&mut self, archiving: &Archiving, fate: Fate, options: &Options) {
         self.tally.archived += 1;
+        self.tally.archived_threads += u64::from(options.threads);
+        self.tally.archived_own += u64::from(options.own_writes);
         let is_cut = !fate.is_told();
         self.tally.archives_cut += u64::from(is_cut);
         self.tally.unbegun += u64::from(*archiving == Archiving::Unbegun);
@@ -653,7 +660,7 @@ impl<'a> History<'a> {
         let start = start_after(store.end);
         let followers = draw_followers(&mut self.beside, false);
         let own_writes = draw_own_writes(&mut self.beside, false, script.threads);
-        let archive = draw_archive(&mut self.beside, self.all_archive, !script.threads);
+        let archive = draw_archive(&mut self.beside, self.all_archive);
         let options = Options {
             crashes,
             files: true,
@@ -666,7 +673,7 @@ impl<'a> History<'a> {
             stop_data: (stops && which % 3 == 0).then(|| self.draw_stop(DATA, is_older)),
             pick: None,
             followers,
-            own_writes: own_writes && !archive,
+            own_writes,
             archive: false,
         };
         if archive { options.archived() } else { options }

@@ -166,7 +166,7 @@ fn main() {
     }
     let tally = soak.tally.lock().unwrap();
     println!(
-        "{runs} runs, {} calls, {} groups, {} crashes, {} stops that hit, {} runs in threads, {} of them on one or two processors and {} with refused threads, {} runs with followers, {} of users that write for themselves, {} that are archived with {} restored lsns, {} chains, {} rounds of a log, {} refused, {failures} failures, {} seconds",
+        "{runs} runs, {} calls, {} groups, {} crashes, {} stops that hit, {} runs in threads, {} of them on one or two processors and {} with refused threads, {} runs with followers, {} of users that write for themselves, {} that are archived, {} of them in threads and {} of users that write for themselves, with {} restored lsns, {} chains, {} rounds of a log, {} refused, {failures} failures, {} seconds",
         tally.calls,
         tally.groups,
         tally.crashes,
@@ -177,6 +177,8 @@ fn main() {
         tally.followed,
         tally.own,
         tally.archived,
+        tally.archived_threads,
+        tally.archived_own,
         tally.restored,
         tally.chains,
         tally.rounds,

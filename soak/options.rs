@@ -76,6 +76,11 @@ impl Options {
         }
     }
 
+    /// How many actors it has beside those of each run: followers, and the archiver.
+    pub fn others(&self) -> u64 {
+        self.followers + u64::from(self.archive)
+    }
+
     pub fn stops(&self) -> bool {
         self.stop_log.is_some() || self.stop_data.is_some()
     }
@@ -150,10 +155,10 @@ pub fn draw_own_writes(draws: &mut Draws, always: bool, threads: bool) -> bool {
     always || drawn
 }
 
-/// Whether a run is archived, where it may be: in each draw or in one of three.
-pub fn draw_archive(draws: &mut Draws, always: bool, may_be: bool) -> bool {
+/// Whether a run is archived: in each draw or in one of three.
+pub fn draw_archive(draws: &mut Draws, always: bool) -> bool {
     let drawn = draws.once_in(3);
-    may_be && (always || drawn)
+    always || drawn
 }
 
 pub fn draw_turns(draws: &mut Draws) -> Option<u64> {

@@ -2,7 +2,7 @@
 
 use crate::draws::Draws;
 
-/// A run has a thread for each user and each other actor; each follower has one more.
+/// A run has a thread for each user and each other actor; the archiver and each follower have one more.
 const MOST_THREADS: u64 = 22;
 
 #[derive(Clone, Copy)]
@@ -20,13 +20,13 @@ enum Refused {
 }
 
 impl Place {
-    pub fn draw(draws: &mut Draws, followers: u64) -> Place {
+    pub fn draw(draws: &mut Draws, others: u64) -> Place {
         let count = draws.below(3);
         Place {
             processors: (count > 0).then(|| (draws.below(64), count)),
             refused: match draws.below(6) {
                 0 => Refused::All,
-                1 | 2 => Refused::One(draws.below(MOST_THREADS + followers)),
+                1 | 2 => Refused::One(draws.below(MOST_THREADS + others)),
                 _ => Refused::None,
             },
         }

@@ -11,8 +11,11 @@ pub struct Tally {
     pub threads: u64,
     /// Runs with followers.
     pub followed: u64,
-    /// Runs that wrote to an archive, those of them that were cut or killed, and those whose archive wasn't begun to the end.
+    /// Runs that wrote to an archive, those of them in threads, of users that write for themselves, that were cut or killed,
+    /// and whose archive wasn't begun to the end.
     pub archived: u64,
+    pub archived_threads: u64,
+    pub archived_own: u64,
     pub archives_cut: u64,
     pub unbegun: u64,
     /// Lsns that were restored.
@@ -47,6 +50,8 @@ impl Tally {
         self.threads += other.threads;
         self.followed += other.followed;
         self.archived += other.archived;
+        self.archived_threads += other.archived_threads;
+        self.archived_own += other.archived_own;
         self.archives_cut += other.archives_cut;
         self.unbegun += other.unbegun;
         self.restored += other.restored;
