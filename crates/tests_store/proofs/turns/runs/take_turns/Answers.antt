@@ -1,7 +1,7 @@
 use Rattle.tests_store.proofs.turns.runs.take_turns.Goals as goal
 
 pub returns-then-ne : goal.returns-then-ne
-returns-then-ne g c = record { run = c.loop-turn.invariant.run; runs = (c.turn-turned.ensures.turn c.loop-turn.invariant.run c.loop-turn.invariant.runs).1 }
+returns-then-ne g c = c.turn-turned.ensures.on_run
 
 pub loop-turn-preserved : goal.loop-turn-preserved
-loop-turn-preserved g c = record { run = c.loop-turn.invariant.run; runs = (c.turn-turned.ensures.turn c.loop-turn.invariant.run c.loop-turn.invariant.runs).1 }
+loop-turn-preserved g c = c.turn-turned.ensures.on_run
