@@ -13,4 +13,4 @@ all_hold_nothing-requires g c = subst (λ (l : List (Actor Kept)). AreFreeToChec
 
 pub finish-requires-clause-lost : goal.finish-requires-clause-lost
 finish-requires-clause-lost g c = subst (λ (b : Bool). TellsLoss b (views_of c.as_slice-actors.result.now) None)
-    (sym c.in_ok-begin.ensures.apart) refl
+    (sym c.in_ok-shared.ensures.apart) refl
