@@ -16,8 +16,8 @@ use std::alloc::Global;
 
 impl<A: Sectors> ArchPart<A> {
     /// Begins the archive of a run that starts there with these pages. It zeroes the head and the marks, then writes
-    /// the pages, one by one, and the first mark, then the head, and syncs the device after each of the three. Whatever
-    /// stood on the device is gone with the first sync.
+    /// the pages, one by one, and the first mark, then the head, and syncs the device after each of the three. An archive
+    /// that stood on the device can't be restored from the first sync on.
     ///
     /// It fails with `Small` where the device is shorter than the head, the marks and the pages, which is judged before
     /// any call, so that the device comes back as it was; with `Dev` where the device fails, and with `NoMemory`. After

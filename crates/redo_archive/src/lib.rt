@@ -1,6 +1,7 @@
 //! The archive of a run: it is begun with the pages with which the run was opened, the run's log blocks are appended to
 //! it as they become stable, and for each lsn up to its mark the pages are restored from it. The layer above may rely
-//! on this: whatever a crash leaves of the device at any moment restores each lsn up to the newest good mark.
+//! on this, once an archive is begun: each fair image that a crash may leave of the device at any moment restores each
+//! lsn from the run's start up to the newest good mark.
 #![tactic(auto)]
 
 mod base;

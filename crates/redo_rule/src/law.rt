@@ -67,7 +67,7 @@ impl Model for Groups {
     ghost view = { λ heard. map (λ group. record { start = group.start; end = group.end; text = group.text }) heard.groups };
 }
 
-/// A block of the log that was appended to the archive, by its place.
+/// A block of the log that was given to the archive to be appended, by its place.
 #[derive(Drop)]
 pub struct Block {
     pub place: u64,

@@ -23,7 +23,8 @@ pub(crate) enum Call {
     /// A link, WRITE, FLUSHED or CKPT is stored: a user that writes for itself and has been on an errand in vain. There may be
     /// something new to write or to flush, or another has done that.
     Errand,
-    /// What the closer, the cleaner and the checkpointer wait for. They are called only while others wait for space.
+    /// What the closer, the cleaner, the checkpointer and the archiver wait for. They are called only while others wait for
+    /// space.
     Pages,
     /// What a user waits for in the middle of a group: room in a buffer, a latch or a list. Nobody calls it: it looks again soon.
     Room,
