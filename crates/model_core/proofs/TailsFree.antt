@@ -197,7 +197,6 @@ checked_free (actor.Reader f) n e = checks_no_more reader_program f n refl refl
 checked_free (actor.Closer t) n e = checks_no_more closer_program t n refl refl
 checked_free (actor.Cleaner v) n e = checks_no_more cleaner_program v n refl refl
 checked_free (actor.Checkpointer t) n e = checks_no_more checkpointer_program t n refl refl
-checked_free (actor.Joined es) n e = refl
 
 pub took_free : (a : Actor) (r : Answer) → ChecksWithoutTail (took a r)
 took_free a r = by (is_checking a) (checked_free a (old_of r)) (own_free a r)

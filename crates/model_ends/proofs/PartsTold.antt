@@ -58,7 +58,6 @@ later_none (actor.Flusher s) b is h = subst IsNoReader (sym is.1) tt
 later_none (actor.Closer s) b is h = subst IsNoReader (sym is.1) tt
 later_none (actor.Cleaner s) b is h = subst IsNoReader (sym is.1) tt
 later_none (actor.Checkpointer s) b is h = subst IsNoReader (sym is.1) tt
-later_none (actor.Joined s) b is h = subst IsNoReader (sym is.1) tt
 later_none (actor.Reader s) b is h = absurd h
 
 -- where FAILED is 0 after an Op it was before
@@ -96,7 +95,7 @@ module _ (D : LogSide) (c : Setup) (m : SharedWords) (g : LogGhost) (p : D.Part)
   checking_back true o back = λ z. z
   checking_back false o back = back
 
-module _ (D : LogSide) (L : LogLaws D) (E : DataSide) (EL : DataLaws E) (c : Setup) (spare : ℕ) (m : SharedWords) (g : LogGhost) (h : PageGhost) (ls : ℕ → List Listed) (p : D.Part) (d : E.Part) (actors : List Actor) (both : BothHalves D E c spare m g h ls p d actors) (T : PartsTold D m p actors) (seat : ℕ) (code : ℕ) (q : D.Part) where
+module _ (D : LogSide) (L : LogLaws D) (E : DataSide) (EL : DataLaws E) (c : Setup) (m : SharedWords) (g : LogGhost) (h : PageGhost) (ls : ℕ → List Listed) (p : D.Part) (d : E.Part) (actors : List Actor) (both : BothHalves D E c m g h ls p d actors) (T : PartsTold D m p actors) (seat : ℕ) (code : ℕ) (q : D.Part) where
   abbrev to : Actor → SharedWords
   to a = shared_left m (next a)
 
@@ -104,7 +103,7 @@ module _ (D : LogSide) (L : LogLaws D) (E : DataSide) (EL : DataLaws E) (c : Set
   becomes a = took a (shared_answer ls (D.failed p) code (D.stable q) m (next a))
 
   abbrev Leaves : SharedWords → Actor → Actor → Type 0
-  Leaves after a b = Left D L c spare m g p actors seat both.logged T.writer T.stable ls (D.failed p) code q after a b × (after.failed ≡ 0 → m.failed ≡ 0)
+  Leaves after a b = Left D L c m g p actors seat both.logged T.writer T.stable ls (D.failed p) code q after a b × (after.failed ≡ 0 → m.failed ≡ 0)
 
   abbrev Same : SharedWords → Type 0
   Same after = (after.write ≡ m.write) × (after.failed ≡ m.failed)
@@ -147,9 +146,9 @@ module _ (D : LogSide) (L : LogLaws D) (E : DataSide) (EL : DataLaws E) (c : Set
     pointer_own checkpointer_step.Checkpoint is k v = (by (eqb code 0) refl, λ sound. sound)
       where
         A : AfterCheckpoint D c.blocks c.base g.log t.to code p q
-        A = L.checkpoints c.blocks c.base g.log t.to code p q both.logged.global.part.holds (can_checkpoint D L E EL c spare m g h ls p d actors seat both t at is) v
+        A = L.checkpoints c.blocks c.base g.log t.to code p q both.logged.global.part.holds (can_checkpoint D L E EL c m g h ls p d actors seat both t at is) v
 
-        by : (b : Bool) → eqb code 0 ≡ b → Left D L c spare m g p actors seat both.logged T.writer T.stable ls (D.failed p) code q m (actor.Checkpointer (own checkpointer_step.Checkpoint)) (actor.Checkpointer (checkpointer_took (own checkpointer_step.Checkpoint) (cond b (answer.Called 0) (answer.Failed code)) checkpointer_step.Checkpoint))
+        by : (b : Bool) → eqb code 0 ≡ b → Left D L c m g p actors seat both.logged T.writer T.stable ls (D.failed p) code q m (actor.Checkpointer (own checkpointer_step.Checkpoint)) (actor.Checkpointer (checkpointer_took (own checkpointer_step.Checkpoint) (cond b (answer.Called 0) (answer.Failed code)) checkpointer_step.Checkpoint))
         by true e = λ sound. (let z = A.stable in let y = T.stable sound in (omega arith, inl (A.sound (eqb-true code 0 e))))
         by false e = λ sound. (let z = A.stable in let y = T.stable sound in (omega arith, inr (inl refl)))
     pointer_own checkpointer_step.StoreFailed is k v = (λ sound. (let z = k.0 in absurd (omega arith)), λ sound. (let z = k.0 in absurd (omega arith)))
@@ -163,18 +162,17 @@ module _ (D : LogSide) (L : LogLaws D) (E : DataSide) (EL : DataLaws E) (c : Set
     pointer_by false f is k off v = pointer_own f is k v
 
   leaves : (a : Actor) → get_elem? actors seat ≡ some a → LogServed D p (lent a) (next a) code q → Leaves (to a) a (becomes a)
-  leaves (actor.User u) at v = (user_left D L c spare m g p actors seat both.logged T.writer T.stable ls (D.failed p) code q u v (becomes (actor.User u)), checking_back D c m g p u.checks (user_op u u.step) (user_back D c m g p u u.step))
+  leaves (actor.User u) at v = (user_left D L c m g p actors seat both.logged T.writer T.stable ls (D.failed p) code q u v (becomes (actor.User u)), checking_back D c m g p u.checks (user_op u u.step) (user_back D c m g p u u.step))
   leaves (actor.Writer s) at v =
       let fits : WriterFits D c m g p seat s = both.logged.each seat (actor.Writer s) at in
-      (writer_left D L c spare m g p actors seat both.logged T.writer T.stable ls (D.failed p) code q s at v, checking_back D c m g p s.checks (writer_op s s.step) (writer_back D c m g p seat s s.step fits.step))
+      (writer_left D L c m g p actors seat both.logged T.writer T.stable ls (D.failed p) code q s at v, checking_back D c m g p s.checks (writer_op s s.step) (writer_back D c m g p seat s s.step fits.step))
   leaves (actor.Flusher t) at v =
       let fits : FlusherFits D c m g p seat t = both.logged.each seat (actor.Flusher t) at in
-      (flusher_left D L c spare m g p actors seat both.logged T.writer T.stable ls (D.failed p) code q t at v, checking_back D c m g p t.checks (flusher_op t t.step) (flusher_back D c m g p t t.step fits.step))
+      (flusher_left D L c m g p actors seat both.logged T.writer T.stable ls (D.failed p) code q t at v, checking_back D c m g p t.checks (flusher_op t t.step) (flusher_back D c m g p t t.step fits.step))
   leaves (actor.Closer t) at v = closer_leaves t t.checks t.step v (becomes (actor.Closer t))
   leaves (actor.Cleaner x) at v = cleaner_leaves x x.checks x.step refl (both.logged.each seat (actor.Cleaner x) at) v (becomes (actor.Cleaner x))
   leaves (actor.Checkpointer t) at v = let fits : CheckpointerFits D c m g p seat t = both.logged.each seat (actor.Checkpointer t) at in pointer_by t at t.checks t.step refl fits.step fits.no_device_while_checking v
   leaves (actor.Reader r) at v = absurd (T.no_reader seat (actor.Reader r) at)
-  leaves (actor.Joined es) at v = quiet m (actor.Joined es) (becomes (actor.Joined es)) (refl, refl) (λ z. z) v
 
   -- EACH TURN KEEPS IT
   pub parts_kept : (a : Actor) → get_elem? actors seat ≡ some a → LogServed D p (lent a) (next a) code q → PartsTold D (shared_left m (next a)) q (set actors seat (took a (shared_answer ls (D.failed p) code (D.stable q) m (next a))))

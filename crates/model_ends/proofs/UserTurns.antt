@@ -84,7 +84,7 @@ answered_cost last v less = by (v.k + 1 == length v.lines) refl
     by true e = omega arith
     by false e = let ne = eqb-false (v.k + 1) (length v.lines) e in let more = steps_from v.lines (v.k + 1) (omega arith) in omega arith
 
-module _ (D : LogSide) (c : Setup) (spare : ℕ) (m : SharedWords) (g : LogGhost) (p : D.Part) (actors : List Actor) (seat : ℕ) (u : UserState) (before : LogHalf D c spare m g p actors) (last : ℕ) (sn_last : lsn m.sn ≤ last) (no_page : eqb (length (changes u)) 0 ≡ true) (ls : ℕ → List Listed) (broken : Bool) (code mark : ℕ) where
+module _ (D : LogSide) (c : Setup) (m : SharedWords) (g : LogGhost) (p : D.Part) (actors : List Actor) (seat : ℕ) (u : UserState) (before : LogHalf D c m g p actors) (last : ℕ) (sn_last : lsn m.sn ≤ last) (no_page : eqb (length (changes u)) 0 ≡ true) (ls : ℕ → List Listed) (broken : Bool) (code mark : ℕ) where
   -- the user at a step of its own
   abbrev own : UserStep → UserState
   own f = record u { checks = false; step = f }
@@ -172,7 +172,7 @@ module _ (D : LogSide) (c : Setup) (spare : ℕ) (m : SharedWords) (g : LogGhost
       by false e =
           let t_is = tail_in u.advance.place false in
           let ne = eqb-false u.advance.place u.advance.tail e in
-          let low = tails D c spare m g p actors before in
+          let low = tails D c m g p actors before in
           let up = lsn_le g.tail m.sn before.global.order.tail_sn in
           let place = h.place in
           let tail = h.tail in

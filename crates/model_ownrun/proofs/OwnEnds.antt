@@ -24,17 +24,17 @@ use Rattle.model_running.specs.Seating.{AreSeated}
 use Rattle.model_script.specs.declared.script.ScriptLine.{ScriptLine}
 use Rattle.model_theorem.specs.{AreGiven, Opened}
 
-module _ (D : LogSide) (L : LogLaws D) (E : DataSide) (EL : DataLaws E) (c : Setup) (spare seed max : ℕ)
-    (script : List ScriptLine) (opened : Opened) (first last : OwnCore D E) (running : OwnRunning D E c spare first)
+module _ (D : LogSide) (L : LogLaws D) (E : DataSide) (EL : DataLaws E) (c : Setup) (seed max : ℕ)
+    (script : List ScriptLine) (opened : Opened) (first last : OwnCore D E) (running : OwnRunning D E c first)
     (of_script : IsOfScript c script opened.shape) (start : lsn c.base ≡ start_after opened.end)
     (number count : ℕ) (log_disk data_disk : Disk) (given : AreGiven script opened) (pages : HasItsPages c opened)
     (log_tells : LogTells D c opened.shape number last.log_part log_disk)
     (data_tells : DataTells E opened last.data_part data_disk)
     (taken : TakesOwnTurns D E seed max count first last) where
   pub own_run_held : HeldStore D E script opened number log_disk data_disk (with_writer last)
-  own_run_held = let after = own_run_keeps D L E EL c spare seed max count first last running taken in
+  own_run_held = let after = own_run_keeps D L E EL c seed max count first last running taken in
       held_store D E c script opened number log_disk data_disk (with_writer last) start given log_tells data_tells
-      spare after.running of_script pages
+      after.running of_script pages
 
   pub own_run_closed : (failures : ℕ) (left : List (ℕ × ℕ))
       → AreSeated c (all_actors first.users first.work first.others)
@@ -43,7 +43,7 @@ module _ (D : LogSide) (L : LogLaws D) (E : DataSide) (EL : DataLaws E) (c : Set
       → HaveEnded (all_actors last.users last.work last.others)
       → ClosedStore D E script opened number failures left log_disk data_disk (with_writer last)
   own_run_closed failures left seated causes ended =
-      let after = own_run_keeps D L E EL c spare seed max count first last running taken in
+      let after = own_run_keeps D L E EL c seed max count first last running taken in
       closed_store D E c script opened number log_disk data_disk (with_writer last) start given log_tells data_tells
-      failures left spare after.running (own_run_keeps_seats D E c seed max count first last seated taken) ended
+      failures left after.running (own_run_keeps_seats D E c seed max count first last seated taken) ended
       of_script pages causes

@@ -147,7 +147,6 @@ others_append_not (actor.Cleaner v) other = checking_appends v.checks (cleaner_o
 others_append_not (actor.Checkpointer t) other =
     checking_appends t.checks (checkpointer_op t t.step) (checkpointer_appends t t.step)
 others_append_not (actor.Reader r) other = absurd other
-others_append_not (actor.Joined es) other = tt
 
 pub followers_append_not : (c : Setup) (r : ReaderState) → ReadsInRun c r → 0 < c.first_reader
     → IsNoAppend (next (actor.Reader r))
@@ -170,7 +169,6 @@ none_appends c (actor.Flusher t) I followers = others_append_not (actor.Flusher 
 none_appends c (actor.Closer t) I followers = others_append_not (actor.Closer t) tt
 none_appends c (actor.Cleaner v) I followers = others_append_not (actor.Cleaner v) tt
 none_appends c (actor.Checkpointer t) I followers = others_append_not (actor.Checkpointer t) tt
-none_appends c (actor.Joined es) I followers = tt
 
 -- no other actor becomes a reader
 pub stays_other : (a : Actor) (y : Answer) → IsNoReader a → (r : ReaderState) → took a y ≡ actor.Reader r → ⊥
@@ -182,7 +180,6 @@ stays_other (actor.Closer s) y other r same = subst IsNoReader (sym (took_later 
 stays_other (actor.Cleaner s) y other r same = subst IsNoReader (sym (took_later (actor.Cleaner s) y).1 ∙ same) tt
 stays_other (actor.Checkpointer s) y other r same =
     subst IsNoReader (sym (took_later (actor.Checkpointer s) y).1 ∙ same) tt
-stays_other (actor.Joined es) y other r same = subst IsNoReader (sym (took_later (actor.Joined es) y).1 ∙ same) tt
 
 -- a reader's number stays
 pub number_stays : (r : ReaderState) (a : Answer) → (after_of reader_program r a).number ≡ r.number

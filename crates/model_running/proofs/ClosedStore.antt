@@ -71,22 +71,22 @@ module _ (D : LogSide) (E : DataSide) (c : Setup) (script : List ScriptLine) (op
       })
   closed_run failures left finished pages left_is = record { holds = held_run finished.stands pages; left_is = left_is; loses = finished.loses left_is }
 
-  pub held_store : (spare : ℕ) → IsRunning D E c spare s → IsOfScript c script opened.shape → HasItsPages c opened → HeldStore D E script opened number log_disk data_disk s
+  pub held_store : IsRunning D E c s → IsOfScript c script opened.shape → HasItsPages c opened → HeldStore D E script opened number log_disk data_disk s
   unfolding stands_for_run
-  held_store spare running of_script pages =
-      let stands = stands_for_run D E c spare script opened s running of_script start in
+  held_store running of_script pages =
+      let stands = stands_for_run D E c script opened s running of_script start in
       record {
         run = stands.run;
         marks = stands.marks;
-        holds = held_run stands (finished_pages D E c spare script opened s running given pages of_script);
+        holds = held_run stands (finished_pages D E c script opened s running given pages of_script);
       }
 
-  pub closed_store : (failures : ℕ) (left : List (ℕ × ℕ)) (spare : ℕ) → IsRunning D E c spare s → AreSeated c s.actors → HaveEnded s.actors → IsOfScript c script opened.shape → HasItsPages c opened
+  pub closed_store : (failures : ℕ) (left : List (ℕ × ℕ)) → IsRunning D E c s → AreSeated c s.actors → HaveEnded s.actors → IsOfScript c script opened.shape → HasItsPages c opened
       → CausesAreFailures D E failures s.log_part s.data_part s.actors → ClosedStore D E script opened number failures left log_disk data_disk s
   unfolding finished_store stands_for_run held_store
-  closed_store failures left spare running seated ended of_script pages causes =
-      let finished = finished_store D E c spare script opened failures left s running seated ended of_script start causes in
+  closed_store failures left running seated ended of_script pages causes =
+      let finished = finished_store D E c script opened failures left s running seated ended of_script start causes in
       record {
-        held = held_store spare running of_script pages;
-        closed = closed_run failures left finished (finished_pages D E c spare script opened s running given pages of_script);
+        held = held_store running of_script pages;
+        closed = closed_run failures left finished (finished_pages D E c script opened s running given pages of_script);
       }

@@ -309,13 +309,12 @@ stays_in_run c readers (actor.Writer s) a fits k = either c s.checks _ _ tt tt
 stays_in_run c readers (actor.Flusher s) a fits k = either c s.checks _ _ tt tt
 stays_in_run c readers (actor.Closer s) a fits k = either c s.checks _ _ tt tt
 stays_in_run c readers (actor.Cleaner s) a fits k = either c s.checks _ _ tt tt
-stays_in_run c readers (actor.Joined es) a fits k = tt
 
 -- A reader asks for a block of the log: each is a whole number of blocks, from the first one on.
-pub asks_in_run : (D : LogSide) (E : DataSide) (c : Setup) (spare : ℕ) (s : Core D E) (seat : ℕ) (r : ReaderState)
-    → IsRunning D E c spare s → get_elem? s.actors seat ≡ some (actor.Reader r) → START_LSN ≤ lsn c.base
+pub asks_in_run : (D : LogSide) (E : DataSide) (c : Setup) (s : Core D E) (seat : ℕ) (r : ReaderState)
+    → IsRunning D E c s → get_elem? s.actors seat ≡ some (actor.Reader r) → START_LSN ≤ lsn c.base
     → (next_block r % BLOCK_SIZE ≡ 0) × (START_LSN ≤ next_block r)
-asks_in_run D E c spare s seat r running at start =
+asks_in_run D E c s seat r running at start =
     let I : ReadsInRun c r = running.both.in_run seat (actor.Reader r) at in
     let b = next_in_run c r I in
     let low = b.1 in

@@ -7,7 +7,7 @@ use Rattle.model_core.specs.{Actor, entries, entries_from, entry, found, Line, l
 use Rattle.model_core.specs.LogSide.{LogSide}
 use Rattle.model_core.specs.Setup.{Setup}
 use Rattle.model_running.proofs.Legality.{counts, from_log, lost_unanswered, unanswered_lost}
-use Rattle.model_running.specs.Ended.{IsAtEnd, IsLostBy}
+use Rattle.model_running.specs.Ended.{IsLostBy}
 use Rattle.model_running.specs.History.{history_of}
 use Rattle.model_running.specs.Script.{HasSeats, IsOfScript}
 use Rattle.model_report.specs.{entries_of_user, IsLeft, lines_of_user}
@@ -18,7 +18,7 @@ use Rattle.model_logcore.proofs.UserGroups.{count_front, count_some, none_of}
 use Rattle.model_logcore.proofs.WriterSteps.{own}
 use Rattle.model_logcore.specs.{count_of, LogGhost, sum_over_actors, UserAt, UserFits}
 use Rattle.model_logcore.specs.LogHalf.{LogHalf}
-use Rattle.model_running.specs.Schedule.{HasEnded}
+use Rattle.model_running.specs.Schedule.{HasEnded, HaveEnded}
 use Rattle.model_script.specs.declared.script.ScriptLine.{ScriptLine}
 use Rattle.model_core.specs.declared.steps.UserStep.{UserStep}
 use Rattle.model_core.specs.declared.steps.UserStep.TheVariants as user_step
@@ -41,12 +41,12 @@ own_user user v lines k (s ∷ ss) more = elim (ℕ_discrete user v) [
   | no n ↦ own_user user v lines (k + 1) ss (let z = none_of v (entry user k s (line_at lines k)) n in omega arith)
 ]
 
-module _ (D : LogSide) (c : Setup) (spare : ℕ) (m : SharedWords) (g : LogGhost) (p : D.Part) (actors : List Actor) (half : LogHalf D c spare m g p actors) where
+module _ (D : LogSide) (c : Setup) (m : SharedWords) (g : LogGhost) (p : D.Part) (actors : List Actor) (half : LogHalf D c m g p actors) where
   -- of a user that has a seat, a commit is answered where its line is below the seat's
   pub answered_is : (seat : ℕ) (u : UserState) → get_elem? actors seat ≡ maybe.some (actor.User u) → g.answered u.user ≡ u.k
   answered_is seat u at = let f : UserFits D c m g p seat u = half.each seat (actor.User u) at in f.answers
 
-  module _ (end : IsAtEnd actors) where
+  module _ (ended_users : HaveEnded actors) where
     ended_here : (v k seat : ℕ) (u : UserState) → get_elem? actors seat ≡ maybe.some (actor.User u) → u.user ≡ v → k < count_of v g.log → g.answered v ≤ k → (u.step ≡ user_step.Failed) × (k ≡ u.k) × (0 < m.failed)
     ended_here v k seat u at own below unanswered =
         let f : UserFits D c m g p seat u = half.each seat (actor.User u) at in
@@ -54,7 +54,7 @@ module _ (D : LogSide) (c : Setup) (spare : ℕ) (m : SharedWords) (g : LogGhost
         let n : count_of v g.log ≡ length u.starts = sym (ap (λ (x : ℕ). count_of x g.log) own) ∙ f.counted in
         ⊎_elim (λ done. let z : UserAt D c m g p seat u user_step.Done = subst (UserAt D c m g p seat u) done f.step in let y = z.0 in absurd (omega arith))
         (λ failed. let z : UserAt D c m g p seat u user_step.Failed = subst (UserAt D c m g p seat u) failed f.step in let y = z.0 in (failed, omega arith, z.1))
-        (end.users seat u at)
+        (ended_users seat u at)
 
     ended : (v k seat : ℕ) (u : UserState) → get_elem? actors seat ≡ maybe.some (actor.User u) → u.user ≡ v → k < count_of v g.log → g.answered v ≤ k → IsLostBy actors v k × (0 < m.failed)
     ended v k seat u at own below unanswered =
@@ -63,7 +63,6 @@ module _ (D : LogSide) (c : Setup) (spare : ℕ) (m : SharedWords) (g : LogGhost
 
     by_actor : (e : core.Entry) (k seat : ℕ) (a : Actor) → get_elem? actors seat ≡ maybe.some a → 0 < count_of e.user (entries a) → k < count_of e.user g.log → g.answered e.user ≤ k → IsLostBy actors e.user k × (0 < m.failed)
     by_actor e k seat (actor.User u) at more below unanswered = ended e.user k seat u at (own_user u.user e.user u.lines 0 u.starts more) below unanswered
-    by_actor e k seat (actor.Joined es) at more below unanswered = let z : count_of e.user es ≡ 0 = ap (count_of e.user) (end.unjoined seat es at) in absurd (omega arith)
     by_actor e k seat _ at more below unanswered = absurd (omega arith)
 
     -- a group whose commit isn't answered is the last of a user that has met a failure
@@ -92,7 +91,7 @@ module _ (D : LogSide) (c : Setup) (spare : ℕ) (m : SharedWords) (g : LogGhost
         let l : length u.lines ≡ length (c.script v) = ap length (f.lines ∙ ap c.script own) in
         ⊎_elim (λ done. let z : UserAt D c m g p seat u user_step.Done = subst (UserAt D c m g p seat u) done f.step in let y = z.0 in let x = z.1 in absurd (omega arith))
         (λ failed. let z : UserAt D c m g p seat u user_step.Failed = subst (UserAt D c m g p seat u) failed f.step in (failed, z.1))
-        (end.users seat u at)
+        (ended_users seat u at)
 
     pub left_lines : (marks : Marks) (script : List ScriptLine) (shape : Shape) (left : List (ℕ × ℕ)) → IsOfScript c script shape → HasSeats script actors → IsLeft script (history_of g.answered marks g.log) left → left ≢ [] → 0 < m.failed
     left_lines marks script shape [] S seats is more = absurd (more refl)

@@ -148,7 +148,6 @@ filled_later (actor.Flusher s) f = (s, refl)
 filled_later (actor.Closer s) f = (s, refl)
 filled_later (actor.Cleaner s) f = (s, refl)
 filled_later (actor.Checkpointer s) f = (s, refl)
-filled_later (actor.Joined es) f = (es, refl)
 
 -- a turn, and so a run of turns, leaves the actors in their seats
 pub turn_keeps_seats : (D : LogSide) (E : DataSide) (c : Setup) (old new : Core D E) (seat : ℕ) (answer : Answer) (step : Step) → AreSeated c old.actors → Turn D E old seat answer step new → AreSeated c new.actors

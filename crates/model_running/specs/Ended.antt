@@ -1,17 +1,12 @@
--- The end of a run: each user has ended, and its groups are in its own seat.
-use Rattle.std.specs.Prelude.{List, [], ℕ, ◌≡◌}
+-- The user of a group that is lost at the end of a run.
+use Rattle.std.specs.Prelude.{List, ℕ, ◌≡◌}
 use lib.ListN.{get_elem?}
-use Rattle.model_core.specs.{Actor, Entry, UserState}
+use Rattle.model_core.specs.{Actor, UserState}
 use Rattle.model_core.specs.declared.steps.UserStep.TheVariants as user_step
-use Rattle.model_running.specs.Schedule.{HaveEnded}
 use Rattle.model_core.specs.Actors as actor
 use mathlib.Core.Option as maybe
 
-pub record IsAtEnd (actors : List Actor) : Type 0 where
-  pub users : HaveEnded actors
-  pub unjoined : (seat : ℕ) (es : List Entry) → get_elem? actors seat ≡ maybe.some (actor.Joined es) → es ≡ []
-
--- The user of a group that ends as lost: it has met a failure, and the group is its last, the commit of which wasn't answered.
+-- the user of a group that ends as lost: it has met a failure, and the group is its last, the commit of which wasn't answered
 pub record IsLostBy (actors : List Actor) (user k : ℕ) : Type 0 where
   pub seat : ℕ
   pub state : UserState

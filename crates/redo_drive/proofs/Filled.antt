@@ -68,7 +68,6 @@ lent_filled (model.Flusher t) texts = refl
 lent_filled (model.Closer t) texts = refl
 lent_filled (model.Cleaner v) texts = refl
 lent_filled (model.Checkpointer t) texts = refl
-lent_filled (model.Joined es) texts = refl
 
 -- A READ is asked for by a reader at that step.
 read_at : (r : ReaderState) (x : ℕ) → next (model.Reader r) ≡ op.ReadBlock x → r.step ≡ reader_step.ReadBlock
@@ -198,7 +197,6 @@ filled_fits (model.Flusher t) f a fits = fits
 filled_fits (model.Closer t) f a fits = fits
 filled_fits (model.Cleaner v) f a fits = fits
 filled_fits (model.Checkpointer t) f a fits = fits
-filled_fits (model.Joined es) f a fits = fits
 
 -- Whatever a call wrote into a reader's room, it may be given the same answers.
 pub block_fits : (r : ReaderState) (bytes : List ℕ) (a : Answer) → AnswerFits (model.Reader r) a
@@ -274,7 +272,6 @@ reader_or_no_read (model.Cleaner v) =
     inr (checking_reads_not v.checks (cleaner_op v v.step) (cleaner_reads_not v v.step))
 reader_or_no_read (model.Checkpointer t) =
     inr (checking_reads_not t.checks (checkpointer_op t t.step) (checkpointer_reads_not t t.step))
-reader_or_no_read (model.Joined es) = inr tt
 
 -- and among a run's actors the archiver and the followers alone
 abbrev pub ReadsNoLog : {R : Type 0} → Actor R → Type 0

@@ -27,7 +27,7 @@ use Rattle.model_running.specs.ReadHalf.{FollowerHas, groups_upto, HasByKind, Re
 use Rattle.model_logcore.specs.{LogGhost}
 use Rattle.model_running.proofs.FinishedPages.{finished_pages}
 use Rattle.model_running.proofs.FinishedStore.{stands_for_run}
-use Rattle.model_running.proofs.Seated.{seated_end, seated_seats}
+use Rattle.model_running.proofs.Seated.{seated_seats}
 use Rattle.model_running.specs.{CausesAreFailures, DataTells, HasFailedPart, HasItsPages, HaveEnded, IsOfScript, LeavesOpen, LogTells, run_of, word_marks}
 use Rattle.model_report.proofs.Groups.{have-lines}
 use Rattle.model_report.specs.{entry_spans, IsLeft, wholes_of}
@@ -128,7 +128,7 @@ module _ {L D R : Type 0} {archive : Bool} (log_seen : L → Seen) (log_gives : 
   is_run end start =
       let was : theorem.Opened = record { shape = opened.shape; pages = opened.pages; end = end } in
       subst (IsRun script was) ran_is
-      (finished_run logs run.setup 0 by.from.runs.running.shared by.from.runs.running.log_ghost by.last.log (views_of actors) by.from.runs.running.both.logged script was by.is_run.of_script (by.is_run.start ∙ start))
+      (finished_run logs run.setup by.from.runs.running.shared by.from.runs.running.log_ghost by.last.log (views_of actors) by.from.runs.running.both.logged script was by.is_run.of_script (by.is_run.start ∙ start))
 
   -- without an archiver no append has failed
   none_lost : archive ≡ false → (code : ℕ) → HasLost (views_of actors) code → ⊥
@@ -162,8 +162,8 @@ module _ {L D R : Type 0} {archive : Bool} (log_seen : L → Seen) (log_gives : 
   loses left ended memory left_is =
       let cause = causes memory in
       subst (λ (z : theorem.Ran). LosesOnlyByFailure (failed_in driven.closed) (Some z) left) ran_is
-      (finished_losses logs run.setup 0 by.from.runs.running.shared by.from.runs.running.log_ghost by.last.log (views_of actors) by.from.runs.running.both.logged script opened.shape (failed_in driven.closed) left
-      (seated_end run.setup (views_of actors) by.from.runs.seated ended) by.is_run.of_script (seated_seats run.setup (views_of actors) by.from.runs.seated script opened.shape by.is_run.of_script)
+      (finished_losses logs run.setup by.from.runs.running.shared by.from.runs.running.log_ghost by.last.log (views_of actors) by.from.runs.running.both.logged script opened.shape (failed_in driven.closed) left
+      ended by.is_run.of_script (seated_seats run.setup (views_of actors) by.from.runs.seated script opened.shape by.is_run.of_script)
       (λ failed. ⊎_elim (λ c. cause.log by.from.runs.running.shared.failed c) (⊎_elim (λ c. cause.data_part by.from.runs.running.shared.failed c) (λ c. cause.archive by.from.runs.running.shared.failed c)) (by.from.runs.running.both.cause failed)) (left_of_run left left_is))
 
   -- the devices came here by calls, the log's and the data's
@@ -245,8 +245,8 @@ module _ {L D R : Type 0} {archive : Bool} (log_seen : L → Seen) (log_gives : 
         let given = start-given reading script log_disk data_disk start in
         subst (λ (z : theorem.Ran). IsHeld (record { script = script; opened = opened_as reading; number = reading.number + numbers_taken reading.format; run = z; log_disk = log_now; data_disk = data_now })) ran_is
         (held_run logs datas run.setup script (opened_as reading) (reading.number + numbers_taken reading.format) log_now data_now core behind given log_tells_now data_tells_now
-        (stands_for_run logs datas run.setup 0 script (opened_as reading) core running of_script behind)
-        (finished_pages logs datas run.setup 0 script (opened_as reading) core running given its_pages of_script))
+        (stands_for_run logs datas run.setup script (opened_as reading) core running of_script behind)
+        (finished_pages logs datas run.setup script (opened_as reading) core running given its_pages of_script))
 
   -- both devices held what was opened, where they told
   has_begun : (reading : Reading) → HasReading reading opened → (log_disk data_disk : Disk) → (log_seen opened.log.dev).tells ≡ Some log_disk → (data_seen opened.store.dev).tells ≡ Some data_disk
@@ -318,7 +318,7 @@ module _ {L D R : Type 0} {archive : Bool} (log_seen : L → Seen) (log_gives : 
       (log_synced may reading as_read begun log_live log_now log_told)
       (data_synced may reading as_read begun data_live data_now data_told) in
       let of_script = subst (IsOfScript run.setup script) as_read.shape by.is_run.of_script in
-      let stands = stands_for_run logs datas run.setup 0 script (opened_as reading)
+      let stands = stands_for_run logs datas run.setup script (opened_as reading)
       (core_of log_seen data_seen run by.last (views_of actors)) R of_script (by.is_run.start ∙ as_read.start) in
       let wholes : List Whole = wholes_of script reading.shape.space stands.run.entries in
       let shape : ◌≡◌ {A = Shape} part.shape reading.shape = log_shape may reading as_read in
@@ -442,7 +442,7 @@ module _ {L D R : Type 0} {archive : Bool} (log_seen : L → Seen) (log_gives : 
           bound_spans g.log run.setup.base m.sn r.at tiles F.bound in
           let are_wholes : AreWholesOf g.log wholes =
           subst (λ (z : List Entry). AreWholesOf g.log (wholes_of script opened.shape.space z)) (sym by.history)
-          (finished_groups logs run.setup 0 m g by.last.log (views_of actors) by.from.runs.running.both.logged script
+          (finished_groups logs run.setup m g by.last.log (views_of actors) by.from.runs.running.both.logged script
           opened.shape by.is_run.of_script) in
           let groups : ◌≡◌ {A = List Given} (groups_of (model.Reader r) g.log) (given_upto r.place wholes) =
           ap (λ (b : Bool). let l : List Given = cond b [] (groups_upto r.at g.log) in l) kind

@@ -27,7 +27,7 @@ module _ {L D : Type 0} (log_seen : L → Seen) (data_seen : D → Seen) (run : 
     pub bytes : HasBytes run.setup
     pub word_pages : parts.words.pages ≡ run.setup.pages
     pub list_pages : parts.lists.pages ≡ run.setup.pages
-    pub running : IsRunning (run_log_side log_seen data_seen run) (run_data_side log_seen data_seen run) run.setup 0 (core_of log_seen data_seen run parts actors)
+    pub running : IsRunning (run_log_side log_seen data_seen run) (run_data_side log_seen data_seen run) run.setup (core_of log_seen data_seen run parts actors)
     pub seated : AreSeated run.setup actors
 
   -- the same where nothing is archived
