@@ -58,9 +58,6 @@ either_step false x y p q = q
 answered_free : (u : UserState) → UserFree (answered u)
 answered_free u e = either_step (eqb (u.k + 1) (length u.lines)) user_step.Done user_step.LoadCheckpoint refl refl
 
-awaits : UserState → UserState
-awaits u = record u { step = user_step.AwaitMark }
-
 word_free : (u : UserState) (page cell : ℕ) → user_holds_one (word_step (change_at (changes u) page).cells cell) ≡ false
 word_free u page cell = either_step (is_whole (change_at (changes u) page).cells cell) user_step.StoreFrame user_step.LoadFrame refl refl
 

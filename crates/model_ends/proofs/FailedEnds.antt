@@ -17,7 +17,7 @@ use Rattle.model_logcore.specs.LogLaws.{LogLaws}
 use Rattle.model_pagecore.specs.DataLaws.{DataLaws}
 use Rattle.model_running.proofs.StartRunning.{both_start, start_pages}
 use Rattle.model_running.specs.RunningStore.{BothHalves}
-use Rattle.model_running.specs.Schedule.{IsSpent, TakesTurns}
+use Rattle.model_running.specs.Schedule.{TakesTurns}
 use Rattle.model_running.specs.StartStore.{StartStore}
 use Rattle.model_ends.proofs.Along.{Along, EachTurnKeeps, reach_along}
 use Rattle.model_ends.proofs.FailedRuns.{failed_run_ends, Failing}
@@ -123,7 +123,3 @@ module _ (D : LogSide) (E : DataSide) (c : Setup) (L : LogLaws D) (EL : DataLaws
       let low : total 0 A.words reached.lists reached.actors + 1 ≤ most + 1 = (let z = A.holds.0 in omega arith) in
       let more : (total 0 A.words reached.lists reached.actors + 1) * (21 * length first.actors) ≤ (most + 1) * (21 * length first.actors) = mul-le-mul_right (21 * length first.actors) low in
       omega arith
-
-  -- and with more than twice as many they are never spent
-  pub never_spent_once_failed : (any seed max user : ℕ) (reached last : Core D E) → CanReach D E any first reached → 0 < slice_index reached.words 6 → 2 * ((most + 1) * (21 * length first.actors)) < max → IsSpent D E seed max user reached last → ⊥
-  never_spent_once_failed any seed max user reached last reach failed more spent = let z = ends_once_failed any max seed max reached last reach failed spent.turns in omega arith

@@ -21,7 +21,7 @@ use Rattle.model_logcore.specs.LogLaws.{LogLaws}
 use Rattle.model_pagecore.specs.DataLaws.{DataLaws}
 use Rattle.model_running.proofs.FailedStays.{turn_keeps_failed}
 use Rattle.model_running.specs.RunningStore.{IsRunning}
-use Rattle.model_running.specs.Schedule.{HaveEnded, IsSpent, seat_of_turn, TakesTurns}
+use Rattle.model_running.specs.Schedule.{HaveEnded, seat_of_turn, TakesTurns}
 use Rattle.model_script.specs.{draw}
 use Rattle.model_ends.proofs.Along.{actors_then, Along, both_filled, EachTurnKeeps, lists_then, turn_along, words_then}
 use Rattle.model_ends.proofs.FailedTurns.{filled_left, Moves, total, turn_no_more, user_moves}
@@ -255,7 +255,3 @@ module _ (D : LogSide) (E : DataSide) (c : Setup) (L : LogLaws D) (EL : DataLaws
         let B = run (rank first start) seed max first start (omega arith) k t.before t.earlier in
         ⊎_elim (λ ended. absurd (t.open_user ended)) (λ M. let z = M.within in omega arith) (B.counts (k - max / 2) (omega arith)))
   ]
-
-  -- and with more than twice as many turns they are never spent
-  pub failed_never_spent : (seed max user : ℕ) (first : Core D E) (start : Failing first) (last : Core D E) → 42 * n * (rank first start + 1) < max → IsSpent D E seed max user first last → ⊥
-  failed_never_spent seed max user first start last more spent = let z = failed_run_ends seed max first start max last spent.turns in omega arith

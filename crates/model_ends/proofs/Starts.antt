@@ -97,10 +97,6 @@ module _ (D : LogSide) (E : DataSide) (L : LogLaws D) (EL : DataLaws E) (c : Set
       let more : (all + 22) * (21 * length first.actors) ≤ (12 * sum_over_actors lines_of first.actors + 28 * sum_over_actors bytes_of first.actors + 66_000) * (21 * length first.actors) = mul-le-mul_right (21 * length first.actors) low in
       omega arith
 
-  -- so turns one after another end it within so many
-  pub turns_end : (any n seed : ℕ) (reached last : Core D E) → CanReach D E any first reached → TakesTurns D E seed 0 n reached last → n ≤ most_turns first.actors
-  turns_end any n seed reached last reach turns = let z = run_ends any n seed 0 reached last reach turns in omega arith
-
   -- and with more than twice as many turns they are never spent
   pub never_spent : (any seed max user : ℕ) (reached last : Core D E) → CanReach D E any first reached → 2 * most_turns first.actors < max → IsSpent D E seed max user reached last → ⊥
   never_spent any seed max user reached last reach more spent = let z = run_ends any max seed max reached last reach spent.turns in omega arith

@@ -108,9 +108,6 @@ module _ (D : LogSide) (c : Setup) (m : SharedWords) (g : LogGhost) (p : D.Part)
   room_at f t is high can high_leaves not_free checks to low live less true e = inl (omega arith)
   room_at f t is high can high_leaves not_free checks to low live less false e = stays f (record (own f) { loaded = record u.loaded { wtail = t }; checks = checks; step = to }) (omega arith) (λ z. absurd (never f t is e (can z))) (λ _. (live, less)) not_free
 
-  advance_at : AdvanceStep → UserState
-  advance_at v = own (user_step.AdvanceWritten v)
-
   user_advances : (v : AdvanceStep) → AdvanceAt D c m g p seat u.advance v
       → End (shared_left m (user_op (own (user_step.AdvanceWritten v)) (user_step.AdvanceWritten v))) (user_step.AdvanceWritten v) (user_took (own (user_step.AdvanceWritten v)) (heard (shared_answer ls broken code mark m (user_op (own (user_step.AdvanceWritten v)) (user_step.AdvanceWritten v)))) (user_step.AdvanceWritten v))
   user_advances advance_step.LoadTail h = by (tail_of (tail_word m.wtail m.wheld)) (tail_in m.wtail m.wheld) (is_held (tail_word m.wtail m.wheld))

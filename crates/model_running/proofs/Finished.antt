@@ -53,7 +53,7 @@ module _ (D : LogSide) (c : Setup) (m : SharedWords) (g : LogGhost) (p : D.Part)
   pub finished_losses : (script : List ScriptLine) (shape : Shape) (failures : ℕ) (left : List (ℕ × ℕ)) → HaveEnded actors → IsOfScript c script shape → HasSeats script actors → (0 < m.failed → 0 < failures)
       → IsLeft script (run_of c g m).entries left → LosesOnlyByFailure failures (Some (run_of c g m)) left
   finished_losses script shape failures left ended S seats cause is = record {
-    lost = λ i entry found lost. cause (lost_entry D c m g p actors half ended (word_marks m) i entry found lost).1;
+    lost = λ i entry found lost. cause (lost_entry D c m g p actors half ended (word_marks m) i entry found lost);
     left = λ some_left. cause (left_lines D c m g p actors half ended (word_marks m) script shape left S seats is some_left);
     stopped = λ none. absurd (cc);
   }

@@ -5,7 +5,6 @@ use lib.ListN.{get_elem?}
 use mathlib.Core.Option.{some, some-injective}
 use Rattle.model_core.specs.{archive_device_code, archives, Given, HasLost, lsn, ReaderState, SharedWords}
 use Rattle.model_core.specs.Actors as model
-use Rattle.model_core.specs.DataSide.{DataSide}
 use Rattle.model_core.specs.LogSide.{LogSide}
 use Rattle.model_device.specs.Disk.{Disk}
 use Rattle.model_log.specs.{block_of, IsRunOf}
@@ -35,7 +34,7 @@ use Rattle.redo_drive.specs.Archiving.{AsksUpTo, HasCome, StandsBeside}
 use Rattle.redo_drive.specs.Beginning.{HaveBegun}
 use Rattle.redo_drive.specs.Devices.{code_of}
 use Rattle.redo_drive.specs.Leaving.{LeavesWith}
-use Rattle.redo_drive.specs.Playing.{RunOf, run_data_side, run_log_side}
+use Rattle.redo_drive.specs.Playing.{RunOf, run_log_side}
 use Rattle.redo_drive.specs.Running.{RunsWith}
 use Rattle.redo_drive.specs.Views.{views_of}
 use Rattle.redo_drive.specs.declared.actor.Actor.{Actor}
@@ -80,9 +79,6 @@ module _ {L D A R : Type 0} {archive : Bool} (log_seen : L → Seen) (log_gives 
 
   abbrev logs : LogSide
   logs = run_log_side log_seen data_seen run
-
-  abbrev datas : DataSide
-  datas = run_data_side log_seen data_seen run
 
   abbrev m : SharedWords
   m = by.from.runs.running.shared

@@ -26,7 +26,6 @@ use Rattle.model_logcore.specs.Ready.{Ready}
 use Rattle.model_pagecore.specs.{CanBatch}
 use Rattle.model_pagecore.specs.DataLaws.{DataLaws}
 use Rattle.model_running.proofs.AnswersFitAll.{answer_fits}
-use Rattle.model_running.proofs.Archiving.{none_appends}
 use Rattle.model_running.proofs.BothReady as both_ready
 use Rattle.model_running.proofs.FlatWords.{flat_answer}
 use Rattle.model_running.proofs.InRun.{next_in_run}
@@ -53,7 +52,7 @@ use Rattle.redo_drive.specs.LogPartSide as log_part
 use Rattle.redo_drive.specs.Lists.{lists_of}
 use Rattle.redo_drive.specs.Playing.{DataReady, HasWholePages, IsPlayable, LogReady, MayBatchLent, MayWriteLent, RunOf, run_data_side, run_log_side}
 use Rattle.redo_drive.specs.Receiving.{MarkFits}
-use Rattle.redo_drive.specs.Running.{RunsOn, RunsWith}
+use Rattle.redo_drive.specs.Running.{RunsWith}
 use Rattle.redo_drive.specs.Turning.{MayServe}
 use Rattle.redo_drive.specs.declared.device.Device.TheVariants.{Data, Log}
 use Rattle.redo_drive.specs.declared.parts.Parts.{Parts}
@@ -286,12 +285,3 @@ module _ {L D : Type 0} {archive : Bool} (log_seen : L → Seen) (data_seen : D 
       fits = fits;
       mark = mark_fits;
     }
-
--- where nothing is archived each actor may
-pub may_serve : {L D : Type 0} (log_seen : L → Seen) (data_seen : D → Seen) (run : RunOf L D) (parts : Parts L D)
-    (actors : List model.Actor) (R : RunsOn log_seen data_seen run parts actors)
-    → LogLaws (run_log_side log_seen data_seen run) → DataLaws (run_data_side log_seen data_seen run)
-    → (seat : ℕ) (who : model.Actor) → get_elem? actors seat ≡ some who → MayServe parts who
-may_serve log_seen data_seen run parts actors R log_laws data_laws seat who at =
-    serves_other log_seen data_seen run parts actors R log_laws data_laws seat who at
-    (none_appends run.setup who (R.running.both.in_run seat who at) R.followers)
