@@ -49,5 +49,5 @@ pub record RunningStore (D : LogSide) (E : DataSide) (c : Setup) (ws : List ℕ)
   pub both : BothHalves D E c shared log_ghost page_ghost ls p d actors
 
 -- the same of a store's whole state
-abbrev pub IsRunning : (D : LogSide) (E : DataSide) → Setup → ℕ → Core D E → Type 0
+abbrev pub IsRunning : (D : LogSide) (E : DataSide) → Setup → Core D E → Type 0
 IsRunning D E c s = RunningStore D E c s.words s.lists s.log_part s.data_part s.actors
