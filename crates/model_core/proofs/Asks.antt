@@ -116,7 +116,6 @@ frees (actor.Reader t) free is = free_by t.checks (reader_op t t.step) (actor.Re
 frees (actor.Closer t) free is = free_by t.checks (closer_op t t.step) (actor.Closer t) free (λ o. record { no_slot = refl; no_tail = closer_loose t t.step o }) is
 frees (actor.Cleaner v) free is = free_by v.checks (cleaner_op v v.step) (actor.Cleaner v) free (λ o. record { no_slot = cleaner_frees v v.step o; no_tail = λ b. refl }) is
 frees (actor.Checkpointer t) free is = free_by t.checks (checkpointer_op t t.step) (actor.Checkpointer t) free (λ o. record { no_slot = checkpointer_frees t t.step o; no_tail = λ b. refl }) is
-frees (actor.Joined es) free is = record { no_slot = refl; no_tail = λ b. refl }
 
 -- the cleaner alone writes batches
 user_batch : (u : UserState) (f : UserStep) → user_op u f ≡ op.WriteBatch → ⊥
@@ -156,7 +155,6 @@ batch_writer (actor.Reader t) e = absurd (reader_batch t t.step (own_batch t.che
 batch_writer (actor.Closer t) e = absurd (closer_batch t t.step (own_batch t.checks (closer_op t t.step) e))
 batch_writer (actor.Cleaner v) e = (v, refl)
 batch_writer (actor.Checkpointer t) e = absurd (checkpointer_batch t t.step (own_batch t.checks (checkpointer_op t t.step) e))
-batch_writer (actor.Joined es) e = absurd (cc)
 
 -- a user alone adds to a word
 abbrev pub IsNoAddition : Op → Type 0
@@ -199,4 +197,3 @@ user_or_no_addition (actor.Reader t) = inr (checking_adds_not t.checks (reader_o
 user_or_no_addition (actor.Closer t) = inr (checking_adds_not t.checks (closer_op t t.step) (closer_adds_not t t.step))
 user_or_no_addition (actor.Cleaner v) = inr (checking_adds_not v.checks (cleaner_op v v.step) (cleaner_adds_not v v.step))
 user_or_no_addition (actor.Checkpointer t) = inr (checking_adds_not t.checks (checkpointer_op t t.step) (checkpointer_adds_not t t.step))
-user_or_no_addition (actor.Joined es) = inr tt

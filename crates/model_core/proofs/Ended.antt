@@ -70,4 +70,3 @@ ended_rests (actor.Reader f) r e = let k = reader_rests f r f.code f.step e in (
 ended_rests (actor.Closer t) r e = let k = closer_rests t r t.code t.step e in (k.0, ap actor.Closer k.1)
 ended_rests (actor.Cleaner v) r e = let k = cleaner_rests v r v.code v.step e in (k.0, ap actor.Cleaner k.1)
 ended_rests (actor.Checkpointer t) r e = let k = checkpointer_rests t r t.code t.step e in (k.0, ap actor.Checkpointer k.1)
-ended_rests (actor.Joined es) r e = (refl, refl)

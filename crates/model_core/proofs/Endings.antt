@@ -1,11 +1,10 @@
 -- How a turn ends, by the programs: which end a wait, which well, and what of an actor that rests.
-use Rattle.std.proofs.Common.{Bool, List, ap, cond, false, inl, inr, refl, subst, sym, true, ℕ, ⊎_elim, ◌==◌, ◌∙◌, ◌≡◌, ◌⊎◌}
+use Rattle.std.proofs.Common.{Bool, ap, cond, false, inl, inr, refl, subst, sym, true, ℕ, ⊎_elim, ◌==◌, ◌∙◌, ◌≡◌, ◌⊎◌}
 use Rattle.model_core.proofs.Later.{took_later, was_user}
 use Rattle.model_core.proofs.Rests.{rests}
 use Rattle.model_core.proofs.Waiting.{user_again, user_wait, wait_checks}
 use Rattle.model_core.specs.{checked, checked_of, heard, is_checking, next, old_of, own_op, own_took, step_of, took, user_program, user_took, UserState}
 use Rattle.model_core.specs.Actors as model
-use Rattle.model_core.specs.Groups.{Entry}
 use Rattle.model_core.specs.Later.{IsSameActor}
 use Rattle.model_core.specs.{checkpointer_ending, cleaner_ending, closer_ending, flusher_ending, user_ending, user_waits, writer_ending}
 use Rattle.model_core.specs.{reader_ending}
@@ -100,7 +99,6 @@ not_idle (model.Reader t) e = no_wait (reader_ending t.code) reader_step.Failed 
 not_idle (model.Closer t) e = no_wait (closer_ending t.code) closer_step.Failed t.code t.step (closer_end t.code t.step) e
 not_idle (model.Cleaner v) e = no_wait (cleaner_ending v.code) cleaner_step.Failed v.code v.step (cleaner_end v.code v.step) e
 not_idle (model.Checkpointer t) e = no_wait (checkpointer_ending t.code) checkpointer_step.Failed t.code t.step (checkpointer_end t.code t.step) e
-not_idle (model.Joined es) e = absurd (cc)
 
 idle_by : (checks zero waiting : Bool) (n : ℕ) (ends : Step) → (ends ≡ step.Idle → ⊥) → cond checks (cond zero step.Moved (step.Failed n)) (cond waiting step.Idle ends) ≡ step.Idle → (checks ≡ false) × (waiting ≡ true)
 idle_by true true waiting n ends no_wait e = absurd (cc)
@@ -122,16 +120,15 @@ ended_of a r e =
     let t = ended_by (is_checking a) (old_of r == 0) (waits a r) (old_of r) (ending (own_took a r)) e in
     ap (λ (b : Bool). ending (cond b (checked a (old_of r)) (own_took a r))) t.0 ∙ t.1
 
--- only a user ends well, and a seat that was joined into another
-pub ended_well : (a : model.Actor) → ending a ≡ step.Ended → ((u : UserState) × (a ≡ model.User u) × (u.step ≡ user_step.Done)) ⊎ ((es : List Entry) × (a ≡ model.Joined es))
-ended_well (model.User u) e = inl (u, refl, user_done u.code u.step e)
+-- only a user ends well
+pub ended_well : (a : model.Actor) → ending a ≡ step.Ended → (u : UserState) × (a ≡ model.User u) × (u.step ≡ user_step.Done)
+ended_well (model.User u) e = (u, refl, user_done u.code u.step e)
 ended_well (model.Writer s) e = absurd (no_good_end (writer_ending s.code) writer_step.Failed s.code s.step (writer_end s.code s.step) e)
 ended_well (model.Flusher t) e = absurd (no_good_end (flusher_ending t.code) flusher_step.Failed t.code t.step (flusher_end t.code t.step) e)
 ended_well (model.Reader t) e = absurd (no_good_end (reader_ending t.code) reader_step.Failed t.code t.step (reader_end t.code t.step) e)
 ended_well (model.Closer t) e = absurd (no_good_end (closer_ending t.code) closer_step.Failed t.code t.step (closer_end t.code t.step) e)
 ended_well (model.Cleaner v) e = absurd (no_good_end (cleaner_ending v.code) cleaner_step.Failed v.code v.step (cleaner_end v.code v.step) e)
 ended_well (model.Checkpointer t) e = absurd (no_good_end (checkpointer_ending t.code) checkpointer_step.Failed t.code t.step (checkpointer_end t.code t.step) e)
-ended_well (model.Joined es) e = inr (es, refl)
 
 abbrev user_or : UserState → model.Actor → UserState
 user_or d (model.User u) = u

@@ -37,7 +37,6 @@ gives_hand (actor.Checkpointer t) code g = ap (checkpointer_hand t) g.0
 gives_hand (actor.User u) code g = absurd g
 gives_hand (actor.Closer t) code g = absurd g
 gives_hand (actor.Cleaner v) code g = absurd g
-gives_hand (actor.Joined es) code g = absurd g
 
 writer_loud : (f : WriterStep) → writer_quiet f → f ≡ writer_step.GiveFailed → ⊥
 writer_loud writer_step.GiveFailed quiet e = absurd quiet
@@ -148,7 +147,6 @@ has_stored (actor.Checkpointer s) r code free g = by_check s.checks (actor.Check
 has_stored (actor.User u) r code free g = absurd (none_gives u.checks (actor.User (checked_of user_program u (old_of r))) (actor.User (user_took u (heard r) u.step)) code (λ x. x) (λ x. x) g)
 has_stored (actor.Closer t) r code free g = absurd (none_gives t.checks (actor.Closer (checked_of closer_program t (old_of r))) (actor.Closer (closer_took t r t.step)) code (λ x. x) (λ x. x) g)
 has_stored (actor.Cleaner v) r code free g = absurd (none_gives v.checks (actor.Cleaner (checked_of cleaner_program v (old_of r))) (actor.Cleaner (cleaner_took v r v.step)) code (λ x. x) (λ x. x) g)
-has_stored (actor.Joined es) r code free g = absurd g
 
 -- it stores the code
 pub stores : (a : Actor) (code : ℕ) → is_checking a ≡ false → HasStored a code → next a ≡ op.Store word.Failed code
@@ -159,4 +157,3 @@ stores (actor.Checkpointer t) code free h = ap (λ (b : Bool). cond b (op.Load w
 stores (actor.User u) code free h = absurd h
 stores (actor.Closer t) code free h = absurd h
 stores (actor.Cleaner v) code free h = absurd h
-stores (actor.Joined es) code free h = absurd h

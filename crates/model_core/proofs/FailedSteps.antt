@@ -437,7 +437,6 @@ own_fails (actor.Checkpointer s) r code e =
     u)
     t)
     (checkpointer_near_or s.step)
-own_fails (actor.Joined es) r code e = absurd (ended_not code e)
 
 by_flags : (checks zero waiting : Bool) (n code : ℕ) (ends : Step) → cond checks (cond zero step.Moved (step.Failed n)) (cond waiting step.Idle ends) ≡ step.Failed code → ((checks ≡ true) × (n ≡ code)) ⊎ ((checks ≡ false) × (ends ≡ step.Failed code))
 by_flags true true waiting n code ends e = absurd (cc)

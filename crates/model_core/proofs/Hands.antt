@@ -264,7 +264,6 @@ handles (actor.Reader t) free = by_check actor.Reader (reader_op t t.step) (reco
 handles (actor.Closer t) free = by_check actor.Closer (closer_op t t.step) (record t { checks = false }) (λ n. record t { checks = false; code = n; step = closer_step.Failed }) (λ r. closer_took t r t.step) t.checks None (λ c. (free c).no_slot) refl (λ n. refl) (closer_own t t.step)
 handles (actor.Cleaner v) free = by_check actor.Cleaner (cleaner_op v v.step) (record v { checks = false }) (λ n. record v { checks = false; code = n; step = cleaner_step.Failed }) (λ r. cleaner_took v r v.step) v.checks (cleaner_hand v v.step) (λ c. (free c).no_slot) (cleaner_same v v.step) (λ n. refl) (cleaner_own v v.step)
 handles (actor.Checkpointer t) free = by_check actor.Checkpointer (checkpointer_op t t.step) (record t { checks = false }) (λ n. record t { checks = false; code = n; step = checkpointer_step.Failed }) (λ r. checkpointer_took t r t.step) t.checks (checkpointer_hand t t.step) (λ c. (free c).no_slot) (checkpointer_same t t.step) (λ n. refl) (checkpointer_own t t.step)
-handles (actor.Joined es) free = tt
 
 -- and who checks after it holds nothing
 abbrev IsFree : Bool → Option ℕ → Type 0
@@ -363,7 +362,6 @@ stays_empty (actor.Reader t) r = by_free actor.Reader (λ (z : ReaderState). z.c
 stays_empty (actor.Closer t) r = by_free actor.Closer (λ (z : CloserState). z.checks) (record t { checks = false }) (record t { checks = false; code = old_of r; step = closer_step.Failed }) (closer_took t r t.step) (λ z. refl) t.checks (old_of r == 0) refl refl (λ quiet. inr refl)
 stays_empty (actor.Cleaner v) r = by_free actor.Cleaner (λ (z : CleanerState). z.checks) (record v { checks = false }) (record v { checks = false; code = old_of r; step = cleaner_step.Failed }) (cleaner_took v r v.step) (λ z. refl) v.checks (old_of r == 0) refl refl (λ quiet. cleaner_free v quiet r v.step)
 stays_empty (actor.Checkpointer t) r = by_free actor.Checkpointer (λ (z : CheckpointerState). z.checks) (record t { checks = false }) (record t { checks = false; code = old_of r; step = checkpointer_step.Failed }) (checkpointer_took t r t.step) (λ z. refl) t.checks (old_of r == 0) refl refl (λ quiet. checkpointer_free t quiet r t.step)
-stays_empty (actor.Joined es) r = λ is. refl
 
 pub stays_free : (a : Actor) (r : Answer) → IsFreeToCheck (took a r)
 stays_free a r checks = record { no_slot = stays_empty a r checks; no_tail = took_free a r checks }

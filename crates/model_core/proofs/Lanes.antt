@@ -8,7 +8,7 @@ use Rattle.std.specs.Int.{byte_at, bytes_low_first, from_le_bytes, to_le_bytes, 
 use Rattle.std.specs.Prelude.{get_or, min, replicate, slice_index}
 use native.Mathlib.Decide.{dec_le}
 use Rattle.model_core.proofs.Groups.{back, front}
-use Rattle.model_core.proofs.Lsns.{lsn_same, ring_same}
+use Rattle.model_core.proofs.Lsns.{ring_same}
 use Rattle.model_core.specs.Lanes.{cell_of, lane_of, left_in_word}
 unfoldable use Rattle.model_core.specs.Lanes.{lane, lanes, packed}
 use Rattle.model_core.specs.Lsn.{floor, lsn}
@@ -172,10 +172,6 @@ pub next_lanes : (x i : ℕ) → i < left_in_word x → lsn (x + i) % 8 ≡ lsn 
 unfolding lsn
 next_lanes x i l = omega arith
 
-pub lsn_within : (x i : ℕ) → i < left_in_word x → lsn (x + i) ≡ lsn x + i
-unfolding lsn
-lsn_within x i l = omega arith
-
 -- after them the next word begins
 pub later_word : (x y : ℕ) → x + left_in_word x ≤ y → lsn x / 8 < lsn y / 8
 unfolding lsn
@@ -189,17 +185,9 @@ pub word_grows : (x y : ℕ) → x ≤ y → lsn x / 8 ≤ lsn y / 8
 unfolding lsn
 word_grows x y h = omega arith
 
--- a word lies in one block
-pub word_block : (x y : ℕ) → lsn x / 8 ≡ lsn y / 8 → x / BLOCK_DATA ≡ y / BLOCK_DATA
-unfolding lsn
-word_block x y h = omega arith
-
 -- NO TWO LIVE PLACES IN ONE LANE: in the window two places in one cell are in one word of the log, and in one lane they are one
 pub cell_word : (x y mark : ℕ) → floor mark ≤ lsn x → floor mark ≤ lsn y → lsn x < floor mark + LOG_BUFFER → lsn y < floor mark + LOG_BUFFER → cell_of x ≡ cell_of y → lsn x / 8 ≡ lsn y / 8
 cell_word x y mark lx ly hx hy e = ring_same (lsn x / 8) (lsn y / 8) (floor mark / 8) BUFFER_WORDS (omega arith) (omega arith) (omega arith) (omega arith) e
-
-pub lane_place : (x y : ℕ) → lsn x / 8 ≡ lsn y / 8 → lane_of x ≡ lane_of y → x ≡ y
-lane_place x y w l = lsn_same x y (omega arith)
 
 -- a place from a word on is from the block floor of that word's places on
 pub word_up : (w x : ℕ) → lsn w / 8 ≤ lsn x / 8 → floor (lsn w) ≤ lsn x

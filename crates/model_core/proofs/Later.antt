@@ -19,7 +19,6 @@ later_refl (model.Reader s) = (s, refl)
 later_refl (model.Closer s) = (s, refl)
 later_refl (model.Cleaner s) = (s, refl)
 later_refl (model.Checkpointer s) = (s, refl)
-later_refl (model.Joined es) = (es, refl)
 
 pub later_trans : (a b c : Actor) → IsSameActor a b → IsSameActor b c → IsSameActor a c
 later_trans (model.User u) b c h k = let m = subst (λ (x : Actor). IsSameActor x c) h.1 k in (m.0, m.1, m.2 ∙ h.2, m.3 ∙ h.3)
@@ -29,7 +28,6 @@ later_trans (model.Reader s) b c h k = subst (λ (x : Actor). IsSameActor x c) h
 later_trans (model.Closer s) b c h k = subst (λ (x : Actor). IsSameActor x c) h.1 k
 later_trans (model.Cleaner s) b c h k = subst (λ (x : Actor). IsSameActor x c) h.1 k
 later_trans (model.Checkpointer s) b c h k = subst (λ (x : Actor). IsSameActor x c) h.1 k
-later_trans (model.Joined es) b c h k = subst (λ (x : Actor). IsSameActor x c) h.1 k
 
 -- a user keeps its number and its lines
 abbrev pub Keeps : UserState → UserState → Type 0
@@ -74,7 +72,6 @@ took_later (model.Reader t) r = later_by (model.Reader t) (model.Reader (checked
 took_later (model.Closer t) r = later_by (model.Closer t) (model.Closer (checked_of closer_program t (old_of r))) (model.Closer (closer_took t r t.step)) t.checks (checked_of closer_program t (old_of r), refl) (closer_took t r t.step, refl)
 took_later (model.Cleaner v) r = later_by (model.Cleaner v) (model.Cleaner (checked_of cleaner_program v (old_of r))) (model.Cleaner (cleaner_took v r v.step)) v.checks (checked_of cleaner_program v (old_of r), refl) (cleaner_took v r v.step, refl)
 took_later (model.Checkpointer t) r = later_by (model.Checkpointer t) (model.Checkpointer (checked_of checkpointer_program t (old_of r))) (model.Checkpointer (checkpointer_took t r t.step)) t.checks (checked_of checkpointer_program t (old_of r), refl) (checkpointer_took t r t.step, refl)
-took_later (model.Joined es) r = (es, refl)
 
 -- an actor that is a user later is one now
 pub was_user : (a : Actor) (u : UserState) → IsSameActor a (model.User u) → (w : UserState) × (a ≡ model.User w)

@@ -62,12 +62,6 @@ block_below x w h = omega arith
 pub ring_same : (a b lo n : ℕ) → lo ≤ a → lo ≤ b → a < lo + n → b < lo + n → a % n ≡ b % n → a ≡ b
 ring_same a b lo n la lb ha hb e = dite (dec_le a b) (λ le. one_turn a b n le (omega arith) e) (λ more. sym (one_turn b a n (omega arith) (omega arith) (sym e)))
 
--- two sns at one cell are one, if both are from w on and below its block floor plus 65,536
-pub cell_same : (x y w mark : ℕ) → mark ≡ lsn w → w ≤ x → w ≤ y → lsn x < floor mark + LOG_BUFFER → lsn y < floor mark + LOG_BUFFER → lsn x % LOG_BUFFER ≡ lsn y % LOG_BUFFER → x ≡ y
-cell_same x y w mark is lx ly hx hy e =
-    let f : floor mark ≤ mark = omega arith in let a = lsn_le w x lx in let b = lsn_le w y ly in
-    lsn_same x y (ring_same (lsn x) (lsn y) (floor mark) LOG_BUFFER (omega arith) (omega arith) hx hy e)
-
 -- two sns at one link slot are one, if both are from t on and below a mark at or below t, plus 32,768
 pub link_same : (x y t mark : ℕ) → mark ≤ lsn t → t ≤ x → t ≤ y → lsn x < mark + WRITTEN_LINKS → lsn y < mark + WRITTEN_LINKS → lsn x % WRITTEN_LINKS ≡ lsn y % WRITTEN_LINKS → x ≡ y
 link_same x y t mark is lx ly hx hy e =

@@ -69,4 +69,3 @@ rests (actor.Reader t) rest r = by_rest actor.Reader (reader_op t t.step) t (che
 rests (actor.Closer t) rest r = by_rest actor.Closer (closer_op t t.step) t (checked_of closer_program t (old_of r)) (closer_took t r t.step) t.checks rest (closer_rests t r t.step)
 rests (actor.Cleaner v) rest r = by_rest actor.Cleaner (cleaner_op v v.step) v (checked_of cleaner_program v (old_of r)) (cleaner_took v r v.step) v.checks rest (cleaner_rests v r v.step)
 rests (actor.Checkpointer t) rest r = by_rest actor.Checkpointer (checkpointer_op t t.step) t (checked_of checkpointer_program t (old_of r)) (checkpointer_took t r t.step) t.checks rest (checkpointer_rests t r t.step)
-rests (actor.Joined es) rest r = refl

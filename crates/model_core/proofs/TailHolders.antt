@@ -249,7 +249,6 @@ module _ (m : SharedWords) where
     own_holder b (actor.Closer t) rests h = closer_holder t b t.step rests h
     own_holder b (actor.Cleaner v) rests h = beside b (cleaner_op v v.step) (cleaner_spares b v v.step) h
     own_holder b (actor.Checkpointer t) rests h = beside b (checkpointer_op t t.step) (checkpointer_spares b t t.step) h
-    own_holder b (actor.Joined es) rests h = (h, refl)
 
     next_holder : (b : LinkBuffer) (a : Actor) → ChecksWithoutTail a → holds_tail b (took a (shared_answer ls broken code mark m (next a))) ≡ false → tail_held b (shared_left m (next a)) ≡ true → HeldBefore b (holds_tail b a)
     next_holder b a free = by (is_checking a) refl

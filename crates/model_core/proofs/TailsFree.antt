@@ -58,9 +58,6 @@ either_step false x y p q = q
 answered_free : (u : UserState) → UserFree (answered u)
 answered_free u e = either_step (eqb (u.k + 1) (length u.lines)) user_step.Done user_step.LoadCheckpoint refl refl
 
-awaits : UserState → UserState
-awaits u = record u { step = user_step.AwaitMark }
-
 word_free : (u : UserState) (page cell : ℕ) → user_holds_one (word_step (change_at (changes u) page).cells cell) ≡ false
 word_free u page cell = either_step (is_whole (change_at (changes u) page).cells cell) user_step.StoreFrame user_step.LoadFrame refl refl
 
@@ -197,7 +194,6 @@ checked_free (actor.Reader f) n e = checks_no_more reader_program f n refl refl
 checked_free (actor.Closer t) n e = checks_no_more closer_program t n refl refl
 checked_free (actor.Cleaner v) n e = checks_no_more cleaner_program v n refl refl
 checked_free (actor.Checkpointer t) n e = checks_no_more checkpointer_program t n refl refl
-checked_free (actor.Joined es) n e = refl
 
 pub took_free : (a : Actor) (r : Answer) → ChecksWithoutTail (took a r)
 took_free a r = by (is_checking a) (checked_free a (old_of r)) (own_free a r)

@@ -108,4 +108,3 @@ next_off (model.Reader t) = checking t.checks (reader_op t t.step) (reader_off t
 next_off (model.Closer t) = checking t.checks (closer_op t t.step) (closer_off t t.step)
 next_off (model.Cleaner v) = checking v.checks (cleaner_op v v.step) (cleaner_off v v.step)
 next_off (model.Checkpointer t) = checking t.checks (checkpointer_op t t.step) (checkpointer_off t t.step)
-next_off (model.Joined es) = tt

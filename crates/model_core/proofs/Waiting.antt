@@ -222,4 +222,3 @@ wait_checks (actor.Reader f) r e = (reader_wait f r f.step e).0
 wait_checks (actor.Closer t) r e = (closer_wait t r t.step e).0
 wait_checks (actor.Cleaner v) r e = (cleaner_wait v r v.step e).0
 wait_checks (actor.Checkpointer t) r e = (checkpointer_wait t r t.step e).0
-wait_checks (actor.Joined es) r e = absurd (cc)

@@ -172,4 +172,3 @@ module _ (ls : ℕ → List Listed) (broken : Bool) (code mark : ℕ) (ws : List
   wait_words (actor.Closer t) e = closer_words t t.step e
   wait_words (actor.Cleaner v) e = cleaner_words v v.step e
   wait_words (actor.Checkpointer t) e = inl (checkpointer_words t t.step e)
-  wait_words (actor.Joined es) e = absurd (cc)

@@ -1,9 +1,8 @@
 -- The actors, and what they hand to a device call.
 use Rattle.std.specs.Prelude.{List, ℕ}
-use Rattle.model_core.specs.Groups.{Entry}
 use Rattle.model_core.specs.States as models
 
--- An actor with its state. Joined is a seat that was joined into another one, of which its groups are left.
+-- an actor with its state
 pub data Actor : Type 0 where
   User : models.UserState → Actor
   Writer : models.WriterState → Actor
@@ -12,7 +11,6 @@ pub data Actor : Type 0 where
   Cleaner : models.CleanerState → Actor
   Checkpointer : models.CheckpointerState → Actor
   Reader : models.ReaderState → Actor
-  Joined : List Entry → Actor
 
 -- what a device call takes beside its numbers: the log's bytes with their blocks' first offsets, or a batch of pages,
 -- or room for a block, with the bytes that the call puts there

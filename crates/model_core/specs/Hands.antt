@@ -80,7 +80,6 @@ hand (actor.Closer t) = None
 hand (actor.Cleaner v) = cleaner_hand v v.step
 hand (actor.Checkpointer t) = checkpointer_hand t t.step
 hand (actor.Reader r) = reader_hand r.step
-hand (actor.Joined es) = None
 
 -- an actor holds no slot, and the tail of no link buffer
 pub record HoldsNothing (a : Actor) : Type 0 where

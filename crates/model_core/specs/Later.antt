@@ -1,7 +1,6 @@
 -- The same actor, later.
-use Rattle.std.specs.Prelude.{List, ◌≡◌}
+use Rattle.std.specs.Prelude.{◌≡◌}
 use Rattle.model_core.specs.Actors as model
-use Rattle.model_core.specs.Groups.{Entry}
 use Rattle.model_core.specs.States.{CheckpointerState, CleanerState, CloserState, FlusherState, ReaderState, UserState, WriterState}
 
 -- a user keeps its number and its lines, and any other actor its kind
@@ -13,4 +12,3 @@ IsSameActor (model.Closer s) b = (t : CloserState) × (b ≡ model.Closer t)
 IsSameActor (model.Cleaner s) b = (t : CleanerState) × (b ≡ model.Cleaner t)
 IsSameActor (model.Checkpointer s) b = (t : CheckpointerState) × (b ≡ model.Checkpointer t)
 IsSameActor (model.Reader s) b = (t : ReaderState) × (b ≡ model.Reader t)
-IsSameActor (model.Joined es) b = (fs : List Entry) × (b ≡ model.Joined fs)

@@ -1,5 +1,5 @@
 -- The actors with their programs: what each has, and its next Op.
-use Rattle.std.specs.Prelude.{Bool, List, [], cond, false, ℕ, ◌++◌, ◌+◌, ◌∷◌}
+use Rattle.std.specs.Prelude.{Bool, List, [], cond, ℕ, ◌++◌, ◌+◌, ◌∷◌}
 use Rattle.model_core.specs.ActorProgram.{ActorProgram, checked_of}
 use Rattle.model_core.specs.Actors.{Actor, Batch, Blocks, Lent, Nothing, Room}
 use Rattle.model_core.specs.Answers.{old_of}
@@ -20,35 +20,33 @@ use Rattle.model_core.specs.declared.ops.Op.TheVariants as op
 use Rattle.model_core.specs.declared.steps.UserStep.TheVariants as user_step
 use Rattle.model_core.specs.Actors as actor
 
--- What is asked of an actor's case, its program and its state, and of the groups of a joined seat: the one place that names the
--- program of each case.
-abbrev pub by_program : {R : Type 0} → ((S : Type 0) → (S → Actor) → ActorProgram S → S → R) → (List Entry → R) → Actor → R
-by_program f g (actor.User u) = f _ actor.User user_program u
-by_program f g (actor.Writer s) = f _ actor.Writer writer_program s
-by_program f g (actor.Flusher t) = f _ actor.Flusher flusher_program t
-by_program f g (actor.Closer t) = f _ actor.Closer closer_program t
-by_program f g (actor.Cleaner v) = f _ actor.Cleaner cleaner_program v
-by_program f g (actor.Checkpointer t) = f _ actor.Checkpointer checkpointer_program t
-by_program f g (actor.Reader r) = f _ actor.Reader reader_program r
-by_program f g (actor.Joined es) = g es
+-- what is asked of an actor's case, its program and its state: the one place that names the program of each case
+abbrev pub by_program : {R : Type 0} → ((S : Type 0) → (S → Actor) → ActorProgram S → S → R) → Actor → R
+by_program f (actor.User u) = f _ actor.User user_program u
+by_program f (actor.Writer s) = f _ actor.Writer writer_program s
+by_program f (actor.Flusher t) = f _ actor.Flusher flusher_program t
+by_program f (actor.Closer t) = f _ actor.Closer closer_program t
+by_program f (actor.Cleaner v) = f _ actor.Cleaner cleaner_program v
+by_program f (actor.Checkpointer t) = f _ actor.Checkpointer checkpointer_program t
+by_program f (actor.Reader r) = f _ actor.Reader reader_program r
 
 -- its next Op is a load of FAILED
 abbrev pub is_checking : Actor → Bool
-is_checking = by_program (λ _ _ p s. p.checks s) (λ es. false)
+is_checking = by_program (λ _ _ p s. p.checks s)
 
 -- the Op of its step, and its next Op
 abbrev pub own_op : Actor → Op
-own_op = by_program (λ _ _ p s. p.op s) (λ es. op.Rest)
+own_op = by_program (λ _ _ p s. p.op s)
 
 abbrev pub next : Actor → Op
 next a = cond (is_checking a) (op.Load word.Failed) (own_op a)
 
 -- its state after a load of FAILED, after the Op of its step, and after its next Op
 abbrev pub checked : Actor → ℕ → Actor
-checked a n = by_program (λ _ case p s. case (checked_of p s n)) actor.Joined a
+checked a n = by_program (λ _ case p s. case (checked_of p s n)) a
 
 abbrev pub own_took : Actor → Answer → Actor
-own_took a r = by_program (λ _ case p s. case (p.took s r)) actor.Joined a
+own_took a r = by_program (λ _ case p s. case (p.took s r)) a
 
 abbrev pub took : Actor → Answer → Actor
 took a r = cond (is_checking a) (checked a (old_of r)) (own_took a r)
@@ -70,7 +68,6 @@ entries_from user lines k (s ∷ ss) = entry user k s (line_at lines k) ∷ entr
 
 abbrev pub entries : Actor → List Entry
 entries (actor.User u) = entries_from u.user u.lines 0 u.starts
-entries (actor.Joined es) = es
 entries _ = []
 
 -- the history after a step: a reservation adds a group

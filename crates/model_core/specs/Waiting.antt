@@ -1,6 +1,6 @@
 -- How a step ends. An actor waits where a condition of its step doesn't hold yet: it checks FAILED, and then takes the same
 -- step again, or begins its round anew.
-use Rattle.std.specs.Prelude.{Bool, cond, false, ◌==◌, ◌≡◌, ◌⊎◌}
+use Rattle.std.specs.Prelude.{Bool, cond, ◌==◌, ◌≡◌, ◌⊎◌}
 use Rattle.model_core.specs.Actors.{Actor}
 use Rattle.model_core.specs.Answers.{old_of}
 use Rattle.model_core.specs.Program.{by_program, is_checking, own_took}
@@ -16,7 +16,7 @@ use Rattle.model_core.specs.Actors as actor
 
 -- the actor, at its own step, waits after this answer
 abbrev pub waits : Actor → Answer → Bool
-waits a r = by_program (λ _ _ p s. p.waits s r) (λ es. false) a
+waits a r = by_program (λ _ _ p s. p.waits s r) a
 
 -- The cleaner is about to release a latch, since a group on its page isn't flushed; or the actor is about to free a tail. A
 -- user and the closer then store the tail that they have loaded.
@@ -29,7 +29,7 @@ IsFreeing _ = ⊥
 
 -- whether it has ended, and how
 abbrev pub ending : Actor → Step
-ending = by_program (λ _ _ p s. p.ending s) (λ es. step.Ended)
+ending = by_program (λ _ _ p s. p.ending s)
 
 -- the actor has ended, well or by a failure
 abbrev pub HasStopped : Actor → Type 0

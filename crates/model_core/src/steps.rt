@@ -4,144 +4,144 @@
 /// An advance of a tail: whoever makes it takes the tail's word, follows links from there on, and frees the word.
 #[derive(Clone, Copy, Debug, PartialEq, Eq)]
 pub enum AdvanceStep {
-    /// The tail's word, which may be held.
+    /// Loads the tail's word, which may be held.
     LoadTail,
-    /// A compare-exchange of it, from free to held.
+    /// Takes it by a compare-exchange, from free to held.
     TakeTail,
-    /// At its place.
+    /// Loads the link at its place.
     LoadLink,
-    /// The link that it has found; its place goes on.
+    /// Clears the link that it has found; its place goes on.
     ClearLink,
-    /// Its place as the tail, free.
+    /// Stores its place as the tail, free.
     FreeTail,
 }
 
-/// A user's.
+/// A user's steps.
 #[derive(Clone, Copy, Debug, PartialEq, Eq)]
 pub enum UserStep {
-    /// Of its free-space check, first part.
+    /// Loads CKPT, for its check of free space.
     LoadCheckpoint,
-    /// Of its free-space check, second part.
+    /// Loads SN, for that check.
     LoadSn,
-    /// Of the page that it is at.
+    /// Takes the latch of the page that it is at.
     TakeLatch,
-    /// The fetch-add on SN: the group has its place.
+    /// Adds to SN: the group has its place.
     Reserve,
-    /// Waits for room in the log buffer.
+    /// Loads WRITE, and waits for room in the log buffer.
     LoadWrite,
-    /// The next bytes of its group, as many as stand in one word: a fetch-add of them in their lanes.
+    /// Adds the next bytes of its group, as many as stand in one word, in their lanes.
     AddCell,
-    /// The first offset of the block in which its group ends.
+    /// Stores the first offset of the block in which its group ends.
     StoreFirst,
-    /// Whether the recent-written buffer has room.
+    /// Loads WTAIL: does the recent-written buffer have room?
     LoadWtail,
-    /// It hasn't, so the user advances its tail.
+    /// Advances WTAIL, where the buffer has no room.
     AdvanceWritten(AdvanceStep),
-    /// Waits for room there, where the tail has moved.
+    /// Loads WTAIL again, and waits for room where it hasn't moved.
     ReloadWtail,
-    /// Its group is copied.
+    /// Stores the group's link: the group is copied.
     StoreLink,
-    /// Whether the recent-closed buffer has room.
+    /// Loads CTAIL: does the recent-closed buffer have room?
     LoadCtail,
-    /// It hasn't, so the user advances its tail.
+    /// Advances CTAIL, where the buffer has no room.
     AdvanceClosed(AdvanceStep),
-    /// Waits for room there, where the tail has moved.
+    /// Loads CTAIL again, and waits for room where it hasn't moved.
     ReloadCtail,
-    /// The next word of the page's frame that the group changes.
+    /// Loads the next word of the page's frame that the group changes.
     LoadFrame,
-    /// That word, with the bytes that the group changes there.
+    /// Stores that word, with the bytes that the group changes there.
     StoreFrame,
-    /// The group's end, for that page.
+    /// Stores the group's end into NEWEST of that page.
     StoreNewest,
-    /// Whether that page is in its flush list already.
+    /// Loads OLDEST: is that page in its flush list already?
     LoadOldest,
-    /// It isn't.
+    /// Adds the page, which isn't, to its flush list.
     AddToList,
-    /// The group's start, for that page.
+    /// Stores the group's start into OLDEST of that page.
     StoreOldest,
-    /// The flush list, back.
+    /// Gives the flush list back.
     GiveList,
-    /// All its pages are in the flush lists.
+    /// Stores the group's link: all its pages are in the flush lists.
     StoreClosedLink,
-    /// Of the page that it is at.
+    /// Releases the latch of the page that it is at.
     ReleaseLatch,
     /// Waits for FLUSHED or WRITE, as its line's mode asks.
     AwaitMark,
-    /// All its commits are answered.
+    /// Has ended: all its commits are answered.
     Done,
-    /// It has ended by a failure.
+    /// Has ended by a failure.
     Failed,
 }
 
-/// The writer's.
+/// The writer's steps.
 #[derive(Clone, Copy, Debug, PartialEq, Eq)]
 pub enum WriterStep {
-    /// Of the tail of the recent-written buffer; it goes on with the tail that it finds or leaves.
+    /// Advances WTAIL; it goes on with the tail that it finds or leaves.
     Advance(AdvanceStep),
-    /// Waits for room in the log.
+    /// Loads CKPT, and waits for room in the log.
     LoadCheckpoint,
-    /// The first offset of the block that it enters.
+    /// Loads the first offset of the block that it enters.
     LoadFirst,
     /// Clears that first offset.
     ClearFirst,
-    /// The word of its read place.
+    /// Loads the word of its read place.
     LoadCell,
-    /// The word that it has loaded, where all its bytes are below the tail.
+    /// Clears the word that it has loaded, where all its bytes are below the tail.
     ClearCell,
-    /// To write.
+    /// Takes DEVICE, to write.
     TakeDevice,
-    /// The log part, which has failed.
+    /// Gives the log part back, which has failed.
     GiveBroken,
-    /// What it has read.
+    /// Writes what it has read.
     WriteTo,
-    /// The written mark.
+    /// Stores the written mark into WRITE.
     StoreWrite,
-    /// After a write.
+    /// Gives DEVICE back after a write.
     GiveDevice,
-    /// After a write that failed.
+    /// Stores the code of a write that failed into FAILED.
     StoreFailed,
-    /// The log part, after that.
+    /// Gives the log part back after that.
     GiveFailed,
-    /// It has ended by a failure.
+    /// Has ended by a failure.
     Failed,
 }
 
-/// The flusher's.
+/// The flusher's steps.
 #[derive(Clone, Copy, Debug, PartialEq, Eq)]
 pub enum FlusherStep {
-    /// Waits for something to flush.
+    /// Loads WRITE, and waits for something to flush.
     LoadWrite,
-    /// To flush.
+    /// Takes DEVICE, to flush.
     TakeDevice,
-    /// The log part, which has failed.
+    /// Gives the log part back, which has failed.
     GiveBroken,
-    /// What is written.
+    /// Flushes what is written.
     Sync,
-    /// The stable mark.
+    /// Stores the stable mark into FLUSHED.
     StoreFlushed,
-    /// After a flush.
+    /// Gives DEVICE back after a flush.
     GiveDevice,
-    /// After a flush that failed.
+    /// Stores the code of a flush that failed into FAILED.
     StoreFailed,
-    /// The log part, after that.
+    /// Gives the log part back after that.
     GiveFailed,
-    /// It has ended by a failure.
+    /// Has ended by a failure.
     Failed,
 }
 
-/// The closer's.
+/// The closer's steps.
 #[derive(Clone, Copy, Debug, PartialEq, Eq)]
 pub enum CloserStep {
-    /// Of the tail of the recent-closed buffer.
+    /// Advances CTAIL.
     Advance(AdvanceStep),
-    /// It has ended by a failure.
+    /// Has ended by a failure.
     Failed,
 }
 
-/// The cleaner's.
+/// The cleaner's steps.
 #[derive(Clone, Copy, Debug, PartialEq, Eq)]
 pub enum CleanerStep {
-    /// A round begins.
+    /// Begins a round with a load of FLUSHED.
     LoadFlushed,
     /// Loads OLDEST of the page that it is at.
     LoadOldest,
@@ -149,80 +149,80 @@ pub enum CleanerStep {
     TakeLatch,
     /// Loads NEWEST of that page.
     LoadNewest,
-    /// Its latch: a group on it isn't flushed.
+    /// Releases the page's latch: a group on it isn't flushed.
     ReleaseSkipped,
-    /// Its next eight bytes.
+    /// Loads the page's next eight bytes.
     LoadFrame,
-    /// The round's pages.
+    /// Writes the batch.
     WriteBatch,
-    /// The batch's first page.
+    /// Removes the batch's first page from its flush list.
     RemoveFromList,
     /// Clears OLDEST of the batch's first page.
     ClearOldest,
-    /// Its flush list, back.
+    /// Gives the flush list back.
     GiveList,
-    /// Its latch; it leaves the batch.
+    /// Releases that page's latch; the page leaves the batch.
     ReleaseLatch,
-    /// After a write that failed.
+    /// Stores the code of a write that failed into FAILED.
     StoreFailed,
-    /// It has ended by a failure.
+    /// Has ended by a failure.
     Failed,
 }
 
-/// The checkpointer's.
+/// The checkpointer's steps.
 #[derive(Clone, Copy, Debug, PartialEq, Eq)]
 pub enum CheckpointerStep {
-    /// A round begins with the first bound.
+    /// Begins a round with the first bound, CTAIL.
     LoadCtail,
-    /// The place of the next reader of the log.
+    /// Loads the place of the next reader of the log.
     LoadPlace,
-    /// The oldest modification of the next flush list.
+    /// Takes the next flush list, and reads its oldest modification.
     ReadList,
-    /// That list, back.
+    /// Gives that list back.
     GiveList,
-    /// The last bound.
+    /// Loads the last bound, FLUSHED.
     LoadFlushed,
-    /// To write a checkpoint.
+    /// Takes DEVICE, to write a checkpoint.
     TakeDevice,
-    /// The log part, which has failed.
+    /// Gives the log part back, which has failed.
     GiveBroken,
-    /// At the candidate.
+    /// Writes a checkpoint at the candidate.
     Checkpoint,
-    /// The candidate.
+    /// Stores the candidate into CKPT.
     StoreCheckpoint,
-    /// After a checkpoint.
+    /// Gives DEVICE back after a checkpoint.
     GiveDevice,
-    /// After a checkpoint that failed.
+    /// Stores the code of a checkpoint that failed into FAILED.
     StoreFailed,
-    /// The log part, after that.
+    /// Gives the log part back after that.
     GiveFailed,
-    /// It has ended by a failure.
+    /// Has ended by a failure.
     Failed,
 }
 
-/// A reader's of the log: the archiver's or a follower's.
+/// The steps of a reader of the log: the archiver or a follower.
 #[derive(Clone, Copy, Debug, PartialEq, Eq)]
 pub enum ReaderStep {
-    /// Waits for something flushed that it hasn't got.
+    /// Loads FLUSHED, and waits for something flushed that it hasn't got.
     LoadFlushed,
-    /// To read.
+    /// Takes DEVICE, to read.
     TakeDevice,
-    /// The log part, which has failed.
+    /// Gives the log part back, which has failed.
     GiveBroken,
-    /// The next block that it needs.
+    /// Reads the next block that it needs.
     ReadBlock,
-    /// After a read; then a follower has what the block holds for it.
+    /// Gives DEVICE back after a read; then a follower has what the block holds for it.
     GiveDevice,
-    /// Of the archiver: that block, up to the next block's first data byte.
+    /// Appends that block to the archive, up to the next block's first data byte; only the archiver does.
     Append,
-    /// Where its place has moved.
+    /// Stores its place, where that has moved.
     StorePlace,
-    /// After a read that failed.
+    /// Stores the code of a read that failed into FAILED.
     StoreFailed,
-    /// The log part, after that.
+    /// Gives the log part back after that.
     GiveFailed,
-    /// After an append that failed.
+    /// Stores the code of an append that failed into FAILED.
     StoreLost,
-    /// It has ended by a failure.
+    /// Has ended by a failure.
     Failed,
 }

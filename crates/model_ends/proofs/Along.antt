@@ -26,20 +26,20 @@ use Rattle.model_ends.proofs.States.{lists_same}
 use Rattle.model_ends.specs.Alone.{CanReach}
 use Rattle.model_core.specs.declared.words.Word.TheVariants as word
 
-module _ (D : LogSide) (E : DataSide) (c : Setup) (spare : ℕ) (P : SharedWords → (ℕ → List Listed) → D.Part → E.Part → List Actor → Type 0) where
+module _ (D : LogSide) (E : DataSide) (c : Setup) (P : SharedWords → (ℕ → List Listed) → D.Part → E.Part → List Actor → Type 0) where
   -- a running store, of which it holds
   pub record Along (s : Core D E) : Type 0 where
     pub words : SharedWords
     pub log_ghost : LogGhost
     pub page_ghost : PageGhost
     pub flat_is : s.words ≡ flat words
-    pub both : BothHalves D E c spare words log_ghost page_ghost s.lists s.log_part s.data_part s.actors
+    pub both : BothHalves D E c words log_ghost page_ghost s.lists s.log_part s.data_part s.actors
     pub holds : P words s.lists s.log_part s.data_part s.actors
 
   -- it holds after each turn, and after what a turn puts into an actor before its Op
   pub record EachTurnKeeps : Type 0 where
     pub filled : (m : SharedWords) (ls : ℕ → List Listed) (p : D.Part) (d : E.Part) (actors : List Actor) (seat : ℕ) (a : Actor) → get_elem? actors seat ≡ some a → (f : Filling) → P m ls p d actors → P m ls p d (set actors seat (filled a f))
-    pub turned : (m : SharedWords) (g : LogGhost) (h : PageGhost) (ls : ℕ → List Listed) (p : D.Part) (d : E.Part) (actors : List Actor) → BothHalves D E c spare m g h ls p d actors → P m ls p d actors
+    pub turned : (m : SharedWords) (g : LogGhost) (h : PageGhost) (ls : ℕ → List Listed) (p : D.Part) (d : E.Part) (actors : List Actor) → BothHalves D E c m g h ls p d actors → P m ls p d actors
         → (seat : ℕ) (a : Actor) → get_elem? actors seat ≡ some a → (code : ℕ) (q : D.Part) (e : E.Part) → LogServed D p (lent a) (next a) code q → DataServed E d (lent a) (next a) code e
         → P (shared_left m (next a)) (lists_left ls (λ i. slice_index m.lists i) (next a)) q e (set actors seat (took a (shared_answer ls (D.failed p) code (D.stable q) m (next a))))
 
@@ -57,8 +57,8 @@ module _ (D : LogSide) (E : DataSide) (c : Setup) (spare : ℕ) (P : SharedWords
       pub at : get_elem? they seat ≡ some who
       at = set_at old.actors seat t.who who t.who_is
 
-      pub both_filled : BothHalves D E c spare m S.log_ghost S.page_ghost old.lists old.log_part old.data_part they
-      both_filled = fills_keep D E c spare m S.log_ghost S.page_ghost old.lists old.log_part old.data_part old.actors seat S.both t.who t.who_is t.filling
+      pub both_filled : BothHalves D E c m S.log_ghost S.page_ghost old.lists old.log_part old.data_part they
+      both_filled = fills_keep D E c m S.log_ghost S.page_ghost old.lists old.log_part old.data_part old.actors seat S.both t.who t.who_is t.filling
 
       same_op : ◌≡◌ {A = Op} (next who) (next t.who)
       same_op = next_filled t.who t.filling
@@ -80,7 +80,7 @@ module _ (D : LogSide) (E : DataSide) (c : Setup) (spare : ℕ) (P : SharedWords
 
       said_is : ◌≡◌ {A = Answer} said answer
       said_is =
-          let w = next_words D E c spare m S.log_ghost S.page_ghost old.lists old.log_part old.data_part they seat both_filled who at in
+          let w = next_words D E c m S.log_ghost S.page_ghost old.lists old.log_part old.data_part they seat both_filled who at in
           sym (ap (λ (z : List ℕ). answers z (next who)) S.flat_is ∙ flat_answer c.pages m S.both.logged.sized old.lists (D.failed old.log_part) t.code (D.stable new.log_part) (next who) w) ∙ ap {B = Answer} (λ (o : Op). answers old.words o) same_op ∙ sym t.answered
 
       pub actors_then : ◌≡◌ {A = List Actor} (set they seat (took who said)) new.actors
@@ -88,7 +88,7 @@ module _ (D : LogSide) (E : DataSide) (c : Setup) (spare : ℕ) (P : SharedWords
 
       pub words_then : new.words ≡ flat after
       words_then =
-          let w = next_words D E c spare m S.log_ghost S.page_ghost old.lists old.log_part old.data_part they seat both_filled who at in
+          let w = next_words D E c m S.log_ghost S.page_ghost old.lists old.log_part old.data_part they seat both_filled who at in
           t.words ∙ ap (words_left old.words) (sym same_op) ∙ ap (λ (z : List ℕ). words_left z (next who)) S.flat_is ∙ flat_left c.pages m S.both.logged.sized (next who) w
 
       pub lists_then : ◌≡◌ {A = ℕ → List Listed} (lists_left old.lists (λ i. slice_index m.lists i) (next who)) new.lists
@@ -96,8 +96,8 @@ module _ (D : LogSide) (E : DataSide) (c : Setup) (spare : ℕ) (P : SharedWords
           (λ i l. sym (ap (λ (ws : List ℕ). slice_index ws (8 + i)) S.flat_is ∙ flat_read c.pages m S.both.logged.sized (word.List i) l)) (next who)
           ∙ ap {B = ℕ → List Listed} (λ (o : Op). lists_left old.lists (list_word old.words) o) same_op ∙ sym t.lists
 
-      pub both_left : BothLeft D E c spare after (lists_left old.lists (λ i. slice_index m.lists i) (next who)) new.log_part new.data_part (set they seat (took who said)) (log_left S.log_ghost.log m.sn who)
-      both_left = keeps_both D L E EL c spare m S.log_ghost S.page_ghost old.lists old.log_part old.data_part they seat both_filled t.code new.log_part new.data_part who at (is_filled t.who t.filling t.fills) served stored
+      pub both_left : BothLeft D E c after (lists_left old.lists (λ i. slice_index m.lists i) (next who)) new.log_part new.data_part (set they seat (took who said)) (log_left S.log_ghost.log m.sn who)
+      both_left = keeps_both D L E EL c m S.log_ghost S.page_ghost old.lists old.log_part old.data_part they seat both_filled t.code new.log_part new.data_part who at (is_filled t.who t.filling t.fills) served stored
           (subst (λ (o : Op). OwnServed o t.code) (sym same_op) t.own_served)
 
       pub holds_then : P after (lists_left old.lists (λ i. slice_index m.lists i) (next who)) new.log_part new.data_part (set they seat (took who said))
@@ -109,8 +109,8 @@ module _ (D : LogSide) (E : DataSide) (c : Setup) (spare : ℕ) (P : SharedWords
         log_ghost = both_left.log_ghost;
         page_ghost = both_left.page_ghost;
         flat_is = words_then;
-        both = subst (λ (rs : List Actor). BothHalves D E c spare after both_left.log_ghost both_left.page_ghost new.lists new.log_part new.data_part rs) actors_then
-            (subst (λ (ls : ℕ → List Listed). BothHalves D E c spare after both_left.log_ghost both_left.page_ghost ls new.log_part new.data_part (set they seat (took who said))) lists_then both_left.both);
+        both = subst (λ (rs : List Actor). BothHalves D E c after both_left.log_ghost both_left.page_ghost new.lists new.log_part new.data_part rs) actors_then
+            (subst (λ (ls : ℕ → List Listed). BothHalves D E c after both_left.log_ghost both_left.page_ghost ls new.log_part new.data_part (set they seat (took who said))) lists_then both_left.both);
         holds = subst (λ (rs : List Actor). P after new.lists new.log_part new.data_part rs) actors_then
             (subst (λ (ls : ℕ → List Listed). P after ls new.log_part new.data_part (set they seat (took who said))) lists_then holds_then);
       }

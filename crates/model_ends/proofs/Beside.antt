@@ -63,7 +63,6 @@ filled_pledge (actor.Flusher r) f = refl
 filled_pledge (actor.Closer r) f = refl
 filled_pledge (actor.Cleaner r) f = refl
 filled_pledge (actor.Checkpointer r) f = refl
-filled_pledge (actor.Joined r) f = refl
 
 filled_kind : (a : Actor) (f : Filling) → is_user (filled a f) ≡ is_user a
 filled_kind (actor.Reader r) f = refl
@@ -73,7 +72,6 @@ filled_kind (actor.Flusher r) f = refl
 filled_kind (actor.Closer r) f = refl
 filled_kind (actor.Cleaner r) f = refl
 filled_kind (actor.Checkpointer r) f = refl
-filled_kind (actor.Joined r) f = refl
 
 filled_ascends : (a : Actor) (f : Filling) → Ascends a → Ascends (filled a f)
 filled_ascends (actor.Reader r) f h = tt
@@ -83,7 +81,6 @@ filled_ascends (actor.Flusher r) f h = tt
 filled_ascends (actor.Closer r) f h = tt
 filled_ascends (actor.Cleaner r) f h = tt
 filled_ascends (actor.Checkpointer r) f h = tt
-filled_ascends (actor.Joined r) f h = tt
 
 filled_hand : (a : Actor) (f : Filling) → hand (filled a f) ≡ hand a
 filled_hand (actor.Reader r) f = by r.step
@@ -98,7 +95,6 @@ filled_hand (actor.Flusher r) f = refl
 filled_hand (actor.Closer r) f = refl
 filled_hand (actor.Cleaner r) f = refl
 filled_hand (actor.Checkpointer r) f = refl
-filled_hand (actor.Joined r) f = refl
 
 filled_free : (a : Actor) (f : Filling) → IsFreeToCheck a → IsFreeToCheck (filled a f)
 filled_free (actor.Reader r) f h = by r.step
@@ -113,7 +109,6 @@ filled_free (actor.Flusher r) f h = h
 filled_free (actor.Closer r) f h = h
 filled_free (actor.Cleaner r) f h = h
 filled_free (actor.Checkpointer r) f h = h
-filled_free (actor.Joined r) f h = h
 
 beside_filled : (c : Setup) (m : SharedWords) (actors : List Actor) (seat : ℕ) (a : Actor) → get_elem? actors seat ≡ some a → (f : Filling) → Beside c m actors → Beside c m (set actors seat (filled a f))
 beside_filled c m actors seat a at f B = record {
@@ -150,17 +145,16 @@ later_ascends (actor.Reader s) b is h = subst Ascends (sym is.1) tt
 later_ascends (actor.Closer s) b is h = subst Ascends (sym is.1) tt
 later_ascends (actor.Cleaner s) b is h = subst Ascends (sym is.1) tt
 later_ascends (actor.Checkpointer s) b is h = subst Ascends (sym is.1) tt
-later_ascends (actor.Joined s) b is h = subst Ascends (sym is.1) tt
 
-module _ (D : LogSide) (E : DataSide) (c : Setup) (spare : ℕ) where
+module _ (D : LogSide) (E : DataSide) (c : Setup) where
   abbrev pub Held : SharedWords → (ℕ → List Listed) → D.Part → E.Part → List Actor → Type 0
   Held m ls p d actors = Beside c m actors
 
-  pub beside_kept : EachTurnKeeps D E c spare Held
+  pub beside_kept : EachTurnKeeps D E c Held
   beside_kept = record {
     filled = λ m ls p d actors seat a at f B. beside_filled c m actors seat a at f B;
     turned = λ m g h ls p d actors both B seat a at code q e served stored. record {
-      margin = margin_kept D c spare m g p actors both.logged B.margin seat ls (D.failed p) code (D.stable q) a at;
+      margin = margin_kept D c m g p actors both.logged B.margin seat ls (D.failed p) code (D.stable q) a at;
       lists = lists_kept m actors ls (D.failed p) code (D.stable q) B.lists seat a at;
       ascend = λ j x is. ⊎_elim
           (λ z. subst Ascends z.1 (later_ascends a (took a (shared_answer ls (D.failed p) code (D.stable q) m (next a))) (took_later a (shared_answer ls (D.failed p) code (D.stable q) m (next a))) (B.ascend seat a at)))
@@ -170,7 +164,7 @@ module _ (D : LogSide) (E : DataSide) (c : Setup) (spare : ℕ) where
 
   -- AS A RUN STARTS
   module _ (L : LogLaws D) (EL : DataLaws E) (words : SharedWords) (seat_of : ℕ → ℕ) (writer : ℕ) (first : Core D E) (S : StartStore D E c words first.log_part first.data_part seat_of writer first.actors) (flat_is : first.words ≡ flat words) (lists : ◌≡◌ {A = ℕ → List Listed} first.lists (λ _. []))
-      (short : lsn (c.base + sum_over_actors left_to_reserve first.actors + spare) < LSN_LIMIT) (few : sum_over_actors is_user first.actors ≤ 16) (long : MIN_LOG_BLOCKS ≤ c.blocks) (ascend : (user : ℕ) → Ascend (c.script user)) where
+      (short : lsn (c.base + sum_over_actors left_to_reserve first.actors) < LSN_LIMIT) (few : sum_over_actors is_user first.actors ≤ 16) (long : MIN_LOG_BLOCKS ≤ c.blocks) (ascend : (user : ℕ) → Ascend (c.script user)) where
     no_pledge : (seat : ℕ) (a : Actor) → StartActor c seat_of writer seat a → pledge a ≤ 0
     no_pledge seat (actor.User u) h = let z = ap (user_pledge u) (new_user_is c u h.1).step in omega arith
     no_pledge seat (actor.Writer s) h = omega arith
@@ -179,7 +173,6 @@ module _ (D : LogSide) (E : DataSide) (c : Setup) (spare : ℕ) where
     no_pledge seat (actor.Closer s) h = omega arith
     no_pledge seat (actor.Cleaner s) h = omega arith
     no_pledge seat (actor.Checkpointer s) h = omega arith
-    no_pledge seat (actor.Joined s) h = omega arith
 
     nothing : (actors : List Actor) → sum_over_actors (λ _. 0) actors ≡ 0
     nothing [] = refl
@@ -193,7 +186,6 @@ module _ (D : LogSide) (E : DataSide) (c : Setup) (spare : ℕ) where
     starts_ascending seat (actor.Closer s) h = tt
     starts_ascending seat (actor.Cleaner s) h = tt
     starts_ascending seat (actor.Checkpointer s) h = tt
-    starts_ascending seat (actor.Joined s) h = tt
 
     user_free : (u : UserState) → u.step ≡ user_step.LoadCheckpoint → (b : LinkBuffer) → holds_tail b (actor.User u) ≡ false
     user_free u is link_buffer.Written = ap (user_holds_tail link_buffer.Written) is
@@ -215,7 +207,6 @@ module _ (D : LogSide) (E : DataSide) (c : Setup) (spare : ℕ) where
         by link_buffer.Closed = refl
     starts_free seat (actor.Cleaner s) h = subst (λ (z : CleanerState). IsFreeToCheck (actor.Cleaner z)) (sym h.1) (λ _. record { no_slot = refl; no_tail = λ b. refl })
     starts_free seat (actor.Checkpointer s) h = subst (λ (z : CheckpointerState). IsFreeToCheck (actor.Checkpointer z)) (sym h.1) (λ _. record { no_slot = refl; no_tail = λ b. refl })
-    starts_free seat (actor.Joined s) h = λ checks. absurd (cc)
 
     starts : Beside c words first.actors
     starts = record {
@@ -236,24 +227,24 @@ module _ (D : LogSide) (E : DataSide) (c : Setup) (spare : ℕ) where
       ascend = λ seat a at. starts_ascending seat a (S.each seat a at);
     }
 
-    first_along : Along D E c spare Held first
+    first_along : Along D E c Held first
     first_along = record {
       words = words;
       log_ghost = start D c words first.log_part seat_of writer S.words S.log_part;
       page_ghost = start_pages c;
       flat_is = flat_is;
-      both = subst (λ (ls : ℕ → List Listed). BothHalves D E c spare words (start D c words first.log_part seat_of writer S.words S.log_part) (start_pages c) ls first.log_part first.data_part first.actors) (sym lists)
-          (both_start D E c words first.log_part first.data_part seat_of writer first.actors S spare short);
+      both = subst (λ (ls : ℕ → List Listed). BothHalves D E c words (start D c words first.log_part seat_of writer S.words S.log_part) (start_pages c) ls first.log_part first.data_part first.actors) (sym lists)
+          (both_start D E c words first.log_part first.data_part seat_of writer first.actors S short);
       holds = starts;
     }
 
     -- in each state that any turns reach
-    pub reached : (k : ℕ) (s : Core D E) → CanReach D E k first s → Along D E c spare Held s
-    reached k s r = reach_along D E c spare Held L EL beside_kept k first s first_along r
+    pub reached : (k : ℕ) (s : Core D E) → CanReach D E k first s → Along D E c Held s
+    reached k s r = reach_along D E c Held L EL beside_kept k first s first_along r
 
     -- THE WRITER NEVER WAITS FOR SPACE IN THE LOG, whatever turns are taken and whatever the device calls answer
     pub writer_never_waits : (k : ℕ) (s : Core D E) → CanReach D E k first s → (seat : ℕ) (w : WriterState) → get_elem? s.actors seat ≡ some (actor.Writer w) → has_log_space w (slice_index s.words 4) ≡ true
     writer_never_waits k s r seat w at =
         let A = reached k s r in
-        let space = writer_has_space D c spare A.words A.log_ghost s.log_part s.actors A.both.logged A.holds.margin seat s.lists false 0 0 w at in
+        let space = writer_has_space D c A.words A.log_ghost s.log_part s.actors A.both.logged A.holds.margin seat s.lists false 0 0 w at in
         ap (λ (ws : List ℕ). has_log_space w (slice_index ws 4)) A.flat_is ∙ space

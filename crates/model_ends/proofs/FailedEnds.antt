@@ -17,7 +17,7 @@ use Rattle.model_logcore.specs.LogLaws.{LogLaws}
 use Rattle.model_pagecore.specs.DataLaws.{DataLaws}
 use Rattle.model_running.proofs.StartRunning.{both_start, start_pages}
 use Rattle.model_running.specs.RunningStore.{BothHalves}
-use Rattle.model_running.specs.Schedule.{IsSpent, TakesTurns}
+use Rattle.model_running.specs.Schedule.{TakesTurns}
 use Rattle.model_running.specs.StartStore.{StartStore}
 use Rattle.model_ends.proofs.Along.{Along, EachTurnKeeps, reach_along}
 use Rattle.model_ends.proofs.FailedRuns.{failed_run_ends, Failing}
@@ -52,25 +52,25 @@ all_lines lines k is = ap (λ (n : ℕ). line_steps (drop n lines)) is ∙ by li
     by [] = refl
     by (x ∷ xs) = refl
 
-module _ (D : LogSide) (E : DataSide) (c : Setup) (spare : ℕ) (L : LogLaws D) (EL : DataLaws E) (most n : ℕ) where
+module _ (D : LogSide) (E : DataSide) (c : Setup) (L : LogLaws D) (EL : DataLaws E) (most n : ℕ) where
   -- no more is left than that, of so many actors
   abbrev pub Within : SharedWords → (ℕ → List Listed) → D.Part → E.Part → List Actor → Type 0
   Within m ls p d actors = (total 0 m ls actors ≤ most) × (length actors ≡ n)
 
-  pub within_kept : EachTurnKeeps D E c spare Within
+  pub within_kept : EachTurnKeeps D E c Within
   within_kept = record {
     filled = λ m ls p d actors seat a at f W. (
       (let z = total_set left_of actors seat a (filled a f) at in let y = filled_left a f in let x = W.0 in omega arith),
       length-set actors seat (filled a f) ∙ W.1,
     );
     turned = λ m g h ls p d actors both W seat a at code q e served stored. (
-      (let z = turn_no_more D E c spare m g h ls p d actors both 0 seat code (D.stable q) a at in let x = W.0 in omega arith),
+      (let z = turn_no_more D E c m g h ls p d actors both 0 seat code (D.stable q) a at in let x = W.0 in omega arith),
       length-set actors seat (took a (shared_answer ls (D.failed p) code (D.stable q) m (next a))) ∙ W.1,
     );
   }
 
-module _ (D : LogSide) (E : DataSide) (c : Setup) (spare : ℕ) (L : LogLaws D) (EL : DataLaws E) (words : SharedWords) (seat_of : ℕ → ℕ) (writer : ℕ) (first : Core D E) (S : StartStore D E c words first.log_part first.data_part seat_of writer first.actors) (flat_is : first.words ≡ flat words) (lists : ◌≡◌ {A = ℕ → List Listed} first.lists (λ _. []))
-    (short : lsn (c.base + sum_over_actors left_to_reserve first.actors + spare) < LSN_LIMIT) where
+module _ (D : LogSide) (E : DataSide) (c : Setup) (L : LogLaws D) (EL : DataLaws E) (words : SharedWords) (seat_of : ℕ → ℕ) (writer : ℕ) (first : Core D E) (S : StartStore D E c words first.log_part first.data_part seat_of writer first.actors) (flat_is : first.words ≡ flat words) (lists : ◌≡◌ {A = ℕ → List Listed} first.lists (λ _. []))
+    (short : lsn (c.base + sum_over_actors left_to_reserve first.actors) < LSN_LIMIT) where
   abbrev pub most : ℕ
   most = sum_over_actors script_steps first.actors
 
@@ -89,7 +89,6 @@ module _ (D : LogSide) (E : DataSide) (c : Setup) (spare : ℕ) (L : LogLaws D) 
   left_first seat (actor.Closer s) h = omega arith
   left_first seat (actor.Cleaner s) h = omega arith
   left_first seat (actor.Checkpointer s) h = omega arith
-  left_first seat (actor.Joined s) h = omega arith
 
   total_first : total 0 words (λ _. []) first.actors ≤ most
   total_first =
@@ -99,32 +98,28 @@ module _ (D : LogSide) (E : DataSide) (c : Setup) (spare : ℕ) (L : LogLaws D) 
       let pages = none_marked words.page_words (λ p less. ap (λ (w : PageWords). w.oldest) (S.page_words.page_words p (let z = S.words.sized.page_words in omega arith))) in
       omega arith
 
-  first_along : Along D E c spare (Within D E c spare L EL most (length first.actors)) first
+  first_along : Along D E c (Within D E c L EL most (length first.actors)) first
   first_along = record {
     words = words;
     log_ghost = start D c words first.log_part seat_of writer S.words S.log_part;
     page_ghost = start_pages c;
     flat_is = flat_is;
-    both = subst (λ (ls : ℕ → List Listed). BothHalves D E c spare words (start D c words first.log_part seat_of writer S.words S.log_part) (start_pages c) ls first.log_part first.data_part first.actors) (sym lists)
-        (both_start D E c words first.log_part first.data_part seat_of writer first.actors S spare short);
+    both = subst (λ (ls : ℕ → List Listed). BothHalves D E c words (start D c words first.log_part seat_of writer S.words S.log_part) (start_pages c) ls first.log_part first.data_part first.actors) (sym lists)
+        (both_start D E c words first.log_part first.data_part seat_of writer first.actors S short);
     holds = (subst (λ (ls : ℕ → List Listed). total 0 words ls first.actors ≤ most) (sym lists) total_first, refl);
   }
 
   -- ONCE FAILED HAS A CODE turns one after another end the run
   pub ends_once_failed : (any k seed max : ℕ) (reached last : Core D E) → CanReach D E any first reached → 0 < slice_index reached.words 6 → TakesTurns D E seed max k reached last → k ≤ max / 2 + (most + 1) * (21 * length first.actors)
   ends_once_failed any k seed max reached last reach failed turns =
-      let A = reach_along D E c spare (Within D E c spare L EL most (length first.actors)) L EL (within_kept D E c spare L EL most (length first.actors)) any first reached first_along reach in
+      let A = reach_along D E c (Within D E c L EL most (length first.actors)) L EL (within_kept D E c L EL most (length first.actors)) any first reached first_along reach in
       let is : slice_index reached.words 6 ≡ A.words.failed = ap (λ (ws : List ℕ). slice_index ws 6) A.flat_is in
-      let F : Failing D E c spare L EL (length first.actors) reached = record {
+      let F : Failing D E c L EL (length first.actors) reached = record {
         along = record { words = A.words; log_ghost = A.log_ghost; page_ghost = A.page_ghost; flat_is = A.flat_is; both = A.both; holds = tt };
         failed = omega arith;
         seats = A.holds.1;
       } in
-      let few = failed_run_ends D E c spare L EL (length first.actors) seed max reached F k last turns in
+      let few = failed_run_ends D E c L EL (length first.actors) seed max reached F k last turns in
       let low : total 0 A.words reached.lists reached.actors + 1 ≤ most + 1 = (let z = A.holds.0 in omega arith) in
       let more : (total 0 A.words reached.lists reached.actors + 1) * (21 * length first.actors) ≤ (most + 1) * (21 * length first.actors) = mul-le-mul_right (21 * length first.actors) low in
       omega arith
-
-  -- and with more than twice as many they are never spent
-  pub never_spent_once_failed : (any seed max user : ℕ) (reached last : Core D E) → CanReach D E any first reached → 0 < slice_index reached.words 6 → 2 * ((most + 1) * (21 * length first.actors)) < max → IsSpent D E seed max user reached last → ⊥
-  never_spent_once_failed any seed max user reached last reach failed more spent = let z = ends_once_failed any max seed max reached last reach failed spent.turns in omega arith

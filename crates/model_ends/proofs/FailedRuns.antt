@@ -21,7 +21,7 @@ use Rattle.model_logcore.specs.LogLaws.{LogLaws}
 use Rattle.model_pagecore.specs.DataLaws.{DataLaws}
 use Rattle.model_running.proofs.FailedStays.{turn_keeps_failed}
 use Rattle.model_running.specs.RunningStore.{IsRunning}
-use Rattle.model_running.specs.Schedule.{HaveEnded, IsSpent, seat_of_turn, TakesTurns}
+use Rattle.model_running.specs.Schedule.{HaveEnded, seat_of_turn, TakesTurns}
 use Rattle.model_script.specs.{draw}
 use Rattle.model_ends.proofs.Along.{actors_then, Along, both_filled, EachTurnKeeps, lists_then, turn_along, words_then}
 use Rattle.model_ends.proofs.FailedTurns.{filled_left, Moves, total, turn_no_more, user_moves}
@@ -40,16 +40,16 @@ pub record Leaver (actors : List Actor) : Type 0 where
   pub at : get_elem? actors seat ≡ some (actor.User user)
   pub live : IsOpenStep user.step
 
-module _ (D : LogSide) (E : DataSide) (c : Setup) (spare : ℕ) (L : LogLaws D) (EL : DataLaws E) (n : ℕ) where
+module _ (D : LogSide) (E : DataSide) (c : Setup) (L : LogLaws D) (EL : DataLaws E) (n : ℕ) where
   abbrev pub Anything : SharedWords → (ℕ → List Listed) → D.Part → E.Part → List Actor → Type 0
   Anything m ls p d actors = Unit {0}
 
-  abbrev pub keeps : EachTurnKeeps D E c spare Anything
+  abbrev pub keeps : EachTurnKeeps D E c Anything
   keeps = record { filled = λ m ls p d actors seat a is f h. tt; turned = λ m g h ls p d actors both z seat a is code q e served stored. tt }
 
   -- a running store whose word FAILED has a code
   pub record Failing (s : Core D E) : Type 0 where
-    pub along : Along D E c spare Anything s
+    pub along : Along D E c Anything s
     pub failed : 0 < along.words.failed
     pub seats : length s.actors ≡ n
 
@@ -58,7 +58,7 @@ module _ (D : LogSide) (E : DataSide) (c : Setup) (spare : ℕ) (L : LogLaws D) 
   rank s F = total 0 F.along.words s.lists s.actors
 
   module _ (old new : Core D E) (seat : ℕ) (answer : Answer) (step : Step) (F : Failing old) (t : Turn D E old seat answer step new) where
-    abbrev S : Along D E c spare Anything old
+    abbrev S : Along D E c Anything old
     S = F.along
 
     abbrev who : Actor
@@ -77,30 +77,30 @@ module _ (D : LogSide) (E : DataSide) (c : Setup) (spare : ℕ) (L : LogLaws D) 
     those = set they seat (took who said)
 
     those_are : ◌≡◌ {A = List Actor} those new.actors
-    those_are = actors_then D E c spare Anything L EL keeps old new seat answer step S t
+    those_are = actors_then D E c Anything L EL keeps old new seat answer step S t
 
     lists_are : ◌≡◌ {A = ℕ → List Listed} (lists_left old.lists (λ i. slice_index S.words.lists i) (next who)) new.lists
-    lists_are = lists_then D E c spare Anything L EL keeps old new seat answer step S t
+    lists_are = lists_then D E c Anything L EL keeps old new seat answer step S t
 
     there : get_elem? they seat ≡ some who
     there = set_at old.actors seat t.who who t.who_is
 
-    running : IsRunning D E c spare old
+    running : IsRunning D E c old
     running = record { shared = S.words; log_ghost = S.log_ghost; page_ghost = S.page_ghost; flat_is = S.flat_is; both = S.both }
 
     pub still_failed : 0 < after.failed
     still_failed =
         let is : slice_index old.words 6 ≡ S.words.failed = ap (λ (ws : List ℕ). slice_index ws 6) S.flat_is in
-        let then : slice_index new.words 6 ≡ after.failed = ap (λ (ws : List ℕ). slice_index ws 6) (words_then D E c spare Anything L EL keeps old new seat answer step S t) in
+        let then : slice_index new.words 6 ≡ after.failed = ap (λ (ws : List ℕ). slice_index ws 6) (words_then D E c Anything L EL keeps old new seat answer step S t) in
         let was = F.failed in
-        let z = turn_keeps_failed D E c spare old new seat answer step running t (omega arith) in
+        let z = turn_keeps_failed D E c old new seat answer step running t (omega arith) in
         omega arith
 
     pub still_seats : length new.actors ≡ n
     still_seats = ap length (sym those_are) ∙ length-set they seat (took who said) ∙ length-set old.actors seat who ∙ F.seats
 
     abbrev pub failing : Failing new
-    failing = record { along = turn_along D E c spare Anything L EL keeps old new seat answer step S t; failed = still_failed; seats = still_seats }
+    failing = record { along = turn_along D E c Anything L EL keeps old new seat answer step S t; failed = still_failed; seats = still_seats }
 
     before_is : total 0 S.words old.lists they ≡ rank old F
     before_is = let z = total_set left_of old.actors seat t.who who t.who_is in let y = filled_left t.who t.filling in omega arith
@@ -110,7 +110,7 @@ module _ (D : LogSide) (E : DataSide) (c : Setup) (spare : ℕ) (L : LogLaws D) 
 
     pub no_more : rank new failing ≤ rank old F
     no_more =
-        let le = turn_no_more D E c spare S.words S.log_ghost S.page_ghost old.lists old.log_part old.data_part they (both_filled D E c spare Anything L EL keeps old new seat answer step S t) 0 seat t.code (D.stable new.log_part) who there in
+        let le = turn_no_more D E c S.words S.log_ghost S.page_ghost old.lists old.log_part old.data_part they (both_filled D E c Anything L EL keeps old new seat answer step S t) 0 seat t.code (D.stable new.log_part) who there in
         let a = before_is in let b = after_is in
         omega arith
 
@@ -128,9 +128,9 @@ module _ (D : LogSide) (E : DataSide) (c : Setup) (spare : ℕ) (L : LogLaws D) 
           let is : ◌≡◌ {A = Actor} t.who (actor.User H.user) = some-injective t.who (actor.User H.user) (sym t.who_is ∙ here) in
           let who_is : ◌≡◌ {A = Actor} who (actor.User H.user) = ap (λ (a : Actor). filled a t.filling) is in
           let user_there : get_elem? they seat ≡ some (actor.User H.user) = there ∙ ap some who_is in
-          let moves : Moves D E c spare S.words S.log_ghost S.page_ghost old.lists old.log_part old.data_part they (both_filled D E c spare Anything L EL keeps old new seat answer step S t) 0 seat t.code (D.stable new.log_part) H.user who =
-          subst (Moves D E c spare S.words S.log_ghost S.page_ghost old.lists old.log_part old.data_part they (both_filled D E c spare Anything L EL keeps old new seat answer step S t) 0 seat t.code (D.stable new.log_part) H.user) (sym who_is)
-          (user_moves D E c spare S.words S.log_ghost S.page_ghost old.lists old.log_part old.data_part they (both_filled D E c spare Anything L EL keeps old new seat answer step S t) 0 seat t.code (D.stable new.log_part) H.user user_there F.failed H.live) in
+          let moves : Moves D E c S.words S.log_ghost S.page_ghost old.lists old.log_part old.data_part they (both_filled D E c Anything L EL keeps old new seat answer step S t) 0 seat t.code (D.stable new.log_part) H.user who =
+          subst (Moves D E c S.words S.log_ghost S.page_ghost old.lists old.log_part old.data_part they (both_filled D E c Anything L EL keeps old new seat answer step S t) 0 seat t.code (D.stable new.log_part) H.user) (sym who_is)
+          (user_moves D E c S.words S.log_ghost S.page_ghost old.lists old.log_part old.data_part they (both_filled D E c Anything L EL keeps old new seat answer step S t) 0 seat t.code (D.stable new.log_part) H.user user_there F.failed H.live) in
           ⊎_elim
           (λ less. inl (let a = before_is in let b = after_is in omega arith))
           (λ w. inr (
@@ -255,7 +255,3 @@ module _ (D : LogSide) (E : DataSide) (c : Setup) (spare : ℕ) (L : LogLaws D) 
         let B = run (rank first start) seed max first start (omega arith) k t.before t.earlier in
         ⊎_elim (λ ended. absurd (t.open_user ended)) (λ M. let z = M.within in omega arith) (B.counts (k - max / 2) (omega arith)))
   ]
-
-  -- and with more than twice as many turns they are never spent
-  pub failed_never_spent : (seed max user : ℕ) (first : Core D E) (start : Failing first) (last : Core D E) → 42 * n * (rank first start + 1) < max → IsSpent D E seed max user first last → ⊥
-  failed_never_spent seed max user first start last more spent = let z = failed_run_ends seed max first start max last spent.turns in omega arith

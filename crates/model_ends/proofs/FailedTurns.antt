@@ -38,9 +38,8 @@ filled_left (actor.Flusher r) f = refl
 filled_left (actor.Closer r) f = refl
 filled_left (actor.Cleaner r) f = refl
 filled_left (actor.Checkpointer r) f = refl
-filled_left (actor.Joined r) f = refl
 
-module _ (D : LogSide) (E : DataSide) (c : Setup) (spare : ℕ) (m : SharedWords) (g : LogGhost) (h : PageGhost) (ls : ℕ → List Listed) (p : D.Part) (d : E.Part) (actors : List Actor) (both : BothHalves D E c spare m g h ls p d actors) (last seat : ℕ) (code mark : ℕ) where
+module _ (D : LogSide) (E : DataSide) (c : Setup) (m : SharedWords) (g : LogGhost) (h : PageGhost) (ls : ℕ → List Listed) (p : D.Part) (d : E.Part) (actors : List Actor) (both : BothHalves D E c m g h ls p d actors) (last seat : ℕ) (code mark : ℕ) where
   abbrev pub to : Actor → SharedWords
   to a = shared_left m (next a)
 
@@ -51,17 +50,16 @@ module _ (D : LogSide) (E : DataSide) (c : Setup) (spare : ℕ) (m : SharedWords
   becomes a = took a (shared_answer ls (D.failed p) code mark m (next a))
 
   others : (a : Actor) → get_elem? actors seat ≡ some a → is_user a ≡ 0 → left_of (becomes a) + words_steps last (to a) (lists_of a) ≤ left_of a + words_steps last m ls
-  others a at none = let words = others_no_more D E c spare m g h ls p d actors both last seat a at none in let zero = no_left a (becomes a) (took_later a (shared_answer ls (D.failed p) code mark m (next a))) none in omega arith
+  others a at none = let words = others_no_more D E c m g h ls p d actors both last seat a at none in let zero = no_left a (becomes a) (took_later a (shared_answer ls (D.failed p) code mark m (next a))) none in omega arith
 
   one_no_more : (a : Actor) → get_elem? actors seat ≡ some a → left_of (becomes a) + words_steps last (to a) (lists_of a) ≤ left_of a + words_steps last m ls
-  one_no_more (actor.User u) at = user_no_more D E c spare m g h ls p d actors both last seat u (D.failed p) code mark at
+  one_no_more (actor.User u) at = user_no_more D E c m g h ls p d actors both last seat u (D.failed p) code mark at
   one_no_more (actor.Writer s) at = others (actor.Writer s) at refl
   one_no_more (actor.Flusher s) at = others (actor.Flusher s) at refl
   one_no_more (actor.Reader s) at = others (actor.Reader s) at refl
   one_no_more (actor.Closer s) at = others (actor.Closer s) at refl
   one_no_more (actor.Cleaner s) at = others (actor.Cleaner s) at refl
   one_no_more (actor.Checkpointer s) at = others (actor.Checkpointer s) at refl
-  one_no_more (actor.Joined s) at = others (actor.Joined s) at refl
 
   -- NO TURN MAKES MORE
   pub turn_no_more : (a : Actor) → get_elem? actors seat ≡ some a → total last (to a) (lists_of a) (set actors seat (becomes a)) ≤ total last m ls actors
@@ -75,4 +73,4 @@ module _ (D : LogSide) (E : DataSide) (c : Setup) (spare : ℕ) (m : SharedWords
   user_moves u at failed live = ⊎_elim
       (λ less. inl (let t = total_set left_of actors seat (actor.User u) (becomes (actor.User u)) at in omega arith))
       (λ waits. inr waits.1)
-      (user_settles D E c spare m g h ls p d actors both last seat u (D.failed p) code mark at failed live)
+      (user_settles D E c m g h ls p d actors both last seat u (D.failed p) code mark at failed live)

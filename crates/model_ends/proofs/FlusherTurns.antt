@@ -108,7 +108,7 @@ module _ (last : ℕ) (m : SharedWords) where
   pub flusher_words : (t : FlusherState) → NoMore (next (actor.Flusher t))
   flusher_words t = checking_words t.checks (flusher_op t t.step) (flusher_no_more t t.step)
 
-  module _ (D : LogSide) (c : Setup) (spare : ℕ) (g : LogGhost) (p : D.Part) (actors : List Actor) (seat : ℕ) (before : LogHalf D c spare m g p actors) (s : WriterState) where
+  module _ (D : LogSide) (c : Setup) (g : LogGhost) (p : D.Part) (actors : List Actor) (seat : ℕ) (before : LogHalf D c m g p actors) (s : WriterState) where
     writer_no_more : (f : WriterStep) → WriterAt D c m g p seat s f → NoMore (writer_op s f)
     writer_no_more (writer_step.Advance advance_step.TakeTail) h = by (eqb (tail_word m.wtail m.wheld) (tail_word s.advance.tail false)) refl
       where
@@ -116,7 +116,7 @@ module _ (last : ℕ) (m : SharedWords) where
         by true e = let k = (is_free m s.advance.tail (eqb-true (tail_word m.wtail m.wheld) (tail_word s.advance.tail false) e)).1 in let t = tail_in s.advance.tail true in omega arith
         by false e = omega arith
     writer_no_more (writer_step.Advance advance_step.ClearLink) h = let z = links_clear m.wlinks (s.advance.place % WRITTEN_LINKS) in omega arith
-    writer_no_more (writer_step.Advance advance_step.FreeTail) h = let t = tail_in s.advance.place false in let place = h.1.place in let low = tails D c spare m g p actors before in omega arith
+    writer_no_more (writer_step.Advance advance_step.FreeTail) h = let t = tail_in s.advance.place false in let place = h.1.place in let low = tails D c m g p actors before in omega arith
     writer_no_more writer_step.TakeDevice h = device_words (eqb m.device 0)
     writer_no_more _ h = omega arith
 

@@ -95,11 +95,6 @@ module _ (c : Setup) (u : UserState) (no_page : eqb (length (changes u)) 0 ≡ t
       by true = tt
       by false = tt
 
-  -- of one step or another
-  step_by : (b : Bool) (x y : UserStep) (w : UserState) → UserTold c w x → UserTold c w y → UserTold c w (cond b x y)
-  step_by true x y w h k = h
-  step_by false x y w h k = k
-
   user_by : (b : Bool) (x y : UserState) → Kept x → Kept y → Kept (cond b x y)
   user_by true x y h k = h
   user_by false x y h k = k
@@ -157,10 +152,6 @@ module _ (failed : ℕ) (s : WriterState) where
 
   abbrev Says : WriterState → Type 0
   Says w = WriterTold failed w w.step
-
-  writer_either : (b : Bool) (x y : WriterState) → Says x → Says y → Says (cond b x y)
-  writer_either true x y h k = h
-  writer_either false x y h k = k
 
   writer_own : (f : WriterStep) (r : Answer) → (f ≡ writer_step.TakeDevice → r ≡ answer.Broken → 0 < failed) → Says (writer_took (now f) r f)
   writer_own (writer_step.Advance advance_step.LoadTail) r broken = by (is_held (old_of r)) (nat_le (tail_of (old_of r)) s.write)

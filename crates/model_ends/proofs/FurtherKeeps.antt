@@ -91,7 +91,7 @@ module _ (actors : List Actor) (seat : ℕ) (a b : Actor) (at : get_elem? actors
     w.3,
   )
 
-module _ (D : LogSide) (L : LogLaws D) (E : DataSide) (c : Setup) (spare : ℕ) (m : SharedWords) (g : LogGhost) (h : PageGhost) (ls : ℕ → List Listed) (p : D.Part) (d : E.Part) (actors : List Actor) (both : BothHalves D E c spare m g h ls p d actors) (alone : c.log_only ≡ true) (F : Further D c m p actors) where
+module _ (D : LogSide) (L : LogLaws D) (E : DataSide) (c : Setup) (m : SharedWords) (g : LogGhost) (h : PageGhost) (ls : ℕ → List Listed) (p : D.Part) (d : E.Part) (actors : List Actor) (both : BothHalves D E c m g h ls p d actors) (alone : c.log_only ≡ true) (F : Further D c m p actors) where
   -- a line names no page
   pub no_page : (seat : ℕ) (u : UserState) → get_elem? actors seat ≡ some (actor.User u) → eqb (length (changes u)) 0 ≡ true
   no_page seat u at =
@@ -151,20 +151,18 @@ module _ (D : LogSide) (L : LogLaws D) (E : DataSide) (c : Setup) (spare : ℕ) 
     told (actor.Cleaner x) at v on = absurd (F.each seat (actor.Cleaner x) at)
     told (actor.Checkpointer x) at v on = absurd (F.each seat (actor.Checkpointer x) at)
     told (actor.Reader x) at v on = absurd (F.each seat (actor.Reader x) at)
-    told (actor.Joined x) at v on = absurd (F.each seat (actor.Joined x) at)
 
     abbrev PartLeft : Actor → Type 0
-    PartLeft a = Left D L c spare m g p actors seat both.logged F.writer F.stable ls (D.failed p) code q (shared_left m (next a)) a (took a (said a))
+    PartLeft a = Left D L c m g p actors seat both.logged F.writer F.stable ls (D.failed p) code q (shared_left m (next a)) a (took a (said a))
 
     left : (a : Actor) → get_elem? actors seat ≡ some a → LogServed D p (lent a) (next a) code q → PartLeft a
-    left (actor.User u) at v = user_left D L c spare m g p actors seat both.logged F.writer F.stable ls (D.failed p) code q u v (took (actor.User u) (said (actor.User u)))
-    left (actor.Writer s) at v = writer_left D L c spare m g p actors seat both.logged F.writer F.stable ls (D.failed p) code q s at v
-    left (actor.Flusher t) at v = flusher_left D L c spare m g p actors seat both.logged F.writer F.stable ls (D.failed p) code q t at v
+    left (actor.User u) at v = user_left D L c m g p actors seat both.logged F.writer F.stable ls (D.failed p) code q u v (took (actor.User u) (said (actor.User u)))
+    left (actor.Writer s) at v = writer_left D L c m g p actors seat both.logged F.writer F.stable ls (D.failed p) code q s at v
+    left (actor.Flusher t) at v = flusher_left D L c m g p actors seat both.logged F.writer F.stable ls (D.failed p) code q t at v
     left (actor.Closer x) at v = absurd (F.each seat (actor.Closer x) at)
     left (actor.Cleaner x) at v = absurd (F.each seat (actor.Cleaner x) at)
     left (actor.Checkpointer x) at v = absurd (F.each seat (actor.Checkpointer x) at)
     left (actor.Reader x) at v = absurd (F.each seat (actor.Reader x) at)
-    left (actor.Joined x) at v = absurd (F.each seat (actor.Joined x) at)
 
     pub further_kept : (a : Actor) → get_elem? actors seat ≡ some a → LogServed D p (lent a) (next a) code q → (0 < m.failed → 0 < (shared_left m (next a)).failed) → Further D c (shared_left m (next a)) q (set actors seat (took a (said a)))
     further_kept a at v on =

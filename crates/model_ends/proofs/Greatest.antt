@@ -35,7 +35,6 @@ of_actor c seat_of writer seat (actor.Closer t) h = omega arith
 of_actor c seat_of writer seat (actor.Cleaner t) h = omega arith
 of_actor c seat_of writer seat (actor.Checkpointer t) h = omega arith
 of_actor c seat_of writer seat (actor.Reader t) h = omega arith
-of_actor c seat_of writer seat (actor.Joined t) h = omega arith
 
 -- so few turns end the run of a script that fits the longest log
 few_turns : (actors : List Actor) → length actors ≤ MAX_USERS + 3 → sum_over_actors lines_of actors ≤ sum_over_actors bytes_of actors

@@ -99,7 +99,6 @@ rests (actor.Reader t) e = reader_rests t t.step (resting t.checks (reader_op t 
 rests (actor.Closer t) e = refl
 rests (actor.Cleaner v) e = cleaner_rests v v.step (resting v.checks (cleaner_op v v.step) e)
 rests (actor.Checkpointer t) e = checkpointer_rests t t.step (resting t.checks (checkpointer_op t t.step) e)
-rests (actor.Joined es) e = refl
 
 -- WHAT AN OP LEAVES OF THE TURN WORDS OF LISTS
 cleared : (l : List ℕ) (j : ℕ) → slice_index (slice_set l j 0) j ≡ 0

@@ -32,7 +32,7 @@ use Rattle.model_core.specs.declared.steps.WriterStep.TheVariants as writer_step
 use Rattle.model_core.specs.declared.words.LinkBuffer.TheVariants as link_buffer
 use Rattle.model_core.specs.declared.words.Word.TheVariants as word
 
-module _ (D : LogSide) (c : Setup) (spare : ℕ) (m : SharedWords) (g : LogGhost) (p : D.Part) (actors : List Actor) (half : LogHalf D c spare m g p actors) (F : Further D c m p actors) (sound : m.failed ≡ 0) where
+module _ (D : LogSide) (c : Setup) (m : SharedWords) (g : LogGhost) (p : D.Part) (actors : List Actor) (half : LogHalf D c m g p actors) (F : Further D c m p actors) (sound : m.failed ≡ 0) where
   can_help : (seat : ℕ) (a : Actor) → get_elem? actors seat ≡ some a → Can m a → Found m actors
   can_help seat a at can = record { helper = record { seat = seat; who = a; at = at; weight = 7; help = inl (sound, inl (can, tries_few a)); light = omega arith }; by_free = λ _. omega arith }
 
@@ -75,7 +75,6 @@ module _ (D : LogSide) (c : Setup) (spare : ℕ) (m : SharedWords) (g : LogGhost
       by seat (actor.Cleaner s) at has = absurd (F.each seat (actor.Cleaner s) at)
       by seat (actor.Checkpointer s) at has = absurd (F.each seat (actor.Checkpointer s) at)
       by seat (actor.Reader s) at has = absurd (F.each seat (actor.Reader s) at)
-      by seat (actor.Joined s) at has = absurd (F.each seat (actor.Joined s) at)
 
   -- The writer goes on, or it looks for a tail above WRITE.
   abbrev Looks : WriterState → WriterStep → Type 0
@@ -181,7 +180,6 @@ module _ (D : LogSide) (c : Setup) (spare : ℕ) (m : SharedWords) (g : LogGhost
     by_holder seat (actor.Cleaner s) at has = absurd (F.each seat (actor.Cleaner s) at)
     by_holder seat (actor.Checkpointer s) at has = absurd (F.each seat (actor.Checkpointer s) at)
     by_holder seat (actor.Reader s) at has = absurd (F.each seat (actor.Reader s) at)
-    by_holder seat (actor.Joined s) at has = absurd (F.each seat (actor.Joined s) at)
 
   -- where WTAIL is free and a link stands, the writer takes it
   writer_takes : (seat : ℕ) (s : WriterState) (f : WriterStep) → WriterAt D c m g p seat s f → WriterTold m.failed s f → Looks s f → s.tail ≤ m.wtail → HasLinkFree m → WriterTakes m s f
@@ -258,7 +256,6 @@ module _ (D : LogSide) (c : Setup) (spare : ℕ) (m : SharedWords) (g : LogGhost
 
       by_owner : (seat : ℕ) (a : Actor) → get_elem? actors seat ≡ some a → 0 < count_of e.user (entries a) → Found m actors
       by_owner seat (actor.User u) at more = of_user seat u at (own_user u.user e.user u.lines 0 u.starts more)
-      by_owner seat (actor.Joined es) at more = absurd (F.each seat (actor.Joined es) at)
       by_owner seat _ at more = absurd (omega arith)
 
       in_hand : Found m actors

@@ -68,7 +68,7 @@ cleaner_goes_on v p has at = ⊎_elim
     by : IsInBatch v.batch p → waits (actor.Cleaner (record v { step = cleaner_step.TakeLatch })) (answer.Old 1) ≡ true → ⊥
     by n e = some_batch n (eqb v.left 1) e
 
-module _ (D : LogSide) (E : DataSide) (c : Setup) (spare : ℕ) (m : SharedWords) (g : LogGhost) (h : PageGhost) (ls : ℕ → List Listed) (p : D.Part) (d : E.Part) (actors : List Actor) (both : BothHalves D E c spare m g h ls p d actors) (ascend : (seat : ℕ) (a : Actor) → get_elem? actors seat ≡ some a → Ascends a) where
+module _ (D : LogSide) (E : DataSide) (c : Setup) (m : SharedWords) (g : LogGhost) (h : PageGhost) (ls : ℕ → List Listed) (p : D.Part) (d : E.Part) (actors : List Actor) (both : BothHalves D E c m g h ls p d actors) (ascend : (seat : ℕ) (a : Actor) → get_elem? actors seat ≡ some a → Ascends a) where
   module _ (seat : ℕ) (u : UserState) (at : get_elem? actors seat ≡ some (actor.User u)) (waits : u.step ≡ user_step.TakeLatch) where
     fits : UserPageFits E c m g.log h ls d seat u
     fits = both.paged.each seat (actor.User u) at
@@ -110,13 +110,12 @@ module _ (D : LogSide) (E : DataSide) (c : Setup) (spare : ℕ) (m : SharedWords
       by again (actor.Closer v) there_is has = absurd has
       by again (actor.Checkpointer v) there_is has = absurd has
       by again (actor.Reader v) there_is has = absurd has
-      by again (actor.Joined v) there_is has = absurd has
 
 -- in each state that any turns reach from the start of a run whose lines name their pages in ascending order
-module _ (D : LogSide) (E : DataSide) (c : Setup) (spare : ℕ) (L : LogLaws D) (EL : DataLaws E) (words : SharedWords) (seat_of : ℕ → ℕ) (writer : ℕ) (first : Core D E) (S : StartStore D E c words first.log_part first.data_part seat_of writer first.actors) (flat_is : first.words ≡ flat words) (lists : ◌≡◌ {A = ℕ → List Listed} first.lists (λ _. []))
-    (short : lsn (c.base + sum_over_actors left_to_reserve first.actors + spare) < LSN_LIMIT) (few : sum_over_actors is_user first.actors ≤ 16) (long : MIN_LOG_BLOCKS ≤ c.blocks) (ascend : (user : ℕ) → Ascend (c.script user)) where
+module _ (D : LogSide) (E : DataSide) (c : Setup) (L : LogLaws D) (EL : DataLaws E) (words : SharedWords) (seat_of : ℕ → ℕ) (writer : ℕ) (first : Core D E) (S : StartStore D E c words first.log_part first.data_part seat_of writer first.actors) (flat_is : first.words ≡ flat words) (lists : ◌≡◌ {A = ℕ → List Listed} first.lists (λ _. []))
+    (short : lsn (c.base + sum_over_actors left_to_reserve first.actors) < LSN_LIMIT) (few : sum_over_actors is_user first.actors ≤ 16) (long : MIN_LOG_BLOCKS ≤ c.blocks) (ascend : (user : ℕ) → Ascend (c.script user)) where
   pub latches_end_in_run : (k : ℕ) (s : Core D E) (r : CanReach D E k first s) (seat : ℕ) (u : UserState) → get_elem? s.actors seat ≡ some (actor.User u) → u.step ≡ user_step.TakeLatch
-      → WaitsForNone (reached D E c spare L EL words seat_of writer first S flat_is lists short few long ascend k s r).words s.actors
+      → WaitsForNone (reached D E c L EL words seat_of writer first S flat_is lists short few long ascend k s r).words s.actors
   latches_end_in_run k s r seat u at waits =
-      let A = reached D E c spare L EL words seat_of writer first S flat_is lists short few long ascend k s r in
-      latches_end D E c spare A.words A.log_ghost A.page_ghost s.lists s.log_part s.data_part s.actors A.both A.holds.ascend c.pages seat u at waits (omega arith)
+      let A = reached D E c L EL words seat_of writer first S flat_is lists short few long ascend k s r in
+      latches_end D E c A.words A.log_ghost A.page_ghost s.lists s.log_part s.data_part s.actors A.both A.holds.ascend c.pages seat u at waits (omega arith)

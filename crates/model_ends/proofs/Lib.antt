@@ -22,7 +22,6 @@ pub mod OtherNoMore
 pub mod Outcome
 pub mod PageCost
 pub mod PartsLeft
-pub mod PartsTold
 pub mod Rank
 pub mod Runs
 pub mod Sizes

@@ -63,7 +63,7 @@ latched u n = by (n == 0) (u.page + 1 == length (changes u))
     by true false = refl
     by false d = refl
 
-module _ (D : LogSide) (c : Setup) (spare : ℕ) (m : SharedWords) (g : LogGhost) (p : D.Part) (actors : List Actor) (half : LogHalf D c spare m g p actors) where
+module _ (D : LogSide) (c : Setup) (m : SharedWords) (g : LogGhost) (p : D.Part) (actors : List Actor) (half : LogHalf D c m g p actors) where
   -- a turn leaves no more to reserve; or the user has just found space
   abbrev Less : SharedWords → ℕ → ℕ → Type 0
   Less after before behind = (after.sn + behind ≤ m.sn + before) × (m.ckpt ≤ after.ckpt)
@@ -153,7 +153,6 @@ module _ (D : LogSide) (c : Setup) (spare : ℕ) (m : SharedWords) (g : LogGhost
         let up = checkpointer_by t t.checks t.step fits.step in
         let none = no_pledge (actor.Checkpointer t) (becomes (actor.Checkpointer t)) (took_later (actor.Checkpointer t) (shared_answer ls broken code mark m (next (actor.Checkpointer t)))) refl in
         inl (let z = up.0 in (omega arith, up.1))
-    leaves (actor.Joined es) at = others (actor.Joined es) refl (refl, refl)
 
     -- each actor pledges a group at most
     short_user : (j : ℕ) (u : UserState) → get_elem? actors j ≡ some (actor.User u) → (k : ℕ) → length (line_at u.lines k).bytes ≤ MAX_GROUP
@@ -167,7 +166,6 @@ module _ (D : LogSide) (c : Setup) (spare : ℕ) (m : SharedWords) (g : LogGhost
     short j (actor.Closer s) at = omega arith
     short j (actor.Cleaner s) at = omega arith
     short j (actor.Checkpointer s) at = omega arith
-    short j (actor.Joined s) at = omega arith
 
     short_later : (a b : Actor) → get_elem? actors seat ≡ some a → IsSameActor a b → pledge b ≤ MAX_GROUP * is_user b
     short_later (actor.User u) b at is =
@@ -181,7 +179,6 @@ module _ (D : LogSide) (c : Setup) (spare : ℕ) (m : SharedWords) (g : LogGhost
     short_later (actor.Closer s) b at is = let z = ap pledge is.1 in omega arith
     short_later (actor.Cleaner s) b at is = let z = ap pledge is.1 in omega arith
     short_later (actor.Checkpointer s) b at is = let z = ap pledge is.1 in omega arith
-    short_later (actor.Joined s) b at is = let z = ap pledge is.1 in omega arith
 
     module _ (a : Actor) (at : get_elem? actors seat ≡ some a) where
       abbrev then : List Actor

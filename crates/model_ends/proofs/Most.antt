@@ -60,7 +60,7 @@ module _ (last : ℕ) where
   flusher_share (actor.Flusher t) = flusher_cost last t t.step
   flusher_share _ = 0
 
-module _ (D : LogSide) (c : Setup) (spare : ℕ) (m : SharedWords) (g : LogGhost) (p : D.Part) (actors : List Actor) (half : LogHalf D c spare m g p actors) (F : Further D c m p actors) (last : ℕ) where
+module _ (D : LogSide) (c : Setup) (m : SharedWords) (g : LogGhost) (p : D.Part) (actors : List Actor) (half : LogHalf D c m g p actors) (F : Further D c m p actors) (last : ℕ) where
   in_line : (u : UserState) (n : ℕ) → u.k < length u.lines → n ≤ rest u + (12 + length (group_bytes u)) → n ≤ lines_steps u.lines
   in_line u n less le = let z = steps_from u.lines u.k less in let y = lines_drop u.lines u.k in omega arith
 

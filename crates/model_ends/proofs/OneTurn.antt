@@ -25,7 +25,7 @@ use Rattle.model_ends.proofs.Helpers.{Found, Helper}
 use Rattle.model_ends.proofs.Helps.{sound_helps}
 use Rattle.model_ends.proofs.Outcome.{IsOpenStep, Outcome, Settled, user_leaves}
 use Rattle.model_ends.proofs.Rank.{failed_falls, failed_other, failed_waits, Goes, sound_falls, sound_waits, tells}
-use Rattle.model_ends.proofs.Sizes.{HasRoomFor, sn_last, user_space, writer_space}
+use Rattle.model_ends.proofs.Sizes.{HasRoomFor, sn_within, user_space, writer_space}
 use Rattle.model_ends.proofs.UserTurns.{user_turns}
 use Rattle.model_ends.proofs.WriterTurns.{writer_turns}
 use Rattle.model_ends.specs.Bound.{last_lsn}
@@ -38,8 +38,8 @@ no_part : (a b : Actor) → IsSameActor a b → user_part a ≡ 0 → ((u : User
 no_part (actor.User u) b is none other = absurd (other u (λ i. actor.User u))
 no_part _ b is none other = ap user_part is.1
 
-module _ (D : LogSide) (E : DataSide) (c : Setup) (spare : ℕ) (alone : c.log_only ≡ true) (L : LogLaws D) where
-  module _ (m : SharedWords) (g : LogGhost) (h : PageGhost) (ls : ℕ → List Listed) (p : D.Part) (d : E.Part) (actors : List Actor) (both : BothHalves D E c spare m g h ls p d actors) (F : Further D c m p actors) where
+module _ (D : LogSide) (E : DataSide) (c : Setup) (alone : c.log_only ≡ true) (L : LogLaws D) where
+  module _ (m : SharedWords) (g : LogGhost) (h : PageGhost) (ls : ℕ → List Listed) (p : D.Part) (d : E.Part) (actors : List Actor) (both : BothHalves D E c m g h ls p d actors) (F : Further D c m p actors) where
     -- while a user hasn't ended, somebody helps
     pub helped : (seat : ℕ) (u : UserState) → get_elem? actors seat ≡ some (actor.User u) → IsOpenStep u.step → Found m actors
     helped seat u at live = elim (dec_le 1 m.failed) [
@@ -47,7 +47,7 @@ module _ (D : LogSide) (E : DataSide) (c : Setup) (spare : ℕ) (alone : c.log_o
         helper = record { seat = seat; who = actor.User u; at = at; weight = 7; help = inr (failed, live, few_leaves u.checks u.step); light = omega arith };
         by_free = λ _. omega arith;
       }
-      | no sound ↦ sound_helps D c spare m g p actors both.logged F (omega arith) seat u at live
+      | no sound ↦ sound_helps D c m g p actors both.logged F (omega arith) seat u at live
     ]
       where
         few_leaves : (b : Bool) (f : UserStep) → cond b 1 (user_leaves f) ≤ 7
@@ -63,13 +63,13 @@ module _ (D : LogSide) (E : DataSide) (c : Setup) (spare : ℕ) (alone : c.log_o
       becomes a = took a (shared_answer ls (D.failed p) code mark m (next a))
 
       low : lsn m.sn ≤ last
-      low = let z = sn_last D c spare m g p actors both.logged F in omega arith
+      low = let z = sn_within D c m g p actors both.logged in omega arith
 
       of_user : (u : UserState) → get_elem? actors seat ≡ some (actor.User u) → Settled last m (to (actor.User u)) (actor.User u) (becomes (actor.User u))
       of_user u at =
           let fits : UserFits D c m g p seat u = both.logged.each seat (actor.User u) at in
           let told : UserTold c u u.step = F.each seat (actor.User u) at in
-          user_turns D c spare m g p actors seat u both.logged last low (no_page D L E c spare m g h ls p d actors both alone F seat u at) ls (D.failed p) code mark fits.step (is_log c u u.step told)
+          user_turns D c m g p actors seat u both.logged last low (no_page D L E c m g h ls p d actors both alone F seat u at) ls (D.failed p) code mark fits.step (is_log c u u.step told)
           (λ is. user_space c last (lsn m.sn) u.loaded.ckpt u.blocks room low (subst (UserTold c u) is told) fits.blocks)
 
       -- while FAILED is 0
@@ -82,8 +82,8 @@ module _ (D : LogSide) (E : DataSide) (c : Setup) (spare : ℕ) (alone : c.log_o
           let target = fits.tail in
           let up = lsn_le g.target m.sn (let x = O.target_wtail in let y = O.wtail_tail in let z = O.tail_sn in omega arith) in
           let top = low in
-          writer_turns D c spare m g p actors seat s both.logged fits last low sound ls (D.failed p) code mark
-          (λ _. writer_space c last s m.ckpt room (omega arith) (both.stays alone) fits.blocks) (λ is. subst (WriterTold m.failed s) is told) (part_sound D L E c spare m g h ls p d actors both alone F sound)
+          writer_turns D c m g p actors seat s both.logged fits last low sound ls (D.failed p) code mark
+          (λ _. writer_space c last s m.ckpt room (omega arith) (both.stays alone) fits.blocks) (λ is. subst (WriterTold m.failed s) is told) (part_sound D L E c m g h ls p d actors both alone F sound)
       sound_turn (actor.Flusher t) at sound =
           let fits : FlusherFits D c m g p seat t = both.logged.each seat (actor.Flusher t) at in
           let told : FlusherTold m.failed t t.step = F.each seat (actor.Flusher t) at in
@@ -93,12 +93,11 @@ module _ (D : LogSide) (E : DataSide) (c : Setup) (spare : ℕ) (alone : c.log_o
           let w = O.wtail_is in
           let up = lsn_le g.wtail m.sn (let y = O.wtail_tail in let z = O.tail_sn in omega arith) in
           let top = low in
-          flusher_turns D c m g p t last (omega arith) sound ls (D.failed p) code mark fits.step (λ is. subst (FlusherTold m.failed t) is told) (λ is. subst (FlusherTold m.failed t) is told sound) (part_sound D L E c spare m g h ls p d actors both alone F sound)
+          flusher_turns D c m g p t last (omega arith) sound ls (D.failed p) code mark fits.step (λ is. subst (FlusherTold m.failed t) is told) (λ is. subst (FlusherTold m.failed t) is told sound) (part_sound D L E c m g h ls p d actors both alone F sound)
       sound_turn (actor.Closer s) at sound = absurd (F.each seat (actor.Closer s) at)
       sound_turn (actor.Cleaner s) at sound = absurd (F.each seat (actor.Cleaner s) at)
       sound_turn (actor.Checkpointer s) at sound = absurd (F.each seat (actor.Checkpointer s) at)
       sound_turn (actor.Reader s) at sound = absurd (F.each seat (actor.Reader s) at)
-      sound_turn (actor.Joined s) at sound = absurd (F.each seat (actor.Joined s) at)
 
       module _ (H : Helper m actors) where
         abbrev GoesOn : Actor → Type 0
@@ -119,7 +118,7 @@ module _ (D : LogSide) (E : DataSide) (c : Setup) (spare : ℕ) (alone : c.log_o
         failed_turn was (actor.Writer s) at is =
             let fits : WriterFits D c m g p seat s = both.logged.each seat (actor.Writer s) at in
             let none = no_part (actor.Writer s) (becomes (actor.Writer s)) (took_later (actor.Writer s) (shared_answer ls (D.failed p) code mark m (next (actor.Writer s)))) (omega arith) (λ u e. absurd (cc)) in
-            failed_other last m (to (actor.Writer s)) actors seat (actor.Writer s) (becomes (actor.Writer s)) at H was is (λ live. live) (omega arith) (writer_words last m D c spare g p actors seat both.logged s fits.step)
+            failed_other last m (to (actor.Writer s)) actors seat (actor.Writer s) (becomes (actor.Writer s)) at H was is (λ live. live) (omega arith) (writer_words last m D c g p actors seat both.logged s fits.step)
         failed_turn was (actor.Flusher t) at is =
             let none = no_part (actor.Flusher t) (becomes (actor.Flusher t)) (took_later (actor.Flusher t) (shared_answer ls (D.failed p) code mark m (next (actor.Flusher t)))) (omega arith) (λ u e. absurd (cc)) in
             failed_other last m (to (actor.Flusher t)) actors seat (actor.Flusher t) (becomes (actor.Flusher t)) at H was is (λ live. live) (omega arith) (flusher_words last m t)
@@ -127,7 +126,6 @@ module _ (D : LogSide) (E : DataSide) (c : Setup) (spare : ℕ) (alone : c.log_o
         failed_turn was (actor.Cleaner s) at is = absurd (F.each seat (actor.Cleaner s) at)
         failed_turn was (actor.Checkpointer s) at is = absurd (F.each seat (actor.Checkpointer s) at)
         failed_turn was (actor.Reader s) at is = absurd (F.each seat (actor.Reader s) at)
-        failed_turn was (actor.Joined s) at is = absurd (F.each seat (actor.Joined s) at)
 
         pub turn_goes : (a : Actor) (at : get_elem? actors seat ≡ some a) → (0 < m.failed → 0 < (to a).failed) → HaveEnded (set actors seat (becomes a)) ⊎ Found (to a) (set actors seat (becomes a)) → Goes last m (to a) actors seat a (becomes a) at H
         turn_goes a at on again = elim (dec_le 1 m.failed) [

@@ -33,7 +33,7 @@ use Rattle.model_core.specs.declared.steps.ReaderStep.TheVariants as reader_step
 use Rattle.model_core.specs.declared.steps.WriterStep.TheVariants as writer_step
 use Rattle.model_core.specs.declared.words.Word.TheVariants as word
 
-module _ (D : LogSide) (E : DataSide) (c : Setup) (spare : ℕ) (m : SharedWords) (g : LogGhost) (h : PageGhost) (ls : ℕ → List Listed) (p : D.Part) (d : E.Part) (actors : List Actor) (both : BothHalves D E c spare m g h ls p d actors) (last : ℕ) where
+module _ (D : LogSide) (E : DataSide) (c : Setup) (m : SharedWords) (g : LogGhost) (h : PageGhost) (ls : ℕ → List Listed) (p : D.Part) (d : E.Part) (actors : List Actor) (both : BothHalves D E c m g h ls p d actors) (last : ℕ) where
   abbrev lists_then : Op → ℕ → List Listed
   lists_then o = lists_left ls (λ i. slice_index m.lists i) o
 
@@ -53,10 +53,10 @@ module _ (D : LogSide) (E : DataSide) (c : Setup) (spare : ℕ) (m : SharedWords
 
   writer_less : (seat : ℕ) (s : WriterState) (f : WriterStep) → WriterAt D c m g p seat s f → NoMore (writer_op s f)
   writer_less seat s (writer_step.Advance advance_step.LoadTail) k = omega arith
-  writer_less seat s (writer_step.Advance advance_step.TakeTail) k = let z = tails.written_less last m ls D c spare g p actors both.logged seat s.advance advance_step.TakeTail k.1 in omega arith
+  writer_less seat s (writer_step.Advance advance_step.TakeTail) k = let z = tails.written_less last m ls D c g p actors both.logged seat s.advance advance_step.TakeTail k.1 in omega arith
   writer_less seat s (writer_step.Advance advance_step.LoadLink) k = omega arith
-  writer_less seat s (writer_step.Advance advance_step.ClearLink) k = let z = tails.written_less last m ls D c spare g p actors both.logged seat s.advance advance_step.ClearLink k.1 in omega arith
-  writer_less seat s (writer_step.Advance advance_step.FreeTail) k = let z = tails.written_less last m ls D c spare g p actors both.logged seat s.advance advance_step.FreeTail k.1 in omega arith
+  writer_less seat s (writer_step.Advance advance_step.ClearLink) k = let z = tails.written_less last m ls D c g p actors both.logged seat s.advance advance_step.ClearLink k.1 in omega arith
+  writer_less seat s (writer_step.Advance advance_step.FreeTail) k = let z = tails.written_less last m ls D c g p actors both.logged seat s.advance advance_step.FreeTail k.1 in omega arith
   writer_less seat s writer_step.TakeDevice k = device (eqb m.device 0)
   writer_less seat s _ k = omega arith
 
@@ -111,4 +111,3 @@ module _ (D : LogSide) (E : DataSide) (c : Setup) (spare : ℕ) (m : SharedWords
   others_no_more seat (actor.Closer t) at none = let f : CloserFits E c m g.log h ls d seat t = both.paged.each seat (actor.Closer t) at in checking t.checks (closer_op t t.step) (closer_less seat t t.step f.step)
   others_no_more seat (actor.Cleaner v) at none = checking v.checks (cleaner_op v v.step) (cleaner_less v v.step)
   others_no_more seat (actor.Checkpointer t) at none = let f : CheckpointerFits D c m g p seat t = both.logged.each seat (actor.Checkpointer t) at in checking t.checks (checkpointer_op t t.step) (checkpointer_less t t.step f.step)
-  others_no_more seat (actor.Joined es) at none = omega arith

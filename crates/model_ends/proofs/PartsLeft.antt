@@ -31,7 +31,7 @@ storer_holds (actor.Flusher t) is = ap flusher_holds is
 storer_holds (actor.Checkpointer t) is = ap checkpointer_holds is
 storer_holds _ is = absurd is
 
-module _ (D : LogSide) (L : LogLaws D) (c : Setup) (spare : ℕ) (m : SharedWords) (g : LogGhost) (p : D.Part) (actors : List Actor) (seat : ℕ) (before : LogHalf D c spare m g p actors) (W : HasWriter actors) (St : m.failed ≡ 0 → D.stable p ≤ m.write) (ls : ℕ → List Listed) (broken : Bool) (code : ℕ) (q : D.Part) where
+module _ (D : LogSide) (L : LogLaws D) (c : Setup) (m : SharedWords) (g : LogGhost) (p : D.Part) (actors : List Actor) (seat : ℕ) (before : LogHalf D c m g p actors) (W : HasWriter actors) (St : m.failed ≡ 0 → D.stable p ≤ m.write) (ls : ℕ → List Listed) (broken : Bool) (code : ℕ) (q : D.Part) where
   abbrev pub Left : SharedWords → Actor → Actor → Type 0
   Left after a b = after.failed ≡ 0 → (D.stable q ≤ after.write) × ((D.failed q ≡ false) ⊎ (StoresCode b ⊎ ((◌≡◌ {A = D.Part} q p) × (StoresCode a → ⊥))))
 
@@ -96,7 +96,7 @@ module _ (D : LogSide) (L : LogLaws D) (c : Setup) (spare : ℕ) (m : SharedWord
     writer_own writer_step.WriteTo h v = by (eqb code 0) refl
       where
         A : AfterWrite D c.blocks c.base g.log (lsn g.target) code p q
-        A = L.writes c.blocks c.base g.log g.write g.target code s.kept s.firsts p q before.global.part.holds (can_write D L c spare m g p actors seat s before at h) (subst (λ (t : ℕ). D.Wrote t s.kept s.firsts code p q) fits.tail v)
+        A = L.writes c.blocks c.base g.log g.write g.target code s.kept s.firsts p q before.global.part.holds (can_write D L c m g p actors seat s before at h) (subst (λ (t : ℕ). D.Wrote t s.kept s.firsts code p q) fits.tail v)
 
         by : (b : Bool) → eqb code 0 ≡ b → Left m (actor.Writer (writer_at writer_step.WriteTo)) (actor.Writer (writer_took (writer_at writer_step.WriteTo) (cond b (answer.Called 0) (answer.Failed code)) writer_step.WriteTo))
         by true e = λ sound. (let z = A.stable in let y = St sound in (omega arith, inl (A.sound (eqb-true code 0 e))))

@@ -87,7 +87,6 @@ module _ (m : SharedWords) (x : Bool) where
   takes_later free (actor.Cleaner s) z = absurd z
   takes_later free (actor.Checkpointer s) z = absurd z
   takes_later free (actor.Reader s) z = absurd z
-  takes_later free (actor.Joined s) z = absurd z
 
 writer_link : (m : SharedWords) (s : WriterState) (f : WriterStep) → WriterTakes m s f → HasLinkFree m
 writer_link m s (writer_step.Advance advance_step.LoadTail) z = z
@@ -123,7 +122,6 @@ open_or (x ∷ xs) = ⊎_elim (λ ended. by x ended) (λ r. inr (suc r.0, r.1, r
     by (actor.Cleaner v) ended = inl (other (actor.Cleaner v) (λ u e. absurd (cc)) ended)
     by (actor.Checkpointer v) ended = inl (other (actor.Checkpointer v) (λ u e. absurd (cc)) ended)
     by (actor.Reader v) ended = inl (other (actor.Reader v) (λ u e. absurd (cc)) ended)
-    by (actor.Joined v) ended = inl (other (actor.Joined v) (λ u e. absurd (cc)) ended)
 
 -- A TURN OF THE ACTOR AT A SEAT
 module _ (last : ℕ) (m after : SharedWords) (actors : List Actor) (seat : ℕ) (a b : Actor) (at : get_elem? actors seat ≡ some a) where

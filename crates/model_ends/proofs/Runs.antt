@@ -30,11 +30,11 @@ use Rattle.model_ends.proofs.States.{actors_then, never_back, said, State, state
 use Rattle.model_ends.specs.Alone.{CanReach}
 use Rattle.model_ends.specs.Bound.{last_lsn}
 
-module _ (D : LogSide) (E : DataSide) (c : Setup) (spare : ℕ) (L : LogLaws D) (EL : DataLaws E) (alone : c.log_only ≡ true) (last : ℕ) (room : HasRoomFor c last) (n steps : ℕ) where
+module _ (D : LogSide) (E : DataSide) (c : Setup) (L : LogLaws D) (EL : DataLaws E) (alone : c.log_only ≡ true) (last : ℕ) (room : HasRoomFor c last) (n steps : ℕ) where
   -- a state of the run: of so many actors, with so many steps of their lines
   pub record Reached (s : Core D E) : Type 0 where
     pub words : SharedWords
-    pub state : State D E c spare words s
+    pub state : State D E c words s
     pub last_is : last_lsn c s.actors ≡ last
     pub seats : length s.actors ≡ n
     pub steps_are : sum_over_actors steps_of s.actors ≡ steps
@@ -55,7 +55,7 @@ module _ (D : LogSide) (E : DataSide) (c : Setup) (spare : ℕ) (L : LogLaws D) 
   EndedOr k x m actors = HaveEnded actors ⊎ Measured k x m actors
 
   found : (s : Core D E) (r : Reached s) → HaveEnded s.actors ⊎ Found r.words s.actors
-  found s r = let S = r.state in ⊎_elim (λ ended. inl ended) (λ live. inr (helped D E c spare alone L r.words S.log_ghost S.page_ghost s.lists s.log_part s.data_part s.actors S.both S.further live.0 live.1 live.2 live.3)) (open_or s.actors)
+  found s r = let S = r.state in ⊎_elim (λ ended. inl ended) (λ live. inr (helped D E c alone L r.words S.log_ghost S.page_ghost s.lists s.log_part s.data_part s.actors S.both S.further live.0 live.1 live.2 live.3)) (open_or s.actors)
 
   -- nothing done yet
   fresh : (k : ℕ) (s : Core D E) (r : Reached s) → EndedOr k 0 r.words s.actors
@@ -65,7 +65,7 @@ module _ (D : LogSide) (E : DataSide) (c : Setup) (spare : ℕ) (L : LogLaws D) 
       let H = f.helper in
       let few : H.seat < n = (let z = at_less s.actors H.seat H.who H.at in let y = r.seats in omega arith) in
       let t = next_turn k H.seat n few in
-      let high : rank last r.words s.actors ≤ left_most = (let z = most D c spare r.words S.log_ghost s.log_part s.actors S.both.logged S.further last in let y = r.steps_are in omega arith) in
+      let high : rank last r.words s.actors ≤ left_most = (let z = most D c r.words S.log_ghost s.log_part s.actors S.both.logged S.further last in let y = r.steps_are in omega arith) in
       inr (record { helper = H; in_turns = t.0; soon = t.1; comes = t.2; within = (let z = measure_within n (rank last r.words s.actors) left_most H.weight t.0 high H.light t.1 in omega arith) }))
       (found s r)
 
@@ -74,21 +74,21 @@ module _ (D : LogSide) (E : DataSide) (c : Setup) (spare : ℕ) (L : LogLaws D) 
     next_words = shared_left r.words (next t.who)
 
     abbrev becomes : Actor
-    becomes = took t.who (said D E c spare L EL alone r.words old new seat answer step r.state t)
+    becomes = took t.who (said D E c L EL alone r.words old new seat answer step r.state t)
 
     abbrev they : List Actor
     they = set old.actors seat becomes
 
     they_are : ◌≡◌ {A = List Actor} they new.actors
-    they_are = actors_then D E c spare L EL alone r.words old new seat answer step r.state t
+    they_are = actors_then D E c L EL alone r.words old new seat answer step r.state t
 
     abbrev reached : Reached new
     reached = record {
       words = shared_left r.words (next t.who);
-      state = state_then D E c spare L EL alone r.words old new seat answer step r.state t;
-      last_is = ap (last_lsn c) (sym they_are) ∙ ap (λ (k : ℕ). lsn (c.base + k)) (all_bytes old.actors seat t.who becomes t.who_is (took_later t.who (said D E c spare L EL alone r.words old new seat answer step r.state t))) ∙ r.last_is;
+      state = state_then D E c L EL alone r.words old new seat answer step r.state t;
+      last_is = ap (last_lsn c) (sym they_are) ∙ ap (λ (k : ℕ). lsn (c.base + k)) (all_bytes old.actors seat t.who becomes t.who_is (took_later t.who (said D E c L EL alone r.words old new seat answer step r.state t))) ∙ r.last_is;
       seats = ap length (sym they_are) ∙ length-set old.actors seat becomes ∙ r.seats;
-      steps_are = ap (sum_over_actors steps_of) (sym they_are) ∙ all_steps old.actors seat t.who becomes t.who_is (took_later t.who (said D E c spare L EL alone r.words old new seat answer step r.state t)) ∙ r.steps_are;
+      steps_are = ap (sum_over_actors steps_of) (sym they_are) ∙ all_steps old.actors seat t.who becomes t.who_is (took_later t.who (said D E c L EL alone r.words old new seat answer step r.state t)) ∙ r.steps_are;
     }
 
     -- the turn of the seat that is next
@@ -100,8 +100,8 @@ module _ (D : LogSide) (E : DataSide) (c : Setup) (spare : ℕ) (L : LogLaws D) 
       again = subst (λ (rs : List Actor). HaveEnded rs ⊎ Found next_words rs) (sym they_are) (found new reached)
 
       goes : Goes last r.words next_words old.actors seat t.who becomes t.who_is M.helper
-      goes = let S = r.state in turn_goes D E c spare alone L r.words S.log_ghost S.page_ghost old.lists old.log_part old.data_part old.actors S.both S.further last r.last_is room seat t.code (D.stable new.log_part) M.helper t.who t.who_is
-          (never_back D E c spare L EL alone r.words old new seat answer step r.state t) again
+      goes = let S = r.state in turn_goes D E c alone L r.words S.log_ghost S.page_ghost old.lists old.log_part old.data_part old.actors S.both S.further last r.last_is room seat t.code (D.stable new.log_part) M.helper t.who t.who_is
+          (never_back D E c L EL alone r.words old new seat answer step r.state t) again
 
       fewer : (H : Helper next_words they) (in_turns : ℕ) → in_turns < n → (suc k + in_turns) % n ≡ H.seat → measure n (rank last next_words they) H.weight in_turns < measure n (rank last r.words old.actors) M.helper.weight M.in_turns → Measured (suc k) (suc x) next_words they
       fewer H in_turns soon comes less = record { helper = H; in_turns = in_turns; soon = soon; comes = comes; within = (let z = M.within in omega arith) }

@@ -17,7 +17,6 @@ use Rattle.model_logcore.proofs.Frame.{total_set}
 use Rattle.model_logcore.specs.{LogGhost, sum_over_actors}
 use Rattle.model_logcore.specs.LogHalf.{LogHalf, lengths}
 use Rattle.model_ends.proofs.Cost.{lines_steps, steps_of}
-use Rattle.model_ends.proofs.Further.{Further}
 use Rattle.model_ends.specs.Bound.{bytes_of, last_lsn}
 use Rattle.model_core.specs.Actors as actor
 
@@ -55,8 +54,7 @@ entries_few : (user : ℕ) (lines : List Line) (k : ℕ) (starts : List ℕ) →
 entries_few user lines k [] = omega arith
 entries_few user lines k (s ∷ ss) = let z = entries_few user lines (k + 1) ss in let y = line_front lines k in let x = ap (λ (n : ℕ). lengths (drop n lines)) (add-one k) in omega arith
 
-module _ (D : LogSide) (c : Setup) (spare : ℕ) (m : SharedWords) (g : LogGhost) (p : D.Part) (actors : List Actor) (half : LogHalf D c spare m g p actors)
-    (none_joined : (i : ℕ) (es : List Entry) → get_elem? actors i ≡ some (actor.Joined es) → ⊥) where
+module _ (D : LogSide) (c : Setup) (m : SharedWords) (g : LogGhost) (p : D.Part) (actors : List Actor) (half : LogHalf D c m g p actors) where
   pub sn_within : lsn m.sn ≤ last_lsn c actors
   sn_within =
       let all = half.counted (λ e. length e.bytes) in
@@ -72,11 +70,6 @@ module _ (D : LogSide) (c : Setup) (spare : ℕ) (m : SharedWords) (g : LogGhost
       of_actor i (actor.Cleaner s) at = omega arith
       of_actor i (actor.Checkpointer s) at = omega arith
       of_actor i (actor.Reader s) at = omega arith
-      of_actor i (actor.Joined s) at = absurd (none_joined i s at)
-
-module _ (D : LogSide) (c : Setup) (spare : ℕ) (m : SharedWords) (g : LogGhost) (p : D.Part) (actors : List Actor) (half : LogHalf D c spare m g p actors) (F : Further D c m p actors) where
-  pub sn_last : lsn m.sn ≤ last_lsn c actors
-  sn_last = sn_within D c spare m g p actors half (λ i es at. F.each i (actor.Joined es) at)
 
 -- the space that opening asks for: the log has room for the whole script, and the margin beyond that
 abbrev pub HasRoomFor : Setup → ℕ → Type 0

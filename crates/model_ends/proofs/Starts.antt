@@ -60,7 +60,6 @@ starts_told c seat_of writer seat failed (actor.Closer t) log h = absurd log
 starts_told c seat_of writer seat failed (actor.Cleaner t) log h = absurd log
 starts_told c seat_of writer seat failed (actor.Checkpointer t) log h = absurd log
 starts_told c seat_of writer seat failed (actor.Reader t) log h = absurd log
-starts_told c seat_of writer seat failed (actor.Joined t) log h = absurd log
 
 module _ (D : LogSide) (E : DataSide) (L : LogLaws D) (EL : DataLaws E) (c : Setup) (first : Core D E) (S : StartsAlone D E c first) where
   further_starts : Further D c S.words first.log_part first.actors
@@ -72,13 +71,13 @@ module _ (D : LogSide) (E : DataSide) (L : LogLaws D) (EL : DataLaws E) (c : Set
     parts = λ _. inl S.sound;
   }
 
-  both_starts : BothHalves D E c 0 S.words (start D c S.words first.log_part S.seat_of S.writer S.store.words S.store.log_part) (start_pages c) first.lists first.log_part first.data_part first.actors
-  both_starts = subst (λ (ls : ℕ → List Listed). BothHalves D E c 0 S.words (start D c S.words first.log_part S.seat_of S.writer S.store.words S.store.log_part) (start_pages c) ls first.log_part first.data_part first.actors) (sym S.lists)
-      (both_start D E c S.words first.log_part first.data_part S.seat_of S.writer first.actors S.store 0
+  both_starts : BothHalves D E c S.words (start D c S.words first.log_part S.seat_of S.writer S.store.words S.store.log_part) (start_pages c) first.lists first.log_part first.data_part first.actors
+  both_starts = subst (λ (ls : ℕ → List Listed). BothHalves D E c S.words (start D c S.words first.log_part S.seat_of S.writer S.store.words S.store.log_part) (start_pages c) ls first.log_part first.data_part first.actors) (sym S.lists)
+      (both_start D E c S.words first.log_part first.data_part S.seat_of S.writer first.actors S.store
       (let few = sum_less left_to_reserve bytes_of first.actors (λ i a at. left_few a) in
-      lsn_below (c.base + sum_over_actors left_to_reserve first.actors + 0) (c.base + sum_over_actors bytes_of first.actors) LSN_LIMIT (omega arith) S.short))
+      lsn_below (c.base + sum_over_actors left_to_reserve first.actors) (c.base + sum_over_actors bytes_of first.actors) LSN_LIMIT (omega arith) S.short))
 
-  reached_first : Reached D E c 0 L EL S.log_only (last_lsn c first.actors) S.room (length first.actors) (sum_over_actors steps_of first.actors) first
+  reached_first : Reached D E c L EL S.log_only (last_lsn c first.actors) S.room (length first.actors) (sum_over_actors steps_of first.actors) first
   reached_first = record {
     words = S.words;
     state = record { log_ghost = start D c S.words first.log_part S.seat_of S.writer S.store.words S.store.log_part; page_ghost = start_pages c; flat_is = S.flat_is; both = both_starts; further = further_starts };
@@ -91,16 +90,12 @@ module _ (D : LogSide) (E : DataSide) (L : LogLaws D) (EL : DataLaws E) (c : Set
   -- most so many in their second half, in which they go from seat to seat: then each user has ended.
   pub run_ends : (any n seed max : ℕ) (reached last : Core D E) → CanReach D E any first reached → TakesTurns D E seed max n reached last → n ≤ max / 2 + most_turns first.actors
   run_ends any n seed max reached last reach turns =
-      let few = few_turns D E c 0 L EL S.log_only (last_lsn c first.actors) S.room (length first.actors) (sum_over_actors steps_of first.actors) seed max reached
-      (can_reach D E c 0 L EL S.log_only (last_lsn c first.actors) S.room (length first.actors) (sum_over_actors steps_of first.actors) any first reached reached_first reach) n last turns in
+      let few = few_turns D E c L EL S.log_only (last_lsn c first.actors) S.room (length first.actors) (sum_over_actors steps_of first.actors) seed max reached
+      (can_reach D E c L EL S.log_only (last_lsn c first.actors) S.room (length first.actors) (sum_over_actors steps_of first.actors) any first reached reached_first reach) n last turns in
       let all : ℕ = sum_over_actors steps_of first.actors + 26 * (last_lsn c first.actors - lsn c.base) + 2 * WRITTEN_LINKS in
       let low : all + 22 ≤ 12 * sum_over_actors lines_of first.actors + 28 * sum_over_actors bytes_of first.actors + 66_000 = (let steps = all_steps_are first.actors in let wide = lsn_far c.base (sum_over_actors bytes_of first.actors) in omega arith) in
       let more : (all + 22) * (21 * length first.actors) ≤ (12 * sum_over_actors lines_of first.actors + 28 * sum_over_actors bytes_of first.actors + 66_000) * (21 * length first.actors) = mul-le-mul_right (21 * length first.actors) low in
       omega arith
-
-  -- so turns one after another end it within so many
-  pub turns_end : (any n seed : ℕ) (reached last : Core D E) → CanReach D E any first reached → TakesTurns D E seed 0 n reached last → n ≤ most_turns first.actors
-  turns_end any n seed reached last reach turns = let z = run_ends any n seed 0 reached last reach turns in omega arith
 
   -- and with more than twice as many turns they are never spent
   pub never_spent : (any seed max user : ℕ) (reached last : Core D E) → CanReach D E any first reached → 2 * most_turns first.actors < max → IsSpent D E seed max user reached last → ⊥

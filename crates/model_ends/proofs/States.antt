@@ -40,7 +40,6 @@ filled_same c failed (actor.Closer u) f told = absurd told
 filled_same c failed (actor.Cleaner u) f told = absurd told
 filled_same c failed (actor.Checkpointer u) f told = absurd told
 filled_same c failed (actor.Reader u) f told = absurd told
-filled_same c failed (actor.Joined u) f told = absurd told
 
 all_filled : (c : Setup) (failed : ℕ) (a : Actor) → Told c failed a → IsFilled a
 all_filled c failed (actor.User u) told = tt
@@ -50,18 +49,17 @@ all_filled c failed (actor.Closer u) told = absurd told
 all_filled c failed (actor.Cleaner u) told = absurd told
 all_filled c failed (actor.Checkpointer u) told = absurd told
 all_filled c failed (actor.Reader u) told = absurd told
-all_filled c failed (actor.Joined u) told = absurd told
 
-module _ (D : LogSide) (E : DataSide) (c : Setup) (spare : ℕ) where
+module _ (D : LogSide) (E : DataSide) (c : Setup) where
   -- the store's state, with these words
   pub record State (m : SharedWords) (s : Core D E) : Type 0 where
     pub log_ghost : LogGhost
     pub page_ghost : PageGhost
     pub flat_is : s.words ≡ flat m
-    pub both : BothHalves D E c spare m log_ghost page_ghost s.lists s.log_part s.data_part s.actors
+    pub both : BothHalves D E c m log_ghost page_ghost s.lists s.log_part s.data_part s.actors
     pub further : Further D c m s.log_part s.actors
 
-  running : (m : SharedWords) (s : Core D E) → State m s → IsRunning D E c spare s
+  running : (m : SharedWords) (s : Core D E) → State m s → IsRunning D E c s
   running m s S = record { shared = m; log_ghost = S.log_ghost; page_ghost = S.page_ghost; flat_is = S.flat_is; both = S.both }
 
   module _ (L : LogLaws D) (EL : DataLaws E) (alone : c.log_only ≡ true) (m : SharedWords) (old new : Core D E) (seat : ℕ) (answer : Answer) (step : Step) (S : State m old) (t : Turn D E old seat answer step new) where
@@ -83,7 +81,7 @@ module _ (D : LogSide) (E : DataSide) (c : Setup) (spare : ℕ) where
 
     said_is : ◌≡◌ {A = Answer} said answer
     said_is =
-        let w = next_words D E c spare m S.log_ghost S.page_ghost old.lists old.log_part old.data_part old.actors seat S.both t.who t.who_is in
+        let w = next_words D E c m S.log_ghost S.page_ghost old.lists old.log_part old.data_part old.actors seat S.both t.who t.who_is in
         sym (ap (λ (z : List ℕ). answer_of old.lists (D.failed old.log_part) t.code (D.stable new.log_part) z (next t.who)) S.flat_is ∙ flat_answer c.pages m S.both.logged.sized old.lists (D.failed old.log_part) t.code (D.stable new.log_part) (next t.who) w) ∙ sym t.answered
 
     pub actors_then : ◌≡◌ {A = List Actor} (set old.actors seat (took t.who said)) new.actors
@@ -91,7 +89,7 @@ module _ (D : LogSide) (E : DataSide) (c : Setup) (spare : ℕ) where
 
     words_then : new.words ≡ flat after
     words_then =
-        let w = next_words D E c spare m S.log_ghost S.page_ghost old.lists old.log_part old.data_part old.actors seat S.both t.who t.who_is in
+        let w = next_words D E c m S.log_ghost S.page_ghost old.lists old.log_part old.data_part old.actors seat S.both t.who t.who_is in
         t.words ∙ ap (λ (z : List ℕ). words_left z (next t.who)) S.flat_is ∙ flat_left c.pages m S.both.logged.sized (next t.who) w
 
     lists_then : ◌≡◌ {A = ℕ → List Listed} (lists_left old.lists (λ i. slice_index m.lists i) (next t.who)) new.lists
@@ -102,18 +100,18 @@ module _ (D : LogSide) (E : DataSide) (c : Setup) (spare : ℕ) where
     never_back failed =
         let is : slice_index old.words 6 ≡ m.failed = ap (λ (ws : List ℕ). slice_index ws 6) S.flat_is in
         let then : slice_index new.words 6 ≡ after.failed = ap (λ (ws : List ℕ). slice_index ws 6) words_then in
-        let z = turn_keeps_failed D E c spare old new seat answer step (running m old S) t (omega arith) in
+        let z = turn_keeps_failed D E c old new seat answer step (running m old S) t (omega arith) in
         omega arith
 
     pub state_then : State after new
     state_then =
-        let r = keeps_both D L E EL c spare m S.log_ghost S.page_ghost old.lists old.log_part old.data_part old.actors seat S.both t.code new.log_part new.data_part t.who t.who_is (all_filled c m.failed t.who told) served stored t.own_served in
+        let r = keeps_both D L E EL c m S.log_ghost S.page_ghost old.lists old.log_part old.data_part old.actors seat S.both t.code new.log_part new.data_part t.who t.who_is (all_filled c m.failed t.who told) served stored t.own_served in
         record {
           log_ghost = r.log_ghost;
           page_ghost = r.page_ghost;
           flat_is = words_then;
-          both = subst (λ (rs : List Actor). BothHalves D E c spare after r.log_ghost r.page_ghost new.lists new.log_part new.data_part rs) actors_then
-              (subst (λ (ls : ℕ → List Listed). BothHalves D E c spare after r.log_ghost r.page_ghost ls new.log_part new.data_part (set old.actors seat (took t.who said))) lists_then r.both);
+          both = subst (λ (rs : List Actor). BothHalves D E c after r.log_ghost r.page_ghost new.lists new.log_part new.data_part rs) actors_then
+              (subst (λ (ls : ℕ → List Listed). BothHalves D E c after r.log_ghost r.page_ghost ls new.log_part new.data_part (set old.actors seat (took t.who said))) lists_then r.both);
           further = subst (λ (rs : List Actor). Further D c after new.log_part rs) actors_then
-              (further_kept D L E c spare m S.log_ghost S.page_ghost old.lists old.log_part old.data_part old.actors S.both alone S.further seat t.code new.log_part t.who t.who_is served never_back);
+              (further_kept D L E c m S.log_ghost S.page_ghost old.lists old.log_part old.data_part old.actors S.both alone S.further seat t.code new.log_part t.who t.who_is served never_back);
         }

@@ -30,7 +30,7 @@ same_tail : (a b : ℕ) (x y : Bool) → tail_word a x ≡ tail_word b y → a �
 same_tail a b x y e = sym (tail_in a x) ∙ ap tail_of e ∙ tail_in b y
 
 module _ (last : ℕ) (m : SharedWords) (ls : ℕ → List Listed) where
-  module _ (D : LogSide) (c : Setup) (spare : ℕ) (g : LogGhost) (p : D.Part) (actors : List Actor) (half : LogHalf D c spare m g p actors) where
+  module _ (D : LogSide) (c : Setup) (g : LogGhost) (p : D.Part) (actors : List Actor) (half : LogHalf D c m g p actors) where
     pub written_less : (seat : ℕ) (v : Advance) (s : AdvanceStep) → AdvanceAt D c m g p seat v s → words_steps last (shared_left m (advance_op link_buffer.Written v s)) ls + cleared_by s ≤ words_steps last m ls
     written_less seat v advance_step.LoadTail h = omega arith
     written_less seat v advance_step.TakeTail h = by (eqb (tail_word m.wtail m.wheld) (tail_word v.tail false)) refl
@@ -40,7 +40,7 @@ module _ (last : ℕ) (m : SharedWords) (ls : ℕ → List Listed) where
         by false e = omega arith
     written_less seat v advance_step.LoadLink h = omega arith
     written_less seat v advance_step.ClearLink h = let some = h.1 in let is = h.2 in let z = links_less m.wlinks (v.place % WRITTEN_LINKS) (omega arith) in omega arith
-    written_less seat v advance_step.FreeTail h = let t = tail_in v.place false in let place = h.place in let low = tails D c spare m g p actors half in omega arith
+    written_less seat v advance_step.FreeTail h = let t = tail_in v.place false in let place = h.place in let low = tails D c m g p actors half in omega arith
 
   module _ (E : DataSide) (c : Setup) (g : LogGhost) (h : PageGhost) (d : E.Part) (K : ClosedLinks g.log h.closed m.ctail m.cheld h.tail (lsn m.sn) m.clinks) where
     pub closing_less : (seat : ℕ) (v : Advance) (s : AdvanceStep) → ClosingAt E c m g.log h ls d seat v s → words_steps last (shared_left m (advance_op link_buffer.Closed v s)) ls + cleared_by s ≤ words_steps last m ls

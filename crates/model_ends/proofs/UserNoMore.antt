@@ -46,7 +46,7 @@ closed_cost : (u : UserState) (s : AdvanceStep) → from_pages u + 2 ≤ user_st
 closed_cost u advance_step.ClearLink = omega arith
 closed_cost u _ = omega arith
 
-module _ (D : LogSide) (E : DataSide) (c : Setup) (spare : ℕ) (m : SharedWords) (g : LogGhost) (h : PageGhost) (ls : ℕ → List Listed) (p : D.Part) (d : E.Part) (actors : List Actor) (both : BothHalves D E c spare m g h ls p d actors) (last : ℕ) (seat : ℕ) (u : UserState) (broken : Bool) (code mark : ℕ) where
+module _ (D : LogSide) (E : DataSide) (c : Setup) (m : SharedWords) (g : LogGhost) (h : PageGhost) (ls : ℕ → List Listed) (p : D.Part) (d : E.Part) (actors : List Actor) (both : BothHalves D E c m g h ls p d actors) (last : ℕ) (seat : ℕ) (u : UserState) (broken : Bool) (code mark : ℕ) where
   abbrev own : UserStep → UserState
   own f = record u { checks = false; step = f }
 
@@ -102,7 +102,7 @@ module _ (D : LogSide) (E : DataSide) (c : Setup) (spare : ℕ) (m : SharedWords
       by : (n : ℕ) → left (user_took (own (user_step.AdvanceWritten s)) n (user_step.AdvanceWritten s)) + words_steps last (shared_left m (advance_op link_buffer.Written u.advance s)) (lists_then (advance_op link_buffer.Written u.advance s)) ≤ user_steps (own (user_step.AdvanceWritten s)) (user_step.AdvanceWritten s) + words_steps last m ls
       by n =
           let low = advanced_less (user_took (own (user_step.AdvanceWritten s)) n (user_step.AdvanceWritten s)) (stays_put u.advance n s) (frees s) (advance_next u.advance n s) in
-          let words = tails.written_less last m ls D c spare g p actors both.logged seat u.advance s a.1 in
+          let words = tails.written_less last m ls D c g p actors both.logged seat u.advance s a.1 in
           let high = written_cost (own (user_step.AdvanceWritten s)) s in
           let same = plain_lists s in
           omega arith

@@ -65,7 +65,7 @@ some_left u (user_step.AdvanceWritten advance_step.ClearLink) live = omega arith
 some_left u (user_step.AdvanceClosed advance_step.ClearLink) live = omega arith
 some_left u _ live = omega arith
 
-module _ (D : LogSide) (E : DataSide) (c : Setup) (spare : ℕ) (m : SharedWords) (g : LogGhost) (h : PageGhost) (ls : ℕ → List Listed) (p : D.Part) (d : E.Part) (actors : List Actor) (both : BothHalves D E c spare m g h ls p d actors) (last : ℕ) (seat : ℕ) (u : UserState) (broken : Bool) (code mark : ℕ) where
+module _ (D : LogSide) (E : DataSide) (c : Setup) (m : SharedWords) (g : LogGhost) (h : PageGhost) (ls : ℕ → List Listed) (p : D.Part) (d : E.Part) (actors : List Actor) (both : BothHalves D E c m g h ls p d actors) (last : ℕ) (seat : ℕ) (u : UserState) (broken : Bool) (code mark : ℕ) where
   abbrev own : UserStep → UserState
   own f = record u { checks = false; step = f }
 
@@ -162,19 +162,19 @@ module _ (D : LogSide) (E : DataSide) (c : Setup) (spare : ℕ) (m : SharedWords
       by n = words_by user_step.LoadWtail (can_link (own user_step.LoadWtail) (tail_of n)) (with_link_room (own user_step.LoadWtail) n) (without_link_room (own user_step.LoadWtail) n false (user_step.AdvanceWritten advance_step.LoadTail)) (inl (omega arith)) (inr (omega arith, tt, omega arith))
   user_own (user_step.AdvanceWritten advance_step.LoadTail) a q k live =
       let n : ℕ = heard (shared_answer ls broken code mark m (advance_op link_buffer.Written u.advance advance_step.LoadTail)) in
-      written_settles advance_step.LoadTail n (tails.written_less last m ls D c spare g p actors both.logged seat u.advance advance_step.LoadTail a.1) (stays_put u.advance n advance_step.LoadTail) (frees advance_step.LoadTail) (advance_next u.advance n advance_step.LoadTail) refl refl refl
+      written_settles advance_step.LoadTail n (tails.written_less last m ls D c g p actors both.logged seat u.advance advance_step.LoadTail a.1) (stays_put u.advance n advance_step.LoadTail) (frees advance_step.LoadTail) (advance_next u.advance n advance_step.LoadTail) refl refl refl
   user_own (user_step.AdvanceWritten advance_step.TakeTail) a q k live =
       let n : ℕ = heard (shared_answer ls broken code mark m (advance_op link_buffer.Written u.advance advance_step.TakeTail)) in
-      written_settles advance_step.TakeTail n (tails.written_less last m ls D c spare g p actors both.logged seat u.advance advance_step.TakeTail a.1) (stays_put u.advance n advance_step.TakeTail) (frees advance_step.TakeTail) (advance_next u.advance n advance_step.TakeTail) refl refl refl
+      written_settles advance_step.TakeTail n (tails.written_less last m ls D c g p actors both.logged seat u.advance advance_step.TakeTail a.1) (stays_put u.advance n advance_step.TakeTail) (frees advance_step.TakeTail) (advance_next u.advance n advance_step.TakeTail) refl refl refl
   user_own (user_step.AdvanceWritten advance_step.LoadLink) a q k live =
       let n : ℕ = heard (shared_answer ls broken code mark m (advance_op link_buffer.Written u.advance advance_step.LoadLink)) in
-      written_settles advance_step.LoadLink n (tails.written_less last m ls D c spare g p actors both.logged seat u.advance advance_step.LoadLink a.1) (stays_put u.advance n advance_step.LoadLink) (frees advance_step.LoadLink) (advance_next u.advance n advance_step.LoadLink) refl refl refl
+      written_settles advance_step.LoadLink n (tails.written_less last m ls D c g p actors both.logged seat u.advance advance_step.LoadLink a.1) (stays_put u.advance n advance_step.LoadLink) (frees advance_step.LoadLink) (advance_next u.advance n advance_step.LoadLink) refl refl refl
   user_own (user_step.AdvanceWritten advance_step.ClearLink) a q k live =
       let n : ℕ = heard (shared_answer ls broken code mark m (advance_op link_buffer.Written u.advance advance_step.ClearLink)) in
-      written_settles advance_step.ClearLink n (tails.written_less last m ls D c spare g p actors both.logged seat u.advance advance_step.ClearLink a.1) (stays_put u.advance n advance_step.ClearLink) (frees advance_step.ClearLink) (advance_next u.advance n advance_step.ClearLink) refl refl refl
+      written_settles advance_step.ClearLink n (tails.written_less last m ls D c g p actors both.logged seat u.advance advance_step.ClearLink a.1) (stays_put u.advance n advance_step.ClearLink) (frees advance_step.ClearLink) (advance_next u.advance n advance_step.ClearLink) refl refl refl
   user_own (user_step.AdvanceWritten advance_step.FreeTail) a q k live =
       let n : ℕ = heard (shared_answer ls broken code mark m (advance_op link_buffer.Written u.advance advance_step.FreeTail)) in
-      written_settles advance_step.FreeTail n (tails.written_less last m ls D c spare g p actors both.logged seat u.advance advance_step.FreeTail a.1) (stays_put u.advance n advance_step.FreeTail) (frees advance_step.FreeTail) (advance_next u.advance n advance_step.FreeTail) refl refl refl
+      written_settles advance_step.FreeTail n (tails.written_less last m ls D c g p actors both.logged seat u.advance advance_step.FreeTail a.1) (stays_put u.advance n advance_step.FreeTail) (frees advance_step.FreeTail) (advance_next u.advance n advance_step.FreeTail) refl refl refl
   user_own user_step.ReloadWtail a q k live = by (heard (shared_answer ls broken code mark m (user_op (own user_step.ReloadWtail) user_step.ReloadWtail)))
     where
       by : (n : ℕ) → End m ls user_step.ReloadWtail (user_took (own user_step.ReloadWtail) n user_step.ReloadWtail)

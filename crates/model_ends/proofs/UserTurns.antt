@@ -84,7 +84,7 @@ answered_cost last v less = by (v.k + 1 == length v.lines) refl
     by true e = omega arith
     by false e = let ne = eqb-false (v.k + 1) (length v.lines) e in let more = steps_from v.lines (v.k + 1) (omega arith) in omega arith
 
-module _ (D : LogSide) (c : Setup) (spare : ℕ) (m : SharedWords) (g : LogGhost) (p : D.Part) (actors : List Actor) (seat : ℕ) (u : UserState) (before : LogHalf D c spare m g p actors) (last : ℕ) (sn_last : lsn m.sn ≤ last) (no_page : eqb (length (changes u)) 0 ≡ true) (ls : ℕ → List Listed) (broken : Bool) (code mark : ℕ) where
+module _ (D : LogSide) (c : Setup) (m : SharedWords) (g : LogGhost) (p : D.Part) (actors : List Actor) (seat : ℕ) (u : UserState) (before : LogHalf D c m g p actors) (last : ℕ) (sn_last : lsn m.sn ≤ last) (no_page : eqb (length (changes u)) 0 ≡ true) (ls : ℕ → List Listed) (broken : Bool) (code mark : ℕ) where
   -- the user at a step of its own
   abbrev own : UserStep → UserState
   own f = record u { checks = false; step = f }
@@ -107,9 +107,6 @@ module _ (D : LogSide) (c : Setup) (spare : ℕ) (m : SharedWords) (g : LogGhost
       → End m f (cond b (record (own f) { loaded = record u.loaded { wtail = t }; step = user_step.StoreLink }) (record (own f) { loaded = record u.loaded { wtail = t }; checks = checks; step = to }))
   room_at f t is high can high_leaves not_free checks to low live less true e = inl (omega arith)
   room_at f t is high can high_leaves not_free checks to low live less false e = stays f (record (own f) { loaded = record u.loaded { wtail = t }; checks = checks; step = to }) (omega arith) (λ z. absurd (never f t is e (can z))) (λ _. (live, less)) not_free
-
-  advance_at : AdvanceStep → UserState
-  advance_at v = own (user_step.AdvanceWritten v)
 
   user_advances : (v : AdvanceStep) → AdvanceAt D c m g p seat u.advance v
       → End (shared_left m (user_op (own (user_step.AdvanceWritten v)) (user_step.AdvanceWritten v))) (user_step.AdvanceWritten v) (user_took (own (user_step.AdvanceWritten v)) (heard (shared_answer ls broken code mark m (user_op (own (user_step.AdvanceWritten v)) (user_step.AdvanceWritten v)))) (user_step.AdvanceWritten v))
@@ -172,7 +169,7 @@ module _ (D : LogSide) (c : Setup) (spare : ℕ) (m : SharedWords) (g : LogGhost
       by false e =
           let t_is = tail_in u.advance.place false in
           let ne = eqb-false u.advance.place u.advance.tail e in
-          let low = tails D c spare m g p actors before in
+          let low = tails D c m g p actors before in
           let up = lsn_le g.tail m.sn before.global.order.tail_sn in
           let place = h.place in
           let tail = h.tail in

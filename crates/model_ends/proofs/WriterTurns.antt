@@ -60,7 +60,7 @@ takes_same : (m : SharedWords) (s : WriterState) (b d : Bool) (f : WriterStep) �
 takes_same m s b d (writer_step.Advance advance_step.LoadTail) takes = takes
 takes_same m s b d _ takes = takes
 
-module _ (D : LogSide) (c : Setup) (spare : ℕ) (m : SharedWords) (g : LogGhost) (p : D.Part) (actors : List Actor) (seat : ℕ) (s : WriterState) (before : LogHalf D c spare m g p actors) (fits : WriterFits D c m g p seat s) (last : ℕ) (sn_last : lsn m.sn ≤ last) (sound : m.failed ≡ 0) (ls : ℕ → List Listed) (broken : Bool) (code mark : ℕ) where
+module _ (D : LogSide) (c : Setup) (m : SharedWords) (g : LogGhost) (p : D.Part) (actors : List Actor) (seat : ℕ) (s : WriterState) (before : LogHalf D c m g p actors) (fits : WriterFits D c m g p seat s) (last : ℕ) (sn_last : lsn m.sn ≤ last) (sound : m.failed ≡ 0) (ls : ℕ → List Listed) (broken : Bool) (code mark : ℕ) where
   -- the writer at a step of its own
   abbrev own : WriterStep → WriterState
   own f = record s { checks = false; step = f }
@@ -84,7 +84,7 @@ module _ (D : LogSide) (c : Setup) (spare : ℕ) (m : SharedWords) (g : LogGhost
   cleared_last = let l = lsn_le g.tail m.sn before.global.order.tail_sn in omega arith
 
   wtail_last : m.wtail ≤ last
-  wtail_last = let a = cleared_last in let b = tails D c spare m g p actors before in omega arith
+  wtail_last = let a = cleared_last in let b = tails D c m g p actors before in omega arith
 
   abbrev loaded : ℕ → Bool → Bool → WriterState
   loaded t held low = record (own (at advance_step.LoadTail)) { advance = record s.advance { tail = t }; tail = t; checks = cond held low false; step = cond (cond held low false) (at advance_step.LoadTail) (cond held writer_step.LoadCheckpoint (at advance_step.TakeTail)) }
@@ -196,7 +196,7 @@ module _ (D : LogSide) (c : Setup) (spare : ℕ) (m : SharedWords) (g : LogGhost
   free_tail : s.advance.tail ≡ m.wtail → s.advance.place ≡ lsn g.tail → (low : Bool) → nat_le s.advance.place s.write ≡ low → End (wrote m word.Wtail (tail_word s.advance.place false)) (at advance_step.FreeTail) (freed low)
   free_tail tail place low f =
       let t_is = tail_in s.advance.place false in
-      let above = tails D c spare m g p actors before in
+      let above = tails D c m g p actors before in
       let under = tail_low in
       let top = cleared_last in
       elim (dec_le s.advance.place s.tail) [

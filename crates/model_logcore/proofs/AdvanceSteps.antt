@@ -27,7 +27,7 @@ pub record Moves (D : LogSide) (c : Setup) (m : SharedWords) (g : LogGhost) (p :
 pub is_free : (m : SharedWords) (tail : ℕ) → tail_word m.wtail m.wheld ≡ tail_word tail false → (m.wheld ≡ false) × (tail ≡ m.wtail)
 is_free m tail e = (sym (held_in m.wtail m.wheld) ∙ ap is_held e ∙ held_in tail false, sym (tail_in tail false) ∙ sym (ap tail_of e) ∙ tail_in m.wtail m.wheld)
 
-module _ (D : LogSide) (c : Setup) (spare : ℕ) (m : SharedWords) (g : LogGhost) (p : D.Part) (actors : List Actor) (before : LogHalf D c spare m g p actors) where
+module _ (D : LogSide) (c : Setup) (m : SharedWords) (g : LogGhost) (p : D.Part) (actors : List Actor) (before : LogHalf D c m g p actors) where
   pub tails : m.wtail ≤ lsn g.tail
   tails = let O = before.global.order in let a = O.wtail_is in let b = lsn_le g.wtail g.tail O.wtail_tail in omega arith
 

@@ -42,9 +42,9 @@ sum_at f [] i v e = absurd (maybe.some-ne-none v (sym e))
 sum_at f (x ∷ xs) zero v e = let s : f x ≡ f v = ap f (maybe.some-injective x v e) in omega arith
 sum_at f (x ∷ xs) (suc i) v e = let r = sum_at f xs i v e in omega arith
 
-module _ (D : LogSide) (c : Setup) (spare : ℕ) (m : SharedWords) (g : LogGhost) (p : D.Part) (actors : List Actor) (seat : ℕ) (before : LogHalf D c spare m g p actors) where
+module _ (D : LogSide) (c : Setup) (m : SharedWords) (g : LogGhost) (p : D.Part) (actors : List Actor) (seat : ℕ) (before : LogHalf D c m g p actors) where
   pub small_sn : lsn m.sn < LSN_LIMIT
-  small_sn = lsn_below m.sn (m.sn + sum_over_actors left_to_reserve actors + spare) LSN_LIMIT (omega arith) before.room
+  small_sn = lsn_below m.sn (m.sn + sum_over_actors left_to_reserve actors) LSN_LIMIT (omega arith) before.room
 
   small_wtail : m.wtail < LSN_LIMIT
   small_wtail = let O = before.global.order in let a = O.wtail_is in let b = lsn_le g.wtail m.sn (let x = O.wtail_tail in let y = O.tail_sn in omega arith) in let s = small_sn in omega arith
@@ -63,7 +63,7 @@ module _ (D : LogSide) (c : Setup) (spare : ℕ) (m : SharedWords) (g : LogGhost
   linked_small : (place n : ℕ) → place ≡ lsn g.tail → slice_index m.wlinks (place % WRITTEN_LINKS) ≡ n → place + n < answer_limit
   linked_small place n t e = let O = before.global.order in let sm = small_sn in let le = lsn_le g.tail m.sn O.tail_sn in elim (dec_le 1 n) [
     | yes d ↦ (let v : slice_index m.wlinks (lsn g.tail % WRITTEN_LINKS) ≡ n = ap (λ (k : ℕ). slice_index m.wlinks (k % WRITTEN_LINKS)) (sym t) ∙ e in
-        let o = link_here D c spare m g p actors before n v (omega arith) in
+        let o = link_here D c m g p actors before n v (omega arith) in
         let w = (tiles_at g.log c.base m.sn o.0.at o.0.group before.global.tiled.tiles o.0.is).1 in
         let k = lsn_le (end_of o.0.group) m.sn w in
         let z = o.0.size in let y : lsn o.0.group.start ≡ lsn g.tail = ap lsn o.1 in
@@ -82,10 +82,10 @@ module _ (D : LogSide) (c : Setup) (spare : ℕ) (m : SharedWords) (g : LogGhost
   user_can u at user_step.Reserve h ls broken code mark =
       let t = sum_at left_to_reserve actors seat (actor.User u) at in
       let z : lengths (drop (length u.starts) u.lines) ≡ length (group_bytes u) + lengths (drop (u.k + 1) u.lines) = ap (λ (j : ℕ). lengths (drop j u.lines)) h.0 ∙ lengths_step u.lines u.k h.1 in
-      let s = sn_below (m.sn + length (group_bytes u)) (m.sn + sum_over_actors left_to_reserve actors + spare) LSN_LIMIT (omega arith) before.room in
+      let s = sn_below (m.sn + length (group_bytes u)) (m.sn + sum_over_actors left_to_reserve actors) LSN_LIMIT (omega arith) before.room in
       omega arith
   user_can u at user_step.LoadWrite h ls broken code mark = let s = small_write in omega arith
-  user_can u at user_step.AddCell h ls broken code mark = sum_small D c spare m g p actors seat u before at h
+  user_can u at user_step.AddCell h ls broken code mark = sum_small D c m g p actors seat u before at h
   user_can u at user_step.LoadWtail h ls broken code mark = tail_small_in
   user_can u at (user_step.AdvanceWritten s) h ls broken code mark = advance_can u.advance s h.1 ls broken code mark
   user_can u at user_step.ReloadWtail h ls broken code mark = tail_small_in
@@ -97,7 +97,7 @@ module _ (D : LogSide) (c : Setup) (spare : ℕ) (m : SharedWords) (g : LogGhost
 
     -- what the writer keeps and hasn't read is small
     tail_small : g.target < s.from + 63488
-    tail_small = let O = before.global.order in let near = tail_near D c spare m g p actors seat s before at in let t = mine.tail in let from = mine.from in
+    tail_small = let O = before.global.order in let near = tail_near D c m g p actors seat s before at in let t = mine.tail in let from = mine.from in
         let f : floor m.write ≡ floor (lsn g.write) = ap floor O.write_is in
         let w = floor_lsn g.write in
         let q = lsn_block g.target in
@@ -109,7 +109,7 @@ module _ (D : LogSide) (c : Setup) (spare : ℕ) (m : SharedWords) (g : LogGhost
     first_small : length s.kept ≡ BLOCK_DATA * length s.firsts → g.read < g.target → slice_index m.firsts (lsn (read_place s) / 512 % 128) < 512
     first_small e l =
         let value : slice_index m.firsts (lsn (read_place s) / 512 % 128) ≡ first_of c.base g.log g.entered =
-        ap (λ (k : ℕ). slice_index m.firsts (k % 128)) (block_is D c spare m g p actors seat s before at e) ∙ before.global.first_offsets.slots_are g.entered (omega arith) (omega arith) ∙ first_true D c spare m g p actors seat s before at e l in
+        ap (λ (k : ℕ). slice_index m.firsts (k % 128)) (block_is D c m g p actors seat s before at e) ∙ before.global.first_offsets.slots_are g.entered (omega arith) (omega arith) ∙ first_true D c m g p actors seat s before at e l in
         elim (ℕ_discrete g.entered (c.base / BLOCK_DATA)) [
           | yes z ↦ (let k : first_of c.base g.log g.entered ≡ 12 = ap (first_of c.base g.log) z ∙ first_base c.base g.log in omega arith)
           | no n ↦ ⊎_elim (λ z. omega arith) (λ z. let v = z.4 in omega arith) (first_from c.base g.log g.entered n)
@@ -147,4 +147,3 @@ module _ (D : LogSide) (c : Setup) (spare : ℕ) (m : SharedWords) (g : LogGhost
   can_take (actor.Cleaner v) at ls broken code mark = checking_fits v.checks (cleaner_op v v.step) (λ n. Unit {0}) ls broken code mark tt
   can_take (actor.Checkpointer t) at ls broken code mark = checking_fits t.checks (checkpointer_op t t.step) (λ n. Unit {0}) ls broken code mark tt
   can_take (actor.Reader f) at ls broken code mark = checking_fits f.checks (reader_op f f.step) (λ n. Unit {0}) ls broken code mark tt
-  can_take (actor.Joined es) at ls broken code mark = tt

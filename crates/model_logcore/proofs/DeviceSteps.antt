@@ -33,40 +33,40 @@ module _ (D : LogSide) (c : Setup) (m : SharedWords) (g : LogGhost) (p : D.Part)
   global_moot : (d q : ℕ) → d ≤ 1 → LogFacts D c m g p → LogFacts D c (record m { device = d }) (record g { holder = q }) p
   global_moot d q le G = let P = G.part in facts_same D c m g p (part_same D c m g p P P.write_written P.given_wtail P.flushed_stable P.ckpt_part le) G
 
-module _ (D : LogSide) (c : Setup) (spare : ℕ) (m : SharedWords) (g : LogGhost) (p : D.Part) (actors : List Actor) (seat : ℕ) (a : Actor) (before : LogHalf D c spare m g p actors) (at : get_elem? actors seat ≡ maybe.some a) where
+module _ (D : LogSide) (c : Setup) (m : SharedWords) (g : LogGhost) (p : D.Part) (actors : List Actor) (seat : ℕ) (a : Actor) (before : LogHalf D c m g p actors) (at : get_elem? actors seat ≡ maybe.some a) where
   -- an actor that finds the part free takes it
-  pub takes : (b : Actor) → m.device ≡ 0 → holds b ≡ true → LogFits D c m g p seat b → ◌≡◌ {A = List Entry} (entries b) (entries a) → left_to_reserve b ≤ left_to_reserve a → (h : LogGhost) × Kept D c spare (record m { device = 1 }) h p (set actors seat b) × (◌≡◌ {A = List Entry} (h.log) (g.log))
+  pub takes : (b : Actor) → m.device ≡ 0 → holds b ≡ true → LogFits D c m g p seat b → ◌≡◌ {A = List Entry} (entries b) (entries a) → left_to_reserve b ≤ left_to_reserve a → (h : LogGhost) × Kept D c (record m { device = 1 }) h p (set actors seat b) × (◌≡◌ {A = List Entry} (h.log) (g.log))
   takes b free hold f same le = (
     record g { holder = seat },
-    moved D c spare m (record m { device = 1 }) g (record g { holder = seat }) p p actors seat b before (numbers_sized before.sized) (global_moot D c m g p 1 seat (omega arith) before.global)
+    moved D c m (record m { device = 1 }) g (record g { holder = seat }) p p actors seat b before (numbers_sized before.sized) (global_moot D c m g p 1 seat (omega arith) before.global)
         (fits_moot D c m g p 1 seat seat b before.global f)
         (λ j x n e. fits_moot D c m g p 1 seat j x before.global (before.each j x e))
         (λ _. (refl, refl))
         (λ j x n e h. let t = (before.turns j x e h).0 in absurd (omega arith))
         (counted_same actors g.log seat a b at same before.counted)
-        (budget_same actors seat spare m.sn a b at le before.room)
+        (budget_same actors seat m.sn a b at le before.room)
         (λ _. (b, set_at actors seat a b at, hold)),
     refl,
   )
 
   -- its holder gives it back
-  pub gives : (b : Actor) → holds a ≡ true → holds b ≡ false → LogFits D c m g p seat b → ◌≡◌ {A = List Entry} (entries b) (entries a) → left_to_reserve b ≤ left_to_reserve a → (h : LogGhost) × Kept D c spare (record m { device = 0 }) h p (set actors seat b) × (◌≡◌ {A = List Entry} (h.log) (g.log))
+  pub gives : (b : Actor) → holds a ≡ true → holds b ≡ false → LogFits D c m g p seat b → ◌≡◌ {A = List Entry} (entries b) (entries a) → left_to_reserve b ≤ left_to_reserve a → (h : LogGhost) × Kept D c (record m { device = 0 }) h p (set actors seat b) × (◌≡◌ {A = List Entry} (h.log) (g.log))
   gives b had free f same le = (
     record g { holder = 0 },
-    moved D c spare m (record m { device = 0 }) g (record g { holder = 0 }) p p actors seat b before (numbers_sized before.sized) (global_moot D c m g p 0 0 (omega arith) before.global)
+    moved D c m (record m { device = 0 }) g (record g { holder = 0 }) p p actors seat b before (numbers_sized before.sized) (global_moot D c m g p 0 0 (omega arith) before.global)
         (fits_moot D c m g p 0 0 seat b before.global f)
         (λ j x n e. fits_moot D c m g p 0 0 j x before.global (before.each j x e))
         (λ e. let z : true ≡ false = sym e ∙ free in absurd (cc))
         (λ j x n e h. let t = (before.turns j x e h).1 in let u = (before.turns seat a at had).1 in absurd (n (t ∙ sym u)))
         (counted_same actors g.log seat a b at same before.counted)
-        (budget_same actors seat spare m.sn a b at le before.room)
+        (budget_same actors seat m.sn a b at le before.room)
         (λ d. absurd (omega arith)),
     refl,
   )
 
   -- an actor's own state alone changes, and it holds what it held
-  pub stays : (b : Actor) → holds b ≡ holds a → LogFits D c m g p seat b → ◌≡◌ {A = List Entry} (entries b) (entries a) → left_to_reserve b ≤ left_to_reserve a → Kept D c spare m g p (set actors seat b)
-  stays b keep f same le = moved_on D c spare m m g g p p actors seat a b before at before.sized before.global f (λ j x n e. before.each j x e) refl refl refl refl keep same le
+  pub stays : (b : Actor) → holds b ≡ holds a → LogFits D c m g p seat b → ◌≡◌ {A = List Entry} (entries b) (entries a) → left_to_reserve b ≤ left_to_reserve a → Kept D c m g p (set actors seat b)
+  stays b keep f same le = moved_on D c m m g g p p actors seat a b before at before.sized before.global f (λ j x n e. before.each j x e) refl refl refl refl keep same le
 
   -- no other actor holds the part
   pub alone : holds a ≡ true → (j : ℕ) (b : Actor) → get_elem? actors j ≡ maybe.some b → holds b ≡ true → j ≡ seat
@@ -74,7 +74,7 @@ module _ (D : LogSide) (c : Setup) (spare : ℕ) (m : SharedWords) (g : LogGhost
 
 -- write_to
 
-module _ (D : LogSide) (L : LogLaws D) (c : Setup) (spare : ℕ) (m : SharedWords) (g : LogGhost) (p : D.Part) (actors : List Actor) (seat : ℕ) (s : WriterState) (before : LogHalf D c spare m g p actors) (at : get_elem? actors seat ≡ maybe.some (actor.Writer s)) where
+module _ (D : LogSide) (L : LogLaws D) (c : Setup) (m : SharedWords) (g : LogGhost) (p : D.Part) (actors : List Actor) (seat : ℕ) (s : WriterState) (before : LogHalf D c m g p actors) (at : get_elem? actors seat ≡ maybe.some (actor.Writer s)) where
   mine : WriterFits D c m g p seat s
   mine = before.each seat (actor.Writer s) at
 
@@ -91,15 +91,15 @@ module _ (D : LogSide) (L : LogLaws D) (c : Setup) (spare : ℕ) (m : SharedWord
     on = h.0.0;
     low = O.write_bound;
     high = O.target_bound;
-    lent = lends D c spare m g p actors seat s before at h.1;
+    lent = lends D c m g p actors seat s before at h.1;
     fits = (let a = h.2 in let k = mine.ckpt in let q = P.ckpt_part in let b = mine.blocks in let t : ceiling s.tail ≡ ceiling (lsn g.target) = ap ceiling mine.tail in omega arith);
-    small = lsn_below g.target (m.sn + sum_over_actors left_to_reserve actors + spare) LSN_LIMIT (let a = O.target_wtail in let b = O.wtail_tail in let d = O.tail_sn in omega arith) before.room;
-    near = (let z = tail_near D c spare m g p actors seat s before at in let t = mine.tail in let w : floor m.write ≡ floor (lsn g.write) = ap floor O.write_is in omega arith);
+    small = lsn_below g.target (m.sn + sum_over_actors left_to_reserve actors) LSN_LIMIT (let a = O.target_wtail in let b = O.wtail_tail in let d = O.tail_sn in omega arith) before.room;
+    near = (let z = tail_near D c m g p actors seat s before at in let t = mine.tail in let w : floor m.write ≡ floor (lsn g.write) = ap floor O.write_is in omega arith);
   }
 
   pub writes_by : (q : D.Part) (code : ℕ) (b : Bool) → eqb code 0 ≡ b → s.step ≡ writer_step.WriteTo → WriterAt D c m g p seat s writer_step.WriteTo → AfterWrite D c.blocks c.base g.log (lsn g.target) code p q
-      → Kept D c spare m g q (set actors seat (actor.Writer (writer_took s (cond b (answer.Called 0) (answer.Failed code)) writer_step.WriteTo)))
-  writes_by q code b b_is is h A = wsteps D c spare m g p actors seat s before at m g q A.ckpt (writer_took s (cond b (answer.Called 0) (answer.Failed code)) writer_step.WriteTo) before.sized (facts_same D c m g p (parted b b_is) G) (fit b b_is)
+      → Kept D c m g q (set actors seat (actor.Writer (writer_took s (cond b (answer.Called 0) (answer.Failed code)) writer_step.WriteTo)))
+  writes_by q code b b_is is h A = wsteps D c m g p actors seat s before at m g q A.ckpt (writer_took s (cond b (answer.Called 0) (answer.Failed code)) writer_step.WriteTo) before.sized (facts_same D c m g p (parted b b_is) G) (fit b b_is)
       (later_marks D c m g p (omega arith) (omega arith) (omega arith) (omega arith) (λ z. z) (λ _ _. unchanged))
       refl refl refl refl refl refl (keep b) (λ e. let z : true ≡ false = sym (ap writer_holds is) ∙ e in absurd (cc))
     where

@@ -54,7 +54,6 @@ met (actor.Cleaner v) r code e =
 met (actor.Checkpointer t) r code e =
     let own = checkpointer_took t r t.step in
     after actor.Checkpointer t.checks (old_of r == 0) (checkpointer_waits t r t.step) (old_of r) code (checkpointer_ending own.code own.step) (record t { checks = false }) (record t { checks = false; code = old_of r; step = checkpointer_step.Failed }) own (inr refl) (λ x. inr (failed_last (checkpointer_ending own.code) checkpointer_step.Failed own.code own.step (checkpointer_end own.code own.step) code x)) e
-met (actor.Joined es) r code e = absurd (cc)
 
 -- who has stored a failed call's code in FAILED, about to give the log part back, has a code that the part has
 pub stored_cause : (E : LogSide) (c : Setup) (m : SharedWords) (g : LogGhost) (p : E.Part) (n : ℕ) (a : actor.Actor) (code : ℕ) → HasStored a code → LogFits E c m g p n a → E.Cause p code
@@ -65,4 +64,3 @@ stored_cause E c m g p n (actor.Checkpointer t) code h fits = subst (E.Cause p) 
 stored_cause E c m g p n (actor.User u) code h fits = absurd h
 stored_cause E c m g p n (actor.Closer t) code h fits = absurd h
 stored_cause E c m g p n (actor.Cleaner v) code h fits = absurd h
-stored_cause E c m g p n (actor.Joined es) code h fits = absurd h

@@ -17,7 +17,7 @@ use Rattle.model_core.specs.declared.ops.Answer.TheVariants as answer
 use Rattle.model_core.specs.declared.steps.FlusherStep.TheVariants as flusher_step
 use Rattle.model_core.specs.Actors as actor
 
-module _ (D : LogSide) (L : LogLaws D) (c : Setup) (spare : ℕ) (m : SharedWords) (g : LogGhost) (p : D.Part) (actors : List Actor) (seat : ℕ) (f : FlusherState) (before : LogHalf D c spare m g p actors) (at : get_elem? actors seat ≡ maybe.some (actor.Flusher f)) where
+module _ (D : LogSide) (L : LogLaws D) (c : Setup) (m : SharedWords) (g : LogGhost) (p : D.Part) (actors : List Actor) (seat : ℕ) (f : FlusherState) (before : LogHalf D c m g p actors) (at : get_elem? actors seat ≡ maybe.some (actor.Flusher f)) where
   hers : FlusherFits D c m g p seat f
   hers = before.each seat (actor.Flusher f) at
 
@@ -30,24 +30,24 @@ module _ (D : LogSide) (L : LogLaws D) (c : Setup) (spare : ℕ) (m : SharedWord
 
   -- the flusher moves, and holds what it held
   fsteps : (m' : SharedWords) (g' : LogGhost) (q : D.Part) (point : D.ckpt q ≡ D.ckpt p) (w : FlusherState) → IsSized c.pages m' → LogFacts D c m' g' q → FlusherFits D c m' g' q seat w → Later D c m g m' g' seat → Still D c m m' g g' p q → m'.ckpt ≡ m.ckpt → m'.device ≡ m.device → g'.holder ≡ g.holder → g'.log ≡ g.log → m'.sn ≡ m.sn
-      → flusher_holds w.step ≡ flusher_holds f.step → (flusher_holds f.step ≡ false → ◌≡◌ {A = D.Part} q p) → Kept D c spare m' g' q (set actors seat (actor.Flusher w))
-  fsteps m' g' q point w sized global fit later still ckpt device holder log sn keep same = moved_on D c spare m m' g g' p q actors seat (actor.Flusher f) (actor.Flusher w) before at sized global fit
+      → flusher_holds w.step ≡ flusher_holds f.step → (flusher_holds f.step ≡ false → ◌≡◌ {A = D.Part} q p) → Kept D c m' g' q (set actors seat (actor.Flusher w))
+  fsteps m' g' q point w sized global fit later still ckpt device holder log sn keep same = moved_on D c m m' g g' p q actors seat (actor.Flusher f) (actor.Flusher w) before at sized global fit
       (λ j a n e. others_flusher D c m m' g g' p q seat hers.alone before.global later still (record { ckpt_word = ckpt; failed = later.failed; ckpt = point }) j a n (others_by q same j a n e) (before.each j a e))
       device holder log sn keep refl (omega arith)
 
   never_asks : flusher_holds f.step ≡ true → f.checks ≡ true → ⊥
   never_asks held z = let y = hers.no_device_while_checking z in let x : true ≡ false = sym held ∙ y in cc
 
-  look_by : (b : Bool) → flusher_holds f.step ≡ false → Kept D c spare m g p (set actors seat (actor.Flusher (cond b (record f { write = m.write; checks = true; step = flusher_step.LoadWrite }) (record f { write = m.write; step = flusher_step.TakeDevice }))))
-  look_by true free = stays D c spare m g p actors seat (actor.Flusher f) before at (actor.Flusher (record f { write = m.write; checks = true; step = flusher_step.LoadWrite })) (sym free) (record { alone = hers.alone; last = hers.last; write = omega arith; no_device_while_checking = λ z. refl; step = tt }) refl (omega arith)
-  look_by false free = stays D c spare m g p actors seat (actor.Flusher f) before at (actor.Flusher (record f { write = m.write; step = flusher_step.TakeDevice })) (sym free) (record { alone = hers.alone; last = hers.last; write = omega arith; no_device_while_checking = λ z. refl; step = tt }) refl (omega arith)
+  look_by : (b : Bool) → flusher_holds f.step ≡ false → Kept D c m g p (set actors seat (actor.Flusher (cond b (record f { write = m.write; checks = true; step = flusher_step.LoadWrite }) (record f { write = m.write; step = flusher_step.TakeDevice }))))
+  look_by true free = stays D c m g p actors seat (actor.Flusher f) before at (actor.Flusher (record f { write = m.write; checks = true; step = flusher_step.LoadWrite })) (sym free) (record { alone = hers.alone; last = hers.last; write = omega arith; no_device_while_checking = λ z. refl; step = tt }) refl (omega arith)
+  look_by false free = stays D c m g p actors seat (actor.Flusher f) before at (actor.Flusher (record f { write = m.write; step = flusher_step.TakeDevice })) (sym free) (record { alone = hers.alone; last = hers.last; write = omega arith; no_device_while_checking = λ z. refl; step = tt }) refl (omega arith)
 
   -- it loads WRITE
-  pub keeps_watch : f.step ≡ flusher_step.LoadWrite → Kept D c spare m g p (set actors seat (actor.Flusher (flusher_took f (answer.Old m.write) flusher_step.LoadWrite)))
+  pub keeps_watch : f.step ≡ flusher_step.LoadWrite → Kept D c m g p (set actors seat (actor.Flusher (flusher_took f (answer.Old m.write) flusher_step.LoadWrite)))
   keeps_watch is = look_by (eqb m.write f.last) (ap flusher_holds is)
 
   -- it stores FLUSHED
-  pub keeps_flushed : f.step ≡ flusher_step.StoreFlushed → FlusherAt D c m g p f flusher_step.StoreFlushed → (h : LogGhost) × Kept D c spare (record m { flushed = f.mark }) h p (set actors seat (actor.Flusher (flusher_took f (answer.Old 0) flusher_step.StoreFlushed))) × (◌≡◌ {A = List Entry} (h.log) (g.log))
+  pub keeps_flushed : f.step ≡ flusher_step.StoreFlushed → FlusherAt D c m g p f flusher_step.StoreFlushed → (h : LogGhost) × Kept D c (record m { flushed = f.mark }) h p (set actors seat (actor.Flusher (flusher_took f (answer.Old 0) flusher_step.StoreFlushed))) × (◌≡◌ {A = List Entry} (h.log) (g.log))
   keeps_flushed is h =
       let G = before.global in let O = G.order in let P = G.part in
       let m' : SharedWords = record m { flushed = f.mark } in
@@ -94,7 +94,7 @@ module _ (D : LogSide) (L : LogLaws D) (c : Setup) (spare : ℕ) (m : SharedWord
       )
 
   -- it stores FAILED
-  pub keeps_fault : f.step ≡ flusher_step.StoreFailed → FlusherAt D c m g p f flusher_step.StoreFailed → Kept D c spare (record m { failed = f.code }) g p (set actors seat (actor.Flusher (flusher_took f (answer.Old 0) flusher_step.StoreFailed)))
+  pub keeps_fault : f.step ≡ flusher_step.StoreFailed → FlusherAt D c m g p f flusher_step.StoreFailed → Kept D c (record m { failed = f.code }) g p (set actors seat (actor.Flusher (flusher_took f (answer.Old 0) flusher_step.StoreFailed)))
   keeps_fault is h =
       let G = before.global in let P = G.part in let h0 = h.0 in
       let m' : SharedWords = record m { failed = f.code } in
@@ -108,7 +108,7 @@ module _ (D : LogSide) (L : LogLaws D) (c : Setup) (spare : ℕ) (m : SharedWord
       refl refl refl refl refl (sym held) (λ z. refl)
 
   pub syncs_by : (q : D.Part) (code : ℕ) (b : Bool) → eqb code 0 ≡ b → f.step ≡ flusher_step.Sync → AfterSync D c.blocks c.base g.log code p q
-      → Kept D c spare m g q (set actors seat (actor.Flusher (flusher_took f (cond b (answer.Called (D.stable q)) (answer.Failed code)) flusher_step.Sync)))
+      → Kept D c m g q (set actors seat (actor.Flusher (flusher_took f (cond b (answer.Called (D.stable q)) (answer.Failed code)) flusher_step.Sync)))
   syncs_by q code b b_is is A =
       let P = before.global.part in
       fsteps m g q A.ckpt (flusher_took f (cond b (answer.Called (D.stable q)) (answer.Failed code)) flusher_step.Sync) before.sized (facts_same D c m g p (parted b b_is) before.global) (fit b b_is)
@@ -151,9 +151,9 @@ module _ (D : LogSide) (L : LogLaws D) (c : Setup) (spare : ℕ) (m : SharedWord
       fit false e = let n = eqb-false code 0 e in let pos : 0 < code = omega arith in record { alone = hers.alone; last = hers.last; write = hers.write; no_device_while_checking = λ z. absurd (never_asks (ap flusher_holds is) z); step = (pos, A.cause pos) }
 
   -- it loads FAILED
-  pub flusher_checked : f.checks ≡ true → Kept D c spare m g p (set actors seat (actor.Flusher (cond (eqb m.failed 0) (record f { checks = false }) (record f { checks = false; code = m.failed; step = flusher_step.Failed }))))
+  pub flusher_checked : f.checks ≡ true → Kept D c m g p (set actors seat (actor.Flusher (cond (eqb m.failed 0) (record f { checks = false }) (record f { checks = false; code = m.failed; step = flusher_step.Failed }))))
   flusher_checked checks = by (eqb m.failed 0) refl
     where
-      by : (b : Bool) → eqb m.failed 0 ≡ b → Kept D c spare m g p (set actors seat (actor.Flusher (cond b (record f { checks = false }) (record f { checks = false; code = m.failed; step = flusher_step.Failed }))))
-      by true e = stays D c spare m g p actors seat (actor.Flusher f) before at (actor.Flusher (record f { checks = false })) refl (record { alone = hers.alone; last = hers.last; write = hers.write; no_device_while_checking = λ z. absurd (cc); step = hers.step }) refl (omega arith)
-      by false e = stays D c spare m g p actors seat (actor.Flusher f) before at (actor.Flusher (record f { checks = false; code = m.failed; step = flusher_step.Failed })) (sym (hers.no_device_while_checking checks)) (record { alone = hers.alone; last = hers.last; write = hers.write; no_device_while_checking = λ z. refl; step = (let n = eqb-false m.failed 0 e in omega arith) }) refl (omega arith)
+      by : (b : Bool) → eqb m.failed 0 ≡ b → Kept D c m g p (set actors seat (actor.Flusher (cond b (record f { checks = false }) (record f { checks = false; code = m.failed; step = flusher_step.Failed }))))
+      by true e = stays D c m g p actors seat (actor.Flusher f) before at (actor.Flusher (record f { checks = false })) refl (record { alone = hers.alone; last = hers.last; write = hers.write; no_device_while_checking = λ z. absurd (cc); step = hers.step }) refl (omega arith)
+      by false e = stays D c m g p actors seat (actor.Flusher f) before at (actor.Flusher (record f { checks = false; code = m.failed; step = flusher_step.Failed })) (sym (hers.no_device_while_checking checks)) (record { alone = hers.alone; last = hers.last; write = hers.write; no_device_while_checking = λ z. refl; step = (let n = eqb-false m.failed 0 e in omega arith) }) refl (omega arith)

@@ -56,9 +56,9 @@ taken_same actors seat a b holder at kept t = elim (ℕ_discrete holder seat) [
   | no n ↦ (t.0, set_else actors seat holder b n ∙ t.1, t.2)
 ]
 
-pub budget_same : (actors : List Actor) (seat spare n : ℕ) (a b : Actor) → get_elem? actors seat ≡ some a → left_to_reserve b ≤ left_to_reserve a → lsn (n + sum_over_actors left_to_reserve actors + spare) < LSN_LIMIT → lsn (n + sum_over_actors left_to_reserve (set actors seat b) + spare) < LSN_LIMIT
-budget_same actors seat spare n a b e le h = let s = total_set left_to_reserve actors seat a b e in
-    lsn_below (n + sum_over_actors left_to_reserve (set actors seat b) + spare) (n + sum_over_actors left_to_reserve actors + spare) LSN_LIMIT (omega arith) h
+pub budget_same : (actors : List Actor) (seat n : ℕ) (a b : Actor) → get_elem? actors seat ≡ some a → left_to_reserve b ≤ left_to_reserve a → lsn (n + sum_over_actors left_to_reserve actors) < LSN_LIMIT → lsn (n + sum_over_actors left_to_reserve (set actors seat b)) < LSN_LIMIT
+budget_same actors seat n a b e le h = let s = total_set left_to_reserve actors seat a b e in
+    lsn_below (n + sum_over_actors left_to_reserve (set actors seat b)) (n + sum_over_actors left_to_reserve actors) LSN_LIMIT (omega arith) h
 
 -- what a step leaves to the actor that holds WTAIL
 pub record StillHeld (h h' : Bool) (a a' w w' t t' : ℕ) (links links' : List ℕ) : Type 0 where
@@ -73,20 +73,20 @@ unchanged = record { held = refl; advancer = refl; wtail = refl; tail = refl; li
 
 module _ (D : LogSide) (c : Setup) where
   -- the invariant, where a held tail has a holder, and who checks for a failure holds none
-  abbrev pub Kept : ℕ → SharedWords → LogGhost → D.Part → List Actor → Type 0
-  Kept spare m g p actors = (m.wheld ≡ true → HasHolder link_buffer.Written actors) → ((seat : ℕ) (a : Actor) → get_elem? actors seat ≡ some a → ChecksWithoutTail a) → LogHalf D c spare m g p actors
+  abbrev pub Kept : SharedWords → LogGhost → D.Part → List Actor → Type 0
+  Kept m g p actors = (m.wheld ≡ true → HasHolder link_buffer.Written actors) → ((seat : ℕ) (a : Actor) → get_elem? actors seat ≡ some a → ChecksWithoutTail a) → LogHalf D c m g p actors
 
   -- the actor at one seat moves
-  pub moved : (spare : ℕ) (m m' : SharedWords) (g g' : LogGhost) (p p' : D.Part) (actors : List Actor) (seat : ℕ) (b : Actor) → LogHalf D c spare m g p actors
+  pub moved : (m m' : SharedWords) (g g' : LogGhost) (p p' : D.Part) (actors : List Actor) (seat : ℕ) (b : Actor) → LogHalf D c m g p actors
       → IsSized c.pages m' → LogFacts D c m' g' p' → LogFits D c m' g' p' seat b
       → ((j : ℕ) (a : Actor) → j ≢ seat → get_elem? actors j ≡ some a → LogFits D c m' g' p' j a)
       → (holds b ≡ true → (m'.device ≡ 1) × (seat ≡ g'.holder))
       → ((j : ℕ) (a : Actor) → j ≢ seat → get_elem? actors j ≡ some a → holds a ≡ true → (m'.device ≡ 1) × (j ≡ g'.holder))
       → Counted (set actors seat b) g'.log
-      → lsn (m'.sn + sum_over_actors left_to_reserve (set actors seat b) + spare) < LSN_LIMIT
+      → lsn (m'.sn + sum_over_actors left_to_reserve (set actors seat b)) < LSN_LIMIT
       → (m'.device ≡ 1 → HasTaker (set actors seat b) g'.holder)
-      → Kept spare m' g' p' (set actors seat b)
-  moved spare m m' g g' p p' actors seat b before sized global mine others turn turns counted room taken = λ advanced without_tail. record {
+      → Kept m' g' p' (set actors seat b)
+  moved m m' g g' p p' actors seat b before sized global mine others turn turns counted room taken = λ advanced without_tail. record {
     sized = sized;
     global = global;
     each = λ j a e. ⊎_elim (λ t. subst (λ (z : ℕ × Actor). LogFits D c m' g' p' z.0 z.1) (λ i. (sym t.0 i, t.1 i)) mine) (λ t. others j a t.0 t.1) (at_set actors seat j b a e);
@@ -99,17 +99,17 @@ module _ (D : LogSide) (c : Setup) where
   }
 
   -- the same where it holds what it held, and its groups stay
-  pub moved_on : (spare : ℕ) (m m' : SharedWords) (g g' : LogGhost) (p p' : D.Part) (actors : List Actor) (seat : ℕ) (a b : Actor) → LogHalf D c spare m g p actors → get_elem? actors seat ≡ some a
+  pub moved_on : (m m' : SharedWords) (g g' : LogGhost) (p p' : D.Part) (actors : List Actor) (seat : ℕ) (a b : Actor) → LogHalf D c m g p actors → get_elem? actors seat ≡ some a
       → IsSized c.pages m' → LogFacts D c m' g' p' → LogFits D c m' g' p' seat b
       → ((j : ℕ) (x : Actor) → j ≢ seat → get_elem? actors j ≡ some x → LogFits D c m' g' p' j x)
       → m'.device ≡ m.device → g'.holder ≡ g.holder → g'.log ≡ g.log → m'.sn ≡ m.sn
       → holds b ≡ holds a → ◌≡◌ {A = List Entry} (entries b) (entries a) → left_to_reserve b ≤ left_to_reserve a
-      → Kept spare m' g' p' (set actors seat b)
-  moved_on spare m m' g g' p p' actors seat a b before at sized global mine others device holder log sn keep same le = moved spare m m' g g' p p' actors seat b before sized global mine others
+      → Kept m' g' p' (set actors seat b)
+  moved_on m m' g g' p p' actors seat a b before at sized global mine others device holder log sn keep same le = moved m m' g g' p p' actors seat b before sized global mine others
       (λ e. let t = before.turns seat a at (sym keep ∙ e) in (device ∙ t.0, t.1 ∙ sym holder))
       (λ j x n e h. let t = before.turns j x e h in (device ∙ t.0, t.1 ∙ sym holder))
       (subst (λ (l : List Entry). Counted (set actors seat b) l) (sym log) (counted_same actors g.log seat a b at same before.counted))
-      (subst (λ (n : ℕ). lsn (n + sum_over_actors left_to_reserve (set actors seat b) + spare) < LSN_LIMIT) (sym sn) (budget_same actors seat spare m.sn a b at le before.room))
+      (subst (λ (n : ℕ). lsn (n + sum_over_actors left_to_reserve (set actors seat b)) < LSN_LIMIT) (sym sn) (budget_same actors seat m.sn a b at le before.room))
       (λ d. subst (λ (k : ℕ). HasTaker (set actors seat b) k) (sym holder) (taken_same actors seat a b g.holder at (λ e. keep ∙ e) (before.taken (sym device ∙ d))))
 
   -- what a step leaves to the users at other seats
@@ -373,7 +373,6 @@ module _ (D : LogSide) (c : Setup) where
     others_later seat G later still same j (actor.Cleaner v) ne part h = cleaner_told_later v (record { ckpt_word = same.ckpt_word; failed = same.failed; ckpt = same.point }) h
     others_later seat G later still same j (actor.Checkpointer t) ne part h = checkpointer_fits_later j t (record { ckpt_word = same.ckpt_word; failed = same.failed; ckpt = same.point }) part h
     others_later seat G later still same j (actor.Reader r) ne part h = reader_later j r same.failed part h
-    others_later seat G later still same j (actor.Joined es) ne part h = tt
 
     -- the same where the writer moves, which is alone
     pub others_writer : (seat : ℕ) → seat ≡ g.writer → LogFacts D c m g p → Later m g m' g' seat → Same → (j : ℕ) (a : Actor) → j ≢ seat → (holds a ≡ true → ◌≡◌ {A = D.Part} p' p) → LogFits D c m g p j a → LogFits D c m' g' p' j a
@@ -384,7 +383,6 @@ module _ (D : LogSide) (c : Setup) where
     others_writer seat is G later same j (actor.Cleaner v) ne part h = cleaner_told_later v (record { ckpt_word = same.ckpt_word; failed = same.failed; ckpt = same.point }) h
     others_writer seat is G later same j (actor.Checkpointer t) ne part h = checkpointer_fits_later j t (record { ckpt_word = same.ckpt_word; failed = same.failed; ckpt = same.point }) part h
     others_writer seat is G later same j (actor.Reader r) ne part h = reader_later j r same.failed part h
-    others_writer seat is G later same j (actor.Joined es) ne part h = tt
 
     -- the same where the flusher moves, which is alone
     pub others_flusher : (seat : ℕ) → seat ≡ g.writer + 1 → LogFacts D c m g p → Later m g m' g' seat → Still → Rest → (j : ℕ) (a : Actor) → j ≢ seat → (holds a ≡ true → ◌≡◌ {A = D.Part} p' p) → LogFits D c m g p j a → LogFits D c m' g' p' j a
@@ -395,7 +393,6 @@ module _ (D : LogSide) (c : Setup) where
     others_flusher seat is G later still rest j (actor.Cleaner v) ne part h = cleaner_told_later v rest h
     others_flusher seat is G later still rest j (actor.Checkpointer t) ne part h = checkpointer_fits_later j t rest part h
     others_flusher seat is G later still rest j (actor.Reader r) ne part h = reader_later j r rest.failed part h
-    others_flusher seat is G later still rest j (actor.Joined es) ne part h = tt
 
     -- the same where the checkpointer moves, which is alone, and the newest checkpoint may change
     pub others_pointer : (seat : ℕ) → seat ≡ c.checkpointer → LogFacts D c m g p → Later m g m' g' seat → Still → m'.flushed ≡ m.flushed → (j : ℕ) (a : Actor) → j ≢ seat → (holds a ≡ true → ◌≡◌ {A = D.Part} p' p) → LogFits D c m g p j a → LogFits D c m' g' p' j a
@@ -406,4 +403,3 @@ module _ (D : LogSide) (c : Setup) where
     others_pointer seat is G later still fl j (actor.Cleaner v) ne part h = ((λ z. later.failed (h.0 z)), h.1)
     others_pointer seat is G later still fl j (actor.Checkpointer t) ne part h = absurd (ne (h.alone ∙ sym is))
     others_pointer seat is G later still fl j (actor.Reader r) ne part h = reader_later j r later.failed part h
-    others_pointer seat is G later still fl j (actor.Joined es) ne part h = tt

@@ -6,11 +6,9 @@ pub mod Failures
 pub mod FlusherSteps
 pub mod Frame
 pub mod GroupEnds
-pub mod Joins
 pub mod LinkSteps
 pub mod LogAside
 pub mod LogKeeps
-pub mod NewUser
 pub mod NewUsers
 pub mod Ready
 pub mod ReaderSteps

@@ -25,7 +25,7 @@ use Rattle.model_logcore.specs.LogLaws.{LogLaws}
 use Rattle.model_core.specs.declared.steps.UserStep.TheVariants as user_step
 use Rattle.model_core.specs.Actors as actor
 
-module _ (D : LogSide) (L : LogLaws D) (c : Setup) (spare : ℕ) (m : SharedWords) (g : LogGhost) (p : D.Part) (actors : List Actor) (seat : ℕ) (u : UserState) (before : LogHalf D c spare m g p actors) (at : get_elem? actors seat ≡ some (actor.User u)) where
+module _ (D : LogSide) (L : LogLaws D) (c : Setup) (m : SharedWords) (g : LogGhost) (p : D.Part) (actors : List Actor) (seat : ℕ) (u : UserState) (before : LogHalf D c m g p actors) (at : get_elem? actors seat ≡ some (actor.User u)) where
   mine : UserFits D c m g p seat u
   mine = before.each seat (actor.User u) at
 
@@ -37,13 +37,13 @@ module _ (D : LogSide) (L : LogLaws D) (c : Setup) (spare : ℕ) (m : SharedWord
 
   module _ (i v : ℕ) (i_is : i ≡ lsn u.start % 32768) (v_is : v ≡ lsn (group_end u) - lsn u.start) (h : UserAt D c m g p seat u user_step.StoreLink) where
     lies : (c.base ≤ u.start) × (group_end u ≤ m.sn) × (0 < length (group_bytes u)) × (length (group_bytes u) ≤ MAX_GROUP)
-    lies = hand_lies D c spare m g p actors seat u before at h.2
+    lies = hand_lies D c m g p actors seat u before at h.2
 
     one : (x : ℕ) → u.start ≤ x → x < group_end u → g.state x ≡ 1
     one x l r = h.2.done x l (let z = h.3 in omega arith)
 
     since : g.tail ≤ u.start
-    since = let l = lies in let l0 = l.0 in let l2 = l.2 in above_tail D c spare m g p actors seat u before at u.start l0 (λ z. let o = one u.start (omega arith) (omega arith) in omega arith)
+    since = let l = lies in let l0 = l.0 in let l2 = l.2 in above_tail D c m g p actors seat u before at u.start l0 (λ z. let o = one u.start (omega arith) (omega arith) in omega arith)
 
     inside : (x : ℕ) → u.start ≤ x → x < group_end u → tied.state x ≡ 2
     inside x l r = ranged_in g.state u.start (group_end u) 2 x l r
@@ -196,31 +196,31 @@ module _ (D : LogSide) (L : LogLaws D) (c : Setup) (spare : ℕ) (m : SharedWord
     other_user x n e = n (ap g.seat_of e ∙ mine.own_seat)
 
     -- the link stands, and the user goes on to a step
-    tie_to : (st : UserStep) → UserAt D c (chained i v) tied p seat (record u { step = st }) st → left_to_reserve (actor.User (record u { step = st })) ≤ left_to_reserve (actor.User u) → Kept D c spare (chained i v) tied p (set actors seat (actor.User (record u { step = st })))
-    tie_to st z le = steps D c spare m g p actors seat u before at (chained i v) tied (record u { step = st }) (wlinks_sized i v before.sized) tie_global
-        (refit D c spare m g p actors seat u before at (chained i v) tied u.page u.cell u.copied u.loaded u.code u.checks st refl refl refl mine.loaded z)
+    tie_to : (st : UserStep) → UserAt D c (chained i v) tied p seat (record u { step = st }) st → left_to_reserve (actor.User (record u { step = st })) ≤ left_to_reserve (actor.User u) → Kept D c (chained i v) tied p (set actors seat (actor.User (record u { step = st })))
+    tie_to st z le = steps D c m g p actors seat u before at (chained i v) tied (record u { step = st }) (wlinks_sized i v before.sized) tie_global
+        (refit D c m g p actors seat u before at (chained i v) tied u.page u.cell u.copied u.loaded u.code u.checks st refl refl refl mine.loaded z)
         (tie_later tied refl (λ x. refl) (λ x. refl) (λ x. refl) (λ x. refl) (λ x n. refl) held_then)
-        (still_words D c spare m g p actors seat u before at (chained i v) tied refl refl refl refl refl refl refl refl refl)
+        (still_words D c m g p actors seat u before at (chained i v) tied refl refl refl refl refl refl refl refl refl)
         refl refl refl refl refl refl refl le
 
-    tie_by : (b : Bool) → eqb (mode u) 0 ≡ b → (g' : LogGhost) × Kept D c spare (chained i v) g' p (set actors seat (actor.User (cond b (answered u) (record u { step = user_step.AwaitMark })))) × (◌≡◌ {A = List Entry} (g'.log) (g.log))
+    tie_by : (b : Bool) → eqb (mode u) 0 ≡ b → (g' : LogGhost) × Kept D c (chained i v) g' p (set actors seat (actor.User (cond b (answered u) (record u { step = user_step.AwaitMark })))) × (◌≡◌ {A = List Entry} (g'.log) (g.log))
     tie_by true e = let g' : LogGhost = record tied { answered = changed g.answered u.user (u.k + 1) } in
         let none : mode u ≡ 0 = eqb-true (mode u) 0 e in (
           g',
-          steps D c spare m g p actors seat u before at (chained i v) g' (answered u) (wlinks_sized i v before.sized) (answer_global D L c spare m g p actors seat u before at (chained i v) tied h.2.at h.2.is mine.answers (λ z. absurd (omega arith)) (λ z. absurd (omega arith)) inside tie_global)
-              (answered_fits D L c spare m g p actors seat u before at u.loaded (chained i v) g' refl refl (changed_here g.answered u.user (u.k + 1) u.user refl) mine.loaded h.0 h.1)
+          steps D c m g p actors seat u before at (chained i v) g' (answered u) (wlinks_sized i v before.sized) (answer_global D L c m g p actors seat u before at (chained i v) tied h.2.at h.2.is mine.answers (λ z. absurd (omega arith)) (λ z. absurd (omega arith)) inside tie_global)
+              (answered_fits D L c m g p actors seat u before at u.loaded (chained i v) g' refl refl (changed_here g.answered u.user (u.k + 1) u.user refl) mine.loaded h.0 h.1)
               (tie_later g' refl (λ x. refl) (λ x. refl) (λ x. refl) (λ x. refl) (λ x n. changed_else g.answered u.user (u.k + 1) x (other_user x n)) held_then)
-              (still_words D c spare m g p actors seat u before at (chained i v) g' refl refl refl refl refl refl refl refl refl)
+              (still_words D c m g p actors seat u before at (chained i v) g' refl refl refl refl refl refl refl refl refl)
               refl refl refl refl refl refl refl (omega arith),
           refl,
         )
     tie_by false e = (tied, tie_to user_step.AwaitMark (h.0, h.1, (h.2.at, h.2.is, inside), eqb-false (mode u) 0 e) (omega arith), refl)
 
-    tie_any : (b : Bool) → (g' : LogGhost) × Kept D c spare (chained i v) g' p (set actors seat (actor.User (cond b (cond (eqb (mode u) 0) (answered u) (record u { step = user_step.AwaitMark })) (record u { step = user_step.LoadCtail })))) × (◌≡◌ {A = List Entry} (g'.log) (g.log))
+    tie_any : (b : Bool) → (g' : LogGhost) × Kept D c (chained i v) g' p (set actors seat (actor.User (cond b (cond (eqb (mode u) 0) (answered u) (record u { step = user_step.AwaitMark })) (record u { step = user_step.LoadCtail })))) × (◌≡◌ {A = List Entry} (g'.log) (g.log))
     tie_any true = tie_by (eqb (mode u) 0) refl
     -- it has pages to change
     tie_any false = (tied, tie_to user_step.LoadCtail (h.0, h.1, (h.2.at, h.2.is, inside)) (omega arith), refl)
 
   -- it stores the link
-  pub keeps_store_link : UserAt D c m g p seat u user_step.StoreLink → (h : LogGhost) × Kept D c spare (record m { wlinks = slice_set m.wlinks (lsn u.start % WRITTEN_LINKS) (lsn (group_end u) - lsn u.start) }) h p (set actors seat (actor.User (user_took u 0 user_step.StoreLink))) × (◌≡◌ {A = List Entry} (h.log) (g.log))
+  pub keeps_store_link : UserAt D c m g p seat u user_step.StoreLink → (h : LogGhost) × Kept D c (record m { wlinks = slice_set m.wlinks (lsn u.start % WRITTEN_LINKS) (lsn (group_end u) - lsn u.start) }) h p (set actors seat (actor.User (user_took u 0 user_step.StoreLink))) × (◌≡◌ {A = List Entry} (h.log) (g.log))
   keeps_store_link h = tie_any (lsn u.start % WRITTEN_LINKS) (lsn (group_end u) - lsn u.start) refl refl h (eqb (length (changes u)) 0)

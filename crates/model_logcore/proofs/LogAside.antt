@@ -16,16 +16,16 @@ use Rattle.model_core.specs.declared.ops.Answer.TheVariants as answer
 use Rattle.model_core.specs.declared.steps.CheckpointerStep.TheVariants as checkpointer_step
 use Rattle.model_core.specs.Actors as actor
 
-module _ (D : LogSide) (c : Setup) (spare : ℕ) (m : SharedWords) (g : LogGhost) (p : D.Part) (actors : List Actor) (seat : ℕ) (a : Actor) (before : LogHalf D c spare m g p actors) (at : get_elem? actors seat ≡ maybe.some a) where
+module _ (D : LogSide) (c : Setup) (m : SharedWords) (g : LogGhost) (p : D.Part) (actors : List Actor) (seat : ℕ) (a : Actor) (before : LogHalf D c m g p actors) (at : get_elem? actors seat ≡ maybe.some a) where
   -- words that the log half doesn't read change, FAILED to a code, or CKPT up to the newest checkpoint
   pub page_aside : (lists clinks : List ℕ) (page_words : List PageWords) (ctail : ℕ) (cheld : Bool) (ckpt failed : ℕ) (b : Actor) → IsSized c.pages (record m { lists = lists; clinks = clinks; page_words = page_words; ctail = ctail; cheld = cheld; ckpt = ckpt; failed = failed })
       → m.ckpt ≤ ckpt → ckpt ≤ D.ckpt p → (0 < m.failed → 0 < failed) → (ckpt ≡ m.ckpt) ⊎ (seat ≡ c.checkpointer)
       → LogFits D c (record m { lists = lists; clinks = clinks; page_words = page_words; ctail = ctail; cheld = cheld; ckpt = ckpt; failed = failed }) g p seat b → holds b ≡ holds a → ◌≡◌ {A = List Entry} (entries b) (entries a) → left_to_reserve b ≤ left_to_reserve a
-      → Kept D c spare (record m { lists = lists; clinks = clinks; page_words = page_words; ctail = ctail; cheld = cheld; ckpt = ckpt; failed = failed }) g p (set actors seat b)
+      → Kept D c (record m { lists = lists; clinks = clinks; page_words = page_words; ctail = ctail; cheld = cheld; ckpt = ckpt; failed = failed }) g p (set actors seat b)
   page_aside lists clinks page_words ctail cheld ckpt failed b sized up low fails who f keep same le =
       let m' : SharedWords = record m { lists = lists; clinks = clinks; page_words = page_words; ctail = ctail; cheld = cheld; ckpt = ckpt; failed = failed } in
       let G = before.global in let P = G.part in
-      moved_on D c spare m m' g g p p actors seat a b before at sized
+      moved_on D c m m' g g p p actors seat a b before at sized
       (facts_same D c m g p (part_same D c m g p P P.write_written P.given_wtail P.flushed_stable low P.turn_word) G)
       f
       (λ j x n e. ⊎_elim
@@ -42,12 +42,12 @@ module _ (D : LogSide) (c : Setup) (spare : ℕ) (m : SharedWords) (g : LogGhost
       refl refl refl refl keep same le
 
 -- a checkpoint is written, or fails
-module _ (D : LogSide) (c : Setup) (spare : ℕ) (m : SharedWords) (g : LogGhost) (p : D.Part) (actors : List Actor) (seat : ℕ) (t : CheckpointerState) (before : LogHalf D c spare m g p actors) (at : get_elem? actors seat ≡ maybe.some (actor.Checkpointer t)) where
+module _ (D : LogSide) (c : Setup) (m : SharedWords) (g : LogGhost) (p : D.Part) (actors : List Actor) (seat : ℕ) (t : CheckpointerState) (before : LogHalf D c m g p actors) (at : get_elem? actors seat ≡ maybe.some (actor.Checkpointer t)) where
   his : CheckpointerFits D c m g p seat t
   his = before.each seat (actor.Checkpointer t) at
 
   pub points_by : (q : D.Part) (code : ℕ) (b : Bool) → eqb code 0 ≡ b → t.step ≡ checkpointer_step.Checkpoint → D.ckpt p ≡ t.own → D.ckpt p < t.to → t.to ≤ D.stable p → AfterCheckpoint D c.blocks c.base g.log t.to code p q
-      → Kept D c spare m g q (set actors seat (actor.Checkpointer (checkpointer_took t (cond b (answer.Called 0) (answer.Failed code)) checkpointer_step.Checkpoint)))
+      → Kept D c m g q (set actors seat (actor.Checkpointer (checkpointer_took t (cond b (answer.Called 0) (answer.Failed code)) checkpointer_step.Checkpoint)))
   points_by q code b b_is is own more below A =
       let G = before.global in let P = G.part in
       let held : checkpointer_holds t.step ≡ true = ap checkpointer_holds is in
@@ -64,7 +64,7 @@ module _ (D : LogSide) (c : Setup) (spare : ℕ) (m : SharedWords) (g : LogGhost
         | true ↦ (λ e. record { alone = his.alone; own = his.own; no_device_while_checking = λ z. absurd (never z); step = ckpt_by true e })
         | false ↦ (λ e. let n = eqb-false code 0 e in let pos : 0 < code = omega arith in record { alone = his.alone; own = his.own; no_device_while_checking = λ z. absurd (never z); step = (pos, A.cause pos) })
       ] in
-      moved_on D c spare m m g g p q actors seat (actor.Checkpointer t) (actor.Checkpointer (checkpointer_took t (cond b (answer.Called 0) (answer.Failed code)) checkpointer_step.Checkpoint)) before at before.sized
+      moved_on D c m m g g p q actors seat (actor.Checkpointer t) (actor.Checkpointer (checkpointer_took t (cond b (answer.Called 0) (answer.Failed code)) checkpointer_step.Checkpoint)) before at before.sized
       (facts_same D c m g p (part_kept D c m g p P A.holds A.written A.stable (let z = P.written_given in omega arith) (let z = P.given_wtail in omega arith) (let z = P.ckpt_part in omega arith) (let z = A.asked in omega arith) (let z = A.asked in omega arith)) G)
       (fit b b_is)
       (λ j x n e. others_pointer D c m m g g p q seat his.alone G

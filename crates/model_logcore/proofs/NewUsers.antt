@@ -1,16 +1,12 @@
 -- A user that has done nothing, field by field.
-use Rattle.std.proofs.Common.{List, [], ap, arith, cond, eqb, false, length, ne_eqb, refl, subst, sym, ℕ, ◌<◌, ◌∙◌, ◌≡◌, ◌≤◌}
+use Rattle.std.proofs.Common.{List, [], ap, arith, cond, eqb, false, length, ne_eqb, subst, sym, ℕ, ◌<◌, ◌∙◌, ◌≡◌, ◌≤◌}
 use Rattle.std.specs.Prelude.{slice_index}
 use Rattle.model_base.specs.declared.limits.TheConstants.{MAX_GROUP}
 use Rattle.model_core.specs.Setup.{Setup}
-use Rattle.model_core.specs.{ChecksWithoutTail, Line, line_at, LoadedMarks, none_loaded, UserState}
-use Rattle.model_core.specs.Holding.{user_holds_tail}
+use Rattle.model_core.specs.{Line, line_at, LoadedMarks, none_loaded, UserState}
 use Rattle.model_core.specs.declared.steps.UserStep.{UserStep}
-use Rattle.model_core.specs.declared.words.LinkBuffer.{LinkBuffer}
 use Rattle.model_logcore.specs.Start.{StartUser}
 use Rattle.model_core.specs.declared.steps.UserStep.TheVariants as user_step
-use Rattle.model_core.specs.declared.words.LinkBuffer.TheVariants as link_buffer
-use Rattle.model_core.specs.Actors as actor
 
 pub record IsNewUser (c : Setup) (u : UserState) : Type 0 where
   pub blocks : u.blocks ≡ c.blocks
@@ -38,11 +34,3 @@ new_user_is c u S =
       loaded = ap (λ (z : UserState). z.loaded) S.is;
       step = ap (λ (z : UserState). z.step) S.is ∙ ap (λ b. let s : UserStep = cond b user_step.Done user_step.LoadCheckpoint in s) some;
     }
-
--- it holds no tail
-pub new_free : (c : Setup) (u : UserState) → StartUser c u → ChecksWithoutTail (actor.User u)
-new_free c u S = λ _ b. ap (user_holds_tail b) (new_user_is c u S).step ∙ by b
-  where
-    by : (b : LinkBuffer) → user_holds_tail b user_step.LoadCheckpoint ≡ false
-    by link_buffer.Written = refl
-    by link_buffer.Closed = refl

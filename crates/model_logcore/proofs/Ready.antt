@@ -36,7 +36,7 @@ use Rattle.model_core.specs.declared.steps.CheckpointerStep.TheVariants as check
 use Rattle.model_core.specs.Actors as actor
 use mathlib.Core.Option as maybe
 
-module _ (D : LogSide) (L : LogLaws D) (c : Setup) (spare : ℕ) (m : SharedWords) (g : LogGhost) (p : D.Part) (actors : List Actor) (seat : ℕ) (before : LogHalf D c spare m g p actors) where
+module _ (D : LogSide) (L : LogLaws D) (c : Setup) (m : SharedWords) (g : LogGhost) (p : D.Part) (actors : List Actor) (seat : ℕ) (before : LogHalf D c m g p actors) where
   advance_ready : (a : Actor) (b : LinkBuffer) (v : Advance) (s : AdvanceStep) → Ready D c g p a (advance_op b v s)
   advance_ready a b v advance_step.LoadTail = tt
   advance_ready a b v _ = tt
@@ -51,7 +51,7 @@ module _ (D : LogSide) (L : LogLaws D) (c : Setup) (spare : ℕ) (m : SharedWord
   writer_ready s at (writer_step.Advance v) is h = advance_ready (actor.Writer s) link_buffer.Written s.advance v
   writer_ready s at writer_step.TakeDevice is h = ap writer_holds is
   writer_ready s at writer_step.GiveBroken is h = ap writer_holds is
-  writer_ready s at writer_step.WriteTo is h = let mine : WriterFits D c m g p seat s = before.each seat (actor.Writer s) at in (ap writer_holds is, (mine.tail, can_write D L c spare m g p actors seat s before at h))
+  writer_ready s at writer_step.WriteTo is h = let mine : WriterFits D c m g p seat s = before.each seat (actor.Writer s) at in (ap writer_holds is, (mine.tail, can_write D L c m g p actors seat s before at h))
   writer_ready s at writer_step.GiveDevice is h = ap writer_holds is
   writer_ready s at writer_step.GiveFailed is h = ap writer_holds is
   writer_ready s at _ is h = tt
@@ -101,4 +101,3 @@ module _ (D : LogSide) (L : LogLaws D) (c : Setup) (spare : ℕ) (m : SharedWord
   ready (actor.Closer t) at can = checking_ready (actor.Closer t) t.checks (closer_op t t.step) (closer_ready t t.step)
   ready (actor.Cleaner v) at can = checking_ready (actor.Cleaner v) v.checks (cleaner_op v v.step) (cleaner_ready v v.step)
   ready (actor.Checkpointer t) at can = checking_ready (actor.Checkpointer t) t.checks (checkpointer_op t t.step) (checkpointer_ready t t.step refl (can t refl))
-  ready (actor.Joined es) at can = tt

@@ -36,12 +36,12 @@ first_low base log n q v t le some_v true_v = elim (ℕ_discrete q (base / BLOCK
 firsts_old : (base : ℕ) (log : List Entry) (e : Entry) (n q v : ℕ) → Tiles base log n → e.start ≡ n → base ≤ n → 0 < v → v ≡ first_of base log q → v ≡ first_of base (log ++ e ∷ []) q
 firsts_old base log e n q v t is le some_v true_v = let low = first_low base log n q v t le some_v true_v in true_v ∙ sym (first_snoc base log e q (omega arith))
 
-module _ (D : LogSide) (L : LogLaws D) (c : Setup) (spare : ℕ) (m : SharedWords) (g : LogGhost) (p : D.Part) (actors : List Actor) (seat : ℕ) (u : UserState) (before : LogHalf D c spare m g p actors) (at : get_elem? actors seat ≡ some (actor.User u)) where
+module _ (D : LogSide) (L : LogLaws D) (c : Setup) (m : SharedWords) (g : LogGhost) (p : D.Part) (actors : List Actor) (seat : ℕ) (u : UserState) (before : LogHalf D c m g p actors) (at : get_elem? actors seat ≡ some (actor.User u)) where
   mine : UserFits D c m g p seat u
   mine = before.each seat (actor.User u) at
 
   -- it reserves a group
-  pub keeps_reserve : UserAt D c m g p seat u user_step.Reserve → (h : LogGhost) × Kept D c spare (record m { sn = m.sn + length (group_bytes u) }) h p (set actors seat (actor.User (user_took u m.sn user_step.Reserve))) × (◌≡◌ {A = List Entry} (h.log) (g.log ++ entry u.user u.k m.sn (line u) ∷ []))
+  pub keeps_reserve : UserAt D c m g p seat u user_step.Reserve → (h : LogGhost) × Kept D c (record m { sn = m.sn + length (group_bytes u) }) h p (set actors seat (actor.User (user_took u m.sn user_step.Reserve))) × (◌≡◌ {A = List Entry} (h.log) (g.log ++ entry u.user u.k m.sn (line u) ∷ []))
   keeps_reserve is =
       let n : ℕ = m.sn in
       let b : ℕ = length (group_bytes u) in
@@ -76,7 +76,7 @@ module _ (D : LogSide) (L : LogLaws D) (c : Setup) (spare : ℕ) (m : SharedWord
       let rest : lengths (drop (length u.starts) u.lines) ≡ b + lengths (drop (length w.starts) u.lines) =
       ap (λ (j : ℕ). lengths (drop j u.lines)) is.0 ∙ lengths_step u.lines u.k is.1 ∙ ap (λ (j : ℕ). b + lengths (drop j u.lines)) (sym long) in (
         g',
-        moved D c spare m m' g g' p p actors seat (actor.User w) before
+        moved D c m m' g g' p p actors seat (actor.User w) before
             (numbers_sized before.sized)
             (record {
               tiled = record {
@@ -242,7 +242,7 @@ module _ (D : LogSide) (L : LogLaws D) (c : Setup) (spare : ℕ) (m : SharedWord
             let l : sum_of h (g.log ++ e ∷ []) ≡ sum_of h g.log + (h e + 0) = sum_of_append h g.log (e ∷ []) in
             omega arith)
             (let s = total_set left_to_reserve actors seat (actor.User u) (actor.User w) at in
-            lsn_below (m.sn + length (group_bytes u) + sum_over_actors left_to_reserve (set actors seat (actor.User w)) + spare) (m.sn + sum_over_actors left_to_reserve actors + spare) LSN_LIMIT (omega arith) before.room)
+            lsn_below (m.sn + length (group_bytes u) + sum_over_actors left_to_reserve (set actors seat (actor.User w))) (m.sn + sum_over_actors left_to_reserve actors) LSN_LIMIT (omega arith) before.room)
             (λ d. taken_same actors seat (actor.User u) (actor.User w) g.holder at (λ h. absurd (cc)) (before.taken d)),
         refl,
       )

@@ -39,7 +39,7 @@ chain_states s t old new h = record {
 pub commits_states : {c : Setup} {write flushed : ℕ} {log : List Entry} {answered : ℕ → ℕ} (s t : ℕ → ℕ) → ((x : ℕ) → s x ≡ 2 → t x ≡ 2) → Commits c write flushed log s answered → Commits c write flushed log t answered
 commits_states s t new h = record { flush = h.flush; wrote = h.wrote; linked = λ i e is k x lo hi. new x (h.linked i e is k x lo hi); last = h.last }
 
-module _ (D : LogSide) (c : Setup) (spare : ℕ) (m : SharedWords) (g : LogGhost) (p : D.Part) (actors : List Actor) (seat : ℕ) (u : UserState) (before : LogHalf D c spare m g p actors) (at : get_elem? actors seat ≡ some (actor.User u)) where
+module _ (D : LogSide) (c : Setup) (m : SharedWords) (g : LogGhost) (p : D.Part) (actors : List Actor) (seat : ℕ) (u : UserState) (before : LogHalf D c m g p actors) (at : get_elem? actors seat ≡ some (actor.User u)) where
   pub fits : UserFits D c m g p seat u
   fits = before.each seat (actor.User u) at
 
@@ -80,8 +80,8 @@ module _ (D : LogSide) (c : Setup) (spare : ℕ) (m : SharedWords) (g : LogGhost
   pub steps : (m' : SharedWords) (g' : LogGhost) (w : UserState) → IsSized c.pages m' → LogFacts D c m' g' p → UserFits D c m' g' p seat w → Later D c m g m' g' seat → Still D c m m' g g' p p
       → m'.flushed ≡ m.flushed → m'.ckpt ≡ m.ckpt → m'.device ≡ m.device → g'.holder ≡ g.holder → g'.log ≡ g.log → m'.sn ≡ m.sn
       → ◌≡◌ {A = List Entry} (entries (actor.User w)) (entries (actor.User u)) → left_to_reserve (actor.User w) ≤ left_to_reserve (actor.User u)
-      → Kept D c spare m' g' p (set actors seat (actor.User w))
-  steps m' g' w sized global f later still flushed ckpt device holder log sn same le = moved_on D c spare m m' g g' p p actors seat (actor.User u) (actor.User w) before at sized global f
+      → Kept D c m' g' p (set actors seat (actor.User w))
+  steps m' g' w sized global f later still flushed ckpt device holder log sn same le = moved_on D c m m' g g' p p actors seat (actor.User u) (actor.User w) before at sized global f
       (λ j a n e. others_later D c m m' g g' p p seat before.global later still (record { writer = still.writer; flushed = flushed; ckpt_word = ckpt; failed = later.failed; point = refl }) j a n (λ h. refl) (before.each j a e))
       device holder log sn refl same le
 
@@ -277,7 +277,7 @@ module _ (D : LogSide) (c : Setup) (spare : ℕ) (m : SharedWords) (g : LogGhost
 
   -- it adds its next bytes
   pub keeps_add_cell : u.step ≡ user_step.AddCell → UserAt D c m g p seat u user_step.AddCell
-      → (h : LogGhost) × Kept D c spare (record m { cells = slice_set m.cells (cell_of (copy_place u)) (slice_index m.cells (cell_of (copy_place u)) + packed (lane_of (copy_place u)) (next_bytes u)) }) h p (set actors seat (actor.User (user_took u 0 user_step.AddCell))) × (◌≡◌ {A = List Entry} (h.log) (g.log))
+      → (h : LogGhost) × Kept D c (record m { cells = slice_set m.cells (cell_of (copy_place u)) (slice_index m.cells (cell_of (copy_place u)) + packed (lane_of (copy_place u)) (next_bytes u)) }) h p (set actors seat (actor.User (user_took u 0 user_step.AddCell))) × (◌≡◌ {A = List Entry} (h.log) (g.log))
   keeps_add_cell is h =
       let k : ℕ = copy_place u in
       let n : ℕ = next_count u in
@@ -344,10 +344,10 @@ module _ (D : LogSide) (c : Setup) (spare : ℕ) (m : SharedWords) (g : LogGhost
 
   -- it stores the first offset of the block in which the group ends
   pub keeps_store_first : u.step ≡ user_step.StoreFirst → UserAt D c m g p seat u user_step.StoreFirst
-      → (h : LogGhost) × Kept D c spare (record m { firsts = slice_set m.firsts (lsn (group_end u) / 512 % 128) (lsn (group_end u) % 512) }) h p (set actors seat (actor.User (user_took u 0 user_step.StoreFirst))) × (◌≡◌ {A = List Entry} (h.log) (g.log))
+      → (h : LogGhost) × Kept D c (record m { firsts = slice_set m.firsts (lsn (group_end u) / 512 % 128) (lsn (group_end u) % 512) }) h p (set actors seat (actor.User (user_took u 0 user_step.StoreFirst))) × (◌≡◌ {A = List Entry} (h.log) (g.log))
   keeps_store_first is h = stored (lsn (group_end u) / 512 % 128) (lsn (group_end u) % 512) (ap (λ (k : ℕ). k % 128) (lsn_block (group_end u))) (lsn_offset (group_end u))
     where
-      stored : (i v : ℕ) → i ≡ group_end u / BLOCK_DATA % 128 → v ≡ group_end u % BLOCK_DATA + 12 → (h : LogGhost) × Kept D c spare (record m { firsts = slice_set m.firsts i v }) h p (set actors seat (actor.User (user_took u 0 user_step.StoreFirst))) × (◌≡◌ {A = List Entry} (h.log) (g.log))
+      stored : (i v : ℕ) → i ≡ group_end u / BLOCK_DATA % 128 → v ≡ group_end u % BLOCK_DATA + 12 → (h : LogGhost) × Kept D c (record m { firsts = slice_set m.firsts i v }) h p (set actors seat (actor.User (user_took u 0 user_step.StoreFirst))) × (◌≡◌ {A = List Entry} (h.log) (g.log))
       stored i v i_is v_is =
           let q : ℕ = group_end u / BLOCK_DATA in
           let m' : SharedWords = record m { firsts = slice_set m.firsts i v } in

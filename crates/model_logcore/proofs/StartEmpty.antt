@@ -28,7 +28,6 @@ start_hand c seat_of writer n (model.Closer t) is = refl
 start_hand c seat_of writer n (model.Cleaner v) is = ap (λ (z : CleanerState). cleaner_hand z z.step) is.1
 start_hand c seat_of writer n (model.Checkpointer t) is = ap (λ (z : CheckpointerState). checkpointer_hand z z.step) is.1
 start_hand c seat_of writer n (model.Reader t) is = ap (λ (z : ReaderState). reader_hand z.step) is.3
-start_hand c seat_of writer n (model.Joined es) is = refl
 
 user_free : (b : Bool) (l : LinkBuffer) → user_holds_tail l (cond b user_step.Done user_step.LoadCheckpoint) ≡ false
 user_free true link_buffer.Written = refl
@@ -52,7 +51,6 @@ start_tail c seat_of writer n (model.Flusher t) is l = refl
 start_tail c seat_of writer n (model.Cleaner v) is l = refl
 start_tail c seat_of writer n (model.Checkpointer t) is l = refl
 start_tail c seat_of writer n (model.Reader t) is l = refl
-start_tail c seat_of writer n (model.Joined es) is l = refl
 
 pub start_empty : (c : Setup) (seat_of : ℕ → ℕ) (writer n : ℕ) (a : model.Actor) → StartActor c seat_of writer n a → HoldsNothing a
 start_empty c seat_of writer n a is = record { no_slot = start_hand c seat_of writer n a is; no_tail = start_tail c seat_of writer n a is }

@@ -155,7 +155,6 @@ module _ (D : LogSide) (c : Setup) (m : SharedWords) (p : D.Part) (seat_of : ℕ
     no_device_while_checking = λ z. absurd (let e : r.checks ≡ false = ap (λ (y : ReaderState). y.checks) h.3 in cc);
     step = subst (ReaderAt D c m start p r) (sym (ap (λ (y : ReaderState). y.step) h.3)) tt;
   }
-  start_fits seat (actor.Joined es) h = tt
 
   start_holds : (seat : ℕ) (a : Actor) → StartActor c seat_of writer seat a → holds a ≡ false
   start_holds seat (actor.Writer s) h = ap (λ (z : WriterState). holds (actor.Writer z)) h.1
@@ -166,7 +165,6 @@ module _ (D : LogSide) (c : Setup) (m : SharedWords) (p : D.Part) (seat_of : ℕ
 
   start_entries : (seat : ℕ) (a : Actor) → StartActor c seat_of writer seat a → entries a ≡ []
   start_entries seat (actor.User u) h = ap (entries_from u.user u.lines 0) (new_user_is c u h.1).starts
-  start_entries seat (actor.Joined es) h = h
   start_entries seat _ h = refl
 
   start_free : (seat : ℕ) (a : Actor) → StartActor c seat_of writer seat a → ChecksWithoutTail a
@@ -177,8 +175,8 @@ module _ (D : LogSide) (c : Setup) (m : SharedWords) (p : D.Part) (seat_of : ℕ
   no_sum f (x ∷ xs) h = let a = h 0 x refl in let r = no_sum f xs (λ i b e. h (suc i) b e) in omega arith
 
   -- a run's start: the words and the part as opened, and actors that have done nothing
-  pub half_starts : (spare : ℕ) (actors : List Actor) → ((seat : ℕ) (a : Actor) → get_elem? actors seat ≡ maybe.some a → StartActor c seat_of writer seat a) → lsn (c.base + sum_over_actors left_to_reserve actors + spare) < LSN_LIMIT → LogHalf D c spare m start p actors
-  half_starts spare actors h room = record {
+  pub half_starts : (actors : List Actor) → ((seat : ℕ) (a : Actor) → get_elem? actors seat ≡ maybe.some a → StartActor c seat_of writer seat a) → lsn (c.base + sum_over_actors left_to_reserve actors) < LSN_LIMIT → LogHalf D c m start p actors
+  half_starts actors h room = record {
     sized = W.sized;
     global = start_global;
     each = λ j a z. start_fits j a (h j a z);
@@ -187,5 +185,5 @@ module _ (D : LogSide) (c : Setup) (m : SharedWords) (p : D.Part) (seat_of : ℕ
     advanced = λ d. let z : false ≡ true = sym W.wheld ∙ d in absurd (cc);
     without_tail = λ j a z. start_free j a (h j a z);
     counted = λ w. no_sum (λ a. sum_of w (entries a)) actors (λ i a z. ap (sum_of w) (start_entries i a (h i a z)));
-    room = subst (λ (n : ℕ). lsn (n + sum_over_actors left_to_reserve actors + spare) < LSN_LIMIT) (sym W.sn) room;
+    room = subst (λ (n : ℕ). lsn (n + sum_over_actors left_to_reserve actors) < LSN_LIMIT) (sym W.sn) room;
   }

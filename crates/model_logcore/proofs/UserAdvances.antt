@@ -22,7 +22,7 @@ use Rattle.model_core.specs.declared.steps.AdvanceStep.TheVariants as advance_st
 use Rattle.model_core.specs.declared.steps.UserStep.TheVariants as user_step
 use Rattle.model_core.specs.Actors as actor
 
-module _ (D : LogSide) (c : Setup) (spare : ℕ) (m : SharedWords) (g : LogGhost) (p : D.Part) (actors : List Actor) (seat : ℕ) (u : UserState) (before : LogHalf D c spare m g p actors) (at : get_elem? actors seat ≡ some (actor.User u)) where
+module _ (D : LogSide) (c : Setup) (m : SharedWords) (g : LogGhost) (p : D.Part) (actors : List Actor) (seat : ℕ) (u : UserState) (before : LogHalf D c m g p actors) (at : get_elem? actors seat ≡ some (actor.User u)) where
   mine : UserFits D c m g p seat u
   mine = before.each seat (actor.User u) at
 
@@ -39,25 +39,25 @@ module _ (D : LogSide) (c : Setup) (spare : ℕ) (m : SharedWords) (g : LogGhost
     ghosts = record g { wtail = gwtail; tail = tail; advancer = advancer }
 
     moved_to : Moves D c m g p seat words ghosts → (t : ℕ) → t ≤ m.wtail → (advance : Advance) (checks : Bool) (st : UserStep) → UserAt D c words ghosts p seat (stood t advance checks st) st
-        → Kept D c spare words ghosts p (set actors seat (actor.User (stood t advance checks st)))
-    moved_to M t low advance checks st h = steps D c spare m g p actors seat u before at words ghosts (stood t advance checks st) M.sized M.facts
-        (refit_advance D c spare m g p actors seat u before at words ghosts (record u.loaded { wtail = t }) advance checks st refl refl refl (record { ckpt_below = mine.loaded.ckpt_below; write_below = mine.loaded.write_below; wtail_below = (let y = M.later.wtail in omega arith); flushed_below = mine.loaded.flushed_below }) h)
+        → Kept D c words ghosts p (set actors seat (actor.User (stood t advance checks st)))
+    moved_to M t low advance checks st h = steps D c m g p actors seat u before at words ghosts (stood t advance checks st) M.sized M.facts
+        (refit_advance D c m g p actors seat u before at words ghosts (record u.loaded { wtail = t }) advance checks st refl refl refl (record { ckpt_below = mine.loaded.ckpt_below; write_below = mine.loaded.write_below; wtail_below = (let y = M.later.wtail in omega arith); flushed_below = mine.loaded.flushed_below }) h)
         M.later (still_same D c m g p (omega arith) (λ z. z) refl)
         refl refl refl refl refl refl refl (omega arith)
 
     goes_on : Moves D c m g p seat words ghosts → (t : ℕ) → t ≤ m.wtail → (advance : Advance) (put over : Bool) (x : AdvanceStep) → HasAllCopied D c m g p seat u → (put ≡ false → over ≡ false → AdvanceAt D c words ghosts p seat advance x)
-        → Kept D c spare words ghosts p (set actors seat (actor.User (stood t advance put (cond put user_step.LoadWtail (cond over user_step.ReloadWtail (user_step.AdvanceWritten x))))))
+        → Kept D c words ghosts p (set actors seat (actor.User (stood t advance put (cond put user_step.LoadWtail (cond over user_step.ReloadWtail (user_step.AdvanceWritten x))))))
     goes_on M t low advance true over x h on = moved_to M t low advance true user_step.LoadWtail h
     goes_on M t low advance false true x h on = moved_to M t low advance false user_step.ReloadWtail h
     goes_on M t low advance false false x h on = moved_to M t low advance false (user_step.AdvanceWritten x) (h, on refl refl)
 
   abbrev Advanced : SharedWords → UserState → Type 0
-  Advanced m' w = (h : LogGhost) × Kept D c spare m' h p (set actors seat (actor.User w)) × (◌≡◌ {A = List Entry} (h.log) (g.log))
+  Advanced m' w = (h : LogGhost) × Kept D c m' h p (set actors seat (actor.User w)) × (◌≡◌ {A = List Entry} (h.log) (g.log))
 
   -- the words stay
   quiet : (t : ℕ) → t ≤ m.wtail → (advance : Advance) (put over : Bool) (x : AdvanceStep) → HasAllCopied D c m g p seat u → (put ≡ false → over ≡ false → AdvanceAt D c m g p seat advance x)
       → Advanced m (stood t advance put (cond put user_step.LoadWtail (cond over user_step.ReloadWtail (user_step.AdvanceWritten x))))
-  quiet t low advance put over x h on = (g, goes_on m.wtail m.wheld m.wlinks g.wtail g.tail g.advancer (stays D c spare m g p actors before seat) t low advance put over x h on, refl)
+  quiet t low advance put over x h on = (g, goes_on m.wtail m.wheld m.wlinks g.wtail g.tail g.advancer (stays D c m g p actors before seat) t low advance put over x h on, refl)
 
   pub keeps_load_tail : HasAllCopied D c m g p seat u → Advanced m (user_took u (tail_word m.wtail m.wheld) (user_step.AdvanceWritten advance_step.LoadTail))
   keeps_load_tail h = quiet (tail_of (tail_word m.wtail m.wheld)) (let z = tail_in m.wtail m.wheld in omega arith) (record u.advance { tail = tail_of (tail_word m.wtail m.wheld) }) (is_held (tail_word m.wtail m.wheld)) false advance_step.TakeTail h (λ _ _. tt)
@@ -77,8 +77,8 @@ module _ (D : LogSide) (c : Setup) (spare : ℕ) (m : SharedWords) (g : LogGhost
           let t_is : t ≡ m.wtail = tail_in u.advance.tail true ∙ k.1 in
           let held_is : held ≡ true = held_in u.advance.tail true in (
             record g { advancer = seat },
-            goes_on t held m.wlinks g.wtail g.tail seat (takes_tail D c spare m g p actors before seat u.advance t held t_is held_is k.0) u.loaded.wtail mine.loaded.wtail_below (record u.advance { place = u.advance.tail }) false false advance_step.LoadLink h
-                (λ _ _. holds_it D c spare m g p actors before seat u.advance t held t_is held_is k.0 k.1),
+            goes_on t held m.wlinks g.wtail g.tail seat (takes_tail D c m g p actors before seat u.advance t held t_is held_is k.0) u.loaded.wtail mine.loaded.wtail_below (record u.advance { place = u.advance.tail }) false false advance_step.LoadLink h
+                (λ _ _. holds_it D c m g p actors before seat u.advance t held t_is held_is k.0 k.1),
             refl,
           )
       by false e = quiet u.loaded.wtail mine.loaded.wtail_below (record u.advance { place = u.advance.tail }) true false advance_step.LoadLink h (λ z. absurd (cc))
@@ -96,7 +96,7 @@ module _ (D : LogSide) (c : Setup) (spare : ℕ) (m : SharedWords) (g : LogGhost
   keeps_clear_link h holds = by (ltb (u.advance.place + u.advance.link) (u.advance.tail + ADVANCE_PLACES))
     where
       by : (b : Bool) → Advanced (record m { wlinks = slice_set m.wlinks (u.advance.place % WRITTEN_LINKS) 0 }) (stood u.loaded.wtail (record u.advance { place = u.advance.place + u.advance.link; link = 0 }) false (user_step.AdvanceWritten (cond b advance_step.LoadLink advance_step.FreeTail)))
-      by b = let k = clears_link D c spare m g p actors before seat u.advance (u.advance.place % WRITTEN_LINKS) refl holds.0 holds.1 holds.2 in
+      by b = let k = clears_link D c m g p actors before seat u.advance (u.advance.place % WRITTEN_LINKS) refl holds.0 holds.1 holds.2 in
           (record g { tail = k.0 }, goes_on m.wtail m.wheld (slice_set m.wlinks (u.advance.place % WRITTEN_LINKS) 0) g.wtail k.0 g.advancer k.1 u.loaded.wtail mine.loaded.wtail_below (record u.advance { place = u.advance.place + u.advance.link; link = 0 }) false false (cond b advance_step.LoadLink advance_step.FreeTail) h (λ _ _. next b k.0 k.2), refl)
         where
           next : (b : Bool) (to : ℕ) → HoldsWtail D c (record m { wlinks = slice_set m.wlinks (u.advance.place % WRITTEN_LINKS) 0 }) (record g { tail = to }) p seat (record u.advance { place = u.advance.place + u.advance.link; link = 0 })
@@ -111,5 +111,5 @@ module _ (D : LogSide) (c : Setup) (spare : ℕ) (m : SharedWords) (g : LogGhost
       let t : ℕ = tail_of (tail_word u.advance.place false) in
       let held : Bool = is_held (tail_word u.advance.place false) in
       let O = before.global.order in let r1 = O.target_wtail in let r2 = O.wtail_tail in
-      let M = frees_tail D c spare m g p actors before seat u.advance t held g.target (tail_in u.advance.place false) (held_in u.advance.place false) holds (omega arith) (omega arith) O.target_bound in
+      let M = frees_tail D c m g p actors before seat u.advance t held g.target (tail_in u.advance.place false) (held_in u.advance.place false) holds (omega arith) (omega arith) O.target_bound in
       (record g { wtail = g.tail }, goes_on t held m.wlinks g.tail g.tail g.advancer M u.loaded.wtail mine.loaded.wtail_below u.advance (eqb u.advance.place u.advance.tail) true advance_step.LoadTail h (λ _ z. absurd (cc)), refl)

@@ -31,7 +31,7 @@ use Rattle.model_core.specs.declared.steps.UserStep.TheVariants as user_step
 use Rattle.model_logcore.proofs.UserAdvances as written
 use Rattle.model_core.specs.Actors as actor
 
-module _ (D : LogSide) (L : LogLaws D) (c : Setup) (spare : ℕ) (m : SharedWords) (g : LogGhost) (p : D.Part) (actors : List Actor) (seat : ℕ) (u : UserState) (before : LogHalf D c spare m g p actors) (at : get_elem? actors seat ≡ some (actor.User u)) where
+module _ (D : LogSide) (L : LogLaws D) (c : Setup) (m : SharedWords) (g : LogGhost) (p : D.Part) (actors : List Actor) (seat : ℕ) (u : UserState) (before : LogHalf D c m g p actors) (at : get_elem? actors seat ≡ some (actor.User u)) where
   mine : UserFits D c m g p seat u
   mine = before.each seat (actor.User u) at
 
@@ -40,18 +40,18 @@ module _ (D : LogSide) (L : LogLaws D) (c : Setup) (spare : ℕ) (m : SharedWord
   later_answered = record { write = omega arith; wtail = omega arith; ckpt = omega arith; flushed = omega arith; failed = λ z. z; logs = λ _ _ z. z; places = λ _ _ _. refl; states = λ _ _ _. refl; linked = λ _ _ two. two; firsts = λ _ z. z; bare = λ _ _ _ _ _ z. z; seats = λ _. refl; counts = λ _ _. refl; answers = λ x n. changed_else g.answered u.user (u.k + 1) x (λ e. n (ap g.seat_of e ∙ mine.own_seat)); holder = λ _ _. unchanged }
 
   -- nothing but the user's own state changes
-  quiet : (w : UserState) → UserFits D c m g p seat w → ◌≡◌ {A = List Entry} (entries (actor.User w)) (entries (actor.User u)) → left_to_reserve (actor.User w) ≤ left_to_reserve (actor.User u) → Kept D c spare m g p (set actors seat (actor.User w))
-  quiet w f same le = steps D c spare m g p actors seat u before at m g w before.sized before.global f
+  quiet : (w : UserState) → UserFits D c m g p seat w → ◌≡◌ {A = List Entry} (entries (actor.User w)) (entries (actor.User u)) → left_to_reserve (actor.User w) ≤ left_to_reserve (actor.User u) → Kept D c m g p (set actors seat (actor.User w))
+  quiet w f same le = steps D c m g p actors seat u before at m g w before.sized before.global f
       (later_marks D c m g p (omega arith) (omega arith) (omega arith) (omega arith) (λ z. z) (λ _ _. unchanged))
-      (still_words D c spare m g p actors seat u before at m g refl refl refl refl refl refl refl refl refl)
+      (still_words D c m g p actors seat u before at m g refl refl refl refl refl refl refl refl refl)
       refl refl refl refl refl refl same le
 
-  shift : (page cell copied : ℕ) (loaded : LoadedMarks) (code : ℕ) (checks : Bool) (ph : UserStep) → AreBelow loaded m.ckpt m.write m.wtail m.flushed → UserAt D c m g p seat (shifted D c spare m g p actors seat u before at page cell copied loaded code checks ph) ph
-      → Kept D c spare m g p (set actors seat (actor.User (shifted D c spare m g p actors seat u before at page cell copied loaded code checks ph)))
-  shift page cell copied loaded code checks ph le h = quiet (shifted D c spare m g p actors seat u before at page cell copied loaded code checks ph) (refit D c spare m g p actors seat u before at m g page cell copied loaded code checks ph refl refl refl le h) refl (omega arith)
+  shift : (page cell copied : ℕ) (loaded : LoadedMarks) (code : ℕ) (checks : Bool) (ph : UserStep) → AreBelow loaded m.ckpt m.write m.wtail m.flushed → UserAt D c m g p seat (shifted D c m g p actors seat u before at page cell copied loaded code checks ph) ph
+      → Kept D c m g p (set actors seat (actor.User (shifted D c m g p actors seat u before at page cell copied loaded code checks ph)))
+  shift page cell copied loaded code checks ph le h = quiet (shifted D c m g p actors seat u before at page cell copied loaded code checks ph) (refit D c m g p actors seat u before at m g page cell copied loaded code checks ph refl refl refl le h) refl (omega arith)
 
   abbrev Now : UserState → Type 0
-  Now w = Kept D c spare m g p (set actors seat (actor.User w))
+  Now w = Kept D c m g p (set actors seat (actor.User w))
 
   total_by : (b : Bool) → UserAt D c m g p seat u user_step.LoadSn → Now (cond b (record u { page = 0; cell = 0; step = cond (eqb (length (changes u)) 0) user_step.Reserve user_step.TakeLatch }) (record u { checks = true; step = user_step.LoadCheckpoint }))
   total_by true h = by (eqb (length (changes u)) 0)
@@ -85,16 +85,16 @@ module _ (D : LogSide) (L : LogLaws D) (c : Setup) (spare : ℕ) (m : SharedWord
 
   -- it loads FLUSHED or WRITE, and its commit is answered where that has passed its end
   await_by : (n : ℕ) (b : Bool) → nat_le (lsn (group_end u)) n ≡ b → (mode u ≡ 1 → n ≡ m.flushed) → (mode u ≡ 2 → n ≡ m.write) → AreBelow (with_mark u n) m.ckpt m.write m.wtail m.flushed → UserAt D c m g p seat u user_step.AwaitMark
-      → (g' : LogGhost) × Kept D c spare m g' p (set actors seat (actor.User (cond b (answered (record u { loaded = with_mark u n })) (record u { loaded = with_mark u n; checks = true; step = user_step.AwaitMark })))) × (◌≡◌ {A = List Entry} (g'.log) (g.log))
+      → (g' : LogGhost) × Kept D c m g' p (set actors seat (actor.User (cond b (answered (record u { loaded = with_mark u n })) (record u { loaded = with_mark u n; checks = true; step = user_step.AwaitMark })))) × (◌≡◌ {A = List Entry} (g'.log) (g.log))
   await_by n true e fl wr lo h =
       let g' : LogGhost = record g { answered = changed g.answered u.user (u.k + 1) } in
       let le : lsn (group_end u) ≤ n = leb-true (lsn (group_end u)) n e in (
         g',
-        steps D c spare m g p actors seat u before at m g' (answered (record u { loaded = with_mark u n })) before.sized
-            (answer_global D L c spare m g p actors seat u before at m g h.2.0 h.2.1 mine.answers (λ z. let y = fl z in omega arith) (λ z. let y = wr z in omega arith) h.2.2 before.global)
-            (answered_fits D L c spare m g p actors seat u before at (with_mark u n) m g' refl refl (changed_here g.answered u.user (u.k + 1) u.user refl) lo h.0 h.1)
+        steps D c m g p actors seat u before at m g' (answered (record u { loaded = with_mark u n })) before.sized
+            (answer_global D L c m g p actors seat u before at m g h.2.0 h.2.1 mine.answers (λ z. let y = fl z in omega arith) (λ z. let y = wr z in omega arith) h.2.2 before.global)
+            (answered_fits D L c m g p actors seat u before at (with_mark u n) m g' refl refl (changed_here g.answered u.user (u.k + 1) u.user refl) lo h.0 h.1)
             later_answered
-            (still_words D c spare m g p actors seat u before at m g' refl refl refl refl refl refl refl refl refl)
+            (still_words D c m g p actors seat u before at m g' refl refl refl refl refl refl refl refl refl)
             refl refl refl refl refl refl refl (omega arith),
         refl,
       )
@@ -153,30 +153,30 @@ module _ (D : LogSide) (L : LogLaws D) (c : Setup) (spare : ℕ) (m : SharedWord
 
   -- words of the pages change, and the closer's: the log half doesn't read them
   pub aside : (lists clinks : List ℕ) (page_words : List PageWords) (ctail : ℕ) (cheld : Bool) (w : UserState) → IsSized c.pages (record m { lists = lists; clinks = clinks; page_words = page_words; ctail = ctail; cheld = cheld }) → UserFits D c m g p seat w → ◌≡◌ {A = List Entry} (entries (actor.User w)) (entries (actor.User u)) → left_to_reserve (actor.User w) ≤ left_to_reserve (actor.User u)
-      → Kept D c spare (record m { lists = lists; clinks = clinks; page_words = page_words; ctail = ctail; cheld = cheld }) g p (set actors seat (actor.User w))
+      → Kept D c (record m { lists = lists; clinks = clinks; page_words = page_words; ctail = ctail; cheld = cheld }) g p (set actors seat (actor.User w))
   aside lists clinks page_words ctail cheld w sized f same le =
       let m' : SharedWords = record m { lists = lists; clinks = clinks; page_words = page_words; ctail = ctail; cheld = cheld } in
-      steps D c spare m g p actors seat u before at m' g w sized
+      steps D c m g p actors seat u before at m' g w sized
       (facts_same D c m g p before.global.part before.global)
       (record { own_seat = f.own_seat; blocks = f.blocks; lines = f.lines; sound = f.sound; are_bytes = f.are_bytes; counted = f.counted; answers = f.answers; loaded = f.loaded; step = f.step })
       (later_marks D c m g p (omega arith) (omega arith) (omega arith) (omega arith) (λ z. z) (λ _ _. unchanged))
-      (still_words D c spare m g p actors seat u before at m' g refl refl refl refl refl refl refl refl refl)
+      (still_words D c m g p actors seat u before at m' g refl refl refl refl refl refl refl refl refl)
       refl refl refl refl refl refl same le
 
   moves : (lists clinks : List ℕ) (page_words : List PageWords) (ctail : ℕ) (cheld : Bool) → IsSized c.pages (record m { lists = lists; clinks = clinks; page_words = page_words; ctail = ctail; cheld = cheld }) → (page cell : ℕ) (checks : Bool) (ph : UserStep)
-      → UserAt D c m g p seat (shifted D c spare m g p actors seat u before at page cell u.copied u.loaded u.code checks ph) ph
-      → Kept D c spare (record m { lists = lists; clinks = clinks; page_words = page_words; ctail = ctail; cheld = cheld }) g p (set actors seat (actor.User (shifted D c spare m g p actors seat u before at page cell u.copied u.loaded u.code checks ph)))
-  moves lists clinks page_words ctail cheld sized page cell checks ph h = aside lists clinks page_words ctail cheld (shifted D c spare m g p actors seat u before at page cell u.copied u.loaded u.code checks ph) sized (refit D c spare m g p actors seat u before at m g page cell u.copied u.loaded u.code checks ph refl refl refl mine.loaded h) refl (omega arith)
+      → UserAt D c m g p seat (shifted D c m g p actors seat u before at page cell u.copied u.loaded u.code checks ph) ph
+      → Kept D c (record m { lists = lists; clinks = clinks; page_words = page_words; ctail = ctail; cheld = cheld }) g p (set actors seat (actor.User (shifted D c m g p actors seat u before at page cell u.copied u.loaded u.code checks ph)))
+  moves lists clinks page_words ctail cheld sized page cell checks ph h = aside lists clinks page_words ctail cheld (shifted D c m g p actors seat u before at page cell u.copied u.loaded u.code checks ph) sized (refit D c m g p actors seat u before at m g page cell u.copied u.loaded u.code checks ph refl refl refl mine.loaded h) refl (omega arith)
 
   turned_any : (lists clinks : List ℕ) (page_words : List PageWords) (ctail : ℕ) (cheld : Bool) → IsSized c.pages (record m { lists = lists; clinks = clinks; page_words = page_words; ctail = ctail; cheld = cheld }) → UserAt D c m g p seat u user_step.StoreClosedLink → (b d e : Bool)
-      → Kept D c spare (record m { lists = lists; clinks = clinks; page_words = page_words; ctail = ctail; cheld = cheld }) g p (set actors seat (actor.User (record u { page = u.page + 1; cell = 0; step = cond b user_step.StoreClosedLink (cond d user_step.StoreNewest (cond e user_step.StoreFrame user_step.LoadFrame)) })))
+      → Kept D c (record m { lists = lists; clinks = clinks; page_words = page_words; ctail = ctail; cheld = cheld }) g p (set actors seat (actor.User (record u { page = u.page + 1; cell = 0; step = cond b user_step.StoreClosedLink (cond d user_step.StoreNewest (cond e user_step.StoreFrame user_step.LoadFrame)) })))
   turned_any lists clinks page_words ctail cheld sized h true d e = moves lists clinks page_words ctail cheld sized (u.page + 1) 0 u.checks user_step.StoreClosedLink h
   turned_any lists clinks page_words ctail cheld sized h false true e = moves lists clinks page_words ctail cheld sized (u.page + 1) 0 u.checks user_step.StoreNewest h
   turned_any lists clinks page_words ctail cheld sized h false false true = moves lists clinks page_words ctail cheld sized (u.page + 1) 0 u.checks user_step.StoreFrame h
   turned_any lists clinks page_words ctail cheld sized h false false false = moves lists clinks page_words ctail cheld sized (u.page + 1) 0 u.checks user_step.LoadFrame h
 
   latch_by : (b d : Bool) → UserAt D c m g p seat u user_step.TakeLatch
-      → Kept D c spare (cond b (with_page_words m (current_page u) (record (page_words_at m.page_words (current_page u)) { latch = 1 })) m) g p (set actors seat (actor.User (cond b (record u { page = u.page + 1; step = cond d user_step.Reserve user_step.TakeLatch }) (record u { checks = true; step = user_step.TakeLatch }))))
+      → Kept D c (cond b (with_page_words m (current_page u) (record (page_words_at m.page_words (current_page u)) { latch = 1 })) m) g p (set actors seat (actor.User (cond b (record u { page = u.page + 1; step = cond d user_step.Reserve user_step.TakeLatch }) (record u { checks = true; step = user_step.TakeLatch }))))
   latch_by true true h = moves m.lists m.clinks (slice_set m.page_words (current_page u) (record (page_words_at m.page_words (current_page u)) { latch = 1 })) m.ctail m.cheld (page_sized (current_page u) (record (page_words_at m.page_words (current_page u)) { latch = 1 }) refl before.sized) (u.page + 1) u.cell u.checks user_step.Reserve h
   latch_by true false h = moves m.lists m.clinks (slice_set m.page_words (current_page u) (record (page_words_at m.page_words (current_page u)) { latch = 1 })) m.ctail m.cheld (page_sized (current_page u) (record (page_words_at m.page_words (current_page u)) { latch = 1 }) refl before.sized) (u.page + 1) u.cell u.checks user_step.TakeLatch h
   latch_by false d h = shift u.page u.cell u.copied u.loaded u.code true user_step.TakeLatch mine.loaded h
@@ -194,29 +194,29 @@ module _ (D : LogSide) (L : LogLaws D) (c : Setup) (spare : ℕ) (m : SharedWord
   stood t advance checks ph = record u { loaded = record u.loaded { ctail = t }; advance = advance; checks = checks; step = ph }
 
   closes : (clinks : List ℕ) (ctail : ℕ) (cheld : Bool) → IsSized c.pages (record m { clinks = clinks; ctail = ctail; cheld = cheld }) → (t : ℕ) (advance : Advance) (put over : Bool) (x : AdvanceStep) → UserAt D c m g p seat u user_step.LoadCtail
-      → Kept D c spare (record m { clinks = clinks; ctail = ctail; cheld = cheld }) g p (set actors seat (actor.User (stood t advance put (cond put user_step.LoadCtail (cond over user_step.ReloadCtail (user_step.AdvanceClosed x))))))
+      → Kept D c (record m { clinks = clinks; ctail = ctail; cheld = cheld }) g p (set actors seat (actor.User (stood t advance put (cond put user_step.LoadCtail (cond over user_step.ReloadCtail (user_step.AdvanceClosed x))))))
   closes clinks ctail cheld sized t advance put over x h = by put over
     where
-      to : (checks : Bool) (ph : UserStep) → UserAt D c m g p seat (stood t advance checks ph) ph → Kept D c spare (record m { clinks = clinks; ctail = ctail; cheld = cheld }) g p (set actors seat (actor.User (stood t advance checks ph)))
-      to checks ph z = aside m.lists clinks m.page_words ctail cheld (stood t advance checks ph) sized (refit_advance D c spare m g p actors seat u before at m g (record u.loaded { ctail = t }) advance checks ph refl refl refl (ctail_loaded t) z) refl (omega arith)
+      to : (checks : Bool) (ph : UserStep) → UserAt D c m g p seat (stood t advance checks ph) ph → Kept D c (record m { clinks = clinks; ctail = ctail; cheld = cheld }) g p (set actors seat (actor.User (stood t advance checks ph)))
+      to checks ph z = aside m.lists clinks m.page_words ctail cheld (stood t advance checks ph) sized (refit_advance D c m g p actors seat u before at m g (record u.loaded { ctail = t }) advance checks ph refl refl refl (ctail_loaded t) z) refl (omega arith)
 
-      by : (put over : Bool) → Kept D c spare (record m { clinks = clinks; ctail = ctail; cheld = cheld }) g p (set actors seat (actor.User (stood t advance put (cond put user_step.LoadCtail (cond over user_step.ReloadCtail (user_step.AdvanceClosed x))))))
+      by : (put over : Bool) → Kept D c (record m { clinks = clinks; ctail = ctail; cheld = cheld }) g p (set actors seat (actor.User (stood t advance put (cond put user_step.LoadCtail (cond over user_step.ReloadCtail (user_step.AdvanceClosed x))))))
       by true over = to true user_step.LoadCtail h
       by false true = to false user_step.ReloadCtail h
       by false false = to false (user_step.AdvanceClosed x) h
 
   takes_closed : (b : Bool) → UserAt D c m g p seat u user_step.LoadCtail
-      → Kept D c spare (cond b (record m { ctail = tail_of (tail_word u.advance.tail true); cheld = is_held (tail_word u.advance.tail true) }) m) g p (set actors seat (actor.User (stood u.loaded.ctail (record u.advance { place = u.advance.tail }) (cond b false true) (cond (cond b false true) user_step.LoadCtail (user_step.AdvanceClosed advance_step.LoadLink)))))
+      → Kept D c (cond b (record m { ctail = tail_of (tail_word u.advance.tail true); cheld = is_held (tail_word u.advance.tail true) }) m) g p (set actors seat (actor.User (stood u.loaded.ctail (record u.advance { place = u.advance.tail }) (cond b false true) (cond (cond b false true) user_step.LoadCtail (user_step.AdvanceClosed advance_step.LoadLink)))))
   takes_closed true h = closes m.clinks (tail_of (tail_word u.advance.tail true)) (is_held (tail_word u.advance.tail true)) (numbers_sized before.sized) u.loaded.ctail (record u.advance { place = u.advance.tail }) false false advance_step.LoadLink h
   takes_closed false h = closes m.clinks m.ctail m.cheld before.sized u.loaded.ctail (record u.advance { place = u.advance.tail }) true false advance_step.LoadLink h
 
   -- the word that it has loaded changes too
   worded : (page_words : List PageWords) → IsSized c.pages (record m { page_words = page_words }) → (cell word : ℕ) (ph : UserStep) → UserAt D c m g p seat (record u { cell = cell; word = word; step = ph }) ph
-      → Kept D c spare (record m { page_words = page_words }) g p (set actors seat (actor.User (record u { cell = cell; word = word; step = ph })))
+      → Kept D c (record m { page_words = page_words }) g p (set actors seat (actor.User (record u { cell = cell; word = word; step = ph })))
   worded page_words sized cell word ph h = aside m.lists m.clinks page_words m.ctail m.cheld (record u { cell = cell; word = word; step = ph }) sized
       (record { own_seat = mine.own_seat; blocks = mine.blocks; lines = mine.lines; sound = mine.sound; are_bytes = mine.are_bytes; counted = mine.counted; answers = mine.answers; loaded = mine.loaded; step = h }) refl (omega arith)
 
-  cell_by : (page_words : List PageWords) → IsSized c.pages (record m { page_words = page_words }) → (cell : ℕ) (d e : Bool) → UserAt D c m g p seat u user_step.StoreFrame → Kept D c spare (record m { page_words = page_words }) g p (set actors seat (actor.User (record u { cell = cell; word = 0; step = cond d user_step.StoreNewest (cond e user_step.StoreFrame user_step.LoadFrame) })))
+  cell_by : (page_words : List PageWords) → IsSized c.pages (record m { page_words = page_words }) → (cell : ℕ) (d e : Bool) → UserAt D c m g p seat u user_step.StoreFrame → Kept D c (record m { page_words = page_words }) g p (set actors seat (actor.User (record u { cell = cell; word = 0; step = cond d user_step.StoreNewest (cond e user_step.StoreFrame user_step.LoadFrame) })))
   cell_by page_words sized cell true e h = worded page_words sized cell 0 user_step.StoreNewest h
   cell_by page_words sized cell false true h = worded page_words sized cell 0 user_step.StoreFrame h
   cell_by page_words sized cell false false h = worded page_words sized cell 0 user_step.LoadFrame h
@@ -227,7 +227,7 @@ module _ (D : LogSide) (L : LogLaws D) (c : Setup) (spare : ℕ) (m : SharedWord
 
   -- with its last latch free it is answered, or waits for its mark
   free_by : (page_words : List PageWords) → IsSized c.pages (record m { page_words = page_words }) → (b d : Bool) → eqb (mode u) 0 ≡ d → UserAt D c m g p seat u user_step.ReleaseLatch
-      → (g' : LogGhost) × Kept D c spare (record m { page_words = page_words }) g' p (set actors seat (actor.User (cond b (cond d (answered u) (record u { step = user_step.AwaitMark })) (record u { page = u.page + 1; step = user_step.ReleaseLatch })))) × (◌≡◌ {A = List Entry} (g'.log) (g.log))
+      → (g' : LogGhost) × Kept D c (record m { page_words = page_words }) g' p (set actors seat (actor.User (cond b (cond d (answered u) (record u { step = user_step.AwaitMark })) (record u { page = u.page + 1; step = user_step.ReleaseLatch })))) × (◌≡◌ {A = List Entry} (g'.log) (g.log))
   free_by page_words sized false d e h = (g, moves m.lists m.clinks page_words m.ctail m.cheld sized (u.page + 1) u.cell u.checks user_step.ReleaseLatch h, refl)
   free_by page_words sized true false e h = (g, moves m.lists m.clinks page_words m.ctail m.cheld sized u.page u.cell u.checks user_step.AwaitMark (h.0, h.1, h.2, eqb-false (mode u) 0 e), refl)
   free_by page_words sized true true e h =
@@ -236,26 +236,26 @@ module _ (D : LogSide) (L : LogLaws D) (c : Setup) (spare : ℕ) (m : SharedWord
       let none : mode u ≡ 0 = eqb-true (mode u) 0 e in
       let gl : LogFacts D c m' g p = facts_same D c m g p before.global.part before.global in (
         g',
-        steps D c spare m g p actors seat u before at m' g' (answered u) sized
-            (answer_global D L c spare m g p actors seat u before at m' g h.2.0 h.2.1 mine.answers (λ z. absurd (omega arith)) (λ z. absurd (omega arith)) h.2.2 gl)
-            (answered_fits D L c spare m g p actors seat u before at u.loaded m' g' refl refl (changed_here g.answered u.user (u.k + 1) u.user refl) mine.loaded h.0 h.1)
+        steps D c m g p actors seat u before at m' g' (answered u) sized
+            (answer_global D L c m g p actors seat u before at m' g h.2.0 h.2.1 mine.answers (λ z. absurd (omega arith)) (λ z. absurd (omega arith)) h.2.2 gl)
+            (answered_fits D L c m g p actors seat u before at u.loaded m' g' refl refl (changed_here g.answered u.user (u.k + 1) u.user refl) mine.loaded h.0 h.1)
             later_answered
-            (still_words D c spare m g p actors seat u before at m' g' refl refl refl refl refl refl refl refl refl)
+            (still_words D c m g p actors seat u before at m' g' refl refl refl refl refl refl refl refl refl)
             refl refl refl refl refl refl refl (omega arith),
         refl,
       )
 
   -- it finds its page's list free, or held
   pub user_list : (b : Bool) → UserAt D c m g p seat u user_step.AddToList
-      → Kept D c spare (cond b (record m { lists = slice_set m.lists (current_page u % 4) 1 }) m) g p (set actors seat (actor.User (record u { checks = cond b false true; step = cond b user_step.StoreOldest user_step.AddToList })))
+      → Kept D c (cond b (record m { lists = slice_set m.lists (current_page u % 4) 1 }) m) g p (set actors seat (actor.User (record u { checks = cond b false true; step = cond b user_step.StoreOldest user_step.AddToList })))
   user_list true h = moves (slice_set m.lists (current_page u % 4) 1) m.clinks m.page_words m.ctail m.cheld (lists_sized (current_page u % 4) 1 before.sized) u.page u.cell false user_step.StoreOldest h
   user_list false h = shift u.page u.cell u.copied u.loaded u.code true user_step.AddToList mine.loaded h
 
-  pub user_give : UserAt D c m g p seat u user_step.GiveList → Kept D c spare (record m { lists = slice_set m.lists (current_page u % 4) 0 }) g p (set actors seat (actor.User (to_next_page u)))
+  pub user_give : UserAt D c m g p seat u user_step.GiveList → Kept D c (record m { lists = slice_set m.lists (current_page u % 4) 0 }) g p (set actors seat (actor.User (to_next_page u)))
   user_give h = turned_any (slice_set m.lists (current_page u % 4) 0) m.clinks m.page_words m.ctail m.cheld (lists_sized (current_page u % 4) 0 before.sized) h (eqb (u.page + 1) (length (changes u))) (eqb 0 (length (change_at (changes u) (u.page + 1)).cells)) (is_whole (change_at (changes u) (u.page + 1)).cells 0)
 
   abbrev KeptSo : Op → UserState → UserStep → Type 0
-  KeptSo o w f = (h : LogGhost) × Kept D c spare (after o m) h p (set actors seat (actor.User w)) × (◌≡◌ {A = List Entry} (h.log) (phase_log g.log m.sn u f))
+  KeptSo o w f = (h : LogGhost) × Kept D c (after o m) h p (set actors seat (actor.User w)) × (◌≡◌ {A = List Entry} (h.log) (phase_log g.log m.sn u f))
 
   mode_flush : mode u ≡ 1 → found (op.Load (cond (eqb (mode u) 1) word.Flushed word.Write)) m ≡ m.flushed
   mode_flush e = ap (λ b. found (op.Load (cond b word.Flushed word.Write)) m) (eq-eqb (mode u) 1 e)
@@ -271,18 +271,18 @@ module _ (D : LogSide) (L : LogLaws D) (c : Setup) (spare : ℕ) (m : SharedWord
   pub user_keeps : (f : UserStep) → u.step ≡ f → UserAt D c m g p seat u f → u.checks ≡ false → OnWord (user_op u f) → KeptSo (user_op u f) (user_took u (found (user_op u f) m) f) f
   user_keeps user_step.LoadCheckpoint is h unasked on = (g, shift u.page u.cell u.copied (record u.loaded { ckpt = m.ckpt }) u.code u.checks user_step.LoadSn (record { ckpt_below = omega arith; write_below = mine.loaded.write_below; wtail_below = mine.loaded.wtail_below; flushed_below = mine.loaded.flushed_below }) h, refl)
   user_keeps user_step.LoadSn is h unasked on = (g, total_by (nat_le (lsn m.sn + FREE_MARGIN) (u.loaded.ckpt + 512 * u.blocks)) h, refl)
-  user_keeps user_step.Reserve is h unasked on = keeps_reserve D L c spare m g p actors seat u before at h
+  user_keeps user_step.Reserve is h unasked on = keeps_reserve D L c m g p actors seat u before at h
   user_keeps user_step.LoadWrite is h unasked on = (g, room_by unasked (ltb (lsn (group_end u)) (floor m.write + LOG_BUFFER)) refl h, refl)
-  user_keeps user_step.AddCell is h unasked on = keeps_add_cell D c spare m g p actors seat u before at is h
-  user_keeps user_step.StoreFirst is h unasked on = keeps_store_first D c spare m g p actors seat u before at is h
+  user_keeps user_step.AddCell is h unasked on = keeps_add_cell D c m g p actors seat u before at is h
+  user_keeps user_step.StoreFirst is h unasked on = keeps_store_first D c m g p actors seat u before at is h
   user_keeps user_step.LoadWtail is h unasked on = (g, space_by (tail_of (tail_word m.wtail m.wheld)) (tail_in m.wtail m.wheld) (ltb (lsn u.start) (tail_of (tail_word m.wtail m.wheld) + WRITTEN_LINKS)) refl false (user_step.AdvanceWritten advance_step.LoadTail) h (h, tt), refl)
-  user_keeps (user_step.AdvanceWritten advance_step.LoadTail) is h unasked on = written.keeps_load_tail D c spare m g p actors seat u before at h.0
-  user_keeps (user_step.AdvanceWritten advance_step.TakeTail) is h unasked on = written.keeps_take_tail D c spare m g p actors seat u before at h.0
-  user_keeps (user_step.AdvanceWritten advance_step.LoadLink) is h unasked on = written.keeps_load_link D c spare m g p actors seat u before at h.0 h.1
-  user_keeps (user_step.AdvanceWritten advance_step.ClearLink) is h unasked on = written.keeps_clear_link D c spare m g p actors seat u before at h.0 h.1
-  user_keeps (user_step.AdvanceWritten advance_step.FreeTail) is h unasked on = written.keeps_free_tail D c spare m g p actors seat u before at h.0 h.1
+  user_keeps (user_step.AdvanceWritten advance_step.LoadTail) is h unasked on = written.keeps_load_tail D c m g p actors seat u before at h.0
+  user_keeps (user_step.AdvanceWritten advance_step.TakeTail) is h unasked on = written.keeps_take_tail D c m g p actors seat u before at h.0
+  user_keeps (user_step.AdvanceWritten advance_step.LoadLink) is h unasked on = written.keeps_load_link D c m g p actors seat u before at h.0 h.1
+  user_keeps (user_step.AdvanceWritten advance_step.ClearLink) is h unasked on = written.keeps_clear_link D c m g p actors seat u before at h.0 h.1
+  user_keeps (user_step.AdvanceWritten advance_step.FreeTail) is h unasked on = written.keeps_free_tail D c m g p actors seat u before at h.0 h.1
   user_keeps user_step.ReloadWtail is h unasked on = (g, space_by (tail_of (tail_word m.wtail m.wheld)) (tail_in m.wtail m.wheld) (ltb (lsn u.start) (tail_of (tail_word m.wtail m.wheld) + WRITTEN_LINKS)) refl true user_step.LoadWtail h h, refl)
-  user_keeps user_step.StoreLink is h unasked on = keeps_store_link D L c spare m g p actors seat u before at h
+  user_keeps user_step.StoreLink is h unasked on = keeps_store_link D L c m g p actors seat u before at h
   user_keeps user_step.AwaitMark is h unasked on = await_by (found (user_op u user_step.AwaitMark) m) (nat_le (lsn (group_end u)) (found (user_op u user_step.AwaitMark) m)) refl mode_flush mode_write (mark_loaded (eqb (mode u) 1)) h
   user_keeps user_step.TakeLatch is h unasked on = (g, latch_by (eqb (page_words_at m.page_words (current_page u)).latch 0) (eqb (u.page + 1) (length (changes u))) h, refl)
   user_keeps user_step.LoadCtail is h unasked on = (g, tail_by (tail_of (tail_word m.ctail m.cheld)) (ltb (lsn u.start) (tail_of (tail_word m.ctail m.cheld) + CLOSED_LINKS)) (eqb u.cell (length (cells_of u))) (is_whole (cells_of u) u.cell) false (user_step.AdvanceClosed advance_step.LoadTail) h h, refl)

@@ -36,7 +36,7 @@ use Rattle.model_core.specs.declared.steps.CheckpointerStep.TheVariants as check
 use Rattle.model_core.specs.Actors as actor
 use mathlib.Core.Option as maybe
 
-module _ (D : LogSide) (c : Setup) (spare : ℕ) (m : SharedWords) (g : LogGhost) (p : D.Part) (actors : List Actor) (half : LogHalf D c spare m g p actors) where
+module _ (D : LogSide) (c : Setup) (m : SharedWords) (g : LogGhost) (p : D.Part) (actors : List Actor) (half : LogHalf D c m g p actors) where
   -- each mark that an actor has loaded is at most the word now
   pub loaded_below : (seat : ℕ) (a : Actor) → get_elem? actors seat ≡ maybe.some a → HasLoadedBelow m a
   loaded_below seat (actor.User u) at = let f : UserFits D c m g p seat u = half.each seat (actor.User u) at in f.loaded
@@ -46,7 +46,6 @@ module _ (D : LogSide) (c : Setup) (spare : ℕ) (m : SharedWords) (g : LogGhost
   loaded_below seat (actor.Cleaner v) at = tt
   loaded_below seat (actor.Checkpointer t) at = tt
   loaded_below seat (actor.Reader r) at = tt
-  loaded_below seat (actor.Joined es) at = tt
 
   own_mark : (seat : ℕ) (a : Actor) → get_elem? actors seat ≡ maybe.some a → OwnMarkIs m a
   own_mark seat (actor.User u) at = tt
@@ -56,7 +55,6 @@ module _ (D : LogSide) (c : Setup) (spare : ℕ) (m : SharedWords) (g : LogGhost
   own_mark seat (actor.Cleaner v) at = tt
   own_mark seat (actor.Checkpointer t) at = let f : CheckpointerFits D c m g p seat t = half.each seat (actor.Checkpointer t) at in f.own
   own_mark seat (actor.Reader r) at = tt
-  own_mark seat (actor.Joined es) at = tt
 
   pub failures_show : (seat : ℕ) (a : Actor) → get_elem? actors seat ≡ maybe.some a → HasMetFailure a → 0 < m.failed
   failures_show seat (actor.User u) at met = let f : UserFits D c m g p seat u = half.each seat (actor.User u) at in
@@ -75,7 +73,6 @@ module _ (D : LogSide) (c : Setup) (spare : ℕ) (m : SharedWords) (g : LogGhost
   failures_show seat (actor.Reader t) at met = let f : ReaderFits D c m g p seat t = half.each seat (actor.Reader t) at in
       ⊎_elim (λ e. let z : ReaderAt D c m g p t reader_step.GiveFailed = subst (ReaderAt D c m g p t) e f.step in z)
       (λ e. let z : ReaderAt D c m g p t reader_step.Failed = subst (ReaderAt D c m g p t) e f.step in z) met
-  failures_show seat (actor.Joined es) at met = absurd met
 
   -- a group of which so many bytes are copied isn't linked
   not_linked : (u : UserState) → HasLinked D c m g p u → HasCopied g.state u → ⊥
@@ -213,7 +210,6 @@ module _ (D : LogSide) (c : Setup) (spare : ℕ) (m : SharedWords) (g : LogGhost
   holder_is seat (actor.Cleaner v) at holds = absurd (cc)
   holder_is seat (actor.Checkpointer t) at holds = absurd (cc)
   holder_is seat (actor.Reader t) at holds = absurd (cc)
-  holder_is seat (actor.Joined es) at holds = absurd (cc)
 
   tail_word_is : TailWordIs link_buffer.Written m.wtail m.wheld (lsn g.tail) actors
   tail_word_is = record {

@@ -25,19 +25,19 @@ use Rattle.model_core.specs.declared.ops.Answer.TheVariants as answer
 use Rattle.model_core.specs.declared.steps.WriterStep.TheVariants as writer_step
 use Rattle.model_core.specs.Actors as actor
 
-module _ (D : LogSide) (c : Setup) (spare : ℕ) (m : SharedWords) (g : LogGhost) (p : D.Part) (actors : List Actor) (seat : ℕ) (s : WriterState) (before : LogHalf D c spare m g p actors) (at : get_elem? actors seat ≡ maybe.some (actor.Writer s)) where
+module _ (D : LogSide) (c : Setup) (m : SharedWords) (g : LogGhost) (p : D.Part) (actors : List Actor) (seat : ℕ) (s : WriterState) (before : LogHalf D c m g p actors) (at : get_elem? actors seat ≡ maybe.some (actor.Writer s)) where
   fit : WriterFits D c m g p seat s
-  fit = own D c spare m g p actors seat s before at
+  fit = own D c m g p actors seat s before at
 
   order : (g.write ≤ g.read) × (g.read ≤ g.target) × (g.target ≤ g.tail) × (g.target ≤ m.sn) × (c.base ≤ g.write)
-  order = ranks D c spare m g p actors seat s before at
+  order = ranks D c m g p actors seat s before at
 
   quiet : (first ckpt code : ℕ) (checks : Bool) (st : WriterStep) → ckpt ≤ m.ckpt → (checks ≡ true → writer_holds st ≡ false) → writer_holds st ≡ writer_holds s.step → WriterAt D c m g p seat (record s { first = first; ckpt = ckpt; code = code; checks = checks; step = st }) st
-      → Kept D c spare m g p (set actors seat (actor.Writer (record s { first = first; ckpt = ckpt; code = code; checks = checks; step = st })))
-  quiet = wquiet D c spare m g p actors seat s before at
+      → Kept D c m g p (set actors seat (actor.Writer (record s { first = first; ckpt = ckpt; code = code; checks = checks; step = st })))
+  quiet = wquiet D c m g p actors seat s before at
 
   limit_by : (b d : Bool) → nat_le (ceiling s.tail) (m.ckpt + 512 * s.blocks) ≡ b → stands_outside s ≡ d → writer_holds s.step ≡ false → WriterAt D c m g p seat s writer_step.LoadCheckpoint
-      → WNow D c spare m g p actors seat s before at (cond b (record s { ckpt = m.ckpt; step = cond d writer_step.LoadFirst writer_step.LoadCell }) (record s { ckpt = m.ckpt; checks = true; step = writer_step.LoadCheckpoint }))
+      → WNow D c m g p actors seat s before at (cond b (record s { ckpt = m.ckpt; step = cond d writer_step.LoadFirst writer_step.LoadCell }) (record s { ckpt = m.ckpt; checks = true; step = writer_step.LoadCheckpoint }))
   limit_by true true e f free h = quiet s.first m.ckpt s.code s.checks writer_step.LoadFirst (omega arith) (λ z. refl) (sym free)
       (h.0, (let a = h.0.0 in let z = h.1 in omega arith), leb-true (ceiling s.tail) (m.ckpt + 512 * s.blocks) e, eqb-true (length s.kept) (BLOCK_DATA * length s.firsts) f)
   limit_by true false e f free h = quiet s.first m.ckpt s.code s.checks writer_step.LoadCell (omega arith) (λ z. refl) (sym free) (
@@ -49,7 +49,7 @@ module _ (D : LogSide) (c : Setup) (spare : ℕ) (m : SharedWords) (g : LogGhost
   limit_by false d e f free h = quiet s.first m.ckpt s.code true writer_step.LoadCheckpoint (omega arith) (λ z. refl) (sym free) h
 
   -- it loads CKPT
-  pub keeps_load_checkpoint : s.step ≡ writer_step.LoadCheckpoint → WriterAt D c m g p seat s writer_step.LoadCheckpoint → WNow D c spare m g p actors seat s before at (writer_took s (answer.Old m.ckpt) writer_step.LoadCheckpoint)
+  pub keeps_load_checkpoint : s.step ≡ writer_step.LoadCheckpoint → WriterAt D c m g p seat s writer_step.LoadCheckpoint → WNow D c m g p actors seat s before at (writer_took s (answer.Old m.ckpt) writer_step.LoadCheckpoint)
   keeps_load_checkpoint is h = limit_by (nat_le (ceiling s.tail) (m.ckpt + 512 * s.blocks)) (stands_outside s) refl refl (ap writer_holds is) h
 
   -- where it enters a block
@@ -81,7 +81,7 @@ module _ (D : LogSide) (c : Setup) (spare : ℕ) (m : SharedWords) (g : LogGhost
       ]
 
   -- it loads the first offset of the block that it enters
-  pub keeps_load_first : s.step ≡ writer_step.LoadFirst → WriterAt D c m g p seat s writer_step.LoadFirst → WNow D c spare m g p actors seat s before at (writer_took s (answer.Old (slice_index m.firsts (lsn (read_place s) / 512 % 128))) writer_step.LoadFirst)
+  pub keeps_load_first : s.step ≡ writer_step.LoadFirst → WriterAt D c m g p seat s writer_step.LoadFirst → WNow D c m g p actors seat s before at (writer_took s (answer.Old (slice_index m.firsts (lsn (read_place s) / 512 % 128))) writer_step.LoadFirst)
   keeps_load_first is h =
       let value : slice_index m.firsts (lsn (read_place s) / 512 % 128) ≡ first_of c.base g.log g.entered =
       ap (λ (k : ℕ). slice_index m.firsts (k % 128)) (block_is h.3) ∙ before.global.first_offsets.slots_are g.entered (omega arith) (omega arith) ∙ first_true h.3 h.1 in
@@ -89,10 +89,10 @@ module _ (D : LogSide) (c : Setup) (spare : ℕ) (m : SharedWords) (g : LogGhost
 
   -- it clears that first offset, and has entered the block
   pub keeps_clear_first : s.step ≡ writer_step.ClearFirst → WriterAt D c m g p seat s writer_step.ClearFirst
-      → (h : LogGhost) × Kept D c spare (record m { firsts = slice_set m.firsts (lsn (read_place s) / 512 % 128) 0 }) h p (set actors seat (actor.Writer (writer_took s (answer.Old 0) writer_step.ClearFirst))) × (◌≡◌ {A = List Entry} (h.log) (g.log))
+      → (h : LogGhost) × Kept D c (record m { firsts = slice_set m.firsts (lsn (read_place s) / 512 % 128) 0 }) h p (set actors seat (actor.Writer (writer_took s (answer.Old 0) writer_step.ClearFirst))) × (◌≡◌ {A = List Entry} (h.log) (g.log))
   keeps_clear_first is h = wiped (lsn (read_place s) / 512 % 128) (ap (λ (k : ℕ). k % 128) (block_is h.3))
     where
-      wiped : (i : ℕ) → i ≡ g.entered % 128 → (h : LogGhost) × Kept D c spare (record m { firsts = slice_set m.firsts i 0 }) h p (set actors seat (actor.Writer (writer_took s (answer.Old 0) writer_step.ClearFirst))) × (◌≡◌ {A = List Entry} (h.log) (g.log))
+      wiped : (i : ℕ) → i ≡ g.entered % 128 → (h : LogGhost) × Kept D c (record m { firsts = slice_set m.firsts i 0 }) h p (set actors seat (actor.Writer (writer_took s (answer.Old 0) writer_step.ClearFirst))) × (◌≡◌ {A = List Entry} (h.log) (g.log))
       wiped i i_is =
           let m' : SharedWords = record m { firsts = slice_set m.firsts i 0 } in
           let g' : LogGhost = record g { entered = g.entered + 1 } in
@@ -108,7 +108,7 @@ module _ (D : LogSide) (c : Setup) (spare : ℕ) (m : SharedWords) (g : LogGhost
             | no d ↦ omega arith
           ] in (
             g',
-            wsteps D c spare m g p actors seat s before at m' g' p refl w
+            wsteps D c m g p actors seat s before at m' g' p refl w
                 (firsts_sized i 0 before.sized)
                 (record {
                   tiled = G.tiled;
@@ -202,7 +202,7 @@ module _ (D : LogSide) (c : Setup) (spare : ℕ) (m : SharedWords) (g : LogGhost
 
   -- it loads the word of its read place. Where that ends beyond the tail, it keeps what is below, and the word stays
   pub keeps_load_cell : s.step ≡ writer_step.LoadCell → WriterAt D c m g p seat s writer_step.LoadCell
-      → (h : LogGhost) × Kept D c spare m h p (set actors seat (actor.Writer (writer_took s (answer.Old (slice_index m.cells (cell_of (read_place s)))) writer_step.LoadCell))) × (◌≡◌ {A = List Entry} (h.log) (g.log))
+      → (h : LogGhost) × Kept D c m h p (set actors seat (actor.Writer (writer_took s (answer.Old (slice_index m.cells (cell_of (read_place s)))) writer_step.LoadCell))) × (◌≡◌ {A = List Entry} (h.log) (g.log))
   keeps_load_cell is h = by (has_whole_word s) refl
     where
       w : ℕ
@@ -224,10 +224,10 @@ module _ (D : LogSide) (c : Setup) (spare : ℕ) (m : SharedWords) (g : LogGhost
           (few, ap (λ (y : ℕ). read_place s + y) is_lsn ∙ part_word (read_place s) g.target le_tail (subst (λ (y : ℕ). y < left_in_word (read_place s)) is_lsn few))
 
       by : (b : Bool) → has_whole_word s ≡ b
-          → (h : LogGhost) × Kept D c spare m h p (set actors seat (actor.Writer (cond b (record s { word = slice_index m.cells (cell_of (read_place s)); step = writer_step.ClearCell }) (record s { kept = s.kept ++ lanes (lane_of (read_place s)) (s.tail - lsn (read_place s)) (slice_index m.cells (cell_of (read_place s))); step = writer_step.TakeDevice })))) × (◌≡◌ {A = List Entry} (h.log) (g.log))
+          → (h : LogGhost) × Kept D c m h p (set actors seat (actor.Writer (cond b (record s { word = slice_index m.cells (cell_of (read_place s)); step = writer_step.ClearCell }) (record s { kept = s.kept ++ lanes (lane_of (read_place s)) (s.tail - lsn (read_place s)) (slice_index m.cells (cell_of (read_place s))); step = writer_step.TakeDevice })))) × (◌≡◌ {A = List Entry} (h.log) (g.log))
       by true e = (
         g,
-        wsteps D c spare m g p actors seat s before at m g p refl (record s { word = slice_index m.cells (cell_of (read_place s)); step = writer_step.ClearCell }) before.sized before.global
+        wsteps D c m g p actors seat s before at m g p refl (record s { word = slice_index m.cells (cell_of (read_place s)); step = writer_step.ClearCell }) before.sized before.global
             (record {
               alone = fit.alone;
               blocks = fit.blocks;
@@ -249,7 +249,7 @@ module _ (D : LogSide) (c : Setup) (spare : ℕ) (m : SharedWords) (g : LogGhost
       by false e = kept_part (s.tail - lsn (read_place s)) (part (s.tail - lsn (read_place s)) refl e)
         where
           kept_part : (n : ℕ) → (n < left_in_word (read_place s)) × (read_place s + n ≡ g.target)
-              → (h : LogGhost) × Kept D c spare m h p (set actors seat (actor.Writer (record s { kept = s.kept ++ lanes (lane_of (read_place s)) n (slice_index m.cells (cell_of (read_place s))); step = writer_step.TakeDevice }))) × (◌≡◌ {A = List Entry} (h.log) (g.log))
+              → (h : LogGhost) × Kept D c m h p (set actors seat (actor.Writer (record s { kept = s.kept ++ lanes (lane_of (read_place s)) n (slice_index m.cells (cell_of (read_place s))); step = writer_step.TakeDevice }))) × (◌≡◌ {A = List Entry} (h.log) (g.log))
           kept_part n q =
               let g' : LogGhost = record g { read = g.target } in
               let G = before.global in let O = G.order in
@@ -260,7 +260,7 @@ module _ (D : LogSide) (c : Setup) (spare : ℕ) (m : SharedWords) (g : LogGhost
               let wi = fit.wide in let k3 = h.3 in let q0 = q.0 in let q1 = q.1 in
               let to : g.target ≤ BLOCK_DATA * g.entered = end_within (read_place s) n (left_in_word (read_place s)) g.entered (length s.kept) (length s.firsts) s.from refl wi k3 (from_even) q0 in_block q1 in (
                 g',
-                wsteps D c spare m g p actors seat s before at m g' p refl (record s { kept = s.kept ++ lanes (lane_of (read_place s)) n (slice_index m.cells (cell_of (read_place s))); step = writer_step.TakeDevice }) before.sized
+                wsteps D c m g p actors seat s before at m g' p refl (record s { kept = s.kept ++ lanes (lane_of (read_place s)) n (slice_index m.cells (cell_of (read_place s))); step = writer_step.TakeDevice }) before.sized
                     (record {
                       tiled = G.tiled;
                       order = order_on D c m g p O (omega arith) (omega arith) O.target_wtail to O.entered_target O.target_bound;
@@ -300,7 +300,7 @@ module _ (D : LogSide) (c : Setup) (spare : ℕ) (m : SharedWords) (g : LogGhost
 
   -- it clears the word that it has loaded, and keeps its bytes
   pub keeps_clear_cell : s.step ≡ writer_step.ClearCell → WriterAt D c m g p seat s writer_step.ClearCell
-      → (h : LogGhost) × Kept D c spare (record m { cells = slice_set m.cells (cell_of (read_place s)) 0 }) h p (set actors seat (actor.Writer (writer_took s (answer.Old 0) writer_step.ClearCell))) × (◌≡◌ {A = List Entry} (h.log) (g.log))
+      → (h : LogGhost) × Kept D c (record m { cells = slice_set m.cells (cell_of (read_place s)) 0 }) h p (set actors seat (actor.Writer (writer_took s (answer.Old 0) writer_step.ClearCell))) × (◌≡◌ {A = List Entry} (h.log) (g.log))
   keeps_clear_cell is h = cleared (left_in_word (read_place s)) refl (eqb (lsn (word_end s)) s.tail) (eqb (length s.kept + left_in_word (read_place s)) (BLOCK_DATA * length s.firsts)) refl refl
     where
       slot : cell_of (read_place s) < length m.cells
@@ -350,7 +350,7 @@ module _ (D : LogSide) (c : Setup) (spare : ℕ) (m : SharedWords) (g : LogGhost
       }
 
       cleared : (n : ℕ) → n ≡ left_in_word (read_place s) → (b d : Bool) → eqb (lsn (word_end s)) s.tail ≡ b → eqb (length s.kept + left_in_word (read_place s)) (BLOCK_DATA * length s.firsts) ≡ d
-          → (h : LogGhost) × Kept D c spare (record m { cells = slice_set m.cells (cell_of (read_place s)) 0 }) h p (set actors seat (actor.Writer (record s { kept = s.kept ++ lanes (lane_of (read_place s)) (left_in_word (read_place s)) s.word; word = 0; step = after_word b d }))) × (◌≡◌ {A = List Entry} (h.log) (g.log))
+          → (h : LogGhost) × Kept D c (record m { cells = slice_set m.cells (cell_of (read_place s)) 0 }) h p (set actors seat (actor.Writer (record s { kept = s.kept ++ lanes (lane_of (read_place s)) (left_in_word (read_place s)) s.word; word = 0; step = after_word b d }))) × (◌≡◌ {A = List Entry} (h.log) (g.log))
       cleared n n_is b d e f =
           let g' : LogGhost = record g { read = word_end s } in
           let m' : SharedWords = record m { cells = slice_set m.cells (cell_of (read_place s)) 0 } in
@@ -361,7 +361,7 @@ module _ (D : LogSide) (c : Setup) (spare : ℕ) (m : SharedWords) (g : LogGhost
           let end_is : read_place s + n ≡ word_end s = ap (λ (y : ℕ). read_place s + y) n_is in
           let up : read_place s + n ≤ g.target = subst (λ (y : ℕ). y ≤ g.target) (sym end_is) h.4 in (
             g',
-            wsteps D c spare m g p actors seat s before at m' g' p refl (record s { kept = s.kept ++ lanes (lane_of (read_place s)) (left_in_word (read_place s)) s.word; word = 0; step = after_word b d })
+            wsteps D c m g p actors seat s before at m' g' p refl (record s { kept = s.kept ++ lanes (lane_of (read_place s)) (left_in_word (read_place s)) s.word; word = 0; step = after_word b d })
                 (cells_sized (cell_of (read_place s)) 0 before.sized)
                 (record {
                   tiled = G.tiled;
@@ -424,9 +424,9 @@ module _ (D : LogSide) (c : Setup) (spare : ℕ) (m : SharedWords) (g : LogGhost
   }
 
   -- it loads FAILED
-  pub writer_checked : s.checks ≡ true → WNow D c spare m g p actors seat s before at (cond (eqb m.failed 0) (record s { checks = false }) (record s { checks = false; code = m.failed; step = writer_step.Failed }))
+  pub writer_checked : s.checks ≡ true → WNow D c m g p actors seat s before at (cond (eqb m.failed 0) (record s { checks = false }) (record s { checks = false; code = m.failed; step = writer_step.Failed }))
   writer_checked checks = by (eqb m.failed 0) refl
     where
-      by : (b : Bool) → eqb m.failed 0 ≡ b → WNow D c spare m g p actors seat s before at (cond b (record s { checks = false }) (record s { checks = false; code = m.failed; step = writer_step.Failed }))
+      by : (b : Bool) → eqb m.failed 0 ≡ b → WNow D c m g p actors seat s before at (cond b (record s { checks = false }) (record s { checks = false; code = m.failed; step = writer_step.Failed }))
       by true e = quiet s.first s.ckpt s.code false s.step fit.ckpt (λ z. absurd (cc)) refl fit.step
       by false e = quiet s.first s.ckpt m.failed false writer_step.Failed fit.ckpt (λ z. refl) (sym (fit.no_device_while_checking checks)) (let n = eqb-false m.failed 0 e in omega arith)

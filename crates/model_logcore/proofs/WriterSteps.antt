@@ -15,7 +15,7 @@ use Rattle.model_logcore.specs.LogHalf.{LogHalf}
 use mathlib.Core.Option as maybe
 use Rattle.model_core.specs.Actors as actor
 
-module _ (D : LogSide) (c : Setup) (spare : ℕ) (m : SharedWords) (g : LogGhost) (p : D.Part) (actors : List Actor) (seat : ℕ) (s : WriterState) (before : LogHalf D c spare m g p actors) (at : get_elem? actors seat ≡ maybe.some (actor.Writer s)) where
+module _ (D : LogSide) (c : Setup) (m : SharedWords) (g : LogGhost) (p : D.Part) (actors : List Actor) (seat : ℕ) (s : WriterState) (before : LogHalf D c m g p actors) (at : get_elem? actors seat ≡ maybe.some (actor.Writer s)) where
   pub own : WriterFits D c m g p seat s
   own = before.each seat (actor.Writer s) at
 
@@ -29,8 +29,8 @@ module _ (D : LogSide) (c : Setup) (spare : ℕ) (m : SharedWords) (g : LogGhost
 
   -- the writer moves, and holds what it held
   pub wsteps : (m' : SharedWords) (g' : LogGhost) (q : D.Part) (point : D.ckpt q ≡ D.ckpt p) (w : WriterState) → IsSized c.pages m' → LogFacts D c m' g' q → WriterFits D c m' g' q seat w → Later D c m g m' g' seat → m'.flushed ≡ m.flushed → m'.ckpt ≡ m.ckpt → m'.device ≡ m.device → g'.holder ≡ g.holder → g'.log ≡ g.log → m'.sn ≡ m.sn
-      → writer_holds w.step ≡ writer_holds s.step → (writer_holds s.step ≡ false → ◌≡◌ {A = D.Part} q p) → Kept D c spare m' g' q (set actors seat (actor.Writer w))
-  wsteps m' g' q point w sized global f later flushed ckpt device holder log sn keep same = moved_on D c spare m m' g g' p q actors seat (actor.Writer s) (actor.Writer w) before at sized global f
+      → writer_holds w.step ≡ writer_holds s.step → (writer_holds s.step ≡ false → ◌≡◌ {A = D.Part} q p) → Kept D c m' g' q (set actors seat (actor.Writer w))
+  wsteps m' g' q point w sized global f later flushed ckpt device holder log sn keep same = moved_on D c m m' g g' p q actors seat (actor.Writer s) (actor.Writer w) before at sized global f
       (λ j a n e. others_writer D c m m' g g' p q seat own.alone before.global later (record { writer = sym f.alone ∙ own.alone; flushed = flushed; ckpt_word = ckpt; failed = later.failed; point = point }) j a n (part_by q same j a n e) (before.each j a e))
       device holder log sn keep refl (omega arith)
 
@@ -40,12 +40,12 @@ module _ (D : LogSide) (c : Setup) (spare : ℕ) (m : SharedWords) (g : LogGhost
   staged first ckpt code checks st le no_device_while_checking h = writer_same D c m g p own own.tail le no_device_while_checking h
 
   pub wquiet : (first ckpt code : ℕ) (checks : Bool) (st : WriterStep) → ckpt ≤ m.ckpt → (checks ≡ true → writer_holds st ≡ false) → writer_holds st ≡ writer_holds s.step → WriterAt D c m g p seat (record s { first = first; ckpt = ckpt; code = code; checks = checks; step = st }) st
-      → Kept D c spare m g p (set actors seat (actor.Writer (record s { first = first; ckpt = ckpt; code = code; checks = checks; step = st })))
+      → Kept D c m g p (set actors seat (actor.Writer (record s { first = first; ckpt = ckpt; code = code; checks = checks; step = st })))
   wquiet first ckpt code checks st le no_device_while_checking keep h = wsteps m g p refl (record s { first = first; ckpt = ckpt; code = code; checks = checks; step = st }) before.sized before.global (staged first ckpt code checks st le no_device_while_checking h)
       (later_marks D c m g p (omega arith) (omega arith) (omega arith) (omega arith) (λ z. z) (λ _ _. unchanged)) refl refl refl refl refl refl keep (λ z. refl)
 
   abbrev pub WNow : WriterState → Type 0
-  WNow w = Kept D c spare m g p (set actors seat (actor.Writer w))
+  WNow w = Kept D c m g p (set actors seat (actor.Writer w))
 
   pub ranks : (g.write ≤ g.read) × (g.read ≤ g.target) × (g.target ≤ g.tail) × (g.target ≤ m.sn) × (c.base ≤ g.write)
   ranks = let O = before.global.order in let a = O.target_wtail in let b = O.wtail_tail in let d = O.tail_sn in (O.write_read, O.read_target, (omega arith), (omega arith), O.base_write)

@@ -23,12 +23,12 @@ use Rattle.model_core.specs.declared.ops.Answer.TheVariants as answer
 use Rattle.model_core.specs.declared.steps.WriterStep.TheVariants as writer_step
 use Rattle.model_core.specs.Actors as actor
 
-module _ (D : LogSide) (c : Setup) (spare : ℕ) (m : SharedWords) (g : LogGhost) (p : D.Part) (actors : List Actor) (seat : ℕ) (s : WriterState) (before : LogHalf D c spare m g p actors) (at : get_elem? actors seat ≡ maybe.some (actor.Writer s)) where
+module _ (D : LogSide) (c : Setup) (m : SharedWords) (g : LogGhost) (p : D.Part) (actors : List Actor) (seat : ℕ) (s : WriterState) (before : LogHalf D c m g p actors) (at : get_elem? actors seat ≡ maybe.some (actor.Writer s)) where
   fit : WriterFits D c m g p seat s
-  fit = own D c spare m g p actors seat s before at
+  fit = own D c m g p actors seat s before at
 
   order : (g.write ≤ g.read) × (g.read ≤ g.target) × (g.target ≤ g.tail) × (g.target ≤ m.sn) × (c.base ≤ g.write)
-  order = ranks D c spare m g p actors seat s before at
+  order = ranks D c m g p actors seat s before at
 
   lane_turned : (cells : List ℕ) (a b : ℕ) → a + LOG_BUFFER ≡ b
       → lane (a % 8) (slice_index cells (a / 8 % BUFFER_WORDS)) ≡ lane (b % 8) (slice_index cells (b / 8 % BUFFER_WORDS))
@@ -41,7 +41,7 @@ module _ (D : LogSide) (c : Setup) (spare : ℕ) (m : SharedWords) (g : LogGhost
       words_same = omega arith
 
   -- it stores WRITE, and keeps the last block, where that isn't full
-  pub keeps_store_write : s.step ≡ writer_step.StoreWrite → WriterAt D c m g p seat s writer_step.StoreWrite → (h : LogGhost) × Kept D c spare (record m { write = s.tail }) h p (set actors seat (actor.Writer (writer_took s (answer.Old 0) writer_step.StoreWrite))) × (◌≡◌ {A = List Entry} (h.log) (g.log))
+  pub keeps_store_write : s.step ≡ writer_step.StoreWrite → WriterAt D c m g p seat s writer_step.StoreWrite → (h : LogGhost) × Kept D c (record m { write = s.tail }) h p (set actors seat (actor.Writer (writer_took s (answer.Old 0) writer_step.StoreWrite))) × (◌≡◌ {A = List Entry} (h.log) (g.log))
   keeps_store_write is h =
       let m' : SharedWords = record m { write = s.tail } in
       let g' : LogGhost = record g { write = g.target } in
@@ -53,7 +53,7 @@ module _ (D : LogSide) (c : Setup) (spare : ℕ) (m : SharedWords) (g : LogGhost
       let up : m.write ≤ s.tail = (let a = O.write_is in let b = lsn_le g.write g.target (omega arith) in let t = fit.tail in omega arith) in
       let floors : floor m.write ≤ floor s.tail = floor_grows m.write s.tail up in (
         g',
-        wsteps D c spare m g p actors seat s before at m' g' p refl w
+        wsteps D c m g p actors seat s before at m' g' p refl w
             (numbers_sized before.sized)
             (record {
               tiled = G.tiled;
@@ -86,7 +86,7 @@ module _ (D : LogSide) (c : Setup) (spare : ℕ) (m : SharedWords) (g : LogGhost
                   | yes d ↦ (let far = turned_far x m.write d in
                       let y : ℕ = x - 63488 in
                       let back = turn_before x far in
-                      let sm = tail_near D c spare m g p actors seat s before at in let wr = fit.write in let tl = fit.tail in
+                      let sm = tail_near D c m g p actors seat s before at in let wr = fit.write in let tl = fit.tail in
                       let same_mark : floor s.tail ≡ floor (lsn g.target) = ap floor tl in
                       let step : floor s.tail ≤ floor m.write + LOG_BUFFER = (let z : floor s.tail ≤ s.tail = omega arith in omega arith) in
                       let read_is : lsn g.read ≡ lsn g.target = ap lsn k3 in
@@ -119,11 +119,11 @@ module _ (D : LogSide) (c : Setup) (spare : ℕ) (m : SharedWords) (g : LogGhost
       )
 
   -- it stores FAILED
-  pub keeps_store_failed : s.step ≡ writer_step.StoreFailed → WriterAt D c m g p seat s writer_step.StoreFailed → Kept D c spare (record m { failed = s.code }) g p (set actors seat (actor.Writer (writer_took s (answer.Old 0) writer_step.StoreFailed)))
+  pub keeps_store_failed : s.step ≡ writer_step.StoreFailed → WriterAt D c m g p seat s writer_step.StoreFailed → Kept D c (record m { failed = s.code }) g p (set actors seat (actor.Writer (writer_took s (answer.Old 0) writer_step.StoreFailed)))
   keeps_store_failed is h =
       let m' : SharedWords = record m { failed = s.code } in
       let G = before.global in let h0 = h.0 in
-      wsteps D c spare m g p actors seat s before at m' g p refl (record s { step = writer_step.GiveFailed })
+      wsteps D c m g p actors seat s before at m' g p refl (record s { step = writer_step.GiveFailed })
       (numbers_sized before.sized)
       (facts_same D c m g p G.part G)
       (writer_same D c m g p fit fit.tail fit.ckpt (λ z. let y = fit.no_device_while_checking z in let x : true ≡ false = sym (ap writer_holds is) ∙ y in absurd (cc)) h0)

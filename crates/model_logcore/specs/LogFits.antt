@@ -225,4 +225,3 @@ module _ (D : LogSide) (c : Setup) (m : SharedWords) (g : LogGhost) (p : D.Part)
   LogFits seat (actor.Cleaner v) = CleanerTold v
   LogFits seat (actor.Checkpointer t) = CheckpointerFits seat t
   LogFits seat (actor.Reader r) = ReaderFits seat r
-  LogFits seat (actor.Joined es) = Unit {0}

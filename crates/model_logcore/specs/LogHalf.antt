@@ -27,8 +27,7 @@ Counted actors log = (h : Entry → ℕ) → sum_over_actors (λ a. sum_of h (en
 abbrev pub HasTaker : List Actor → ℕ → Type 0
 HasTaker actors seat = (a : Actor) × (get_elem? actors seat ≡ some a) × (holds a ≡ true)
 
--- `spare` are the bytes of users that are still to be seated
-pub record LogHalf (D : LogSide) (c : Setup) (spare : ℕ) (m : SharedWords) (g : LogGhost) (p : D.Part) (actors : List Actor) : Type 0 where
+pub record LogHalf (D : LogSide) (c : Setup) (m : SharedWords) (g : LogGhost) (p : D.Part) (actors : List Actor) : Type 0 where
   pub sized : IsSized c.pages m
   pub global : LogFacts D c m g p
   pub each : (seat : ℕ) (a : Actor) → get_elem? actors seat ≡ some a → LogFits D c m g p seat a
@@ -38,4 +37,4 @@ pub record LogHalf (D : LogSide) (c : Setup) (spare : ℕ) (m : SharedWords) (g 
   pub without_tail : (seat : ℕ) (a : Actor) → get_elem? actors seat ≡ some a → ChecksWithoutTail a
   pub counted : Counted actors g.log
   -- where all groups will end at most
-  pub room : lsn (m.sn + sum_over_actors left_to_reserve actors + spare) < LSN_LIMIT
+  pub room : lsn (m.sn + sum_over_actors left_to_reserve actors) < LSN_LIMIT

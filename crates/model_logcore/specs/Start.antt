@@ -41,7 +41,6 @@ StartActor c seat_of writer seat (actor.Closer t) = (seat ≡ c.closer) × ◌�
 StartActor c seat_of writer seat (actor.Cleaner v) = (seat ≡ c.cleaner) × ◌≡◌ {A = CleanerState} v (cleaner_start c)
 StartActor c seat_of writer seat (actor.Checkpointer t) = (seat ≡ c.checkpointer) × ◌≡◌ {A = CheckpointerState} t (checkpointer_start c)
 StartActor c seat_of writer seat (actor.Reader r) = (seat ≡ c.reader_at r.number) × (c.first_reader ≤ r.number) × (r.number < c.last_reader) × ◌≡◌ {A = ReaderState} r (reader_start c r.number)
-StartActor c seat_of writer seat (actor.Joined es) = es ≡ []
 
 pub record StartPart (D : LogSide) (c : Setup) (p : D.Part) : Type 0 where
   pub holds : D.Holds c.blocks c.base [] p

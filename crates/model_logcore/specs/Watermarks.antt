@@ -182,7 +182,6 @@ HasMetFailure (actor.Closer t) = t.step ≡ closer_step.Failed
 HasMetFailure (actor.Cleaner v) = v.step ≡ cleaner_step.Failed
 HasMetFailure (actor.Checkpointer t) = (t.step ≡ checkpointer_step.GiveFailed) ⊎ (t.step ≡ checkpointer_step.Failed)
 HasMetFailure (actor.Reader r) = (r.step ≡ reader_step.GiveFailed) ⊎ (r.step ≡ reader_step.Failed)
-HasMetFailure (actor.Joined es) = ⊥
 
 -- A FAILURE SHOWS: an actor has loaded or stored a nonzero code only where FAILED has one
 abbrev pub FailuresShow : ℕ → List Actor → Type 0

@@ -42,9 +42,9 @@ data_kept : (E : DataSide) (d : E.Part) (l : Lent) → DataServed E d l (op.Load
 data_kept E d (Batch b) = refl
 data_kept E d _ = refl
 
-module _ (D : LogSide) (L : LogLaws D) (E : DataSide) (EL : DataLaws E) (c : Setup) (spare : ℕ) where
+module _ (D : LogSide) (L : LogLaws D) (E : DataSide) (EL : DataLaws E) (c : Setup) where
   module _ (m : SharedWords) (ls : ℕ → List Listed) (p : D.Part) (d : E.Part) (actors : List Actor)
-      (runs : Runs D E c spare m ls p d actors) (seat : ℕ) (a : Actor) (at : get_elem? actors seat ≡ some a) where
+      (runs : Runs D E c m ls p d actors) (seat : ℕ) (a : Actor) (at : get_elem? actors seat ≡ some a) where
     abbrev asked : Bool → Op
     asked b = cond b (op.Load word.Failed) (own_op a)
 
@@ -54,12 +54,12 @@ module _ (D : LogSide) (L : LogLaws D) (E : DataSide) (EL : DataLaws E) (c : Set
     -- what a turn leaves
     abbrev Taken : Bool → ℕ → D.Part → E.Part → Type 0
     Taken b code q e = LogServed D p (lent a) (asked b) code q → DataServed E d (lent a) (asked b) code e
-        → RunsAfter D E c spare (asked b) m ls q e
+        → RunsAfter D E c (asked b) m ls q e
         (set actors seat (cond b (checked a (old_of (said b code q))) (own_took a (said b code q))))
 
     taken : IsFilled a → IsNoReader a → (code : ℕ) (q : D.Part) (e : E.Part) → Taken (is_checking a) code q e
     taken full other code q e served stored =
-        let left = keeps_both D L E EL c spare m runs.0 runs.1 ls p d actors seat runs.2 code q e a at full served
+        let left = keeps_both D L E EL c m runs.0 runs.1 ls p d actors seat runs.2 code q e a at full served
         stored (served_none (next a) (others_append_not a other) code) in
         (left.log_ghost, left.page_ghost, left.both)
 
@@ -68,12 +68,12 @@ module _ (D : LogSide) (L : LogLaws D) (E : DataSide) (EL : DataLaws E) (c : Set
     goes_on full other quiet code q e = subst (λ (b : Bool). Taken b code q e) quiet (taken full other code q e)
 
     -- its check for a failure
-    checks : IsFilled a → IsNoReader a → is_checking a ≡ true → Runs D E c spare m ls p d (set actors seat (checked a m.failed))
+    checks : IsFilled a → IsNoReader a → is_checking a ≡ true → Runs D E c m ls p d (set actors seat (checked a m.failed))
     checks full other asks = subst (λ (b : Bool). Taken b 0 p d) asks (taken full other 0 p d) refl (data_kept E d (lent a))
 
   -- a user that has another code
   module _ (m : SharedWords) (g : LogGhost) (h : PageGhost) (ls : ℕ → List Listed) (p : D.Part) (d : E.Part)
-      (actors : List Actor) (both : BothHalves D E c spare m g h ls p d actors) (seat : ℕ) (u : UserState)
+      (actors : List Actor) (both : BothHalves D E c m g h ls p d actors) (seat : ℕ) (u : UserState)
       (at : get_elem? actors seat ≡ some (actor.User u)) (n : ℕ) where
     abbrev coded : UserState
     coded = record u { code = n }
@@ -125,8 +125,8 @@ module _ (D : LogSide) (L : LogLaws D) (E : DataSide) (EL : DataLaws E) (c : Set
         record { answered = old.answered; in_hand = same_hand u.step old.in_hand } in
         subst (UserClosed g.log h.closed) (ap of_user is) new
 
-    recoded : BothHalves D E c spare m g h ls p d (set actors seat (actor.User coded))
-    recoded = restated D E c spare m g h ls p d actors both seat (actor.User u) (actor.User coded) at (record {
+    recoded : BothHalves D E c m g h ls p d (set actors seat (actor.User coded))
+    recoded = restated D E c m g h ls p d actors both seat (actor.User u) (actor.User coded) at (record {
       fits = log_fits (both.logged.each seat (actor.User u) at);
       entries_same = refl;
       left = omega arith;
@@ -141,7 +141,7 @@ module _ (D : LogSide) (L : LogLaws D) (E : DataSide) (EL : DataLaws E) (c : Set
     }) refl
 
   module _ (m : SharedWords) (ls : ℕ → List Listed) (p : D.Part) (d : E.Part) (users : List OwnUser) (k : LogWork)
-      (others : List Actor) (runs : Runs D E c spare m ls p d (all_actors users k others)) where
+      (others : List Actor) (runs : Runs D E c m ls p d (all_actors users k others)) where
     abbrev seated : List Actor
     seated = all_actors users k others
 
@@ -155,12 +155,12 @@ module _ (D : LogSide) (L : LogLaws D) (E : DataSide) (EL : DataLaws E) (c : Set
     pub writer_goes_on : k.writer.checks ≡ false → (code : ℕ) (q : D.Part) (e : E.Part)
         → LogServed D p (Blocks k.writer.kept k.writer.firsts) write code q
         → DataServed E d (Blocks k.writer.kept k.writer.firsts) write code e
-        → RunsAfter D E c spare write m ls q e (all_actors users (with_answer (answer_to D p code q m ls write)) others)
+        → RunsAfter D E c write m ls q e (all_actors users (with_answer (answer_to D p code q m ls write)) others)
     writer_goes_on quiet code q e served stored =
         let r : Answer = answer_to D p code q m ls write in
         let left = goes_on m ls p d seated runs (writer_seat users) (actor.Writer k.writer)
         (writer_there users k others) tt tt quiet code q e served stored in
-        subst (RunsAfter D E c spare write m ls q e) (writer_put users k others (with_answer r).writer) left
+        subst (RunsAfter D E c write m ls q e) (writer_put users k others (with_answer r).writer) left
 
     -- the flusher's turn
     abbrev flush : Op
@@ -171,12 +171,12 @@ module _ (D : LogSide) (L : LogLaws D) (E : DataSide) (EL : DataLaws E) (c : Set
 
     pub flusher_goes_on : k.flusher.checks ≡ false → (code : ℕ) (q : D.Part) (e : E.Part)
         → LogServed D p Nothing flush code q → DataServed E d Nothing flush code e
-        → RunsAfter D E c spare flush m ls q e (all_actors users (with_flush (answer_to D p code q m ls flush)) others)
+        → RunsAfter D E c flush m ls q e (all_actors users (with_flush (answer_to D p code q m ls flush)) others)
     flusher_goes_on quiet code q e served stored =
         let r : Answer = answer_to D p code q m ls flush in
         let left = goes_on m ls p d seated runs (flusher_seat users) (actor.Flusher k.flusher)
         (flusher_there users k others) tt tt quiet code q e served stored in
-        subst (RunsAfter D E c spare flush m ls q e) (flusher_put users k others (with_flush r).flusher) left
+        subst (RunsAfter D E c flush m ls q e) (flusher_put users k others (with_flush r).flusher) left
 
     -- a user's turn, its check for a failure, and the user with another code
     module _ (i : ℕ) (o : OwnUser) (at : get_elem? users i ≡ some o) where
@@ -197,29 +197,29 @@ module _ (D : LogSide) (L : LogLaws D) (E : DataSide) (EL : DataLaws E) (c : Set
       pub user_goes_on : o.user.checks ≡ false → (code : ℕ) (q : D.Part) (e : E.Part)
           → LogServed D p Nothing step code q → DataServed E d Nothing step code e
           → (x : OwnUser) → ◌≡◌ {A = UserState} (user_took o.user (heard_by code q) o.user.step) x.user
-          → RunsAfter D E c spare step m ls q e (all_actors (set users i x) k others)
+          → RunsAfter D E c step m ls q e (all_actors (set users i x) k others)
       user_goes_on quiet code q e served stored x is =
           let left = goes_on m ls p d seated runs i (actor.User o.user) there tt tt quiet code q e served stored in
-          subst (RunsAfter D E c spare step m ls q e) (put (user_took o.user (heard_by code q) o.user.step) x is) left
+          subst (RunsAfter D E c step m ls q e) (put (user_took o.user (heard_by code q) o.user.step) x is) left
 
       pub user_checks : o.user.checks ≡ true
           → (x : OwnUser) → ◌≡◌ {A = UserState} (checked_of user_program o.user m.failed) x.user
-          → Runs D E c spare m ls p d (all_actors (set users i x) k others)
+          → Runs D E c m ls p d (all_actors (set users i x) k others)
       user_checks asks x is =
           let left = checks m ls p d seated runs i (actor.User o.user) there tt tt asks in
-          subst (Runs D E c spare m ls p d) (put (checked_of user_program o.user m.failed) x is) left
+          subst (Runs D E c m ls p d) (put (checked_of user_program o.user m.failed) x is) left
 
       user_coded : (n : ℕ) (x : OwnUser) → ◌≡◌ {A = UserState} (record o.user { code = n }) x.user
-          → Runs D E c spare m ls p d (all_actors (set users i x) k others)
+          → Runs D E c m ls p d (all_actors (set users i x) k others)
       user_coded n x is =
           let left = recoded m runs.0 runs.1 ls p d seated runs.2 i o.user there n in
-          let both = subst (BothHalves D E c spare m runs.0 runs.1 ls p d) (put (record o.user { code = n }) x is)
+          let both = subst (BothHalves D E c m runs.0 runs.1 ls p d) (put (record o.user { code = n }) x is)
           left in
           (runs.0, runs.1, both)
 
   -- A user ends by a failure, where FAILED has a code: by a check for it, and then with the code of its own call.
   module _ (m : SharedWords) (ls : ℕ → List Listed) (p : D.Part) (d : E.Part) (users : List OwnUser) (k : LogWork)
-      (others : List Actor) (runs : Runs D E c spare m ls p d (all_actors users k others)) (i : ℕ) (o : OwnUser)
+      (others : List Actor) (runs : Runs D E c m ls p d (all_actors users k others)) (i : ℕ) (o : OwnUser)
       (at : get_elem? users i ≡ some o) where
     abbrev asking : OwnUser
     asking = record {
@@ -229,10 +229,10 @@ module _ (D : LogSide) (L : LogLaws D) (E : DataSide) (EL : DataLaws E) (c : Set
     }
 
     pub user_fails : MayHelpAt o.user.step → 0 < m.failed → (n : ℕ)
-        → Runs D E c spare m ls p d (all_actors (set users i (has_failed o n)) k others)
+        → Runs D E c m ls p d (all_actors (set users i (has_failed o n)) k others)
     user_fails may some_code n =
         let heard_code : OwnUser = has_failed o m.failed in
-        let asked = user_moves D E c spare m ls p d users k others i o at o.user.code true o.user.step
+        let asked = user_moves D E c m ls p d users k others i o at o.user.code true o.user.step
         (again_same o.user.step may) errand_step.Done false runs in
         let asked_at = set_at users i o asking at in
         let failed_is = ap (λ (b : Bool). cond b (record asking.user { checks = false }) heard_code.user)
@@ -245,7 +245,7 @@ module _ (D : LogSide) (L : LogLaws D) (E : DataSide) (EL : DataLaws E) (c : Set
         let same : ◌≡◌ {A = List OwnUser} (set (set (set users i asking) i heard_code) i (has_failed o n))
         (set users i (has_failed o n)) =
         set-set (set users i asking) i heard_code (has_failed o n) ∙ set-set users i asking (has_failed o n) in
-        subst (λ (l : List OwnUser). Runs D E c spare m ls p d (all_actors l k others)) same coded
+        subst (λ (l : List OwnUser). Runs D E c m ls p d (all_actors l k others)) same coded
       where
         nonzero : (n : ℕ) → 0 < n → eqb n 0 ≡ false
         nonzero n pos = by (eqb n 0) refl

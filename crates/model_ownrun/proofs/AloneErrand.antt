@@ -63,9 +63,9 @@ top_same m m1 u user_step.LoadSn e = e
 top_same m m1 u user_step.AwaitMark e = refl
 top_same m m1 u _ e = refl
 
-module _ (D : LogSide) (L : LogLaws D) (E : DataSide) (c : Setup) (spare : ℕ) (m : SharedWords) (ls : ℕ → List Listed)
+module _ (D : LogSide) (L : LogLaws D) (E : DataSide) (c : Setup) (m : SharedWords) (ls : ℕ → List Listed)
     (p : D.Part) (d : E.Part) (o : OwnUser) (k : LogWork)
-    (runs : Runs D E c spare m ls p d (all_actors (o ∷ []) k [])) (alone : Alone c m o k)
+    (runs : Runs D E c m ls p d (all_actors (o ∷ []) k [])) (alone : Alone c m o k)
     (asks : o.user.checks ≡ false) (out : OutAt o.user.step) (not_helped : o.helped ≡ false) (code : ℕ)
     (q : D.Part) where
   fits : UserFits D c m runs.0 p 0 o.user
@@ -81,8 +81,8 @@ module _ (D : LogSide) (L : LogLaws D) (E : DataSide) (c : Setup) (spare : ℕ) 
   abbrev linked : ℕ
   linked = lsn (top m o.user o.user.step)
 
-  below : Below D c spare m runs.0 p o.user k.writer k.flusher runs.2.logged (top m o.user o.user.step)
-  below = out_below D c spare m runs.0 p o.user k.writer k.flusher runs.2.logged o.user.step out fits.step
+  below : Below D c m runs.0 p o.user k.writer k.flusher runs.2.logged (top m o.user o.user.step)
+  below = out_below D c m runs.0 p o.user k.writer k.flusher runs.2.logged o.user.step out fits.step
 
   linked_same : (m1 : SharedWords) → m1.sn ≡ m.sn → lsn (top m1 o.user o.user.step) ≡ linked
   linked_same m1 sn = ap lsn (top_same m m1 o.user o.user.step sn)
@@ -172,7 +172,7 @@ module _ (D : LogSide) (L : LogLaws D) (E : DataSide) (c : Setup) (spare : ℕ) 
     free : writer_holds_tail link_buffer.Written k.writer.step ≡ false → m.wheld ≡ false
     free none =
         let user_free = out_free o.user.step out in
-        tail_free D c spare m runs.0 p o.user k.writer k.flusher runs.2.logged user_free none
+        tail_free D c m runs.0 p o.user k.writer k.flusher runs.2.logged user_free none
 
     abbrev adv : Advance
     adv = k.writer.advance
@@ -236,7 +236,7 @@ module _ (D : LogSide) (L : LogLaws D) (E : DataSide) (c : Setup) (spare : ℕ) 
 
         by : (b : Bool) → eqb link_found 0 ≡ b → Went m (follows b)
         by true e = stays m (follows true) k.flusher refl refl
-            (no_link D c spare m runs.0 p o.user k.writer k.flusher runs.2.logged (top m o.user o.user.step) below 1
+            (no_link D c m runs.0 p o.user k.writer k.flusher runs.2.logged (top m o.user o.user.step) below 1
             adv at.1 (eqb-true link_found 0 e))
         by false e = stays m (follows false) k.flusher refl refl tt
     write_goes (writer_step.Advance advance_step.ClearLink) is w knows =
@@ -253,7 +253,7 @@ module _ (D : LogSide) (L : LogLaws D) (E : DataSide) (c : Setup) (spare : ℕ) 
         by false e =
             let far = ltb-false (adv.place + adv.link) (adv.tail + ADVANCE_PLACES) e in
             let tail = at.1.0.tail in
-            let enough = far_enough D c spare m runs.0 p o.user k.writer k.flusher runs.2.logged
+            let enough = far_enough D c m runs.0 p o.user k.writer k.flusher runs.2.logged
             (top m o.user o.user.step) below 1 adv at.1.0 at.1.1 at.1.2 (omega arith) in
             stays (shared_left m (asked (writer_step.Advance advance_step.ClearLink))) (clears false) k.flusher refl
             refl enough

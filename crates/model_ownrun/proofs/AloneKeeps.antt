@@ -94,10 +94,10 @@ flusher_free D p flusher_step.LoadWrite z = refl
 flusher_free D p flusher_step.Failed z = refl
 flusher_free D p _ z = absurd z
 
-module _ (D : LogSide) (L : LogLaws D) (E : DataSide) (EL : DataLaws E) (c : Setup) (spare : ℕ)
+module _ (D : LogSide) (L : LogLaws D) (E : DataSide) (EL : DataLaws E) (c : Setup)
     (alone_log : c.log_only ≡ true) where
   module _ (m : SharedWords) (ls : ℕ → List Listed) (p : D.Part) (d : E.Part) (o : OwnUser) (k : LogWork)
-      (runs : Runs D E c spare m ls p d (all_actors (o ∷ []) k [])) (errands : Errands D p (o ∷ []) k)
+      (runs : Runs D E c m ls p d (all_actors (o ∷ []) k [])) (errands : Errands D p (o ∷ []) k)
       (alone : Alone c m o k) (code : ℕ) (q : D.Part) where
     fits : ErrandFits o.user o.errand
     fits = errands.fits 0 o refl
@@ -214,9 +214,9 @@ module _ (D : LogSide) (L : LogLaws D) (E : DataSide) (EL : DataLaws E) (c : Set
           free : writer_holds_tail link_buffer.Written k.writer.step ≡ false
           free = (rest_free D p k.writer.step (idle (ap has_work off)).step.0).0
 
-          goes : Goes D E c spare m ls p d o k runs alone_log alone asks code q free o.user.step waits
+          goes : Goes D E c m ls p d o k runs alone_log alone asks code q free o.user.step waits
               (shared_left m asked) stepped
-          goes = user_goes D E c spare m ls p d o k runs alone_log alone asks code q free
+          goes = user_goes D E c m ls p d o k runs alone_log alone asks code q free
 
           goes_on : (waits ≡ false) × UserAlone (shared_left m asked) stepped stepped.step
               → Stepped (sets_out o heard_by)
@@ -298,7 +298,7 @@ module _ (D : LogSide) (L : LogLaws D) (E : DataSide) (EL : DataLaws E) (c : Set
 
           takes_up : (errand : ErrandStep) → ErrandAlone (record m { device = 1 }) o.user (taken_up k) errand
               → Alone c (record m { device = 1 }) (record o { errand = errand }) (taken_up k)
-          takes_up errand knows = on D L E c spare m ls p d o k runs alone asks u.0 u.1 code q
+          takes_up errand knows = on D L E c m ls p d o k runs alone asks u.0 u.1 code q
               (record m { device = 1 }) errand
               (taken_up k) refl refl knows
 
@@ -325,14 +325,14 @@ module _ (D : LogSide) (L : LogLaws D) (E : DataSide) (EL : DataLaws E) (c : Set
           let u = is_out errand_step.Write is (λ e. absurd (cc)) in
           let work = work_in errand_step.Write is refl in
           let knows = knows_at errand_step.Write is in
-          let gone = write_goes D L E c spare m ls p d o k runs alone asks u.0 u.1 code q is k.writer.step refl
+          let gone = write_goes D L E c m ls p d o k runs alone asks u.0 u.1 code q is k.writer.step refl
           work.step knows in
           (gone, refl)
       errand_by errand_step.Flush is served =
           let u = is_out errand_step.Flush is (λ e. absurd (cc)) in
           let work = work_in errand_step.Flush is refl in
           let knows = knows_at errand_step.Flush is in
-          let gone = flush_goes D L E c spare m ls p d o k runs alone asks u.0 u.1 code q is work.step.0 knows.0
+          let gone = flush_goes D L E c m ls p d o k runs alone asks u.0 u.1 code q is work.step.0 knows.0
           k.flusher.step refl work.step.1 knows.1 served in
           (gone, refl)
 
@@ -359,12 +359,12 @@ module _ (D : LogSide) (L : LogLaws D) (E : DataSide) (EL : DataLaws E) (c : Set
 
   -- the same of a store's turn
   module _ (old new : OwnCore D E) (seat : ℕ) (answer : Answer) (ended : Step)
-      (before : AloneRunning D E c spare old) where
+      (before : AloneRunning D E c old) where
     abbrev m : SharedWords
     m = before.own.running.shared
 
     abbrev Both : List Actor → Type 0
-    Both actors = BothHalves D E c spare m before.own.running.log_ghost before.own.running.page_ghost old.lists
+    Both actors = BothHalves D E c m before.own.running.log_ghost before.own.running.page_ghost old.lists
         old.log_part old.data_part actors
 
     -- after the turn of this user and its answer
@@ -375,16 +375,16 @@ module _ (D : LogSide) (L : LogLaws D) (E : DataSide) (EL : DataLaws E) (c : Set
     abbrev answer_given : OwnUser → ℕ → Answer
     answer_given o code = answer_to D old.log_part code new.log_part m old.lists (own_next o old.work)
 
-    of_user : UserTurn D E old seat answer ended new → AloneRunning D E c spare new × (ended ≡ step.Idle → ⊥)
+    of_user : UserTurn D E old seat answer ended new → AloneRunning D E c new × (ended ≡ step.Idle → ⊥)
     of_user t = (
       record {
         log_only = alone_log;
-        own = own_user_turn D L E EL c spare old new seat answer ended before.own t;
+        own = own_user_turn D L E EL c old new seat answer ended before.own t;
         who = (own_goes_on t.who old.work answer).0;
         users = t.users ∙ seat_is.1 (own_goes_on t.who old.work answer).0;
         others = t.others ∙ before.others;
         alone = subst (λ (s : SharedWords). Alone c s (own_goes_on t.who old.work answer).0 new.work)
-            (sym (shared_is D L E EL c spare old new seat answer ended before.own t)) alone_then;
+            (sym (shared_is D L E EL c old new seat answer ended before.own t)) alone_then;
       },
       (λ is. law.1 (sym (ap (own_step_of t.who old.work) said) ∙ sym t.ends ∙ is)),
     )
@@ -404,7 +404,7 @@ module _ (D : LogSide) (L : LogLaws D) (E : DataSide) (EL : DataLaws E) (c : Set
         users_are = before.users ∙ ap (λ (o : OwnUser). o ∷ []) (sym seat_is.0)
 
         said : ◌≡◌ {A = Answer} answer (answer_given t.who t.code)
-        said = answered_by_name D L E EL c spare old new seat answer ended before.own t
+        said = answered_by_name D L E EL c old new seat answer ended before.own t
 
         both : Both (all_actors (t.who ∷ []) old.work [])
         both = subst (λ (l : List Actor). Both (all_actors (t.who ∷ []) old.work l)) before.others
@@ -427,7 +427,7 @@ module _ (D : LogSide) (L : LogLaws D) (E : DataSide) (EL : DataLaws E) (c : Set
             subst (λ (k : LogWork). Alone c (shared_left m (own_next t.who old.work))
             (own_goes_on t.who old.work answer).0 k) (sym t.work) after
 
-    of_other : OtherTurn D E old seat answer ended new → AloneRunning D E c spare new × (ended ≡ step.Idle → ⊥)
+    of_other : OtherTurn D E old seat answer ended new → AloneRunning D E c new × (ended ≡ step.Idle → ⊥)
     of_other t = absurd (nobody old.users old.others before.users before.others t.after t.turn.who_is)
       where
         past : (i : ℕ) (a : Actor) → get_elem? (all_actors (before.who ∷ []) old.work []) (suc (suc (suc i))) ≡ some a
@@ -451,5 +451,5 @@ module _ (D : LogSide) (L : LogLaws D) (E : DataSide) (EL : DataLaws E) (c : Set
             there)
 
     -- THE law: no turn is idle
-    pub alone_turns : OwnTurn D E old seat answer ended new → AloneRunning D E c spare new × (ended ≡ step.Idle → ⊥)
+    pub alone_turns : OwnTurn D E old seat answer ended new → AloneRunning D E c new × (ended ≡ step.Idle → ⊥)
     alone_turns t = ⊎_elim of_user of_other t

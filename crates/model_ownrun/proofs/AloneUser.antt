@@ -36,8 +36,8 @@ use Rattle.model_ownrun.proofs.Moves.{answer_to, Runs}
 use Rattle.model_ownrun.specs.Alone.{Alone, HasHelped, OutAt, UserAlone}
 use Rattle.model_pagecore.specs.PageHalf.{UserPageFits, UserPagesAt}
 
-module _ (D : LogSide) (E : DataSide) (c : Setup) (spare : ℕ) (m : SharedWords) (ls : ℕ → List Listed) (p : D.Part)
-    (d : E.Part) (o : OwnUser) (k : LogWork) (runs : Runs D E c spare m ls p d (all_actors (o ∷ []) k []))
+module _ (D : LogSide) (E : DataSide) (c : Setup) (m : SharedWords) (ls : ℕ → List Listed) (p : D.Part)
+    (d : E.Part) (o : OwnUser) (k : LogWork) (runs : Runs D E c m ls p d (all_actors (o ∷ []) k []))
     (alone_log : c.log_only ≡ true) (alone : Alone c m o k) (asks : o.user.checks ≡ false) (code : ℕ) (q : D.Part)
     (free_writer : holds_tail link_buffer.Written (actor.Writer k.writer) ≡ false) where
   fits : UserFits D c m runs.0 p 0 o.user
@@ -174,7 +174,7 @@ module _ (D : LogSide) (E : DataSide) (c : Setup) (spare : ℕ) (m : SharedWords
 
   -- the group in hand and all below it are linked, up to its start
   abbrev BelowStart : Type 0
-  BelowStart = Below D c spare m runs.0 p o.user k.writer k.flusher runs.2.logged o.user.start
+  BelowStart = Below D c m runs.0 p o.user k.writer k.flusher runs.2.logged o.user.start
 
   user_by : (s : UserStep) → o.user.step ≡ s → UserAt D c m runs.0 p 0 o.user s
       → UserPagesAt E c m runs.0.log runs.1 ls d 0 o.user s → UserAlone m o.user s
@@ -253,7 +253,7 @@ module _ (D : LogSide) (E : DataSide) (c : Setup) (spare : ℕ) (m : SharedWords
       by (is_held tail_now) (held_in m.wtail m.wheld ∙ free)
     where
       free : m.wheld ≡ false
-      free = tail_free D c spare m runs.0 p o.user k.writer k.flusher runs.2.logged
+      free = tail_free D c m runs.0 p o.user k.writer k.flusher runs.2.logged
           (ap (user_holds_tail link_buffer.Written) is) free_writer
 
       by : (b : Bool) → b ≡ false → Goes (user_step.AdvanceWritten advance_step.LoadTail) b m (loads b)
@@ -265,7 +265,7 @@ module _ (D : LogSide) (E : DataSide) (c : Setup) (spare : ℕ) (m : SharedWords
     where
       finds : eqb tail_now (tail_word adv.tail false) ≡ true
       finds =
-          let free = tail_free D c spare m runs.0 p o.user k.writer k.flusher runs.2.logged
+          let free = tail_free D c m runs.0 p o.user k.writer k.flusher runs.2.logged
           (ap (user_holds_tail link_buffer.Written) is) free_writer in
           eq-eqb tail_now (tail_word adv.tail false)
           (ap (λ (b : Bool). tail_word m.wtail b) free ∙ ap (λ (t : ℕ). tail_word t false) (sym knows.1))
@@ -280,11 +280,11 @@ module _ (D : LogSide) (E : DataSide) (c : Setup) (spare : ℕ) (m : SharedWords
   user_by (user_step.AdvanceWritten advance_step.LoadLink) is at pages knows helped = by (eqb link_found 0) refl
     where
       below : BelowStart
-      below = copied_below D c spare m runs.0 p o.user k.writer k.flusher runs.2.logged at.0.0 at.0.2.at at.0.2.is
+      below = copied_below D c m runs.0 p o.user k.writer k.flusher runs.2.logged at.0.0 at.0.2.at at.0.2.is
 
       by : (b : Bool) → eqb link_found 0 ≡ b → Goes (user_step.AdvanceWritten advance_step.LoadLink) false m (follows b)
       by true e =
-          let all = no_link D c spare m runs.0 p o.user k.writer k.flusher runs.2.logged o.user.start below 0 adv at.1
+          let all = no_link D c m runs.0 p o.user k.writer k.flusher runs.2.logged o.user.start below 0 adv at.1
           (eqb-true link_found 0 e) in
           on (user_step.AdvanceWritten advance_step.LoadLink) m (follows true) refl alone.room (knows, all)
       by false e = on (user_step.AdvanceWritten advance_step.LoadLink) m (follows false) refl alone.room knows
@@ -292,7 +292,7 @@ module _ (D : LogSide) (E : DataSide) (c : Setup) (spare : ℕ) (m : SharedWords
       by (ltb (adv.place + adv.link) (adv.tail + ADVANCE_PLACES)) refl
     where
       below : BelowStart
-      below = copied_below D c spare m runs.0 p o.user k.writer k.flusher runs.2.logged at.0.0 at.0.2.at at.0.2.is
+      below = copied_below D c m runs.0 p o.user k.writer k.flusher runs.2.logged at.0.0 at.0.2.at at.0.2.is
 
       by : (b : Bool) → ltb (adv.place + adv.link) (adv.tail + ADVANCE_PLACES) ≡ b
           → Goes (user_step.AdvanceWritten advance_step.ClearLink) false
@@ -302,7 +302,7 @@ module _ (D : LogSide) (E : DataSide) (c : Setup) (spare : ℕ) (m : SharedWords
       by false e =
           let far = ltb-false (adv.place + adv.link) (adv.tail + ADVANCE_PLACES) e in
           let tail = at.1.0.tail in
-          let all = far_enough D c spare m runs.0 p o.user k.writer k.flusher runs.2.logged o.user.start below 0 adv
+          let all = far_enough D c m runs.0 p o.user k.writer k.flusher runs.2.logged o.user.start below 0 adv
           at.1.0 at.1.1 at.1.2 (omega arith) in
           on (user_step.AdvanceWritten advance_step.ClearLink)
           (left (user_step.AdvanceWritten advance_step.ClearLink)) (clears false) refl alone.room (knows, all)

@@ -26,8 +26,8 @@ lists_same ls first second same (op.TakeRemove p) = ap {B = ℕ → List Listed}
     (same (p % 4) (omega arith))
 lists_same ls first second same _ = refl
 
-module _ (D : LogSide) (E : DataSide) (c : Setup) (spare : ℕ) (ws : List ℕ) (ls : ℕ → List Listed) (p : D.Part)
-    (d : E.Part) (actors : List Actor) (before : RunningStore D E c spare ws ls p d actors) (o : Op)
+module _ (D : LogSide) (E : DataSide) (c : Setup) (ws : List ℕ) (ls : ℕ → List Listed) (p : D.Part)
+    (d : E.Part) (actors : List Actor) (before : RunningStore D E c ws ls p d actors) (o : Op)
     (names : OpWords c.pages o) where
   pub words_by_name : words_left ws o ≡ flat (shared_left before.shared o)
   words_by_name = ap (λ (z : List ℕ). words_left z o) before.flat_is

@@ -187,9 +187,9 @@ called_by D c g p q a l code (op.ReadBlock b) r v = inr r
 called_by D c g p q a l code (op.Checkpoint x) r v = inr (r.0, r.1.sound)
 called_by D c g p q a l code _ r v = inl v
 
-module _ (D : LogSide) (L : LogLaws D) (E : DataSide) (EL : DataLaws E) (c : Setup) (spare : ℕ) (m : SharedWords)
+module _ (D : LogSide) (L : LogLaws D) (E : DataSide) (EL : DataLaws E) (c : Setup) (m : SharedWords)
     (ls : ℕ → List Listed) (p : D.Part) (d : E.Part) (users : List OwnUser) (k : LogWork) (others : List Actor)
-    (runs : Runs D E c spare m ls p d (all_actors users k others)) (errands : Errands D p users k) where
+    (runs : Runs D E c m ls p d (all_actors users k others)) (errands : Errands D p users k) where
   -- whoever has the log part, the turn word and the holder's seat say so
   has_flusher : flusher_holds k.flusher.step ≡ true → (m.device ≡ 1) × (runs.0.holder ≡ flusher_seat users)
   has_flusher h =
@@ -225,7 +225,7 @@ module _ (D : LogSide) (L : LogLaws D) (E : DataSide) (EL : DataLaws E) (c : Set
       → length users + 2 ≤ seat
       → (l : Lent) (code : ℕ) (q : D.Part) → LogServed D p l (next a) code q → Errands D q users k
   other_keeps seat a at after l code q served =
-      let ready = log_ready D L E EL c spare m runs.0 runs.1 ls p d (all_actors users k others) seat runs.2 a at in
+      let ready = log_ready D L E EL c m runs.0 runs.1 ls p d (all_actors users k others) seat runs.2 a at in
       ⊎_elim (λ v. subst (λ (r : D.Part). Errands D r users k) (sym v) errands) called
       (called_by D c runs.0 p q a l code (next a) ready served)
     where

@@ -33,10 +33,10 @@ use Rattle.model_own.specs.OwnWrites.{ErrandFits}
 use Rattle.model_ownrun.specs.OwnRunning.{FlushesAt, IsWriterAtRest, WorkFits}
 use Rattle.model_pagecore.specs.DataLaws.{DataLaws}
 
-module _ (D : LogSide) (L : LogLaws D) (E : DataSide) (EL : DataLaws E) (c : Setup) (spare : ℕ) (users : List OwnUser)
+module _ (D : LogSide) (L : LogLaws D) (E : DataSide) (EL : DataLaws E) (c : Setup) (users : List OwnUser)
     (others : List Actor) (i : ℕ) (o : OwnUser) (at : get_elem? users i ≡ some o) (may : MayHelpAt o.user.step)
     (asks : o.user.checks ≡ false) (on : o.errand ≡ errand_step.Flush) (m : SharedWords) (ls : ℕ → List Listed)
-    (p : D.Part) (d : E.Part) (k : LogWork) (runs : Runs D E c spare m ls p d (all_actors users k others))
+    (p : D.Part) (d : E.Part) (k : LogWork) (runs : Runs D E c m ls p d (all_actors users k others))
     (quiet : k.writer.checks ≡ false) (still : k.flusher.checks ≡ false)
     (rests : k.writer.step ≡ writer_step.Advance advance_step.LoadTail) (code : ℕ) (q : D.Part) (e : E.Part) where
   abbrev asked : FlusherStep → Op
@@ -50,10 +50,10 @@ module _ (D : LogSide) (L : LogLaws D) (E : DataSide) (EL : DataLaws E) (c : Set
 
   -- a store after an Op, with the log's work so
   abbrev With : SharedWords → (ℕ → List Listed) → FlusherState → Type 0
-  With m' ls' f = Runs D E c spare m' ls' q e (all_actors users (record k { flusher = f }) others)
+  With m' ls' f = Runs D E c m' ls' q e (all_actors users (record k { flusher = f }) others)
 
   abbrev Left : SharedWords → (ℕ → List Listed) → OwnUser × LogWork → Type 0
-  Left m' ls' x = Leaves D L E EL c spare users others i o at m' ls' q e x
+  Left m' ls' x = Leaves D L E EL c users others i o at m' ls' q e x
 
   abbrev After : FlusherStep → FlusherState → Type 0
   After st f = With (shared_left m (asked st)) (lists_after m ls (asked st)) f
@@ -68,7 +68,7 @@ module _ (D : LogSide) (L : LogLaws D) (E : DataSide) (EL : DataLaws E) (c : Set
   stays : (m' : SharedWords) (ls' : ℕ → List Listed) (f : FlusherState) → With m' ls' f → f.checks ≡ false
       → FlushesAt D q f.step → Left m' ls' (o, record k { flusher = f })
   stays m' ls' f r still' at' = (
-    subst (λ (l : List OwnUser). Runs D E c spare m' ls' q e (all_actors l (record k { flusher = f }) others))
+    subst (λ (l : List OwnUser). Runs D E c m' ls' q e (all_actors l (record k { flusher = f }) others))
         (sym (set_again users i o at)) r,
     subst (λ (x : ErrandStep). ErrandFits o.user x) (sym on) (may, asks),
     subst (λ (x : ErrandStep). WorkFits D q x (record k { flusher = f })) (sym on)
@@ -81,7 +81,7 @@ module _ (D : LogSide) (L : LogLaws D) (E : DataSide) (EL : DataLaws E) (c : Set
   turned st is = subst
       (λ (t : FlusherStep). LogServed D p Nothing (asked t) code q → DataServed E d Nothing (asked t) code e
       → After t (next t))
-      is (λ v w. flusher_goes_on D L E EL c spare m ls p d users k others runs still code q e v w)
+      is (λ v w. flusher_goes_on D L E EL c m ls p d users k others runs still code q e v w)
 
   stands : (st : FlusherStep) → k.flusher.step ≡ st → FlusherAt D c m runs.0 p k.flusher st
   stands st is =
@@ -110,7 +110,7 @@ module _ (D : LogSide) (L : LogLaws D) (E : DataSide) (EL : DataLaws E) (c : Set
   flush_by flusher_step.StoreFlushed is w served stored =
       stays _ ls _ (turned flusher_step.StoreFlushed is served stored) still tt
   flush_by flusher_step.GiveDevice is w served stored = (
-    goes_to D L E EL c spare users others i o at (record m { device = 0 }) ls q e
+    goes_to D L E EL c users others i o at (record m { device = 0 }) ls q e
         (record k { flusher = next flusher_step.GiveDevice })
         (turned flusher_step.GiveDevice is served stored) may errand_step.Done true,
     tt,
@@ -119,7 +119,7 @@ module _ (D : LogSide) (L : LogLaws D) (E : DataSide) (EL : DataLaws E) (c : Set
   flush_by flusher_step.StoreFailed is w served stored =
       stays _ ls _ (turned flusher_step.StoreFailed is served stored) still (ap D.failed served ∙ w)
   flush_by flusher_step.GiveFailed is w served stored = (
-    user_fails D L E EL c spare (record m { device = 0 }) ls q e users
+    user_fails D L E EL c (record m { device = 0 }) ls q e users
         (record k { flusher = next flusher_step.GiveFailed }) others
         (turned flusher_step.GiveFailed is served stored) i o at may (stands flusher_step.GiveFailed is) k.flusher.code,
     tt,

@@ -7,7 +7,6 @@ pub mod Errands
 pub mod FlusherPart
 pub mod Linked
 pub mod Moves
-pub mod OwnEnds
 pub mod OwnKeeps
 pub mod OwnRuns
 pub mod OwnSeats

@@ -51,9 +51,9 @@ sum_at h [] i e at = absurd (some-ne-none e (sym at))
 sum_at h (x ∷ xs) zero e at = let z : h x ≡ h e = ap h (some-injective x e at) in omega arith
 sum_at h (x ∷ xs) (suc i) e at = let z = sum_at h xs i e at in omega arith
 
-module _ (D : LogSide) (c : Setup) (spare : ℕ) (m : SharedWords) (g : LogGhost) (p : D.Part) (u : UserState)
+module _ (D : LogSide) (c : Setup) (m : SharedWords) (g : LogGhost) (p : D.Part) (u : UserState)
     (w : WriterState) (f : FlusherState)
-    (half : LogHalf D c spare m g p (actor.User u ∷ actor.Writer w ∷ actor.Flusher f ∷ [])) where
+    (half : LogHalf D c m g p (actor.User u ∷ actor.Writer w ∷ actor.Flusher f ∷ [])) where
   fits : UserFits D c m g p 0 u
   fits = half.each 0 (actor.User u) refl
 
@@ -163,7 +163,7 @@ module _ (D : LogSide) (c : Setup) (spare : ℕ) (m : SharedWords) (g : LogGhost
     far_enough seat v h pos is far =
         let here : slice_index m.wlinks (lsn g.tail % WRITTEN_LINKS) ≡ v.link =
         subst (λ (x : ℕ). slice_index m.wlinks (x % WRITTEN_LINKS) ≡ v.link) h.place is in
-        let o = link_here D c spare m g p (actor.User u ∷ actor.Writer w ∷ actor.Flusher f ∷ []) half v.link here pos in
+        let o = link_here D c m g p (actor.User u ∷ actor.Writer w ∷ actor.Flusher f ∷ []) half v.link here pos in
         let size = o.0.size in
         let start : lsn o.0.group.start ≡ lsn g.tail = ap lsn o.1 in
         let place = h.place in

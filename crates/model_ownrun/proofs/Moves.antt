@@ -76,10 +76,10 @@ none_giving : HoldsNoTail writer_step.GiveDevice
 none_giving link_buffer.Written = refl
 none_giving link_buffer.Closed = refl
 
-module _ (D : LogSide) (E : DataSide) (c : Setup) (spare : ℕ) where
+module _ (D : LogSide) (E : DataSide) (c : Setup) where
   -- a running store, of some ghosts
   abbrev pub Runs : SharedWords → (ℕ → List Listed) → D.Part → E.Part → List Actor → Type 0
-  Runs m ls p d actors = (g : LogGhost) × (h : PageGhost) × BothHalves D E c spare m g h ls p d actors
+  Runs m ls p d actors = (g : LogGhost) × (h : PageGhost) × BothHalves D E c m g h ls p d actors
 
   -- and after an Op
   abbrev pub RunsAfter : Op → SharedWords → (ℕ → List Listed) → D.Part → E.Part → List Actor → Type 0
@@ -106,12 +106,12 @@ module _ (D : LogSide) (E : DataSide) (c : Setup) (spare : ℕ) where
         let u : UserState = record o.user { code = code; checks = checks; step = t } in
         let x : OwnUser = record { user = u; errand = errand; helped = helped } in
         let there = user_there users k others i o at in
-        let alike = user_alike o.user code checks D E c m g h ls p d i spare actors both there t e in
-        let moved = restated D E c spare m g h ls p d actors both i (actor.User o.user) (actor.User u) there alike
+        let alike = user_alike o.user code checks D E c m g h ls p d i actors both there t e in
+        let moved = restated D E c m g h ls p d actors both i (actor.User o.user) (actor.User u) there alike
         refl in
-        (g, h, subst (BothHalves D E c spare m g h ls p d) (user_put users k others i o x at) moved)
+        (g, h, subst (BothHalves D E c m g h ls p d) (user_put users k others i o x at) moved)
 
-    module _ (g : LogGhost) (h : PageGhost) (both : BothHalves D E c spare m g h ls p d actors) where
+    module _ (g : LogGhost) (h : PageGhost) (both : BothHalves D E c m g h ls p d actors) where
       of_flusher : FlusherFits D c m g p (flusher_seat users) k.flusher
       of_flusher = both.logged.each (flusher_seat users) (actor.Flusher k.flusher) (flusher_there users k others)
 
@@ -120,7 +120,7 @@ module _ (D : LogSide) (E : DataSide) (c : Setup) (spare : ℕ) where
 
       -- THE FLUSHER in another state
       abbrev FlusherAlike : FlusherState → ℕ → Type 0
-      FlusherAlike f device = IsAlike D E c spare m g h ls p d actors both (flusher_seat users)
+      FlusherAlike f device = IsAlike D E c m g h ls p d actors both (flusher_seat users)
           (actor.Flusher k.flusher) (actor.Flusher f) (flusher_there users k others) device
 
       flusher_alike : (f : FlusherState) (device : ℕ) → FlusherFits D c m g p (flusher_seat users) f
@@ -153,17 +153,17 @@ module _ (D : LogSide) (E : DataSide) (c : Setup) (spare : ℕ) where
       }
 
       put_flusher : (m' : SharedWords) (g' : LogGhost) (f : FlusherState)
-          → BothHalves D E c spare m' g' h ls p d (set actors (flusher_seat users) (actor.Flusher f))
+          → BothHalves D E c m' g' h ls p d (set actors (flusher_seat users) (actor.Flusher f))
           → Runs m' ls p d (all_actors users (record k { flusher = f }) others)
       put_flusher m' g' f left =
-          (g', h, subst (BothHalves D E c spare m' g' h ls p d) (flusher_put users k others f) left)
+          (g', h, subst (BothHalves D E c m' g' h ls p d) (flusher_put users k others f) left)
 
       -- it takes the free log part, and gives it back
       pub flusher_takes : m.device ≡ 0 → Left 1 (taken_up k)
       flusher_takes free =
           let f : FlusherState = record k.flusher { checks = false; step = flusher_step.GiveDevice } in
           let fits = flusher_fits k.flusher.write flusher_step.GiveDevice of_flusher.write tt in
-          let t = taken_by D E c spare m g h ls p d actors both (flusher_seat users) (actor.Flusher k.flusher)
+          let t = taken_by D E c m g h ls p d actors both (flusher_seat users) (actor.Flusher k.flusher)
           (actor.Flusher f) (flusher_there users k others) (flusher_alike f 1 fits) free refl in
           put_flusher (record m { device = 1 }) t.0 f t.1
 
@@ -177,7 +177,7 @@ module _ (D : LogSide) (E : DataSide) (c : Setup) (spare : ℕ) where
             no_device_while_checking = λ z. refl;
             step = tt;
           } in
-          let t = given_by D E c spare m g h ls p d actors both (flusher_seat users) (actor.Flusher k.flusher)
+          let t = given_by D E c m g h ls p d actors both (flusher_seat users) (actor.Flusher k.flusher)
           (actor.Flusher f) (flusher_there users k others) (flusher_alike f 0 fits) (ap flusher_holds is) refl in
           put_flusher (record m { device = 0 }) t.0 f t.1
 
@@ -190,7 +190,7 @@ module _ (D : LogSide) (E : DataSide) (c : Setup) (spare : ℕ) where
           to : (f : FlusherState) → FlusherFits D c m g p (flusher_seat users) f → flusher_holds f.step ≡ true
               → Runs m ls p d (all_actors users (record k { flusher = f }) others)
           to f fits hold = put_flusher m g f
-              (restated D E c spare m g h ls p d actors both (flusher_seat users) (actor.Flusher k.flusher)
+              (restated D E c m g h ls p d actors both (flusher_seat users) (actor.Flusher k.flusher)
               (actor.Flusher f) (flusher_there users k others) (flusher_alike f m.device fits)
               (hold ∙ sym (ap flusher_holds is)))
 
@@ -204,7 +204,7 @@ module _ (D : LogSide) (E : DataSide) (c : Setup) (spare : ℕ) where
 
       -- THE WRITER in another state
       abbrev WriterAlike : WriterState → ℕ → Type 0
-      WriterAlike s device = IsAlike D E c spare m g h ls p d actors both (writer_seat users) (actor.Writer k.writer)
+      WriterAlike s device = IsAlike D E c m g h ls p d actors both (writer_seat users) (actor.Writer k.writer)
           (actor.Writer s) (writer_there users k others) device
 
       writer_alike : (s : WriterState) (device : ℕ) → WriterFits D c m g p (writer_seat users) s
@@ -228,15 +228,15 @@ module _ (D : LogSide) (E : DataSide) (c : Setup) (spare : ℕ) where
 
       writer_fits : (st : WriterStep) → WriterAt D c m g p (writer_seat users) (writer_at st) st
           → WriterFits D c m g p (writer_seat users) (writer_at st)
-      writer_fits st z = staged D c spare m g p actors (writer_seat users) k.writer both.logged
+      writer_fits st z = staged D c m g p actors (writer_seat users) k.writer both.logged
           (writer_there users k others) k.writer.first k.writer.ckpt k.writer.code false st of_writer.ckpt
           (λ e. absurd (cc)) z
 
       put_writer : (m' : SharedWords) (g' : LogGhost) (s : WriterState)
-          → BothHalves D E c spare m' g' h ls p d (set actors (writer_seat users) (actor.Writer s))
+          → BothHalves D E c m' g' h ls p d (set actors (writer_seat users) (actor.Writer s))
           → Runs m' ls p d (all_actors users (record k { writer = s }) others)
       put_writer m' g' s left =
-          (g', h, subst (BothHalves D E c spare m' g' h ls p d) (writer_put users k others s) left)
+          (g', h, subst (BothHalves D E c m' g' h ls p d) (writer_put users k others s) left)
 
       -- without the log part it comes to rest
       pub writer_rests : HoldsNoTail k.writer.step → writer_holds k.writer.step ≡ false
@@ -246,7 +246,7 @@ module _ (D : LogSide) (E : DataSide) (c : Setup) (spare : ℕ) where
           let s : WriterState = rested_writer k.writer in
           let fits = writer_fits (writer_step.Advance advance_step.LoadTail) z in
           put_writer m g s
-          (restated D E c spare m g h ls p d actors both (writer_seat users) (actor.Writer k.writer) (actor.Writer s)
+          (restated D E c m g h ls p d actors both (writer_seat users) (actor.Writer k.writer) (actor.Writer s)
           (writer_there users k others) (writer_alike s m.device fits was none_at_rest) (sym free))
 
       -- it takes the free log part to write; it gives it back after its store of WRITE
@@ -257,7 +257,7 @@ module _ (D : LogSide) (E : DataSide) (c : Setup) (spare : ℕ) where
           let z = subst (WriterAt D c m g p (writer_seat users) k.writer) is of_writer.step in
           let fits = writer_fits writer_step.WriteTo (z.0, z.1, z.2, sound) in
           let alike = writer_alike s 1 fits (λ b. ap (writer_holds_tail b) is ∙ none_taking b) none_writing in
-          let t = taken_by D E c spare m g h ls p d actors both (writer_seat users) (actor.Writer k.writer)
+          let t = taken_by D E c m g h ls p d actors both (writer_seat users) (actor.Writer k.writer)
           (actor.Writer s) (writer_there users k others) alike free refl in
           put_writer (record m { device = 1 }) t.0 s t.1
 
@@ -267,7 +267,7 @@ module _ (D : LogSide) (E : DataSide) (c : Setup) (spare : ℕ) where
           let z = subst (WriterAt D c m g p (writer_seat users) k.writer) is of_writer.step in
           let fits = writer_fits (writer_step.Advance advance_step.LoadTail) (z.0, tt) in
           let alike = writer_alike s 0 fits (λ b. ap (writer_holds_tail b) is ∙ none_giving b) none_at_rest in
-          let t = given_by D E c spare m g h ls p d actors both (writer_seat users) (actor.Writer k.writer)
+          let t = given_by D E c m g h ls p d actors both (writer_seat users) (actor.Writer k.writer)
           (actor.Writer s) (writer_there users k others) alike (ap writer_holds is) refl in
           put_writer (record m { device = 0 }) t.0 s t.1
 

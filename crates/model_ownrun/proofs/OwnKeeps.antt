@@ -52,14 +52,14 @@ data_same E d e code k errand_step.TakeDevice o z = z
 data_same E d e code k errand_step.GiveBroken o z = z
 data_same E d e code k errand_step.Flush o z = z
 
-module _ (D : LogSide) (L : LogLaws D) (E : DataSide) (EL : DataLaws E) (c : Setup) (spare : ℕ) where
+module _ (D : LogSide) (L : LogLaws D) (E : DataSide) (EL : DataLaws E) (c : Setup) where
   module _ (m : SharedWords) (ls : ℕ → List Listed) (p : D.Part) (d : E.Part) (users : List OwnUser) (k : LogWork)
-      (others : List Actor) (runs : Runs D E c spare m ls p d (all_actors users k others))
+      (others : List Actor) (runs : Runs D E c m ls p d (all_actors users k others))
       (errands : Errands D p users k) (i : ℕ) (o : OwnUser) (at : get_elem? users i ≡ some o) (code : ℕ) (q : D.Part)
       (e : E.Part) where
     -- a store with this user and the log's work so
     abbrev Store : SharedWords → (ℕ → List Listed) → D.Part → E.Part → OwnUser → LogWork → Type 0
-    Store m' ls' q' e' x k' = Runs D E c spare m' ls' q' e' (all_actors (set users i x) k' others)
+    Store m' ls' q' e' x k' = Runs D E c m' ls' q' e' (all_actors (set users i x) k' others)
 
     abbrev Kept : SharedWords → (ℕ → List Listed) → OwnUser → LogWork → Type 0
     Kept m' ls' x k' = Store m' ls' q e x k' × Errands D q (set users i x) k'
@@ -87,11 +87,11 @@ module _ (D : LogSide) (L : LogLaws D) (E : DataSide) (EL : DataLaws E) (c : Set
     -- the work stays where it was; its Op was one of the log's work
     stood_aside : (m' : SharedWords) (x : OwnUser) → has_work o.errand ≡ false → ◌≡◌ {A = D.Part} q p
         → ◌≡◌ {A = E.Part} e d
-        → Aside D L E EL c spare m ls p d users k others runs i o at m' ls p d x → Kept m' ls x k
+        → Aside D L E EL c m ls p d users k others runs i o at m' ls p d x → Kept m' ls x k
     stood_aside m' x none v w a = (same_parts m' x k v w a.0, aside D p users k errands i o at q x a.1 none a.2 v)
 
     worked_here : (m' : SharedWords) (x : OwnUser × LogWork) → OthersIdle → ◌≡◌ {A = D.Part} q p → ◌≡◌ {A = E.Part} e d
-        → Leaves D L E EL c spare users others i o at m' ls p d x → Kept m' ls x.0 x.1
+        → Leaves D L E EL c users others i o at m' ls p d x → Kept m' ls x.0 x.1
     worked_here m' x none v w a = (
       same_parts m' x.0 x.1 v w a.0,
       subst (λ (y : D.Part). Errands D y (set users i x.0) x.1) (sym v)
@@ -116,13 +116,13 @@ module _ (D : LogSide) (L : LogLaws D) (E : DataSide) (EL : DataLaws E) (c : Set
     takes_by is asks same_log same_data true free broken failed = by broken failed
       where
         none : NobodyAtWork D p users k
-        none = nobody_has D L E EL c spare m ls p d users k others runs errands (eqb-true m.device 0 free)
+        none = nobody_has D L E EL c m ls p d users k others runs errands (eqb-true m.device 0 free)
 
         takes_up : (errand : ErrandStep) → ErrandFits o.user errand → WorkFits D p errand (taken_up k)
             → Kept (record m { device = 1 }) ls (record o { errand = errand }) (taken_up k)
         takes_up errand may work = worked_here (record m { device = 1 }) (record o { errand = errand }, taken_up k)
             (λ j y ne there. none.0 j y there) same_log same_data
-            (takes D L E EL c spare m ls p d users k others runs i o at asks (fits_at errand_step.TakeDevice is)
+            (takes D L E EL c m ls p d users k others runs i o at asks (fits_at errand_step.TakeDevice is)
             (eqb-true m.device 0 free) errand may work)
 
         by : (b : Bool) → D.failed p ≡ b → Kept (record m { device = 1 }) ls (took true b).0 (took true b).1
@@ -147,13 +147,13 @@ module _ (D : LogSide) (L : LogLaws D) (E : DataSide) (EL : DataLaws E) (c : Set
             reads _ z = absurd z
     takes_by is asks same_log same_data false held broken failed =
         stood_aside m (waiting o) (ap has_work is) same_log same_data
-        (finds_held D L E EL c spare m ls p d users k others runs i o at asks (fits_at errand_step.TakeDevice is))
+        (finds_held D L E EL c m ls p d users k others runs i o at asks (fits_at errand_step.TakeDevice is))
 
     errand_by : (x : ErrandStep) → o.errand ≡ x → o.user.checks ≡ false
         → LogServed D p (errand_lends k x) (errand_op o k x) code q
         → DataServed E d (errand_lends k x) (errand_op o k x) code e → Left (errand_op o k x) (λ a. errand_took o k a x)
     errand_by errand_step.Done is asks served stored =
-        let a = steps D L E EL c spare m ls p d users k others runs i o at asks code q e is served stored in
+        let a = steps D L E EL c m ls p d users k others runs i o at asks code q e is served stored in
         let same = user_keeps_part D p q code o.user o.user.step served in
         (a.0, aside D p users k errands i o at q _ a.1 (ap has_work is) a.2 same)
     errand_by errand_step.TakeDevice is asks served stored =
@@ -161,18 +161,18 @@ module _ (D : LogSide) (L : LogLaws D) (E : DataSide) (EL : DataLaws E) (c : Set
     errand_by errand_step.GiveBroken is asks served stored =
         let may = (fits_at errand_step.GiveBroken is).0 in
         worked_here (record m { device = 0 }) _ (alone_in errand_step.GiveBroken is refl) served stored
-        (gives_broken D L E EL c spare m ls p d users k others runs i o at asks may
+        (gives_broken D L E EL c m ls p d users k others runs i o at asks may
         (work_in errand_step.GiveBroken is refl))
     errand_by errand_step.Write is asks served stored =
         let may = (fits_at errand_step.Write is).0 in
         let work = work_in errand_step.Write is refl in
-        let a = write_by D L E EL c spare users others i o at may asks is m ls p d k runs work.writer_goes_on
+        let a = write_by D L E EL c users others i o at may asks is m ls p d k runs work.writer_goes_on
         work.flusher_goes_on code q e k.writer.step refl work.step served stored in
         (a.0, mine D p users k errands i o at q _ a.1 (alone_in errand_step.Write is refl) _ a.2)
     errand_by errand_step.Flush is asks served stored =
         let may = (fits_at errand_step.Flush is).0 in
         let work = work_in errand_step.Flush is refl in
-        let a = flush_by D L E EL c spare users others i o at may asks is m ls p d k runs work.writer_goes_on
+        let a = flush_by D L E EL c users others i o at may asks is m ls p d k runs work.writer_goes_on
         work.flusher_goes_on work.step.0 code q e k.flusher.step refl work.step.1 served stored in
         (a.0, mine D p users k errands i o at q _ a.1 (alone_in errand_step.Flush is refl) _ a.2)
 
@@ -183,10 +183,10 @@ module _ (D : LogSide) (L : LogLaws D) (E : DataSide) (EL : DataLaws E) (c : Set
         → DataServed E d (own_lends o k) (asked b) code e
         → Left (asked b) (λ a. cond b (own_checked o (old_of a), k) (errand_took o k a o.errand))
     next_by true asks served stored =
-        let none = none_checking D L E EL c spare m ls p d users k others runs i o at o.errand asks fits in
+        let none = none_checking D L E EL c m ls p d users k others runs i o at o.errand asks fits in
         let same = data_same E d e code k o.errand (op.Load word.Failed) stored in
         stood_aside m (own_checked o m.failed) none served same
-        (checks D L E EL c spare m ls p d users k others runs i o at asks fits)
+        (checks D L E EL c m ls p d users k others runs i o at asks fits)
     next_by false asks served stored = errand_by o.errand refl asks served stored
 
     -- THE step lemma of a user that writes for itself, over the words by name
@@ -198,7 +198,7 @@ module _ (D : LogSide) (L : LogLaws D) (E : DataSide) (EL : DataLaws E) (c : Set
     -- its Op names words that there are
     actor_words : (seat : ℕ) (a : Actor) → get_elem? (all_actors users k others) seat ≡ some a
         → OpWords c.pages (next a)
-    actor_words seat a there = next_words D E c spare m runs.0 runs.1 ls p d (all_actors users k others) seat runs.2 a
+    actor_words seat a there = next_words D E c m runs.0 runs.1 ls p d (all_actors users k others) seat runs.2 a
         there
 
     errand_words : (x : ErrandStep) → o.errand ≡ x → o.user.checks ≡ false → OpWords c.pages (errand_op o k x)
@@ -224,11 +224,11 @@ module _ (D : LogSide) (L : LogLaws D) (E : DataSide) (EL : DataLaws E) (c : Set
     own_words = words_by o.user.checks refl
 
   module _ (old new : OwnCore D E) (seat : ℕ) (answer : Answer) (step : Step)
-      (before : OwnRunning D E c spare old) where
+      (before : OwnRunning D E c old) where
     abbrev m : SharedWords
     m = before.running.shared
 
-    runs_before : Runs D E c spare m old.lists old.log_part old.data_part (all_actors old.users old.work old.others)
+    runs_before : Runs D E c m old.lists old.log_part old.data_part (all_actors old.users old.work old.others)
     runs_before = (before.running.log_ghost, before.running.page_ghost, before.running.both)
 
     abbrev actors_before : List Actor
@@ -254,22 +254,22 @@ module _ (D : LogSide) (L : LogLaws D) (E : DataSide) (EL : DataLaws E) (c : Set
       abbrev users_then : Answer → List OwnUser
       users_then r = set old.users seat (then r).0
 
-      kept : Runs D E c spare (shared_left m its_op) lists_then new.log_part new.data_part
+      kept : Runs D E c (shared_left m its_op) lists_then new.log_part new.data_part
           (all_actors (users_then said) (then said).1 old.others)
           × Errands D new.log_part (users_then said) (then said).1
       kept = user_keeps m old.lists old.log_part old.data_part old.users old.work old.others runs_before
           before.errands seat t.who t.who_is t.code new.log_part new.data_part t.log_served t.data_served
 
       pub answered_by_name : ◌≡◌ {A = Answer} answer said
-      answered_by_name = t.answered ∙ answer_by_name D E c spare old.words old.lists old.log_part old.data_part
+      answered_by_name = t.answered ∙ answer_by_name D E c old.words old.lists old.log_part old.data_part
           actors_before before.running its_op names t.code new.log_part
 
       lists_are : ◌≡◌ {A = ℕ → List Listed} new.lists lists_then
-      lists_are = t.lists ∙ lists_by_name D E c spare old.words old.lists old.log_part old.data_part actors_before
+      lists_are = t.lists ∙ lists_by_name D E c old.words old.lists old.log_part old.data_part actors_before
           before.running its_op names
 
       words_are : new.words ≡ flat (shared_left m its_op)
-      words_are = t.words ∙ words_by_name D E c spare old.words old.lists old.log_part old.data_part actors_before
+      words_are = t.words ∙ words_by_name D E c old.words old.lists old.log_part old.data_part actors_before
           before.running its_op names
 
       users_are : new.users ≡ users_then said
@@ -286,14 +286,14 @@ module _ (D : LogSide) (L : LogLaws D) (E : DataSide) (EL : DataLaws E) (c : Set
 
       -- The turn of a user leaves a running store, over the words that its Op leaves.
       abbrev Halves : (ℕ → List Listed) → List Actor → Type 0
-      Halves ls actors = BothHalves D E c spare (shared_left m its_op) kept.0.0 kept.0.1 ls new.log_part new.data_part
+      Halves ls actors = BothHalves D E c (shared_left m its_op) kept.0.0 kept.0.1 ls new.log_part new.data_part
           actors
 
       both : Halves new.lists (all_actors new.users new.work new.others)
       both = subst (λ (ls : ℕ → List Listed). Halves ls (all_actors new.users new.work new.others)) (sym lists_are)
           (subst (Halves lists_then) (sym actors_are) kept.0.2)
 
-      pub own_user_turn : OwnRunning D E c spare new
+      pub own_user_turn : OwnRunning D E c new
       own_user_turn = record {
         running = record {
           shared = shared_left m its_op;
@@ -313,18 +313,18 @@ module _ (D : LogSide) (L : LogLaws D) (E : DataSide) (EL : DataLaws E) (c : Set
     module _ (t : OtherTurn D E old seat answer step new) where
       work_stays : Errands D new.log_part old.users old.work
       work_stays = let after = t.after in
-          other_keeps D L E EL c spare m old.lists old.log_part old.data_part old.users old.work old.others
+          other_keeps D L E EL c m old.lists old.log_part old.data_part old.users old.work old.others
           runs_before before.errands (seat + 2) t.turn.who t.turn.who_is (omega arith)
           (lent (filled t.turn.who t.turn.filling)) t.turn.code new.log_part t.turn.log_served
 
-      own_other_turn : OwnRunning D E c spare new
+      own_other_turn : OwnRunning D E c new
       own_other_turn = record {
-        running = turn_keeps D L E EL c spare (with_writer old) (with_writer new) (seat + 2) answer step
+        running = turn_keeps D L E EL c (with_writer old) (with_writer new) (seat + 2) answer step
             before.running t.turn;
         errands = subst (λ (us : List OwnUser). Errands D new.log_part us new.work) (sym t.users)
             (subst (λ (k : LogWork). Errands D new.log_part old.users k) (sym t.work) work_stays);
       }
 
     -- THE step lemma
-    pub own_turn_keeps : OwnTurn D E old seat answer step new → OwnRunning D E c spare new
+    pub own_turn_keeps : OwnTurn D E old seat answer step new → OwnRunning D E c new
     own_turn_keeps t = ⊎_elim own_user_turn own_other_turn t

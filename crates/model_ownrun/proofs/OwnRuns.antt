@@ -34,14 +34,14 @@ use Rattle.model_running.proofs.Watermarks.{has_watermarks}
 use Rattle.model_running.specs.RunningStore.{RunningStore}
 use Rattle.model_running.specs.Watermarks.{HasWatermarks}
 
-module _ (D : LogSide) (L : LogLaws D) (E : DataSide) (EL : DataLaws E) (c : Setup) (spare : ℕ) where
+module _ (D : LogSide) (L : LogLaws D) (E : DataSide) (EL : DataLaws E) (c : Setup) where
   -- the store as the run begins
-  started : (s : OwnCore D E) (S : OwnStart D E c spare s)
-      → (r : RunningStore D E c spare s.words s.lists s.log_part s.data_part (all_actors s.users s.work s.others))
+  started : (s : OwnCore D E) (S : OwnStart D E c s)
+      → (r : RunningStore D E c s.words s.lists s.log_part s.data_part (all_actors s.users s.work s.others))
       × (r.shared ≡ S.shared)
   started s S =
       subst (λ (ls : ℕ → List Listed).
-      (r : RunningStore D E c spare s.words ls s.log_part s.data_part (all_actors s.users s.work s.others))
+      (r : RunningStore D E c s.words ls s.log_part s.data_part (all_actors s.users s.work s.others))
       × (r.shared ≡ S.shared)) (sym S.lists_are) (
         record {
           shared = S.shared;
@@ -49,12 +49,12 @@ module _ (D : LogSide) (L : LogLaws D) (E : DataSide) (EL : DataLaws E) (c : Set
           page_ghost = start_pages c;
           flat_is = S.flat_is;
           both = both_start D E c S.shared s.log_part s.data_part S.seat_of S.writer
-              (all_actors s.users s.work s.others) S.store spare S.room;
+              (all_actors s.users s.work s.others) S.store S.room;
         },
         refl,
       )
 
-  pub own_starts : (s : OwnCore D E) → OwnStart D E c spare s → OwnRunning D E c spare s
+  pub own_starts : (s : OwnCore D E) → OwnStart D E c s → OwnRunning D E c s
   own_starts s S = record {
     running = (started s S).0;
     errands = record {
@@ -70,22 +70,22 @@ module _ (D : LogSide) (L : LogLaws D) (E : DataSide) (EL : DataLaws E) (c : Set
     };
   }
 
-  pub own_run_keeps : (seed max n : ℕ) (first last : OwnCore D E) → OwnRunning D E c spare first
-      → TakesOwnTurns D E seed max n first last → OwnRunning D E c spare last
-  own_run_keeps seed max zero first last before is = subst (OwnRunning D E c spare) (sym is) before
+  pub own_run_keeps : (seed max n : ℕ) (first last : OwnCore D E) → OwnRunning D E c first
+      → TakesOwnTurns D E seed max n first last → OwnRunning D E c last
+  own_run_keeps seed max zero first last before is = subst (OwnRunning D E c) (sym is) before
   own_run_keeps seed max (suc n) first last before r =
-      own_turn_keeps D L E EL c spare r.before last _ r.answer r.step
+      own_turn_keeps D L E EL c r.before last _ r.answer r.step
       (own_run_keeps seed max n first r.before before r.earlier) r.turn
 
   -- so each of the watermarks holds between any two turns
-  pub own_watermarks : (s : OwnCore D E) → OwnRunning D E c spare s → HasWatermarks D E c (with_writer s)
-  own_watermarks s r = has_watermarks D L E EL c spare (with_writer s) r.running
+  pub own_watermarks : (s : OwnCore D E) → OwnRunning D E c s → HasWatermarks D E c (with_writer s)
+  own_watermarks s r = has_watermarks D L E EL c (with_writer s) r.running
 
   -- one user, the log alone, space for all its groups, and no other actor
-  pub alone_starts : (s : OwnCore D E) (S : OwnStart D E c spare s) (o : OwnUser) → c.log_only ≡ true
+  pub alone_starts : (s : OwnCore D E) (S : OwnStart D E c s) (o : OwnUser) → c.log_only ≡ true
       → s.users ≡ o ∷ [] → ◌≡◌ {A = List Actor} s.others []
       → lsn (c.base + left_to_reserve (actor.User o.user)) + FREE_MARGIN ≤ start_checkpoint c + BLOCK_SIZE * c.blocks
-      → AloneRunning D E c spare s
+      → AloneRunning D E c s
   unfolding own_starts started
   alone_starts s S o log_only one none room =
       let there : get_elem? s.users 0 ≡ some o = ap (λ (us : List OwnUser). get_elem? us 0) one in
@@ -113,27 +113,27 @@ module _ (D : LogSide) (L : LogLaws D) (E : DataSide) (EL : DataLaws E) (c : Set
       }
 
   -- THE law of own writes: none of its turns is idle
-  pub never_idle : (seed max n : ℕ) (first last : OwnCore D E) → AloneRunning D E c spare first
+  pub never_idle : (seed max n : ℕ) (first last : OwnCore D E) → AloneRunning D E c first
       → (turns : TakesOwnTurns D E seed max n first last)
-      → AloneRunning D E c spare last × NoneIsIdle D E seed max n first last turns
-  never_idle seed max zero first last before is = (subst (AloneRunning D E c spare) (sym is) before, tt)
+      → AloneRunning D E c last × NoneIsIdle D E seed max n first last turns
+  never_idle seed max zero first last before is = (subst (AloneRunning D E c) (sym is) before, tt)
   never_idle seed max (suc n) first last before r =
       let earlier = never_idle seed max n first r.before before r.earlier in
-      let now = alone_turns D L E EL c spare earlier.0.log_only r.before last _ r.answer r.step earlier.0 r.turn in
+      let now = alone_turns D L E EL c earlier.0.log_only r.before last _ r.answer r.step earlier.0 r.turn in
       (now.0, (now.1, earlier.1))
 
 pub runs_have_watermarks : (D : LogSide) → LogLaws D → (E : DataSide) → DataLaws E
-    → (c : Setup) (spare seed max n : ℕ) (first last : OwnCore D E) → OwnStart D E c spare first
+    → (c : Setup) (seed max n : ℕ) (first last : OwnCore D E) → OwnStart D E c first
     → TakesOwnTurns D E seed max n first last → HasWatermarks D E c (with_writer last)
-runs_have_watermarks D L E EL c spare seed max n first last S turns =
-    own_watermarks D L E EL c spare last
-    (own_run_keeps D L E EL c spare seed max n first last (own_starts D L E EL c spare first S) turns)
+runs_have_watermarks D L E EL c seed max n first last S turns =
+    own_watermarks D L E EL c last
+    (own_run_keeps D L E EL c seed max n first last (own_starts D L E EL c first S) turns)
 
 pub alone_never_idle : (D : LogSide) → LogLaws D → (E : DataSide) → DataLaws E
-    → (c : Setup) (spare seed max n : ℕ) (first last : OwnCore D E) (user : OwnUser) → OwnStart D E c spare first
+    → (c : Setup) (seed max n : ℕ) (first last : OwnCore D E) (user : OwnUser) → OwnStart D E c first
     → c.log_only ≡ true → first.users ≡ user ∷ [] → ◌≡◌ {A = List Actor} first.others []
     → lsn (c.base + left_to_reserve (actor.User user.user)) + FREE_MARGIN ≤ start_checkpoint c + BLOCK_SIZE * c.blocks
     → (turns : TakesOwnTurns D E seed max n first last) → NoneIsIdle D E seed max n first last turns
-alone_never_idle D L E EL c spare seed max n first last user S log_only one none room turns =
-    (never_idle D L E EL c spare seed max n first last
-    (alone_starts D L E EL c spare first S user log_only one none room) turns).1
+alone_never_idle D L E EL c seed max n first last user S log_only one none room turns =
+    (never_idle D L E EL c seed max n first last
+    (alone_starts D L E EL c first S user log_only one none room) turns).1

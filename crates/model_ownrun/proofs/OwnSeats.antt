@@ -1,5 +1,5 @@
 -- Each turn of a store whose users write for themselves leaves each user, and the other actors, in their seats.
-use Rattle.std.proofs.Common.{Bool, List, cond, false, refl, set, subst, suc, sym, true, zero, ℕ, ⊎_elim, ◌+◌}
+use Rattle.std.proofs.Common.{Bool, List, cond, false, refl, set, subst, sym, true, ℕ, ⊎_elim, ◌+◌}
 use Rattle.std.proofs.Common.{◌==◌, ◌≡◌}
 use lib.ListN.{get_elem?}
 use mathlib.Core.Option.{some}
@@ -26,7 +26,6 @@ use Rattle.model_own.specs.declared.errand.ErrandStep.{ErrandStep}
 use Rattle.model_own.specs.declared.errand.ErrandStep.TheVariants as errand_step
 use Rattle.model_ownrun.proofs.Seats.{flusher_put, flusher_seat, flusher_there, user_put, user_there, writer_put}
 use Rattle.model_ownrun.proofs.Seats.{writer_seat, writer_there}
-use Rattle.model_ownrun.specs.OwnRuns.{TakesOwnTurns}
 use Rattle.model_running.proofs.SeatsKeep.{seats_keep, turn_keeps_seats}
 use Rattle.model_running.specs.Seating.{AreSeated}
 
@@ -132,10 +131,3 @@ module _ (D : LogSide) (E : DataSide) (c : Setup) where
           subst (λ (l : List OwnUser). AreSeated c (all_actors l new.work new.others)) (sym u.users)
           (subst (λ (k : LogWork). AreSeated c (all_actors us k new.others)) (sym u.work)
           (subst (λ (l : List Actor). AreSeated c (all_actors us x.1 l)) (sym u.others) left))
-
-  pub own_run_keeps_seats : (seed max n : ℕ) (first last : OwnCore D E) → Seated first
-      → TakesOwnTurns D E seed max n first last → Seated last
-  own_run_keeps_seats seed max zero first last seated is = subst Seated (sym is) seated
-  own_run_keeps_seats seed max (suc n) first last seated r =
-      let earlier = own_run_keeps_seats seed max n first r.before seated r.earlier in
-      own_turn_keeps_seats r.before last _ r.answer r.step earlier r.turn

@@ -39,9 +39,9 @@ holder_same b actors seat a x at same h = elim (ℕ_discrete h.0 seat) [
     it : h.0 ≡ seat → ◌≡◌ {A = Actor} a h.1
     it e = some-injective a h.1 (sym at ∙ subst (λ (i : ℕ). get_elem? actors i ≡ some h.1) e h.2)
 
-module _ (D : LogSide) (E : DataSide) (c : Setup) (spare : ℕ) (m : SharedWords) (g : LogGhost) (h : PageGhost)
+module _ (D : LogSide) (E : DataSide) (c : Setup) (m : SharedWords) (g : LogGhost) (h : PageGhost)
     (ls : ℕ → List Listed) (p : D.Part) (d : E.Part) (actors : List Actor)
-    (both : BothHalves D E c spare m g h ls p d actors) (seat : ℕ) (a b : Actor)
+    (both : BothHalves D E c m g h ls p d actors) (seat : ℕ) (a b : Actor)
     (at : get_elem? actors seat ≡ some a) where
   -- what of an actor the rest of the invariant speaks of
   pub record IsAlike (device : ℕ) : Type 0 where
@@ -84,7 +84,7 @@ module _ (D : LogSide) (E : DataSide) (c : Setup) (spare : ℕ) (m : SharedWords
   }
 
   whole : (device : ℕ) → IsAlike device → (g' : LogGhost) → ◌≡◌ {A = List Entry} g'.log g.log
-      → Kept D c spare (with_device device) g' p now → BothHalves D E c spare (with_device device) g' h ls p d now
+      → Kept D c (with_device device) g' p now → BothHalves D E c (with_device device) g' h ls p d now
   whole device alike g' log kept = record {
     script = both.script;
     cause = λ failed. ⊎_elim (λ z. inl z) (⊎_elim (λ z. inr (inl z)) (λ l. inr (inr (still_lost l)))) (both.cause failed);
@@ -156,21 +156,21 @@ module _ (D : LogSide) (E : DataSide) (c : Setup) (spare : ℕ) (m : SharedWords
           it x is e = some-injective x a (sym is ∙ subst (λ (i : ℕ). get_elem? actors i ≡ some a) (sym e) at)
 
   -- it holds what it held
-  pub restated : IsAlike m.device → holds b ≡ holds a → BothHalves D E c spare m g h ls p d now
+  pub restated : IsAlike m.device → holds b ≡ holds a → BothHalves D E c m g h ls p d now
   restated alike keep = whole m.device alike g refl
-      (stays D c spare m g p actors seat a both.logged at b keep alike.fits alike.entries_same alike.left)
+      (stays D c m g p actors seat a both.logged at b keep alike.fits alike.entries_same alike.left)
 
   -- it takes the log part, which is free; it gives it back
   pub taken_by : IsAlike 1 → m.device ≡ 0 → holds b ≡ true
-      → (g' : LogGhost) × BothHalves D E c spare (with_device 1) g' h ls p d now
+      → (g' : LogGhost) × BothHalves D E c (with_device 1) g' h ls p d now
   taken_by alike free hold =
-      let k = takes D c spare m g p actors seat a both.logged at b free hold alike.fits alike.entries_same
+      let k = takes D c m g p actors seat a both.logged at b free hold alike.fits alike.entries_same
       alike.left in
       (k.0, whole 1 alike k.0 k.2 k.1)
 
   pub given_by : IsAlike 0 → holds a ≡ true → holds b ≡ false
-      → (g' : LogGhost) × BothHalves D E c spare (with_device 0) g' h ls p d now
+      → (g' : LogGhost) × BothHalves D E c (with_device 0) g' h ls p d now
   given_by alike had free =
-      let k = gives D c spare m g p actors seat a both.logged at b had free alike.fits alike.entries_same
+      let k = gives D c m g p actors seat a both.logged at b had free alike.fits alike.entries_same
       alike.left in
       (k.0, whole 0 alike k.0 k.2 k.1)

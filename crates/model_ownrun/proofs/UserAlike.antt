@@ -177,10 +177,10 @@ module _ (u : UserState) (code : ℕ) (checks : Bool) where
       step = paged u.step t e f.step;
     }
 
-    pub user_alike : (spare : ℕ) (actors : List Actor) (both : BothHalves D E c spare m g h ls p d actors)
+    pub user_alike : (actors : List Actor) (both : BothHalves D E c m g h ls p d actors)
         (at : get_elem? actors seat ≡ some (actor.User u)) (t : UserStep) → Again u.step t
-        → IsAlike D E c spare m g h ls p d actors both seat (actor.User u) (actor.User (at_step t)) at m.device
-    user_alike spare actors both at t e = record {
+        → IsAlike D E c m g h ls p d actors both seat (actor.User u) (actor.User (at_step t)) at m.device
+    user_alike actors both at t e = record {
       fits = user_fits t e (both.logged.each seat (actor.User u) at);
       entries_same = refl;
       left = omega arith;

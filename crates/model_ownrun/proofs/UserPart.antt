@@ -42,13 +42,13 @@ user_keeps_part D p q code u (user_step.AdvanceClosed s) z =
     advance_keeps D p q Nothing code link_buffer.Closed u.advance s z
 user_keeps_part D p q code u _ z = z
 
-module _ (D : LogSide) (L : LogLaws D) (E : DataSide) (EL : DataLaws E) (c : Setup) (spare : ℕ) (m : SharedWords)
+module _ (D : LogSide) (L : LogLaws D) (E : DataSide) (EL : DataLaws E) (c : Setup) (m : SharedWords)
     (ls : ℕ → List Listed) (p : D.Part) (d : E.Part) (users : List OwnUser) (k : LogWork) (others : List Actor)
-    (runs : Runs D E c spare m ls p d (all_actors users k others)) (i : ℕ) (o : OwnUser)
+    (runs : Runs D E c m ls p d (all_actors users k others)) (i : ℕ) (o : OwnUser)
     (at : get_elem? users i ≡ some o) where
   -- what an Op leaves for which the log's work stays where it is
   abbrev pub Aside : SharedWords → (ℕ → List Listed) → D.Part → E.Part → OwnUser → Type 0
-  Aside m' ls' q e x = Runs D E c spare m' ls' q e (all_actors (set users i x) k others)
+  Aside m' ls' q e x = Runs D E c m' ls' q e (all_actors (set users i x) k others)
       × ErrandFits x.user x.errand
       × (has_work x.errand ≡ false)
 
@@ -63,7 +63,7 @@ module _ (D : LogSide) (L : LogLaws D) (E : DataSide) (EL : DataLaws E) (c : Set
   -- its check for a failure
   pub checks : o.user.checks ≡ true → ErrandFits o.user o.errand → Aside m ls p d (own_checked o m.failed)
   checks asks fits = (
-    user_checks D L E EL c spare m ls p d users k others runs i o at asks (own_checked o m.failed) refl,
+    user_checks D L E EL c m ls p d users k others runs i o at asks (own_checked o m.failed) refl,
     by (eqb m.failed 0) o.errand fits,
     none (eqb m.failed 0),
   )
@@ -117,12 +117,12 @@ module _ (D : LogSide) (L : LogLaws D) (E : DataSide) (EL : DataLaws E) (c : Set
               let ls' : ℕ → List Listed = lists_after m ls asked in
               let may : MayHelpAt stepped.step = out_at o heard_by is in
               let x : OwnUser = record { user = stepped; errand = errand_step.Done; helped = false } in
-              let r = user_goes_on D L E EL c spare m ls p d users k others runs i o at asks code q e served stored x
+              let r = user_goes_on D L E EL c m ls p d users k others runs i o at asks code q e served stored x
               refl in
-              let left = user_moves D E c spare m' ls' q e (set users i x) k others i x (set_at users i o x at)
+              let left = user_moves D E c m' ls' q e (set users i x) k others i x (set_at users i o x at)
               stepped.code false (loads_again stepped.step) (again_loads stepped.step may) errand_step.TakeDevice
               o.helped r in (
-                subst (λ (l : List OwnUser). Runs D E c spare m' ls' q e (all_actors l k others))
+                subst (λ (l : List OwnUser). Runs D E c m' ls' q e (all_actors l k others))
                     (set-set users i x set_out) left,
                 loads_may stepped.step may,
                 refl,
@@ -136,7 +136,7 @@ module _ (D : LogSide) (L : LogLaws D) (E : DataSide) (EL : DataLaws E) (c : Set
               loads_may user_step.AwaitMark z = tt
               loads_may _ z = absurd z
           by false is = (
-            user_goes_on D L E EL c spare m ls p d users k others runs i o at asks code q e served stored gone_on refl,
+            user_goes_on D L E EL c m ls p d users k others runs i o at asks code q e served stored gone_on refl,
             subst (λ (x : ErrandStep). ErrandFits stepped x) (sym off) tt,
             ap has_work off,
           )
@@ -144,7 +144,7 @@ module _ (D : LogSide) (L : LogLaws D) (E : DataSide) (EL : DataLaws E) (c : Set
     -- it finds the log part held
     pub finds_held : MayHelpAt o.user.step → Aside m ls p d (waiting o)
     finds_held may = (
-      user_moves D E c spare m ls p d users k others i o at o.user.code true (begins_again o.user.step)
+      user_moves D E c m ls p d users k others i o at o.user.code true (begins_again o.user.step)
           (again_begins o.user.step may) errand_step.Done false runs,
       tt,
       refl,
@@ -154,14 +154,14 @@ module _ (D : LogSide) (L : LogLaws D) (E : DataSide) (EL : DataLaws E) (c : Set
     with_device device = record m { device = device }
 
     abbrev Left : SharedWords → OwnUser × LogWork → Type 0
-    Left m' x = Leaves D L E EL c spare users others i o at m' ls p d x
+    Left m' x = Leaves D L E EL c users others i o at m' ls p d x
 
     -- it takes the log part, and the log's work with it, which nobody has in hand
     pub takes : MayHelpAt o.user.step → m.device ≡ 0 → (errand : ErrandStep) → ErrandFits o.user errand
         → WorkFits D p errand (taken_up k) → Left (with_device 1) (record o { errand = errand }, taken_up k)
     takes may free errand fits work = (
-      (let r = flusher_takes D E c spare m ls p d users k others runs.0 runs.1 runs.2 free in
-          goes_to D L E EL c spare users others i o at (with_device 1) ls p d (taken_up k) r may errand o.helped),
+      (let r = flusher_takes D E c m ls p d users k others runs.0 runs.1 runs.2 free in
+          goes_to D L E EL c users others i o at (with_device 1) ls p d (taken_up k) r may errand o.helped),
       fits,
       work,
     )
@@ -170,9 +170,9 @@ module _ (D : LogSide) (L : LogLaws D) (E : DataSide) (EL : DataLaws E) (c : Set
     pub gives_broken : MayHelpAt o.user.step → WorkFits D p errand_step.GiveBroken k
         → Left (with_device 0) (asks_again o, given_back k)
     gives_broken may work = (
-      (let r = flusher_gives D E c spare m ls p d users k others runs.0 runs.1 runs.2 work.step.1
+      (let r = flusher_gives D E c m ls p d users k others runs.0 runs.1 runs.2 work.step.1
           work.flusher_goes_on in
-          user_moves D E c spare (with_device 0) ls p d users (given_back k) others i o at o.user.code true o.user.step
+          user_moves D E c (with_device 0) ls p d users (given_back k) others i o at o.user.code true o.user.step
           (again_same o.user.step may) errand_step.TakeDevice o.helped r),
       may,
       record { writer_goes_on = work.writer_goes_on; flusher_goes_on = work.flusher_goes_on; step = (work.step.0, tt) },

@@ -50,24 +50,24 @@ none_looking : HoldsNoTail writer_step.LoadCheckpoint
 none_looking link_buffer.Written = refl
 none_looking link_buffer.Closed = refl
 
-module _ (D : LogSide) (L : LogLaws D) (E : DataSide) (EL : DataLaws E) (c : Setup) (spare : ℕ) (users : List OwnUser)
+module _ (D : LogSide) (L : LogLaws D) (E : DataSide) (EL : DataLaws E) (c : Setup) (users : List OwnUser)
     (others : List Actor) (i : ℕ) (o : OwnUser) (at : get_elem? users i ≡ some o) where
   -- what a step of the user's errand leaves
   abbrev pub Leaves : SharedWords → (ℕ → List Listed) → D.Part → E.Part → OwnUser × LogWork → Type 0
-  Leaves m ls p d x = Runs D E c spare m ls p d (all_actors (set users i x.0) x.1 others)
+  Leaves m ls p d x = Runs D E c m ls p d (all_actors (set users i x.0) x.1 others)
       × ErrandFits x.0.user x.0.errand
       × WorkFits D p x.0.errand x.1
 
   -- the store with the log's work so
   abbrev With : SharedWords → (ℕ → List Listed) → D.Part → E.Part → LogWork → Type 0
-  With m ls p d k = Runs D E c spare m ls p d (all_actors users k others)
+  With m ls p d k = Runs D E c m ls p d (all_actors users k others)
 
   -- the user is as it was but for its errand
   pub goes_to : (m : SharedWords) (ls : ℕ → List Listed) (p : D.Part) (d : E.Part) (k : LogWork) → With m ls p d k
       → MayHelpAt o.user.step → (errand : ErrandStep) (helped : Bool)
-      → Runs D E c spare m ls p d
+      → Runs D E c m ls p d
       (all_actors (set users i (record { user = o.user; errand = errand; helped = helped })) k others)
-  goes_to m ls p d k runs may errand helped = user_moves D E c spare m ls p d users k others i o at o.user.code
+  goes_to m ls p d k runs may errand helped = user_moves D E c m ls p d users k others i o at o.user.code
       o.user.checks o.user.step (again_same o.user.step may) errand helped runs
 
   module _ (may : MayHelpAt o.user.step) (asks : o.user.checks ≡ false) where
@@ -90,12 +90,12 @@ module _ (D : LogSide) (L : LogLaws D) (E : DataSide) (EL : DataLaws E) (c : Set
                 record k.flusher { step = flusher_step.LoadWrite };
           })
       writes is quiet has still sound =
-          let one : m.device ≡ 1 = flusher_has D E c spare m ls p d users k others runs.0 runs.1 runs.2 has in
+          let one : m.device ≡ 1 = flusher_has D E c m ls p d users k others runs.0 runs.1 runs.2 has in
           let free : SharedWords = record m { device = 0 } in
           let k1 : LogWork = given_back k in
-          let r1 = flusher_gives D E c spare m ls p d users k others runs.0 runs.1 runs.2 has still in
+          let r1 = flusher_gives D E c m ls p d users k others runs.0 runs.1 runs.2 has still in
           let k2 : LogWork = record k1 { writer = record k.writer { checks = false; step = writer_step.WriteTo } } in
-          let r2 = writer_takes D E c spare free ls p d users k1 others r1.0 r1.1 r1.2 refl is sound in
+          let r2 = writer_takes D E c free ls p d users k1 others r1.0 r1.1 r1.2 refl is sound in
           let r3 : With m ls p d k2 = subst (λ (x : SharedWords). With x ls p d k2) (device_is m 1 one) r2 in
           let work : Bool
           → LogWork = λ b. record k1 { writer = record k.writer { checks = b; step = writer_step.WriteTo } } in
@@ -121,7 +121,7 @@ module _ (D : LogSide) (L : LogLaws D) (E : DataSide) (EL : DataLaws E) (c : Set
         where
           on : With m ls p d (record k { flusher = flusher_then syncs })
           on = let up = fits_now.write in
-              flusher_goes_on D E c spare m ls p d users k others runs.0 runs.1 runs.2 (flushes_at o.user o.user.step)
+              flusher_goes_on D E c m ls p d users k others runs.0 runs.1 runs.2 (flushes_at o.user o.user.step)
               k.writer.write is (omega arith) sound
 
           goes : (b : Bool) → (flusher_then b).checks ≡ false
@@ -139,7 +139,7 @@ module _ (D : LogSide) (L : LogLaws D) (E : DataSide) (EL : DataLaws E) (c : Set
           → Stands m ls p d k runs (rested_writer k.writer) (writer_step.Advance advance_step.LoadTail)
           → k.flusher.step ≡ flusher_step.GiveDevice → D.failed p ≡ false → Leaves m ls p d (written o k k.writer)
       would_wait no_tail free stands has sound =
-          let rests = writer_rests D E c spare m ls p d users k others runs.0 runs.1 runs.2 no_tail free stands in
+          let rests = writer_rests D E c m ls p d users k others runs.0 runs.1 runs.2 no_tail free stands in
           to_flush m ls p d (record k { writer = rested_writer k.writer }) rests refl refl has sound
 
       -- it finds nothing new
@@ -155,13 +155,13 @@ module _ (D : LogSide) (L : LogLaws D) (E : DataSide) (EL : DataLaws E) (c : Set
           → D.failed p ≡ false
           → Leaves m ls p d (written o k k.writer)
       has_written is has sound =
-          let one : m.device ≡ 1 = writer_has D E c spare m ls p d users k others runs.0 runs.1 runs.2
+          let one : m.device ≡ 1 = writer_has D E c m ls p d users k others runs.0 runs.1 runs.2
           (ap writer_holds is) in
           let free : SharedWords = record m { device = 0 } in
           let k1 : LogWork = record k { writer = rested_writer k.writer } in
-          let r1 = writer_gives D E c spare m ls p d users k others runs.0 runs.1 runs.2 is in
+          let r1 = writer_gives D E c m ls p d users k others runs.0 runs.1 runs.2 is in
           let k2 : LogWork = taken_up k1 in
-          let r2 = flusher_takes D E c spare free ls p d users k1 others r1.0 r1.1 r1.2 refl in
+          let r2 = flusher_takes D E c free ls p d users k1 others r1.0 r1.1 r1.2 refl in
           let r3 : With m ls p d k2 = subst (λ (x : SharedWords). With x ls p d k2) (device_is m 1 one) r2 in
           to_flush m ls p d k2 r3 refl refl refl sound
 
@@ -172,7 +172,7 @@ module _ (D : LogSide) (L : LogLaws D) (E : DataSide) (EL : DataLaws E) (c : Set
       stays : (m' : SharedWords) (ls' : ℕ → List Listed) (k' : LogWork) → With m' ls' q e k' → k'.writer.checks ≡ false
           → k'.flusher.checks ≡ false → WritesAt D q k'.writer.step k'.flusher.step → Leaves m' ls' q e (o, k')
       stays m' ls' k' r quiet' still' at' = (
-        subst (λ (l : List OwnUser). Runs D E c spare m' ls' q e (all_actors l k' others))
+        subst (λ (l : List OwnUser). Runs D E c m' ls' q e (all_actors l k' others))
             (sym (set_again users i o at)) r,
         subst (λ (x : ErrandStep). ErrandFits o.user x) (sym on) (may, asks),
         subst (λ (x : ErrandStep). WorkFits D q x k') (sym on)
@@ -189,7 +189,7 @@ module _ (D : LogSide) (L : LogLaws D) (E : DataSide) (EL : DataLaws E) (c : Set
       next st = writer_took k.writer (told st) st
 
       abbrev After : WriterStep → WriterState → Type 0
-      After st s = RunsAfter D E c spare (asked st) m ls q e (all_actors users (record k { writer = s }) others)
+      After st s = RunsAfter D E c (asked st) m ls q e (all_actors users (record k { writer = s }) others)
 
       abbrev Left : WriterStep → OwnUser × LogWork → Type 0
       Left st x = Leaves (shared_left m (asked st)) (lists_after m ls (asked st)) q e x
@@ -206,7 +206,7 @@ module _ (D : LogSide) (L : LogLaws D) (E : DataSide) (EL : DataLaws E) (c : Set
       turned st is = subst
           (λ (t : WriterStep). LogServed D p lends (asked t) code q → DataServed E d lends (asked t) code e
           → After t (next t))
-          is (λ v w. writer_goes_on D L E EL c spare m ls p d users k others runs quiet code q e v w)
+          is (λ v w. writer_goes_on D L E EL c m ls p d users k others runs quiet code q e v w)
 
       fits : WriterFits D c m runs.0 p (writer_seat users) k.writer
       fits = fits_now m ls p d k runs
@@ -316,7 +316,7 @@ module _ (D : LogSide) (L : LogLaws D) (E : DataSide) (EL : DataLaws E) (c : Set
         where
           left : AfterWrite D c.blocks c.base runs.0.log (lsn runs.0.target) code p q
           left =
-              let can = can_write D L c spare m runs.0 p (all_actors users k others) (writer_seat users) k.writer
+              let can = can_write D L c m runs.0 p (all_actors users k others) (writer_seat users) k.writer
               runs.2.logged (writer_there users k others) (stands writer_step.WriteTo is) in
               let wrote = subst (λ (t : ℕ). D.Wrote t k.writer.kept k.writer.firsts code p q) fits.tail served in
               L.writes c.blocks c.base runs.0.log runs.0.write runs.0.target code k.writer.kept k.writer.firsts p q
@@ -335,7 +335,7 @@ module _ (D : LogSide) (L : LogLaws D) (E : DataSide) (EL : DataLaws E) (c : Set
       write_by writer_step.GiveFailed is w served stored =
           let s : WriterState = next writer_step.GiveFailed in
           let k1 : LogWork = record k { writer = s } in (
-            user_fails D L E EL c spare (record m { device = 0 }) ls q e users k1 others
+            user_fails D L E EL c (record m { device = 0 }) ls q e users k1 others
                 (turned writer_step.GiveFailed is served stored) i o at may (stands writer_step.GiveFailed is) s.code,
             tt,
             record {

@@ -90,9 +90,9 @@ pub record Alone (c : Setup) (m : SharedWords) (o : OwnUser) (k : LogWork) : Typ
   pub helped : o.helped ≡ true → HasHelped m o.user o.user.step × (o.user.checks ≡ false)
 
 -- A running store of one such user, with the log alone.
-pub record AloneRunning (D : LogSide) (E : DataSide) (c : Setup) (spare : ℕ) (s : OwnCore D E) : Type 0 where
+pub record AloneRunning (D : LogSide) (E : DataSide) (c : Setup) (s : OwnCore D E) : Type 0 where
   pub log_only : c.log_only ≡ true
-  pub own : OwnRunning D E c spare s
+  pub own : OwnRunning D E c s
   pub who : OwnUser
   pub users : s.users ≡ who ∷ []
   pub others : ◌≡◌ {A = List Actor} s.others []

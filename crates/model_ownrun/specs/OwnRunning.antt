@@ -80,6 +80,6 @@ module _ (D : LogSide) (p : D.Part) where
 
 -- A RUNNING STORE WHOSE USERS WRITE FOR THEMSELVES. With the states of writer and flusher, in DEVICE's slot or in the
 -- hand of the user that has DEVICE, it is a running store; one user at most has them in hand.
-pub record OwnRunning (D : LogSide) (E : DataSide) (c : Setup) (spare : ℕ) (s : OwnCore D E) : Type 0 where
-  pub running : IsRunning D E c spare (with_writer s)
+pub record OwnRunning (D : LogSide) (E : DataSide) (c : Setup) (s : OwnCore D E) : Type 0 where
+  pub running : IsRunning D E c (with_writer s)
   pub errands : Errands D s.log_part s.users s.work

@@ -15,7 +15,7 @@ use Rattle.model_own.specs.OwnWrites.{OwnUser}
 use Rattle.model_own.specs.declared.errand.ErrandStep.TheVariants as errand_step
 use Rattle.model_running.specs.StartStore.{StartStore}
 
-pub record OwnStart (D : LogSide) (E : DataSide) (c : Setup) (spare : ℕ) (s : OwnCore D E) : Type 0 where
+pub record OwnStart (D : LogSide) (E : DataSide) (c : Setup) (s : OwnCore D E) : Type 0 where
   pub shared : SharedWords
   pub flat_is : s.words ≡ flat shared
   pub lists_are : s.lists ≡ (λ _. [])
@@ -26,4 +26,4 @@ pub record OwnStart (D : LogSide) (E : DataSide) (c : Setup) (spare : ℕ) (s : 
   pub work : s.work ≡ record { writer = writer_start c; flusher = flusher_start c }
   pub users : (seat : ℕ) (o : OwnUser) → get_elem? s.users seat ≡ some o
       → (o.errand ≡ errand_step.Done) × (o.helped ≡ false)
-  pub room : lsn (c.base + sum_over_actors left_to_reserve (all_actors s.users s.work s.others) + spare) < LSN_LIMIT
+  pub room : lsn (c.base + sum_over_actors left_to_reserve (all_actors s.users s.work s.others)) < LSN_LIMIT

@@ -343,7 +343,6 @@ module _ (E : DataSide) (c : Setup) (seat_of : ℕ → ℕ) (m m' : SharedWords)
     page_others ca po (actor.Cleaner v) own_seat o = cleaner_later v (ca (λ z. ne (o.alone ∙ sym z))) o
     page_others ca po (actor.Checkpointer t) own_seat o = checkpointer_later t (po (λ z. ne (o.alone ∙ sym z))) o
     page_others ca po (actor.Reader r) own_seat o = tt
-    page_others ca po (actor.Joined es) own_seat o = tt
 
 -- no page's words and no list change, and the history doesn't
 pub pages_same : {E : DataSide} {c : Setup} {seat_of : ℕ → ℕ} {m m' : SharedWords} {log : List Entry} {h : PageGhost} {given : ℕ} {kept_page : ℕ → KeptPage} {unfinished : List BatchPage} {ls : ℕ → List Listed} {d d' : E.Part} {seat : ℕ}

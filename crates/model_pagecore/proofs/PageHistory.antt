@@ -1,6 +1,6 @@
 -- Facts on one page in the history, and on flush lists, that know nothing of actors.
-use Rattle.std.proofs.Common.{Bool, List, [], ap, arith, cond, eq-eqb, eqb, eqb-true, false, get_or, inl, inr, leb-false, leb-true, length, ne_eqb, refl, subst, suc, sym, take, true, zero, ℕ, ◌++◌, ◌+◌, ◌<◌, ◌∙◌, ◌∷◌, ◌≡◌, ◌≢◌, ◌≤◌, ◌⊎◌}
-use Rattle.std.specs.Prelude.{nat_le, slice_set}
+use Rattle.std.proofs.Common.{Bool, List, [], ap, arith, cond, eq-eqb, eqb, eqb-true, false, inl, inr, leb-false, leb-true, length, ne_eqb, refl, subst, suc, sym, take, true, zero, ℕ, ◌++◌, ◌+◌, ◌<◌, ◌∙◌, ◌∷◌, ◌≡◌, ◌≢◌, ◌≤◌, ◌⊎◌}
+use Rattle.std.specs.Prelude.{nat_le}
 use lib.ListN.{get_elem?}
 use native.Mathlib.Decide.{dec_le, ℕ_discrete}
 use Rattle.model_core.proofs.Groups.{some_same, tiles_at, tiles_le}
@@ -21,15 +21,6 @@ none_on p (c ∷ cs) e = at (eqb c.page p) e (λ z. none_on p cs z)
 
 pub puts_none : (p : ℕ) (cs : List PageChange) (b : List ℕ) → is_changed_page p cs ≡ false → write_cells (cells_on p cs) b ≡ b
 puts_none p cs b e = ap (λ (xs : List CellWrite). write_cells xs b) (none_on p cs e)
-
-pub puts_snoc : (xs : List CellWrite) (x : CellWrite) (b : List ℕ) → write_cells (xs ++ x ∷ []) b ≡ slice_set (write_cells xs b) x.at x.value
-puts_snoc [] x b = refl
-puts_snoc (y ∷ ys) x b = puts_snoc ys x (slice_set b y.at y.value)
-
-pub take_next : (xs : List CellWrite) (j : ℕ) (d : CellWrite) → j < length xs → take (j + 1) xs ≡ take j xs ++ get_or xs j d ∷ []
-take_next [] j d h = absurd (omega arith)
-take_next (x ∷ xs) zero d h = refl
-take_next (x ∷ xs) (suc j) d h = let e : suc j + 1 ≡ suc (j + 1) = omega arith in ap (λ (k : ℕ). take k (x ∷ xs)) e ∙ ap (λ z. x ∷ z) (take_next xs j d (omega arith))
 
 pub take_all : (xs : List CellWrite) → take (length xs) xs ≡ xs
 take_all [] = refl

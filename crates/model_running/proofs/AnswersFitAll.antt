@@ -36,9 +36,9 @@ use Rattle.model_core.specs.declared.steps.AdvanceStep.{AdvanceStep}
 use Rattle.model_core.specs.declared.limits.TheConstants.{CLOSED_LINKS}
 use Rattle.model_core.specs.Actors as actor
 
-module _ (D : LogSide) (E : DataSide) (c : Setup) (spare : ℕ) (m : SharedWords) (g : LogGhost) (h : PageGhost) (ls : ℕ → List Listed) (p : D.Part) (d : E.Part) (actors : List Actor) (seat : ℕ) (both : BothHalves D E c spare m g h ls p d actors) (bytes : HasBytes c) (codes : HaveSmallCodes D E) (broken : Bool) (code mark : ℕ) where
+module _ (D : LogSide) (E : DataSide) (c : Setup) (m : SharedWords) (g : LogGhost) (h : PageGhost) (ls : ℕ → List Listed) (p : D.Part) (d : E.Part) (actors : List Actor) (seat : ℕ) (both : BothHalves D E c m g h ls p d actors) (bytes : HasBytes c) (codes : HaveSmallCodes D E) (broken : Bool) (code mark : ℕ) where
   small_top : lsn m.sn < LSN_LIMIT
-  small_top = small_sn D c spare m g p actors seat both.logged
+  small_top = small_sn D c m g p actors seat both.logged
 
   advance_can : (v : Advance) (s : AdvanceStep) → ClosingAt E c m g.log h ls d seat v s → advance_fits v (old_of (shared_answer ls broken code mark m (advance_op link_buffer.Closed v s))) s
   advance_can v advance_step.LoadTail o = let C = both.paged.paged.closed_links in let order = C.order in let bound = C.bound in let top = small_top in let is = tail_in m.ctail m.cheld in omega arith
@@ -77,7 +77,6 @@ module _ (D : LogSide) (E : DataSide) (c : Setup) (spare : ℕ) (m : SharedWords
   pages_can (actor.Closer t) at = let f : CloserFits E c m g.log h ls d seat t = both.paged.each seat (actor.Closer t) at in checking_fits t.checks (closer_op t t.step) (λ n. closer_fits t n t.step) (closer_can t t.step f.step)
   pages_can (actor.Cleaner v) at = let f : CleanerFits E c m g.log h ls d seat v = both.paged.each seat (actor.Cleaner v) at in checking_fits v.checks (cleaner_op v v.step) (λ n. cleaner_fits n v.step) (cleaner_can v v.step f.step)
   pages_can (actor.Checkpointer t) at = checking_fits t.checks (checkpointer_op t t.step) (λ n. Unit {0}) tt
-  pages_can (actor.Joined es) at = tt
 
   small_code : m.failed < 2 ^ 32
   small_code = elim (dec_le 1 m.failed) [
@@ -91,7 +90,7 @@ module _ (D : LogSide) (E : DataSide) (c : Setup) (spare : ℕ) (m : SharedWords
 
   pub answer_fits : (a : Actor) → get_elem? actors seat ≡ some a → AnswerFits a (shared_answer ls broken code mark m (next a))
   answer_fits a at = record {
-    log = can_take D c spare m g p actors seat both.logged a at ls broken code mark;
+    log = can_take D c m g p actors seat both.logged a at ls broken code mark;
     pages = pages_can a at;
     code = code_by (is_checking a) (own_op a);
   }

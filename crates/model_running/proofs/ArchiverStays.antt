@@ -57,9 +57,9 @@ module _ (c : Setup) (m m' : SharedWords) (log log' : List Entry) (flushed : m.f
     step = at_later r r.step A.step;
   }
 
-module _ (D : LogSide) (E : DataSide) (c : Setup) (spare : ℕ) (m : SharedWords) (g : LogGhost) (h : PageGhost)
+module _ (D : LogSide) (E : DataSide) (c : Setup) (m : SharedWords) (g : LogGhost) (h : PageGhost)
     (ls : ℕ → List Listed) (p : D.Part) (d : E.Part) (actors : List Actor) (seat : ℕ)
-    (both : BothHalves D E c spare m g h ls p d actors) (code : ℕ) (q : D.Part) where
+    (both : BothHalves D E c m g h ls p d actors) (code : ℕ) (q : D.Part) where
   -- no Op takes FLUSHED back
   pub rises : (a : Actor) → get_elem? actors seat ≡ some a → m.flushed ≤ (shared_left m (next a)).flushed
   rises (actor.User u) at =
@@ -79,7 +79,6 @@ module _ (D : LogSide) (E : DataSide) (c : Setup) (spare : ℕ) (m : SharedWords
       let own : Op = own_op (actor.Checkpointer s) in
       let z = left_reads m (next (actor.Checkpointer s)) (asks s.checks own (checkpointer_leaves s s.step)) in
       let y = z.1 in omega arith
-  rises (actor.Joined es) at = omega arith
   rises (actor.Reader r) at = by r.checks r.step
     where
       by : (b : Bool) (st : ReaderStep)
@@ -226,7 +225,6 @@ module _ (D : LogSide) (E : DataSide) (c : Setup) (spare : ℕ) (m : SharedWords
   left (actor.Cleaner s) at r same kind = absurd (stays_other (actor.Cleaner s) (said_to (actor.Cleaner s)) tt r same)
   left (actor.Checkpointer s) at r same kind =
       absurd (stays_other (actor.Checkpointer s) (said_to (actor.Checkpointer s)) tt r same)
-  left (actor.Joined es) at r same kind = absurd (stays_other (actor.Joined es) (said_to (actor.Joined es)) tt r same)
 
   -- EACH TURN keeps what the archiver has
   pub archiver_kept : (a : Actor) → get_elem? actors seat ≡ some a → (j : ℕ) (r : ReaderState)

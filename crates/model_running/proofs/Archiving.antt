@@ -8,7 +8,7 @@ use Rattle.model_core.proofs.Later.{took_later}
 use Rattle.model_core.proofs.Lists.{set_at, set_else}
 use Rattle.model_core.specs.{Actor, after_of, archives, checkpointer_op, CheckpointerState, cleaner_op, CleanerState}
 use Rattle.model_core.specs.{closer_op, CloserState, flusher_op, FlusherState, followed, has_all, HasLost}
-use Rattle.model_core.specs.{IsArchiveCode, IsLosing, LostAt, next, old_of, OwnServed, reader_op, reader_program}
+use Rattle.model_core.specs.{IsArchiveCode, IsLosing, LostAt, next, old_of, OwnServed, reader_program}
 use Rattle.model_core.specs.{reader_took, ReaderState, to_append, took, user_op, UserState, writer_op, WriterState}
 use Rattle.model_core.specs.Setup.{Setup}
 use Rattle.model_core.specs.declared.ops.Answer.{Answer}
@@ -128,11 +128,6 @@ checkpointer_appends : (t : CheckpointerState) (f : CheckpointerStep) → IsNoAp
 checkpointer_appends t checkpointer_step.LoadCtail = tt
 checkpointer_appends t _ = tt
 
-reader_appends : (r : ReaderState) (f : ReaderStep) → (f ≡ reader_step.Append → ⊥) → IsNoAppend (reader_op r f)
-reader_appends r reader_step.Append other = absurd (other refl)
-reader_appends r reader_step.LoadFlushed other = tt
-reader_appends r _ other = tt
-
 checking_appends : (b : Bool) (o : Op) → IsNoAppend o → IsNoAppend (cond b (op.Load word.Failed) o)
 checking_appends true o none = tt
 checking_appends false o none = none
@@ -147,30 +142,6 @@ others_append_not (actor.Cleaner v) other = checking_appends v.checks (cleaner_o
 others_append_not (actor.Checkpointer t) other =
     checking_appends t.checks (checkpointer_op t t.step) (checkpointer_appends t t.step)
 others_append_not (actor.Reader r) other = absurd other
-others_append_not (actor.Joined es) other = tt
-
-pub followers_append_not : (c : Setup) (r : ReaderState) → ReadsInRun c r → 0 < c.first_reader
-    → IsNoAppend (next (actor.Reader r))
-followers_append_not c r I followers =
-    checking_appends r.checks (reader_op r r.step) (reader_appends r r.step appends_not)
-  where
-    appends_not : r.step ≡ reader_step.Append → ⊥
-    appends_not is =
-        let k : LostAt r reader_step.Append = subst (LostAt r) is I.lost in
-        let first = I.first in
-        let same = eqb-true r.number 0 k.0 in
-        omega arith
-
--- so in a run without an archiver none does
-pub none_appends : (c : Setup) (a : Actor) → StaysInRun c a → 0 < c.first_reader → IsNoAppend (next a)
-none_appends c (actor.Reader r) I followers = followers_append_not c r I followers
-none_appends c (actor.User u) I followers = others_append_not (actor.User u) tt
-none_appends c (actor.Writer s) I followers = others_append_not (actor.Writer s) tt
-none_appends c (actor.Flusher t) I followers = others_append_not (actor.Flusher t) tt
-none_appends c (actor.Closer t) I followers = others_append_not (actor.Closer t) tt
-none_appends c (actor.Cleaner v) I followers = others_append_not (actor.Cleaner v) tt
-none_appends c (actor.Checkpointer t) I followers = others_append_not (actor.Checkpointer t) tt
-none_appends c (actor.Joined es) I followers = tt
 
 -- no other actor becomes a reader
 pub stays_other : (a : Actor) (y : Answer) → IsNoReader a → (r : ReaderState) → took a y ≡ actor.Reader r → ⊥
@@ -182,7 +153,6 @@ stays_other (actor.Closer s) y other r same = subst IsNoReader (sym (took_later 
 stays_other (actor.Cleaner s) y other r same = subst IsNoReader (sym (took_later (actor.Cleaner s) y).1 ∙ same) tt
 stays_other (actor.Checkpointer s) y other r same =
     subst IsNoReader (sym (took_later (actor.Checkpointer s) y).1 ∙ same) tt
-stays_other (actor.Joined es) y other r same = subst IsNoReader (sym (took_later (actor.Joined es) y).1 ∙ same) tt
 
 -- a reader's number stays
 pub number_stays : (r : ReaderState) (a : Answer) → (after_of reader_program r a).number ≡ r.number

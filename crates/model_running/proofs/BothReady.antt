@@ -37,14 +37,14 @@ use Rattle.model_core.specs.declared.steps.CheckpointerStep.TheVariants as check
 use Rattle.model_core.specs.declared.steps.AdvanceStep.TheVariants as advance_step
 use Rattle.model_core.specs.Actors as actor
 
-module _ (D : LogSide) (L : LogLaws D) (E : DataSide) (EL : DataLaws E) (c : Setup) (spare : ℕ) (m : SharedWords) (g : LogGhost) (h : PageGhost) (ls : ℕ → List Listed) (p : D.Part) (d : E.Part) (actors : List Actor) (seat : ℕ) (both : BothHalves D E c spare m g h ls p d actors) where
+module _ (D : LogSide) (L : LogLaws D) (E : DataSide) (EL : DataLaws E) (c : Setup) (m : SharedWords) (g : LogGhost) (h : PageGhost) (ls : ℕ → List Listed) (p : D.Part) (d : E.Part) (actors : List Actor) (seat : ℕ) (both : BothHalves D E c m g h ls p d actors) where
   pub log_ready : (a : Actor) → get_elem? actors seat ≡ some a → Ready D c g p a (next a)
-  log_ready a at = ready D L c spare m g p actors seat both.logged a at (λ t is step. can_checkpoint D L E EL c spare m g h ls p d actors seat both t (at ∙ ap some is) step)
+  log_ready a at = ready D L c m g p actors seat both.logged a at (λ t is step. can_checkpoint D L E EL c m g h ls p d actors seat both t (at ∙ ap some is) step)
 
   cleaner_ready : (v : CleanerState) → get_elem? actors seat ≡ some (actor.Cleaner v) → (f : CleanerStep) → v.step ≡ f → BatchReady E c h.kept_page (Batch v.batch) d (cleaner_op v f)
   cleaner_ready v at cleaner_step.WriteBatch is = (
-    all_written D L E EL c spare m g h ls p d actors seat both v at is,
-    can_write_batch D L E EL c spare m g h ls p d actors seat both v at is,
+    all_written D L E EL c m g h ls p d actors seat both v at is,
+    can_write_batch D L E EL c m g h ls p d actors seat both v at is,
   )
   cleaner_ready v at _ is = tt
 
@@ -85,4 +85,3 @@ module _ (D : LogSide) (L : LogLaws D) (E : DataSide) (EL : DataLaws E) (c : Set
   data_ready (actor.Closer t) at = checking Nothing t.checks (closer_op t t.step) (closer_data Nothing t t.step)
   data_ready (actor.Cleaner v) at = checking (Batch v.batch) v.checks (cleaner_op v v.step) (cleaner_ready v at v.step refl)
   data_ready (actor.Checkpointer t) at = checking Nothing t.checks (checkpointer_op t t.step) (checkpointer_data Nothing t t.step)
-  data_ready (actor.Joined es) at = tt

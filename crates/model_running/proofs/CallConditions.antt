@@ -25,8 +25,8 @@ use Rattle.model_core.specs.Actors as actor
 use Rattle.model_logcore.specs.LogFits as marks
 use Rattle.model_logcore.specs.LogLaws as sights
 
-module _ (D : LogSide) (L : LogLaws D) (E : DataSide) (EL : DataLaws E) (c : Setup) (spare : ℕ) (m : SharedWords) (g : LogGhost) (h : PageGhost) (ls : ℕ → List Listed) (p : D.Part) (d : E.Part) (actors : List Actor) (seat : ℕ) (both : BothHalves D E c spare m g h ls p d actors) where
-  M : LogHalf D c spare m g p actors
+module _ (D : LogSide) (L : LogLaws D) (E : DataSide) (EL : DataLaws E) (c : Setup) (m : SharedWords) (g : LogGhost) (h : PageGhost) (ls : ℕ → List Listed) (p : D.Part) (d : E.Part) (actors : List Actor) (seat : ℕ) (both : BothHalves D E c m g h ls p d actors) where
+  M : LogHalf D c m g p actors
   M = both.logged
 
   B : PageHalf E c m g.log (D.stable p) h ls d actors
@@ -62,7 +62,7 @@ module _ (D : LogSide) (L : LogLaws D) (E : DataSide) (EL : DataLaws E) (c : Set
       record { sound = n.1; even = o.0.3; more = omega arith; below = r.0; ends = r.1 }
 
   small_flushed : m.flushed < LSN_LIMIT
-  small_flushed = let top = small_sn D c spare m g p actors seat M in let low = B.paged.flushed in let high = B.paged.stable_top in omega arith
+  small_flushed = let top = small_sn D c m g p actors seat M in let low = B.paged.flushed in let high = B.paged.stable_top in omega arith
 
   -- nothing is unfinished where the cleaner writes its batch, and that may be written
   pub all_written : (x : CleanerState) → get_elem? actors seat ≡ some (actor.Cleaner x) → x.step ≡ cleaner_step.WriteBatch → E.Holds h.kept_page [] d

@@ -40,7 +40,7 @@ use Rattle.model_core.specs.declared.ops.Op.{Op}
 use Rattle.model_core.specs.declared.words.Word.{Word}
 use Rattle.model_running.proofs.CallConditions.{after_batch, can_checkpoint}
 
-module _ (D : LogSide) (L : LogLaws D) (E : DataSide) (EL : DataLaws E) (c : Setup) (spare : ℕ) (m : SharedWords) (g : LogGhost) (h : PageGhost) (ls : ℕ → List Listed) (p : D.Part) (d : E.Part) (actors : List Actor) (seat : ℕ) (both : BothHalves D E c spare m g h ls p d actors) (code : ℕ) (q : D.Part) (e : E.Part)
+module _ (D : LogSide) (L : LogLaws D) (E : DataSide) (EL : DataLaws E) (c : Setup) (m : SharedWords) (g : LogGhost) (h : PageGhost) (ls : ℕ → List Listed) (p : D.Part) (d : E.Part) (actors : List Actor) (seat : ℕ) (both : BothHalves D E c m g h ls p d actors) (code : ℕ) (q : D.Part) (e : E.Part)
     (now : List Actor) (lost : (x : ℕ) → HasLost actors x → HasLost now x) where
   -- `now` are the actors then
   abbrev Caused : ℕ → Type 0
@@ -111,7 +111,7 @@ module _ (D : LogSide) (L : LogLaws D) (E : DataSide) (EL : DataLaws E) (c : Set
   writer_caused s at (writer_step.Advance advance_step.LoadTail) k w v = quiet (writer_op s (writer_step.Advance advance_step.LoadTail)) tt w v
   writer_caused s at writer_step.WriteTo k w v =
       let S : marks.WriterFits D c m g p seat s = both.logged.each seat (actor.Writer s) at in
-      let A = L.writes c.blocks c.base g.log g.write g.target code s.kept s.firsts p q both.logged.global.part.holds (can_write D L c spare m g p actors seat s both.logged at k) (subst (λ (t : ℕ). D.Wrote t s.kept s.firsts code p q) S.tail w) in
+      let A = L.writes c.blocks c.base g.log g.write g.target code s.kept s.firsts p q both.logged.global.part.holds (can_write D L c m g p actors seat s both.logged at k) (subst (λ (t : ℕ). D.Wrote t s.kept s.firsts code p q) S.tail w) in
       log_called (writer_op s writer_step.WriteTo) tt A.causes v
   writer_caused s at writer_step.StoreFailed k w v = λ _. inl (subst (λ (y : D.Part). D.Cause y s.code) (sym w) k.1)
   writer_caused s at f k w v = quiet (writer_op s f) tt w v
@@ -132,14 +132,14 @@ module _ (D : LogSide) (L : LogLaws D) (E : DataSide) (EL : DataLaws E) (c : Set
   closer_caused t f w v = quiet (closer_op t f) tt w v
 
   cleaner_caused : (x : CleanerState) → get_elem? actors seat ≡ some (actor.Cleaner x) → (f : CleanerStep) → x.step ≡ f → LogServed D p (Batch x.batch) (cleaner_op x f) code q → DataServed E d (Batch x.batch) (cleaner_op x f) code e → CausedBy (cleaner_op x f)
-  cleaner_caused x at cleaner_step.WriteBatch is w v = data_called (cleaner_op x cleaner_step.WriteBatch) tt w (after_batch D L E EL c spare m g h ls p d actors seat both x at is code e v).causes
+  cleaner_caused x at cleaner_step.WriteBatch is w v = data_called (cleaner_op x cleaner_step.WriteBatch) tt w (after_batch D L E EL c m g h ls p d actors seat both x at is code e v).causes
   cleaner_caused x at cleaner_step.StoreFailed is w v =
       let X : CleanerFits E c m g.log h ls d seat x = both.paged.each seat (actor.Cleaner x) at in
       λ _. inr (inl (subst (λ (y : E.Part). E.Cause y x.code) (sym v) (X.cause is)))
   cleaner_caused x at f is w v = quiet (cleaner_op x f) tt w v
 
   checkpointer_caused : (t : CheckpointerState) → get_elem? actors seat ≡ some (actor.Checkpointer t) → (f : CheckpointerStep) → t.step ≡ f → marks.CheckpointerAt D c m g p t f → LogServed D p Nothing (checkpointer_op t f) code q → DataServed E d Nothing (checkpointer_op t f) code e → CausedBy (checkpointer_op t f)
-  checkpointer_caused t at checkpointer_step.Checkpoint is k w v = log_called (checkpointer_op t checkpointer_step.Checkpoint) tt (L.checkpoints c.blocks c.base g.log t.to code p q both.logged.global.part.holds (can_checkpoint D L E EL c spare m g h ls p d actors seat both t at is) w).causes v
+  checkpointer_caused t at checkpointer_step.Checkpoint is k w v = log_called (checkpointer_op t checkpointer_step.Checkpoint) tt (L.checkpoints c.blocks c.base g.log t.to code p q both.logged.global.part.holds (can_checkpoint D L E EL c m g h ls p d actors seat both t at is) w).causes v
   checkpointer_caused t at checkpointer_step.StoreFailed is k w v = λ _. inl (subst (λ (y : D.Part). D.Cause y t.code) (sym w) k.1)
   checkpointer_caused t at f is k w v = quiet (checkpointer_op t f) tt w v
 
@@ -180,4 +180,3 @@ module _ (D : LogSide) (L : LogLaws D) (E : DataSide) (EL : DataLaws E) (c : Set
       by : (b : Bool) → LogServed D p Nothing (cond b (op.Load word.Failed) (checkpointer_op t t.step)) code q → DataServed E d Nothing (cond b (op.Load word.Failed) (checkpointer_op t t.step)) code e → CausedBy (cond b (op.Load word.Failed) (checkpointer_op t t.step))
       by true w v = quiet (op.Load word.Failed) tt w v
       by false w v = let N : marks.CheckpointerFits D c m g p seat t = both.logged.each seat (actor.Checkpointer t) at in checkpointer_caused t at t.step refl N.step w v
-  caused (actor.Joined es) at w v = quiet op.Rest tt w v

@@ -77,7 +77,7 @@ module _ (m : SharedWords) where
   checking true o same = refl
   checking false o same = same
 
-module _ (D : LogSide) (E : DataSide) (c : Setup) (spare : ℕ) (m : SharedWords) (g : LogGhost) (h : PageGhost) (ls : ℕ → List Listed) (p : D.Part) (d : E.Part) (actors : List Actor) (seat : ℕ) (both : BothHalves D E c spare m g h ls p d actors) (alone : c.log_only ≡ true) where
+module _ (D : LogSide) (E : DataSide) (c : Setup) (m : SharedWords) (g : LogGhost) (h : PageGhost) (ls : ℕ → List Listed) (p : D.Part) (d : E.Part) (actors : List Actor) (seat : ℕ) (both : BothHalves D E c m g h ls p d actors) (alone : c.log_only ≡ true) where
   same_after : (a : Actor) → get_elem? actors seat ≡ some a → Stays m (shared_left m (next a))
   same_after (actor.User u) at = checking m u.checks (user_op u u.step) (user_stays m u u.step)
   same_after (actor.Writer s) at = checking m s.checks (writer_op s s.step) (writer_stays m s s.step)
@@ -86,7 +86,6 @@ module _ (D : LogSide) (E : DataSide) (c : Setup) (spare : ℕ) (m : SharedWords
   same_after (actor.Closer t) at = checking m t.checks (closer_op t t.step) (closer_stays m t t.step)
   same_after (actor.Cleaner v) at = checking m v.checks (cleaner_op v v.step) (cleaner_stays m v v.step)
   same_after (actor.Checkpointer t) at = let F : CheckpointerPageFits E c m g.log h ls d seat t = both.paged.each seat (actor.Checkpointer t) at in let with_pages = F.with_pages in absurd (cc)
-  same_after (actor.Joined es) at = refl
 
   pub checkpoint_stays : (a : Actor) → get_elem? actors seat ≡ some a → (shared_left m (next a)).ckpt ≡ start_checkpoint c
   checkpoint_stays a at = same_after a at ∙ both.stays alone

@@ -24,7 +24,7 @@ use Rattle.model_core.specs.declared.ops.Op.TheVariants as op
 use Rattle.model_running.proofs.CallConditions.{can_checkpoint}
 use Rattle.model_running.proofs.PageTurn.{PageDone, as_is, away, laid_of, mates, pass, rested, unmoved}
 
-module _ (D : LogSide) (L : LogLaws D) (E : DataSide) (EL : DataLaws E) (c : Setup) (spare : ℕ) (m : SharedWords) (g : LogGhost) (h : PageGhost) (ls : ℕ → List Listed) (p : D.Part) (d : E.Part) (actors : List Actor) (seat : ℕ) (both : BothHalves D E c spare m g h ls p d actors) (code : ℕ) (q : D.Part) (e : E.Part) where
+module _ (D : LogSide) (L : LogLaws D) (E : DataSide) (EL : DataLaws E) (c : Setup) (m : SharedWords) (g : LogGhost) (h : PageGhost) (ls : ℕ → List Listed) (p : D.Part) (d : E.Part) (actors : List Actor) (seat : ℕ) (both : BothHalves D E c m g h ls p d actors) (code : ℕ) (q : D.Part) (e : E.Part) where
   abbrev Kept : SharedWords → List Entry → (ℕ → List Listed) → Actor → Type 0
   Kept m' l ls' b = PageDone D E c m h actors seat p d m' l ls' b
 
@@ -52,7 +52,7 @@ module _ (D : LogSide) (L : LogLaws D) (E : DataSide) (EL : DataLaws E) (c : Set
     seize_by true false is o = keeps_promise E c g.seat_of m g.log (D.stable p) h ls d actors seat both.paged (mates both) (laid_of both) t at is
     seize_by false k is o = moves m (record t { checks = true; step = checkpointer_step.TakeDevice }) (record { alone = PF.alone; with_pages = PF.with_pages; loaded = PF.loaded; given = λ _. PF.given (ap rests is); step = o }) refl refl refl refl refl refl refl
 
-    called_it : (b : Bool) → at_pages checkpointer_step.Checkpoint → (k : LogGhost) → LogHalf D c spare m k q (set actors seat (actor.Checkpointer (checkpointer_took t (cond b (answer.Called 0) (answer.Failed code)) checkpointer_step.Checkpoint))) → D.stable p ≤ D.stable q → ◌≡◌ {A = E.Part} e d
+    called_it : (b : Bool) → at_pages checkpointer_step.Checkpoint → (k : LogGhost) → LogHalf D c m k q (set actors seat (actor.Checkpointer (checkpointer_took t (cond b (answer.Called 0) (answer.Failed code)) checkpointer_step.Checkpoint))) → D.stable p ≤ D.stable q → ◌≡◌ {A = E.Part} e d
         → Done m g.log ls (actor.Checkpointer (checkpointer_took t (cond b (answer.Called 0) (answer.Failed code)) checkpointer_step.Checkpoint))
     called_it true o k after ge v = pass both seat m (actor.Checkpointer (record t { code = 0; step = checkpointer_step.StoreCheckpoint })) k after ge refl refl refl refl refl refl (omega arith) (record { alone = PF.alone; with_pages = PF.with_pages; loaded = PF.loaded; given = λ z. absurd (cc); step = o.1 }) v
     called_it false o k after ge v = pass both seat m (actor.Checkpointer (record t { code = code; step = checkpointer_step.StoreFailed })) k after ge refl refl refl refl refl refl (omega arith) (record { alone = PF.alone; with_pages = PF.with_pages; loaded = PF.loaded; given = λ z. absurd (cc); step = tt }) v
@@ -79,16 +79,16 @@ module _ (D : LogSide) (L : LogLaws D) (E : DataSide) (EL : DataLaws E) (c : Set
     checkpointer_hears false = moves m (record t { checks = false; code = m.failed; step = checkpointer_step.Failed }) (record { alone = PF.alone; with_pages = PF.with_pages; loaded = PF.loaded; given = λ z. absurd (cc); step = tt }) refl refl refl refl refl refl refl
 
   pub checkpointer_turn : (t : CheckpointerState) → get_elem? actors seat ≡ some (actor.Checkpointer t) → (b : Bool) → LogServed D p Nothing (cond b (op.Load word.Failed) (checkpointer_op t t.step)) code q → DataServed E d Nothing (cond b (op.Load word.Failed) (checkpointer_op t t.step)) code e
-      → (k : LogGhost) → LogHalf D c spare (shared_left m (cond b (op.Load word.Failed) (checkpointer_op t t.step))) k q (set actors seat (cond b (checked (actor.Checkpointer t) (old_of (shared_answer ls (D.failed p) code (D.stable q) m (cond b (op.Load word.Failed) (checkpointer_op t t.step))))) (own_took (actor.Checkpointer t) (shared_answer ls (D.failed p) code (D.stable q) m (cond b (op.Load word.Failed) (checkpointer_op t t.step))))))
+      → (k : LogGhost) → LogHalf D c (shared_left m (cond b (op.Load word.Failed) (checkpointer_op t t.step))) k q (set actors seat (cond b (checked (actor.Checkpointer t) (old_of (shared_answer ls (D.failed p) code (D.stable q) m (cond b (op.Load word.Failed) (checkpointer_op t t.step))))) (own_took (actor.Checkpointer t) (shared_answer ls (D.failed p) code (D.stable q) m (cond b (op.Load word.Failed) (checkpointer_op t t.step))))))
       → Done (shared_left m (cond b (op.Load word.Failed) (checkpointer_op t t.step))) g.log (lists_left ls (λ i. slice_index m.lists i) (cond b (op.Load word.Failed) (checkpointer_op t t.step)))
       (cond b (checked (actor.Checkpointer t) (old_of (shared_answer ls (D.failed p) code (D.stable q) m (cond b (op.Load word.Failed) (checkpointer_op t t.step))))) (own_took (actor.Checkpointer t) (shared_answer ls (D.failed p) code (D.stable q) m (cond b (op.Load word.Failed) (checkpointer_op t t.step)))))
   checkpointer_turn t at true w v k after = as_is D E c m h actors seat p q d e _ w v (checkpointer_hears t at (eqb m.failed 0))
   checkpointer_turn t at false w v k after = by t.step refl (PF t at).step w v k after
     where
       by : (f : CheckpointerStep) → t.step ≡ f → CheckpointerPagesAt E c m g.log h ls d seat t f → LogServed D p Nothing (checkpointer_op t f) code q → DataServed E d Nothing (checkpointer_op t f) code e → (k : LogGhost)
-          → LogHalf D c spare (shared_left m (checkpointer_op t f)) k q (set actors seat (actor.Checkpointer (checkpointer_took t (shared_answer ls (D.failed p) code (D.stable q) m (checkpointer_op t f)) f)))
+          → LogHalf D c (shared_left m (checkpointer_op t f)) k q (set actors seat (actor.Checkpointer (checkpointer_took t (shared_answer ls (D.failed p) code (D.stable q) m (checkpointer_op t f)) f)))
           → Done (shared_left m (checkpointer_op t f)) g.log (lists_left ls (λ i. slice_index m.lists i) (checkpointer_op t f)) (actor.Checkpointer (checkpointer_took t (shared_answer ls (D.failed p) code (D.stable q) m (checkpointer_op t f)) f))
-      by checkpointer_step.Checkpoint is o w v k after = called_it t at (eqb code 0) o k after (let r = (L.checkpoints c.blocks c.base g.log t.to code p q both.logged.global.part.holds (can_checkpoint D L E EL c spare m g h ls p d actors seat both t at is) w).stable in omega arith) v
+      by checkpointer_step.Checkpoint is o w v k after = called_it t at (eqb code 0) o k after (let r = (L.checkpoints c.blocks c.base g.log t.to code p q both.logged.global.part.holds (can_checkpoint D L E EL c m g h ls p d actors seat both t at is) w).stable in omega arith) v
       by checkpointer_step.LoadCtail is o w v k after = as_is D E c m h actors seat p q d e _ w v (checkpointer_page t at checkpointer_step.LoadCtail (λ z. absurd (cc)) is o)
       by checkpointer_step.LoadPlace is o w v k after = as_is D E c m h actors seat p q d e _ w v (checkpointer_page t at checkpointer_step.LoadPlace (λ z. absurd (cc)) is o)
       by checkpointer_step.ReadList is o w v k after = as_is D E c m h actors seat p q d e _ w v (checkpointer_page t at checkpointer_step.ReadList (λ z. absurd (cc)) is o)

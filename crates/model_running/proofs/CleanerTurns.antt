@@ -31,7 +31,7 @@ use Rattle.model_running.proofs.CallConditions.{after_batch}
 use Rattle.model_running.proofs.LatchesKeep.{held_by}
 use Rattle.model_running.proofs.PageTurn.{PageDone, as_is, away, laid_of, lists_kept, mates, rested, unmoved}
 
-module _ (D : LogSide) (L : LogLaws D) (E : DataSide) (EL : DataLaws E) (c : Setup) (spare : ℕ) (m : SharedWords) (g : LogGhost) (h : PageGhost) (ls : ℕ → List Listed) (p : D.Part) (d : E.Part) (actors : List Actor) (seat : ℕ) (both : BothHalves D E c spare m g h ls p d actors) (code : ℕ) (q : D.Part) (e : E.Part) where
+module _ (D : LogSide) (L : LogLaws D) (E : DataSide) (EL : DataLaws E) (c : Setup) (m : SharedWords) (g : LogGhost) (h : PageGhost) (ls : ℕ → List Listed) (p : D.Part) (d : E.Part) (actors : List Actor) (seat : ℕ) (both : BothHalves D E c m g h ls p d actors) (code : ℕ) (q : D.Part) (e : E.Part) where
   abbrev Done : SharedWords → List Entry → (ℕ → List Listed) → Actor → Type 0
   Done m' l ls' b = PageDone D E c m h actors seat q e m' l ls' b
 
@@ -48,7 +48,7 @@ module _ (D : LogSide) (L : LogLaws D) (E : DataSide) (EL : DataLaws E) (c : Set
     called_by b k is s v = by b k
       where
         A : AfterBatch E h.kept_page x.batch code d e
-        A = after_batch D L E EL c spare m g h ls p d actors seat both x at is code e v
+        A = after_batch D L E EL c m g h ls p d actors seat both x at is code e v
 
         holds_by : (b : Bool) → eqb code 0 ≡ b → E.Holds (cond b (renewed h.kept_page x.batch) h.kept_page) (cond b [] x.batch) e
         holds_by b k = subst (λ (z : Bool). E.Holds (cond z (renewed h.kept_page x.batch) h.kept_page) (cond z [] x.batch) e) k A.holds
@@ -70,7 +70,7 @@ module _ (D : LogSide) (L : LogLaws D) (E : DataSide) (EL : DataLaws E) (c : Set
 
     -- it has failed, and holds what it held
     dead_fits : (n : ℕ) (checks : Bool) → CleanerFits E c m g.log h ls d seat (record x { checks = checks; code = n; step = cleaner_step.Failed })
-    dead_fits n checks = record { alone = XF.alone; pages = XF.pages; page_size = XF.page_size; page = XF.page; flushed = XF.flushed; sound = λ z. absurd (cc); apart = XF.apart; few = XF.few; cause = λ z. absurd (cc); step = cleaner_still_holds E c m g.log h ls d seat x x.step (held_by D E c spare m g h ls p d actors seat both (actor.Cleaner x) at) XF.step }
+    dead_fits n checks = record { alone = XF.alone; pages = XF.pages; page_size = XF.page_size; page = XF.page; flushed = XF.flushed; sound = λ z. absurd (cc); apart = XF.apart; few = XF.few; cause = λ z. absurd (cc); step = cleaner_still_holds E c m g.log h ls d seat x x.step (held_by D E c m g h ls p d actors seat both (actor.Cleaner x) at) XF.step }
 
     -- so too once it has stored its code
     stored_fits : (n : ℕ) (checks : Bool) → CleanerFits E c (record m { failed = n }) g.log h ls d seat (record x { checks = checks; code = n; step = cleaner_step.Failed })

@@ -31,7 +31,7 @@ abbrev user_in : UserState → Actor → UserState
 user_in other (actor.User u) = u
 user_in other _ = other
 
-module _ (D : LogSide) (E : DataSide) (c : Setup) (spare : ℕ) (m : SharedWords) (g : LogGhost) (h : PageGhost) (ls : ℕ → List Listed) (p : D.Part) (d : E.Part) (actors : List Actor) (seat : ℕ) (both : BothHalves D E c spare m g h ls p d actors) (k : PageGhost) (grows : Grows m h k) where
+module _ (D : LogSide) (E : DataSide) (c : Setup) (m : SharedWords) (g : LogGhost) (h : PageGhost) (ls : ℕ → List Listed) (p : D.Part) (d : E.Part) (actors : List Actor) (seat : ℕ) (both : BothHalves D E c m g h ls p d actors) (k : PageGhost) (grows : Grows m h k) where
   -- the links of the recent-closed buffer after an Op
   abbrev LinksAfter : List Entry → SharedWords → Type 0
   LinksAfter log m' = ClosedLinks log k.closed m'.ctail m'.cheld k.tail (lsn m'.sn) m'.clinks

@@ -1,4 +1,4 @@
--- At any moment a running store's devices hold the run that it stands for; once all users have ended it is a closed one.
+-- At any moment a running store's devices hold the run that it stands for.
 use Rattle.std.proofs.Common.{List, arith, subst, sym, ℕ, ◌∙◌, ◌≡◌}
 use Rattle.model_base.specs.declared.shape.Shape.{Shape}
 use Rattle.model_core.specs.DataSide.{DataSide}
@@ -6,21 +6,14 @@ use Rattle.model_core.specs.LogSide.{LogSide}
 use Rattle.model_core.specs.{Core, lsn}
 use Rattle.model_core.specs.Setup.{Setup}
 use Rattle.model_device.specs.Disk.{Disk}
-use Rattle.model_running.proofs.FinishedPages.{finished_pages}
-use Rattle.model_running.proofs.FinishedStore.{finished_store, stands_for_run}
-use Rattle.model_running.specs.ClosedStore.{ClosedStore, DataTells, HeldStore, LogTells}
-use Rattle.model_running.specs.Finished.{CausesAreFailures, FinishedStore, StandsForRun}
+use Rattle.model_running.specs.ClosedStore.{DataTells, LogTells}
+use Rattle.model_running.specs.Finished.{StandsForRun}
 use Rattle.model_running.specs.FinishedPages.{FinishedPages}
-use Rattle.model_running.specs.OpenedPages.{HasItsPages}
-use Rattle.model_running.specs.Script.{IsOfScript}
-use Rattle.model_report.specs.{IsLeft, wholes_of}
+use Rattle.model_report.specs.{wholes_of}
 use Rattle.model_log.specs.{start_after}
 use Rattle.model_parts.specs.{LogHolds}
 use Rattle.model_log.specs.declared.group.Whole.{Whole}
-use Rattle.model_theorem.specs.{AreGiven, DataHolds, IsClosed, IsHeld, Opened}
-use Rattle.model_running.specs.RunningStore.{IsRunning}
-use Rattle.model_running.specs.Schedule.{HaveEnded}
-use Rattle.model_running.specs.Seating.{AreSeated}
+use Rattle.model_theorem.specs.{AreGiven, DataHolds, IsHeld, Opened}
 use Rattle.model_script.specs.declared.script.ScriptLine.{ScriptLine}
 
 module _ (D : LogSide) (E : DataSide) (c : Setup) (script : List ScriptLine) (opened : Opened) (number : ℕ) (log_disk data_disk : Disk) (s : Core D E) (start : lsn c.base ≡ start_after opened.end) (given : AreGiven script opened)
@@ -56,37 +49,4 @@ module _ (D : LogSide) (E : DataSide) (c : Setup) (script : List ScriptLine) (op
         log_holds = subst (λ (x : ℕ). LogHolds shape x wholes log_tells.marks log_disk) same (log_tells.holds stands.log wholes stands.holds stands.groups);
         data_holds = subst (λ (x : ℕ). DataHolds shape opened.pages wholes x log_tells.marks.asked data_disk) stable
             (subst (λ (x : ℕ). DataHolds shape opened.pages wholes (D.stable s.log_part) x data_disk) asked kept);
-      }
-
-  -- where it is finished, the run is closed
-  pub closed_run : (failures : ℕ) (left : List (ℕ × ℕ)) (finished : FinishedStore D E c script opened failures left s) → FinishedPages D E script opened finished.run s → IsLeft script finished.run.entries left
-      → IsClosed failures (record {
-        script = script;
-        opened = opened;
-        number = number;
-        run = finished.run;
-        left = left;
-        log_disk = log_disk;
-        data_disk = data_disk;
-      })
-  closed_run failures left finished pages left_is = record { holds = held_run finished.stands pages; left_is = left_is; loses = finished.loses left_is }
-
-  pub held_store : (spare : ℕ) → IsRunning D E c spare s → IsOfScript c script opened.shape → HasItsPages c opened → HeldStore D E script opened number log_disk data_disk s
-  unfolding stands_for_run
-  held_store spare running of_script pages =
-      let stands = stands_for_run D E c spare script opened s running of_script start in
-      record {
-        run = stands.run;
-        marks = stands.marks;
-        holds = held_run stands (finished_pages D E c spare script opened s running given pages of_script);
-      }
-
-  pub closed_store : (failures : ℕ) (left : List (ℕ × ℕ)) (spare : ℕ) → IsRunning D E c spare s → AreSeated c s.actors → HaveEnded s.actors → IsOfScript c script opened.shape → HasItsPages c opened
-      → CausesAreFailures D E failures s.log_part s.data_part s.actors → ClosedStore D E script opened number failures left log_disk data_disk s
-  unfolding finished_store stands_for_run held_store
-  closed_store failures left spare running seated ended of_script pages causes =
-      let finished = finished_store D E c spare script opened failures left s running seated ended of_script start causes in
-      record {
-        held = held_store spare running of_script pages;
-        closed = closed_run failures left finished (finished_pages D E c spare script opened s running given pages of_script);
       }

@@ -1,5 +1,5 @@
 -- Each turn of any actor, whatever its device calls answer, leaves a running store.
-use Rattle.std.proofs.Common.{List, ap, arith, cond, eqb, refl, set, subst, suc, sym, zero, ℕ, ◌%◌, ◌+◌, ◌<◌, ◌∙◌, ◌≡◌}
+use Rattle.std.proofs.Common.{List, ap, arith, cond, eqb, refl, set, subst, sym, ℕ, ◌%◌, ◌+◌, ◌<◌, ◌∙◌, ◌≡◌}
 use Rattle.std.specs.Prelude.{slice_index}
 use Rattle.std.proofs.lemmas.List.{set-set}
 use lib.ListN.{get_elem?}
@@ -19,7 +19,6 @@ use Rattle.model_pagecore.specs.DataLaws.{DataLaws}
 use Rattle.model_running.proofs.FlatWords.{flat_read}
 use Rattle.model_running.proofs.Turns.{keeps_turn, RunsOver}
 use Rattle.model_running.specs.RunningStore.{BothHalves, IsRunning, RunningStore}
-use Rattle.model_running.specs.Schedule.{TakesTurns}
 use Rattle.model_core.specs.declared.ops.Op.TheVariants as op
 use Rattle.model_core.specs.declared.words.Word.TheVariants as word
 
@@ -30,8 +29,8 @@ lists_same ls first second same (op.TakeRemove p) = ap {B = ℕ → List Listed}
 lists_same ls first second same _ = refl
 
 -- WHAT A TURN LEAVES: a running store, over the log that its Op leaves.
-module _ (D : LogSide) (L : LogLaws D) (E : DataSide) (EL : DataLaws E) (c : Setup) (spare : ℕ) (old new : Core D E)
-    (seat : ℕ) (answer : Answer) (step : Step) (before : IsRunning D E c spare old)
+module _ (D : LogSide) (L : LogLaws D) (E : DataSide) (EL : DataLaws E) (c : Setup) (old new : Core D E)
+    (seat : ℕ) (answer : Answer) (step : Step) (before : IsRunning D E c old)
     (t : Turn D E old seat answer step new) where
   -- the actor with what the turn puts into it
   abbrev pub who_filled : Actor
@@ -44,9 +43,9 @@ module _ (D : LogSide) (L : LogLaws D) (E : DataSide) (EL : DataLaws E) (c : Set
   abbrev pub log_then : List Entry
   log_then = log_left before.log_ghost.log before.shared.sn who_filled
 
-  pub both_filled : BothHalves D E c spare before.shared before.log_ghost before.page_ghost old.lists old.log_part
+  pub both_filled : BothHalves D E c before.shared before.log_ghost before.page_ghost old.lists old.log_part
       old.data_part actors_filled
-  both_filled = fills_keep D E c spare before.shared before.log_ghost before.page_ghost old.lists old.log_part
+  both_filled = fills_keep D E c before.shared before.log_ghost before.page_ghost old.lists old.log_part
       old.data_part old.actors seat before.both t.who t.who_is t.filling
 
   pub filled_at : get_elem? actors_filled seat ≡ some who_filled
@@ -64,9 +63,9 @@ module _ (D : LogSide) (L : LogLaws D) (E : DataSide) (EL : DataLaws E) (c : Set
   actors_then said is = ap (λ (r : Answer). set actors_filled seat (took who_filled r)) is
       ∙ set-set old.actors seat who_filled (took who_filled answer) ∙ sym t.actors
 
-  pub turn_leaves : RunsOver D E c spare new.words new.lists new.log_part new.data_part new.actors log_then
+  pub turn_leaves : RunsOver D E c new.words new.lists new.log_part new.data_part new.actors log_then
   turn_leaves =
-      let ready : RunningStore D E c spare old.words old.lists old.log_part old.data_part actors_filled = record {
+      let ready : RunningStore D E c old.words old.lists old.log_part old.data_part actors_filled = record {
         shared = before.shared;
         log_ghost = before.log_ghost;
         page_ghost = before.page_ghost;
@@ -77,7 +76,7 @@ module _ (D : LogSide) (L : LogLaws D) (E : DataSide) (EL : DataLaws E) (c : Set
       let d = new.data_part in
       let stored : DataServed E old.data_part (lent who_filled) (next who_filled) t.code d =
       subst (λ (o : Op). DataServed E old.data_part (lent who_filled) o t.code d) (sym same_op) t.data_served in
-      let after = keeps_turn D L E EL c spare old.words old.lists old.log_part old.data_part actors_filled seat
+      let after = keeps_turn D L E EL c old.words old.lists old.log_part old.data_part actors_filled seat
       who_filled ready filled_at (is_filled t.who t.filling t.fills) t.code p d served_filled stored
       (subst (λ (o : Op). OwnServed o t.code) (sym same_op) t.own_served) in
       let mine : ℕ → ℕ = λ i. slice_index before.shared.lists i in
@@ -92,19 +91,14 @@ module _ (D : LogSide) (L : LogLaws D) (E : DataSide) (EL : DataLaws E) (c : Set
       ap {B = Answer} (λ (o : Op). answer_of old.lists (D.failed old.log_part) t.code (D.stable p) old.words o) same_op
       ∙ sym t.answered in
       let words : List ℕ = words_left old.words (next who_filled) in
-      subst (λ (ws : List ℕ). RunsOver D E c spare ws new.lists p d new.actors log_then)
+      subst (λ (ws : List ℕ). RunsOver D E c ws new.lists p d new.actors log_then)
       (ap (words_left old.words) same_op ∙ sym t.words)
-      (subst (λ (ls : ℕ → List Listed). RunsOver D E c spare words ls p d new.actors log_then) lists
-      (subst (λ (rs : List Actor). RunsOver D E c spare words (lists_left old.lists mine (next who_filled)) p d rs
+      (subst (λ (ls : ℕ → List Listed). RunsOver D E c words ls p d new.actors log_then) lists
+      (subst (λ (rs : List Actor). RunsOver D E c words (lists_left old.lists mine (next who_filled)) p d rs
       log_then) (actors_then _ said) after))
 
-pub turn_keeps : (D : LogSide) → LogLaws D → (E : DataSide) → DataLaws E → (c : Setup) (spare : ℕ) (old new : Core D E)
-    (seat : ℕ) (answer : Answer) (step : Step) → IsRunning D E c spare old → Turn D E old seat answer step new
-    → IsRunning D E c spare new
-turn_keeps D L E EL c spare old new seat answer step before t =
-    (turn_leaves D L E EL c spare old new seat answer step before t).store
-
--- so does each run of turns
-pub run_keeps : (D : LogSide) → LogLaws D → (E : DataSide) → DataLaws E → (c : Setup) (spare seed max n : ℕ) (first last : Core D E) → IsRunning D E c spare first → TakesTurns D E seed max n first last → IsRunning D E c spare last
-run_keeps D L E EL c spare seed max zero first last before is = subst (IsRunning D E c spare) (sym is) before
-run_keeps D L E EL c spare seed max (suc n) first last before r = turn_keeps D L E EL c spare r.before last _ r.answer r.step (run_keeps D L E EL c spare seed max n first r.before before r.earlier) r.turn
+pub turn_keeps : (D : LogSide) → LogLaws D → (E : DataSide) → DataLaws E → (c : Setup) (old new : Core D E)
+    (seat : ℕ) (answer : Answer) (step : Step) → IsRunning D E c old → Turn D E old seat answer step new
+    → IsRunning D E c new
+turn_keeps D L E EL c old new seat answer step before t =
+    (turn_leaves D L E EL c old new seat answer step before t).store

@@ -133,14 +133,13 @@ own_leaves (actor.Reader t) = reader_leaves t t.step
 own_leaves (actor.Closer t) = closer_leaves t t.step
 own_leaves (actor.Cleaner v) = cleaner_leaves v v.step
 own_leaves (actor.Checkpointer t) = checkpointer_leaves t t.step
-own_leaves (actor.Joined es) = tt
 
 checking_leaves : (b : Bool) (o : Op) → LeavesFailed o → LeavesFailed (cond b (op.Load word.Failed) o)
 checking_leaves true o leaves = tt
 checking_leaves false o leaves = leaves
 
 -- what an actor stores in FAILED isn't 0
-module _ (D : LogSide) (c : Setup) (spare : ℕ) (m : SharedWords) (g : LogGhost) (p : D.Part) (actors : List Actor) (seat : ℕ) (half : LogHalf D c spare m g p actors) (x : ℕ) where
+module _ (D : LogSide) (c : Setup) (m : SharedWords) (g : LogGhost) (p : D.Part) (actors : List Actor) (seat : ℕ) (half : LogHalf D c m g p actors) (x : ℕ) where
   user_stores : (u : UserState) (f : UserStep) → user_op u f ≡ op.Store word.Failed x → 0 < x
   user_stores u (user_step.AdvanceWritten advance_step.LoadTail) is = absurd (cc)
   user_stores u (user_step.AdvanceClosed advance_step.LoadTail) is = absurd (cc)
@@ -184,15 +183,14 @@ module _ (D : LogSide) (c : Setup) (spare : ℕ) (m : SharedWords) (g : LogGhost
   stores (actor.Closer t) at = checking_stores t.checks (closer_op t t.step) (closer_stores t t.step)
   stores (actor.Cleaner v) at = checking_stores v.checks (cleaner_op v v.step) (cleaner_stores v v.step refl (half.each seat (actor.Cleaner v) at))
   stores (actor.Checkpointer t) at = let f : CheckpointerFits D c m g p seat t = half.each seat (actor.Checkpointer t) at in checking_stores t.checks (checkpointer_op t t.step) (checkpointer_stores t t.step f.step)
-  stores (actor.Joined es) at = λ is. absurd (cc)
 
 -- FAILED never goes back to 0
-pub turn_keeps_failed : (D : LogSide) (E : DataSide) (c : Setup) (spare : ℕ) (old new : Core D E) (seat : ℕ) (answer : Answer) (step : Step) → IsRunning D E c spare old → Turn D E old seat answer step new → 0 < slice_index old.words 6 → 0 < slice_index new.words 6
-turn_keeps_failed D E c spare old new seat answer step before t failed =
+pub turn_keeps_failed : (D : LogSide) (E : DataSide) (c : Setup) (old new : Core D E) (seat : ℕ) (answer : Answer) (step : Step) → IsRunning D E c old → Turn D E old seat answer step new → 0 < slice_index old.words 6 → 0 < slice_index new.words 6
+turn_keeps_failed D E c old new seat answer step before t failed =
     let a : Actor = t.who in
     let m : SharedWords = before.shared in
     let long : 6 < length old.words = (let n : length old.words ≡ length (flat m) = ap length before.flat_is in omega arith) in
     let words : slice_index new.words 6 ≡ slice_index (words_left old.words (next a)) 6 = ap (λ (ws : List ℕ). slice_index ws 6) t.words in
     ⊎_elim (λ same. omega arith)
-    (λ stored. let s = stored.2 in let some = stores D c spare m before.log_ghost old.log_part old.actors seat before.both.logged stored.0 a t.who_is stored.1 in omega arith)
+    (λ stored. let s = stored.2 in let some = stores D c m before.log_ghost old.log_part old.actors seat before.both.logged stored.0 a t.who_is stored.1 in omega arith)
     (failed_left old.words long (next a) (checking_leaves (is_checking a) (own_op a) (own_leaves a)))

@@ -29,7 +29,7 @@ use Rattle.model_running.proofs.ReadStays.{IsFilled, ReaderIsFilled}
 use Rattle.model_running.specs.ReadHalf.{ArchiverAt, ArchiverHas, FollowerAt, HasMore, HasRunBlock, ReaderHas, ReadFits, ReadsInRun, RunBlockAt, StaysInRun}
 use Rattle.model_running.specs.RunningStore.{BothHalves}
 
-module _ (D : LogSide) (E : DataSide) (c : Setup) (spare : ℕ) (m : SharedWords) (g : LogGhost) (h : PageGhost) (ls : ℕ → List Listed) (p : D.Part) (d : E.Part) (actors : List Actor) (seat : ℕ) (both : BothHalves D E c spare m g h ls p d actors) where
+module _ (D : LogSide) (E : DataSide) (c : Setup) (m : SharedWords) (g : LogGhost) (h : PageGhost) (ls : ℕ → List Listed) (p : D.Part) (d : E.Part) (actors : List Actor) (seat : ℕ) (both : BothHalves D E c m g h ls p d actors) where
   -- a reader's own state changes
   module _ (r : ReaderState) (at : get_elem? actors seat ≡ some (actor.Reader r)) (w : ReaderState) where
     there : (j : ℕ) (a : Actor) → get_elem? actors j ≡ some a → (a ≡ actor.Reader r → ⊥) → get_elem? (set actors seat (actor.Reader w)) j ≡ some a
@@ -44,7 +44,7 @@ module _ (D : LogSide) (E : DataSide) (c : Setup) (spare : ℕ) (m : SharedWords
     put_reader : reader_holds w.step ≡ reader_holds r.step → ReaderFits D c m g p seat w
         → (D.Tells p → ReaderHas c m g.log seat w) → w.number ≡ r.number → w.at ≡ r.at → w.place ≡ r.place
         → w.lost ≡ r.lost → LostAt w w.step → (archives w ≡ true → ArchiverHas c m g.log w) → (D.Tells p → archives w ≡ true → RunBlockAt D c g.log w w.step)
-        → BothHalves D E c spare m g h ls p d (set actors seat (actor.Reader w))
+        → BothHalves D E c m g h ls p d (set actors seat (actor.Reader w))
     put_reader keep fit has number_is at_is place_is lost_is lost_at still_archives has_block = record {
       script = both.script;
       cause = λ failed. ⊎_elim (λ z. inl z) (⊎_elim (λ z. inr (inl z)) (λ l. inr (inr (still_lost m.failed l)))) (both.cause failed);
@@ -52,7 +52,7 @@ module _ (D : LogSide) (E : DataSide) (c : Setup) (spare : ℕ) (m : SharedWords
           (λ t. both.archiver j x t.1) (at_set actors seat j (actor.Reader w) (actor.Reader x) e);
       blocks = λ told j x e. ⊎_elim (λ t. subst (λ (z : ReaderState). archives z ≡ true → RunBlockAt D c g.log z z.step) (the_reader w x t.1) (has_block told))
           (λ t. both.blocks told j x t.1) (at_set actors seat j (actor.Reader w) (actor.Reader x) e);
-      logged = reads_on D c spare m g p actors seat r both.logged at w keep fit (λ held. holder_stays link_buffer.Written (both.logged.advanced held))
+      logged = reads_on D c m g p actors seat r both.logged at w keep fit (λ held. holder_stays link_buffer.Written (both.logged.advanced held))
           (λ j x e. ⊎_elim (λ t. subst ChecksWithoutTail t.1 (λ _ b. refl)) (λ t. both.logged.without_tail j x t.1) (at_set actors seat j (actor.Reader w) x e));
       asked = both.asked;
       stays = both.stays;
@@ -135,7 +135,7 @@ module _ (D : LogSide) (E : DataSide) (c : Setup) (spare : ℕ) (m : SharedWords
     with_texts ts reader_step.Failed k = k
     with_texts ts _ k = tt
 
-    put : (f : Filling) (st : ReaderStep) → r.step ≡ st → BothHalves D E c spare m g h ls p d (set actors seat (actor.Reader (reader_filled r f st)))
+    put : (f : Filling) (st : ReaderStep) → r.step ≡ st → BothHalves D E c m g h ls p d (set actors seat (actor.Reader (reader_filled r f st)))
     put f reader_step.ReadBlock is = put_reader r at (record r { block = f.block }) refl (record { no_device_while_checking = N.no_device_while_checking; step = with_block f.block r.step N.step })
         (λ told. reader_goes c m g.log r r.mark f.block r.texts r.code r.checks r.step seat (R told)
         (λ _ A. subst (ArchiverAt c m g.log (record r { block = f.block })) (sym is) (subst (ArchiverAt c m g.log r) is A.step))
@@ -161,17 +161,16 @@ module _ (D : LogSide) (E : DataSide) (c : Setup) (spare : ℕ) (m : SharedWords
 
         again : FollowerAt c m g.log r reader_step.GiveDevice → FollowerAt c m g.log (record r { texts = f.texts }) reader_step.GiveDevice
         again k = (record { to = k.0.to; mark = k.0.mark; flushed = k.0.flushed; more = k.0.more }, k.1)
-    put f _ is = subst (λ (l : List Actor). BothHalves D E c spare m g h ls p d l) (sym (set_again actors seat (actor.Reader r) at)) both
+    put f _ is = subst (λ (l : List Actor). BothHalves D E c m g h ls p d l) (sym (set_again actors seat (actor.Reader r) at)) both
 
-  pub fills_keep : (a : Actor) → get_elem? actors seat ≡ some a → (f : Filling) → BothHalves D E c spare m g h ls p d (set actors seat (filled a f))
+  pub fills_keep : (a : Actor) → get_elem? actors seat ≡ some a → (f : Filling) → BothHalves D E c m g h ls p d (set actors seat (filled a f))
   fills_keep (actor.Reader r) at f = put r at f r.step refl
-  fills_keep (actor.User u) at f = subst (λ (l : List Actor). BothHalves D E c spare m g h ls p d l) (sym (set_again actors seat (actor.User u) at)) both
-  fills_keep (actor.Writer s) at f = subst (λ (l : List Actor). BothHalves D E c spare m g h ls p d l) (sym (set_again actors seat (actor.Writer s) at)) both
-  fills_keep (actor.Flusher s) at f = subst (λ (l : List Actor). BothHalves D E c spare m g h ls p d l) (sym (set_again actors seat (actor.Flusher s) at)) both
-  fills_keep (actor.Closer s) at f = subst (λ (l : List Actor). BothHalves D E c spare m g h ls p d l) (sym (set_again actors seat (actor.Closer s) at)) both
-  fills_keep (actor.Cleaner s) at f = subst (λ (l : List Actor). BothHalves D E c spare m g h ls p d l) (sym (set_again actors seat (actor.Cleaner s) at)) both
-  fills_keep (actor.Checkpointer s) at f = subst (λ (l : List Actor). BothHalves D E c spare m g h ls p d l) (sym (set_again actors seat (actor.Checkpointer s) at)) both
-  fills_keep (actor.Joined es) at f = subst (λ (l : List Actor). BothHalves D E c spare m g h ls p d l) (sym (set_again actors seat (actor.Joined es) at)) both
+  fills_keep (actor.User u) at f = subst (λ (l : List Actor). BothHalves D E c m g h ls p d l) (sym (set_again actors seat (actor.User u) at)) both
+  fills_keep (actor.Writer s) at f = subst (λ (l : List Actor). BothHalves D E c m g h ls p d l) (sym (set_again actors seat (actor.Writer s) at)) both
+  fills_keep (actor.Flusher s) at f = subst (λ (l : List Actor). BothHalves D E c m g h ls p d l) (sym (set_again actors seat (actor.Flusher s) at)) both
+  fills_keep (actor.Closer s) at f = subst (λ (l : List Actor). BothHalves D E c m g h ls p d l) (sym (set_again actors seat (actor.Closer s) at)) both
+  fills_keep (actor.Cleaner s) at f = subst (λ (l : List Actor). BothHalves D E c m g h ls p d l) (sym (set_again actors seat (actor.Cleaner s) at)) both
+  fills_keep (actor.Checkpointer s) at f = subst (λ (l : List Actor). BothHalves D E c m g h ls p d l) (sym (set_again actors seat (actor.Checkpointer s) at)) both
 
 -- its next Op is as it was
 op_by : (r : ReaderState) (block : List ℕ) (texts : List (List ℕ)) (st : ReaderStep) → reader_op (record r { block = block; texts = texts }) st ≡ reader_op r st
@@ -200,7 +199,6 @@ next_filled (actor.Flusher s) f = refl
 next_filled (actor.Closer s) f = refl
 next_filled (actor.Cleaner s) f = refl
 next_filled (actor.Checkpointer s) f = refl
-next_filled (actor.Joined es) f = refl
 
 pub is_filled : (a : Actor) (f : Filling) → Fills a f → IsFilled (filled a f)
 is_filled (actor.Reader r) f fills = by r.step refl fills
@@ -223,4 +221,3 @@ is_filled (actor.Flusher s) f fills = tt
 is_filled (actor.Closer s) f fills = tt
 is_filled (actor.Cleaner s) f fills = tt
 is_filled (actor.Checkpointer s) f fills = tt
-is_filled (actor.Joined es) f fills = tt

@@ -12,7 +12,7 @@ use Rattle.model_running.proofs.Groups.{history_wholes}
 use Rattle.model_running.proofs.Legality.{legal_log}
 use Rattle.model_running.proofs.Losses.{left_lines, lost_entry}
 use Rattle.model_running.proofs.Places.{bound_spans, history_spans}
-use Rattle.model_running.specs.Ended.{IsAtEnd}
+use Rattle.model_running.specs.Schedule.{HaveEnded}
 use Rattle.model_running.specs.History.{AreWholesOf, history_of, log_spans, marks_in, word_marks}
 use Rattle.model_running.specs.RunOf.{run_of}
 use Rattle.model_running.specs.Script.{HasSeats, IsOfScript}
@@ -28,7 +28,7 @@ use Rattle.model_theorem.specs.{IsRun, LosesOnlyByFailure, Opened}
 pub marks_same : (ws : List ℕ) (m : SharedWords) → ws ≡ flat m → marks_in ws ≡ word_marks m
 marks_same ws m is = ap marks_in is ∙ ap (λ (n : ℕ). let marks : Marks = record { wtail = n; write = m.write; flushed = m.flushed; ckpt = m.ckpt } in marks) (tail_in m.wtail m.wheld)
 
-module _ (D : LogSide) (c : Setup) (spare : ℕ) (m : SharedWords) (g : LogGhost) (p : D.Part) (actors : List Actor) (half : LogHalf D c spare m g p actors) where
+module _ (D : LogSide) (c : Setup) (m : SharedWords) (g : LogGhost) (p : D.Part) (actors : List Actor) (half : LogHalf D c m g p actors) where
   boundary : (x mark : ℕ) → mark ≡ lsn x → IsBound c.base g.log x → IsBoundary (lsn c.base) (entry_spans (history_of g.answered (word_marks m) g.log)) mark
   boundary x mark is bound =
       subst (λ (z : List Span). IsBoundary (lsn c.base) z mark) (sym (history_spans g.answered (word_marks m) g.log))
@@ -50,11 +50,11 @@ module _ (D : LogSide) (c : Setup) (spare : ℕ) (m : SharedWords) (g : LogGhost
   finished_groups script shape S = history_wholes c script shape g.answered (word_marks m) g.log S (λ i e is. let l = half.global.tiled.lines i e is in (l.0, l.1))
 
   -- once all users have ended, it loses something only where FAILED has a code, and so a call has failed
-  pub finished_losses : (script : List ScriptLine) (shape : Shape) (failures : ℕ) (left : List (ℕ × ℕ)) → IsAtEnd actors → IsOfScript c script shape → HasSeats script actors → (0 < m.failed → 0 < failures)
+  pub finished_losses : (script : List ScriptLine) (shape : Shape) (failures : ℕ) (left : List (ℕ × ℕ)) → HaveEnded actors → IsOfScript c script shape → HasSeats script actors → (0 < m.failed → 0 < failures)
       → IsLeft script (run_of c g m).entries left → LosesOnlyByFailure failures (Some (run_of c g m)) left
-  finished_losses script shape failures left end S seats cause is = record {
-    lost = λ i entry found lost. cause (lost_entry D c spare m g p actors half end (word_marks m) i entry found lost).1;
-    left = λ some_left. cause (left_lines D c spare m g p actors half end (word_marks m) script shape left S seats is some_left);
+  finished_losses script shape failures left ended S seats cause is = record {
+    lost = λ i entry found lost. cause (lost_entry D c m g p actors half ended (word_marks m) i entry found lost);
+    left = λ some_left. cause (left_lines D c m g p actors half ended (word_marks m) script shape left S seats is some_left);
     stopped = λ none. absurd (cc);
   }
 
@@ -63,5 +63,5 @@ module _ (D : LogSide) (c : Setup) (spare : ℕ) (m : SharedWords) (g : LogGhost
   finished_marks = let P = half.global.part in let O = half.global.order in (
     P.flushed_stable,
     P.ckpt_part,
-    (let a = P.given_wtail in let b = O.wtail_is in let l = lsn_le g.wtail m.sn (let x = O.wtail_tail in let y = O.tail_sn in omega arith) in let s = small_sn D c spare m g p actors 0 half in omega arith),
+    (let a = P.given_wtail in let b = O.wtail_is in let l = lsn_le g.wtail m.sn (let x = O.wtail_tail in let y = O.tail_sn in omega arith) in let s = small_sn D c m g p actors 0 half in omega arith),
   )

@@ -125,7 +125,7 @@ module _ (E : DataSide) (c : Setup) (m : SharedWords) (log : List core.Entry) (s
     next = λ p page at. from_batch p page (pages p page at) h.unfinished half.paged.unfinished.each;
   }
 
-module _ (D : LogSide) (E : DataSide) (c : Setup) (spare : ℕ) (m : SharedWords) (g : LogGhost) (h : PageGhost) (ls : ℕ → List Listed) (p : D.Part) (d : E.Part) (actors : List Actor) (both : BothHalves D E c spare m g h ls p d actors) where
+module _ (D : LogSide) (E : DataSide) (c : Setup) (m : SharedWords) (g : LogGhost) (h : PageGhost) (ls : ℕ → List Listed) (p : D.Part) (d : E.Part) (actors : List Actor) (both : BothHalves D E c m g h ls p d actors) where
   -- of the groups of the history, up to the stable mark of the log part, and past each checkpoint that was asked for
   pub page_prefixes : (script : List ScriptLine) (opened : Opened) → AreGiven script opened → HasItsPages c opened → IsOfScript c script opened.shape
       → ArePrefixes opened.pages (wholes_of script opened.shape.space (run_of c g m).entries) (D.stable p) (D.asked p) (contents_of h.kept_page) (content_in h.unfinished)
@@ -134,15 +134,15 @@ module _ (D : LogSide) (E : DataSide) (c : Setup) (spare : ℕ) (m : SharedWords
       let space : ℕ = opened.shape.space in
       let wholes : List Whole = wholes_of script space (run_of c g m).entries in
       are_prefixes E c m g.log (D.stable p) h ls d actors both.paged opened.shape G.shape P.count P.page_size wholes both.logged.global.tiled.tiles
-      (finished_groups D c spare m g p actors both.logged script opened.shape S)
+      (finished_groups D c m g p actors both.logged script opened.shape S)
       (λ with_pages. page_groups c script opened g.answered (word_marks m) g.log G S with_pages (λ i e is. let l = lines i e is in (l.0, l.2)))
       (λ log_only i e is. let l = lines i e is in l.2 ∙ both.script.alone log_only e.user e.k)
       opened.pages (D.asked p) P.each both.asked
 
 -- the pages of a running store, for the run that it stands for
-pub finished_pages : (D : LogSide) (E : DataSide) (c : Setup) (spare : ℕ) (script : List ScriptLine) (opened : Opened) (s : Core D E) (running : IsRunning D E c spare s) → AreGiven script opened → HasItsPages c opened → IsOfScript c script opened.shape
+pub finished_pages : (D : LogSide) (E : DataSide) (c : Setup) (script : List ScriptLine) (opened : Opened) (s : Core D E) (running : IsRunning D E c s) → AreGiven script opened → HasItsPages c opened → IsOfScript c script opened.shape
     → FinishedPages D E script opened (run_of c running.log_ghost running.shared) s
-finished_pages D E c spare script opened s running G P S =
+finished_pages D E c script opened s running G P S =
     let h = running.page_ghost in
     let facts = running.both.paged.paged in
     record {
@@ -150,5 +150,5 @@ finished_pages D E c spare script opened s running G P S =
       unfinished = h.unfinished;
       holds = facts.stored;
       apart = facts.unfinished.apart;
-      prefixes = page_prefixes D E c spare running.shared running.log_ghost h s.lists s.log_part s.data_part s.actors running.both script opened G P S;
+      prefixes = page_prefixes D E c running.shared running.log_ghost h s.lists s.log_part s.data_part s.actors running.both script opened G P S;
     }

@@ -3,19 +3,16 @@
 use Rattle.std.proofs.Common.{Bool, List, ap, arith, cond, eqb, false, inl, inr, refl, subst, sym, true, ℕ, ⊎_elim}
 use Rattle.std.proofs.Common.{◌%◌, ◌+◌, ◌<◌, ◌==◌, ◌∙◌, ◌≡◌, ◌≤◌}
 use Rattle.std.proofs.lemmas.Bool.{eqb-false}
-use lib.ListN.{get_elem?}
 use mathlib.Core.Option.{some}
 use Rattle.model_core.specs.Answers.{oldest_in}
-use Rattle.model_base.specs.declared.limits.TheConstants.{BLOCK_SIZE, START_LSN}
+use Rattle.model_base.specs.declared.limits.TheConstants.{BLOCK_SIZE}
 use Rattle.model_core.proofs.Lsns.{floor_grows, lsn_le}
-use Rattle.model_core.specs.{Actor, archived, archives, candidate, checkpointer_took, CheckpointerState, Core, floor}
+use Rattle.model_core.specs.{Actor, archived, archives, candidate, checkpointer_took, CheckpointerState, floor}
 use Rattle.model_core.specs.{followed, has_all}
 use Rattle.model_core.specs.{has_taken, is_none, IsArchiveCode, IsLosing, is_above, Listed, LostAt, lowered, lsn}
 use Rattle.model_core.specs.{next, next_block, old_of, OwnServed, read_to, reader_op, reader_took, ReaderState}
 use Rattle.model_core.specs.{shared_answer, SharedWords, to_append, took}
 use Rattle.model_core.specs.Actors as actor
-use Rattle.model_core.specs.DataSide.{DataSide}
-use Rattle.model_core.specs.LogSide.{LogSide}
 use Rattle.model_core.specs.Setup.{Setup}
 use Rattle.model_core.specs.declared.ops.Answer.{Answer}
 use Rattle.model_core.specs.declared.ops.Answer.TheVariants as answer
@@ -27,7 +24,6 @@ use Rattle.model_core.specs.declared.steps.CheckpointerStep.TheVariants as check
 use Rattle.model_core.specs.declared.steps.ReaderStep.{ReaderStep}
 use Rattle.model_core.specs.declared.steps.ReaderStep.TheVariants as reader_step
 use Rattle.model_running.specs.ReadHalf.{NumberAt, ReadsInRun, StaysInRun}
-use Rattle.model_running.specs.RunningStore.{IsRunning}
 
 -- what an append is answered
 abbrev pub AppendFits : Op → Answer → Type 0
@@ -309,14 +305,3 @@ stays_in_run c readers (actor.Writer s) a fits k = either c s.checks _ _ tt tt
 stays_in_run c readers (actor.Flusher s) a fits k = either c s.checks _ _ tt tt
 stays_in_run c readers (actor.Closer s) a fits k = either c s.checks _ _ tt tt
 stays_in_run c readers (actor.Cleaner s) a fits k = either c s.checks _ _ tt tt
-stays_in_run c readers (actor.Joined es) a fits k = tt
-
--- A reader asks for a block of the log: each is a whole number of blocks, from the first one on.
-pub asks_in_run : (D : LogSide) (E : DataSide) (c : Setup) (spare : ℕ) (s : Core D E) (seat : ℕ) (r : ReaderState)
-    → IsRunning D E c spare s → get_elem? s.actors seat ≡ some (actor.Reader r) → START_LSN ≤ lsn c.base
-    → (next_block r % BLOCK_SIZE ≡ 0) × (START_LSN ≤ next_block r)
-asks_in_run D E c spare s seat r running at start =
-    let I : ReadsInRun c r = running.both.in_run seat (actor.Reader r) at in
-    let b = next_in_run c r I in
-    let low = b.1 in
-    (b.0, omega arith)

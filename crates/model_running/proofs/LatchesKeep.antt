@@ -95,7 +95,7 @@ module _ (m : SharedWords) where
   checking_pages true o same = refl
   checking_pages false o same = same
 
-module _ (D : LogSide) (E : DataSide) (c : Setup) (spare : ℕ) (m : SharedWords) (g : LogGhost) (h : PageGhost) (ls : ℕ → List Listed) (p : D.Part) (d : E.Part) (actors : List Actor) (seat : ℕ) (both : BothHalves D E c spare m g h ls p d actors) where
+module _ (D : LogSide) (E : DataSide) (c : Setup) (m : SharedWords) (g : LogGhost) (h : PageGhost) (ls : ℕ → List Listed) (p : D.Part) (d : E.Part) (actors : List Actor) (seat : ℕ) (both : BothHalves D E c m g h ls p d actors) where
   -- each latch that an actor took last and that is held it holds, or it has failed
   pub held_by : (a : Actor) → get_elem? actors seat ≡ some a → HoldsOnly E c m g.log h ls d seat (HasLatch a)
   held_by a at q there latched mine =
@@ -272,7 +272,6 @@ module _ (D : LogSide) (E : DataSide) (c : Setup) (spare : ℕ) (m : SharedWords
     by_actor (actor.Reader t) at fits = takes_none (actor.Reader t) at (checking_pages m t.checks (reader_op t t.step) (reader_pages m t t.step)) (λ q held. held)
     by_actor (actor.Closer t) at fits = takes_none (actor.Closer t) at (checking_pages m t.checks (closer_op t t.step) (closer_pages m t t.step)) (λ q held. held)
     by_actor (actor.Checkpointer t) at fits = takes_none (actor.Checkpointer t) at (checking_pages m t.checks (checkpointer_op t t.step) (checkpointer_pages m t t.step)) (λ q held. held)
-    by_actor (actor.Joined es) at fits = takes_none (actor.Joined es) at refl (λ q held. held)
 
     pub latches_kept : (a : Actor) → get_elem? actors seat ≡ some a → PageHalf E c (shared_left m (next a)) l stable k ls' e (set actors seat (left a)) → LatchesAreHeld c.pages (shared_left m (next a)) k.holder (set actors seat (left a))
     latches_kept a at after = by_actor a at (after.each seat (left a) (set_at actors seat a (left a) at))

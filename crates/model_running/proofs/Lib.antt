@@ -44,7 +44,6 @@ pub mod ReadStays
 pub mod ReadTurns
 pub mod Receivers
 pub mod RunBlocks
-pub mod RunEnds
 pub mod Scripted
 pub mod Seated
 pub mod SeatsKeep

@@ -35,7 +35,7 @@ use Rattle.model_core.specs.declared.steps.CheckpointerStep.TheVariants as check
 use Rattle.model_core.specs.declared.steps.AdvanceStep.TheVariants as advance_step
 use Rattle.model_core.specs.Actors as actor
 
-module _ (D : LogSide) (E : DataSide) (c : Setup) (spare : ℕ) (m : SharedWords) (g : LogGhost) (h : PageGhost) (ls : ℕ → List Listed) (p : D.Part) (d : E.Part) (actors : List Actor) (seat : ℕ) (both : BothHalves D E c spare m g h ls p d actors) where
+module _ (D : LogSide) (E : DataSide) (c : Setup) (m : SharedWords) (g : LogGhost) (h : PageGhost) (ls : ℕ → List Listed) (p : D.Part) (d : E.Part) (actors : List Actor) (seat : ℕ) (both : BothHalves D E c m g h ls p d actors) where
   user_lists : (u : UserState) → get_elem? actors seat ≡ some (actor.User u) → (f : UserStep) → UserPagesAt E c m g.log h ls d seat u f → ListReady c.pages ls (user_op u f)
   user_lists u at (user_step.AdvanceWritten advance_step.LoadTail) o = tt
   user_lists u at (user_step.AdvanceClosed advance_step.LoadTail) o = tt
@@ -97,4 +97,3 @@ module _ (D : LogSide) (E : DataSide) (c : Setup) (spare : ℕ) (m : SharedWords
   list_ready (actor.Closer t) at = checking t.checks (closer_op t t.step) (closer_lists t t.step)
   list_ready (actor.Cleaner v) at = let f : CleanerFits E c m g.log h ls d seat v = both.paged.each seat (actor.Cleaner v) at in checking v.checks (cleaner_op v v.step) (cleaner_lists v v.step f.step)
   list_ready (actor.Checkpointer t) at = checking t.checks (checkpointer_op t t.step) (checkpointer_lists t t.step)
-  list_ready (actor.Joined es) at = tt

@@ -37,9 +37,9 @@ use Rattle.model_core.specs.declared.steps.WriterStep.TheVariants as writer_step
 use Rattle.model_core.specs.declared.words.Word.TheVariants as word
 use Rattle.model_logcore.specs.LogFits as marks
 
-module _ (D : LogSide) (L : LogLaws D) (E : DataSide) (EL : DataLaws E) (c : Setup) (spare : ℕ) (m : SharedWords)
+module _ (D : LogSide) (L : LogLaws D) (E : DataSide) (EL : DataLaws E) (c : Setup) (m : SharedWords)
     (g : LogGhost) (h : PageGhost) (ls : ℕ → List Listed) (p : D.Part) (d : E.Part) (actors : List Actor) (seat : ℕ)
-    (both : BothHalves D E c spare m g h ls p d actors) (code : ℕ) (q : D.Part) where
+    (both : BothHalves D E c m g h ls p d actors) (code : ℕ) (q : D.Part) where
   -- something that each of these gives
   module _ (Then : Type 0) (still : ◌≡◌ {A = D.Part} q p → Then)
       (wrote : (t : ℕ) → AfterWrite D c.blocks c.base g.log t code p q → Then)
@@ -57,7 +57,7 @@ module _ (D : LogSide) (L : LogLaws D) (E : DataSide) (EL : DataLaws E) (c : Set
     by_writer s at writer_step.WriteTo k w =
         let S : marks.WriterFits D c m g p seat s = both.logged.each seat (actor.Writer s) at in
         wrote (lsn g.target) (L.writes c.blocks c.base g.log g.write g.target code s.kept s.firsts p q
-        both.logged.global.part.holds (can_write D L c spare m g p actors seat s both.logged at k)
+        both.logged.global.part.holds (can_write D L c m g p actors seat s both.logged at k)
         (subst (λ (t : ℕ). D.Wrote t s.kept s.firsts code p q) S.tail w))
     by_writer s at (writer_step.Advance advance_step.LoadTail) k w = still w
     by_writer s at _ k w = still w
@@ -88,7 +88,7 @@ module _ (D : LogSide) (L : LogLaws D) (E : DataSide) (EL : DataLaws E) (c : Set
         → (f : CheckpointerStep) → t.step ≡ f → LogServed D p Nothing (checkpointer_op t f) code q → Then
     by_checkpointer t at checkpointer_step.Checkpoint is w =
         taken t at is (L.checkpoints c.blocks c.base g.log t.to code p q both.logged.global.part.holds
-        (can_checkpoint D L E EL c spare m g h ls p d actors seat both t at is) w)
+        (can_checkpoint D L E EL c m g h ls p d actors seat both t at is) w)
     by_checkpointer t at checkpointer_step.LoadCtail is w = still w
     by_checkpointer t at _ is w = still w
 
@@ -113,7 +113,6 @@ module _ (D : LogSide) (L : LogLaws D) (E : DataSide) (EL : DataLaws E) (c : Set
     after_call (actor.Cleaner v) at w = checking (Batch v.batch) v.checks (cleaner_op v v.step) (by_cleaner v v.step) w
     after_call (actor.Checkpointer t) at w =
         checking Nothing t.checks (checkpointer_op t t.step) (by_checkpointer t at t.step refl) w
-    after_call (actor.Joined es) at w = still w
 
   -- No checkpoint is asked for above a bound that holds for the last one and for a candidate that is about to be given.
   pub asked_bound : (bound : ℕ) → D.asked p ≤ bound

@@ -36,21 +36,21 @@ use Rattle.model_core.specs.declared.steps.ReaderStep.TheVariants as reader_step
 use Rattle.model_logcore.specs.LogFits as marks
 use Rattle.model_running.proofs.PageTurn.{PageDone, as_is, laid_of, mates, pass, rested, still_part, unmoved}
 
-module _ (D : LogSide) (L : LogLaws D) (E : DataSide) (c : Setup) (spare : ℕ) (m : SharedWords) (g : LogGhost) (h : PageGhost) (ls : ℕ → List Listed) (p : D.Part) (d : E.Part) (actors : List Actor) (seat : ℕ) (both : BothHalves D E c spare m g h ls p d actors) (code : ℕ) (q : D.Part) (e : E.Part) where
+module _ (D : LogSide) (L : LogLaws D) (E : DataSide) (c : Setup) (m : SharedWords) (g : LogGhost) (h : PageGhost) (ls : ℕ → List Listed) (p : D.Part) (d : E.Part) (actors : List Actor) (seat : ℕ) (both : BothHalves D E c m g h ls p d actors) (code : ℕ) (q : D.Part) (e : E.Part) where
   abbrev Kept : SharedWords → List Entry → (ℕ → List Listed) → Actor → Type 0
   Kept m' l ls' b = PageDone D E c m h actors seat p d m' l ls' b
 
   abbrev Done : SharedWords → List Entry → (ℕ → List Listed) → Actor → Type 0
   Done m' l ls' b = PageDone D E c m h actors seat q e m' l ls' b
 
-  writer_page : (s : WriterState) (f : WriterStep) (x : WriterState) (k : LogGhost) → LogHalf D c spare (shared_left m (writer_op s f)) k q (set actors seat (actor.Writer x)) → D.stable p ≤ D.stable q → ◌≡◌ {A = E.Part} e d → Done (shared_left m (writer_op s f)) g.log ls (actor.Writer x)
+  writer_page : (s : WriterState) (f : WriterStep) (x : WriterState) (k : LogGhost) → LogHalf D c (shared_left m (writer_op s f)) k q (set actors seat (actor.Writer x)) → D.stable p ≤ D.stable q → ◌≡◌ {A = E.Part} e d → Done (shared_left m (writer_op s f)) g.log ls (actor.Writer x)
   writer_page s (writer_step.Advance advance_step.LoadTail) x k after ge v = pass both seat _ (actor.Writer x) k after ge refl refl refl refl refl refl (omega arith) tt v
   writer_page s (writer_step.Advance advance_step.LoadLink) x k after ge v = pass both seat _ (actor.Writer x) k after ge refl refl refl refl refl refl (omega arith) tt v
   writer_page s (writer_step.Advance advance_step.ClearLink) x k after ge v = pass both seat _ (actor.Writer x) k after ge refl refl refl refl refl refl (omega arith) tt v
   writer_page s (writer_step.Advance advance_step.FreeTail) x k after ge v = pass both seat _ (actor.Writer x) k after ge refl refl refl refl refl refl (omega arith) tt v
   writer_page s (writer_step.Advance advance_step.TakeTail) x k after ge v = by (eqb (tail_word m.wtail m.wheld) (tail_word s.advance.tail false)) after
     where
-      by : (b : Bool) → LogHalf D c spare (cond b (wrote m word.Wtail (tail_word s.advance.tail true)) m) k q (set actors seat (actor.Writer x)) → Done (cond b (wrote m word.Wtail (tail_word s.advance.tail true)) m) g.log ls (actor.Writer x)
+      by : (b : Bool) → LogHalf D c (cond b (wrote m word.Wtail (tail_word s.advance.tail true)) m) k q (set actors seat (actor.Writer x)) → Done (cond b (wrote m word.Wtail (tail_word s.advance.tail true)) m) g.log ls (actor.Writer x)
       by true a = pass both seat _ (actor.Writer x) k a ge refl refl refl refl refl refl (omega arith) tt v
       by false a = pass both seat _ (actor.Writer x) k a ge refl refl refl refl refl refl (omega arith) tt v
   writer_page s writer_step.LoadCheckpoint x k after ge v = pass both seat _ (actor.Writer x) k after ge refl refl refl refl refl refl (omega arith) tt v
@@ -67,11 +67,11 @@ module _ (D : LogSide) (L : LogLaws D) (E : DataSide) (c : Setup) (spare : ℕ) 
   writer_page s writer_step.Failed x k after ge v = pass both seat _ (actor.Writer x) k after ge refl refl refl refl refl refl (omega arith) tt v
   writer_page s writer_step.TakeDevice x k after ge v = by (eqb m.device 0) after
     where
-      by : (b : Bool) → LogHalf D c spare (cond b (record m { device = 1 }) m) k q (set actors seat (actor.Writer x)) → Done (cond b (record m { device = 1 }) m) g.log ls (actor.Writer x)
+      by : (b : Bool) → LogHalf D c (cond b (record m { device = 1 }) m) k q (set actors seat (actor.Writer x)) → Done (cond b (record m { device = 1 }) m) g.log ls (actor.Writer x)
       by true a = pass both seat _ (actor.Writer x) k a ge refl refl refl refl refl refl (omega arith) tt v
       by false a = pass both seat _ (actor.Writer x) k a ge refl refl refl refl refl refl (omega arith) tt v
 
-  flusher_page : (t : FlusherState) (f : FlusherStep) (x : FlusherState) (k : LogGhost) → (f ≡ flusher_step.StoreFlushed → m.flushed ≤ t.mark) → LogHalf D c spare (shared_left m (flusher_op t f)) k q (set actors seat (actor.Flusher x)) → D.stable p ≤ D.stable q → ◌≡◌ {A = E.Part} e d → Done (shared_left m (flusher_op t f)) g.log ls (actor.Flusher x)
+  flusher_page : (t : FlusherState) (f : FlusherStep) (x : FlusherState) (k : LogGhost) → (f ≡ flusher_step.StoreFlushed → m.flushed ≤ t.mark) → LogHalf D c (shared_left m (flusher_op t f)) k q (set actors seat (actor.Flusher x)) → D.stable p ≤ D.stable q → ◌≡◌ {A = E.Part} e d → Done (shared_left m (flusher_op t f)) g.log ls (actor.Flusher x)
   flusher_page t flusher_step.LoadWrite x k up after ge v = pass both seat _ (actor.Flusher x) k after ge refl refl refl refl refl refl (omega arith) tt v
   flusher_page t flusher_step.GiveBroken x k up after ge v = pass both seat _ (actor.Flusher x) k after ge refl refl refl refl refl refl (omega arith) tt v
   flusher_page t flusher_step.Sync x k up after ge v = pass both seat _ (actor.Flusher x) k after ge refl refl refl refl refl refl (omega arith) tt v
@@ -82,11 +82,11 @@ module _ (D : LogSide) (L : LogLaws D) (E : DataSide) (c : Setup) (spare : ℕ) 
   flusher_page t flusher_step.Failed x k up after ge v = pass both seat _ (actor.Flusher x) k after ge refl refl refl refl refl refl (omega arith) tt v
   flusher_page t flusher_step.TakeDevice x k up after ge v = by (eqb m.device 0) after
     where
-      by : (b : Bool) → LogHalf D c spare (cond b (record m { device = 1 }) m) k q (set actors seat (actor.Flusher x)) → Done (cond b (record m { device = 1 }) m) g.log ls (actor.Flusher x)
+      by : (b : Bool) → LogHalf D c (cond b (record m { device = 1 }) m) k q (set actors seat (actor.Flusher x)) → Done (cond b (record m { device = 1 }) m) g.log ls (actor.Flusher x)
       by true a = pass both seat _ (actor.Flusher x) k a ge refl refl refl refl refl refl (omega arith) tt v
       by false a = pass both seat _ (actor.Flusher x) k a ge refl refl refl refl refl refl (omega arith) tt v
 
-  reader_page : (t : ReaderState) (f : ReaderStep) (x : ReaderState) (k : LogGhost) → LogHalf D c spare (shared_left m (reader_op t f)) k q (set actors seat (actor.Reader x)) → D.stable p ≤ D.stable q → ◌≡◌ {A = E.Part} e d → Done (shared_left m (reader_op t f)) g.log ls (actor.Reader x)
+  reader_page : (t : ReaderState) (f : ReaderStep) (x : ReaderState) (k : LogGhost) → LogHalf D c (shared_left m (reader_op t f)) k q (set actors seat (actor.Reader x)) → D.stable p ≤ D.stable q → ◌≡◌ {A = E.Part} e d → Done (shared_left m (reader_op t f)) g.log ls (actor.Reader x)
   reader_page t reader_step.LoadFlushed x k after ge v = pass both seat _ (actor.Reader x) k after ge refl refl refl refl refl refl (omega arith) tt v
   reader_page t reader_step.GiveBroken x k after ge v = pass both seat _ (actor.Reader x) k after ge refl refl refl refl refl refl (omega arith) tt v
   reader_page t reader_step.ReadBlock x k after ge v = pass both seat _ (actor.Reader x) k after ge refl refl refl refl refl refl (omega arith) tt v
@@ -99,7 +99,7 @@ module _ (D : LogSide) (L : LogLaws D) (E : DataSide) (c : Setup) (spare : ℕ) 
   reader_page t reader_step.Failed x k after ge v = pass both seat _ (actor.Reader x) k after ge refl refl refl refl refl refl (omega arith) tt v
   reader_page t reader_step.TakeDevice x k after ge v = by (eqb m.device 0) after
     where
-      by : (b : Bool) → LogHalf D c spare (cond b (record m { device = 1 }) m) k q (set actors seat (actor.Reader x)) → Done (cond b (record m { device = 1 }) m) g.log ls (actor.Reader x)
+      by : (b : Bool) → LogHalf D c (cond b (record m { device = 1 }) m) k q (set actors seat (actor.Reader x)) → Done (cond b (record m { device = 1 }) m) g.log ls (actor.Reader x)
       by true a = pass both seat _ (actor.Reader x) k a ge refl refl refl refl refl refl (omega arith) tt v
       by false a = pass both seat _ (actor.Reader x) k a ge refl refl refl refl refl refl (omega arith) tt v
 
@@ -108,7 +108,7 @@ module _ (D : LogSide) (L : LogLaws D) (E : DataSide) (c : Setup) (spare : ℕ) 
     S1 = both.logged.each seat (actor.Writer s) at
 
     writer_ge : (f : WriterStep) → marks.WriterAt D c m g p seat s f → LogServed D p (Blocks s.kept s.firsts) (writer_op s f) code q → D.stable p ≤ D.stable q
-    writer_ge writer_step.WriteTo k v = let r = (L.writes c.blocks c.base g.log g.write g.target code s.kept s.firsts p q both.logged.global.part.holds (can_write D L c spare m g p actors seat s both.logged at k) (subst (λ (t : ℕ). D.Wrote t s.kept s.firsts code p q) S1.tail v)).stable in omega arith
+    writer_ge writer_step.WriteTo k v = let r = (L.writes c.blocks c.base g.log g.write g.target code s.kept s.firsts p q both.logged.global.part.holds (can_write D L c m g p actors seat s both.logged at k) (subst (λ (t : ℕ). D.Wrote t s.kept s.firsts code p q) S1.tail v)).stable in omega arith
     writer_ge (writer_step.Advance advance_step.LoadTail) k v = still_part D v
     writer_ge _ k v = still_part D v
 
@@ -120,7 +120,7 @@ module _ (D : LogSide) (L : LogLaws D) (E : DataSide) (c : Setup) (spare : ℕ) 
     writer_lists (writer_step.Advance advance_step.LoadTail) l m' b r = r
     writer_lists _ l m' b r = r
 
-    pub writer_turn : (b : Bool) (x : WriterState) (k : LogGhost) → LogHalf D c spare (shared_left m (cond b (op.Load word.Failed) (writer_op s s.step))) k q (set actors seat (actor.Writer x)) → LogServed D p (Blocks s.kept s.firsts) (cond b (op.Load word.Failed) (writer_op s s.step)) code q
+    pub writer_turn : (b : Bool) (x : WriterState) (k : LogGhost) → LogHalf D c (shared_left m (cond b (op.Load word.Failed) (writer_op s s.step))) k q (set actors seat (actor.Writer x)) → LogServed D p (Blocks s.kept s.firsts) (cond b (op.Load word.Failed) (writer_op s s.step)) code q
         → DataServed E d (Blocks s.kept s.firsts) (cond b (op.Load word.Failed) (writer_op s s.step)) code e
         → Done (shared_left m (cond b (op.Load word.Failed) (writer_op s s.step))) g.log (lists_left ls (λ i. slice_index m.lists i) (cond b (op.Load word.Failed) (writer_op s s.step))) (actor.Writer x)
     writer_turn true x k after w v = pass both seat m (actor.Writer x) k after (still_part D w) refl refl refl refl refl refl (omega arith) tt v
@@ -147,7 +147,7 @@ module _ (D : LogSide) (L : LogLaws D) (E : DataSide) (c : Setup) (spare : ℕ) 
     flusher_lists flusher_step.LoadWrite l m' b r = r
     flusher_lists _ l m' b r = r
 
-    pub flusher_turn : (b : Bool) (x : FlusherState) (k : LogGhost) → LogHalf D c spare (shared_left m (cond b (op.Load word.Failed) (flusher_op t t.step))) k q (set actors seat (actor.Flusher x)) → LogServed D p Nothing (cond b (op.Load word.Failed) (flusher_op t t.step)) code q
+    pub flusher_turn : (b : Bool) (x : FlusherState) (k : LogGhost) → LogHalf D c (shared_left m (cond b (op.Load word.Failed) (flusher_op t t.step))) k q (set actors seat (actor.Flusher x)) → LogServed D p Nothing (cond b (op.Load word.Failed) (flusher_op t t.step)) code q
         → DataServed E d Nothing (cond b (op.Load word.Failed) (flusher_op t t.step)) code e
         → Done (shared_left m (cond b (op.Load word.Failed) (flusher_op t t.step))) g.log (lists_left ls (λ i. slice_index m.lists i) (cond b (op.Load word.Failed) (flusher_op t t.step))) (actor.Flusher x)
     flusher_turn true x k after w v = pass both seat m (actor.Flusher x) k after (still_part D w) refl refl refl refl refl refl (omega arith) tt v
@@ -205,7 +205,7 @@ module _ (D : LogSide) (L : LogLaws D) (E : DataSide) (c : Setup) (spare : ℕ) 
     reader_lists reader_step.LoadFlushed l m' b r = r
     reader_lists _ l m' b r = r
 
-    pub reader_turn : (b : Bool) (x : ReaderState) (k : LogGhost) → LogHalf D c spare (shared_left m (cond b (op.Load word.Failed) (reader_op t t.step))) k q (set actors seat (actor.Reader x)) → LogServed D p (Room t.block) (cond b (op.Load word.Failed) (reader_op t t.step)) code q
+    pub reader_turn : (b : Bool) (x : ReaderState) (k : LogGhost) → LogHalf D c (shared_left m (cond b (op.Load word.Failed) (reader_op t t.step))) k q (set actors seat (actor.Reader x)) → LogServed D p (Room t.block) (cond b (op.Load word.Failed) (reader_op t t.step)) code q
         → DataServed E d (Room t.block) (cond b (op.Load word.Failed) (reader_op t t.step)) code e
         → Done (shared_left m (cond b (op.Load word.Failed) (reader_op t t.step))) g.log (lists_left ls (λ i. slice_index m.lists i) (cond b (op.Load word.Failed) (reader_op t t.step))) (actor.Reader x)
     reader_turn true x k after w v = pass both seat m (actor.Reader x) k after (still_part D w) refl refl refl refl refl refl (omega arith) tt v

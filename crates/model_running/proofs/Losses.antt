@@ -1,13 +1,12 @@
 -- What is lost at the end of a run, or left, is lost by a user that has met a failure.
-use Rattle.std.proofs.Common.{List, Some, [], ap, arith, cond, inl, inr, length, refl, slice_get, subst, suc, sym, ℕ, ⊎_elim, ◌+◌, ◌<◌, ◌==◌, ◌↔◌, ◌∙◌, ◌∷◌, ◌≡◌, ◌≢◌, ◌≤◌}
+use Rattle.std.proofs.Common.{List, Some, [], ap, arith, cond, inl, inr, length, refl, slice_get, subst, suc, sym, ℕ, ⊎_elim, ◌+◌, ◌<◌, ◌==◌, ◌∙◌, ◌∷◌, ◌≡◌, ◌≢◌, ◌≤◌}
 use lib.ListN.{get_elem?}
 use native.Mathlib.Decide.{dec_le, ℕ_discrete}
 use Rattle.model_base.specs.declared.shape.Shape.{Shape}
 use Rattle.model_core.specs.{Actor, entries, entries_from, entry, found, Line, line_at, SharedWords, sum_of, UserState}
 use Rattle.model_core.specs.LogSide.{LogSide}
 use Rattle.model_core.specs.Setup.{Setup}
-use Rattle.model_running.proofs.Legality.{counts, from_log, lost_unanswered, unanswered_lost}
-use Rattle.model_running.specs.Ended.{IsAtEnd, IsLostBy}
+use Rattle.model_running.proofs.Legality.{counts, from_log, lost_unanswered}
 use Rattle.model_running.specs.History.{history_of}
 use Rattle.model_running.specs.Script.{HasSeats, IsOfScript}
 use Rattle.model_report.specs.{entries_of_user, IsLeft, lines_of_user}
@@ -18,7 +17,7 @@ use Rattle.model_logcore.proofs.UserGroups.{count_front, count_some, none_of}
 use Rattle.model_logcore.proofs.WriterSteps.{own}
 use Rattle.model_logcore.specs.{count_of, LogGhost, sum_over_actors, UserAt, UserFits}
 use Rattle.model_logcore.specs.LogHalf.{LogHalf}
-use Rattle.model_running.specs.Schedule.{HasEnded}
+use Rattle.model_running.specs.Schedule.{HasEnded, HaveEnded}
 use Rattle.model_script.specs.declared.script.ScriptLine.{ScriptLine}
 use Rattle.model_core.specs.declared.steps.UserStep.{UserStep}
 use Rattle.model_core.specs.declared.steps.UserStep.TheVariants as user_step
@@ -41,12 +40,12 @@ own_user user v lines k (s ∷ ss) more = elim (ℕ_discrete user v) [
   | no n ↦ own_user user v lines (k + 1) ss (let z = none_of v (entry user k s (line_at lines k)) n in omega arith)
 ]
 
-module _ (D : LogSide) (c : Setup) (spare : ℕ) (m : SharedWords) (g : LogGhost) (p : D.Part) (actors : List Actor) (half : LogHalf D c spare m g p actors) where
+module _ (D : LogSide) (c : Setup) (m : SharedWords) (g : LogGhost) (p : D.Part) (actors : List Actor) (half : LogHalf D c m g p actors) where
   -- of a user that has a seat, a commit is answered where its line is below the seat's
   pub answered_is : (seat : ℕ) (u : UserState) → get_elem? actors seat ≡ maybe.some (actor.User u) → g.answered u.user ≡ u.k
   answered_is seat u at = let f : UserFits D c m g p seat u = half.each seat (actor.User u) at in f.answers
 
-  module _ (end : IsAtEnd actors) where
+  module _ (ended_users : HaveEnded actors) where
     ended_here : (v k seat : ℕ) (u : UserState) → get_elem? actors seat ≡ maybe.some (actor.User u) → u.user ≡ v → k < count_of v g.log → g.answered v ≤ k → (u.step ≡ user_step.Failed) × (k ≡ u.k) × (0 < m.failed)
     ended_here v k seat u at own below unanswered =
         let f : UserFits D c m g p seat u = half.each seat (actor.User u) at in
@@ -54,20 +53,14 @@ module _ (D : LogSide) (c : Setup) (spare : ℕ) (m : SharedWords) (g : LogGhost
         let n : count_of v g.log ≡ length u.starts = sym (ap (λ (x : ℕ). count_of x g.log) own) ∙ f.counted in
         ⊎_elim (λ done. let z : UserAt D c m g p seat u user_step.Done = subst (UserAt D c m g p seat u) done f.step in let y = z.0 in absurd (omega arith))
         (λ failed. let z : UserAt D c m g p seat u user_step.Failed = subst (UserAt D c m g p seat u) failed f.step in let y = z.0 in (failed, omega arith, z.1))
-        (end.users seat u at)
+        (ended_users seat u at)
 
-    ended : (v k seat : ℕ) (u : UserState) → get_elem? actors seat ≡ maybe.some (actor.User u) → u.user ≡ v → k < count_of v g.log → g.answered v ≤ k → IsLostBy actors v k × (0 < m.failed)
-    ended v k seat u at own below unanswered =
-        let r = ended_here v k seat u at own below unanswered in
-        (record { seat = seat; state = u; at = at; own = own; met_failure = r.0; unanswered = r.1 }, r.2)
-
-    by_actor : (e : core.Entry) (k seat : ℕ) (a : Actor) → get_elem? actors seat ≡ maybe.some a → 0 < count_of e.user (entries a) → k < count_of e.user g.log → g.answered e.user ≤ k → IsLostBy actors e.user k × (0 < m.failed)
-    by_actor e k seat (actor.User u) at more below unanswered = ended e.user k seat u at (own_user u.user e.user u.lines 0 u.starts more) below unanswered
-    by_actor e k seat (actor.Joined es) at more below unanswered = let z : count_of e.user es ≡ 0 = ap (count_of e.user) (end.unjoined seat es at) in absurd (omega arith)
+    by_actor : (e : core.Entry) (k seat : ℕ) (a : Actor) → get_elem? actors seat ≡ maybe.some a → 0 < count_of e.user (entries a) → k < count_of e.user g.log → g.answered e.user ≤ k → 0 < m.failed
+    by_actor e k seat (actor.User u) at more below unanswered = (ended_here e.user k seat u at (own_user u.user e.user u.lines 0 u.starts more) below unanswered).2
     by_actor e k seat _ at more below unanswered = absurd (omega arith)
 
-    -- a group whose commit isn't answered is the last of a user that has met a failure
-    pub unanswered_group : (i : ℕ) (e : core.Entry) → get_elem? g.log i ≡ maybe.some e → g.answered e.user ≤ e.k → IsLostBy actors e.user e.k × (0 < m.failed)
+    -- where a group's commit isn't answered its user has met a failure
+    pub unanswered_group : (i : ℕ) (e : core.Entry) → get_elem? g.log i ≡ maybe.some e → g.answered e.user ≤ e.k → 0 < m.failed
     unanswered_group i e is unanswered =
         let more = count_some g.log i e is in
         let all = half.counted (λ x. cond (x.user == e.user) 1 0) in
@@ -77,12 +70,12 @@ module _ (D : LogSide) (c : Setup) (spare : ℕ) (m : SharedWords) (g : LogGhost
         by_actor e e.k s.0 s.1 s.2 s.3 (omega arith) unanswered
 
     -- a lost entry of the history
-    pub lost_entry : (marks : Marks) (i : ℕ) (one : Entry) → slice_get (history_of g.answered marks g.log) i ≡ Some one → one.state ≡ Lost → IsLostBy actors one.user one.k × (0 < m.failed)
+    pub lost_entry : (marks : Marks) (i : ℕ) (one : Entry) → slice_get (history_of g.answered marks g.log) i ≡ Some one → one.state ≡ Lost → 0 < m.failed
     lost_entry marks i one found lost =
         let r = from_log g.answered marks g.log i one found in
         let e : core.Entry = r.0 in
         let n = lost_unanswered (g.answered e.user) marks e (ap (λ (z : Entry). z.state) r.2 ∙ lost) in
-        subst (λ (z : Entry). IsLostBy actors z.user z.k × (0 < m.failed)) r.2 (unanswered_group i e r.1 n)
+        unanswered_group i e r.1 n
 
     -- a user that has lines left has met a failure
     pub left_user : (v seat : ℕ) (u : UserState) → get_elem? actors seat ≡ maybe.some (actor.User u) → u.user ≡ v → count_of v g.log < length (c.script v) → (u.step ≡ user_step.Failed) × (0 < m.failed)
@@ -92,7 +85,7 @@ module _ (D : LogSide) (c : Setup) (spare : ℕ) (m : SharedWords) (g : LogGhost
         let l : length u.lines ≡ length (c.script v) = ap length (f.lines ∙ ap c.script own) in
         ⊎_elim (λ done. let z : UserAt D c m g p seat u user_step.Done = subst (UserAt D c m g p seat u) done f.step in let y = z.0 in let x = z.1 in absurd (omega arith))
         (λ failed. let z : UserAt D c m g p seat u user_step.Failed = subst (UserAt D c m g p seat u) failed f.step in (failed, z.1))
-        (end.users seat u at)
+        (ended_users seat u at)
 
     pub left_lines : (marks : Marks) (script : List ScriptLine) (shape : Shape) (left : List (ℕ × ℕ)) → IsOfScript c script shape → HasSeats script actors → IsLeft script (history_of g.answered marks g.log) left → left ≢ [] → 0 < m.failed
     left_lines marks script shape [] S seats is more = absurd (more refl)
@@ -103,19 +96,6 @@ module _ (D : LogSide) (c : Setup) (spare : ℕ) (m : SharedWords) (g : LogGhost
         let k = S.count pair.0 in
         let s = seats pair.0 (omega arith) in
         (left_user pair.0 s.0 s.1 s.2 s.3 (omega arith)).1
-
-    -- and so is an entry of the history
-    pub lost_entry_exactly : (marks : Marks) (i : ℕ) (one : Entry) → slice_get (history_of g.answered marks g.log) i ≡ Some one → (one.state ≡ Lost) ↔ IsLostBy actors one.user one.k
-    lost_entry_exactly marks i one found = (
-      (λ lost. (lost_entry marks i one found lost).0),
-      (λ by.
-          let r = from_log g.answered marks g.log i one found in
-          let e : core.Entry = r.0 in
-          let user : e.user ≡ one.user = ap (λ (z : Entry). z.user) r.2 in
-          let k : e.k ≡ one.k = ap (λ (z : Entry). z.k) r.2 in
-          let a : g.answered e.user ≡ by.state.k = ap g.answered (user ∙ sym by.own) ∙ answered_is by.seat by.state by.at in
-          sym (ap (λ (z : Entry). z.state) r.2) ∙ unanswered_lost (g.answered e.user) marks e (let n = by.unanswered in omega arith)),
-    )
 
   -- a user that hasn't ended has a line left whose commit isn't answered
   pub open_line : (seat : ℕ) (u : UserState) → get_elem? actors seat ≡ maybe.some (actor.User u) → (HasEnded u → ⊥) → u.k < length (c.script u.user)

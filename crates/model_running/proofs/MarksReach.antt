@@ -27,4 +27,3 @@ module _ (D : LogSide) (E : DataSide) (c : Setup) (s : Core D E) (has_marks : Ha
   within_words i (model.Closer t) at = tt
   within_words i (model.Cleaner v) at = has_marks.2.kept_pages_are_prefixes.cleaner_loaded i v at
   within_words i (model.Checkpointer t) at = ((has_marks.2.kept_pages_are_prefixes.loaded i t at).1, (let own = has_marks.2.of_log.marks_are_ordered.own i (model.Checkpointer t) at in omega arith))
-  within_words i (model.Joined es) at = tt

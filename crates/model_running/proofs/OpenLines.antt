@@ -34,14 +34,14 @@ found_of v (x ∷ xs) more = elim (ℕ_discrete x.user v) [
   | no other ↦ (let r = found_of v xs (let z = none_of v x other in omega arith) in (suc r.0, r.1, r.2, r.3))
 ]
 
-module _ (D : LogSide) (c : Setup) (spare : ℕ) (m : SharedWords) (g : LogGhost) (p : D.Part) (actors : List Actor) (half : LogHalf D c spare m g p actors) (marks : Marks) where
+module _ (D : LogSide) (c : Setup) (m : SharedWords) (g : LogGhost) (p : D.Part) (actors : List Actor) (half : LogHalf D c m g p actors) (marks : Marks) where
   -- the line in hand, or the next one, of a user has no entry or a lost one
   unanswered_line : (seat : ℕ) (u : UserState) → get_elem? actors seat ≡ maybe.some (actor.User u) → (i : ℕ) (one : Entry)
       → slice_get (entries_of_user u.user (history_of g.answered marks g.log)) i ≡ Some one → one.k ≡ u.k → one.state ≡ Lost
   unanswered_line seat u at i one found line =
       let r = ranked g.answered marks u.user i g.log one found in
       let k : r.group.k ≡ one.k = ap (λ (z : Entry). z.k) r.entry_is in
-      let a : g.answered r.group.user ≡ u.k = ap g.answered r.own ∙ answered_is D c spare m g p actors half seat u at in
+      let a : g.answered r.group.user ≡ u.k = ap g.answered r.own ∙ answered_is D c m g p actors half seat u at in
       sym (ap (λ (z : Entry). z.state) r.entry_is) ∙ unanswered_lost (g.answered r.group.user) marks r.group (omega arith)
 
   -- so many of a user's commits are answered as have a group: none of them is lost
@@ -87,7 +87,7 @@ module _ (D : LogSide) (c : Setup) (spare : ℕ) (m : SharedWords) (g : LogGhost
         → LeavesOpen script (history_of g.answered marks g.log) P user
     leaves_open P met user seat u at own open_user least = record {
       line = u.k;
-      is_line = (let k = open_line D c spare m g p actors half seat u at open_user in
+      is_line = (let k = open_line D c m g p actors half seat u at open_user in
           let s = S.count user in
           let n : length (c.script u.user) ≡ length (c.script user) = ap (λ (v : ℕ). length (c.script v)) own in
           omega arith);

@@ -157,7 +157,6 @@ module _ (c : Setup) (m m' : SharedWords) (log log' : List Entry) (sn : ℕ) (ti
   others_read seat up same j ne (actor.Flusher s) h = tt
   others_read seat up same j ne (actor.Closer s) h = tt
   others_read seat up same j ne (actor.Cleaner s) h = tt
-  others_read seat up same j ne (actor.Joined es) h = tt
 
 -- A READER'S OWN STATE CHANGES, and of what it has of the log nothing does.
 module _ (c : Setup) (m : SharedWords) (log : List Entry) (r : ReaderState) (mark : ℕ) (block : List ℕ) (texts : List (List ℕ)) (code : ℕ) (checks : Bool) (st : ReaderStep) where

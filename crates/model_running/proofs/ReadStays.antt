@@ -139,10 +139,10 @@ fits_either c m log seat true x y one two = one
 fits_either c m log seat false x y one two = two
 
 -- each group of the log is a text
-pub texts_of_log : (D : LogSide) (E : DataSide) (c : Setup) (spare : ℕ) (m : SharedWords) (g : LogGhost) (h : PageGhost)
+pub texts_of_log : (D : LogSide) (E : DataSide) (c : Setup) (m : SharedWords) (g : LogGhost) (h : PageGhost)
     (ls : ℕ → List Listed) (p : D.Part) (d : E.Part) (actors : List Actor)
-    → BothHalves D E c spare m g h ls p d actors → AreTexts g.log
-texts_of_log D E c spare m g h ls p d actors both =
+    → BothHalves D E c m g h ls p d actors → AreTexts g.log
+texts_of_log D E c m g h ls p d actors both =
     texts_of g.log (λ i e is. let l = both.logged.global.tiled.lines i e is in
     subst IsText (sym l.1) (both.script.texts e.user e.k l.0))
 
@@ -150,27 +150,27 @@ pub same_log : (log : List Entry) (sn : ℕ) → LogGrows log log sn
 same_log log sn = record { how = inl refl }
 
 -- what the checkpointer is about to give is what the pages have passed
-pub given_to : (D : LogSide) (E : DataSide) (c : Setup) (spare : ℕ) (m : SharedWords) (g : LogGhost) (h : PageGhost) (ls : ℕ → List Listed) (p : D.Part) (d : E.Part) (actors : List Actor) (seat : ℕ) (both : BothHalves D E c spare m g h ls p d actors)
+pub given_to : (D : LogSide) (E : DataSide) (c : Setup) (m : SharedWords) (g : LogGhost) (h : PageGhost) (ls : ℕ → List Listed) (p : D.Part) (d : E.Part) (actors : List Actor) (seat : ℕ) (both : BothHalves D E c m g h ls p d actors)
     (t : CheckpointerState) → get_elem? actors seat ≡ some (actor.Checkpointer t) → t.step ≡ checkpointer_step.Checkpoint → t.to ≤ h.given
-given_to D E c spare m g h ls p d actors seat both t at is =
+given_to D E c m g h ls p d actors seat both t at is =
     let F : CheckpointerPageFits E c m g.log h ls d seat t = both.paged.each seat (actor.Checkpointer t) at in
     let o : CheckpointerPagesAt E c m g.log h ls d seat t checkpointer_step.Checkpoint = subst (CheckpointerPagesAt E c m g.log h ls d seat t) is F.step in
     let bound = o.1 in omega arith
 
 -- where the log device told before the turn what it means, and does so after it
-module _ (D : LogSide) (L : LogLaws D) (E : DataSide) (EL : DataLaws E) (c : Setup) (spare : ℕ) (m : SharedWords)
+module _ (D : LogSide) (L : LogLaws D) (E : DataSide) (EL : DataLaws E) (c : Setup) (m : SharedWords)
     (g : LogGhost) (h : PageGhost) (ls : ℕ → List Listed) (p : D.Part) (d : E.Part) (actors : List Actor) (seat : ℕ)
-    (both : BothHalves D E c spare m g h ls p d actors) (code : ℕ) (q : D.Part)
+    (both : BothHalves D E c m g h ls p d actors) (code : ℕ) (q : D.Part)
     (told : D.Tells q) (before : D.Tells p) where
   tiles : Tiles c.base g.log m.sn
   tiles = both.logged.global.tiled.tiles
 
   all : AreTexts g.log
-  all = texts_of_log D E c spare m g h ls p d actors both
+  all = texts_of_log D E c m g h ls p d actors both
 
   -- no checkpoint is above a reader's place
   asked_under : (a : Actor) → get_elem? actors seat ≡ some a → LogServed D p (lent a) (next a) code q → (i : ℕ) → c.first_reader ≤ i → i < c.last_reader → D.asked q ≤ slice_index m.places i
-  asked_under a at w i low high = asked_bound D L E EL c spare m g h ls p d actors seat both code q
+  asked_under a at w i low high = asked_bound D L E EL c m g h ls p d actors seat both code q
       (slice_index m.places i) ((both.reading before).asked i low high)
       (λ t there is. let T : CandidateFits c m g.log t = (both.reading before).each seat (actor.Checkpointer t) there in
       let under : CandidateAt c m g.log t checkpointer_step.Checkpoint = subst (CandidateAt c m g.log t) is T.step in under i low high) a at w
@@ -452,4 +452,3 @@ module _ (D : LogSide) (L : LogLaws D) (E : DataSide) (EL : DataLaws E) (c : Set
   read_kept (actor.Checkpointer t) at full w = quiet _ _ _ (same_log g.log m.sn) (left_reads m (cond t.checks (op.Load word.Failed) (checkpointer_op t t.step)) (asks t.checks (checkpointer_op t t.step) (checkpointer_leaves t t.step))) (asked_under (actor.Checkpointer t) at w)
       (checkpointer_any t at t.checks)
   read_kept (actor.Reader r) at full w = reader_any r at r.checks refl full w (asked_under (actor.Reader r) at w)
-  read_kept (actor.Joined es) at full w = quiet m g.log (actor.Joined es) (same_log g.log m.sn) (refl, refl) (asked_under (actor.Joined es) at w) tt

@@ -32,9 +32,9 @@ use Rattle.model_running.proofs.ReadTurns.{follows}
 use Rattle.model_running.specs.ReadHalf.{FollowerAt, FollowerHas, groups_upto, handed, handed_at, HasByKind, ReaderHas}
 use Rattle.model_running.specs.RunningStore.{BothHalves, IsRunning}
 
-module _ (D : LogSide) (L : LogLaws D) (E : DataSide) (EL : DataLaws E) (c : Setup) (spare : ℕ) (m : SharedWords)
+module _ (D : LogSide) (L : LogLaws D) (E : DataSide) (EL : DataLaws E) (c : Setup) (m : SharedWords)
     (g : LogGhost) (h : PageGhost) (ls : ℕ → List Listed) (p : D.Part) (d : E.Part) (actors : List Actor) (seat : ℕ)
-    (both : BothHalves D E c spare m g h ls p d actors) (told : D.Tells p) where
+    (both : BothHalves D E c m g h ls p d actors) (told : D.Tells p) where
   follower : (j : ℕ) (r : ReaderState) → get_elem? actors j ≡ some (actor.Reader r) → archives r ≡ false
       → FollowerHas c m g.log r
   follower j r at kind =
@@ -52,7 +52,7 @@ module _ (D : LogSide) (L : LogLaws D) (E : DataSide) (EL : DataLaws E) (c : Set
       (bound_upto g.log c.base m.sn r.at tiles F.bound)
     where
       grows : (a : Actor) → get_elem? actors seat ≡ some a → LogGrows g.log (log_left g.log m.sn a) m.sn
-      grows (actor.User u) at = reserved D L E EL c spare m g h ls p d actors seat both 0 p told told u at u.checks refl
+      grows (actor.User u) at = reserved D L E EL c m g h ls p d actors seat both 0 p told told u at u.checks refl
       grows _ at = same_log g.log m.sn
 
   -- its own turn adds those that it hands on
@@ -74,7 +74,7 @@ module _ (D : LogSide) (L : LogLaws D) (E : DataSide) (EL : DataLaws E) (c : Set
       R = (both.reading told).each seat (actor.Reader r) at
 
       all : AreTexts g.log
-      all = texts_of_log D E c spare m g h ls p d actors both
+      all = texts_of_log D E c m g h ls p d actors both
 
       given : (b : Bool) → archives r ≡ b → FollowerAt c m g.log r reader_step.GiveDevice
           → AreInFront (pending r) r.texts → Grown (cond b (to_append r) (followed r)) (placed_at r.at r.texts)
@@ -134,32 +134,32 @@ filled_same r f reader_step.GiveDevice = (refl, refl)
 filled_same r f _ = (refl, refl)
 
 -- THE GROUPS UP TO A FOLLOWER'S PLACE, in the log after a turn, are those before it and then what it hands on.
-module _ (D : LogSide) (L : LogLaws D) (E : DataSide) (EL : DataLaws E) (c : Setup) (spare : ℕ) (old new : Core D E)
-    (seat : ℕ) (answer : Answer) (step : Step) (before : IsRunning D E c spare old)
+module _ (D : LogSide) (L : LogLaws D) (E : DataSide) (EL : DataLaws E) (c : Setup) (old new : Core D E)
+    (seat : ℕ) (answer : Answer) (step : Step) (before : IsRunning D E c old)
     (t : Turn D E old seat answer step new) (told : D.Tells new.log_part) where
   abbrev log : List Entry
   log = before.log_ghost.log
 
   abbrev then : List Entry
-  then = log_then D L E EL c spare old new seat answer step before t
+  then = log_then D L E EL c old new seat answer step before t
 
   abbrev who : Actor
-  who = who_filled D L E EL c spare old new seat answer step before t
+  who = who_filled D L E EL c old new seat answer step before t
 
   abbrev actors : List Actor
-  actors = actors_filled D L E EL c spare old new seat answer step before t
+  actors = actors_filled D L E EL c old new seat answer step before t
 
-  both : BothHalves D E c spare before.shared before.log_ghost before.page_ghost old.lists old.log_part old.data_part
+  both : BothHalves D E c before.shared before.log_ghost before.page_ghost old.lists old.log_part old.data_part
       actors
-  both = both_filled D L E EL c spare old new seat answer step before t
+  both = both_filled D L E EL c old new seat answer step before t
 
   who_at : get_elem? actors seat ≡ some who
-  who_at = filled_at D L E EL c spare old new seat answer step before t
+  who_at = filled_at D L E EL c old new seat answer step before t
 
   pub told_then : D.Tells old.log_part
-  told_then = told_before D L E EL c spare before.shared before.log_ghost before.page_ghost old.lists old.log_part
+  told_then = told_before D L E EL c before.shared before.log_ghost before.page_ghost old.lists old.log_part
       old.data_part actors seat both t.code new.log_part told who who_at
-      (served_filled D L E EL c spare old new seat answer step before t)
+      (served_filled D L E EL c old new seat answer step before t)
 
   pub receiver_keeps : (j : ℕ) (r w : ReaderState) → get_elem? old.actors j ≡ some (actor.Reader r) → archives r ≡ false
       → get_elem? new.actors j ≡ some (actor.Reader w)
@@ -180,7 +180,7 @@ module _ (D : LogSide) (L : LogLaws D) (E : DataSide) (EL : DataLaws E) (c : Set
       other n =
           let same : ◌≡◌ {A = ReaderState} w r = reader_of w r (some-injective (actor.Reader w) (actor.Reader r)
           (sym moved ∙ set_else old.actors seat j (took who answer) n ∙ there)) in
-          let stays = same_groups D L E EL c spare before.shared before.log_ghost before.page_ghost old.lists
+          let stays = same_groups D L E EL c before.shared before.log_ghost before.page_ghost old.lists
           old.log_part old.data_part actors seat both told_then who who_at j r
           (set_else old.actors seat j who n ∙ there) kind in
           subst By (sym (ne_eqb j seat n))
@@ -203,7 +203,7 @@ module _ (D : LogSide) (L : LogLaws D) (E : DataSide) (EL : DataLaws E) (c : Set
           ∙ ap (λ (a : Actor). took a answer) whole ∙ took_reader s answer in
           let place : w.at ≡ (after_of reader_program s answer).at = ap at_of then_is in
           let same : ◌≡◌ {A = List Entry} then log = ap (log_left log before.shared.sn) whole in
-          let grown = hands_on D L E EL c spare before.shared before.log_ghost before.page_ghost old.lists old.log_part
+          let grown = hands_on D L E EL c before.shared before.log_ghost before.page_ghost old.lists old.log_part
           old.data_part actors seat both told_then s at ((filled_same r f r.step).1 ∙ kind) full answer in
           subst By (sym (eq-eqb j seat e))
           (ap (groups_upto w.at) same ∙ ap (λ (x : ℕ). groups_upto x log) place ∙ grown

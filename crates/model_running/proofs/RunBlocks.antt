@@ -54,21 +54,20 @@ module _ (D : LogSide) (c : Setup) (log log' : List Entry) (sn : ℕ) (grows : L
   at_later r w place block reader_step.Append k = has_later r w place block k
   at_later r w place block _ k = tt
 
-module _ (D : LogSide) (L : LogLaws D) (E : DataSide) (EL : DataLaws E) (c : Setup) (spare : ℕ) (m : SharedWords)
+module _ (D : LogSide) (L : LogLaws D) (E : DataSide) (EL : DataLaws E) (c : Setup) (m : SharedWords)
     (g : LogGhost) (h : PageGhost) (ls : ℕ → List Listed) (p : D.Part) (d : E.Part) (actors : List Actor) (seat : ℕ)
-    (both : BothHalves D E c spare m g h ls p d actors) (code : ℕ) (q : D.Part)
+    (both : BothHalves D E c m g h ls p d actors) (code : ℕ) (q : D.Part)
     (told : D.Tells q) (before : D.Tells p) where
   -- the log that an actor's Op leaves
   pub grown : (a : Actor) → get_elem? actors seat ≡ some a → LogGrows g.log (log_left g.log m.sn a) m.sn
   grown (actor.User u) at =
-      reserved D L E EL c spare m g h ls p d actors seat both code q told before u at u.checks refl
+      reserved D L E EL c m g h ls p d actors seat both code q told before u at u.checks refl
   grown (actor.Writer s) at = same_log g.log m.sn
   grown (actor.Flusher s) at = same_log g.log m.sn
   grown (actor.Closer s) at = same_log g.log m.sn
   grown (actor.Cleaner s) at = same_log g.log m.sn
   grown (actor.Checkpointer s) at = same_log g.log m.sn
   grown (actor.Reader s) at = same_log g.log m.sn
-  grown (actor.Joined es) at = same_log g.log m.sn
 
   -- THE READER WHOSE TURN IT IS
   module _ (r : ReaderState) (at : get_elem? actors seat ≡ some (actor.Reader r)) where
@@ -89,7 +88,7 @@ module _ (D : LogSide) (L : LogLaws D) (E : DataSide) (EL : DataLaws E) (c : Set
         let offset = lsn_offset g.flushed in
         let stable = P.flushed_stable in
         let ready = can_read D c m g.log m.sn p both.logged.global.tiled.tiles O.base_even P.stable P.stable_is
-        P.flushed_stable P.ckpt_asked (texts_of_log D E c spare m g h ls p d actors both)
+        P.flushed_stable P.ckpt_asked (texts_of_log D E c m g h ls p d actors both)
         seat r R ((both.reading before).asked r.number R.first R.last) is sound in
         let here : next_block r ≡ r.place = ap (λ (k : Bool). cond k r.place (floor (lsn (read_to r)))) kind in
         record {
@@ -188,7 +187,6 @@ module _ (D : LogSide) (L : LogLaws D) (E : DataSide) (EL : DataLaws E) (c : Set
   left (actor.Cleaner s) at w r same kind = absurd (stays_other (actor.Cleaner s) (said_to (actor.Cleaner s)) tt r same)
   left (actor.Checkpointer s) at w r same kind =
       absurd (stays_other (actor.Checkpointer s) (said_to (actor.Checkpointer s)) tt r same)
-  left (actor.Joined es) at w r same kind = absurd (stays_other (actor.Joined es) (said_to (actor.Joined es)) tt r same)
 
   -- EACH TURN keeps the archiver's block
   pub blocks_kept : (a : Actor) → get_elem? actors seat ≡ some a → LogServed D p (lent a) (next a) code q

@@ -1,13 +1,11 @@
--- Where each actor has its seat, each user with a line has one, and nothing was joined.
+-- Where each actor has its seat, each user with a line has one.
 use Rattle.std.proofs.Common.{Bool, List, [], ap, arith, false, length, map, subst, suc, sym, true, zero, ℕ, ◌++◌, ◌+◌, ◌∙◌, ◌∷◌, ◌≡◌}
 use lib.ListN.{get_elem?}
 use Rattle.model_base.specs.declared.shape.Shape.{Shape}
 use Rattle.model_core.proofs.Lists.{at_longer}
-use Rattle.model_core.specs.{Actor, CleanerState, Entry, ReaderState, UserState}
+use Rattle.model_core.specs.{Actor, CleanerState, ReaderState, UserState}
 use Rattle.model_core.specs.Setup.{Setup}
-use Rattle.model_running.specs.Ended.{IsAtEnd}
 use Rattle.model_running.specs.Script.{HasSeats, IsOfScript}
-use Rattle.model_running.specs.Schedule.{HaveEnded}
 use Rattle.model_running.specs.Seating.{ArePageActors, AreSeated}
 use Rattle.model_script.specs.declared.script.ScriptLine.{ScriptLine}
 use Rattle.model_core.specs.Actors as actor
@@ -17,31 +15,6 @@ user_at : (users : List UserState) (i : ℕ) (u : UserState) → get_elem? users
 user_at [] i u at = absurd (maybe.some-ne-none u (sym at))
 user_at (x ∷ xs) zero u at = ap maybe.some (ap actor.User (maybe.some-injective x u at))
 user_at (x ∷ xs) (suc i) u at = user_at xs i u at
-
--- no seat was joined
-abbrev pub NoneJoined : List Actor → Type 0
-NoneJoined actors = (seat : ℕ) (es : List Entry) → get_elem? actors seat ≡ maybe.some (actor.Joined es) → es ≡ []
-
-after_users : (users : List UserState) (others : List Actor) → NoneJoined others → NoneJoined (map actor.User users ++ others)
-after_users [] others none seat es at = none seat es at
-after_users (x ∷ xs) others none zero es at = let z = maybe.some-injective (actor.User x) (actor.Joined es) at in absurd (cc)
-after_users (x ∷ xs) others none (suc i) es at = after_users xs others none i es at
-
--- nor among the readers
-readers_none : (readers : List ReaderState) → NoneJoined (map actor.Reader readers)
-readers_none [] seat es at = absurd (maybe.some-ne-none (actor.Joined es) (sym at))
-readers_none (r ∷ rs) zero es at = let z = maybe.some-injective (actor.Reader r) (actor.Joined es) at in absurd (cc)
-readers_none (r ∷ rs) (suc i) es at = readers_none rs i es at
-
-page_actors : (log_only : Bool) (others : List Actor) → ArePageActors log_only others → NoneJoined others
-page_actors true others are = subst NoneJoined (sym are.1) (readers_none are.0)
-page_actors false others are = subst NoneJoined (sym are.2) three
-  where
-    three : NoneJoined (actor.Closer are.0.closer ∷ actor.Cleaner are.0.cleaner ∷ actor.Checkpointer are.0.checkpointer ∷ map actor.Reader are.1)
-    three zero es at = let z = maybe.some-injective (actor.Closer are.0.closer) (actor.Joined es) at in absurd (cc)
-    three (suc zero) es at = let z = maybe.some-injective (actor.Cleaner are.0.cleaner) (actor.Joined es) at in absurd (cc)
-    three (suc (suc zero)) es at = let z = maybe.some-injective (actor.Checkpointer are.0.checkpointer) (actor.Joined es) at in absurd (cc)
-    three (suc (suc (suc i))) es at = readers_none are.1 i es at
 
 -- after the users' seats there is no user
 abbrev NoUsers : List Actor → Type 0
@@ -86,14 +59,6 @@ at_after [] others i = ap (get_elem? others) (let z : 0 + i ≡ i = omega arith 
 at_after (u ∷ users) others i = ap (get_elem? (actor.User u ∷ (map actor.User users ++ others))) (let z : suc (length users) + i ≡ suc (length users + i) = omega arith in z) ∙ at_after users others i
 
 module _ (c : Setup) (actors : List Actor) (seated : AreSeated c actors) where
-  pub none_joined : NoneJoined actors
-  none_joined = subst NoneJoined (sym seated.are) (after_users seated.users (actor.Writer seated.writer ∷ actor.Flusher seated.flusher ∷ seated.others) two)
-    where
-      two : NoneJoined (actor.Writer seated.writer ∷ actor.Flusher seated.flusher ∷ seated.others)
-      two zero es at = let z = maybe.some-injective (actor.Writer seated.writer) (actor.Joined es) at in absurd (cc)
-      two (suc zero) es at = let z = maybe.some-injective (actor.Flusher seated.flusher) (actor.Joined es) at in absurd (cc)
-      two (suc (suc i)) es at = page_actors c.log_only seated.others seated.page_actors i es at
-
   pub user_seat : (seat : ℕ) (u : UserState) → get_elem? actors seat ≡ maybe.some (actor.User u) → get_elem? seated.users seat ≡ maybe.some u
   user_seat seat u at = among_users seated.users others after seat u (subst (λ (l : List Actor). get_elem? l seat ≡ maybe.some (actor.User u)) seated.are at)
     where
@@ -125,9 +90,6 @@ module _ (c : Setup) (actors : List Actor) (seated : AreSeated c actors) where
         ap (λ (l : List Actor). get_elem? l (length seated.users + 3)) seated.are
             ∙ at_after seated.users (actor.Writer seated.writer ∷ actor.Flusher seated.flusher ∷ seated.others) 3 ∙ ap (λ (l : List Actor). get_elem? l 1) p.2,
       )
-
-  pub seated_end : HaveEnded actors → IsAtEnd actors
-  seated_end ended = record { users = ended; unjoined = none_joined }
 
   pub seated_seats : (script : List ScriptLine) (shape : Shape) → IsOfScript c script shape → HasSeats script actors
   seated_seats script shape S user some =

@@ -63,7 +63,7 @@ reader_holding reader_step.StoreFailed k e = (same_number 0 k e, refl)
 reader_holding reader_step.GiveFailed k e = (same_number 0 k e, refl)
 reader_holding _ k e = absurd (cc)
 
-module _ (D : LogSide) (E : DataSide) (c : Setup) (spare : ℕ) (s : Core D E) (running : IsRunning D E c spare s) where
+module _ (D : LogSide) (E : DataSide) (c : Setup) (s : Core D E) (running : IsRunning D E c s) where
   abbrev m : SharedWords
   m = running.shared
 
@@ -121,7 +121,6 @@ module _ (D : LogSide) (E : DataSide) (c : Setup) (spare : ℕ) (s : Core D E) (
   holding n (model.Cleaner v) at k e = let f : CleanerFits E c m g.log h s.lists s.data_part n v = running.both.paged.each n (model.Cleaner v) at in cleaner_holding n v v.step k f.step e
   holding n (model.Checkpointer t) at k e = let f : CheckpointerPageFits E c m g.log h s.lists s.data_part n t = running.both.paged.each n (model.Checkpointer t) at in
       checkpointer_holding n t t.step k f.step (λ z. running.both.logged.turns n (model.Checkpointer t) at z) e
-  holding n (model.Joined es) at k e = absurd (cc)
 
   -- two that hold one slot are one
   pub one_holder : (n j : ℕ) (a b : model.Actor) (k : ℕ) → get_elem? s.actors n ≡ some a → get_elem? s.actors j ≡ some b → hand a ≡ Some k → hand b ≡ Some k → n ≡ j

@@ -77,7 +77,6 @@ module _ (D : LogSide) (E : DataSide) (c : Setup) (m : SharedWords) (p : D.Part)
   page_fits seat (actor.Closer t) at h = closer_fits seat t h.0 h.1
   page_fits seat (actor.Cleaner v) at h = cleaner_fits seat v h.0 h.1
   page_fits seat (actor.Checkpointer t) at h = checkpointer_fits seat t h.0 (S.with_pages seat t at) h.1
-  page_fits seat (actor.Joined es) at h = tt
 
   read_fits : (seat : ℕ) (a : Actor) → StartActor c seat_of writer seat a → ReadFits c m [] seat a
   read_fits seat (actor.Checkpointer t) h = candidate_starts c m S.words.even S.words.flushed S.words.places t h.1
@@ -87,7 +86,6 @@ module _ (D : LogSide) (E : DataSide) (c : Setup) (m : SharedWords) (p : D.Part)
   read_fits seat (actor.Flusher s) h = tt
   read_fits seat (actor.Closer s) h = tt
   read_fits seat (actor.Cleaner s) h = tt
-  read_fits seat (actor.Joined es) h = tt
 
   start_in_run : (seat : ℕ) (a : Actor) → StartActor c seat_of writer seat a → StaysInRun c a
   start_in_run seat (actor.Checkpointer t) h = (
@@ -101,13 +99,12 @@ module _ (D : LogSide) (E : DataSide) (c : Setup) (m : SharedWords) (p : D.Part)
   start_in_run seat (actor.Flusher s) h = tt
   start_in_run seat (actor.Closer s) h = tt
   start_in_run seat (actor.Cleaner s) h = tt
-  start_in_run seat (actor.Joined es) h = tt
 
-  pub both_start : (spare : ℕ) → lsn (c.base + sum_over_actors left_to_reserve actors + spare) < LSN_LIMIT → BothHalves D E c spare m (start D c m p seat_of writer S.words S.log_part) (start_pages c) (λ _. []) p d actors
-  both_start spare room = let w = S.words in let f = w.failed in record {
+  pub both_start : lsn (c.base + sum_over_actors left_to_reserve actors) < LSN_LIMIT → BothHalves D E c m (start D c m p seat_of writer S.words S.log_part) (start_pages c) (λ _. []) p d actors
+  both_start room = let w = S.words in let f = w.failed in record {
     script = S.script;
     cause = λ some_code. absurd (omega arith);
-    logged = half_starts D c m p seat_of writer S.words S.log_part spare actors S.each room;
+    logged = half_starts D c m p seat_of writer S.words S.log_part actors S.each room;
     asked = (let z = S.log_part.asked in omega arith);
     latches = λ q there latched. let free = ap (λ (x : PageWords). x.latch) (S.page_words.page_words q there) in absurd (omega arith);
     in_run = λ seat a at. start_in_run seat a (S.each seat a at);
@@ -143,5 +140,5 @@ module _ (D : LogSide) (E : DataSide) (c : Setup) (m : SharedWords) (p : D.Part)
     }) (λ seat a at. page_fits seat a at (S.each seat a at));
   }
 
-  pub store_starts : (spare : ℕ) (ws : List ℕ) → ws ≡ flat m → lsn (c.base + sum_over_actors left_to_reserve actors + spare) < LSN_LIMIT → RunningStore D E c spare ws (λ _. []) p d actors
-  store_starts spare ws is room = record { shared = m; log_ghost = start D c m p seat_of writer S.words S.log_part; page_ghost = start_pages c; flat_is = is; both = both_start spare room }
+  pub store_starts : (ws : List ℕ) → ws ≡ flat m → lsn (c.base + sum_over_actors left_to_reserve actors) < LSN_LIMIT → RunningStore D E c ws (λ _. []) p d actors
+  store_starts ws is room = record { shared = m; log_ghost = start D c m p seat_of writer S.words S.log_part; page_ghost = start_pages c; flat_is = is; both = both_start room }

@@ -44,7 +44,7 @@ use Rattle.model_core.specs.declared.steps.WriterStep.TheVariants as writer_step
 use Rattle.model_core.specs.declared.steps.FlusherStep.TheVariants as flusher_step
 use Rattle.model_core.specs.declared.steps.ReaderStep.TheVariants as reader_step
 
-module _ (D : LogSide) (E : DataSide) (c : Setup) (spare : ℕ) (m : SharedWords) (g : LogGhost) (h : PageGhost) (ls : ℕ → List Listed) (p : D.Part) (d : E.Part) (actors : List Actor) (seat : ℕ) (both : BothHalves D E c spare m g h ls p d actors) where
+module _ (D : LogSide) (E : DataSide) (c : Setup) (m : SharedWords) (g : LogGhost) (h : PageGhost) (ls : ℕ → List Listed) (p : D.Part) (d : E.Part) (actors : List Actor) (seat : ℕ) (both : BothHalves D E c m g h ls p d actors) where
   page_room : c.page_size ≤ FRAME_CELLS
   page_room = has_room c.page_size both.script.page_size
 
@@ -169,27 +169,26 @@ module _ (D : LogSide) (E : DataSide) (c : Setup) (spare : ℕ) (m : SharedWords
       both.in_run seat (actor.Checkpointer t) at in
       let F : CheckpointerPageFits E c m g.log h ls d seat t = both.paged.each seat (actor.Checkpointer t) at in
       asked_words t.checks (checkpointer_op t t.step) (checkpointer_words t t.step F.step N.2 N.1)
-  next_words (actor.Joined es) at = tt
 
 -- a running store, over a log
-pub record RunsOver (D : LogSide) (E : DataSide) (c : Setup) (spare : ℕ) (ws : List ℕ) (ls : ℕ → List Listed)
+pub record RunsOver (D : LogSide) (E : DataSide) (c : Setup) (ws : List ℕ) (ls : ℕ → List Listed)
     (p : D.Part) (d : E.Part) (actors : List Actor) (log : List Entry) : Type 0 where
-  pub store : RunningStore D E c spare ws ls p d actors
+  pub store : RunningStore D E c ws ls p d actors
   pub log_is : store.log_ghost.log ≡ log
 
-module _ (D : LogSide) (L : LogLaws D) (E : DataSide) (EL : DataLaws E) (c : Setup) (spare : ℕ) (ws : List ℕ) (ls : ℕ → List Listed) (p : D.Part) (d : E.Part) (actors : List Actor) (seat : ℕ) (a : Actor) (before : RunningStore D E c spare ws ls p d actors)
+module _ (D : LogSide) (L : LogLaws D) (E : DataSide) (EL : DataLaws E) (c : Setup) (ws : List ℕ) (ls : ℕ → List Listed) (p : D.Part) (d : E.Part) (actors : List Actor) (seat : ℕ) (a : Actor) (before : RunningStore D E c ws ls p d actors)
     (at : get_elem? actors seat ≡ some a) (full : IsFilled a) (code : ℕ) (q : D.Part) (e : E.Part) (served : LogServed D p (lent a) (next a) code q) (stored : DataServed E d (lent a) (next a) code e) (own : OwnServed (next a) code) where
   -- THE step lemma over the list of words
-  pub keeps_turn : RunsOver D E c spare (words_left ws (next a))
+  pub keeps_turn : RunsOver D E c (words_left ws (next a))
       (lists_left ls (λ i. slice_index before.shared.lists i) (next a)) q e
       (set actors seat (took a (answer_of ls (D.failed p) code (D.stable q) ws (next a))))
       (log_left before.log_ghost.log before.shared.sn a)
   keeps_turn =
       let m = before.shared in
       let k = before.both in
-      let r = keeps_both D L E EL c spare m before.log_ghost before.page_ghost ls p d actors seat k code q e a at full
+      let r = keeps_both D L E EL c m before.log_ghost before.page_ghost ls p d actors seat k code q e a at full
       served stored own in
-      let w = next_words D E c spare m before.log_ghost before.page_ghost ls p d actors seat k a at in
+      let w = next_words D E c m before.log_ghost before.page_ghost ls p d actors seat k a at in
       let left : words_left ws (next a) ≡ flat (shared_left m (next a)) =
       ap (λ (z : List ℕ). words_left z (next a)) before.flat_is ∙ flat_left c.pages m k.logged.sized (next a) w in
       let said : ◌≡◌ {A = Answer} (answer_of ls (D.failed p) code (D.stable q) ws (next a))
@@ -197,7 +196,7 @@ module _ (D : LogSide) (L : LogLaws D) (E : DataSide) (EL : DataLaws E) (c : Set
       ap (λ (z : List ℕ). answer_of ls (D.failed p) code (D.stable q) z (next a)) before.flat_is
       ∙ flat_answer c.pages m k.logged.sized ls (D.failed p) code (D.stable q) (next a) w in
       let lists : ℕ → List Listed = lists_left ls (λ i. slice_index m.lists i) (next a) in
-      subst (λ (z : Answer). RunsOver D E c spare (words_left ws (next a)) lists q e (set actors seat (took a z))
+      subst (λ (z : Answer). RunsOver D E c (words_left ws (next a)) lists q e (set actors seat (took a z))
       (log_left before.log_ghost.log m.sn a)) (sym said) (record {
         store = record {
           shared = shared_left m (next a);

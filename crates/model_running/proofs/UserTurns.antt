@@ -36,7 +36,7 @@ use Rattle.model_base.specs.declared.limits.TheConstants.{BLOCK_SIZE}
 use Rattle.model_running.proofs.LatchesKeep.{held_by}
 use Rattle.model_running.proofs.PageTurn.{PageDone, as_is, away, away_user, laid_of, lists_kept, mates, rested, unmoved}
 
-module _ (D : LogSide) (E : DataSide) (c : Setup) (spare : ℕ) (m : SharedWords) (g : LogGhost) (h : PageGhost) (ls : ℕ → List Listed) (p : D.Part) (d : E.Part) (actors : List Actor) (seat : ℕ) (both : BothHalves D E c spare m g h ls p d actors) (code : ℕ) (q : D.Part) (e : E.Part) where
+module _ (D : LogSide) (E : DataSide) (c : Setup) (m : SharedWords) (g : LogGhost) (h : PageGhost) (ls : ℕ → List Listed) (p : D.Part) (d : E.Part) (actors : List Actor) (seat : ℕ) (both : BothHalves D E c m g h ls p d actors) (code : ℕ) (q : D.Part) (e : E.Part) where
   abbrev Kept : SharedWords → List Entry → (ℕ → List Listed) → Actor → Type 0
   Kept m' l ls' b = PageDone D E c m h actors seat p d m' l ls' b
 
@@ -178,7 +178,7 @@ module _ (D : LogSide) (E : DataSide) (c : Setup) (spare : ℕ) (m : SharedWords
 
     user_hears : (b : Bool) → Kept m g.log ls (actor.User (cond b (record u { checks = false }) (record u { checks = false; code = m.failed; step = user_step.Failed })))
     user_hears true = (h, quiet_to (record u { checks = false }) (record { there = F.there; apart = F.apart; within = F.within; ascending = F.ascending; are_bytes = F.are_bytes; loaded = F.loaded; closing = F.closing; step = F.step }), unmoved)
-    user_hears false = (h, quiet_to (record u { checks = false; code = m.failed; step = user_step.Failed }) (record { there = F.there; apart = F.apart; within = F.within; ascending = F.ascending; are_bytes = F.are_bytes; loaded = F.loaded; closing = tt; step = user_still_holds E c m g.log h ls d seat u u.step (held_by D E c spare m g h ls p d actors seat both (actor.User u) at) F.step }), unmoved)
+    user_hears false = (h, quiet_to (record u { checks = false; code = m.failed; step = user_step.Failed }) (record { there = F.there; apart = F.apart; within = F.within; ascending = F.ascending; are_bytes = F.are_bytes; loaded = F.loaded; closing = tt; step = user_still_holds E c m g.log h ls d seat u u.step (held_by D E c m g h ls p d actors seat both (actor.User u) at) F.step }), unmoved)
 
   user_served : (u : UserState) (f : UserStep) → LogServed D p Nothing (user_op u f) code q → ◌≡◌ {A = D.Part} q p
   user_served u (user_step.AdvanceWritten advance_step.LoadTail) s = s

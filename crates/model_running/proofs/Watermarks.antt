@@ -27,7 +27,7 @@ use Rattle.model_core.specs.Actors as actor
 use Rattle.model_core.specs.declared.steps.CleanerStep.TheVariants as cleaner_step
 use Rattle.model_core.specs.declared.steps.UserStep.TheVariants as user_step
 
-module _ (D : LogSide) (L : LogLaws D) (E : DataSide) (EL : DataLaws E) (c : Setup) (spare : ℕ) (m : SharedWords) (g : LogGhost) (h : PageGhost) (ls : ℕ → List Listed) (p : D.Part) (d : E.Part) (actors : List Actor) (both : BothHalves D E c spare m g h ls p d actors) where
+module _ (D : LogSide) (L : LogLaws D) (E : DataSide) (EL : DataLaws E) (c : Setup) (m : SharedWords) (g : LogGhost) (h : PageGhost) (ls : ℕ → List Listed) (p : D.Part) (d : E.Part) (actors : List Actor) (both : BothHalves D E c m g h ls p d actors) where
   user_pages : (seat : ℕ) (u : UserState) → get_elem? actors seat ≡ some (actor.User u) → UserPageFits E c m g.log h ls d seat u
   user_pages seat u at = both.paged.each seat (actor.User u) at
 
@@ -53,8 +53,8 @@ module _ (D : LogSide) (L : LogLaws D) (E : DataSide) (EL : DataLaws E) (c : Set
     latch = λ q there. (both.paged.paged.each_page q there).latch;
     free = λ q there. (both.paged.paged.each_page q there).free;
     held = both.latches;
-    user_held = λ seat u at. user_tells seat u u.step (held_by D E c spare m g h ls p d actors seat both (actor.User u) at) (user_pages seat u at).step;
-    cleaner_held = λ seat v at. cleaner_tells seat v v.step (held_by D E c spare m g h ls p d actors seat both (actor.Cleaner v) at) (cleaner_pages seat v at).step;
+    user_held = λ seat u at. user_tells seat u u.step (held_by D E c m g h ls p d actors seat both (actor.User u) at) (user_pages seat u at).step;
+    cleaner_held = λ seat v at. cleaner_tells seat v v.step (held_by D E c m g h ls p d actors seat both (actor.Cleaner v) at) (cleaner_pages seat v at).step;
   }
 
   -- an actor that advances CTAIL, from the step on at which it has taken it
@@ -133,9 +133,9 @@ module _ (D : LogSide) (L : LogLaws D) (E : DataSide) (EL : DataLaws E) (c : Set
 
   pub watermarks : Watermarks D E c m ls p d actors
   watermarks =
-      let log = watermarks_log D c spare m g p actors both.logged in
+      let log = watermarks_log D c m g p actors both.logged in
       record {
-        of_log = log_watermarks D c spare m g p actors both.logged;
+        of_log = log_watermarks D c m g p actors both.logged;
         pages = h;
         frames_are_applied = subst (λ (l : List Entry). FramesAreApplied E c m l h ls d actors) (sym log) frames_are_applied;
         closed_changes_are_listed_or_kept = subst (λ (l : List Entry). ClosedChangesAreListedOrKept c m l h ls actors) (sym log) closed_changes;
@@ -146,5 +146,5 @@ module _ (D : LogSide) (L : LogLaws D) (E : DataSide) (EL : DataLaws E) (c : Set
       }
 
 -- so a running store has them
-pub has_watermarks : (D : LogSide) → LogLaws D → (E : DataSide) → DataLaws E → (c : Setup) (spare : ℕ) (s : Core D E) → IsRunning D E c spare s → HasWatermarks D E c s
-has_watermarks D L E EL c spare s running = (running.shared, running.flat_is, watermarks D L E EL c spare running.shared running.log_ghost running.page_ghost s.lists s.log_part s.data_part s.actors running.both)
+pub has_watermarks : (D : LogSide) → LogLaws D → (E : DataSide) → DataLaws E → (c : Setup) (s : Core D E) → IsRunning D E c s → HasWatermarks D E c s
+has_watermarks D L E EL c s running = (running.shared, running.flat_is, watermarks D L E EL c running.shared running.log_ghost running.page_ghost s.lists s.log_part s.data_part s.actors running.both)

@@ -1,22 +1,19 @@
--- What a running store stands for, with what its devices hold: at any moment a run that both hold, and at its end a closed one.
+-- What the parts of a running store hold, their devices hold.
 use Rattle.std.specs.Prelude.{List, ℕ, ◌≡◌, ◌≤◌}
 use Rattle.model_base.specs.declared.shape.Shape.{Shape}
 use Rattle.model_core.specs.DataSide.{DataSide}
-use Rattle.model_core.specs.{BatchPage, Core, Entry, KeptPage, lsn}
+use Rattle.model_core.specs.{BatchPage, Entry, KeptPage, lsn}
 use Rattle.model_core.specs.LogSide.{LogSide}
 use Rattle.model_core.specs.Setup.{Setup}
 use Rattle.model_device.specs.Disk.{Disk}
 use Rattle.model_running.specs.FinishedPages.{ArePrefixes}
-use Rattle.model_running.specs.History.{AreWholesOf, marks_in}
+use Rattle.model_running.specs.History.{AreWholesOf}
 use Rattle.model_running.specs.PageContents.{content_in, contents_of}
-use Rattle.model_report.specs.{IsLeft}
-use Rattle.model_report.specs.declared.entry.Marks.{Marks}
 use Rattle.model_parts.specs.{LogHolds}
 use Rattle.model_parts.specs.declared.marks.LogMarks.{LogMarks}
 use Rattle.model_pagecore.specs.{AreApart}
 use Rattle.model_log.specs.declared.group.Whole.{Whole}
-use Rattle.model_theorem.specs.{DataHolds, IsClosed, IsHeld, Opened, Ran}
-use Rattle.model_script.specs.declared.script.ScriptLine.{ScriptLine}
+use Rattle.model_theorem.specs.{DataHolds, Opened}
 
 -- What the log part holds of a run's groups its device does, by these marks of the part; and while it holds a run, the
 -- checkpoint's number isn't below this.
@@ -33,31 +30,3 @@ pub record LogTells (D : LogSide) (c : Setup) (shape : Shape) (number : ℕ) (pa
 pub record DataTells (E : DataSide) (opened : Opened) (part : E.Part) (disk : Disk) : Type 0 where
   pub holds : (kept_page : ℕ → KeptPage) (unfinished : List BatchPage) (wholes : List Whole) (stable ckpt : ℕ) → E.Holds kept_page unfinished part → AreApart unfinished
       → ArePrefixes opened.pages wholes stable ckpt (contents_of kept_page) (content_in unfinished) → DataHolds opened.shape opened.pages wholes stable ckpt disk
-
--- Both devices as they are hold the run that the store stands for, after the checkpoint of this number.
-pub record HeldStore (D : LogSide) (E : DataSide) (script : List ScriptLine) (opened : Opened) (number : ℕ) (log_disk data_disk : Disk) (s : Core D E) : Type 0 where
-  pub run : Ran
-  pub marks : ◌≡◌ {A = Marks} run.marks (marks_in s.words)
-  pub holds : IsHeld (record {
-    script = script;
-    opened = opened;
-    number = number;
-    run = run;
-    log_disk = log_disk;
-    data_disk = data_disk;
-  })
-
--- Each user has ended: with the lines that are left, that run is a closed one.
-pub record ClosedStore (D : LogSide) (E : DataSide) (script : List ScriptLine) (opened : Opened) (number failures : ℕ) (left : List (ℕ × ℕ)) (log_disk data_disk : Disk) (s : Core D E) : Type 0 where
-  pub held : HeldStore D E script opened number log_disk data_disk s
-  pub open held use *
-  pub closed : IsLeft script run.entries left
-      → IsClosed failures (record {
-        script = script;
-        opened = opened;
-        number = number;
-        run = run;
-        left = left;
-        log_disk = log_disk;
-        data_disk = data_disk;
-      })

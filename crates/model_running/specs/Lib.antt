@@ -2,7 +2,6 @@ pub mod Appending
 pub mod Bounds
 pub mod ClosedStore
 pub mod DataReady
-pub mod Ended
 pub mod Finished
 pub mod FinishedPages
 pub mod History

@@ -17,11 +17,11 @@ use Rattle.model_running.specs.UsersClosed.{UsersClosed}
 use Rattle.model_core.specs.Actors as actor
 use Rattle.model_core.specs.declared.words.LinkBuffer.TheVariants as link_buffer
 
-pub record BothHalves (D : LogSide) (E : DataSide) (c : Setup) (spare : ℕ) (m : SharedWords) (g : LogGhost) (h : PageGhost) (ls : ℕ → List Listed) (p : D.Part) (d : E.Part) (actors : List Actor) : Type 0 where
+pub record BothHalves (D : LogSide) (E : DataSide) (c : Setup) (m : SharedWords) (g : LogGhost) (h : PageGhost) (ls : ℕ → List Listed) (p : D.Part) (d : E.Part) (actors : List Actor) : Type 0 where
   pub script : IsScripted c
   -- a failure has a cause
   pub cause : 0 < m.failed → D.Cause p m.failed ⊎ E.Cause d m.failed ⊎ HasLost actors m.failed
-  pub logged : LogHalf D c spare m g p actors
+  pub logged : LogHalf D c m g p actors
   -- no page lacks a change that starts below a checkpoint that was asked for, good or failed
   pub asked : D.asked p ≤ h.given
   -- with the log alone no checkpoint is taken
@@ -41,13 +41,13 @@ pub record BothHalves (D : LogSide) (E : DataSide) (c : Setup) (spare : ℕ) (m 
   pub paged : PageHalf E c m g.log (D.stable p) h ls d actors
 
 -- the same over the list of words
-pub record RunningStore (D : LogSide) (E : DataSide) (c : Setup) (spare : ℕ) (ws : List ℕ) (ls : ℕ → List Listed) (p : D.Part) (d : E.Part) (actors : List Actor) : Type 0 where
+pub record RunningStore (D : LogSide) (E : DataSide) (c : Setup) (ws : List ℕ) (ls : ℕ → List Listed) (p : D.Part) (d : E.Part) (actors : List Actor) : Type 0 where
   pub shared : SharedWords
   pub log_ghost : LogGhost
   pub page_ghost : PageGhost
   pub flat_is : ws ≡ flat shared
-  pub both : BothHalves D E c spare shared log_ghost page_ghost ls p d actors
+  pub both : BothHalves D E c shared log_ghost page_ghost ls p d actors
 
 -- the same of a store's whole state
-abbrev pub IsRunning : (D : LogSide) (E : DataSide) → Setup → ℕ → Core D E → Type 0
-IsRunning D E c spare s = RunningStore D E c spare s.words s.lists s.log_part s.data_part s.actors
+abbrev pub IsRunning : (D : LogSide) (E : DataSide) → Setup → Core D E → Type 0
+IsRunning D E c s = RunningStore D E c s.words s.lists s.log_part s.data_part s.actors

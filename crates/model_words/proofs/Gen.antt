@@ -156,9 +156,6 @@ module _ (rows0 : List Row) where
   abbrev max_at : Option ℕ
   max_at = text_number_or 0 MAX_TURNS DEFAULT_TURNS (at (codes "max"))
 
-  read_is : read (codes "gen") gen_names true zero_read rows0 ≡ checks (given (codes "seed")) (given (codes "users")) (given (codes "groups")) rows0
-  read_is = refl
-
   no_seed : seed_at ≡ None → gen_with fs run_at seed_at users_at groups_at max_at ≡ None
   no_seed e = ap (λ o. gen_with fs run_at o users_at groups_at max_at) e
 

@@ -2,7 +2,6 @@
 use Rattle.std.proofs.Common.{◌≡◌, refl, ℕ, Bool, true, false, List, [], ◌∷◌, ◌++◌, map, codes, Option, Some, None}
 use Rattle.clap.specs.Walk.{Rule, Text}
 use Rattle.clap.specs.Simple.{App, Shape, built, new_rule, new_shape}
-use Rattle.clap.specs.Faults.{is_simple_and_free}
 use Rattle.clap.specs.declared.builder.action.ArgAction.TheVariants.{Set, SetTrue}
 use Rattle.clap.specs.declared.builder.range.ValueRange.{ValueRange}
 use Rattle.clap.specs.declared.builder.value_parser.ValueParser.TheVariants as vp
@@ -137,7 +136,3 @@ built_app = record {
 pub app_built : built redolab_app ≡ built_app
 unfolding clap_on_literals
 app_built = refl
-
-pub app_simple : is_simple_and_free redolab_app ≡ true
-unfolding clap_on_literals
-app_simple = refl

@@ -86,9 +86,6 @@ name_found names t n e =
       member_is names n ∙ ap (λ x. list_any (λ n. bytes_eq (id n) x) names) same ∙ find_any (λ n. bytes_eq (id n) t) names n e,
     )
 
-tail_of : Text → Text
-tail_of t = drop 2 t
-
 pub name_other : (names : List Name) (t : Text) (m : Name) → find (λ n. bytes_eq (id n) t) names ≡ None → name_of (45 ∷ 45 ∷ t) ≡ Some m → is_member names m ≡ false
 name_other names t m e f =
     let same : id m ≡ t = ap (drop 2) (sym (name_says (45 ∷ 45 ∷ t) m f ∙ spelled m)) in

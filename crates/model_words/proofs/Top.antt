@@ -1,5 +1,5 @@
 -- `clap`'s walk over all the words of a call.
-use Rattle.std.proofs.Common.{◌≡◌, ◌∙◌, arith, ne_eqb, refl, sym, ap, ap₂, Bool, true, false, List, [], ◌∷◌, ◌++◌, length, codes, Option, Some, None, is_some, option_map}
+use Rattle.std.proofs.Common.{◌≡◌, ◌∙◌, arith, ne_eqb, refl, sym, ap, ap₂, Bool, true, false, List, [], ◌∷◌, ◌++◌, length, Option, Some, None, is_some, option_map}
 use Rattle.std.specs.Prelude.{if◌then◌else◌, option_and_then, find, fold}
 use Rattle.std.specs.Option.{option_map_or}
 use Rattle.std.specs.Str.{bytes_eq}
@@ -10,14 +10,13 @@ use Rattle.clap.specs.Simple.{App, Shape, entered, label_of, names_of, rows_at}
 use Rattle.clap.specs.Faults.{built_fault, check_fault, defaults_fault, entered_fault, flag_word_fault, other_fault, level_fault, settle_fault, step_fault, turn_fault, walk_fault}
 use Rattle.clap.specs.declared.error.kind.ErrorKind.{ErrorKind}
 use Rattle.clap.specs.declared.error.kind.ErrorKind.TheVariants as kind
-use Rattle.clap.proofs.OnLiterals.{clap_on_literals}
 use Rattle.clap.proofs.WalkLemmas.{walk_stopped}
 use Rattle.model_script.specs.declared.asked.Asked.{Asked}
 use Rattle.model_script.specs.declared.words.Name.{Name}
 use Rattle.model_words.specs.Found.{asked_from, asked_with, walked_asked}
 use Rattle.model_words.proofs.Leaf.{bare_bundle, bare_met, dashed_bundle, outcome, result_of}
 use Rattle.model_words.proofs.Uses.{is_bare}
-use Rattle.model_words.proofs.Rules.{app_built, built_app, format_names, gen_names, leaf, leaves}
+use Rattle.model_words.proofs.Rules.{app_built, built_app, leaf, leaves}
 
 abbrev top : Shape
 top = built_app.top
@@ -67,16 +66,6 @@ named_asked nm ns v ts stops free found =
     walked_is (nm ∷ ts) ∙ ap₂ (λ w k. asked_at (whole_fault w k) (entered built_app w.stopped)) stands passes
     ∙ ap (λ o. asked_at (or_else (option_map_or (λ s. level_fault s [] nothing_held ts false []) o []) (check_fault top [] (is_some (option_map (λ s. rows_at s ts) o)))) (option_map (λ s. rows_at s ts) o)) found
     ∙ asked_by (level_fault (leaf nm ns v) [] nothing_held ts false []) nm (leaf nm ns v).rules (settled (leaf nm ns v).rules (walk (leaf nm ns v).rules [] nothing_held ts).held).rows
-
-pub format_asked : (ts : List Text) → walked_asked (codes "format" ∷ ts)
-    ≡ option_and_then (λ rows. asked_with (codes "format") (fold with_default rows (leaf (codes "format") format_names false).rules)) (outcome (leaf (codes "format") format_names false) start ts)
-unfolding clap_on_literals
-format_asked ts = named_asked (codes "format") format_names false ts refl refl refl
-
-pub gen_asked : (ts : List Text) → walked_asked (codes "gen" ∷ ts)
-    ≡ option_and_then (λ rows. asked_with (codes "gen") (fold with_default rows (leaf (codes "gen") gen_names true).rules)) (outcome (leaf (codes "gen") gen_names true) start ts)
-unfolding clap_on_literals
-gen_asked ts = named_asked (codes "gen") gen_names true ts refl refl refl
 
 -- ---- where no command is named
 

@@ -1,5 +1,5 @@
 -- What the parse says of the words.
-use Rattle.std.proofs.Common.{◌≡◌, ◌∙◌, arith, length, ne_eqb, refl, sym, ap, true, false, true≢false, List, [], ◌∷◌, Option, Some, None, is_some, option_map}
+use Rattle.std.proofs.Common.{◌≡◌, arith, length, ne_eqb, refl, sym, ap, true, false, true≢false, List, [], ◌∷◌, Option, Some, None, is_some, option_map}
 use Rattle.std.specs.Prelude.{Box, if◌then◌else◌, unwrap_or}
 use Rattle.std.specs.Box.{box_value}
 use Rattle.clap.specs.Kinds.{IsAmong, Kinds}
@@ -36,11 +36,3 @@ module _ {Z : Type 0} where
       → Some rs ≡ option_map (λ p. p.1) (subcommand_rows sub) → subcommand_rows sub ≡ Some (n, rs)
   entered_is None n rs e f = absurd (true≢false (ap is_some e))
   entered_is (Some b) n rs e f = λ i. Some (unwrap_or (sym e i) n, unwrap_or (sym f i) rs)
-
-  pub not_entered : (sub : Option (Box SubCommand Z)) → false ≡ is_some sub → subcommand_rows sub ≡ None
-  not_entered None e = refl
-  not_entered (Some b) e = absurd (true≢false (sym e))
-
--- what the parse found, by its two clauses
-pub asked_none : (words : List Text) (found : Option (Text × List Row)) → fault_of redolab_app words ≡ [] → found ≡ subcommand_of redolab_app words → asked_from found ≡ None → walked_asked words ≡ None
-asked_none words found e f g = passed words e ∙ ap asked_from (sym f) ∙ g

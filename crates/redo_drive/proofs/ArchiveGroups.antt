@@ -1,6 +1,6 @@
 -- Through each turn the archive archives the groups of the log so far.
-use Rattle.std.proofs.Common.{Bool, List, None, Option, Some, [], ap, append-nil, arith, inl, inr, refl, subst, sym, true}
-use Rattle.std.proofs.Common.{⊎_elim, ℕ, ◌++◌, ◌+◌, ◌<◌, ◌∙◌, ◌∷◌, ◌≡◌, ◌≤◌, ◌⊎◌}
+use Rattle.std.proofs.Common.{Bool, List, [], ap, append-nil, arith, inl, inr, refl, subst, sym}
+use Rattle.std.proofs.Common.{⊎_elim, ℕ, ◌++◌, ◌+◌, ◌∙◌, ◌∷◌, ◌≡◌, ◌≤◌, ◌⊎◌}
 use lib.ListN.{get_elem?}
 use native.Mathlib.Decide.{dec_le}
 use mathlib.Core.Option.{some, some-injective}
@@ -11,27 +11,26 @@ use Rattle.model_core.specs.LogSide.{LogSide}
 use Rattle.model_core.specs.Turn.{Turn}
 use Rattle.model_core.specs.declared.ops.Answer.{Answer}
 use Rattle.model_core.specs.declared.ops.Step.{Step}
-use Rattle.model_core.specs.declared.steps.ReaderStep.TheVariants as reader_step
 use Rattle.model_core.specs.{archives, Entry, filled, log_left, lsn, next, ReaderState}
 use Rattle.model_log.specs.{IsRunOf}
 use Rattle.model_log.specs.declared.group.Whole.{Whole}
 use Rattle.model_logcore.specs.LogLaws.{LogLaws}
 use Rattle.model_page.specs.declared.content.Content.{Content}
 use Rattle.model_pagecore.specs.DataLaws.{DataLaws}
-use Rattle.model_running.proofs.EachTurn.{actors_filled, both_filled, filled_at, log_then, who_filled}
-use Rattle.model_running.proofs.Groups.{groups_snoc, run_of_log}
+use Rattle.model_running.proofs.EachTurn.{actors_filled, both_filled, filled_at, who_filled}
+use Rattle.model_running.proofs.Groups.{run_of_log}
 use Rattle.model_running.proofs.ReadKeeps.{LogGrows}
 use Rattle.model_running.proofs.RunBlocks.{grown}
 use Rattle.model_running.specs.{IsNoAppend}
-use Rattle.model_running.specs.History.{AreWholesOf, IsWholeOf}
+use Rattle.model_running.specs.History.{AreWholesOf}
 use Rattle.model_running.specs.ReadHalf.{HasRunBlock, RunBlockAt}
 use Rattle.redo_archive.specs.Part.{Part, PartArchives}
 use Rattle.redo_archiver.proofs.Longer.{part-longer}
 use Rattle.redo_archiver.specs.{IsFullBlock, KeepsPace}
 use Rattle.redo_disk.specs.Seen.{Seen}
-use Rattle.redo_drive.proofs.ArchiveTurns.{flushed_in, none_beside, one_reader, stands, step_appends, who_appends}
+use Rattle.redo_drive.proofs.ArchiveTurns.{flushed_in, one_reader, stands, step_appends, who_appends}
 use Rattle.redo_drive.proofs.TurnsOf.{runs_then, told_earlier}
-use Rattle.redo_drive.specs.Archiving.{Appends, HasCome, HasComeTo, HasNoArchiver, IsSameArchive}
+use Rattle.redo_drive.specs.Archiving.{Appends, HasCome, IsSameArchive}
 use Rattle.redo_drive.specs.Lists.{lists_of}
 use Rattle.redo_drive.specs.Playing.{HasSamePages, RunOf, run_data_side, run_log_side}
 use Rattle.redo_drive.specs.Running.{RunsWith}
@@ -74,8 +73,7 @@ module _ {L D A : Type 0} {archive : Bool} (log_seen : L → Seen) (data_seen : 
     (data_laws : DataLaws (run_data_side log_seen data_seen run)) (same : HasSamePages old new)
     (R : RunsWith log_seen data_seen run archive old actors)
     (t : Turn (run_log_side log_seen data_seen run) (run_data_side log_seen data_seen run)
-    (core_of log_seen data_seen run old actors) seat answer step (core_of log_seen data_seen run new after))
-    (none_joined : (i : ℕ) (es : List Entry) → get_elem? after i ≡ some (model.Joined es) → ⊥) where
+    (core_of log_seen data_seen run old actors) seat answer step (core_of log_seen data_seen run new after)) where
   abbrev E : LogSide
   E = run_log_side log_seen data_seen run
 
@@ -100,11 +98,11 @@ module _ {L D A : Type 0} {archive : Bool} (log_seen : L → Seen) (data_seen : 
       let c_old = core_of log_seen data_seen run old actors in
       let c_new = core_of log_seen data_seen run new after in
       subst (λ (l : List Entry). LogGrows log_was l W.shared.sn) (sym log_is)
-      (grown E log_laws F data_laws run.setup 0 W.shared W.log_ghost W.page_ghost (lists_of old.lists) old.log old.store
-      (actors_filled E log_laws F data_laws run.setup 0 c_old c_new seat answer step W t) seat
-      (both_filled E log_laws F data_laws run.setup 0 c_old c_new seat answer step W t) t.code new.log told before
-      (who_filled E log_laws F data_laws run.setup 0 c_old c_new seat answer step W t)
-      (filled_at E log_laws F data_laws run.setup 0 c_old c_new seat answer step W t))
+      (grown E log_laws F data_laws run.setup W.shared W.log_ghost W.page_ghost (lists_of old.lists) old.log old.store
+      (actors_filled E log_laws F data_laws run.setup c_old c_new seat answer step W t) seat
+      (both_filled E log_laws F data_laws run.setup c_old c_new seat answer step W t) t.code new.log told before
+      (who_filled E log_laws F data_laws run.setup c_old c_new seat answer step W t)
+      (filled_at E log_laws F data_laws run.setup c_old c_new seat answer step W t))
 
   -- the groups are a run
   run_now : (wholes : List Whole) → AreWholesOf log_now wholes → IsRunOf (lsn run.setup.base) wholes
@@ -177,7 +175,7 @@ module _ {L D A : Type 0} {archive : Bool} (log_seen : L → Seen) (data_seen : 
     pub comes_on : HasCome log_seen data_seen arch_seen run new after then before later
     comes_on = record {
       beside = stands log_seen data_seen run old new actors after seat answer step log_laws data_laws same R t arch_seen
-          none_joined part later C.beside served;
+          part later C.beside served;
       same = still_same;
       archives = archives_on;
     }

@@ -1,13 +1,10 @@
 -- What a run leaves of its archive.
-use Rattle.std.proofs.Common.{Bool, List, None, Option, Some, [], ap, arith, cond, refl, slice_index, subst, sym, true, ⊎_elim, ℕ}
-use Rattle.std.proofs.Common.{◌+◌, ◌<◌, ◌∙◌, ◌≡◌, ◌≢◌, ◌≤◌}
-use Rattle.std.specs.Prelude.{IfSome}
+use Rattle.std.proofs.Common.{Bool, List, None, Option, Some, [], ap, arith, refl, slice_index, subst, sym, true, ⊎_elim, ℕ}
+use Rattle.std.proofs.Common.{◌+◌, ◌∙◌, ◌≡◌, ◌≢◌, ◌≤◌}
 use lib.ListN.{get_elem?}
 use mathlib.Core.Option.{some, some-injective}
-use Rattle.model_base.specs.declared.limits.TheConstants.{BLOCK_SIZE}
 use Rattle.model_core.specs.{archive_device_code, archives, Given, HasLost, lsn, ReaderState, SharedWords}
 use Rattle.model_core.specs.Actors as model
-use Rattle.model_core.specs.DataSide.{DataSide}
 use Rattle.model_core.specs.LogSide.{LogSide}
 use Rattle.model_device.specs.Disk.{Disk}
 use Rattle.model_log.specs.{block_of, IsRunOf}
@@ -32,12 +29,12 @@ use Rattle.redo_disk.specs.declared.error.DevError.{DevError}
 use Rattle.redo_disk.specs.declared.error.DevError.TheVariants.{Failed, NoMemory}
 use Rattle.redo_drive.proofs.ArchiveTurns.{flushed_place, one_reader}
 use Rattle.redo_drive.proofs.LeftRun.{if_told, where_started}
-use Rattle.redo_drive.specs.Archived.{ArchivesRun, HasArchived, HoldsFrom}
+use Rattle.redo_drive.specs.Archived.{ArchivesRun, HasArchived}
 use Rattle.redo_drive.specs.Archiving.{AsksUpTo, HasCome, StandsBeside}
 use Rattle.redo_drive.specs.Beginning.{HaveBegun}
 use Rattle.redo_drive.specs.Devices.{code_of}
 use Rattle.redo_drive.specs.Leaving.{LeavesWith}
-use Rattle.redo_drive.specs.Playing.{RunOf, run_data_side, run_log_side}
+use Rattle.redo_drive.specs.Playing.{RunOf, run_log_side}
 use Rattle.redo_drive.specs.Running.{RunsWith}
 use Rattle.redo_drive.specs.Views.{views_of}
 use Rattle.redo_drive.specs.declared.actor.Actor.{Actor}
@@ -83,9 +80,6 @@ module _ {L D A R : Type 0} {archive : Bool} (log_seen : L → Seen) (log_gives 
   abbrev logs : LogSide
   logs = run_log_side log_seen data_seen run
 
-  abbrev datas : DataSide
-  datas = run_data_side log_seen data_seen run
-
   abbrev m : SharedWords
   m = by.from.runs.running.shared
 
@@ -103,7 +97,7 @@ module _ {L D A R : Type 0} {archive : Bool} (log_seen : L → Seen) (log_gives 
 
   are_wholes : AreWholesOf g.log wholes
   are_wholes = subst (λ (z : List Entry). AreWholesOf g.log (wholes_of script opened.shape.space z)) (sym by.history)
-      (finished_groups logs run.setup 0 m g by.last.log (views_of actors) by.from.runs.running.both.logged script opened.shape
+      (finished_groups logs run.setup m g by.last.log (views_of actors) by.from.runs.running.both.logged script opened.shape
       by.is_run.of_script)
 
   flushed_same : driven.closed.marks.flushed ≡ slice_index by.last.words.words 3

@@ -1,12 +1,11 @@
 -- Through each turn the archive stands beside the actors of its run.
-use Rattle.std.proofs.Common.{Bool, List, None, Option, Some, [], ap, append-nil, arith, cond, false, inl, inr, refl, set, slice_index}
-use Rattle.std.proofs.Common.{subst, sym, true, ⊎_elim, ℕ, ◌++◌, ◌+◌, ◌<◌, ◌==◌, ◌∙◌, ◌∷◌, ◌≡◌, ◌≢◌, ◌≤◌, ◌⊎◌, is_some}
+use Rattle.std.proofs.Common.{Bool, List, None, Option, Some, ap, arith, cond, false, refl, set, slice_index}
+use Rattle.std.proofs.Common.{subst, sym, true, ⊎_elim, ℕ, ◌+◌, ◌==◌, ◌∙◌, ◌≡◌, ◌≢◌, ◌≤◌, ◌⊎◌, is_some}
 use native.Mathlib.Decide.{ℕ_discrete}
 use lib.ListN.{get_elem?}
 use mathlib.Core.Option.{some, some-injective}
-use Rattle.model_base.specs.{HasRisen}
 use Rattle.model_core.proofs.Later.{took_later}
-use Rattle.model_core.proofs.Lists.{at_set, set_at, set_else}
+use Rattle.model_core.proofs.Lists.{set_at, set_else}
 use Rattle.model_core.proofs.Lsns.{lsn_le, lsn_offset}
 use Rattle.model_core.specs.Actors as model
 use Rattle.model_core.specs.DataSide.{DataSide}
@@ -15,23 +14,21 @@ use Rattle.model_core.specs.Setup.{Setup}
 use Rattle.model_core.specs.ReaderProgram.{Filling, reader_filled}
 use Rattle.model_core.specs.Turn.{Turn}
 use Rattle.model_core.specs.declared.ops.Answer.{Answer}
-use Rattle.model_core.specs.declared.ops.Answer.TheVariants as answers
-use Rattle.model_core.specs.declared.ops.Op.{Op}
 use Rattle.model_core.specs.declared.ops.Op.TheVariants as op
 use Rattle.model_core.specs.declared.ops.Step.{Step}
 use Rattle.model_core.specs.declared.steps.ReaderStep.{ReaderStep}
 use Rattle.model_core.specs.declared.steps.ReaderStep.TheVariants as reader_step
 use Rattle.model_core.specs.declared.words.Word.TheVariants as word
-use Rattle.model_core.specs.{after_of, answer_of, archives, Entry, filled, flat, index, Listed, LostAt, lsn, next, next_mark, old_of, reader_op, reader_program, ReaderState}
+use Rattle.model_core.specs.{after_of, answer_of, archives, filled, flat, index, Listed, LostAt, lsn, next, next_mark, old_of, reader_op, reader_program, ReaderState}
 use Rattle.model_core.specs.{shared_left, SharedWords, took, words_left}
-use Rattle.model_ends.proofs.Sizes.{all_bytes, bytes_same, sn_within}
+use Rattle.model_ends.proofs.Sizes.{bytes_same, sn_within}
 use Rattle.model_ends.specs.Bound.{bytes_of, last_lsn}
 use Rattle.model_log.specs.{IsDataLsn}
 use Rattle.model_logcore.proofs.Frame.{total_set}
 use Rattle.model_logcore.specs.{sum_over_actors}
 use Rattle.model_logcore.specs.LogLaws.{LogLaws}
 use Rattle.model_pagecore.specs.DataLaws.{DataLaws}
-use Rattle.model_running.proofs.Archiving.{number_stays, took_reader}
+use Rattle.model_running.proofs.Archiving.{took_reader}
 use Rattle.model_running.proofs.ArchiverStays.{rises}
 use Rattle.model_running.proofs.FlatWords.{flat_left}
 use Rattle.model_running.proofs.Turns.{next_words}
@@ -44,8 +41,8 @@ use Rattle.redo_archiver.specs.{AppendsNothing, HearsFlushed, KeepsPace, marks_a
 use Rattle.redo_disk.specs.Seen.{Seen}
 use Rattle.redo_disk.specs.declared.error.DevError.{DevError}
 use Rattle.model_archive.specs.declared.marks.ArchMarks.{ArchMarks}
-use Rattle.redo_drive.proofs.TurnsOf.{IsKind, kept_kind, NoReader, runs_then}
-use Rattle.redo_drive.specs.Archiving.{Appends, AsksUpTo, HasNoArchiver, IsBeside, StandsBeside}
+use Rattle.redo_drive.proofs.TurnsOf.{IsKind, kept_kind, runs_then}
+use Rattle.redo_drive.specs.Archiving.{Appends, AsksUpTo, HasNoArchiver, StandsBeside}
 use Rattle.redo_drive.specs.Lists.{lists_of}
 use Rattle.redo_drive.specs.Playing.{HasSamePages, RunOf, run_data_side, run_log_side}
 use Rattle.redo_drive.specs.Running.{RunsWith}
@@ -94,7 +91,6 @@ lines_stay (model.Closer s) f y = bytes_same (model.Closer s) (took (model.Close
 lines_stay (model.Cleaner s) f y = bytes_same (model.Cleaner s) (took (model.Cleaner s) y) (took_later (model.Cleaner s) y)
 lines_stay (model.Checkpointer s) f y =
     bytes_same (model.Checkpointer s) (took (model.Checkpointer s) y) (took_later (model.Checkpointer s) y)
-lines_stay (model.Joined es) f y = refl
 
 -- what asks for no append does so by its step
 appends_none : (r : ReaderState) → IsNoAppend (next (model.Reader r)) → AppendsNothing r
@@ -245,14 +241,14 @@ module _ {L D : Type 0} {archive : Bool} (log_seen : L → Seen) (data_seen : D 
   up =
       let W = R.running in
       let m : SharedWords = W.shared in
-      let there = next_words E F run.setup 0 m W.log_ghost W.page_ghost (lists_of old.lists) old.log old.store actors seat
+      let there = next_words E F run.setup m W.log_ghost W.page_ghost (lists_of old.lists) old.log old.store actors seat
       W.both t.who t.who_is in
       let words : ◌≡◌ {A = List ℕ} new.words.words (flat (shared_left m (next t.who))) =
       t.words ∙ ap (λ (ws : List ℕ). words_left ws (next t.who)) W.flat_is
       ∙ flat_left run.setup.pages m W.both.logged.sized (next t.who) there in
       let now : now_flushed ≡ (shared_left m (next t.who)).flushed = ap (λ (ws : List ℕ). slice_index ws 3) words in
       let old_is = flushed_word log_seen data_seen run old actors R in
-      let rise = rises E F run.setup 0 m W.log_ghost W.page_ghost (lists_of old.lists) old.log old.store actors seat W.both
+      let rise = rises E F run.setup m W.log_ghost W.page_ghost (lists_of old.lists) old.log old.store actors seat W.both
       t.code new.log t.who t.who_is in
       omega arith
 
@@ -299,7 +295,6 @@ module _ {L D : Type 0} {archive : Bool} (log_seen : L → Seen) (data_seen : D 
       by (model.Closer s) at k = absurd k
       by (model.Cleaner s) at k = absurd k
       by (model.Checkpointer s) at k = absurd k
-      by (model.Joined es) at k = absurd k
 
   -- WHERE NONE ARCHIVES none does after the turn.
   pub none_beside : HasNoArchiver actors → HasNoArchiver after
@@ -311,13 +306,12 @@ module _ {L D : Type 0} {archive : Bool} (log_seen : L → Seen) (data_seen : D 
           let z : true ≡ false = sym k.2 ∙ none j k.0 k.1 in absurd (cc)
       by false is = refl
 
-  module _ {A : Type 0} (seen : A → Seen)
-      (none_joined : (i : ℕ) (es : List Entry) → get_elem? after i ≡ some (model.Joined es) → ⊥) where
+  module _ {A : Type 0} (seen : A → Seen) where
     within : (limit : ℕ) → last_lsn run.setup actors ≤ limit → now_flushed ≤ limit
     within limit all =
         let W = then.running in
         let low = flushed_reserved log_seen data_seen run new after then in
-        let most = sn_within E run.setup 0 W.shared W.log_ghost new.log after W.both.logged none_joined in
+        let most = sn_within E run.setup W.shared W.log_ghost new.log after W.both.logged in
         let lines = lines_same in omega arith
 
     -- THE ARCHIVE STAYS BESIDE, at a turn that appends nothing, and at an append.

@@ -1,5 +1,5 @@
 -- A turn that ends by a failure leaves a code in FAILED, and that has a cause.
-use Rattle.std.proofs.Common.{List, ap, inl, inr, subst, sym, ℕ, ⊎_elim, ◌<◌, ◌∙◌, ◌≡◌, ◌⊎◌}
+use Rattle.std.proofs.Common.{List, ap, subst, sym, ℕ, ◌<◌, ◌∙◌, ◌≡◌, ◌⊎◌}
 use Rattle.std.specs.Prelude.{slice_index}
 use lib.ListN.{get_elem?}
 use mathlib.Core.Option.{some}
@@ -15,17 +15,16 @@ use Rattle.model_core.proofs.Lists.{set_at}
 use Rattle.model_logcore.specs.LogLaws.{LogLaws}
 use Rattle.model_logcore.proofs.Failures.{met}
 use Rattle.model_pagecore.specs.DataLaws.{DataLaws}
-use Rattle.model_running.proofs.Archiving.{none_loses}
 use Rattle.model_running.proofs.Watermarks.{has_watermarks}
 use Rattle.model_running.specs.{IsRunning}
 
-module _ (D : LogSide) (L : LogLaws D) (E : DataSide) (EL : DataLaws E) (c : Setup) (spare : ℕ) (old new : Core D E) (seat : ℕ) (answer : Answer) (ends : Step) (running : IsRunning D E c spare new) (t : Turn D E old seat answer ends new) where
+module _ (D : LogSide) (L : LogLaws D) (E : DataSide) (EL : DataLaws E) (c : Setup) (old new : Core D E) (seat : ℕ) (answer : Answer) (ends : Step) (running : IsRunning D E c new) (t : Turn D E old seat answer ends new) where
   -- the cause is a call of a part, or an append
   pub failed_turn_has_some : (code : ℕ) → ends ≡ step.Failed code
       → D.Cause new.log_part (slice_index new.words 6) ⊎ E.Cause new.data_part (slice_index new.words 6)
       ⊎ HasLost new.actors (slice_index new.words 6)
   failed_turn_has_some code is =
-      let W = has_watermarks D L E EL c spare new running in
+      let W = has_watermarks D L E EL c new running in
       let with : Actor = filled t.who t.filling in
       let who = took with answer in
       let there : get_elem? new.actors seat ≡ some who =
@@ -34,13 +33,3 @@ module _ (D : LogSide) (L : LogLaws D) (E : DataSide) (EL : DataLaws E) (c : Set
       let same : slice_index new.words 6 ≡ W.0.failed = ap (λ (ws : List ℕ). slice_index ws 6) W.1 in
       subst (λ (n : ℕ). D.Cause new.log_part n ⊎ E.Cause new.data_part n ⊎ HasLost new.actors n) (sym same)
       (W.2.failure_has_cause.cause shown)
-
--- a call of a part, where no actor archives
-pub failed_turn_has_cause : (D : LogSide) → LogLaws D → (E : DataSide) → DataLaws E → (c : Setup) (spare : ℕ)
-    (old new : Core D E) (seat : ℕ) (answer : Answer) (ends : Step) → IsRunning D E c spare new → 0 < c.first_reader
-    → Turn D E old seat answer ends new → (code : ℕ) → ends ≡ step.Failed code
-    → D.Cause new.log_part (slice_index new.words 6) ⊎ E.Cause new.data_part (slice_index new.words 6)
-failed_turn_has_cause D L E EL c spare old new seat answer ends running followers t code is =
-    ⊎_elim (λ cause. inl cause) (⊎_elim (λ cause. inr cause)
-    (λ lost. absurd (none_loses c new.actors running.both.in_run followers (slice_index new.words 6) lost)))
-    (failed_turn_has_some D L E EL c spare old new seat answer ends running t code is)

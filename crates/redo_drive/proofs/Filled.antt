@@ -68,7 +68,6 @@ lent_filled (model.Flusher t) texts = refl
 lent_filled (model.Closer t) texts = refl
 lent_filled (model.Cleaner v) texts = refl
 lent_filled (model.Checkpointer t) texts = refl
-lent_filled (model.Joined es) texts = refl
 
 -- A READ is asked for by a reader at that step.
 read_at : (r : ReaderState) (x : ℕ) → next (model.Reader r) ≡ op.ReadBlock x → r.step ≡ reader_step.ReadBlock
@@ -190,16 +189,6 @@ reader_fits r f reader_step.ReadBlock a fits = record { log = fits.log; pages = 
 reader_fits r f reader_step.GiveDevice a fits = record { log = fits.log; pages = fits.pages; code = fits.code }
 reader_fits r f _ a fits = fits
 
-pub filled_fits : (who : model.Actor) (f : Filling) (a : Answer) → AnswerFits who a → AnswerFits (filled who f) a
-filled_fits (model.Reader r) f a fits = reader_fits r f r.step a fits
-filled_fits (model.User u) f a fits = fits
-filled_fits (model.Writer s) f a fits = fits
-filled_fits (model.Flusher t) f a fits = fits
-filled_fits (model.Closer t) f a fits = fits
-filled_fits (model.Cleaner v) f a fits = fits
-filled_fits (model.Checkpointer t) f a fits = fits
-filled_fits (model.Joined es) f a fits = fits
-
 -- Whatever a call wrote into a reader's room, it may be given the same answers.
 pub block_fits : (r : ReaderState) (bytes : List ℕ) (a : Answer) → AnswerFits (model.Reader r) a
     → AnswerFits (model.Reader (record r { block = bytes })) a
@@ -274,21 +263,3 @@ reader_or_no_read (model.Cleaner v) =
     inr (checking_reads_not v.checks (cleaner_op v v.step) (cleaner_reads_not v v.step))
 reader_or_no_read (model.Checkpointer t) =
     inr (checking_reads_not t.checks (checkpointer_op t t.step) (checkpointer_reads_not t t.step))
-reader_or_no_read (model.Joined es) = inr tt
-
--- and among a run's actors the archiver and the followers alone
-abbrev pub ReadsNoLog : {R : Type 0} → Actor R → Type 0
-ReadsNoLog (own.Archiver r) = ⊥
-ReadsNoLog (own.Follower f) = ⊥
-ReadsNoLog _ = Unit {0}
-
-pub asks_no_read : {R : Type 0} (a : Actor R) → ReadsNoLog a → IsNoRead (next (view_of a))
-asks_no_read (own.Archiver r) none = absurd none
-asks_no_read (own.Follower f) none = absurd none
-asks_no_read (own.User u) none = checking_reads_not u.checks (user_op u u.step) (user_reads_not u u.step)
-asks_no_read (own.Writer s) none = checking_reads_not s.checks (writer_op s s.step) (writer_reads_not s s.step)
-asks_no_read (own.Flusher t) none = checking_reads_not t.checks (flusher_op t t.step) (flusher_reads_not t t.step)
-asks_no_read (own.Closer t) none = checking_reads_not t.checks (closer_op t t.step) (closer_reads_not t t.step)
-asks_no_read (own.Cleaner v) none = checking_reads_not v.checks (cleaner_op v v.step) (cleaner_reads_not v v.step)
-asks_no_read (own.Checkpointer t) none =
-    checking_reads_not t.checks (checkpointer_op t t.step) (checkpointer_reads_not t t.step)

@@ -8,14 +8,12 @@ use Rattle.std.specs.List.{AllZip}
 use Rattle.std.specs.Prelude.{IfSome}
 use lib.ListN.{get_elem?}
 use mathlib.Core.Option.{some}
-use native.Mathlib.Decide.{dec_le}
 use Rattle.model_base.specs.declared.shape.Shape.{Shape}
 use Rattle.model_core.specs.DataSide.{DataSide}
 use Rattle.model_core.specs.LogSide.{LogSide}
 use Rattle.model_core.proofs.Lsns.{lsn_le}
 use Rattle.model_core.specs.{archives, Given, HasLost, lsn, ReaderState, SharedWords}
 use Rattle.model_core.specs.Actors as model
-use Rattle.model_core.specs.Hands.{HoldsNothing}
 use Rattle.model_device.specs.{synced}
 use Rattle.model_device.specs.Disk.{Disk}
 use Rattle.model_running.proofs.Archiving.{none_loses}
@@ -27,21 +25,18 @@ use Rattle.model_running.specs.ReadHalf.{FollowerHas, groups_upto, HasByKind, Re
 use Rattle.model_logcore.specs.{LogGhost}
 use Rattle.model_running.proofs.FinishedPages.{finished_pages}
 use Rattle.model_running.proofs.FinishedStore.{stands_for_run}
-use Rattle.model_running.proofs.Seated.{seated_end, seated_seats}
+use Rattle.model_running.proofs.Seated.{seated_seats}
 use Rattle.model_running.specs.{CausesAreFailures, DataTells, HasFailedPart, HasItsPages, HaveEnded, IsOfScript, LeavesOpen, LogTells, run_of, word_marks}
-use Rattle.model_report.proofs.Groups.{have-lines}
 use Rattle.model_report.specs.{entry_spans, IsLeft, wholes_of}
 use Rattle.model_report.specs.declared.entry.Entry.{Entry}
 use Rattle.model_report.specs.declared.entry.Marks.{Marks}
 use Rattle.model_log.specs.{IsBoundary, Span, start_after}
 use Rattle.model_log.specs.declared.group.Whole.{Whole}
 use Rattle.model_page.specs.declared.content.Content.{Content}
-use Rattle.model_theorem.proofs.Closing.{few-blocks, some-blocks}
-use Rattle.model_theorem.proofs.Fitting.{good-from}
 use Rattle.model_theorem.proofs.Start.{start-given}
 use Rattle.model_theorem.specs.{IsHeld, IsRun, IsStart, LosesOnlyByFailure, opened_as}
 use Rattle.model_script.specs.declared.script.ScriptLine.{ScriptLine}
-use Rattle.model_parts.specs.{FitsStore, IsLive, numbers_taken}
+use Rattle.model_parts.specs.{numbers_taken}
 use Rattle.model_store.specs.Reading.{Reading}
 use Rattle.model_theorem.specs.Values as theorem
 use Rattle.redo_drive.proofs.DataPartEnds.{data_tells}
@@ -51,19 +46,16 @@ use Rattle.redo_disk.specs.{Call, failures}
 use Rattle.redo_disk.specs.Seen.{Seen}
 use Rattle.redo_disk.specs.declared.error.DevError.{DevError}
 use Rattle.redo_disk.specs.declared.error.DevError.TheVariants.{Failed, NoMemory}
-use Rattle.redo_logdev.specs.{DiskHolds}
 use Rattle.redo_logdev.specs.Part as log
 use Rattle.redo_drive.proofs.LogPartEnds.{log_tells}
-use Rattle.redo_drive.proofs.ReadMarks.{read_to_marks}
-use Rattle.redo_drive.proofs.RestMarks.{ckpt_is_newest, write_is_written}
 use Rattle.redo_drive.specs.LogPartSide as log_part
 use Rattle.redo_drive.proofs.SyncedParts.{data_is_synced, log_tells_synced}
 use Rattle.redo_drive.specs.Beginning.{HaveBegun}
 use Rattle.redo_drive.specs.Startable.{AreNewFollowers, HasReading, MayBegin}
 use Rattle.redo_drive.specs.Calls.{CallsOn}
-use Rattle.redo_drive.specs.Drive.{ComesToRun, HasMemory, HasMetError, HoldsRun, IsOwedSynced, Owes, ReadsToMarks, closed_run, failed_in}
+use Rattle.redo_drive.specs.Drive.{ComesToRun, HasMemory, HasMetError, HoldsRun, IsOwedSynced, Owes, closed_run, failed_in}
 use Rattle.redo_drive.specs.Followed.{given_upto, HasFollowed, HasSameNumber, HaveFollowed}
-use Rattle.redo_drive.specs.Leaving.{LeavesRun, LeavesWith}
+use Rattle.redo_drive.specs.Leaving.{LeavesWith}
 use Rattle.redo_drive.specs.Making.{EndsWithReaders}
 use Rattle.redo_drive.specs.Playing.{RunOf, run_data_side, run_log_side}
 use Rattle.redo_drive.specs.Receiving.{follower_of, IsSameFollower}
@@ -128,7 +120,7 @@ module _ {L D R : Type 0} {archive : Bool} (log_seen : L → Seen) (log_gives : 
   is_run end start =
       let was : theorem.Opened = record { shape = opened.shape; pages = opened.pages; end = end } in
       subst (IsRun script was) ran_is
-      (finished_run logs run.setup 0 by.from.runs.running.shared by.from.runs.running.log_ghost by.last.log (views_of actors) by.from.runs.running.both.logged script was by.is_run.of_script (by.is_run.start ∙ start))
+      (finished_run logs run.setup by.from.runs.running.shared by.from.runs.running.log_ghost by.last.log (views_of actors) by.from.runs.running.both.logged script was by.is_run.of_script (by.is_run.start ∙ start))
 
   -- without an archiver no append has failed
   none_lost : archive ≡ false → (code : ℕ) → HasLost (views_of actors) code → ⊥
@@ -162,8 +154,8 @@ module _ {L D R : Type 0} {archive : Bool} (log_seen : L → Seen) (log_gives : 
   loses left ended memory left_is =
       let cause = causes memory in
       subst (λ (z : theorem.Ran). LosesOnlyByFailure (failed_in driven.closed) (Some z) left) ran_is
-      (finished_losses logs run.setup 0 by.from.runs.running.shared by.from.runs.running.log_ghost by.last.log (views_of actors) by.from.runs.running.both.logged script opened.shape (failed_in driven.closed) left
-      (seated_end run.setup (views_of actors) by.from.runs.seated ended) by.is_run.of_script (seated_seats run.setup (views_of actors) by.from.runs.seated script opened.shape by.is_run.of_script)
+      (finished_losses logs run.setup by.from.runs.running.shared by.from.runs.running.log_ghost by.last.log (views_of actors) by.from.runs.running.both.logged script opened.shape (failed_in driven.closed) left
+      ended by.is_run.of_script (seated_seats run.setup (views_of actors) by.from.runs.seated script opened.shape by.is_run.of_script)
       (λ failed. ⊎_elim (λ c. cause.log by.from.runs.running.shared.failed c) (⊎_elim (λ c. cause.data_part by.from.runs.running.shared.failed c) (λ c. cause.archive by.from.runs.running.shared.failed c)) (by.from.runs.running.both.cause failed)) (left_of_run left left_is))
 
   -- the devices came here by calls, the log's and the data's
@@ -245,8 +237,8 @@ module _ {L D R : Type 0} {archive : Bool} (log_seen : L → Seen) (log_gives : 
         let given = start-given reading script log_disk data_disk start in
         subst (λ (z : theorem.Ran). IsHeld (record { script = script; opened = opened_as reading; number = reading.number + numbers_taken reading.format; run = z; log_disk = log_now; data_disk = data_now })) ran_is
         (held_run logs datas run.setup script (opened_as reading) (reading.number + numbers_taken reading.format) log_now data_now core behind given log_tells_now data_tells_now
-        (stands_for_run logs datas run.setup 0 script (opened_as reading) core running of_script behind)
-        (finished_pages logs datas run.setup 0 script (opened_as reading) core running given its_pages of_script))
+        (stands_for_run logs datas run.setup script (opened_as reading) core running of_script behind)
+        (finished_pages logs datas run.setup script (opened_as reading) core running given its_pages of_script))
 
   -- both devices held what was opened, where they told
   has_begun : (reading : Reading) → HasReading reading opened → (log_disk data_disk : Disk) → (log_seen opened.log.dev).tells ≡ Some log_disk → (data_seen opened.store.dev).tells ≡ Some data_disk
@@ -279,77 +271,6 @@ module _ {L D R : Type 0} {archive : Bool} (log_seen : L → Seen) (log_gives : 
   holds_run may reading as_read =
       where_told reading as_read _ (λ log_disk data_disk log_now data_now start begun log_told data_told.
       held may reading as_read log_disk data_disk log_now data_now start (log_device may reading as_read begun log_now log_told) (data_device may reading as_read begun data_now data_told))
-
-  -- FAILED is 0 where no part has failed, and nothing is archived
-  no_code : archive ≡ false → driven.closed.log.failed ≡ None → driven.closed.store.failed ≡ None
-      → by.from.runs.running.shared.failed ≡ 0
-  no_code alone log_live data_live = elim (dec_le 1 by.from.runs.running.shared.failed) [
-    | yes positive ↦ ⊎_elim
-        (λ c. let is : driven.closed.log.failed ≡ Some c.fault = ap (λ (z : log.Part L). z.failed) by.log ∙ c.failed in
-        absurd (cc))
-        (⊎_elim
-        (λ c. let is : driven.closed.store.failed ≡ Some c.fault = ap (λ (z : store.Part D). z.failed) by.data_part
-        ∙ c.failed in absurd (cc))
-        (λ lost. absurd (none_lost alone by.from.runs.running.shared.failed lost)))
-        (by.from.runs.running.both.cause positive)
-    | no none ↦ omega arith
-  ]
-
-  -- where no actor holds anything, what reads give ends at WRITE
-  reads_by_marks : archive ≡ false → MayBegin opened script log_only
-      → ((i : ℕ) (a : model.Actor) → get_elem? (views_of actors) i ≡ some a → HoldsNothing a)
-      → ReadsToMarks log_seen data_seen opened script driven.closed
-  unfolding stands_for_run
-  reads_by_marks alone may rest log_live data_live reading as_read =
-      where_told reading as_read _ (λ log_disk data_disk log_now data_now start begun log_told data_told left is.
-      let R = by.from.runs.running in
-      let part : log.Part L = by.last.log in
-      let sound = no_code alone log_live data_live in
-      let live : part.failed ≡ None = ap (λ (z : log.Part L). z.failed) (sym by.log) ∙ log_live in
-      let whole : IsHeld (record {
-        script = script;
-        opened = opened_as reading;
-        number = reading.number + numbers_taken reading.format;
-        run = ran;
-        log_disk = synced log_now;
-        data_disk = synced data_now;
-      }) =
-      held may reading as_read log_disk data_disk (synced log_now) (synced data_now) start
-      (log_synced may reading as_read begun log_live log_now log_told)
-      (data_synced may reading as_read begun data_live data_now data_told) in
-      let of_script = subst (IsOfScript run.setup script) as_read.shape by.is_run.of_script in
-      let stands = stands_for_run logs datas run.setup 0 script (opened_as reading)
-      (core_of log_seen data_seen run by.last (views_of actors)) R of_script (by.is_run.start ∙ as_read.start) in
-      let wholes : List Whole = wholes_of script reading.shape.space stands.run.entries in
-      let shape : ◌≡◌ {A = Shape} part.shape reading.shape = log_shape may reading as_read in
-      let here : DiskHolds part.shape (lsn run.setup.base) wholes part.marks part.tails part.failed log_now =
-      as_told (log_seen part.dev).tells
-      (DiskHolds part.shape (lsn run.setup.base) wholes part.marks part.tails part.failed) log_now
-      (ap (λ (z : log.Part L). (log_seen z.dev).tells) (sym by.log) ∙ log_told)
-      (R.both.logged.global.part.holds.groups begun.log wholes stands.groups) in
-      let legal = stands.is_run.legal in
-      let good = good-from reading.shape script stands.run.entries whole.given.fits
-      (have-lines script reading.shape.space stands.run.start stands.run.marks stands.run.entries legal) in
-      let small = stands.small in
-      let fits : FitsStore reading.shape wholes part.marks =
-      record {
-        good = good;
-        small = omega arith;
-        some_blocks = some-blocks reading.shape whole.given.shape;
-        few_blocks = few-blocks reading.shape whole.given.shape;
-      } in
-      let on_shape : IsLive reading.shape (lsn run.setup.base) wholes part.marks part.tails log_now =
-      subst (λ (z : Shape). IsLive z (lsn run.setup.base) wholes part.marks part.tails log_now) shape
-      (record { holds = here.holds; is_written = here.live live }) in
-      let read = read_to_marks reading.shape (lsn run.setup.base) wholes part.marks part.tails log_now data_now.reads
-      left fits on_shape (R.both.logged.global.part.holds.all_asked live) is in
-      let marks : ◌≡◌ {A = Marks} (word_marks R.shared) driven.closed.marks =
-      sym (by.marks ∙ marks_same by.last.words.words R.shared R.flat_is) in (
-        read.0 ∙ write_is_written log_seen data_seen run by.last (views_of actors) by.from.runs rest sound
-            ∙ ap (λ (z : Marks). z.write) marks,
-        read.1 ∙ ckpt_is_newest log_seen data_seen run by.last (views_of actors) by.from.runs rest sound
-            ∙ ap (λ (z : Marks). z.ckpt) marks,
-      ))
 
   pub is_owed_synced : MayBegin opened script log_only → (driven.ended ≡ ended.Done → HaveEnded (views_of actors)) → IsOwedSynced log_seen data_seen opened script driven
   is_owed_synced may ended log_live data_live reading left done memory as_read left_is =
@@ -442,7 +363,7 @@ module _ {L D R : Type 0} {archive : Bool} (log_seen : L → Seen) (log_gives : 
           bound_spans g.log run.setup.base m.sn r.at tiles F.bound in
           let are_wholes : AreWholesOf g.log wholes =
           subst (λ (z : List Entry). AreWholesOf g.log (wholes_of script opened.shape.space z)) (sym by.history)
-          (finished_groups logs run.setup 0 m g by.last.log (views_of actors) by.from.runs.running.both.logged script
+          (finished_groups logs run.setup m g by.last.log (views_of actors) by.from.runs.running.both.logged script
           opened.shape by.is_run.of_script) in
           let groups : ◌≡◌ {A = List Given} (groups_of (model.Reader r) g.log) (given_upto r.place wholes) =
           ap (λ (b : Bool). let l : List Given = cond b [] (groups_upto r.at g.log) in l) kind
@@ -481,15 +402,3 @@ module _ {L D R : Type 0} {archive : Bool} (log_seen : L → Seen) (log_gives : 
             let z : (log_seen by.last.log.dev).tells ≡ Some disk =
             ap (λ (z : log.Part L). (log_seen z.dev).tells) (sym by.log) ∙ told in
             let bad : None ≡ Some disk = sym none ∙ z in absurd (cc)
-
--- and where nothing is archived, what reads give ends at WRITE
-pub reads_to_marks : {L D R : Type 0} (log_seen : L → Seen) (log_gives : L → Call → L → Type 0) (data_seen : D → Seen)
-    (data_gives : D → Call → D → Type 0) (stands : R → List Given → Type 0) (opened : Opened L D)
-    (script : List ScriptLine) (log_only : Bool) (followers : ℕ) (starts actors : List (Actor R)) (driven : Driven L D)
-    → LeavesRun log_seen log_gives data_seen data_gives stands opened script log_only followers starts actors driven.closed
-    → MayBegin opened script log_only
-    → ((i : ℕ) (a : model.Actor) → get_elem? (views_of actors) i ≡ some a → HoldsNothing a)
-    → ReadsToMarks log_seen data_seen opened script driven.closed
-reads_to_marks log_seen log_gives data_seen data_gives stands opened script log_only followers starts actors driven by =
-    reads_by_marks log_seen log_gives data_seen data_gives stands opened script log_only followers starts actors driven
-    by refl

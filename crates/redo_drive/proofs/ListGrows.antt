@@ -3,7 +3,6 @@ use Rattle.std.proofs.Common.{List, [], add-one, ap, append_assoc, arith, drop, 
 use Rattle.std.proofs.lemmas.List.{append-nil, at_drop_all}
 use Rattle.std.proofs.lemmas.List.Concat.{flat_map-cons}
 use Rattle.model_core.specs.{UserState}
-use Rattle.model_core.specs.Actors as model
 use Rattle.model_report.specs.declared.entry.Entry.{Entry}
 use Rattle.model_report.specs.declared.entry.Marks.{Marks}
 use Rattle.redo_drive.specs.History.{all_listed, listed, listed_from, listed_group}
@@ -21,11 +20,6 @@ one_more items one rest = append_assoc items one rest
 pub length_from : (marks : Marks) (u : UserState) (k : ℕ) (starts : List ℕ) → length (listed_from marks u k starts) ≡ length starts
 length_from marks u k [] = refl
 length_from marks u k (s ∷ ss) = ap suc (length_from marks u (k + 1) ss)
-
--- any other actor has none
-pub none_listed : (marks : Marks) (a : model.Actor) → ((u : UserState) → a ≡ model.User u → ⊥) → listed marks a ≡ []
-none_listed marks (model.User u) no_user = absurd (no_user u refl)
-none_listed marks _ no_user = refl
 
 module _ (marks : Marks) (u : UserState) (k : ℕ) (there : k < length u.starts) where
   next_from : listed_from marks u k (drop k u.starts) ≡ listed_group marks u k (slice_index u.starts k) ∷ listed_from marks u (k + 1) (drop (k + 1) u.starts)

@@ -26,7 +26,6 @@ use Rattle.model_logcore.specs.Ready.{Ready}
 use Rattle.model_pagecore.specs.{CanBatch}
 use Rattle.model_pagecore.specs.DataLaws.{DataLaws}
 use Rattle.model_running.proofs.AnswersFitAll.{answer_fits}
-use Rattle.model_running.proofs.Archiving.{none_appends}
 use Rattle.model_running.proofs.BothReady as both_ready
 use Rattle.model_running.proofs.FlatWords.{flat_answer}
 use Rattle.model_running.proofs.InRun.{next_in_run}
@@ -53,7 +52,7 @@ use Rattle.redo_drive.specs.LogPartSide as log_part
 use Rattle.redo_drive.specs.Lists.{lists_of}
 use Rattle.redo_drive.specs.Playing.{DataReady, HasWholePages, IsPlayable, LogReady, MayBatchLent, MayWriteLent, RunOf, run_data_side, run_log_side}
 use Rattle.redo_drive.specs.Receiving.{MarkFits}
-use Rattle.redo_drive.specs.Running.{RunsOn, RunsWith}
+use Rattle.redo_drive.specs.Running.{RunsWith}
 use Rattle.redo_drive.specs.Turning.{MayServe}
 use Rattle.redo_drive.specs.declared.device.Device.TheVariants.{Data, Log}
 use Rattle.redo_drive.specs.declared.parts.Parts.{Parts}
@@ -209,7 +208,7 @@ module _ {L D : Type 0} {archive : Bool} (log_seen : L → Seen) (data_seen : D 
       let P = half.global.part in let O = half.global.order in
       let a = P.stable_written in let b = P.written_wtail in let e = O.wtail_is in
       let l = lsn_le R.running.log_ghost.wtail R.running.shared.sn (let x = O.wtail_tail in let y = O.tail_sn in omega arith) in
-      let s = small_sn A c 0 R.running.shared R.running.log_ghost parts.log actors 0 half in
+      let s = small_sn A c R.running.shared R.running.log_ghost parts.log actors 0 half in
       omega arith
 
   module _ (seat : ℕ) (who : model.Actor) (at : get_elem? actors seat ≡ some who) where
@@ -217,7 +216,7 @@ module _ {L D : Type 0} {archive : Bool} (log_seen : L → Seen) (data_seen : D 
     ls = lists_of parts.lists
 
     words : OpWords c.pages (next who)
-    words = let W = R.running in next_words A B c 0 W.shared W.log_ghost W.page_ghost ls parts.log parts.store actors seat W.both who at
+    words = let W = R.running in next_words A B c W.shared W.log_ghost W.page_ghost ls parts.log parts.store actors seat W.both who at
 
     answer_is : (code mark : ℕ) → ◌≡◌ {A = Answer} (answer_of ls (is_some parts.log.failed) code mark parts.words.words (next who)) (shared_answer ls (is_some parts.log.failed) code mark R.running.shared (next who))
     answer_is code mark = let W = R.running in
@@ -227,7 +226,7 @@ module _ {L D : Type 0} {archive : Bool} (log_seen : L → Seen) (data_seen : D 
     pub fits : (code mark : ℕ) → AnswerFits who (answer_of ls (is_some parts.log.failed) code mark parts.words.words (next who))
     fits code mark = let W = R.running in
         subst (λ (r : Answer). AnswerFits who r) (sym (answer_is code mark))
-        (answer_fits A B c 0 W.shared W.log_ghost W.page_ghost ls parts.log parts.store actors seat W.both R.bytes codes (is_some parts.log.failed) code mark who at)
+        (answer_fits A B c W.shared W.log_ghost W.page_ghost ls parts.log parts.store actors seat W.both R.bytes codes (is_some parts.log.failed) code mark who at)
 
     pub mark_fits : (code mark : ℕ)
         → MarkFits who (answer_of ls (is_some parts.log.failed) code mark parts.words.words (next who))
@@ -253,10 +252,9 @@ module _ {L D : Type 0} {archive : Bool} (log_seen : L → Seen) (data_seen : D 
         by (model.Closer x) there = tt
         by (model.Cleaner v) there = tt
         by (model.Checkpointer x) there = tt
-        by (model.Joined es) there = tt
 
     data_can : running.BatchReady B c R.running.page_ghost.kept_page (lent who) parts.store (next who)
-    data_can = let W = R.running in both_ready.data_ready A log_laws B data_laws c 0 W.shared W.log_ghost W.page_ghost ls parts.log parts.store actors seat W.both who at
+    data_can = let W = R.running in both_ready.data_ready A log_laws B data_laws c W.shared W.log_ghost W.page_ghost ls parts.log parts.store actors seat W.both who at
 
     reads : ReadsBlock (next who)
     reads = ⊎_elim
@@ -271,10 +269,10 @@ module _ {L D : Type 0} {archive : Bool} (log_seen : L → Seen) (data_seen : D 
     playable none l lends = let W = R.running in record {
       there = subst (λ (n : ℕ). OpWords n (next who)) (sym R.word_pages) words;
       sum = holds_sum ls (is_some parts.log.failed) 0 0 parts.words.words who (fits 0 0).log;
-      listing = subst (λ (n : ℕ). ListReady n ls (next who)) (sym R.list_pages) (list_ready A B c 0 W.shared W.log_ghost W.page_ghost ls parts.log parts.store actors seat W.both who at);
+      listing = subst (λ (n : ℕ). ListReady n ls (next who)) (sym R.list_pages) (list_ready A B c W.shared W.log_ghost W.page_ghost ls parts.log parts.store actors seat W.both who at);
       real = W.both.paged.paged.lists.real;
       log = log_call log_seen (log_seen run.first_log.dev).faults run.first_log.marks.number (log_part.HasBegun log_seen (lsn c.base) run.first_log) c W.log_ghost parts.log who W.both.logged.global.part.holds low_stable (next who) l lends
-          (both_ready.log_ready A log_laws B data_laws c 0 W.shared W.log_ghost W.page_ghost ls parts.log parts.store
+          (both_ready.log_ready A log_laws B data_laws c W.shared W.log_ghost W.page_ghost ls parts.log parts.store
           actors seat W.both who at) reads;
       own = none;
       data_part = data_call data_seen (data_seen run.first_data.dev).faults run.shape (data_part.HasBegun data_seen c.opened run.first_data) c R.its_pages R.its_page_size R.limits W.page_ghost.kept_page parts.store (next who) (lent who) l lends data_can;
@@ -287,12 +285,3 @@ module _ {L D : Type 0} {archive : Bool} (log_seen : L → Seen) (data_seen : D 
       fits = fits;
       mark = mark_fits;
     }
-
--- where nothing is archived each actor may
-pub may_serve : {L D : Type 0} (log_seen : L → Seen) (data_seen : D → Seen) (run : RunOf L D) (parts : Parts L D)
-    (actors : List model.Actor) (R : RunsOn log_seen data_seen run parts actors)
-    → LogLaws (run_log_side log_seen data_seen run) → DataLaws (run_data_side log_seen data_seen run)
-    → (seat : ℕ) (who : model.Actor) → get_elem? actors seat ≡ some who → MayServe parts who
-may_serve log_seen data_seen run parts actors R log_laws data_laws seat who at =
-    serves_other log_seen data_seen run parts actors R log_laws data_laws seat who at
-    (none_appends run.setup who (R.running.both.in_run seat who at) R.followers)

@@ -131,7 +131,6 @@ none_of_log (actor.Flusher t) = refl
 none_of_log (actor.Closer t) = refl
 none_of_log (actor.Cleaner v) = refl
 none_of_log (actor.Checkpointer t) = refl
-none_of_log (actor.Joined es) = refl
 
 same_follower : {R : Type 0} (f : Option (Following R)) → IsSameFollower f f
 same_follower None = tt
@@ -226,14 +225,14 @@ module _ {L D R : Type 0} (log_seen : L → Seen) (data_seen : D → Seen) (stan
   none_at i = ap (λ (lists : Listings). let l : List Listed = lists_of lists i in l) owns.lists ∙ none_listed opened.shape.pages i
 
   -- the invariant holds
-  is_running : IsRunning log_part data_part setup 0 (core_of log_seen data_seen run start.parts (views_of own.actors.items))
+  is_running : IsRunning log_part data_part setup (core_of log_seen data_seen run start.parts (views_of own.actors.items))
   is_running =
-      let room : lsn (setup.base + sum_over_actors left_to_reserve (views_of own.actors.items) + 0) < LSN_LIMIT =
-      subst (λ (actors : List Actor). lsn (setup.base + sum_over_actors left_to_reserve actors + 0) < LSN_LIMIT) (sym owns.actors)
+      let room : lsn (setup.base + sum_over_actors left_to_reserve (views_of own.actors.items)) < LSN_LIMIT =
+      subst (λ (actors : List Actor). lsn (setup.base + sum_over_actors left_to_reserve actors) < LSN_LIMIT) (sym owns.actors)
       (room_for_all opened.shape script opened.start log_only archive (length followers) may.fits.lines may.fits.end) in
       let none : ◌≡◌ {A = ℕ → List Listed} (lists_of own.lists) (λ _. []) = λ k i. none_at i k in
-      subst (λ (lists : ℕ → List Listed). RunningStore log_part data_part setup 0 own.words.words lists opened.log opened.store (views_of own.actors.items)) (sym none)
-      (store_starts log_part data_part setup words.by_name opened.log opened.store seat_of writer (views_of own.actors.items) store_start 0 own.words.words words.in_order room)
+      subst (λ (lists : ℕ → List Listed). RunningStore log_part data_part setup own.words.words lists opened.log opened.store (views_of own.actors.items)) (sym none)
+      (store_starts log_part data_part setup words.by_name opened.log opened.store seat_of writer (views_of own.actors.items) store_start own.words.words words.in_order room)
 
   runs : RunsWith log_seen data_seen run archive start.parts (views_of own.actors.items)
   runs = record {

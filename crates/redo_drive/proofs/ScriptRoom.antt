@@ -132,8 +132,8 @@ actors_reserve shape script start log_only archive followers fits =
 -- and the log has room for that
 pub room_for_all : (shape : Shape) (script : List ScriptLine) (start : ℕ) (log_only archive : Bool) (followers : ℕ)
     → AllByRecursion (LineFits shape) script → script_end shape start script < LSN_LIMIT
-    → lsn (sn_of start + sum_over_actors left_to_reserve (seated_actors shape script start log_only archive followers) + 0) < LSN_LIMIT
+    → lsn (sn_of start + sum_over_actors left_to_reserve (seated_actors shape script start log_only archive followers)) < LSN_LIMIT
 room_for_all shape script start log_only archive followers fits room =
     let sum = actors_reserve shape script start log_only archive followers fits in
-    let end : sn_of start + sum_over_actors left_to_reserve (seated_actors shape script start log_only archive followers) + 0 ≡ sn_of start + length (stream_of (map (group_of shape.space) script)) = omega arith in
+    let end : sn_of start + sum_over_actors left_to_reserve (seated_actors shape script start log_only archive followers) ≡ sn_of start + length (stream_of (map (group_of shape.space) script)) = omega arith in
     subst (λ (n : ℕ). lsn n < LSN_LIMIT) (sym end) (subst (λ (n : ℕ). n < LSN_LIMIT) (sym (lsn_is (sn_of start + length (stream_of (map (group_of shape.space) script))))) room)

@@ -3,7 +3,7 @@ use Rattle.std.proofs.Common.{Bool, List, [], ap, append-nil, arith, cond, eqb, 
 use Rattle.std.proofs.Common.{true, ℕ, ◌<◌, ◌∙◌, ◌≡◌}
 use Rattle.std.proofs.lemmas.Bool.{ne_eqb}
 use Rattle.model_core.specs.Actors as model
-use Rattle.model_core.specs.{after_of, archives, checked_of, filled, Filling, Fills, followed, Given}
+use Rattle.model_core.specs.{after_of, archives, checked_of, filled, Filling, followed, Given}
 use Rattle.model_core.specs.{has_all, is_none, old_of}
 use Rattle.model_core.specs.{placed_at, reader_ending, reader_holds, reader_program, reader_took, ReaderState}
 use Rattle.model_core.specs.{step_of, to_append, took}
@@ -14,8 +14,7 @@ use Rattle.model_core.specs.declared.ops.Step.TheVariants as step
 use Rattle.model_core.specs.declared.steps.ReaderStep.{ReaderStep}
 use Rattle.model_core.specs.declared.steps.ReaderStep.TheVariants as reader_step
 use Rattle.model_running.specs.ReadHalf.{handed_at}
-use Rattle.redo_drive.specs.Receiving.{filling_of, follower_of, handed_by, HasGot, HasTaken, IsSameFollower, MarkFits}
-use Rattle.redo_drive.specs.Views.{view_of}
+use Rattle.redo_drive.specs.Receiving.{filling_of, handed_by, HasTaken, MarkFits}
 use Rattle.redo_drive.specs.declared.actor.Actor.{Actor}
 use Rattle.redo_drive.specs.declared.actor.Actor.TheVariants as own
 use Rattle.redo_follow.specs.Handing.{Followed, Following, IsToFollow, StandsFor, TookAnswer}
@@ -26,55 +25,7 @@ pub wrapped : {S : Type 0} (wrap : S → model.Actor) (b : Bool) (x y : S)
 wrapped wrap true x y = refl
 wrapped wrap false x y = refl
 
--- AN ACTOR THAT READS NO LOG gets nothing put into it.
-abbrev IsOther : {R : Type 0} → Actor R → Type 0
-IsOther (own.Archiver r) = ⊥
-IsOther (own.Follower f) = ⊥
-IsOther _ = Unit {0}
-
 module _ {R : Type 0} (stands : R → List Given → Type 0) where
-  no_fill : (a : Actor R) → IsOther a → Fills (view_of a) (filling_of (view_of a) [])
-  no_fill (own.User u) other = tt
-  no_fill (own.Writer s) other = tt
-  no_fill (own.Flusher t) other = tt
-  no_fill (own.Closer t) other = tt
-  no_fill (own.Cleaner v) other = tt
-  no_fill (own.Checkpointer t) other = tt
-  no_fill (own.Archiver r) other = absurd other
-  no_fill (own.Follower f) other = absurd other
-
-  as_it_was : (a : Actor R) → IsOther a
-      → ◌≡◌ {A = model.Actor} (filled (view_of a) (filling_of (view_of a) [])) (view_of a)
-  as_it_was (own.User u) other = refl
-  as_it_was (own.Writer s) other = refl
-  as_it_was (own.Flusher t) other = refl
-  as_it_was (own.Closer t) other = refl
-  as_it_was (own.Cleaner v) other = refl
-  as_it_was (own.Checkpointer t) other = refl
-  as_it_was (own.Archiver r) other = absurd other
-  as_it_was (own.Follower f) other = absurd other
-
-  both_other : (a b : Actor R) → IsOther a → IsOther b → IsSameFollower (follower_of a) (follower_of b)
-  both_other (own.Follower f) b other still = absurd other
-  both_other a (own.Follower g) other still = absurd still
-  both_other _ _ other still = tt
-
-  gets_nothing : (a b : Actor R) (groups : List Given) → IsOther a → IsOther b
-      → HasGot stands (follower_of a) groups (follower_of b)
-  gets_nothing (own.Follower f) b groups other still = absurd other
-  gets_nothing a (own.Follower g) groups other still = absurd still
-  gets_nothing _ _ groups other still = tt
-
-  pub other_took : (a b : Actor R) (r : Answer) (step : Step) → IsOther a → IsOther b → view_of b ≡ took (view_of a) r
-      → step ≡ step_of (view_of a) r → HasTaken stands a r step b
-  other_took a b r step other still state ends = record {
-    texts = [];
-    fills = no_fill a other;
-    state = subst (λ (z : model.Actor). view_of b ≡ took z r) (sym (as_it_was a other)) state;
-    ends = subst (λ (z : model.Actor). step ≡ step_of z r) (sym (as_it_was a other)) ends;
-    same = both_other a b other still;
-    got = gets_nothing a b (handed_by (filled (view_of a) (filling_of (view_of a) []))) other still;
-  }
 
 -- a follower keeps its number
 number_checked : (r : ReaderState) (n : ℕ) → (checked_of reader_program r n).number ≡ r.number

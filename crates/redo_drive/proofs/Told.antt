@@ -10,7 +10,6 @@ use Rattle.model_core.proofs.Lsns.{lsn_less, sn_below}
 use Rattle.model_core.specs.Actors as model
 use Rattle.model_core.specs.{end_of, entries, entries_from, entry, Line, line_at, lsn, sum_of, Tiles, UserState}
 use Rattle.model_core.specs.Groups as core
-use Rattle.model_running.proofs.Seated.{NoneJoined, none_joined}
 use Rattle.model_running.specs.{history_entry, history_of, word_marks}
 use Rattle.model_report.specs.declared.entry.Entry.{Entry}
 use Rattle.model_report.specs.declared.entry.Marks.{Marks}
@@ -87,24 +86,21 @@ AreAnswered answered actors = (seat : ℕ) (u : UserState) → get_elem? actors 
 
 actor_total : (answered : ℕ → ℕ) (marks : Marks) (f : Entry → ℕ) (a : model.Actor)
     → ((u : UserState) → a ≡ model.User u → answered u.user ≡ u.k)
-    → ((es : List core.Entry) → a ≡ model.Joined es → ◌≡◌ {A = List core.Entry} es [])
     → total f (listed marks a) ≡ sum_of (λ e. f (history_entry answered marks e)) (entries a)
-actor_total answered marks f (model.User u) is none =
+actor_total answered marks f (model.User u) is =
     user_total answered marks f u.user u.k u.lines 0 u.starts (is u refl)
-actor_total answered marks f (model.Joined es) is none =
-    sym (ap (sum_of (λ e. f (history_entry answered marks e))) (none es refl))
-actor_total answered marks f _ is none = refl
+actor_total answered marks f _ is = refl
 
 all_total : (answered : ℕ → ℕ) (marks : Marks) (f : Entry → ℕ) (actors : List model.Actor)
-    → AreAnswered answered actors → NoneJoined actors
+    → AreAnswered answered actors
     → total f (all_listed marks actors)
     ≡ sum_over_actors (λ a. sum_of (λ e. f (history_entry answered marks e)) (entries a)) actors
-all_total answered marks f [] are none = refl
-all_total answered marks f (x ∷ xs) are none =
+all_total answered marks f [] are = refl
+all_total answered marks f (x ∷ xs) are =
     let parts : total f (all_listed marks (x ∷ xs)) ≡ total f (listed marks x) + total f (all_listed marks xs) =
     ap (total f) (flat_map-cons (listed marks) x xs) ∙ total_append f (listed marks x) (all_listed marks xs) in
-    let first = actor_total answered marks f x (λ u is. are 0 u (ap some is)) (λ es is. none 0 es (ap some is)) in
-    let rest = all_total answered marks f xs (λ seat u at. are (suc seat) u at) (λ seat es at. none (suc seat) es at) in
+    let first = actor_total answered marks f x (λ u is. are 0 u (ap some is)) in
+    let rest = all_total answered marks f xs (λ seat u at. are (suc seat) u at) in
     omega arith
 
 module _ {L D : Type 0} {archive : Bool} (log_seen : L → Seen) (data_seen : D → Seen) (run : RunOf L D) (parts : Parts L D)
@@ -115,7 +111,7 @@ module _ {L D : Type 0} {archive : Bool} (log_seen : L → Seen) (data_seen : D 
   abbrev marks : Marks
   marks = word_marks runs.running.shared
 
-  abbrev half : LogHalf (run_log_side log_seen data_seen run) run.setup 0 runs.running.shared ghosts parts.log actors
+  abbrev half : LogHalf (run_log_side log_seen data_seen run) run.setup runs.running.shared ghosts parts.log actors
   half = runs.running.both.logged
 
   -- what no group of the log has, no group of a user has
@@ -137,7 +133,7 @@ module _ {L D : Type 0} {archive : Bool} (log_seen : L → Seen) (data_seen : D 
       let end : slice_index u.starts k + length (line_at u.lines k).bytes - runs.running.shared.sn ≡ 0 =
       none_of_user (λ e. end_of e - runs.running.shared.sn) (λ i e is. let n = (tiles_at ghosts.log run.setup.base runs.running.shared.sn i e tiled.tiles is).1 in omega arith) seat u at k l in
       let lines : length u.lines ≡ length (run.setup.script u.user) = ap length f.lines in
-      let small = sn_below runs.running.shared.sn runs.running.shared.sn LSN_LIMIT (omega arith) (small_sn (run_log_side log_seen data_seen run) run.setup 0 runs.running.shared ghosts parts.log actors 0 half) in
+      let small = sn_below runs.running.shared.sn runs.running.shared.sn LSN_LIMIT (omega arith) (small_sn (run_log_side log_seen data_seen run) run.setup runs.running.shared ghosts parts.log actors 0 half) in
       record { start = l; line = omega arith; small = omega arith }
 
   pub has_groups : (seat : ℕ) (a : model.Actor) → get_elem? actors seat ≡ some a → HasGroups a
@@ -147,7 +143,6 @@ module _ {L D : Type 0} {archive : Bool} (log_seen : L → Seen) (data_seen : D 
   sums : (f : Entry → ℕ) → total f (all_listed marks actors) ≡ total f (history_of ghosts.answered marks ghosts.log)
   sums f =
       all_total ghosts.answered marks f actors (λ seat u at. let fits : UserFits (run_log_side log_seen data_seen run) run.setup runs.running.shared ghosts parts.log seat u = half.each seat (model.User u) at in fits.answers)
-      (none_joined run.setup actors runs.seated)
       ∙ half.counted (λ e. f (history_entry ghosts.answered marks e)) ∙ sym (log_total ghosts.answered marks f ghosts.log)
 
   -- they are as many as the log has

@@ -98,7 +98,6 @@ same_kind (model.Flusher t) = tt
 same_kind (model.Closer t) = tt
 same_kind (model.Cleaner v) = tt
 same_kind (model.Checkpointer t) = tt
-same_kind (model.Joined es) = tt
 
 either : (b : Bool) (x y : model.Actor) → NoReader x → NoReader y → NoReader (cond b x y)
 either true x y one two = one
@@ -130,7 +129,6 @@ took_kind (model.Flusher t) f y = either t.checks _ _ tt tt
 took_kind (model.Closer t) f y = either t.checks _ _ tt tt
 took_kind (model.Cleaner v) f y = either v.checks _ _ tt tt
 took_kind (model.Checkpointer t) f y = either t.checks _ _ tt tt
-took_kind (model.Joined es) f y = tt
 
 no_groups : (a : model.Actor) (log : List Entry) → NoReader a → ◌≡◌ {A = List Given} (groups_of a log) []
 no_groups (model.Reader r) log none = absurd none
@@ -140,7 +138,6 @@ no_groups (model.Flusher t) log none = refl
 no_groups (model.Closer t) log none = refl
 no_groups (model.Cleaner v) log none = refl
 no_groups (model.Checkpointer t) log none = refl
-no_groups (model.Joined es) log none = refl
 
 -- WHAT A TURN LEAVES OF A RUN, by the actors as the definitions see them.
 module _ {L D : Type 0} {archive : Bool} (log_seen : L → Seen) (data_seen : D → Seen) (run : RunOf L D) (old new : Parts L D)
@@ -158,7 +155,7 @@ module _ {L D : Type 0} {archive : Bool} (log_seen : L → Seen) (data_seen : D 
 
   -- the log then
   abbrev pub then : List Entry
-  then = log_then A log_laws B data_laws run.setup 0 (core_of log_seen data_seen run old actors)
+  then = log_then A log_laws B data_laws run.setup (core_of log_seen data_seen run old actors)
       (core_of log_seen data_seen run new after) seat answer step R.running t
 
   pub record RunsThen : Type 0 where
@@ -167,7 +164,7 @@ module _ {L D : Type 0} {archive : Bool} (log_seen : L → Seen) (data_seen : D 
 
   pub runs_then : RunsThen
   runs_then =
-      let left = turn_leaves A log_laws B data_laws run.setup 0 (core_of log_seen data_seen run old actors)
+      let left = turn_leaves A log_laws B data_laws run.setup (core_of log_seen data_seen run old actors)
       (core_of log_seen data_seen run new after) seat answer step R.running t in
       record {
         runs = record {
@@ -192,7 +189,7 @@ module _ {L D : Type 0} {archive : Bool} (log_seen : L → Seen) (data_seen : D 
 
   -- where the log device tells after the turn it told before it
   pub told_earlier : A.Tells new.log → A.Tells old.log
-  told_earlier told = told_then A log_laws B data_laws run.setup 0 (core_of log_seen data_seen run old actors)
+  told_earlier told = told_then A log_laws B data_laws run.setup (core_of log_seen data_seen run old actors)
       (core_of log_seen data_seen run new after) seat answer step R.running t told
 
   pub kept_kind : (j : ℕ) (a b : model.Actor) → get_elem? actors j ≡ some a → get_elem? after j ≡ some b → IsKind a b
@@ -268,7 +265,7 @@ module _ {L D : Type 0} {archive : Bool} (log_seen : L → Seen) (data_seen : D 
             (subst (λ (x : Bool). Then false x (archives s)) (sym kind)
             (subst (λ (x : Bool). Then false false x) (sym (same_s ∙ kind))
             (ap (groups_upto w.at) runs_then.log_is
-            ∙ receiver_keeps A log_laws B data_laws run.setup 0 (core_of log_seen data_seen run old actors)
+            ∙ receiver_keeps A log_laws B data_laws run.setup (core_of log_seen data_seen run old actors)
             (core_of log_seen data_seen run new after) seat answer step R.running t told j r w there kind later)))
 
     pub groups_grow : (j : ℕ) (a b : model.Actor) → get_elem? actors j ≡ some a → get_elem? after j ≡ some b
@@ -288,7 +285,6 @@ module _ {L D : Type 0} {archive : Bool} (log_seen : L → Seen) (data_seen : D 
         by (model.Closer x) b there later kind = none_grown j (model.Closer x) b kind refl refl
         by (model.Cleaner v) b there later kind = none_grown j (model.Cleaner v) b kind refl refl
         by (model.Checkpointer x) b there later kind = none_grown j (model.Checkpointer x) b kind refl refl
-        by (model.Joined es) b there later kind = none_grown j (model.Joined es) b kind refl refl
 
 -- what a follower's receiver got, and then got more
 same_then : {R : Type 0} (f g h : Option (Following R)) → IsSameFollower f g → IsSameFollower g h → IsSameFollower f h

@@ -5,10 +5,8 @@ use Rattle.std.specs.Prelude.{IfSome}
 use lib.ListN.{get_elem?}
 use mathlib.Core.Option.{some, some-injective, some-ne-none}
 use Rattle.model_core.specs.Actors as model
-use Rattle.model_core.specs.Groups.{Entry}
 use Rattle.redo_drive.specs.Views.{view_of, views_of}
 use Rattle.redo_drive.specs.declared.actor.Actor.{Actor}
-use Rattle.redo_drive.specs.declared.actor.Actor.TheVariants as own
 
 -- there are as many
 pub length_views : {R : Type 0} (actors : List (Actor R)) → length (views_of actors) ≡ length actors
@@ -38,14 +36,3 @@ pub so_at : {R : Type 0} (Is : model.Actor → Type 0) (actors : List (Actor R))
 so_at Is [] seat who is at = absurd (some-ne-none who (sym at))
 so_at Is (x ∷ xs) zero who is at = subst Is (some-injective (view_of x) who at) is
 so_at Is (x ∷ xs) (suc seat) who is at = so_at Is xs seat who is at
-
--- none is a seat that was joined into another
-pub not_joined : {R : Type 0} (a : Actor R) (es : List Entry) → view_of a ≡ model.Joined es → ⊥
-not_joined (own.User u) es e = absurd (cc)
-not_joined _ es e = absurd (cc)
-
-pub none_joined : {R : Type 0} (actors : List (Actor R)) (seat : ℕ) (es : List Entry)
-    → get_elem? (views_of actors) seat ≡ some (model.Joined es) → ⊥
-none_joined [] seat es at = some-ne-none (model.Joined es) (sym at)
-none_joined (x ∷ xs) zero es at = not_joined x es (some-injective (view_of x) (model.Joined es) at)
-none_joined (x ∷ xs) (suc seat) es at = none_joined xs seat es at

@@ -1,5 +1,5 @@
 -- A run as it begins on an opened store.
-use Rattle.std.specs.Prelude.{Bool, List, [], false, ℕ, ◌+◌, ◌≡◌}
+use Rattle.std.specs.Prelude.{Bool, List, [], ℕ, ◌+◌, ◌≡◌}
 use Rattle.model_core.specs.{Actor, Listed, lsn}
 use Rattle.model_running.specs.{HasItsPages, IsOfScript}
 use Rattle.model_script.specs.declared.script.ScriptLine.{ScriptLine}
@@ -27,10 +27,6 @@ pub record IsRunWith {L D : Type 0} (opened : Opened L D) (script : List ScriptL
   pub of_script : IsOfScript run.setup script opened.shape
   pub its_pages : HasItsPages run.setup (record { shape = opened.shape; pages = opened.pages; end = 0 })
 
--- the same where nothing is archived
-abbrev pub IsRunOfOpened : {L D : Type 0} → Opened L D → List ScriptLine → (log_only : Bool) → (followers : ℕ) → RunOf L D → Type 0
-IsRunOfOpened opened script log_only followers run = IsRunWith opened script log_only false followers run
-
 -- both devices held just what was opened when the run began
 pub record HaveBegun {L D : Type 0} (log_seen : L → Seen) (data_seen : D → Seen) (run : RunOf L D) : Type 0 where
   pub log : log_part.HasBegun log_seen (lsn run.setup.base) run.first_log
@@ -45,7 +41,3 @@ pub record StandsWith {L D : Type 0} (opened : Opened L D) (script : List Script
   pub log : parts.log ≡ opened.log
   pub data_part : parts.store ≡ opened.store
   pub none_listed : (i : ℕ) → ◌≡◌ {A = List Listed} (lists_of parts.lists i) []
-
--- the same where nothing is archived
-abbrev pub StandsAtStart : {L D : Type 0} → Opened L D → List ScriptLine → (followers : ℕ) → RunOf L D → Parts L D → List Actor → Type 0
-StandsAtStart opened script followers run parts actors = StandsWith opened script false followers run parts actors

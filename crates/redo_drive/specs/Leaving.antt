@@ -1,5 +1,5 @@
 -- What a run leaves, however its Ops were interleaved: from this the closed run follows, by turns and in threads alike.
-use Rattle.std.specs.Prelude.{Bool, IfSome, List, cond, false, slice_index, ℕ, ◌≡◌}
+use Rattle.std.specs.Prelude.{Bool, IfSome, List, cond, slice_index, ℕ, ◌≡◌}
 use Rattle.model_core.specs.{Given, HasLost, index}
 use Rattle.model_core.specs.declared.words.Word.TheVariants as word
 use Rattle.model_running.specs.{history_of, marks_in, word_marks}
@@ -42,10 +42,3 @@ pub record LeavesWith {L D R : Type 0} (log_seen : L → Seen) (log_gives : L �
   pub history : closed.history ≡ history_of from.runs.running.log_ghost.answered (word_marks from.runs.running.shared) from.runs.running.log_ghost.log
   -- an archiver that has lost its archive did so by the error that the append has met
   pub lost : cond archive ((code : ℕ) → HasLost (views_of actors) code → code ≡ append_code closed.lost) (Unit {0})
-
--- the same where nothing is archived
-abbrev pub LeavesRun : {L D R : Type 0} → (L → Seen) → (L → Call → L → Type 0) → (D → Seen) → (D → Call → D → Type 0)
-    → (R → List Given → Type 0) → Opened L D → List ScriptLine → (log_only : Bool) → (followers : ℕ)
-    → (starts actors : List (Actor R)) → Closed L D → Type 0
-LeavesRun log_seen log_gives data_seen data_gives stands opened script log_only followers starts actors closed =
-    LeavesWith log_seen log_gives data_seen data_gives stands opened script log_only false followers starts actors closed

@@ -1,5 +1,5 @@
 -- The invariant of a running store over its parts and actors, in a run that is its own, and what followers' receivers have got.
-use Rattle.std.specs.Prelude.{Bool, List, [], cond, false, length, ℕ, ◌<◌, ◌≡◌, ◌≤◌}
+use Rattle.std.specs.Prelude.{Bool, List, [], cond, length, ℕ, ◌<◌, ◌≡◌, ◌≤◌}
 use lib.ListN.{get_elem?}
 use mathlib.Core.Option.{some}
 use Rattle.model_base.specs.{IsWithinLimits}
@@ -27,12 +27,8 @@ module _ {L D : Type 0} (log_seen : L → Seen) (data_seen : D → Seen) (run : 
     pub bytes : HasBytes run.setup
     pub word_pages : parts.words.pages ≡ run.setup.pages
     pub list_pages : parts.lists.pages ≡ run.setup.pages
-    pub running : IsRunning (run_log_side log_seen data_seen run) (run_data_side log_seen data_seen run) run.setup 0 (core_of log_seen data_seen run parts actors)
+    pub running : IsRunning (run_log_side log_seen data_seen run) (run_data_side log_seen data_seen run) run.setup (core_of log_seen data_seen run parts actors)
     pub seated : AreSeated run.setup actors
-
-  -- the same where nothing is archived
-  abbrev pub RunsOn : Parts L D → List model.Actor → Type 0
-  RunsOn parts actors = RunsWith false parts actors
 
 -- they are on some run
 pub record AreOnRun {L D : Type 0} (log_seen : L → Seen) (data_seen : D → Seen) (parts : Parts L D) (actors : List model.Actor) : Type 0 where
@@ -56,9 +52,3 @@ pub record RunsFromWith {L D R : Type 0} (log_seen : L → Seen) (data_seen : D 
   pub got : (run_log_side log_seen data_seen run).Tells parts.log
       → (seat : ℕ) (a b : Actor R) → get_elem? starts seat ≡ some a → get_elem? actors seat ≡ some b
       → HasGot stands (follower_of a) (groups_of (view_of b) runs.running.log_ghost.log) (follower_of b)
-
--- the same where nothing is archived
-abbrev pub RunsFrom : {L D R : Type 0} → (L → Seen) → (D → Seen) → (R → List Given → Type 0) → RunOf L D
-    → (starts : List (Actor R)) → Parts L D → List (Actor R) → Type 0
-RunsFrom log_seen data_seen stands run starts parts actors =
-    RunsFromWith log_seen data_seen stands run false starts parts actors

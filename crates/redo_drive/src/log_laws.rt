@@ -22,8 +22,8 @@ pub fn log_part_meets_laws<L: Sectors>()
 
 /// Where the log half of the invariant holds over the log part, so do the watermarks of the log.
 pub fn log_half_has_watermarks<L: Sectors>()
-    ensures { (faults start : ℕ) (first : Part L) (setup : Setup) (spare : ℕ) (words : SharedWords) (ghosts : LogGhost) (part : Part L) (actors : List Actor)
-        → LogHalf (log_side L.seen faults first.marks.number (HasBegun L.seen start first)) setup spare words ghosts part actors
+    ensures { (faults start : ℕ) (first : Part L) (setup : Setup) (words : SharedWords) (ghosts : LogGhost) (part : Part L) (actors : List Actor)
+        → LogHalf (log_side L.seen faults first.marks.number (HasBegun L.seen start first)) setup words ghosts part actors
         → LogWatermarks (log_side L.seen faults first.marks.number (HasBegun L.seen start first)) setup words part actors }
 {}
 

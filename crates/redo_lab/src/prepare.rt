@@ -10,7 +10,6 @@ ghost use Rattle.redo_lab.specs.Call.{Unfused};
 ghost use Rattle.redo_lab.specs.Handed.{AreOf, call_on};
 ghost use Rattle.redo_lab.specs.Runs.{Prepares};
 ghost use Rattle.redo_memdisk.specs.{entry_of, fresh, fuse_of, inner_of};
-ghost use Rattle.redo_recover.specs.{log_fault_of};
 
 use crate::laws::laws;
 use model_base::Shape;
@@ -18,7 +17,7 @@ use model_log::HEADER_BYTES;
 use redo_disk::{DevError, Sectors};
 use redo_memdisk::Fused;
 use redo_open::format;
-use redo_recover::RecFault;
+use redo_recover::{RecFault, log_fault};
 
 /// How many bytes the header blocks have, the first and the second, with a checkpoint's between them.
 const HEADS: usize = 1_536;
@@ -50,16 +49,6 @@ fn is_unused<L: Sectors>(log: &mut L) -> Result<bool, DevError>
     }
 }
 
-/// The fault of a call whose log device answered this at its first read.
-fn first_fault(error: DevError) -> RecFault
-    ensures { result ≡ log_fault_of error }
-{
-    match error {
-        DevError::Failed => RecFault::LogDev,
-        DevError::NoMemory => RecFault::NoMemory,
-    }
-}
-
 /// Formats both devices with the default sizes, where the log device is unused. It needs room for a header to be judged.
 pub(crate) fn prepare<L: Sectors, D: Sectors>(
     log: &mut Fused<L>,
@@ -81,6 +70,6 @@ pub(crate) fn prepare<L: Sectors, D: Sectors>(
             Err(fault) => Err(fault),
         },
         Ok(false) => Ok(()),
-        Err(error) => Err(first_fault(error)),
+        Err(error) => Err(log_fault(error)),
     }
 }

@@ -89,7 +89,6 @@ of_actor c seat_of writer seat (actor.Closer t) h = omega arith
 of_actor c seat_of writer seat (actor.Cleaner t) h = omega arith
 of_actor c seat_of writer seat (actor.Checkpointer t) h = omega arith
 of_actor c seat_of writer seat (actor.Reader t) h = omega arith
-of_actor c seat_of writer seat (actor.Joined t) h = omega arith
 
 -- WHAT THE LINES COME TO ends where the script does.
 module _ {L D R : Type 0} (log_seen : L → Seen) (data_seen : D → Seen) (stands : R → List Given → Type 0)

@@ -43,7 +43,6 @@ reader_appends (model.Closer s) mark asks = absurd (subst IsNoAppend asks (other
 reader_appends (model.Cleaner s) mark asks = absurd (subst IsNoAppend asks (others_append_not (model.Cleaner s) tt))
 reader_appends (model.Checkpointer s) mark asks =
     absurd (subst IsNoAppend asks (others_append_not (model.Checkpointer s) tt))
-reader_appends (model.Joined es) mark asks = absurd (subst IsNoAppend asks (others_append_not (model.Joined es) tt))
 
 module _ {L D A : Type 0} {archive : Bool} (log_seen : L → Seen) (data_seen : D → Seen) (seen : A → Seen) (run : RunOf L D)
     (parts : Parts L D) (actors : List model.Actor) (R : RunsWith log_seen data_seen run archive parts actors)

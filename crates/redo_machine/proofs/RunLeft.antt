@@ -172,7 +172,7 @@ module _ {L D A R : Type 0} (log_seen : L → Seen) (log_gives : L → Call → 
       let end = (is_spent count user spent).1 in
       let c = by.begins.run.setup in let g = by.from.runs.running.log_ghost in let m = by.from.runs.running.shared in
       subst (λ (z : List Entry). LeavesOpen script z (HasMetError driven.closed) user) (sym by.history)
-      (open_lines.leaves_open (run_log_side log_seen data_seen by.begins.run) c 0 m g by.last.log (views_of actors)
+      (open_lines.leaves_open (run_log_side log_seen data_seen by.begins.run) c m g by.last.log (views_of actors)
       by.from.runs.running.both.logged (word_marks m) script opened.shape by.begins.is_run.of_script
       (seated_seats c (views_of actors) by.from.runs.seated script opened.shape by.begins.is_run.of_script)
       (HasMetError driven.closed)

@@ -4,7 +4,7 @@ use Rattle.std.proofs.Common.{⊎_elim, ℕ, ◌<◌, ◌∙◌, ◌≡◌, ◌�
 use lib.ListN.{get_elem?}
 use mathlib.Core.Option.{some}
 use Rattle.model_core.proofs.Lists.{at_set}
-use Rattle.model_core.specs.{archives, Entry, Given, HasLost, next, ReaderState}
+use Rattle.model_core.specs.{archives, Given, HasLost, next, ReaderState}
 use Rattle.model_core.specs.Actors as model
 use Rattle.model_core.specs.declared.ops.Step.{Step}
 use Rattle.model_core.specs.declared.ops.Step.TheVariants as ended
@@ -17,7 +17,7 @@ use Rattle.redo_drive.proofs.ArchiveGroups.{comes_on}
 use Rattle.redo_drive.proofs.ArchiveTurns as turns
 use Rattle.redo_drive.proofs.FailedTurns.{failed_turn_has_some}
 use Rattle.redo_drive.proofs.TurnsOf.{its_turn, runs_on}
-use Rattle.redo_drive.proofs.Viewed.{none_joined, own_at}
+use Rattle.redo_drive.proofs.Viewed.{own_at}
 use Rattle.redo_drive.specs.Archiving.{Appends, HasComeTo, HasNoArchiver, IsBeside}
 use Rattle.redo_drive.specs.Playing.{HasSamePages, RunOf, run_data_side, run_log_side}
 use Rattle.redo_drive.specs.Receiving.{follower_of, IsSameFollower}
@@ -94,9 +94,6 @@ module _ {L D A R : Type 0} (log_seen : L → Seen) (data_seen : D → Seen) (se
     abbrev its : RunsWith log_seen data_seen run archive new (views_of later_actors)
     its = runs_on log_seen data_seen stands run old new actors seat d who step below S.served log_laws data_laws same runs
 
-    not_joined : (i : ℕ) (es : List Entry) → get_elem? (views_of later_actors) i ≡ some (model.Joined es) → ⊥
-    not_joined = none_joined later_actors
-
     still_none : (none : (seat : ℕ) (r : ReaderState) → get_elem? (views_of actors) seat ≡ some (model.Reader r) → archives r ≡ false)
         → HasNoArchiver (views_of later_actors)
     still_none none = turns.none_beside log_seen data_seen run old new (views_of actors) (views_of later_actors) seat S.served.answer step
@@ -119,7 +116,7 @@ module _ {L D A R : Type 0} (log_seen : L → Seen) (data_seen : D → Seen) (se
         by (Some part) (Some later) was is there =
             turns.stands log_seen data_seen run old new (views_of actors) (views_of later_actors) seat S.served.answer step log_laws
             data_laws same runs
-            (its_turn log_seen data_seen stands run old new actors seat d who step below S.served) seen not_joined part
+            (its_turn log_seen data_seen stands run old new actors seat d who step below S.served) seen part
             later there (served_as part later was is)
 
     -- THE RUN THAT CAME TO THE MACHINE has come to it then.
@@ -140,7 +137,7 @@ module _ {L D A R : Type 0} (log_seen : L → Seen) (data_seen : D → Seen) (se
         by (Some f) (Some part) (Some later) was is come =
             comes_on log_seen data_seen seen run old new (views_of actors) (views_of later_actors) seat S.served.answer step
             log_laws data_laws same runs
-            (its_turn log_seen data_seen stands run old new actors seat d who step below S.served) not_joined f part later come
+            (its_turn log_seen data_seen stands run old new actors seat d who step below S.served) f part later come
             (served_as part later was is)
 
     -- WHAT A FAILED TURN MET.
@@ -148,6 +145,6 @@ module _ {L D A R : Type 0} (log_seen : L → Seen) (data_seen : D → Seen) (se
         → FailedHasCause log_seen data_seen run new ⊎ HasLost (views_of later_actors) (code_in new)
     met code failed = ⊎_elim (λ cause. inl (inl cause)) (⊎_elim (λ cause. inl (inr cause)) (λ lost. inr lost))
         (failed_turn_has_some (run_log_side log_seen data_seen run) log_laws (run_data_side log_seen data_seen run) data_laws
-        run.setup 0 (core_of log_seen data_seen run old (views_of actors))
+        run.setup (core_of log_seen data_seen run old (views_of actors))
         (core_of log_seen data_seen run new (views_of later_actors)) seat S.served.answer step its.running
         (its_turn log_seen data_seen stands run old new actors seat d who step below S.served) code failed)

@@ -5,18 +5,14 @@ use Rattle.std.proofs.Common.{arith, inr, eq-eqb, length-append, length-take}
 use Rattle.std.specs.Prelude.{bytes_eq, option_and_then}
 use Rattle.std.proofs.lemmas.Bool.{and_parts, and_from, eqb-true, leb-true, le-leb, false≢true}
 use Rattle.std.proofs.lemmas.List.{length-replicate}
-use Rattle.std.proofs.lemmas.Slice.Eq.{bytes_eq-Decides}
 use Rattle.model_base.specs.declared.limits.TheConstants.{BLOCK_SIZE}
-use Rattle.model_device.specs.{Crashes, FailsWrite, IsSectorWrite, IsValid, synced, written}
+use Rattle.model_device.specs.{Crashes, FailsWrite, IsSectorWrite, IsValid, written}
 use Rattle.model_device.specs.Disk.{Disk}
 use Rattle.model_device.specs.declared.write.Write.{Write}
 use Rattle.model_device.proofs.Valid.{IsValid-failed, IsValid-settled, IsValid-synced, IsValid-written}
-use Rattle.redo_disk.specs.{HasSize, IsRange, OnTold, StillTells, WhereTold, part, write_at}
-use Rattle.redo_memdisk.specs.File.{read_event}
+use Rattle.redo_disk.specs.{HasSize, IsRange, OnTold, WhereTold, part, write_at}
 use Rattle.redo_memdisk.specs.Notes.{Note, after_event, after_put, filled, is_sector_write, missed, note, replay}
 use Rattle.redo_memdisk.specs.declared.file.TheConstants.{FILE_DISK_LEN}
-use Rattle.redo_memdisk.specs.declared.file.Opening.{Opening}
-use Rattle.redo_memdisk.specs.declared.file.Opening.TheVariants.{ForWriting, ForReading}
 use Rattle.redo_memdisk.specs.declared.record.Event.{Event}
 use Rattle.redo_memdisk.specs.declared.record.Event.TheVariants.{Read, Unsynced, Written, Missed, Synced, Crashed, Lost}
 use Rattle.redo_memdisk.proofs.Writes.{IsSameBeside-cut}
@@ -104,32 +100,6 @@ replay-size bytes notes = known-size _ (replay-sized bytes notes)
 abbrev pub told_after : Event → List ℕ → Option Disk → Option Disk
 told_after event bytes told = option_and_then (after_event event bytes) told
 
--- a read that is noted with its bytes
-true-still : (disk : Disk) (at : ℕ) (out : List ℕ) → StillTells (Some disk) (after_event (Read at) out disk)
-true-still disk at out =
-    if-true (bytes_eq out (part disk.reads at (length out))) disk (λ (now : Disk). Some disk ≡ Some now) (λ _. refl)
-
-true-bytes : (disk : Disk) (at count : ℕ) (out : List ℕ) → length out ≡ count
-    → IfSome (after_event (Read at) out disk) (λ now. out ≡ part now.reads at count)
-true-bytes disk at count out long =
-    if-true (bytes_eq out (part disk.reads at (length out))) disk (λ (now : Disk). out ≡ part now.reads at count)
-    (λ is. (bytes_eq-Decides out _).0 is ∙ ap (part disk.reads at) long)
-
--- a read that answered Ok, whatever the file is open for
-pub read-still : (opening : Opening) (told : Option Disk) (at : ℕ) (out : List ℕ)
-    → StillTells told (told_after (read_event opening at) out told)
-read-still opening None at out = tt
-read-still ForWriting (Some disk) at out = true-still disk at out
-read-still (ForReading true) (Some disk) at out = true-still disk at out
-read-still (ForReading false) (Some disk) at out = tt
-
-pub read-bytes : (opening : Opening) (told : Option Disk) (at count : ℕ) (out : List ℕ) → length out ≡ count
-    → IfSome (told_after (read_event opening at) out told) (λ disk. out ≡ part disk.reads at count)
-read-bytes opening None at count out long = tt
-read-bytes ForWriting (Some disk) at count out long = true-bytes disk at count out long
-read-bytes (ForReading true) (Some disk) at count out long = true-bytes disk at count out long
-read-bytes (ForReading false) (Some disk) at count out long = tt
-
 if-told : (b : Bool) (disk after : Disk) (R : Disk → Disk → Type 0) → IsTrue b → R disk after
     → OnTold (Some disk) (if b then Some after else None) R
 if-told true disk after R is holds = (after, refl, holds)
@@ -177,10 +147,6 @@ miss-told {taken = taken} start at bytes old new range noted =
 synced-crash : (told : Option Disk) → IfSome told IsSized → WhereTold told (told_after Crashed [] told) Crashes
 synced-crash None sized = tt
 synced-crash (Some disk) sized = (disk, refl, record { image = disk.reads; possible = sized.0.reads; left = refl })
-
-pub sync-told : (told : Option Disk) → OnTold told (told_after Synced [] told) (λ before after. after ≡ synced before)
-sync-told None = refl
-sync-told (Some disk) = (synced disk, refl, refl)
 
 -- a crash at which the file was synced
 pub crash-told : (start : List ℕ) (old new : List Note) → new ≡ note Crashed [] ∷ old

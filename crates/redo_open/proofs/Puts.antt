@@ -69,11 +69,6 @@ pub served : {D : Type 0} {gives : D → Call → D → Type 0} {old new : D} {I
     → AllByRecursion (IsToPut IsSuch) requests → MakesCalls gives old new (Serve requests error) → MakesCalls gives old new (PutsWhere IsSuch error)
 served {IsSuch = IsSuch} {error = error} requests are = weaker_calls (λ calls. serve-puts IsSuch requests error calls are)
 
--- a write, and a sync after it
-pub put-puts : (IsSuch : Write → Type 0) (write : Write) (error : Option DevError) (calls : List Call) → IsSuch write → Serve (put_requests write) error calls
-    → PutsWhere IsSuch error calls
-put-puts IsSuch write error calls is = serve-puts IsSuch (put_requests write) error calls (is, (tt, tt))
-
 pub put_served : {D : Type 0} {gives : D → Call → D → Type 0} {old new : D} {IsSuch : Write → Type 0} {error : Option DevError} {write : Write} → IsSuch write
     → MakesCalls gives old new (Serve (put_requests write) error) → MakesCalls gives old new (PutsWhere IsSuch error)
 put_served {write = write} is = served (put_requests write) (is, (tt, tt))

@@ -178,23 +178,6 @@ zero_failed One Other end old error new more step = record {
   cause = step.cause;
 }
 
-pub zero_longer : (Zeroed : ℕ → Type 0) (few many : ℕ) (old : Seen) (result : Result (Unit {0}) DevError) (new : Seen) → few ≤ many → ZeroStep Zeroed few old result new
-    → ZeroStep Zeroed many old result new
-zero_longer Zeroed few many old (Ok done) new less step = record {
-  ok = told-as old.tells new.tells (λ before after. IsLongTo few before → HasZeroed Zeroed before after) (λ before after. IsLongTo many before → HasZeroed Zeroed before after)
-      (λ before after is long. is (shorter few many before less long)) step.ok;
-  err = tt;
-  size = step.size;
-  cause = step.cause;
-}
-zero_longer Zeroed few many old (Err error) new less step = record {
-  ok = tt;
-  err = told-as old.tells new.tells (λ before after. IsLongTo few before → Zeroes Zeroed before after) (λ before after. IsLongTo many before → Zeroes Zeroed before after)
-      (λ before after is long. is (shorter few many before less long)) step.err;
-  size = step.size;
-  cause = step.cause;
-}
-
 pub zero_nothing : (Zeroed : ℕ → Type 0) (end : ℕ) (old : Seen) (done : Unit {0}) → ((k : ℕ) → Zeroed k → ⊥) → ZeroStep Zeroed end old (Ok done) old
 zero_nothing Zeroed end old done none = record {
   ok = told-same old.tells old.tells (λ before after. IsLongTo end before → HasZeroed Zeroed before after) (λ before long. zeroed-none Zeroed before none) refl;

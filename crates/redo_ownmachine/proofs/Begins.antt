@@ -120,7 +120,7 @@ module _ {L D R : Type 0} {archive : Bool} (log_seen : L → Seen) (data_seen : 
     reserve = ap (sum_over_actors left_to_reserve) (sym views ∙ begins.stands.are_new)
         ∙ actors_reserve opened.shape script opened.start c.log_only archive (length followers) may.fits.lines
 
-    own_start : OwnStart (run_log_side log_seen data_seen run) (run_data_side log_seen data_seen run) c 0
+    own_start : OwnStart (run_log_side log_seen data_seen run) (run_data_side log_seen data_seen run) c
         (own_core_of log_seen data_seen run start.parts seats)
     own_start = record {
       shared = begins.at_start.words;
@@ -131,8 +131,8 @@ module _ {L D R : Type 0} {archive : Bool} (log_seen : L → Seen) (data_seen : 
       store = store;
       work = work_is;
       users = home;
-      room = subst (λ (n : ℕ). lsn (n + sum_over_actors left_to_reserve (actors_of seats) + 0) < LSN_LIMIT) (sym base)
-          (subst (λ (l : List model.Actor). lsn (sn_of opened.start + sum_over_actors left_to_reserve l + 0) < LSN_LIMIT)
+      room = subst (λ (n : ℕ). lsn (n + sum_over_actors left_to_reserve (actors_of seats)) < LSN_LIMIT) (sym base)
+          (subst (λ (l : List model.Actor). lsn (sn_of opened.start + sum_over_actors left_to_reserve l) < LSN_LIMIT)
           (sym begins.stands.are_new ∙ views)
           (room_for_all opened.shape script opened.start c.log_only archive (length followers) may.fits.lines may.fits.end));
     }
@@ -141,7 +141,7 @@ module _ {L D R : Type 0} {archive : Bool} (log_seen : L → Seen) (data_seen : 
     runs = record {
       runs = subst (λ (l : List model.Actor). RunsWith log_seen data_seen run archive start.parts l) views begins.from.runs;
       errands = (own_starts (run_log_side log_seen data_seen run) (its_log_laws log_seen data_seen run)
-          (run_data_side log_seen data_seen run) (its_data_laws log_seen data_seen run) c 0
+          (run_data_side log_seen data_seen run) (its_data_laws log_seen data_seen run) c
           (own_core_of log_seen data_seen run start.parts seats) own_start).errands;
     }
 
@@ -179,7 +179,7 @@ module _ {L D R : Type 0} {archive : Bool} (log_seen : L → Seen) (data_seen : 
 
       pub alone : OwnAlone log_seen data_seen run start.parts seats
       alone = alone_starts (run_log_side log_seen data_seen run) (its_log_laws log_seen data_seen run)
-          (run_data_side log_seen data_seen run) (its_data_laws log_seen data_seen run) c 0
+          (run_data_side log_seen data_seen run) (its_data_laws log_seen data_seen run) c
           (own_core_of log_seen data_seen run start.parts seats) own_start o log_only_is one no_others
           (let by = ends_by in
           let place = begins.is_run.start in

@@ -63,16 +63,16 @@ module _ (o : OwnUser) (k : LogWork) (a : Answer) (code : ℕ) where
   pub user_fails : own_step_of o k a ≡ step.Failed code → (own_goes_on o k a).0.user.step ≡ user_step.Failed
   user_fails = fails_by o.user.checks
 
-module _ (D : LogSide) (L : LogLaws D) (E : DataSide) (EL : DataLaws E) (c : Setup) (spare : ℕ) (old new : OwnCore D E)
+module _ (D : LogSide) (L : LogLaws D) (E : DataSide) (EL : DataLaws E) (c : Setup) (old new : OwnCore D E)
     (seat : ℕ) (answer : Answer) (ends : Step) where
   abbrev HasCause : Type 0
   HasCause = D.Cause new.log_part (slice_index new.words 6) ⊎ E.Cause new.data_part (slice_index new.words 6)
       ⊎ HasLost (with_writer new).actors (slice_index new.words 6)
 
-  user_cause : IsRunning D E c spare (with_writer new) → UserTurn D E old seat answer ends new → (code : ℕ)
+  user_cause : IsRunning D E c (with_writer new) → UserTurn D E old seat answer ends new → (code : ℕ)
       → ends ≡ step.Failed code → HasCause
   user_cause running t code is =
-      let W = has_watermarks D L E EL c spare (with_writer new) running in
+      let W = has_watermarks D L E EL c (with_writer new) running in
       let then : OwnUser = (own_goes_on t.who old.work answer).0 in
       let sits : get_elem? new.users seat ≡ some then =
       subst (λ (us : List OwnUser). get_elem? us seat ≡ some then) (sym t.users) (set_at old.users seat t.who then t.who_is) in
@@ -84,15 +84,15 @@ module _ (D : LogSide) (L : LogLaws D) (E : DataSide) (EL : DataLaws E) (c : Set
       (W.2.failure_has_cause.cause shown)
 
   -- the cause is a call of a part, or an append
-  pub own_failed_turn_has_some : IsRunning D E c spare (with_writer new) → OwnTurn D E old seat answer ends new
+  pub own_failed_turn_has_some : IsRunning D E c (with_writer new) → OwnTurn D E old seat answer ends new
       → (code : ℕ) → ends ≡ step.Failed code → HasCause
   own_failed_turn_has_some running (inl t) code is = user_cause running t code is
   own_failed_turn_has_some running (inr t) code is =
-      failed_turn_has_some D L E EL c spare (with_writer old) (with_writer new) (seat + 2) answer ends running t.turn code is
+      failed_turn_has_some D L E EL c (with_writer old) (with_writer new) (seat + 2) answer ends running t.turn code is
 
 -- NO TURN TAKES A CODE FROM FAILED.
-module _ (D : LogSide) (E : DataSide) (c : Setup) (spare : ℕ) (old new : OwnCore D E) (seat : ℕ) (answer : Answer)
-    (ends : Step) (before : OwnRunning D E c spare old) (failed : 0 < slice_index old.words 6) where
+module _ (D : LogSide) (E : DataSide) (c : Setup) (old new : OwnCore D E) (seat : ℕ) (answer : Answer)
+    (ends : Step) (before : OwnRunning D E c old) (failed : 0 < slice_index old.words 6) where
   abbrev Stays : Type 0
   Stays = 0 < slice_index new.words 6
 
@@ -106,7 +106,7 @@ module _ (D : LogSide) (E : DataSide) (c : Setup) (spare : ℕ) (old new : OwnCo
     -- its Op is that of an actor of the store with writer and flusher, with what that lends
     as_actor : IsOpOf old.users k old.others o → Stays
     as_actor is =
-        turn_keeps_failed D E c spare (with_writer old) (record {
+        turn_keeps_failed D E c (with_writer old) (record {
           words = new.words;
           log_part = new.log_part;
           data_part = new.data_part;
@@ -138,5 +138,5 @@ module _ (D : LogSide) (E : DataSide) (c : Setup) (spare : ℕ) (old new : OwnCo
 
   pub own_turn_keeps_failed : OwnTurn D E old seat answer ends new → Stays
   own_turn_keeps_failed (inl t) = user_stays t
-  own_turn_keeps_failed (inr t) = turn_keeps_failed D E c spare (with_writer old) (with_writer new) (seat + 2) answer
+  own_turn_keeps_failed (inr t) = turn_keeps_failed D E c (with_writer old) (with_writer new) (seat + 2) answer
       ends before.running t.turn failed

@@ -56,7 +56,7 @@ module _ {L D : Type 0} {archive : Bool} (log_seen : L → Seen) (data_seen : D 
         → LogServed A old.log (lent a) (next a) served.played.code new.log → A.Tells old.log
     told_at i a there told by_it =
         let W = before.runs.running in
-        told_before A (its_log_laws log_seen data_seen run) B (its_data_laws log_seen data_seen run) run.setup 0 W.shared
+        told_before A (its_log_laws log_seen data_seen run) B (its_data_laws log_seen data_seen run) run.setup W.shared
         W.log_ghost W.page_ghost _ old.log old.store (actors_of seats) i W.both served.played.code new.log told a there
         by_it
 
@@ -124,4 +124,3 @@ module _ {L D : Type 0} {archive : Bool} (log_seen : L → Seen) (data_seen : D 
     groups_same told j (model.Closer t) there = refl
     groups_same told j (model.Cleaner v) there = refl
     groups_same told j (model.Checkpointer t) there = refl
-    groups_same told j (model.Joined es) there = refl

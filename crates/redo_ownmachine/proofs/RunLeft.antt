@@ -98,12 +98,12 @@ module _ {L D : Type 0} (log_seen : L → Seen) (data_seen : D → Seen) (run : 
       → NoneWaits log_seen log_gives data_seen data_gives run seed max first starts how last after ends
   none_waits seed max first starts ended.Done last after log_gives data_gives ends alone =
       (never_idle (run_log_side log_seen data_seen run) (its_log_laws log_seen data_seen run)
-      (run_data_side log_seen data_seen run) (its_data_laws log_seen data_seen run) run.setup 0 seed max ends.count
+      (run_data_side log_seen data_seen run) (its_data_laws log_seen data_seen run) run.setup seed max ends.count
       (own_core_of log_seen data_seen run first starts) (own_core_of log_seen data_seen run last after) alone
       ends.turns).1
   none_waits seed max first starts (ended.Spent count user) last after log_gives data_gives ends alone =
       (never_idle (run_log_side log_seen data_seen run) (its_log_laws log_seen data_seen run)
-      (run_data_side log_seen data_seen run) (its_data_laws log_seen data_seen run) run.setup 0 seed max max
+      (run_data_side log_seen data_seen run) (its_data_laws log_seen data_seen run) run.setup seed max max
       (own_core_of log_seen data_seen run first starts) (own_core_of log_seen data_seen run last after) alone
       ends.1.turns).1
 
@@ -231,7 +231,7 @@ module _ {L D A R : Type 0} (log_seen : L → Seen) (log_gives : L → Call → 
       let end = (subst Ends spent by.ends.ends).1 in
       let c = run.setup in let g = by.comes.from.runs.running.log_ghost in let m = by.comes.from.runs.running.shared in
       subst (λ (z : List Entry). LeavesOpen script z (HasMetError driven.closed) user) (sym by.history)
-      (open_lines.leaves_open (run_log_side log_seen data_seen run) c 0 m g by.last.parts.log (views_of ending)
+      (open_lines.leaves_open (run_log_side log_seen data_seen run) c m g by.last.parts.log (views_of ending)
       by.comes.from.runs.running.both.logged (word_marks m) script opened.shape by.start.begins.is_run.of_script
       (seated_seats c (views_of ending) by.comes.from.runs.seated script opened.shape by.start.begins.is_run.of_script)
       (HasMetError driven.closed)

@@ -51,7 +51,7 @@ module _ {L D : Type 0} (log_seen : L → Seen) (data_seen : D → Seen) (run : 
       → OwnRunsWith log_seen data_seen run archive new after
   runs_then same t R =
       let left = own_turn_keeps A (its_log_laws log_seen data_seen run) B (its_data_laws log_seen data_seen run)
-      run.setup 0 (own_core_of log_seen data_seen run old seats) (own_core_of log_seen data_seen run new after) seat
+      run.setup (own_core_of log_seen data_seen run old seats) (own_core_of log_seen data_seen run new after) seat
       answer step (record { running = R.runs.running; errands = R.errands }) t in
       record {
         runs = record {
@@ -75,7 +75,7 @@ module _ {L D : Type 0} (log_seen : L → Seen) (data_seen : D → Seen) (run : 
       → (step ≡ step_is.Idle → ⊥) × OwnAlone log_seen data_seen run new after
   alone_then t alone =
       let left = alone_turns A (its_log_laws log_seen data_seen run) B (its_data_laws log_seen data_seen run)
-      run.setup 0 alone.log_only (own_core_of log_seen data_seen run old seats)
+      run.setup alone.log_only (own_core_of log_seen data_seen run old seats)
       (own_core_of log_seen data_seen run new after) seat answer step alone t in
       (left.1, left.0)
 
@@ -86,7 +86,7 @@ module _ {L D : Type 0} (log_seen : L → Seen) (data_seen : D → Seen) (run : 
   cause_then same t R code failed =
       ⊎_elim (λ cause. inl (inl cause)) (⊎_elim (λ cause. inl (inr cause)) (λ lost. inr lost))
       (own_failed_turn_has_some A (its_log_laws log_seen data_seen run) B (its_data_laws log_seen data_seen run)
-      run.setup 0 (own_core_of log_seen data_seen run old seats) (own_core_of log_seen data_seen run new after) seat
+      run.setup (own_core_of log_seen data_seen run old seats) (own_core_of log_seen data_seen run new after) seat
       answer step (runs_then same t R).runs.running t code failed)
 
 -- THE TURN OF A USER.

@@ -29,7 +29,6 @@ use Rattle.redo_archiver.specs.{KeepsPace}
 use Rattle.redo_disk.specs.Seen.{Seen}
 use Rattle.redo_drive.proofs.ArchiveGroups.{front_of}
 use Rattle.redo_drive.proofs.ArchiveTurns.{flushed_reserved}
-use Rattle.redo_drive.proofs.Viewed.{none_joined}
 use Rattle.redo_drive.specs.Archiving.{HasComeTo, IsBeside, StandsBeside}
 use Rattle.redo_drive.specs.Lists.{lists_of}
 use Rattle.redo_drive.specs.Playing.{RunOf, run_data_side, run_log_side}
@@ -37,9 +36,7 @@ use Rattle.redo_drive.specs.Views.{views_of}
 use Rattle.redo_drive.specs.declared.actor.Actor.{Actor}
 use Rattle.redo_drive.specs.declared.parts.Parts.{Parts}
 use Rattle.redo_ownmachine.proofs.From.{log_on, told_earlier}
-use Rattle.redo_ownmachine.proofs.Places.{crew_views}
 use Rattle.redo_ownmachine.proofs.Plays.{IsOpOf, plays_as}
-use Rattle.redo_ownmachine.specs.OwnCrew.{crew}
 use Rattle.redo_ownmachine.specs.OwnSeats.{OwnSeats, actors_of}
 use Rattle.redo_ownmachine.specs.OwnStore.{OwnRunsWith}
 use Rattle.redo_ownmachine.specs.Serving.{IsUserServed}
@@ -121,7 +118,7 @@ module _ {L D R : Type 0} {archive : Bool} (log_seen : L → Seen) (data_seen : 
       by_actor is =
           let W = before.runs.running in
           let m : SharedWords = W.shared in
-          let there = next_words E F run.setup 0 m W.log_ghost W.page_ghost (lists_of old.lists) old.log old.store
+          let there = next_words E F run.setup m W.log_ghost W.page_ghost (lists_of old.lists) old.log old.store
           (actors_of seats) is.seat W.both is.who is.there in
           let words : ◌≡◌ {A = List ℕ} new.words.words (flat (shared_left m (next is.who))) =
           served.played.words ∙ ap (words_left old.words.words) is.ops
@@ -129,7 +126,7 @@ module _ {L D R : Type 0} {archive : Bool} (log_seen : L → Seen) (data_seen : 
           ∙ flat_left run.setup.pages m W.both.logged.sized (next is.who) there in
           let now : now_flushed ≡ (shared_left m (next is.who)).flushed = ap (λ (ws : List ℕ). slice_index ws 3) words in
           let was : before_flushed ≡ m.flushed = ap (λ (ws : List ℕ). slice_index ws 3) W.flat_is in
-          let rise = rises E F run.setup 0 m W.log_ghost W.page_ghost (lists_of old.lists) old.log old.store
+          let rise = rises E F run.setup m W.log_ghost W.page_ghost (lists_of old.lists) old.log old.store
           (actors_of seats) is.seat W.both served.played.code new.log is.who is.there in
           omega arith
 
@@ -137,15 +134,11 @@ module _ {L D R : Type 0} {archive : Bool} (log_seen : L → Seen) (data_seen : 
   lines_same = ap (λ (n : ℕ). lsn (run.setup.base + n)) (lines_stay work left (views_of others) users seat who then at
       (ap (λ (o : OwnUser). bytes_of (model.User o.user)) served.user ∙ ap lengths (own_same who work served.answer).1))
 
-  not_joined : (i : ℕ) (es : List Entry) → get_elem? (actors_of after) i ≡ some (model.Joined es) → ⊥
-  not_joined i es there = none_joined (crew (set users seat then) left others) i es
-      (ap (λ (l : List model.Actor). get_elem? l i) (crew_views left (set users seat then) others) ∙ there)
-
   within : (limit : ℕ) → last_lsn run.setup (actors_of seats) ≤ limit → now_flushed ≤ limit
   within limit all =
       let W = later.runs.running in
       let low = flushed_reserved log_seen data_seen run new (actors_of after) later.runs in
-      let most = sn_within E run.setup 0 W.shared W.log_ghost new.log (actors_of after) W.both.logged not_joined in
+      let most = sn_within E run.setup W.shared W.log_ghost new.log (actors_of after) W.both.logged in
       let lines = lines_same in omega arith
 
   stays_there : (j : ℕ) (r : ReaderState) → get_elem? (actors_of seats) j ≡ some (model.Reader r)

@@ -32,7 +32,7 @@ module _ {L D : Type 0} (log_seen : L → Seen) (data_seen : D → Seen) (run : 
   -- one user, the log alone and no other actor
   abbrev pub OwnAlone : Parts L D → OwnSeats → Type 0
   OwnAlone parts seats = AloneRunning (run_log_side log_seen data_seen run) (run_data_side log_seen data_seen run)
-      run.setup 0 (own_core_of log_seen data_seen run parts seats)
+      run.setup (own_core_of log_seen data_seen run parts seats)
 
 -- A machine on some run, with its archive beside its actors, if it has one.
 pub record OwnIsOnRun {L D A R : Type 0} (log_seen : L → Seen) (data_seen : D → Seen) (arch_seen : A → Seen)

@@ -190,7 +190,7 @@ module _ {L D : Type 0} (log_seen : L → Seen) (log_gives : L → Call → L �
           let U = R.runs.running in
           let ready : ListReady R.run.setup.pages (lists_of R.parts.lists) (op.TakeAdd p y) =
           subst (λ (q : Op). ListReady R.run.setup.pages (lists_of R.parts.lists) q) home.user_next
-          (list_ready (run_log_side log_seen data_seen R.run) (run_data_side log_seen data_seen R.run) R.run.setup 0 U.shared
+          (list_ready (run_log_side log_seen data_seen R.run) (run_data_side log_seen data_seen R.run) R.run.setup U.shared
           U.log_ghost U.page_ghost (lists_of R.parts.lists) R.parts.log R.parts.store R.actors x.number U.both
           (model.User o.user) (turns.here log_seen log_gives data_seen data_gives about s R id me.0 x one at o its)) in (
             (let a1 = ready.0 in let a2 = R.lists_are.its_pages i (omega arith) in let a3 = R.runs.list_pages in

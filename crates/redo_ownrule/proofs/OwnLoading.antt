@@ -68,9 +68,9 @@ module _ {L D : Type 0} {archive : Bool} (log_seen : L → Seen) (data_seen : D 
     up_of i a there =
         let W = before.runs.running in
         up_by (next a)
-        (next_words A B run.setup 0 m W.log_ghost W.page_ghost (lists_of old.lists) old.log old.store (actors_of seats) i W.both
+        (next_words A B run.setup m W.log_ghost W.page_ghost (lists_of old.lists) old.log old.store (actors_of seats) i W.both
         a there)
-        (rises A B run.setup 0 m W.log_ghost W.page_ghost (lists_of old.lists) old.log old.store (actors_of seats) i W.both
+        (rises A B run.setup m W.log_ghost W.page_ghost (lists_of old.lists) old.log old.store (actors_of seats) i W.both
         served.played.code new.log a there)
 
     up_taking : (b : Bool) → m.flushed ≤ (cond b (record m { device = 1 }) m).flushed

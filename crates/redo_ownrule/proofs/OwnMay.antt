@@ -107,7 +107,7 @@ module _ {L D : Type 0} {archive : Bool} (log_seen : L → Seen) (data_seen : D 
   its_words =
       let W = R.runs.running in
       subst (λ (m : ℕ). OpWords m (own_next o seats.work)) (sym R.runs.word_pages)
-      (own_words A (its_log_laws log_seen data_seen run) B (its_data_laws log_seen data_seen run) run.setup 0 W.shared
+      (own_words A (its_log_laws log_seen data_seen run) B (its_data_laws log_seen data_seen run) run.setup W.shared
       (lists_of parts.lists) parts.log parts.store seats.users seats.work seats.others
       (W.log_ghost, W.page_ghost, W.both) R.errands n o at 0 parts.log parts.store)
 

@@ -104,7 +104,7 @@ module _ {L D : Type 0} (log_seen : L → Seen) (log_gives : L → Call → L �
   ready : (s : State (Slot L D) (View L D)) (R : Law s) → get_elem? R.actors x.number ≡ maybe.some a → ListReady
       R.run.setup.pages (lists_of R.parts.lists) (next a)
   ready s R there = let W = R.runs.running in list_ready (run_log_side log_seen data_seen R.run) (run_data_side
-      log_seen data_seen R.run) R.run.setup 0 W.shared W.log_ghost W.page_ghost (lists_of R.parts.lists) R.parts.log
+      log_seen data_seen R.run) R.run.setup W.shared W.log_ghost W.page_ghost (lists_of R.parts.lists) R.parts.log
       R.parts.store R.actors x.number W.both a there
 
   -- TakeAdd

@@ -22,7 +22,6 @@ use Rattle.model_running.proofs.Filling.{next_filled}
 use Rattle.model_running.specs.ReadHalf.{ReadsInRun}
 use Rattle.model_core.specs.declared.steps.ReaderStep.TheVariants as reader_step
 use Rattle.redo_disk.specs.Seen.{Seen}
-use Rattle.redo_drive.proofs.Viewed.{not_joined}
 use Rattle.redo_drive.specs.Lists.{lists_of}
 use Rattle.redo_drive.specs.Playing.{run_data_side, run_log_side}
 use Rattle.redo_drive.specs.Turning.{code_in}
@@ -40,7 +39,7 @@ use Rattle.redo_rule.specs.declared.law.View.{View}
 -- a user that has all its commits answered, where those at its end are
 answered_at : {R : Type 0} (b : Actor R) → ending (view_of b) ≡ step.Ended → ((u : UserState) → view_of b ≡ model.User
     u → u.step ≡ user_step.Done → u.k ≡ length u.lines) → IsFinishedUser (view_of b)
-answered_at b e all = ⊎_elim (λ t. subst IsFinishedUser (sym t.1) (t.2, all t.0 t.1 t.2)) (λ t. absurd (not_joined b t.0 t.1)) (ended_well (view_of b) e)
+answered_at b e all = let t = ended_well (view_of b) e in subst IsFinishedUser (sym t.1) (t.2, all t.0 t.1 t.2)
 
 -- it is a user
 is_user : (b : model.Actor) → IsFinishedUser b → (u : UserState) × (b ≡ model.User u) × (u.step ≡ user_step.Done)

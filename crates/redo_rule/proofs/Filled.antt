@@ -40,7 +40,6 @@ same_filled P block texts (model.Flusher s) f = refl
 same_filled P block texts (model.Closer s) f = refl
 same_filled P block texts (model.Cleaner s) f = refl
 same_filled P block texts (model.Checkpointer s) f = refl
-same_filled P block texts (model.Joined es) f = refl
 
 pub hand_filled : (a : model.Actor) (f : Filling) → hand (filled a f) ≡ hand a
 hand_filled = same_filled hand (λ r b. refl) (λ r t. refl)
@@ -89,7 +88,6 @@ gives_filled (model.Flusher s) f code g = g
 gives_filled (model.Closer s) f code g = g
 gives_filled (model.Cleaner s) f code g = g
 gives_filled (model.Checkpointer s) f code g = g
-gives_filled (model.Joined es) f code g = g
 
 pub stored_before : (a : model.Actor) (f : Filling) (code : ℕ) → HasStored (filled a f) code → HasStored a code
 stored_before (model.Reader r) f code g = by r.step g
@@ -104,7 +102,6 @@ stored_before (model.Flusher s) f code g = g
 stored_before (model.Closer s) f code g = g
 stored_before (model.Cleaner s) f code g = g
 stored_before (model.Checkpointer s) f code g = g
-stored_before (model.Joined es) f code g = g
 
 pub stores_filled : (a : model.Actor) (f : Filling) (code : ℕ) → StoresFailed (filled a f) code → StoresFailed a code
 stores_filled (model.Cleaner s) f code g = g
@@ -119,7 +116,6 @@ stores_filled (model.Writer s) f code g = g
 stores_filled (model.Flusher s) f code g = g
 stores_filled (model.Closer s) f code g = g
 stores_filled (model.Checkpointer s) f code g = g
-stores_filled (model.Joined es) f code g = g
 
 -- AN OP INTO WHOSE ACTOR A TURN PUTS NOTHING
 abbrev pub IsPlainOp : Op → Type 0
@@ -150,7 +146,6 @@ plain_filled (model.Flusher s) f free plain = refl
 plain_filled (model.Closer s) f free plain = refl
 plain_filled (model.Cleaner s) f free plain = refl
 plain_filled (model.Checkpointer s) f free plain = refl
-plain_filled (model.Joined es) f free plain = refl
 
 -- nor does it hand anything on
 pub plain_hands : (a : model.Actor) → IsFreeToCheck a → IsPlainOp (next a) → ◌≡◌ {A = List Given} (handed_by a) []
@@ -168,7 +163,6 @@ plain_hands (model.Flusher s) free plain = refl
 plain_hands (model.Closer s) free plain = refl
 plain_hands (model.Cleaner s) free plain = refl
 plain_hands (model.Checkpointer s) free plain = refl
-plain_hands (model.Joined es) free plain = refl
 
 -- a reader that reads has the block, whatever a turn puts into it then
 read_step : (r : ReaderState) (x : ℕ) (st : ReaderStep) → reader_op r st ≡ op.ReadBlock x → st ≡ reader_step.ReadBlock
@@ -256,7 +250,6 @@ one_filling (model.Flusher s) f g free gives p h q k = refl
 one_filling (model.Closer s) f g free gives p h q k = refl
 one_filling (model.Cleaner s) f g free gives p h q k = refl
 one_filling (model.Checkpointer s) f g free gives p h q k = refl
-one_filling (model.Joined es) f g free gives p h q k = refl
 
 abbrev pub IsNoGive : Op → Type 0
 IsNoGive op.GiveDevice = ⊥
@@ -275,7 +268,6 @@ fills_block (model.Flusher s) f free plain = tt
 fills_block (model.Closer s) f free plain = tt
 fills_block (model.Cleaner s) f free plain = tt
 fills_block (model.Checkpointer s) f free plain = tt
-fills_block (model.Joined es) f free plain = tt
 
 -- no reader of the log takes a list, or gives one back
 gives_none : (r : ReaderState) (i : ℕ) (b : Bool) (st : ReaderStep)
@@ -301,4 +293,3 @@ keeps_listed (model.Flusher s) f i is = tt
 keeps_listed (model.Closer s) f i is = tt
 keeps_listed (model.Cleaner s) f i is = tt
 keeps_listed (model.Checkpointer s) f i is = tt
-keeps_listed (model.Joined es) f i is = tt

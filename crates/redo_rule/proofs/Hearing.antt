@@ -103,7 +103,7 @@ module _ {L D : Type 0} {archive : Bool} (log_seen : L → Seen) (data_seen : D 
   pick false h groups blocks = sym (append-nil h.groups)
 
   before : E.Tells new.log → E.Tells old.log
-  before told = told_then E log_laws F data_laws run.setup 0 (core_of log_seen data_seen run old actors)
+  before told = told_then E log_laws F data_laws run.setup (core_of log_seen data_seen run old actors)
       (core_of log_seen data_seen run new after) seat answer step runs.running t told
 
   -- the log grows
@@ -114,11 +114,11 @@ module _ {L D : Type 0} {archive : Bool} (log_seen : L → Seen) (data_seen : D 
       let c_new = core_of log_seen data_seen run new after in
       subst (λ (l : List Entry). LogGrows log_was l W.shared.sn)
       (sym (runs_then log_seen data_seen run old new actors after seat answer step log_laws data_laws same runs t).log_is)
-      (grown E log_laws F data_laws run.setup 0 W.shared W.log_ghost W.page_ghost (lists_of old.lists) old.log old.store
-      (actors_filled E log_laws F data_laws run.setup 0 c_old c_new seat answer step W t) seat
-      (both_filled E log_laws F data_laws run.setup 0 c_old c_new seat answer step W t) t.code new.log told (before told)
-      (who_filled E log_laws F data_laws run.setup 0 c_old c_new seat answer step W t)
-      (filled_at E log_laws F data_laws run.setup 0 c_old c_new seat answer step W t))
+      (grown E log_laws F data_laws run.setup W.shared W.log_ghost W.page_ghost (lists_of old.lists) old.log old.store
+      (actors_filled E log_laws F data_laws run.setup c_old c_new seat answer step W t) seat
+      (both_filled E log_laws F data_laws run.setup c_old c_new seat answer step W t) t.code new.log told (before told)
+      (who_filled E log_laws F data_laws run.setup c_old c_new seat answer step W t)
+      (filled_at E log_laws F data_laws run.setup c_old c_new seat answer step W t))
 
   -- what is appended by the turn is of the run
   appended : E.Tells old.log → (a : model.Actor) → get_elem? actors seat ≡ some a → Handed log_was (appended_by a)
@@ -151,7 +151,6 @@ module _ {L D : Type 0} {archive : Bool} (log_seen : L → Seen) (data_seen : D 
   appended told (model.Closer s) at = tt
   appended told (model.Cleaner s) at = tt
   appended told (model.Checkpointer s) at = tt
-  appended told (model.Joined es) at = tt
 
   blocks_pick : (b : Bool) (h : Heard) (groups : List Given) (blocks : List Block) → Handed log_now h.blocks
       → Handed log_now blocks → Handed log_now (cond b (with_more h groups blocks) h).blocks

@@ -15,11 +15,11 @@ pub use Rattle.model_running.proofs.SlotHolders.{same_number}
 module _ {L D : Type 0} {archive : Bool} (log_seen : L → Seen) (data_seen : D → Seen) (run : RunOf L D) (parts : Parts L D) (actors :
     List model.Actor) (runs : RunsWith log_seen data_seen run archive parts actors) where
   abbrev Holds : ℕ → ℕ → Type 0
-  Holds = slots.Holds (run_log_side log_seen data_seen run) (run_data_side log_seen data_seen run) run.setup 0 (core_of log_seen data_seen run parts actors) runs.running
+  Holds = slots.Holds (run_log_side log_seen data_seen run) (run_data_side log_seen data_seen run) run.setup (core_of log_seen data_seen run parts actors) runs.running
 
   pub holding : (n : ℕ) (a : model.Actor) → get_elem? actors n ≡ some a → (k : ℕ) → hand a ≡ Some k → Holds n k
-  holding = slots.holding (run_log_side log_seen data_seen run) (run_data_side log_seen data_seen run) run.setup 0 (core_of log_seen data_seen run parts actors) runs.running
+  holding = slots.holding (run_log_side log_seen data_seen run) (run_data_side log_seen data_seen run) run.setup (core_of log_seen data_seen run parts actors) runs.running
 
   pub one_holder : (n j : ℕ) (a b : model.Actor) (k : ℕ) → get_elem? actors n ≡ some a → get_elem? actors j ≡ some b →
       hand a ≡ Some k → hand b ≡ Some k → n ≡ j
-  one_holder = slots.one_holder (run_log_side log_seen data_seen run) (run_data_side log_seen data_seen run) run.setup 0 (core_of log_seen data_seen run parts actors) runs.running
+  one_holder = slots.one_holder (run_log_side log_seen data_seen run) (run_data_side log_seen data_seen run) run.setup (core_of log_seen data_seen run parts actors) runs.running

@@ -165,7 +165,7 @@ module _ {L D : Type 0} {archive : Bool} (log_seen : L → Seen) (data_seen : D 
 
   pub words_there : OpWords parts.words.pages (next a)
   words_there = subst (λ (k : ℕ). OpWords k (next a)) (sym runs.word_pages)
-      (next_words (run_log_side log_seen data_seen run) (run_data_side log_seen data_seen run) run.setup 0
+      (next_words (run_log_side log_seen data_seen run) (run_data_side log_seen data_seen run) run.setup
       runs.running.shared runs.running.log_ghost runs.running.page_ghost (lists_of parts.lists) parts.log
       parts.store actors n runs.running.both a at)
 

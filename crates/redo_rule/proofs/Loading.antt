@@ -109,7 +109,7 @@ module _ {L D : Type 0} {archive : Bool} (log_seen : L → Seen) (data_seen : D 
   up =
       let W = R.running in
       let m : SharedWords = W.shared in
-      let there = next_words E F run.setup 0 m W.log_ghost W.page_ghost (lists_of old.lists) old.log old.store actors seat
+      let there = next_words E F run.setup m W.log_ghost W.page_ghost (lists_of old.lists) old.log old.store actors seat
       W.both t.who t.who_is in
       let words : ◌≡◌ {A = List ℕ} new.words.words (flat (shared_left m (next t.who))) =
       t.words ∙ ap (λ (ws : List ℕ). words_left ws (next t.who)) W.flat_is
@@ -117,7 +117,7 @@ module _ {L D : Type 0} {archive : Bool} (log_seen : L → Seen) (data_seen : D 
       let now : slice_index new.words.words 3 ≡ (shared_left m (next t.who)).flushed =
       ap (λ (ws : List ℕ). slice_index ws 3) words in
       let old_is : slice_index old.words.words 3 ≡ m.flushed = ap (λ (ws : List ℕ). slice_index ws 3) W.flat_is in
-      let rise = rises E F run.setup 0 m W.log_ghost W.page_ghost (lists_of old.lists) old.log old.store actors seat W.both
+      let rise = rises E F run.setup m W.log_ghost W.page_ghost (lists_of old.lists) old.log old.store actors seat W.both
       t.code new.log t.who t.who_is in
       omega arith
 
@@ -146,7 +146,6 @@ module _ {L D : Type 0} {archive : Bool} (log_seen : L → Seen) (data_seen : D 
   its loaded (model.Closer s) is w left = absurd (stays_other (model.Closer s) answer tt w left)
   its loaded (model.Cleaner s) is w left = absurd (stays_other (model.Cleaner s) answer tt w left)
   its loaded (model.Checkpointer s) is w left = absurd (stays_other (model.Checkpointer s) answer tt w left)
-  its loaded (model.Joined es) is w left = absurd (stays_other (model.Joined es) answer tt w left)
 
   pub loaded_then : HaveLoaded old.words.words actors → HaveLoaded new.words.words after
   loaded_then loaded n w at = ⊎_elim

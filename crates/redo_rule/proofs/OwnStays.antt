@@ -135,9 +135,9 @@ module _ {L D : Type 0} {archive : Bool} (log_seen : L → Seen) (data_seen : D 
         record {
           others = put.0;
           are = ap (λ (x : List model.Actor). set x n b) W.are ∙ put.1;
-          errands = other_keeps A log_laws B data_laws run.setup 0 runs.running.shared (lists_of parts.lists) parts.log
+          errands = other_keeps A log_laws B data_laws run.setup runs.running.shared (lists_of parts.lists) parts.log
               parts.store side.users side.work W.others
-              (subst (Runs A B run.setup 0 runs.running.shared (lists_of parts.lists) parts.log parts.store) W.are
+              (subst (Runs A B run.setup runs.running.shared (lists_of parts.lists) parts.log parts.store) W.are
               (runs.running.log_ghost, runs.running.page_ghost, runs.running.both))
               W.errands n a (ap (λ (x : List model.Actor). get_elem? x n) (sym W.are) ∙ at) far l code q served;
         }

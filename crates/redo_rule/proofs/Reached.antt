@@ -39,7 +39,7 @@ use Rattle.model_script.specs.declared.script.ScriptLine.{ScriptLine}
 module _ {L D : Type 0} {archive : Bool} (log_seen : L → Seen) (data_seen : D → Seen) (run : RunOf L D) (parts : Parts L D) (actors :
     List model.Actor) (runs : RunsWith log_seen data_seen run archive parts actors) where
   has_marks : HasWatermarks (run_log_side log_seen data_seen run) (run_data_side log_seen data_seen run) run.setup (core_of log_seen data_seen run parts actors)
-  has_marks = has_watermarks (run_log_side log_seen data_seen run) (laws_of_log log_seen data_seen run) (run_data_side log_seen data_seen run) (laws_of_data log_seen data_seen run) run.setup 0 (core_of log_seen data_seen run parts actors) runs.running
+  has_marks = has_watermarks (run_log_side log_seen data_seen run) (laws_of_log log_seen data_seen run) (run_data_side log_seen data_seen run) (laws_of_data log_seen data_seen run) run.setup (core_of log_seen data_seen run parts actors) runs.running
 
   abbrev m : SharedWords
   m = has_marks.0

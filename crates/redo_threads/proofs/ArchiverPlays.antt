@@ -4,16 +4,15 @@ use Rattle.std.specs.List.{AllByRecursion}
 use Rattle.atomic_table.specs.Seated.{TableId}
 use Rattle.atomic_table.specs.declared.shared.Seat.{Seat}
 use Rattle.model_core.proofs.Later.{took_later}
-use Rattle.model_core.specs.{Given, next, ReaderState, took}
+use Rattle.model_core.specs.{Given, ReaderState, took}
 use Rattle.model_core.specs.Actors as model
 use Rattle.model_core.specs.Later.{IsSameActor}
 use Rattle.model_core.specs.declared.ops.Op.{Op}
 use Rattle.model_core.specs.declared.ops.Op.TheVariants as op
 use Rattle.model_core.specs.declared.ops.Step.{Step}
-use Rattle.model_own.specs.OwnWrites.{OwnUser}
 use Rattle.model_running.specs.{IsNoAppend}
 use Rattle.redo_archive.specs.Part.{Part}
-use Rattle.redo_archiver.specs.{append_answer, KeepsPace, MayAppendBlock}
+use Rattle.redo_archiver.specs.{append_answer}
 use Rattle.redo_disk.specs.Seen.{Seen}
 use Rattle.redo_drive.proofs.ArchiveTurns.{one_reader}
 use Rattle.redo_drive.specs.Receiving.{follower_of, IsSameFollower}
@@ -32,7 +31,7 @@ use Rattle.redo_rule.specs.declared.law.Slot.{Slot}
 use Rattle.redo_rule.specs.declared.law.View.{View}
 use Rattle.redo_threads.proofs.Archivers.{all_front, archive_appended, archive_turned}
 use Rattle.redo_threads.proofs.StaysReader.{still_archiver}
-use Rattle.redo_threads.specs.Archiving.{Archives, end_about, GoesOnWith, HasAppended, IsArchiver, IsFullIn, KeepsArchive, MayArchive}
+use Rattle.redo_threads.specs.Archiving.{Archives, GoesOnWith, HasAppended, IsArchiver, IsFullIn, KeepsArchive, MayArchive}
 
 -- an Op that is no append appends nothing
 pub no_append : (o : Op) → ((x : ℕ) → o ≡ op.Append x → ⊥) → IsNoAppend o
@@ -154,19 +153,3 @@ module _ {L D A F : Type 0} (log_seen : L → Seen) (data_seen : D → Seen) (se
       by : (a : Actor F) → KeepsArchive seen may.0 may.1 s.me.0 (player.Plain a) (Some part) → IsArchiver a
       by (own.Archiver r) keeps = tt
       by _ keeps = absurd keeps
-
-  pub may_append : ((limit flushed mark : ℕ) (r : ReaderState) (part : Part A) → next (model.Reader r) ≡ op.Append mark
-      → KeepsPace seen limit flushed r part → MayAppendBlock seen part mark)
-      → (s : Seat (Slot L D) (View L D)) (a : Actor F) (part : Part A) (mark : ℕ)
-      → MayArchive seen s.me.0 (player.Plain a) (Some part) → next (view_of a) ≡ op.Append mark → MayAppendBlock seen part mark
-  may_append law s a part mark may = by a may.2
-    where
-      by : (a : Actor F) → KeepsArchive seen may.0 may.1 s.me.0 (player.Plain a) (Some part)
-          → next (view_of a) ≡ op.Append mark → MayAppendBlock seen part mark
-      by (own.Archiver r) S asks = law (end_about may.0) S.flushed mark r part asks S.pace
-      by _ S asks = absurd S
-
-  -- nobody else has one
-  pub no_own : (s : Seat (Slot L D) (View L D)) (p : Player F) (part : Part A) → MayArchive seen s.me.0 p (Some part)
-      → (u : OwnUser) → p ≡ player.Own u → ⊥
-  no_own s p part may u is = subst (λ (z : Player F). KeepsArchive seen may.0 may.1 s.me.0 z (Some part)) is may.2

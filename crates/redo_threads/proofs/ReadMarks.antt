@@ -1,6 +1,6 @@
 -- What reads give of the devices that a run leaves, archived or not, of which no call answered an error: the log ends at WRITE, and its
 -- newest checkpoint is CKPT.
-use Rattle.std.proofs.Common.{Bool, List, None, Option, Some, ap, arith, refl, subst, sym, ⊎_elim, ℕ}
+use Rattle.std.proofs.Common.{Bool, List, None, Option, Some, ap, arith, subst, sym, ⊎_elim, ℕ}
 use Rattle.std.proofs.Common.{◌∙◌, ◌≡◌}
 use Rattle.std.specs.Prelude.{IfSome}
 use lib.ListN.{get_elem?}
@@ -21,7 +21,6 @@ use Rattle.model_running.proofs.Finished.{marks_same}
 use Rattle.model_running.proofs.FinishedStore.{stands_for_run}
 use Rattle.model_running.specs.{IsOfScript, word_marks}
 use Rattle.model_script.specs.declared.script.ScriptLine.{ScriptLine}
-use Rattle.model_store.specs.Reading.{Reading}
 use Rattle.model_theorem.proofs.Closing.{few-blocks, some-blocks}
 use Rattle.model_theorem.proofs.Fitting.{good-from}
 use Rattle.model_theorem.proofs.Start.{start-given}
@@ -84,7 +83,7 @@ module _ {L D R : Type 0} {archive : Bool} (log_seen : L → Seen) (log_gives : 
       let live : part.failed ≡ None = ap (λ (z : log.Part L). z.failed) (sym by.log) ∙ log_live in
       let given = start-given reading script log_disk data_disk start in
       let of_script = subst (IsOfScript run.setup script) as_read.shape by.is_run.of_script in
-      let stands = stands_for_run logs (run_data_side log_seen data_seen run) run.setup 0 script (opened_as reading)
+      let stands = stands_for_run logs (run_data_side log_seen data_seen run) run.setup script (opened_as reading)
       (core_of log_seen data_seen run by.last (views_of actors)) R of_script (by.is_run.start ∙ as_read.start) in
       let wholes : List Whole = wholes_of script reading.shape.space stands.run.entries in
       let shape : ◌≡◌ {A = Shape} part.shape reading.shape = by.log_shape ∙ may.runnable.log_shape ∙ as_read.shape in

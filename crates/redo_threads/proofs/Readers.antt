@@ -106,10 +106,6 @@ no_archiver [] i s at = maybe.some-ne-none _ (sym at)
 no_archiver (f ∷ fs) zero s at = let e = maybe.some-injective (own.Follower f) (own.Archiver s) at in absurd (cc)
 no_archiver (f ∷ fs) (suc i) s at = no_archiver fs i s at
 
-long_mapped : {A B : Type 0} (f : A → B) (xs : List A) → length (map f xs) ≡ length xs
-long_mapped f [] = refl
-long_mapped f (x ∷ xs) = ap suc (long_mapped f xs)
-
 one_archiver : {R : Type 0} (x y : ReaderState) → ◌≡◌ {A = Actor R} (own.Archiver x) (own.Archiver y)
     → ◌≡◌ {A = ReaderState} x y
 one_archiver x y e = cc

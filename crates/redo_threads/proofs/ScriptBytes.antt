@@ -1,6 +1,6 @@
 -- FLUSHED stays within the script: what the actors of a run have in their lines is the script's text.
 use Rattle.std.proofs.Common.{Bool, List, Some, [], ap, arith, cond, eqb, false, length, length-append, map, ne_eqb, refl, slice_index}
-use Rattle.std.proofs.Common.{suc, sym, true, zero, ℕ, ◌++◌, ◌+◌, ◌<◌, ◌∙◌, ◌∷◌, ◌≡◌, ◌≤◌}
+use Rattle.std.proofs.Common.{suc, sym, true, ℕ, ◌++◌, ◌+◌, ◌<◌, ◌∙◌, ◌∷◌, ◌≡◌, ◌≤◌}
 use Rattle.std.specs.Prelude.{slice_get}
 use Rattle.std.specs.List.{flat_map}
 use native.Mathlib.Decide.{ℕ_discrete}
@@ -9,7 +9,7 @@ use mathlib.Core.Option as maybe
 use Rattle.atomic_table.proofs.Lists.{at_longer}
 use Rattle.model_base.specs.declared.shape.Shape.{Shape}
 use Rattle.model_core.proofs.Lsns.{lsn_le}
-use Rattle.model_core.specs.{Entry, index, Line, line_at, ReaderState, UserState}
+use Rattle.model_core.specs.{index, Line, line_at, ReaderState, UserState}
 use Rattle.model_core.specs.Actors as model
 use Rattle.model_core.specs.Setup.{Setup}
 use Rattle.model_core.specs.declared.words.Word.TheVariants as word
@@ -140,51 +140,6 @@ others_none true others P = ap (sum_over_actors bytes_of) P.1 ∙ readers_none P
 others_none false others P =
     let are = ap (sum_over_actors bytes_of) P.2 in let rest = readers_none P.1 in omega arith
 
--- nobody has joined
-no_reader : (readers : List ReaderState) (i : ℕ) (es : List Entry)
-    → get_elem? (map model.Reader readers) i ≡ maybe.some (model.Joined es) → ⊥
-no_reader [] i es at = maybe.some-ne-none _ (sym at)
-no_reader (r ∷ rs) zero es at = let e = maybe.some-injective _ (model.Joined es) at in absurd (cc)
-no_reader (r ∷ rs) (suc i) es at = no_reader rs i es at
-
-no_page : (closer cleaner checkpointer : model.Actor) (readers : List ReaderState)
-    → ((es : List Entry) → closer ≡ model.Joined es → ⊥) → ((es : List Entry) → cleaner ≡ model.Joined es → ⊥)
-    → ((es : List Entry) → checkpointer ≡ model.Joined es → ⊥) → (i : ℕ) (es : List Entry)
-    → get_elem? (closer ∷ cleaner ∷ checkpointer ∷ map model.Reader readers) i ≡ maybe.some (model.Joined es) → ⊥
-no_page a b c readers one two three zero es at = one es (maybe.some-injective a (model.Joined es) at)
-no_page a b c readers one two three (suc zero) es at = two es (maybe.some-injective b (model.Joined es) at)
-no_page a b c readers one two three (suc (suc zero)) es at = three es (maybe.some-injective c (model.Joined es) at)
-no_page a b c readers one two three (suc (suc (suc i))) es at = no_reader readers i es at
-
-no_other : (b : Bool) (others : List model.Actor) → ArePageActors b others → (i : ℕ) (es : List Entry)
-    → get_elem? others i ≡ maybe.some (model.Joined es) → ⊥
-no_other true others P i es at = no_reader P.0 i es (ap (λ (l : List model.Actor). get_elem? l i) (sym P.1) ∙ at)
-no_other false others P i es at = no_page (model.Closer P.0.closer) (model.Cleaner P.0.cleaner)
-    (model.Checkpointer P.0.checkpointer) P.1 (λ x e. absurd (cc)) (λ x e. absurd (cc)) (λ x e. absurd (cc)) i es
-    (ap (λ (l : List model.Actor). get_elem? l i) (sym P.2) ∙ at)
-
-no_worker : (writer flusher : model.Actor) (others : List model.Actor) → ((es : List Entry) → writer ≡ model.Joined es → ⊥)
-    → ((es : List Entry) → flusher ≡ model.Joined es → ⊥)
-    → ((i : ℕ) (es : List Entry) → get_elem? others i ≡ maybe.some (model.Joined es) → ⊥) → (i : ℕ) (es : List Entry)
-    → get_elem? (writer ∷ flusher ∷ others) i ≡ maybe.some (model.Joined es) → ⊥
-no_worker a b others one two none zero es at = one es (maybe.some-injective a (model.Joined es) at)
-no_worker a b others one two none (suc zero) es at = two es (maybe.some-injective b (model.Joined es) at)
-no_worker a b others one two none (suc (suc i)) es at = none i es at
-
-no_user : (users : List UserState) (others : List model.Actor)
-    → ((i : ℕ) (es : List Entry) → get_elem? others i ≡ maybe.some (model.Joined es) → ⊥) → (i : ℕ) (es : List Entry)
-    → get_elem? (map model.User users ++ others) i ≡ maybe.some (model.Joined es) → ⊥
-no_user [] others none i es at = none i es at
-no_user (u ∷ us) others none zero es at = let e = maybe.some-injective _ (model.Joined es) at in absurd (cc)
-no_user (u ∷ us) others none (suc i) es at = no_user us others none i es at
-
-none_joined : (c : Setup) (actors : List model.Actor) → AreSeated c actors → (i : ℕ) (es : List Entry)
-    → get_elem? actors i ≡ maybe.some (model.Joined es) → ⊥
-none_joined c actors S i es at = no_user S.users (model.Writer S.writer ∷ model.Flusher S.flusher ∷ S.others)
-    (no_worker (model.Writer S.writer) (model.Flusher S.flusher) S.others (λ x e. absurd (cc)) (λ x e. absurd (cc))
-    (no_other c.log_only S.others S.page_actors)) i es
-    (ap (λ (l : List model.Actor). get_elem? l i) (sym S.are) ∙ at)
-
 module _ {L D : Type 0} {archive : Bool} (log_seen : L → Seen) (data_seen : D → Seen) (run : RunOf L D) (parts : Parts L D)
     (actors : List model.Actor) (R : RunsWith log_seen data_seen run archive parts actors) (opened : Opened L D)
     (script : List ScriptLine) (log_only : Bool) (followers : ℕ)
@@ -235,6 +190,6 @@ module _ {L D : Type 0} {archive : Bool} (log_seen : L → Seen) (data_seen : D 
   flushed_within =
       let last = last_within in
       let reserved = flushed_reserved log_seen data_seen run parts actors R in
-      let sn = sn_within (run_log_side log_seen data_seen run) c 0 R.running.shared R.running.log_ghost parts.log actors
-      R.running.both.logged (none_joined c actors S) in
+      let sn = sn_within (run_log_side log_seen data_seen run) c R.running.shared R.running.log_ghost parts.log actors
+      R.running.both.logged in
       omega arith

@@ -19,11 +19,6 @@ low_cell n (Num width space page offset value) w = w.0
 low_cell n (Text space page offset bytes) w = w.0
 low_cell n (Init space page) w = omega arith
 
-high_cell : (n : ℕ) (rec : Rec) → WritesWithin n rec → cells_end n rec ≤ 38 + n
-high_cell n (Num width space page offset value) w = let b = w.1 in omega arith
-high_cell n (Text space page offset bytes) w = let b = w.1 in omega arith
-high_cell n (Init space page) w = omega arith
-
 row_some : (at long j x : ℕ) → at ≤ j → j < at + long → is_some (cond (leb at j && ltb (j - at) long) (Some x) None) ≡ true
 row_some at long j x le lt = ap (λ (b : Bool). is_some (let o : Option ℕ = cond b (Some x) None in o)) (and_from (leb at j) (ltb (j - at) long) (le-leb at j le) (lt-ltb (j - at) long (omega arith)))
 

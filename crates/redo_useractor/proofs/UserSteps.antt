@@ -1,11 +1,11 @@
 -- What a user does at a place among the changed cells of its page.
-use Rattle.std.proofs.Common.{ap, arith, drop, subst, sym, ℕ, ◌∙◌, ◌≡◌, ◌≤◌}
+use Rattle.std.proofs.Common.{arith, subst, ◌≡◌, ◌≤◌}
 use native.Mathlib.Decide.{dec_le, ℕ_discrete}
-use Rattle.model_core.specs.{cells_of, frame_count, same_word}
-use Rattle.redo_useractor.proofs.Places.{next_in_word, step_end, step_part, step_whole}
+use Rattle.model_core.specs.{cells_of}
+use Rattle.redo_useractor.proofs.Places.{step_end, step_part, step_whole}
 use Rattle.redo_useractor.specs.CellsStep.{cells_step}
 use Rattle.redo_useractor.specs.Places.{IsNextCell}
-use Rattle.redo_useractor.specs.UserView.{HasGroup, IsAt, IsAtPage, IsAtWord, user_view}
+use Rattle.redo_useractor.specs.UserView.{HasGroup, IsAt, IsAtPage, user_view}
 use Rattle.redo_useractor.specs.Written.{words_end}
 use Rattle.redo_useractor.specs.declared.actor.UserActor.TheInside.{Inside}
 
@@ -17,9 +17,3 @@ at_step u group page here = by (ℕ_discrete u.at.word words_end) (dec_le 8 u.at
     by (yes end) d = subst (IsAt u) (step_end (cells_of (user_view u)) u.at.word u.at.count u.cell here end) (group, page)
     by (no not) (no few) = subst (IsAt u) (step_part (cells_of (user_view u)) u.at.word u.at.count u.cell here not (omega arith)) (group, page, (here, (let w = here.within in omega arith)))
     by (no not) (yes many) = subst (IsAt u) (step_whole (cells_of (user_view u)) u.at.word u.at.count u.cell here not many) (group, page, (here, (let w = here.within in omega arith)))
-
--- the cells that it stores next
-pub count_is : (u : Inside) → IsAtWord u → u.at.count ≡ frame_count (user_view u)
-count_is u here =
-    here.0.counted here.1
-    ∙ ap (λ (q : ℕ). same_word q (drop u.cell (cells_of (user_view u)))) (sym (next_in_word (cells_of (user_view u)) u.at.word u.at.count u.cell here.0 here.1).1)

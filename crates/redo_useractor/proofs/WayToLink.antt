@@ -16,7 +16,7 @@ use Rattle.model_log.specs.declared.layout.TheConstants.{BLOCK_DATA}
 use Rattle.redo_useractor.proofs.WordsSpanned.{last_word, one_word_less}
 use Rattle.redo_useractor.specs.UserView.{IsAt, user_view}
 use Rattle.redo_useractor.specs.declared.actor.UserActor.TheInside.{Inside}
-use Rattle.redo_useractor.specs.ToLink.{first_stores, lacks_room, lacks_room_at, linking_steps, to_link, to_link_at, words_spanned, words_to_copy}
+use Rattle.redo_useractor.specs.ToLink.{first_stores, lacks_room, lacks_room_at, to_link, to_link_at, words_spanned, words_to_copy}
 
 -- the state once the next bytes are copied
 abbrev copied_to : UserState → UserStep → UserState
@@ -153,18 +153,3 @@ module _ (u v : UserState) (a : Answer) (is : ◌≡◌ {A = Actor} (actor.User 
 
   pub comes_nearer : HasLeft u u.step → 0 < to_link u → step_of (actor.User u) a ≢ step.Idle → to_link u ≡ to_link v + gained v
   comes_nearer left some moves = nearer_at u (heard a) u.step left some (goes_on moves) ∙ ap (λ (w : UserState). to_link w + gained w) (sym state)
-
-  -- right after the reservation it is one Op nearer than all that the group takes
-  pub has_reserved : u.step ≡ user_step.Reserve → linking_steps v ≡ to_link v + 1
-  has_reserved at = subst (λ (w : UserState). linking_steps w ≡ to_link w + 1) (sym (state ∙ ap (user_took u (heard a)) at)) counted
-    where
-      reserved : UserState
-      reserved = user_took u (heard a) user_step.Reserve
-
-      sums : (w x f : ℕ) → w ≡ x → w + 4 + f ≡ x + f + 3 + 1
-      sums w x f e = omega arith
-
-      counted : linking_steps reserved ≡ to_link reserved + 1
-      counted = sums (words_spanned (heard a) (length (group_bytes u) - 1)) (words_spanned (heard a + 0) (length (group_bytes u) - 0 - 1)) (first_stores reserved)
-          (ap (λ (x : ℕ). words_spanned x (length (group_bytes u) - 1)) (let e : heard a ≡ heard a + 0 = omega arith in e)
-          ∙ ap (words_spanned (heard a + 0)) (let e : length (group_bytes u) - 1 ≡ length (group_bytes u) - 0 - 1 = omega arith in e))

@@ -46,7 +46,7 @@ returns-in-Ok-false-clause-prepares g c = λ words archive source source_now.
 
 pub returns-in-Err-clause-prepares : goal.returns-in-Err-clause-prepares
 returns-in-Err-clause-prepares g c = λ words archive source source_now command asked script running.
-    rw c.first_fault.ensures (unprepared-read _ command asked script running c.laws.ensures c.in-Err.error
+    rw c.log_fault.ensures (unprepared-read _ command asked script running c.laws.ensures c.in-Err.error
     (read-first g.D.Sectors.seen c.args.store.now c.requires.log_fresh c.requires.data_fresh c.in-Err.ensures.calls))
 
 pub returns-then-len-lt-HEADER_BYTES-clause-prepares : goal.returns-then-len-lt-HEADER_BYTES-clause-prepares

@@ -12,4 +12,4 @@ pub returns : goal.returns
 returns g c = λ run archive parts actors R.
     has_watermarks (run_log_side g.L.Sectors.seen g.D.Sectors.seen run) (log_laws g.L.Sectors.seen (g.L.Sectors.seen run.first_log.dev).faults run.first_log.marks.number (log_part.HasBegun g.L.Sectors.seen (lsn run.setup.base) run.first_log))
     (run_data_side g.L.Sectors.seen g.D.Sectors.seen run) (data_laws g.D.Sectors.seen (g.D.Sectors.seen run.first_data.dev).faults run.shape (data_part.HasBegun g.D.Sectors.seen run.setup.opened run.first_data))
-    run.setup 0 (core_of g.L.Sectors.seen g.D.Sectors.seen run parts actors) R.running
+    run.setup (core_of g.L.Sectors.seen g.D.Sectors.seen run parts actors) R.running

@@ -8,5 +8,5 @@ use Rattle.redo_ownmachine.specs.OwnSeats.{actors_of}
 pub returns : goal.returns
 returns g c = λ run archive parts seats R. has_watermarks (run_log_side g.L.Sectors.seen g.D.Sectors.seen run)
     (its_log_laws g.L.Sectors.seen g.D.Sectors.seen run) (run_data_side g.L.Sectors.seen g.D.Sectors.seen run)
-    (its_data_laws g.L.Sectors.seen g.D.Sectors.seen run) run.setup 0
+    (its_data_laws g.L.Sectors.seen g.D.Sectors.seen run) run.setup
     (core_of g.L.Sectors.seen g.D.Sectors.seen run parts (actors_of seats)) R.runs.running
