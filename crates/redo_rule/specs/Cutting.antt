@@ -6,7 +6,7 @@ use Rattle.atomic_table.specs.Seated.{TableId}
 use Rattle.atomic_table.specs.declared.shared.Seat.{Seat}
 use Rattle.model_core.specs.Actors as model
 use Rattle.model_core.specs.{word_count}
-use Rattle.model_core.specs.Hands.{HoldsNothing, IsFreeToCheck}
+use Rattle.model_core.specs.Hands.{HoldsNothing}
 use Rattle.redo_rule.specs.OwnSide.{HasNoWork}
 use Rattle.redo_rule.specs.declared.law.Keeping.{Keeping}
 use Rattle.redo_rule.specs.declared.law.Numbered.{Numbered}
@@ -23,10 +23,6 @@ AreAtRest l = (i : ℕ) (y : Numbered) → get_elem? l i ≡ some y → HoldsNot
 
 abbrev pub HoldNothing : List model.Actor → Type 0
 HoldNothing actors = (i : ℕ) (a : model.Actor) → get_elem? actors i ≡ some a → HoldsNothing a
-
--- each of these is free wherever it checks for a failure
-abbrev pub AreFreeToCheck : List model.Actor → Type 0
-AreFreeToCheck actors = (i : ℕ) (a : model.Actor) → get_elem? actors i ≡ some a → IsFreeToCheck a
 
 module _ {L D : Type 0} where
   -- the data part, if the seat keeps it, lies in its slot

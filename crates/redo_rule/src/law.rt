@@ -1,5 +1,5 @@
 // The rule of the table, and what a seat knows.
-use atomic_table::{Shared, TableRule};
+use atomic_table::{Shared, Table, TableRule};
 use model_own::ErrandStep;
 use model_script::Script;
 use redo_disk::Sectors;
@@ -9,6 +9,7 @@ use redo_follow::Tally;
 use redo_logdev::LogPart;
 use redo_ownuser::LogWork;
 use redo_store::{DataPart, Opened};
+use std::alloc::Global;
 use std::collections::LinkedList;
 use std::marker::Model;
 use std::snapshot::Snapshot;
@@ -141,6 +142,9 @@ impl<L: Sectors, D: Sectors> TableRule<Slot<L, D>, View<L, D>, About<L, D>> for 
 
 /// The words and slots as all threads see them.
 pub type Ring<L, D> = Shared<Slot<L, D>, View<L, D>, About<L, D>, Law>;
+
+/// The table, with its words and slots.
+pub type Board<L, D> = Table<Slot<L, D>, View<L, D>, About<L, D>, Law, Global>;
 
 /// A seat at the table. It has no bytes, and may go to another thread.
 pub type Seat<L, D> = atomic_table::Seat<Slot<L, D>, View<L, D>>;

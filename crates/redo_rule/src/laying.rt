@@ -8,8 +8,7 @@ ghost use Rattle.redo_rule.specs.Sharing.{AreLaid, laid};
 ghost use Rattle.redo_rule.specs.declared.law.Desk.{Desk};
 ghost use Rattle.redo_store.specs.Part as store_dev;
 
-use crate::law::{About, Desk, Seat, Slot};
-use crate::shared::Board;
+use crate::law::{About, Board, Desk, Seat, Slot};
 use crate::slots::{data_in, desk_in, drop_list};
 use atomic_table::Table;
 use redo_disk::Sectors;

@@ -1,5 +1,5 @@
-use Rattle.std.proofs.Common.{ap, ◌∙◌}
+use Rattle.std.proofs.Common.{Bool, ap, subst, sym, ◌∙◌, ◌≡◌}
 use Rattle.tests_threads.proofs.seats.store.seated.Goals as goal
 
-pub returns-clause-apart : goal.returns-clause-apart
-returns-clause-apart c = ap (λ b. b.shared.key.archive) c.seats-seats.ensures.same ∙ c.requires.apart
+pub returns : goal.returns
+returns c = ?
