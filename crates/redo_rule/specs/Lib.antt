@@ -6,6 +6,7 @@ pub mod Failing
 pub mod Gathering
 pub mod Handing
 pub mod Mine
+pub mod Ops
 pub mod OwnSide
 pub mod Plays
 pub mod Reached

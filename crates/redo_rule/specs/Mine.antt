@@ -49,11 +49,6 @@ pub record IsSameSeat {L D R : Type 0} (stands : R → List Given → Type 0) (v
   pub blocks : (heard_of w).blocks ≡ (heard_of v).blocks ++ appended
   pub got : HasGot stands (follower_of a) since (follower_of b)
 
--- and what it knows of the data part
-pub record KeepsSeat {L D R : Type 0} (stands : R → List Given → Type 0) (v : View L D) (a : Actor R) (w : View L D) (b : Actor R) : Type 0 where
-  pub seat : IsSameSeat stands v a w b
-  pub data_part : w.data_part ≡ v.data_part
-
 -- THE SEAT IS AT THIS TABLE, its view is the actor's state, it has the slot that the actor holds, and the actor may go on. It
 -- plays by its own program alone.
 pub record Mine {L D : Type 0} (table : TableId) (seat : Seat (Slot L D) (View L D)) (a : model.Actor) : Type 0 where

@@ -1,12 +1,11 @@
 // One Op of one actor, on the shared table: the log part.
-ghost use Rattle.std.specs.Prelude.{◌≡◌, None};
-ghost use Rattle.model_core.specs.{next};
+ghost use Rattle.std.specs.Prelude.{None};
 ghost use Rattle.model_core.specs.AnswerFits.{AnswerFits};
 ghost use Rattle.model_core.specs.declared.ops.Answer.TheVariants as answer;
 ghost use Rattle.model_core.specs.declared.ops.Op.TheVariants as op;
 ghost use Rattle.redo_drive.specs.Receiving.{MarkFits};
 ghost use Rattle.redo_drive.specs.Views.{view_of};
-ghost use Rattle.redo_rule.specs.Mine.{HasPlayed, KeepsSeat, Mine};
+ghost use Rattle.redo_rule.specs.Ops.{HasPlayedOp, MayPlay};
 ghost use Rattle.redo_rule.specs.Readers.{HasBlock, HasGivenBack, ReadsBlock};
 
 use crate::law::{Ring, Seat};
@@ -28,12 +27,8 @@ pub(crate) fn take_device<L: Sectors, D: Sectors, R: Receiver>(
     token: &mut Seat<L, D>,
     actor: &mut Actor<R>,
 ) -> Step
-    requires mine { Mine table.now.table_id token.old (view_of actor.old) }
-    requires asks { next (view_of actor.old) ≡ op.TakeDevice }
-    ensures mine { Mine table.now.table_id token.new (view_of actor.new) }
-    ensures played { HasPlayed L.seen D.seen token.old.me.0 (view_of actor.old) result (view_of actor.new) }
-    ensures seat { token.new.id ≡ token.old.id }
-    ensures stays { KeepsSeat R.stands_for token.old.me.0 actor.old token.new.me.0 actor.new }
+    requires { MayPlay table.now.table_id token.old (view_of actor.old) op.TakeDevice }
+    ensures { HasPlayedOp L.seen D.seen R.stands_for table.now.table_id token.old actor.old result token.new actor.new }
 {
     if table.compare_exchange::<Seized>(token, DEVICE, 0, 1) != 0 {
         return actor.took(Answer::Held);
@@ -73,12 +68,8 @@ pub(crate) fn give_device<L: Sectors, D: Sectors, R: Receiver>(
     token: &mut Seat<L, D>,
     actor: &mut Actor<R>,
 ) -> Step
-    requires mine { Mine table.now.table_id token.old (view_of actor.old) }
-    requires asks { next (view_of actor.old) ≡ op.GiveDevice }
-    ensures mine { Mine table.now.table_id token.new (view_of actor.new) }
-    ensures played { HasPlayed L.seen D.seen token.old.me.0 (view_of actor.old) result (view_of actor.new) }
-    ensures seat { token.new.id ≡ token.old.id }
-    ensures stays { KeepsSeat R.stands_for token.old.me.0 actor.old token.new.me.0 actor.new }
+    requires { MayPlay table.now.table_id token.old (view_of actor.old) op.GiveDevice }
+    ensures { HasPlayedOp L.seen D.seen R.stands_for table.now.table_id token.old actor.old result token.new actor.new }
 {
     let step = gives_back(actor);
     table.store::<Gave>(token, DEVICE, 0);
@@ -92,12 +83,8 @@ pub(crate) fn read_block<L: Sectors, D: Sectors, R: Receiver>(
     actor: &mut Actor<R>,
     lsn: u64,
 ) -> Step
-    requires mine { Mine table.now.table_id token.old (view_of actor.old) }
-    requires asks { next (view_of actor.old) ≡ op.ReadBlock lsn }
-    ensures mine { Mine table.now.table_id token.new (view_of actor.new) }
-    ensures played { HasPlayed L.seen D.seen token.old.me.0 (view_of actor.old) result (view_of actor.new) }
-    ensures seat { token.new.id ≡ token.old.id }
-    ensures stays { KeepsSeat R.stands_for token.old.me.0 actor.old token.new.me.0 actor.new }
+    requires { MayPlay table.now.table_id token.old (view_of actor.old) (op.ReadBlock lsn) }
+    ensures { HasPlayedOp L.seen D.seen R.stands_for table.now.table_id token.old actor.old result token.new actor.new }
 {
     let mut block = [0; 512];
     let ended = read_slot(token.slot_mut(table, LOG), lsn, &mut block);
@@ -113,12 +100,8 @@ pub(crate) fn write_to<L: Sectors, D: Sectors, R: Receiver>(
     actor: &mut Actor<R>,
     mark: u64,
 ) -> Step
-    requires mine { Mine table.now.table_id token.old (view_of actor.old) }
-    requires asks { next (view_of actor.old) ≡ op.WriteTo mark }
-    ensures mine { Mine table.now.table_id token.new (view_of actor.new) }
-    ensures played { HasPlayed L.seen D.seen token.old.me.0 (view_of actor.old) result (view_of actor.new) }
-    ensures seat { token.new.id ≡ token.old.id }
-    ensures stays { KeepsSeat R.stands_for token.old.me.0 actor.old token.new.me.0 actor.new }
+    requires { MayPlay table.now.table_id token.old (view_of actor.old) (op.WriteTo mark) }
+    ensures { HasPlayedOp L.seen D.seen R.stands_for table.now.table_id token.old actor.old result token.new actor.new }
 {
     let ended = write_slot(token.slot_mut(table, LOG), mark, actor.lent());
     table.load::<Called>(token, 0);
@@ -131,12 +114,8 @@ pub(crate) fn sync<L: Sectors, D: Sectors, R: Receiver>(
     token: &mut Seat<L, D>,
     actor: &mut Actor<R>,
 ) -> Step
-    requires mine { Mine table.now.table_id token.old (view_of actor.old) }
-    requires asks { next (view_of actor.old) ≡ op.Sync }
-    ensures mine { Mine table.now.table_id token.new (view_of actor.new) }
-    ensures played { HasPlayed L.seen D.seen token.old.me.0 (view_of actor.old) result (view_of actor.new) }
-    ensures seat { token.new.id ≡ token.old.id }
-    ensures stays { KeepsSeat R.stands_for token.old.me.0 actor.old token.new.me.0 actor.new }
+    requires { MayPlay table.now.table_id token.old (view_of actor.old) op.Sync }
+    ensures { HasPlayedOp L.seen D.seen R.stands_for table.now.table_id token.old actor.old result token.new actor.new }
 {
     let (ended, stable) = sync_slot(token.slot_mut(table, LOG));
     table.load::<Called>(token, 0);
@@ -150,12 +129,8 @@ pub(crate) fn checkpoint<L: Sectors, D: Sectors, R: Receiver>(
     actor: &mut Actor<R>,
     lsn: u64,
 ) -> Step
-    requires mine { Mine table.now.table_id token.old (view_of actor.old) }
-    requires asks { next (view_of actor.old) ≡ op.Checkpoint lsn }
-    ensures mine { Mine table.now.table_id token.new (view_of actor.new) }
-    ensures played { HasPlayed L.seen D.seen token.old.me.0 (view_of actor.old) result (view_of actor.new) }
-    ensures seat { token.new.id ≡ token.old.id }
-    ensures stays { KeepsSeat R.stands_for token.old.me.0 actor.old token.new.me.0 actor.new }
+    requires { MayPlay table.now.table_id token.old (view_of actor.old) (op.Checkpoint lsn) }
+    ensures { HasPlayedOp L.seen D.seen R.stands_for table.now.table_id token.old actor.old result token.new actor.new }
 {
     let ended = checkpoint_slot(token.slot_mut(table, LOG), lsn);
     table.load::<Called>(token, 0);
