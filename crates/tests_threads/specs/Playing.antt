@@ -1,10 +1,10 @@
 -- A shared store whose players are given their turns by hand.
-use Rattle.std.specs.Prelude.{List, false, length, ℕ, ◌≡◌}
+use Rattle.std.specs.Prelude.{List, false, length, ℕ, ◌+◌, ◌≡◌}
 use lib.ListN.{get_elem?}
 use mathlib.Core.Option.{some}
 use Rattle.atomic_table.specs.Seated.{TableId}
 use Rattle.atomic_table.specs.declared.shared.Seat.{Seat}
-use Rattle.redo_ownrule.specs.Players.{ArePlain, MayRest}
+use Rattle.redo_ownrule.specs.Players.{ArePlain, MayRest, workers}
 use Rattle.redo_ownrule.specs.Sharing.{AreSeatsOf, IsSeated, own_of, starts_of, table_of}
 use Rattle.redo_ownrule.specs.declared.player.Player.{Player}
 use Rattle.redo_ownrule.specs.declared.shared.Shared.{Shared}
@@ -26,5 +26,5 @@ module _ {L D R : Type 0} where
     pub seated : IsSeated shared
     pub own : own_of shared ≡ false
     pub plays : ArePlaying (table_of shared) seats players
-    pub all : length players ≡ length (starts_of shared)
+    pub all : length players + workers (own_of shared) ≡ length (starts_of shared)
     pub apart : shared.board.shared.key.archive ≡ false
