@@ -8,13 +8,8 @@ use crate::slots::{took_at, write_at};
 use redo_disk::Sectors;
 use redo_drive::{Device, answer_of};
 use redo_ownuser::OwnUser;
-use redo_rule::{Ring, Seat, sync_slot, taken_answer};
+use redo_rule::{LOG_SLOT, LOG_TURN, Ring, Seat, sync_slot, taken_answer};
 use redo_words::{Answer, Step};
-
-/// The turn word of the log part, and its slot.
-const DEVICE: usize = 7;
-
-const LOG: usize = 0;
 
 /// `TakeDevice`.
 pub(crate) fn take_device<L: Sectors, D: Sectors>(
@@ -25,10 +20,10 @@ pub(crate) fn take_device<L: Sectors, D: Sectors>(
     requires { OwnMayPlay table.now.table_id token.old user.old op.TakeDevice }
     ensures { OwnHasPlayedOp L.seen D.seen table.now.table_id token.old user.old result token.new user.new }
 {
-    if table.compare_exchange::<OwnSeized>(token, DEVICE, 0, 1) != 0 {
+    if table.compare_exchange::<OwnSeized>(token, LOG_TURN, 0, 1) != 0 {
         return answered_alone(table, token, user, Answer::Held);
     }
-    let answer = taken_answer(token.slot_mut(table, LOG));
+    let answer = taken_answer(token.slot_mut(table, LOG_SLOT));
     answered_at(table, token, user, answer)
 }
 
@@ -41,8 +36,8 @@ pub(crate) fn give_device<L: Sectors, D: Sectors>(
     requires { OwnMayPlay table.now.table_id token.old user.old op.GiveDevice }
     ensures { OwnHasPlayedOp L.seen D.seen table.now.table_id token.old user.old result token.new user.new }
 {
-    let step = took_at(token.slot_mut(table, LOG), user, Answer::Taken(None));
-    table.store::<OwnGave>(token, DEVICE, 0);
+    let step = took_at(token.slot_mut(table, LOG_SLOT), user, Answer::Taken(None));
+    table.store::<OwnGave>(token, LOG_TURN, 0);
     step
 }
 
@@ -56,7 +51,7 @@ pub(crate) fn write_to<L: Sectors, D: Sectors>(
     requires { OwnMayPlay table.now.table_id token.old user.old (op.WriteTo mark) }
     ensures { OwnHasPlayedOp L.seen D.seen table.now.table_id token.old user.old result token.new user.new }
 {
-    let ended = write_at(token.slot_mut(table, LOG), &*user, mark);
+    let ended = write_at(token.slot_mut(table, LOG_SLOT), &*user, mark);
     table.load::<OwnCalled>(token, 0);
     answered_at(table, token, user, answer_of(Device::Log, ended, 0))
 }
@@ -70,7 +65,7 @@ pub(crate) fn sync<L: Sectors, D: Sectors>(
     requires { OwnMayPlay table.now.table_id token.old user.old op.Sync }
     ensures { OwnHasPlayedOp L.seen D.seen table.now.table_id token.old user.old result token.new user.new }
 {
-    let (ended, stable) = sync_slot(token.slot_mut(table, LOG));
+    let (ended, stable) = sync_slot(token.slot_mut(table, LOG_SLOT));
     table.load::<OwnCalled>(token, 0);
     answered_at(table, token, user, answer_of(Device::Log, ended, stable))
 }

@@ -11,6 +11,7 @@ use Rattle.redo_rule.specs.OwnSide.{HasNoWork}
 use Rattle.redo_rule.specs.declared.law.Keeping.{Keeping}
 use Rattle.redo_rule.specs.declared.law.Numbered.{Numbered}
 use Rattle.redo_rule.specs.declared.law.Slot.{Slot}
+use Rattle.redo_rule.specs.declared.law.TheConstants.{SLOTS}
 use Rattle.redo_rule.specs.declared.law.View.{View}
 
 -- a number that isn't one of these
@@ -32,7 +33,7 @@ module _ {L D : Type 0} where
   -- the seat that knows all actors that have no seat of their own
   pub record IsFirst (table : TableId) (first : Seat (Slot L D) (View L D)) : Type 0 where
     pub of : first.table_id ≡ table
-    pub slots : table.slots ≡ 6
+    pub slots : table.slots ≡ SLOTS
     pub words : table.words ≡ word_count first.me.0.pages
     pub none : first.me.1 ≡ []
     pub empty : first.me.0.held ≡ None

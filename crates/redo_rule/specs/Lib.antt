@@ -8,6 +8,7 @@ pub mod Handing
 pub mod Mine
 pub mod Ops
 pub mod OwnSide
+pub mod Places
 pub mod Plays
 pub mod Reached
 pub mod Readers

@@ -19,6 +19,7 @@ use Rattle.redo_rule.specs.declared.law.Errand.{Errand}
 use Rattle.redo_rule.specs.declared.law.Heard.{Heard}
 use Rattle.redo_rule.specs.declared.law.Numbered.{Numbered}
 use Rattle.redo_rule.specs.declared.law.Slot.{Slot}
+use Rattle.redo_rule.specs.declared.law.TheConstants.{SLOTS}
 use Rattle.redo_rule.specs.declared.law.View.{View}
 
 -- the number of a seat's actor
@@ -53,7 +54,7 @@ pub record IsSameSeat {L D R : Type 0} (stands : R → List Given → Type 0) (v
 -- plays by its own program alone.
 pub record Mine {L D : Type 0} (table : TableId) (seat : Seat (Slot L D) (View L D)) (a : model.Actor) : Type 0 where
   pub of : seat.table_id ≡ table
-  pub slots : table.slots ≡ 6
+  pub slots : table.slots ≡ SLOTS
   pub words : table.words ≡ word_count seat.me.0.pages
   pub who : Numbered
   pub one : seat.me.0.seats ≡ who ∷ []

@@ -5,7 +5,7 @@ ghost use Rattle.model_core.specs.{index};
 ghost use Rattle.redo_rule.specs.Closing.{EndsRun, LeavesTable};
 ghost use Rattle.redo_rule.specs.Cutting.{IsFirst};
 
-use crate::law::{Board, Desk, Seat, Slot};
+use crate::law::{Board, DATA_SLOT, Desk, LOG_SLOT, Seat, Slot};
 use crate::slots::{data_in, desk_in, drop_list};
 use atomic_table::Closed as ClosedTable;
 use model_report::Marks;
@@ -49,17 +49,17 @@ pub fn close_table<L: Sectors, D: Sectors>(board: Board<L, D>, first: Seat<L, D>
         ckpt: word_in(&closed, Word::Ckpt),
     };
     let code = word_in(&closed, Word::Failed) as u32;
-    let log = closed.take(0);
-    let a = closed.take(1);
-    let b = closed.take(2);
-    let c = closed.take(3);
-    let d = closed.take(4);
-    let data = closed.take(5);
+    let log = closed.take(LOG_SLOT);
+    let first_list = closed.take(LOG_SLOT + 1);
+    let second_list = closed.take(LOG_SLOT + 2);
+    let third_list = closed.take(LOG_SLOT + 3);
+    let last_list = closed.take(LOG_SLOT + 4);
+    let data = closed.take(DATA_SLOT);
     closed.free();
-    drop_list(a);
-    drop_list(b);
-    drop_list(c);
-    drop_list(d);
+    drop_list(first_list);
+    drop_list(second_list);
+    drop_list(third_list);
+    drop_list(last_list);
     let Desk {
         part,
         block: _,

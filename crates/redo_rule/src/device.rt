@@ -8,18 +8,13 @@ ghost use Rattle.redo_drive.specs.Views.{view_of};
 ghost use Rattle.redo_rule.specs.Ops.{HasPlayedOp, MayPlay};
 ghost use Rattle.redo_rule.specs.Readers.{HasBlock, HasGivenBack, ReadsBlock};
 
-use crate::law::{Ring, Seat};
+use crate::law::{LOG_SLOT, LOG_TURN, Ring, Seat};
 use crate::plays::{Called, Gave, Seized};
 use crate::slots::{checkpoint_slot, read_slot, sync_slot, taken_answer, write_slot};
 use redo_disk::Sectors;
 use redo_drive::{Actor, Device, answer_of};
 use redo_follow::Receiver;
 use redo_words::{Answer, Step};
-
-/// The turn word of the log part, and its slot.
-const DEVICE: usize = 7;
-
-const LOG: usize = 0;
 
 /// `TakeDevice`.
 pub(crate) fn take_device<L: Sectors, D: Sectors, R: Receiver>(
@@ -30,10 +25,10 @@ pub(crate) fn take_device<L: Sectors, D: Sectors, R: Receiver>(
     requires { MayPlay table.now.table_id token.old (view_of actor.old) op.TakeDevice }
     ensures { HasPlayedOp L.seen D.seen R.stands_for table.now.table_id token.old actor.old result token.new actor.new }
 {
-    if table.compare_exchange::<Seized>(token, DEVICE, 0, 1) != 0 {
+    if table.compare_exchange::<Seized>(token, LOG_TURN, 0, 1) != 0 {
         return actor.took(Answer::Held);
     }
-    let answer = taken_answer(token.slot_mut(table, LOG));
+    let answer = taken_answer(token.slot_mut(table, LOG_SLOT));
     actor.took(answer)
 }
 
@@ -72,7 +67,7 @@ pub(crate) fn give_device<L: Sectors, D: Sectors, R: Receiver>(
     ensures { HasPlayedOp L.seen D.seen R.stands_for table.now.table_id token.old actor.old result token.new actor.new }
 {
     let step = gives_back(actor);
-    table.store::<Gave>(token, DEVICE, 0);
+    table.store::<Gave>(token, LOG_TURN, 0);
     step
 }
 
@@ -87,7 +82,7 @@ pub(crate) fn read_block<L: Sectors, D: Sectors, R: Receiver>(
     ensures { HasPlayedOp L.seen D.seen R.stands_for table.now.table_id token.old actor.old result token.new actor.new }
 {
     let mut block = [0; 512];
-    let ended = read_slot(token.slot_mut(table, LOG), lsn, &mut block);
+    let ended = read_slot(token.slot_mut(table, LOG_SLOT), lsn, &mut block);
     put_block(actor, &block);
     table.load::<Called>(token, 0);
     actor.took(answer_of(Device::Log, ended, 0))
@@ -103,7 +98,7 @@ pub(crate) fn write_to<L: Sectors, D: Sectors, R: Receiver>(
     requires { MayPlay table.now.table_id token.old (view_of actor.old) (op.WriteTo mark) }
     ensures { HasPlayedOp L.seen D.seen R.stands_for table.now.table_id token.old actor.old result token.new actor.new }
 {
-    let ended = write_slot(token.slot_mut(table, LOG), mark, actor.lent());
+    let ended = write_slot(token.slot_mut(table, LOG_SLOT), mark, actor.lent());
     table.load::<Called>(token, 0);
     actor.took(answer_of(Device::Log, ended, 0))
 }
@@ -117,7 +112,7 @@ pub(crate) fn sync<L: Sectors, D: Sectors, R: Receiver>(
     requires { MayPlay table.now.table_id token.old (view_of actor.old) op.Sync }
     ensures { HasPlayedOp L.seen D.seen R.stands_for table.now.table_id token.old actor.old result token.new actor.new }
 {
-    let (ended, stable) = sync_slot(token.slot_mut(table, LOG));
+    let (ended, stable) = sync_slot(token.slot_mut(table, LOG_SLOT));
     table.load::<Called>(token, 0);
     actor.took(answer_of(Device::Log, ended, stable))
 }
@@ -132,7 +127,7 @@ pub(crate) fn checkpoint<L: Sectors, D: Sectors, R: Receiver>(
     requires { MayPlay table.now.table_id token.old (view_of actor.old) (op.Checkpoint lsn) }
     ensures { HasPlayedOp L.seen D.seen R.stands_for table.now.table_id token.old actor.old result token.new actor.new }
 {
-    let ended = checkpoint_slot(token.slot_mut(table, LOG), lsn);
+    let ended = checkpoint_slot(token.slot_mut(table, LOG_SLOT), lsn);
     table.load::<Called>(token, 0);
     actor.took(answer_of(Device::Log, ended, 0))
 }

@@ -22,7 +22,19 @@ pub struct Desk<L: Sectors> {
     pub work: Option<LogWork>,
 }
 
-/// What lies in a slot: the log part in slot 0, a flush list in each of slots 1 to 4, and the data part in slot 5.
+/// The slot of the log part. Those of the flush lists follow.
+pub const LOG_SLOT: usize = 0;
+
+/// The slot of the data part. It alone has no turn word, since the cleaner alone comes to it.
+pub const DATA_SLOT: usize = 5;
+
+/// How many slots there are.
+pub const SLOTS: usize = 6;
+
+/// The turn word of the log part. Those of the flush lists follow.
+pub const LOG_TURN: usize = 7;
+
+/// What lies in a slot: the log part, a flush list, or the data part.
 #[derive(Drop)]
 pub enum Slot<L: Sectors, D: Sectors> {
     Log(Desk<L>),

@@ -23,8 +23,8 @@ mod steps;
 pub use appending::append;
 pub use closing::{Left, close_table};
 pub use law::{
-    About, Block, Board, Desk, Errand, Groups, Heard, Keeping, Law, Numbered, Ring, Seat, Slot, View,
-    Viewed,
+    About, Block, Board, DATA_SLOT, Desk, Errand, Groups, Heard, Keeping, LOG_SLOT, LOG_TURN, Law,
+    Numbered, Ring, SLOTS, Seat, Slot, View, Viewed,
 };
 pub use laying::{lay_out, make_board, parts_in};
 pub use listing::{list_slot, list_turn};

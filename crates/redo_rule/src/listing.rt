@@ -3,6 +3,7 @@ ghost use Rattle.std.specs.Prelude.{suc, ◌+◌, ◌<◌, ◌≡◌};
 ghost use Rattle.model_core.specs.declared.limits.TheConstants.{FLUSH_LISTS};
 ghost use Rattle.model_core.specs.declared.ops.Op.TheVariants as op;
 ghost use Rattle.redo_drive.specs.Views.{view_of};
+ghost use Rattle.redo_rule.specs.declared.law.TheConstants.{LOG_TURN};
 ghost use Rattle.redo_rule.specs.Ops.{HasPlayedOp, MayPlay};
 
 use crate::law::{Ring, Seat};
@@ -17,7 +18,7 @@ use redo_words::{Answer, Step, Word, number_of};
 /// The turn word of a flush list, and its slot.
 pub fn list_turn(list: u32) -> usize
     requires { list < FLUSH_LISTS }
-    ensures { result ≡ 8 + list }
+    ensures { result ≡ suc LOG_TURN + list }
 {
     number_of(Word::List(list)) as usize
 }
