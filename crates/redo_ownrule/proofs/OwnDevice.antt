@@ -51,25 +51,26 @@ use Rattle.redo_words.specs.declared.lent.Lent.TheVariants as lent
 use Rattle.model_own.specs.OwnWrites.{errand_lends, own_step_of}
 use Rattle.model_core.specs.declared.ops.Step.{Step}
 
-module _ {L D : Type 0} (table : TableId) (seat : Seat (Slot L D) (View L D)) (o : OwnUser) (mine : OwnMine table seat o) where
+module _ {L D : Type 0} {table : TableId} {seat : Seat (Slot L D) (View L D)} {o : OwnUser}
+    (mine : OwnMine table seat o) where
   abbrev k0 : LogWork
-  k0 = (stepping.some_work table seat o mine).0
+  k0 = (stepping.some_work mine).0
 
   -- TakeDevice
   module _ (asks : OwnAsks seat.me.0 o op.TakeDevice) where
     taking_it : (o.errand ≡ errand_step.TakeDevice) × (o.user.checks ≡ false)
-    taking_it = ops.takes_it o k0 (stepping.go table seat o mine).in_hand (stepping.its_op table seat o mine op.TakeDevice asks)
+    taking_it = ops.takes_it o k0 (stepping.go mine).in_hand (stepping.its_op mine op.TakeDevice asks)
 
     none : has_work o.errand ≡ false
     none = ap has_work taking_it.0
 
     pub bare : seat.me.1 ≡ []
     bare = subst (λ (h : Option ℕ). Carries h seat.me) (hands.device_holds o k0 taking_it.0 mine.stands)
-        (stepping.list_there table seat o mine none)
+        (stepping.list_there mine none)
 
     pub take_ok : (log_seen : L → Seen) (log_gives : L → Call → L → Type 0) (data_seen : D → Seen)
         (data_gives : D → Call → D → Type 0) (about : About L D)
-        → stepping.Asks table seat o mine op.TakeDevice asks log_seen log_gives data_seen data_gives about 7
+        → stepping.Asks mine op.TakeDevice asks log_seen log_gives data_seen data_gives about 7
         (λ n. either (n == 0) 1 n) (own_seized log_seen data_seen seat.me)
     take_ok log_seen log_gives data_seen data_gives about = (
       mine.of,
@@ -85,7 +86,7 @@ module _ {L D : Type 0} (table : TableId) (seat : Seat (Slot L D) (View L D)) (o
           let t = (told mine.who o mine.one mine.own).1 busy in
           let none_then = hands.device_leaves o t.0 answer.Held taking_it.1 taking_it.0 mine.stands in
           record {
-            step = stepping.has_stepped table seat o mine log_seen data_seen after same t.0 answer.Held seat.me.0.held
+            step = stepping.has_stepped mine log_seen data_seen after same t.0 answer.Held seat.me.0.held
                 seat.me.1 t.1;
             has = (
               stepping.alone_fits o t.0 answer.Held none (λ e c. tt) t.1.fits,
@@ -132,7 +133,7 @@ module _ {L D : Type 0} (table : TableId) (seat : Seat (Slot L D) (View L D)) (o
               IsAnswering log_seen data_seen table true seat.me.0 (answers.seat_with after l) o r) there
               (subst (λ (z : Answer). IsAnswering log_seen data_seen table true seat.me.0 after o z) (sym (r_is got.0 y_is))
               (record {
-                step = stepping.has_stepped table seat o mine log_seen data_seen after same got.1 said
+                step = stepping.has_stepped mine log_seen data_seen after same got.1 said
                     (Some (slot.Log (with_work got.0 (own_goes_on o got.1 said).1))) ((0, slot.Log got.0) ∷ seat.me.1) got.3;
                 has = (
                   got.0,
@@ -147,7 +148,7 @@ module _ {L D : Type 0} (table : TableId) (seat : Seat (Slot L D) (View L D)) (o
   module _ (has : has_work o.errand ≡ true) where
     abbrev w : (desk : Desk L) × (k : LogWork) × (desk.work ≡ Some k) × (seat.me.1 ≡ (0, slot.Log desk) ∷ [])
         × (seat.me.0.held ≡ Some (slot.Log desk))
-    w = stepping.work_there table seat o mine has
+    w = stepping.work_there mine has
 
     pub has_w : HasWork seat.me.0.held o w.1
     has_w z = (w.0, w.4, w.2)
@@ -176,8 +177,8 @@ module _ {L D : Type 0} (table : TableId) (seat : Seat (Slot L D) (View L D)) (o
   -- GiveDevice
   module _ (asks : OwnAsks seat.me.0 o op.GiveDevice) where
     giving : (has_work o.errand ≡ true) × (o.user.checks ≡ false)
-    giving = ops.part_work o k0 (stepping.go table seat o mine).in_hand op.GiveDevice tt
-        (stepping.its_op table seat o mine op.GiveDevice asks)
+    giving = ops.part_work o k0 (stepping.go mine).in_hand op.GiveDevice tt
+        (stepping.its_op mine op.GiveDevice asks)
 
     pub give_has : has_work o.errand ≡ true
     give_has = giving.0
@@ -238,7 +239,7 @@ module _ {L D : Type 0} (table : TableId) (seat : Seat (Slot L D) (View L D)) (o
           t = told mine.who o mine.one mine.own
 
           abbrev H : HasStepped log_seen data_seen table seat.me.0 after o q
-          H = stepping.has_stepped table seat o mine log_seen data_seen after same t.0 q None (rest me_now.1) t.2
+          H = stepping.has_stepped mine log_seen data_seen after same t.0 q None (rest me_now.1) t.2
 
           same_t : T.work ≡ t.0
           same_t = work_same ∙ sym (only_work give_has t.0 t.1)
@@ -257,18 +258,18 @@ module _ {L D : Type 0} (table : TableId) (seat : Seat (Slot L D) (View L D)) (o
               (ap (λ (m : Me (Slot L D) (View L D)). m.1) t.2.is ∙ rest_none give_has)))
               (λ j h with. let z : true ≡ false = sym with ∙ no_work in absurd (cc)))
 
-          pub gave_played : OwnHasPlayed log_seen data_seen seat.me.0 o step x
-          gave_played = answers.has_played log_seen data_seen table seat.me.0 after o q H x step x_is
-              (T.ends ∙ ap (λ (k : LogWork). own_step_of o k q) same_t)
-
-          pub gave_keeps : KeepsOwnSeat seat.me.0 after.me.0
-          gave_keeps = answers.keeps_seat log_seen data_seen table seat.me.0 after o q H
+          pub gave_played : OwnHasPlayed log_seen data_seen seat.me.0 o step x × KeepsOwnSeat seat.me.0 after.me.0
+          gave_played = (
+            answers.has_played log_seen data_seen table seat.me.0 after o q H x step x_is
+                (T.ends ∙ ap (λ (k : LogWork). own_step_of o k q) same_t),
+            answers.keeps_seat log_seen data_seen table seat.me.0 after o q H,
+          )
 
   -- A CALL of the log part
   module _ (a : Op) (is_call : IsWorkCall a) (asks : OwnAsks seat.me.0 o a) where
     pub call_has : has_work o.errand ≡ true
-    call_has = calls.call_work o k0 (stepping.go table seat o mine).in_hand a is_call
-        (stepping.its_op table seat o mine a asks)
+    call_has = calls.call_work o k0 (stepping.go mine).in_hand a is_call
+        (stepping.its_op mine a asks)
 
     abbrev c : (desk : Desk L) × (k : LogWork) × (desk.work ≡ Some k) × (seat.me.1 ≡ (0, slot.Log desk) ∷ [])
         × (seat.me.0.held ≡ Some (slot.Log desk))
@@ -328,7 +329,7 @@ module _ {L D : Type 0} (table : TableId) (seat : Seat (Slot L D) (View L D)) (o
           let said : s ≡ r = ap (λ (e : Op). answer_by q e) op_is ∙ sym r_is in
           subst (λ (e : Answer). IsAnswering log_seen data_seen table true seat.me.0 after o e) said
           (record {
-            step = stepping.has_stepped table seat o mine log_seen data_seen after same t.0 s
+            step = stepping.has_stepped mine log_seen data_seen after same t.0 s
                 (Some (slot.Log (with_work q (own_goes_on o t.0 s).1))) me_called.1 t.2;
             has = (
               q,

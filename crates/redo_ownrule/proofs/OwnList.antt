@@ -45,9 +45,10 @@ abbrev is_off : ErrandStep → Type 0
 is_off errand_step.Done = Unit {0}
 is_off _ = ⊥
 
-module _ {L D : Type 0} (table : TableId) (seat : Seat (Slot L D) (View L D)) (o : OwnUser) (mine : OwnMine table seat o) where
+module _ {L D : Type 0} {table : TableId} {seat : Seat (Slot L D) (View L D)} {o : OwnUser}
+    (mine : OwnMine table seat o) where
   abbrev k0 : LogWork
-  k0 = (stepping.some_work table seat o mine).0
+  k0 = (stepping.some_work mine).0
 
   -- by its own program, as any user
   abbrev HandledAs : Op → Type 0
@@ -78,9 +79,9 @@ module _ {L D : Type 0} (table : TableId) (seat : Seat (Slot L D) (View L D)) (o
     abbrev i : ℕ
     i = p % 4
 
-    home : ops.AtHome o k0 (stepping.go table seat o mine).in_hand (op.TakeAdd p y)
-    home = ops.list_home o k0 (stepping.go table seat o mine).in_hand (op.TakeAdd p y) tt
-        (stepping.its_op table seat o mine (op.TakeAdd p y) asks)
+    home : ops.AtHome o k0 (stepping.go mine).in_hand (op.TakeAdd p y)
+    home = ops.list_home o k0 (stepping.go mine).in_hand (op.TakeAdd p y) tt
+        (stepping.its_op mine (op.TakeAdd p y) asks)
 
     helps_not : helps_at o.user.step ≡ false
     helps_not = hands.add_helps o.user o.user.step p y home.its_op
@@ -90,11 +91,11 @@ module _ {L D : Type 0} (table : TableId) (seat : Seat (Slot L D) (View L D)) (o
 
     pub bare : seat.me.1 ≡ []
     bare = subst (λ (h : Option ℕ). Carries h seat.me) takes_hand.0
-        (stepping.list_there table seat o mine (ap has_work home.errand))
+        (stepping.list_there mine (ap has_work home.errand))
 
     pub take_add_ok : (log_seen : L → Seen) (log_gives : L → Call → L → Type 0) (data_seen : D → Seen)
         (data_gives : D → Call → D → Type 0) (about : About L D) (k : ℕ) → k ≡ 8 + i
-        → stepping.Asks table seat o mine (op.TakeAdd p y) asks log_seen log_gives data_seen data_gives about k
+        → stepping.Asks mine (op.TakeAdd p y) asks log_seen log_gives data_seen data_gives about k
         (λ n. either (n == 0) 1 n) (own_seized_list log_seen data_seen seat.me)
     take_add_ok log_seen log_gives data_seen data_gives about k e = (
       mine.of,
@@ -120,7 +121,7 @@ module _ {L D : Type 0} (table : TableId) (seat : Seat (Slot L D) (View L D)) (o
       list_held busy =
           let t = said.1 busy in
           record {
-            step = stepping.has_stepped table seat o mine log_seen data_seen after same t.0 answer.Held seat.me.0.held
+            step = stepping.has_stepped mine log_seen data_seen after same t.0 answer.Held seat.me.0.held
                 seat.me.1 t.1;
             has = (
               alone helps_not home.errand home.asks t.0 answer.Held t.1.fits,
@@ -173,7 +174,7 @@ module _ {L D : Type 0} (table : TableId) (seat : Seat (Slot L D) (View L D)) (o
 
             pub list_taken : IsAnswering log_seen data_seen table false seat.me.0 now o (answer.Taken None)
             list_taken = record {
-              step = stepping.has_stepped table seat o mine log_seen data_seen now same got.1 (answer.Taken None)
+              step = stepping.has_stepped mine log_seen data_seen now same got.1 (answer.Taken None)
                   (Some (slot.Pages (list_behind (op.TakeAdd p y) got.0))) now.me.1
                   (record {
                     fits = got.3.fits;
@@ -195,9 +196,9 @@ module _ {L D : Type 0} (table : TableId) (seat : Seat (Slot L D) (View L D)) (o
 
   -- GiveList
   module _ (j : ℕ) (asks : OwnAsks seat.me.0 o (op.GiveList j)) where
-    home_give : ops.AtHome o k0 (stepping.go table seat o mine).in_hand (op.GiveList j)
-    home_give = ops.list_home o k0 (stepping.go table seat o mine).in_hand (op.GiveList j) tt
-        (stepping.its_op table seat o mine (op.GiveList j) asks)
+    home_give : ops.AtHome o k0 (stepping.go mine).in_hand (op.GiveList j)
+    home_give = ops.list_home o k0 (stepping.go mine).in_hand (op.GiveList j) tt
+        (stepping.its_op mine (op.GiveList j) asks)
 
     helps_none : helps_at o.user.step ≡ false
     helps_none = hands.give_helps o.user o.user.step j home_give.its_op
@@ -207,15 +208,15 @@ module _ {L D : Type 0} (table : TableId) (seat : Seat (Slot L D) (View L D)) (o
 
     own_list : Carries (Some (suc j)) seat.me
     own_list = subst (λ (h : Option ℕ). Carries h seat.me) gives_hand.0
-        (stepping.list_there table seat o mine (ap has_work home_give.errand))
+        (stepping.list_there mine (ap has_work home_give.errand))
 
     pub give_below : j < 4
-    give_below = subst (OpWords seat.me.0.pages) (stepping.its_op table seat o mine (op.GiveList j) asks)
-        (stepping.go table seat o mine).there
+    give_below = subst (OpWords seat.me.0.pages) (stepping.its_op mine (op.GiveList j) asks)
+        (stepping.go mine).there
 
     pub give_list_ok : (log_seen : L → Seen) (log_gives : L → Call → L → Type 0) (data_seen : D → Seen)
         (data_gives : D → Call → D → Type 0) (about : About L D) (k : ℕ) → k ≡ 8 + j
-        → stepping.Asks table seat o mine (op.GiveList j) asks log_seen log_gives data_seen data_gives about k (λ _. 0)
+        → stepping.Asks mine (op.GiveList j) asks log_seen log_gives data_seen data_gives about k (λ _. 0)
         (own_gave log_seen data_seen seat.me)
     give_list_ok log_seen log_gives data_seen data_gives about k e = (
       mine.of,
@@ -232,7 +233,7 @@ module _ {L D : Type 0} (table : TableId) (seat : Seat (Slot L D) (View L D)) (o
     list_given log_seen data_seen after same n told =
         let t = told mine.who o mine.one mine.own in
         record {
-          step = stepping.has_stepped table seat o mine log_seen data_seen after same t.0 (answer.Taken None) None
+          step = stepping.has_stepped mine log_seen data_seen after same t.0 (answer.Taken None) None
               (rest seat.me.1) t.2;
           has = (
             alone helps_none home_give.errand home_give.asks t.0 (answer.Taken None) t.2.fits,

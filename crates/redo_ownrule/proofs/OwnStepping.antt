@@ -73,7 +73,8 @@ own_off o k on = by o.user.checks o.errand refl on
     by false errand_step.Flush c on = subst (λ (b : Bool). IsOffTurns (cond b (op.Load word.Failed)
         (flusher_op k.flusher k.flusher.step))) on (next_off (model.Flusher k.flusher))
 
-module _ {L D : Type 0} (table : TableId) (seat : Seat (Slot L D) (View L D)) (o : OwnUser) (mine : OwnMine table seat o) where
+module _ {L D : Type 0} {table : TableId} {seat : Seat (Slot L D) (View L D)} {o : OwnUser}
+    (mine : OwnMine table seat o) where
   -- what it carries
   pub work_there : has_work o.errand ≡ true → (desk : Desk L) × (k : LogWork) × (desk.work ≡ Some k)
       × (seat.me.1 ≡ (0, slot.Log desk) ∷ []) × (seat.me.0.held ≡ Some (slot.Log desk))

@@ -24,8 +24,7 @@ use Rattle.redo_ownrule.specs.Playing.{IsPlayerSeat}
 use Rattle.redo_ownrule.specs.Sharing.{AllAtRest}
 use Rattle.redo_ownrule.specs.declared.player.Player.{Player}
 use Rattle.redo_ownrule.specs.declared.player.Player.TheVariants as player
-use Rattle.redo_rule.proofs.AtRest.{at_or}
-use Rattle.redo_rule.proofs.Gathered.{there}
+use Rattle.redo_rule.proofs.Gathered.{at_or, there}
 use Rattle.redo_rule.proofs.Seated.{at_end}
 use Rattle.redo_rule.specs.Cutting.{IsFirst, IsHome, MayTakeIn}
 use Rattle.redo_rule.specs.Gathering.{HasOneCleaner, PartIsKept}

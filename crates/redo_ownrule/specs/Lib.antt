@@ -2,6 +2,7 @@ pub mod Gathering
 pub mod Leaving
 pub mod OwnCauses
 pub mod OwnMine
+pub mod OwnOp
 pub mod OwnPlays
 pub mod OwnSlots
 pub mod Players

@@ -21,13 +21,14 @@ use Rattle.redo_rule.specs.declared.law.Desk.{Desk}
 use Rattle.redo_rule.specs.declared.law.Numbered.{Numbered}
 use Rattle.redo_rule.specs.declared.law.Slot.{Slot}
 use Rattle.redo_rule.specs.declared.law.Slot.TheVariants as slot
+use Rattle.redo_rule.specs.declared.law.TheConstants.{LOG_SLOT, SLOTS}
 use Rattle.redo_rule.specs.declared.law.View.{View}
 
 module _ {L D : Type 0} where
   -- A seat carries the log part, with the log's work, while its user has that in hand, and else what any user carries.
   abbrev pub CarriesWork : Bool → model.Actor → Me (Slot L D) (View L D) → Type 0
   CarriesWork has a me = cond has
-      ((desk : Desk L) × (k : LogWork) × (desk.work ≡ Some k) × (me.1 ≡ (0, slot.Log desk) ∷ [])
+      ((desk : Desk L) × (k : LogWork) × (desk.work ≡ Some k) × (me.1 ≡ (LOG_SLOT, slot.Log desk) ∷ [])
       × (me.0.held ≡ Some (slot.Log desk)))
       (Carries (hand a) me)
 
@@ -35,7 +36,7 @@ module _ {L D : Type 0} where
 -- may go on.
 pub record OwnMine {L D : Type 0} (table : TableId) (seat : Seat (Slot L D) (View L D)) (o : OwnUser) : Type 0 where
   pub of : seat.table_id ≡ table
-  pub slots : table.slots ≡ 6
+  pub slots : table.slots ≡ SLOTS
   pub words : table.words ≡ word_count seat.me.0.pages
   pub who : Numbered
   pub one : seat.me.0.seats ≡ who ∷ []
@@ -61,7 +62,7 @@ pub record KeepsOwnSeat {L D : Type 0} (v w : View L D) : Type 0 where
 pub record HasStepped {L D : Type 0} (log_seen : L → Seen) (data_seen : D → Seen) (table : TableId) (v : View L D)
     (token : Seat (Slot L D) (View L D)) (o : OwnUser) (r : Answer) : Type 0 where
   pub of : token.table_id ≡ table
-  pub slots : table.slots ≡ 6
+  pub slots : table.slots ≡ SLOTS
   pub words : table.words ≡ word_count v.pages
   pub who : Numbered
   pub was : v.seats ≡ who ∷ []
@@ -76,7 +77,7 @@ pub record IsAnswering {L D : Type 0} (log_seen : L → Seen) (data_seen : D →
     (v : View L D) (token : Seat (Slot L D) (View L D)) (o : OwnUser) (r : Answer) : Type 0 where
   pub step : HasStepped log_seen data_seen table v token o r
   pub has : cond carries_work
-      ((desk : Desk L) × (desk.work ≡ Some step.work) × (step.carried ≡ (0, slot.Log desk) ∷ [])
+      ((desk : Desk L) × (desk.work ≡ Some step.work) × (step.carried ≡ (LOG_SLOT, slot.Log desk) ∷ [])
       × (step.held ≡ Some (slot.Log (with_work desk (own_goes_on o step.work r).1)))
       × (has_work (own_goes_on o step.work r).0.errand ≡ true))
       (AloneFits o r × Carries (hand (model.User (own_goes_on o step.work r).0.user)) token.me

@@ -39,6 +39,7 @@ use Rattle.redo_rule.specs.declared.law.Errand.{Errand}
 use Rattle.redo_rule.specs.declared.law.Numbered.{Numbered}
 use Rattle.redo_rule.specs.declared.law.Slot.{Slot}
 use Rattle.redo_rule.specs.declared.law.Slot.TheVariants as slot
+use Rattle.redo_rule.specs.declared.law.TheConstants.{LOG_SLOT}
 use Rattle.redo_rule.specs.declared.law.View.{View}
 use Rattle.redo_words.specs.{Lends}
 use Rattle.redo_words.specs.declared.lent.Lent.{Lent}
@@ -167,7 +168,7 @@ module _ {L D : Type 0} (log_seen : L → Seen) (data_seen : D → Seen) where
       → (n ≡ 0 → (desk : Desk L) × (k : LogWork) × (desk.work ≡ Some k)
       × OwnStepped x o k (taking (is_some desk.part.failed))
       (Some (slot.Log (with_work desk (own_goes_on o k (taking (is_some desk.part.failed))).1)))
-      ((0, slot.Log desk) ∷ m.1) m.0 m')
+      ((LOG_SLOT, slot.Log desk) ∷ m.1) m.0 m')
       × (n ≢ 0 → (k : LogWork) × OwnStepped x o k answer.Held m.0.held m.1 m.0 m')
 
   -- Whatever it has taken is given back with its slot, the log part with the log's work as the answer has left it.
@@ -178,7 +179,7 @@ module _ {L D : Type 0} (log_seen : L → Seen) (data_seen : D → Seen) where
   -- after a call of the log part
   abbrev pub own_called : Me (Slot L D) (View L D) → ℕ → Me (Slot L D) (View L D) → Type 0
   own_called m n m' = (x : Numbered) (o : OwnUser) (desk : Desk L) → m.0.seats ≡ x ∷ [] → IsOwn x o
-      → m.1 ≡ (0, slot.Log desk) ∷ []
+      → m.1 ≡ (LOG_SLOT, slot.Log desk) ∷ []
       → (k : LogWork) × HasWork m.0.held o k
       × OwnStepped x o k (call_answer Log desk.part.failed (told_by (own_next o k) desk.part.marks.stable))
       (Some (slot.Log (with_work desk

@@ -6,11 +6,8 @@ ghost use Rattle.redo_rule.specs.declared.law.View.{View as TheView};
 use crate::slots::took_at;
 use redo_disk::Sectors;
 use redo_ownuser::OwnUser;
-use redo_rule::{Ring, Seat};
+use redo_rule::{LOG_SLOT, Ring, Seat};
 use redo_words::{Answer, Step};
-
-/// The slot of the log part.
-const LOG: usize = 0;
 
 /// The log's work isn't in its hand.
 pub(crate) fn answered_alone<L: Sectors, D: Sectors>(
@@ -41,5 +38,5 @@ pub(crate) fn answered_at<L: Sectors, D: Sectors>(
         → OwnHasPlayed L.seen D.seen v user.old result user.new × KeepsOwnSeat v token.new.me.0 }
     ensures seat { token.new.id ≡ token.old.id }
 {
-    took_at(token.slot_mut(table, LOG), user, answer)
+    took_at(token.slot_mut(table, LOG_SLOT), user, answer)
 }

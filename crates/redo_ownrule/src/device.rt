@@ -1,8 +1,6 @@
 // One Op of a user that writes for itself, on the shared table: the log part, with the log's work.
-ghost use Rattle.std.specs.Prelude.{◌≡◌};
 ghost use Rattle.model_core.specs.declared.ops.Op.TheVariants as op;
-ghost use Rattle.redo_ownrule.specs.OwnMine.{KeepsOwnSeat, OwnHasPlayed, OwnMine};
-ghost use Rattle.redo_ownrule.specs.Playing.{OwnAsks};
+ghost use Rattle.redo_ownrule.specs.OwnOp.{OwnHasPlayedOp, OwnMayPlay};
 
 use crate::answering::{answered_alone, answered_at};
 use crate::plays::{OwnCalled, OwnGave, OwnSeized};
@@ -10,13 +8,8 @@ use crate::slots::{took_at, write_at};
 use redo_disk::Sectors;
 use redo_drive::{Device, answer_of};
 use redo_ownuser::OwnUser;
-use redo_rule::{Ring, Seat, sync_slot, taken_answer};
+use redo_rule::{LOG_SLOT, LOG_TURN, Ring, Seat, sync_slot, taken_answer};
 use redo_words::{Answer, Step};
-
-/// The turn word of the log part, and its slot.
-const DEVICE: usize = 7;
-
-const LOG: usize = 0;
 
 /// `TakeDevice`.
 pub(crate) fn take_device<L: Sectors, D: Sectors>(
@@ -24,16 +17,13 @@ pub(crate) fn take_device<L: Sectors, D: Sectors>(
     token: &mut Seat<L, D>,
     user: &mut OwnUser,
 ) -> Step
-    requires mine { OwnMine table.now.table_id token.old user.old }
-    requires asks { OwnAsks token.old.me.0 user.old (op.TakeDevice) }
-    ensures mine { OwnMine table.now.table_id token.new user.new }
-    ensures played { OwnHasPlayed L.seen D.seen token.old.me.0 user.old result user.new }
-    ensures keeps { KeepsOwnSeat token.old.me.0 token.new.me.0 }
+    requires { OwnMayPlay table.now.table_id token.old user.old op.TakeDevice }
+    ensures { OwnHasPlayedOp L.seen D.seen table.now.table_id token.old user.old result token.new user.new }
 {
-    if table.compare_exchange::<OwnSeized>(token, DEVICE, 0, 1) != 0 {
+    if table.compare_exchange::<OwnSeized>(token, LOG_TURN, 0, 1) != 0 {
         return answered_alone(table, token, user, Answer::Held);
     }
-    let answer = taken_answer(token.slot_mut(table, LOG));
+    let answer = taken_answer(token.slot_mut(table, LOG_SLOT));
     answered_at(table, token, user, answer)
 }
 
@@ -43,14 +33,11 @@ pub(crate) fn give_device<L: Sectors, D: Sectors>(
     token: &mut Seat<L, D>,
     user: &mut OwnUser,
 ) -> Step
-    requires mine { OwnMine table.now.table_id token.old user.old }
-    requires asks { OwnAsks token.old.me.0 user.old (op.GiveDevice) }
-    ensures mine { OwnMine table.now.table_id token.new user.new }
-    ensures played { OwnHasPlayed L.seen D.seen token.old.me.0 user.old result user.new }
-    ensures keeps { KeepsOwnSeat token.old.me.0 token.new.me.0 }
+    requires { OwnMayPlay table.now.table_id token.old user.old op.GiveDevice }
+    ensures { OwnHasPlayedOp L.seen D.seen table.now.table_id token.old user.old result token.new user.new }
 {
-    let step = took_at(token.slot_mut(table, LOG), user, Answer::Taken(None));
-    table.store::<OwnGave>(token, DEVICE, 0);
+    let step = took_at(token.slot_mut(table, LOG_SLOT), user, Answer::Taken(None));
+    table.store::<OwnGave>(token, LOG_TURN, 0);
     step
 }
 
@@ -61,13 +48,10 @@ pub(crate) fn write_to<L: Sectors, D: Sectors>(
     user: &mut OwnUser,
     mark: u64,
 ) -> Step
-    requires mine { OwnMine table.now.table_id token.old user.old }
-    requires asks { OwnAsks token.old.me.0 user.old (op.WriteTo mark) }
-    ensures mine { OwnMine table.now.table_id token.new user.new }
-    ensures played { OwnHasPlayed L.seen D.seen token.old.me.0 user.old result user.new }
-    ensures keeps { KeepsOwnSeat token.old.me.0 token.new.me.0 }
+    requires { OwnMayPlay table.now.table_id token.old user.old (op.WriteTo mark) }
+    ensures { OwnHasPlayedOp L.seen D.seen table.now.table_id token.old user.old result token.new user.new }
 {
-    let ended = write_at(token.slot_mut(table, LOG), &*user, mark);
+    let ended = write_at(token.slot_mut(table, LOG_SLOT), &*user, mark);
     table.load::<OwnCalled>(token, 0);
     answered_at(table, token, user, answer_of(Device::Log, ended, 0))
 }
@@ -78,13 +62,10 @@ pub(crate) fn sync<L: Sectors, D: Sectors>(
     token: &mut Seat<L, D>,
     user: &mut OwnUser,
 ) -> Step
-    requires mine { OwnMine table.now.table_id token.old user.old }
-    requires asks { OwnAsks token.old.me.0 user.old (op.Sync) }
-    ensures mine { OwnMine table.now.table_id token.new user.new }
-    ensures played { OwnHasPlayed L.seen D.seen token.old.me.0 user.old result user.new }
-    ensures keeps { KeepsOwnSeat token.old.me.0 token.new.me.0 }
+    requires { OwnMayPlay table.now.table_id token.old user.old op.Sync }
+    ensures { OwnHasPlayedOp L.seen D.seen table.now.table_id token.old user.old result token.new user.new }
 {
-    let (ended, stable) = sync_slot(token.slot_mut(table, LOG));
+    let (ended, stable) = sync_slot(token.slot_mut(table, LOG_SLOT));
     table.load::<OwnCalled>(token, 0);
     answered_at(table, token, user, answer_of(Device::Log, ended, stable))
 }

@@ -1,8 +1,6 @@
 // One Op of a user that writes for itself, on the shared table: the flush lists.
-ghost use Rattle.std.specs.Prelude.{◌≡◌};
 ghost use Rattle.model_core.specs.declared.ops.Op.TheVariants as op;
-ghost use Rattle.redo_ownrule.specs.OwnMine.{KeepsOwnSeat, OwnHasPlayed, OwnMine};
-ghost use Rattle.redo_ownrule.specs.Playing.{OwnAsks};
+ghost use Rattle.redo_ownrule.specs.OwnOp.{OwnHasPlayedOp, OwnMayPlay};
 
 use crate::answering::answered_alone;
 use crate::plays::{OwnGave, OwnSeizedList};
@@ -20,11 +18,8 @@ pub(crate) fn take_add<L: Sectors, D: Sectors>(
     page: u32,
     oldest: u64,
 ) -> Step
-    requires mine { OwnMine table.now.table_id token.old user.old }
-    requires asks { OwnAsks token.old.me.0 user.old (op.TakeAdd page oldest) }
-    ensures mine { OwnMine table.now.table_id token.new user.new }
-    ensures played { OwnHasPlayed L.seen D.seen token.old.me.0 user.old result user.new }
-    ensures keeps { KeepsOwnSeat token.old.me.0 token.new.me.0 }
+    requires { OwnMayPlay table.now.table_id token.old user.old (op.TakeAdd page oldest) }
+    ensures { OwnHasPlayedOp L.seen D.seen table.now.table_id token.old user.old result token.new user.new }
 {
     let list = page % FLUSH_LISTS as u32;
     if table.compare_exchange::<OwnSeizedList>(token, list_turn(list), 0, 1) != 0 {
@@ -41,11 +36,8 @@ pub(crate) fn give_list<L: Sectors, D: Sectors>(
     user: &mut OwnUser,
     list: u32,
 ) -> Step
-    requires mine { OwnMine table.now.table_id token.old user.old }
-    requires asks { OwnAsks token.old.me.0 user.old (op.GiveList list) }
-    ensures mine { OwnMine table.now.table_id token.new user.new }
-    ensures played { OwnHasPlayed L.seen D.seen token.old.me.0 user.old result user.new }
-    ensures keeps { KeepsOwnSeat token.old.me.0 token.new.me.0 }
+    requires { OwnMayPlay table.now.table_id token.old user.old (op.GiveList list) }
+    ensures { OwnHasPlayedOp L.seen D.seen table.now.table_id token.old user.old result token.new user.new }
 {
     table.store::<OwnGave>(token, list_turn(list), 0);
     answered_alone(table, token, user, Answer::Taken(None))

@@ -10,11 +10,8 @@ use crate::slots::next_at;
 use crate::steps::{add, load, store, swap};
 use redo_disk::Sectors;
 use redo_ownuser::OwnUser;
-use redo_rule::{Ring, Seat};
+use redo_rule::{LOG_SLOT, Ring, Seat};
 use redo_words::{Op, Step};
-
-/// The slot of the log part.
-const LOG: usize = 0;
 
 /// The Op that a user asks for: its own, or one of the log's work, if that is in its hand.
 pub(crate) fn ask_own<L: Sectors, D: Sectors>(
@@ -28,7 +25,7 @@ pub(crate) fn ask_own<L: Sectors, D: Sectors>(
     ensures asks { OwnAsks seat.new.me.0 user.now result }
 {
     if user.has_work() {
-        next_at(seat.slot_mut(table, LOG), user)
+        next_at(seat.slot_mut(table, LOG_SLOT), user)
     } else {
         user.next_alone()
     }

@@ -4,7 +4,7 @@ ghost use Rattle.model_own.specs.OwnWrites.{has_work};
 ghost use Rattle.redo_rule.specs.declared.law.View.{View as TheView};
 ghost use Rattle.model_core.specs.declared.ops.Op.TheVariants as op;
 ghost use Rattle.redo_ownrule.specs.OwnMine.{IsAnswering, KeepsOwnSeat, OwnHasPlayed, OwnMine};
-ghost use Rattle.redo_ownrule.specs.Playing.{OwnAsks};
+ghost use Rattle.redo_ownrule.specs.OwnOp.{OwnHasPlayedOp, OwnMayPlay};
 
 use crate::answering::{answered_alone, answered_at};
 use crate::plays::OwnSaw;
@@ -40,11 +40,8 @@ pub(crate) fn load<L: Sectors, D: Sectors>(
     user: &mut OwnUser,
     word: Word,
 ) -> Step
-    requires mine { OwnMine table.now.table_id token.old user.old }
-    requires asks { OwnAsks token.old.me.0 user.old (op.Load word) }
-    ensures mine { OwnMine table.now.table_id token.new user.new }
-    ensures played { OwnHasPlayed L.seen D.seen token.old.me.0 user.old result user.new }
-    ensures keeps { KeepsOwnSeat token.old.me.0 token.new.me.0 }
+    requires { OwnMayPlay table.now.table_id token.old user.old (op.Load word) }
+    ensures { OwnHasPlayedOp L.seen D.seen table.now.table_id token.old user.old result token.new user.new }
 {
     let n = table.load::<OwnSaw>(token, number_of(word) as usize);
     saw(table, token, user, n)
@@ -58,11 +55,8 @@ pub(crate) fn store<L: Sectors, D: Sectors>(
     word: Word,
     number: u64,
 ) -> Step
-    requires mine { OwnMine table.now.table_id token.old user.old }
-    requires asks { OwnAsks token.old.me.0 user.old (op.Store word number) }
-    ensures mine { OwnMine table.now.table_id token.new user.new }
-    ensures played { OwnHasPlayed L.seen D.seen token.old.me.0 user.old result user.new }
-    ensures keeps { KeepsOwnSeat token.old.me.0 token.new.me.0 }
+    requires { OwnMayPlay table.now.table_id token.old user.old (op.Store word number) }
+    ensures { OwnHasPlayedOp L.seen D.seen table.now.table_id token.old user.old result token.new user.new }
 {
     let n = table.swap::<OwnSaw>(token, number_of(word) as usize, number);
     saw(table, token, user, n)
@@ -76,11 +70,8 @@ pub(crate) fn add<L: Sectors, D: Sectors>(
     word: Word,
     number: u64,
 ) -> Step
-    requires mine { OwnMine table.now.table_id token.old user.old }
-    requires asks { OwnAsks token.old.me.0 user.old (op.Add word number) }
-    ensures mine { OwnMine table.now.table_id token.new user.new }
-    ensures played { OwnHasPlayed L.seen D.seen token.old.me.0 user.old result user.new }
-    ensures keeps { KeepsOwnSeat token.old.me.0 token.new.me.0 }
+    requires { OwnMayPlay table.now.table_id token.old user.old (op.Add word number) }
+    ensures { OwnHasPlayedOp L.seen D.seen table.now.table_id token.old user.old result token.new user.new }
 {
     let n = table.fetch_add::<OwnSaw>(token, number_of(word) as usize, number);
     saw(table, token, user, n)
@@ -95,11 +86,8 @@ pub(crate) fn swap<L: Sectors, D: Sectors>(
     old: u64,
     new: u64,
 ) -> Step
-    requires mine { OwnMine table.now.table_id token.old user.old }
-    requires asks { OwnAsks token.old.me.0 user.old (op.Swap word old new) }
-    ensures mine { OwnMine table.now.table_id token.new user.new }
-    ensures played { OwnHasPlayed L.seen D.seen token.old.me.0 user.old result user.new }
-    ensures keeps { KeepsOwnSeat token.old.me.0 token.new.me.0 }
+    requires { OwnMayPlay table.now.table_id token.old user.old (op.Swap word old new) }
+    ensures { OwnHasPlayedOp L.seen D.seen table.now.table_id token.old user.old result token.new user.new }
 {
     let n = table.compare_exchange::<OwnSaw>(token, number_of(word) as usize, old, new);
     saw(table, token, user, n)

@@ -1,26 +1,17 @@
 -- The seat after an Op is still its actor's.
-use Rattle.std.proofs.Common.{Bool, List, None, Option, Some, [], ap, append-nil, refl, subst, sym, true, ◌∙◌, ◌≡◌}
+use Rattle.std.proofs.Common.{Bool, None, Option, Some, ap, subst, sym, true, ◌∙◌, ◌≡◌}
 use Rattle.atomic_table.specs.Seated.{TableId}
 use Rattle.atomic_table.specs.declared.shared.Seat.{Seat}
 use Rattle.model_core.proofs.Asks.{batch_writer}
 use Rattle.model_core.proofs.Later.{later_trans, took_later}
-use Rattle.model_core.proofs.Rests.{rests}
-use Rattle.model_core.specs.{filled, Given, next, step_of, took}
+use Rattle.model_core.specs.{filled, next, took}
 use Rattle.model_core.specs.Actors as model
 use Rattle.model_core.specs.Later.{IsSameActor}
-use Rattle.model_core.specs.Hands.{IsFreeToCheck}
-use Rattle.model_core.specs.declared.ops.Answer.TheVariants as answer
 use Rattle.model_core.specs.declared.ops.Op.TheVariants as op
 use Rattle.model_core.specs.declared.ops.Step.{Step}
 use Rattle.model_running.proofs.SeatsKeep.{filled_later}
 use Rattle.redo_disk.specs.Seen.{Seen}
-use Rattle.redo_drive.specs.Receiving.{follower_of, handed_by, HasGot, HasTaken}
-use Rattle.redo_drive.specs.Views.{view_of}
-use Rattle.redo_drive.specs.declared.actor.Actor.{Actor}
-use Rattle.redo_rule.proofs.Filled.{IsPlainOp, plain_filled, plain_hands}
-use Rattle.redo_rule.proofs.Took.{took_plain}
-use Rattle.redo_rule.specs.Mine.{HasPlayed, heard_of, IsSameSeat, Mine}
-use Rattle.redo_rule.specs.Plays.{no_filling}
+use Rattle.redo_rule.specs.Mine.{HasPlayed, Mine}
 use Rattle.redo_rule.specs.Seating.{HasPart, IsCleaner, IsSeatOf}
 use Rattle.redo_rule.specs.declared.law.Keeping.{Keeping}
 use Rattle.redo_rule.specs.declared.law.Slot.{Slot}
@@ -63,28 +54,3 @@ batch_behind table new b mine part = record {
   home = λ d is. sym (ap (λ o. is_out o) (sym part.1 ∙ is));
   cleaner = λ is. part;
 }
-
--- an actor that rests stays as it is, and its receiver gets nothing
-pub rested : {L D R : Type 0} (stands : R → List Given → Type 0) (v : View L D) (old : Actor R) (step : Step) (new :
-    Actor R)
-    → next (view_of old) ≡ op.Rest → IsFreeToCheck (view_of old) → HasTaken stands old answer.Rested step new
-    → (view_of new ≡ view_of old) × (step ≡ step_of (view_of old) answer.Rested) × IsSameSeat stands v old v new
-rested stands v old step new is free h =
-    let a : model.Actor = view_of old in
-    let plain : IsPlainOp (next a) = subst IsPlainOp (sym is) tt in
-    let t = took_plain stands answer.Rested step new no_filling old op.Rest is tt free h in
-    let same = plain_filled a no_filling free plain in (
-      t.state ∙ ap (λ (z : model.Actor). took z answer.Rested) same ∙ rests a is answer.Rested,
-      t.ends ∙ ap (λ (z : model.Actor). step_of z answer.Rested) same,
-      record {
-        about = refl;
-        number = refl;
-        same = t.same;
-        since = [];
-        heard = sym (append-nil (heard_of v).groups);
-        appended = [];
-        blocks = sym (append-nil (heard_of v).blocks);
-        got = subst (λ (l : List Given). HasGot stands (follower_of old) l (follower_of new))
-            (ap handed_by same ∙ plain_hands a free plain) t.got;
-      },
-    )

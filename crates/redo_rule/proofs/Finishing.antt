@@ -3,9 +3,6 @@ use Rattle.std.proofs.Common.{Bool, cond, List, None, Option, Some, get_or, ap, 
 use Rattle.std.specs.Prelude.{slice_index, slice_set}
 use lib.ListN.{get_elem?}
 use mathlib.Core.Option as maybe
-use Rattle.atomic_table.specs.Seated.{TableId}
-use Rattle.atomic_table.specs.Table.{Final, Seen as SeenBy}
-use Rattle.atomic_table.specs.declared.shared.Seat.{Seat}
 use Rattle.model_core.specs.Actors as model
 use Rattle.model_core.specs.{Given, HasLost, index, ReaderState, tail_of}
 use Rattle.model_core.specs.Setup.{Setup}
@@ -24,7 +21,6 @@ use Rattle.redo_drive.proofs.FailureCode.{small_code}
 use Rattle.redo_drive.proofs.LeftRun as left_run
 use Rattle.redo_drive.proofs.LogCount.{log_within_script}
 use Rattle.redo_drive.proofs.Told.{as_many, have_groups, history_is}
-use Rattle.redo_drive.proofs.Viewed.{views_at}
 use Rattle.redo_follow.specs.Handing.{Following}
 use Rattle.redo_drive.specs.Startable.{MayBegin}
 use Rattle.redo_drive.specs.History.{HasGroups, ListsInOrder, all_listed}
@@ -36,13 +32,9 @@ use Rattle.redo_drive.specs.Running.{groups_of}
 use Rattle.redo_drive.specs.Views.{view_of, views_of}
 use Rattle.redo_drive.specs.declared.actor.Actor.{Actor}
 use Rattle.redo_drive.specs.declared.closed.Closed.{Closed}
-use Rattle.redo_rule.proofs.Ends.{ends_ok}
-use Rattle.redo_rule.proofs.Gathered.{heard_at, there}
 use Rattle.redo_rule.proofs.Kept as kept
-use Rattle.redo_rule.specs.Closing.{done_with, IsOwedRun, LeavesParts, MayClose, TellsLoss}
+use Rattle.redo_rule.specs.Closing.{done_with, IsOwedRun, LeavesParts, TellsLoss}
 use Rattle.redo_rule.specs.Ending.{RunReaches}
-use Rattle.redo_rule.specs.Ruled.{Ruled}
-use Rattle.redo_rule.specs.Sharing.{HaveHeard, heard_by}
 use Rattle.redo_rule.specs.Slots.{IsData, IsLog, IsPages}
 use Rattle.redo_rule.specs.declared.closing.Left.{Left}
 use Rattle.redo_rule.specs.declared.law.About.{About}
@@ -52,7 +44,6 @@ use Rattle.redo_rule.specs.declared.law.Desk.{Desk}
 use Rattle.redo_rule.specs.declared.law.Heard.{Heard}
 use Rattle.redo_rule.specs.declared.law.Slot.{Slot}
 use Rattle.redo_rule.specs.declared.law.Slot.TheVariants as slot
-use Rattle.redo_rule.specs.declared.law.View.{View}
 
 -- what stands in a place of a list
 pub read_at : (l : List ℕ) (i x : ℕ) → get_elem? l i ≡ maybe.some x → x ≡ slice_index l i
@@ -130,14 +121,6 @@ nothing_left [] = refl
 nothing_left (x ∷ xs) = nothing_left xs
 
 module _ {L D : Type 0} (log_seen : L → Seen) (log_gives : L → Call → L → Type 0) (data_seen : D → Seen) (data_gives : D → Call → D → Type 0) (about : About L D) where
-  -- what is left where the table is closed
-  pub ends_with : (table : TableId) (heard : ℕ → Heard) (actors : List model.Actor) (first : Seat (Slot L D)
-      (View L D)) → MayClose about table heard actors first → (ws : List ℕ) (xs : List (Slot L D))
-      → Final (SeenBy (Ruled log_seen log_gives data_seen data_gives about) first.id first.me.0) ws xs → RunReaches
-      log_seen log_gives data_seen data_gives about heard actors ws xs
-  ends_with table heard actors first may ws xs final = ends_ok log_seen log_gives data_seen data_gives about first.id
-      first.me.0 ws xs heard actors final may.all may.count may.rest may.cleaner may.alone
-
   module _ (heard : ℕ → Heard) (actors : List model.Actor) (ws : List ℕ) (xs : List (Slot L D)) (E : RunReaches
       log_seen log_gives data_seen data_gives about heard actors ws xs) where
     abbrev desk : Desk L
@@ -277,27 +260,3 @@ module _ {L D : Type 0} (log_seen : L → Seen) (log_gives : L → Call → L �
             Given). Unit {0}) about.opened.value about.script.value about.log_only about.followers actors actors
             (done_with closed) leaves_own may (λ e. ended);
       }
-
-  -- WHAT THE SEATS HAVE HEARD, the receivers got
-  pub leaves : {R : Type 0} (seats : List (Seat (Slot L D) (View L D))) (actors : List (Actor R)) (left : Left L D)
-      → LeavesParts log_seen log_gives data_seen data_gives about (heard_by seats) (views_of actors) left → length
-      seats ≡ length actors
-      → (closed : Closed L D) → closed.log ≡ left.log → closed.store ≡ left.store → ◌≡◌ {A = Marks} closed.marks
-      left.marks → closed.code ≡ left.code → ListsInOrder left.marks (views_of actors) closed.history
-      → TellsLoss about.archive (views_of actors) closed.lost
-      → (stands : R → List Given → Type 0) (starts : List (Actor R)) → HaveHeard stands starts seats actors
-      → LeavesWith log_seen log_gives data_seen data_gives stands about.opened.value about.script.value about.log_only
-      about.archive about.followers starts actors closed
-  leaves {R} seats actors left P many closed log_is store_is marks_is code_is listed loss stands starts H =
-      leaves_from (heard_by seats) actors left P closed log_is store_is marks_is code_is listed loss stands starts H.count
-      H.same
-      (λ told n a b began at.
-      let s = there seats n (let l = past actors n b at in omega arith) in
-      subst (λ (l : List Given). HasGot stands (follower_of a) l (follower_of b))
-      (ap (λ (h : Heard). h.groups) (heard_at seats n s.0 s.1) ∙ (P.hears told n (view_of b) (views_at actors n b at)).groups)
-      (H.got n s.0 a b s.1 began at))
-    where
-      past : (l : List (Actor R)) (i : ℕ) (a : Actor R) → get_elem? l i ≡ maybe.some a → i < length l
-      past [] i a at = absurd (maybe.some-ne-none a (sym at))
-      past (x ∷ xs) zero a at = omega arith
-      past (x ∷ xs) (suc i) a at = let l = past xs i a at in omega arith

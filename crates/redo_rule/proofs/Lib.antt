@@ -3,14 +3,12 @@ pub mod AllowedAppends
 pub mod AllowedCalls
 pub mod AllowedLists
 pub mod Appended
-pub mod AtRest
 pub mod Batching
 pub mod Behind
 pub mod Calling
 pub mod Caused
 pub mod Causes
 pub mod Cuts
-pub mod Ends
 pub mod Failing
 pub mod Filled
 pub mod Finishing
@@ -28,6 +26,6 @@ pub mod Retook
 pub mod Seated
 pub mod Stepping
 pub mod Taking
+pub mod Told
 pub mod Took
-pub mod Unseated
 pub mod Words

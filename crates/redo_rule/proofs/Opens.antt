@@ -36,9 +36,8 @@ use Rattle.redo_rule.proofs.Seated.{not_working}
 use Rattle.redo_drive.specs.Playing.{run_log_side}
 use Rattle.redo_rule.specs.Handing.{nothing}
 use Rattle.redo_rule.specs.OwnSide.{Beside, desk_with, HasItsWork, HasNoWork, OwnSide, SitsAs}
-use Rattle.redo_rule.specs.Ruled.{first_view, Knows, none_heard, numbered, own_numbered, Ruled, slot_content, starts_about}
+use Rattle.redo_rule.specs.Ruled.{first_view, Knows, none_heard, Ruled, slot_content, starts_about}
 use Rattle.redo_rule.specs.declared.law.About.{About}
-use Rattle.redo_rule.specs.declared.law.Errand.{Errand}
 use Rattle.redo_rule.specs.declared.law.Heard.{Heard}
 use Rattle.redo_rule.specs.declared.law.Keeping.{Keeping}
 use Rattle.redo_rule.specs.declared.law.Numbered.{Numbered}
@@ -55,21 +54,6 @@ part_or d (Some k) = k.part
 abbrev pub is_out : {D : Type 0} → Option (Keeping D) → Bool
 is_out None = false
 is_out (Some k) = k.out
-
-pub numbered_at : (heard : ℕ → Heard) (k : ℕ) (l : List model.Actor) (i : ℕ) (x : Numbered)
-    → get_elem? (numbered heard k l) i ≡ maybe.some x
-    → (k + i ≡ x.number) × (get_elem? l i ≡ maybe.some x.actor) × (◌≡◌ {A = Heard} (heard x.number) x.heard)
-    × ◌≡◌ {A = Option Errand} x.errand None
-numbered_at heard k [] i x e = absurd (maybe.some-ne-none x (sym e))
-numbered_at heard k (y ∷ ys) zero x e =
-    let s = maybe.some-injective (record { number = k; actor = y; heard = heard k; errand = None }) x e in (
-      (let n : k ≡ x.number = ap (λ (z : Numbered). z.number) s in omega arith),
-      ap (λ (z : Numbered). maybe.some z.actor) s,
-      ap heard (sym (ap (λ (z : Numbered). z.number) s)) ∙ ap (λ (z : Numbered). z.heard) s,
-      sym (ap (λ (z : Numbered). z.errand) s),
-    )
-numbered_at heard k (y ∷ ys) (suc i) x e =
-    let r = numbered_at heard (k + 1) ys i x e in ((let n = r.0 in omega arith), r.1, r.2, r.3)
 
 module _ {L D : Type 0} where
   -- what lies in the slots
@@ -139,19 +123,6 @@ module _ {L D R : Type 0} (log_seen : L → Seen) (data_seen : D → Seen) (stan
 
   pub fresh : (n : ℕ) (a : model.Actor) → get_elem? actors n ≡ maybe.some a → HoldsNothing a
   fresh n a at = start_empty B.run.setup B.at_start.seat_of B.at_start.writer n a (begun n a at)
-
-  -- so who sits in the first seat where nobody writes for itself
-  pub there : about.own_writes ≡ false → AllStand None actors (first_view about).seats
-  there plain i x e =
-      let n = numbered_at none_heard 0 (starts_about about) i x
-      (ap (λ (b : Bool). get_elem? (cond b (own_numbered 0 (starts_about about))
-      (numbered none_heard 0 (starts_about about))) i) (sym plain) ∙ e) in record {
-        here = ap (get_elem? actors) (let k = n.0 in let z : x.number ≡ i = omega arith in z)
-            ∙ ap (λ (l : List model.Actor). get_elem? l i) are ∙ n.1;
-        silent = n.2;
-        sits = subst (λ (z : Option Errand). SitsAs None z x.number) (sym n.3) tt;
-        idle = subst HasNoWork (sym n.3) tt;
-      }
 
 module _ {L D R : Type 0} (log_seen : L → Seen) (log_gives : L → Call → L → Type 0) (data_seen : D → Seen) (data_gives
     : D → Call → D → Type 0)

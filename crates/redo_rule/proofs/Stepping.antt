@@ -25,7 +25,7 @@ use Rattle.redo_drive.specs.declared.actor.Actor.{Actor}
 use Rattle.redo_rule.proofs.Allowed.{allows_add, allows_give, allows_give_list, allows_load, allows_store, allows_swap, allows_take, word_hand}
 use Rattle.redo_rule.proofs.AllowedLists.{allows_take_add, allows_take_oldest, allows_take_remove}
 use Rattle.redo_rule.proofs.AllowedAppends.{allows_appended, append_hand}
-use Rattle.redo_rule.proofs.Filled.{fills_block, handles_filled, IsNoGive, IsPlainOp, keeps_listed, plain_filled}
+use Rattle.redo_rule.proofs.Filled.{fills_block, handles_filled, IsNoGive, IsPlainOp, keeps_listed}
 use Rattle.redo_rule.proofs.Took.{may_take, Steps, steps, took_given, took_plain, TookWith}
 use Rattle.model_core.proofs.Hands.{Handles}
 use Rattle.model_core.specs.Hands.{hand, IsFreeToCheck}
@@ -33,7 +33,8 @@ use Rattle.redo_rule.specs.Ruled.{Ruled}
 use Rattle.redo_rule.specs.declared.law.About.{About}
 use Rattle.redo_rule.specs.Mine.{Mine}
 use Rattle.redo_rule.specs.Readers.{HasGivenBack}
-use Rattle.redo_rule.specs.Seating.{Appends}
+use Rattle.redo_rule.specs.Ops.{HasPlayedOp}
+use Rattle.redo_rule.specs.Seating.{Appends, IsSeatOf}
 use Rattle.redo_rule.specs.Plays.{appended, Carries, gave, KeepsTexts, list_behind, list_said, ListFits, no_filling, saw, seized, seized_list, Stepped, TakesList, taking, view_behind}
 use Rattle.redo_rule.specs.declared.law.Slot.{Slot}
 use Rattle.redo_rule.specs.declared.law.Slot.TheVariants as slot
@@ -45,7 +46,8 @@ carries_same None m n e f c = sym e ∙ c
 carries_same (Some zero) m n e f c = (c.0, sym e ∙ c.1, sym f ∙ c.2)
 carries_same (Some (suc i)) m n e f c = (c.0, sym e ∙ c.1, sym f ∙ c.2)
 
-module _ {L D : Type 0} (table : TableId) (seat : Seat (Slot L D) (View L D)) (a : model.Actor) (mine : Mine table seat a) where
+module _ {L D : Type 0} {table : TableId} {seat : Seat (Slot L D) (View L D)} {a : model.Actor}
+    (mine : Mine table seat a) where
   -- the actor, into which nothing is put
   abbrev plain : model.Actor
   plain = filled a no_filling
@@ -228,91 +230,78 @@ module _ {L D : Type 0} (table : TableId) (seat : Seat (Slot L D) (View L D)) (a
     take_ok is = (mine.of, (let w = mine.words in omega arith), allows_take log_seen log_gives data_seen data_gives about table.slots seat.id seat.me mine.who mine.one mine.plain (asks op.TakeDevice is))
 
 -- a turn word of a list is given back: nothing is put into the actor
-module _ {L D R : Type 0} (table : TableId) (seat : Seat (Slot L D) (View L D)) (old : Actor R)
-    (mine : Mine table seat (view_of old)) (log_seen : L → Seen) (data_seen : D → Seen)
+module _ {L D R : Type 0} {table : TableId} {seat : Seat (Slot L D) (View L D)} (old : Actor R)
+    (was : IsSeatOf table seat (view_of old)) (log_seen : L → Seen) (data_seen : D → Seen)
     (after : Seat (Slot L D) (View L D)) where
   gave_list_steps : (i : ℕ) → next (view_of old) ≡ op.GiveList i → (n : ℕ) → gave log_seen data_seen seat.me n after.me
-      → Stepped log_seen data_seen mine.who no_filling (answer.Taken None) None seat.me.0.data_part (rest seat.me.1)
+      → Stepped log_seen data_seen was.mine.who no_filling (answer.Taken None) None seat.me.0.data_part (rest seat.me.1)
       seat.me after.me
-  gave_list_steps i is n told = told mine.who no_filling mine.one
-      (fills_block mine.who.actor no_filling (subst IsFreeToCheck (sym mine.state) mine.may.free)
-      (subst IsNoGive (sym (ap next mine.state ∙ is)) tt))
-      (keeps_listed mine.who.actor no_filling i (ap next mine.state ∙ is))
+  gave_list_steps i is n told = told was.mine.who no_filling was.mine.one
+      (fills_block was.mine.who.actor no_filling (subst IsFreeToCheck (sym was.mine.state) was.mine.may.free)
+      (subst IsNoGive (sym (ap next was.mine.state ∙ is)) tt))
+      (keeps_listed was.mine.who.actor no_filling i (ap next was.mine.state ∙ is))
 
   pub give_list_fits : (i : ℕ) → next (view_of old) ≡ op.GiveList i → (n : ℕ) → gave log_seen data_seen seat.me n
       after.me
       → AnswerFits (view_of old) (answer.Taken None) × MarkFits (view_of old) (answer.Taken None)
-  give_list_fits i is n told = may_take log_seen data_seen mine.who (view_of old) no_filling (answer.Taken None) None
-      seat.me.0.data_part (rest seat.me.1) seat.me after.me mine.state (gave_list_steps i is n told)
+  give_list_fits i is n told = may_take log_seen data_seen was.mine.who (view_of old) no_filling (answer.Taken None) None
+      seat.me.0.data_part (rest seat.me.1) seat.me after.me was.mine.state (gave_list_steps i is n told)
 
 -- WHAT EACH STEP LEAVES of the seat and its actor
-module _ {L D R : Type 0} (table : TableId) (seat : Seat (Slot L D) (View L D)) (old : Actor R)
-    (mine : Mine table seat (view_of old)) (log_seen : L → Seen) (data_seen : D → Seen)
+module _ {L D R : Type 0} {table : TableId} {seat : Seat (Slot L D) (View L D)} (old : Actor R)
+    (was : IsSeatOf table seat (view_of old)) (log_seen : L → Seen) (data_seen : D → Seen)
     (stands : R → List Given → Type 0) (after : Seat (Slot L D) (View L D)) (same : after.table_id ≡ seat.table_id)
-    (new : Actor R) (step : Step) where
+    (id : after.id ≡ seat.id) (new : Actor R) (step : Step) where
   step_leaves : (f : Filling) (r : Answer) (held : Option (Slot L D)) (carried : List (ℕ × Slot L D))
-      → Stepped log_seen data_seen mine.who f r held seat.me.0.data_part carried seat.me after.me
+      → Stepped log_seen data_seen was.mine.who f r held seat.me.0.data_part carried seat.me after.me
       → Carries (hand (took (filled (view_of old) f) r))
-      (view_behind seat.me.0 mine.who f r held seat.me.0.data_part, carried)
+      (view_behind seat.me.0 was.mine.who f r held seat.me.0.data_part, carried)
       → TookWith stands f old r step new
-      → Steps table log_seen data_seen stands seat.me.0 old step after new
-  step_leaves f r held carried stepped carries t = steps table log_seen data_seen stands seat.me.0 mine.who old new
+      → Steps log_seen data_seen stands table seat old step after new
+  step_leaves f r held carried stepped carries t = steps table log_seen data_seen stands seat was.mine.who old new
       step f r
-      held seat.me.0.data_part carried seat.me.1 after.me mine.slots mine.words mine.one mine.state mine.plain stepped t after
-      (same ∙ mine.of) (ap (λ (m : Me (Slot L D) (View L D)). m.0) stepped.is)
-      (subst (Carries (hand (took (filled (view_of old) f) r))) (sym stepped.is) carries) refl
+      held seat.me.0.data_part carried seat.me.1 after.me was.mine.slots was.mine.words was.mine.one was.mine.state
+      was.mine.plain stepped t after
+      (same ∙ was.mine.of) (ap (λ (m : Me (Slot L D) (View L D)). m.0) stepped.is)
+      (subst (Carries (hand (took (filled (view_of old) f) r))) (sym stepped.is) carries) id was refl
 
   pub word_leaves : (o : Op) → next (view_of old) ≡ o → OnWord o → IsPlainOp o → (n : ℕ)
       → saw log_seen data_seen seat.me n after.me → HasTaken stands old (answer.Old n) step new
-      → Steps table log_seen data_seen stands seat.me.0 old step after new
-  word_leaves o is on plain n told h = step_leaves no_filling (answer.Old n) seat.me.0.held seat.me.1
-      (told mine.who mine.one) (word_carries table seat (view_of old) mine o is on n)
-      (took_plain stands (answer.Old n) step new no_filling old o is plain mine.may.free h)
+      → HasPlayedOp log_seen data_seen stands table seat old step after new
+  word_leaves o is on plain n told h = (step_leaves no_filling (answer.Old n) seat.me.0.held seat.me.1
+      (told was.mine.who was.mine.one) (word_carries was.mine o is on n)
+      (took_plain stands (answer.Old n) step new no_filling old o is plain was.mine.may.free h)).done
 
   pub held_leaves : (o : Op) → next (view_of old) ≡ o → IsPlainOp o → hand (view_of old) ≡ None
       → hand (took (filled (view_of old) no_filling) answer.Held) ≡ None
-      → Stepped log_seen data_seen mine.who no_filling answer.Held seat.me.0.held seat.me.0.data_part seat.me.1 seat.me
+      → Stepped log_seen data_seen was.mine.who no_filling answer.Held seat.me.0.held seat.me.0.data_part seat.me.1 seat.me
       after.me
-      → HasTaken stands old answer.Held step new → Steps table log_seen data_seen stands seat.me.0 old step after new
-  held_leaves o is plain before behind stepped h = step_leaves no_filling answer.Held seat.me.0.held seat.me.1 stepped
-      (held_carries table seat (view_of old) mine before behind)
-      (took_plain stands answer.Held step new no_filling old o is plain mine.may.free h)
+      → HasTaken stands old answer.Held step new → HasPlayedOp log_seen data_seen stands table seat old step after new
+  held_leaves o is plain before behind stepped h = (step_leaves no_filling answer.Held seat.me.0.held seat.me.1 stepped
+      (held_carries was.mine before behind)
+      (took_plain stands answer.Held step new no_filling old o is plain was.mine.may.free h)).done
 
   pub append_leaves : (t : Appends (view_of old)) (met : Option DevError) (n : ℕ)
       → appended log_seen data_seen met seat.me n after.me → HasTaken stands old (append_answer met) step new
-      → Steps table log_seen data_seen stands seat.me.0 old step after new
+      → Steps log_seen data_seen stands table seat old step after new
   append_leaves t met n told h = step_leaves no_filling (append_answer met) seat.me.0.held seat.me.1
-      (told mine.who mine.one) (append_carries table seat (view_of old) mine t.0 t.1 met)
-      (took_plain stands (append_answer met) step new no_filling old (op.Append t.0) t.1 tt mine.may.free h)
-
-  pub append_fits : (met : Option DevError) (n : ℕ) → appended log_seen data_seen met seat.me n after.me
-      → AnswerFits (view_of old) (append_answer met) × MarkFits (view_of old) (append_answer met)
-  append_fits met n told = may_take log_seen data_seen mine.who (view_of old) no_filling (append_answer met)
-      seat.me.0.held seat.me.0.data_part seat.me.1 seat.me after.me mine.state (told mine.who mine.one)
-
-  -- and the archiver takes the answer as it is
-  pub append_took : Appends (view_of old) → (met : Option DevError) → HasTaken stands old (append_answer met) step new
-      → view_of new ≡ took (view_of old) (append_answer met)
-  append_took t met h =
-      let plain : IsPlainOp (next (view_of old)) = subst IsPlainOp (sym t.1) tt in
-      (took_plain stands (append_answer met) step new no_filling old (op.Append t.0) t.1 tt mine.may.free h).state
-      ∙ ap (λ (z : model.Actor). took z (append_answer met)) (plain_filled (view_of old) no_filling mine.may.free plain)
+      (told was.mine.who was.mine.one) (append_carries was.mine t.0 t.1 met)
+      (took_plain stands (append_answer met) step new no_filling old (op.Append t.0) t.1 tt was.mine.may.free h)
 
   pub gave_leaves : next (view_of old) ≡ op.GiveDevice → (n : ℕ) → gave log_seen data_seen seat.me n after.me
       → HasGivenBack stands old step new
-      → Steps table log_seen data_seen stands seat.me.0 old step after new
+      → HasPlayedOp log_seen data_seen stands table seat old step after new
   gave_leaves is n told given =
       let h = given.taken in
       let f : Filling = filling_of (view_of old) h.texts in
-      step_leaves f (answer.Taken None) None (rest seat.me.1)
-      (told mine.who f mine.one (subst (λ (z : model.Actor). Fills z f) (sym mine.state) h.fills)
-      (subst (λ (z : model.Actor). KeepsTexts z f) (sym mine.state) given.texts))
-      (gave_device_carries table seat (view_of old) mine is f) (took_given stands (answer.Taken None) step new old h)
+      (step_leaves f (answer.Taken None) None (rest seat.me.1)
+      (told was.mine.who f was.mine.one (subst (λ (z : model.Actor). Fills z f) (sym was.mine.state) h.fills)
+      (subst (λ (z : model.Actor). KeepsTexts z f) (sym was.mine.state) given.texts))
+      (gave_device_carries was.mine is f) (took_given stands (answer.Taken None) step new old h)).done
 
   pub gave_list_leaves : (i : ℕ) → next (view_of old) ≡ op.GiveList i → (n : ℕ)
       → gave log_seen data_seen seat.me n after.me → HasTaken stands old (answer.Taken None) step new
-      → Steps table log_seen data_seen stands seat.me.0 old step after new
-  gave_list_leaves i is n told h = step_leaves no_filling (answer.Taken None) None (rest seat.me.1)
-      (gave_list_steps table seat old mine log_seen data_seen after i is n told) (gave_list_carries table seat
-      (view_of old) mine i is no_filling)
-      (took_plain stands (answer.Taken None) step new no_filling old (op.GiveList i) is tt mine.may.free h)
+      → HasPlayedOp log_seen data_seen stands table seat old step after new
+  gave_list_leaves i is n told h = (step_leaves no_filling (answer.Taken None) None (rest seat.me.1)
+      (gave_list_steps old was log_seen data_seen after i is n told) (gave_list_carries was.mine i is no_filling)
+      (took_plain stands (answer.Taken None) step new no_filling old (op.GiveList i) is tt was.mine.may.free h)).done

@@ -1,13 +1,15 @@
 -- What an actor makes of an answer, with what its turn put into it; and what that leaves of its seat.
-use Rattle.std.proofs.Common.{List, None, Option, Some, [], ap, refl, subst, sym, ℕ, ◌++◌, ◌∙◌, ◌∷◌, ◌≡◌}
+use Rattle.std.proofs.Common.{List, None, Option, Some, [], ap, append-nil, refl, subst, sym, ℕ, ◌++◌, ◌∙◌, ◌∷◌, ◌≡◌}
 use Rattle.atomic_table.specs.Seated.{TableId}
 use Rattle.atomic_table.specs.Table.{Me}
 use Rattle.atomic_table.specs.declared.shared.Seat.{Seat}
+use Rattle.model_core.proofs.Rests.{rests}
 use Rattle.model_core.specs.Actors as model
 use Rattle.model_core.specs.AnswerFits.{AnswerFits}
 use Rattle.model_core.specs.Hands.{hand, IsFreeToCheck}
 use Rattle.model_core.specs.{filled, Filling, Given, next, ReaderState, step_of, took, word_count}
 use Rattle.model_core.specs.declared.ops.Answer.{Answer}
+use Rattle.model_core.specs.declared.ops.Answer.TheVariants as answer
 use Rattle.model_core.specs.declared.ops.Op.{Op}
 use Rattle.model_core.specs.declared.ops.Op.TheVariants as op
 use Rattle.model_core.specs.declared.ops.Step.{Step}
@@ -19,11 +21,14 @@ use Rattle.redo_drive.specs.declared.actor.Actor.{Actor}
 use Rattle.redo_drive.specs.declared.actor.Actor.TheVariants as own
 use Rattle.redo_follow.specs.Handing.{Following}
 use Rattle.redo_follow.specs.Lending.{with_block}
-use Rattle.redo_rule.proofs.Filled.{IsPlainOp, plain_filled, read_filled}
+use Rattle.redo_rule.proofs.Behind.{seat_behind, was_cleaner}
+use Rattle.redo_rule.proofs.Filled.{IsPlainOp, plain_filled, plain_hands, read_filled}
 use Rattle.redo_rule.specs.Handing.{appended_by}
-use Rattle.redo_rule.specs.Mine.{HasPlayed, heard_in, heard_of, IsSameSeat, KeepsSeat, Mine, number_in, number_of}
+use Rattle.redo_rule.specs.Mine.{HasPlayed, heard_in, heard_of, IsSameSeat, Mine, number_in, number_of}
+use Rattle.redo_rule.specs.Ops.{HasPlayedOp}
 use Rattle.redo_rule.specs.Readers.{HasBlock}
-use Rattle.redo_rule.specs.Plays.{behind, block_filling, Carries, MayGo, Shown, Stepped, view_behind}
+use Rattle.redo_rule.specs.Plays.{behind, block_filling, Carries, MayGo, no_filling, Shown, Stepped, view_behind}
+use Rattle.redo_rule.specs.Seating.{IsSeatOf}
 use Rattle.redo_rule.specs.declared.law.Errand.{Errand}
 use Rattle.redo_rule.specs.declared.law.Heard.{Heard}
 use Rattle.redo_rule.specs.declared.law.Keeping.{Keeping}
@@ -123,31 +128,46 @@ may_take log_seen data_seen x a f r held stored carried m m' e stepped = (
       stepped.mark,
 )
 
--- WHAT A STEP LEAVES: the seat is its actor's, who has had a turn.
-pub record Leaves {L D R : Type 0} (table : TableId) (log_seen : L → Seen) (data_seen : D → Seen)
-    (stands : R → List Given → Type 0) (v : View L D) (old : Actor R) (step : Step) (last : Seat (Slot L D) (View L D))
-    (new : Actor R) : Type 0 where
-  pub mine : Mine table last (view_of new)
-  pub played : HasPlayed log_seen data_seen v (view_of old) step (view_of new)
-  pub same : IsSameSeat stands v old last.me.0 new
+-- an actor that rests stays as it is, and its receiver gets nothing
+pub rested : {L D R : Type 0} (stands : R → List Given → Type 0) (v : View L D) (old : Actor R) (step : Step) (new :
+    Actor R)
+    → next (view_of old) ≡ op.Rest → IsFreeToCheck (view_of old) → HasTaken stands old answer.Rested step new
+    → (view_of new ≡ view_of old) × (step ≡ step_of (view_of old) answer.Rested) × IsSameSeat stands v old v new
+rested stands v old step new is free h =
+    let a : model.Actor = view_of old in
+    let plain : IsPlainOp (next a) = subst IsPlainOp (sym is) tt in
+    let t = took_plain stands answer.Rested step new no_filling old op.Rest is tt free h in
+    let same = plain_filled a no_filling free plain in (
+      t.state ∙ ap (λ (z : model.Actor). took z answer.Rested) same ∙ rests a is answer.Rested,
+      t.ends ∙ ap (λ (z : model.Actor). step_of z answer.Rested) same,
+      record {
+        about = refl;
+        number = refl;
+        same = t.same;
+        since = [];
+        heard = sym (append-nil (heard_of v).groups);
+        appended = [];
+        blocks = sym (append-nil (heard_of v).blocks);
+        got = subst (λ (l : List Given). HasGot stands (follower_of old) l (follower_of new))
+            (ap handed_by same ∙ plain_hands a free plain) t.got;
+      },
+    )
 
--- and it keeps what it knows of the data part
-pub record Steps {L D R : Type 0} (table : TableId) (log_seen : L → Seen) (data_seen : D → Seen)
-    (stands : R → List Given → Type 0) (v : View L D) (old : Actor R) (step : Step) (last : Seat (Slot L D) (View L D))
-    (new : Actor R) : Type 0 where
-  pub mine : Mine table last (view_of new)
-  pub played : HasPlayed log_seen data_seen v (view_of old) step (view_of new)
-  pub stays : KeepsSeat stands v old last.me.0 new
-  pub blocks : (heard_of last.me.0).blocks ≡ (heard_of v).blocks ++ appended_by (view_of old)
+-- WHAT A STEP LEAVES, where its actor may have appended a block.
+pub record Steps {L D R : Type 0} (log_seen : L → Seen) (data_seen : D → Seen) (stands : R → List Given → Type 0)
+    (table : TableId) (seat : Seat (Slot L D) (View L D)) (old : Actor R) (step : Step)
+    (last : Seat (Slot L D) (View L D)) (new : Actor R) : Type 0 where
+  pub done : HasPlayedOp log_seen data_seen stands table seat old step last new
+  pub blocks : (heard_of last.me.0).blocks ≡ (heard_of seat.me.0).blocks ++ appended_by (view_of old)
 
 module _ {L D R : Type 0} (table : TableId) (log_seen : L → Seen) (data_seen : D → Seen)
-    (stands : R → List Given → Type 0) (v : View L D) (x : Numbered) (old new : Actor R) (step : Step) (f : Filling)
-    (r : Answer) (held : Option (Slot L D)) (stored : Option (Keeping D)) (carried had : List (ℕ × Slot L D))
-    (m' : Me (Slot L D) (View L D)) (slots : table.slots ≡ 6) (words : table.words ≡ word_count v.pages)
-    (one : v.seats ≡ x ∷ []) (state : x.actor ≡ view_of old)
+    (stands : R → List Given → Type 0) (seat : Seat (Slot L D) (View L D)) (x : Numbered) (old new : Actor R)
+    (step : Step) (f : Filling) (r : Answer) (held : Option (Slot L D)) (stored : Option (Keeping D)) (carried had : List (ℕ × Slot L D))
+    (m' : Me (Slot L D) (View L D)) (slots : table.slots ≡ 6) (words : table.words ≡ word_count seat.me.0.pages)
+    (one : seat.me.0.seats ≡ x ∷ []) (state : x.actor ≡ view_of old)
     (plain : ◌≡◌ {A = Option Errand} x.errand None)
-    (stepped : Stepped log_seen data_seen x f r held stored carried (v, had) m') (t : TookWith stands f old r step new)
-    (last : Seat (Slot L D) (View L D)) (of : last.table_id ≡ table) (view : last.me.0 ≡ view_behind v x f r held
+    (stepped : Stepped log_seen data_seen x f r held stored carried (seat.me.0, had) m')
+    (t : TookWith stands f old r step new) (last : Seat (Slot L D) (View L D)) (of : last.table_id ≡ table) (view : last.me.0 ≡ view_behind seat.me.0 x f r held
     stored)
     (carries : Carries (hand (took (filled (view_of old) f) r)) last.me) where
   then : took (filled x.actor f) r ≡ view_of new
@@ -164,14 +184,15 @@ module _ {L D R : Type 0} (table : TableId) (log_seen : L → Seen) (data_seen :
     plain = plain;
     carries = subst (λ (h : Option ℕ). Carries h last.me) (ap hand (sym t.state)) carries;
     may = subst (λ (w : View L D). MayGo w.pages w.held w.data_part (view_of new)) (sym view)
-        (subst (λ (z : model.Actor). MayGo v.pages held stored z) then stepped.may);
+        (subst (λ (z : model.Actor). MayGo seat.me.0.pages held stored z) then stepped.may);
   }
 
-  has_played : HasPlayed log_seen data_seen v (view_of old) step (view_of new)
+  has_played : HasPlayed log_seen data_seen seat.me.0 (view_of old) step (view_of new)
   has_played =
-      let p = subst (λ (z : model.Actor). (s : Shown log_seen data_seen v.about (number_of v) (heard_of v) z r) × (s.turn.filling ≡ f))
-      state
-      (subst (λ (l : List Numbered). (s : Shown log_seen data_seen v.about (number_in l) (heard_in l) x.actor r) × (s.turn.filling ≡ f))
+      let p = subst (λ (z : model.Actor). (s : Shown log_seen data_seen seat.me.0.about (number_of seat.me.0)
+      (heard_of seat.me.0) z r) × (s.turn.filling ≡ f)) state
+      (subst (λ (l : List Numbered). (s : Shown log_seen data_seen seat.me.0.about (number_in l) (heard_in l) x.actor r)
+      × (s.turn.filling ≡ f))
       (sym one) (stepped.shown, stepped.filling)) in
       record {
         answer = r;
@@ -181,12 +202,12 @@ module _ {L D R : Type 0} (table : TableId) (log_seen : L → Seen) (data_seen :
       }
 
   -- an append is known by its block
-  pub blocks_then : (heard_of last.me.0).blocks ≡ (heard_of v).blocks ++ appended_by (view_of old)
+  blocks_then : (heard_of last.me.0).blocks ≡ (heard_of seat.me.0).blocks ++ appended_by (view_of old)
   blocks_then = ap (λ (w : View L D). (heard_of w).blocks) view
       ∙ ap (λ (z : model.Actor). x.heard.blocks ++ appended_by z) state
       ∙ ap (λ (h : Heard). h.blocks ++ appended_by (view_of old)) (sym (ap heard_in one))
 
-  same_seat : IsSameSeat stands v old last.me.0 new
+  same_seat : IsSameSeat stands seat.me.0 old last.me.0 new
   same_seat =
       let more : List Given = handed_by (filled (view_of old) f) in record {
         about = ap (λ (w : View L D). w.about) view;
@@ -201,13 +222,16 @@ module _ {L D R : Type 0} (table : TableId) (log_seen : L → Seen) (data_seen :
         got = t.got;
       }
 
-  pub leaves : Leaves table log_seen data_seen stands v old step last new
-  leaves = record { mine = its; played = has_played; same = same_seat }
+  pub leaves : last.id ≡ seat.id → (Mine table last (view_of new) → IsSeatOf table last (view_of new))
+      → HasPlayedOp log_seen data_seen stands table seat old step last new
+  leaves id sits = record { id = id; seat = sits its; same = same_seat; played = has_played }
 
-  pub steps : stored ≡ v.data_part → Steps table log_seen data_seen stands v old step last new
-  steps e = record {
-    mine = its;
-    played = has_played;
-    stays = record { seat = same_seat; data_part = ap (λ (w : View L D). w.data_part) view ∙ e };
+  -- it keeps what it knows of the data part
+  pub steps : last.id ≡ seat.id → IsSeatOf table seat (view_of old) → stored ≡ seat.me.0.data_part
+      → Steps log_seen data_seen stands table seat old step last new
+  steps id was e = record {
+    done = leaves id (λ mine. seat_behind table seat last (view_of old) (view_of new) was mine
+        (ap (λ (w : View L D). w.data_part) view ∙ e)
+        (was_cleaner log_seen data_seen (view_of old) (view_of new) step has_played));
     blocks = blocks_then;
   }

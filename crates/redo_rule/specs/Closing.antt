@@ -1,8 +1,7 @@
 -- A table as it is closed, and what every drive owes of what it leaves.
-use Rattle.std.specs.Prelude.{Bool, List, None, Option, cond, length, slice_index, true, ℕ, ◌≡◌}
+use Rattle.std.specs.Prelude.{Bool, List, None, Option, cond, slice_index, true, ℕ, ◌≡◌}
 use lib.ListN.{get_elem?}
 use mathlib.Core.Option.{some}
-use Rattle.atomic_table.specs.Seated.{TableId}
 use Rattle.atomic_table.specs.Table.{Final, Seen as SeenBy, State}
 use Rattle.atomic_table.specs.declared.shared.Seat.{Seat}
 use Rattle.model_core.specs.{archives, index, ReaderState}
@@ -23,12 +22,10 @@ use Rattle.redo_drive.specs.declared.parts.Parts.{Parts}
 use Rattle.redo_drive.specs.declared.drive.RunEnd.TheVariants as ended
 use Rattle.redo_drive.specs.declared.closed.Closed.{Closed}
 use Rattle.redo_store.specs.declared.opened.Opened.{Opened}
-use Rattle.redo_rule.specs.Cutting.{HoldNothing, IsFirst}
 use Rattle.redo_rule.specs.Ending.{RunReaches}
 use Rattle.redo_rule.specs.Handing.{HaveHandedOn, HaveLoaded}
 use Rattle.redo_rule.specs.OwnSide.{work_of}
-use Rattle.redo_rule.specs.Ruled.{IsRunAbout, numbered, Ruled, starts_about}
-use Rattle.redo_rule.specs.Seating.{HasPart, IsCleaner}
+use Rattle.redo_rule.specs.Ruled.{IsRunAbout, Ruled}
 use Rattle.redo_rule.specs.declared.closing.Left.{Left}
 use Rattle.redo_rule.specs.declared.law.About.{About}
 use Rattle.redo_rule.specs.declared.law.Heard.{Heard}
@@ -42,15 +39,6 @@ TellsLoss archive actors lost = cond archive
     (lost ≡ None)
 
 module _ {L D : Type 0} where
-  -- the first seat knows all actors, of which none holds anything, and keeps the data part
-  pub record MayClose (about : About L D) (table : TableId) (heard : ℕ → Heard) (actors : List model.Actor) (first : Seat (Slot L D) (View L D)) : Type 0 where
-    pub is_first : IsFirst table first
-    pub all : first.me.0.seats ≡ numbered heard 0 actors
-    pub count : length actors ≡ length (starts_about about)
-    pub rest : HoldNothing actors
-    pub cleaner : (i : ℕ) (a : model.Actor) → get_elem? actors i ≡ some a → IsCleaner a → HasPart first.me.0
-    pub alone : about.log_only ≡ true → HasPart first.me.0
-
   -- where all users have ended it is a drive that came to its end
   abbrev pub done_with : Closed L D → Driven L D
   done_with closed = record { ended = ended.Done; closed = closed }

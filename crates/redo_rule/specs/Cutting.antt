@@ -6,11 +6,12 @@ use Rattle.atomic_table.specs.Seated.{TableId}
 use Rattle.atomic_table.specs.declared.shared.Seat.{Seat}
 use Rattle.model_core.specs.Actors as model
 use Rattle.model_core.specs.{word_count}
-use Rattle.model_core.specs.Hands.{HoldsNothing, IsFreeToCheck}
+use Rattle.model_core.specs.Hands.{HoldsNothing}
 use Rattle.redo_rule.specs.OwnSide.{HasNoWork}
 use Rattle.redo_rule.specs.declared.law.Keeping.{Keeping}
 use Rattle.redo_rule.specs.declared.law.Numbered.{Numbered}
 use Rattle.redo_rule.specs.declared.law.Slot.{Slot}
+use Rattle.redo_rule.specs.declared.law.TheConstants.{SLOTS}
 use Rattle.redo_rule.specs.declared.law.View.{View}
 
 -- a number that isn't one of these
@@ -24,10 +25,6 @@ AreAtRest l = (i : ℕ) (y : Numbered) → get_elem? l i ≡ some y → HoldsNot
 abbrev pub HoldNothing : List model.Actor → Type 0
 HoldNothing actors = (i : ℕ) (a : model.Actor) → get_elem? actors i ≡ some a → HoldsNothing a
 
--- each of these is free wherever it checks for a failure
-abbrev pub AreFreeToCheck : List model.Actor → Type 0
-AreFreeToCheck actors = (i : ℕ) (a : model.Actor) → get_elem? actors i ≡ some a → IsFreeToCheck a
-
 module _ {L D : Type 0} where
   -- the data part, if the seat keeps it, lies in its slot
   abbrev pub IsHome : View L D → Type 0
@@ -36,7 +33,7 @@ module _ {L D : Type 0} where
   -- the seat that knows all actors that have no seat of their own
   pub record IsFirst (table : TableId) (first : Seat (Slot L D) (View L D)) : Type 0 where
     pub of : first.table_id ≡ table
-    pub slots : table.slots ≡ 6
+    pub slots : table.slots ≡ SLOTS
     pub words : table.words ≡ word_count first.me.0.pages
     pub none : first.me.1 ≡ []
     pub empty : first.me.0.held ≡ None

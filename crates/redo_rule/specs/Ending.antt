@@ -3,6 +3,7 @@ use Rattle.std.specs.Prelude.{List, suc, ℕ, ◌<◌, ◌≡◌}
 use lib.ListN.{get_elem?}
 use mathlib.Core.Option.{some}
 use Rattle.model_core.specs.Actors as model
+use Rattle.model_core.specs.declared.limits.TheConstants.{FLUSH_LISTS}
 use Rattle.redo_disk.specs.{Call}
 use Rattle.redo_disk.specs.Seen.{Seen}
 use Rattle.redo_drive.specs.Calls.{CallsOn}
@@ -17,6 +18,7 @@ use Rattle.redo_rule.specs.declared.law.About.{About}
 use Rattle.redo_rule.specs.declared.law.Heard.{Heard}
 use Rattle.redo_rule.specs.declared.law.Slot.{Slot}
 use Rattle.redo_rule.specs.declared.law.Slot.TheVariants as slot
+use Rattle.redo_rule.specs.declared.law.TheConstants.{DATA_SLOT, LOG_SLOT}
 
 -- The run of the script on the opened store has come to these parts and actors, of which the words and the log part are what
 -- the table had: ALL THAT `Machine::finish` IS GIVEN.
@@ -30,9 +32,9 @@ pub record RunReaches {L D : Type 0} (log_seen : L → Seen) (log_gives : L → 
   pub loaded : HaveLoaded parts.words.words actors
   pub words_are : parts.words.words ≡ words
   pub beside : Beside
-  pub log : get_elem? slots 0 ≡ some (slot.Log (desk_with parts.log beside))
-  pub lists : (i : ℕ) → i < 4 → get_elem? slots (suc i) ≡ some (slot.Pages (listing_at parts.lists.lists i))
-  pub data_part : get_elem? slots 5 ≡ some (slot.Data parts.store)
+  pub log : get_elem? slots LOG_SLOT ≡ some (slot.Log (desk_with parts.log beside))
+  pub lists : (i : ℕ) → i < FLUSH_LISTS → get_elem? slots (suc i) ≡ some (slot.Pages (listing_at parts.lists.lists i))
+  pub data_part : get_elem? slots DATA_SLOT ≡ some (slot.Data parts.store)
   pub log_calls : CallsOn log_gives about.opened.value.log.dev about.opened.value.log.failed parts.log.dev parts.log.failed
   pub data_calls : CallsOn data_gives about.opened.value.store.dev about.opened.value.store.failed parts.store.dev parts.store.failed
   pub log_shape : parts.log.shape ≡ about.opened.value.log.shape

@@ -6,7 +6,9 @@ pub mod Failing
 pub mod Gathering
 pub mod Handing
 pub mod Mine
+pub mod Ops
 pub mod OwnSide
+pub mod Places
 pub mod Plays
 pub mod Reached
 pub mod Readers

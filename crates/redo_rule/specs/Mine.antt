@@ -19,6 +19,7 @@ use Rattle.redo_rule.specs.declared.law.Errand.{Errand}
 use Rattle.redo_rule.specs.declared.law.Heard.{Heard}
 use Rattle.redo_rule.specs.declared.law.Numbered.{Numbered}
 use Rattle.redo_rule.specs.declared.law.Slot.{Slot}
+use Rattle.redo_rule.specs.declared.law.TheConstants.{SLOTS}
 use Rattle.redo_rule.specs.declared.law.View.{View}
 
 -- the number of a seat's actor
@@ -49,16 +50,11 @@ pub record IsSameSeat {L D R : Type 0} (stands : R → List Given → Type 0) (v
   pub blocks : (heard_of w).blocks ≡ (heard_of v).blocks ++ appended
   pub got : HasGot stands (follower_of a) since (follower_of b)
 
--- and what it knows of the data part
-pub record KeepsSeat {L D R : Type 0} (stands : R → List Given → Type 0) (v : View L D) (a : Actor R) (w : View L D) (b : Actor R) : Type 0 where
-  pub seat : IsSameSeat stands v a w b
-  pub data_part : w.data_part ≡ v.data_part
-
 -- THE SEAT IS AT THIS TABLE, its view is the actor's state, it has the slot that the actor holds, and the actor may go on. It
 -- plays by its own program alone.
 pub record Mine {L D : Type 0} (table : TableId) (seat : Seat (Slot L D) (View L D)) (a : model.Actor) : Type 0 where
   pub of : seat.table_id ≡ table
-  pub slots : table.slots ≡ 6
+  pub slots : table.slots ≡ SLOTS
   pub words : table.words ≡ word_count seat.me.0.pages
   pub who : Numbered
   pub one : seat.me.0.seats ≡ who ∷ []

@@ -36,6 +36,7 @@ use Rattle.redo_rule.specs.declared.law.Keeping.{Keeping}
 use Rattle.redo_rule.specs.declared.law.Numbered.{Numbered}
 use Rattle.redo_rule.specs.declared.law.Slot.{Slot}
 use Rattle.redo_rule.specs.declared.law.Slot.TheVariants as slot
+use Rattle.redo_rule.specs.declared.law.TheConstants.{DATA_SLOT, LOG_SLOT}
 use Rattle.redo_rule.specs.declared.law.View.{View}
 use Rattle.redo_store.specs.Part as store
 use Rattle.redo_words.specs.{Lends}
@@ -115,7 +116,7 @@ module _ {L D : Type 0} where
   -- what an actor may do next, with what its seat has
   pub record MayGo (pages : ℕ) (held : Option (Slot L D)) (stored : Option (Keeping D)) (a : model.Actor) : Type 0 where
     pub there : OpWords pages (next a)
-    pub log : (desk : Desk L) → held ≡ Some (slot.Log desk) → hand a ≡ Some 0 → (l : Lent) → Lends l (lent a) → LogReady desk.part l (next a)
+    pub log : (desk : Desk L) → held ≡ Some (slot.Log desk) → hand a ≡ Some LOG_SLOT → (l : Lent) → Lends l (lent a) → LogReady desk.part l (next a)
     pub data_part : (d : Keeping D) → stored ≡ Some d → (l : Lent) → Lends l (lent a) → DataReady d.part l (next a)
     pub whole : (d : Keeping D) → stored ≡ Some d → HasWholePages d.part.shape (next a) (lent a)
     pub free : IsFreeToCheck a
@@ -127,13 +128,13 @@ module _ {L D : Type 0} where
   -- a seat carries the slot that its actor holds
   abbrev pub Carries : Option ℕ → Me (Slot L D) (View L D) → Type 0
   Carries None me = me.1 ≡ []
-  Carries (Some zero) me = (desk : Desk L) × (me.1 ≡ (0, slot.Log desk) ∷ []) × (me.0.held ≡ Some (slot.Log desk))
+  Carries (Some zero) me = (desk : Desk L) × (me.1 ≡ (LOG_SLOT, slot.Log desk) ∷ []) × (me.0.held ≡ Some (slot.Log desk))
   Carries (Some (suc i)) me = (l : Listing) × (me.1 ≡ (suc i, slot.Pages l) ∷ []) × (me.0.held ≡ Some (slot.Pages l))
 
   -- the data part is taken out of its slot, and nothing else changes
   abbrev pub reached : Me (Slot L D) (View L D) → ℕ → Me (Slot L D) (View L D) → Type 0
   reached m n m' = (d : store.Part D) → m.0.data_part ≡ Some (record { part = d; out = false })
-      → m' ≡ (view_reaching m.0 d, (5, slot.Data d) ∷ m.1)
+      → m' ≡ (view_reaching m.0 d, (DATA_SLOT, slot.Data d) ∷ m.1)
 
 module _ {L D : Type 0} (log_seen : L → Seen) (data_seen : D → Seen) where
   -- THERE WAS A MOMENT in the run that the table is about, as its seat was told, at which the invariant held, and one
@@ -175,7 +176,7 @@ module _ {L D : Type 0} (log_seen : L → Seen) (data_seen : D → Seen) where
   abbrev pub seized : Me (Slot L D) (View L D) → ℕ → Me (Slot L D) (View L D) → Type 0
   seized m n m' = (x : Numbered) → m.0.seats ≡ x ∷ []
       → (n ≡ 0 → (desk : Desk L)
-      × Stepped x no_filling (taking (is_some desk.part.failed)) (Some (slot.Log desk)) m.0.data_part ((0, slot.Log desk) ∷ m.1) m m')
+      × Stepped x no_filling (taking (is_some desk.part.failed)) (Some (slot.Log desk)) m.0.data_part ((LOG_SLOT, slot.Log desk) ∷ m.1) m m')
       × (n ≢ 0 → Stepped x no_filling answer.Held m.0.held m.0.data_part m.1 m m')
 
   -- the taking of a flush list, whose call is to follow
@@ -192,13 +193,13 @@ module _ {L D : Type 0} (log_seen : L → Seen) (data_seen : D → Seen) where
 
   -- after a call of the log part, which put the block that was read last into the actor, if it was a read
   abbrev pub called : Me (Slot L D) (View L D) → ℕ → Me (Slot L D) (View L D) → Type 0
-  called m n m' = (x : Numbered) (desk : Desk L) → m.0.seats ≡ x ∷ [] → m.1 ≡ (0, slot.Log desk) ∷ []
+  called m n m' = (x : Numbered) (desk : Desk L) → m.0.seats ≡ x ∷ [] → m.1 ≡ (LOG_SLOT, slot.Log desk) ∷ []
       → Stepped x (block_filling desk.block) (call_answer Log desk.part.failed (told_by (next x.actor) desk.part.marks.stable))
       (Some (slot.Log desk)) m.0.data_part m.1 m m'
 
   -- after a call of the data part, which is back in its slot
   abbrev pub batched : Me (Slot L D) (View L D) → ℕ → Me (Slot L D) (View L D) → Type 0
-  batched m n m' = (x : Numbered) (e : store.Part D) → m.0.seats ≡ x ∷ [] → m.1 ≡ (5, slot.Data e) ∷ []
+  batched m n m' = (x : Numbered) (e : store.Part D) → m.0.seats ≡ x ∷ [] → m.1 ≡ (DATA_SLOT, slot.Data e) ∷ []
       → Stepped x no_filling (call_answer Data e.failed 0) m.0.held (Some (record { part = e; out = false })) (rest m.1) m m'
 
   -- after an append to the archive, which has met this

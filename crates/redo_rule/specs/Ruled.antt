@@ -1,6 +1,6 @@
 -- The rule of the table: the invariant of a run, over the words, both parts, the lists and the actors' states, and where
 -- each of these is: in a home slot, or with the seat that holds it.
-use Rattle.std.specs.Prelude.{Bool, IfSome, List, None, Some, [], cond, false, is_some, length, slice_index, suc, true, zero, ℕ, ◌+◌, ◌<◌, ◌∷◌, ◌≡◌, ◌≢◌}
+use Rattle.std.specs.Prelude.{Bool, IfSome, List, None, Some, [], cond, false, is_some, length, slice_index, suc, true, zero, ℕ, ◌+◌, ◌∷◌, ◌≡◌, ◌≢◌}
 use lib.ListN.{get_elem?}
 use mathlib.Core.Option.{some}
 use Rattle.atomic_table.specs.Table.{State}
@@ -22,6 +22,7 @@ use Rattle.redo_drive.specs.declared.parts.Parts.{Parts}
 use Rattle.model_core.specs.Hands.{GivesFailed, hand, IsFreeToCheck}
 use Rattle.redo_rule.specs.Handing.{HaveHandedOn, HaveLoaded, nothing}
 use Rattle.redo_rule.specs.OwnSide.{Beside, desk_with, HasItsWork, SitsAs}
+use Rattle.redo_rule.specs.Places.{HasTurn, turn_word}
 use Rattle.redo_rule.specs.declared.law.About.{About}
 use Rattle.redo_rule.specs.declared.law.Errand.{Errand}
 use Rattle.redo_rule.specs.declared.law.Heard.{Heard}
@@ -29,6 +30,7 @@ use Rattle.redo_rule.specs.declared.law.Keeping.{Keeping}
 use Rattle.redo_rule.specs.declared.law.Numbered.{Numbered}
 use Rattle.redo_rule.specs.declared.law.Slot.{Slot}
 use Rattle.redo_rule.specs.declared.law.Slot.TheVariants as slot
+use Rattle.redo_rule.specs.declared.law.TheConstants.{DATA_SLOT, LOG_SLOT, SLOTS}
 use Rattle.redo_rule.specs.declared.law.View.{View}
 
 -- the actors, each with its number and with what one of this number has handed on, and no user that writes for itself among
@@ -98,7 +100,7 @@ module _ {L D : Type 0} where
     -- a user that writes for itself, and has the log's work in hand, has it with the log part
     pub errand : (i : ℕ) (x : Numbered) → get_elem? v.seats i ≡ some x → SitsAs beside.own x.errand x.number
     pub work : (i : ℕ) (x : Numbered) (e : Errand) → get_elem? v.seats i ≡ some x → x.errand ≡ Some e
-        → has_work e.step ≡ true → v.held ≡ Some (slot_content parts beside 0)
+        → has_work e.step ≡ true → v.held ≡ Some (slot_content parts beside LOG_SLOT)
     pub data_part : (d : Keeping D) → v.data_part ≡ Some d → (keeper ≡ id) × (d.part ≡ parts.store) × (out ≡ d.out)
 
 module _ {L D : Type 0} (log_seen : L → Seen) (data_seen : D → Seen) where
@@ -133,15 +135,15 @@ pub record Ruled {L D : Type 0} (log_seen : L → Seen) (log_gives : L → Call 
   pub data_calls : CallsOn data_gives about.opened.value.store.dev about.opened.value.store.failed parts.store.dev parts.store.failed
   pub log_shape : parts.log.shape ≡ about.opened.value.log.shape
   -- what isn't held is at home
-  pub slots : length s.homes ≡ 6
-  pub home : (k : ℕ) → k < 5 → slice_index s.words (7 + k) ≡ 0 → get_elem? s.homes k ≡ some (some (slot_content parts beside k))
+  pub slots : length s.homes ≡ SLOTS
+  pub home : (k : ℕ) → HasTurn k → slice_index s.words (turn_word k) ≡ 0 → get_elem? s.homes k ≡ some (some (slot_content parts beside k))
   -- who gives the log part back after a failed call has a code that the part has, in a user's hand also
   pub told : (n : ℕ) (a : model.Actor) (code : ℕ) → get_elem? actors n ≡ some a → GivesFailed a code
       → (run_log_side log_seen data_seen run).Cause parts.log code
   -- a turn word that isn't 0 has an actor that holds it
-  pub taken : (k : ℕ) → k < 5 → slice_index s.words (7 + k) ≢ 0 → IsSlotHeld actors k
+  pub taken : (k : ℕ) → HasTurn k → slice_index s.words (turn_word k) ≢ 0 → IsSlotHeld actors k
   pub seat_of : ℕ → ℕ
   pub keeper : ℕ
   pub out : Bool
-  pub data_home : out ≡ false → get_elem? s.homes 5 ≡ some (some (slot.Data parts.store))
+  pub data_home : out ≡ false → get_elem? s.homes DATA_SLOT ≡ some (some (slot.Data parts.store))
   pub knows : (id : ℕ) (v : View L D) → get_elem? s.views id ≡ some v → Knows about parts beside actors heard seat_of keeper out id v

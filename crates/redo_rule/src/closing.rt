@@ -1,26 +1,15 @@
 // A store after its run.
-ghost use Rattle.std.specs.Prelude.{◌<◌, ◌≡◌, List, length, slice_index};
+ghost use Rattle.std.specs.Prelude.{◌<◌, ◌≡◌, slice_index};
 ghost use Rattle.std.specs.Slots.{IsFull, slots_items, slots_len};
 ghost use Rattle.model_core.specs.{index};
-ghost use Rattle.redo_drive.specs.History.{ListsInOrder};
-ghost use Rattle.redo_drive.specs.Leaving.{LeavesWith};
-ghost use Rattle.redo_drive.specs.Views.{views_of};
-ghost use Rattle.redo_drive.specs.declared.actor.Actor.{Actor as TheActor};
-ghost use Rattle.redo_rule.specs.Closing.{EndsRun, IsOwedRun, LeavesTable, TellsLoss};
-ghost use Rattle.redo_rule.specs.Cutting.{HoldNothing, IsFirst};
-ghost use Rattle.redo_rule.specs.Failing.{CodeHasCause};
-ghost use Rattle.redo_rule.specs.Reached.{ReachesAll};
-ghost use Rattle.redo_rule.specs.Sharing.{AreSeatsOf, HaveHeard, IsSeated, opened_of, shared_script, starts_of, table_of};
+ghost use Rattle.redo_rule.specs.Closing.{EndsRun, LeavesTable};
+ghost use Rattle.redo_rule.specs.Cutting.{IsFirst};
 
-use crate::law::{Desk, Seat, Slot};
-use crate::seats::take_all;
-use crate::shared::{Board, Shared};
+use crate::law::{Board, DATA_SLOT, Desk, LOG_SLOT, Seat, Slot};
 use crate::slots::{data_in, desk_in, drop_list};
 use atomic_table::Closed as ClosedTable;
 use model_report::Marks;
-use redo_disk::{DevError, Sectors};
-use redo_drive::{Actor, Closed, history_of};
-use redo_follow::Receiver;
+use redo_disk::Sectors;
 use redo_link::tail_of;
 use redo_logdev::LogPart;
 use redo_ownuser::LogWork;
@@ -60,17 +49,17 @@ pub fn close_table<L: Sectors, D: Sectors>(board: Board<L, D>, first: Seat<L, D>
         ckpt: word_in(&closed, Word::Ckpt),
     };
     let code = word_in(&closed, Word::Failed) as u32;
-    let log = closed.take(0);
-    let a = closed.take(1);
-    let b = closed.take(2);
-    let c = closed.take(3);
-    let d = closed.take(4);
-    let data = closed.take(5);
+    let log = closed.take(LOG_SLOT);
+    let first_list = closed.take(LOG_SLOT + 1);
+    let second_list = closed.take(LOG_SLOT + 2);
+    let third_list = closed.take(LOG_SLOT + 3);
+    let last_list = closed.take(LOG_SLOT + 4);
+    let data = closed.take(DATA_SLOT);
     closed.free();
-    drop_list(a);
-    drop_list(b);
-    drop_list(c);
-    drop_list(d);
+    drop_list(first_list);
+    drop_list(second_list);
+    drop_list(third_list);
+    drop_list(last_list);
     let Desk {
         part,
         block: _,
@@ -82,54 +71,5 @@ pub fn close_table<L: Sectors, D: Sectors>(board: Board<L, D>, first: Seat<L, D>
         store: data_in(data),
         code,
         work,
-    }
-}
-
-impl<L: Sectors, D: Sectors> Shared<L, D> {
-    /// What the run leaves, given the seats of all actors, none of which holds a turn or a tail, and what the append to the
-    /// archive met that failed: its history, its marks, both parts, and the code in FAILED.
-    pub fn finish<R: Receiver>(
-        self,
-        seats: Vec<Seat<L, D>>,
-        actors: &[Actor<R>],
-        lost: Option<DevError>,
-    ) -> Closed<L, D>
-        requires seated { IsSeated self }
-        requires seats { AreSeatsOf (table_of self) seats.items (views_of actors.now) }
-        requires all { length actors.now ≡ length (starts_of self) }
-        requires rest { HoldNothing (views_of actors.now) }
-        requires lost { TellsLoss self.board.shared.key.archive (views_of actors.now) lost }
-        ensures leaves { (starts : List (TheActor R)) → HaveHeard R.stands_for starts seats.items actors.now
-            → LeavesWith L.seen L.gives D.seen D.gives R.stands_for (opened_of self) (shared_script self) self.board.shared.key.log_only
-            self.board.shared.key.archive self.board.shared.key.followers starts actors.now result }
-        ensures listed { ListsInOrder result.marks (views_of actors.now) result.history }
-        ensures owed { IsOwedRun L.seen L.gives D.seen D.gives (opened_of self) (shared_script self) (views_of actors.now) result }
-        ensures reaches { ReachesAll (views_of actors.now) result }
-        ensures cause { CodeHasCause L.seen D.seen result.code (opened_of self).log result.log (opened_of self).store result.store result.lost }
-        ensures loses { result.lost ≡ lost }
-    {
-        let Shared {
-            board,
-            mut first,
-            room: _,
-            entries,
-        } = self;
-        take_all(&board.shared, &mut first, seats, actors);
-        let Left {
-            marks,
-            log,
-            store,
-            code,
-            work: _work,
-        } = close_table(board, first);
-        let history = history_of(entries, actors, &marks);
-        Closed {
-            history,
-            marks,
-            log,
-            store,
-            code,
-            lost,
-        }
     }
 }

@@ -1,15 +1,14 @@
 // One Op of one actor, on the shared table: the log part.
-ghost use Rattle.std.specs.Prelude.{◌≡◌, None};
-ghost use Rattle.model_core.specs.{next};
+ghost use Rattle.std.specs.Prelude.{None};
 ghost use Rattle.model_core.specs.AnswerFits.{AnswerFits};
 ghost use Rattle.model_core.specs.declared.ops.Answer.TheVariants as answer;
 ghost use Rattle.model_core.specs.declared.ops.Op.TheVariants as op;
 ghost use Rattle.redo_drive.specs.Receiving.{MarkFits};
 ghost use Rattle.redo_drive.specs.Views.{view_of};
-ghost use Rattle.redo_rule.specs.Mine.{HasPlayed, KeepsSeat, Mine};
+ghost use Rattle.redo_rule.specs.Ops.{HasPlayedOp, MayPlay};
 ghost use Rattle.redo_rule.specs.Readers.{HasBlock, HasGivenBack, ReadsBlock};
 
-use crate::law::{Ring, Seat};
+use crate::law::{LOG_SLOT, LOG_TURN, Ring, Seat};
 use crate::plays::{Called, Gave, Seized};
 use crate::slots::{checkpoint_slot, read_slot, sync_slot, taken_answer, write_slot};
 use redo_disk::Sectors;
@@ -17,28 +16,19 @@ use redo_drive::{Actor, Device, answer_of};
 use redo_follow::Receiver;
 use redo_words::{Answer, Step};
 
-/// The turn word of the log part, and its slot.
-const DEVICE: usize = 7;
-
-const LOG: usize = 0;
-
 /// `TakeDevice`.
 pub(crate) fn take_device<L: Sectors, D: Sectors, R: Receiver>(
     table: &Ring<L, D>,
     token: &mut Seat<L, D>,
     actor: &mut Actor<R>,
 ) -> Step
-    requires mine { Mine table.now.table_id token.old (view_of actor.old) }
-    requires asks { next (view_of actor.old) ≡ op.TakeDevice }
-    ensures mine { Mine table.now.table_id token.new (view_of actor.new) }
-    ensures played { HasPlayed L.seen D.seen token.old.me.0 (view_of actor.old) result (view_of actor.new) }
-    ensures seat { token.new.id ≡ token.old.id }
-    ensures stays { KeepsSeat R.stands_for token.old.me.0 actor.old token.new.me.0 actor.new }
+    requires { MayPlay table.now.table_id token.old (view_of actor.old) op.TakeDevice }
+    ensures { HasPlayedOp L.seen D.seen R.stands_for table.now.table_id token.old actor.old result token.new actor.new }
 {
-    if table.compare_exchange::<Seized>(token, DEVICE, 0, 1) != 0 {
+    if table.compare_exchange::<Seized>(token, LOG_TURN, 0, 1) != 0 {
         return actor.took(Answer::Held);
     }
-    let answer = taken_answer(token.slot_mut(table, LOG));
+    let answer = taken_answer(token.slot_mut(table, LOG_SLOT));
     actor.took(answer)
 }
 
@@ -73,15 +63,11 @@ pub(crate) fn give_device<L: Sectors, D: Sectors, R: Receiver>(
     token: &mut Seat<L, D>,
     actor: &mut Actor<R>,
 ) -> Step
-    requires mine { Mine table.now.table_id token.old (view_of actor.old) }
-    requires asks { next (view_of actor.old) ≡ op.GiveDevice }
-    ensures mine { Mine table.now.table_id token.new (view_of actor.new) }
-    ensures played { HasPlayed L.seen D.seen token.old.me.0 (view_of actor.old) result (view_of actor.new) }
-    ensures seat { token.new.id ≡ token.old.id }
-    ensures stays { KeepsSeat R.stands_for token.old.me.0 actor.old token.new.me.0 actor.new }
+    requires { MayPlay table.now.table_id token.old (view_of actor.old) op.GiveDevice }
+    ensures { HasPlayedOp L.seen D.seen R.stands_for table.now.table_id token.old actor.old result token.new actor.new }
 {
     let step = gives_back(actor);
-    table.store::<Gave>(token, DEVICE, 0);
+    table.store::<Gave>(token, LOG_TURN, 0);
     step
 }
 
@@ -92,15 +78,11 @@ pub(crate) fn read_block<L: Sectors, D: Sectors, R: Receiver>(
     actor: &mut Actor<R>,
     lsn: u64,
 ) -> Step
-    requires mine { Mine table.now.table_id token.old (view_of actor.old) }
-    requires asks { next (view_of actor.old) ≡ op.ReadBlock lsn }
-    ensures mine { Mine table.now.table_id token.new (view_of actor.new) }
-    ensures played { HasPlayed L.seen D.seen token.old.me.0 (view_of actor.old) result (view_of actor.new) }
-    ensures seat { token.new.id ≡ token.old.id }
-    ensures stays { KeepsSeat R.stands_for token.old.me.0 actor.old token.new.me.0 actor.new }
+    requires { MayPlay table.now.table_id token.old (view_of actor.old) (op.ReadBlock lsn) }
+    ensures { HasPlayedOp L.seen D.seen R.stands_for table.now.table_id token.old actor.old result token.new actor.new }
 {
     let mut block = [0; 512];
-    let ended = read_slot(token.slot_mut(table, LOG), lsn, &mut block);
+    let ended = read_slot(token.slot_mut(table, LOG_SLOT), lsn, &mut block);
     put_block(actor, &block);
     table.load::<Called>(token, 0);
     actor.took(answer_of(Device::Log, ended, 0))
@@ -113,14 +95,10 @@ pub(crate) fn write_to<L: Sectors, D: Sectors, R: Receiver>(
     actor: &mut Actor<R>,
     mark: u64,
 ) -> Step
-    requires mine { Mine table.now.table_id token.old (view_of actor.old) }
-    requires asks { next (view_of actor.old) ≡ op.WriteTo mark }
-    ensures mine { Mine table.now.table_id token.new (view_of actor.new) }
-    ensures played { HasPlayed L.seen D.seen token.old.me.0 (view_of actor.old) result (view_of actor.new) }
-    ensures seat { token.new.id ≡ token.old.id }
-    ensures stays { KeepsSeat R.stands_for token.old.me.0 actor.old token.new.me.0 actor.new }
+    requires { MayPlay table.now.table_id token.old (view_of actor.old) (op.WriteTo mark) }
+    ensures { HasPlayedOp L.seen D.seen R.stands_for table.now.table_id token.old actor.old result token.new actor.new }
 {
-    let ended = write_slot(token.slot_mut(table, LOG), mark, actor.lent());
+    let ended = write_slot(token.slot_mut(table, LOG_SLOT), mark, actor.lent());
     table.load::<Called>(token, 0);
     actor.took(answer_of(Device::Log, ended, 0))
 }
@@ -131,14 +109,10 @@ pub(crate) fn sync<L: Sectors, D: Sectors, R: Receiver>(
     token: &mut Seat<L, D>,
     actor: &mut Actor<R>,
 ) -> Step
-    requires mine { Mine table.now.table_id token.old (view_of actor.old) }
-    requires asks { next (view_of actor.old) ≡ op.Sync }
-    ensures mine { Mine table.now.table_id token.new (view_of actor.new) }
-    ensures played { HasPlayed L.seen D.seen token.old.me.0 (view_of actor.old) result (view_of actor.new) }
-    ensures seat { token.new.id ≡ token.old.id }
-    ensures stays { KeepsSeat R.stands_for token.old.me.0 actor.old token.new.me.0 actor.new }
+    requires { MayPlay table.now.table_id token.old (view_of actor.old) op.Sync }
+    ensures { HasPlayedOp L.seen D.seen R.stands_for table.now.table_id token.old actor.old result token.new actor.new }
 {
-    let (ended, stable) = sync_slot(token.slot_mut(table, LOG));
+    let (ended, stable) = sync_slot(token.slot_mut(table, LOG_SLOT));
     table.load::<Called>(token, 0);
     actor.took(answer_of(Device::Log, ended, stable))
 }
@@ -150,14 +124,10 @@ pub(crate) fn checkpoint<L: Sectors, D: Sectors, R: Receiver>(
     actor: &mut Actor<R>,
     lsn: u64,
 ) -> Step
-    requires mine { Mine table.now.table_id token.old (view_of actor.old) }
-    requires asks { next (view_of actor.old) ≡ op.Checkpoint lsn }
-    ensures mine { Mine table.now.table_id token.new (view_of actor.new) }
-    ensures played { HasPlayed L.seen D.seen token.old.me.0 (view_of actor.old) result (view_of actor.new) }
-    ensures seat { token.new.id ≡ token.old.id }
-    ensures stays { KeepsSeat R.stands_for token.old.me.0 actor.old token.new.me.0 actor.new }
+    requires { MayPlay table.now.table_id token.old (view_of actor.old) (op.Checkpoint lsn) }
+    ensures { HasPlayedOp L.seen D.seen R.stands_for table.now.table_id token.old actor.old result token.new actor.new }
 {
-    let ended = checkpoint_slot(token.slot_mut(table, LOG), lsn);
+    let ended = checkpoint_slot(token.slot_mut(table, LOG_SLOT), lsn);
     table.load::<Called>(token, 0);
     actor.took(answer_of(Device::Log, ended, 0))
 }

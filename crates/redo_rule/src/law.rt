@@ -1,5 +1,5 @@
 // The rule of the table, and what a seat knows.
-use atomic_table::{Shared, TableRule};
+use atomic_table::{Shared, Table, TableRule};
 use model_own::ErrandStep;
 use model_script::Script;
 use redo_disk::Sectors;
@@ -9,6 +9,7 @@ use redo_follow::Tally;
 use redo_logdev::LogPart;
 use redo_ownuser::LogWork;
 use redo_store::{DataPart, Opened};
+use std::alloc::Global;
 use std::collections::LinkedList;
 use std::marker::Model;
 use std::snapshot::Snapshot;
@@ -21,7 +22,19 @@ pub struct Desk<L: Sectors> {
     pub work: Option<LogWork>,
 }
 
-/// What lies in a slot: the log part in slot 0, a flush list in each of slots 1 to 4, and the data part in slot 5.
+/// The slot of the log part. Those of the flush lists follow.
+pub const LOG_SLOT: usize = 0;
+
+/// The slot of the data part. It alone has no turn word, since the cleaner alone comes to it.
+pub const DATA_SLOT: usize = 5;
+
+/// How many slots there are.
+pub const SLOTS: usize = 6;
+
+/// The turn word of the log part. Those of the flush lists follow.
+pub const LOG_TURN: usize = 7;
+
+/// What lies in a slot: the log part, a flush list, or the data part.
 #[derive(Drop)]
 pub enum Slot<L: Sectors, D: Sectors> {
     Log(Desk<L>),
@@ -141,6 +154,9 @@ impl<L: Sectors, D: Sectors> TableRule<Slot<L, D>, View<L, D>, About<L, D>> for 
 
 /// The words and slots as all threads see them.
 pub type Ring<L, D> = Shared<Slot<L, D>, View<L, D>, About<L, D>, Law>;
+
+/// The table, with its words and slots.
+pub type Board<L, D> = Table<Slot<L, D>, View<L, D>, About<L, D>, Law, Global>;
 
 /// A seat at the table. It has no bytes, and may go to another thread.
 pub type Seat<L, D> = atomic_table::Seat<Slot<L, D>, View<L, D>>;

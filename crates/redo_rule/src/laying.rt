@@ -8,8 +8,7 @@ ghost use Rattle.redo_rule.specs.Sharing.{AreLaid, laid};
 ghost use Rattle.redo_rule.specs.declared.law.Desk.{Desk};
 ghost use Rattle.redo_store.specs.Part as store_dev;
 
-use crate::law::{About, Desk, Seat, Slot};
-use crate::shared::Board;
+use crate::law::{About, Board, Desk, SLOTS, Seat, Slot};
 use crate::slots::{data_in, desk_in, drop_list};
 use atomic_table::Table;
 use redo_disk::Sectors;
@@ -18,9 +17,6 @@ use redo_logdev::LogPart;
 use redo_ownuser::LogWork;
 use redo_store::DataPart;
 use std::alloc::Global;
-
-/// How many slots there are.
-const SLOTS: usize = 6;
 
 /// Both parts, with the log's work if users write for themselves, and the lists, in their slots, and room for so many seats.
 pub fn lay_out<L: Sectors, D: Sectors>(

@@ -1,8 +1,9 @@
-//! The second drive of a run: its actors over a table that they share, each in a thread of its own, without a lock.
+//! The table of a run that is driven by threads: its words, both device parts and the flush lists, which its actors share without
+//! a lock.
 //!
-//! `Shared::new` lays the words, both device parts and the flush lists into a table. `Shared::seats` gives each actor its seat,
-//! `play` plays one Op of an actor on the table, and `Shared::finish` closes the table once all actors hold nothing. The rule
-//! of the table is the invariant of the running store, and holds between any two steps of any threads.
+//! `lay_out` and `make_board` lay all that into a table, `cut_off` gives an actor a seat, `play` plays one Op of an actor on the
+//! table, `take_in` takes its seat in again, and `close_table` closes the table once no actor holds anything. The rule of the table
+//! is the invariant of the running store, and holds between any two steps of any threads.
 #![tactic(auto)]
 
 mod appending;
@@ -16,22 +17,19 @@ mod playing;
 mod plays;
 mod resting;
 mod seating;
-mod seats;
-mod shared;
 mod slots;
 mod steps;
 
 pub use appending::append;
 pub use closing::{Left, close_table};
 pub use law::{
-    About, Block, Desk, Errand, Groups, Heard, Keeping, Law, Numbered, Ring, Seat, Slot, View,
-    Viewed,
+    About, Block, Board, DATA_SLOT, Desk, Errand, Groups, Heard, Keeping, LOG_SLOT, LOG_TURN, Law,
+    Numbered, Ring, SLOTS, Seat, Slot, View, Viewed,
 };
 pub use laying::{lay_out, make_board, parts_in};
 pub use listing::{list_slot, list_turn};
 pub use playing::play;
 pub use plays::Looked;
-pub use resting::{all_hold_nothing, holds_nothing};
+pub use resting::holds_nothing;
 pub use seating::{cut_off, cut_seat, take_in};
-pub use shared::{Board, Shared};
 pub use slots::{add_slot, sync_slot, taken_answer};

@@ -1,10 +1,10 @@
 // One Op of one actor, on the shared table: the flush lists.
 ghost use Rattle.std.specs.Prelude.{suc, ◌+◌, ◌<◌, ◌≡◌};
 ghost use Rattle.model_core.specs.declared.limits.TheConstants.{FLUSH_LISTS};
-ghost use Rattle.model_core.specs.{next};
 ghost use Rattle.model_core.specs.declared.ops.Op.TheVariants as op;
 ghost use Rattle.redo_drive.specs.Views.{view_of};
-ghost use Rattle.redo_rule.specs.Mine.{HasPlayed, KeepsSeat, Mine};
+ghost use Rattle.redo_rule.specs.declared.law.TheConstants.{LOG_TURN};
+ghost use Rattle.redo_rule.specs.Ops.{HasPlayedOp, MayPlay};
 
 use crate::law::{Ring, Seat};
 use crate::plays::{Gave, SeizedList};
@@ -18,7 +18,7 @@ use redo_words::{Answer, Step, Word, number_of};
 /// The turn word of a flush list, and its slot.
 pub fn list_turn(list: u32) -> usize
     requires { list < FLUSH_LISTS }
-    ensures { result ≡ 8 + list }
+    ensures { result ≡ suc LOG_TURN + list }
 {
     number_of(Word::List(list)) as usize
 }
@@ -38,12 +38,8 @@ pub(crate) fn take_add<L: Sectors, D: Sectors, R: Receiver>(
     page: u32,
     oldest: u64,
 ) -> Step
-    requires mine { Mine table.now.table_id token.old (view_of actor.old) }
-    requires asks { next (view_of actor.old) ≡ op.TakeAdd page oldest }
-    ensures mine { Mine table.now.table_id token.new (view_of actor.new) }
-    ensures played { HasPlayed L.seen D.seen token.old.me.0 (view_of actor.old) result (view_of actor.new) }
-    ensures seat { token.new.id ≡ token.old.id }
-    ensures stays { KeepsSeat R.stands_for token.old.me.0 actor.old token.new.me.0 actor.new }
+    requires { MayPlay table.now.table_id token.old (view_of actor.old) (op.TakeAdd page oldest) }
+    ensures { HasPlayedOp L.seen D.seen R.stands_for table.now.table_id token.old actor.old result token.new actor.new }
 {
     let list = page % FLUSH_LISTS as u32;
     if table.compare_exchange::<SeizedList>(token, list_turn(list), 0, 1) != 0 {
@@ -60,12 +56,8 @@ pub(crate) fn take_remove<L: Sectors, D: Sectors, R: Receiver>(
     actor: &mut Actor<R>,
     page: u32,
 ) -> Step
-    requires mine { Mine table.now.table_id token.old (view_of actor.old) }
-    requires asks { next (view_of actor.old) ≡ op.TakeRemove page }
-    ensures mine { Mine table.now.table_id token.new (view_of actor.new) }
-    ensures played { HasPlayed L.seen D.seen token.old.me.0 (view_of actor.old) result (view_of actor.new) }
-    ensures seat { token.new.id ≡ token.old.id }
-    ensures stays { KeepsSeat R.stands_for token.old.me.0 actor.old token.new.me.0 actor.new }
+    requires { MayPlay table.now.table_id token.old (view_of actor.old) (op.TakeRemove page) }
+    ensures { HasPlayedOp L.seen D.seen R.stands_for table.now.table_id token.old actor.old result token.new actor.new }
 {
     let list = page % FLUSH_LISTS as u32;
     if table.compare_exchange::<SeizedList>(token, list_turn(list), 0, 1) != 0 {
@@ -82,12 +74,8 @@ pub(crate) fn take_oldest<L: Sectors, D: Sectors, R: Receiver>(
     actor: &mut Actor<R>,
     list: u32,
 ) -> Step
-    requires mine { Mine table.now.table_id token.old (view_of actor.old) }
-    requires asks { next (view_of actor.old) ≡ op.TakeOldest list }
-    ensures mine { Mine table.now.table_id token.new (view_of actor.new) }
-    ensures played { HasPlayed L.seen D.seen token.old.me.0 (view_of actor.old) result (view_of actor.new) }
-    ensures seat { token.new.id ≡ token.old.id }
-    ensures stays { KeepsSeat R.stands_for token.old.me.0 actor.old token.new.me.0 actor.new }
+    requires { MayPlay table.now.table_id token.old (view_of actor.old) (op.TakeOldest list) }
+    ensures { HasPlayedOp L.seen D.seen R.stands_for table.now.table_id token.old actor.old result token.new actor.new }
 {
     if table.compare_exchange::<SeizedList>(token, list_turn(list), 0, 1) != 0 {
         return actor.took(Answer::Held);
@@ -103,12 +91,8 @@ pub(crate) fn give_list<L: Sectors, D: Sectors, R: Receiver>(
     actor: &mut Actor<R>,
     list: u32,
 ) -> Step
-    requires mine { Mine table.now.table_id token.old (view_of actor.old) }
-    requires asks { next (view_of actor.old) ≡ op.GiveList list }
-    ensures mine { Mine table.now.table_id token.new (view_of actor.new) }
-    ensures played { HasPlayed L.seen D.seen token.old.me.0 (view_of actor.old) result (view_of actor.new) }
-    ensures seat { token.new.id ≡ token.old.id }
-    ensures stays { KeepsSeat R.stands_for token.old.me.0 actor.old token.new.me.0 actor.new }
+    requires { MayPlay table.now.table_id token.old (view_of actor.old) (op.GiveList list) }
+    ensures { HasPlayedOp L.seen D.seen R.stands_for table.now.table_id token.old actor.old result token.new actor.new }
 {
     table.store::<Gave>(token, list_turn(list), 0);
     actor.took(Answer::Taken(None))

@@ -3,7 +3,8 @@ ghost use Rattle.std.specs.Prelude.{◌≡◌};
 ghost use Rattle.model_core.specs.{next};
 ghost use Rattle.redo_drive.specs.Views.{view_of};
 ghost use Rattle.redo_rule.specs.Causes.{EndsSo};
-ghost use Rattle.redo_rule.specs.Mine.{HasGone, HasPlayed, IsSameSeat, KeepsSeat, Mine};
+ghost use Rattle.redo_rule.specs.Mine.{HasGone, IsSameSeat};
+ghost use Rattle.redo_rule.specs.Ops.{HasPlayedOp, MayPlay};
 ghost use Rattle.redo_rule.specs.Seating.{IsBare, IsSeatOf};
 
 use crate::appending::append;
@@ -24,12 +25,9 @@ fn play_token<L: Sectors, D: Sectors, R: Receiver>(
     actor: &mut Actor<R>,
     op: Op,
 ) -> Step
-    requires mine { Mine table.now.table_id token.old (view_of actor.old) }
-    requires asks { next (view_of actor.old) ≡ op }
+    requires may { MayPlay table.now.table_id token.old (view_of actor.old) op }
     requires bare { IsBare op }
-    ensures mine { Mine table.now.table_id token.new (view_of actor.new) }
-    ensures played { HasPlayed L.seen D.seen token.old.me.0 (view_of actor.old) result (view_of actor.new) }
-    ensures stays { KeepsSeat R.stands_for token.old.me.0 actor.old token.new.me.0 actor.new }
+    ensures { HasPlayedOp L.seen D.seen R.stands_for table.now.table_id token.old actor.old result token.new actor.new }
 {
     match op {
         Op::Load(word) => load(table, token, actor, word),

@@ -1,8 +1,7 @@
-// Whether actors hold anything. One that has a seat is free wherever it checks for a failure.
+// Whether an actor holds anything. One that has a seat is free wherever it checks for a failure.
 ghost use Rattle.std.specs.Prelude.{false, true, ◌≡◌};
 ghost use Rattle.model_core.specs.{next};
-ghost use Rattle.redo_drive.specs.Views.{view_of, views_of};
-ghost use Rattle.redo_rule.specs.Cutting.{AreFreeToCheck, HoldNothing};
+ghost use Rattle.redo_drive.specs.Views.{view_of};
 ghost use Rattle.model_core.specs.Hands.{HoldsNothing, IsFreeOp, IsFreeToCheck};
 
 use redo_drive::Actor;
@@ -44,17 +43,4 @@ pub fn holds_nothing<R: Receiver>(actor: &Actor<R>) -> bool
     ensures asks { IsFreeOp (next (view_of actor.now)) → result ≡ true }
 {
     is_free(actor.next())
-}
-
-/// Whether each of these actors surely holds nothing, so that their store may be finished.
-pub fn all_hold_nothing<R: Receiver>(actors: &[Actor<R>]) -> bool
-    requires { AreFreeToCheck (views_of actors.now) }
-    ensures { result ≡ true → HoldNothing (views_of actors.now) }
-{
-    for number in 0..actors.len() {
-        if !holds_nothing(&actors[number]) {
-            return false;
-        }
-    }
-    true
 }

@@ -1,9 +1,7 @@
 // One Op of one actor, on the shared table: the words.
-ghost use Rattle.std.specs.Prelude.{◌≡◌};
-ghost use Rattle.model_core.specs.{next};
 ghost use Rattle.model_core.specs.declared.ops.Op.TheVariants as op;
 ghost use Rattle.redo_drive.specs.Views.{view_of};
-ghost use Rattle.redo_rule.specs.Mine.{HasPlayed, KeepsSeat, Mine};
+ghost use Rattle.redo_rule.specs.Ops.{HasPlayedOp, MayPlay};
 
 use crate::law::{Ring, Seat};
 use crate::plays::Saw;
@@ -19,12 +17,8 @@ pub(crate) fn load<L: Sectors, D: Sectors, R: Receiver>(
     actor: &mut Actor<R>,
     word: Word,
 ) -> Step
-    requires mine { Mine table.now.table_id token.old (view_of actor.old) }
-    requires asks { next (view_of actor.old) ≡ op.Load word }
-    ensures mine { Mine table.now.table_id token.new (view_of actor.new) }
-    ensures played { HasPlayed L.seen D.seen token.old.me.0 (view_of actor.old) result (view_of actor.new) }
-    ensures seat { token.new.id ≡ token.old.id }
-    ensures stays { KeepsSeat R.stands_for token.old.me.0 actor.old token.new.me.0 actor.new }
+    requires { MayPlay table.now.table_id token.old (view_of actor.old) (op.Load word) }
+    ensures { HasPlayedOp L.seen D.seen R.stands_for table.now.table_id token.old actor.old result token.new actor.new }
 {
     let n = table.load::<Saw>(token, number_of(word) as usize);
     actor.took(Answer::Old(n))
@@ -38,12 +32,8 @@ pub(crate) fn store<L: Sectors, D: Sectors, R: Receiver>(
     word: Word,
     number: u64,
 ) -> Step
-    requires mine { Mine table.now.table_id token.old (view_of actor.old) }
-    requires asks { next (view_of actor.old) ≡ op.Store word number }
-    ensures mine { Mine table.now.table_id token.new (view_of actor.new) }
-    ensures played { HasPlayed L.seen D.seen token.old.me.0 (view_of actor.old) result (view_of actor.new) }
-    ensures seat { token.new.id ≡ token.old.id }
-    ensures stays { KeepsSeat R.stands_for token.old.me.0 actor.old token.new.me.0 actor.new }
+    requires { MayPlay table.now.table_id token.old (view_of actor.old) (op.Store word number) }
+    ensures { HasPlayedOp L.seen D.seen R.stands_for table.now.table_id token.old actor.old result token.new actor.new }
 {
     let n = table.swap::<Saw>(token, number_of(word) as usize, number);
     actor.took(Answer::Old(n))
@@ -57,12 +47,8 @@ pub(crate) fn add<L: Sectors, D: Sectors, R: Receiver>(
     word: Word,
     number: u64,
 ) -> Step
-    requires mine { Mine table.now.table_id token.old (view_of actor.old) }
-    requires asks { next (view_of actor.old) ≡ op.Add word number }
-    ensures mine { Mine table.now.table_id token.new (view_of actor.new) }
-    ensures played { HasPlayed L.seen D.seen token.old.me.0 (view_of actor.old) result (view_of actor.new) }
-    ensures seat { token.new.id ≡ token.old.id }
-    ensures stays { KeepsSeat R.stands_for token.old.me.0 actor.old token.new.me.0 actor.new }
+    requires { MayPlay table.now.table_id token.old (view_of actor.old) (op.Add word number) }
+    ensures { HasPlayedOp L.seen D.seen R.stands_for table.now.table_id token.old actor.old result token.new actor.new }
 {
     let n = table.fetch_add::<Saw>(token, number_of(word) as usize, number);
     actor.took(Answer::Old(n))
@@ -77,12 +63,8 @@ pub(crate) fn swap<L: Sectors, D: Sectors, R: Receiver>(
     old: u64,
     new: u64,
 ) -> Step
-    requires mine { Mine table.now.table_id token.old (view_of actor.old) }
-    requires asks { next (view_of actor.old) ≡ op.Swap word old new }
-    ensures mine { Mine table.now.table_id token.new (view_of actor.new) }
-    ensures played { HasPlayed L.seen D.seen token.old.me.0 (view_of actor.old) result (view_of actor.new) }
-    ensures seat { token.new.id ≡ token.old.id }
-    ensures stays { KeepsSeat R.stands_for token.old.me.0 actor.old token.new.me.0 actor.new }
+    requires { MayPlay table.now.table_id token.old (view_of actor.old) (op.Swap word old new) }
+    ensures { HasPlayedOp L.seen D.seen R.stands_for table.now.table_id token.old actor.old result token.new actor.new }
 {
     let n = table.compare_exchange::<Saw>(token, number_of(word) as usize, old, new);
     actor.took(Answer::Old(n))

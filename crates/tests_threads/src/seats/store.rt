@@ -1,65 +1,69 @@
-// Shared stores that were just formatted, each actor with its seat.
-ghost use Rattle.std.specs.Prelude.{IfOk, false, length, ◌≡◌};
+// Shared stores that were just formatted, each player with its seat.
+ghost use Rattle.std.specs.Prelude.{IfOk, false, ◌≡◌};
 ghost use Rattle.redo_drive.specs.Startable.{MayBegin};
-ghost use Rattle.redo_drive.specs.Views.{views_of};
-ghost use Rattle.redo_rule.specs.Sharing.{AreSeatsOf, IsSeated, IsUnseated, starts_of, table_of};
+ghost use Rattle.redo_ownrule.specs.Sharing.{IsUnseated, own_of};
+ghost use Rattle.tests_threads.specs.Playing.{IsPlaying};
 
 use crate::store::{Device, Ready, Way, make_ready, no_followers};
-use redo_drive::Actor;
 use redo_follow::Tally;
-use redo_rule::{Seat, Shared};
+use redo_ownrule::{Player, Shared};
+use redo_rule::Seat;
 use std::alloc::Global;
 use std::test::Fail;
 
-/// A store that its actors share, each with its seat.
+/// A store that its players share, each with its seat.
 pub struct Playing {
-    pub shared: Shared<Device, Device>,
+    pub shared: Shared<Device, Device, Tally>,
     pub seats: Vec<Seat<Device, Device>>,
-    pub actors: Vec<Actor<Tally>>,
+    pub players: Vec<Player<Tally>>,
 }
 
-/// The store on which the run of a script may begin, none of whose actors has a seat yet.
+/// The store on which the run of a script may begin, none of whose players has a seat yet. Each is an actor by its own program.
 fn shared_of(
     alloc: Global,
     ready: Ready,
     log_only: bool,
-) -> Result<(Shared<Device, Device>, Vec<Actor<Tally>>), Fail>
+) -> Result<(Shared<Device, Device, Tally>, Vec<Player<Tally>>), Fail>
     requires { MayBegin ready.opened ready.script log_only }
-    ensures new { IfOk result (λ made. IsUnseated made.0 (views_of made.1.items)) }
+    ensures new { IfOk result (λ made. IsUnseated made.0 made.1.items) }
+    ensures own { IfOk result (λ made. own_of made.0 ≡ false) }
     ensures apart { IfOk result (λ made. made.0.board.shared.key.archive ≡ false) }
 {
     let Ready { opened, script } = ready;
-    match Shared::new(alloc, opened, &script, log_only, false, no_followers(alloc)) {
+    match Shared::new(
+        alloc,
+        opened,
+        &script,
+        log_only,
+        false,
+        false,
+        no_followers(alloc),
+    ) {
         Ok(made) => Ok(made),
         Err(_) => Err(Fail::from("no memory")),
     }
 }
 
-/// The store, each of whose actors has its seat.
-fn seated(mut shared: Shared<Device, Device>, actors: Vec<Actor<Tally>>) -> Playing
-    requires new { IsUnseated shared (views_of actors.items) }
+/// The store, each of whose players has its seat.
+fn seated(mut shared: Shared<Device, Device, Tally>, players: Vec<Player<Tally>>) -> Playing
+    requires new { IsUnseated shared players.items }
+    requires own { own_of shared ≡ false }
     requires apart { shared.board.shared.key.archive ≡ false }
-    ensures seated { IsSeated result.shared }
-    ensures seats { AreSeatsOf (table_of result.shared) result.seats.items (views_of result.actors.items) }
-    ensures all { length result.actors.items ≡ length (starts_of result.shared) }
-    ensures apart { result.shared.board.shared.key.archive ≡ false }
+    ensures { IsPlaying result.shared result.seats.items result.players.items }
 {
-    let seats = shared.seats(actors.as_slice());
+    let seats = shared.seats(players.as_slice());
     Playing {
         shared,
         seats,
-        actors,
+        players,
     }
 }
 
 /// The store of the script of a text, which fits it.
 pub fn begin(alloc: Global, text: &[u8], way: Way) -> Result<Playing, Fail>
-    ensures seated { IfOk result (λ made. IsSeated made.shared) }
-    ensures seats { IfOk result (λ made. AreSeatsOf (table_of made.shared) made.seats.items (views_of made.actors.items)) }
-    ensures all { IfOk result (λ made. length made.actors.items ≡ length (starts_of made.shared)) }
-    ensures apart { IfOk result (λ made. made.shared.board.shared.key.archive ≡ false) }
+    ensures { IfOk result (λ made. IsPlaying made.shared made.seats.items made.players.items) }
 {
     let ready = make_ready(alloc, text, way)?;
-    let (shared, actors) = shared_of(alloc, ready, way.log_only)?;
-    Ok(seated(shared, actors))
+    let (shared, players) = shared_of(alloc, ready, way.log_only)?;
+    Ok(seated(shared, players))
 }

@@ -1,16 +1,20 @@
 // Turns that are given by hand, and what they leave of a store.
 ghost use Rattle.std.specs.Prelude.{length, ◌<◌, ◌≡◌};
-ghost use Rattle.redo_drive.specs.Views.{views_of};
-ghost use Rattle.redo_rule.specs.Sharing.{AreSeatsOf, IsSeated, starts_of, table_of};
+ghost use Rattle.redo_ownrule.specs.Players.{IsSamePlayer};
+ghost use Rattle.redo_ownrule.specs.Playing.{IsPlayerSeat};
+ghost use Rattle.redo_ownrule.specs.Sharing.{AllAtRest};
+ghost use Rattle.redo_rule.specs.Mine.{number_of};
+ghost use Rattle.tests_threads.specs.Playing.{AllMayRest, ArePlaying};
 
 use super::store::{Playing, begin};
 use crate::store::{Device, PAGES, Way};
 use crate::told::{see_told, told_of};
 use model_base::{PAGE_SIZE, SLOTS};
 use redo_disk::{DevError, Sectors};
-use redo_drive::{Actor, Closed};
+use redo_drive::Closed;
 use redo_follow::Tally;
-use redo_rule::{Ring, Seat, all_hold_nothing, play};
+use redo_ownrule::{Player, ask, is_at_rest, play};
+use redo_rule::{Ring, Seat};
 use redo_words::Step;
 use std::alloc::Global;
 use std::process::Abort;
@@ -21,10 +25,10 @@ use std::test::Fail;
 pub struct Run<'a> {
     pub text: &'a str,
     pub way: Way,
-    /// The turns that come first, as `SEAT COUNT LAST, ..`: so many turns of the actor at a seat, and how the last of them ends.
-    /// Each one before it moves the actor on.
+    /// The turns that come first, as `SEAT COUNT LAST, ..`: so many turns of the player at a seat, and how the last of them ends.
+    /// Each one before it moves the player on.
     pub turns: &'a str,
-    /// How many rounds come then. In a round each actor goes on until it doesn't move, the first one last.
+    /// How many rounds come then. In a round each player goes on until it doesn't move, the first one last.
     pub rounds: u64,
     /// Pages and offsets whose bytes on the data device are told.
     pub places: &'a [(u32, usize)],
@@ -39,38 +43,51 @@ pub const NO_TURNS: Run<'static> = Run {
     places: &[],
 };
 
-/// Plays the next Op of the actor at a seat.
+/// Plays the next Op of a player in its seat.
 fn turn<L: Sectors, D: Sectors>(
     table: &Ring<L, D>,
-    seats: &mut Vec<Seat<L, D>>,
-    actors: &mut Vec<Actor<Tally>>,
-    seat: usize,
+    seat: &mut Seat<L, D>,
+    player: &mut Player<Tally>,
 ) -> Step
-    requires seats { AreSeatsOf table.now.table_id seats.old.items (views_of actors.old.items) }
-    requires there { seat < length actors.old.items }
-    ensures seats { AreSeatsOf table.now.table_id seats.new.items (views_of actors.new.items) }
-    ensures count { length actors.new.items ≡ length actors.old.items }
+    requires { IsPlayerSeat table.now.table_id seat.old player.old }
+    ensures seat { IsPlayerSeat table.now.table_id seat.new player.new }
+    ensures number { number_of seat.new.me.0 ≡ number_of seat.old.me.0 }
+    ensures same { IsSamePlayer player.old player.new }
 {
-    let actor = &mut actors[seat];
-    let op = actor.next();
-    play(table, &mut seats[seat], actor, op)
+    let op = ask(table, seat, player);
+    play(table, seat, player, op)
 }
 
-/// Gives the actor at a seat turns until one doesn't move it on, at most so many. Answers how many, and how the last ends.
+/// Plays the next Op of the player at a seat.
+fn turn_at<L: Sectors, D: Sectors>(
+    table: &Ring<L, D>,
+    seats: &mut Vec<Seat<L, D>>,
+    players: &mut Vec<Player<Tally>>,
+    seat: usize,
+) -> Step
+    requires plays { ArePlaying table.now.table_id seats.old.items players.old.items }
+    requires there { seat < length players.old.items }
+    ensures plays { ArePlaying table.now.table_id seats.new.items players.new.items }
+    ensures count { length players.new.items ≡ length players.old.items }
+{
+    turn(table, &mut seats[seat], &mut players[seat])
+}
+
+/// Gives the player at a seat turns until one doesn't move it on, at most so many. Answers how many, and how the last ends.
 fn take_turns<L: Sectors, D: Sectors>(
     table: &Ring<L, D>,
     seats: &mut Vec<Seat<L, D>>,
-    actors: &mut Vec<Actor<Tally>>,
+    players: &mut Vec<Player<Tally>>,
     seat: usize,
     most: u64,
 ) -> (u64, Step)
-    requires seats { AreSeatsOf table.now.table_id seats.old.items (views_of actors.old.items) }
-    requires there { seat < length actors.old.items }
-    ensures seats { AreSeatsOf table.now.table_id seats.new.items (views_of actors.new.items) }
-    ensures count { length actors.new.items ≡ length actors.old.items }
+    requires plays { ArePlaying table.now.table_id seats.old.items players.old.items }
+    requires there { seat < length players.old.items }
+    ensures plays { ArePlaying table.now.table_id seats.new.items players.new.items }
+    ensures count { length players.new.items ≡ length players.old.items }
 {
     for taken in 0..most {
-        let step = turn(table, seats, actors, seat);
+        let step = turn_at(table, seats, players, seat);
         if step != Step::Moved {
             return (taken + 1, step);
         }
@@ -78,22 +95,22 @@ fn take_turns<L: Sectors, D: Sectors>(
     (most, Step::Moved)
 }
 
-/// Gives each actor turns until it doesn't move, the first one last.
+/// Gives each player turns until it doesn't move, the first one last.
 fn play_round<L: Sectors, D: Sectors>(
     table: &Ring<L, D>,
     seats: &mut Vec<Seat<L, D>>,
-    actors: &mut Vec<Actor<Tally>>,
+    players: &mut Vec<Player<Tally>>,
 )
-    requires { AreSeatsOf table.now.table_id seats.old.items (views_of actors.old.items) }
-    ensures seats { AreSeatsOf table.now.table_id seats.new.items (views_of actors.new.items) }
-    ensures count { length actors.new.items ≡ length actors.old.items }
+    requires { ArePlaying table.now.table_id seats.old.items players.old.items }
+    ensures plays { ArePlaying table.now.table_id seats.new.items players.new.items }
+    ensures count { length players.new.items ≡ length players.old.items }
 {
-    let count = actors.len();
+    let count = players.len();
     for seat in 1..count {
-        take_turns(table, seats, actors, seat, u64::MAX);
+        take_turns(table, seats, players, seat, u64::MAX);
     }
     if 0 < count {
-        take_turns(table, seats, actors, 0, u64::MAX);
+        take_turns(table, seats, players, 0, u64::MAX);
     }
 }
 
@@ -108,7 +125,7 @@ fn step_of(name: &str) -> Option<Step> {
     }
 }
 
-/// The seat of a row, how many turns it has, and how the last of them ends. No actor is at the seat of a row that can't be read.
+/// The seat of a row, how many turns it has, and how the last of them ends. No player is at the seat of a row that can't be read.
 fn turns_of(row: &str) -> (usize, u64, Option<Step>) {
     let (seat, rest) = row.split_once(' ').unwrap_or(("", row));
     let (count, last) = rest.split_once(' ').unwrap_or(("", rest));
@@ -121,16 +138,16 @@ fn see_turns<L: Sectors, D: Sectors>(
     rt: &impl Abort,
     table: &Ring<L, D>,
     seats: &mut Vec<Seat<L, D>>,
-    actors: &mut Vec<Actor<Tally>>,
+    players: &mut Vec<Player<Tally>>,
     row: &str,
 )
-    requires { AreSeatsOf table.now.table_id seats.old.items (views_of actors.old.items) }
-    ensures seats { AreSeatsOf table.now.table_id seats.new.items (views_of actors.new.items) }
-    ensures count { length actors.new.items ≡ length actors.old.items }
+    requires { ArePlaying table.now.table_id seats.old.items players.old.items }
+    ensures plays { ArePlaying table.now.table_id seats.new.items players.new.items }
+    ensures count { length players.new.items ≡ length players.old.items }
 {
     let (seat, count, last) = turns_of(row);
-    assert!(rt; seat < actors.len());
-    let (taken, step) = take_turns(table, seats, actors, seat, count);
+    assert!(rt; seat < players.len());
+    let (taken, step) = take_turns(table, seats, players, seat, count);
     assert!(rt;
         taken == count && Some(step) == last,
         "{row}: {step:?} after {taken}"
@@ -142,18 +159,28 @@ fn play_all<L: Sectors, D: Sectors>(
     rt: &impl Abort,
     table: &Ring<L, D>,
     seats: &mut Vec<Seat<L, D>>,
-    actors: &mut Vec<Actor<Tally>>,
+    players: &mut Vec<Player<Tally>>,
     run: &Run,
 )
-    requires { AreSeatsOf table.now.table_id seats.old.items (views_of actors.old.items) }
-    ensures seats { AreSeatsOf table.now.table_id seats.new.items (views_of actors.new.items) }
-    ensures count { length actors.new.items ≡ length actors.old.items }
+    requires { ArePlaying table.now.table_id seats.old.items players.old.items }
+    ensures plays { ArePlaying table.now.table_id seats.new.items players.new.items }
+    ensures count { length players.new.items ≡ length players.old.items }
 {
     for row in run.turns.split_terminator(", ") {
-        see_turns(rt, table, seats, actors, row);
+        see_turns(rt, table, seats, players, row);
     }
     for _ in 0..run.rounds {
-        play_round(table, seats, actors);
+        play_round(table, seats, players);
+    }
+}
+
+/// Sees that each of these is at rest.
+fn see_rest(rt: &impl Abort, players: &[Player<Tally>])
+    requires { AllMayRest players.now }
+    ensures { AllAtRest players.now }
+{
+    for seat in 0..players.len() {
+        assert!(rt; is_at_rest(&players[seat]));
     }
 }
 
@@ -162,12 +189,12 @@ fn left_by(rt: &impl Abort, alloc: Global, run: &Run) -> Result<Closed<Device, D
     let Playing {
         shared,
         mut seats,
-        mut actors,
+        mut players,
     } = begin(alloc, run.text.as_bytes(), run.way)?;
-    play_all(rt, shared.ring(), &mut seats, &mut actors, run);
-    let actors = actors.as_slice();
-    assert!(rt; all_hold_nothing(actors));
-    Ok(shared.finish(seats, actors, None))
+    play_all(rt, shared.ring(), &mut seats, &mut players, run);
+    see_rest(rt, players.as_slice());
+    let (closed, _actors) = shared.finish(seats, players, None);
+    Ok(closed)
 }
 
 /// A byte of a page's place on the data device.

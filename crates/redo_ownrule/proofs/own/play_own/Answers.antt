@@ -5,4 +5,4 @@ use Rattle.redo_ownrule.proofs.own.play_own.Goals as goal
 pub returns-clause-ends : goal.returns-clause-ends
 returns-clause-ends g c = own_ends_so g.L.Sectors.seen g.D.Sectors.seen c.args.seat.now.me.0 c.args.user.now
     c.play_next.result c.play_next.new.user c.play_next.ensures.played
-    (go c.args.table.now.table_id c.args.seat.now c.args.user.now c.requires.seat.mine).done
+    (go c.requires.seat.mine).done

@@ -1,26 +1,24 @@
 use Rattle.model_core.specs.declared.ops.Op.TheVariants as op
 use Rattle.redo_ownrule.proofs.OwnStepping.{store_ok, sees}
+use Rattle.redo_ownrule.proofs.OwnPlaying.{op_played}
 use Rattle.redo_ownrule.proofs.steps.store.Goals as goal
 
 pub swap-n-requires : goal.swap-n-requires
-swap-n-requires g c = store_ok c.args.table.now.table_id c.args.token.now c.args.user.now c.requires.mine
-    g.L.Sectors.seen g.L.Sectors.gives g.D.Sectors.seen g.D.Sectors.gives c.args.table.now.key c.args.word c.args.number
+swap-n-requires g c = store_ok c.requires.seat.mine g.L.Sectors.seen g.L.Sectors.gives g.D.Sectors.seen
+    g.D.Sectors.gives c.args.table.now.key c.args.word c.args.number
     c.number_of.result c.requires.asks c.number_of.ensures
 
 pub saw-requires : goal.saw-requires
 saw-requires g c = (
   c.args.token.now.me.0,
-  sees c.args.table.now.table_id c.args.token.now c.args.user.now
-      c.requires.mine g.L.Sectors.seen g.D.Sectors.seen c.swap-n.new.seat c.swap-n.ensures.0 (op.Store c.args.word c.args.number) c.requires.asks tt
+  sees c.requires.seat.mine g.L.Sectors.seen g.D.Sectors.seen c.swap-n.new.seat c.swap-n.ensures.0 (op.Store
+  c.args.word c.args.number) c.requires.asks tt
       c.swap-n.result c.swap-n.ensures.2,
 )
 
-pub returns-clause-played : goal.returns-clause-played
-returns-clause-played g c = (c.saw.ensures.played c.args.token.now.me.0 (sees c.args.table.now.table_id
-    c.args.token.now c.args.user.now c.requires.mine g.L.Sectors.seen g.D.Sectors.seen c.swap-n.new.seat c.swap-n.ensures.0
-    (op.Store c.args.word c.args.number) c.requires.asks tt c.swap-n.result c.swap-n.ensures.2)).0
-
-pub returns-clause-keeps : goal.returns-clause-keeps
-returns-clause-keeps g c = (c.saw.ensures.played c.args.token.now.me.0 (sees c.args.table.now.table_id
-    c.args.token.now c.args.user.now c.requires.mine g.L.Sectors.seen g.D.Sectors.seen c.swap-n.new.seat c.swap-n.ensures.0
-    (op.Store c.args.word c.args.number) c.requires.asks tt c.swap-n.result c.swap-n.ensures.2)).1
+pub returns : goal.returns
+returns g c =
+    op_played c.requires.seat c.saw.ensures.mine
+    (c.saw.ensures.played c.args.token.now.me.0 (sees c.requires.seat.mine g.L.Sectors.seen g.D.Sectors.seen
+    c.swap-n.new.seat c.swap-n.ensures.0
+    (op.Store c.args.word c.args.number) c.requires.asks tt c.swap-n.result c.swap-n.ensures.2))

@@ -1,26 +1,25 @@
 use Rattle.model_core.specs.declared.ops.Op.TheVariants as op
 use Rattle.redo_ownrule.proofs.OwnStepping.{swap_ok, sees}
+use Rattle.redo_ownrule.proofs.OwnPlaying.{op_played}
 use Rattle.redo_ownrule.proofs.steps.swap.Goals as goal
 
 pub compare_exchange-n-requires : goal.compare_exchange-n-requires
-compare_exchange-n-requires g c = swap_ok c.args.table.now.table_id c.args.token.now c.args.user.now c.requires.mine
-    g.L.Sectors.seen g.L.Sectors.gives g.D.Sectors.seen g.D.Sectors.gives c.args.table.now.key c.args.word c.args.old c.args.new
+compare_exchange-n-requires g c = swap_ok c.requires.seat.mine g.L.Sectors.seen g.L.Sectors.gives g.D.Sectors.seen
+    g.D.Sectors.gives c.args.table.now.key c.args.word c.args.old c.args.new
     c.number_of.result c.requires.asks c.number_of.ensures
 
 pub saw-requires : goal.saw-requires
 saw-requires g c = (
   c.args.token.now.me.0,
-  sees c.args.table.now.table_id c.args.token.now c.args.user.now
-      c.requires.mine g.L.Sectors.seen g.D.Sectors.seen c.compare_exchange-n.new.seat c.compare_exchange-n.ensures.0 (op.Swap c.args.word c.args.old c.args.new) c.requires.asks tt
+  sees c.requires.seat.mine g.L.Sectors.seen g.D.Sectors.seen c.compare_exchange-n.new.seat
+  c.compare_exchange-n.ensures.0 (op.Swap c.args.word c.args.old c.args.new) c.requires.asks tt
       c.compare_exchange-n.result c.compare_exchange-n.ensures.2,
 )
 
-pub returns-clause-played : goal.returns-clause-played
-returns-clause-played g c = (c.saw.ensures.played c.args.token.now.me.0 (sees c.args.table.now.table_id
-    c.args.token.now c.args.user.now c.requires.mine g.L.Sectors.seen g.D.Sectors.seen c.compare_exchange-n.new.seat c.compare_exchange-n.ensures.0
-    (op.Swap c.args.word c.args.old c.args.new) c.requires.asks tt c.compare_exchange-n.result c.compare_exchange-n.ensures.2)).0
-
-pub returns-clause-keeps : goal.returns-clause-keeps
-returns-clause-keeps g c = (c.saw.ensures.played c.args.token.now.me.0 (sees c.args.table.now.table_id
-    c.args.token.now c.args.user.now c.requires.mine g.L.Sectors.seen g.D.Sectors.seen c.compare_exchange-n.new.seat c.compare_exchange-n.ensures.0
-    (op.Swap c.args.word c.args.old c.args.new) c.requires.asks tt c.compare_exchange-n.result c.compare_exchange-n.ensures.2)).1
+pub returns : goal.returns
+returns g c =
+    op_played c.requires.seat c.saw.ensures.mine
+    (c.saw.ensures.played c.args.token.now.me.0 (sees c.requires.seat.mine g.L.Sectors.seen g.D.Sectors.seen
+    c.compare_exchange-n.new.seat c.compare_exchange-n.ensures.0
+    (op.Swap c.args.word c.args.old c.args.new) c.requires.asks tt c.compare_exchange-n.result
+    c.compare_exchange-n.ensures.2))

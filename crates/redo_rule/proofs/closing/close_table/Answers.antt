@@ -32,8 +32,8 @@ take-log-requires g c = (
       m = c.requires.first.slots in omega arith)),
 )
 
-pub take-a-requires : goal.take-a-requires
-take-a-requires g c = (
+pub take-first_list-requires : goal.take-first_list-requires
+take-first_list-requires g c = (
   (let n = c.close_with-closed.ensures.counts.1 in let m = c.requires.first.slots in let l1
       = c.take-log.ensures.others.2 in omega arith),
   (still_there (slots_filled c.close_with-closed.result.slots)
@@ -42,40 +42,40 @@ take-a-requires g c = (
       c.requires.first.slots in omega arith))),
 )
 
-pub take-b-requires : goal.take-b-requires
-take-b-requires g c = (
+pub take-second_list-requires : goal.take-second_list-requires
+take-second_list-requires g c = (
   (let n = c.close_with-closed.ensures.counts.1 in let m = c.requires.first.slots in let l1
-      = c.take-log.ensures.others.2 in let l2 = c.take-a.ensures.others.2 in omega arith),
+      = c.take-log.ensures.others.2 in let l2 = c.take-first_list.ensures.others.2 in omega arith),
   (still_there (slots_filled
-      c.take-log.new.self.slots) (slots_filled c.take-a.new.self.slots) 1 2 c.take-a.ensures.others.1 (λ e. omega arith)
+      c.take-log.new.self.slots) (slots_filled c.take-first_list.new.self.slots) 1 2 c.take-first_list.ensures.others.1 (λ e. omega arith)
       (still_there (slots_filled c.close_with-closed.result.slots) (slots_filled c.take-log.new.self.slots) 0 2
       c.take-log.ensures.others.1 (λ e. omega arith) (c.close_with-closed.ensures.values.1 2 (omega arith) (let n =
       c.close_with-closed.ensures.counts.1 in let m = c.requires.first.slots in omega arith)))),
 )
 
-pub take-c-requires : goal.take-c-requires
-take-c-requires g c = (
+pub take-third_list-requires : goal.take-third_list-requires
+take-third_list-requires g c = (
   (let n = c.close_with-closed.ensures.counts.1 in let m = c.requires.first.slots in let l1
-      = c.take-log.ensures.others.2 in let l2 = c.take-a.ensures.others.2 in let l3 = c.take-b.ensures.others.2 in omega
+      = c.take-log.ensures.others.2 in let l2 = c.take-first_list.ensures.others.2 in let l3 = c.take-second_list.ensures.others.2 in omega
       arith),
-  (still_there (slots_filled c.take-a.new.self.slots) (slots_filled c.take-b.new.self.slots) 2 3
-      c.take-b.ensures.others.1 (λ e. omega arith) (still_there (slots_filled c.take-log.new.self.slots) (slots_filled
-      c.take-a.new.self.slots) 1 3 c.take-a.ensures.others.1 (λ e. omega arith) (still_there (slots_filled
+  (still_there (slots_filled c.take-first_list.new.self.slots) (slots_filled c.take-second_list.new.self.slots) 2 3
+      c.take-second_list.ensures.others.1 (λ e. omega arith) (still_there (slots_filled c.take-log.new.self.slots) (slots_filled
+      c.take-first_list.new.self.slots) 1 3 c.take-first_list.ensures.others.1 (λ e. omega arith) (still_there (slots_filled
       c.close_with-closed.result.slots) (slots_filled c.take-log.new.self.slots) 0 3 c.take-log.ensures.others.1 (λ e.
       omega arith) (c.close_with-closed.ensures.values.1 3 (omega arith) (let n = c.close_with-closed.ensures.counts.1
       in let m = c.requires.first.slots in omega arith))))),
 )
 
-pub take-d-requires : goal.take-d-requires
-take-d-requires g c = (
+pub take-last_list-requires : goal.take-last_list-requires
+take-last_list-requires g c = (
   (let n = c.close_with-closed.ensures.counts.1 in let m = c.requires.first.slots in let l1
-      = c.take-log.ensures.others.2 in let l2 = c.take-a.ensures.others.2 in let l3 = c.take-b.ensures.others.2 in let
-      l4 = c.take-c.ensures.others.2 in omega arith),
-  (still_there (slots_filled c.take-b.new.self.slots) (slots_filled
-      c.take-c.new.self.slots) 3 4 c.take-c.ensures.others.1 (λ e. omega arith) (still_there (slots_filled
-      c.take-a.new.self.slots) (slots_filled c.take-b.new.self.slots) 2 4 c.take-b.ensures.others.1 (λ e. omega arith)
-      (still_there (slots_filled c.take-log.new.self.slots) (slots_filled c.take-a.new.self.slots) 1 4
-      c.take-a.ensures.others.1 (λ e. omega arith) (still_there (slots_filled c.close_with-closed.result.slots)
+      = c.take-log.ensures.others.2 in let l2 = c.take-first_list.ensures.others.2 in let l3 = c.take-second_list.ensures.others.2 in let
+      l4 = c.take-third_list.ensures.others.2 in omega arith),
+  (still_there (slots_filled c.take-second_list.new.self.slots) (slots_filled
+      c.take-third_list.new.self.slots) 3 4 c.take-third_list.ensures.others.1 (λ e. omega arith) (still_there (slots_filled
+      c.take-first_list.new.self.slots) (slots_filled c.take-second_list.new.self.slots) 2 4 c.take-second_list.ensures.others.1 (λ e. omega arith)
+      (still_there (slots_filled c.take-log.new.self.slots) (slots_filled c.take-first_list.new.self.slots) 1 4
+      c.take-first_list.ensures.others.1 (λ e. omega arith) (still_there (slots_filled c.close_with-closed.result.slots)
       (slots_filled c.take-log.new.self.slots) 0 4 c.take-log.ensures.others.1 (λ e. omega arith)
       (c.close_with-closed.ensures.values.1 4 (omega arith) (let n = c.close_with-closed.ensures.counts.1 in let m =
       c.requires.first.slots in omega arith)))))),
@@ -84,14 +84,14 @@ take-d-requires g c = (
 pub take-data-requires : goal.take-data-requires
 take-data-requires g c = (
   (let n = c.close_with-closed.ensures.counts.1 in let m = c.requires.first.slots in let
-      l1 = c.take-log.ensures.others.2 in let l2 = c.take-a.ensures.others.2 in let l3 = c.take-b.ensures.others.2 in
-      let l4 = c.take-c.ensures.others.2 in let l5 = c.take-d.ensures.others.2 in omega arith),
+      l1 = c.take-log.ensures.others.2 in let l2 = c.take-first_list.ensures.others.2 in let l3 = c.take-second_list.ensures.others.2 in
+      let l4 = c.take-third_list.ensures.others.2 in let l5 = c.take-last_list.ensures.others.2 in omega arith),
   (still_there
-      (slots_filled c.take-c.new.self.slots) (slots_filled c.take-d.new.self.slots) 4 5 c.take-d.ensures.others.1 (λ e.
-      omega arith) (still_there (slots_filled c.take-b.new.self.slots) (slots_filled c.take-c.new.self.slots) 3 5
-      c.take-c.ensures.others.1 (λ e. omega arith) (still_there (slots_filled c.take-a.new.self.slots) (slots_filled
-      c.take-b.new.self.slots) 2 5 c.take-b.ensures.others.1 (λ e. omega arith) (still_there (slots_filled
-      c.take-log.new.self.slots) (slots_filled c.take-a.new.self.slots) 1 5 c.take-a.ensures.others.1 (λ e. omega arith)
+      (slots_filled c.take-third_list.new.self.slots) (slots_filled c.take-last_list.new.self.slots) 4 5 c.take-last_list.ensures.others.1 (λ e.
+      omega arith) (still_there (slots_filled c.take-second_list.new.self.slots) (slots_filled c.take-third_list.new.self.slots) 3 5
+      c.take-third_list.ensures.others.1 (λ e. omega arith) (still_there (slots_filled c.take-first_list.new.self.slots) (slots_filled
+      c.take-second_list.new.self.slots) 2 5 c.take-second_list.ensures.others.1 (λ e. omega arith) (still_there (slots_filled
+      c.take-log.new.self.slots) (slots_filled c.take-first_list.new.self.slots) 1 5 c.take-first_list.ensures.others.1 (λ e. omega arith)
       (still_there (slots_filled c.close_with-closed.result.slots) (slots_filled c.take-log.new.self.slots) 0 5
       c.take-log.ensures.others.1 (λ e. omega arith) (c.close_with-closed.ensures.values.1 5 (omega arith) (let n =
       c.close_with-closed.ensures.counts.1 in let m = c.requires.first.slots in omega arith))))))),
@@ -99,45 +99,45 @@ take-data-requires g c = (
 
 pub free-requires : goal.free-requires
 free-requires g c = λ k l. all_empty (slots_filled c.close_with-closed.result.slots) (slots_filled
-    c.take-log.new.self.slots) (slots_filled c.take-a.new.self.slots) (slots_filled c.take-b.new.self.slots)
-    (slots_filled c.take-c.new.self.slots) (slots_filled c.take-d.new.self.slots) (slots_filled
-    c.take-data.new.self.slots) c.take-log.ensures.others.1 c.take-a.ensures.others.1 c.take-b.ensures.others.1
-    c.take-c.ensures.others.1 c.take-d.ensures.others.1 c.take-data.ensures.others.1 k (let n =
+    c.take-log.new.self.slots) (slots_filled c.take-first_list.new.self.slots) (slots_filled c.take-second_list.new.self.slots)
+    (slots_filled c.take-third_list.new.self.slots) (slots_filled c.take-last_list.new.self.slots) (slots_filled
+    c.take-data.new.self.slots) c.take-log.ensures.others.1 c.take-first_list.ensures.others.1 c.take-second_list.ensures.others.1
+    c.take-third_list.ensures.others.1 c.take-last_list.ensures.others.1 c.take-data.ensures.others.1 k (let n =
     c.close_with-closed.ensures.counts.1 in let m = c.requires.first.slots in let l1 =
-    c.take-log.ensures.others.2 in let l2 = c.take-a.ensures.others.2 in let l3 = c.take-b.ensures.others.2 in let l4
-    = c.take-c.ensures.others.2 in let l5 = c.take-d.ensures.others.2 in let l6 = c.take-data.ensures.others.2 in
+    c.take-log.ensures.others.2 in let l2 = c.take-first_list.ensures.others.2 in let l3 = c.take-second_list.ensures.others.2 in let l4
+    = c.take-third_list.ensures.others.2 in let l5 = c.take-last_list.ensures.others.2 in let l6 = c.take-data.ensures.others.2 in
     omega arith)
 
 pub drop_list-requires : goal.drop_list-requires
 drop_list-requires g c = let end = c.requires.ends (slots_items c.close_with-closed.result.words)
     (slots_items c.close_with-closed.result.slots) c.close_with-closed.ensures.values.2 in list_there g.L.Sectors.seen g.L.Sectors.gives g.D.Sectors.seen g.D.Sectors.gives
     c.args.board.shared.key end.0 end.1 (slots_items c.close_with-closed.result.words)
-    (slots_items c.close_with-closed.result.slots) end.2 0 c.take-a.result (omega arith) (ap (λ (l
-    : List (Slot _ _)). get_elem? l 1) (sym (c.take-log.ensures.others.0)) ∙ c.take-a.ensures.value)
+    (slots_items c.close_with-closed.result.slots) end.2 0 c.take-first_list.result (omega arith) (ap (λ (l
+    : List (Slot _ _)). get_elem? l 1) (sym (c.take-log.ensures.others.0)) ∙ c.take-first_list.ensures.value)
 
 pub drop_list-requires-2 : goal.drop_list-requires-2
 drop_list-requires-2 g c = let end = c.requires.ends (slots_items c.close_with-closed.result.words)
     (slots_items c.close_with-closed.result.slots) c.close_with-closed.ensures.values.2 in list_there g.L.Sectors.seen g.L.Sectors.gives g.D.Sectors.seen g.D.Sectors.gives
     c.args.board.shared.key end.0 end.1 (slots_items c.close_with-closed.result.words)
-    (slots_items c.close_with-closed.result.slots) end.2 1 c.take-b.result (omega arith) (ap (λ (l
-    : List (Slot _ _)). get_elem? l 2) (sym (c.take-a.ensures.others.0 ∙ c.take-log.ensures.others.0)) ∙
-    c.take-b.ensures.value)
+    (slots_items c.close_with-closed.result.slots) end.2 1 c.take-second_list.result (omega arith) (ap (λ (l
+    : List (Slot _ _)). get_elem? l 2) (sym (c.take-first_list.ensures.others.0 ∙ c.take-log.ensures.others.0)) ∙
+    c.take-second_list.ensures.value)
 
 pub drop_list-requires-3 : goal.drop_list-requires-3
 drop_list-requires-3 g c = let end = c.requires.ends (slots_items c.close_with-closed.result.words)
     (slots_items c.close_with-closed.result.slots) c.close_with-closed.ensures.values.2 in list_there g.L.Sectors.seen g.L.Sectors.gives g.D.Sectors.seen g.D.Sectors.gives
     c.args.board.shared.key end.0 end.1 (slots_items c.close_with-closed.result.words)
-    (slots_items c.close_with-closed.result.slots) end.2 2 c.take-c.result (omega arith) (ap (λ (l
-    : List (Slot _ _)). get_elem? l 3) (sym (c.take-b.ensures.others.0 ∙ c.take-a.ensures.others.0 ∙
-    c.take-log.ensures.others.0)) ∙ c.take-c.ensures.value)
+    (slots_items c.close_with-closed.result.slots) end.2 2 c.take-third_list.result (omega arith) (ap (λ (l
+    : List (Slot _ _)). get_elem? l 3) (sym (c.take-second_list.ensures.others.0 ∙ c.take-first_list.ensures.others.0 ∙
+    c.take-log.ensures.others.0)) ∙ c.take-third_list.ensures.value)
 
 pub drop_list-requires-4 : goal.drop_list-requires-4
 drop_list-requires-4 g c = let end = c.requires.ends (slots_items c.close_with-closed.result.words)
     (slots_items c.close_with-closed.result.slots) c.close_with-closed.ensures.values.2 in list_there g.L.Sectors.seen g.L.Sectors.gives g.D.Sectors.seen g.D.Sectors.gives
     c.args.board.shared.key end.0 end.1 (slots_items c.close_with-closed.result.words)
-    (slots_items c.close_with-closed.result.slots) end.2 3 c.take-d.result (omega arith) (ap (λ (l
-    : List (Slot _ _)). get_elem? l 4) (sym (c.take-c.ensures.others.0 ∙ c.take-b.ensures.others.0 ∙
-    c.take-a.ensures.others.0 ∙ c.take-log.ensures.others.0)) ∙ c.take-d.ensures.value)
+    (slots_items c.close_with-closed.result.slots) end.2 3 c.take-last_list.result (omega arith) (ap (λ (l
+    : List (Slot _ _)). get_elem? l 4) (sym (c.take-third_list.ensures.others.0 ∙ c.take-second_list.ensures.others.0 ∙
+    c.take-first_list.ensures.others.0 ∙ c.take-log.ensures.others.0)) ∙ c.take-last_list.ensures.value)
 
 pub desk_in-part-requires : goal.desk_in-part-requires
 desk_in-part-requires g c = let end = c.requires.ends (slots_items c.close_with-closed.result.words)
@@ -150,8 +150,8 @@ data_in-requires g c = let end = c.requires.ends (slots_items c.close_with-close
     (slots_items c.close_with-closed.result.slots) c.close_with-closed.ensures.values.2 in data_there g.L.Sectors.seen g.L.Sectors.gives g.D.Sectors.seen g.D.Sectors.gives
     c.args.board.shared.key end.0 end.1 (slots_items c.close_with-closed.result.words)
     (slots_items c.close_with-closed.result.slots) end.2 c.take-data.result (ap (λ (l : List (Slot
-    _ _)). get_elem? l 5) (sym (c.take-d.ensures.others.0 ∙ c.take-c.ensures.others.0 ∙ c.take-b.ensures.others.0 ∙
-    c.take-a.ensures.others.0 ∙ c.take-log.ensures.others.0)) ∙ c.take-data.ensures.value)
+    _ _)). get_elem? l 5) (sym (c.take-last_list.ensures.others.0 ∙ c.take-third_list.ensures.others.0 ∙ c.take-second_list.ensures.others.0 ∙
+    c.take-first_list.ensures.others.0 ∙ c.take-log.ensures.others.0)) ∙ c.take-data.ensures.value)
 
 pub returns : goal.returns
 returns g c = record {
@@ -162,8 +162,8 @@ returns g c = record {
       c.args.board.shared.key heard actors (slots_items c.close_with-closed.result.words)
       (slots_items c.close_with-closed.result.slots) E _ c.take-log.result c.take-data.result c.desk_in-part.result
       c.take-log.ensures.value c.desk_in-part.ensures refl
-      (ap (λ (l : List (Slot _ _)). get_elem? l 5) (sym (c.take-d.ensures.others.0 ∙
-      c.take-c.ensures.others.0 ∙ c.take-b.ensures.others.0 ∙ c.take-a.ensures.others.0 ∙ c.take-log.ensures.others.0))
+      (ap (λ (l : List (Slot _ _)). get_elem? l 5) (sym (c.take-last_list.ensures.others.0 ∙
+      c.take-third_list.ensures.others.0 ∙ c.take-second_list.ensures.others.0 ∙ c.take-first_list.ensures.others.0 ∙ c.take-log.ensures.others.0))
       ∙ c.take-data.ensures.value) c.data_in.ensures
       (c.tail_of.ensures ∙ ap tail_of c.word_in.ensures) c.word_in-2.ensures c.word_in-3.ensures c.word_in-4.ensures c.word_in-code.ensures;
   work = λ heard actors E. work_left g.L.Sectors.seen g.L.Sectors.gives g.D.Sectors.seen g.D.Sectors.gives

@@ -1,10 +1,9 @@
-use Rattle.std.proofs.Common.{List, Option, ap, subst, sym, ℕ, ◌∙◌}
+use Rattle.std.proofs.Common.{List, ap, subst, sym, ℕ, ◌∙◌}
 use Rattle.model_core.specs.{lent, LogServed}
 use Rattle.model_core.specs.Actors as model
 use Rattle.model_core.specs.declared.ops.Op.TheVariants as op
-use Rattle.redo_disk.specs.declared.error.DevError.{DevError}
 use Rattle.redo_drive.proofs.SomeLent.{some_lent}
-use Rattle.redo_drive.specs.Devices.{call_answer, call_code}
+use Rattle.redo_drive.specs.Devices.{call_code}
 use Rattle.redo_drive.specs.LogPartSide as log_part
 use Rattle.redo_drive.specs.Views.{view_of}
 use Rattle.redo_drive.specs.declared.device.Device.TheVariants.{Log}
@@ -16,47 +15,33 @@ use Rattle.redo_rule.specs.Slots.{block_of}
 use Rattle.redo_rule.proofs.device.read_block.Goals as goal
 
 pub slot_mut-requires : goal.slot_mut-requires
-slot_mut-requires g c = (
-  c.requires.mine.of,
-  lends_slot c.args.table.now.table_id c.args.token.now c.args.actor.now
-      c.requires.mine (op.ReadBlock c.args.lsn) c.requires.asks tt,
-)
+slot_mut-requires g c = lends_slot c.args.actor.now c.requires tt
 
 pub read_slot-ended-requires : goal.read_slot-ended-requires
 read_slot-ended-requires g c =
     let given = some_lent (lent (view_of c.args.actor.now)) in
-    may_call c.args.table.now.table_id c.args.token.now c.args.actor.now c.requires.mine (op.ReadBlock c.args.lsn)
-    c.requires.asks tt
-    c.slot_mut.result.now c.slot_mut.ensures.value given.0 given.1
+    may_call c.args.actor.now c.requires tt c.slot_mut.result.now c.slot_mut.ensures.value given.0 given.1
 
 pub load-requires : goal.load-requires
 load-requires g c =
     let e = c.read_slot-ended.ensures.called in
     let given = some_lent (lent (view_of c.args.actor.now)) in
-    let bytes = c.read_slot-ended.ensures.block ∙ ap block_of e.new_is in
     let put = lent_read (view_of c.args.actor.now) e.now.block c.args.lsn c.requires.asks
-    ∙ sym (ap model.Room bytes) in
-    called_ok c.args.table.now.table_id c.args.token.now c.args.actor.now c.requires.mine (op.ReadBlock c.args.lsn)
-    c.requires.asks tt
-    c.slot_mut.result.now c.slot_mut.ensures.value c.read_slot-ended.new.slot e.was e.now e.old_is e.new_is
-    g.L.Sectors.seen g.L.Sectors.gives g.D.Sectors.seen g.D.Sectors.gives c.args.table.now.key given.0 given.1
+    ∙ sym (ap model.Room (c.read_slot-ended.ensures.block ∙ ap block_of e.new_is)) in
+    called_ok c.args.actor.now c.requires tt c.slot_mut.result.now c.slot_mut.ensures.value _ _ _ e
+    g.L.Sectors.seen g.D.Sectors.seen g.D.Sectors.gives c.args.table.now.key given.0 given.1
     (λ faults start first. subst (λ (l : model.Lent).
     LogServed (log_part.log_side g.L.Sectors.seen faults first.marks.number (log_part.HasBegun g.L.Sectors.seen start
     first)) e.was.part l (op.ReadBlock c.args.lsn) (call_code Log e.now.part.failed) e.now.part)
-    (sym put) (e.served faults start first)) e.calls e.work
+    (sym put) (e.served faults start first))
 
 pub returns : goal.returns
 returns g c =
     let e = c.read_slot-ended.ensures.called in
-    let bytes = c.read_slot-ended.ensures.block ∙ ap block_of e.new_is in
-    let l = called_leaves c.args.table.now.table_id c.args.token.now c.args.actor.now c.requires.mine
-    (op.ReadBlock c.args.lsn) c.requires.asks tt c.slot_mut.result.now c.slot_mut.ensures.value
-    c.read_slot-ended.new.slot e.was e.now e.old_is e.new_is g.L.Sectors.seen g.D.Sectors.seen
-    c.load.new.seat c.load.ensures.0 c.load.result c.load.ensures.2 c.answer_of.result
-    (c.answer_of.ensures ∙ ap (λ (met : Option DevError). call_answer Log met 0) (sym e.told))
-    g.R.Receiver.stands_for c.took.result c.took.new.self
+    called_leaves c.args.actor.now c.requires tt c.slot_mut.result.now c.slot_mut.ensures.value _ _ _ e
+    g.L.Sectors.seen g.D.Sectors.seen c.load.new.seat c.load.result c.load.ensures c.answer_of.result
+    c.answer_of.ensures g.R.Receiver.stands_for c.took.result c.took.new.self
     (subst (λ (b : List ℕ). TookWith g.R.Receiver.stands_for (block_filling b) c.args.actor.now c.answer_of.result
-    c.took.result c.took.new.self) bytes
+    c.took.result c.took.new.self) (c.read_slot-ended.ensures.block ∙ ap block_of e.new_is)
     (took_block g.R.Receiver.stands_for c.answer_of.result c.took.result c.took.new.self c.args.actor.now
-    c.put_block.new.actor c.read_slot-ended.new.room c.args.lsn c.put_block.ensures c.requires.asks c.took.ensures)) in
-    record { mine = l.mine; played = l.played; seat = c.load.ensures.1; stays = l.stays }
+    c.put_block.new.actor c.read_slot-ended.new.room c.args.lsn c.put_block.ensures c.requires.asks c.took.ensures))

@@ -1,112 +1,48 @@
 use Rattle.std.proofs.Common.{None, refl, suc, ◌%◌}
+use Rattle.model_core.specs.declared.limits.TheConstants.{FLUSH_LISTS}
 use Rattle.model_core.specs.declared.ops.Answer.TheVariants as answer
-use Rattle.model_core.specs.declared.ops.Op.TheVariants as op
-use Rattle.redo_drive.specs.Views.{view_of}
-use Rattle.redo_rule.proofs.Stepping.{goes, held_leaves, take_add_ok}
-use Rattle.redo_rule.proofs.Taking.{held_list, its, its_fits, list_fits, list_is, list_leaves, list_left, list_lent}
-use Rattle.redo_rule.proofs.Took.{may_take}
-use Rattle.redo_rule.specs.Plays.{no_filling}
+use Rattle.redo_rule.proofs.Stepping.{take_add_ok}
+use Rattle.redo_rule.proofs.Taking.{held_fits, list_called, list_fits, list_held, list_leaves, list_lent}
 use Rattle.redo_rule.proofs.listing.take_add.Goals as goal
 
 pub compare_exchange-requires : goal.compare_exchange-requires
-compare_exchange-requires g c = take_add_ok c.args.table.now.table_id c.args.token.now (view_of c.args.actor.now)
-    c.requires.mine g.L.Sectors.seen g.L.Sectors.gives g.D.Sectors.seen g.D.Sectors.gives c.args.table.now.key
-    c.args.page c.args.oldest c.list_turn.result c.requires.asks c.list_turn.ensures
+compare_exchange-requires g c = take_add_ok c.requires.seat.mine g.L.Sectors.seen g.L.Sectors.gives g.D.Sectors.seen
+    g.D.Sectors.gives c.args.table.now.key c.args.page c.args.oldest c.list_turn.result c.requires.asks c.list_turn.ensures
 
 pub took-requires : goal.took-requires
 took-requires g c =
-    let h = goes c.args.table.now.table_id c.args.token.now (view_of c.args.actor.now) c.requires.mine
-    (op.TakeAdd c.args.page c.args.oldest) c.requires.asks no_filling in
-    let may = may_take g.L.Sectors.seen g.D.Sectors.seen c.requires.mine.who (view_of c.args.actor.now) no_filling
-    answer.Held
-    _ _ _ _ _ c.requires.mine.state (held_list c.args.table.now.table_id c.args.token.now c.args.actor.now
-    c.requires.mine g.L.Sectors.seen g.D.Sectors.seen
-    (op.TakeAdd c.args.page c.args.oldest) c.requires.asks h.0 (suc (c.args.page % 4)) refl
-    c.compare_exchange.new.seat c.compare_exchange.ensures.0
-    c.compare_exchange.result c.compare_exchange.ensures.2
-    c.if-compare_exchange-ne0.true) in
+    let may = held_fits c.args.actor.now c.requires g.L.Sectors.seen g.D.Sectors.seen (suc (c.args.page % FLUSH_LISTS)) refl
+    c.compare_exchange.new.seat c.compare_exchange.result c.compare_exchange.ensures c.if-compare_exchange-ne0.true in
     record { fits = may.0; mark = may.1 }
 
 pub returns-then-compare_exchange-ne0 : goal.returns-then-compare_exchange-ne0
-returns-then-compare_exchange-ne0 g c =
-    let h = goes c.args.table.now.table_id c.args.token.now (view_of c.args.actor.now) c.requires.mine
-    (op.TakeAdd c.args.page c.args.oldest) c.requires.asks no_filling in
-    let l = held_leaves c.args.table.now.table_id c.args.token.now c.args.actor.now c.requires.mine g.L.Sectors.seen
-    g.D.Sectors.seen
-    g.R.Receiver.stands_for c.compare_exchange.new.seat c.compare_exchange.ensures.0 c.took.new.self c.took.result
-    (op.TakeAdd c.args.page c.args.oldest) c.requires.asks tt h.0 h.2 (held_list c.args.table.now.table_id
-    c.args.token.now c.args.actor.now c.requires.mine g.L.Sectors.seen g.D.Sectors.seen
-    (op.TakeAdd c.args.page c.args.oldest) c.requires.asks h.0 (suc (c.args.page % 4)) refl
-    c.compare_exchange.new.seat c.compare_exchange.ensures.0
-    c.compare_exchange.result c.compare_exchange.ensures.2
-    c.if-compare_exchange-ne0.true) c.took.ensures in
-    record { mine = l.mine; played = l.played; seat = c.compare_exchange.ensures.1; stays = l.stays }
+returns-then-compare_exchange-ne0 g c = list_held c.args.actor.now c.requires g.L.Sectors.seen g.D.Sectors.seen
+    (suc (c.args.page % FLUSH_LISTS)) refl c.compare_exchange.new.seat c.compare_exchange.result c.compare_exchange.ensures
+    c.if-compare_exchange-ne0.true g.R.Receiver.stands_for c.took.result c.took.new.self c.took.ensures
 
 pub slot_mut-requires : goal.slot_mut-requires
-slot_mut-requires g c =
-    let h = goes c.args.table.now.table_id c.args.token.now (view_of c.args.actor.now) c.requires.mine
-    (op.TakeAdd c.args.page c.args.oldest) c.requires.asks no_filling in
-    list_lent c.args.table.now.table_id c.args.token.now c.args.actor.now c.requires.mine g.L.Sectors.seen
-    g.D.Sectors.seen
-    (op.TakeAdd c.args.page c.args.oldest) c.requires.asks h.0 c.list_slot.result c.list_slot.ensures
-    c.compare_exchange.new.seat
-    c.compare_exchange.ensures.0 c.compare_exchange.result c.compare_exchange.ensures.2
+slot_mut-requires g c = list_lent c.args.actor.now c.requires g.L.Sectors.seen g.D.Sectors.seen c.list_slot.result
+    c.list_slot.ensures c.compare_exchange.new.seat c.compare_exchange.result c.compare_exchange.ensures
     c.if-compare_exchange-ne0.false
 
 pub add_slot-requires : goal.add_slot-requires
-add_slot-requires g c =
-    let h = goes c.args.table.now.table_id c.args.token.now (view_of c.args.actor.now) c.requires.mine
-    (op.TakeAdd c.args.page c.args.oldest) c.requires.asks no_filling in (
-      its c.args.table.now.table_id c.args.token.now c.args.actor.now c.requires.mine g.L.Sectors.seen g.D.Sectors.seen
-          (op.TakeAdd c.args.page c.args.oldest) c.requires.asks h.0 c.list_slot.result c.list_slot.ensures
-          c.compare_exchange.new.seat
-          c.compare_exchange.ensures.0 c.compare_exchange.result c.compare_exchange.ensures.2
-          c.if-compare_exchange-ne0.false,
-      list_is c.args.table.now.table_id c.args.token.now c.args.actor.now c.requires.mine g.L.Sectors.seen
-          g.D.Sectors.seen
-          (op.TakeAdd c.args.page c.args.oldest) c.requires.asks h.0 c.list_slot.result c.list_slot.ensures
-          c.compare_exchange.new.seat
-          c.compare_exchange.ensures.0 c.compare_exchange.result c.compare_exchange.ensures.2
-          c.if-compare_exchange-ne0.false
-          c.slot_mut.result.now c.slot_mut.ensures.value,
-      its_fits c.args.table.now.table_id c.args.token.now c.args.actor.now c.requires.mine g.L.Sectors.seen
-          g.D.Sectors.seen
-          (op.TakeAdd c.args.page c.args.oldest) c.requires.asks h.0 c.list_slot.result c.list_slot.ensures
-          c.compare_exchange.new.seat
-          c.compare_exchange.ensures.0 c.compare_exchange.result c.compare_exchange.ensures.2
-          c.if-compare_exchange-ne0.false,
-    )
+add_slot-requires g c = list_called c.args.actor.now c.requires g.L.Sectors.seen g.D.Sectors.seen c.list_slot.result
+    c.list_slot.ensures c.compare_exchange.new.seat c.compare_exchange.result c.compare_exchange.ensures
+    c.if-compare_exchange-ne0.false c.slot_mut.result.now c.slot_mut.ensures.value
 
 pub took-requires-2 : goal.took-requires-2
 took-requires-2 g c =
-    let h = goes c.args.table.now.table_id c.args.token.now (view_of c.args.actor.now) c.requires.mine
-    (op.TakeAdd c.args.page c.args.oldest) c.requires.asks no_filling in
-    let may = list_fits c.args.table.now.table_id c.args.token.now c.args.actor.now c.requires.mine g.L.Sectors.seen
-    g.D.Sectors.seen
-    (op.TakeAdd c.args.page c.args.oldest) c.requires.asks h.0 c.list_slot.result c.list_slot.ensures
-    c.compare_exchange.new.seat
-    c.compare_exchange.ensures.0 c.compare_exchange.result c.compare_exchange.ensures.2
-    c.if-compare_exchange-ne0.false in
+    let e = c.add_slot.ensures in
+    let may = list_fits c.args.actor.now c.requires g.L.Sectors.seen g.D.Sectors.seen c.list_slot.result
+    c.list_slot.ensures c.compare_exchange.new.seat c.compare_exchange.result c.compare_exchange.ensures
+    c.if-compare_exchange-ne0.false c.slot_mut.result.now c.slot_mut.ensures.value e.0 e.1
+    (answer.Taken None) refl in
     record { fits = may.0; mark = may.1 }
 
 pub returns : goal.returns
 returns g c =
-    let h = goes c.args.table.now.table_id c.args.token.now (view_of c.args.actor.now) c.requires.mine
-    (op.TakeAdd c.args.page c.args.oldest) c.requires.asks no_filling in
     let e = c.add_slot.ensures in
-    let left = list_left c.args.table.now.table_id c.args.token.now c.args.actor.now c.requires.mine g.L.Sectors.seen
-    g.D.Sectors.seen
-    (op.TakeAdd c.args.page c.args.oldest) c.requires.asks h.0 c.list_slot.result c.list_slot.ensures
-    c.compare_exchange.new.seat
-    c.compare_exchange.ensures.0 c.compare_exchange.result c.compare_exchange.ensures.2
-    c.if-compare_exchange-ne0.false c.slot_mut.result.now c.add_slot.new.slot e.0 c.slot_mut.ensures.value e.1 e.2 in
-    let l = list_leaves c.args.table.now.table_id c.args.token.now c.args.actor.now c.requires.mine g.L.Sectors.seen
-    g.D.Sectors.seen
-    (op.TakeAdd c.args.page c.args.oldest) c.requires.asks h.0 c.list_slot.result c.list_slot.ensures
-    c.compare_exchange.new.seat
-    c.compare_exchange.ensures.0 c.compare_exchange.result c.compare_exchange.ensures.2
-    c.if-compare_exchange-ne0.false
-    g.R.Receiver.stands_for c.took-2.result c.took-2.new.self c.add_slot.new.slot left (c.args.page % 4)
-    c.list_slot.ensures h.1 tt (answer.Taken None) refl
-    c.took-2.ensures in
-    record { mine = l.mine; played = l.played; seat = c.compare_exchange.ensures.1; stays = l.stays }
+    list_leaves c.args.actor.now c.requires g.L.Sectors.seen g.D.Sectors.seen c.list_slot.result
+    c.list_slot.ensures c.compare_exchange.new.seat c.compare_exchange.result c.compare_exchange.ensures
+    c.if-compare_exchange-ne0.false c.slot_mut.result.now c.slot_mut.ensures.value e.0 e.1
+    (answer.Taken None) refl c.add_slot.new.slot e.2 g.R.Receiver.stands_for c.took-2.result c.took-2.new.self c.took-2.ensures

@@ -1,7 +1,6 @@
 use Rattle.std.proofs.Common.{inl, inr, subst, sym, ◌∙◌}
 use Rattle.model_core.specs.Actors as model
-use Rattle.redo_drive.specs.Views.{view_of}
-use Rattle.redo_rule.proofs.Behind.{batch_behind, batch_cleaner, rested, seat_behind, was_cleaner}
+use Rattle.redo_rule.proofs.Took.{rested}
 use Rattle.redo_rule.specs.Seating.{IsSeatOf}
 use Rattle.redo_rule.proofs.playing.play_next.Goals as goal
 
@@ -11,8 +10,7 @@ took-requires g c =
 
 pub returns-in-WriteBatch : goal.returns-in-WriteBatch
 returns-in-WriteBatch g c = record {
-  seat = batch_behind c.args.table.now.table_id c.write_batch.new.token (view_of c.write_batch.new.actor)
-      c.write_batch.ensures.mine c.write_batch.ensures.part;
+  seat = c.write_batch.ensures.seat;
   same = c.write_batch.ensures.same;
   played = inr c.write_batch.ensures.played;
 }
@@ -29,14 +27,10 @@ returns-in-Rest g c =
 
 pub returns-in_default : goal.returns-in_default
 returns-in_default g c = record {
-  seat = seat_behind c.args.table.now.table_id c.args.seat.now _ (view_of c.args.actor.now) (view_of c.play_token.new.actor) c.requires.seat c.play_token.ensures.mine c.play_token.ensures.stays.data_part
-      (was_cleaner g.L.Sectors.seen g.D.Sectors.seen (view_of c.args.actor.now) (view_of c.play_token.new.actor) c.play_token.result c.play_token.ensures.played);
-  same = c.play_token.ensures.stays.seat;
+  seat = c.play_token.ensures.seat;
+  same = c.play_token.ensures.same;
   played = inr c.play_token.ensures.played;
 }
-
-pub write_batch-requires-clause-part : goal.write_batch-requires-clause-part
-write_batch-requires-clause-part g c = c.requires.seat.cleaner (batch_cleaner (view_of c.args.actor.now) (c.requires.asks ∙ c.in-WriteBatch.is))
 
 pub append-requires-clause-asks : goal.append-requires-clause-asks
 append-requires-clause-asks g c = (c.in-Append.field-0, c.requires.asks ∙ c.in-Append.is)

@@ -7,21 +7,19 @@ use Rattle.redo_rule.specs.Plays.{no_filling}
 use Rattle.redo_rule.proofs.steps.load.Goals as goal
 
 pub load-n-requires : goal.load-n-requires
-load-n-requires g c = load_ok c.args.table.now.table_id c.args.token.now (view_of c.args.actor.now)
-    c.requires.mine g.L.Sectors.seen g.L.Sectors.gives g.D.Sectors.seen g.D.Sectors.gives c.args.table.now.key
-    c.args.word c.number_of.result c.requires.asks c.number_of.ensures
+load-n-requires g c = load_ok c.requires.seat.mine g.L.Sectors.seen g.L.Sectors.gives g.D.Sectors.seen
+    g.D.Sectors.gives c.args.table.now.key c.args.word c.number_of.result c.requires.asks
+    c.number_of.ensures
 
 pub took-requires : goal.took-requires
 took-requires g c =
-    let may = may_take g.L.Sectors.seen g.D.Sectors.seen c.requires.mine.who (view_of c.args.actor.now) no_filling
-    (answer.Old c.load-n.result) _ _ _ _ _ c.requires.mine.state
-    (c.load-n.ensures.2 c.requires.mine.who c.requires.mine.one) in
+    let mine = c.requires.seat.mine in
+    let may = may_take g.L.Sectors.seen g.D.Sectors.seen mine.who (view_of c.args.actor.now) no_filling
+    (answer.Old c.load-n.result) _ _ _ _ _ mine.state (c.load-n.ensures.2 mine.who mine.one) in
     record { fits = may.0; mark = may.1 }
 
 pub returns : goal.returns
-returns g c =
-    let l = word_leaves c.args.table.now.table_id c.args.token.now c.args.actor.now c.requires.mine
-    g.L.Sectors.seen g.D.Sectors.seen g.R.Receiver.stands_for c.load-n.new.seat
-    c.load-n.ensures.0 c.took.new.self c.took.result (op.Load c.args.word) c.requires.asks tt tt c.load-n.result
-    c.load-n.ensures.2 c.took.ensures in
-    record { mine = l.mine; played = l.played; seat = c.load-n.ensures.1; stays = l.stays }
+returns g c = word_leaves c.args.actor.now c.requires.seat g.L.Sectors.seen g.D.Sectors.seen g.R.Receiver.stands_for
+    c.load-n.new.seat c.load-n.ensures.0 c.load-n.ensures.1 c.took.new.self c.took.result
+    (op.Load c.args.word) c.requires.asks tt tt c.load-n.result c.load-n.ensures.2
+    c.took.ensures

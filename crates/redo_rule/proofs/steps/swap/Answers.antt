@@ -7,22 +7,19 @@ use Rattle.redo_rule.specs.Plays.{no_filling}
 use Rattle.redo_rule.proofs.steps.swap.Goals as goal
 
 pub compare_exchange-n-requires : goal.compare_exchange-n-requires
-compare_exchange-n-requires g c = swap_ok c.args.table.now.table_id c.args.token.now (view_of c.args.actor.now)
-    c.requires.mine g.L.Sectors.seen g.L.Sectors.gives g.D.Sectors.seen g.D.Sectors.gives c.args.table.now.key
-    c.args.word c.args.old c.args.new c.number_of.result c.requires.asks c.number_of.ensures
+compare_exchange-n-requires g c = swap_ok c.requires.seat.mine g.L.Sectors.seen g.L.Sectors.gives g.D.Sectors.seen
+    g.D.Sectors.gives c.args.table.now.key c.args.word c.args.old c.args.new c.number_of.result c.requires.asks
+    c.number_of.ensures
 
 pub took-requires : goal.took-requires
 took-requires g c =
-    let may = may_take g.L.Sectors.seen g.D.Sectors.seen c.requires.mine.who (view_of c.args.actor.now) no_filling
-    (answer.Old c.compare_exchange-n.result) _ _ _ _ _ c.requires.mine.state
-    (c.compare_exchange-n.ensures.2 c.requires.mine.who c.requires.mine.one) in
+    let mine = c.requires.seat.mine in
+    let may = may_take g.L.Sectors.seen g.D.Sectors.seen mine.who (view_of c.args.actor.now) no_filling
+    (answer.Old c.compare_exchange-n.result) _ _ _ _ _ mine.state (c.compare_exchange-n.ensures.2 mine.who mine.one) in
     record { fits = may.0; mark = may.1 }
 
 pub returns : goal.returns
-returns g c =
-    let l = word_leaves c.args.table.now.table_id c.args.token.now c.args.actor.now c.requires.mine
-    g.L.Sectors.seen g.D.Sectors.seen g.R.Receiver.stands_for c.compare_exchange-n.new.seat
-    c.compare_exchange-n.ensures.0 c.took.new.self c.took.result (op.Swap c.args.word c.args.old c.args.new)
-    c.requires.asks tt tt c.compare_exchange-n.result
-    c.compare_exchange-n.ensures.2 c.took.ensures in
-    record { mine = l.mine; played = l.played; seat = c.compare_exchange-n.ensures.1; stays = l.stays }
+returns g c = word_leaves c.args.actor.now c.requires.seat g.L.Sectors.seen g.D.Sectors.seen g.R.Receiver.stands_for
+    c.compare_exchange-n.new.seat c.compare_exchange-n.ensures.0 c.compare_exchange-n.ensures.1 c.took.new.self c.took.result
+    (op.Swap c.args.word c.args.old c.args.new) c.requires.asks tt tt c.compare_exchange-n.result c.compare_exchange-n.ensures.2
+    c.took.ensures

@@ -8,7 +8,7 @@ use Rattle.redo_ownmachine.proofs.Begins.{have_workers}
 use Rattle.redo_ownrule.proofs.Opened.{opens_players, starts_are, unseated}
 use Rattle.redo_ownrule.proofs.Standing.{work_back}
 use Rattle.redo_ownrule.proofs.shared.Shared.new.Goals as goal
-use Rattle.redo_rule.proofs.Unseated.{about_begins, about_may}
+use Rattle.redo_rule.proofs.Told.{about_begins, about_may}
 use Rattle.redo_rule.specs.Ruled.{starts_about}
 use Rattle.redo_rule.specs.Sharing.{laid}
 use Rattle.redo_rule.specs.declared.law.About.{About}

@@ -1,5 +1,28 @@
-use Rattle.std.proofs.Common.{ap, ◌∙◌}
+use Rattle.std.proofs.Common.{Bool, List, ap, false, length, subst, sym, ◌+◌, ◌∙◌, ◌≡◌}
+use Rattle.redo_follow.specs.Tallying.{Kept}
+use Rattle.redo_ownrule.specs.Players.{AreInOrder, workers}
+use Rattle.redo_ownrule.specs.Sharing.{AreSeatsOf, own_of, table_of}
+use Rattle.redo_ownrule.specs.declared.player.Player.{Player}
+use Rattle.redo_rule.specs.Ruled.{starts_about}
 use Rattle.tests_threads.proofs.seats.store.seated.Goals as goal
 
-pub returns-clause-apart : goal.returns-clause-apart
-returns-clause-apart c = ap (λ b. b.shared.key.archive) c.seats-seats.ensures.same ∙ c.requires.apart
+pub returns : goal.returns
+returns c =
+    let S = c.seats-seats.new.self in
+    let players : List (Player Kept) = c.args.players.items in
+    let seats = c.seats-seats.result.items in
+    let same = c.seats-seats.ensures.same in
+    let own : own_of S ≡ false = ap (λ b. b.shared.key.own_writes) same ∙ c.requires.own in
+    record {
+      seated = c.seats-seats.ensures.seated;
+      own = own;
+      plays = record {
+        seats = subst (λ (o : Bool). AreSeatsOf (table_of S) o seats players) own
+            (subst (λ (l : List (Player Kept)). AreSeatsOf (table_of S) (own_of S) seats l) c.as_slice.ensures.value
+            c.seats-seats.ensures.seats);
+        plain = subst (λ (o : Bool). AreInOrder o players) c.requires.own c.requires.new.order;
+      };
+      all = subst (λ b. length players + workers b.shared.key.own_writes ≡ length (starts_about b.shared.key)) (sym same)
+          c.requires.new.count;
+      apart = ap (λ b. b.shared.key.archive) same ∙ c.requires.apart;
+    }

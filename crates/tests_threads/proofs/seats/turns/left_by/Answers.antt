@@ -1,16 +1,39 @@
-use Rattle.std.proofs.Common.{Bool, List, None, refl, subst, sym}
+use Rattle.std.proofs.Common.{Bool, List, None, ap, map, refl, subst, sym, ◌+◌, ◌∙◌}
 use Rattle.redo_drive.specs.Views.{views_of}
-use Rattle.redo_drive.specs.declared.actor.Actor.{Actor}
 use Rattle.redo_follow.specs.Tallying.{Kept}
-use Rattle.redo_rule.proofs.AtRest.{seated_free}
+use Rattle.redo_ownrule.specs.Players.{actor_of, AreInOrder, workers}
+use Rattle.redo_ownrule.specs.Sharing.{AllAtRest, AreSeatsOf, own_of, table_of}
+use Rattle.redo_ownrule.specs.declared.player.Player.{Player}
 use Rattle.redo_rule.specs.Closing.{TellsLoss}
-use Rattle.redo_rule.specs.Cutting.{AreFreeToCheck}
+use Rattle.tests_threads.proofs.Turned.{seated_rest}
+use Rattle.tests_threads.specs.Playing.{AllMayRest}
 use Rattle.tests_threads.proofs.seats.turns.left_by.Goals as goal
 
-pub all_hold_nothing-requires : goal.all_hold_nothing-requires
-all_hold_nothing-requires g c = subst (λ (l : List (Actor Kept)). AreFreeToCheck (views_of l)) (sym c.as_slice-actors.ensures.value)
-    (seated_free c.ring.result.now.table_id c.play_all.new.seats.items (views_of c.play_all.new.actors.items) c.play_all.ensures.seats)
+pub see_rest-requires : goal.see_rest-requires
+see_rest-requires g c = subst (λ (l : List (Player Kept)). AllMayRest l) (sym c.as_slice.ensures.value)
+    (seated_rest c.ring.result.now.table_id c.play_all.new.seats.items c.play_all.new.players.items
+    c.play_all.ensures.plays)
+
+pub finish-requires-clause-seats : goal.finish-requires-clause-seats
+finish-requires-clause-seats g c =
+    let S = c.in_ok-shared.shared in
+    let seats = c.play_all.new.seats.items in
+    let players : List (Player Kept) = c.play_all.new.players.items in
+    subst (λ (o : Bool). AreSeatsOf (table_of S) o seats players) (sym c.in_ok-shared.ensures.own)
+    (subst (λ s. AreSeatsOf s.table_id _ seats players) c.ring.ensures c.play_all.ensures.plays.seats)
+
+pub finish-requires-clause-order : goal.finish-requires-clause-order
+finish-requires-clause-order g c = subst (λ (o : Bool). AreInOrder o c.play_all.new.players.items)
+    (sym c.in_ok-shared.ensures.own) c.play_all.ensures.plays.plain
+
+pub finish-requires-clause-all : goal.finish-requires-clause-all
+finish-requires-clause-all g c = ap (λ n. n + workers (own_of c.in_ok-shared.shared)) c.play_all.ensures.count
+    ∙ c.in_ok-shared.ensures.all
+
+pub finish-requires-clause-rest : goal.finish-requires-clause-rest
+finish-requires-clause-rest g c = subst (λ (l : List (Player Kept)). AllAtRest l) c.as_slice.ensures.value
+    c.see_rest.ensures
 
 pub finish-requires-clause-lost : goal.finish-requires-clause-lost
-finish-requires-clause-lost g c = subst (λ (b : Bool). TellsLoss b (views_of c.as_slice-actors.result.now) None)
+finish-requires-clause-lost g c = subst (λ (b : Bool). TellsLoss b (views_of (map actor_of c.play_all.new.players.items)) None)
     (sym c.in_ok-shared.ensures.apart) refl

@@ -1,0 +1,29 @@
+-- What was told of a run at its start, as its table is told.
+use Rattle.std.proofs.Common.{Bool, List, subst, sym, ◌≡◌}
+use Rattle.model_core.specs.{Given}
+use Rattle.model_script.specs.declared.script.ScriptLine.{ScriptLine}
+use Rattle.redo_disk.specs.Seen.{Seen}
+use Rattle.redo_drive.specs.Startable.{MayBegin}
+use Rattle.redo_drive.specs.Begins.{BeginsWith}
+use Rattle.redo_drive.specs.declared.making.Beginning.{Beginning}
+use Rattle.redo_store.specs.declared.opened.Opened.{Opened}
+use Rattle.redo_follow.specs.Handing.{Following}
+use Rattle.redo_rule.specs.declared.law.About.{About}
+
+module _ {L D R : Type 0} (log_seen : L → Seen) (data_seen : D → Seen) (stands : R → List Given → Type 0) (about :
+    About L D) (followers : List (Following R)) (opened : Opened L D) (script : List ScriptLine) (log_only : Bool)
+    (opened_is : about.opened.value ≡ opened) (script_is : about.script.value ≡ script) (only_is : about.log_only ≡
+    log_only) where
+  pub about_begins : (start : Beginning L D R)
+      → BeginsWith log_seen data_seen stands opened script log_only about.archive followers start
+      → BeginsWith log_seen data_seen stands about.opened.value about.script.value about.log_only about.archive followers
+      start
+  about_begins start B = subst (λ (o : Opened L D). BeginsWith log_seen data_seen stands o about.script.value
+      about.log_only about.archive followers start) (sym opened_is)
+      (subst (λ (s : List ScriptLine). BeginsWith log_seen data_seen stands opened s about.log_only about.archive
+      followers start) (sym script_is) (subst (λ (b : Bool). BeginsWith log_seen data_seen stands opened script b
+      about.archive followers start) (sym only_is) B))
+
+  pub about_may : MayBegin opened script log_only → MayBegin about.opened.value about.script.value about.log_only
+  about_may M = subst (λ (o : Opened L D). MayBegin o about.script.value about.log_only) (sym opened_is)
+      (subst (λ (s : List ScriptLine). MayBegin opened s about.log_only) (sym script_is) (subst (λ (b : Bool). MayBegin opened script b) (sym only_is) M))
