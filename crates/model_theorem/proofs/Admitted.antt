@@ -1,5 +1,5 @@
 -- What the promise admits.
-use Rattle.std.proofs.Common.{◌≡◌, ℕ, zero, suc, ◌+◌, ◌==◌, Bool, true, false, cond, length, slice_get, ◌≤◌, ◌<◌, List, [], ◌∷◌, Some, Ok, sym, ap, ◌∙◌, refl, subst, arith, inl, inr, ⊎_elim}
+use Rattle.std.proofs.Common.{◌≡◌, ℕ, zero, suc, ◌+◌, ◌==◌, Bool, true, false, cond, length, slice_get, ◌≤◌, ◌<◌, List, [], ◌∷◌, Some, None, Ok, sym, ap, ◌∙◌, refl, subst, arith, inl, inr, ⊎_elim}
 use Rattle.std.specs.Prelude.{take}
 use Rattle.model_base.specs.declared.shape.Shape.{Shape}
 use Rattle.model_store.specs.{folded}
@@ -11,7 +11,7 @@ use Rattle.model_device.specs.declared.write.Write.{Write}
 use Rattle.model_report.specs.{count_up_to, entries_of_user, HasLeft, IsLeft, IsLegal, IsLegalEntry, lines_of_user, wholes_of}
 use Rattle.model_report.specs.declared.entry.Entry.{Entry}
 use Rattle.model_report.specs.declared.entry.State.TheVariants.{Lost, Flushed}
-use Rattle.model_log.specs.{group_length, head_among, head_of, layout_of, lsn_of, newer, newest_checkpoint, read_checkpoint, run_layout, sn_of}
+use Rattle.model_log.specs.{group_length, head_among, head_of, layout_of, lsn_of, newer, newest_checkpoint, read_checkpoint, run_layout, sn_of, start_after}
 use Rattle.model_log.specs.declared.head.Format.{Format}
 use Rattle.model_log.specs.declared.head.Format.TheVariants.{Two}
 use Rattle.model_log.specs.declared.layout.Layout.{Layout}
@@ -21,6 +21,7 @@ use Rattle.model_log.specs.Group as group
 use Rattle.model_log.specs.Record as text
 use Rattle.model_script.specs.{group_of, LineFits, script_end, script_of}
 use Rattle.model_script.specs.Grammar as grammar
+use Rattle.model_script.proofs.Unfit.{fitting-none}
 use Rattle.model_base.specs.{default_shape}
 use Rattle.model_store.specs.Reading.{Reading}
 use Rattle.model_theorem.specs.Crash.{CrashSafe}
@@ -194,7 +195,7 @@ left-none = record {
 pub admits-empty : (found log data_bytes : List ℕ) (opened : Opened) (reading : Reading) → ReadsAsOpened log data_bytes opened reading → MovedCheckpoint found opened reading
     → CrashSafe (empty_call found log data_bytes opened reading) opened (empty_account opened reading)
 admits-empty found log data_bytes opened reading reads held = record {
-  every_script = record { whole = record { all_read = (refl, refl); is_script = empty-text }; fits = record { lines = tt; end = reads.room; room = tt } };
+  every_script = record { whole = record { all_read = (refl, refl); is_script = empty-text }; fits = fitting-none opened.shape (start_after opened.end) None None [] (record { lines = tt; end = reads.room; room = tt }) tt };
   any_stops = record {
     log_device = record { limit = refl; passed_at_most = tt; armed_first = refl; cause = λ some. absurd (omega arith) };
     data_device = record { limit = refl; passed_at_most = tt; armed_first = refl; cause = λ some. absurd (omega arith) };
@@ -280,11 +281,11 @@ pub admits-lost : (found log : List ℕ) (writes : List Write) (reads data_bytes
 admits-lost found log writes reads data_bytes reading as_opened held are ckpt = record {
   every_script = record {
     whole = record { all_read = (refl, refl); is_script = two-text };
-    fits = record {
+    fits = fitting-none default_shape 8204 None None two_lines (record {
       lines = (line-fits 7 (omega arith) seven-short, (line-fits 8 (omega arith) eight-short, tt));
       end = two-end;
       room = tt;
-    };
+    }) tt;
   };
   any_stops = record {
     log_device = record { limit = refl; passed_at_most = tt; armed_first = refl; cause = λ some. inl (inl (omega arith)) };

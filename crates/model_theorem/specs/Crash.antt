@@ -9,13 +9,13 @@ use Rattle.model_store.specs.{HasOldCopies, IsReading, IsUnused}
 use Rattle.model_report.specs.{IsLeft, report_text}
 use Rattle.model_theorem.specs.Opening.{AreUnopened, IsOpenedBefore}
 use Rattle.model_theorem.specs.Run.{IsRun, IsPrefixRead, LosesOnlyByFailure}
-use Rattle.model_theorem.specs.Script.{IsWholeScript, FitsOpened}
+use Rattle.model_theorem.specs.Script.{IsWholeScript, misfit_on}
 use Rattle.model_theorem.specs.Values.{Device, Crash, Opened, Account, entries_of, run_start, marks_of}
 
 -- Every script: where it was run, it fits the store.
 pub record IsEveryScript (crash : Crash) (opened : Opened) (account : Account) : Type 0 where
   pub whole : IsWholeScript crash.source crash.source_left account.text account.script
-  pub fits : IfSome account.run (λ run. FitsOpened crash.options.log_only opened account.script)
+  pub fits : IfSome account.run (λ run. misfit_on crash.options.log_only None opened account.script ≡ None)
 
 -- the fuse has passed on as many calls as it was to
 abbrev pub HasPassedAll : Option ℕ → ℕ → Type 0

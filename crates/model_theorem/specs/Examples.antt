@@ -20,7 +20,7 @@ use Rattle.model_store.specs.Reading.{Reading}
 use Rattle.model_report.specs.declared.entry.Entry.{Entry}
 use Rattle.model_report.specs.declared.entry.Followed.{Followed}
 use Rattle.model_report.specs.declared.entry.State.TheVariants.{Lost, Flushed}
-use Rattle.model_theorem.specs.Opening.{HeldOlder}
+use Rattle.model_theorem.specs.Older.{HeldOlder}
 use Rattle.model_theorem.specs.Values.{CrashOptions, Device, Crash, Opened, Ran, Account, entries_of, run_start, marks_of}
 
 -- REFUSED.

@@ -4,6 +4,7 @@ pub mod Crashed
 pub mod Examples
 pub mod Given
 pub mod Kept
+pub mod Older
 pub mod Opening
 pub mod Premises
 pub mod Run
@@ -16,10 +17,11 @@ pub use Rattle.model_theorem.specs.Crash.{AreAnyStops, AreArmedFirst, CrashSafe,
 pub use Rattle.model_theorem.specs.Crashed.{IsCrashOf, before_crash}
 pub use Rattle.model_theorem.specs.Given.{AreGiven}
 pub use Rattle.model_theorem.specs.Kept.{DataHolds, HasPassed, IsKeptPrefix, copy_of}
-pub use Rattle.model_theorem.specs.Opening.{AreUnopened, HasCheckpoint, HasCheckpointFrom, HeldOlder, IsOpenedBefore}
+pub use Rattle.model_theorem.specs.Older.{HeldOlder}
+pub use Rattle.model_theorem.specs.Opening.{AreUnopened, HasCheckpoint, HasCheckpointFrom, IsOpenedBefore}
 pub use Rattle.model_theorem.specs.Premises.{IsSettledAtEntry}
 pub use Rattle.model_theorem.specs.Run.{IsPrefixRead, IsRun, LosesOnlyByFailure, ReadsPrefix, RunSafe}
-pub use Rattle.model_theorem.specs.Script.{FitsOpened, IsWholeScript, room_of}
+pub use Rattle.model_theorem.specs.Script.{IsWholeScript, misfit_on, room_of}
 pub use Rattle.model_theorem.specs.Start.{IsStart, opened_as}
 pub use Rattle.model_theorem.specs.Stored.{IsBatchPrefix, IsEither, IsStored}
 pub use Rattle.model_theorem.specs.Values.{Account, CrashOptions, Device, Opened, Ran, RunResult, Stop, entries_of, marks_of, run_start}

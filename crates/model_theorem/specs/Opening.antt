@@ -1,7 +1,7 @@
 -- Whether opening came to its end, as the log device tells it. Opening ends by making a checkpoint durable, whose number is
 -- above that of the store that was found; a store of format 1 then gets the header of format 2, which comes last. A run
 -- begins only after that.
-use Rattle.std.specs.Prelude.{ℕ, ◌≡◌, ◌≤◌, ◌<◌, ◌+◌, List, Option, Some, None}
+use Rattle.std.specs.Prelude.{ℕ, ◌≡◌, ◌≤◌, ◌+◌, List, Option, Some, None}
 use Rattle.model_base.specs.{default_shape}
 use Rattle.model_base.specs.declared.shape.Shape.{Shape}
 use Rattle.model_device.specs.{HasOneImage}
@@ -39,14 +39,6 @@ pub record HasCheckpointFrom (shape : Shape) (lowest : ℕ) (log : List ℕ) : T
   pub ckpt : ℕ
   pub newest : HasCheckpoint Two shape number ckpt log
   pub from : lowest ≤ number
-
--- at its last good sync the log device held a newest checkpoint, of a lower number than this
-pub record HeldOlder (shape : Shape) (number : ℕ) (disk : Disk) : Type 0 where
-  pub format : Format
-  pub found : ℕ
-  pub ckpt : ℕ
-  pub newest : HasCheckpoint format shape found ckpt disk.base
-  pub older : found < number
 
 -- Opening came to its end: every fair image of the log device is of format 2, and has a newer checkpoint than stood there,
 -- at its last good sync, when its fuse was armed.

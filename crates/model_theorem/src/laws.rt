@@ -10,7 +10,8 @@ ghost use Rattle.model_store.specs.{IsFair, IsFairLog, IsReading, IsStorable, pa
 ghost use Rattle.model_store.specs.Reading.{Reading};
 ghost use Rattle.model_store.specs.declared.refusal.Refusal.{Refusal};
 ghost use Rattle.model_theorem.specs.Crash.{CrashSafe, failures_of};
-ghost use Rattle.model_theorem.specs.Opening.{HasCheckpointFrom, HeldOlder, IsOpenedBefore};
+ghost use Rattle.model_theorem.specs.Older.{HeldOlder};
+ghost use Rattle.model_theorem.specs.Opening.{HasCheckpointFrom, IsOpenedBefore};
 ghost use Rattle.model_theorem.specs.Run.{IsPrefixRead, ReadsPrefix, RunSafe};
 ghost use Rattle.model_theorem.specs.Values.{Account, Crash, Opened};
 ghost use Rattle.model_theorem.specs.Closed.{Held, IsClosed, IsHeld};

@@ -15,7 +15,7 @@ use Rattle.model_script.specs.declared.script.ScriptLine.{ScriptLine}
 use Rattle.model_store.specs.{HasOldCopies, IsReading, Opens}
 use Rattle.model_store.specs.Reading.{Reading}
 use Rattle.model_store.specs.declared.refusal.Refusal.{Refusal}
-use Rattle.model_theorem.specs.{Account, CrashSafe, entries_of, FitsOpened, LosesOnlyByFailure, Opened, Ran, ReadsPrefix}
+use Rattle.model_theorem.specs.{Account, CrashSafe, entries_of, LosesOnlyByFailure, misfit_on, Opened, Ran, ReadsPrefix}
 use Rattle.model_theorem.specs.Premises.{Premises}
 use Rattle.model_theorem.specs.Values as values
 use Rattle.redo_drive.specs.declared.drive.RunEnd.TheVariants.{Done}
@@ -266,10 +266,10 @@ module _ (call : LabCall) (drives : Drives) (later : DrivesLater drives call.dri
             → log_was.now.tells ≢ None → data_was.now.tells ≢ None
             → Opens log.reads data_disk.reads opened.shape opened.pages opened.end
             → IfSome run (λ run. HasRunScript (before call drives log_was data_was) asked drive left_by.opened script run follows Done log_was.now.tells data_was.now.tells)
-            → IfSome run (λ run. FitsOpened drive.log_only opened script)
+            → IfSome run (λ run. misfit_on drive.log_only None opened script ≡ None)
         fits-on None log data_disk log_is data_is log_on data_on opens took = tt
         fits-on (Some run) log data_disk log_is data_is log_on data_on opens took =
-            subst (λ (o : Opened). FitsOpened drive.log_only o script) (one-opened laws log data_disk left_by.opened opened (took.opens log data_disk log_is data_is log_on data_on) opens) took.fits
+            subst (λ (o : Opened). misfit_on drive.log_only None o script ≡ None) (one-opened laws log data_disk left_by.opened opened (took.opens log data_disk log_is data_is log_on data_on) opens) took.fits
 
     crash-text : IsCrashText call drive stops.log stops.store pick workers text
     crash-text = record {
