@@ -11,7 +11,7 @@ use Rattle.model_log.specs.declared.head.Format.{Format}
 use Rattle.model_log.specs.declared.head.Format.TheVariants.{Two}
 use Rattle.model_log.specs.declared.head.Head.TheVariants.{Good}
 use Rattle.model_parts.specs.{formatted_store, IsUnopened}
-use Rattle.model_store.specs.{IsFairLog, IsOrderly, IsUnused}
+use Rattle.model_store.specs.{IsFairLog, IsOrderly}
 use Rattle.model_theorem.specs.Values.{Ran}
 
 -- the devices are at rest, and hold what formatting leaves, with the checkpoint of number 0, which the first opening
@@ -20,13 +20,6 @@ pub record AreFormatted (log_disk data_disk : Disk) : Type 0 where
   pub log_rests : HasOneImage log_disk log_disk.reads
   pub data_rests : HasOneImage data_disk data_disk.reads
   pub orderly : IsOrderly log_disk.reads data_disk.reads (formatted_store default_shape)
-
--- The devices when their fuses were armed: as formatting leaves them, where the log device was unused when it was handed
--- in; else as they were handed in.
-pub record AreUnopened (log_entry data_entry log_armed data_armed : Disk) : Type 0 where
-  pub unused : IsUnused log_entry.reads → AreFormatted log_armed data_armed
-  pub log_in_use : (IsUnused log_entry.reads → ⊥) → log_armed ≡ log_entry
-  pub data_in_use : (IsUnused log_entry.reads → ⊥) → data_armed ≡ data_entry
 
 -- the bytes of a log device are of this format, and this is their newest checkpoint
 pub record HasCheckpoint (format : Format) (shape : Shape) (number ckpt : ℕ) (log : List ℕ) : Type 0 where

@@ -22,13 +22,14 @@ use Rattle.model_script.specs.declared.words.TheConstants.{MAX_TURNS}
 use Rattle.model_store.specs.{IsUnused, IsReading, Opens}
 use Rattle.model_store.specs.declared.refusal.Refusal.{Refusal}
 use Rattle.model_store.specs.declared.refusal.Refusal.TheVariants.{SmallLog}
-use Rattle.model_theorem.specs.{misfit_on, Opened, Ran, IsSettledAtEntry, IsRun}
+use Rattle.model_theorem.specs.{misfit_on, Opened, Ran, IsRun}
 use Rattle.redo_drive.specs.declared.drive.RunEnd.TheVariants.{Spent}
 use Rattle.redo_memdisk.specs.declared.fuse.Stage.TheVariants.{Before}
 use Rattle.redo_lab.specs.Archived.{IsArchived}
-use Rattle.redo_lab.specs.Answer.{AreCrashedAs, asked_shape}
+use Rattle.redo_lab.specs.Answer.{asked_shape}
 use Rattle.redo_lab.specs.Asked.{IsBadLine, IsLongScript, IsScriptFor, IsScriptRead, drive_of, drive_of_seed, reads_script, runs_script}
-use Rattle.redo_lab.specs.Call.{HaveSameContents, AreUnfailedFor, LabCall, BothDevices, Guarded, IsInRun, IsUnfailed, IsUnwritten, Unfused, WhereArchiveTold, WhereToldAtEntry, WhereToldNow, IsLeftFair, WhereOpened}
+use Rattle.redo_lab.specs.Call.{HaveSameContents, AreUnfailedFor, IsSettledAtEntry, LabCall, BothDevices, Guarded, IsInRun, IsUnfailed, IsUnwritten, Unfused, WhereArchiveTold, WhereToldAtEntry, WhereToldNow, IsLeftFair, WhereOpened}
+use Rattle.redo_lab.specs.Crash.{AreCrashedAs}
 use Rattle.redo_lab.specs.Store.{AreReadAsPrefix, AreRefused, DevicesOpenAs, IsTooShort}
 use Rattle.redo_lab.specs.Told.{AreLeftRead, HasRunScript, IsOpenedFirst}
 use Rattle.model_base.specs.declared.limits.TheConstants.{MAX_SCRIPT}
