@@ -1,5 +1,5 @@
 -- The two halves of what is promised: what a run is, and what a reading of its devices is of it.
-use Rattle.std.specs.Prelude.{ℕ, ◌≡◌, ◌≢◌, ◌≤◌, ◌<◌, ◌+◌, List, [], take, slice_get, Option, Some, None, IfSome}
+use Rattle.std.specs.Prelude.{ℕ, ◌≡◌, ◌≢◌, ◌≤◌, ◌<◌, List, [], take, slice_get, Option, Some, None, IfSome}
 use Rattle.model_log.specs.{IsBoundary, start_after}
 use Rattle.model_store.specs.{folded, HasOldCopies, IsReading}
 use Rattle.model_store.specs.Reading.{Reading}
