@@ -1,17 +1,17 @@
--- What the promise admits.
-use Rattle.std.proofs.Common.{◌≡◌, ℕ, zero, suc, ◌+◌, ◌==◌, Bool, true, false, cond, length, slice_get, ◌≤◌, ◌<◌, List, [], ◌∷◌, Some, Ok, sym, ap, ◌∙◌, refl, subst, arith, inl, inr, ⊎_elim}
+-- What the parts of the promise admit together.
+use Rattle.std.proofs.Common.{◌≡◌, ℕ, zero, suc, ◌+◌, ◌==◌, Bool, true, false, cond, length, slice_get, ◌≤◌, ◌<◌, List, [], ◌∷◌, Some, None, Ok, sym, ap, ◌∙◌, refl, subst, arith, inl, inr, ⊎_elim}
 use Rattle.std.specs.Prelude.{take}
 use Rattle.model_base.specs.declared.shape.Shape.{Shape}
 use Rattle.model_store.specs.{folded}
 use Rattle.std.proofs.lemmas.Bool.{eqb-true}
 use Rattle.model_base.specs.Lines as lines
-use Rattle.model_device.specs.{IsCovered, IsImage, sector, settled}
+use Rattle.model_device.specs.{Crashes, IsCovered, IsImage, sector, settled}
 use Rattle.model_device.specs.Disk.{Disk}
 use Rattle.model_device.specs.declared.write.Write.{Write}
 use Rattle.model_report.specs.{count_up_to, entries_of_user, HasLeft, IsLeft, IsLegal, IsLegalEntry, lines_of_user, wholes_of}
 use Rattle.model_report.specs.declared.entry.Entry.{Entry}
 use Rattle.model_report.specs.declared.entry.State.TheVariants.{Lost, Flushed}
-use Rattle.model_log.specs.{group_length, head_among, head_of, layout_of, lsn_of, newer, newest_checkpoint, read_checkpoint, run_layout, sn_of}
+use Rattle.model_log.specs.{group_length, head_among, head_of, layout_of, lsn_of, newer, newest_checkpoint, read_checkpoint, run_layout, sn_of, start_after}
 use Rattle.model_log.specs.declared.head.Format.{Format}
 use Rattle.model_log.specs.declared.head.Format.TheVariants.{Two}
 use Rattle.model_log.specs.declared.layout.Layout.{Layout}
@@ -21,15 +21,15 @@ use Rattle.model_log.specs.Group as group
 use Rattle.model_log.specs.Record as text
 use Rattle.model_script.specs.{group_of, LineFits, script_end, script_of}
 use Rattle.model_script.specs.Grammar as grammar
+use Rattle.model_script.proofs.Unfit.{fitting-none}
 use Rattle.model_base.specs.{default_shape}
 use Rattle.model_store.specs.Reading.{Reading}
-use Rattle.model_theorem.specs.Crash.{CrashSafe}
 use Rattle.model_base.specs.declared.limits.TheConstants.{LSN_LIMIT, START_LSN}
 use Rattle.model_theorem.specs.Values.{Opened}
 use Rattle.model_parts.specs.{IsUnopened}
 use Rattle.model_theorem.specs.Opening.{HasCheckpoint, IsOpeningDone, IsOpeningStopped}
 use Rattle.model_theorem.proofs.Refused.{base-image}
-use Rattle.model_theorem.specs.Examples.{AreOfBlocks, MovedCheckpoint, new_store, ReadsAsOpened, lost_run, line_of_value, two_lines, text_of_two, text_of_one, empty_account, empty_call, lost_account, lost_call, stopped_account, stopped_call}
+use Rattle.model_theorem.specs.Examples.{AreOfBlocks, IsAdmitted, MovedCheckpoint, new_store, ReadsAsOpened, lost_run, line_of_value, two_lines, text_of_two, text_of_one, empty_crash, lost_crash, stopped_crash}
 use Rattle.model_log.specs.declared.layout.TheConstants.{HEADER_BLOCKS, HEADER_BYTES}
 
 -- WHAT STANDS IN THE HEADER while only log blocks are written
@@ -191,21 +191,16 @@ left-none = record {
   no_other = λ user count more has. absurd (omega arith);
 }
 
+-- what was synced is kept
+kept-settled : (bytes : List ℕ) → Crashes (settled bytes) (settled bytes)
+kept-settled bytes = record { image = bytes; possible = base-image (settled bytes); left = refl }
+
 pub admits-empty : (found log data_bytes : List ℕ) (opened : Opened) (reading : Reading) → ReadsAsOpened log data_bytes opened reading → MovedCheckpoint found opened reading
-    → CrashSafe (empty_call found log data_bytes opened reading) opened (empty_account opened reading)
+    → IsAdmitted (empty_crash found log data_bytes opened reading)
 admits-empty found log data_bytes opened reading reads held = record {
-  every_script = record { whole = record { all_read = (refl, refl); is_script = empty-text }; fits = record { lines = tt; end = reads.room; room = tt } };
-  any_stops = record {
-    log_device = record { limit = refl; passed_at_most = tt; armed_first = refl; cause = λ some. absurd (omega arith) };
-    data_device = record { limit = refl; passed_at_most = tt; armed_first = refl; cause = λ some. absurd (omega arith) };
-    armed_first = record {
-      opening_counted = omega arith;
-      unopened = record { unused = λ unused. absurd (held.in_use unused); log_in_use = λ used. refl; data_in_use = λ used. refl };
-      log_calls = λ used. omega arith;
-      data_calls = λ used. refl;
-    };
-  };
-  prints = record { taken = refl; report = refl; left_is = left-none };
+  is_script = empty-text;
+  fits = fitting-none opened.shape (start_after opened.end) None None [] (record { lines = tt; end = reads.room; room = tt }) tt;
+  left_is = left-none;
   in_lsn_order = record {
     start = refl;
     legal = record { tiled = tt; each = λ i entry is. cc; in_order = λ user i entry is. cc; lost_last = λ user i entry is lost. cc };
@@ -215,12 +210,9 @@ admits-empty found log data_bytes opened reading reads held = record {
     write_within = omega arith;
   };
   opened_first = opening-done found log data_bytes [] log opened reading reads held tt;
-  read_from_devices = record {
-    log_device = record { pick_is = refl; kept = base-image (settled log); one_image = refl; unchanged_since = refl; unfailed_since = refl };
-    data_device = record { pick_is = refl; kept = base-image (settled data_bytes); one_image = refl; unchanged_since = refl; unfailed_since = refl };
-    is_read = reads.is_read;
-    old_copies = reads.old_copies;
-  };
+  kept = (kept-settled log, kept-settled data_bytes);
+  read_from_devices = reads.is_read;
+  old_copies = reads.old_copies;
   first_groups_whole = record {
     shape = reads.shape;
     first_groups_whole = reads.pages;
@@ -276,27 +268,15 @@ none-first : (end : ℕ) → end ≡ 8204 → count_up_to end lost_run.entries �
 none-first end is = ap (λ end. count_up_to end lost_run.entries) is
 
 pub admits-lost : (found log : List ℕ) (writes : List Write) (reads data_bytes : List ℕ) (reading : Reading) → ReadsAsOpened log data_bytes new_store reading
-    → MovedCheckpoint found new_store reading → AreOfBlocks writes → START_LSN ≤ reading.ckpt → CrashSafe (lost_call found log writes reads data_bytes reading) new_store (lost_account reading)
+    → MovedCheckpoint found new_store reading → AreOfBlocks writes → START_LSN ≤ reading.ckpt → IsAdmitted (lost_crash found log writes reads data_bytes reading)
 admits-lost found log writes reads data_bytes reading as_opened held are ckpt = record {
-  every_script = record {
-    whole = record { all_read = (refl, refl); is_script = two-text };
-    fits = record {
-      lines = (line-fits 7 (omega arith) seven-short, (line-fits 8 (omega arith) eight-short, tt));
-      end = two-end;
-      room = tt;
-    };
-  };
-  any_stops = record {
-    log_device = record { limit = refl; passed_at_most = tt; armed_first = refl; cause = λ some. inl (inl (omega arith)) };
-    data_device = record { limit = refl; passed_at_most = tt; armed_first = refl; cause = λ some. absurd (omega arith) };
-    armed_first = record {
-      opening_counted = omega arith;
-      unopened = record { unused = λ unused. absurd (held.in_use unused); log_in_use = λ used. refl; data_in_use = λ used. refl };
-      log_calls = λ used. omega arith;
-      data_calls = λ used. refl;
-    };
-  };
-  prints = record { taken = refl; report = refl; left_is = left-one two_lines lost_run.entries refl others-of-two };
+  is_script = two-text;
+  fits = fitting-none default_shape 8204 None None two_lines (record {
+    lines = (line-fits 7 (omega arith) seven-short, (line-fits 8 (omega arith) eight-short, tt));
+    end = two-end;
+    room = tt;
+  }) tt;
+  left_is = left-one two_lines lost_run.entries refl others-of-two;
   in_lsn_order = record {
     start = refl;
     legal = legal-lost;
@@ -306,12 +286,12 @@ admits-lost found log writes reads data_bytes reading as_opened held are ckpt = 
     write_within = omega arith;
   };
   opened_first = opening-done found log data_bytes writes reads new_store reading as_opened held are;
-  read_from_devices = record {
-    log_device = record { pick_is = refl; kept = record { same_length = refl; each = λ k below. inl refl }; one_image = refl; unchanged_since = refl; unfailed_since = refl };
-    data_device = record { pick_is = refl; kept = base-image (settled data_bytes); one_image = refl; unchanged_since = refl; unfailed_since = refl };
-    is_read = as_opened.is_read;
-    old_copies = as_opened.old_copies;
-  };
+  kept = (
+    record { image = log; possible = record { same_length = refl; each = λ k below. inl refl }; left = refl },
+    kept-settled data_bytes,
+  );
+  read_from_devices = as_opened.is_read;
+  old_copies = as_opened.old_copies;
   first_groups_whole = record {
     shape = as_opened.shape;
     first_groups_whole = as_opened.pages ∙ sym (ap (λ n. folded new_store.pages (take n (wholes_of two_lines 1 lost_run.entries))) (none-first reading.end as_opened.end));
@@ -324,28 +304,16 @@ admits-lost found log writes reads data_bytes reading as_opened held are ckpt = 
 }
 
 pub admits-stopped : (log data_bytes : List ℕ) (reading : Reading) → ReadsAsOpened log data_bytes new_store reading
-    → CrashSafe (stopped_call log data_bytes reading) new_store (stopped_account reading)
+    → IsAdmitted (stopped_crash log data_bytes reading)
 admits-stopped log data_bytes reading as_opened = record {
-  every_script = record { whole = record { all_read = (refl, refl); is_script = one-text }; fits = tt };
-  any_stops = record {
-    log_device = record { limit = refl; armed_first = refl; passed_at_most = omega arith; cause = λ some. inr (omega arith) };
-    data_device = record { limit = refl; passed_at_most = tt; armed_first = refl; cause = λ some. absurd (omega arith) };
-    armed_first = record {
-      opening_counted = omega arith;
-      unopened = record { unused = λ unused. absurd (as_opened.in_use unused); log_in_use = λ used. refl; data_in_use = λ used. refl };
-      log_calls = λ used. omega arith;
-      data_calls = λ used. refl;
-    };
-  };
-  prints = record { taken = refl; report = refl; left_is = left-one (line_of_value 7 ∷ []) [] refl others-of-one };
+  is_script = one-text;
+  fits = tt;
+  left_is = left-one (line_of_value 7 ∷ []) [] refl others-of-one;
   in_lsn_order = tt;
-  opened_first = opening-stopped log data_bytes new_store reading (record { base = log; writes = []; reads = log }) as_opened refl;
-  read_from_devices = record {
-    log_device = record { pick_is = refl; kept = record { same_length = refl; each = λ k below. inl refl }; one_image = refl; unchanged_since = refl; unfailed_since = refl };
-    data_device = record { pick_is = refl; kept = base-image (settled data_bytes); one_image = refl; unchanged_since = refl; unfailed_since = refl };
-    is_read = as_opened.is_read;
-    old_copies = as_opened.old_copies;
-  };
+  opened_first = opening-stopped log data_bytes new_store reading (settled log) as_opened refl;
+  kept = (kept-settled log, kept-settled data_bytes);
+  read_from_devices = as_opened.is_read;
+  old_copies = as_opened.old_copies;
   first_groups_whole = record {
     shape = as_opened.shape;
     first_groups_whole = as_opened.pages;

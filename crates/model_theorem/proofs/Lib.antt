@@ -7,6 +7,5 @@ pub mod Later
 pub mod Numbered
 pub mod Pages
 pub mod Refused
-pub mod Safe
 pub mod Start
 pub mod Stored

@@ -16,7 +16,8 @@ use Rattle.model_parts.specs.declared.marks.TailMarks.{TailMarks}
 use Rattle.model_parts.proofs.Torn.{stands-sector}
 use Rattle.model_parts.specs.declared.marks.LogMarks.{LogMarks}
 use Rattle.model_parts.proofs.LogImages.{header-below, place-cases, when_less, when_not_less}
-use Rattle.model_theorem.specs.Opening.{HasCheckpointFrom, HeldOlder, IsOpenedBefore}
+use Rattle.model_theorem.specs.Older.{HeldOlder}
+use Rattle.model_theorem.specs.Opening.{HasCheckpointFrom, IsOpenedBefore}
 use Rattle.model_theorem.specs.Closed.{Held, IsHeld, groups_of_run}
 use Rattle.model_log.specs.declared.layout.TheConstants.{HEADER_BLOCKS}
 

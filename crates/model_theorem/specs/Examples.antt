@@ -1,113 +1,66 @@
--- Calls that the promise is tried on: what it refuses, and what it admits.
-use Rattle.std.specs.Prelude.{ℕ, false, ◌≡◌, ◌≢◌, ◌≤◌, ◌<◌, ◌⊎◌, List, [], ◌∷◌, codes, slice_get, Option, Some, None}
+-- Runs that the promise is tried on: what its parts refuse, and what they admit together.
+use Rattle.std.specs.Prelude.{ℕ, false, ◌≡◌, ◌≢◌, ◌≤◌, ◌<◌, ◌⊎◌, List, [], ◌∷◌, codes, Option, Some, None, Ok, IfSome}
 use Rattle.std.specs.List.{AllByRecursion}
 use Rattle.model_base.specs.{default_shape}
 use Rattle.model_base.specs.declared.limits.TheConstants.{FIRST_DATA_LSN, LSN_LIMIT}
+use Rattle.model_base.specs.declared.shape.Shape.{Shape}
 use Rattle.model_page.specs.{blank_pages}
-use Rattle.model_device.specs.{settled}
+use Rattle.model_device.specs.{Crashes, settled}
+use Rattle.model_device.specs.Disk.{Disk}
 use Rattle.model_device.specs.declared.write.Write.{Write}
 use Rattle.model_log.specs.{head_of, layout_of, newest_checkpoint, run_layout, start_after}
 use Rattle.model_log.specs.declared.head.Format.{Format}
 use Rattle.model_log.specs.declared.head.Format.TheVariants.{Two}
 use Rattle.model_log.specs.declared.head.Head.TheVariants.{Good}
 use Rattle.model_log.specs.declared.layout.TheConstants.{HEADER_BYTES}
-use Rattle.model_report.specs.{report_text}
-use Rattle.model_script.specs.{script_end}
+use Rattle.model_script.specs.{script_end, script_of}
 use Rattle.model_script.specs.declared.item.Item.TheVariants.{Num}
 use Rattle.model_script.specs.declared.script.ScriptLine.{ScriptLine}
-use Rattle.model_store.specs.{HasOldCopies, IsReading, IsUnused}
+use Rattle.model_store.specs.{HasOldCopies, IsReading}
 use Rattle.model_store.specs.Reading.{Reading}
+use Rattle.model_report.specs.{IsLeft}
 use Rattle.model_report.specs.declared.entry.Entry.{Entry}
-use Rattle.model_report.specs.declared.entry.Followed.{Followed}
 use Rattle.model_report.specs.declared.entry.State.TheVariants.{Lost, Flushed}
-use Rattle.model_theorem.specs.Opening.{HeldOlder}
-use Rattle.model_theorem.specs.Values.{CrashOptions, Device, Crash, Opened, Ran, Account, entries_of, run_start, marks_of}
+use Rattle.model_theorem.specs.Older.{HeldOlder}
+use Rattle.model_theorem.specs.Opening.{IsOpenedBefore}
+use Rattle.model_theorem.specs.Run.{IsPrefixRead, IsRun, LosesOnlyByFailure}
+use Rattle.model_theorem.specs.Script.{misfit_on}
+use Rattle.model_theorem.specs.Values.{Opened, Ran, entries_of}
 
 -- REFUSED.
 
 -- the only group was printed as flushed, and what was read afterwards ends below it
-pub record LacksFlushedGroup (account : Account) : Type 0 where
-  pub run : Ran
+pub record LacksFlushedGroup (run : Ran) (reading : Reading) : Type 0 where
   pub entry : Entry
-  pub ran : account.run ≡ Some run
   pub only : run.entries ≡ entry ∷ []
   pub flushed : entry.state ≡ Flushed
-  pub lacks : account.reading.end < entry.end
+  pub lacks : reading.end < entry.end
 
 -- two groups were printed, of which the second doesn't start where the first ends
-pub record HasGap (account : Account) : Type 0 where
-  pub run : Ran
+pub record HasGap (run : Ran) : Type 0 where
   pub first : Entry
   pub second : Entry
-  pub ran : account.run ≡ Some run
   pub both : run.entries ≡ first ∷ second ∷ []
   pub gap : second.start ≢ first.end
 
--- the run starts elsewhere than after the opened log
-pub record StartsElsewhere (opened : Opened) (account : Account) : Type 0 where
-  pub run : Ran
-  pub ran : account.run ≡ Some run
-  pub elsewhere : run.start ≢ start_after opened.end
+-- at the log device's last good sync its header and its newest checkpoint were those that were found
+pub record IsStillUnopened (shape : Shape) (armed_from crashed_from : Disk) : Type 0 where
+  pub head : head_of crashed_from.base ≡ head_of armed_from.base
+  pub unmoved : (format : Format) → newest_checkpoint (layout_of format shape) crashed_from.base
+      ≡ newest_checkpoint (layout_of format shape) armed_from.base
 
--- opening was stopped, and the pages aren't those that were opened
-pub record ChangesPages (opened : Opened) (account : Account) : Type 0 where
-  pub stopped : account.run ≡ None
-  pub changed : account.reading.pages ≢ opened.pages
-
--- a group was lost, and no call of a device failed
-pub record LosesForNothing (crash : Crash) (account : Account) : Type 0 where
-  pub i : ℕ
-  pub entry : Entry
-  pub at : slice_get (entries_of account.run) i ≡ Some entry
-  pub lost : entry.state ≡ Lost
-  pub log_well : crash.log_device.stop.failures ≡ 0
-  pub data_well : crash.data_device.stop.failures ≡ 0
-
--- a run is told, and at the log device's last good sync its header and its newest checkpoint were those that were found
-pub record RunsUnopened (crash : Crash) (opened : Opened) (account : Account) : Type 0 where
-  pub run : Ran
-  pub ran : account.run ≡ Some run
-  pub head : head_of crash.log_device.crashed_from.base ≡ head_of crash.log_device.armed_from.base
-  pub unmoved : (format : Format) → newest_checkpoint (layout_of format opened.shape) crash.log_device.crashed_from.base
-      ≡ newest_checkpoint (layout_of format opened.shape) crash.log_device.armed_from.base
-
--- opening is told as stopped, and at the log device's last good sync its header was another than was found, or the newest
--- checkpoint was, in format 2
-pub record StopsOpened (crash : Crash) (opened : Opened) (account : Account) : Type 0 where
-  pub stopped : account.run ≡ None
-  pub moved : (head_of crash.log_device.crashed_from.base ≢ head_of crash.log_device.armed_from.base)
-      ⊎ ((head_of crash.log_device.armed_from.base ≡ Good Two opened.shape)
-      × (newest_checkpoint (run_layout opened.shape) crash.log_device.crashed_from.base
-      ≢ newest_checkpoint (run_layout opened.shape) crash.log_device.armed_from.base))
-
--- a device was stopped otherwise than the words ask
-abbrev pub StopsOtherwise : Crash → Type 0
-StopsOtherwise crash =
-    (crash.log_device.stop.limit ≢ crash.options.stop_log) ⊎ (crash.data_device.stop.limit ≢ crash.options.stop_data)
-
--- the words ask for no stop, opening was stopped, and neither of the devices has failed
-pub record StopsForNothing (crash : Crash) (account : Account) : Type 0 where
-  pub log_unasked : crash.options.stop_log ≡ None
-  pub data_unasked : crash.options.stop_data ≡ None
-  pub stopped : account.run ≡ None
-  pub log_can_count : crash.log_device.faults_at_entry < 1
-  pub data_can_count : crash.data_device.faults_at_entry < 1
-  pub log_well : crash.log_device.faults ≡ 0
-  pub data_well : crash.data_device.faults ≡ 0
-
--- the log device was unused, and when its fuse was armed the store had been opened
-pub record ArmsLate (crash : Crash) : Type 0 where
-  pub unused : IsUnused crash.log_device.at_entry.reads
-  pub reading : Reading
-  pub is_read : IsReading crash.log_device.armed_from.reads crash.data_device.armed_from.reads reading
-  pub was_opened : 0 < reading.number
+-- at the log device's last good sync its header was another than was found, or the newest checkpoint was, in format 2
+abbrev pub WasOpened : Shape → (armed_from crashed_from : Disk) → Type 0
+WasOpened shape armed_from crashed_from =
+    (head_of crashed_from.base ≢ head_of armed_from.base)
+    ⊎ ((head_of armed_from.base ≡ Good Two shape)
+    × (newest_checkpoint (run_layout shape) crashed_from.base ≢ newest_checkpoint (run_layout shape) armed_from.base))
 
 -- ADMITTED.
 
--- The devices were in use, and hold these bytes after a run that logged nothing: they are read as the store that was
+-- The devices hold these bytes after a run that logged nothing: they are read as the store that was
 -- opened, and the log ends where the run starts.
 pub record ReadsAsOpened (log data_bytes : List ℕ) (opened : Opened) (reading : Reading) : Type 0 where
-  pub in_use : IsUnused log → ⊥
   pub room : script_end opened.shape (start_after opened.end) [] < LSN_LIMIT
   pub is_read : IsReading log data_bytes reading
   pub old_copies : HasOldCopies data_bytes reading
@@ -115,10 +68,9 @@ pub record ReadsAsOpened (log data_bytes : List ℕ) (opened : Opened) (reading 
   pub pages : reading.pages ≡ opened.pages
   pub end : reading.end ≡ start_after opened.end
 
--- The log device was in use and held these bytes when its fuse was armed, with an older checkpoint than is read, which is
+-- The log device held these bytes when its fuse was armed, with an older checkpoint than is read, which is
 -- one of format 2.
 pub record MovedCheckpoint (found : List ℕ) (opened : Opened) (reading : Reading) : Type 0 where
-  pub in_use : IsUnused found → ⊥
   pub older : HeldOlder opened.shape reading.number (settled found)
   pub format : reading.format ≡ Two
 
@@ -126,83 +78,34 @@ pub record MovedCheckpoint (found : List ℕ) (opened : Opened) (reading : Readi
 abbrev pub AreOfBlocks : List Write → Type 0
 AreOfBlocks writes = AllByRecursion (λ (write : Write). HEADER_BYTES ≤ write.at) writes
 
--- a device that was found so and then holds these bytes, of which no call failed, and that had no write pending when it was
--- crashed
-abbrev pub quiet_device : (found bytes : List ℕ) → Device
-quiet_device found bytes = record {
-  at_entry = settled found;
-  faults_at_entry = 0;
-  armed_from = settled found;
-  crashed_from = settled bytes;
-  left = settled bytes;
-  faults = 0;
-  stop = record {
-    limit = None;
-    passed = 1;
-    failures = 0;
-    calls_before = 0;
-    failures_before = 0;
-    failures_after = 0;
-    pick = Some 0;
-    changes_after = 0;
-  };
-}
+-- A crash that is tried: this text was read, and it is this script; this store was opened, and this run was told, of which so
+-- much is left; so many calls failed. The log device was found so, met the crash so, and kept this; the data device meant
+-- these bytes all the time; and this was read.
+pub record Tried : Type 0 where
+  pub text : List ℕ
+  pub script : List ScriptLine
+  pub opened : Opened
+  pub run : Option Ran
+  pub left : List (ℕ × ℕ)
+  pub failures : ℕ
+  pub found : List ℕ
+  pub met : Disk
+  pub log : List ℕ
+  pub data_bytes : List ℕ
+  pub reading : Reading
 
--- a device that was found so and held these bytes at its last good sync, and of which one call failed then; it was crashed
--- with these writes pending, and has kept none of them
-abbrev pub failed_device : (found bytes : List ℕ) → List Write → List ℕ → Option ℕ → ℕ → ℕ → Device
-failed_device found bytes writes reads limit passed faults = record {
-  at_entry = settled found;
-  faults_at_entry = 0;
-  armed_from = settled found;
-  crashed_from = record { base = bytes; writes = writes; reads = reads };
-  left = settled bytes;
-  faults = faults;
-  stop = record {
-    limit = limit;
-    passed = passed;
-    failures = 1;
-    calls_before = 0;
-    failures_before = 0;
-    failures_after = 0;
-    pick = Some 0;
-    changes_after = 0;
-  };
-}
-
--- the text that the account has to print
-abbrev pub report_of : Option Ran → List (ℕ × ℕ) → List Followed → Reading → List ℕ
-report_of run left follows reading =
-    report_text (run_start run) (entries_of run) left (marks_of run) follows (Some (reading.end, reading.pages))
-
--- an account of a script, a run, what is left of the script and what is told of followers, where this is read
--- afterwards
-abbrev pub account_of : List ℕ → List ScriptLine → Option Ran → List (ℕ × ℕ) → List Followed → Reading → Account
-account_of text script run left follows reading = record {
-  text = text;
-  script = script;
-  run = run;
-  left = left;
-  follows = follows;
-  reading = reading;
-  printed = report_of run left follows reading;
-}
-
--- a call with these options on a source that has this text left, on these devices, that prints what the account says
-abbrev pub call_of : CrashOptions → Device → Device → Account → Crash
-call_of options log_device data_device account = record {
-  options = options;
-  source = Some account.text;
-  source_left = Some [];
-  taken = Some [];
-  taken_now = Some account.printed;
-  log_device = log_device;
-  data_device = data_device;
-}
-
--- no stop, and a crash that keeps nothing
-abbrev pub no_stop : CrashOptions
-no_stop = record { log_only = false; stop_log = None; stop_data = None; pick = 0 }
+-- All that is promised of such a run holds of it.
+pub record IsAdmitted (tried : Tried) : Type 0 where
+  pub is_script : script_of tried.text ≡ Ok tried.script
+  pub fits : IfSome tried.run (λ run. misfit_on false None tried.opened tried.script ≡ None)
+  pub left_is : IsLeft tried.script (entries_of tried.run) tried.left
+  pub in_lsn_order : IfSome tried.run (IsRun tried.script tried.opened)
+  pub opened_first : IsOpenedBefore tried.opened.shape (settled tried.found) tried.met tried.run
+  pub kept : Crashes tried.met (settled tried.log) × Crashes (settled tried.data_bytes) (settled tried.data_bytes)
+  pub read_from_devices : IsReading tried.log tried.data_bytes tried.reading
+  pub old_copies : HasOldCopies tried.data_bytes tried.reading
+  pub first_groups_whole : IsPrefixRead tried.script tried.opened tried.run tried.reading
+  pub lost_only_by_failure : LosesOnlyByFailure tried.failures tried.run tried.left
 
 -- a run that starts there and logs nothing
 abbrev pub empty_run : ℕ → ℕ → Ran
@@ -238,26 +141,49 @@ lost_run = record {
   marks = record { wtail = 8210; write = 8210; flushed = 8204; ckpt = 8192 };
 }
 
-abbrev pub lost_account : Reading → Account
-lost_account reading = account_of text_of_two two_lines (Some lost_run) ((1, 1) ∷ []) [] reading
+abbrev pub lost_crash : (found log : List ℕ) → List Write → (reads data_bytes : List ℕ) → Reading → Tried
+lost_crash found log writes reads data_bytes reading = record {
+  text = text_of_two;
+  script = two_lines;
+  opened = new_store;
+  run = Some lost_run;
+  left = (1, 1) ∷ [];
+  failures = 1;
+  found = found;
+  met = record { base = log; writes = writes; reads = reads };
+  log = log;
+  data_bytes = data_bytes;
+  reading = reading;
+}
 
-abbrev pub lost_call : (found log : List ℕ) → List Write → (reads data_bytes : List ℕ) → Reading → Crash
-lost_call found log writes reads data_bytes reading =
-    call_of no_stop (failed_device found log writes reads None 3 1) (quiet_device data_bytes data_bytes) (lost_account reading)
+-- Opening was stopped at the log device's first call.
+abbrev pub stopped_crash : (log data_bytes : List ℕ) → Reading → Tried
+stopped_crash log data_bytes reading = record {
+  text = text_of_one;
+  script = line_of_value 7 ∷ [];
+  opened = new_store;
+  run = None;
+  left = (1, 1) ∷ [];
+  failures = 1;
+  found = log;
+  met = settled log;
+  log = log;
+  data_bytes = data_bytes;
+  reading = reading;
+}
 
--- Opening was stopped at the log device's first call, as the words ask.
-abbrev pub stopped_account : Reading → Account
-stopped_account reading = account_of text_of_one (line_of_value 7 ∷ []) None ((1, 1) ∷ []) [] reading
-
-abbrev pub stopped_call : List ℕ → List ℕ → Reading → Crash
-stopped_call log data_bytes reading =
-    call_of (record { log_only = false; stop_log = Some 0; stop_data = None; pick = 0 }) (failed_device log log [] log (Some 0) 0 0)
-    (quiet_device data_bytes data_bytes) (stopped_account reading)
-
--- The script is empty.
-abbrev pub empty_account : Opened → Reading → Account
-empty_account opened reading = account_of [] [] (Some (empty_run (start_after opened.end) reading.ckpt)) [] [] reading
-
-abbrev pub empty_call : (found log data_bytes : List ℕ) → Opened → Reading → Crash
-empty_call found log data_bytes opened reading =
-    call_of no_stop (quiet_device found log) (quiet_device data_bytes data_bytes) (empty_account opened reading)
+-- The script is empty, and no call failed.
+abbrev pub empty_crash : (found log data_bytes : List ℕ) → Opened → Reading → Tried
+empty_crash found log data_bytes opened reading = record {
+  text = [];
+  script = [];
+  opened = opened;
+  run = Some (empty_run (start_after opened.end) reading.ckpt);
+  left = [];
+  failures = 0;
+  found = found;
+  met = settled log;
+  log = log;
+  data_bytes = data_bytes;
+  reading = reading;
+}

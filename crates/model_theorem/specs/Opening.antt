@@ -1,7 +1,7 @@
 -- Whether opening came to its end, as the log device tells it. Opening ends by making a checkpoint durable, whose number is
 -- above that of the store that was found; a store of format 1 then gets the header of format 2, which comes last. A run
 -- begins only after that.
-use Rattle.std.specs.Prelude.{ℕ, ◌≡◌, ◌≤◌, ◌<◌, ◌+◌, List, Option, Some, None}
+use Rattle.std.specs.Prelude.{ℕ, ◌≡◌, ◌≤◌, ◌+◌, List, Option, Some, None}
 use Rattle.model_base.specs.{default_shape}
 use Rattle.model_base.specs.declared.shape.Shape.{Shape}
 use Rattle.model_device.specs.{HasOneImage}
@@ -11,7 +11,7 @@ use Rattle.model_log.specs.declared.head.Format.{Format}
 use Rattle.model_log.specs.declared.head.Format.TheVariants.{Two}
 use Rattle.model_log.specs.declared.head.Head.TheVariants.{Good}
 use Rattle.model_parts.specs.{formatted_store, IsUnopened}
-use Rattle.model_store.specs.{IsFairLog, IsOrderly, IsUnused}
+use Rattle.model_store.specs.{IsFairLog, IsOrderly}
 use Rattle.model_theorem.specs.Values.{Ran}
 
 -- the devices are at rest, and hold what formatting leaves, with the checkpoint of number 0, which the first opening
@@ -20,13 +20,6 @@ pub record AreFormatted (log_disk data_disk : Disk) : Type 0 where
   pub log_rests : HasOneImage log_disk log_disk.reads
   pub data_rests : HasOneImage data_disk data_disk.reads
   pub orderly : IsOrderly log_disk.reads data_disk.reads (formatted_store default_shape)
-
--- The devices when their fuses were armed: as formatting leaves them, where the log device was unused when it was handed
--- in; else as they were handed in.
-pub record AreUnopened (log_entry data_entry log_armed data_armed : Disk) : Type 0 where
-  pub unused : IsUnused log_entry.reads → AreFormatted log_armed data_armed
-  pub log_in_use : (IsUnused log_entry.reads → ⊥) → log_armed ≡ log_entry
-  pub data_in_use : (IsUnused log_entry.reads → ⊥) → data_armed ≡ data_entry
 
 -- the bytes of a log device are of this format, and this is their newest checkpoint
 pub record HasCheckpoint (format : Format) (shape : Shape) (number ckpt : ℕ) (log : List ℕ) : Type 0 where
@@ -39,14 +32,6 @@ pub record HasCheckpointFrom (shape : Shape) (lowest : ℕ) (log : List ℕ) : T
   pub ckpt : ℕ
   pub newest : HasCheckpoint Two shape number ckpt log
   pub from : lowest ≤ number
-
--- at its last good sync the log device held a newest checkpoint, of a lower number than this
-pub record HeldOlder (shape : Shape) (number : ℕ) (disk : Disk) : Type 0 where
-  pub format : Format
-  pub found : ℕ
-  pub ckpt : ℕ
-  pub newest : HasCheckpoint format shape found ckpt disk.base
-  pub older : found < number
 
 -- Opening came to its end: every fair image of the log device is of format 2, and has a newer checkpoint than stood there,
 -- at its last good sync, when its fuse was armed.

@@ -1,13 +1,13 @@
 -- The two halves of what is promised: what a run is, and what a reading of its devices is of it.
-use Rattle.std.specs.Prelude.{ℕ, ◌≡◌, ◌≢◌, ◌≤◌, ◌<◌, ◌+◌, List, [], take, slice_get, Option, Some, None, IfSome}
+use Rattle.std.specs.Prelude.{ℕ, ◌≡◌, ◌≢◌, ◌≤◌, ◌<◌, List, [], take, slice_get, Option, Some, None, IfSome}
 use Rattle.model_log.specs.{IsBoundary, start_after}
-use Rattle.model_store.specs.{folded, HasOldCopies, IsFair, IsFairLog, IsReading}
+use Rattle.model_store.specs.{folded, HasOldCopies, IsReading}
 use Rattle.model_store.specs.Reading.{Reading}
 use Rattle.model_script.specs.declared.script.ScriptLine.{ScriptLine}
-use Rattle.model_report.specs.{count_up_to, entry_spans, IsLeft, IsLegal, wholes_of}
+use Rattle.model_report.specs.{count_up_to, entry_spans, IsLegal, wholes_of}
 use Rattle.model_report.specs.declared.entry.Entry.{Entry}
 use Rattle.model_report.specs.declared.entry.State.TheVariants.{Lost, Flushed}
-use Rattle.model_theorem.specs.Values.{Opened, Ran, RunResult, entries_of}
+use Rattle.model_theorem.specs.Values.{Opened, Ran, entries_of}
 
 -- THE RUN: a legal history of the script, from the start after the opened log, with marks between its groups.
 pub record IsRun (script : List ScriptLine) (opened : Opened) (run : Ran) : Type 0 where
@@ -52,11 +52,3 @@ pub record ReadsPrefix (script : List ScriptLine) (opened : Opened) (run : Optio
   pub is_read : IsReading log data_bytes reading
   pub old_copies : HasOldCopies data_bytes reading
   pub prefix : IsPrefixRead script opened run reading
-
--- What is promised of a run whose devices aren't crashed: the run, and the reading of every fair image of the two devices.
-pub record RunSafe (failures : ℕ) (result : RunResult) : Type 0 where
-  pub in_lsn_order : IfSome result.run (IsRun result.script result.opened)
-  pub left_is : IsLeft result.script (entries_of result.run) result.left
-  pub every_image : (log data_bytes : List ℕ) → IsFairLog result.log_disk log → IsFair result.opened.shape result.data_disk data_bytes
-      → ReadsPrefix result.script result.opened result.run log data_bytes
-  pub lost_only_by_failure : LosesOnlyByFailure failures result.run result.left

@@ -9,12 +9,10 @@ ghost use Rattle.model_page.specs.declared.content.Content.{Content};
 ghost use Rattle.model_store.specs.{IsFair, IsFairLog, IsReading, IsStorable, page_folded, Refuses, upto};
 ghost use Rattle.model_store.specs.Reading.{Reading};
 ghost use Rattle.model_store.specs.declared.refusal.Refusal.{Refusal};
-ghost use Rattle.model_theorem.specs.Crash.{CrashSafe, failures_of};
-ghost use Rattle.model_theorem.specs.Opening.{HasCheckpointFrom, HeldOlder, IsOpenedBefore};
-ghost use Rattle.model_theorem.specs.Run.{IsPrefixRead, ReadsPrefix, RunSafe};
-ghost use Rattle.model_theorem.specs.Values.{Account, Crash, Opened};
+ghost use Rattle.model_theorem.specs.Older.{HeldOlder};
+ghost use Rattle.model_theorem.specs.Opening.{HasCheckpointFrom, IsOpenedBefore};
+ghost use Rattle.model_theorem.specs.Run.{IsPrefixRead, ReadsPrefix};
 ghost use Rattle.model_theorem.specs.Closed.{Held, IsClosed, IsHeld};
-ghost use Rattle.model_theorem.specs.Crashed.{IsCrashOf, before_crash};
 ghost use Rattle.model_report.specs.{IsLeft};
 ghost use Rattle.model_script.specs.declared.script.ScriptLine.{ScriptLine};
 ghost use Rattle.model_theorem.specs.Kept.{DataHolds, HasOpenedPages};
@@ -55,16 +53,6 @@ pub fn held_run_is_opened()
         → HeldOlder held.opened.shape held.number armed_from
         → IsOpenedBefore held.opened.shape armed_from held.log_disk (Some held.run) }
 {}
-
-/// The crash theorem holds of a call whose run is safe, or whose opening was stopped, and whose devices were crashed and
-/// read.
-pub fn crash_of_safe_run()
-    ensures { (crash : Crash) (opened : Opened) (account : Account) → IsCrashOf crash opened account
-        → IsOpenedBefore opened.shape crash.log_device.armed_from crash.log_device.crashed_from account.run
-        → RunSafe (failures_of crash) (before_crash crash opened account) → CrashSafe crash opened account }
-{
-    one_reading();
-}
 
 /// A store that opening made ready may be given to a run: its log device holds the run of no group, and its data device
 /// the opened pages. With no line played it is a closed run.

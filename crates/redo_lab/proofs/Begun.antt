@@ -189,7 +189,8 @@ module _ {L D A : Type 0} (log_seen : L → Seen) (data_seen : D → Seen) (seen
   failed-so : (device left : A) → drive.archive ≡ true → call.archive ≡ unfused seen device left
       → HasRisen (seen device).faults (seen left).faults → EndsWith call command (outcome.Fault fault.ArchiveDevice)
   failed-so device left archived same risen = unplayed-archive call command drive stops script running laws ready.armed ready.reads
-      drive (only archived) refl archived (omega (arith, ready.unfailed)) (omega (arith, ready.unfailed)) ready.opened ready.opens ready.fits ready.archive_fits
+      drive (only archived) refl archived (omega (arith, ready.unfailed)) (omega (arith, ready.unfailed)) ready.opened ready.opens
+      (laws.no_misfit _ _ _ _ script ready.fits ready.archive_fits)
       (subst (λ (a : Unfused). HasRisen a.entry.faults a.now.faults) (sym same) risen)
 
   pub unbegun-comes : (device : Option A) (f : Fault) (left : A) → AreUnbegunBy seen device f left → is_some device ≡ drive.archive

@@ -15,21 +15,19 @@ use Rattle.model_script.specs.declared.script.ScriptLine.{ScriptLine}
 use Rattle.model_store.specs.{HasOldCopies, IsReading, Opens}
 use Rattle.model_store.specs.Reading.{Reading}
 use Rattle.model_store.specs.declared.refusal.Refusal.{Refusal}
-use Rattle.model_theorem.specs.{Account, CrashSafe, entries_of, FitsOpened, LosesOnlyByFailure, Opened, Ran, ReadsPrefix}
-use Rattle.model_theorem.specs.Premises.{Premises}
-use Rattle.model_theorem.specs.Values as values
+use Rattle.model_theorem.specs.{entries_of, IsPrefixRead, LosesOnlyByFailure, misfit_on, Opened, Ran, ReadsPrefix}
 use Rattle.redo_drive.specs.declared.drive.RunEnd.TheVariants.{Done}
 use Rattle.redo_lab.specs.declared.outcome.Outcome.{Outcome}
 use Rattle.redo_lab.specs.declared.outcome.Outcome.TheVariants as outcome
 use Rattle.redo_lab.specs.declared.playing.Stops.{Stops}
 use Rattle.redo_disk.proofs.Told.{still-same}
 use Rattle.redo_lab.proofs.ByDrive.{Drives, DrivesLater}
-use Rattle.redo_lab.proofs.CrashTold.{HasTold, armed-first, crashes-told, device_of, has-told, is-crashed, is-device, stopped-as, whole-script}
+use Rattle.redo_lab.proofs.CrashTold.{armed-first, crashes-told, is-crashed}
 use Rattle.redo_lab.proofs.Ends.{ends-with, legal-on, opens-stored}
 use Rattle.redo_lab.proofs.Found.{one-opened}
-use Rattle.redo_lab.proofs.Told.{some-tells, some-told}
+use Rattle.redo_lab.proofs.Told.{some-told}
 use Rattle.redo_lab.proofs.Rereading.{IsCrashedSince, ReadsTo, Was, before, prepared-later}
-use Rattle.redo_lab.specs.Answer.{AreCrashedAs, IsCrashText}
+use Rattle.redo_lab.specs.Crash.{AreCrashedAs, CrashSafe, ReadsRun}
 use Rattle.redo_lab.specs.Asked.{IsScriptRead}
 use Rattle.redo_lab.specs.Call.{BothDevices, IsLeftFair, IsUnfailedAside, LabCall, WhereOpened, WhereToldNow, mids}
 use Rattle.redo_lab.specs.Cause.{AreOfRun, CanPlay, LeavesFailed}
@@ -108,10 +106,7 @@ module _ (call : LabCall) (drives : Drives) (later : DrivesLater drives call.dri
         (read.reading, read.is_read, read.old_copies)
 
     crashed-as : AreCrashedAs stops.log stops.store pick call
-    crashed-as = (
-      record { limit_is = since.0.armed.limit_is; pick_is = since.0.pick_is; unchanged_since = since.0.armed.late_changes },
-      record { limit_is = since.1.armed.limit_is; pick_is = since.1.pick_is; unchanged_since = since.1.armed.late_changes },
-    )
+    crashed-as = (is-crashed log_was call.log since.0, is-crashed data_was call.store since.1)
 
     left-crashed : LeavesFailed call asked
     left-crashed runs =
@@ -197,85 +192,46 @@ module _ (call : LabCall) (drives : Drives) (later : DrivesLater drives call.dri
   -- THE CRASH THEOREM, of the report and what was read.
   module _ (since : Since 0 0) (text : List ℕ) (reading : Reading) (is_read : WhereToldNow call (λ log store. IsReading log.reads store.reads reading))
       (report : IsReportOf script run follows (Some (reading.end, reading.pages)) text) where
-    abbrev account : Account
-    account = record {
-      text = read.text;
+    reads-run : (opened : Opened) → WhereOpened call opened (IsLeftFair call opened → ReadsRun call drive.log_only opened script run reading)
+    reads-run opened log data_disk log_is data_is log_on data_on log_fresh data_fresh opens fair =
+        let kept = left-reads since opened log data_disk log_is data_is log_on data_on log_fresh data_fresh opens fair in
+        let log_left = some-told call.log.now.tells log_on in
+        let data_left = some-told call.store.now.tells data_on in
+        record {
+          fits = fits-on run log data_disk log_is data_is (since.0.arming.back log_on) (since.1.arming.back data_on) opens left_by.ran;
+          in_lsn_order = legal-on (before call drives log_was data_was) asked drive left_by.opened script run follows Done _ _ laws left_by.ran opened
+              log data_disk log_is data_is (since.0.arming.back log_on) (since.1.arming.back data_on) log_fresh data_fresh opens;
+          first_groups_whole =
+              (let prefix = kept log_left.0 data_left.0 log_left.1 data_left.1 in
+              subst (IsPrefixRead script opened run)
+              (one log_left.0 data_left.0 log_left.1 data_left.1 prefix) prefix.prefix);
+          old_copies = λ log_now data_now log_now_is data_now_is.
+              (let prefix = kept log_now data_now log_now_is data_now_is in
+              subst (HasOldCopies data_now.reads) (one log_now data_now log_now_is data_now_is prefix) prefix.old_copies);
+        }
+      where
+        one : (log_now data_now : Disk) → call.log.now.tells ≡ Some log_now → call.store.now.tells ≡ Some data_now
+            → (prefix : ReadsPrefix script opened run log_now.reads data_now.reads) → prefix.reading ≡ reading
+        one log_now data_now log_now_is data_now_is prefix =
+            laws.one_reading log_now.reads data_now.reads prefix.reading reading prefix.is_read (is_read log_now data_now log_now_is data_now_is)
+        fits-on : (run : Option Ran) (log data_disk : Disk) → call.log.entry.tells ≡ Some log → call.store.entry.tells ≡ Some data_disk
+            → log_was.now.tells ≢ None → data_was.now.tells ≢ None
+            → Opens log.reads data_disk.reads opened.shape opened.pages opened.end
+            → IfSome run (λ run. HasRunScript (before call drives log_was data_was) asked drive left_by.opened script run follows Done log_was.now.tells data_was.now.tells)
+            → IfSome run (λ run. misfit_on drive.log_only None opened script ≡ None)
+        fits-on None log data_disk log_is data_is log_on data_on opens took = tt
+        fits-on (Some run) log data_disk log_is data_is log_on data_on opens took =
+            subst (λ (o : Opened). misfit_on drive.log_only None o script ≡ None) (one-opened laws log data_disk left_by.opened opened (took.opens log data_disk log_is data_is log_on data_on) opens) took.fits
+
+    crash-text : CrashSafe call drive stops.log stops.store pick workers text
+    crash-text = record {
+      opened = left_by.opened;
       script = script;
       run = run;
       left = report.left;
       follows = follows;
       reading = reading;
-      printed = text;
-    }
-
-    abbrev crash_with : HasTold log_was call.log → HasTold data_was call.store → values.Crash
-    crash_with log_told data_told = record {
-      options = record { log_only = drive.log_only; stop_log = stops.log; stop_data = stops.store; pick = pick };
-      source = call.source.left;
-      source_left = call.source_now.left;
-      taken = None;
-      taken_now = None;
-      log_device = device_of call.log log_told;
-      data_device = device_of call.store data_told;
-    }
-
-    crash-safe : (log_told : HasTold log_was call.log) (data_told : HasTold data_was call.store) (opened : Opened) → Premises (crash_with log_told data_told) opened
-        → CrashSafe (crash_with log_told data_told) opened account
-    crash-safe log_told data_told opened premises =
-        let log = log_told.at_entry in
-        let data_disk = data_told.at_entry in
-        let reads = left_by.reads opened log data_disk log_told.entry_is data_told.entry_is (some-tells _ _ log_told.crashed_is) (some-tells _ _ data_told.crashed_is) premises.log_fresh premises.data_fresh premises.opens
-        log_told.crashed_from data_told.crashed_from log_told.crashed_is data_told.crashed_is in
-        let now = is_read log_told.left data_told.left log_told.left_is data_told.left_is in
-        let log_crashed = is-crashed log_was call.log since.0 log_told in
-        let kept = reads log_told.left.reads data_told.left.reads premises.log_fair premises.data_fair in
-        let prepared = prepared-later call log_was data_was since.0.arming since.1.arming left_by.armed.prepared in
-        laws.crash_is_safe (crash_with log_told data_told) opened account
-        (record {
-          every_script = record {
-            whole = whole-script call script read;
-            fits = fits-on run log data_disk log_told.entry_is data_told.entry_is (some-tells _ _ log_told.crashed_is) (some-tells _ _ data_told.crashed_is) premises.opens left_by.ran;
-          };
-          any_stops = record {
-            log_device = stopped-as log_was call.log since.0 log_told;
-            data_device = stopped-as data_was call.store since.1 data_told;
-            armed_first = armed-first call log_was data_was laws prepared (omega (arith, left_by.counted, since.0.passed, since.0.mid)) log_told data_told;
-          };
-          prints = record { taken = tt; report = report.text_is; left_is = report.left_is };
-          read_from_devices = record {
-            log_device = log_crashed;
-            data_device = is-crashed data_was call.store since.1 data_told;
-            is_read = now;
-            old_copies = subst (HasOldCopies data_told.left.reads)
-                (laws.one_reading log_told.left.reads data_told.left.reads kept.reading reading kept.is_read now) kept.old_copies;
-          };
-          log_fair = premises.log_fair;
-          data_fair = premises.data_fair;
-        })
-        (left_by.opened_first opened log data_disk log_told.entry_is data_told.entry_is (some-tells _ _ log_told.crashed_is) (some-tells _ _ data_told.crashed_is) premises.log_fresh premises.data_fresh premises.opens
-        log_told.armed_from log_told.crashed_from (sym since.0.arming.told ∙ log_told.armed_is) log_told.crashed_is)
-        (record {
-          in_lsn_order = legal-on (before call drives log_was data_was) asked drive left_by.opened script run follows Done _ _ laws left_by.ran opened
-              log data_disk log_told.entry_is data_told.entry_is (some-tells _ _ log_told.crashed_is) (some-tells _ _ data_told.crashed_is) premises.log_fresh premises.data_fresh premises.opens;
-          left_is = report.left_is;
-          every_image = reads;
-          lost_only_by_failure = lost-by since report.left report.left_is;
-        })
-      where
-        fits-on : (run : Option Ran) (log data_disk : Disk) → call.log.entry.tells ≡ Some log → call.store.entry.tells ≡ Some data_disk
-            → log_was.now.tells ≢ None → data_was.now.tells ≢ None
-            → Opens log.reads data_disk.reads opened.shape opened.pages opened.end
-            → IfSome run (λ run. HasRunScript (before call drives log_was data_was) asked drive left_by.opened script run follows Done log_was.now.tells data_was.now.tells)
-            → IfSome run (λ run. FitsOpened drive.log_only opened script)
-        fits-on None log data_disk log_is data_is log_on data_on opens took = tt
-        fits-on (Some run) log data_disk log_is data_is log_on data_on opens took =
-            subst (λ (o : Opened). FitsOpened drive.log_only o script) (one-opened laws log data_disk left_by.opened opened (took.opens log data_disk log_is data_is log_on data_on) opens) took.fits
-
-    crash-text : IsCrashText call drive stops.log stops.store pick workers text
-    crash-text = record {
-      account = account;
-      opened = left_by.opened;
-      told = record {
+      every_script = record {
         is_script = read;
         ran = as-met since since.0.from since.1.from;
         left_is = report.left_is;
@@ -284,24 +240,14 @@ module _ (call : LabCall) (drives : Drives) (later : DrivesLater drives call.dri
         followers = followers-met since since.0.from since.1.from;
         opened_first = crash-first since;
       };
-      text_is = refl;
-      report = report.text_is;
-      crashed = crashed-as since;
-      is_read = is_read;
-      safe = λ log_tells data_tells.
-          (let log_told = has-told log_was call.log since.0 log_tells in
-          let data_told = has-told data_was call.store since.1 data_tells in (
-            crash_with log_told data_told,
-            record {
-              options_are = refl;
-              source = refl;
-              source_left = refl;
-              log_device = is-device log_was call.log since.0 log_told;
-              data_device = is-device data_was call.store since.1 data_told;
-              untold = refl;
-            },
-            crash-safe log_told data_told,
-          ));
+      any_stops = crashed-as since;
+      armed_first = armed-first call log_was data_was laws
+          (prepared-later call log_was data_was since.0.arming since.1.arming left_by.armed.prepared)
+          (omega (arith, left_by.counted, since.0.passed, since.0.mid)) since.0 since.1;
+      prints = report.text_is;
+      read_from_devices = is_read;
+      first_groups_whole = reads-run;
+      lost_only_by_failure = lost-by since report.left report.left_is;
     }
 
   -- A STORE THAT CAN BE RUN ON is not refused after the crash.

@@ -192,7 +192,7 @@ module _ {L D : Type 0} (log_seen : L → Seen) (log_gives : L → Call → L �
         ran = record {
           is_script = running.is_script;
           opens = λ log_disk data_disk log_is data_is log_on data_on. ready.opens log_disk data_disk log_is data_is (log-before log_on) (data-before data_on);
-          fits = ready.fits;
+          fits = laws.no_misfit _ _ _ None script ready.fits tt;
           in_lsn_order = subst (λ (o : Opened). IsRun script o run) same (owes.is_run ready.opened.end is.start);
           driven = record {
             store = given;

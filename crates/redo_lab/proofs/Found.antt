@@ -15,11 +15,11 @@ use Rattle.model_script.specs.declared.script.ScriptLine.{ScriptLine}
 use Rattle.model_store.specs.{IsFair, IsFairLog, IsReading, IsUnused, Opens, OpensOrderly}
 use Rattle.model_store.specs.Reading.{Reading}
 use Rattle.model_store.specs.declared.refusal.Refusal.TheVariants.{NotFormatted}
-use Rattle.model_theorem.specs.{AreUnopened, HasCheckpoint, HeldOlder, IsOpenedBefore, IsSettledAtEntry, Opened, opened_as, ReadsPrefix}
+use Rattle.model_theorem.specs.{HasCheckpoint, HeldOlder, IsOpenedBefore, Opened, opened_as, ReadsPrefix}
 use Rattle.redo_open.specs.{IsNotOpened}
 use Rattle.redo_lab.specs.declared.playing.Stops.{Stops}
 use Rattle.redo_lab.proofs.Told.{some-told}
-use Rattle.redo_lab.specs.Call.{LabCall, WhereOpened}
+use Rattle.redo_lab.specs.Call.{IsSettledAtEntry, LabCall, WhereOpened}
 use Rattle.redo_lab.specs.Devices.{AreArmed, ArePrepared}
 use Rattle.redo_lab.specs.Laws.{Laws}
 use Rattle.redo_lab.specs.Store.{DevicesOpenAs}
@@ -76,27 +76,6 @@ one-opened laws log data_disk a b opens_a opens_b = ⊎_elim
     (read_a.1.end ∙ ap (λ (r : Reading). r.end) is ∙ sym orderly.end_is))
     opens_b)
     opens_a
-
--- BEFORE OPENING both devices were as they were handed in, or as formatting leaves them.
-pub unopened-as : (call : LabCall) (log data_disk log_armed data_armed : Disk) → Laws → ArePrepared call → call.log.entry.tells ≡ Some log → call.store.entry.tells ≡ Some data_disk
-    → call.log.armed_from ≡ Some log_armed → call.store.armed_from ≡ Some data_armed → call.log.now.tells ≢ None → call.store.now.tells ≢ None
-    → AreUnopened log data_disk log_armed data_armed
-unopened-as call log data_disk log_armed data_armed laws prepared log_is data_is log_armed_is data_armed_is log_on data_on = record {
-  unused = λ unused. ⊎_elim
-      (λ formatted.
-      let openable = laws.formatted default_shape log_armed data_armed default_within (formatted.formatted log_armed data_armed log_armed_is data_armed_is) in
-      record { log_rests = openable.log_rests.one_image; data_rests = openable.data_rests.one_image; orderly = openable.orderly })
-      (λ in_use. absurd (in_use.used log data_disk log_is data_is log_on data_on unused))
-      prepared.which;
-  log_in_use = λ used. ⊎_elim
-      (λ formatted. absurd (used (formatted.unused log data_disk log_is data_is log_on data_on)))
-      (λ in_use. sym (same-told _ _ log log_armed (in_use.kept.0 log_on) log_is log_armed_is))
-      prepared.which;
-  data_in_use = λ used. ⊎_elim
-      (λ formatted. absurd (used (formatted.unused log data_disk log_is data_is log_on data_on)))
-      (λ in_use. sym (same-told _ _ data_disk data_armed (in_use.kept.1 data_on) data_is data_armed_is))
-      prepared.which;
-}
 
 -- THE STORE WAS FOUND so when the fuses were armed.
 pub record WasFound (call : LabCall) (opened : Opened) : Type 0 where

@@ -3,7 +3,6 @@ use Rattle.std.proofs.Common.{ℕ, ◌≡◌, ◌≤◌, true, List, [], ◌∷�
 use Rattle.std.proofs.lemmas.Bool.{false≢true}
 use Rattle.std.specs.Option.{option_and_then}
 use Rattle.model_base.specs.{HasRisen}
-use Rattle.model_theorem.specs.{HasPassedAll}
 use Rattle.redo_io.specs.{next_count_if, saturating_next}
 use Rattle.redo_disk.specs.{Call, changing_calls, failed_calls, failures, Makes, MakesCalls, MayEndWith, Reads, ReadsMayEndWith, Syncs, Writes}
 use Rattle.redo_disk.specs.Seen.{Seen}
@@ -16,7 +15,6 @@ use Rattle.redo_memdisk.specs.declared.fuse.Fuse.{Fuse}
 use Rattle.redo_memdisk.specs.declared.fuse.Stage.{Stage}
 use Rattle.redo_memdisk.specs.declared.fuse.Stage.TheVariants.{Before, Stopping, Crashed}
 use Rattle.redo_memdisk.specs.declared.fused.Fused.{Fused}
-use borrow.Author.Tests.{leb-true}
 use Rattle.redo_lab.proofs.Printed.{risen-later}
 use Rattle.redo_lab.proofs.Told.{where-back}
 use Rattle.redo_lab.specs.Call.{guarded}
@@ -76,14 +74,10 @@ still-within (Some limit) old_limit old new same keeps within =
     subst (λ (found : Option ℕ). IfSome found (λ limit. old ≤ limit → new ≤ limit)) same keeps within
 
 -- a fuse that fails the next call has passed on as many as it was to
-has-passed-all : (limit : Option ℕ) (passed : ℕ) → has_passed_all Stopping limit passed ≡ true → HasPassedAll limit passed
-has-passed-all None passed fails = false≢true fails
-has-passed-all (Some limit) passed fails = leb-true limit passed fails
-
 has-passed : (limit : Option ℕ) (stage : Stage) (found : Option ℕ) (passed : ℕ) → stage ≡ Stopping → found ≡ limit
-    → IsTrue (has_passed_all stage found passed) → HasPassedAll limit passed
+    → IsTrue (has_passed_all stage found passed) → IsTrue (has_passed_all Stopping limit passed)
 has-passed limit stage found passed is same fails =
-    has-passed-all limit passed (sym (ap (λ stage. has_passed_all stage found passed) is ∙ ap (λ found. has_passed_all Stopping found passed) same) ∙ fails)
+    sym (ap (λ stage. has_passed_all stage found passed) is ∙ ap (λ found. has_passed_all Stopping found passed) same) ∙ fails
 
 risen-more : (a b c : ℕ) → b ≤ c → HasRisen a b → HasRisen a c
 risen-more a b c later risen = ⊎_elim (λ more. inl (omega arith)) (λ last. inr last) risen
@@ -227,7 +221,7 @@ module _ {D : Type 0} {seen : D → Seen} {gives : D → Call → D → Type 0} 
             ∙ ap (λ n. counted n old.fuse.late_changes) none ∙ was.late_changes;
         cause = λ some. ⊎_elim
             (λ risen. inl (risen-more (seen device).faults _ _ kept.later risen))
-            (λ passed. inr (subst (HasPassedAll limit) (sym (after-crashed seen gives old new made.calls stage made.made)) passed))
+            (λ passed. inr (subst (λ (n : ℕ). IsTrue (has_passed_all Stopping limit n)) (sym (after-crashed seen gives old new made.calls stage made.made)) passed))
             (was.cause (omega (arith, mid, some)));
         risen = λ some. ⊎_elim
             (λ risen. risen-later (seen device).faults (seen old.inner).faults (seen new.inner).faults was.same.later kept.later risen)
@@ -257,7 +251,7 @@ crashed-now {seen = seen} {device = device} {old = old} {new = new} {limit = lim
       late_changes = ap (λ (fuse : Fuse). fuse.late_changes) notes ∙ was.late_changes;
       cause = λ some. ⊎_elim
           (λ risen. inl (risen-more (seen device).faults _ _ crash.passed_step.later risen))
-          (λ all. inr (subst (HasPassedAll limit) (sym passed) all))
+          (λ all. inr (subst (λ (n : ℕ). IsTrue (has_passed_all Stopping limit n)) (sym passed) all))
           (was.cause (omega (arith, ap (λ (fuse : Fuse). fuse.mid) notes, some)));
       risen = λ some. absurd (omega arith);
       told = λ told none. was.told (where-back _ _ _ crash.passed_step.left told) (sym (armed-kept seen old new crash.same_armed) ∙ none);

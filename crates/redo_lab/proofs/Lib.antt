@@ -31,6 +31,7 @@ pub mod Restoring
 pub mod RunEnds
 pub mod Sizes
 pub mod SomeLeft
+pub mod Stopped
 pub mod Telling
 pub mod Tallied
 pub mod Told

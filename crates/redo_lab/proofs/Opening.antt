@@ -9,7 +9,6 @@ use Rattle.model_log.specs.{block_of, IsAtDataStart, start_after}
 use Rattle.model_log.specs.declared.layout.TheConstants.{BLOCK_HEADER}
 use Rattle.model_parts.specs.{formatted_store, IsOpenable, KeepsOpened}
 use Rattle.model_report.specs.declared.fault.Fault.TheVariants as fault
-use Rattle.model_script.specs.{ArchiveFits, first_misfit}
 use Rattle.model_script.specs.declared.asked.Command.{Command}
 use Rattle.model_script.specs.declared.asked.Drive.{Drive}
 use Rattle.model_script.specs.declared.misfit.Misfit.{Misfit}
@@ -17,7 +16,7 @@ use Rattle.model_script.specs.declared.script.ScriptLine.{ScriptLine}
 use Rattle.model_store.specs.{IsReading, IsUnused, Refuses}
 use Rattle.model_store.specs.Reading.{Reading}
 use Rattle.model_store.specs.declared.refusal.Refusal.{Refusal}
-use Rattle.model_theorem.specs.{FitsOpened, IsOpenedBefore, Opened, opened_as, room_of}
+use Rattle.model_theorem.specs.{IsOpenedBefore, misfit_on, Opened, opened_as}
 use Rattle.redo_open.specs.{IsNotOpened, IsOpeningOf, WhereBothTell}
 use Rattle.redo_open.specs.Opening.{WhereStillTold}
 use Rattle.redo_store.specs.{IsRunnable}
@@ -196,10 +195,10 @@ module _ (call : LabCall) (command : Command) (drive : Drive) (stops : Stops) (s
 
   -- of a run whose archive wasn't begun
   pub unplayed-archive : (asked : Drive) → command ≡ Run asked → asked ≡ drive → drive.archive ≡ true → call.log.fuse.mid ≡ 0 → call.store.fuse.mid ≡ 0
-      → (opened : Opened) → WhereToldAtEntry call (DevicesOpenAs opened) → FitsOpened drive.log_only opened script
-      → ArchiveFits opened.shape (start_after opened.end) (archive_size call.archive drive) script
+      → (opened : Opened) → WhereToldAtEntry call (DevicesOpenAs opened)
+      → misfit_on drive.log_only (archive_size call.archive drive) opened script ≡ None
       → HasRisen call.archive.entry.faults call.archive.now.faults → EndsWith call command (outcome.Fault fault.ArchiveDevice)
-  unplayed-archive asked is same archived log_none data_none opened opens fits archive_fits risen = ends-with call command drive script running laws (outcome.Fault fault.ArchiveDevice) (tells-armed armed)
+  unplayed-archive asked is same archived log_none data_none opened opens fits risen = ends-with call command drive script running laws (outcome.Fault fault.ArchiveDevice) (tells-armed armed)
       (leaves-read call script None reads) (
         risen,
         subst (EndsBefore call) (sym (is ∙ ap Run same)) (record {
@@ -209,7 +208,6 @@ module _ (call : LabCall) (command : Command) (drive : Drive) (stops : Stops) (s
           opened = opened;
           opens = opens;
           fits = fits;
-          archive_fits = archive_fits;
           unfailed = unfailed-armed armed log_none data_none;
           in_run = in-run armed;
           reads = reads;
@@ -218,7 +216,7 @@ module _ (call : LabCall) (command : Command) (drive : Drive) (stops : Stops) (s
       (λ can unfailed. absurd (can.archive_unfailed archived risen))
 
   pub unplayed-misfit : (opened : Opened) (misfit : Misfit) → call.log.fuse.mid ≡ 0 → call.store.fuse.mid ≡ 0 → WhereToldAtEntry call (DevicesOpenAs opened)
-      → first_misfit opened.shape (start_after opened.end) (room_of drive.log_only opened) (archive_size call.archive drive) script ≡ Some misfit → EndsWith call command (outcome.Fault (fault.Fit misfit))
+      → misfit_on drive.log_only (archive_size call.archive drive) opened script ≡ Some misfit → EndsWith call command (outcome.Fault (fault.Fit misfit))
   unplayed-misfit opened misfit log_none data_none opens first = ends-with call command drive script running laws (outcome.Fault (fault.Fit misfit)) (tells-armed armed)
       (leaves-read call script None reads)
       (inr (
@@ -240,9 +238,7 @@ module _ (call : LabCall) (command : Command) (drive : Drive) (stops : Stops) (s
       misfits : CanPlay call drive script → ⊥
       misfits can =
           let same : opened ≡ can.opened = one-opened laws can.log can.store opened can.opened (opens can.log can.store can.log_tells can.store_tells can.log_still can.store_still) can.opens in
-          let fits : FitsOpened drive.log_only opened script = subst (λ (o : Opened). FitsOpened drive.log_only o script) (sym same) can.fits in
-          let archive_fits = subst (λ (o : Opened). ArchiveFits o.shape (start_after o.end) (archive_size call.archive drive) script) (sym same) can.archive_fits in
-          let none = sym first ∙ laws.no_misfit opened.shape (start_after opened.end) (room_of drive.log_only opened) (archive_size call.archive drive) script fits archive_fits in
+          let none = sym first ∙ ap (λ (o : Opened). misfit_on drive.log_only (archive_size call.archive drive) o script) same ∙ can.fits in
           cc
 
   pub unplayed-refused : (cause : Refusal) → call.log.fuse.mid ≡ 0 → call.store.fuse.mid ≡ 0

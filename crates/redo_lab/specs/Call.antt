@@ -1,13 +1,15 @@
 -- A call of `lab`, as it is seen from outside.
-use Rattle.std.specs.Prelude.{ℕ, ◌≡◌, ◌≢◌, ◌+◌, List, Option, Some, None, ⊤}
+use Rattle.std.specs.Prelude.{ℕ, ◌≡◌, ◌≢◌, ◌<◌, ◌+◌, List, Option, Some, None, ⊤}
 use Rattle.model_script.specs.declared.asked.Command.{Command}
 use Rattle.model_script.specs.declared.asked.Command.TheVariants.{Crash}
 use Rattle.model_script.specs.declared.asked.Drive.{Drive}
+use Rattle.model_base.specs.{last_count}
+use Rattle.model_device.specs.{HasOneImage, IsValid}
 use Rattle.model_device.specs.Disk.{Disk}
 use Rattle.model_report.specs.declared.entry.Followed.{Followed}
 use Rattle.model_script.specs.declared.script.ScriptLine.{ScriptLine}
 use Rattle.model_store.specs.{IsFair, IsFairLog, Opens}
-use Rattle.model_theorem.specs.{IsSettledAtEntry, Opened, Ran}
+use Rattle.model_theorem.specs.{Opened, Ran}
 use Rattle.redo_drive.specs.declared.drive.RunEnd.{RunEnd}
 use Rattle.redo_disk.specs.Seen.{Seen, StillTells}
 use Rattle.redo_io.specs.{SourceSeen}
@@ -68,7 +70,13 @@ WhereToldNow call P = (log store : Disk) → call.log.now.tells ≡ Some log →
 abbrev pub WhereArchiveTold : LabCall → (Disk → Type 0) → Type 0
 WhereArchiveTold call P = (disk : Disk) → call.archive.entry.tells ≡ Some disk → call.archive.now.tells ≢ None → P disk
 
--- both told at entry, were fresh, and open this store, which is new or in order
+-- at entry a crash would leave what reads give, and the count of faults can still rise
+pub record IsSettledAtEntry (at_entry : Disk) (faults : ℕ) : Type 0 where
+  pub valid : IsValid at_entry
+  pub one_image : HasOneImage at_entry at_entry.reads
+  pub can_count : faults < last_count
+
+-- both told at entry, were settled, and open this store, which is new or in order
 abbrev pub WhereOpened : LabCall → Opened → Type 0 → Type 0
 WhereOpened call opened P = WhereToldAtEntry call (λ log store.
     IsSettledAtEntry log call.log.entry.faults → IsSettledAtEntry store call.store.entry.faults

@@ -6,7 +6,7 @@ use Rattle.model_base.specs.{default_shape, HasRisen}
 use Rattle.model_script.specs.declared.asked.Command.{Command}
 use Rattle.model_script.specs.declared.asked.Command.TheVariants.{Format, Run, Crash, Recover, Dump, Restore, Gen}
 use Rattle.model_script.specs.declared.asked.Drive.{Drive}
-use Rattle.model_log.specs.{start_after, log_device_length}
+use Rattle.model_log.specs.{log_device_length}
 use Rattle.model_log.specs.declared.layout.TheConstants.{HEADER_BYTES}
 use Rattle.model_parts.specs.{KeepsNoStore}
 use Rattle.model_report.specs.declared.fault.Fault.{Fault}
@@ -15,20 +15,21 @@ use Rattle.model_report.specs.declared.entry.Followed.{Followed}
 use Rattle.model_archive.specs.{IsRestored, RefusesRestore}
 use Rattle.model_archive.specs.declared.refusal.RestoreRefusal.{RestoreRefusal}
 use Rattle.model_page.specs.declared.content.Content.{Content}
-use Rattle.model_script.specs.{ArchiveFits, first_misfit, generated_lines, script_of}
+use Rattle.model_script.specs.{generated_lines, script_of}
 use Rattle.model_script.specs.declared.misfit.Misfit.{Misfit}
 use Rattle.model_script.specs.declared.script.ScriptLine.{ScriptLine}
 use Rattle.model_script.specs.declared.words.TheConstants.{MAX_TURNS}
 use Rattle.model_store.specs.{IsUnused, IsReading, Opens}
 use Rattle.model_store.specs.declared.refusal.Refusal.{Refusal}
 use Rattle.model_store.specs.declared.refusal.Refusal.TheVariants.{SmallLog}
-use Rattle.model_theorem.specs.{Opened, Ran, room_of, FitsOpened, IsSettledAtEntry, IsRun}
+use Rattle.model_theorem.specs.{misfit_on, Opened, Ran, IsRun}
 use Rattle.redo_drive.specs.declared.drive.RunEnd.TheVariants.{Spent}
 use Rattle.redo_memdisk.specs.declared.fuse.Stage.TheVariants.{Before}
 use Rattle.redo_lab.specs.Archived.{IsArchived}
-use Rattle.redo_lab.specs.Answer.{AreCrashedAs, asked_shape}
+use Rattle.redo_lab.specs.Answer.{asked_shape}
 use Rattle.redo_lab.specs.Asked.{IsBadLine, IsLongScript, IsScriptFor, IsScriptRead, drive_of, drive_of_seed, reads_script, runs_script}
-use Rattle.redo_lab.specs.Call.{HaveSameContents, AreUnfailedFor, LabCall, BothDevices, Guarded, IsInRun, IsUnfailed, IsUnwritten, Unfused, WhereArchiveTold, WhereToldAtEntry, WhereToldNow, IsLeftFair, WhereOpened}
+use Rattle.redo_lab.specs.Call.{HaveSameContents, AreUnfailedFor, IsSettledAtEntry, LabCall, BothDevices, Guarded, IsInRun, IsUnfailed, IsUnwritten, Unfused, WhereArchiveTold, WhereToldAtEntry, WhereToldNow, IsLeftFair, WhereOpened}
+use Rattle.redo_lab.specs.Crash.{AreCrashedAs}
 use Rattle.redo_lab.specs.Store.{AreReadAsPrefix, AreRefused, DevicesOpenAs, IsTooShort}
 use Rattle.redo_lab.specs.Told.{AreLeftRead, HasRunScript, IsOpenedFirst}
 use Rattle.model_base.specs.declared.limits.TheConstants.{MAX_SCRIPT}
@@ -140,7 +141,7 @@ pub record IsMisfit (call : LabCall) (command : Command) (misfit : Misfit) : Typ
   pub opened : Opened
   pub is_script : IsScriptFor command call.source call.source_now script
   pub opens : WhereToldAtEntry call (DevicesOpenAs opened)
-  pub first : first_misfit opened.shape (start_after opened.end) (room_of drive.log_only opened) (archive_size call.archive drive) script ≡ Some misfit
+  pub first : misfit_on drive.log_only (archive_size call.archive drive) opened script ≡ Some misfit
   pub in_run : BothDevices IsInRun call
   pub reads : AreLeftRead call script None
 
@@ -155,8 +156,7 @@ pub record IsUnarchived (call : LabCall) (drive : Drive) : Type 0 where
   pub is_script : IsScriptRead call.source call.source_now script
   pub opened : Opened
   pub opens : WhereToldAtEntry call (DevicesOpenAs opened)
-  pub fits : FitsOpened drive.log_only opened script
-  pub archive_fits : ArchiveFits opened.shape (start_after opened.end) (archive_size call.archive drive) script
+  pub fits : misfit_on drive.log_only (archive_size call.archive drive) opened script ≡ None
   pub unfailed : BothDevices IsUnfailed call
   pub in_run : BothDevices IsInRun call
   pub reads : AreLeftRead call script None
@@ -207,8 +207,7 @@ pub record CanPlay (call : LabCall) (drive : Drive) (script : List ScriptLine) :
   pub store_fresh : IsSettledAtEntry store call.store.entry.faults
   pub opens : Opens log.reads store.reads opened.shape opened.pages opened.end
   pub long : IsUnused log.reads → AreLongEnough default_shape call.log.entry.size call.store.entry.size
-  pub fits : FitsOpened drive.log_only opened script
-  pub archive_fits : ArchiveFits opened.shape (start_after opened.end) (archive_size call.archive drive) script
+  pub fits : misfit_on drive.log_only (archive_size call.archive drive) opened script ≡ None
   pub archive_unfailed : drive.archive ≡ true → HasRisen call.archive.entry.faults call.archive.now.faults → ⊥
   pub fair : IsLeftFair call opened
 

@@ -1,13 +1,13 @@
 -- The two devices of a call behind their fuses: while a run prepares them, from the arming of the fuses to the crash, and after it.
-use Rattle.std.specs.Prelude.{ℕ, ◌≡◌, ◌≢◌, ◌≤◌, ◌<◌, ◌⊎◌, Option, Some, None, IfSome, List, length}
+use Rattle.std.specs.Prelude.{ℕ, ◌≡◌, ◌≢◌, ◌≤◌, ◌<◌, ◌⊎◌, Option, Some, None, IfSome, IsTrue, List, length}
 use Rattle.model_base.specs.{HasRisen, default_shape}
 use Rattle.model_device.specs.Disk.{Disk}
 use Rattle.model_log.specs.declared.layout.TheConstants.{HEADER_BYTES}
 use Rattle.model_parts.specs.{IsFormatted}
 use Rattle.model_store.specs.{IsUnused}
-use Rattle.model_theorem.specs.{HasPassedAll}
 use Rattle.redo_disk.specs.{Call, ReadsEndWith}
 use Rattle.redo_disk.specs.declared.error.DevError.{DevError}
+use Rattle.redo_memdisk.specs.{has_passed_all}
 use Rattle.redo_memdisk.specs.declared.fuse.Stage.{Stage}
 use Rattle.redo_memdisk.specs.declared.fuse.Stage.TheVariants.{Before, Stopping}
 use Rattle.redo_lab.specs.declared.playing.Stops.{Stops}
@@ -41,7 +41,8 @@ pub record IsArmed (limit : Option ℕ) (stage : Stage) (failed_since : ℕ) (de
   pub early : device.fuse.early ≡ 0
   pub late : device.fuse.late ≡ failed_since
   pub late_changes : device.fuse.late_changes ≡ 0
-  pub cause : 0 < device.fuse.mid → HasRisen device.entry.faults device.now.faults ⊎ HasPassedAll limit device.fuse.passed
+  pub cause : 0 < device.fuse.mid
+      → HasRisen device.entry.faults device.now.faults ⊎ IsTrue (has_passed_all Stopping limit device.fuse.passed)
   pub risen : 0 < failed_since → HasRisen device.entry.faults device.now.faults
   pub told : device.now.tells ≢ None → device.armed_from ≢ None
 

@@ -1,11 +1,11 @@
 -- The two files of a call, as its first call of each finds them.
 use Rattle.std.specs.Prelude.{ℕ, ◌≡◌, List, [], Some}
 use Rattle.model_device.specs.{settled}
-use Rattle.model_theorem.specs.{IsSettledAtEntry}
 use Rattle.redo_memdisk.specs.File.{file_faults, file_notes, file_seen}
 use Rattle.redo_memdisk.specs.Notes.{filled}
 use Rattle.redo_memdisk.specs.declared.file.FileDisk.{FileDisk}
 use Rattle.redo_memdisk.specs.declared.file.TheConstants.{FILE_DISK_LEN}
+use Rattle.redo_lab.specs.Call.{IsSettledAtEntry}
 
 -- no call has reached the file, and none has failed
 pub record IsUncalled {R S F D : Type 0} (device : FileDisk R S F D) : Type 0 where

@@ -1,4 +1,4 @@
--- What is known of every store, of every run and of every crash.
+-- What is known of every store and of every run.
 use Rattle.std.specs.Prelude.{ℕ, ◌≡◌, List, Option, Some, None}
 use Rattle.model_base.specs.{IsWithinLimits}
 use Rattle.model_base.specs.declared.shape.Shape.{Shape}
@@ -9,9 +9,8 @@ use Rattle.model_script.specs.declared.script.ScriptLine.{ScriptLine}
 use Rattle.model_store.specs.{IsFair, IsFairLog, IsReading, Refuses}
 use Rattle.model_store.specs.Reading.{Reading}
 use Rattle.model_store.specs.declared.refusal.Refusal.{Refusal}
-use Rattle.model_theorem.specs.{Account, before_crash, CrashSafe, failures_of, HeldOlder, IsCrashOf, IsHeld, IsOpenedBefore, Opened, ReadsPrefix, RunSafe}
+use Rattle.model_theorem.specs.{HeldOlder, IsHeld, IsOpenedBefore, ReadsPrefix}
 use Rattle.model_theorem.specs.Closed.{Held}
-use Rattle.model_theorem.specs.Values as values
 
 pub record Laws : Type 0 where
   -- two devices that are read aren't refused, and are read in one way
@@ -30,7 +29,3 @@ pub record Laws : Type 0 where
       → ArchiveFits shape start archive script → first_misfit shape start room_end archive script ≡ None
   -- what stood on a data device at its last good sync is fair
   pub base_fair : (shape : Shape) (disk : Disk) → IsFair shape disk disk.base
-  -- the crash theorem
-  pub crash_is_safe : (crash : values.Crash) (opened : Opened) (account : Account) → IsCrashOf crash opened account
-      → IsOpenedBefore opened.shape crash.log_device.armed_from crash.log_device.crashed_from account.run
-      → RunSafe (failures_of crash) (before_crash crash opened account) → CrashSafe crash opened account

@@ -5,8 +5,10 @@ pub mod Asked
 pub mod Begun
 pub mod Call
 pub mod Cause
+pub mod Crash
 pub mod Devices
 pub mod Ending
+pub mod Examples
 pub mod Files
 pub mod Following
 pub mod Handed

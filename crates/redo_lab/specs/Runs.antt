@@ -17,7 +17,7 @@ use Rattle.model_script.specs.declared.asked.Drive.{Drive}
 use Rattle.model_script.specs.declared.script.ScriptLine.{ScriptLine}
 use Rattle.model_store.specs.{IsReading}
 use Rattle.model_store.specs.Reading.{Reading}
-use Rattle.model_theorem.specs.{entries_of, FitsOpened, marks_of, Opened, Ran, run_start}
+use Rattle.model_theorem.specs.{entries_of, marks_of, Opened, Ran, room_of, run_start}
 use Rattle.redo_disk.specs.Seen.{Seen}
 use Rattle.redo_disk.specs.declared.error.DevError.{DevError}
 use Rattle.redo_disk.specs.declared.error.DevError.TheVariants as device
@@ -32,7 +32,7 @@ use Rattle.redo_store.specs.declared.opened.Opened as store
 use Rattle.redo_recover.specs.declared.fault.RecFault.{RecFault}
 use Rattle.redo_recover.specs.declared.fault.RecFault.TheVariants.{LogDev, DataDev}
 use Rattle.redo_recover.specs.{refusal_of}
-use Rattle.model_script.specs.{ArchiveFits}
+use Rattle.model_script.specs.{ArchiveFits, ScriptFits}
 use Rattle.model_log.specs.{start_after}
 use Rattle.redo_lab.specs.Cause.{archive_size}
 use Rattle.redo_lab.specs.declared.crash_command.Crashing.{Crashing}
@@ -163,7 +163,7 @@ pub record StandsReady {L D : Type 0} (log_seen : L → Seen) (data_seen : D →
   pub opened : Opened
   pub is_opened : IsOpenedAt opened given
   pub opens : WhereToldAtEntry call (DevicesOpenAs opened)
-  pub fits : FitsOpened drive.log_only opened script
+  pub fits : ScriptFits opened.shape (start_after opened.end) (room_of drive.log_only opened) script
   pub archive_fits : ArchiveFits opened.shape (start_after opened.end) (archive_size call.archive drive) script
   pub reads : AreLeftRead call script None
   pub ready : (reading : Reading) (log store : Disk) → call.log.armed_from ≡ Some log → call.store.armed_from ≡ Some store

@@ -12,10 +12,10 @@ use Rattle.model_report.specs.declared.entry.Followed.{Followed}
 use Rattle.model_script.specs.declared.script.ScriptLine.{ScriptLine}
 use Rattle.model_store.specs.{IsReading, OpensOrderly, OpensUnused}
 use Rattle.model_store.specs.Reading.{Reading}
-use Rattle.model_theorem.specs.{entries_of, FitsOpened, IsOpenedBefore, IsRun, LosesOnlyByFailure, Opened, Ran, IsSettledAtEntry}
+use Rattle.model_theorem.specs.{entries_of, misfit_on, IsOpenedBefore, IsRun, LosesOnlyByFailure, Opened, Ran}
 use Rattle.redo_drive.specs.declared.drive.RunEnd.{RunEnd}
 use Rattle.redo_drive.specs.declared.drive.RunEnd.TheVariants.{Done}
-use Rattle.redo_lab.specs.Call.{LabCall, BothDevices, IsInRun, WhereOpened, WhereToldAtEntry, WhereToldNow, mids, IsLeftFair}
+use Rattle.redo_lab.specs.Call.{LabCall, BothDevices, IsInRun, IsSettledAtEntry, WhereOpened, WhereToldAtEntry, WhereToldNow, mids, IsLeftFair}
 use Rattle.redo_lab.specs.Asked.{IsScriptFor}
 use Rattle.redo_lab.specs.Store.{AreReadAsPrefix, DevicesOpenAs, AreAccepted}
 use Rattle.redo_memdisk.specs.declared.fuse.Stage.TheVariants.{Before}
@@ -26,7 +26,7 @@ pub record HasRunScript (call : LabCall) (command : Command) (drive : Drive) (op
     (follows : List Followed) (end : RunEnd) (log_met store_met : Option Disk) : Type 0 where
   pub is_script : IsScriptFor command call.source call.source_now script
   pub opens : WhereToldAtEntry call (DevicesOpenAs opened)
-  pub fits : FitsOpened drive.log_only opened script
+  pub fits : misfit_on drive.log_only None opened script ≡ None
   pub in_lsn_order : IsRun script opened run
   pub driven : call.drives drive opened script run follows end log_met store_met
 

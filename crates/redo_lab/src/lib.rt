@@ -8,6 +8,7 @@ mod closing;
 mod commands;
 mod crash_command;
 mod ended;
+mod examples;
 mod faults;
 mod fitted;
 mod following;
@@ -30,6 +31,9 @@ mod start;
 mod turns;
 
 pub use ended::Ended;
+pub use examples::{
+    late_arming_is_refused, other_stop_is_refused, stop_for_nothing_is_refused, stops_are_admitted,
+};
 pub use in_files::lab_in_files;
 pub use lab_call::{lab, lab_turns};
 pub use printing::print_fault;

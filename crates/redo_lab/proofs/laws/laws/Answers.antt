@@ -10,5 +10,4 @@ returns c = record {
   held_opened = c.held_run_is_opened.ensures.opened;
   no_misfit = c.unfit_is_misfit.ensures;
   base_fair = c.base_is_fair.ensures;
-  crash_is_safe = c.crash_of_safe_run.ensures;
 }

@@ -1,0 +1,73 @@
+-- Calls that the promise of stops and of arming is tried on: what it refuses, and what it admits.
+use Rattle.std.specs.Prelude.{ℕ, ◌≡◌, ◌≢◌, ◌<◌, List, [], length, Option, Some, None}
+use Rattle.model_device.specs.{settled}
+use Rattle.model_device.specs.Disk.{Disk}
+use Rattle.model_device.specs.declared.write.Write.{Write}
+use Rattle.model_store.specs.{IsReading, IsUnused}
+use Rattle.model_store.specs.Reading.{Reading}
+use Rattle.redo_memdisk.specs.{fresh}
+use Rattle.redo_memdisk.specs.declared.fuse.Stage.TheVariants.{Crashed}
+use Rattle.redo_lab.specs.Call.{Guarded, LabCall}
+use Rattle.redo_lab.specs.Crash.{AreArmedFirst, AreCrashedAs}
+
+-- REFUSED.
+
+-- the device hasn't failed
+pub record HasNotFailed (device : Guarded) : Type 0 where
+  pub can_count : device.entry.faults < 1
+  pub well : device.now.faults ≡ 0
+
+-- the log device was unused, and when its fuse was armed the store had been opened
+pub record ArmsLate (call : LabCall) : Type 0 where
+  pub log : Disk
+  pub store : Disk
+  pub log_tells : call.log.entry.tells ≡ Some log
+  pub store_tells : call.store.entry.tells ≡ Some store
+  pub log_still : call.log.now.tells ≢ None
+  pub store_still : call.store.now.tells ≢ None
+  pub log_armed : Disk
+  pub store_armed : Disk
+  pub log_armed_is : call.log.armed_from ≡ Some log_armed
+  pub store_armed_is : call.store.armed_from ≡ Some store_armed
+  pub unused : IsUnused log.reads
+  pub reading : Reading
+  pub is_read : IsReading log_armed.reads store_armed.reads reading
+  pub was_opened : 0 < reading.number
+
+-- ADMITTED.
+
+-- a device that was found so, and met the crash so, by which it kept these bytes, behind a fuse of this limit, which passed on so
+-- many calls; so many failed, and so many faults are counted
+abbrev pub crashed_device : (found : List ℕ) (met : Disk) (bytes : List ℕ) (limit : Option ℕ) (passed failed faults : ℕ) → Guarded
+crashed_device found met bytes limit passed failed faults = record {
+  entry = record { size = length found; tells = Some (settled found); crashed_from = None; faults = 0 };
+  now = record { size = length found; tells = Some (settled bytes); crashed_from = Some met; faults = faults };
+  fuse = record fresh { stage = Crashed; limit = limit; passed = passed; mid = failed; pick = Some 0 };
+  armed_from = Some (settled found);
+}
+
+-- of which no call failed, and that had no write pending
+abbrev pub quiet_device : (found bytes : List ℕ) → Guarded
+quiet_device found bytes = crashed_device found (settled bytes) bytes None 1 0 0
+
+-- the same call, on these devices
+abbrev pub with_devices : LabCall → Guarded → Guarded → LabCall
+with_devices call log store = record call { log = log; store = store }
+
+-- without a stop, and with no failure
+abbrev pub quiet_call : LabCall → (found log data_bytes : List ℕ) → LabCall
+quiet_call call found log data_bytes = with_devices call (quiet_device found log) (quiet_device data_bytes data_bytes)
+
+-- without a stop, where the log device itself failed a sync, and then lost these writes
+abbrev pub failed_call : LabCall → (found log : List ℕ) → List Write → (reads data_bytes : List ℕ) → LabCall
+failed_call call found log writes reads data_bytes = with_devices call
+    (crashed_device found (record { base = log; writes = writes; reads = reads }) log None 3 1 1) (quiet_device data_bytes data_bytes)
+
+-- where the log device was stopped at its first call, as the words asked
+abbrev pub stopped_call : LabCall → (log data_bytes : List ℕ) → LabCall
+stopped_call call log data_bytes = with_devices call
+    (crashed_device log (settled log) log (Some 0) 0 1 0) (quiet_device data_bytes data_bytes)
+
+-- all that is promised of stops and of arming holds of the call, whose words ask for this stop of the log device
+abbrev pub IsAdmitted : (stop_log : Option ℕ) → LabCall → Type 0
+IsAdmitted stop_log call = AreCrashedAs stop_log None 0 call × AreArmedFirst call
