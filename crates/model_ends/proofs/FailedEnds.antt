@@ -17,6 +17,7 @@ use Rattle.model_logcore.specs.LogLaws.{LogLaws}
 use Rattle.model_pagecore.specs.DataLaws.{DataLaws}
 use Rattle.model_running.proofs.StartRunning.{both_start, start_pages}
 use Rattle.model_running.specs.RunningStore.{BothHalves}
+use Rattle.model_running.specs.PlainStore.{plain_store}
 use Rattle.model_running.specs.Schedule.{IsSpent, TakesTurns}
 use Rattle.model_running.specs.StartStore.{StartStore}
 use Rattle.model_ends.proofs.Along.{Along, EachTurnKeeps, reach_along}
@@ -111,7 +112,7 @@ module _ (D : LogSide) (E : DataSide) (c : Setup) (spare : ℕ) (L : LogLaws D) 
   }
 
   -- ONCE FAILED HAS A CODE turns one after another end the run
-  pub ends_once_failed : (any k seed max : ℕ) (reached last : Core D E) → CanReach D E any first reached → 0 < slice_index reached.words 6 → TakesTurns D E seed max k reached last → k ≤ max / 2 + (most + 1) * (21 * length first.actors)
+  pub ends_once_failed : (any k seed max : ℕ) (reached last : Core D E) → CanReach D E any first reached → 0 < slice_index reached.words 6 → TakesTurns (plain_store D E) seed max k reached last → k ≤ max / 2 + (most + 1) * (21 * length first.actors)
   ends_once_failed any k seed max reached last reach failed turns =
       let A = reach_along D E c spare (Within D E c spare L EL most (length first.actors)) L EL (within_kept D E c spare L EL most (length first.actors)) any first reached first_along reach in
       let is : slice_index reached.words 6 ≡ A.words.failed = ap (λ (ws : List ℕ). slice_index ws 6) A.flat_is in
@@ -126,5 +127,5 @@ module _ (D : LogSide) (E : DataSide) (c : Setup) (spare : ℕ) (L : LogLaws D) 
       omega arith
 
   -- and with more than twice as many they are never spent
-  pub never_spent_once_failed : (any seed max user : ℕ) (reached last : Core D E) → CanReach D E any first reached → 0 < slice_index reached.words 6 → 2 * ((most + 1) * (21 * length first.actors)) < max → IsSpent D E seed max user reached last → ⊥
+  pub never_spent_once_failed : (any seed max user : ℕ) (reached last : Core D E) → CanReach D E any first reached → 0 < slice_index reached.words 6 → 2 * ((most + 1) * (21 * length first.actors)) < max → IsSpent (plain_store D E) seed max user reached last → ⊥
   never_spent_once_failed any seed max user reached last reach failed more spent = let z = ends_once_failed any max seed max reached last reach failed spent.turns in omega arith

@@ -12,15 +12,16 @@ use Rattle.model_own.specs.OwnTurn.{OwnCore, all_actors, with_writer}
 use Rattle.model_ownrun.proofs.OwnRuns.{own_run_keeps}
 use Rattle.model_ownrun.proofs.OwnSeats.{own_run_keeps_seats}
 use Rattle.model_ownrun.specs.OwnRunning.{OwnRunning}
-use Rattle.model_ownrun.specs.OwnRuns.{TakesOwnTurns}
+use Rattle.model_ownrun.specs.OwnRuns.{own_store}
 use Rattle.model_pagecore.specs.DataLaws.{DataLaws}
 use Rattle.model_running.proofs.ClosedStore.{closed_store, held_store}
 use Rattle.model_running.specs.ClosedStore.{ClosedStore, DataTells, HeldStore, LogTells}
 use Rattle.model_running.specs.Finished.{CausesAreFailures}
 use Rattle.model_running.specs.OpenedPages.{HasItsPages}
-use Rattle.model_running.specs.Schedule.{HaveEnded}
+use Rattle.model_running.specs.PlainStore.{tells_nothing}
+use Rattle.model_running.specs.Schedule.{HaveEnded, TakesTurns}
 use Rattle.model_running.specs.Script.{IsOfScript}
-use Rattle.model_running.specs.Seating.{AreSeated}
+use Rattle.model_running.specs.Seated.{AreSeated}
 use Rattle.model_script.specs.declared.script.ScriptLine.{ScriptLine}
 use Rattle.model_theorem.specs.{AreGiven, Opened}
 
@@ -30,7 +31,7 @@ module _ (D : LogSide) (L : LogLaws D) (E : DataSide) (EL : DataLaws E) (c : Set
     (number count : ℕ) (log_disk data_disk : Disk) (given : AreGiven script opened) (pages : HasItsPages c opened)
     (log_tells : LogTells D c opened.shape number last.log_part log_disk)
     (data_tells : DataTells E opened last.data_part data_disk)
-    (taken : TakesOwnTurns D E seed max count first last) where
+    (taken : TakesTurns (own_store D E tells_nothing) seed max count first last) where
   pub own_run_held : HeldStore D E script opened number log_disk data_disk (with_writer last)
   own_run_held = let after = own_run_keeps D L E EL c spare seed max count first last running taken in
       held_store D E c script opened number log_disk data_disk (with_writer last) start given log_tells data_tells

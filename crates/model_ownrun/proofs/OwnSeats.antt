@@ -26,9 +26,10 @@ use Rattle.model_own.specs.declared.errand.ErrandStep.{ErrandStep}
 use Rattle.model_own.specs.declared.errand.ErrandStep.TheVariants as errand_step
 use Rattle.model_ownrun.proofs.Seats.{flusher_put, flusher_seat, flusher_there, user_put, user_there, writer_put}
 use Rattle.model_ownrun.proofs.Seats.{writer_seat, writer_there}
-use Rattle.model_ownrun.specs.OwnRuns.{TakesOwnTurns}
+use Rattle.model_ownrun.specs.OwnRuns.{own_store}
 use Rattle.model_running.proofs.SeatsKeep.{seats_keep, turn_keeps_seats}
-use Rattle.model_running.specs.Seating.{AreSeated}
+use Rattle.model_running.specs.{TakesTurns, tells_nothing}
+use Rattle.model_running.specs.Seated.{AreSeated}
 
 abbrev SameUser : OwnUser → OwnUser → Type 0
 SameUser o x = (x.user.user ≡ o.user.user) × (x.user.lines ≡ o.user.lines)
@@ -134,8 +135,8 @@ module _ (D : LogSide) (E : DataSide) (c : Setup) where
           (subst (λ (l : List Actor). AreSeated c (all_actors us x.1 l)) (sym u.others) left))
 
   pub own_run_keeps_seats : (seed max n : ℕ) (first last : OwnCore D E) → Seated first
-      → TakesOwnTurns D E seed max n first last → Seated last
+      → TakesTurns (own_store D E tells_nothing) seed max n first last → Seated last
   own_run_keeps_seats seed max zero first last seated is = subst Seated (sym is) seated
   own_run_keeps_seats seed max (suc n) first last seated r =
       let earlier = own_run_keeps_seats seed max n first r.before seated r.earlier in
-      own_turn_keeps_seats r.before last _ r.answer r.step earlier r.turn
+      own_turn_keeps_seats r.before last _ r.turn.answer r.step earlier r.turn.turn

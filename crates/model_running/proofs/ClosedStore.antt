@@ -20,7 +20,7 @@ use Rattle.model_log.specs.declared.group.Whole.{Whole}
 use Rattle.model_theorem.specs.{AreGiven, DataHolds, IsClosed, IsHeld, Opened}
 use Rattle.model_running.specs.RunningStore.{IsRunning}
 use Rattle.model_running.specs.Schedule.{HaveEnded}
-use Rattle.model_running.specs.Seating.{AreSeated}
+use Rattle.model_running.specs.Seated.{AreSeated}
 use Rattle.model_script.specs.declared.script.ScriptLine.{ScriptLine}
 
 module _ (D : LogSide) (E : DataSide) (c : Setup) (script : List ScriptLine) (opened : Opened) (number : ℕ) (log_disk data_disk : Disk) (s : Core D E) (start : lsn c.base ≡ start_after opened.end) (given : AreGiven script opened)

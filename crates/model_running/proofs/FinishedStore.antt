@@ -17,9 +17,10 @@ use Rattle.model_report.specs.{lines_of_user}
 use Rattle.model_report.specs.declared.entry.Marks.{Marks}
 use Rattle.model_log.specs.{start_after}
 use Rattle.model_logcore.specs.{UserFits}
+use Rattle.model_running.specs.PlainStore.{plain_store}
 use Rattle.model_running.specs.RunningStore.{IsRunning}
 use Rattle.model_running.specs.Schedule.{HaveEnded, IsSpent}
-use Rattle.model_running.specs.Seating.{AreSeated}
+use Rattle.model_running.specs.Seated.{AreSeated}
 use Rattle.model_script.specs.declared.script.ScriptLine.{ScriptLine}
 use Rattle.model_theorem.specs.{Opened}
 use Rattle.model_core.specs.Actors as actor
@@ -61,7 +62,7 @@ finished_store D E c spare script opened failures left s running seated ended of
 
 -- where the turns are spent a user has a line left that isn't answered
 unfoldable pub spent_store : (D : LogSide) (E : DataSide) (c : Setup) (spare : ℕ) (script : List ScriptLine) (opened : Opened) (seed max user : ℕ) (first last : Core D E) → IsRunning D E c spare last → AreSeated c last.actors → IsOfScript c script opened.shape → lsn c.base ≡ start_after opened.end
-    → IsSpent D E seed max user first last → SpentStore D E c script opened user last
+    → IsSpent (plain_store D E) seed max user first last → SpentStore D E c script opened user last
 unfolding stands_for_run
 spent_store D E c spare script opened seed max user first last running seated of_script start spent =
     let m = running.shared in let g = running.log_ghost in let half = running.both.logged in

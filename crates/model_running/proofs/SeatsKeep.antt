@@ -13,8 +13,10 @@ use Rattle.model_core.specs.Setup.{Setup}
 use Rattle.model_core.specs.Turn.{Turn}
 use Rattle.model_core.specs.declared.ops.Answer.{Answer}
 use Rattle.model_core.specs.declared.ops.Step.{Step}
+use Rattle.model_running.specs.PlainStore.{plain_store}
 use Rattle.model_running.specs.Schedule.{TakesTurns}
-use Rattle.model_running.specs.Seating.{ArePageActors, AreSeated, PageActors}
+use Rattle.model_running.specs.Seated.{AreSeated}
+use Rattle.model_running.specs.Seating.{ArePageActors, PageActors}
 use Rattle.model_core.specs.Actors as actor
 use mathlib.Core.Option as maybe
 
@@ -155,6 +157,9 @@ pub turn_keeps_seats : (D : LogSide) (E : DataSide) (c : Setup) (old new : Core 
 turn_keeps_seats D E c old new seat answer step seated t = subst (AreSeated c) (sym t.actors) (seats_keep c old.actors seated seat t.who (took (filled t.who t.filling) answer) t.who_is
     (later_trans t.who (filled t.who t.filling) (took (filled t.who t.filling) answer) (filled_later t.who t.filling) (took_later (filled t.who t.filling) answer)))
 
-pub run_keeps_seats : (D : LogSide) (E : DataSide) (c : Setup) (seed max n : ℕ) (first last : Core D E) → AreSeated c first.actors → TakesTurns D E seed max n first last → AreSeated c last.actors
+pub run_keeps_seats : (D : LogSide) (E : DataSide) (c : Setup) (seed max n : ℕ) (first last : Core D E)
+    → AreSeated c first.actors → TakesTurns (plain_store D E) seed max n first last → AreSeated c last.actors
 run_keeps_seats D E c seed max zero first last seated is = subst (λ (s : Core D E). AreSeated c s.actors) (sym is) seated
-run_keeps_seats D E c seed max (suc n) first last seated r = turn_keeps_seats D E c r.before last _ r.answer r.step (run_keeps_seats D E c seed max n first r.before seated r.earlier) r.turn
+run_keeps_seats D E c seed max (suc n) first last seated r =
+    turn_keeps_seats D E c r.before last _ r.turn.answer r.step
+    (run_keeps_seats D E c seed max n first r.before seated r.earlier) r.turn.turn
