@@ -21,8 +21,7 @@ module _ {D F : LogSide} {E G : DataSide} (S : TurnStore D E) (T : TurnStore F G
   turns_as zero last is = (ap of is, subst Holds (sym is) at_first)
   turns_as (suc n) last r =
       let before = turns_as n r.before r.earlier in
-      let now = takes r.before last (seat_of_turn seed max (S.seats r.before) n) r.step before.1 r.turn in
-      (
+      let now = takes r.before last (seat_of_turn seed max (S.seats r.before) n) r.step before.1 r.turn in (
         record {
           before = of r.before;
           earlier = before.0;

@@ -89,8 +89,12 @@ module _ (shape : Shape) (start : ℕ) (pages : List Content) where
     where
       same : ◌≡◌ {A = List PageWords} up_to.page_words (map (λ (page : Content). free_page (page_frame page.user)) pages)
       same = ext_get_or blank_words up_to.page_words (map (λ (page : Content). free_page (page_frame page.user)) pages)
-          (omega (arith, up_to.named.sized.page_words, up_to.count,
-          length-map pages (λ (page : Content). free_page (page_frame page.user))))
+          (omega (
+            arith,
+            up_to.named.sized.page_words,
+            up_to.count,
+            length-map pages (λ (page : Content). free_page (page_frame page.user)),
+          ))
           (λ p below. let there : p < length pages = omega (arith, up_to.named.sized.page_words, up_to.count) in
           up_to.done p (omega arith) there
           ∙ sym (get_or-map (λ (page : Content). free_page (page_frame page.user)) pages p (blank_page shape) blank_words

@@ -1,5 +1,5 @@
 -- A turn over the sides of the invariant is a turn over those that tell nothing of what a device holds.
-use Rattle.std.proofs.Common.{ℕ, ◌≡◌}
+use Rattle.std.proofs.Common.{ℕ}
 use Rattle.model_core.specs.{Batch, Blocks, Core, DataServed, filled, Lent, lent, LogServed, next, Nothing, Room}
 use Rattle.model_core.specs.Turn.{Turn}
 use Rattle.model_core.specs.declared.ops.Answer.{Answer}

@@ -137,11 +137,14 @@ module _ {L D A R : Type 0} (log_seen : L → Seen) (log_gives : L → Call → 
     actors_are = refl;
     ends = ends_as in_run (turn_store log_seen log_gives data_seen data_gives false) (thin log_seen data_seen run)
         (λ s. Unit {0}) (λ s. refl) (λ s. refl)
-        (λ old new seat how none t. (record {
-          answer = t.answer;
-          turn = turn_thin log_seen data_seen run old new seat t.answer how t.turn;
-          told = t.told;
-        }, tt)) turns.seed turns.max first tt driven.ended last by.ends;
+        (λ old new seat how none t. (
+          record {
+            answer = t.answer;
+            turn = turn_thin log_seen data_seen run old new seat t.answer how t.turn;
+            told = t.told;
+          },
+          tt,
+        )) turns.seed turns.max first tt driven.ended last by.ends;
     log = by.log;
     data_part = by.data_part;
     marks = by.marks;

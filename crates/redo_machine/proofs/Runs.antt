@@ -169,8 +169,7 @@ module _ {L D A R : Type 0} (log_seen : L → Seen) (log_gives : L → Call → 
       → RunEndsAs log_seen log_gives data_seen data_gives run seed max first.parts (views_of first.actors.items)
       (ran.Spent max user) last.parts (views_of last.actors.items)
   ends_spent turn draws seats user first last I all open_user run archive R =
-      let goes = I.goes run archive R in
-      (
+      let goes = I.goes run archive R in (
         refl,
         record {
           turns = subst (λ (n : ℕ). TakesTurns (run_store log_seen log_gives data_seen data_gives run) seed max n

@@ -1,6 +1,6 @@
 -- A turn of a store whose users write for themselves, over the sides of the invariant, is one over those that tell nothing
 -- of what a device holds.
-use Rattle.std.proofs.Common.{inl, inr, ℕ, ⊎_elim, ◌+◌, ◌≡◌}
+use Rattle.std.proofs.Common.{inl, inr, ℕ, ⊎_elim, ◌+◌}
 use Rattle.model_core.specs.declared.ops.Answer.{Answer}
 use Rattle.model_core.specs.declared.ops.Step.{Step}
 use Rattle.model_own.specs.OwnTurn.{OtherTurn, OwnCore, OwnTurn, UserTurn, with_writer}

@@ -1,5 +1,5 @@
 -- What a run by turns leaves whose users write for themselves, and so what it comes to.
-use Rattle.std.proofs.Common.{Bool, List, Option, ap, false, is_some, length, refl, slice_index, subst, suc, sym, true, zero}
+use Rattle.std.proofs.Common.{Bool, List, Option, ap, is_some, length, refl, slice_index, subst, suc, sym, true, zero}
 use Rattle.std.proofs.Common.{⊎_elim, ℕ, ◌∙◌, ◌≡◌}
 use lib.ListN.{get_elem?}
 use Rattle.model_base.specs.declared.shape.Shape.{Shape}
@@ -175,12 +175,14 @@ module _ {L D A R : Type 0} (log_seen : L → Seen) (log_gives : L → Call → 
         (λ old new seat how alone t.
         let law = never_idle (run_log_side log_seen data_seen run) (its_log_laws log_seen data_seen run)
         (run_data_side log_seen data_seen run) (its_data_laws log_seen data_seen run) run.setup 0 old new seat t.answer
-        how alone t.turn in
-        (record {
-          answer = t.answer;
-          turn = own_turn_thin log_seen data_seen run old new seat t.answer how t.turn;
-          told = record { asked = record { user = t.told.user; other = t.told.other }; alone = law.0 };
-        }, law.1)) turns.seed turns.max first by.start.alone driven.ended last by.ends;
+        how alone t.turn in (
+          record {
+            answer = t.answer;
+            turn = own_turn_thin log_seen data_seen run old new seat t.answer how t.turn;
+            told = record { asked = record { user = t.told.user; other = t.told.other }; alone = law.0 };
+          },
+          law.1,
+        )) turns.seed turns.max first by.start.alone driven.ended last by.ends;
     log = by.log;
     data_part = by.data_part;
     marks = by.marks;
