@@ -65,4 +65,5 @@ pub plain_spent : (D : LogSide) (E : DataSide) (Tells : Core D E → ℕ → Ste
     → IsSpent (plain_store D E) seed max user first last
 plain_spent D E Tells seed max user first last =
     spent_as (actor_store D E Tells) (plain_store D E) (λ (s : Core D E). s) (λ s. Unit {0}) (λ s. refl) (λ s. refl)
-    (λ old new seat step none t. (record { answer = t.answer; turn = t.turn; told = tt }, tt)) seed max first tt user last
+    (λ old new seat step none t. (record { answer = t.answer; turn = t.turn; told = tt }, tt)) seed max first tt user
+    last

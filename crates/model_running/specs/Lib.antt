@@ -37,7 +37,8 @@ pub use Rattle.model_running.specs.PageContents.{content_in, contents_of, kept_c
 pub use Rattle.model_running.specs.PlainStore.{plain_store, tells_nothing}
 pub use Rattle.model_running.specs.RunOf.{run_of}
 pub use Rattle.model_running.specs.RunningStore.{BothHalves, IsRunning}
-pub use Rattle.model_running.specs.Schedule.{HasEnded, HaveEnded, IsDone, IsSpent, LastTurn, TakesTurns, TurnStore, seat_of_turn}
+pub use Rattle.model_running.specs.Schedule.{HasEnded, HaveEnded, IsDone, IsSpent, LastTurn, TakesTurns, TurnStore}
+pub use Rattle.model_running.specs.Schedule.{seat_of_turn}
 pub use Rattle.model_running.specs.Script.{IsOfScript}
 pub use Rattle.model_running.specs.Seated.{AreSeated}
 pub use Rattle.model_running.specs.Seating.{ArePageActors}

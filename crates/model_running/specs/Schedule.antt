@@ -22,8 +22,8 @@ HasEnded u = (u.step ≡ user_step.Done) ⊎ (u.step ≡ user_step.Failed)
 abbrev pub HaveEnded : List Actor → Type 0
 HaveEnded actors = (seat : ℕ) (u : UserState) → get_elem? actors seat ≡ some (actor.User u) → HasEnded u
 
--- A store whose actors take turns: its states, each as a store of actors; what else holds where no turn is taken yet; how
--- many seats there are; and one turn of the one at a seat, with how its step ends.
+-- A store whose actors take turns: its states, each as a store of actors; what else holds where no turn is taken yet;
+-- how many seats there are; and one turn of the one at a seat, with how its step ends.
 pub record TurnStore (D : LogSide) (E : DataSide) : Type 1 where
   pub State : Type 0
   pub core : State → Core D E

@@ -87,7 +87,8 @@ module _ (shape : Shape) (start : ℕ) (pages : List Content) where
   set_first words k up_to all = up_to.named.in_order
       ∙ ap (λ (ws : List PageWords). flat (begun_words start (length pages) ws)) same
     where
-      same : ◌≡◌ {A = List PageWords} up_to.page_words (map (λ (page : Content). free_page (page_frame page.user)) pages)
+      same : ◌≡◌ {A = List PageWords} up_to.page_words
+          (map (λ (page : Content). free_page (page_frame page.user)) pages)
       same = ext_get_or blank_words up_to.page_words (map (λ (page : Content). free_page (page_frame page.user)) pages)
           (omega (
             arith,
@@ -97,8 +98,8 @@ module _ (shape : Shape) (start : ℕ) (pages : List Content) where
           ))
           (λ p below. let there : p < length pages = omega (arith, up_to.named.sized.page_words, up_to.count) in
           up_to.done p (omega arith) there
-          ∙ sym (get_or-map (λ (page : Content). free_page (page_frame page.user)) pages p (blank_page shape) blank_words
-          there))
+          ∙ sym (get_or-map (λ (page : Content). free_page (page_frame page.user)) pages p (blank_page shape)
+          blank_words there))
 
   -- a run that starts there, at the first data byte of a block, has these words
   module _ (c : Setup) (limits : IsWithinLimits shape) (its_pages : ArePagesOf shape pages) (place : IsAtDataStart start) (on : StartsOn start shape pages c) where

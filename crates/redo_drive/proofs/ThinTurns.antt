@@ -36,7 +36,8 @@ module _ {L D : Type 0} (log_seen : L → Seen) (data_seen : D → Seen) (run : 
   wrote_thin batch code d e w = record { result = w.result; code_is = w.code_is; step = w.step }
 
   pub data_thin : (d e : store.Part D) (code : ℕ) (l : Lent) (o : Op)
-      → DataServed (run_data_side log_seen data_seen run) d l o code e → DataServed (turn_data_side data_seen) d l o code e
+      → DataServed (run_data_side log_seen data_seen run) d l o code e
+      → DataServed (turn_data_side data_seen) d l o code e
   data_thin d e code (Batch batch) op.WriteBatch w = wrote_thin batch code d e w
   data_thin d e code Nothing op.WriteBatch w = w
   data_thin d e code (Blocks bytes firsts) op.WriteBatch w = w
@@ -65,7 +66,8 @@ module _ {L D : Type 0} (log_seen : L → Seen) (data_seen : D → Seen) (run : 
     fills = t.fills;
     code = t.code;
     log_served = log_thin old.log_part new.log_part t.code (lent (filled t.who t.filling)) (next t.who) t.log_served;
-    data_served = data_thin old.data_part new.data_part t.code (lent (filled t.who t.filling)) (next t.who) t.data_served;
+    data_served = data_thin old.data_part new.data_part t.code (lent (filled t.who t.filling)) (next t.who)
+        t.data_served;
     own_served = t.own_served;
     words = t.words;
     lists = t.lists;

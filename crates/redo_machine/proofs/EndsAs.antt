@@ -11,8 +11,9 @@ use Rattle.redo_drive.specs.declared.drive.RunEnd.TheVariants as ran
 use Rattle.redo_machine.specs.ByTurns.{EndsAs}
 
 -- However a run ended, turns led there.
-pub turns_taken : {D : LogSide} {E : DataSide} (store : TurnStore D E) (seed max : ℕ) (first : store.State) (how : RunEnd)
-    (last : store.State) → EndsAs store seed max first how last → (count : ℕ) × TakesTurns store seed max count first last
+pub turns_taken : {D : LogSide} {E : DataSide} (store : TurnStore D E) (seed max : ℕ) (first : store.State)
+    (how : RunEnd) (last : store.State) → EndsAs store seed max first how last
+    → (count : ℕ) × TakesTurns store seed max count first last
 turns_taken store seed max first ran.Done last ends = (ends.count, ends.turns)
 turns_taken store seed max first (ran.Spent turns user) last ends = (max, ends.1.turns)
 

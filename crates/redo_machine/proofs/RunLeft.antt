@@ -1,6 +1,6 @@
 -- What a run by turns leaves, and so what it comes to.
-use Rattle.std.proofs.Common.{Bool, List, Option, ap, arith, cond, false, is_some, length, refl, slice_index, subst, sym}
-use Rattle.std.proofs.Common.{true, ℕ, ◌∙◌, ◌<◌, ◌≡◌}
+use Rattle.std.proofs.Common.{Bool, List, Option, ap, arith, cond, false, is_some, length, refl, slice_index, subst}
+use Rattle.std.proofs.Common.{sym, true, ℕ, ◌∙◌, ◌<◌, ◌≡◌}
 use Rattle.model_core.specs.{Core, Given, HasLost, index, lsn}
 use Rattle.model_core.specs.declared.words.Word.TheVariants as word
 use Rattle.model_running.proofs.OpenLines as open_lines
@@ -127,8 +127,8 @@ module _ {L D A R : Type 0} (log_seen : L → Seen) (log_gives : L → Call → 
 
   -- so the run is by turns
   pub by_turns : MayBegin opened script turns.log_only
-      → RunsByTurns log_seen log_gives data_seen data_gives false opened script turns (is_some before) (length followers)
-      (views_of actors) driven
+      → RunsByTurns log_seen log_gives data_seen data_gives false opened script turns (is_some before)
+      (length followers) (views_of actors) driven
   by_turns may = record {
     first = thin log_seen data_seen run first;
     begins = begins;

@@ -140,7 +140,8 @@ module _ {L D A R : Type 0} (log_seen : L → Seen) (log_gives : L → Call → 
                   answer = taken.answer;
                   turn = its_turn;
                   told = λ who at. so_at (λ (a : model.Actor).
-                      AskOfBoth log_gives data_gives (lent a) (next a) old.parts new.parts) old.actors.items seat who asked
+                      AskOfBoth log_gives data_gives (lent a) (next a) old.parts new.parts) old.actors.items seat who
+                      asked
                       (subst (λ (s : ℕ). get_elem? (views_of old.actors.items) s ≡ some who) (sym its_seat) at);
                 };
               });

@@ -28,8 +28,8 @@ abbrev pub EndsAs : {D : LogSide} {E : DataSide} (store : TurnStore D E) (seed m
 EndsAs store seed max first ran.Done last = IsDone store seed max first last
 EndsAs store seed max first (ran.Spent turns user) last = (turns ≡ max) × IsSpent store seed max user first last
 
--- NOTHING IS DONE YET: the words are those with which a run begins, the actors of the script are new and in their seats,
--- both parts are those that were opened, and no page is listed.
+-- NOTHING IS DONE YET: the words are those with which a run begins, the actors of the script are new and in their
+-- seats, both parts are those that were opened, and no page is listed.
 pub record NothingIsDone {L D : Type 0} (log_seen : L → Seen) (data_seen : D → Seen) (opened : Opened L D)
     (script : List ScriptLine) (log_only archive : Bool) (followers : ℕ)
     (store : Core (turn_log_side log_seen) (turn_data_side data_seen)) : Type 0 where
@@ -41,8 +41,8 @@ pub record NothingIsDone {L D : Type 0} (log_seen : L → Seen) (data_seen : D �
 
 module _ {L D : Type 0} (log_seen : L → Seen) (log_gives : L → Call → L → Type 0) (data_seen : D → Seen)
     (data_gives : D → Call → D → Type 0) where
-  -- The store of a run by turns, whose users write for themselves or don't. In each turn both devices were asked for what
-  -- the Op of the one at the seat asks of them, all of it or up to an error, and for nothing else.
+  -- The store of a run by turns, whose users write for themselves or don't. In each turn both devices were asked for
+  -- what the Op of the one at the seat asks of them, all of it or up to an error, and for nothing else.
   abbrev pub turn_store : (own_writes : Bool) → TurnStore (turn_log_side log_seen) (turn_data_side data_seen)
   turn_store false = actor_store (turn_log_side log_seen) (turn_data_side data_seen)
       (AskAt (turn_log_side log_seen) (turn_data_side data_seen) (AskOfParts log_gives data_gives))
@@ -53,9 +53,9 @@ module _ {L D : Type 0} (log_seen : L → Seen) (log_gives : L → Call → L �
     abbrev store : TurnStore (turn_log_side log_seen) (turn_data_side data_seen)
     store = turn_store own_writes
 
-    -- THE TURNS. The run of the script on the opened store, with an archiver or without, and with so many followers, began
-    -- with nothing done. The turns of the seed led from there to its end, at which the actors are these, and both parts
-    -- those of the closed run.
+    -- THE TURNS. The run of the script on the opened store, with an archiver or without, and with so many followers,
+    -- began with nothing done. The turns of the seed led from there to its end, at which the actors are these, and both
+    -- parts those of the closed run.
     pub record RunsByTurns (opened : Opened L D) (script : List ScriptLine) (turns : Turns) (archive : Bool)
         (followers : ℕ) (actors : List model.Actor) (driven : Driven L D) : Type 0 where
       pub first : store.State
@@ -70,7 +70,7 @@ module _ {L D : Type 0} (log_seen : L → Seen) (log_gives : L → Call → L �
       pub marks : driven.closed.marks ≡ marks_in (store.core last).words
       pub code : driven.closed.code ≡ slice_index (store.core last).words (index word.Failed)
       pub history : ListsInOrder driven.closed.marks actors driven.closed.history
-      -- where the log ran alone, without archiver and followers, and no user wrote for itself, turns that were spent are
-      -- fewer than the greatest number that may be asked for
+      -- where the log ran alone, without archiver and followers, and no user wrote for itself, turns that were spent
+      -- are fewer than the greatest number that may be asked for
       pub few : own_writes ≡ false → (spent user : ℕ) → driven.ended ≡ ran.Spent spent user → turns.log_only ≡ true
           → archive ≡ false → followers ≡ 0 → spent < MAX_TURNS

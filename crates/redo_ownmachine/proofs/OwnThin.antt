@@ -1,5 +1,5 @@
--- A turn of a store whose users write for themselves, over the sides of the invariant, is one over those that tell nothing
--- of what a device holds.
+-- A turn of a store whose users write for themselves, over the sides of the invariant, is one over those that tell
+-- nothing of what a device holds.
 use Rattle.std.proofs.Common.{inl, inr, ℕ, ⊎_elim, ◌+◌}
 use Rattle.model_core.specs.declared.ops.Answer.{Answer}
 use Rattle.model_core.specs.declared.ops.Step.{Step}
@@ -26,7 +26,8 @@ module _ {L D : Type 0} (log_seen : L → Seen) (data_seen : D → Seen) (run : 
 
   module _ (old new : OwnCore (run_log_side log_seen data_seen run) (run_data_side log_seen data_seen run)) (seat : ℕ)
       (answer : Answer) (how : Step) where
-    of_user : UserTurn (run_log_side log_seen data_seen run) (run_data_side log_seen data_seen run) old seat answer how new
+    of_user :
+        UserTurn (run_log_side log_seen data_seen run) (run_data_side log_seen data_seen run) old seat answer how new
         → UserTurn (turn_log_side log_seen) (turn_data_side data_seen) (own_thin old) seat answer how (own_thin new)
     of_user u = record {
       who = u.who;
@@ -45,8 +46,9 @@ module _ {L D : Type 0} (log_seen : L → Seen) (data_seen : D → Seen) (run : 
       ends = u.ends;
     }
 
-    of_other : OtherTurn (run_log_side log_seen data_seen run) (run_data_side log_seen data_seen run) old seat answer how
-        new → OtherTurn (turn_log_side log_seen) (turn_data_side data_seen) (own_thin old) seat answer how (own_thin new)
+    of_other :
+        OtherTurn (run_log_side log_seen data_seen run) (run_data_side log_seen data_seen run) old seat answer how new
+        → OtherTurn (turn_log_side log_seen) (turn_data_side data_seen) (own_thin old) seat answer how (own_thin new)
     of_other o = record {
       after = o.after;
       turn = turn_thin log_seen data_seen run (with_writer old) (with_writer new) (seat + 2) answer how o.turn;

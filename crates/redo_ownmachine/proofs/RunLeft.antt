@@ -75,13 +75,14 @@ module _ {L D : Type 0} (log_seen : L → Seen) (data_seen : D → Seen) (run : 
   turns_shape : (Tells : OwnCore (run_log_side log_seen data_seen run) (run_data_side log_seen data_seen run) → ℕ → Step
       → OwnCore (run_log_side log_seen data_seen run) (run_data_side log_seen data_seen run) → Type 0) (seed max n : ℕ)
       (first last : OwnCore (run_log_side log_seen data_seen run) (run_data_side log_seen data_seen run))
-      → TakesTurns (own_store (run_log_side log_seen data_seen run) (run_data_side log_seen data_seen run) Tells) seed max n
-      first last → ◌≡◌ {A = Shape} last.log_part.shape first.log_part.shape
+      → TakesTurns (own_store (run_log_side log_seen data_seen run) (run_data_side log_seen data_seen run) Tells) seed max
+      n first last → ◌≡◌ {A = Shape} last.log_part.shape first.log_part.shape
   turns_shape Tells seed max zero first last same =
       ap (λ (s : OwnCore (run_log_side log_seen data_seen run) (run_data_side log_seen data_seen run)). s.log_part.shape)
       same
   turns_shape Tells seed max (suc n) first last r =
-      turn_shape r.before last _ r.turn.answer r.step r.turn.turn ∙ turns_shape Tells seed max n first r.before r.earlier
+      turn_shape r.before last _ r.turn.answer r.step r.turn.turn
+      ∙ turns_shape Tells seed max n first r.before r.earlier
 
 -- The machine began the run of the script on the store, and the turns of the seed led from there to its end, at which the
 -- invariant holds, with what the followers' receivers have got and with the archive, and of which the closed run tells.

@@ -151,7 +151,8 @@ module _ {L D A R : Type 0} (log_seen : L → Seen) (log_gives : L → Call → 
   ends_spent turn draws seats user first last I all open_user run archive R =
       let goes = I.goes run archive R in
       let seated = goes.runs.runs.seated in
-      let found = first_open run.setup last.users.items last.work (views_of last.others.items) seated user open_user in (
+      let found = first_open run.setup last.users.items last.work (views_of last.others.items) seated user open_user
+      in (
         refl,
         record {
           turns = subst (λ (n : ℕ). TakesTurns (own_run_store log_seen log_gives data_seen data_gives run) seed max n
