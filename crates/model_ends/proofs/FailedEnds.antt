@@ -17,7 +17,8 @@ use Rattle.model_logcore.specs.LogLaws.{LogLaws}
 use Rattle.model_pagecore.specs.DataLaws.{DataLaws}
 use Rattle.model_running.proofs.StartRunning.{both_start, start_pages}
 use Rattle.model_running.specs.RunningStore.{BothHalves}
-use Rattle.model_running.specs.Schedule.{TakesTurns}
+use Rattle.model_running.specs.PlainStore.{plain_store}
+use Rattle.model_running.specs.Schedule.{IsSpent, TakesTurns}
 use Rattle.model_running.specs.StartStore.{StartStore}
 use Rattle.model_ends.proofs.Along.{Along, EachTurnKeeps, reach_along}
 use Rattle.model_ends.proofs.FailedRuns.{failed_run_ends, Failing}
@@ -110,7 +111,7 @@ module _ (D : LogSide) (E : DataSide) (c : Setup) (L : LogLaws D) (EL : DataLaws
   }
 
   -- ONCE FAILED HAS A CODE turns one after another end the run
-  pub ends_once_failed : (any k seed max : ℕ) (reached last : Core D E) → CanReach D E any first reached → 0 < slice_index reached.words 6 → TakesTurns D E seed max k reached last → k ≤ max / 2 + (most + 1) * (21 * length first.actors)
+  pub ends_once_failed : (any k seed max : ℕ) (reached last : Core D E) → CanReach D E any first reached → 0 < slice_index reached.words 6 → TakesTurns (plain_store D E) seed max k reached last → k ≤ max / 2 + (most + 1) * (21 * length first.actors)
   ends_once_failed any k seed max reached last reach failed turns =
       let A = reach_along D E c (Within D E c L EL most (length first.actors)) L EL (within_kept D E c L EL most (length first.actors)) any first reached first_along reach in
       let is : slice_index reached.words 6 ≡ A.words.failed = ap (λ (ws : List ℕ). slice_index ws 6) A.flat_is in

@@ -21,7 +21,8 @@ use Rattle.model_logcore.specs.LogLaws.{LogLaws}
 use Rattle.model_pagecore.specs.DataLaws.{DataLaws}
 use Rattle.model_running.proofs.FailedStays.{turn_keeps_failed}
 use Rattle.model_running.specs.RunningStore.{IsRunning}
-use Rattle.model_running.specs.Schedule.{HaveEnded, seat_of_turn, TakesTurns}
+use Rattle.model_running.specs.PlainStore.{plain_store}
+use Rattle.model_running.specs.Schedule.{HaveEnded, IsSpent, seat_of_turn, TakesTurns}
 use Rattle.model_script.specs.{draw}
 use Rattle.model_ends.proofs.Along.{actors_then, Along, both_filled, EachTurnKeeps, lists_then, turn_along, words_then}
 use Rattle.model_ends.proofs.FailedTurns.{filled_left, Moves, total, turn_no_more, user_moves}
@@ -223,31 +224,31 @@ module _ (D : LogSide) (E : DataSide) (c : Setup) (L : LogLaws D) (EL : DataLaws
       first_after : (s : Core D E) (F : Failing s) → rank s F ≤ most → After 0 s
       first_after s F less = record { state = F; few = less; counts = λ x e. begins 0 s F less x (omega arith) }
 
-      run : (k : ℕ) (s : Core D E) → TakesTurns D E seed max k first s → After k s
+      run : (k : ℕ) (s : Core D E) → TakesTurns (plain_store D E) seed max k first s → After k s
       run zero s is = subst (After 0) (sym is) (first_after first start low)
       run (suc k) s t =
           let B = run k t.before t.earlier in
           let F = B.state in
           let seat : ℕ = seat_of_turn seed max (length t.before.actors) k in
-          let less = no_more t.before s seat t.answer t.step F t.turn in
+          let less = no_more t.before s seat t.turn.answer t.step F t.turn.turn in
           let few = B.few in
           record {
-            state = failing t.before s seat t.answer t.step F t.turn;
+            state = failing t.before s seat t.turn.answer t.step F t.turn.turn;
             few = omega arith;
             counts = λ x. by k s t B x;
           }
         where
-          by : (k : ℕ) (s : Core D E) (t : TakesTurns D E seed max (suc k) first s) (B : After k t.before) (x : ℕ) → max / 2 + x ≡ suc k
-              → EndedOr (suc k) x (rank s (failing t.before s (seat_of_turn seed max (length t.before.actors) k) t.answer t.step B.state t.turn)) s.actors
-          by k s t B zero e = fresh (suc k) s (failing t.before s (seat_of_turn seed max (length t.before.actors) k) t.answer t.step B.state t.turn)
-              (let z = no_more t.before s (seat_of_turn seed max (length t.before.actors) k) t.answer t.step B.state t.turn in let y = B.few in omega arith)
+          by : (k : ℕ) (s : Core D E) (t : TakesTurns (plain_store D E) seed max (suc k) first s) (B : After k t.before) (x : ℕ) → max / 2 + x ≡ suc k
+              → EndedOr (suc k) x (rank s (failing t.before s (seat_of_turn seed max (length t.before.actors) k) t.turn.answer t.step B.state t.turn.turn)) s.actors
+          by k s t B zero e = fresh (suc k) s (failing t.before s (seat_of_turn seed max (length t.before.actors) k) t.turn.answer t.step B.state t.turn.turn)
+              (let z = no_more t.before s (seat_of_turn seed max (length t.before.actors) k) t.turn.answer t.step B.state t.turn.turn in let y = B.few in omega arith)
           by k s t B (suc x) e = ⊎_elim (λ ended. absurd (t.open_user ended))
-              (λ M. counted t.before s (seat_of_turn seed max (length t.before.actors) k) t.answer t.step B.state t.turn k x
+              (λ M. counted t.before s (seat_of_turn seed max (length t.before.actors) k) t.turn.answer t.step B.state t.turn.turn k x
               (ap (λ b. cond b (draw (k + 1) (seed % 2 ^ 31) % length t.before.actors) (k % length t.before.actors)) (le-ltb k (max / 2) (omega arith)) ∙ ap (λ (i : ℕ). k % i) B.state.seats) M)
               (B.counts x (omega arith))
 
   -- so many turns at most, in their second half, from a state in which FAILED has a code
-  pub failed_run_ends : (seed max : ℕ) (first : Core D E) (start : Failing first) (k : ℕ) (last : Core D E) → TakesTurns D E seed max k first last → k ≤ max / 2 + 21 * n * (rank first start + 1)
+  pub failed_run_ends : (seed max : ℕ) (first : Core D E) (start : Failing first) (k : ℕ) (last : Core D E) → TakesTurns (plain_store D E) seed max k first last → k ≤ max / 2 + 21 * n * (rank first start + 1)
   failed_run_ends seed max first start zero last turns = omega arith
   failed_run_ends seed max first start (suc k) last t = elim (dec_le (max / 2) k) [
     | no d ↦ omega arith

@@ -13,6 +13,7 @@ use Rattle.model_logcore.specs.{StartActor, sum_over_actors}
 use Rattle.model_logcore.specs.LogHalf.{lengths}
 use Rattle.model_logcore.specs.LogLaws.{LogLaws}
 use Rattle.model_pagecore.specs.DataLaws.{DataLaws}
+use Rattle.model_running.specs.PlainStore.{plain_store}
 use Rattle.model_running.specs.Schedule.{IsSpent}
 use Rattle.model_script.specs.declared.misfit.TheConstants.{MAX_USERS}
 use Rattle.model_script.specs.declared.words.TheConstants.{MAX_TURNS}
@@ -56,7 +57,7 @@ module _ (D : LogSide) (E : DataSide) (L : LogLaws D) (EL : DataLaws E) (c : Set
       (sum_less lines_of bytes_of first.actors (λ seat a at. of_actor c S.seat_of S.writer seat a (S.store.each seat a at))) few_bytes
 
   -- SO TURNS THAT ARE SPENT ARE FEWER than the greatest number that may be asked for.
-  pub spent_are_fewer : (any seed max user : ℕ) (reached last : Core D E) → CanReach D E any first reached → IsSpent D E seed max user reached last → max < MAX_TURNS
+  pub spent_are_fewer : (any seed max user : ℕ) (reached last : Core D E) → CanReach D E any first reached → IsSpent (plain_store D E) seed max user reached last → max < MAX_TURNS
   spent_are_fewer any seed max user reached last reach spent = elim (dec_le MAX_TURNS max) [
     | yes most ↦ absurd (let below = below_greatest in never_spent D E L EL c first S any seed max user reached last reach (omega arith) spent)
     | no few ↦ omega arith

@@ -17,6 +17,7 @@ use Rattle.model_core.specs.declared.ops.Step.{Step}
 use Rattle.model_logcore.specs.{sum_over_actors}
 use Rattle.model_logcore.specs.LogLaws.{LogLaws}
 use Rattle.model_pagecore.specs.DataLaws.{DataLaws}
+use Rattle.model_running.specs.PlainStore.{plain_store}
 use Rattle.model_running.specs.Schedule.{HaveEnded, seat_of_turn, TakesTurns}
 use Rattle.model_script.specs.{draw}
 use Rattle.model_ends.proofs.Cost.{steps_of}
@@ -146,27 +147,27 @@ module _ (D : LogSide) (E : DataSide) (c : Setup) (L : LogLaws D) (EL : DataLaws
     begins : (k : ℕ) (s : Core D E) (r : Reached s) (x : ℕ) → x ≡ 0 → EndedOr k x r.words s.actors
     begins k s r x is = subst (λ (i : ℕ). EndedOr k i r.words s.actors) (sym is) (fresh k s r)
 
-    run : (k : ℕ) (s : Core D E) → TakesTurns D E seed max k first s → After k s
+    run : (k : ℕ) (s : Core D E) → TakesTurns (plain_store D E) seed max k first s → After k s
     run zero s is = let r = subst Reached (sym is) start in record { is_reached = r; counts = λ x e. begins 0 s r x (omega arith) }
     run (suc k) s t =
         let B = run k t.before t.earlier in
         let r = B.is_reached in
         let seat : ℕ = seat_of_turn seed max (length t.before.actors) k in
-        let now : Reached s = reached t.before s seat t.answer t.step r t.turn in
+        let now : Reached s = reached t.before s seat t.turn.answer t.step r t.turn.turn in
         record {
           is_reached = now;
           counts = λ x. by k s t B x;
         }
       where
-        by : (k : ℕ) (s : Core D E) (t : TakesTurns D E seed max (suc k) first s) (B : After k t.before) (x : ℕ) → max / 2 + x ≡ suc k → EndedOr (suc k) x (shared_left B.is_reached.words (next t.turn.who)) s.actors
-        by k s t B zero e = fresh (suc k) s (reached t.before s (seat_of_turn seed max (length t.before.actors) k) t.answer t.step B.is_reached t.turn)
+        by : (k : ℕ) (s : Core D E) (t : TakesTurns (plain_store D E) seed max (suc k) first s) (B : After k t.before) (x : ℕ) → max / 2 + x ≡ suc k → EndedOr (suc k) x (shared_left B.is_reached.words (next t.turn.turn.who)) s.actors
+        by k s t B zero e = fresh (suc k) s (reached t.before s (seat_of_turn seed max (length t.before.actors) k) t.turn.answer t.step B.is_reached t.turn.turn)
         by k s t B (suc x) e = ⊎_elim (λ ended. absurd (t.open_user ended))
-            (λ M. counted t.before s (seat_of_turn seed max (length t.before.actors) k) t.answer t.step B.is_reached t.turn k x
+            (λ M. counted t.before s (seat_of_turn seed max (length t.before.actors) k) t.turn.answer t.step B.is_reached t.turn.turn k x
             (ap (λ b. cond b (draw (k + 1) (seed % 2 ^ 31) % length t.before.actors) (k % length t.before.actors)) (le-ltb k (max / 2) (omega arith)) ∙ ap (λ (i : ℕ). k % i) B.is_reached.seats) M)
             (B.counts x (omega arith))
 
     -- A RUN BY TURNS ENDS
-    pub few_turns : (k : ℕ) (s : Core D E) → TakesTurns D E seed max k first s → k ≤ max / 2 + 21 * n * (left_most + 1)
+    pub few_turns : (k : ℕ) (s : Core D E) → TakesTurns (plain_store D E) seed max k first s → k ≤ max / 2 + 21 * n * (left_most + 1)
     few_turns zero s is = omega arith
     few_turns (suc k) s t = elim (dec_le (max / 2) k) [
       | no d ↦ omega arith

@@ -16,6 +16,7 @@ use Rattle.model_logcore.specs.LogLaws.{LogLaws}
 use Rattle.model_pagecore.specs.DataLaws.{DataLaws}
 use Rattle.model_running.proofs.StartRunning.{both_start, start_pages}
 use Rattle.model_running.specs.RunningStore.{BothHalves}
+use Rattle.model_running.specs.PlainStore.{plain_store}
 use Rattle.model_running.specs.Schedule.{IsSpent, TakesTurns}
 use Rattle.model_ends.proofs.Cost.{lines_steps, steps_of}
 use Rattle.model_ends.proofs.Further.{FlusherTold, Further, Told, UserTold, WriterTold}
@@ -88,7 +89,7 @@ module _ (D : LogSide) (E : DataSide) (L : LogLaws D) (EL : DataLaws E) (c : Set
 
   -- FROM EACH STATE THAT THE RUN CAN REACH, by whatever turns and whatever its device calls answer, a run by turns takes at
   -- most so many in their second half, in which they go from seat to seat: then each user has ended.
-  pub run_ends : (any n seed max : ℕ) (reached last : Core D E) → CanReach D E any first reached → TakesTurns D E seed max n reached last → n ≤ max / 2 + most_turns first.actors
+  pub run_ends : (any n seed max : ℕ) (reached last : Core D E) → CanReach D E any first reached → TakesTurns (plain_store D E) seed max n reached last → n ≤ max / 2 + most_turns first.actors
   run_ends any n seed max reached last reach turns =
       let few = few_turns D E c L EL S.log_only (last_lsn c first.actors) S.room (length first.actors) (sum_over_actors steps_of first.actors) seed max reached
       (can_reach D E c L EL S.log_only (last_lsn c first.actors) S.room (length first.actors) (sum_over_actors steps_of first.actors) any first reached reached_first reach) n last turns in
@@ -98,5 +99,5 @@ module _ (D : LogSide) (E : DataSide) (L : LogLaws D) (EL : DataLaws E) (c : Set
       omega arith
 
   -- and with more than twice as many turns they are never spent
-  pub never_spent : (any seed max user : ℕ) (reached last : Core D E) → CanReach D E any first reached → 2 * most_turns first.actors < max → IsSpent D E seed max user reached last → ⊥
+  pub never_spent : (any seed max user : ℕ) (reached last : Core D E) → CanReach D E any first reached → 2 * most_turns first.actors < max → IsSpent (plain_store D E) seed max user reached last → ⊥
   never_spent any seed max user reached last reach more spent = let z = run_ends any max seed max reached last reach spent.turns in omega arith

@@ -1,38 +1,76 @@
 -- From its start on a run of users that write for themselves is a running store; with one alone none of its turns is
 -- idle.
-use Rattle.std.proofs.Common.{List, [], ap, arith, false, inl, refl, subst, suc, sym, true, zero, ℕ, ◌*◌, ◌+◌, ◌∙◌, ◌∷◌}
-use Rattle.std.proofs.Common.{◌≡◌, ◌≤◌}
+use Rattle.std.proofs.Common.{List, [], ap, arith, false, get_or, inl, length, refl, subst, suc, sym, true, zero, ℕ}
+use Rattle.std.proofs.Common.{⊎_elim, ◌*◌, ◌+◌, ◌∙◌, ◌∷◌, ◌≡◌, ◌≤◌}
+use Rattle.std.proofs.lemmas.List.{length-set}
 use lib.ListN.{get_elem?}
 use mathlib.Core.Option.{some}
 use Rattle.model_base.specs.declared.limits.TheConstants.{BLOCK_SIZE}
-use Rattle.model_core.specs.{Actor, Listed, lsn, SharedWords}
+use Rattle.model_core.specs.{Actor, filled, Listed, lsn, SharedWords, took}
 use Rattle.model_core.specs.DataSide.{DataSide}
 use Rattle.model_core.specs.LogSide.{LogSide}
 use Rattle.model_core.specs.Setup.{Setup}
 use Rattle.model_core.specs.StartWords.{start_checkpoint}
 use Rattle.model_core.specs.declared.limits.TheConstants.{FREE_MARGIN}
+use Rattle.model_core.specs.declared.ops.Answer.{Answer}
+use Rattle.model_core.specs.declared.ops.Step.{Step}
+use Rattle.model_core.specs.declared.ops.Step.TheVariants as step
 use Rattle.model_core.specs.declared.steps.UserStep.{UserStep}
 use Rattle.model_core.specs.Actors as actor
 use Rattle.model_logcore.proofs.NewUsers.{new_user_is}
 use Rattle.model_logcore.specs.LogHalf.{left_to_reserve}
 use Rattle.model_logcore.specs.LogLaws.{LogLaws}
-use Rattle.model_own.specs.OwnTurn.{OwnCore, all_actors, with_writer}
-use Rattle.model_own.specs.OwnWrites.{LogWork, OwnUser, has_work}
+use Rattle.model_own.specs.OwnTurn.{OtherTurn, OwnCore, OwnTurn, all_actors, with_writer}
+use Rattle.model_own.specs.OwnWrites.{LogWork, OwnUser, has_work, own_goes_on}
 use Rattle.model_own.specs.declared.errand.ErrandStep.{ErrandStep}
 use Rattle.model_own.specs.declared.errand.ErrandStep.TheVariants as errand_step
 use Rattle.model_ownrun.proofs.AloneKeeps.{alone_turns}
 use Rattle.model_ownrun.proofs.OwnKeeps.{own_turn_keeps}
+use Rattle.model_ownrun.proofs.Seats.{seats_count}
 use Rattle.model_ownrun.specs.Alone.{Alone, AloneRunning, ErrandAlone, UserAlone}
 use Rattle.model_own.specs.OwnWrites.{ErrandFits}
 use Rattle.model_ownrun.specs.OwnRunning.{OwnRunning, WorkFits}
-use Rattle.model_ownrun.specs.OwnRuns.{NoneIsIdle, TakesOwnTurns}
+use Rattle.model_ownrun.specs.OwnRuns.{AskAtSeat, AskOrGo, own_store}
 use Rattle.model_ownrun.specs.OwnStart.{OwnStart}
 use Rattle.model_pagecore.specs.DataLaws.{DataLaws}
 use Rattle.model_running.proofs.StartRunning.{both_start, start_pages}
 use Rattle.model_logcore.proofs.StartHolds.{start}
+use Rattle.model_running.proofs.TurnsAs.{turns_as}
 use Rattle.model_running.proofs.Watermarks.{has_watermarks}
+use Rattle.model_running.specs.{Asks, TakesTurns, tells_nothing}
 use Rattle.model_running.specs.RunningStore.{RunningStore}
 use Rattle.model_running.specs.Watermarks.{HasWatermarks}
+
+one_user : (users : List OwnUser) → length users ≡ 1 → (o : OwnUser) × (users ≡ o ∷ [])
+one_user [] long = absurd (omega arith)
+one_user (o ∷ []) long = (o, refl)
+one_user (o ∷ x ∷ xs) long = absurd (omega arith)
+
+no_actor : (others : List Actor) → length others ≡ 0 → ◌≡◌ {A = List Actor} others []
+no_actor [] long = refl
+no_actor (a ∷ others) long = absurd (omega arith)
+
+-- no turn changes how many users and how many others there are
+own_turn_keeps_count : (D : LogSide) (E : DataSide) (old new : OwnCore D E) (seat : ℕ) (answer : Answer) (how : Step)
+    → OwnTurn D E old seat answer how new
+    → (length new.users ≡ length old.users) × (length new.others ≡ length old.others)
+own_turn_keeps_count D E old new seat answer how t = ⊎_elim
+    (λ u. (
+      ap (λ (l : List OwnUser). length l) u.users
+          ∙ length-set old.users seat (own_goes_on u.who old.work answer).0,
+      ap (λ (l : List Actor). length l) u.others,
+    ))
+    (λ o. (ap (λ (l : List OwnUser). length l) o.users, of_other o)) t
+  where
+    of_other : OtherTurn D E old seat answer how new → length new.others ≡ length old.others
+    of_other o =
+        let users = ap (λ (l : List OwnUser). length l) o.users in
+        let all : length (all_actors new.users new.work new.others) ≡ length (all_actors old.users old.work old.others)
+        = ap (λ (l : List Actor). length l) o.turn.actors
+        ∙ length-set (all_actors old.users old.work old.others) (seat + 2)
+        (took (filled o.turn.who o.turn.filling) answer) in
+        let now = seats_count new.users new.work new.others in
+        let was = seats_count old.users old.work old.others in omega arith
 
 module _ (D : LogSide) (L : LogLaws D) (E : DataSide) (EL : DataLaws E) (c : Setup) where
   -- the store as the run begins
@@ -71,11 +109,11 @@ module _ (D : LogSide) (L : LogLaws D) (E : DataSide) (EL : DataLaws E) (c : Set
   }
 
   pub own_run_keeps : (seed max n : ℕ) (first last : OwnCore D E) → OwnRunning D E c first
-      → TakesOwnTurns D E seed max n first last → OwnRunning D E c last
+      → TakesTurns (own_store D E tells_nothing) seed max n first last → OwnRunning D E c last
   own_run_keeps seed max zero first last before is = subst (OwnRunning D E c) (sym is) before
   own_run_keeps seed max (suc n) first last before r =
-      own_turn_keeps D L E EL c r.before last _ r.answer r.step
-      (own_run_keeps seed max n first r.before before r.earlier) r.turn
+      own_turn_keeps D L E EL c r.before last _ r.turn.answer r.step
+      (own_run_keeps seed max n first r.before before r.earlier) r.turn.turn
 
   -- so each of the watermarks holds between any two turns
   pub own_watermarks : (s : OwnCore D E) → OwnRunning D E c s → HasWatermarks D E c (with_writer s)
@@ -112,28 +150,52 @@ module _ (D : LogSide) (L : LogLaws D) (E : DataSide) (EL : DataLaws E) (c : Set
         });
       }
 
-  -- THE law of own writes: none of its turns is idle
-  pub never_idle : (seed max n : ℕ) (first last : OwnCore D E) → AloneRunning D E c first
-      → (turns : TakesOwnTurns D E seed max n first last)
-      → AloneRunning D E c last × NoneIsIdle D E seed max n first last turns
-  never_idle seed max zero first last before is = (subst (AloneRunning D E c) (sym is) before, tt)
-  never_idle seed max (suc n) first last before r =
-      let earlier = never_idle seed max n first r.before before r.earlier in
-      let now = alone_turns D L E EL c earlier.0.log_only r.before last _ r.answer r.step earlier.0 r.turn in
-      (now.0, (now.1, earlier.1))
+  -- one user and no other actor are so as a run of these begins
+  abbrev pub AloneFrom : OwnCore D E → Type 0
+  AloneFrom s = (user : OwnUser) → s.users ≡ user ∷ [] → ◌≡◌ {A = List Actor} s.others [] → AloneRunning D E c s
 
+  -- THE law of own writes: a user that is alone is never idle
+  pub never_idle : (old new : OwnCore D E) (seat : ℕ) (answer : Answer) (how : Step) → AloneFrom old
+      → OwnTurn D E old seat answer how new
+      → ((user : OwnUser) → old.users ≡ user ∷ [] → ◌≡◌ {A = List Actor} old.others [] → how ≡ step.Idle → ⊥)
+      × AloneFrom new
+  never_idle old new seat answer how before t = (
+    (λ user one none. (law user one none).1),
+    λ user one none.
+        let count = own_turn_keeps_count D E old new seat answer how t in
+        let was = one_user old.users (sym count.0 ∙ ap (λ (l : List OwnUser). length l) one) in
+        (law was.0 was.1 (no_actor old.others (sym count.1 ∙ ap (λ (l : List Actor). length l) none))).0,
+  )
+    where
+      law : (user : OwnUser) → old.users ≡ user ∷ [] → ◌≡◌ {A = List Actor} old.others []
+          → AloneRunning D E c new × (how ≡ step.Idle → ⊥)
+      law user one none = let alone = before user one none in
+          alone_turns D L E EL c alone.log_only old new seat answer how alone t
+
+-- each of the watermarks holds after any turns from its start on
 pub runs_have_watermarks : (D : LogSide) → LogLaws D → (E : DataSide) → DataLaws E
     → (c : Setup) (seed max n : ℕ) (first last : OwnCore D E) → OwnStart D E c first
-    → TakesOwnTurns D E seed max n first last → HasWatermarks D E c (with_writer last)
+    → TakesTurns (own_store D E tells_nothing) seed max n first last
+    → HasWatermarks D E c (with_writer last)
 runs_have_watermarks D L E EL c seed max n first last S turns =
     own_watermarks D L E EL c last
     (own_run_keeps D L E EL c seed max n first last (own_starts D L E EL c first S) turns)
 
-pub alone_never_idle : (D : LogSide) → LogLaws D → (E : DataSide) → DataLaws E
+-- and where one user is alone none of them is idle
+pub alone_never_idle : (D : LogSide) → LogLaws D → (E : DataSide) → DataLaws E → (Ask : Asks D E)
     → (c : Setup) (seed max n : ℕ) (first last : OwnCore D E) (user : OwnUser) → OwnStart D E c first
     → c.log_only ≡ true → first.users ≡ user ∷ [] → ◌≡◌ {A = List Actor} first.others []
     → lsn (c.base + left_to_reserve (actor.User user.user)) + FREE_MARGIN ≤ start_checkpoint c + BLOCK_SIZE * c.blocks
-    → (turns : TakesOwnTurns D E seed max n first last) → NoneIsIdle D E seed max n first last turns
-alone_never_idle D L E EL c seed max n first last user S log_only one none room turns =
-    (never_idle D L E EL c seed max n first last
-    (alone_starts D L E EL c first S user log_only one none room) turns).1
+    → TakesTurns (own_store D E (AskAtSeat D E Ask)) seed max n first last
+    → TakesTurns (own_store D E (AskOrGo D E Ask)) seed max n first last
+alone_never_idle D L E EL Ask c seed max n first last user S log_only one none room turns =
+    (turns_as (own_store D E (AskAtSeat D E Ask)) (own_store D E (AskOrGo D E Ask)) (λ (s : OwnCore D E). s)
+    (AloneFrom D L E EL c) (λ s. refl) (λ s. refl)
+    (λ old new seat how alone t.
+    let law = never_idle D L E EL c old new seat t.answer how alone t.turn in
+    (record { answer = t.answer; turn = t.turn; told = record { asked = t.told; alone = law.0 } }, law.1))
+    seed max first
+    (λ o its none. alone_starts D L E EL c first S o log_only its none
+    (subst (λ (x : OwnUser). lsn (c.base + left_to_reserve (actor.User x.user)) + FREE_MARGIN ≤ start_checkpoint c
+    + BLOCK_SIZE * c.blocks) (ap (λ (us : List OwnUser). get_or us 0 user) (sym one ∙ its)) room))
+    n last turns).0

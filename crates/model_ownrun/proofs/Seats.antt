@@ -23,6 +23,12 @@ user_set [] rest i o x e = absurd (some-ne-none o (sym e))
 user_set (y ∷ ys) rest zero o x e = refl
 user_set (y ∷ ys) rest (suc i) o x e = ap (λ (l : List Actor). actor.User y.user ∷ l) (user_set ys rest i o x e)
 
+-- as many as users and others, and two
+pub seats_count : (users : List OwnUser) (k : LogWork) (others : List Actor)
+    → length (all_actors users k others) ≡ length users + 2 + length others
+seats_count [] k others = omega arith
+seats_count (o ∷ users) k others = let z = seats_count users k others in omega arith
+
 -- the seat of this number after the users
 abbrev seat_after : List OwnUser → ℕ → ℕ
 seat_after [] i = i

@@ -1,31 +1,45 @@
 -- Runs by turns of a store whose users write for themselves: the seats are those of the users and then of the others,
 -- and no writer or flusher has one.
-use Rattle.std.specs.Prelude.{length, suc, zero, ℕ, ◌+◌, ◌≡◌}
+use Rattle.std.specs.Prelude.{List, [], false, length, ℕ, ◌+◌, ◌∷◌, ◌≡◌, ◌≤◌}
+use lib.ListN.{get_elem?}
+use mathlib.Core.Option.{some}
+use Rattle.model_core.specs.{lent, next}
+use Rattle.model_core.specs.Actors.{Actor}
 use Rattle.model_core.specs.DataSide.{DataSide}
 use Rattle.model_core.specs.LogSide.{LogSide}
-use Rattle.model_core.specs.declared.ops.Answer.{Answer}
 use Rattle.model_core.specs.declared.ops.Step.{Step}
-use Rattle.model_own.specs.OwnTurn.{OwnCore, OwnTurn, with_writer}
-use Rattle.model_running.specs.Schedule.{HaveEnded, seat_of_turn}
 use Rattle.model_core.specs.declared.ops.Step.TheVariants as step
+use Rattle.model_own.specs.OwnTurn.{OwnCore, OwnTurn, with_writer}
+use Rattle.model_own.specs.OwnWrites.{OwnUser, own_lends, own_next}
+use Rattle.model_own.specs.declared.errand.ErrandStep.TheVariants as errand_step
+use Rattle.model_running.specs.{Asks, TurnStore, TurnTaken}
 
-module _ (D : LogSide) (E : DataSide) (seed max : ℕ) where
-  pub record LastOwnTurn (Earlier : OwnCore D E → Type 0) (n : ℕ) (last : OwnCore D E) : Type 0 where
-    pub before : OwnCore D E
-    pub earlier : Earlier before
-    -- it is taken only while a user hasn't ended
-    pub open_user : HaveEnded (with_writer before).actors → ⊥
-    pub answer : Answer
-    pub step : Step
-    pub turn : OwnTurn D E before (seat_of_turn seed max (length before.users + length before.others) n) answer step
-        last
+-- no user is on an errand, nor has been on one
+abbrev pub AreAtHome : List OwnUser → Type 0
+AreAtHome users = (seat : ℕ) (o : OwnUser) → get_elem? users seat ≡ some o
+    → (o.errand ≡ errand_step.Done) × (o.helped ≡ false)
 
-  -- so many turns lead from the first state to the last
-  abbrev pub TakesOwnTurns : ℕ → OwnCore D E → OwnCore D E → Type 0
-  TakesOwnTurns zero first last = ◌≡◌ {A = OwnCore D E} last first
-  TakesOwnTurns (suc n) first last = LastOwnTurn (TakesOwnTurns n first) n last
+-- the store of such users
+abbrev pub own_store : (D : LogSide) (E : DataSide) → (OwnCore D E → ℕ → Step → OwnCore D E → Type 0) → TurnStore D E
+own_store D E Tells = record {
+  State = OwnCore D E;
+  core = with_writer;
+  IsNew = λ s. AreAtHome s.users;
+  seats = λ s. length s.users + length s.others;
+  Takes = TurnTaken (OwnTurn D E) Tells;
+}
 
-  -- none of them is idle
-  abbrev pub NoneIsIdle : (n : ℕ) (first last : OwnCore D E) → TakesOwnTurns n first last → Type 0
-  NoneIsIdle zero first last turns = Unit {0}
-  NoneIsIdle (suc n) first last turns = (turns.step ≡ step.Idle → ⊥) × NoneIsIdle n first turns.before turns.earlier
+module _ (D : LogSide) (E : DataSide) (Ask : Asks D E) where
+  -- Both parts were asked for the Op of the one at the seat: a user's own or that of its errand, or that of another
+  -- actor.
+  pub record AskAtSeat (old : OwnCore D E) (seat : ℕ) (how : Step) (new : OwnCore D E) : Type 0 where
+    pub user : (who : OwnUser) → get_elem? old.users seat ≡ some who
+        → Ask (own_lends who old.work) (own_next who old.work) old.log_part new.log_part old.data_part new.data_part
+    pub other : (who : Actor) → length old.users ≤ seat → get_elem? (with_writer old).actors (seat + 2) ≡ some who
+        → Ask (lent who) (next who) old.log_part new.log_part old.data_part new.data_part
+
+  -- the same; and a user that is alone in its store isn't idle
+  pub record AskOrGo (old : OwnCore D E) (seat : ℕ) (how : Step) (new : OwnCore D E) : Type 0 where
+    pub asked : AskAtSeat old seat how new
+    pub alone : (user : OwnUser) → old.users ≡ user ∷ [] → ◌≡◌ {A = List Actor} old.others []
+        → how ≡ step.Idle → ⊥

@@ -1,7 +1,5 @@
 -- A run of users that write for themselves, as it begins.
-use Rattle.std.specs.Prelude.{[], false, ℕ, ◌+◌, ◌<◌, ◌≡◌}
-use lib.ListN.{get_elem?}
-use mathlib.Core.Option.{some}
+use Rattle.std.specs.Prelude.{[], ℕ, ◌+◌, ◌<◌, ◌≡◌}
 use Rattle.model_base.specs.declared.limits.TheConstants.{LSN_LIMIT}
 use Rattle.model_core.specs.{flat, lsn, SharedWords}
 use Rattle.model_core.specs.DataSide.{DataSide}
@@ -11,8 +9,7 @@ use Rattle.model_logcore.specs.LogFacts.{sum_over_actors}
 use Rattle.model_logcore.specs.LogHalf.{left_to_reserve}
 use Rattle.model_logcore.specs.Start.{flusher_start, writer_start}
 use Rattle.model_own.specs.OwnTurn.{OwnCore, all_actors}
-use Rattle.model_own.specs.OwnWrites.{OwnUser}
-use Rattle.model_own.specs.declared.errand.ErrandStep.TheVariants as errand_step
+use Rattle.model_ownrun.specs.OwnRuns.{AreAtHome}
 use Rattle.model_running.specs.StartStore.{StartStore}
 
 pub record OwnStart (D : LogSide) (E : DataSide) (c : Setup) (s : OwnCore D E) : Type 0 where
@@ -24,6 +21,5 @@ pub record OwnStart (D : LogSide) (E : DataSide) (c : Setup) (s : OwnCore D E) :
   pub store : StartStore D E c shared s.log_part s.data_part seat_of writer (all_actors s.users s.work s.others)
   -- DEVICE's slot has both states as they are at the start, and no user is on an errand
   pub work : s.work ≡ record { writer = writer_start c; flusher = flusher_start c }
-  pub users : (seat : ℕ) (o : OwnUser) → get_elem? s.users seat ≡ some o
-      → (o.errand ≡ errand_step.Done) × (o.helped ≡ false)
+  pub users : AreAtHome s.users
   pub room : lsn (c.base + sum_over_actors left_to_reserve (all_actors s.users s.work s.others)) < LSN_LIMIT

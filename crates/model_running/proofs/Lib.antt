@@ -50,6 +50,7 @@ pub mod SeatsKeep
 pub mod SlotHolders
 pub mod StartRunning
 pub mod Turns
+pub mod TurnsAs
 pub mod UserCloses
 pub mod UserTurns
 pub mod Watermarks

@@ -1,3 +1,4 @@
+pub mod ActorStore
 pub mod Appending
 pub mod Bounds
 pub mod ClosedStore
@@ -10,15 +11,18 @@ pub mod ListReady
 pub mod OpenLines
 pub mod OpenedPages
 pub mod PageContents
+pub mod PlainStore
 pub mod ReadHalf
 pub mod RunOf
 pub mod RunningStore
 pub mod Schedule
 pub mod Script
+pub mod Seated
 pub mod Seating
 pub mod StartStore
 pub mod UsersClosed
 pub mod Watermarks
+pub use Rattle.model_running.specs.ActorStore.{AskAt, Asks, TurnTaken, actor_store}
 pub use Rattle.model_running.specs.Appending.{IsNoAppend}
 pub use Rattle.model_running.specs.Bounds.{HasBytes, HaveSmallCodes}
 pub use Rattle.model_running.specs.ClosedStore.{DataTells, LogTells}
@@ -29,9 +33,12 @@ pub use Rattle.model_running.specs.History.{AreWholesOf, history_entry, history_
 pub use Rattle.model_running.specs.OpenLines.{LeavesOpen}
 pub use Rattle.model_running.specs.OpenedPages.{HasItsPages}
 pub use Rattle.model_running.specs.PageContents.{content_in, contents_of, kept_content, new_content}
+pub use Rattle.model_running.specs.PlainStore.{plain_store, tells_nothing}
 pub use Rattle.model_running.specs.RunOf.{run_of}
 pub use Rattle.model_running.specs.RunningStore.{BothHalves, IsRunning}
-pub use Rattle.model_running.specs.Schedule.{HasEnded, HaveEnded, IsDone, IsSpent, LastTurn, TakesTurns, seat_of_turn}
+pub use Rattle.model_running.specs.Schedule.{HasEnded, HaveEnded, IsDone, IsSpent, LastTurn, TakesTurns, TurnStore}
+pub use Rattle.model_running.specs.Schedule.{seat_of_turn}
 pub use Rattle.model_running.specs.Script.{IsOfScript}
-pub use Rattle.model_running.specs.Seating.{ArePageActors, AreSeated}
+pub use Rattle.model_running.specs.Seated.{AreSeated}
+pub use Rattle.model_running.specs.Seating.{ArePageActors}
 pub use Rattle.model_running.specs.Watermarks.{HasWatermarks}

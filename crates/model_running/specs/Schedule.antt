@@ -1,12 +1,10 @@
 -- A run by turns: whose turn each is, as a seed tells, and when the run ends.
-use Rattle.std.specs.Prelude.{List, cond, length, nat_lt, suc, zero, ℕ, ◌%◌, ◌+◌, ◌/◌, ◌<◌, ◌^◌, ◌≡◌, ◌≤◌, ◌⊎◌}
+use Rattle.std.specs.Prelude.{List, cond, nat_lt, suc, zero, ℕ, ◌%◌, ◌+◌, ◌/◌, ◌<◌, ◌^◌, ◌≡◌, ◌≤◌, ◌⊎◌}
 use lib.ListN.{get_elem?}
 use mathlib.Core.Option.{some}
 use Rattle.model_core.specs.{Actor, Core, UserState}
 use Rattle.model_core.specs.DataSide.{DataSide}
 use Rattle.model_core.specs.LogSide.{LogSide}
-use Rattle.model_core.specs.Turn.{Turn}
-use Rattle.model_core.specs.declared.ops.Answer.{Answer}
 use Rattle.model_core.specs.declared.ops.Step.{Step}
 use Rattle.model_script.specs.{draw}
 use Rattle.model_core.specs.Actors as actor
@@ -24,34 +22,43 @@ HasEnded u = (u.step ≡ user_step.Done) ⊎ (u.step ≡ user_step.Failed)
 abbrev pub HaveEnded : List Actor → Type 0
 HaveEnded actors = (seat : ℕ) (u : UserState) → get_elem? actors seat ≡ some (actor.User u) → HasEnded u
 
-module _ (D : LogSide) (E : DataSide) (seed max : ℕ) where
+-- A store whose actors take turns: its states, each as a store of actors; what else holds where no turn is taken yet;
+-- how many seats there are; and one turn of the one at a seat, with how its step ends.
+pub record TurnStore (D : LogSide) (E : DataSide) : Type 1 where
+  pub State : Type 0
+  pub core : State → Core D E
+  pub IsNew : State → Type 0
+  pub seats : State → ℕ
+  pub Takes : State → ℕ → Step → State → Type 0
+
+module _ {D : LogSide} {E : DataSide} (S : TurnStore D E) (seed max : ℕ) where
   -- the run's n-th turn, counted from 0, which is taken only while a user hasn't ended
-  pub record LastTurn (Earlier : Core D E → Type 0) (n : ℕ) (last : Core D E) : Type 0 where
-    pub before : Core D E
+  pub record LastTurn (Earlier : S.State → Type 0) (n : ℕ) (last : S.State) : Type 0 where
+    pub before : S.State
     pub earlier : Earlier before
-    pub open_user : HaveEnded before.actors → ⊥
-    pub answer : Answer
+    pub open_user : HaveEnded (S.core before).actors → ⊥
     pub step : Step
-    pub turn : Turn D E before (seat_of_turn seed max (length before.actors) n) answer step last
+    pub turn : S.Takes before (seat_of_turn seed max (S.seats before) n) step last
 
   -- so many turns lead from the first state to the last
-  abbrev pub TakesTurns : ℕ → Core D E → Core D E → Type 0
-  TakesTurns zero first last = ◌≡◌ {A = Core D E} last first
+  abbrev pub TakesTurns : ℕ → S.State → S.State → Type 0
+  TakesTurns zero first last = ◌≡◌ {A = S.State} last first
   TakesTurns (suc n) first last = LastTurn (TakesTurns n first) n last
 
   -- the run has ended: each user has
-  pub record IsDone (first last : Core D E) : Type 0 where
+  pub record IsDone (first last : S.State) : Type 0 where
     pub count : ℕ
     pub within : count ≤ max
     pub turns : TakesTurns count first last
-    pub ended : HaveEnded last.actors
+    pub ended : HaveEnded (S.core last).actors
 
   -- the turns are spent, and this is the least user that hasn't ended
-  pub record IsSpent (user : ℕ) (first last : Core D E) : Type 0 where
+  pub record IsSpent (user : ℕ) (first last : S.State) : Type 0 where
     pub turns : TakesTurns max first last
     pub seat : ℕ
     pub state : UserState
-    pub is : get_elem? last.actors seat ≡ some (actor.User state)
+    pub is : get_elem? (S.core last).actors seat ≡ some (actor.User state)
     pub number : state.user ≡ user
     pub not_ended : HasEnded state → ⊥
-    pub least : (j : ℕ) (u : UserState) → get_elem? last.actors j ≡ some (actor.User u) → u.user < user → HasEnded u
+    pub least : (j : ℕ) (u : UserState) → get_elem? (S.core last).actors j ≡ some (actor.User u) → u.user < user
+        → HasEnded u

@@ -46,6 +46,7 @@ pub mod StartWordsStore
 pub mod StartWordsZero
 pub mod SyncedParts
 pub mod Taken
+pub mod ThinTurns
 pub mod Told
 pub mod TurnsOf
 pub mod UserLines

@@ -10,7 +10,7 @@ use Rattle.redo_logdev.specs.{Stays}
 use Rattle.redo_logdev.specs.Part.{Part}
 use Rattle.redo_drive.proofs.Devices.{failed_by}
 use Rattle.redo_drive.specs.Devices.{HasFailedBy, call_code}
-use Rattle.redo_drive.specs.LogPartSide.{LogCalled}
+use Rattle.redo_drive.specs.TurnSides.{LogCalled}
 use Rattle.redo_drive.specs.declared.device.Device.TheVariants.{Log}
 
 pub not_failed : (failed : Option DevError) → is_some failed ≡ false → failed ≡ None

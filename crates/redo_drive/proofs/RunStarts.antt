@@ -58,8 +58,7 @@ use Rattle.redo_drive.specs.Running.{groups_of, RunsFromWith, RunsWith}
 use Rattle.redo_drive.specs.Turning.{core_of}
 use Rattle.redo_drive.specs.Setups.{first_reader, programs_of}
 use Rattle.redo_drive.specs.StartWords.{setup_of}
-use Rattle.redo_drive.specs.StartWords.{StartsOn}
-use Rattle.redo_drive.specs.FirstWords.{AreStartWords}
+use Rattle.redo_drive.specs.StartWords.{AreStartWords, StartsOn}
 use Rattle.redo_drive.specs.Views.{view_of, views_of}
 use Rattle.redo_drive.specs.declared.actor.Actor as own_actor
 use Rattle.redo_drive.specs.declared.making.Beginning.{Beginning}
@@ -318,6 +317,7 @@ module _ {L D R : Type 0} (log_seen : L → Seen) (data_seen : D → Seen) (stan
     };
     from = from;
     followers = owns.readers;
+    words = owns.first;
     log = refl;
     data_part = refl;
     no_entries = owns.no_entries;

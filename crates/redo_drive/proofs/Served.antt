@@ -18,6 +18,7 @@ use Rattle.redo_disk.specs.declared.error.DevError.{DevError}
 use Rattle.redo_drive.specs.Devices.{call_code}
 use Rattle.redo_drive.specs.LogPartSide as log_part
 use Rattle.redo_drive.specs.Playing.{HasWholePages}
+use Rattle.redo_drive.specs.TurnSides.{LogCalled}
 use Rattle.redo_drive.specs.declared.device.Device.TheVariants.{Data, Log}
 use Rattle.redo_logdev.specs.PartConditions.{HasMarks}
 use Rattle.redo_logdev.specs.Part as log
@@ -45,7 +46,7 @@ off_marks (Err fault) new marks tails is = is.marks
 
 pub log_called : {L : Type 0} (seen : L → Seen) (result : Result (Unit {0}) DevError) (old new : log.Part L) (ok err : LogMarks) (ok_tails err_tails : TailMarks)
     → OnOk result (HasMarks new ok ok_tails) → OnErr result (HasMarks new err err_tails) → log.Stays seen old result new
-    → log_part.LogCalled seen (call_code Log new.failed) ok err old new
+    → LogCalled seen (call_code Log new.failed) ok err old new
 log_called seen result old new ok err ok_tails err_tails on_ok on_err stays = record {
   result = result;
   code_is = refl;

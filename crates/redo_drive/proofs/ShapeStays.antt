@@ -5,7 +5,8 @@ use Rattle.model_core.specs.{Batch, Blocks, Core, filled, Lent, lent, LogServed,
 use Rattle.model_core.specs.DataSide.{DataSide}
 use Rattle.model_core.specs.LogSide.{LogSide}
 use Rattle.model_core.specs.declared.ops.Op.{Op}
-use Rattle.model_running.specs.{TakesTurns}
+use Rattle.model_core.specs.declared.ops.Step.{Step}
+use Rattle.model_running.specs.{TakesTurns, actor_store}
 use Rattle.redo_disk.specs.Seen.{Seen}
 use Rattle.redo_logdev.specs.Part.{Part}
 use Rattle.redo_drive.specs.LogPartSide.{LogCheckpointed, LogRead, LogSynced, LogWrote, log_side}
@@ -48,9 +49,12 @@ module _ {L : Type 0} (seen : L → Seen) (faults number : ℕ) (Begun : Type 0)
     served_shape l _ w = as_is w
 
   -- so no turn does, and no run of turns
-  pub run_shape : (E : DataSide) (seed max n : ℕ) (first last : Core side E) → TakesTurns side E seed max n first last → ◌≡◌ {A = Shape} last.log_part.shape first.log_part.shape
-  run_shape E seed max zero first last same = ap (λ (s : Core side E). s.log_part.shape) same
-  run_shape E seed max (suc n) first last r =
-      let given : Lent = lent (filled r.turn.who r.turn.filling) in
-      served_shape r.before.log_part last.log_part r.turn.code given (next r.turn.who) r.turn.log_served
-      ∙ run_shape E seed max n first r.before r.earlier
+  pub run_shape : (E : DataSide) (Tells : Core side E → ℕ → Step → Core side E → Type 0) (seed max n : ℕ)
+      (first last : Core side E) → TakesTurns (actor_store side E Tells) seed max n first last
+      → ◌≡◌ {A = Shape} last.log_part.shape first.log_part.shape
+  run_shape E Tells seed max zero first last same = ap (λ (s : Core side E). s.log_part.shape) same
+  run_shape E Tells seed max (suc n) first last r =
+      let turn = r.turn.turn in
+      let given : Lent = lent (filled turn.who turn.filling) in
+      served_shape r.before.log_part last.log_part turn.code given (next turn.who) turn.log_served
+      ∙ run_shape E Tells seed max n first r.before r.earlier

@@ -6,7 +6,8 @@ use Rattle.model_core.specs.{blank_words, page_words_at, PageWords, SharedWords,
 use Rattle.model_core.specs.declared.words.Word.TheVariants as word
 use Rattle.model_core.specs.declared.limits.TheConstants.{FRAME_WORDS}
 use Rattle.redo_drive.proofs.StartWordsPacked.{page_frame-length}
-use Rattle.redo_drive.specs.StartWords.{AreNamed, IsBlankFrame, page_frame, with_frame}
+use Rattle.redo_drive.specs.FirstWords.{page_frame}
+use Rattle.redo_drive.specs.StartWords.{AreNamed, IsBlankFrame, with_frame}
 use Rattle.redo_words.specs.Plain.{Plain}
 
 -- the first so many of the bytes, and 0 for each other

@@ -16,8 +16,8 @@ use Rattle.model_core.specs.{frame_bytes, framed_page}
 unfoldable use Rattle.model_core.specs.{lane, lanes, packed}
 use Rattle.model_core.specs.declared.limits.TheConstants.{FRAME_WORDS}
 use Rattle.redo_drive.proofs.StartWordsPages.{page_cells-length, page_cells-small}
-unfoldable use Rattle.redo_drive.specs.StartWords.{page_cells, page_frame}
-use Rattle.redo_drive.specs.StartWords.{packed_words}
+unfoldable use Rattle.redo_drive.specs.FirstWords.{page_cells, page_frame}
+use Rattle.redo_drive.specs.FirstWords.{packed_words}
 
 words_of-length : (n : ℕ) (bytes : List ℕ) → length (packed_words n bytes) ≡ n
 words_of-length zero bytes = refl

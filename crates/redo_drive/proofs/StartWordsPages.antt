@@ -15,7 +15,8 @@ use Rattle.model_page.specs.{blank_page, user_part}
 use Rattle.model_page.specs.declared.content.Content.{Content}
 use Rattle.model_theorem.specs.{Opened}
 use Rattle.redo_apply.specs.{ArePagesOf}
-use Rattle.redo_drive.specs.StartWords.{HoldBytes, kept_page_of, opened_page, page_cells}
+use Rattle.redo_drive.specs.FirstWords.{page_cells}
+use Rattle.redo_drive.specs.StartWords.{HoldBytes, kept_page_of, opened_page}
 
 -- in so many zeros, and past them, each number is 0
 pub replicate_zero : (n i : ℕ) → slice_index (replicate n 0) i ≡ 0

@@ -1,8 +1,8 @@
 -- The words of a store while its pages are written into them one by one, and what they are then for a run.
-use Rattle.std.proofs.Common.{Bool, List, ap, arith, cond, eq-eqb, get_or, length, ne_eqb, refl, subst, suc, sym, ℕ, ⊎_elim, ◌%◌, ◌*◌, ◌+◌, ◌-◌, ◌/◌, ◌<◌, ◌==◌, ◌∙◌, ◌≡◌, ◌≤◌}
+use Rattle.std.proofs.Common.{Bool, List, ap, arith, cond, eq-eqb, get_or, length, map, ne_eqb, refl, subst, suc, sym, ℕ, ⊎_elim, ◌%◌, ◌*◌, ◌+◌, ◌-◌, ◌/◌, ◌<◌, ◌==◌, ◌∙◌, ◌≡◌, ◌≤◌}
 use Rattle.std.specs.Prelude.{slice_index, slice_set}
 use Rattle.std.proofs.lemmas.Bool.{cases_eq}
-use Rattle.std.proofs.lemmas.List.{get_or-set_other, get_or-set_same}
+use Rattle.std.proofs.lemmas.List.{ext_get_or, get_or-map, get_or-set_other, get_or-set_same, length-map}
 use Rattle.std.proofs.lemmas.Option.{slice_get-get_or}
 use Rattle.model_base.proofs.ShapeLimits.{whole_sectors}
 use Rattle.model_base.specs.{IsWithinLimits}
@@ -10,7 +10,7 @@ use Rattle.model_base.specs.declared.limits.TheConstants.{BLOCK_SIZE}
 use Rattle.model_base.specs.declared.shape.Shape.{Shape}
 use Rattle.model_core.proofs.Lists.{one_turn}
 use Rattle.model_core.proofs.Lsns.{lsn_block, lsn_offset}
-use Rattle.model_core.specs.{blank_words, framed_page, IsSized, KeptPage, lsn, page_words_at, PageWords, SharedWords}
+use Rattle.model_core.specs.{blank_words, flat, framed_page, IsSized, KeptPage, lsn, page_words_at, PageWords, SharedWords}
 use Rattle.model_core.specs.Setup.{Setup}
 use Rattle.model_core.specs.StartWords.{start_checkpoint}
 use Rattle.model_core.specs.declared.limits.TheConstants.{BUFFER_BLOCKS, READERS}
@@ -22,14 +22,10 @@ use Rattle.redo_apply.specs.{ArePagesOf}
 use Rattle.redo_drive.proofs.StartWordsPacked.{page_frame-bytes}
 use Rattle.redo_drive.proofs.StartWordsPages.{user_at}
 use Rattle.redo_drive.proofs.StartWordsPlaces.{first_place}
-use Rattle.redo_drive.proofs.StartWordsZero.{zero_page, zero_page_at, zero_words, zeros, zeros-length, zeros-zero}
-use Rattle.redo_drive.specs.StartWords.{AreNamed, first_places, IsBlankFrame, StartsOn, page_frame, with_frame, with_log}
-use Rattle.redo_drive.specs.FirstWords.{AreStartWords}
+use Rattle.redo_drive.proofs.StartWordsZero.{zero_page, zero_page_at, zero_words, zeros-length, zeros-zero}
+use Rattle.redo_drive.specs.FirstWords.{first_places, first_words, free_page, page_frame, zeros}
+use Rattle.redo_drive.specs.StartWords.{AreNamed, AreStartWords, IsBlankFrame, StartsOn, with_frame, with_log}
 use Rattle.redo_words.specs.Plain.{Plain}
-
--- a page that is free and in no list, with these cells
-abbrev free_page : List ℕ → PageWords
-free_page cells = record { latch = 0; newest = 0; oldest = 0; frame = cells }
 
 -- the words of a run that starts at this lsn, with these of the pages
 abbrev begun_words : ℕ → ℕ → List PageWords → SharedWords
@@ -84,6 +80,26 @@ module _ (shape : Shape) (start : ℕ) (pages : List Content) where
 
       long : k < length before.page_words
       long = omega (arith, before.named.sized.page_words, before.count)
+
+  -- so in the end they are the words of a run that begins there
+  pub set_first : (words : Plain) (k : ℕ) → AreSetUpTo shape start pages k words → length pages ≤ k
+      → words.words ≡ flat (first_words start pages)
+  set_first words k up_to all = up_to.named.in_order
+      ∙ ap (λ (ws : List PageWords). flat (begun_words start (length pages) ws)) same
+    where
+      same : ◌≡◌ {A = List PageWords} up_to.page_words
+          (map (λ (page : Content). free_page (page_frame page.user)) pages)
+      same = ext_get_or blank_words up_to.page_words (map (λ (page : Content). free_page (page_frame page.user)) pages)
+          (omega (
+            arith,
+            up_to.named.sized.page_words,
+            up_to.count,
+            length-map pages (λ (page : Content). free_page (page_frame page.user)),
+          ))
+          (λ p below. let there : p < length pages = omega (arith, up_to.named.sized.page_words, up_to.count) in
+          up_to.done p (omega arith) there
+          ∙ sym (get_or-map (λ (page : Content). free_page (page_frame page.user)) pages p (blank_page shape)
+          blank_words there))
 
   -- a run that starts there, at the first data byte of a block, has these words
   module _ (c : Setup) (limits : IsWithinLimits shape) (its_pages : ArePagesOf shape pages) (place : IsAtDataStart start) (on : StartsOn start shape pages c) where

@@ -4,13 +4,9 @@ use Rattle.std.specs.Prelude.{slice_index}
 use Rattle.std.proofs.lemmas.List.{get_or-replicate, length-replicate}
 use Rattle.model_core.specs.{blank_words, flat, flat_page_words, page_stride, page_words_at, PageWords, rows, SharedWords, word_count}
 use Rattle.model_core.specs.declared.limits.TheConstants.{BUFFER_BLOCKS, CLOSED_LINKS, FLUSH_LISTS, FRAME_WORDS, BUFFER_WORDS, READERS, WRITTEN_LINKS}
+use Rattle.redo_drive.specs.FirstWords.{free_page, zeros}
 use Rattle.redo_drive.specs.StartWords.{AreNamed}
 use Rattle.redo_words.specs.Plain.{Plain}
-
--- so many zeros. There are tens of thousands, so only the lemmas on any number of them see what they are
-pub zeros : ℕ → List ℕ
-zeros zero = []
-zeros (suc n) = 0 ∷ zeros n
 
 pub zeros-length : (n : ℕ) → length (zeros n) ≡ n
 unfolding zeros
@@ -52,7 +48,7 @@ are_zeros (x ∷ xs) each = ap (λ (y : ℕ). y ∷ xs) (each zero) ∙ ap (λ (
 
 -- a page that is free and in no list, and whose frame is empty
 abbrev pub zero_page : PageWords
-zero_page = record { latch = 0; newest = 0; oldest = 0; frame = zeros FRAME_WORDS }
+zero_page = free_page (zeros FRAME_WORDS)
 
 -- the words of so many pages, each 0
 abbrev pub zero_words : ℕ → SharedWords

@@ -1,9 +1,11 @@
 -- What an Op asks of the two devices.
-use Rattle.std.specs.Prelude.{List, [], None, Option, ◌≡◌}
+use Rattle.std.specs.Prelude.{List, [], None, Option, map, ◌≡◌}
+use Rattle.model_core.specs.{BatchPage}
 use Rattle.model_core.specs.Actors as model
 use Rattle.model_core.specs.declared.ops.Op.{Op}
 use Rattle.model_core.specs.declared.ops.Op.TheVariants as op
-use Rattle.redo_drive.specs.DataPartSide.{fresh_batch}
+use Rattle.model_parts.specs.{Fresh}
+use Rattle.model_running.specs.{new_content}
 use Rattle.redo_disk.specs.{Call, MakesCalls, Request, Serve}
 use Rattle.redo_disk.specs.declared.error.DevError.{DevError}
 use Rattle.redo_logdev.specs.Part as log
@@ -11,6 +13,13 @@ use Rattle.redo_drive.specs.Requests.{checkpoint_requests, read_requests, sync_r
 use Rattle.redo_drive.specs.declared.parts.Parts.{Parts}
 use Rattle.redo_store.specs.Part as store
 use Rattle.redo_store.specs.Requests.{batch_requests}
+
+-- the pages of a batch as the device gets them
+abbrev pub fresh_page : BatchPage → Fresh
+fresh_page x = record { page = x.page; content = new_content x }
+
+abbrev pub fresh_batch : List BatchPage → List Fresh
+fresh_batch batch = map fresh_page batch
 
 -- what a write of the log asks for, by what is lent, and the writing of a batch
 abbrev pub lent_writes : {L : Type 0} → log.Part L → model.Lent → List Request

@@ -9,7 +9,7 @@ use Rattle.redo_drive.specs.LogPartSide as log_part
 use Rattle.redo_drive.specs.Lists.{lists_of}
 use Rattle.redo_drive.specs.Sides.{RunOf}
 use Rattle.redo_drive.specs.Setups.{first_reader, seated_actors}
-use Rattle.redo_drive.specs.FirstWords.{AreStartWords}
+use Rattle.redo_drive.specs.StartWords.{AreStartWords}
 use Rattle.redo_drive.specs.declared.parts.Parts.{Parts}
 use Rattle.redo_drive.specs.declared.seating.TheConstants.{FIRST_FOLLOWER}
 use Rattle.redo_store.specs.declared.opened.Opened.{Opened}

@@ -1,25 +1,19 @@
 -- The data part as the running store sees it.
-use Rattle.std.specs.Prelude.{List, [], OnOk, Result, is_some, length, map, ℕ, ◌*◌, ◌≡◌, ◌≤◌}
+use Rattle.std.specs.Prelude.{List, [], OnOk, Result, is_some, length, ℕ, ◌*◌, ◌≡◌, ◌≤◌}
 use Rattle.model_base.specs.{user_length}
 use Rattle.model_base.specs.declared.shape.Shape.{Shape}
 use Rattle.model_core.specs.DataSide.{DataSide}
 use Rattle.model_core.specs.{BatchPage, KeptPage}
-use Rattle.model_parts.specs.{after_batch, batch_of, Fresh, IsLater}
-use Rattle.model_running.specs.{contents_of, new_content}
+use Rattle.model_parts.specs.{after_batch, batch_of, IsLater}
+use Rattle.model_running.specs.{contents_of}
 use Rattle.model_page.specs.declared.content.Content.{Content}
 use Rattle.redo_disk.specs.Seen.{Seen}
 use Rattle.redo_disk.specs.declared.error.DevError.{DevError}
+pub use Rattle.redo_drive.specs.Asking.{fresh_batch, fresh_page}
 use Rattle.redo_drive.specs.Devices.{call_code, HasFailedBy}
 use Rattle.redo_drive.specs.declared.device.Device.TheVariants.{Data}
 use Rattle.redo_store.specs.{PartKeeps, PartStep, PartStores}
 use Rattle.redo_store.specs.Part.{Part}
-
--- the pages of a batch as the device gets them
-abbrev pub fresh_page : BatchPage → Fresh
-fresh_page x = record { page = x.page; content = new_content x }
-
-abbrev pub fresh_batch : List BatchPage → List Fresh
-fresh_batch batch = map fresh_page batch
 
 -- The batch is of these pairs of page and lsn, the user bytes of its pages being joined.
 pub record IsBatchOf (shape : Shape) (pairs : List (ℕ × ℕ)) (users : List ℕ) (batch : List BatchPage) : Type 0 where

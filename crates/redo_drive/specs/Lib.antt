@@ -24,6 +24,7 @@ pub mod Startable
 pub mod StartWords
 pub mod Steps
 pub mod Turning
+pub mod TurnSides
 pub mod Views
 pub use Rattle.redo_drive.specs.Asking.{AskOfBoth}
 pub use Rattle.redo_drive.specs.Startable.{HasReading, room_from}

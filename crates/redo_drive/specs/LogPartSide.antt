@@ -1,5 +1,5 @@
 -- The log part as the running store sees it.
-use Rattle.std.specs.Prelude.{List, [], None, OnErr, OnOk, Result, is_some, ℕ, ◌%◌, ◌+◌, ◌/◌, ◌^◌, ◌<◌, ◌≡◌, ◌≢◌, ◌≤◌}
+use Rattle.std.specs.Prelude.{List, [], None, is_some, ℕ, ◌%◌, ◌+◌, ◌/◌, ◌^◌, ◌<◌, ◌≡◌, ◌≢◌, ◌≤◌}
 use Rattle.model_base.specs.declared.limits.TheConstants.{BLOCK_SIZE}
 use Rattle.model_core.specs.{Entry, lsn}
 use Rattle.model_core.specs.LogSide.{LogSide}
@@ -8,10 +8,10 @@ use Rattle.model_parts.specs.{after_asked, after_checkpoint, after_given, after_
 use Rattle.model_parts.specs.declared.marks.LogMarks.{LogMarks}
 use Rattle.model_log.specs.declared.group.Whole.{Whole}
 use Rattle.redo_disk.specs.Seen.{Seen, StillTells}
-use Rattle.redo_disk.specs.declared.error.DevError.{DevError}
-use Rattle.redo_drive.specs.Devices.{call_code, HasFailedBy}
+use Rattle.redo_drive.specs.Devices.{HasFailedBy}
+use Rattle.redo_drive.specs.TurnSides.{LogCalled}
 use Rattle.redo_drive.specs.declared.device.Device.TheVariants.{Log}
-use Rattle.redo_logdev.specs.{GivesBlock, KeepsHolding, KeepsNumbered, KeepsWriting, PartHolds, Stays}
+use Rattle.redo_logdev.specs.{GivesBlock, KeepsHolding, KeepsNumbered, KeepsWriting, PartHolds}
 use Rattle.redo_logdev.specs.Part.{Part}
 use Rattle.model_log.specs.{IsBoundary, run_layout, spans_of}
 use Rattle.model_parts.specs.Held.{IsFullBlock}
@@ -42,29 +42,21 @@ module _ {L : Type 0} (seen : L → Seen) where
     pub number_kept : Begun → number ≤ part.marks.number
     pub groups : Begun → (wholes : List Whole) → AreWholesOf log wholes → PartHolds seen (lsn base) wholes part
 
-  -- what a call leaves, whatever it answers
-  pub record LogCalled (code : ℕ) (ok err : LogMarks) (old new : Part L) : Type 0 where
-    pub result : Result (Unit {0}) DevError
-    pub code_is : code ≡ call_code Log new.failed
-    pub on_ok : OnOk result (new.marks ≡ ok)
-    pub on_err : OnErr result (new.marks ≡ err)
-    pub stays : Stays seen old result new
-
   pub record LogWrote (mark : ℕ) (bytes firsts : List ℕ) (code : ℕ) (old new : Part L) : Type 0 where
-    pub called : LogCalled code (after_written mark old.marks) (after_given mark old.marks) old new
+    pub called : LogCalled seen code (after_written mark old.marks) (after_given mark old.marks) old new
     pub holds : KeepsWriting seen old mark bytes firsts new
 
   pub record LogSynced (code : ℕ) (old new : Part L) : Type 0 where
-    pub called : LogCalled code (after_synced old.marks) old.marks old new
+    pub called : LogCalled seen code (after_synced old.marks) old.marks old new
     pub holds : KeepsHolding seen old new
 
   pub record LogCheckpointed (lsn code : ℕ) (old new : Part L) : Type 0 where
-    pub called : LogCalled code (after_checkpoint (next_number old.marks.number) lsn old.marks) (after_asked lsn old.marks) old new
+    pub called : LogCalled seen code (after_checkpoint (next_number old.marks.number) lsn old.marks) (after_asked lsn old.marks) old new
     pub holds : KeepsNumbered seen old new
 
   -- A read of the block at an lsn, which gave these bytes. The device tells what it told, or nothing any more.
   pub record LogRead (lsn : ℕ) (bytes : List ℕ) (code : ℕ) (old new : Part L) : Type 0 where
-    pub called : LogCalled code old.marks old.marks old new
+    pub called : LogCalled seen code old.marks old.marks old new
     pub told : StillTells (seen old.dev).tells (seen new.dev).tells
     pub holds : KeepsHolding seen old new
     pub block : GivesBlock seen old lsn called.result bytes new

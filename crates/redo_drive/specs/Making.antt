@@ -1,14 +1,14 @@
 -- What a run takes memory for, as it begins.
 use Rattle.std.specs.Prelude.{Bool, List, [], drop, false, length, map, suc, true, vec_capacity, ℕ, ◌-◌, ◌∷◌, ◌≡◌, ◌≤◌}
 use Rattle.model_base.specs.declared.shape.Shape.{Shape}
-use Rattle.model_core.specs.{new_reader}
+use Rattle.model_core.specs.{flat, new_reader}
 use Rattle.model_core.specs.Setup.{Setup}
 use Rattle.model_page.specs.declared.content.Content.{Content}
 use Rattle.model_script.specs.declared.script.ScriptLine.{ScriptLine}
 use Rattle.redo_drive.specs.Lists.{empty_lists}
 use Rattle.redo_drive.specs.Setups.{seated_actors}
-use Rattle.redo_drive.specs.StartWords.{HoldBytes, StartsOn}
-use Rattle.redo_drive.specs.FirstWords.{AreStartWords}
+use Rattle.redo_drive.specs.FirstWords.{first_words}
+use Rattle.redo_drive.specs.StartWords.{AreStartWords, HoldBytes, StartsOn}
 use Rattle.redo_drive.specs.Views.{views_of}
 use Rattle.redo_drive.specs.declared.actor.Actor.{Actor}
 use Rattle.redo_drive.specs.declared.actor.Actor.TheVariants as own
@@ -38,6 +38,7 @@ pub record IsOwnOf {R : Type 0} (shape : Shape) (pages : List Content) (script :
     (log_only archive : Bool) (new_followers : List (Following R)) (own : Own R) : Type 0 where
   pub word_pages : own.words.pages ≡ length pages
   pub bytes : HoldBytes shape pages
+  pub first : own.words.words ≡ flat (first_words start pages)
   pub words : (c : Setup) → StartsOn start shape pages c → AreStartWords own.words.words c
   pub lists : own.lists ≡ empty_lists shape.pages
   pub actors : views_of own.actors.items ≡ seated_actors shape script start log_only archive (length new_followers)

@@ -1,31 +1,20 @@
 -- The words of a store as a run begins on its pages, and what never changes in the run.
-use Rattle.std.specs.Prelude.{Bool, List, Some, [], drop, get_or, length, replicate, slice_get, slice_index, slice_set, suc, take, zero, ℕ, ◌%◌, ◌++◌, ◌+◌, ◌-◌, ◌/◌, ◌<◌, ◌∷◌, ◌≡◌, ◌≤◌, false, if◌then◌else◌}
-use Rattle.model_base.specs.declared.limits.TheConstants.{BLOCK_SIZE, PAGE_TRAILER, USER_START}
-use Rattle.model_core.specs.{flat, IsSized, KeptPage, lsn, packed, page_words_at, SharedWords, with_page_words}
+use Rattle.std.specs.Prelude.{Bool, List, Some, get_or, length, slice_get, slice_index, slice_set, ℕ, ◌%◌, ◌+◌, ◌-◌, ◌/◌, ◌<◌, ◌≡◌, ◌≤◌, false, if◌then◌else◌}
+use Rattle.model_base.specs.declared.limits.TheConstants.{BLOCK_SIZE}
+use Rattle.model_core.specs.{flat, IsSized, KeptPage, lsn, page_words_at, SharedWords, with_page_words}
 use Rattle.model_core.specs.Setup.{Setup}
-use Rattle.model_core.specs.declared.limits.TheConstants.{BUFFER_BLOCKS, FRAME_WORDS, READERS, WORD_LANES}
+use Rattle.model_core.specs.StartWords.{StartPageWords, StartWords}
+use Rattle.model_core.specs.declared.limits.TheConstants.{BUFFER_BLOCKS}
 use Rattle.model_log.specs.{run_layout, sn_of}
 use Rattle.model_log.specs.declared.layout.TheConstants.{BLOCK_HEADER}
 use Rattle.model_page.specs.{blank_page}
 use Rattle.model_page.specs.declared.content.Content.{Content}
 use Rattle.model_base.specs.declared.shape.Shape.{Shape}
 use Rattle.model_script.specs.declared.script.ScriptLine.{ScriptLine}
+use Rattle.redo_drive.specs.FirstWords.{first_places, page_cells}
 use Rattle.redo_drive.specs.Setups.{first_reader, programs_of, users_of}
 use Rattle.redo_drive.specs.declared.seating.TheConstants.{FIRST_FOLLOWER}
 use Rattle.redo_words.specs.Plain.{Plain}
-
--- the cells of a page: its user bytes, and 0 before and after them, where the running store keeps nothing
-unfoldable pub page_cells : List ℕ → List ℕ
-page_cells user = replicate USER_START 0 ++ user ++ replicate PAGE_TRAILER 0
-
--- these bytes as so many words, eight in each
-abbrev pub packed_words : ℕ → List ℕ → List ℕ
-packed_words zero bytes = []
-packed_words (suc n) bytes = packed 0 (take WORD_LANES bytes) ∷ packed_words n (drop WORD_LANES bytes)
-
--- the words of a page's frame: after those of the page each is 0
-unfoldable pub page_frame : List ℕ → List ℕ
-page_frame user = packed_words FRAME_WORDS (page_cells user)
 
 -- a page as the running store keeps it
 abbrev pub kept_page_of : Content → KeptPage
@@ -52,10 +41,12 @@ pub record AreNamed (words : Plain) (m : SharedWords) : Type 0 where
   pub sized : IsSized words.pages m
   pub in_order : words.words ≡ flat m
 
--- up to where the readers of the log have it as the run begins: the archiver up to the block of the start, and each
--- follower up to the start
-abbrev pub first_places : ℕ → List ℕ
-first_places start = (start - BLOCK_HEADER) ∷ replicate (READERS - 1) start
+-- the words in their order are those of a store as the run begins
+pub record AreStartWords (words : List ℕ) (c : Setup) : Type 0 where
+  pub by_name : SharedWords
+  pub in_order : words ≡ flat by_name
+  pub of_log : StartWords c by_name
+  pub of_pages : StartPageWords c by_name
 
 -- the words once those of the log are what a run has that starts at this lsn
 abbrev pub with_log : ℕ → SharedWords → SharedWords

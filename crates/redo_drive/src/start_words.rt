@@ -1,12 +1,12 @@
 // The words of a store as a run begins.
 ghost use Rattle.std.specs.Prelude.{◌<◌, ◌^◌, ◌≡◌, ◌≤◌, ℕ, IfOk, length, slice_index};
 ghost use Rattle.model_base.specs.{IsWithinLimits};
-ghost use Rattle.model_core.specs.{IsWord, SharedWords, wrote};
+ghost use Rattle.model_core.specs.{IsWord, SharedWords, flat, wrote};
 ghost use Rattle.model_core.specs.Setup.{Setup};
 ghost use Rattle.model_log.specs.{IsAtDataStart};
 ghost use Rattle.redo_apply.specs.{ArePagesOf};
-ghost use Rattle.redo_drive.specs.StartWords.{AreNamed, HoldBytes, IsBlankFrame, StartsOn, first_places, page_frame, with_frame, with_log};
-ghost use Rattle.redo_drive.specs.FirstWords.{AreStartWords};
+ghost use Rattle.redo_drive.specs.FirstWords.{first_places, first_words, page_frame};
+ghost use Rattle.redo_drive.specs.StartWords.{AreNamed, AreStartWords, HoldBytes, IsBlankFrame, StartsOn, with_frame, with_log};
 
 use model_base::{BLOCK_SIZE, MAX_PAGE_SIZE, Shape, USER_START};
 use model_core::{BUFFER_BLOCKS, FRAME_WORDS, READERS};
@@ -113,6 +113,7 @@ pub fn start_words(
     requires small { start < 2 ^ 61 }
     ensures pages { IfOk result (λ words. words.pages ≡ length pages.now) }
     ensures bytes { IfOk result (λ _. HoldBytes shape.now pages.now) }
+    ensures first { IfOk result (λ words. words.words ≡ flat (first_words start pages.now)) }
     ensures starts { IfOk result (λ words. (c : Setup) → StartsOn start shape.now pages.now c → AreStartWords words.words c) }
 {
     let count = shape.pages;

@@ -1,7 +1,6 @@
 -- The drives serve what is asked for.
 use Rattle.redo_drive.specs.declared.drive.RunEnd.{RunEnd}
 use Rattle.std.proofs.Common.{ℕ, ◌≡◌, Bool, true, false, List, Option, refl, sym, subst, ◌∙◌}
-use Rattle.std.proofs.lemmas.Bool.{false≢true}
 use Rattle.model_script.specs.declared.asked.Drive.{Drive}
 use Rattle.model_device.specs.Disk.{Disk}
 use Rattle.model_core.specs.Actors as model
@@ -17,7 +16,6 @@ use Rattle.redo_drive.specs.declared.drive.RunEnd.TheVariants.{Done, Spent}
 use Rattle.redo_machine.specs.{RunsByTurns}
 use Rattle.redo_memdisk.specs.{CallsThrough, seen_through}
 use Rattle.redo_memdisk.specs.declared.fused.Fused.{Fused}
-use Rattle.redo_ownmachine.specs.OwnByTurns.{OwnRunsByTurns}
 use Rattle.redo_store.specs.declared.opened.Opened.{Opened}
 use Rattle.redo_threads.specs.InThreads.{RunsInThreads}
 use Rattle.redo_lab.specs.Asked.{turns_of}
@@ -74,36 +72,22 @@ module _ {L D : Type 0} (log_seen : L → Seen) (log_gives : L → Call → L �
   tells-turns asked opened script actors driven is told =
       subst (λ (threads : Bool). TellsIn threads asked.own_writes asked opened script actors driven) (sym is) told
 
-  -- with a writer and a flusher, or by users that write for themselves
-  abbrev Plain : Drive → Bool → ℕ → Opened (Fused L) (Fused D) → List ScriptLine → List model.Actor
+  -- of users that write for themselves, or beside a writer and a flusher
+  abbrev ByTurns : Bool → Drive → Bool → ℕ → Opened (Fused L) (Fused D) → List ScriptLine → List model.Actor
       → Driven (Fused L) (Fused D) → Type 0
-  Plain asked archive followers opened script actors driven = RunsByTurns (seen_through log_seen)
+  ByTurns own_writes asked archive followers opened script actors driven = RunsByTurns (seen_through log_seen)
       (CallsThrough log_seen log_gives) (seen_through data_seen) (CallsThrough data_seen data_gives)
-      opened script (turns_of asked) archive followers actors driven
+      own_writes opened script (turns_of asked) archive followers actors driven
 
-  abbrev Own : Drive → Bool → ℕ → Opened (Fused L) (Fused D) → List ScriptLine → List model.Actor
-      → Driven (Fused L) (Fused D) → Type 0
-  Own asked archive followers opened script actors driven = OwnRunsByTurns (seen_through log_seen)
-      (CallsThrough log_seen log_gives) (seen_through data_seen) (CallsThrough data_seen data_gives)
-      opened script (turns_of asked) archive followers actors driven
-
-  pub tells-plain : (asked : Drive) (archive : Bool) (followers : ℕ) (opened : Opened (Fused L) (Fused D))
-      (script : List ScriptLine) (actors : List model.Actor) (driven : Driven (Fused L) (Fused D))
-      → asked.own_writes ≡ false → Plain asked archive followers opened script actors driven → followers ≡ asked.followers
+  pub tells-by : (own_writes : Bool) (asked : Drive) (archive : Bool) (followers : ℕ)
+      (opened : Opened (Fused L) (Fused D)) (script : List ScriptLine) (actors : List model.Actor)
+      (driven : Driven (Fused L) (Fused D)) → asked.own_writes ≡ own_writes
+      → ByTurns own_writes asked archive followers opened script actors driven → followers ≡ asked.followers
       → archive ≡ asked.archive → TellsIn false asked.own_writes asked opened script actors driven
-  tells-plain asked archive followers opened script actors driven is told as_many archived =
-      subst (λ (own_writes : Bool). TellsIn false own_writes asked opened script actors driven) (sym is)
-      (subst (λ (archive : Bool). Plain asked archive asked.followers opened script actors driven) archived
-      (subst (λ (n : ℕ). Plain asked archive n opened script actors driven) as_many told))
-
-  pub tells-own : (asked : Drive) (archive : Bool) (followers : ℕ) (opened : Opened (Fused L) (Fused D))
-      (script : List ScriptLine) (actors : List model.Actor) (driven : Driven (Fused L) (Fused D))
-      → asked.own_writes ≡ true → Own asked archive followers opened script actors driven → followers ≡ asked.followers
-      → archive ≡ asked.archive → TellsIn false asked.own_writes asked opened script actors driven
-  tells-own asked archive followers opened script actors driven is told as_many archived =
-      subst (λ (own_writes : Bool). TellsIn false own_writes asked opened script actors driven) (sym is)
-      (subst (λ (archive : Bool). Own asked archive asked.followers opened script actors driven) archived
-      (subst (λ (n : ℕ). Own asked archive n opened script actors driven) as_many told))
+  tells-by own_writes asked archive followers opened script actors driven is told as_many archived =
+      subst (λ (own : Bool). ByTurns own asked asked.archive asked.followers opened script actors driven) (sym is)
+      (subst (λ (archive : Bool). ByTurns own_writes asked archive asked.followers opened script actors driven) archived
+      (subst (λ (n : ℕ). ByTurns own_writes asked archive n opened script actors driven) as_many told))
 
   -- in threads
   pub tells-threads : (asked : Drive) (opened : Opened (Fused L) (Fused D))
@@ -119,10 +103,8 @@ module _ {L D : Type 0} (log_seen : L → Seen) (log_gives : L → Call → L �
       → asked.threads ≡ threads → asked.own_writes ≡ own_writes
       → TellsIn threads own_writes asked store script actors driven → driven.ended ≡ Spent turns user
       → MaySpend asked turns
-  may-spend false false asked store script actors driven turns user is own told ended =
-      record { by_turns = is; few = λ plain. told.few turns user ended }
-  may-spend false true asked store script actors driven turns user is own told ended =
-      record { by_turns = is; few = λ plain. absurd (false≢true (sym plain ∙ own)) }
+  may-spend false own_writes asked store script actors driven turns user is own told ended =
+      record { by_turns = is; few = λ plain. told.few (sym own ∙ plain) turns user ended }
   may-spend true own_writes asked store script actors driven turns user is own told ended =
       let same : Done ≡ Spent turns user = sym told.done ∙ ended in absurd (cc)
 

@@ -16,7 +16,6 @@ use Rattle.model_script.specs.declared.script.ScriptLine.{ScriptLine}
 use Rattle.model_theorem.specs.{Ran}
 use Rattle.model_theorem.specs.Values as values
 use Rattle.redo_machine.specs.{RunsByTurns}
-use Rattle.redo_ownmachine.specs.OwnByTurns.{OwnRunsByTurns}
 use Rattle.redo_drive.specs.Views.{followers_in, views_of}
 use Rattle.redo_drive.specs.declared.actor.Actor.{Actor}
 use Rattle.redo_drive.specs.declared.drive.Driven.{Driven}
@@ -39,12 +38,9 @@ pub record IsOpenedAt {L D : Type 0} (opened : values.Opened) (store : Opened L 
 -- are allowed, of users that write for themselves if they are to; or in threads, by which no turns are counted
 abbrev pub TellsOf : {L D : Type 0} → (threads own_writes : Bool) → (L → Seen) → (L → device.Call → L → Type 0) → (D → Seen) → (D → device.Call → D → Type 0)
     → Drive → Opened (Fused L) (Fused D) → List ScriptLine → List model.Actor → Driven (Fused L) (Fused D) → Type 0
-TellsOf false false log_seen log_gives data_seen data_gives drive store script actors driven =
+TellsOf false own_writes log_seen log_gives data_seen data_gives drive store script actors driven =
     RunsByTurns (seen_through log_seen) (CallsThrough log_seen log_gives) (seen_through data_seen) (CallsThrough data_seen data_gives)
-    store script (turns_of drive) drive.archive drive.followers actors driven
-TellsOf false true log_seen log_gives data_seen data_gives drive store script actors driven =
-    OwnRunsByTurns (seen_through log_seen) (CallsThrough log_seen log_gives) (seen_through data_seen) (CallsThrough data_seen data_gives)
-    store script (turns_of drive) drive.archive drive.followers actors driven
+    own_writes store script (turns_of drive) drive.archive drive.followers actors driven
 TellsOf true own_writes log_seen log_gives data_seen data_gives drive store script actors driven =
     RunsInThreads store script drive.log_only actors driven
 

@@ -18,7 +18,7 @@ use Rattle.model_logcore.proofs.NewUsers.{new_user_is}
 use Rattle.model_logcore.specs.{left_to_reserve, StartActor, sum_over_actors}
 use Rattle.model_logcore.specs.LogHalf.{lengths}
 use Rattle.model_running.proofs.Places.{lsn_is, sn_back}
-use Rattle.model_running.specs.{IsSpent}
+use Rattle.model_running.specs.{IsSpent, plain_store}
 use Rattle.model_script.specs.{group_of, script_end}
 use Rattle.model_script.specs.declared.misfit.TheConstants.{MARGIN, MAX_USERS}
 use Rattle.model_script.specs.declared.script.ScriptLine.{ScriptLine}
@@ -181,7 +181,8 @@ module _ {L D R : Type 0} (log_seen : L → Seen) (data_seen : D → Seen) (stan
   }
 
   pub spent_are_fewer : (seed max user : ℕ) (last : Core (run_log_side log_seen data_seen run) (run_data_side log_seen data_seen run))
-      → IsSpent (run_log_side log_seen data_seen run) (run_data_side log_seen data_seen run) seed max user first last → max < MAX_TURNS
+      → IsSpent (plain_store (run_log_side log_seen data_seen run) (run_data_side log_seen data_seen run)) seed max user
+      first last → max < MAX_TURNS
   spent_are_fewer seed max user last = greatest.spent_are_fewer (run_log_side log_seen data_seen run) (run_data_side log_seen data_seen run)
       (log_laws log_seen (log_seen run.first_log.dev).faults run.first_log.marks.number (log_part.HasBegun log_seen (lsn c.base) run.first_log))
       (data_laws data_seen (data_seen run.first_data.dev).faults run.shape (data_part.HasBegun data_seen c.opened run.first_data))

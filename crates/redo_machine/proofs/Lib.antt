@@ -3,6 +3,7 @@ pub mod ArchiveEnds
 pub mod ArchiveStarts
 pub mod Beside
 pub mod Ended
+pub mod EndsAs
 pub mod FollowsRun
 pub mod PlayedNext
 pub mod RunLeft

@@ -1,12 +1,13 @@
 -- What a run by turns leaves, and so what it comes to.
-use Rattle.std.proofs.Common.{Bool, List, Option, ap, arith, cond, false, is_some, length, slice_index, subst, sym}
-use Rattle.std.proofs.Common.{true, ℕ, ◌∙◌, ◌<◌, ◌≡◌}
-use Rattle.model_core.specs.{Given, HasLost, index, lsn}
-use Rattle.model_core.specs.Actors as model
+use Rattle.std.proofs.Common.{Bool, List, Option, ap, arith, cond, false, is_some, length, refl, slice_index, subst}
+use Rattle.std.proofs.Common.{sym, true, ℕ, ◌∙◌, ◌<◌, ◌≡◌}
+use Rattle.model_core.specs.{Core, Given, HasLost, index, lsn}
 use Rattle.model_core.specs.declared.words.Word.TheVariants as word
 use Rattle.model_running.proofs.OpenLines as open_lines
 use Rattle.model_running.proofs.Seated.{seated_seats}
-use Rattle.model_running.specs.{HaveEnded, history_of, IsDone, IsSpent, LeavesOpen, marks_in, TakesTurns, word_marks}
+use Rattle.model_running.proofs.TurnsAs.{plain_spent}
+use Rattle.model_running.specs.{AskAt, HaveEnded, history_of, IsDone, IsSpent, LeavesOpen, marks_in}
+use Rattle.model_running.specs.{TurnStore, word_marks}
 use Rattle.model_report.specs.declared.entry.Entry.{Entry}
 use Rattle.model_script.specs.declared.script.ScriptLine.{ScriptLine}
 use Rattle.model_script.specs.declared.words.TheConstants.{MAX_TURNS}
@@ -16,7 +17,9 @@ use Rattle.redo_logdev.specs.Part as log
 use Rattle.redo_archive.specs.Part.{Part}
 use Rattle.redo_archiver.specs.{append_code}
 use Rattle.redo_drive.proofs.ShapeStays.{run_shape}
+use Rattle.redo_drive.proofs.ThinTurns.{thin, turn_thin}
 use Rattle.redo_drive.specs.Archived.{HaveArchived}
+use Rattle.redo_drive.specs.Asking.{AskOfParts}
 use Rattle.redo_drive.specs.Archiving.{HasComeTo}
 use Rattle.redo_drive.specs.LogPartSide as log_part
 use Rattle.redo_drive.proofs.LeftRun as left_run
@@ -28,7 +31,8 @@ use Rattle.redo_drive.specs.Drive.{HasMetError, Owes}
 use Rattle.redo_machine.proofs.Alone as alone
 use Rattle.redo_machine.proofs.ArchiveEnds.{have_archived, loses_by}
 use Rattle.redo_machine.specs.Appending.{lost_by}
-use Rattle.redo_machine.specs.ByTurns.{RunsByTurns}
+use Rattle.redo_machine.proofs.EndsAs.{ends_as, turns_taken}
+use Rattle.redo_machine.specs.ByTurns.{EndsAs, NothingIsDone, RunsByTurns, turn_store}
 use Rattle.redo_drive.specs.Begins.{BeginsWith}
 use Rattle.redo_drive.specs.History.{ListsInOrder}
 use Rattle.redo_drive.specs.Leaving.{LeavesWith}
@@ -36,7 +40,7 @@ use Rattle.redo_drive.specs.Running.{RunsFromWith}
 use Rattle.redo_drive.specs.declared.making.Beginning.{Beginning}
 use Rattle.redo_drive.specs.Playing.{RunOf, run_data_side, run_log_side}
 use Rattle.redo_drive.specs.Turning.{core_of}
-use Rattle.redo_machine.specs.Turns.{AskToEnd, EndsAs}
+use Rattle.redo_machine.specs.Turns.{RunEndsAs, run_store}
 use Rattle.redo_drive.specs.Views.{views_of}
 use Rattle.redo_drive.specs.declared.actor.Actor.{Actor}
 use Rattle.redo_drive.specs.declared.drive.Driven.{Driven}
@@ -47,14 +51,6 @@ use Rattle.redo_drive.specs.declared.drive.RunEnd.TheVariants as ended
 use Rattle.redo_follow.specs.Handing.{Following}
 use Rattle.redo_store.specs.declared.opened.Opened.{Opened}
 use Rattle.redo_store.specs.Part as store
-
--- However a run ended, turns led there.
-turns_taken : {L D : Type 0} (log_seen : L → Seen) (data_seen : D → Seen) (run : RunOf L D) (seed max : ℕ)
-    (first : Parts L D) (actors : List model.Actor) (how : RunEnd) (last : Parts L D) (after : List model.Actor)
-    → EndsAs log_seen data_seen run seed max first actors how last after
-    → (count : ℕ) × TakesTurns (run_log_side log_seen data_seen run) (run_data_side log_seen data_seen run) seed max count (core_of log_seen data_seen run first actors) (core_of log_seen data_seen run last after)
-turns_taken log_seen data_seen run seed max first actors ended.Done last after ends = (ends.count, ends.turns)
-turns_taken log_seen data_seen run seed max first actors (ended.Spent turns user) last after ends = (max, ends.1.turns)
 
 -- The parts and actors began the run of the script on the store, and the turns of the seed led from there to its end, at which
 -- the invariant holds, with what the followers' receivers have got, and of which the closed run tells; and the archive has
@@ -70,11 +66,8 @@ pub record TurnsLead {L D A R : Type 0} (log_seen : L → Seen) (log_gives : L �
   pub from : RunsFromWith log_seen data_seen stands begins.run (is_some before) first.actors.items last actors
   pub come : HasComeTo log_seen data_seen arch_seen begins.run last (views_of actors) from.runs before after
   pub lost : driven.closed.lost ≡ lost_by after
-  pub ends : EndsAs log_seen data_seen begins.run turns.seed turns.max first.parts (views_of first.actors.items)
-      driven.ended last (views_of actors)
-  pub asked : AskToEnd log_seen log_gives data_seen data_gives begins.run turns.seed turns.max first.parts
-      (views_of first.actors.items)
-      driven.ended last (views_of actors) ends
+  pub ends : RunEndsAs log_seen log_gives data_seen data_gives begins.run turns.seed turns.max first.parts
+      (views_of first.actors.items) driven.ended last (views_of actors)
   pub calls : CallOnBoth log_gives data_gives first.parts last
   pub log : driven.closed.log ≡ last.log
   pub data_part : driven.closed.store ≡ last.store
@@ -91,13 +84,22 @@ module _ {L D A R : Type 0} (log_seen : L → Seen) (log_gives : L → Call → 
     (actors : List (Actor R)) (driven : Driven L D) (after : Option (Part A))
     (by : TurnsLead log_seen log_gives data_seen data_gives arch_seen stands opened script turns before followers actors driven
     after) where
+  abbrev run : RunOf L D
+  run = by.begins.run
+
+  abbrev in_run : TurnStore (run_log_side log_seen data_seen run) (run_data_side log_seen data_seen run)
+  in_run = run_store log_seen log_gives data_seen data_gives run
+
+  abbrev first : Core (run_log_side log_seen data_seen run) (run_data_side log_seen data_seen run)
+  first = core_of log_seen data_seen run by.first.parts (views_of by.first.actors.items)
+
+  abbrev last : Core (run_log_side log_seen data_seen run) (run_data_side log_seen data_seen run)
+  last = core_of log_seen data_seen run by.last (views_of actors)
+
   -- where the turns are spent, all of them are
-  is_spent : (count user : ℕ) → driven.ended ≡ ended.Spent count user → (count ≡ turns.max) × IsSpent
-      (run_log_side log_seen data_seen by.begins.run) (run_data_side log_seen data_seen by.begins.run) turns.seed
-      turns.max user (core_of log_seen data_seen by.begins.run by.first.parts (views_of by.first.actors.items))
-      (core_of log_seen data_seen by.begins.run by.last (views_of actors))
-  is_spent count user spent = subst (λ (z : RunEnd). EndsAs log_seen data_seen by.begins.run turns.seed turns.max
-      by.first.parts (views_of by.first.actors.items) z by.last (views_of actors)) spent by.ends
+  is_spent : (count user : ℕ) → driven.ended ≡ ended.Spent count user
+      → (count ≡ turns.max) × IsSpent in_run turns.seed turns.max user first last
+  is_spent count user spent = subst (λ (z : RunEnd). EndsAs in_run turns.seed turns.max first z last) spent by.ends
 
   -- and with the log alone, without archiver and followers, they are few
   are_few : MayBegin opened script turns.log_only → (count user : ℕ) → driven.ended ≡ ended.Spent count user
@@ -105,26 +107,50 @@ module _ {L D A R : Type 0} (log_seen : L → Seen) (log_gives : L → Call → 
   are_few may count user spent only unarchived none =
       let all = is_spent count user spent in
       let few = alone.spent_are_fewer log_seen data_seen stands opened script turns.log_only (is_some before) followers by.first by.begins may only unarchived none
-      turns.seed turns.max user _ all.1 in omega (arith, all.0)
+      turns.seed turns.max user last
+      (plain_spent (run_log_side log_seen data_seen run) (run_data_side log_seen data_seen run)
+      (AskAt (run_log_side log_seen data_seen run) (run_data_side log_seen data_seen run)
+      (AskOfParts log_gives data_gives)) turns.seed turns.max user first last all.1) in omega (arith, all.0)
+
+  -- nothing was done yet
+  begins : NothingIsDone log_seen data_seen opened script turns.log_only (is_some before) (length followers)
+      (thin log_seen data_seen run first)
+  begins = let stood = by.begins.stands in record {
+    words = by.begins.words;
+    actors = stood.are_new
+        ∙ ap (λ (b : Bool). seated_actors opened.shape script opened.start b (is_some before) (length followers))
+        by.begins.is_run.log_only_is;
+    log = stood.log;
+    data_part = stood.data_part;
+    lists = stood.none_listed;
+  }
 
   -- so the run is by turns
-  pub by_turns : MayBegin opened script turns.log_only → RunsByTurns log_seen log_gives data_seen data_gives opened script turns
-      (is_some before) (length followers) (views_of actors) driven
+  pub by_turns : MayBegin opened script turns.log_only
+      → RunsByTurns log_seen log_gives data_seen data_gives false opened script turns (is_some before)
+      (length followers) (views_of actors) driven
   by_turns may = record {
-    run = by.begins.run;
-    is_run = by.begins.is_run;
-    first = by.first.parts;
-    starts = views_of by.first.actors.items;
-    begins = by.begins.stands;
-    last = by.last;
-    ends = by.ends;
-    asked = by.asked;
+    first = thin log_seen data_seen run first;
+    begins = begins;
+    is_new = tt;
+    last = thin log_seen data_seen run last;
+    actors_are = refl;
+    ends = ends_as in_run (turn_store log_seen log_gives data_seen data_gives false) (thin log_seen data_seen run)
+        (λ s. Unit {0}) (λ s. refl) (λ s. refl)
+        (λ old new seat how none t. (
+          record {
+            answer = t.answer;
+            turn = turn_thin log_seen data_seen run old new seat t.answer how t.turn;
+            told = t.told;
+          },
+          tt,
+        )) turns.seed turns.max first tt driven.ended last by.ends;
     log = by.log;
     data_part = by.data_part;
     marks = by.marks;
     code = by.code;
     history = by.listed;
-    few = are_few may;
+    few = λ plain. are_few may;
   }
 
   -- an archiver that has lost its archive did so by the error of the archive
@@ -136,7 +162,7 @@ module _ {L D A R : Type 0} (log_seen : L → Seen) (log_gives : L → Call → 
   pub leaves : LeavesWith log_seen log_gives data_seen data_gives stands opened script turns.log_only (is_some before) (length followers)
       by.first.actors.items actors driven.closed
   leaves = record {
-    run = by.begins.run;
+    run = run;
     is_run = by.begins.is_run;
     begun = by.begins.begun;
     last = by.last;
@@ -144,12 +170,11 @@ module _ {L D A R : Type 0} (log_seen : L → Seen) (log_gives : L → Call → 
     log_calls = subst (λ (z : log.Part L). CallsOn log_gives z.dev z.failed by.last.log.dev by.last.log.failed) by.begins.log by.calls.log;
     data_calls = subst (λ (z : store.Part D). CallsOn data_gives z.dev z.failed by.last.store.dev by.last.store.failed) by.begins.data_part by.calls.data_part;
     log_shape =
-        let taken = turns_taken log_seen data_seen by.begins.run turns.seed turns.max by.first.parts
-        (views_of by.first.actors.items) driven.ended by.last (views_of actors) by.ends in
-        let run = by.begins.run in
-        run_shape log_seen (log_seen run.first_log.dev).faults run.first_log.marks.number (log_part.HasBegun log_seen (lsn run.setup.base) run.first_log) (run_data_side log_seen data_seen run) turns.seed turns.max taken.0
-        (core_of log_seen data_seen run by.first.parts (views_of by.first.actors.items))
-        (core_of log_seen data_seen run by.last (views_of actors)) taken.1
+        let taken = turns_taken in_run turns.seed turns.max first driven.ended last by.ends in
+        run_shape log_seen (log_seen run.first_log.dev).faults run.first_log.marks.number
+        (log_part.HasBegun log_seen (lsn run.setup.base) run.first_log) (run_data_side log_seen data_seen run)
+        (AskAt (run_log_side log_seen data_seen run) (run_data_side log_seen data_seen run)
+        (AskOfParts log_gives data_gives)) turns.seed turns.max taken.0 first last taken.1
         ∙ ap (λ (z : log.Part L). z.shape) by.begins.log;
     log = by.log;
     data_part = by.data_part;
@@ -159,12 +184,8 @@ module _ {L D A R : Type 0} (log_seen : L → Seen) (log_gives : L → Call → 
     lost = lost_by_archive;
   }
 
-  is_done : driven.ended ≡ ended.Done → IsDone (run_log_side log_seen data_seen by.begins.run)
-      (run_data_side log_seen data_seen by.begins.run) turns.seed turns.max
-      (core_of log_seen data_seen by.begins.run by.first.parts (views_of by.first.actors.items))
-      (core_of log_seen data_seen by.begins.run by.last (views_of actors))
-  is_done done = subst (λ (z : RunEnd). EndsAs log_seen data_seen by.begins.run turns.seed turns.max by.first.parts
-      (views_of by.first.actors.items) z by.last (views_of actors)) done by.ends
+  is_done : driven.ended ≡ ended.Done → IsDone in_run turns.seed turns.max first last
+  is_done done = subst (λ (z : RunEnd). EndsAs in_run turns.seed turns.max first z last) done by.ends
 
   leaves_open : (count user : ℕ) → driven.ended ≡ ended.Spent count user → LeavesOpen script driven.closed.history (HasMetError driven.closed) user
   unfolding leaves

@@ -6,10 +6,11 @@ use lib.ListN.{get_elem?}
 use mathlib.Core.Option.{some}
 use Rattle.model_core.specs.Actors as model
 use Rattle.model_core.specs.Setup.{Setup}
-use Rattle.model_core.specs.{Core, Given, lent, next}
+use Rattle.model_core.specs.{Given, lent, next}
 use Rattle.model_core.specs.Turn.{Turn}
 use Rattle.model_core.specs.declared.ops.Step.{Step}
-use Rattle.model_running.specs.{AreSeated, HaveEnded, LastTurn, seat_of_turn, TakesTurns}
+use Rattle.model_running.proofs.TurnsAs.{one_more}
+use Rattle.model_running.specs.{AreSeated, HaveEnded, seat_of_turn, TakesTurns}
 use Rattle.model_script.specs.{draw, first_state, next_state, state_after}
 use Rattle.redo_disk.specs.{Call}
 use Rattle.redo_disk.specs.Seen.{Seen}
@@ -23,7 +24,7 @@ use Rattle.redo_archive.specs.Part.{Part}
 use Rattle.redo_drive.specs.Running.{RunsWith}
 use Rattle.redo_machine.specs.Appending.{ComesFrom, IsOnRun}
 use Rattle.redo_drive.specs.Turning.{TakesTurn, core_of}
-use Rattle.redo_machine.specs.Turns.{AskInTurns, EndsAsking, IsDrawn}
+use Rattle.redo_machine.specs.Turns.{IsDrawn, RunEndsAs, run_store}
 use Rattle.redo_drive.specs.Views.{view_of, views_of}
 use Rattle.redo_drive.specs.declared.actor.Actor.{Actor}
 use Rattle.redo_machine.specs.declared.machine.Machine.{Machine}
@@ -48,15 +49,11 @@ pub next_drawn : (seed max turn state : ℕ) → turn < max / 2 → IsDrawn seed
 next_drawn seed max turn state l drawn more = ap next_state (drawn l) ∙ sym (next_after turn (first_state seed))
 
 module _ {L D : Type 0} (log_seen : L → Seen) (log_gives : L → Call → L → Type 0) (data_seen : D → Seen) (data_gives : D → Call → D → Type 0) where
-  -- so many turns lead from the first state to the last, with what each asked of both devices
-  pub record TurnsAsk (run : RunOf L D) (seed max n : ℕ) (first last : Core (run_log_side log_seen data_seen run) (run_data_side log_seen data_seen run)) : Type 0 where
-    pub turns : TakesTurns (run_log_side log_seen data_seen run) (run_data_side log_seen data_seen run) seed max n first last
-    pub asked : AskInTurns log_seen log_gives data_seen data_gives run seed max n first last turns
-
   -- so many turns of a run lead from the first state to this one
   pub record GoesOn {A R : Type 0} (run : RunOf L D) (archive : Bool) (seed max turn : ℕ) (first now : Machine L D A R) : Type 0 where
     pub runs : RunsWith log_seen data_seen run archive now.parts (views_of now.actors.items)
-    pub taken : TurnsAsk run seed max turn (core_of log_seen data_seen run first.parts (views_of first.actors.items))
+    pub taken : TakesTurns (run_store log_seen log_gives data_seen data_gives run) seed max turn
+        (core_of log_seen data_seen run first.parts (views_of first.actors.items))
         (core_of log_seen data_seen run now.parts (views_of now.actors.items))
 
   -- A machine in its run, after so many turns. There are so many seats.
@@ -86,15 +83,6 @@ some_actor c actors S =
     let same = length_views actors in
     omega arith
 
-module _ {L D : Type 0} (log_seen : L → Seen) (log_gives : L → Call → L → Type 0) (data_seen : D → Seen) (data_gives : D → Call → D → Type 0) (seed max : ℕ) where
-  -- so many turns, and one more
-  one_more : (run : RunOf L D) (n : ℕ) (first last : Core (run_log_side log_seen data_seen run) (run_data_side log_seen data_seen run))
-      (t : LastTurn (run_log_side log_seen data_seen run) (run_data_side log_seen data_seen run) seed max (TakesTurns (run_log_side log_seen data_seen run) (run_data_side log_seen data_seen run) seed max n first) n last)
-      → AskInTurns log_seen log_gives data_seen data_gives run seed max (suc n) first last t
-      → TurnsAsk log_seen log_gives data_seen data_gives run seed max (n + 1) first last
-  one_more run n first last t asked =
-      subst (λ (k : ℕ). TurnsAsk log_seen log_gives data_seen data_gives run seed max k first last) (sym (add-one n)) (record { turns = t; asked = asked })
-
 module _ {L D A R : Type 0} (log_seen : L → Seen) (log_gives : L → Call → L → Type 0) (data_seen : D → Seen)
     (data_gives : D → Call → D → Type 0) (arch_seen : A → Seen) (seed max : ℕ) where
   -- a run before its first turn
@@ -106,7 +94,7 @@ module _ {L D A R : Type 0} (log_seen : L → Seen) (log_gives : L → Call → 
     count = count;
     some_seats = (let s = some_actor on.run.setup machine.actors.items on.runs.seated in omega arith);
     on_run = on;
-    goes = λ run archive R. record { runs = R; taken = record { turns = refl; asked = tt } };
+    goes = λ run archive R. record { runs = R; taken = refl };
   }
 
   -- one turn more, of the seat whose turn it is
@@ -140,21 +128,23 @@ module _ {L D A R : Type 0} (log_seen : L → Seen) (log_gives : L → Call → 
         (core_of log_seen data_seen run new.parts (views_of new.actors.items))) its_seat taken.turn in
         record {
           runs = (keeps run archive before.runs).1;
-          taken = one_more log_seen log_gives data_seen data_gives seed max run turn
+          taken = one_more (run_store log_seen log_gives data_seen data_gives run) seed max turn
               (core_of log_seen data_seen run first.parts (views_of first.actors.items))
               (core_of log_seen data_seen run new.parts (views_of new.actors.items))
               (record {
                 before = core_of log_seen data_seen run old.parts (views_of old.actors.items);
-                earlier = before.taken.turns;
+                earlier = before.taken;
                 open_user = open_user;
-                answer = taken.answer;
                 step = step;
-                turn = its_turn;
-              }) (
-                so_at (λ (who : model.Actor). AskOfBoth log_gives data_gives (lent who) (next who) old.parts new.parts) old.actors.items seat its_turn.who asked
-                    (subst (λ (s : ℕ). get_elem? (views_of old.actors.items) s ≡ some its_turn.who) (sym its_seat) its_turn.who_is),
-                before.taken.asked,
-              );
+                turn = record {
+                  answer = taken.answer;
+                  turn = its_turn;
+                  told = λ who at. so_at (λ (a : model.Actor).
+                      AskOfBoth log_gives data_gives (lent a) (next a) old.parts new.parts) old.actors.items seat who
+                      asked
+                      (subst (λ (s : ℕ). get_elem? (views_of old.actors.items) s ≡ some who) (sym its_seat) at);
+                };
+              });
         };
   }
 
@@ -163,37 +153,34 @@ module _ {L D A R : Type 0} (log_seen : L → Seen) (log_gives : L → Call → 
       arch_seen seed max turn draws seats first last → turn ≤ max → HaveEnded (views_of last.actors.items)
       → (run : RunOf L D) (archive : Bool)
       → RunsWith log_seen data_seen run archive first.parts (views_of first.actors.items)
-      → EndsAsking log_seen log_gives data_seen data_gives run seed max first.parts (views_of first.actors.items)
+      → RunEndsAs log_seen log_gives data_seen data_gives run seed max first.parts (views_of first.actors.items)
       ran.Done last.parts (views_of last.actors.items)
-  ends_done turn draws seats first last I within ended run archive R =
-      let goes = I.goes run archive R in record {
-        ends = record { count = turn; within = within; turns = goes.taken.turns; ended = ended };
-        asked = goes.taken.asked;
-      }
+  ends_done turn draws seats first last I within ended run archive R = record {
+    count = turn;
+    within = within;
+    turns = (I.goes run archive R).taken;
+    ended = ended;
+  }
 
   -- a run whose turns are spent
   pub ends_spent : (turn draws seats user : ℕ) (first last : Machine L D A R) → InRun log_seen log_gives data_seen
       data_gives arch_seen seed max turn draws seats first last → turn ≡ max → IsFirstOpen (views_of last.actors.items) user
       → (run : RunOf L D) (archive : Bool)
       → RunsWith log_seen data_seen run archive first.parts (views_of first.actors.items)
-      → EndsAsking log_seen log_gives data_seen data_gives run seed max first.parts (views_of first.actors.items)
+      → RunEndsAs log_seen log_gives data_seen data_gives run seed max first.parts (views_of first.actors.items)
       (ran.Spent max user) last.parts (views_of last.actors.items)
   ends_spent turn draws seats user first last I all open_user run archive R =
-      let goes = I.goes run archive R in
-      let taken = subst (λ (n : ℕ). TurnsAsk log_seen log_gives data_seen data_gives run seed max n
-      (core_of log_seen data_seen run first.parts (views_of first.actors.items))
-      (core_of log_seen data_seen run last.parts (views_of last.actors.items))) all goes.taken in record {
-        ends = (
-          refl,
-          record {
-            turns = taken.turns;
-            seat = open_user.seat;
-            state = open_user.state;
-            is = open_user.is;
-            number = open_user.open_user.number;
-            not_ended = open_user.open_user.not_ended;
-            least = first_is_least run.setup (views_of last.actors.items) goes.runs.seated user open_user;
-          },
-        );
-        asked = taken.asked;
-      }
+      let goes = I.goes run archive R in (
+        refl,
+        record {
+          turns = subst (λ (n : ℕ). TakesTurns (run_store log_seen log_gives data_seen data_gives run) seed max n
+              (core_of log_seen data_seen run first.parts (views_of first.actors.items))
+              (core_of log_seen data_seen run last.parts (views_of last.actors.items))) all goes.taken;
+          seat = open_user.seat;
+          state = open_user.state;
+          is = open_user.is;
+          number = open_user.open_user.number;
+          not_ended = open_user.open_user.not_ended;
+          least = first_is_least run.setup (views_of last.actors.items) goes.runs.seated user open_user;
+        },
+      )

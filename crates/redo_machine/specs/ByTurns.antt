@@ -1,44 +1,76 @@
 -- A whole run by turns: from the opened store to the closed one.
-use Rattle.std.specs.Prelude.{Bool, List, false, slice_index, true, ℕ, ◌<◌, ◌≡◌}
+use Rattle.std.specs.Prelude.{Bool, List, [], false, slice_index, true, ℕ, ◌<◌, ◌≡◌}
+use Rattle.model_core.specs.{Core, flat, index, Listed}
 use Rattle.model_core.specs.Actors as model
-use Rattle.model_core.specs.{index}
+use Rattle.model_core.specs.DataSide.{DataSide}
+use Rattle.model_core.specs.LogSide.{LogSide}
 use Rattle.model_core.specs.declared.words.Word.TheVariants as word
-use Rattle.model_running.specs.{marks_in}
+use Rattle.model_ownrun.specs.OwnRuns.{AskOrGo, own_store}
+use Rattle.model_running.specs.{AskAt, IsDone, IsSpent, TurnStore, actor_store, marks_in}
 use Rattle.model_script.specs.declared.script.ScriptLine.{ScriptLine}
 use Rattle.model_script.specs.declared.words.TheConstants.{MAX_TURNS}
 use Rattle.redo_disk.specs.{Call}
 use Rattle.redo_disk.specs.Seen.{Seen}
-use Rattle.redo_drive.specs.Beginning.{IsRunWith, StandsWith}
+use Rattle.redo_drive.specs.Asking.{AskOfParts}
+use Rattle.redo_drive.specs.FirstWords.{first_words}
 use Rattle.redo_drive.specs.History.{ListsInOrder}
-use Rattle.redo_drive.specs.Sides.{RunOf}
+use Rattle.redo_drive.specs.Setups.{seated_actors}
+use Rattle.redo_drive.specs.TurnSides.{turn_data_side, turn_log_side}
 use Rattle.redo_drive.specs.declared.drive.Driven.{Driven}
-use Rattle.redo_drive.specs.declared.drive.RunEnd.TheVariants.{Spent}
-use Rattle.redo_drive.specs.declared.parts.Parts.{Parts}
-use Rattle.redo_machine.specs.Turns.{AskToEnd, EndsAs}
+use Rattle.redo_drive.specs.declared.drive.RunEnd.{RunEnd}
+use Rattle.redo_drive.specs.declared.drive.RunEnd.TheVariants as ran
 use Rattle.redo_machine.specs.declared.drive.Turns.{Turns}
 use Rattle.redo_store.specs.declared.opened.Opened.{Opened}
 
--- THE TURNS. The run is that of the script on the store, with an archiver or without, and with so many followers, and begins
--- with both parts that were opened. The turns of the seed led from there to its end, at which the actors are these, and both parts those of the
--- closed run. In each turn both devices were asked for what the Op of its actor asks of them, all of it or up to an
--- error, and for nothing else.
-pub record RunsByTurns {L D : Type 0} (log_seen : L → Seen) (log_gives : L → Call → L → Type 0) (data_seen : D → Seen) (data_gives : D → Call → D → Type 0)
-    (opened : Opened L D) (script : List ScriptLine) (turns : Turns) (archive : Bool) (followers : ℕ) (actors : List model.Actor) (driven : Driven L D) : Type 0 where
-  pub run : RunOf L D
-  pub is_run : IsRunWith opened script turns.log_only archive followers run
-  pub first : Parts L D
-  pub starts : List model.Actor
-  pub begins : StandsWith opened script archive followers run first starts
-  pub last : Parts L D
-  pub ends : EndsAs log_seen data_seen run turns.seed turns.max first starts driven.ended last actors
-  pub asked : AskToEnd log_seen log_gives data_seen data_gives run turns.seed turns.max first starts driven.ended last actors ends
-  pub log : driven.closed.log ≡ last.log
-  pub data_part : driven.closed.store ≡ last.store
-  -- the marks and the code are those of the words at the end, and the history lists the groups of the actors
-  pub marks : driven.closed.marks ≡ marks_in last.words.words
-  pub code : driven.closed.code ≡ slice_index last.words.words (index word.Failed)
-  pub history : ListsInOrder driven.closed.marks actors driven.closed.history
-  -- where the log ran alone, without archiver and followers, turns that were spent are fewer than the greatest number that may be
-  -- asked for
-  pub few : (spent user : ℕ) → driven.ended ≡ Spent spent user → turns.log_only ≡ true → archive ≡ false → followers ≡ 0
-      → spent < MAX_TURNS
+-- the turns of a seed, at most so many, led from the first state to the last, where the run ended so
+abbrev pub EndsAs : {D : LogSide} {E : DataSide} (store : TurnStore D E) (seed max : ℕ) → store.State → RunEnd
+    → store.State → Type 0
+EndsAs store seed max first ran.Done last = IsDone store seed max first last
+EndsAs store seed max first (ran.Spent turns user) last = (turns ≡ max) × IsSpent store seed max user first last
+
+-- NOTHING IS DONE YET: the words are those with which a run begins, the actors of the script are new and in their
+-- seats, both parts are those that were opened, and no page is listed.
+pub record NothingIsDone {L D : Type 0} (log_seen : L → Seen) (data_seen : D → Seen) (opened : Opened L D)
+    (script : List ScriptLine) (log_only archive : Bool) (followers : ℕ)
+    (store : Core (turn_log_side log_seen) (turn_data_side data_seen)) : Type 0 where
+  pub words : store.words ≡ flat (first_words opened.start opened.pages)
+  pub actors : store.actors ≡ seated_actors opened.shape script opened.start log_only archive followers
+  pub log : store.log_part ≡ opened.log
+  pub data_part : store.data_part ≡ opened.store
+  pub lists : (i : ℕ) → ◌≡◌ {A = List Listed} (store.lists i) []
+
+module _ {L D : Type 0} (log_seen : L → Seen) (log_gives : L → Call → L → Type 0) (data_seen : D → Seen)
+    (data_gives : D → Call → D → Type 0) where
+  -- The store of a run by turns, whose users write for themselves or don't. In each turn both devices were asked for
+  -- what the Op of the one at the seat asks of them, all of it or up to an error, and for nothing else.
+  abbrev pub turn_store : (own_writes : Bool) → TurnStore (turn_log_side log_seen) (turn_data_side data_seen)
+  turn_store false = actor_store (turn_log_side log_seen) (turn_data_side data_seen)
+      (AskAt (turn_log_side log_seen) (turn_data_side data_seen) (AskOfParts log_gives data_gives))
+  turn_store true = own_store (turn_log_side log_seen) (turn_data_side data_seen)
+      (AskOrGo (turn_log_side log_seen) (turn_data_side data_seen) (AskOfParts log_gives data_gives))
+
+  module _ (own_writes : Bool) where
+    abbrev store : TurnStore (turn_log_side log_seen) (turn_data_side data_seen)
+    store = turn_store own_writes
+
+    -- THE TURNS. The run of the script on the opened store, with an archiver or without, and with so many followers,
+    -- began with nothing done. The turns of the seed led from there to its end, at which the actors are these, and both
+    -- parts those of the closed run.
+    pub record RunsByTurns (opened : Opened L D) (script : List ScriptLine) (turns : Turns) (archive : Bool)
+        (followers : ℕ) (actors : List model.Actor) (driven : Driven L D) : Type 0 where
+      pub first : store.State
+      pub begins : NothingIsDone log_seen data_seen opened script turns.log_only archive followers (store.core first)
+      pub is_new : store.IsNew first
+      pub last : store.State
+      pub actors_are : ◌≡◌ {A = List model.Actor} actors (store.core last).actors
+      pub ends : EndsAs store turns.seed turns.max first driven.ended last
+      pub log : driven.closed.log ≡ (store.core last).log_part
+      pub data_part : driven.closed.store ≡ (store.core last).data_part
+      -- the marks and the code are those of the words at the end, and the history lists the groups of the actors
+      pub marks : driven.closed.marks ≡ marks_in (store.core last).words
+      pub code : driven.closed.code ≡ slice_index (store.core last).words (index word.Failed)
+      pub history : ListsInOrder driven.closed.marks actors driven.closed.history
+      -- where the log ran alone, without archiver and followers, and no user wrote for itself, turns that were spent
+      -- are fewer than the greatest number that may be asked for
+      pub few : own_writes ≡ false → (spent user : ℕ) → driven.ended ≡ ran.Spent spent user → turns.log_only ≡ true
+          → archive ≡ false → followers ≡ 0 → spent < MAX_TURNS

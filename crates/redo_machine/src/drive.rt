@@ -1,5 +1,5 @@
 // The drive by turns.
-ghost use Rattle.std.specs.Prelude.{◌≡◌, IfErr, IfOk, IfSome, is_some, length};
+ghost use Rattle.std.specs.Prelude.{◌≡◌, IfErr, IfOk, IfSome, false, is_some, length};
 ghost use Rattle.redo_drive.specs.Archived.{HaveArchived};
 ghost use Rattle.redo_drive.specs.Startable.{AreNewFollowers, IsNewArchive, MayBegin};
 ghost use Rattle.redo_drive.specs.Drive.{Owes};
@@ -44,7 +44,7 @@ pub fn run_by_turns<L: Sectors, D: Sectors, A: Sectors, R: Receiver + Drop>(
     requires new { AreNewFollowers opened.start followers.items }
     ensures err { IfErr result (λ error. (error.1 ≡ opened.log.dev) × (error.2 ≡ opened.store.dev) × (error.3 ≡ archive)) }
     ensures owed { IfOk result (λ left. Owes L.seen L.gives D.seen D.gives opened script.now left.0) }
-    ensures turns { IfOk result (λ left. RunsByTurns L.seen L.gives D.seen D.gives opened script.now turns.now (is_some archive) (length followers.items) (views_of left.1.items) left.0) }
+    ensures turns { IfOk result (λ left. RunsByTurns L.seen L.gives D.seen D.gives false opened script.now turns.now (is_some archive) (length followers.items) (views_of left.1.items) left.0) }
     ensures followed { IfOk result (λ left. HaveFollowed L.seen D.seen R.stands_for opened script.now followers.items left.1.items left.0.closed) }
     ensures archived { IfOk result (λ left. HaveArchived L.seen D.seen A.seen opened script.now left.0.closed (views_of left.1.items) archive left.2) }
 {

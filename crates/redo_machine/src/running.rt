@@ -8,7 +8,7 @@ ghost use Rattle.redo_drive.specs.Running.{RunsWith};
 ghost use Rattle.redo_drive.specs.Views.{views_of};
 ghost use Rattle.redo_drive.specs.declared.actor.Actor.{Actor as TheActor};
 ghost use Rattle.redo_machine.specs.Appending.{ComesFrom, IsOnRun};
-ghost use Rattle.redo_machine.specs.Turns.{EndsAsking, IsDrawn};
+ghost use Rattle.redo_machine.specs.Turns.{RunEndsAs, IsDrawn};
 
 use crate::machine::Machine;
 use crate::open_users::{open_seat, open_user};
@@ -40,7 +40,7 @@ impl<L: Sectors, D: Sectors, A: Sectors, R: Receiver> Machine<L, D, A, R> {
             → ComesFrom L.seen D.seen A.seen R.stands_for run archive starts before self.old
             → ComesFrom L.seen D.seen A.seen R.stands_for run archive starts before self.new }
         ensures ends { (run : RunOf L D) (archive : Bool) → RunsWith L.seen D.seen run archive self.old.parts (views_of self.old.actors.items)
-            → EndsAsking L.seen L.gives D.seen D.gives run seed max self.old.parts (views_of self.old.actors.items) result self.new.parts (views_of self.new.actors.items) }
+            → RunEndsAs L.seen L.gives D.seen D.gives run seed max self.old.parts (views_of self.old.actors.items) result self.new.parts (views_of self.new.actors.items) }
         ensures calls { CallOnBoth L.gives D.gives self.old.parts self.new.parts }
         ensures entries { self.new.entries ≡ self.old.entries }
     {

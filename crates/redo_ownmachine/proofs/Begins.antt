@@ -1,5 +1,5 @@
 -- A run whose users write for themselves begins as any run does.
-use Rattle.std.proofs.Common.{Bool, List, [], ap, append_assoc, arith, false, length, map, subst, suc, sym, true}
+use Rattle.std.proofs.Common.{Bool, List, [], ap, append_assoc, arith, false, length, map, refl, subst, suc, sym, true}
 use Rattle.std.proofs.Common.{zero, ℕ, ◌++◌, ◌+◌, ◌<◌, ◌∙◌, ◌∷◌, ◌≡◌, ◌≤◌}
 use Rattle.std.specs.Prelude.{IfSome}
 use Rattle.model_base.specs.declared.limits.TheConstants.{LSN_LIMIT}
@@ -70,6 +70,11 @@ module _ {L D R : Type 0} {archive : Bool} (log_seen : L → Seen) (data_seen : 
   pages_other : (b : Bool) → AreOtherViews (pages b)
   pages_other true = readers_other opened.start archive (length followers)
   pages_other false = (tt, (tt, (tt, readers_other opened.start archive (length followers))))
+
+  -- the log alone has no actors of pages
+  no_pages : (b : Bool) → ◌≡◌ {A = List model.Actor} (pages b) [] → b ≡ true
+  no_pages true none = refl
+  no_pages false none = absurd (cc)
 
   abbrev users : List UserState
   users = users_of opened.shape c.log_only script
@@ -145,20 +150,15 @@ module _ {L D R : Type 0} {archive : Bool} (log_seen : L → Seen) (data_seen : 
           (own_core_of log_seen data_seen run start.parts seats) own_start).errands;
     }
 
-    -- with one user, the log alone, and no archiver or follower
-    module _ (apart : archive ≡ false) (only : log_only ≡ true) (none : length followers ≡ 0) (o : OwnUser) (one : us ≡ o ∷ []) where
-      log_only_is : c.log_only ≡ true
-      log_only_is = begins.is_run.log_only_is ∙ only
-
+    -- with one user and no other actor
+    module _ (o : OwnUser) (one : us ≡ o ∷ []) (no_others : ◌≡◌ {A = List model.Actor} (views_of os) []) where
       in_order : (k.writer ≡ writer) × ◌≡◌ {A = List model.Actor} (model.Flusher k.flusher ∷ views_of os)
           (model.Flusher flusher ∷ pages c.log_only)
       in_order = same_rest us users k.writer writer (model.Flusher k.flusher ∷ views_of os)
           (model.Flusher flusher ∷ pages c.log_only) (sym views ∙ views_are)
 
-      no_others : ◌≡◌ {A = List model.Actor} (views_of os) []
-      no_others = ap tail_of in_order.1 ∙ ap pages log_only_is
-          ∙ ap (λ (b : Bool). readers_of opened.start b (length followers)) apart
-          ∙ ap (λ (n : ℕ). followers_from opened.start FIRST_FOLLOWER n) none
+      log_only_is : c.log_only ≡ true
+      log_only_is = no_pages c.log_only (sym (ap tail_of in_order.1) ∙ no_others)
 
       its_blocks : c.blocks ≡ (run_layout opened.shape).blocks
       its_blocks = sym (ap (λ (w : LogWork). w.writer.blocks) work_is) ∙ ap (λ (w : WriterState). w.blocks) in_order.0
@@ -185,7 +185,8 @@ module _ {L D R : Type 0} {archive : Bool} (log_seen : L → Seen) (data_seen : 
           let place = begins.is_run.start in
           let blocks = its_blocks in
           let fits = subst (λ (b : Bool). IfSome (room_from b opened.shape opened.start)
-          (λ end. script_end opened.shape opened.start script + MARGIN ≤ end)) only may.fits.room in
+          (λ end. script_end opened.shape opened.start script + MARGIN ≤ end))
+          (sym begins.is_run.log_only_is ∙ log_only_is) may.fits.room in
           omega arith)
 
 -- So the machine stands at the beginning of the run.
@@ -208,8 +209,7 @@ module _ {L D A R : Type 0} {archive : Bool} (log_seen : L → Seen) (data_seen 
     runs = subst (λ (p : Parts L D). OwnRunsWith log_seen data_seen begins.run archive p (seats_of m)) (sym parts)
         (runs log_seen data_seen stands opened script log_only followers start begins may m.users.items m.work
         m.others.items are home);
-    alone = λ only apart none o one. subst (λ (p : Parts L D). OwnAlone log_seen data_seen begins.run p (seats_of m))
-        (sym parts)
+    alone = λ o one none. subst (λ (p : Parts L D). OwnAlone log_seen data_seen begins.run p (seats_of m)) (sym parts)
         (alone log_seen data_seen stands opened script log_only followers start begins may m.users.items m.work
-        m.others.items are home apart only none o one);
+        m.others.items are home o one none);
   }

@@ -6,6 +6,7 @@ pub mod Grows
 pub mod OpenLoop
 pub mod OpenSeats
 pub mod OtherBeside
+pub mod OwnThin
 pub mod Places
 pub mod Plays
 pub mod Putting

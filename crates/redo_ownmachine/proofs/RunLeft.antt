@@ -1,17 +1,19 @@
 -- What a run by turns leaves whose users write for themselves, and so what it comes to.
-use Rattle.std.proofs.Common.{Bool, List, Option, ap, is_some, length, slice_index, subst, suc, sym, zero, ⊎_elim, ℕ, ◌∙◌, ◌≡◌}
+use Rattle.std.proofs.Common.{Bool, List, Option, ap, is_some, length, refl, slice_index, subst, suc, sym, true, zero}
+use Rattle.std.proofs.Common.{⊎_elim, ℕ, ◌∙◌, ◌≡◌}
 use lib.ListN.{get_elem?}
 use Rattle.model_base.specs.declared.shape.Shape.{Shape}
 use Rattle.model_core.specs.{filled, Given, index, lent, lsn, next}
 use Rattle.model_core.specs.Actors as model
 use Rattle.model_core.specs.declared.words.Word.TheVariants as word
-use Rattle.model_own.specs.OwnTurn.{OwnCore, OwnTurn}
+use Rattle.model_core.specs.declared.ops.Step.{Step}
+use Rattle.model_own.specs.OwnTurn.{OwnCore, OwnTurn, with_writer}
 use Rattle.model_own.specs.OwnWrites.{own_lends, own_next}
-use Rattle.model_ownrun.proofs.OwnRuns.{never_idle}
-use Rattle.model_ownrun.specs.OwnRuns.{TakesOwnTurns}
+use Rattle.model_ownrun.proofs.OwnRuns.{AloneFrom, never_idle}
+use Rattle.model_ownrun.specs.OwnRuns.{own_store}
 use Rattle.model_running.proofs.OpenLines as open_lines
 use Rattle.model_running.proofs.Seated.{seated_seats}
-use Rattle.model_running.specs.{HaveEnded, history_of, LeavesOpen, marks_in, word_marks}
+use Rattle.model_running.specs.{HaveEnded, history_of, LeavesOpen, marks_in, TakesTurns, TurnStore, word_marks}
 use Rattle.model_report.specs.declared.entry.Entry.{Entry}
 use Rattle.model_script.specs.declared.script.ScriptLine.{ScriptLine}
 use Rattle.redo_archive.specs.Part.{Part}
@@ -39,17 +41,19 @@ use Rattle.redo_drive.specs.declared.parts.Parts.{Parts}
 use Rattle.redo_follow.specs.Handing.{Following}
 use Rattle.redo_logdev.specs.Part as log
 use Rattle.redo_machine.proofs.ArchiveEnds.{have_archived, loses_by}
+use Rattle.redo_machine.proofs.EndsAs.{ends_as, turns_taken}
 use Rattle.redo_machine.specs.Appending.{lost_by}
+use Rattle.redo_machine.specs.ByTurns.{EndsAs, NothingIsDone, RunsByTurns, turn_store}
 use Rattle.redo_machine.specs.declared.drive.Turns.{Turns}
+use Rattle.redo_ownmachine.proofs.OwnThin.{own_thin, own_turn_thin}
 use Rattle.redo_ownmachine.proofs.Places.{crew_views}
 use Rattle.redo_ownmachine.proofs.Serves.{its_data_laws, its_log_laws}
 use Rattle.redo_ownmachine.specs.OwnBegins.{OwnBeginsRun}
-use Rattle.redo_ownmachine.specs.OwnByTurns.{OwnRunsByTurns}
 use Rattle.redo_ownmachine.specs.OwnCrew.{crew_of, seats_of}
-use Rattle.redo_ownmachine.specs.OwnSeats.{OwnSeats, actors_of}
-use Rattle.redo_ownmachine.specs.OwnAsking.{own_core_of}
-use Rattle.redo_ownmachine.specs.OwnStore.{OwnAlone, OwnComesFrom}
-use Rattle.redo_ownmachine.specs.OwnTurns.{NoneWaits, OwnEndsAs, OwnEndsAsking}
+use Rattle.redo_ownmachine.specs.OwnSeats.{actors_of}
+use Rattle.redo_ownmachine.specs.OwnAsking.{AskInRun, own_core_of}
+use Rattle.redo_ownmachine.specs.OwnStore.{OwnComesFrom}
+use Rattle.redo_ownmachine.specs.OwnTurns.{OwnRunEndsAs, own_run_store}
 use Rattle.redo_ownmachine.specs.declared.machine.OwnMachine.{OwnMachine}
 use Rattle.redo_store.specs.Part as store
 use Rattle.redo_store.specs.declared.opened.Opened.{Opened}
@@ -68,44 +72,17 @@ module _ {L D : Type 0} (log_seen : L → Seen) (data_seen : D → Seen) (run : 
       (log_part.HasBegun log_seen (lsn run.setup.base) run.first_log) old.log_part new.log_part o.turn.code
       (lent (filled o.turn.who o.turn.filling)) (next o.turn.who) o.turn.log_served) t
 
-  turns_shape : (seed max n : ℕ)
+  turns_shape : (Tells : OwnCore (run_log_side log_seen data_seen run) (run_data_side log_seen data_seen run) → ℕ → Step
+      → OwnCore (run_log_side log_seen data_seen run) (run_data_side log_seen data_seen run) → Type 0) (seed max n : ℕ)
       (first last : OwnCore (run_log_side log_seen data_seen run) (run_data_side log_seen data_seen run))
-      → TakesOwnTurns (run_log_side log_seen data_seen run) (run_data_side log_seen data_seen run) seed max n first last
-      → ◌≡◌ {A = Shape} last.log_part.shape first.log_part.shape
-  turns_shape seed max zero first last same =
+      → TakesTurns (own_store (run_log_side log_seen data_seen run) (run_data_side log_seen data_seen run) Tells) seed max
+      n first last → ◌≡◌ {A = Shape} last.log_part.shape first.log_part.shape
+  turns_shape Tells seed max zero first last same =
       ap (λ (s : OwnCore (run_log_side log_seen data_seen run) (run_data_side log_seen data_seen run)). s.log_part.shape)
       same
-  turns_shape seed max (suc n) first last r =
-      turn_shape r.before last _ r.answer r.step r.turn ∙ turns_shape seed max n first r.before r.earlier
-
-  -- However a run ended, turns led there.
-  run_shape : (seed max : ℕ) (first : Parts L D) (starts : OwnSeats) (how : RunEnd) (last : Parts L D)
-      (after : OwnSeats) (log_gives : L → Call → L → Type 0) (data_gives : D → Call → D → Type 0)
-      → OwnEndsAs log_seen log_gives data_seen data_gives run seed max first starts how last after
-      → ◌≡◌ {A = Shape} last.log.shape first.log.shape
-  run_shape seed max first starts ended.Done last after log_gives data_gives ends =
-      turns_shape seed max ends.count (own_core_of log_seen data_seen run first starts)
-      (own_core_of log_seen data_seen run last after) ends.turns
-  run_shape seed max first starts (ended.Spent count user) last after log_gives data_gives ends =
-      turns_shape seed max max (own_core_of log_seen data_seen run first starts)
-      (own_core_of log_seen data_seen run last after) ends.1.turns
-
-  -- where one user is alone none of them was idle
-  none_waits : (seed max : ℕ) (first : Parts L D) (starts : OwnSeats) (how : RunEnd) (last : Parts L D)
-      (after : OwnSeats) (log_gives : L → Call → L → Type 0) (data_gives : D → Call → D → Type 0)
-      (ends : OwnEndsAs log_seen log_gives data_seen data_gives run seed max first starts how last after)
-      → OwnAlone log_seen data_seen run first starts
-      → NoneWaits log_seen log_gives data_seen data_gives run seed max first starts how last after ends
-  none_waits seed max first starts ended.Done last after log_gives data_gives ends alone =
-      (never_idle (run_log_side log_seen data_seen run) (its_log_laws log_seen data_seen run)
-      (run_data_side log_seen data_seen run) (its_data_laws log_seen data_seen run) run.setup seed max ends.count
-      (own_core_of log_seen data_seen run first starts) (own_core_of log_seen data_seen run last after) alone
-      ends.turns).1
-  none_waits seed max first starts (ended.Spent count user) last after log_gives data_gives ends alone =
-      (never_idle (run_log_side log_seen data_seen run) (its_log_laws log_seen data_seen run)
-      (run_data_side log_seen data_seen run) (its_data_laws log_seen data_seen run) run.setup seed max max
-      (own_core_of log_seen data_seen run first starts) (own_core_of log_seen data_seen run last after) alone
-      ends.1.turns).1
+  turns_shape Tells seed max (suc n) first last r =
+      turn_shape r.before last _ r.turn.answer r.step r.turn.turn
+      ∙ turns_shape Tells seed max n first r.before r.earlier
 
 -- The machine began the run of the script on the store, and the turns of the seed led from there to its end, at which the
 -- invariant holds, with what the followers' receivers have got and with the archive, and of which the closed run tells.
@@ -120,7 +97,7 @@ pub record OwnTurnsLead {L D A R : Type 0} (log_seen : L → Seen) (log_gives : 
   pub comes : OwnComesFrom log_seen data_seen arch_seen stands start.begins.run (is_some before) start.start.actors.items
       before last
   pub lost : driven.closed.lost ≡ lost_by last.archive
-  pub ends : OwnEndsAsking log_seen log_gives data_seen data_gives start.begins.run turns.seed turns.max first.parts
+  pub ends : OwnRunEndsAs log_seen log_gives data_seen data_gives start.begins.run turns.seed turns.max first.parts
       (seats_of first) driven.ended last.parts (seats_of last)
   pub calls : CallOnBoth log_gives data_gives first.parts last.parts
   pub log : driven.closed.log ≡ last.parts.log
@@ -161,30 +138,59 @@ module _ {L D A R : Type 0} (log_seen : L → Seen) (log_gives : L → Call → 
       (subst (λ (l : List model.Actor). StandsWith opened script (is_some before) (length followers) run
       by.start.start.parts l) starts_views by.start.begins.stands)
 
+  abbrev in_run : TurnStore (run_log_side log_seen data_seen run) (run_data_side log_seen data_seen run)
+  in_run = own_run_store log_seen log_gives data_seen data_gives run
+
+  abbrev first : OwnCore (run_log_side log_seen data_seen run) (run_data_side log_seen data_seen run)
+  first = own_core_of log_seen data_seen run by.first.parts (seats_of by.first)
+
+  abbrev last : OwnCore (run_log_side log_seen data_seen run) (run_data_side log_seen data_seen run)
+  last = own_core_of log_seen data_seen run by.last.parts (seats_of by.last)
+
+  -- nothing was done yet
+  begins : NothingIsDone log_seen data_seen opened script turns.log_only (is_some before) (length followers)
+      (with_writer (own_thin log_seen data_seen run first))
+  begins = let stood = begins_at in record {
+    words = ap (λ (p : Parts L D). p.words.words) by.start.parts ∙ by.start.begins.words;
+    actors = stood.are_new
+        ∙ ap (λ (b : Bool). seated_actors opened.shape script opened.start b (is_some before) (length followers))
+        by.start.begins.is_run.log_only_is;
+    log = stood.log;
+    data_part = stood.data_part;
+    lists = stood.none_listed;
+  }
+
   -- so the run is by turns
-  pub by_turns : OwnRunsByTurns log_seen log_gives data_seen data_gives opened script turns (is_some before)
+  pub by_turns : RunsByTurns log_seen log_gives data_seen data_gives true opened script turns (is_some before)
       (length followers) (views_of actors) driven
   by_turns = record {
-    run = run;
-    is_run = by.start.begins.is_run;
-    first = by.first.parts;
-    starts = seats_of by.first;
-    begins = begins_at;
-    at_home = by.start.at_home;
-    last = by.last.parts;
-    after = seats_of by.last;
+    first = own_thin log_seen data_seen run first;
+    begins = begins;
+    is_new = by.start.at_home;
+    last = own_thin log_seen data_seen run last;
     actors_are = ap views_of by.actors_are ∙ ending_views;
-    ends = by.ends.ends;
-    asked = by.ends.asked;
+    ends = ends_as in_run (turn_store log_seen log_gives data_seen data_gives true) (own_thin log_seen data_seen run)
+        (AloneFrom (run_log_side log_seen data_seen run) (its_log_laws log_seen data_seen run)
+        (run_data_side log_seen data_seen run) (its_data_laws log_seen data_seen run) run.setup 0)
+        (λ s. refl) (λ s. refl)
+        (λ old new seat how alone t.
+        let law = never_idle (run_log_side log_seen data_seen run) (its_log_laws log_seen data_seen run)
+        (run_data_side log_seen data_seen run) (its_data_laws log_seen data_seen run) run.setup 0 old new seat t.answer
+        how alone t.turn in (
+          record {
+            answer = t.answer;
+            turn = own_turn_thin log_seen data_seen run old new seat t.answer how t.turn;
+            told = record { asked = record { user = t.told.user; other = t.told.other }; alone = law.0 };
+          },
+          law.1,
+        )) turns.seed turns.max first by.start.alone driven.ended last by.ends;
     log = by.log;
     data_part = by.data_part;
     marks = by.marks;
     code = by.code;
     history = subst (λ (l : List (Actor R)). ListsInOrder driven.closed.marks (views_of l) driven.closed.history)
         (sym by.actors_are) by.listed;
-    alone = λ only apart none user one. none_waits log_seen data_seen run turns.seed turns.max by.first.parts
-        (seats_of by.first) driven.ended by.last.parts (seats_of by.last) log_gives data_gives by.ends.ends
-        (by.start.alone only apart none user one);
+    few = λ not. absurd (cc);
   }
 
   log_is : ◌≡◌ {A = log.Part L} by.first.parts.log opened.log
@@ -205,8 +211,10 @@ module _ {L D A R : Type 0} (log_seen : L → Seen) (log_gives : L → Call → 
         by.last.parts.log.failed) log_is by.calls.log;
     data_calls = subst (λ (z : store.Part D). CallsOn data_gives z.dev z.failed by.last.parts.store.dev
         by.last.parts.store.failed) data_is by.calls.data_part;
-    log_shape = run_shape log_seen data_seen run turns.seed turns.max by.first.parts (seats_of by.first) driven.ended
-        by.last.parts (seats_of by.last) log_gives data_gives by.ends.ends
+    log_shape =
+        let taken = turns_taken in_run turns.seed turns.max first driven.ended last by.ends in
+        turns_shape log_seen data_seen run (AskInRun log_seen log_gives data_seen data_gives run) turns.seed turns.max
+        taken.0 first last taken.1
         ∙ ap (λ (z : log.Part L). z.shape) log_is;
     log = by.log;
     data_part = by.data_part;
@@ -218,17 +226,16 @@ module _ {L D A R : Type 0} (log_seen : L → Seen) (log_gives : L → Call → 
   }
 
   abbrev Ends : RunEnd → Type 0
-  Ends how = OwnEndsAs log_seen log_gives data_seen data_gives run turns.seed turns.max by.first.parts
-      (seats_of by.first) how by.last.parts (seats_of by.last)
+  Ends how = EndsAs in_run turns.seed turns.max first how last
 
   have_ended : driven.ended ≡ ended.Done → HaveEnded (views_of ending)
-  have_ended done = subst HaveEnded (sym ending_views) (subst Ends done by.ends.ends).ended
+  have_ended done = subst HaveEnded (sym ending_views) (subst Ends done by.ends).ended
 
   leaves_open : (count user : ℕ) → driven.ended ≡ ended.Spent count user
       → LeavesOpen script driven.closed.history (HasMetError driven.closed) user
   unfolding leaves
   leaves_open count user spent =
-      let end = (subst Ends spent by.ends.ends).1 in
+      let end = (subst Ends spent by.ends).1 in
       let c = run.setup in let g = by.comes.from.runs.running.log_ghost in let m = by.comes.from.runs.running.shared in
       subst (λ (z : List Entry). LeavesOpen script z (HasMetError driven.closed) user) (sym by.history)
       (open_lines.leaves_open (run_log_side log_seen data_seen run) c m g by.last.parts.log (views_of ending)

@@ -1,20 +1,19 @@
 -- A run by turns whose users write for themselves, up to one of them.
-use Rattle.std.proofs.Common.{Bool, List, Option, [], add-one, ap, arith, length, refl, subst, suc, sym, ℕ, ◌+◌, ◌<◌}
+use Rattle.std.proofs.Common.{Bool, List, Option, [], ap, arith, length, refl, subst, sym, ℕ, ◌+◌, ◌<◌}
 use Rattle.std.proofs.Common.{◌∙◌, ◌∷◌, ◌≡◌, ◌≤◌}
 use mathlib.Core.Option.{some-ne-none}
 use Rattle.model_own.specs.OwnWrites.{OwnUser}
 use Rattle.model_core.specs.{Given}
 use Rattle.model_core.specs.declared.ops.Step.{Step}
-use Rattle.model_own.specs.OwnTurn.{OwnCore}
-use Rattle.model_ownrun.specs.OwnRuns.{LastOwnTurn, TakesOwnTurns}
-use Rattle.model_running.specs.{seat_of_turn}
+use Rattle.model_running.proofs.TurnsAs.{one_more}
+use Rattle.model_running.specs.{TakesTurns, seat_of_turn}
 use Rattle.model_script.specs.{first_state}
 use Rattle.redo_archive.specs.Part.{Part}
 use Rattle.redo_disk.specs.{Call}
 use Rattle.redo_disk.specs.Seen.{Seen}
 use Rattle.redo_drive.proofs.Viewed.{length_views}
 use Rattle.redo_drive.specs.Calls.{CallOnBoth}
-use Rattle.redo_drive.specs.Playing.{RunOf, run_data_side, run_log_side}
+use Rattle.redo_drive.specs.Playing.{RunOf}
 use Rattle.redo_drive.specs.Views.{views_of}
 use Rattle.redo_drive.specs.declared.actor.Actor.{Actor}
 use Rattle.redo_drive.specs.declared.drive.RunEnd.TheVariants as ran
@@ -26,23 +25,17 @@ use Rattle.redo_ownmachine.specs.OwnCrew.{HasSameSeats, seats_of}
 use Rattle.redo_ownmachine.specs.OwnSeats.{actors_of}
 use Rattle.redo_ownmachine.specs.OwnAsking.{own_core_of}
 use Rattle.redo_ownmachine.specs.OwnStore.{OwnComesFrom, OwnIsOnRun, OwnRunsWith, TakesOwnTurn}
-use Rattle.redo_ownmachine.specs.OwnTurns.{AskInOwnTurns, OwnEndsAsking}
+use Rattle.redo_ownmachine.specs.OwnTurns.{OwnRunEndsAs, own_run_store}
 use Rattle.redo_ownmachine.specs.declared.machine.OwnMachine.{OwnMachine}
 
 module _ {L D : Type 0} (log_seen : L → Seen) (log_gives : L → Call → L → Type 0) (data_seen : D → Seen)
     (data_gives : D → Call → D → Type 0) where
-  -- so many turns lead from the first state to the last, with what each asked of both devices
-  pub record OwnTurnsAsk (run : RunOf L D) (seed max n : ℕ)
-      (first last : OwnCore (run_log_side log_seen data_seen run) (run_data_side log_seen data_seen run)) : Type 0 where
-    pub turns : TakesOwnTurns (run_log_side log_seen data_seen run) (run_data_side log_seen data_seen run) seed max n
-        first last
-    pub asked : AskInOwnTurns log_seen log_gives data_seen data_gives run seed max n first last turns
-
   -- so many turns of a run lead from the first machine to this one
   pub record OwnGoesOn {A R : Type 0} (run : RunOf L D) (archive : Bool) (seed max turn : ℕ) (first now : OwnMachine L D A R)
       : Type 0 where
     pub runs : OwnRunsWith log_seen data_seen run archive now.parts (seats_of now)
-    pub taken : OwnTurnsAsk run seed max turn (own_core_of log_seen data_seen run first.parts (seats_of first))
+    pub taken : TakesTurns (own_run_store log_seen log_gives data_seen data_gives run) seed max turn
+        (own_core_of log_seen data_seen run first.parts (seats_of first))
         (own_core_of log_seen data_seen run now.parts (seats_of now))
 
   module _ {A : Type 0} (arch_seen : A → Seen) where
@@ -77,20 +70,6 @@ no_changes a b c one two = record {
   room = two.room ∙ one.room;
 }
 
-module _ {L D : Type 0} (log_seen : L → Seen) (log_gives : L → Call → L → Type 0) (data_seen : D → Seen)
-    (data_gives : D → Call → D → Type 0) (seed max : ℕ) where
-  -- so many turns, and one more
-  one_more : (run : RunOf L D) (n : ℕ)
-      (first last : OwnCore (run_log_side log_seen data_seen run) (run_data_side log_seen data_seen run))
-      (t : LastOwnTurn (run_log_side log_seen data_seen run) (run_data_side log_seen data_seen run) seed max
-      (TakesOwnTurns (run_log_side log_seen data_seen run) (run_data_side log_seen data_seen run) seed max n first) n
-      last)
-      → AskInOwnTurns log_seen log_gives data_seen data_gives run seed max (suc n) first last t
-      → OwnTurnsAsk log_seen log_gives data_seen data_gives run seed max (n + 1) first last
-  one_more run n first last t asked =
-      subst (λ (k : ℕ). OwnTurnsAsk log_seen log_gives data_seen data_gives run seed max k first last)
-      (sym (add-one n)) (record { turns = t; asked = asked })
-
 module _ {L D A R : Type 0} (log_seen : L → Seen) (log_gives : L → Call → L → Type 0) (data_seen : D → Seen)
     (data_gives : D → Call → D → Type 0) (arch_seen : A → Seen) (seed max : ℕ) where
   -- a run before its first turn
@@ -102,7 +81,7 @@ module _ {L D A R : Type 0} (log_seen : L → Seen) (log_gives : L → Call → 
     drawn = λ _. refl;
     count = count;
     on_run = on;
-    goes = λ run archive R. record { runs = R; taken = record { turns = refl; asked = tt } };
+    goes = λ run archive R. record { runs = R; taken = refl };
   }
 
   -- one turn more, of the seat whose turn it is
@@ -132,18 +111,17 @@ module _ {L D A R : Type 0} (log_seen : L → Seen) (log_gives : L → Call → 
         (seats_of old) s step new.parts (seats_of new)) its_seat taken in
         record {
           runs = (keeps run archive before.runs).1;
-          taken = one_more log_seen log_gives data_seen data_gives seed max run turn
+          taken = one_more (own_run_store log_seen log_gives data_seen data_gives run) seed max turn
               (own_core_of log_seen data_seen run first.parts (seats_of first))
               (own_core_of log_seen data_seen run new.parts (seats_of new))
               (record {
                 before = own_core_of log_seen data_seen run old.parts (seats_of old);
-                earlier = before.taken.turns;
+                earlier = before.taken;
                 open_user = λ ended.
                     open_user (users_ended old.users.items old.work (views_of old.others.items) ended);
-                answer = moved.answer;
                 step = step;
-                turn = moved.turn;
-              }) (moved.asked, before.taken.asked);
+                turn = record { answer = moved.answer; turn = moved.turn; told = moved.asked };
+              });
         };
   }
 
@@ -152,18 +130,15 @@ module _ {L D A R : Type 0} (log_seen : L → Seen) (log_gives : L → Call → 
       → InOwnRun log_seen log_gives data_seen data_gives arch_seen seed max turn draws seats first last → turn ≤ max
       → UsersHaveEnded last.users.items → (run : RunOf L D) (archive : Bool)
       → OwnRunsWith log_seen data_seen run archive first.parts (seats_of first)
-      → OwnEndsAsking log_seen log_gives data_seen data_gives run seed max first.parts (seats_of first) ran.Done
+      → OwnRunEndsAs log_seen log_gives data_seen data_gives run seed max first.parts (seats_of first) ran.Done
       last.parts (seats_of last)
   ends_done turn draws seats first last I within ended run archive R =
-      let goes = I.goes run archive R in record {
-        ends = record {
-          count = turn;
-          within = within;
-          turns = goes.taken.turns;
-          ended = all_ended run.setup last.users.items last.work (views_of last.others.items) goes.runs.runs.seated
-              ended;
-        };
-        asked = goes.taken.asked;
+      let goes = I.goes run archive R in
+      record {
+        count = turn;
+        within = within;
+        turns = goes.taken;
+        ended = all_ended run.setup last.users.items last.work (views_of last.others.items) goes.runs.runs.seated ended;
       }
 
   -- a run whose turns are spent
@@ -171,29 +146,26 @@ module _ {L D A R : Type 0} (log_seen : L → Seen) (log_gives : L → Call → 
       → InOwnRun log_seen log_gives data_seen data_gives arch_seen seed max turn draws seats first last → turn ≡ max
       → IsFirstOpenUser last.users.items user → (run : RunOf L D) (archive : Bool)
       → OwnRunsWith log_seen data_seen run archive first.parts (seats_of first)
-      → OwnEndsAsking log_seen log_gives data_seen data_gives run seed max first.parts (seats_of first)
+      → OwnRunEndsAs log_seen log_gives data_seen data_gives run seed max first.parts (seats_of first)
       (ran.Spent max user) last.parts (seats_of last)
   ends_spent turn draws seats user first last I all open_user run archive R =
       let goes = I.goes run archive R in
       let seated = goes.runs.runs.seated in
-      let found = first_open run.setup last.users.items last.work (views_of last.others.items) seated user open_user in
-      let taken = subst (λ (n : ℕ). OwnTurnsAsk log_seen log_gives data_seen data_gives run seed max n
-      (own_core_of log_seen data_seen run first.parts (seats_of first))
-      (own_core_of log_seen data_seen run last.parts (seats_of last))) all goes.taken in record {
-        ends = (
-          refl,
-          record {
-            turns = taken.turns;
-            seat = found.seat;
-            state = found.state;
-            is = found.is;
-            number = found.open_user.number;
-            not_ended = found.open_user.not_ended;
-            least = first_is_least run.setup (actors_of (seats_of last)) seated user found;
-          },
-        );
-        asked = taken.asked;
-      }
+      let found = first_open run.setup last.users.items last.work (views_of last.others.items) seated user open_user
+      in (
+        refl,
+        record {
+          turns = subst (λ (n : ℕ). TakesTurns (own_run_store log_seen log_gives data_seen data_gives run) seed max n
+              (own_core_of log_seen data_seen run first.parts (seats_of first))
+              (own_core_of log_seen data_seen run last.parts (seats_of last))) all goes.taken;
+          seat = found.seat;
+          state = found.state;
+          is = found.is;
+          number = found.open_user.number;
+          not_ended = found.open_user.not_ended;
+          least = first_is_least run.setup (actors_of (seats_of last)) seated user found;
+        },
+      )
 
 -- where a user hasn't ended there is a seat
 pub some_seat : {R : Type 0} (users : List OwnUser) (others : List (Actor R)) (seats : ℕ)

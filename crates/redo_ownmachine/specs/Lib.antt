@@ -1,7 +1,6 @@
 pub mod OpenOwn
 pub mod OwnAsking
 pub mod OwnBegins
-pub mod OwnByTurns
 pub mod OwnCrew
 pub mod OwnSeats
 pub mod OwnStore

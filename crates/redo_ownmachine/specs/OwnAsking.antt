@@ -1,11 +1,8 @@
 -- What a turn of a store whose users write for themselves asks of both devices, over its parts and seats.
-use Rattle.std.specs.Prelude.{length, ℕ, ◌+◌, ◌≡◌, ◌≤◌}
-use lib.ListN.{get_elem?}
-use mathlib.Core.Option.{some}
-use Rattle.model_core.specs.Actors as model
-use Rattle.model_core.specs.{lent, next}
-use Rattle.model_own.specs.OwnTurn.{OwnCore, with_writer}
-use Rattle.model_own.specs.OwnWrites.{OwnUser, own_lends, own_next}
+use Rattle.std.specs.Prelude.{ℕ}
+use Rattle.model_core.specs.declared.ops.Step.{Step}
+use Rattle.model_own.specs.OwnTurn.{OwnCore}
+use Rattle.model_ownrun.specs.OwnRuns.{AskAtSeat}
 use Rattle.redo_disk.specs.{Call}
 use Rattle.redo_disk.specs.Seen.{Seen}
 use Rattle.redo_drive.specs.Asking.{AskOfParts}
@@ -27,14 +24,10 @@ own_core_of log_seen data_seen run parts seats = record {
   others = seats.others;
 }
 
--- Both devices were asked for what the Op of the one at the seat asks of them, or up to an error, and for nothing else:
--- of a user by its own Op or that of its errand, of another actor by its own.
-pub record AskAtSeat {L D : Type 0} (log_seen : L → Seen) (log_gives : L → Call → L → Type 0) (data_seen : D → Seen)
+-- Both devices were asked for what the Op of the one at the seat asks of them, or up to an error, and for nothing else.
+abbrev pub AskInRun : {L D : Type 0} (log_seen : L → Seen) (log_gives : L → Call → L → Type 0) (data_seen : D → Seen)
     (data_gives : D → Call → D → Type 0) (run : RunOf L D)
-    (old new : OwnCore (run_log_side log_seen data_seen run) (run_data_side log_seen data_seen run)) (seat : ℕ)
-    : Type 0 where
-  pub user : (who : OwnUser) → get_elem? old.users seat ≡ some who → AskOfParts log_gives data_gives
-      (own_lends who old.work) (own_next who old.work) old.log_part new.log_part old.data_part new.data_part
-  pub other : (who : model.Actor) → length old.users ≤ seat
-      → get_elem? (with_writer old).actors (seat + 2) ≡ some who → AskOfParts log_gives data_gives (lent who)
-      (next who) old.log_part new.log_part old.data_part new.data_part
+    → OwnCore (run_log_side log_seen data_seen run) (run_data_side log_seen data_seen run) → ℕ → Step
+    → OwnCore (run_log_side log_seen data_seen run) (run_data_side log_seen data_seen run) → Type 0
+AskInRun log_seen log_gives data_seen data_gives run = AskAtSeat (run_log_side log_seen data_seen run)
+    (run_data_side log_seen data_seen run) (AskOfParts log_gives data_gives)

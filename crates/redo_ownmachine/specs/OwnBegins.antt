@@ -1,10 +1,12 @@
 -- A run whose users write for themselves, at its beginning.
-use Rattle.std.specs.Prelude.{Bool, List, [], false, length, true, ◌∷◌, ◌≡◌}
+use Rattle.std.specs.Prelude.{Bool, List, [], ◌∷◌, ◌≡◌}
 use Rattle.model_core.specs.{Given}
+use Rattle.model_core.specs.Actors as model
 use Rattle.model_own.specs.OwnWrites.{OwnUser}
 use Rattle.model_script.specs.declared.script.ScriptLine.{ScriptLine}
 use Rattle.redo_disk.specs.Seen.{Seen}
 use Rattle.redo_drive.specs.Begins.{BeginsWith}
+use Rattle.redo_drive.specs.Views.{views_of}
 use Rattle.redo_drive.specs.declared.making.Beginning.{Beginning}
 use Rattle.redo_follow.specs.Handing.{Following}
 use Rattle.redo_ownmachine.specs.OwnCrew.{HasRoom, crew_of, seats_of}
@@ -26,6 +28,7 @@ pub record OwnBeginsRun {L D A R : Type 0} (log_seen : L → Seen) (data_seen : 
   pub at_home : AreAtHome machine.users.items
   pub has_room : HasRoom machine
   pub runs : OwnRunsWith log_seen data_seen begins.run archive machine.parts (seats_of machine)
-  -- a lone user that has the log for itself
-  pub alone : log_only ≡ true → archive ≡ false → length followers ≡ 0 → (user : OwnUser)
-      → machine.users.items ≡ user ∷ [] → OwnAlone log_seen data_seen begins.run machine.parts (seats_of machine)
+  -- a user with no other actor, so that it has the log for itself
+  pub alone : (user : OwnUser) → machine.users.items ≡ user ∷ []
+      → ◌≡◌ {A = List model.Actor} (views_of machine.others.items) []
+      → OwnAlone log_seen data_seen begins.run machine.parts (seats_of machine)

@@ -17,7 +17,7 @@ use Rattle.redo_drive.specs.Views.{views_of}
 use Rattle.redo_drive.specs.declared.actor.Actor.{Actor}
 use Rattle.redo_drive.specs.declared.parts.Parts.{Parts}
 use Rattle.redo_machine.specs.Appending.{AreNumbered}
-use Rattle.redo_ownmachine.specs.OwnAsking.{AskAtSeat, own_core_of}
+use Rattle.redo_ownmachine.specs.OwnAsking.{AskInRun, own_core_of}
 use Rattle.redo_ownmachine.specs.OwnCrew.{crew_of, seats_of}
 use Rattle.redo_ownmachine.specs.OwnSeats.{OwnSeats, actors_of}
 use Rattle.redo_ownmachine.specs.declared.machine.OwnMachine.{OwnMachine}
@@ -60,5 +60,5 @@ module _ {L D : Type 0} (log_seen : L → Seen) (log_gives : L → Call → L �
     pub answer : Answer
     pub turn : OwnTurn (run_log_side log_seen data_seen run) (run_data_side log_seen data_seen run)
         (own_core_of log_seen data_seen run old seats) seat answer step (own_core_of log_seen data_seen run new after)
-    pub asked : AskAtSeat log_seen log_gives data_seen data_gives run (own_core_of log_seen data_seen run old seats)
-        (own_core_of log_seen data_seen run new after) seat
+    pub asked : AskInRun log_seen log_gives data_seen data_gives run (own_core_of log_seen data_seen run old seats) seat
+        step (own_core_of log_seen data_seen run new after)

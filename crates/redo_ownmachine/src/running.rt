@@ -6,7 +6,7 @@ ghost use Rattle.redo_drive.specs.Playing.{RunOf};
 ghost use Rattle.redo_drive.specs.declared.actor.Actor.{Actor as TheActor};
 ghost use Rattle.redo_ownmachine.specs.OwnCrew.{HasSameSeats, seats_of};
 ghost use Rattle.redo_ownmachine.specs.OwnStore.{OwnComesFrom, OwnIsOnRun, OwnRunsWith};
-ghost use Rattle.redo_ownmachine.specs.OwnTurns.{OwnEndsAsking};
+ghost use Rattle.redo_ownmachine.specs.OwnTurns.{OwnRunEndsAs};
 
 use crate::machine::OwnMachine;
 use crate::open_users::{open_seat, open_user};
@@ -25,7 +25,7 @@ impl<L: Sectors, D: Sectors, A: Sectors, R: Receiver> OwnMachine<L, D, A, R> {
             → OwnComesFrom L.seen D.seen A.seen R.stands_for run archive starts before self.old
             → OwnComesFrom L.seen D.seen A.seen R.stands_for run archive starts before self.new }
         ensures ends { (run : RunOf L D) (archive : Bool) → OwnRunsWith L.seen D.seen run archive self.old.parts (seats_of self.old)
-            → OwnEndsAsking L.seen L.gives D.seen D.gives run seed max self.old.parts (seats_of self.old) result self.new.parts (seats_of self.new) }
+            → OwnRunEndsAs L.seen L.gives D.seen D.gives run seed max self.old.parts (seats_of self.old) result self.new.parts (seats_of self.new) }
         ensures calls { CallOnBoth L.gives D.gives self.old.parts self.new.parts }
         ensures seats { HasSameSeats self.old self.new }
     {

@@ -4,7 +4,7 @@ use Rattle.model_base.proofs.ShapeLimits.{whole_sectors}
 use Rattle.model_core.specs.{word_count}
 use Rattle.model_page.specs.{blank_page}
 use Rattle.redo_drive.proofs.StartWordsPages.{opened_pages-bytes, user_at}
-use Rattle.redo_drive.proofs.StartWordsStore.{set_all, set_more, set_none}
+use Rattle.redo_drive.proofs.StartWordsStore.{set_all, set_first, set_more, set_none}
 use Rattle.redo_drive.proofs.StartWordsZero.{zero_named}
 use Rattle.redo_drive.proofs.start_words.start_words.Goals as goal
 
@@ -28,6 +28,10 @@ loop-page-preserved c =
 
 pub returns-clause-bytes : goal.returns-clause-bytes
 returns-clause-bytes c = opened_pages-bytes c.args.shape.now c.args.pages.now (λ p there. c.loop-page.invariant.bytes p (omega arith) there)
+
+pub returns-clause-first : goal.returns-clause-first
+returns-clause-first c = set_first c.args.shape.now c.args.start c.args.pages.now c.loop-page.words c.loop-page.page
+    c.loop-page.invariant (omega arith)
 
 pub returns-clause-starts : goal.returns-clause-starts
 returns-clause-starts c = λ run on. set_all c.args.shape.now c.args.start c.args.pages.now run c.requires.limits c.requires.its_pages c.requires.place on c.loop-page.words c.loop-page.page c.loop-page.invariant (omega arith)

@@ -1,5 +1,5 @@
 -- The machine begins the run, its turns lead to the end, and what `finish` tells of that end is what the run comes to.
-use Rattle.std.proofs.Common.{Global, List, Option, Vec, arith, is_some, length, refl, rules, subst, sym, vec_capacity, ◌≤◌}
+use Rattle.std.proofs.Common.{Global, List, Option, Vec, arith, false, is_some, length, refl, rules, subst, sym, vec_capacity, ◌≤◌}
 use Rattle.model_report.specs.declared.entry.Entry.{Entry}
 use Rattle.redo_archive.specs.Part.{Part}
 use Rattle.redo_drive.proofs.LogCount.{log_within_script}
@@ -65,8 +65,7 @@ leads g c =
       from = end.from;
       come = end.come;
       lost = c.finish-closed.ensures.kept.2;
-      ends = E.ends;
-      asked = E.asked;
+      ends = E;
       calls = c.run-ended.ensures.calls;
       log = c.finish-closed.ensures.parts.0;
       data_part = c.finish-closed.ensures.parts.1;
@@ -92,7 +91,7 @@ returns-clause-turns g c =
     let driven : Driven g.row.L.Denot g.row.D.Denot =
     record { ended = c.run-ended.result; closed = c.finish-closed.result.0 } in
     subst (λ (actors : List (Actor g.row.R.Denot)). RunsByTurns g.L.Sectors.seen g.L.Sectors.gives g.D.Sectors.seen
-    g.D.Sectors.gives c.args.opened c.args.script.now c.args.turns.now (is_some c.args.archive)
+    g.D.Sectors.gives false c.args.opened c.args.script.now c.args.turns.now (is_some c.args.archive)
     (length c.args.followers.items) (views_of actors) driven) (sym c.finish-closed.ensures.kept.0)
     (by_turns g.L.Sectors.seen g.L.Sectors.gives g.D.Sectors.seen g.D.Sectors.gives g.A.Sectors.seen
     g.R.Receiver.stands_for c.args.opened c.args.script.now
