@@ -25,8 +25,6 @@ pub wrapped : {S : Type 0} (wrap : S → model.Actor) (b : Bool) (x y : S)
 wrapped wrap true x y = refl
 wrapped wrap false x y = refl
 
-module _ {R : Type 0} (stands : R → List Given → Type 0) where
-
 -- a follower keeps its number
 number_checked : (r : ReaderState) (n : ℕ) → (checked_of reader_program r n).number ≡ r.number
 number_checked r n = by (eqb n 0)
