@@ -35,5 +35,6 @@ finish-requires-clause-rest g c = subst (λ (l : List (Player Kept)). AllAtRest 
     c.see_rest.ensures
 
 pub finish-requires-clause-lost : goal.finish-requires-clause-lost
-finish-requires-clause-lost g c = subst (λ (b : Bool). TellsLoss b (views_of (map actor_of c.play_all.new.players.items)) None)
+finish-requires-clause-lost g c = subst (λ (b : Bool). TellsLoss b (views_of
+    (map actor_of c.play_all.new.players.items)) None)
     (sym c.in_ok-shared.ensures.apart) refl
