@@ -11,7 +11,8 @@ use Rattle.redo_rule.specs.declared.law.Slot.{Slot}
 use Rattle.redo_rule.specs.declared.law.View.{View}
 
 -- the user asks for the Op in its seat at this table
-pub record OwnMayPlay {L D : Type 0} (table : TableId) (place : Seat (Slot L D) (View L D)) (o : OwnUser) (a : Op) : Type 0 where
+pub record OwnMayPlay {L D : Type 0} (table : TableId) (place : Seat (Slot L D) (View L D)) (o : OwnUser)
+    (a : Op) : Type 0 where
   pub seat : IsOwnSeat table place o
   pub asks : OwnAsks place.me.0 o a
 

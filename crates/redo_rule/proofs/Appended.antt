@@ -21,7 +21,8 @@ module _ {L D R : Type 0} {table : TableId} {seat : Seat (Slot L D) (View L D)} 
     (was : IsSeatOf table seat (view_of old)) (log_seen : L → Seen) (data_seen : D → Seen)
     (stands : R → List Given → Type 0) (after : Seat (Slot L D) (View L D)) (new : Actor R) (step : Step)
     (asks : Appends (view_of old)) (met : Option DevError) (n : ℕ)
-    (made : (after.table_id ≡ seat.table_id) × (after.id ≡ seat.id) × appended log_seen data_seen met seat.me n after.me)
+    (made : (after.table_id ≡ seat.table_id) × (after.id ≡ seat.id)
+    × appended log_seen data_seen met seat.me n after.me)
     (h : HasTaken stands old (append_answer met) step new) where
   pub its : Steps log_seen data_seen stands table seat old step after new
   its = append_leaves old was log_seen data_seen stands after made.0 made.1 new step asks met n made.2 h

@@ -68,7 +68,12 @@ module _ {L D R : Type 0} {table : TableId} {seat : Seat (Slot L D) (View L D)} 
 
   pub reach_ok : (log_seen : L → Seen) (log_gives : L → Call → L → Type 0) (data_seen : D → Seen) (data_gives : D → Call → D → Type 0) (about : About L D)
       → (seat.table_id ≡ table) × (0 < table.words) × Allows (Ruled log_seen log_gives data_seen data_gives about) table.slots seat.id seat.me 0 (λ n. n) (reached seat.me)
-  reach_ok log_seen log_gives data_seen data_gives about = (was.mine.of, (let w = was.mine.words in omega arith), allows_reach log_seen log_gives data_seen data_gives about table.slots seat.id seat.me was.mine.who was.mine.one was.mine.plain 0 d has)
+  reach_ok log_seen log_gives data_seen data_gives about = (
+    was.mine.of,
+    (let w = was.mine.words in omega arith),
+    allows_reach log_seen log_gives data_seen data_gives about
+        table.slots seat.id seat.me was.mine.who was.mine.one was.mine.plain 0 d has,
+  )
 
   none : seat.me.1 ≡ []
   none = let g = stepping.goes was.mine op.WriteBatch is no_filling in subst (λ (h : Option ℕ). Carries h
@@ -87,7 +92,14 @@ module _ {L D R : Type 0} {table : TableId} {seat : Seat (Slot L D) (View L D)} 
 
     -- its slot can be lent
     pub lends_part : (out.table_id ≡ table) × ((y : Slot L D) × (out.me.1 ≡ (5, y) ∷ rest out.me.1))
-    lends_part = (made.0 ∙ was.mine.of, (slot.Data d, carries_part ∙ ap (λ (z : List (ℕ × Slot L D)). (5, slot.Data d) ∷ rest z) (sym carries_part)))
+    lends_part = (
+      made.0 ∙ was.mine.of,
+      (
+        slot.Data d,
+        carries_part ∙ ap (λ (z : List (ℕ × Slot L D)).
+            (5, slot.Data d) ∷ rest z) (sym carries_part),
+      ),
+    )
 
     module _ (y : Slot L D) (here : out.me.1 ≡ (5, y) ∷ rest out.me.1) where
       pub is_data : ◌≡◌ {A = Slot L D} y (slot.Data d)
@@ -108,7 +120,8 @@ module _ {L D R : Type 0} {table : TableId} {seat : Seat (Slot L D) (View L D)} 
 
         whole : HasWholePages p.shape op.WriteBatch (lent a)
         whole = subst (λ (o : Op). HasWholePages p.shape o (lent a)) is
-            (subst (λ (w : store.Part D). HasWholePages w.shape (next a) (lent a)) (sym had) (was.mine.may.whole (record { part = d; out = false }) has))
+            (subst (λ (w : store.Part D). HasWholePages w.shape (next a) (lent a)) (sym had) (was.mine.may.whole
+            (record { part = d; out = false }) has))
 
         may_p : (l : Lent) → Lends l (lent a) → MayBatchLent p l
         may_p l lends = subst (λ (w : store.Part D). MayBatchLent w l) (sym had) (may_batch l lends)
@@ -128,15 +141,25 @@ module _ {L D R : Type 0} {table : TableId} {seat : Seat (Slot L D) (View L D)} 
             tt)))
             (served (data_seen run.first_data.dev).faults run.shape run.setup.opened run.first_data (lent a) lends
             whole)) in
-            let one : out.me.0.seats ≡ was.mine.who ∷ [] = ap (λ (m : Me (Slot L D) (View L D)). m.0.seats) out_is ∙ was.mine.one in
-            let keeps : out.me.0.data_part ≡ Some (record { part = p; out = true }) = ap (λ (m : Me (Slot L D) (View L D)). m.0.data_part) out_is ∙ ap (λ (w : store.Part D). Some (record { part = w; out = true })) (sym had) in (
+            let one : out.me.0.seats ≡ was.mine.who ∷ [] = ap (λ (m : Me (Slot L D) (View L D)). m.0.seats) out_is
+            ∙ was.mine.one in
+            let keeps : out.me.0.data_part ≡ Some (record { part = p; out = true }) = ap (λ (m : Me (Slot L D)
+            (View L D)). m.0.data_part) out_is ∙ ap (λ (w : store.Part D). Some (record { part = w; out = true }))
+            (sym had) in (
               made.0 ∙ was.mine.of,
               (let w = was.mine.words in omega arith),
-              allows_batched log_seen log_gives data_seen data_gives about table.slots out.id (out.me.0, (5, z) ∷ rest out.me.1) was.mine.who one was.mine.plain 0 p e asks free keeps bare done calls (live_of p l (may_p l lends)),
+              allows_batched log_seen log_gives data_seen data_gives about table.slots out.id (
+                out.me.0,
+                (5, z) ∷ rest out.me.1,
+              ) was.mine.who one was.mine.plain 0 p e asks free keeps bare done calls
+                  (live_of p l (may_p l lends)),
             )
 
         module _ (log_seen : L → Seen) (data_seen : D → Seen) (after : Seat (Slot L D) (View L D)) (m : ℕ)
-            (back : (after.table_id ≡ out.table_id) × (after.id ≡ out.id) × batched log_seen data_seen (out.me.0, (5, z) ∷ rest out.me.1) m after.me)
+            (back : (after.table_id ≡ out.table_id) × (after.id ≡ out.id) × batched log_seen data_seen (
+              out.me.0,
+              (5, z) ∷ rest out.me.1,
+            ) m after.me)
             (r : Answer) (r_is : r ≡ call_answer Data e.failed 0) where
           stepped : Stepped log_seen data_seen was.mine.who no_filling r out.me.0.held (Some (record {
             part = e;
@@ -167,7 +190,8 @@ module _ {L D R : Type 0} {table : TableId} {seat : Seat (Slot L D) (View L D)} 
                 let pages : out.me.0.pages ≡ seat.me.0.pages = ap (λ (w : Me (Slot L D) (View L D)). w.0.pages) out_is
                 in
                 leaves table log_seen data_seen stands out was.mine.who old new step no_filling r out.me.0.held
-                (Some (record { part = e; out = false })) (rest out.me.1) ((5, z) ∷ rest out.me.1) after.me was.mine.slots
+                (Some (record { part = e; out = false })) (rest out.me.1)
+                ((5, z) ∷ rest out.me.1) after.me was.mine.slots
                 (was.mine.words ∙ ap word_count (sym pages)) one was.mine.state was.mine.plain stepped
                 (took_plain stands r step new no_filling old op.WriteBatch is tt was.mine.may.free h) after
                 (back.0 ∙ made.0 ∙ was.mine.of) (ap (λ (w : Me (Slot L D) (View L D)). w.0) stepped.is)
@@ -182,7 +206,8 @@ module _ {L D R : Type 0} {table : TableId} {seat : Seat (Slot L D) (View L D)} 
               seat = left.seat;
               same = still (subst (λ (w : Me (Slot L D) (View L D)). IsSameSeat stands w.0 old after.me.0 new) out_is
                   left.same);
-              played = turn (subst (λ (w : Me (Slot L D) (View L D)). HasPlayed log_seen data_seen w.0 (view_of old) step
+              played = turn (subst (λ (w : Me (Slot L D) (View L D)). HasPlayed log_seen data_seen w.0
+                  (view_of old) step
                   (view_of new)) out_is left.played);
             }
               where

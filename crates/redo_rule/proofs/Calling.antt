@@ -139,7 +139,8 @@ module _ {L D R : Type 0} {table : TableId} {seat : Seat (Slot L D) (View L D)} 
           (made : (after.table_id ≡ seat.table_id) × (after.id ≡ seat.id) × called log_seen data_seen having n after.me)
           (r : Answer) (r_is : r ≡ call_answer Log (error_of ended) (told_by o q.part.marks.stable)) where
         answers : r ≡ call_answer Log q.part.failed (told_by o q.part.marks.stable)
-        answers = r_is ∙ ap (λ (met : Option DevError). call_answer Log met (told_by o q.part.marks.stable)) (sym e.told)
+        answers = r_is ∙ ap (λ (met : Option DevError). call_answer Log met (told_by o q.part.marks.stable))
+            (sym e.told)
 
         stepped : Stepped log_seen data_seen mine.who f r (Some (slot.Log q)) seat.me.0.data_part
             ((0, z) ∷ rest seat.me.1) having after.me

@@ -244,7 +244,8 @@ module _ {L D R : Type 0} {table : TableId} {seat : Seat (Slot L D) (View L D)} 
   pub give_list_fits : (i : ℕ) → next (view_of old) ≡ op.GiveList i → (n : ℕ) → gave log_seen data_seen seat.me n
       after.me
       → AnswerFits (view_of old) (answer.Taken None) × MarkFits (view_of old) (answer.Taken None)
-  give_list_fits i is n told = may_take log_seen data_seen was.mine.who (view_of old) no_filling (answer.Taken None) None
+  give_list_fits i is n told = may_take log_seen data_seen was.mine.who (view_of old) no_filling
+      (answer.Taken None) None
       seat.me.0.data_part (rest seat.me.1) seat.me after.me was.mine.state (gave_list_steps i is n told)
 
 -- WHAT EACH STEP LEAVES of the seat and its actor
@@ -274,7 +275,8 @@ module _ {L D R : Type 0} {table : TableId} {seat : Seat (Slot L D) (View L D)} 
 
   pub held_leaves : (o : Op) → next (view_of old) ≡ o → IsPlainOp o → hand (view_of old) ≡ None
       → hand (took (filled (view_of old) no_filling) answer.Held) ≡ None
-      → Stepped log_seen data_seen was.mine.who no_filling answer.Held seat.me.0.held seat.me.0.data_part seat.me.1 seat.me
+      → Stepped log_seen data_seen was.mine.who no_filling answer.Held seat.me.0.held seat.me.0.data_part seat.me.1
+      seat.me
       after.me
       → HasTaken stands old answer.Held step new → HasPlayedOp log_seen data_seen stands table seat old step after new
   held_leaves o is plain before behind stepped h = (step_leaves no_filling answer.Held seat.me.0.held seat.me.1 stepped

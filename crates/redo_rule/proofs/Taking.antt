@@ -61,7 +61,8 @@ module _ {L D : Type 0} {table : TableId} {seat : Seat (Slot L D) (View L D)} {a
 
 module _ {L D R : Type 0} {table : TableId} {seat : Seat (Slot L D) (View L D)} (old : Actor R)
     (was : IsSeatOf table seat (view_of old)) (free : hand (view_of old) ≡ None) (log_seen : L → Seen)
-    (data_seen : D → Seen) (stands : R → List Given → Type 0) (after : Seat (Slot L D) (View L D)) (same : after.table_id ≡ seat.table_id)
+    (data_seen : D → Seen) (stands : R → List Given → Type 0) (after : Seat (Slot L D) (View L D))
+    (same : after.table_id ≡ seat.table_id)
     (id : after.id ≡ seat.id) (k : ℕ)
     (x z : Slot L D) (r : Answer) (new : Actor R) (step : Step)
     (stepped : Stepped log_seen data_seen was.mine.who no_filling r (Some z) seat.me.0.data_part ((k, x) ∷ seat.me.1)
@@ -254,7 +255,8 @@ module _ {L D R : Type 0} {table : TableId} {seat : Seat (Slot L D) (View L D)} 
         pub log_leaves : (stands : R → List Given → Type 0) (step : Step) (new : Actor R)
             → HasTaken stands old r step new
             → HasPlayedOp log_seen data_seen stands table seat old step (seat_with after 0 y) new
-        log_leaves stands step new h = taken_leaves old may.seat its_hands.0 log_seen data_seen stands after made.0 made.1
+        log_leaves stands step new h = taken_leaves old may.seat its_hands.0 log_seen data_seen stands after made.0
+            made.1
             0 (slot.Log desk) (slot.Log desk) told new step desk_found.1 y log_is 0
             (taking_holds sits may.asks (is_some desk.part.failed)) (carries_log desk) op.TakeDevice may.asks tt r
             (r_is desk log_is) h

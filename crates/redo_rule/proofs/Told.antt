@@ -16,7 +16,8 @@ module _ {L D R : Type 0} (log_seen : L → Seen) (data_seen : D → Seen) (stan
     log_only) where
   pub about_begins : (start : Beginning L D R)
       → BeginsWith log_seen data_seen stands opened script log_only about.archive followers start
-      → BeginsWith log_seen data_seen stands about.opened.value about.script.value about.log_only about.archive followers
+      → BeginsWith log_seen data_seen stands about.opened.value about.script.value about.log_only about.archive
+      followers
       start
   about_begins start B = subst (λ (o : Opened L D). BeginsWith log_seen data_seen stands o about.script.value
       about.log_only about.archive followers start) (sym opened_is)
@@ -26,4 +27,5 @@ module _ {L D R : Type 0} (log_seen : L → Seen) (data_seen : D → Seen) (stan
 
   pub about_may : MayBegin opened script log_only → MayBegin about.opened.value about.script.value about.log_only
   about_may M = subst (λ (o : Opened L D). MayBegin o about.script.value about.log_only) (sym opened_is)
-      (subst (λ (s : List ScriptLine). MayBegin opened s about.log_only) (sym script_is) (subst (λ (b : Bool). MayBegin opened script b) (sym only_is) M))
+      (subst (λ (s : List ScriptLine). MayBegin opened s about.log_only) (sym script_is) (subst (λ
+      (b : Bool). MayBegin opened script b) (sym only_is) M))

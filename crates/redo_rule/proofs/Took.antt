@@ -162,12 +162,14 @@ pub record Steps {L D R : Type 0} (log_seen : L → Seen) (data_seen : D → See
 
 module _ {L D R : Type 0} (table : TableId) (log_seen : L → Seen) (data_seen : D → Seen)
     (stands : R → List Given → Type 0) (seat : Seat (Slot L D) (View L D)) (x : Numbered) (old new : Actor R)
-    (step : Step) (f : Filling) (r : Answer) (held : Option (Slot L D)) (stored : Option (Keeping D)) (carried had : List (ℕ × Slot L D))
+    (step : Step) (f : Filling) (r : Answer) (held : Option (Slot L D)) (stored : Option (Keeping D))
+    (carried had : List (ℕ × Slot L D))
     (m' : Me (Slot L D) (View L D)) (slots : table.slots ≡ 6) (words : table.words ≡ word_count seat.me.0.pages)
     (one : seat.me.0.seats ≡ x ∷ []) (state : x.actor ≡ view_of old)
     (plain : ◌≡◌ {A = Option Errand} x.errand None)
     (stepped : Stepped log_seen data_seen x f r held stored carried (seat.me.0, had) m')
-    (t : TookWith stands f old r step new) (last : Seat (Slot L D) (View L D)) (of : last.table_id ≡ table) (view : last.me.0 ≡ view_behind seat.me.0 x f r held
+    (t : TookWith stands f old r step new) (last : Seat (Slot L D) (View L D)) (of : last.table_id ≡ table)
+    (view : last.me.0 ≡ view_behind seat.me.0 x f r held
     stored)
     (carries : Carries (hand (took (filled (view_of old) f) r)) last.me) where
   then : took (filled x.actor f) r ≡ view_of new

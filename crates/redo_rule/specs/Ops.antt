@@ -15,7 +15,8 @@ use Rattle.redo_rule.specs.declared.law.Slot.{Slot}
 use Rattle.redo_rule.specs.declared.law.View.{View}
 
 -- the actor asks for the Op in its seat at this table
-pub record MayPlay {L D : Type 0} (table : TableId) (place : Seat (Slot L D) (View L D)) (a : model.Actor) (o : Op) : Type 0 where
+pub record MayPlay {L D : Type 0} (table : TableId) (place : Seat (Slot L D) (View L D)) (a : model.Actor)
+    (o : Op) : Type 0 where
   pub seat : IsSeatOf table place a
   pub asks : next a ≡ o
 

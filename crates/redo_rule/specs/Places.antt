@@ -1,4 +1,5 @@
--- Where the table has what: the slots in a row are the log part's, those of the flush lists, and the data part's, and all but the
+-- Where the table has what: the slots in a row are the log part's, those of the flush lists, and the data part's, and
+-- all but the
 -- last have a turn word.
 use Rattle.std.specs.Prelude.{ℕ, ◌+◌, ◌<◌}
 use Rattle.redo_rule.specs.declared.law.TheConstants.{DATA_SLOT, LOG_TURN}

@@ -116,7 +116,8 @@ module _ {L D : Type 0} where
   -- what an actor may do next, with what its seat has
   pub record MayGo (pages : ℕ) (held : Option (Slot L D)) (stored : Option (Keeping D)) (a : model.Actor) : Type 0 where
     pub there : OpWords pages (next a)
-    pub log : (desk : Desk L) → held ≡ Some (slot.Log desk) → hand a ≡ Some LOG_SLOT → (l : Lent) → Lends l (lent a) → LogReady desk.part l (next a)
+    pub log : (desk : Desk L) → held ≡ Some (slot.Log desk) → hand a ≡ Some LOG_SLOT → (l : Lent) → Lends l
+        (lent a) → LogReady desk.part l (next a)
     pub data_part : (d : Keeping D) → stored ≡ Some d → (l : Lent) → Lends l (lent a) → DataReady d.part l (next a)
     pub whole : (d : Keeping D) → stored ≡ Some d → HasWholePages d.part.shape (next a) (lent a)
     pub free : IsFreeToCheck a
@@ -128,7 +129,8 @@ module _ {L D : Type 0} where
   -- a seat carries the slot that its actor holds
   abbrev pub Carries : Option ℕ → Me (Slot L D) (View L D) → Type 0
   Carries None me = me.1 ≡ []
-  Carries (Some zero) me = (desk : Desk L) × (me.1 ≡ (LOG_SLOT, slot.Log desk) ∷ []) × (me.0.held ≡ Some (slot.Log desk))
+  Carries (Some zero) me = (desk : Desk L) × (me.1 ≡ (LOG_SLOT, slot.Log desk) ∷ []) × (me.0.held ≡ Some
+      (slot.Log desk))
   Carries (Some (suc i)) me = (l : Listing) × (me.1 ≡ (suc i, slot.Pages l) ∷ []) × (me.0.held ≡ Some (slot.Pages l))
 
   -- the data part is taken out of its slot, and nothing else changes
@@ -176,7 +178,8 @@ module _ {L D : Type 0} (log_seen : L → Seen) (data_seen : D → Seen) where
   abbrev pub seized : Me (Slot L D) (View L D) → ℕ → Me (Slot L D) (View L D) → Type 0
   seized m n m' = (x : Numbered) → m.0.seats ≡ x ∷ []
       → (n ≡ 0 → (desk : Desk L)
-      × Stepped x no_filling (taking (is_some desk.part.failed)) (Some (slot.Log desk)) m.0.data_part ((LOG_SLOT, slot.Log desk) ∷ m.1) m m')
+      × Stepped x no_filling (taking (is_some desk.part.failed)) (Some (slot.Log desk)) m.0.data_part
+      ((LOG_SLOT, slot.Log desk) ∷ m.1) m m')
       × (n ≢ 0 → Stepped x no_filling answer.Held m.0.held m.0.data_part m.1 m m')
 
   -- the taking of a flush list, whose call is to follow

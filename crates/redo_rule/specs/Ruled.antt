@@ -136,7 +136,8 @@ pub record Ruled {L D : Type 0} (log_seen : L → Seen) (log_gives : L → Call 
   pub log_shape : parts.log.shape ≡ about.opened.value.log.shape
   -- what isn't held is at home
   pub slots : length s.homes ≡ SLOTS
-  pub home : (k : ℕ) → HasTurn k → slice_index s.words (turn_word k) ≡ 0 → get_elem? s.homes k ≡ some (some (slot_content parts beside k))
+  pub home : (k : ℕ) → HasTurn k → slice_index s.words (turn_word k) ≡ 0 → get_elem? s.homes k ≡ some (some
+      (slot_content parts beside k))
   -- who gives the log part back after a failed call has a code that the part has, in a user's hand also
   pub told : (n : ℕ) (a : model.Actor) (code : ℕ) → get_elem? actors n ≡ some a → GivesFailed a code
       → (run_log_side log_seen data_seen run).Cause parts.log code

@@ -1,8 +1,11 @@
-//! The table of a run that is driven by threads: its words, both device parts and the flush lists, which its actors share without
+//! The table of a run that is driven by threads: its words, both device parts and the flush lists, which its actors
+//! share without
 //! a lock.
 //!
-//! `lay_out` and `make_board` lay all that into a table, `cut_off` gives an actor a seat, `play` plays one Op of an actor on the
-//! table, `take_in` takes its seat in again, and `close_table` closes the table once no actor holds anything. The rule of the table
+//! `lay_out` and `make_board` lay all that into a table, `cut_off` gives an actor a seat, `play` plays one Op of an
+//! actor on the
+//! table, `take_in` takes its seat in again, and `close_table` closes the table once no actor holds anything. The
+//! rule of the table
 //! is the invariant of the running store, and holds between any two steps of any threads.
 #![tactic(auto)]
 

@@ -17,12 +17,14 @@ AllMayRest {R} players = (i : ℕ) (p : Player R) → get_elem? players i ≡ so
 
 module _ {L D R : Type 0} where
   -- these are seats of these players, none of which writes for itself, one of each, in their order
-  pub record ArePlaying (table : TableId) (seats : List (Seat (Slot L D) (View L D))) (players : List (Player R)) : Type 0 where
+  pub record ArePlaying (table : TableId) (seats : List (Seat (Slot L D) (View L D))) (players : List
+      (Player R)) : Type 0 where
     pub seats : AreSeatsOf table false seats players
     pub plain : ArePlain players
 
   -- each player of the store has its seat, none writes for itself, and there is no archive
-  pub record IsPlaying (shared : Shared L D R) (seats : List (Seat (Slot L D) (View L D))) (players : List (Player R)) : Type 0 where
+  pub record IsPlaying (shared : Shared L D R) (seats : List (Seat (Slot L D) (View L D))) (players : List
+      (Player R)) : Type 0 where
     pub seated : IsSeated shared
     pub own : own_of shared ≡ false
     pub plays : ArePlaying (table_of shared) seats players

@@ -18,7 +18,8 @@ pub struct Playing {
     pub players: Vec<Player<Tally>>,
 }
 
-/// The store on which the run of a script may begin, none of whose players has a seat yet. Each is an actor by its own program.
+/// The store on which the run of a script may begin, none of whose players has a seat yet. Each is an actor by its
+/// own program.
 fn shared_of(
     alloc: Global,
     ready: Ready,

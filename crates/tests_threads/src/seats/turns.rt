@@ -25,7 +25,8 @@ use std::test::Fail;
 pub struct Run<'a> {
     pub text: &'a str,
     pub way: Way,
-    /// The turns that come first, as `SEAT COUNT LAST, ..`: so many turns of the player at a seat, and how the last of them ends.
+    /// The turns that come first, as `SEAT COUNT LAST, ..`: so many turns of the player at a seat, and how the last
+    /// of them ends.
     /// Each one before it moves the player on.
     pub turns: &'a str,
     /// How many rounds come then. In a round each player goes on until it doesn't move, the first one last.
@@ -73,7 +74,8 @@ fn turn_at<L: Sectors, D: Sectors>(
     turn(table, &mut seats[seat], &mut players[seat])
 }
 
-/// Gives the player at a seat turns until one doesn't move it on, at most so many. Answers how many, and how the last ends.
+/// Gives the player at a seat turns until one doesn't move it on, at most so many. Answers how many, and how the last
+/// ends.
 fn take_turns<L: Sectors, D: Sectors>(
     table: &Ring<L, D>,
     seats: &mut Vec<Seat<L, D>>,
@@ -125,7 +127,8 @@ fn step_of(name: &str) -> Option<Step> {
     }
 }
 
-/// The seat of a row, how many turns it has, and how the last of them ends. No player is at the seat of a row that can't be read.
+/// The seat of a row, how many turns it has, and how the last of them ends. No player is at the seat of a row that
+/// can't be read.
 fn turns_of(row: &str) -> (usize, u64, Option<Step>) {
     let (seat, rest) = row.split_once(' ').unwrap_or(("", row));
     let (count, last) = rest.split_once(' ').unwrap_or(("", rest));

@@ -12,7 +12,7 @@ pub saw-requires : goal.saw-requires
 saw-requires g c = (
   c.args.token.now.me.0,
   sees c.requires.seat.mine g.L.Sectors.seen g.D.Sectors.seen c.fetch_add-n.new.seat c.fetch_add-n.ensures.0 (op.Add
-  c.args.word c.args.number) c.requires.asks tt
+      c.args.word c.args.number) c.requires.asks tt
       c.fetch_add-n.result c.fetch_add-n.ensures.2,
 )
 

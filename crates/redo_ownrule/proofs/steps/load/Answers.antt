@@ -12,7 +12,7 @@ pub saw-requires : goal.saw-requires
 saw-requires g c = (
   c.args.token.now.me.0,
   sees c.requires.seat.mine g.L.Sectors.seen g.D.Sectors.seen c.load-n.new.seat c.load-n.ensures.0 (op.Load
-  c.args.word) c.requires.asks tt
+      c.args.word) c.requires.asks tt
       c.load-n.result c.load-n.ensures.2,
 )
 

@@ -12,7 +12,7 @@ pub saw-requires : goal.saw-requires
 saw-requires g c = (
   c.args.token.now.me.0,
   sees c.requires.seat.mine g.L.Sectors.seen g.D.Sectors.seen c.swap-n.new.seat c.swap-n.ensures.0 (op.Store
-  c.args.word c.args.number) c.requires.asks tt
+      c.args.word c.args.number) c.requires.asks tt
       c.swap-n.result c.swap-n.ensures.2,
 )
 

@@ -12,7 +12,7 @@ pub saw-requires : goal.saw-requires
 saw-requires g c = (
   c.args.token.now.me.0,
   sees c.requires.seat.mine g.L.Sectors.seen g.D.Sectors.seen c.compare_exchange-n.new.seat
-  c.compare_exchange-n.ensures.0 (op.Swap c.args.word c.args.old c.args.new) c.requires.asks tt
+      c.compare_exchange-n.ensures.0 (op.Swap c.args.word c.args.old c.args.new) c.requires.asks tt
       c.compare_exchange-n.result c.compare_exchange-n.ensures.2,
 )
 

@@ -10,10 +10,12 @@ load-requires g c = reach_ok c.args.actor.now c.requires.seat c.requires.asks g.
     g.D.Sectors.seen g.D.Sectors.gives c.args.table.now.key
 
 pub slot_mut-requires : goal.slot_mut-requires
-slot_mut-requires g c = lends_part c.args.actor.now c.requires.seat c.requires.asks c.load.new.seat c.load.result c.load.ensures
+slot_mut-requires g c = lends_part c.args.actor.now c.requires.seat c.requires.asks c.load.new.seat c.load.result
+    c.load.ensures
 
 pub batch_slot-ended-requires : goal.batch_slot-ended-requires
-batch_slot-ended-requires g c = may_call c.args.actor.now c.requires.seat c.requires.asks c.load.new.seat c.load.result c.load.ensures
+batch_slot-ended-requires g c = may_call c.args.actor.now c.requires.seat c.requires.asks c.load.new.seat
+    c.load.result c.load.ensures
     c.slot_mut.result.now c.slot_mut.ensures.value c.lent.result c.lent.ensures
 
 pub load-requires-2 : goal.load-requires-2

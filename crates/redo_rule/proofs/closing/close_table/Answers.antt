@@ -47,7 +47,8 @@ take-second_list-requires g c = (
   (let n = c.close_with-closed.ensures.counts.1 in let m = c.requires.first.slots in let l1
       = c.take-log.ensures.others.2 in let l2 = c.take-first_list.ensures.others.2 in omega arith),
   (still_there (slots_filled
-      c.take-log.new.self.slots) (slots_filled c.take-first_list.new.self.slots) 1 2 c.take-first_list.ensures.others.1 (λ e. omega arith)
+      c.take-log.new.self.slots) (slots_filled c.take-first_list.new.self.slots) 1 2
+      c.take-first_list.ensures.others.1 (λ e. omega arith)
       (still_there (slots_filled c.close_with-closed.result.slots) (slots_filled c.take-log.new.self.slots) 0 2
       c.take-log.ensures.others.1 (λ e. omega arith) (c.close_with-closed.ensures.values.1 2 (omega arith) (let n =
       c.close_with-closed.ensures.counts.1 in let m = c.requires.first.slots in omega arith)))),
@@ -56,11 +57,14 @@ take-second_list-requires g c = (
 pub take-third_list-requires : goal.take-third_list-requires
 take-third_list-requires g c = (
   (let n = c.close_with-closed.ensures.counts.1 in let m = c.requires.first.slots in let l1
-      = c.take-log.ensures.others.2 in let l2 = c.take-first_list.ensures.others.2 in let l3 = c.take-second_list.ensures.others.2 in omega
+      = c.take-log.ensures.others.2 in let l2 = c.take-first_list.ensures.others.2 in
+      let l3 = c.take-second_list.ensures.others.2 in omega
       arith),
   (still_there (slots_filled c.take-first_list.new.self.slots) (slots_filled c.take-second_list.new.self.slots) 2 3
-      c.take-second_list.ensures.others.1 (λ e. omega arith) (still_there (slots_filled c.take-log.new.self.slots) (slots_filled
-      c.take-first_list.new.self.slots) 1 3 c.take-first_list.ensures.others.1 (λ e. omega arith) (still_there (slots_filled
+      c.take-second_list.ensures.others.1 (λ e. omega arith) (still_there (slots_filled c.take-log.new.self.slots)
+      (slots_filled
+      c.take-first_list.new.self.slots) 1 3 c.take-first_list.ensures.others.1 (λ e. omega arith) (still_there
+      (slots_filled
       c.close_with-closed.result.slots) (slots_filled c.take-log.new.self.slots) 0 3 c.take-log.ensures.others.1 (λ e.
       omega arith) (c.close_with-closed.ensures.values.1 3 (omega arith) (let n = c.close_with-closed.ensures.counts.1
       in let m = c.requires.first.slots in omega arith))))),
@@ -69,11 +73,14 @@ take-third_list-requires g c = (
 pub take-last_list-requires : goal.take-last_list-requires
 take-last_list-requires g c = (
   (let n = c.close_with-closed.ensures.counts.1 in let m = c.requires.first.slots in let l1
-      = c.take-log.ensures.others.2 in let l2 = c.take-first_list.ensures.others.2 in let l3 = c.take-second_list.ensures.others.2 in let
+      = c.take-log.ensures.others.2 in let l2 = c.take-first_list.ensures.others.2 in
+      let l3 = c.take-second_list.ensures.others.2 in let
       l4 = c.take-third_list.ensures.others.2 in omega arith),
   (still_there (slots_filled c.take-second_list.new.self.slots) (slots_filled
-      c.take-third_list.new.self.slots) 3 4 c.take-third_list.ensures.others.1 (λ e. omega arith) (still_there (slots_filled
-      c.take-first_list.new.self.slots) (slots_filled c.take-second_list.new.self.slots) 2 4 c.take-second_list.ensures.others.1 (λ e. omega arith)
+      c.take-third_list.new.self.slots) 3 4 c.take-third_list.ensures.others.1 (λ e. omega arith) (still_there
+      (slots_filled
+      c.take-first_list.new.self.slots) (slots_filled c.take-second_list.new.self.slots) 2 4
+      c.take-second_list.ensures.others.1 (λ e. omega arith)
       (still_there (slots_filled c.take-log.new.self.slots) (slots_filled c.take-first_list.new.self.slots) 1 4
       c.take-first_list.ensures.others.1 (λ e. omega arith) (still_there (slots_filled c.close_with-closed.result.slots)
       (slots_filled c.take-log.new.self.slots) 0 4 c.take-log.ensures.others.1 (λ e. omega arith)
@@ -84,14 +91,20 @@ take-last_list-requires g c = (
 pub take-data-requires : goal.take-data-requires
 take-data-requires g c = (
   (let n = c.close_with-closed.ensures.counts.1 in let m = c.requires.first.slots in let
-      l1 = c.take-log.ensures.others.2 in let l2 = c.take-first_list.ensures.others.2 in let l3 = c.take-second_list.ensures.others.2 in
+      l1 = c.take-log.ensures.others.2 in let l2 = c.take-first_list.ensures.others.2 in
+      let l3 = c.take-second_list.ensures.others.2 in
       let l4 = c.take-third_list.ensures.others.2 in let l5 = c.take-last_list.ensures.others.2 in omega arith),
   (still_there
-      (slots_filled c.take-third_list.new.self.slots) (slots_filled c.take-last_list.new.self.slots) 4 5 c.take-last_list.ensures.others.1 (λ e.
-      omega arith) (still_there (slots_filled c.take-second_list.new.self.slots) (slots_filled c.take-third_list.new.self.slots) 3 5
-      c.take-third_list.ensures.others.1 (λ e. omega arith) (still_there (slots_filled c.take-first_list.new.self.slots) (slots_filled
-      c.take-second_list.new.self.slots) 2 5 c.take-second_list.ensures.others.1 (λ e. omega arith) (still_there (slots_filled
-      c.take-log.new.self.slots) (slots_filled c.take-first_list.new.self.slots) 1 5 c.take-first_list.ensures.others.1 (λ e. omega arith)
+      (slots_filled c.take-third_list.new.self.slots) (slots_filled c.take-last_list.new.self.slots) 4 5
+      c.take-last_list.ensures.others.1 (λ e.
+      omega arith) (still_there (slots_filled c.take-second_list.new.self.slots)
+      (slots_filled c.take-third_list.new.self.slots) 3 5
+      c.take-third_list.ensures.others.1 (λ e. omega arith) (still_there
+      (slots_filled c.take-first_list.new.self.slots) (slots_filled
+      c.take-second_list.new.self.slots) 2 5 c.take-second_list.ensures.others.1 (λ e. omega arith) (still_there
+      (slots_filled
+      c.take-log.new.self.slots) (slots_filled c.take-first_list.new.self.slots) 1 5
+      c.take-first_list.ensures.others.1 (λ e. omega arith)
       (still_there (slots_filled c.close_with-closed.result.slots) (slots_filled c.take-log.new.self.slots) 0 5
       c.take-log.ensures.others.1 (λ e. omega arith) (c.close_with-closed.ensures.values.1 5 (omega arith) (let n =
       c.close_with-closed.ensures.counts.1 in let m = c.requires.first.slots in omega arith))))))),
@@ -99,13 +112,17 @@ take-data-requires g c = (
 
 pub free-requires : goal.free-requires
 free-requires g c = λ k l. all_empty (slots_filled c.close_with-closed.result.slots) (slots_filled
-    c.take-log.new.self.slots) (slots_filled c.take-first_list.new.self.slots) (slots_filled c.take-second_list.new.self.slots)
+    c.take-log.new.self.slots) (slots_filled c.take-first_list.new.self.slots)
+    (slots_filled c.take-second_list.new.self.slots)
     (slots_filled c.take-third_list.new.self.slots) (slots_filled c.take-last_list.new.self.slots) (slots_filled
-    c.take-data.new.self.slots) c.take-log.ensures.others.1 c.take-first_list.ensures.others.1 c.take-second_list.ensures.others.1
+    c.take-data.new.self.slots) c.take-log.ensures.others.1 c.take-first_list.ensures.others.1
+    c.take-second_list.ensures.others.1
     c.take-third_list.ensures.others.1 c.take-last_list.ensures.others.1 c.take-data.ensures.others.1 k (let n =
     c.close_with-closed.ensures.counts.1 in let m = c.requires.first.slots in let l1 =
-    c.take-log.ensures.others.2 in let l2 = c.take-first_list.ensures.others.2 in let l3 = c.take-second_list.ensures.others.2 in let l4
-    = c.take-third_list.ensures.others.2 in let l5 = c.take-last_list.ensures.others.2 in let l6 = c.take-data.ensures.others.2 in
+    c.take-log.ensures.others.2 in let l2 = c.take-first_list.ensures.others.2 in
+    let l3 = c.take-second_list.ensures.others.2 in let l4
+    = c.take-third_list.ensures.others.2 in let l5 = c.take-last_list.ensures.others.2 in
+    let l6 = c.take-data.ensures.others.2 in
     omega arith)
 
 pub drop_list-requires : goal.drop_list-requires
@@ -150,7 +167,8 @@ data_in-requires g c = let end = c.requires.ends (slots_items c.close_with-close
     (slots_items c.close_with-closed.result.slots) c.close_with-closed.ensures.values.2 in data_there g.L.Sectors.seen g.L.Sectors.gives g.D.Sectors.seen g.D.Sectors.gives
     c.args.board.shared.key end.0 end.1 (slots_items c.close_with-closed.result.words)
     (slots_items c.close_with-closed.result.slots) end.2 c.take-data.result (ap (λ (l : List (Slot
-    _ _)). get_elem? l 5) (sym (c.take-last_list.ensures.others.0 ∙ c.take-third_list.ensures.others.0 ∙ c.take-second_list.ensures.others.0 ∙
+    _ _)). get_elem? l 5) (sym (c.take-last_list.ensures.others.0 ∙ c.take-third_list.ensures.others.0
+    ∙ c.take-second_list.ensures.others.0 ∙
     c.take-first_list.ensures.others.0 ∙ c.take-log.ensures.others.0)) ∙ c.take-data.ensures.value)
 
 pub returns : goal.returns
@@ -163,7 +181,8 @@ returns g c = record {
       (slots_items c.close_with-closed.result.slots) E _ c.take-log.result c.take-data.result c.desk_in-part.result
       c.take-log.ensures.value c.desk_in-part.ensures refl
       (ap (λ (l : List (Slot _ _)). get_elem? l 5) (sym (c.take-last_list.ensures.others.0 ∙
-      c.take-third_list.ensures.others.0 ∙ c.take-second_list.ensures.others.0 ∙ c.take-first_list.ensures.others.0 ∙ c.take-log.ensures.others.0))
+      c.take-third_list.ensures.others.0 ∙ c.take-second_list.ensures.others.0 ∙ c.take-first_list.ensures.others.0
+      ∙ c.take-log.ensures.others.0))
       ∙ c.take-data.ensures.value) c.data_in.ensures
       (c.tail_of.ensures ∙ ap tail_of c.word_in.ensures) c.word_in-2.ensures c.word_in-3.ensures c.word_in-4.ensures c.word_in-code.ensures;
   work = λ heard actors E. work_left g.L.Sectors.seen g.L.Sectors.gives g.D.Sectors.seen g.D.Sectors.gives

@@ -17,7 +17,8 @@ pub load-requires : goal.load-requires
 load-requires g c =
     let e = c.checkpoint_slot-ended.ensures in
     let given = some_lent (lent (view_of c.args.actor.now)) in
-    called_ok c.args.actor.now c.requires tt c.slot_mut.result.now c.slot_mut.ensures.value _ _ _ e g.L.Sectors.seen g.D.Sectors.seen
+    called_ok c.args.actor.now c.requires tt c.slot_mut.result.now c.slot_mut.ensures.value _ _ _ e g.L.Sectors.seen
+    g.D.Sectors.seen
     g.D.Sectors.gives c.args.table.now.key given.0 given.1
     (λ faults start first. e.served faults start first
     (lent (filled (view_of c.args.actor.now) (block_filling e.now.block))))

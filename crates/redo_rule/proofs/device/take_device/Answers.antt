@@ -18,7 +18,8 @@ returns-then-compare_exchange-ne0 g c = busy_leaves c.args.actor.now c.requires 
     g.R.Receiver.stands_for c.took.result c.took.new.self c.took.ensures
 
 pub slot_mut-requires : goal.slot_mut-requires
-slot_mut-requires g c = log_lent c.args.actor.now c.requires g.L.Sectors.seen g.D.Sectors.seen c.compare_exchange.new.seat
+slot_mut-requires g c = log_lent c.args.actor.now c.requires g.L.Sectors.seen g.D.Sectors.seen
+    c.compare_exchange.new.seat
     c.compare_exchange.result c.compare_exchange.ensures c.if-compare_exchange-ne0.false
 
 pub taken_answer-answer-requires : goal.taken_answer-answer-requires

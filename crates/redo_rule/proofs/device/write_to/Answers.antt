@@ -11,14 +11,16 @@ pub slot_mut-requires : goal.slot_mut-requires
 slot_mut-requires g c = lends_slot c.args.actor.now c.requires tt
 
 pub write_slot-ended-requires : goal.write_slot-ended-requires
-write_slot-ended-requires g c = may_call c.args.actor.now c.requires tt c.slot_mut.result.now c.slot_mut.ensures.value c.lent.result
+write_slot-ended-requires g c = may_call c.args.actor.now c.requires tt c.slot_mut.result.now
+    c.slot_mut.ensures.value c.lent.result
     c.lent.ensures
 
 pub load-requires : goal.load-requires
 load-requires g c =
     let e = c.write_slot-ended.ensures in
     let f = block_filling e.now.block in
-    called_ok c.args.actor.now c.requires tt c.slot_mut.result.now c.slot_mut.ensures.value _ _ _ e g.L.Sectors.seen g.D.Sectors.seen
+    called_ok c.args.actor.now c.requires tt c.slot_mut.result.now c.slot_mut.ensures.value _ _ _ e g.L.Sectors.seen
+    g.D.Sectors.seen
     g.D.Sectors.gives c.args.table.now.key c.lent.result c.lent.ensures
     (λ faults start first. e.served faults start first (lent (filled (view_of c.args.actor.now) f))
     (subst (λ (z : model.Actor). Lends c.lent.result (lent z)) (sym (lends_same c.args.actor.now c.requires tt f tt))

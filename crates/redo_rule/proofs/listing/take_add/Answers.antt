@@ -7,17 +7,20 @@ use Rattle.redo_rule.proofs.listing.take_add.Goals as goal
 
 pub compare_exchange-requires : goal.compare_exchange-requires
 compare_exchange-requires g c = take_add_ok c.requires.seat.mine g.L.Sectors.seen g.L.Sectors.gives g.D.Sectors.seen
-    g.D.Sectors.gives c.args.table.now.key c.args.page c.args.oldest c.list_turn.result c.requires.asks c.list_turn.ensures
+    g.D.Sectors.gives c.args.table.now.key c.args.page c.args.oldest c.list_turn.result c.requires.asks
+    c.list_turn.ensures
 
 pub took-requires : goal.took-requires
 took-requires g c =
-    let may = held_fits c.args.actor.now c.requires g.L.Sectors.seen g.D.Sectors.seen (suc (c.args.page % FLUSH_LISTS)) refl
+    let may = held_fits c.args.actor.now c.requires g.L.Sectors.seen g.D.Sectors.seen (suc
+    (c.args.page % FLUSH_LISTS)) refl
     c.compare_exchange.new.seat c.compare_exchange.result c.compare_exchange.ensures c.if-compare_exchange-ne0.true in
     record { fits = may.0; mark = may.1 }
 
 pub returns-then-compare_exchange-ne0 : goal.returns-then-compare_exchange-ne0
 returns-then-compare_exchange-ne0 g c = list_held c.args.actor.now c.requires g.L.Sectors.seen g.D.Sectors.seen
-    (suc (c.args.page % FLUSH_LISTS)) refl c.compare_exchange.new.seat c.compare_exchange.result c.compare_exchange.ensures
+    (suc (c.args.page % FLUSH_LISTS)) refl c.compare_exchange.new.seat c.compare_exchange.result
+    c.compare_exchange.ensures
     c.if-compare_exchange-ne0.true g.R.Receiver.stands_for c.took.result c.took.new.self c.took.ensures
 
 pub slot_mut-requires : goal.slot_mut-requires
@@ -45,4 +48,5 @@ returns g c =
     list_leaves c.args.actor.now c.requires g.L.Sectors.seen g.D.Sectors.seen c.list_slot.result
     c.list_slot.ensures c.compare_exchange.new.seat c.compare_exchange.result c.compare_exchange.ensures
     c.if-compare_exchange-ne0.false c.slot_mut.result.now c.slot_mut.ensures.value e.0 e.1
-    (answer.Taken None) refl c.add_slot.new.slot e.2 g.R.Receiver.stands_for c.took-2.result c.took-2.new.self c.took-2.ensures
+    (answer.Taken None) refl c.add_slot.new.slot e.2 g.R.Receiver.stands_for c.took-2.result c.took-2.new.self
+    c.took-2.ensures

@@ -47,4 +47,5 @@ returns g c =
     list_leaves c.args.actor.now c.requires g.L.Sectors.seen g.D.Sectors.seen c.list_slot.result
     c.list_slot.ensures c.compare_exchange.new.seat c.compare_exchange.result c.compare_exchange.ensures
     c.if-compare_exchange-ne0.false c.slot_mut.result.now c.slot_mut.ensures.value e.0 e.1
-    (answer.Taken c.oldest_slot-oldest.result) (ap answer.Taken e.2) c.slot_mut.result.now e.1 g.R.Receiver.stands_for c.took-2.result c.took-2.new.self c.took-2.ensures
+    (answer.Taken c.oldest_slot-oldest.result) (ap answer.Taken e.2) c.slot_mut.result.now e.1
+    g.R.Receiver.stands_for c.took-2.result c.took-2.new.self c.took-2.ensures

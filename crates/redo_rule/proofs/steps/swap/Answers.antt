@@ -20,6 +20,8 @@ took-requires g c =
 
 pub returns : goal.returns
 returns g c = word_leaves c.args.actor.now c.requires.seat g.L.Sectors.seen g.D.Sectors.seen g.R.Receiver.stands_for
-    c.compare_exchange-n.new.seat c.compare_exchange-n.ensures.0 c.compare_exchange-n.ensures.1 c.took.new.self c.took.result
-    (op.Swap c.args.word c.args.old c.args.new) c.requires.asks tt tt c.compare_exchange-n.result c.compare_exchange-n.ensures.2
+    c.compare_exchange-n.new.seat c.compare_exchange-n.ensures.0 c.compare_exchange-n.ensures.1 c.took.new.self
+    c.took.result
+    (op.Swap c.args.word c.args.old c.args.new) c.requires.asks tt tt c.compare_exchange-n.result
+    c.compare_exchange-n.ensures.2
     c.took.ensures

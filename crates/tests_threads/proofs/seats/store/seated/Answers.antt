@@ -22,7 +22,8 @@ returns c =
             c.seats-seats.ensures.seats);
         plain = subst (λ (o : Bool). AreInOrder o players) c.requires.own c.requires.new.order;
       };
-      all = subst (λ b. length players + workers b.shared.key.own_writes ≡ length (starts_about b.shared.key)) (sym same)
+      all = subst (λ b. length players + workers b.shared.key.own_writes ≡ length (starts_about b.shared.key))
+          (sym same)
           c.requires.new.count;
       apart = ap (λ b. b.shared.key.archive) same ∙ c.requires.apart;
     }

@@ -14,26 +14,27 @@ see_rest-requires g c = subst (λ (l : List (Player Kept)). AllMayRest l) (sym c
     (seated_rest c.ring.result.now.table_id c.play_all.new.seats.items c.play_all.new.players.items
     c.play_all.ensures.plays)
 
-pub finish-requires-clause-seats : goal.finish-requires-clause-seats
-finish-requires-clause-seats g c =
-    let S = c.in_ok-shared.shared in
+pub finish-closed-requires-clause-seats : goal.finish-closed-requires-clause-seats
+finish-closed-requires-clause-seats g c =
+    let S = c.in_ok-shared.field-0.shared in
     let seats = c.play_all.new.seats.items in
     let players : List (Player Kept) = c.play_all.new.players.items in
     subst (λ (o : Bool). AreSeatsOf (table_of S) o seats players) (sym c.in_ok-shared.ensures.own)
     (subst (λ s. AreSeatsOf s.table_id _ seats players) c.ring.ensures c.play_all.ensures.plays.seats)
 
-pub finish-requires-clause-order : goal.finish-requires-clause-order
-finish-requires-clause-order g c = subst (λ (o : Bool). AreInOrder o c.play_all.new.players.items)
+pub finish-closed-requires-clause-order : goal.finish-closed-requires-clause-order
+finish-closed-requires-clause-order g c = subst (λ (o : Bool). AreInOrder o c.play_all.new.players.items)
     (sym c.in_ok-shared.ensures.own) c.play_all.ensures.plays.plain
 
-pub finish-requires-clause-all : goal.finish-requires-clause-all
-finish-requires-clause-all g c = ap (λ n. n + workers (own_of c.in_ok-shared.shared)) c.play_all.ensures.count
+pub finish-closed-requires-clause-all : goal.finish-closed-requires-clause-all
+finish-closed-requires-clause-all g c = ap (λ n. n + workers (own_of c.in_ok-shared.field-0.shared)) c.play_all.ensures.count
     ∙ c.in_ok-shared.ensures.all
 
-pub finish-requires-clause-rest : goal.finish-requires-clause-rest
-finish-requires-clause-rest g c = subst (λ (l : List (Player Kept)). AllAtRest l) c.as_slice.ensures.value
+pub finish-closed-requires-clause-rest : goal.finish-closed-requires-clause-rest
+finish-closed-requires-clause-rest g c = subst (λ (l : List (Player Kept)). AllAtRest l) c.as_slice.ensures.value
     c.see_rest.ensures
 
-pub finish-requires-clause-lost : goal.finish-requires-clause-lost
-finish-requires-clause-lost g c = subst (λ (b : Bool). TellsLoss b (views_of (map actor_of c.play_all.new.players.items)) None)
+pub finish-closed-requires-clause-lost : goal.finish-closed-requires-clause-lost
+finish-closed-requires-clause-lost g c = subst (λ (b : Bool). TellsLoss b (views_of
+    (map actor_of c.play_all.new.players.items)) None)
     (sym c.in_ok-shared.ensures.apart) refl
