@@ -6,6 +6,7 @@ pub mod Limits
 pub mod Lines
 pub mod Number
 pub mod Overwrite
+pub mod Spelled
 pub mod Spelling
 pub mod Table
 pub use Rattle.model_base.specs.Count.{HasRisen, last_count}
@@ -18,6 +19,6 @@ pub use Rattle.model_base.specs.Lines.{fed_lines, onto_first, without_return}
 unfoldable pub use Rattle.model_base.specs.Lines.{lines_of}
 pub use Rattle.model_base.specs.Number.{number_from_bytes}
 pub use Rattle.model_base.specs.Overwrite.{overwritten}
-pub use Rattle.model_base.specs.Spelling.{BeginsWith, Gives, IsFrontOf, Spells32, Spells64}
+pub use Rattle.model_base.specs.Spelled.{BeginsWith, Gives, IsFrontOf, Spells32, Spells64}
 unfoldable pub use Rattle.model_base.specs.Spelling.{spelling32, spelling64}
 pub use Rattle.model_base.specs.Table.{BeginsNone, HasAllFrom, IsRow, IsRowOf, SpellsIn}

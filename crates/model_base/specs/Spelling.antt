@@ -1,9 +1,7 @@
 -- The compressed spelling of a number: `mach_write_compressed` of InnoDB for 32 bits below 0xFF000000, and
 -- rows of this project's own from there on. Each number has one spelling.
-use Rattle.std.specs.Prelude.{ℕ, ◌≡◌, ◌≢◌, ◌≤◌, ◌<◌, ◌+◌, ◌/◌, ◌%◌, ◌^◌, nat_lt, if◌then◌else◌, List, [], ◌∷◌, ◌++◌, length, take}
+use Rattle.std.specs.Prelude.{ℕ, ◌+◌, ◌/◌, ◌%◌, ◌^◌, nat_lt, if◌then◌else◌, List, ◌∷◌, ◌++◌}
 use Rattle.std.specs.Int.{bytes_high_first}
-use Rattle.model_base.specs.declared.got.Got.{Got}
-use Rattle.model_base.specs.declared.got.Got.TheVariants.{Value, Short, Bad}
 
 -- The one spelling of a number below 2^32, a line for each row of the table. The marks in the first byte
 -- (80, C0, E0, F0, FE, FC, F8) tell the rows apart.
@@ -21,29 +19,3 @@ spelling32 n =
 -- A number below 2^64: its high 32 bits in that spelling, and then its low 32 bits in four bytes.
 unfoldable pub spelling64 : ℕ → List ℕ
 spelling64 n = spelling32 (n / 2 ^ 32) ++ bytes_high_first 4 (n % 2 ^ 32)
-
--- the bytes spell the number of 32 bits
-pub record Spells32 (bytes : List ℕ) (n : ℕ) : Type 0 where
-  pub small : n < 2 ^ 32
-  pub spelled : bytes ≡ spelling32 n
-
--- the bytes spell the number of 64 bits
-pub record Spells64 (bytes : List ℕ) (n : ℕ) : Type 0 where
-  pub small : n < 2 ^ 64
-  pub spelled : bytes ≡ spelling64 n
-
--- the bytes are less than a whole spelling: something can follow with which they are one
-abbrev pub IsFrontOf : (List ℕ → ℕ → Type 0) → List ℕ → Type 0
-IsFrontOf Spells bytes = (rest : List ℕ) × (n : ℕ) × (rest ≢ []) × Spells (bytes ++ rest) n
-
--- so many bytes at the front are a spelling of the number
-abbrev pub BeginsWith : (List ℕ → ℕ → Type 0) → List ℕ → ℕ → ℕ → Type 0
-BeginsWith Spells bytes n len = (len ≤ length bytes) × Spells (take len bytes) n
-
--- What reading a number off the front of the bytes gives: the number and the length of its spelling, or that more
--- bytes have to come, or that no spelling begins so.
-abbrev pub Gives : (List ℕ → ℕ → Type 0) → List ℕ → Got ℕ → Type 0
-Gives Spells bytes (Value n len) = BeginsWith Spells bytes n len
-Gives Spells bytes Short = IsFrontOf Spells bytes
-Gives Spells bytes Bad =
-    ((n len : ℕ) → BeginsWith Spells bytes n len → ⊥) × (IsFrontOf Spells bytes → ⊥)

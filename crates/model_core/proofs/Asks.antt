@@ -3,7 +3,8 @@ use Rattle.std.proofs.Common.{Bool, None, cond, false, inl, inr, refl, true, ◌
 use Rattle.model_core.specs.{Actor, Advance, checkpointer_op, CheckpointerState, cleaner_op, CleanerState, closer_op, CloserState, flusher_op, FlusherState, next, user_op, UserState, writer_op, WriterState}
 use Rattle.model_core.specs.{reader_op, ReaderState}
 use Rattle.model_core.specs.Actors as actor
-use Rattle.model_core.specs.Advancing.{advance_holds, advance_op}
+use Rattle.model_core.specs.Advancing.{advance_op}
+use Rattle.model_core.specs.Holding.{advance_holds}
 use Rattle.model_core.specs.Holding.{closer_holds_tail, user_holds_tail, writer_holds_tail}
 use Rattle.model_core.specs.declared.ops.Op.{Op}
 use Rattle.model_core.specs.declared.ops.Op.TheVariants as op

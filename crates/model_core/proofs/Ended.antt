@@ -11,7 +11,7 @@ use Rattle.model_core.specs.Program.{own_op, own_took}
 use Rattle.model_core.specs.States.{CheckpointerState, CleanerState, CloserState, FlusherState, UserState, WriterState}
 use Rattle.model_core.specs.States.{ReaderState}
 use Rattle.model_core.specs.UserProgram.{user_ending, user_op, user_took}
-use Rattle.model_core.specs.Waiting.{HasStopped}
+use Rattle.model_core.specs.Holding.{HasStopped}
 use Rattle.model_core.specs.WriterProgram.{writer_ending, writer_op, writer_took}
 use Rattle.model_core.specs.declared.ops.Answer.{Answer}
 use Rattle.model_core.specs.declared.ops.Op.{Op}

@@ -5,7 +5,8 @@ use mathlib.Core.Option.{some, some-injective}
 use Rattle.model_core.proofs.Lists.{set_at, set_else}
 use Rattle.model_core.proofs.Tails.{held_in}
 use Rattle.model_core.specs.Actors.{Actor}
-use Rattle.model_core.specs.Advancing.{advance_holds, advance_next, advance_op, ends, frees, stays_put, tail_at}
+use Rattle.model_core.specs.Advancing.{advance_next, advance_op, ends, frees, stays_put, tail_at}
+use Rattle.model_core.specs.Holding.{advance_holds}
 use Rattle.model_core.specs.Answers.{heard, old_of}
 use Rattle.model_core.specs.CheckpointerProgram.{checkpointer_op}
 use Rattle.model_core.specs.CleanerProgram.{cleaner_op}

@@ -18,7 +18,8 @@ use Rattle.model_core.specs.States.{Advance, CheckpointerState, CleanerState, Cl
 use Rattle.model_core.specs.States.{ReaderState}
 use Rattle.model_core.specs.Tails.{tail_word}
 use Rattle.model_core.specs.UserProgram.{current_page, user_op, user_waits}
-use Rattle.model_core.specs.Waiting.{IsFreeing, waits}
+use Rattle.model_core.specs.Waiting.{waits}
+use Rattle.model_core.specs.Holding.{IsFreeing}
 use Rattle.model_core.specs.WordTurn.{answer_of, word_found, words_left}
 use Rattle.model_core.specs.WriterProgram.{finds_no_more, writer_op, writer_waits}
 use Rattle.model_core.specs.declared.limits.TheConstants.{FLUSH_LISTS}

@@ -64,9 +64,3 @@ frees _ = false
 -- it ends
 abbrev pub ends : Advance → ℕ → AdvanceStep → Bool
 ends v n s = cond (frees s) true (stays_put v n s)
-
--- it holds the tail
-abbrev pub advance_holds : AdvanceStep → Bool
-advance_holds advance_step.LoadTail = false
-advance_holds advance_step.TakeTail = false
-advance_holds _ = true

@@ -1,9 +1,8 @@
 -- Which actor holds the log part, and which a tail.
-use Rattle.std.specs.Prelude.{Bool, List, false, true, ℕ, ◌≡◌}
+use Rattle.std.specs.Prelude.{Bool, List, false, true, ℕ, ◌≡◌, ◌⊎◌}
 use lib.ListN.{get_elem?}
 use mathlib.Core.Option.{some}
 use Rattle.model_core.specs.Actors.{Actor}
-use Rattle.model_core.specs.Advancing.{advance_holds}
 use Rattle.model_core.specs.Program.{is_checking}
 use Rattle.model_core.specs.States.{Advance, no_advance}
 use Rattle.model_core.specs.declared.steps.CheckpointerStep.{CheckpointerStep}
@@ -21,6 +20,30 @@ use Rattle.model_core.specs.declared.words.LinkBuffer.TheVariants as link_buffer
 use Rattle.model_core.specs.declared.steps.FlusherStep.TheVariants as flusher_step
 use Rattle.model_core.specs.declared.steps.CheckpointerStep.TheVariants as checkpointer_step
 use Rattle.model_core.specs.Actors as actor
+use Rattle.model_core.specs.declared.ops.Step.TheVariants as step
+use Rattle.model_core.specs.declared.steps.AdvanceStep.TheVariants as advance_step
+use Rattle.model_core.specs.declared.steps.CleanerStep.TheVariants as cleaner_step
+use Rattle.model_core.specs.Waiting.{ending}
+use Rattle.model_core.specs.declared.steps.AdvanceStep.{AdvanceStep}
+
+-- it holds the tail
+abbrev pub advance_holds : AdvanceStep → Bool
+advance_holds advance_step.LoadTail = false
+advance_holds advance_step.TakeTail = false
+advance_holds _ = true
+
+-- The cleaner is about to release a latch, since a group on its page isn't flushed; or the actor is about to free a tail. A
+-- user and the closer then store the tail that they have loaded.
+abbrev pub IsFreeing : Actor → Type 0
+IsFreeing (actor.User u) = ((u.step ≡ user_step.AdvanceWritten advance_step.FreeTail) ⊎ (u.step ≡ user_step.AdvanceClosed advance_step.FreeTail)) × (u.advance.place ≡ u.advance.tail)
+IsFreeing (actor.Writer s) = s.step ≡ writer_step.Advance advance_step.FreeTail
+IsFreeing (actor.Closer t) = (t.step ≡ closer_step.Advance advance_step.FreeTail) × (t.advance.place ≡ t.advance.tail)
+IsFreeing (actor.Cleaner v) = v.step ≡ cleaner_step.ReleaseSkipped
+IsFreeing _ = ⊥
+
+-- the actor has ended, well or by a failure
+abbrev pub HasStopped : Actor → Type 0
+HasStopped a = ending a ≡ step.Moved → ⊥
 
 abbrev pub writer_holds : WriterStep → Bool
 writer_holds writer_step.GiveBroken = true

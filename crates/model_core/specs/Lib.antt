@@ -19,11 +19,13 @@ pub mod Holding
 pub mod Lanes
 pub mod Later
 pub mod Layout
+pub mod ListOrder
 pub mod LogSide
 pub mod Lsn
 pub mod NamedTurn
 pub mod NamedWords
 pub mod NewActors
+pub mod Packing
 pub mod Program
 pub mod ReaderProgram
 pub mod Setup
@@ -38,7 +40,8 @@ pub mod WordTurn
 pub mod WriterProgram
 pub use Rattle.model_core.specs.ActorProgram.{after_of, checked_of}
 pub use Rattle.model_core.specs.Actors.{Actor, Batch, Blocks, Lent, Nothing, Room}
-pub use Rattle.model_core.specs.Advancing.{advance_holds, advance_next, advance_op, advance_took, ends, frees, loaded_tail, slot_at, stays_put, tail_at}
+pub use Rattle.model_core.specs.Advancing.{advance_next, advance_op, advance_took, ends, frees, loaded_tail, slot_at, stays_put, tail_at}
+pub use Rattle.model_core.specs.Holding.{advance_holds, ChecksWithoutTail, HasHolder, advance_of, checkpointer_holds, flusher_holds, holds, reader_holds, holds_tail, writer_holds}
 pub use Rattle.model_core.specs.AnswerFits.{PageFitting, cleaner_fits, closer_fits, user_page_fits}
 pub use Rattle.model_core.specs.Answers.{code_of, has_taken, heard, old_of, oldest_in}
 pub use Rattle.model_core.specs.Archiving.{HasLost, IsLosing, LostAt}
@@ -49,12 +52,13 @@ pub use Rattle.model_core.specs.CleanerProgram.{cleaner_ending, cleaner_op, clea
 pub use Rattle.model_core.specs.CloserProgram.{closer_ending, closer_op, closer_program, closer_took, closer_waits}
 pub use Rattle.model_core.specs.FailureCodes.{IsArchiveCode, IsDataCode, IsLogCode, archive_device_code, data_device_code, log_device_code, no_memory_code}
 pub use Rattle.model_core.specs.Fitting.{advance_fits, answer_limit, user_fits, writer_fits}
-pub use Rattle.model_core.specs.FlushLists.{Each, Listed, Relaxed, appended, oldest_end, oldest_of, without}
+pub use Rattle.model_core.specs.FlushLists.{Listed, appended, oldest_end, without}
+pub use Rattle.model_core.specs.ListOrder.{Each, Relaxed, oldest_of}
 pub use Rattle.model_core.specs.FlusherProgram.{flusher_ending, flusher_op, flusher_program, flusher_took, flusher_waits}
 pub use Rattle.model_core.specs.Groups.{CellWrite, Entry, KeptPage, PageChange, end_of}
 pub use Rattle.model_core.specs.Stream.{IsBound, IsLent, Tiles, byte_at, crosses, crossing, first_of, stream, sum_of}
-pub use Rattle.model_core.specs.Holding.{ChecksWithoutTail, HasHolder, advance_of, checkpointer_holds, flusher_holds, holds, reader_holds, holds_tail, writer_holds}
-pub use Rattle.model_core.specs.Lanes.{byte_in, cell_of, frame_bytes, framed_page, lane_of, left_in_word}
+pub use Rattle.model_core.specs.Lanes.{cell_of, frame_bytes, framed_page, lane_of, left_in_word}
+pub use Rattle.model_core.specs.Packing.{byte_in}
 unfoldable pub use Rattle.model_core.specs.Lanes.{lane, lanes, packed}
 pub use Rattle.model_core.specs.Layout.{IsSized, PageWords, SharedWords, blank_words, cells_at, closed_links_at, firsts_at, flat, flat_page_words, index, page_stride, page_words_at, pages_at, rows}
 pub use Rattle.model_core.specs.NamedWords.{IsWord, read, with_page_words, word_count, wrote}

@@ -11,7 +11,8 @@ use Rattle.model_base.specs.declared.shape.Shape.{Shape}
 use Rattle.model_base.specs.declared.limits.TheConstants.{START_LSN}
 use Rattle.model_base.specs.{field, is_within_limits, IsWithinLimits, padded_to}
 use Rattle.model_log.specs.Block.{with_checksum, fits_checksum}
-use Rattle.model_log.specs.Head.{creator, format_number, format_of, head_text, shape_of, read_head}
+use Rattle.model_log.specs.Head.{format_of, shape_of, read_head}
+use Rattle.model_log.specs.HeadText.{creator, format_number, head_text}
 use Rattle.model_log.specs.declared.head.Format.{Format}
 use Rattle.model_log.specs.declared.head.Format.TheVariants.{One, Two}
 use Rattle.model_log.specs.declared.head.Head.{Head}

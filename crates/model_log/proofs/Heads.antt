@@ -5,7 +5,7 @@ use Rattle.model_base.specs.declared.shape.Shape.{Shape}
 use Rattle.model_base.specs.declared.limits.TheConstants.{START_LSN}
 use Rattle.model_base.specs.{padded_to}
 use Rattle.model_log.specs.Block.{with_checksum}
-use Rattle.model_log.specs.Head.{creator, format_number, head_text}
+use Rattle.model_log.specs.HeadText.{creator, format_number, head_text}
 use Rattle.model_log.specs.declared.head.Format.{Format}
 
 -- the fields of a file header

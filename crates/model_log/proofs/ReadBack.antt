@@ -4,7 +4,8 @@ use Rattle.std.proofs.lemmas.List.{append-nil, take_at, take-append-drop, length
 use Rattle.model_base.specs.declared.got.Got.{Got}
 use Rattle.model_base.specs.declared.got.Got.TheVariants.{Value, Short, Bad}
 use Rattle.model_base.specs.declared.limits.TheConstants.{MAX_GROUP}
-use Rattle.model_log.specs.Group.{IsGroup, GivesGroup, group_length, group_text}
+use Rattle.model_log.specs.Group.{IsGroup, group_length, group_text}
+use Rattle.model_log.specs.GroupFront.{GivesGroup}
 use Rattle.model_log.specs.declared.rec.Rec.{Rec}
 use Rattle.model_log.proofs.Several.{OneGroup, back_nil, one_group}
 

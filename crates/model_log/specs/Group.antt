@@ -1,9 +1,7 @@
 -- The text of a group, which is what one mini-transaction logs, and of a stream of them.
-use Rattle.std.specs.Prelude.{ℕ, ◌≡◌, ◌≢◌, ◌≤◌, ◌<◌, List, [], ◌∷◌, ◌++◌, length, take}
+use Rattle.std.specs.Prelude.{ℕ, ◌≡◌, ◌≢◌, ◌<◌, List, [], ◌∷◌, ◌++◌, length}
 use Rattle.std.specs.List.{flat_map, AllByRecursion}
 use Rattle.model_base.specs.declared.limits.TheConstants.{MAX_GROUP}
-use Rattle.model_base.specs.declared.got.Got.{Got}
-use Rattle.model_base.specs.declared.got.Got.TheVariants.{Value, Short, Bad}
 use Rattle.model_log.specs.Record.{record_text, single_text, HasText}
 use Rattle.model_log.specs.declared.rec.Rec.{Rec}
 use Rattle.model_log.specs.declared.group.Whole.{Whole}
@@ -45,18 +43,6 @@ abbrev pub groups_of : List Whole → List (List Rec)
 groups_of [] = []
 groups_of (whole ∷ wholes) = whole.group ∷ groups_of wholes
 
--- so many bytes at the front, at most 8,192, are the text of the group
-abbrev pub BeginsWithGroup : List ℕ → List Rec → ℕ → Type 0
-BeginsWithGroup bytes group len = (len ≤ length bytes) × (len ≤ MAX_GROUP) × IsGroupText (take len bytes) group
-
 -- fewer than 8,192 bytes, which are less than a whole group text of any length
 abbrev pub IsFront : List ℕ → Type 0
 IsFront bytes = (length bytes < MAX_GROUP) × IsUnfinished bytes
-
--- What reading a group off the front of the bytes gives: the group and the length of its text, or that more bytes
--- have to come, or that no group begins so.
-abbrev pub GivesGroup : List ℕ → Got (List Rec) → Type 0
-GivesGroup bytes (Value group len) = BeginsWithGroup bytes group len
-GivesGroup bytes Short = IsFront bytes
-GivesGroup bytes Bad =
-    ((group : List Rec) (len : ℕ) → BeginsWithGroup bytes group len → ⊥) × (IsFront bytes → ⊥)

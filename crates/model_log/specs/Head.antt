@@ -1,39 +1,20 @@
 -- The first block of a log device, the file header: format (4 bytes), zero (4), start lsn (8), creator (32), then this
 -- project's own fields, page size (4), pages (4), space id (4), log blocks (4), doublewrite slots (4), zeros, and the
 -- checksum. The first three fields and the creator are InnoDB's.
-use Rattle.std.specs.Prelude.{ℕ, ◌==◌, ◌&&◌, if◌then◌else◌, List, ◌++◌, codes, Option, Some, None}
-use Rattle.std.specs.Int.{bytes_high_first}
+use Rattle.std.specs.Prelude.{ℕ, ◌==◌, ◌&&◌, if◌then◌else◌, List, Option, Some, None}
 use Rattle.model_base.specs.declared.shape.Shape.{Shape}
 use Rattle.model_base.specs.declared.limits.TheConstants.{START_LSN}
-use Rattle.model_base.specs.{field, is_within_limits, padded_to}
-use Rattle.model_log.specs.Block.{with_checksum, fits_checksum}
+use Rattle.model_base.specs.{field, is_within_limits}
+use Rattle.model_log.specs.Block.{fits_checksum}
 use Rattle.model_log.specs.Device.{header_block}
-use Rattle.model_log.specs.declared.layout.TheConstants.{BLOCK_DATA_END}
 use Rattle.model_log.specs.declared.head.Format.{Format}
 use Rattle.model_log.specs.declared.head.Format.TheVariants.{One, Two}
 use Rattle.model_log.specs.declared.head.Head.{Head}
 use Rattle.model_log.specs.declared.head.Head.TheVariants.{Good, OtherFormat, Unformatted}
 
--- the number by which a header names its format
-abbrev pub format_number : Format → ℕ
-format_number One = 1
-format_number Two = 2
-
 -- the format of this number
 abbrev pub format_of : ℕ → Option Format
 format_of number = if number == 1 then Some One else (if number == 2 then Some Two else None)
-
--- who made the store, in 32 bytes
-abbrev pub creator : List ℕ
-creator = padded_to 32 (codes "redolab 1")
-
--- the header of a store of this format and shape
-unfoldable pub head_text : Format → Shape → List ℕ
-head_text format shape =
-    with_checksum (padded_to BLOCK_DATA_END (bytes_high_first 4 (format_number format) ++ bytes_high_first 4 0
-    ++ bytes_high_first 8 START_LSN ++ creator
-    ++ bytes_high_first 4 shape.page_size ++ bytes_high_first 4 shape.pages ++ bytes_high_first 4 shape.space
-    ++ bytes_high_first 4 shape.log_blocks ++ bytes_high_first 4 shape.slots))
 
 -- the sizes that the fields of a header name
 abbrev pub shape_of : List ℕ → Shape

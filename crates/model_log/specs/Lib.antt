@@ -6,7 +6,9 @@ pub mod Device
 pub mod Fits
 pub mod Fitting
 pub mod Group
+pub mod GroupFront
 pub mod Head
+pub mod HeadText
 pub mod Lsn
 pub mod Record
 pub mod Run
@@ -22,7 +24,8 @@ pub use Rattle.model_log.specs.Device.{IsInRound, IsLayout, IsTailPlace, header_
 unfoldable pub use Rattle.model_log.specs.Device.{log_block}
 pub use Rattle.model_log.specs.Fits.{GroupFits, IsPage, IsUserWrite, RecordFits, user_end}
 pub use Rattle.model_log.specs.Fitting.{fit_of}
-pub use Rattle.model_log.specs.Group.{BeginsWithGroup, GivesGroup, IsFront, IsGroup, IsGroupText, IsUnfinished, end_mark, group_length, groups_of}
+pub use Rattle.model_log.specs.Group.{IsFront, IsGroup, IsGroupText, IsUnfinished, end_mark, group_length, groups_of}
+pub use Rattle.model_log.specs.GroupFront.{BeginsWithGroup, GivesGroup}
 unfoldable pub use Rattle.model_log.specs.Group.{group_text, stream_of}
 pub use Rattle.model_log.specs.Head.{format_of, good_head, head_among, head_of, shape_of}
 unfoldable pub use Rattle.model_log.specs.Head.{head_text, read_head}

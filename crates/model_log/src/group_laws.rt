@@ -3,7 +3,8 @@ ghost use Rattle.std.specs.Prelude.{ℕ, ◌≡◌, ◌≤◌, List, ◌++◌};
 ghost use Rattle.model_base.specs.declared.limits.TheConstants.{MAX_GROUP};
 ghost use Rattle.model_base.specs.declared.got.Got.{Got};
 ghost use Rattle.model_base.specs.declared.got.Got.TheVariants.{Value};
-ghost use Rattle.model_log.specs.Group.{IsGroup, GivesGroup, group_length, group_text};
+ghost use Rattle.model_log.specs.Group.{IsGroup, group_length, group_text};
+ghost use Rattle.model_log.specs.GroupFront.{GivesGroup};
 ghost use Rattle.model_log.specs.declared.rec.Rec.{Rec};
 
 /// No group's text begins another's, and none is the text of two groups.

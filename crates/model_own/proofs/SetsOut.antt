@@ -6,7 +6,8 @@ use Rattle.model_core.specs.{without_link_room}
 use Rattle.model_core.specs.ActorProgram.{opposite}
 use Rattle.model_core.specs.declared.steps.UserStep.{UserStep}
 use Rattle.model_core.specs.declared.steps.UserStep.TheVariants as user_step
-use Rattle.model_own.specs.OwnWrites.{MayHelpAt, OwnUser, helps_at, sets_out}
+use Rattle.model_own.specs.OwnWrites.{OwnUser, helps_at, sets_out}
+use Rattle.model_own.specs.ErrandFits.{MayHelpAt}
 
 space_at : (b : Bool) (x y : UserState) → opposite b ≡ true → MayHelpAt y.step → MayHelpAt (cond b x y).step
 space_at true x y z w = absurd (cc)

@@ -1,2 +1,3 @@
+pub mod ErrandFits
 pub mod OwnTurn
 pub mod OwnWrites

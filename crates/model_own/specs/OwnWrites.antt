@@ -1,7 +1,7 @@
 -- Users that write for themselves: no writer and no flusher takes turns. DEVICE's slot has the states of both beside
 -- the log part. A user that would wait for the log goes on an errand first: it takes DEVICE and does the log's work
 -- itself, by their programs.
-use Rattle.std.specs.Prelude.{Bool, cond, false, nat_lt, true, ℕ, ◌==◌, ◌≡◌}
+use Rattle.std.specs.Prelude.{Bool, cond, false, nat_lt, true, ℕ, ◌==◌}
 use Rattle.model_core.specs.ActorProgram.{checked_of, opposite}
 use Rattle.model_core.specs.Actors.{Blocks, Lent, Nothing}
 use Rattle.model_core.specs.Answers.{heard, old_of, on_take}
@@ -66,21 +66,6 @@ begins_again s = s
 abbrev pub keeps_helped : UserStep → Bool
 keeps_helped user_step.LoadCheckpoint = true
 keeps_helped _ = false
-
--- the steps at which a user may be on an errand
-abbrev pub MayHelpAt : UserStep → Type 0
-MayHelpAt user_step.LoadCheckpoint = Unit {0}
-MayHelpAt user_step.LoadWrite = Unit {0}
-MayHelpAt user_step.LoadWtail = Unit {0}
-MayHelpAt user_step.ReloadWtail = Unit {0}
-MayHelpAt user_step.AwaitMark = Unit {0}
-MayHelpAt _ = ⊥
-
--- A user on an errand stands at one of them, and with the log part in hand it doesn't check for a failure.
-abbrev pub ErrandFits : UserState → ErrandStep → Type 0
-ErrandFits u errand_step.Done = Unit {0}
-ErrandFits u errand_step.TakeDevice = MayHelpAt u.step
-ErrandFits u _ = MayHelpAt u.step × (u.checks ≡ false)
 
 -- It flushes too: where the log is short of space, or for a commit that waits for the flush.
 abbrev pub flushes_at : UserState → UserStep → Bool
@@ -205,12 +190,6 @@ own_checked o n = record o {
   user = checked_of user_program o.user n;
   errand = cond (n == 0) o.errand errand_step.Done;
 }
-
--- it has the log part and the log's work in hand
-abbrev pub has_work : ErrandStep → Bool
-has_work errand_step.Done = false
-has_work errand_step.TakeDevice = false
-has_work _ = true
 
 -- its next Op, what it lends, its state and the log's work after the answer, whether it waits, and how the step ends
 abbrev pub own_next : OwnUser → LogWork → Op

@@ -28,7 +28,7 @@ use Rattle.model_ownrun.proofs.Restated.{restated}
 use Rattle.model_ownrun.proofs.Seats.{flusher_put, flusher_seat, flusher_there, user_put, user_there, writer_put}
 use Rattle.model_ownrun.proofs.Seats.{writer_seat, writer_there}
 use Rattle.model_ownrun.proofs.UserAlike.{again_same}
-use Rattle.model_own.specs.OwnWrites.{MayHelpAt}
+use Rattle.model_own.specs.ErrandFits.{MayHelpAt}
 use Rattle.model_pagecore.specs.{PageGhost, UserHasLatch}
 use Rattle.model_pagecore.specs.DataLaws.{DataLaws}
 use Rattle.model_pagecore.specs.PageHalf.{UserPageFits, UserPagesAt}

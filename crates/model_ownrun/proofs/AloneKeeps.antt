@@ -30,7 +30,8 @@ use Rattle.model_core.specs.declared.words.Word.TheVariants as word
 use Rattle.model_core.specs.Actors as actor
 use Rattle.model_logcore.specs.LogLaws.{LogLaws}
 use Rattle.model_own.specs.OwnTurn.{OtherTurn, OwnCore, OwnTurn, UserTurn, all_actors}
-use Rattle.model_own.specs.OwnWrites.{LogWork, OwnUser, errand_lends, errand_op, errand_took, errand_waits, has_work}
+use Rattle.model_own.specs.OwnWrites.{LogWork, OwnUser, errand_lends, errand_op, errand_took, errand_waits}
+use Rattle.model_own.specs.ErrandFits.{has_work}
 use Rattle.model_own.specs.OwnWrites.{helps_at, keeps_helped, loads_again, own_checked, own_goes_on, own_lends}
 use Rattle.model_own.specs.OwnWrites.{own_next, own_step_of, sets_out, taken_up}
 use Rattle.model_own.specs.declared.errand.ErrandStep.{ErrandStep}
@@ -41,7 +42,7 @@ use Rattle.model_ownrun.proofs.Errands.{in_hand}
 use Rattle.model_ownrun.proofs.Moves.{answer_to, Runs}
 use Rattle.model_ownrun.proofs.OwnKeeps.{answered_by_name, own_user_turn, shared_is}
 use Rattle.model_ownrun.specs.Alone.{Alone, AloneRunning, ErrandAlone, HasHelped, OutAt, UserAlone, WriterAlone, top}
-use Rattle.model_own.specs.OwnWrites.{ErrandFits}
+use Rattle.model_own.specs.ErrandFits.{ErrandFits}
 use Rattle.model_ownrun.specs.OwnRunning.{Errands, IsFlusherAtRest, IsWriterAtRest, SomebodyAtWork}
 use Rattle.model_ownrun.specs.OwnRunning.{WorkFits}
 use Rattle.model_pagecore.specs.DataLaws.{DataLaws}

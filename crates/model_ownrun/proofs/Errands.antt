@@ -21,13 +21,14 @@ use Rattle.model_logcore.specs.LogFacts.{LogGhost}
 use Rattle.model_logcore.specs.LogLaws.{LogLaws}
 use Rattle.model_logcore.specs.Ready.{CanLend, Ready}
 use Rattle.model_own.specs.OwnTurn.{all_actors}
-use Rattle.model_own.specs.OwnWrites.{LogWork, OwnUser, has_work}
+use Rattle.model_own.specs.OwnWrites.{LogWork, OwnUser}
+use Rattle.model_own.specs.ErrandFits.{has_work}
 use Rattle.model_own.specs.declared.errand.ErrandStep.{ErrandStep}
 use Rattle.model_own.specs.declared.errand.ErrandStep.TheVariants as errand_step
 use Rattle.model_ownrun.proofs.Moves.{Runs}
 use Rattle.model_ownrun.proofs.Seats.{flusher_seat, flusher_seat_is, flusher_there, writer_seat, writer_seat_is}
 use Rattle.model_ownrun.proofs.Seats.{writer_there}
-use Rattle.model_own.specs.OwnWrites.{ErrandFits}
+use Rattle.model_own.specs.ErrandFits.{ErrandFits}
 use Rattle.model_ownrun.specs.OwnRunning.{Errands, FlushesAt, IsFlusherAtRest, IsWriterAtRest}
 use Rattle.model_ownrun.specs.OwnRunning.{NobodyAtWork, SomebodyAtWork, WorkAt, WorkFits, WritesAt}
 use Rattle.model_pagecore.specs.DataLaws.{DataLaws}

@@ -28,8 +28,8 @@ use Rattle.model_ownrun.proofs.ActorSteps.{flusher_goes_on, user_fails}
 use Rattle.model_ownrun.proofs.Moves.{answer_to, lists_after, Runs}
 use Rattle.model_ownrun.proofs.Seats.{flusher_seat, flusher_there}
 use Rattle.model_ownrun.proofs.WriterPart.{Leaves, goes_to}
-use Rattle.model_own.specs.OwnWrites.{MayHelpAt}
-use Rattle.model_own.specs.OwnWrites.{ErrandFits}
+use Rattle.model_own.specs.ErrandFits.{MayHelpAt}
+use Rattle.model_own.specs.ErrandFits.{ErrandFits}
 use Rattle.model_ownrun.specs.OwnRunning.{FlushesAt, IsWriterAtRest, WorkFits}
 use Rattle.model_pagecore.specs.DataLaws.{DataLaws}
 

@@ -22,7 +22,8 @@ use Rattle.model_core.specs.declared.words.Word.TheVariants as word
 use Rattle.model_core.specs.Actors as actor
 use Rattle.model_logcore.specs.LogLaws.{LogLaws}
 use Rattle.model_own.specs.OwnTurn.{OtherTurn, OwnCore, OwnTurn, UserTurn, all_actors, with_writer}
-use Rattle.model_own.specs.OwnWrites.{LogWork, OwnUser, errand_lends, errand_op, errand_took, has_work}
+use Rattle.model_own.specs.OwnWrites.{LogWork, OwnUser, errand_lends, errand_op, errand_took}
+use Rattle.model_own.specs.ErrandFits.{has_work}
 use Rattle.model_own.specs.OwnWrites.{own_checked, own_goes_on, own_lends, own_next, taken_up, waiting}
 use Rattle.model_own.specs.declared.errand.ErrandStep.{ErrandStep}
 use Rattle.model_own.specs.declared.errand.ErrandStep.TheVariants as errand_step
@@ -34,7 +35,7 @@ use Rattle.model_ownrun.proofs.Seats.{flusher_seat, flusher_there, user_there, w
 use Rattle.model_ownrun.proofs.UserPart.{Aside, checks, finds_held, gives_broken, none_checking, steps, takes}
 use Rattle.model_ownrun.proofs.UserPart.{user_keeps_part}
 use Rattle.model_ownrun.proofs.WriterPart.{Leaves, write_by}
-use Rattle.model_own.specs.OwnWrites.{ErrandFits}
+use Rattle.model_own.specs.ErrandFits.{ErrandFits}
 use Rattle.model_ownrun.specs.OwnRunning.{Errands, IsWriterAtRest, NobodyAtWork, OwnRunning}
 use Rattle.model_ownrun.specs.OwnRunning.{WorkFits, WritesAt}
 use Rattle.model_pagecore.specs.DataLaws.{DataLaws}

@@ -21,14 +21,15 @@ use Rattle.model_logcore.proofs.NewUsers.{new_user_is}
 use Rattle.model_logcore.specs.LogHalf.{left_to_reserve}
 use Rattle.model_logcore.specs.LogLaws.{LogLaws}
 use Rattle.model_own.specs.OwnTurn.{OtherTurn, OwnCore, OwnTurn, all_actors, with_writer}
-use Rattle.model_own.specs.OwnWrites.{LogWork, OwnUser, has_work, own_goes_on}
+use Rattle.model_own.specs.OwnWrites.{LogWork, OwnUser, own_goes_on}
+use Rattle.model_own.specs.ErrandFits.{has_work}
 use Rattle.model_own.specs.declared.errand.ErrandStep.{ErrandStep}
 use Rattle.model_own.specs.declared.errand.ErrandStep.TheVariants as errand_step
 use Rattle.model_ownrun.proofs.AloneKeeps.{alone_turns}
 use Rattle.model_ownrun.proofs.OwnKeeps.{own_turn_keeps}
 use Rattle.model_ownrun.proofs.Seats.{seats_count}
 use Rattle.model_ownrun.specs.Alone.{Alone, AloneRunning, ErrandAlone, UserAlone}
-use Rattle.model_own.specs.OwnWrites.{ErrandFits}
+use Rattle.model_own.specs.ErrandFits.{ErrandFits}
 use Rattle.model_ownrun.specs.OwnRunning.{OwnRunning, WorkFits}
 use Rattle.model_ownrun.specs.OwnRuns.{AskAtSeat, AskOrGo, own_store}
 use Rattle.model_ownrun.specs.OwnStart.{OwnStart}

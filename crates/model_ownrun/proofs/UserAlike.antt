@@ -16,7 +16,7 @@ use Rattle.model_logcore.specs.LogFacts.{LogGhost}
 use Rattle.model_logcore.specs.LogFits.{UserAt, UserFits}
 use Rattle.model_own.specs.OwnWrites.{begins_again, loads_again}
 use Rattle.model_ownrun.proofs.Restated.{IsAlike}
-use Rattle.model_own.specs.OwnWrites.{MayHelpAt}
+use Rattle.model_own.specs.ErrandFits.{MayHelpAt}
 use Rattle.model_pagecore.specs.{PageGhost, UserHasLatch}
 use Rattle.model_pagecore.specs.PageHalf.{UserClosingAt, UserPageFits, UserPagesAt}
 use Rattle.model_running.specs.RunningStore.{BothHalves}

@@ -19,7 +19,8 @@ use Rattle.model_core.specs.declared.words.LinkBuffer.TheVariants as link_buffer
 use Rattle.model_logcore.specs.LogLaws.{LogLaws}
 use Rattle.model_own.proofs.SetsOut.{out_at}
 use Rattle.model_own.specs.OwnTurn.{all_actors}
-use Rattle.model_own.specs.OwnWrites.{LogWork, OwnUser, asks_again, begins_again, given_back, has_work}
+use Rattle.model_own.specs.OwnWrites.{LogWork, OwnUser, asks_again, begins_again, given_back}
+use Rattle.model_own.specs.ErrandFits.{has_work}
 use Rattle.model_own.specs.OwnWrites.{keeps_helped, loads_again, own_checked, own_stepped, sets_out, taken_up, waiting}
 use Rattle.model_own.specs.declared.errand.ErrandStep.{ErrandStep}
 use Rattle.model_own.specs.declared.errand.ErrandStep.TheVariants as errand_step
@@ -28,8 +29,8 @@ use Rattle.model_ownrun.proofs.Moves.{advance_keeps, answer_to, flusher_gives, f
 use Rattle.model_ownrun.proofs.Moves.{user_moves}
 use Rattle.model_ownrun.proofs.UserAlike.{again_begins, again_loads, again_same}
 use Rattle.model_ownrun.proofs.WriterPart.{Leaves, goes_to}
-use Rattle.model_own.specs.OwnWrites.{MayHelpAt}
-use Rattle.model_own.specs.OwnWrites.{ErrandFits}
+use Rattle.model_own.specs.ErrandFits.{MayHelpAt}
+use Rattle.model_own.specs.ErrandFits.{ErrandFits}
 use Rattle.model_ownrun.specs.OwnRunning.{WorkFits}
 use Rattle.model_pagecore.specs.DataLaws.{DataLaws}
 

@@ -41,8 +41,8 @@ use Rattle.model_ownrun.proofs.Moves.{writer_has, writer_rests, writer_takes}
 use Rattle.model_ownrun.proofs.Seats.{writer_seat, writer_there}
 use Rattle.model_ownrun.proofs.UserAlike.{again_same}
 use Rattle.model_ownrun.proofs.WriterStates.{with_cleared, with_room, with_word, with_write}
-use Rattle.model_own.specs.OwnWrites.{MayHelpAt}
-use Rattle.model_own.specs.OwnWrites.{ErrandFits}
+use Rattle.model_own.specs.ErrandFits.{MayHelpAt}
+use Rattle.model_own.specs.ErrandFits.{ErrandFits}
 use Rattle.model_ownrun.specs.OwnRunning.{FlushesAt, IsFlusherAtRest, WorkFits, WritesAt}
 use Rattle.model_pagecore.specs.DataLaws.{DataLaws}
 

@@ -8,7 +8,8 @@ use Rattle.model_core.specs.Setup.{Setup}
 use Rattle.model_core.specs.declared.steps.FlusherStep.{FlusherStep}
 use Rattle.model_core.specs.declared.steps.WriterStep.{WriterStep}
 use Rattle.model_own.specs.OwnTurn.{OwnCore, with_writer}
-use Rattle.model_own.specs.OwnWrites.{ErrandFits, LogWork, OwnUser, has_work}
+use Rattle.model_own.specs.OwnWrites.{LogWork, OwnUser}
+use Rattle.model_own.specs.ErrandFits.{ErrandFits, has_work}
 use Rattle.model_own.specs.declared.errand.ErrandStep.{ErrandStep}
 use Rattle.model_running.specs.RunningStore.{IsRunning}
 use Rattle.model_core.specs.declared.steps.AdvanceStep.TheVariants as advance_step

@@ -7,7 +7,7 @@ use Rattle.model_device.proofs.Images.{settled_images}
 use Rattle.model_store.specs.{IsFair, IsFairLog}
 use Rattle.model_store.specs.Reading.{Reading}
 use Rattle.model_parts.specs.Again.{HasRoom, OpensAgain}
-use Rattle.model_parts.specs.Found.{IsAtRest}
+use Rattle.model_parts.specs.AtRest.{IsAtRest}
 use Rattle.model_parts.specs.Opened.{ReadsOpened, KeepsOpened}
 
 pub settled-rests : (bytes : List ℕ) → IsAtRest (settled bytes)

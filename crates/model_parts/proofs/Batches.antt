@@ -11,7 +11,8 @@ use Rattle.model_page.specs.{copy_lsn_by, FitsPage, page_check, page_text, place
 use Rattle.model_page.specs.declared.page.PageState.TheVariants.{Sound}
 use Rattle.model_page.proofs.NotBlank.{is_blank-page_text_whole}
 use Rattle.model_page.proofs.ReadBack.{page_check-page_text, user_part-page_text}
-use Rattle.model_parts.specs.Batch.{Fresh, IsFreshPage, new_text, batch_text}
+use Rattle.model_parts.specs.Batch.{Fresh, new_text, batch_text}
+use Rattle.model_parts.specs.BatchFits.{IsFreshPage}
 use Rattle.model_parts.proofs.Rows.{one-more-row}
 
 pub length-page_text : (number space lsn : ℕ) (user : List ℕ)

@@ -19,7 +19,8 @@ use Rattle.model_log.proofs.Places.{HasBlocks}
 use Rattle.model_parts.specs.declared.marks.LogMarks.{LogMarks}
 use Rattle.model_parts.specs.declared.marks.TailMarks.{TailMarks}
 use Rattle.model_parts.specs.Held.{AreInOrder, HoldsTail, IsBeside, IsBlockPlace, IsLive, IsTail, IsWritten, LogHoldsWith, MayStand, other_place}
-use Rattle.model_parts.specs.Marks.{after_asked, after_checkpoint, after_synced, HasNextNumber, MayBeNext, tails_synced}
+use Rattle.model_parts.specs.Marks.{after_asked, after_checkpoint, after_synced, HasNextNumber}
+use Rattle.model_parts.specs.NextMarks.{MayBeNext, tails_synced}
 use Rattle.model_parts.proofs.LogImages.{beside-kept, header-below, place-cases, places-on}
 use Rattle.model_parts.proofs.Puts.{adds-holds, HasToStay, place-past, place-wider, PutsWell, tail-wider}
 use Rattle.model_parts.proofs.Torn.{AddsTorn, synced-stands}

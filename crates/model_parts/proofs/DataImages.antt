@@ -10,7 +10,8 @@ use Rattle.model_device.specs.{after_write, after_writes, settled}
 use Rattle.model_device.specs.Disk.{Disk}
 use Rattle.model_device.specs.declared.write.Write.{Write}
 use Rattle.model_store.specs.{IsFair}
-use Rattle.model_parts.specs.Batch.{Fresh, IsNew, IsFreshPage, IsBatch, new_text, slots_write, place_writes, after_batch}
+use Rattle.model_parts.specs.Batch.{Fresh, IsNew, new_text, slots_write, place_writes, after_batch}
+use Rattle.model_parts.specs.BatchFits.{IsFreshPage, IsBatch}
 use Rattle.model_parts.specs.Stored.{IsKnown, copied, KeepsPage, ImageHolds, Keeps, Stored}
 use Rattle.model_parts.specs.BatchKept.{AreNotNewer}
 use Rattle.model_parts.proofs.Stretches.{AreApart, ArePut, fair-apart, fair-put, apart-put, take-apart, take-put, pieces-apart, pieces-has, length-after, stretch-piece}

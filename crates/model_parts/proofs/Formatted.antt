@@ -27,8 +27,9 @@ use Rattle.model_store.specs.declared.refusal.Refusal.TheVariants.{NotFormatted}
 use Rattle.model_store.proofs.Sources.{empty-scan}
 use Rattle.model_store.proofs.Taking.{taken-none}
 use Rattle.model_parts.specs.Changes.{IsUnsealed}
-use Rattle.model_parts.specs.Formatted.{zero_block}
-use Rattle.model_parts.specs.Formatted.{IsFormattedLog, IsFormattedData, IsFormatted, formatted_store}
+use Rattle.model_parts.specs.FormattedDevices.{zero_block}
+use Rattle.model_parts.specs.Formatted.{formatted_store}
+use Rattle.model_parts.specs.FormattedDevices.{IsFormattedLog, IsFormattedData, IsFormatted}
 use Rattle.model_parts.specs.Opened.{IsOpenable}
 use Rattle.model_parts.specs.Stored.{copied, IsUpTo}
 use Rattle.model_parts.specs.BatchKept.{IsOpened}

@@ -6,7 +6,8 @@ use Rattle.model_page.specs.{copy_lsn, copy_lsn_by, IsInPlace, page_check, place
 use Rattle.model_page.specs.declared.content.Content.{Content}
 use Rattle.model_page.specs.declared.page.PageState.TheVariants.{Broken}
 use Rattle.model_page.proofs.Kept.{same_content}
-use Rattle.model_parts.specs.Batch.{Fresh, IsFreshPage, new_text}
+use Rattle.model_parts.specs.Batch.{Fresh, new_text}
+use Rattle.model_parts.specs.BatchFits.{IsFreshPage}
 use Rattle.model_parts.specs.Stored.{copied}
 use Rattle.model_parts.proofs.Batches.{check-new_text, user-new_text, place-sound, copy-sound, copy-named}
 

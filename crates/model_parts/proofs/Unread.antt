@@ -13,7 +13,7 @@ use Rattle.model_log.proofs.Places.{HasBlocks}
 use Rattle.model_store.specs.{if_full, if_tail, read_full, read_tail}
 use Rattle.model_store.proofs.Taking.{from-full, from-tail}
 use Rattle.model_parts.specs.Changes.{IsUnsealed}
-use Rattle.model_parts.specs.Formatted.{zero_block}
+use Rattle.model_parts.specs.FormattedDevices.{zero_block}
 
 -- WHERE THE CHECKSUM DOESN'T FIT no block is read, no checkpoint and no header.
 

@@ -21,7 +21,8 @@ use Rattle.model_store.specs.{read_full}
 use Rattle.model_parts.specs.declared.marks.LogMarks.{LogMarks}
 use Rattle.model_parts.specs.declared.marks.TailMarks.{TailMarks}
 use Rattle.model_parts.specs.Held.{AreInOrder, HoldsTail, IsBeside, IsFullBlock, IsHeadPlace, IsLive, IsTail, IsTailBlock, IsWritten, LogHoldsWith, other_place}
-use Rattle.model_parts.specs.Marks.{after_given, after_written, tails_written}
+use Rattle.model_parts.specs.Marks.{after_given, after_written}
+use Rattle.model_parts.specs.NextMarks.{tails_written}
 use Rattle.model_parts.proofs.LogImages.{beside-kept, header-below}
 use Rattle.model_parts.proofs.Puts.{adds-holds, covered, full-puts, full-wider, IsOneOf, MovesOn, not-below, only-tail, place-past, place-wider, tail-puts, tail-text, tail-wider, WritesFull, WritesTail}
 use Rattle.model_parts.proofs.Tails.{tail-is}

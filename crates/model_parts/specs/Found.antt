@@ -1,18 +1,11 @@
 -- What stands on a device before it is opened or formatted, and until that comes to its end.
 use Rattle.std.specs.Prelude.{ℕ, ◌≡◌, ◌≢◌, List, length, Some}
 use Rattle.model_base.specs.declared.shape.Shape.{Shape}
-use Rattle.model_device.specs.{AreSectorWrites, HasOneImage, IsImage, sector}
-use Rattle.model_device.specs.Disk.{Disk}
+use Rattle.model_device.specs.{sector}
 use Rattle.model_log.specs.{head_of, newest_checkpoint, run_layout}
 use Rattle.model_log.specs.declared.head.Format.{Format}
 use Rattle.model_log.specs.declared.head.Format.TheVariants.{Two}
 use Rattle.model_log.specs.declared.head.Head.TheVariants.{Good}
-
--- the device has one image, and reads give it; what was written since the last sync is whole sectors
-pub record IsAtRest (disk : Disk) : Type 0 where
-  pub one_image : HasOneImage disk disk.reads
-  pub reads : IsImage disk disk.reads
-  pub sectors : AreSectorWrites (length disk.base) disk.writes
 
 -- Opening hasn't come to its end, as these bytes of the log device tell: their header is of the format that was found, and
 -- in format 2 the newest checkpoint is the one that was found. In format 1 the header comes last.

@@ -1,8 +1,6 @@
 -- The marks of a log device and of its tail blocks, and how each call moves them.
-use Rattle.std.specs.Prelude.{ℕ, ◌≡◌, ◌≤◌, ◌<◌, ◌+◌, ◌-◌, ◌%◌, ◌^◌, nat_lt, if◌then◌else◌}
-use Rattle.model_base.specs.declared.limits.TheConstants.{BLOCK_SIZE, LSN_LIMIT}
+use Rattle.std.specs.Prelude.{ℕ, ◌<◌, ◌+◌, ◌-◌, ◌%◌, ◌^◌}
 use Rattle.model_log.specs.declared.layout.TheConstants.{BLOCK_HEADER, HEADER_BLOCKS}
-use Rattle.model_log.specs.{block_of, other_tail}
 use Rattle.model_parts.specs.declared.marks.LogMarks.{LogMarks}
 use Rattle.model_parts.specs.declared.marks.TailMarks.{TailMarks}
 
@@ -38,23 +36,6 @@ after_checkpoint number lsn marks = record marks { number = number; ckpt = lsn; 
 -- the tail marks of a part that starts a run there: the next tail is block 4
 abbrev pub first_tails : ℕ → TailMarks
 first_tails start = record { kept = start; tail = HEADER_BLOCKS + 1; newest = HEADER_BLOCKS + 1 }
-
--- after `write_to` with this mark answered Ok: where the mark has an incomplete block, that went to the other tail block
--- than the one that holds the newest version made stable
-abbrev pub tails_written : ℕ → TailMarks → TailMarks
-tails_written mark tails =
-    if nat_lt (block_of mark + BLOCK_HEADER) mark then record tails { newest = other_tail tails.tail } else tails
-
--- after a good sync, be it a checkpoint's
-abbrev pub tails_synced : ℕ → TailMarks → TailMarks
-tails_synced written tails = record { kept = written; tail = tails.newest; newest = tails.newest }
-
--- The next checkpoint may stand at this lsn: the start of a block, from the last one asked for up to the stable mark.
-pub record MayBeNext (marks : LogMarks) (lsn : ℕ) : Type 0 where
-  pub aligned : lsn % BLOCK_SIZE ≡ 0
-  pub small : lsn < LSN_LIMIT
-  pub from : marks.asked ≤ lsn
-  pub up_to : lsn ≤ marks.stable
 
 -- the number of the checkpoint after the one of this number, which goes round
 abbrev pub next_number : ℕ → ℕ

@@ -6,7 +6,7 @@ use Rattle.model_log.specs.declared.head.Format.{Format}
 use Rattle.model_log.specs.declared.head.Format.TheVariants.{One, Two}
 use Rattle.model_log.specs.declared.layout.Layout.{Layout}
 use Rattle.model_log.specs.declared.layout.TheConstants.{BLOCK_HEADER}
-use Rattle.model_parts.specs.Found.{IsAtRest}
+use Rattle.model_parts.specs.AtRest.{IsAtRest}
 use Rattle.model_store.specs.{HasOldCopies, IsFair, IsFairLog, IsOrderly, IsReading}
 use Rattle.model_store.specs.Reading.{Reading}
 

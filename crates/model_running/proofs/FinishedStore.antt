@@ -8,7 +8,7 @@ use Rattle.model_core.specs.Setup.{Setup}
 use Rattle.model_running.proofs.Finished.{finished_groups, finished_marks, finished_run, marks_same}
 use Rattle.model_running.specs.Finished.{StandsForRun}
 use Rattle.model_running.specs.RunOf.{run_of}
-use Rattle.model_running.specs.History.{history_of}
+use Rattle.model_running.specs.Histories.{history_of}
 use Rattle.model_running.specs.Script.{IsOfScript}
 use Rattle.model_report.specs.declared.entry.Marks.{Marks}
 use Rattle.model_log.specs.{start_after}

@@ -8,7 +8,8 @@ use Rattle.model_core.specs.{answered, end_of, entry, Line, line_at, lsn, mode}
 use Rattle.model_core.specs.Setup.{Setup}
 use Rattle.model_running.proofs.Groups.{line_below}
 use Rattle.model_running.proofs.Places.{history_spans, lsn_is, sn_back, tiled_spans}
-use Rattle.model_running.specs.History.{history_entry, history_of, state_of}
+use Rattle.model_running.specs.History.{history_entry, state_of}
+use Rattle.model_running.specs.Histories.{history_of}
 use Rattle.model_running.specs.Script.{IsLineOf, IsOfScript}
 use Rattle.model_report.proofs.Growing.{state_by-allows, state_by-says}
 use Rattle.model_report.specs.{entries_of_user, FitsMarks, FitsMode, IsAnswered, IsLegal, IsLegalEntry, lines_of_user, state_by}

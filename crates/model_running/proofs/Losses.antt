@@ -7,7 +7,7 @@ use Rattle.model_core.specs.{Actor, entries, entries_from, entry, found, Line, l
 use Rattle.model_core.specs.LogSide.{LogSide}
 use Rattle.model_core.specs.Setup.{Setup}
 use Rattle.model_running.proofs.Legality.{counts, from_log, lost_unanswered}
-use Rattle.model_running.specs.History.{history_of}
+use Rattle.model_running.specs.Histories.{history_of}
 use Rattle.model_running.specs.Script.{HasSeats, IsOfScript}
 use Rattle.model_report.specs.{entries_of_user, IsLeft, lines_of_user}
 use Rattle.model_report.specs.declared.entry.Entry.{Entry}

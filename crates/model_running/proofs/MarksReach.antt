@@ -8,7 +8,7 @@ use Rattle.model_core.specs.Actors as model
 use Rattle.model_core.specs.DataSide.{DataSide}
 use Rattle.model_core.specs.LogSide.{LogSide}
 use Rattle.model_core.specs.Setup.{Setup}
-use Rattle.model_running.specs.History.{word_marks}
+use Rattle.model_running.specs.Histories.{word_marks}
 use Rattle.model_running.specs.Watermarks.{HasMarksWithin, HasWatermarks}
 
 module _ (D : LogSide) (E : DataSide) (c : Setup) (s : Core D E) (has_marks : HasWatermarks D E c s) where

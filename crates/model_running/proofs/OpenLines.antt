@@ -9,7 +9,7 @@ use Rattle.model_core.specs.LogSide.{LogSide}
 use Rattle.model_core.specs.Setup.{Setup}
 use Rattle.model_running.proofs.Legality.{counts, lost_unanswered, ranked, unanswered_lost}
 use Rattle.model_running.proofs.Losses.{answered_is, open_line}
-use Rattle.model_running.specs.History.{history_of}
+use Rattle.model_running.specs.Histories.{history_of}
 use Rattle.model_running.specs.OpenLines.{IsAllAnswered, LeavesOpen}
 use Rattle.model_running.specs.Script.{HasSeats, IsOfScript}
 use Rattle.model_report.specs.{entries_of_user, lines_of_user}

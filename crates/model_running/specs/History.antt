@@ -1,6 +1,6 @@
 -- The history of a run: each reserved group, and how its commit stands by the marks.
-use Rattle.std.specs.Prelude.{List, [], cond, map, nat_lt, slice_index, ℕ, ◌∷◌, ◌≡◌}
-use Rattle.model_core.specs.{answered, end_of, index, lsn, SharedWords, tail_of}
+use Rattle.std.specs.Prelude.{List, [], cond, nat_lt, slice_index, ℕ, ◌∷◌, ◌≡◌}
+use Rattle.model_core.specs.{answered, end_of, index, lsn, tail_of}
 use Rattle.model_report.specs.{state_by}
 use Rattle.model_report.specs.declared.entry.Entry.{Entry}
 use Rattle.model_report.specs.declared.entry.Marks.{Marks}
@@ -18,13 +18,6 @@ state_of answered marks e = cond (nat_lt e.k answered) (state_by marks (lsn (end
 abbrev pub history_entry : (ℕ → ℕ) → Marks → core.Entry → Entry
 history_entry answered marks e = record { user = e.user; k = e.k; start = lsn e.start; end = lsn (end_of e); state = state_of (answered e.user) marks e }
 
-abbrev pub history_of : (ℕ → ℕ) → Marks → List core.Entry → List Entry
-history_of answered marks log = map (history_entry answered marks) log
-
--- the words' marks
-abbrev pub word_marks : SharedWords → Marks
-word_marks m = record { wtail = m.wtail; write = m.write; flushed = m.flushed; ckpt = m.ckpt }
-
 -- the same in the list of words
 abbrev pub marks_in : List ℕ → Marks
 marks_in ws = record {
@@ -37,9 +30,6 @@ marks_in ws = record {
 -- where each group of the log stands, in lsns
 abbrev pub log_span : core.Entry → Span
 log_span e = record { start = lsn e.start; end = lsn (end_of e) }
-
-abbrev pub log_spans : List core.Entry → List Span
-log_spans log = map log_span log
 
 -- the group is this one, with its place
 pub record IsWholeOf (e : core.Entry) (whole : Whole) : Type 0 where

@@ -5,6 +5,7 @@ pub mod ClosedStore
 pub mod DataReady
 pub mod Finished
 pub mod FinishedPages
+pub mod Histories
 pub mod History
 pub mod LatchesHeld
 pub mod ListReady
@@ -29,7 +30,8 @@ pub use Rattle.model_running.specs.ClosedStore.{DataTells, LogTells}
 pub use Rattle.model_running.specs.DataReady.{CanLendBatch}
 pub use Rattle.model_running.specs.Finished.{CausesAreFailures, HasFailedPart}
 pub use Rattle.model_running.specs.FinishedPages.{ArePrefixes}
-pub use Rattle.model_running.specs.History.{AreWholesOf, history_entry, history_of, marks_in, word_marks}
+pub use Rattle.model_running.specs.History.{AreWholesOf, history_entry, marks_in}
+pub use Rattle.model_running.specs.Histories.{history_of, word_marks}
 pub use Rattle.model_running.specs.OpenLines.{LeavesOpen}
 pub use Rattle.model_running.specs.OpenedPages.{HasItsPages}
 pub use Rattle.model_running.specs.PageContents.{content_in, contents_of, kept_content, new_content}

@@ -1,7 +1,7 @@
 -- What a run comes to, by the ghost of its log.
 use Rattle.model_core.specs.{lsn, SharedWords}
 use Rattle.model_core.specs.Setup.{Setup}
-use Rattle.model_running.specs.History.{history_of, word_marks}
+use Rattle.model_running.specs.Histories.{history_of, word_marks}
 use Rattle.model_logcore.specs.{LogGhost}
 use Rattle.model_theorem.specs.{Ran}
 

@@ -10,7 +10,8 @@ use Rattle.model_log.specs.{group_length, IsRunOf, last_span_end, layout_of, lsn
 use Rattle.model_log.proofs.Runs.{run-first}
 use Rattle.model_log.specs.declared.block.BlockView.{BlockView}
 use Rattle.model_page.specs.declared.content.Content.{Content}
-use Rattle.model_store.specs.Apply.{page_after, pages_after_from, applied, folded, page_folded, touches, user_after}
+use Rattle.model_store.specs.Apply.{page_after, pages_after_from, applied, folded, touches, user_after}
+use Rattle.model_store.specs.UpTo.{page_folded}
 use Rattle.model_store.specs.Reading.{Reading, IsReading, IsReadPage, replayed}
 use Rattle.model_store.specs.Scan.{AreGroupsOf, groups_start, Source}
 use Rattle.model_store.specs.Taking.{taken}

@@ -1,5 +1,5 @@
 -- What a group that fits the store does to its pages.
-use Rattle.std.specs.Prelude.{ℕ, ◌+◌, ◌-◌, ◌==◌, nat_le, if◌then◌else◌, Bool, List, [], ◌∷◌, length, replicate}
+use Rattle.std.specs.Prelude.{ℕ, ◌+◌, ◌-◌, ◌==◌, if◌then◌else◌, Bool, List, [], ◌∷◌, length, replicate}
 use Rattle.std.specs.List.{list_any}
 use Rattle.std.specs.Int.{bytes_high_first}
 use Rattle.model_base.specs.{overwritten}
@@ -43,14 +43,3 @@ applied group end pages = pages_after_from 0 group end pages
 abbrev pub folded : List Content → List Whole → List Content
 folded pages [] = pages
 folded pages (whole ∷ wholes) = folded (applied whole.group whole.end pages) wholes
-
--- page p with all of the groups applied, in order
-abbrev pub page_folded : ℕ → List Whole → Content → Content
-page_folded p [] page = page
-page_folded p (whole ∷ wholes) page = page_folded p wholes (page_after p whole.group whole.end page)
-
--- page p with those of the groups applied, in order, that end at or below the lsn q
-abbrev pub upto : ℕ → ℕ → List Whole → Content → Content
-upto p q [] page = page
-upto p q (whole ∷ wholes) page =
-    upto p q wholes (if nat_le whole.end q then page_after p whole.group whole.end page else page)

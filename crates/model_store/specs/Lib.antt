@@ -5,7 +5,9 @@ pub mod Opening
 pub mod Reading
 pub mod Scan
 pub mod Taking
-pub use Rattle.model_store.specs.Apply.{folded, page_after, page_folded, pages_after_from, touches, upto, user_after, user_after_own}
+pub mod UpTo
+pub use Rattle.model_store.specs.Apply.{folded, page_after, pages_after_from, touches, user_after, user_after_own}
+pub use Rattle.model_store.specs.UpTo.{page_folded, upto}
 unfoldable pub use Rattle.model_store.specs.Apply.{applied}
 pub use Rattle.model_store.specs.Fair.{IsFair, IsFairLog, IsWholeContent, IsWholeSector}
 pub use Rattle.model_store.specs.Found.{AreFoundIn, AreInPlace, IsInTail, IsTakenTail}

@@ -1,7 +1,6 @@
 -- What a reader of a device sees of it, and what each call does to that. A device that tells what it means goes on
 -- telling, unless a read gives other bytes than it told; one that doesn't tell never does.
-use Rattle.std.specs.Prelude.{ℕ, ◌≡◌, ◌≤◌, ◌+◌, ◌%◌, List, length, take, drop, Option, Some, None, Result, IsErrOf, IfSome, OnOk, OnErr}
-use Rattle.model_base.specs.declared.limits.TheConstants.{BLOCK_SIZE}
+use Rattle.std.specs.Prelude.{ℕ, ◌≡◌, ◌≤◌, List, take, drop, Option, Some, None, Result, IsErrOf, IfSome, OnOk, OnErr}
 use Rattle.model_base.specs.{HasRisen}
 use Rattle.model_device.specs.{Crashes, FailsWrite, synced, written}
 use Rattle.model_device.specs.Disk.{Disk}
@@ -20,12 +19,6 @@ pub record Seen : Type 0 where
   -- how often it has failed
   pub faults : ℕ
 
--- a range of whole sectors within so many bytes
-pub record IsRange (size at count : ℕ) : Type 0 where
-  pub from_sector : at % BLOCK_SIZE ≡ 0
-  pub whole_sectors : count % BLOCK_SIZE ≡ 0
-  pub within : at + count ≤ size
-
 -- so many of the bytes, from an offset on
 abbrev pub part : List ℕ → ℕ → ℕ → List ℕ
 part bytes at count = take count (drop at bytes)
@@ -33,11 +26,6 @@ part bytes at count = take count (drop at bytes)
 -- the write of these bytes from an offset on
 abbrev pub write_at : ℕ → List ℕ → Write
 write_at at bytes = record { at = at; bytes = bytes }
-
--- what stood there at the last good sync and what reads give are so long
-pub record HasSize (size : ℕ) (disk : Disk) : Type 0 where
-  pub base : length disk.base ≡ size
-  pub reads : length disk.reads ≡ size
 
 -- a device that told what it means goes on telling, and the call relates the two; one that didn't tell still doesn't
 abbrev pub OnTold : Option Disk → Option Disk → (Disk → Disk → Type 0) → Type 0

@@ -4,7 +4,8 @@ ghost use Rattle.model_base.specs.{overwritten};
 ghost use Rattle.model_device.specs.{HasOneImage, IsPutOrNot, synced, written};
 ghost use Rattle.redo_disk.specs.Calls.{Serve, error_of, put_requests};
 ghost use Rattle.redo_disk.specs.Made.{MakesCalls};
-ghost use Rattle.redo_disk.specs.Seen.{IsRange, HasCause, OnTold, write_at};
+ghost use Rattle.redo_disk.specs.Seen.{HasCause, OnTold, write_at};
+ghost use Rattle.redo_disk.specs.Ranges.{IsRange};
 
 use crate::{DevError, Sectors};
 

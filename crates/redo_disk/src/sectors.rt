@@ -2,7 +2,8 @@
 ghost use Rattle.std.specs.Prelude.{◌≡◌, ◌≢◌, ℕ, length, None, IfSome};
 ghost use Rattle.redo_disk.specs.Calls.{Call, Reads, Writes, Syncs};
 ghost use Rattle.redo_disk.specs.Made.{MakesCall};
-ghost use Rattle.redo_disk.specs.Seen.{Seen, IsRange, HasSize, ReadStep, WriteStep, SyncStep, CrashStep, write_at};
+ghost use Rattle.redo_disk.specs.Seen.{Seen, ReadStep, WriteStep, SyncStep, CrashStep, write_at};
+ghost use Rattle.redo_disk.specs.Ranges.{IsRange, HasSize};
 
 use crate::DevError;
 

@@ -39,7 +39,8 @@ use Rattle.redo_drive.specs.Views.{view_of}
 use Rattle.redo_drive.specs.declared.actor.Actor.{Actor}
 use Rattle.redo_drive.specs.declared.actor.Actor.TheVariants as own
 use Rattle.redo_drive.specs.declared.parts.Parts.{Parts}
-use Rattle.redo_follow.specs.Handing.{follower_fits, Following}
+use Rattle.redo_follow.specs.Handing.{follower_fits}
+use Rattle.redo_follow.specs.Following.{Following}
 use Rattle.redo_follow.specs.Lending.{with_block}
 use Rattle.redo_archiver.specs.Lending as archiving
 

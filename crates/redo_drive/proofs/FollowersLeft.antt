@@ -25,7 +25,7 @@ use Rattle.redo_drive.specs.Making.{EndsWithReaders}
 use Rattle.redo_drive.specs.Receiving.{follower_of}
 use Rattle.redo_drive.specs.Setups.{followers_from, other_actors, page_actors, readers_of, seated_actors, seated_before}
 use Rattle.redo_drive.specs.Setups.{users_of}
-use Rattle.redo_follow.specs.Handing.{Following}
+use Rattle.redo_follow.specs.Following.{Following}
 use Rattle.redo_drive.proofs.Viewed.{length_views}
 use Rattle.redo_drive.specs.Views.{followers_in, view_of, views_of}
 use Rattle.redo_drive.specs.declared.actor.Actor.{Actor}

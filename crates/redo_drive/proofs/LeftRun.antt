@@ -20,7 +20,8 @@ use Rattle.model_running.proofs.Archiving.{none_loses}
 use Rattle.model_running.proofs.ClosedStore.{held_run}
 use Rattle.model_running.proofs.Finished.{finished_groups, finished_losses, finished_run, marks_same}
 use Rattle.model_running.proofs.Places.{bound_spans, history_spans}
-use Rattle.model_running.specs.History.{AreWholesOf, log_spans}
+use Rattle.model_running.specs.History.{AreWholesOf}
+use Rattle.model_running.specs.Histories.{log_spans}
 use Rattle.model_running.specs.ReadHalf.{FollowerHas, groups_upto, HasByKind, ReaderHas, ReadHalf}
 use Rattle.model_logcore.specs.{LogGhost}
 use Rattle.model_running.proofs.FinishedPages.{finished_pages}
@@ -62,7 +63,8 @@ use Rattle.redo_drive.specs.Receiving.{follower_of, IsSameFollower}
 use Rattle.redo_drive.specs.Running.{groups_of}
 use Rattle.redo_drive.specs.Setups.{first_reader, seated_actors}
 use Rattle.redo_drive.specs.Turning.{core_of}
-use Rattle.redo_follow.specs.Handing.{Following, StandsFor}
+use Rattle.redo_follow.specs.Handing.{StandsFor}
+use Rattle.redo_follow.specs.Following.{Following}
 use Rattle.redo_drive.proofs.Viewed.{views_at}
 use Rattle.redo_drive.specs.Views.{followers_in, views_of}
 use Rattle.redo_drive.specs.declared.actor.Actor.{Actor}

@@ -8,6 +8,7 @@ use Rattle.model_core.specs.{appended, Each, Listed, lists_left, oldest_of, with
 use Rattle.model_core.specs.declared.ops.Op.TheVariants as op
 use Rattle.redo_flushlist.specs.{Listing}
 use Rattle.redo_flushlist.specs.Order as own
+use Rattle.redo_flushlist.specs.InOrder as inorder
 use Rattle.redo_flushlist.specs.declared.dirty.Dirty.{Dirty}
 use Rattle.redo_flushlist.specs.declared.dirty.TheConstants.{FLUSH_ORDER_LAG}
 use Rattle.redo_drive.specs.Lists.{AreLists, Listings, added, empty_lists, listed_of, listing_at, lists_of, no_list, removed, with_list}
@@ -22,21 +23,21 @@ may_follow (e ∷ es) x near zero d l = near.0
 may_follow (e ∷ es) x near (suc k) d l = may_follow es x near.1 k d (omega arith)
 
 -- a page that the definition doesn't find isn't there
-pub none_there : (es : List Dirty) (p : ℕ) → Each (λ (y : Listed). 0 < y.oldest) (Listed_in es) → oldest_of p (Listed_in es) ≡ 0 → own.listed_oldest es p ≡ None
+pub none_there : (es : List Dirty) (p : ℕ) → Each (λ (y : Listed). 0 < y.oldest) (Listed_in es) → oldest_of p (Listed_in es) ≡ 0 → inorder.listed_oldest es p ≡ None
 none_there [] p real none = refl
 none_there (e ∷ es) p real none = by (e.page == p) real.0 none (none_there es p real.1)
   where
-    by : (b : Bool) → 0 < e.oldest → cond b e.oldest (oldest_of p (Listed_in es)) ≡ 0 → (oldest_of p (Listed_in es) ≡ 0 → own.listed_oldest es p ≡ None)
+    by : (b : Bool) → 0 < e.oldest → cond b e.oldest (oldest_of p (Listed_in es)) ≡ 0 → (oldest_of p (Listed_in es) ≡ 0 → inorder.listed_oldest es p ≡ None)
         → option_map (λ (d : Dirty). d.oldest) (cond b (Some e) (find (λ (d : Dirty). d.page == p) es)) ≡ None
     by true some none rest = absurd (omega arith)
     by false some none rest = rest none
 
 -- one that it finds is there
-pub some_there : (es : List Dirty) (p : ℕ) → 0 < oldest_of p (Listed_in es) → IsSome (own.listed_oldest es p)
+pub some_there : (es : List Dirty) (p : ℕ) → 0 < oldest_of p (Listed_in es) → IsSome (inorder.listed_oldest es p)
 some_there [] p some = absurd (omega arith)
 some_there (e ∷ es) p some = by (e.page == p) some (some_there es p)
   where
-    by : (b : Bool) → 0 < cond b e.oldest (oldest_of p (Listed_in es)) → (0 < oldest_of p (Listed_in es) → IsSome (own.listed_oldest es p))
+    by : (b : Bool) → 0 < cond b e.oldest (oldest_of p (Listed_in es)) → (0 < oldest_of p (Listed_in es) → IsSome (inorder.listed_oldest es p))
         → IsSome (option_map (λ (d : Dirty). d.oldest) (cond b (Some e) (find (λ (d : Dirty). d.page == p) es)))
     by true some rest = refl
     by false some rest = rest some

@@ -16,7 +16,7 @@ use Rattle.redo_drive.specs.Views.{view_of, views_of}
 use Rattle.redo_drive.specs.declared.actor.Actor.{Actor}
 use Rattle.redo_drive.specs.declared.actor.Actor.TheVariants as own
 use Rattle.redo_drive.specs.declared.seating.TheConstants.{FIRST_FOLLOWER}
-use Rattle.redo_follow.specs.Handing.{Following}
+use Rattle.redo_follow.specs.Following.{Following}
 
 followers_seen : {R : Type 0} (start number : ℕ) (fs : List (Following R))
     → ((i : ℕ) (f : Following R) → get_elem? fs i ≡ some f → f.state ≡ new_reader (number + i) start)

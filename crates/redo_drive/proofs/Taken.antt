@@ -17,7 +17,8 @@ use Rattle.model_running.specs.ReadHalf.{handed_at}
 use Rattle.redo_drive.specs.Receiving.{filling_of, handed_by, HasTaken, MarkFits}
 use Rattle.redo_drive.specs.declared.actor.Actor.{Actor}
 use Rattle.redo_drive.specs.declared.actor.Actor.TheVariants as own
-use Rattle.redo_follow.specs.Handing.{Followed, Following, IsToFollow, StandsFor, TookAnswer}
+use Rattle.redo_follow.specs.Handing.{Followed, IsToFollow, StandsFor, TookAnswer}
+use Rattle.redo_follow.specs.Following.{Following}
 
 -- an actor's state after an answer
 pub wrapped : {S : Type 0} (wrap : S → model.Actor) (b : Bool) (x y : S)

@@ -19,7 +19,8 @@ use Rattle.model_logcore.specs.LogHalf.{LogHalf}
 use Rattle.redo_disk.specs.Seen.{Seen}
 use Rattle.redo_drive.proofs.InOrder.{Rises, same_in_order, total, total_moved}
 use Rattle.redo_drive.proofs.Viewed.{view_at}
-use Rattle.redo_drive.specs.History.{HasGroups, HasReserved, ListsInOrder, all_listed, listed}
+use Rattle.redo_drive.specs.History.{ListsInOrder, all_listed, listed}
+use Rattle.redo_drive.specs.Reserved.{HasGroups, HasReserved}
 use Rattle.redo_drive.specs.Playing.{RunOf, run_log_side}
 use Rattle.redo_drive.specs.Running.{RunsWith}
 use Rattle.redo_drive.specs.Views.{view_of, views_of}

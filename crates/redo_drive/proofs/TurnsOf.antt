@@ -38,7 +38,7 @@ use Rattle.redo_drive.specs.Turning.{IsServed, MayServe, TakesTurn, core_of}
 use Rattle.redo_drive.specs.Views.{view_of, views_of}
 use Rattle.redo_drive.specs.declared.actor.Actor.{Actor}
 use Rattle.redo_drive.specs.declared.parts.Parts.{Parts}
-use Rattle.redo_follow.specs.Handing.{Following}
+use Rattle.redo_follow.specs.Following.{Following}
 
 -- some run of a store with these parts
 pub some_run : {L D : Type 0} → Parts L D → RunOf L D

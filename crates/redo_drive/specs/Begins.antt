@@ -15,7 +15,7 @@ use Rattle.redo_drive.specs.Playing.{RunOf, run_data_side, run_log_side}
 use Rattle.redo_drive.specs.Running.{RunsFromWith}
 use Rattle.redo_drive.specs.Views.{views_of}
 use Rattle.redo_drive.specs.declared.making.Beginning.{Beginning}
-use Rattle.redo_follow.specs.Handing.{Following}
+use Rattle.redo_follow.specs.Following.{Following}
 use Rattle.redo_store.specs.declared.opened.Opened.{Opened}
 
 -- The store stands as the invariant wants it at the start: words, parts and actors, and no page is listed.

@@ -11,7 +11,8 @@ use Rattle.redo_drive.specs.Drive.{WhereStarted}
 use Rattle.redo_drive.specs.Views.{followers_in}
 use Rattle.redo_drive.specs.declared.actor.Actor.{Actor}
 use Rattle.redo_drive.specs.declared.closed.Closed.{Closed}
-use Rattle.redo_follow.specs.Handing.{Following, StandsFor}
+use Rattle.redo_follow.specs.Handing.{StandsFor}
+use Rattle.redo_follow.specs.Following.{Following}
 use Rattle.redo_store.specs.declared.opened.Opened.{Opened}
 
 -- a group as a receiver gets it, and those that end at or below an lsn, in their order

@@ -17,6 +17,7 @@ pub mod Making
 pub mod Playing
 pub mod Receiving
 pub mod Requests
+pub mod Reserved
 pub mod Running
 pub mod Setups
 pub mod Sides

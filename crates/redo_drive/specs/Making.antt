@@ -13,7 +13,7 @@ use Rattle.redo_drive.specs.Views.{views_of}
 use Rattle.redo_drive.specs.declared.actor.Actor.{Actor}
 use Rattle.redo_drive.specs.declared.actor.Actor.TheVariants as own
 use Rattle.redo_drive.specs.declared.making.Own.{Own}
-use Rattle.redo_follow.specs.Handing.{Following}
+use Rattle.redo_follow.specs.Following.{Following}
 
 -- the last actors are these followers, in their order
 abbrev pub EndsWithFollowers : {R : Type 0} → List (Actor R) → List (Following R) → Type 0

@@ -8,7 +8,8 @@ use Rattle.model_running.specs.ReadHalf.{handed}
 use Rattle.redo_drive.specs.Views.{view_of}
 use Rattle.redo_drive.specs.declared.actor.Actor.{Actor}
 use Rattle.redo_drive.specs.declared.actor.Actor.TheVariants as own
-use Rattle.redo_follow.specs.Handing.{FollowerFits, Following, StandsFor}
+use Rattle.redo_follow.specs.Handing.{FollowerFits, StandsFor}
+use Rattle.redo_follow.specs.Following.{Following}
 
 -- the follower, if the actor is one
 abbrev pub follower_of : {R : Type 0} → Actor R → Option (Following R)

@@ -15,7 +15,7 @@ use Rattle.model_store.specs.Reading.{Reading}
 use Rattle.redo_archive.specs.Part.{Part}
 use Rattle.redo_disk.specs.Seen.{Seen}
 use Rattle.redo_drive.specs.declared.seating.TheConstants.{FIRST_FOLLOWER}
-use Rattle.redo_follow.specs.Handing.{Following}
+use Rattle.redo_follow.specs.Following.{Following}
 use Rattle.redo_store.specs.{IsRunnable}
 use Rattle.redo_store.specs.declared.opened.Opened.{Opened}
 

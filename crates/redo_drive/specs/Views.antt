@@ -3,7 +3,7 @@ use Rattle.std.specs.Prelude.{List, [], map, ◌∷◌}
 use Rattle.model_core.specs.Actors as model
 use Rattle.redo_drive.specs.declared.actor.Actor.{Actor}
 use Rattle.redo_drive.specs.declared.actor.Actor.TheVariants as own
-use Rattle.redo_follow.specs.Handing.{Following}
+use Rattle.redo_follow.specs.Following.{Following}
 
 abbrev pub view_of : {R : Type 0} → Actor R → model.Actor
 view_of (own.User user) = model.User user

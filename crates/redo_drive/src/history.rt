@@ -2,7 +2,8 @@
 ghost use Rattle.std.specs.Prelude.{ℕ, [], ◌++◌, ◌+◌, ◌≡◌, ◌<◌, ◌≤◌, if◌then◌else◌, length, nat_lt, slice_index, slice_index_or, vec_capacity};
 ghost use Rattle.model_report.specs.{state_by};
 ghost use Rattle.model_report.specs.declared.entry.State.TheVariants as state;
-ghost use Rattle.redo_drive.specs.History.{HasGroups, HasReserved, ListsInOrder, all_listed, listed, listed_from, listed_group};
+ghost use Rattle.redo_drive.specs.History.{ListsInOrder, all_listed, listed, listed_from};
+ghost use Rattle.redo_drive.specs.Reserved.{HasGroups, HasReserved, listed_group};
 ghost use Rattle.redo_drive.specs.Views.{view_of, views_of};
 
 use crate::actor::Actor;

@@ -11,7 +11,8 @@ use Rattle.std.proofs.lemmas.List.Quantifiers.{all_pairs_push}
 use Rattle.std.proofs.lemmas.Map.Made.{IsDistinct-from_AllPairs}
 use Rattle.std.proofs.lemmas.Map.Steps.{length-le_from_distinct_below}
 use Rattle.redo_flushlist.specs.declared.dirty.Dirty.{Dirty}
-use Rattle.redo_flushlist.specs.Order.{Listing, IsInOrder, IsOtherPage, MayFollow, listed_oldest, without_page}
+use Rattle.redo_flushlist.specs.Order.{Listing, without_page}
+use Rattle.redo_flushlist.specs.InOrder.{IsInOrder, IsOtherPage, MayFollow, listed_oldest}
 
 nobody : Dirty
 nobody = record { page = 0; oldest = 0 }

@@ -1,6 +1,7 @@
 // A flush list.
 ghost use Rattle.std.specs.Prelude.{◌≡◌, ◌<◌, ◌++◌, ◌∷◌, [], None, All, IfOk, IsSome};
-ghost use Rattle.redo_flushlist.specs.Order.{IsInOrder, MayFollow, first_oldest, listed_oldest, without_page};
+ghost use Rattle.redo_flushlist.specs.Order.{without_page};
+ghost use Rattle.redo_flushlist.specs.InOrder.{IsInOrder, MayFollow, first_oldest, listed_oldest};
 
 use crate::Dirty;
 use redo_lsn::NoMemory;
@@ -17,7 +18,8 @@ pub struct FlushList {
 
 impl Model for FlushList {
     ghost use Rattle.std.specs.Prelude.{◌≤◌, vec_capacity};
-    ghost use Rattle.redo_flushlist.specs.Order.{Listing, IsInOrder};
+    ghost use Rattle.redo_flushlist.specs.Order.{Listing};
+    ghost use Rattle.redo_flushlist.specs.InOrder.{IsInOrder};
 
     ghost Value = { Listing };
 

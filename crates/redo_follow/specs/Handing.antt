@@ -4,11 +4,7 @@ use Rattle.model_core.specs.{after_of, AreInFront, followed, Given, joined_texts
 use Rattle.model_core.specs.declared.ops.Answer.{Answer}
 use Rattle.model_core.specs.declared.steps.ReaderStep.{ReaderStep}
 use Rattle.model_core.specs.declared.steps.ReaderStep.TheVariants as reader_step
-
--- a follower: the state of its program, and who takes the groups
-pub record Following (R : Type 0) : Type 0 where
-  pub state : ReaderState
-  pub receiver : R
+use Rattle.redo_follow.specs.Following.{Following}
 
 -- one group more
 abbrev pub with_group : List Given → ℕ → ℕ → List ℕ → List Given

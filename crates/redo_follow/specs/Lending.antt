@@ -1,7 +1,7 @@
 -- What becomes of a follower's room for a block, which is lent to be written.
 use Rattle.std.specs.Prelude.{List, ℕ}
 use Rattle.std.specs.Borrow.{Array, Fml, Lends, MutBor, RattleType, u8}
-use Rattle.redo_follow.specs.Handing.{Following}
+use Rattle.redo_follow.specs.Following.{Following}
 use Rattle.redo_follow.specs.contracts.follower.Follower.{the_row}
 use Rattle.redo_follow.specs.declared.receiver.Receiver.{Ghosts}
 

@@ -1,3 +1,4 @@
+pub mod Following
 pub mod Handing
 pub mod Lending
 pub mod Tallying

@@ -32,7 +32,8 @@ pub struct Follower<R: Receiver> {
 impl<R: Receiver> Model for Follower<R> {
     ghost use Rattle.std.specs.Prelude.{false, ◌≡◌, ◌≤◌, ◌<◌, ◌+◌, ◌^◌, [], vec_capacity, length};
     ghost use Rattle.redo_follow.specs.declared.follower.TheConstants.{ROOM};
-    ghost use Rattle.redo_follow.specs.Handing.{Following, IsFollowerStep};
+    ghost use Rattle.redo_follow.specs.Handing.{IsFollowerStep};
+    ghost use Rattle.redo_follow.specs.Following.{Following};
 
     ghost Value = { Following R };
 

@@ -1,6 +1,6 @@
 // The file header.
 ghost use Rattle.std.specs.Prelude.{◌≡◌, IsTrue};
-ghost use Rattle.model_log.specs.Head.{format_number};
+ghost use Rattle.model_log.specs.HeadText.{format_number};
 ghost use Rattle.model_log.specs.{fits_checksum, format_of, good_head, head_among, head_text, read_head, shape_of};
 
 use model_base::START_LSN;

@@ -10,7 +10,7 @@ use Rattle.std.proofs.lemmas.List.Folds.{concat-append}
 use Rattle.redo_io.specs.Reads.{ReadRelation, GivesPiece, LastRead, IsReadThrough}
 use Rattle.redo_io.specs.Sink.{with_taken}
 use Rattle.redo_io.specs.Writes.{TakesSome, Writing}
-use Rattle.redo_io.specs.Source.{TakesFront}
+use Rattle.redo_io.specs.Steps.{TakesFront}
 use Rattle.redo_io.specs.declared.fault.ReadFault.{ReadFault}
 
 -- a sink has taken all of the bytes but the rest

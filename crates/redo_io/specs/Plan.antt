@@ -1,15 +1,7 @@
 -- The calls of something in memory that fail, by their numbers from 0, and counts that stand still at their last value.
-use Rattle.std.specs.Prelude.{ℕ, ◌+◌, ◌==◌, min, Bool, if◌then◌else◌, List}
+use Rattle.std.specs.Prelude.{ℕ, ◌==◌, Bool, if◌then◌else◌, List}
 use Rattle.std.specs.List.{list_any}
-use Rattle.model_base.specs.{last_count}
-
--- one more, where 64 bits hold it
-abbrev pub saturating_next : ℕ → ℕ
-saturating_next count = min (count + 1) last_count
-
--- the count after one more that counts or not
-abbrev pub next_count_if : Bool → ℕ → ℕ
-next_count_if counts count = if counts then saturating_next count else count
+use Rattle.redo_io.specs.Counting.{saturating_next}
 
 -- which calls fail, and how far they have come
 pub record Planned : Type 0 where

@@ -1,8 +1,6 @@
 -- What a writer to a sink sees of it, and what a write does to that. A sink that doesn't tell what it has taken never
 -- does.
-use Rattle.std.specs.Prelude.{ℕ, ◌≡◌, ◌≤◌, ◌<◌, List, ◌++◌, length, take, Option, None, Some, Result, IfOk, OnErr}
-use Rattle.model_base.specs.{HasRisen}
-use Rattle.redo_io.specs.declared.fault.IoFault.{IoFault}
+use Rattle.std.specs.Prelude.{ℕ, ◌≡◌, ◌<◌, List, ◌++◌, length, take, Option, None, Some}
 
 -- a sink, as its writers see it
 pub record SinkSeen : Type 0 where
@@ -19,12 +17,3 @@ with_taken (Some taken) bytes = Some (taken ++ bytes)
 -- the sink took some of these bytes off the front, and not all
 abbrev pub TakesPart : Option (List ℕ) → List ℕ → Option (List ℕ) → Type 0
 TakesPart old bytes new = (n : ℕ) × (n < length bytes) × (new ≡ with_taken old (take n bytes))
-
--- A write of these bytes, of which the sink takes some off the front. To take none of some bytes is a fault.
-pub record SinkStep (bytes : List ℕ) (old : SinkSeen) (result : Result ℕ IoFault) (new : SinkSeen) : Type 0 where
-  pub count : IfOk result (λ n. n ≤ length bytes)
-  pub some : IfOk result (λ n. 0 < length bytes → 0 < n)
-  pub bytes_taken : IfOk result (λ n. new.taken ≡ with_taken old.taken (take n bytes))
-  pub err : OnErr result (new.taken ≡ old.taken)
-  pub later : old.faults ≤ new.faults
-  pub cause : OnErr result (HasRisen old.faults new.faults)

@@ -2,7 +2,7 @@
 ghost use Rattle.std.specs.Prelude.{◌≡◌, ◌<◌, []};
 ghost use Rattle.redo_io.specs.Memory.{WritesStore, store_seen};
 ghost use Rattle.redo_io.specs.Plan.{unused};
-ghost use Rattle.redo_io.specs.Sink.{SinkStep};
+ghost use Rattle.redo_io.specs.Steps.{SinkStep};
 
 use crate::plan::Plan;
 use crate::{IoFault, Sink};

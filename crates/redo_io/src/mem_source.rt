@@ -2,7 +2,7 @@
 ghost use Rattle.std.specs.Prelude.{◌≡◌, ◌<◌, [], length};
 ghost use Rattle.redo_io.specs.Memory.{ReadsSupply, supply_seen};
 ghost use Rattle.redo_io.specs.Plan.{unused};
-ghost use Rattle.redo_io.specs.Source.{SourceStep};
+ghost use Rattle.redo_io.specs.Steps.{SourceStep};
 
 use crate::plan::Plan;
 use crate::{IoFault, Source};

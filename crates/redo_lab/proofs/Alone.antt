@@ -18,7 +18,8 @@ use Rattle.redo_memdisk.specs.declared.fused.Fused.{Fused}
 use Rattle.redo_lab.specs.declared.crash_command.Crashing.{Crashing}
 use Rattle.redo_lab.specs.declared.outcome.Outcome.TheVariants as outcome
 use Rattle.redo_lab.proofs.Ends.{AreTelling, at-some, leaves-unprepared}
-use Rattle.redo_lab.specs.Asked.{command_of, IsBadLine, IsLongScript, IsScriptFault, leaves_devices, reads_script}
+use Rattle.redo_lab.specs.Asked.{command_of, IsBadLine, IsLongScript, leaves_devices, reads_script}
+use Rattle.redo_lab.specs.Allowed.{IsScriptFault}
 use Rattle.redo_lab.specs.Call.{BothDevices, Guarded, IsUnfailed, IsUnwritten, LabCall, guarded}
 use Rattle.redo_lab.specs.Cause.{CanRun, IsCauseOf, IsPossible, IsUnprepared, LeavesFailed, MayKeepFrom}
 use Rattle.redo_lab.specs.Laws.{Laws}

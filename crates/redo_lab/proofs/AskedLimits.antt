@@ -18,7 +18,8 @@ use Rattle.model_script.specs.declared.misfit.TheConstants.{MAX_USERS}
 use borrow.Author.Tests.{leb-true}
 use Rattle.model_script.specs.declared.asked.Drive.{Drive}
 use Rattle.redo_lab.specs.declared.crash_command.Crashing.{Crashing}
-use Rattle.redo_lab.specs.Asked.{HasAllowedNumbers, command_of}
+use Rattle.redo_lab.specs.Asked.{command_of}
+use Rattle.redo_lab.specs.Allowed.{HasAllowedNumbers}
 use Rattle.redo_lab.specs.Runs.{command_with}
 
 -- the number is between these

@@ -30,7 +30,7 @@ use Rattle.redo_drive.specs.declared.actor.Actor.{Actor}
 use Rattle.redo_drive.specs.declared.drive.Driven.{Driven}
 use Rattle.redo_drive.specs.declared.drive.RunEnd.{RunEnd}
 use Rattle.redo_drive.specs.declared.drive.RunEnd.TheVariants.{Done, Spent}
-use Rattle.redo_follow.specs.Handing.{Following}
+use Rattle.redo_follow.specs.Following.{Following}
 use Rattle.redo_follow.specs.Tallying.{HasTally, Kept}
 use Rattle.redo_io.specs.{SourceSeen}
 use Rattle.redo_memdisk.proofs.Behind.{counts-calls, keeps-behind}
@@ -57,7 +57,8 @@ use Rattle.redo_lab.proofs.SomeLeft.{some-left}
 use Rattle.redo_lab.proofs.Told.{both-told, one-told, some-told, weaker-both}
 use Rattle.redo_lab.specs.Archived.{IsArchiveOf, IsArchived}
 use Rattle.redo_lab.specs.Call.{LabCall, WhereOpened, WhereToldNow, mids, Unfused}
-use Rattle.redo_lab.specs.Following.{AreUntold, IsToldOf}
+use Rattle.redo_lab.specs.Following.{IsToldOf}
+use Rattle.redo_lab.specs.Untold.{AreUntold}
 use Rattle.redo_lab.specs.Handed.{TellsOf, call_on}
 use Rattle.redo_lab.specs.Laws.{Laws}
 use Rattle.redo_lab.specs.Runs.{ComesTo, CommandRuns, IsLeftBy, IsToldRightly, StandsReady, course_done, course_of, ended_by, played_of, ran_of}

@@ -21,11 +21,12 @@ use Rattle.redo_drive.specs.Startable.{AreNewFollowers}
 use Rattle.redo_drive.specs.declared.actor.Actor.{Actor}
 use Rattle.redo_drive.specs.declared.closed.Closed.{Closed}
 use Rattle.redo_drive.specs.declared.seating.TheConstants.{FIRST_FOLLOWER}
-use Rattle.redo_follow.specs.Handing.{Following}
+use Rattle.redo_follow.specs.Following.{Following}
 use Rattle.redo_follow.specs.Tallying.{HasTally, Kept}
 use Rattle.redo_store.specs.declared.opened.Opened.{Opened}
 use Rattle.redo_lab.proofs.Fronts.{AreInFront, in-front}
-use Rattle.redo_lab.specs.Following.{AreUntold, IsToldOf}
+use Rattle.redo_lab.specs.Following.{IsToldOf}
+use Rattle.redo_lab.specs.Untold.{AreUntold}
 use Rattle.redo_lab.specs.Told.{IsFollowed}
 
 -- there are as many as there were

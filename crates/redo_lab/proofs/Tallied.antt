@@ -15,7 +15,7 @@ use Rattle.redo_drive.specs.Receiving.{follower_of}
 use Rattle.redo_drive.specs.declared.actor.Actor.{Actor}
 use Rattle.redo_drive.specs.declared.actor.Actor.TheVariants as own
 use Rattle.redo_drive.specs.declared.seating.TheConstants.{FIRST_FOLLOWER}
-use Rattle.redo_follow.specs.Handing.{Following}
+use Rattle.redo_follow.specs.Following.{Following}
 use Rattle.redo_follow.specs.Tallying.{HasTally, Kept}
 use Rattle.redo_lab.specs.Following.{IsToldOf}
 

@@ -7,7 +7,8 @@ use Rattle.redo_lab.specs.Ending.{SparesArchive}
 use Rattle.redo_lab.specs.declared.crash_command.Crashing.{Crashing}
 use Rattle.redo_lab.specs.declared.outcome.Outcome.{Outcome}
 use Rattle.redo_lab.specs.declared.outcome.Outcome.TheVariants as outcome
-use Rattle.redo_lab.specs.Asked.{HasAllowedNumbers, calls_archive}
+use Rattle.redo_lab.specs.Asked.{calls_archive}
+use Rattle.redo_lab.specs.Allowed.{HasAllowedNumbers}
 use Rattle.redo_lab.specs.Call.{Unfused}
 use Rattle.redo_lab.specs.Cause.{archive_size}
 use Rattle.redo_lab.specs.Runs.{command_with}

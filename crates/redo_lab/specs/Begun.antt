@@ -19,7 +19,8 @@ use Rattle.redo_memdisk.specs.{CallsThrough, seen_through}
 use Rattle.redo_memdisk.specs.declared.fused.Fused.{Fused}
 use Rattle.redo_lab.specs.Archiving.{AreBegun, HaveFinished, device_of, failed_of}
 use Rattle.redo_lab.specs.Call.{IsUnfused, LabCall}
-use Rattle.redo_lab.specs.Following.{AreUntold, IsToldOf}
+use Rattle.redo_lab.specs.Following.{IsToldOf}
+use Rattle.redo_lab.specs.Untold.{AreUntold}
 use Rattle.redo_lab.specs.Handed.{AreOf}
 use Rattle.redo_lab.specs.Runs.{IsRanBy, StandsReady, course_of, ended_by, played_of}
 use Rattle.redo_lab.specs.declared.start.Begun.{Begun}

@@ -1,17 +1,10 @@
 -- The followers of a run, whose receivers keep count.
-use Rattle.std.specs.Prelude.{List, [], length, ℕ, ◌≡◌}
-use lib.ListN.{get_elem?}
-use mathlib.Core.Option.{some}
+use Rattle.std.specs.Prelude.{List, ◌≡◌}
 use Rattle.model_base.specs.{crc_of}
 use Rattle.model_core.specs.{Given}
 use Rattle.model_report.specs.declared.entry.Followed.{Followed}
-use Rattle.redo_follow.specs.Handing.{Following}
+use Rattle.redo_follow.specs.Following.{Following}
 use Rattle.redo_follow.specs.Tallying.{HasTally, joined_given, Kept}
-
--- there are so many, and the receiver of each has got nothing
-pub record AreUntold (count : ℕ) (followers : List (Following Kept)) : Type 0 where
-  pub count_is : length followers ≡ count
-  pub none : (i : ℕ) (follower : Following Kept) → get_elem? followers i ≡ some follower → HasTally follower.receiver []
 
 -- this is told of it: what its receiver keeps, and the place up to which it has followed
 pub record IsToldOf (follower : Following Kept) (followed : Followed) : Type 0 where

@@ -1,3 +1,4 @@
+pub mod Allowed
 pub mod Answer
 pub mod Archived
 pub mod Archiving
@@ -17,3 +18,4 @@ pub mod Restoring
 pub mod Runs
 pub mod Store
 pub mod Told
+pub mod Untold

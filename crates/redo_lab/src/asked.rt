@@ -2,7 +2,8 @@
 ghost use Rattle.std.specs.Prelude.{◌≡◌, ◌⊎◌, Some, None, true, false, IfSome, IfOk, IfErr, map};
 ghost use Rattle.std.specs.String.{string_bytes};
 ghost use Rattle.model_report.specs.declared.fault.Fault.TheVariants.{Memory, Words};
-ghost use Rattle.redo_lab.specs.Asked.{command_of, runs_in_threads};
+ghost use Rattle.redo_lab.specs.Asked.{command_of};
+ghost use Rattle.redo_lab.specs.Allowed.{runs_in_threads};
 ghost use Rattle.redo_lab.specs.Runs.{command_with};
 
 use crate::crash_command::Crashing;

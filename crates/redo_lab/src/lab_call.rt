@@ -1,7 +1,8 @@
 // The top call.
 ghost use Rattle.std.specs.Prelude.{ℕ, ◌≡◌, Some, false, List, map};
 ghost use Rattle.std.specs.String.{string_bytes};
-ghost use Rattle.redo_lab.specs.Asked.{HasAllowedNumbers, calls_archive, command_of, runs_in_threads};
+ghost use Rattle.redo_lab.specs.Asked.{calls_archive, command_of};
+ghost use Rattle.redo_lab.specs.Allowed.{HasAllowedNumbers, runs_in_threads};
 ghost use Rattle.redo_lab.specs.Ending.{IsCallOf};
 ghost use Rattle.redo_lab.specs.Call.{unfused};
 ghost use Rattle.redo_lab.specs.Handed.{AreOf, call_on};

@@ -21,7 +21,8 @@ use Rattle.model_parts.proofs.LogFresh.{fresh-live}
 use Rattle.model_parts.proofs.Torn.{put-torn}
 use Rattle.redo_disk.specs.{Call, MakesCalls, Serve, write_at}
 use Rattle.redo_disk.specs.declared.error.DevError.{DevError}
-use Rattle.redo_logdev.specs.Calls.{block_writes, FailsBlocks, framed_full_blocks, full_count, last_block, written_blocks}
+use Rattle.redo_logdev.specs.Calls.{block_writes, framed_full_blocks, full_count, last_block}
+use Rattle.redo_logdev.specs.Writing.{FailsBlocks, written_blocks}
 use Rattle.redo_logdev.specs.Part.{DiskHolds, Part}
 use Rattle.redo_logdev.specs.PartConditions.{IsSoundLogPart, MayWrite}
 use Rattle.redo_logdev.proofs.Cuts.{count-firsts, IsCut}

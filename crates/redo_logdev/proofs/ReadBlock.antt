@@ -9,7 +9,8 @@ use Rattle.model_log.proofs.Places.{sector-place}
 use Rattle.model_parts.specs.{IsWritten}
 use Rattle.redo_logdev.specs.Part.{DiskHolds, Part}
 use Rattle.redo_logdev.specs.PartConditions.{IsSoundLogPart}
-use Rattle.redo_logdev.specs.ReadBlock.{block_place, HoldsBlock, MayRead}
+use Rattle.redo_logdev.specs.ReadBlock.{block_place, HoldsBlock}
+use Rattle.redo_logdev.specs.PartConditions.{MayRead}
 
 module _ {L : Type 0} (part : Part L) (size room lsn : ℕ)
     (sound : IsSoundLogPart size part.shape part.marks part.tails room) (may : MayRead part lsn) where

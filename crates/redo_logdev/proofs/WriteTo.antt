@@ -17,7 +17,8 @@ use Rattle.model_parts.proofs.Puts.{adds-holds, WritesFull, WritesTail}
 use Rattle.model_parts.proofs.Torn.{AddsTorn, fails-torn}
 use Rattle.model_parts.proofs.Writing.{full-adds, IsWriting, tail-adds, writing-begin, writing-end, writing-more, writing-tail}
 use Rattle.redo_disk.specs.{write_at}
-use Rattle.redo_logdev.specs.Calls.{back_of, FailsBlocks, front_of, written_blocks, written_if, written_round}
+use Rattle.redo_logdev.specs.Calls.{back_of, front_of}
+use Rattle.redo_logdev.specs.Writing.{FailsBlocks, written_blocks, written_if, written_round}
 use Rattle.redo_logdev.proofs.Cuts.{Cuts, cuts-of, Ends, ends-of, IsCut, tail-writes}
 
 -- a write of no bytes changes nothing

@@ -1,18 +1,11 @@
 -- What a few device calls in a row do to a device.
-use Rattle.std.specs.Prelude.{ℕ, ◌+◌, ◌-◌, ◌*◌, ◌/◌, ◌⊎◌, min, List, [], ◌∷◌, ◌++◌, length, take, drop}
+use Rattle.std.specs.Prelude.{ℕ, ◌+◌, ◌-◌, ◌*◌, ◌/◌, min, List, [], ◌∷◌, ◌++◌, length, take, drop}
 use Rattle.model_base.specs.declared.limits.TheConstants.{BLOCK_SIZE}
-use Rattle.model_device.specs.Disk.{Disk}
-use Rattle.model_device.specs.{FailsWrite, written}
 use Rattle.model_device.specs.declared.write.Write.{Write}
 use Rattle.model_log.specs.{checkpoint_text, framed, place_in, place_of, ring_start, round_of, turn_of}
 use Rattle.model_log.specs.declared.layout.Layout.{Layout}
 use Rattle.model_log.specs.declared.layout.TheConstants.{BLOCK_DATA}
 use Rattle.redo_disk.specs.{Request, ToWrite, write_at}
-
--- a write of no bytes isn't made
-abbrev pub written_if : ℕ → List ℕ → Disk → Disk
-written_if at [] disk = disk
-written_if at (byte ∷ bytes) disk = written disk (write_at at (byte ∷ bytes))
 
 -- how many bytes of the ring there are from the block's place on, up to the ring's end
 abbrev pub rest_of_round : Layout → ℕ → ℕ
@@ -24,25 +17,6 @@ front_of layout b bytes = take (min (length bytes) (rest_of_round layout b)) byt
 
 abbrev pub back_of : Layout → ℕ → List ℕ → List ℕ
 back_of layout b bytes = drop (min (length bytes) (rest_of_round layout b)) bytes
-
--- The bytes are written from the block's place on: up to the ring's end, and what is left at the ring's start.
-abbrev pub written_round : Layout → ℕ → List ℕ → Disk → Disk
-written_round layout b bytes old =
-    written_if (ring_start layout) (back_of layout b bytes) (written_if (place_in layout b) (front_of layout b bytes) old)
-
--- one of these two writes failed
-abbrev pub FailsRound : Layout → ℕ → List ℕ → Disk → Disk → Type 0
-FailsRound layout b bytes old new =
-    FailsWrite (write_at (place_in layout b) (front_of layout b bytes)) old new
-    ⊎ FailsWrite (write_at (ring_start layout) (back_of layout b bytes)) (written_if (place_in layout b) (front_of layout b bytes) old) new
-
--- full blocks are written to their places, and then the bytes of an incomplete one at this offset
-abbrev pub written_blocks : Layout → ℕ → List ℕ → ℕ → List ℕ → Disk → Disk
-written_blocks layout b full at last old = written_if at last (written_round layout b full old)
-
--- one of these writes failed
-abbrev pub FailsBlocks : Layout → ℕ → List ℕ → ℕ → List ℕ → Disk → Disk → Type 0
-FailsBlocks layout b full at last old new = FailsRound layout b full old new ⊎ FailsWrite (write_at at last) (written_round layout b full old) new
 
 -- the write of the checkpoint of this number at this lsn
 abbrev pub checkpoint_write : Layout → ℕ → ℕ → Write

@@ -9,6 +9,12 @@ use Rattle.model_parts.specs.declared.marks.TailMarks.{TailMarks}
 use Rattle.redo_block.specs.{AreFirsts}
 use Rattle.redo_logdev.specs.Part.{Part}
 
+-- What may be given to `read_block`: the lsn of any block of a log.
+pub record MayRead {L : Type 0} (part : Part L) (lsn : ℕ) : Type 0 where
+  pub live : part.failed ≡ None
+  pub aligned : lsn % BLOCK_SIZE ≡ 0
+  pub started : START_LSN ≤ lsn
+
 -- the part has these marks
 pub record HasMarks {L : Type 0} (part : Part L) (log : LogMarks) (tail : TailMarks) : Type 0 where
   pub marks : part.marks ≡ log

@@ -1,6 +1,6 @@
 -- What reading a block of the run back asks for, and what it gives.
-use Rattle.std.specs.Prelude.{ℕ, ◌≡◌, ◌≤◌, ◌<◌, ◌+◌, ◌*◌, ◌%◌, nat_le, if◌then◌else◌, List, None, Result, IfSome, OnOk}
-use Rattle.model_base.specs.declared.limits.TheConstants.{BLOCK_SIZE, START_LSN}
+use Rattle.std.specs.Prelude.{ℕ, ◌≤◌, ◌<◌, ◌+◌, ◌*◌, nat_le, if◌then◌else◌, List, Result, IfSome, OnOk}
+use Rattle.model_base.specs.declared.limits.TheConstants.{BLOCK_SIZE}
 use Rattle.model_log.specs.{IsBoundaryBlock, place_in, run_layout}
 use Rattle.model_log.specs.declared.group.Whole.{Whole}
 use Rattle.model_log.specs.declared.layout.TheConstants.{BLOCK_HEADER}
@@ -8,12 +8,6 @@ use Rattle.model_parts.specs.Held.{NEXT_DATA}
 use Rattle.redo_disk.specs.Seen.{Seen}
 use Rattle.redo_disk.specs.declared.error.DevError.{DevError}
 use Rattle.redo_logdev.specs.Part.{DiskHolds, Part}
-
--- What may be given to `read_block`: the lsn of any block of a log.
-pub record MayRead {L : Type 0} (part : Part L) (lsn : ℕ) : Type 0 where
-  pub live : part.failed ≡ None
-  pub aligned : lsn % BLOCK_SIZE ≡ 0
-  pub started : START_LSN ≤ lsn
 
 -- The run's block at the lsn stands on the device: it is the newest checkpoint's or a later one, and holds a byte below
 -- the stable mark.

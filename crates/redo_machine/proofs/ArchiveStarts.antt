@@ -34,7 +34,7 @@ use Rattle.redo_drive.specs.Views.{followers_in, views_of}
 use Rattle.redo_drive.specs.declared.making.Beginning.{Beginning}
 use Rattle.redo_drive.specs.declared.parts.Parts.{Parts}
 use Rattle.redo_drive.specs.declared.seating.TheConstants.{FIRST_FOLLOWER}
-use Rattle.redo_follow.specs.Handing.{Following}
+use Rattle.redo_follow.specs.Following.{Following}
 use Rattle.redo_machine.proofs.Alone.{lines_end}
 use Rattle.redo_machine.specs.Appending.{AreNumbered}
 use Rattle.redo_store.specs.declared.opened.Opened.{Opened}

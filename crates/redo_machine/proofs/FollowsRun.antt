@@ -21,7 +21,8 @@ use Rattle.redo_drive.specs.Views.{views_of}
 use Rattle.redo_drive.specs.declared.actor.Actor.{Actor}
 use Rattle.redo_drive.specs.declared.actor.Actor.TheVariants as own
 use Rattle.redo_drive.specs.declared.parts.Parts.{Parts}
-use Rattle.redo_follow.specs.Handing.{Following, StandsFor}
+use Rattle.redo_follow.specs.Handing.{StandsFor}
+use Rattle.redo_follow.specs.Following.{Following}
 use Rattle.redo_machine.specs.Following.{FollowsLog}
 
 module _ {L D R : Type 0} {archive : Bool} (log_seen : L → Seen) (data_seen : D → Seen) (stands : R → List Given → Type 0)

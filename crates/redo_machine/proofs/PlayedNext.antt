@@ -17,7 +17,7 @@ use Rattle.redo_drive.specs.Views.{view_of}
 use Rattle.redo_drive.specs.declared.actor.Actor.{Actor}
 use Rattle.redo_drive.specs.declared.actor.Actor.TheVariants as own
 use Rattle.redo_drive.specs.declared.parts.Parts.{Parts}
-use Rattle.redo_follow.specs.Handing.{Following}
+use Rattle.redo_follow.specs.Following.{Following}
 use Rattle.redo_logdev.specs.{MayRead}
 use Rattle.redo_machine.specs.Reading.{HasBlock, HasPlayed, HasPlayedOther, HasRead}
 use Rattle.redo_words.specs.{Lends}

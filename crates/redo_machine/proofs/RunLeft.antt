@@ -48,7 +48,7 @@ use Rattle.redo_machine.specs.declared.drive.Turns.{Turns}
 use Rattle.redo_drive.specs.declared.parts.Parts.{Parts}
 use Rattle.redo_drive.specs.declared.drive.RunEnd.{RunEnd}
 use Rattle.redo_drive.specs.declared.drive.RunEnd.TheVariants as ended
-use Rattle.redo_follow.specs.Handing.{Following}
+use Rattle.redo_follow.specs.Following.{Following}
 use Rattle.redo_store.specs.declared.opened.Opened.{Opened}
 use Rattle.redo_store.specs.Part as store
 

@@ -12,7 +12,7 @@ ghost use Rattle.redo_drive.specs.Turning.{TakesTurn, code_in, core_of};
 ghost use Rattle.redo_drive.specs.declared.actor.Actor.{Actor as TheActor};
 ghost use Rattle.redo_drive.specs.declared.actor.Actor.TheVariants as own;
 ghost use Rattle.redo_drive.specs.declared.parts.Parts.{Parts};
-ghost use Rattle.redo_follow.specs.Handing.{Following};
+ghost use Rattle.redo_follow.specs.Following.{Following};
 ghost use Rattle.redo_machine.specs.Following.{FollowsLog};
 
 use redo_disk::Sectors;

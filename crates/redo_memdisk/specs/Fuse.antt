@@ -13,26 +13,6 @@ is_failed (Ok value) = false
 is_failed (Err Failed) = true
 is_failed (Err NoMemory) = false
 
--- a fuse that was never armed, and saw no call
-abbrev pub fresh : Fuse
-fresh = record {
-  stage = Before;
-  limit = None;
-  passed = 0;
-  own = 0;
-  pick = None;
-  early_calls = 0;
-  early = 0;
-  mid = 0;
-  late = 0;
-  late_changes = 0;
-  changes = 0;
-}
-
--- the fuse as it begins the stop
-abbrev pub armed : Option ℕ → Fuse → Fuse
-armed limit fuse = record fuse { stage = Stopping; limit = limit }
-
 -- a stop at this point has passed as many calls as it is to
 abbrev pub has_passed_all : Stage → Option ℕ → ℕ → Bool
 has_passed_all Before limit passed = false

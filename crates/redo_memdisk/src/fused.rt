@@ -1,6 +1,6 @@
 // A device that a fuse stops.
 ghost use Rattle.std.specs.Prelude.{◌≡◌, Option, Some, None};
-ghost use Rattle.redo_memdisk.specs.Fuse.{armed, fresh};
+ghost use Rattle.redo_memdisk.specs.Arming.{armed, fresh};
 ghost use Rattle.redo_memdisk.specs.declared.fuse.Stage.{Stage};
 ghost use Rattle.redo_memdisk.specs.Fused.{CallsThrough, CrashesThrough, armed_at, entry_of, fuse_of, inner_of, seen_through};
 

@@ -10,7 +10,7 @@ use Rattle.model_log.specs.declared.head.Format.{Format}
 use Rattle.model_log.specs.declared.head.Format.TheVariants.{Two}
 use Rattle.model_log.specs.declared.layout.Layout.{Layout}
 use Rattle.model_log.specs.declared.layout.TheConstants.{HEADER_BLOCKS, RING_SIZE}
-use Rattle.model_log.specs.Head.{creator, format_number}
+use Rattle.model_log.specs.HeadText.{creator, format_number}
 use Rattle.model_log.proofs.Sealed.{length-padded, length-sealed}
 use Rattle.model_parts.proofs.LogImages.{place-cases}
 use Rattle.redo_open.specs.Put.{block_write}

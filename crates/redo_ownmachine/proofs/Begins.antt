@@ -31,7 +31,7 @@ use Rattle.redo_drive.specs.declared.actor.Actor.{Actor}
 use Rattle.redo_drive.specs.declared.making.Beginning.{Beginning}
 use Rattle.redo_drive.specs.declared.parts.Parts.{Parts}
 use Rattle.redo_drive.specs.declared.seating.TheConstants.{FIRST_FOLLOWER}
-use Rattle.redo_follow.specs.Handing.{Following}
+use Rattle.redo_follow.specs.Following.{Following}
 use Rattle.redo_ownmachine.proofs.OpenSeats.{same_rest, tail_of}
 use Rattle.redo_ownmachine.proofs.Places.{crew_views}
 use Rattle.redo_ownmachine.proofs.Serves.{its_data_laws, its_log_laws}

@@ -11,7 +11,7 @@ use Rattle.redo_drive.specs.Receiving.{follower_of}
 use Rattle.redo_drive.specs.Views.{views_of}
 use Rattle.redo_drive.specs.declared.actor.Actor.{Actor}
 use Rattle.redo_drive.specs.declared.actor.Actor.TheVariants as own
-use Rattle.redo_follow.specs.Handing.{Following}
+use Rattle.redo_follow.specs.Following.{Following}
 use Rattle.redo_ownmachine.specs.OwnCrew.{crew}
 
 -- whoever sits there

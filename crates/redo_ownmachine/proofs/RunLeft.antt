@@ -38,7 +38,7 @@ use Rattle.redo_drive.specs.declared.drive.Driven.{Driven}
 use Rattle.redo_drive.specs.declared.drive.RunEnd.{RunEnd}
 use Rattle.redo_drive.specs.declared.drive.RunEnd.TheVariants as ended
 use Rattle.redo_drive.specs.declared.parts.Parts.{Parts}
-use Rattle.redo_follow.specs.Handing.{Following}
+use Rattle.redo_follow.specs.Following.{Following}
 use Rattle.redo_logdev.specs.Part as log
 use Rattle.redo_machine.proofs.ArchiveEnds.{have_archived, loses_by}
 use Rattle.redo_machine.proofs.EndsAs.{ends_as, turns_taken}

@@ -12,7 +12,8 @@ use Rattle.model_core.specs.declared.ops.Op.{Op}
 use Rattle.model_core.specs.declared.ops.Op.TheVariants as op
 use Rattle.model_core.specs.declared.words.Word.TheVariants as word
 use Rattle.model_logcore.specs.LogLaws.{LogLaws}
-use Rattle.model_own.specs.OwnWrites.{ErrandFits, LogWork, OwnUser, errand_lends, errand_op, has_work, own_lends, own_next}
+use Rattle.model_own.specs.OwnWrites.{LogWork, OwnUser, errand_lends, errand_op, own_lends, own_next}
+use Rattle.model_own.specs.ErrandFits.{ErrandFits, has_work}
 use Rattle.model_own.specs.declared.errand.ErrandStep.{ErrandStep}
 use Rattle.model_own.specs.declared.errand.ErrandStep.TheVariants as errand_step
 use Rattle.model_ownrun.proofs.Errands.{in_hand}

@@ -13,7 +13,7 @@ use Rattle.redo_drive.specs.Startable.{AreNewFollowers, IsNewArchive, MayBegin}
 use Rattle.redo_drive.specs.Views.{views_of}
 use Rattle.redo_drive.specs.declared.actor.Actor.{Actor}
 use Rattle.redo_drive.specs.declared.parts.Parts.{Parts}
-use Rattle.redo_follow.specs.Handing.{Following}
+use Rattle.redo_follow.specs.Following.{Following}
 use Rattle.redo_machine.proofs.ArchiveStarts as starts
 use Rattle.redo_machine.specs.Appending.{AreNumbered}
 use Rattle.redo_ownmachine.proofs.Comes.{HasComeWith}

@@ -8,7 +8,7 @@ use Rattle.redo_disk.specs.Seen.{Seen}
 use Rattle.redo_drive.specs.Begins.{BeginsWith}
 use Rattle.redo_drive.specs.Views.{views_of}
 use Rattle.redo_drive.specs.declared.making.Beginning.{Beginning}
-use Rattle.redo_follow.specs.Handing.{Following}
+use Rattle.redo_follow.specs.Following.{Following}
 use Rattle.redo_ownmachine.specs.OwnCrew.{HasRoom, crew_of, seats_of}
 use Rattle.redo_ownmachine.specs.OwnSeats.{AreAtHome}
 use Rattle.redo_ownmachine.specs.OwnStore.{OwnAlone, OwnRunsWith}

@@ -11,7 +11,8 @@ use Rattle.model_own.specs.OwnWrites.{LogWork}
 use Rattle.model_report.specs.declared.entry.Entry.{Entry}
 use Rattle.redo_disk.specs.{Call}
 use Rattle.redo_disk.specs.Seen.{Seen}
-use Rattle.redo_drive.specs.History.{all_listed, HasGroups, ListsInOrder}
+use Rattle.redo_drive.specs.History.{all_listed, ListsInOrder}
+use Rattle.redo_drive.specs.Reserved.{HasGroups}
 use Rattle.redo_drive.specs.Views.{view_of, views_of}
 use Rattle.redo_drive.specs.declared.actor.Actor.{Actor}
 use Rattle.redo_ownrule.proofs.Ended.{ends_as, EndsAs}

@@ -20,7 +20,7 @@ use Rattle.redo_drive.specs.Views.{view_of, views_of}
 use Rattle.redo_drive.specs.declared.actor.Actor.{Actor}
 use Rattle.redo_drive.specs.declared.actor.Actor.TheVariants as actor
 use Rattle.redo_drive.specs.declared.closed.Closed.{Closed}
-use Rattle.redo_follow.specs.Handing.{Following}
+use Rattle.redo_follow.specs.Following.{Following}
 use Rattle.redo_ownrule.proofs.Placed.{alone, length_crew}
 use Rattle.redo_ownrule.proofs.Standing.{crew_there}
 use Rattle.redo_ownrule.specs.Leaving.{LeavesHeard}

@@ -23,7 +23,7 @@ use Rattle.redo_drive.specs.Startable.{MayBegin}
 use Rattle.redo_drive.specs.Views.{view_of, views_of}
 use Rattle.redo_drive.specs.declared.actor.Actor.{Actor}
 use Rattle.redo_drive.specs.declared.making.Beginning.{Beginning}
-use Rattle.redo_follow.specs.Handing.{Following}
+use Rattle.redo_follow.specs.Following.{Following}
 use Rattle.redo_ownmachine.proofs.Begins as own_begins
 use Rattle.redo_ownmachine.specs.OwnCrew as own_crew
 use Rattle.redo_ownmachine.proofs.Places.{crew_views}

@@ -24,7 +24,8 @@ use Rattle.model_core.specs.declared.steps.WriterStep.TheVariants as writer_step
 use Rattle.model_core.specs.declared.words.Word.TheVariants as word
 use Rattle.model_own.specs.OwnTurn.{all_actors}
 use Rattle.model_own.specs.OwnWrites.{after_flusher, after_writer, errand_op, errand_took, flushes_at}
-use Rattle.model_own.specs.OwnWrites.{has_work, LogWork, own_checked, own_goes_on, own_next, OwnUser, taken_up, written}
+use Rattle.model_own.specs.OwnWrites.{LogWork, own_checked, own_goes_on, own_next, OwnUser, taken_up, written}
+use Rattle.model_own.specs.ErrandFits.{has_work}
 use Rattle.model_own.specs.declared.errand.ErrandStep.{ErrandStep}
 use Rattle.model_own.specs.declared.errand.ErrandStep.TheVariants as errand_step
 use Rattle.model_ownrun.specs.OwnRunning.{IsWriterAtRest, WorkAt, WorkFits, WritesAt}

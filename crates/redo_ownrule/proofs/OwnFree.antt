@@ -16,8 +16,10 @@ use Rattle.model_core.specs.declared.steps.UserStep.{UserStep}
 use Rattle.model_core.specs.declared.steps.UserStep.TheVariants as user_step
 use Rattle.model_core.specs.declared.steps.WriterStep.{WriterStep}
 use Rattle.model_core.specs.declared.steps.WriterStep.TheVariants as writer_step
-use Rattle.model_own.specs.OwnWrites.{after_flusher, after_writer, begins_again, errand_took, ErrandFits, keeps_helped}
-use Rattle.model_own.specs.OwnWrites.{loads_again, LogWork, MayHelpAt, own_checked, own_goes_on, own_stepped, OwnUser}
+use Rattle.model_own.specs.OwnWrites.{after_flusher, after_writer, begins_again, errand_took, keeps_helped}
+use Rattle.model_own.specs.ErrandFits.{ErrandFits}
+use Rattle.model_own.specs.OwnWrites.{loads_again, LogWork, own_checked, own_goes_on, own_stepped, OwnUser}
+use Rattle.model_own.specs.ErrandFits.{MayHelpAt}
 use Rattle.model_own.specs.OwnWrites.{sets_out, written}
 use Rattle.model_own.specs.declared.errand.ErrandStep.{ErrandStep}
 use Rattle.model_own.specs.declared.errand.ErrandStep.TheVariants as errand_step

@@ -13,7 +13,8 @@ use Rattle.model_core.specs.declared.ops.Answer.{Answer}
 use Rattle.model_core.specs.declared.ops.Answer.TheVariants as answer
 use Rattle.model_core.specs.declared.ops.Op.{Op}
 use Rattle.model_core.specs.declared.ops.Op.TheVariants as op
-use Rattle.model_own.specs.OwnWrites.{has_work, LogWork, own_goes_on, own_lends, own_next, OwnUser}
+use Rattle.model_own.specs.OwnWrites.{LogWork, own_goes_on, own_lends, own_next, OwnUser}
+use Rattle.model_own.specs.ErrandFits.{has_work}
 use Rattle.redo_disk.specs.{Call}
 use Rattle.redo_disk.specs.Seen.{Seen}
 use Rattle.redo_drive.proofs.Played as played

@@ -13,7 +13,8 @@ use Rattle.model_core.specs.Hands.{GivesFailed, IsFreeToCheck}
 use Rattle.model_core.specs.LogSide.{LogSide}
 use Rattle.model_core.specs.declared.ops.Answer.{Answer}
 use Rattle.model_own.specs.OwnTurn.{all_actors, UserTurn}
-use Rattle.model_own.specs.OwnWrites.{has_work, LogWork, own_goes_on, own_lends, own_next, own_step_of, OwnUser}
+use Rattle.model_own.specs.OwnWrites.{LogWork, own_goes_on, own_lends, own_next, own_step_of, OwnUser}
+use Rattle.model_own.specs.ErrandFits.{has_work}
 use Rattle.model_ownrun.proofs.Seats.{user_there}
 use Rattle.redo_disk.specs.{Call}
 use Rattle.redo_disk.specs.Seen.{Seen}

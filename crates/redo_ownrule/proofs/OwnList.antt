@@ -13,7 +13,8 @@ use Rattle.model_core.specs.declared.ops.Answer.TheVariants as answer
 use Rattle.model_core.specs.declared.ops.Op.{Op}
 use Rattle.model_core.specs.declared.ops.Op.TheVariants as op
 use Rattle.model_core.proofs.Hands.{Handles}
-use Rattle.model_own.specs.OwnWrites.{has_work, helps_at, LogWork, own_goes_on, OwnUser}
+use Rattle.model_own.specs.OwnWrites.{helps_at, LogWork, own_goes_on, OwnUser}
+use Rattle.model_own.specs.ErrandFits.{has_work}
 use Rattle.model_own.specs.declared.errand.ErrandStep.{ErrandStep}
 use Rattle.model_own.specs.declared.errand.ErrandStep.TheVariants as errand_step
 use Rattle.redo_disk.specs.{Call}

@@ -17,7 +17,8 @@ use Rattle.model_core.specs.declared.steps.WriterStep.{WriterStep}
 use Rattle.model_core.specs.declared.steps.WriterStep.TheVariants as writer_step
 use Rattle.model_core.specs.declared.words.LinkBuffer.TheVariants as link_buffer
 use Rattle.model_core.specs.declared.words.Word.TheVariants as word
-use Rattle.model_own.specs.OwnWrites.{errand_op, has_work, LogWork, own_next, OwnUser}
+use Rattle.model_own.specs.OwnWrites.{errand_op, LogWork, own_next, OwnUser}
+use Rattle.model_own.specs.ErrandFits.{has_work}
 use Rattle.model_own.specs.declared.errand.ErrandStep.{ErrandStep}
 use Rattle.model_own.specs.declared.errand.ErrandStep.TheVariants as errand_step
 use Rattle.model_ownrun.proofs.Errands.{in_hand}

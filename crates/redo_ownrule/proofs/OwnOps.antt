@@ -16,7 +16,8 @@ use Rattle.model_core.specs.declared.steps.WriterStep.{WriterStep}
 use Rattle.model_core.specs.declared.steps.WriterStep.TheVariants as writer_step
 use Rattle.model_core.specs.declared.words.LinkBuffer.TheVariants as link_buffer
 use Rattle.model_core.specs.declared.words.Word.TheVariants as word
-use Rattle.model_own.specs.OwnWrites.{after_flusher, after_writer, errand_op, errand_took, ErrandFits, has_work, LogWork, own_checked}
+use Rattle.model_own.specs.OwnWrites.{after_flusher, after_writer, errand_op, errand_took, LogWork, own_checked}
+use Rattle.model_own.specs.ErrandFits.{ErrandFits, has_work}
 use Rattle.model_own.specs.OwnWrites.{own_goes_on, own_next, OwnUser}
 use Rattle.model_own.specs.declared.errand.ErrandStep.{ErrandStep}
 use Rattle.model_own.specs.declared.errand.ErrandStep.TheVariants as errand_step

@@ -10,7 +10,8 @@ use Rattle.model_core.specs.declared.ops.Answer.TheVariants as answer
 use Rattle.model_core.specs.declared.ops.Op.{Op}
 use Rattle.model_core.specs.declared.ops.Op.TheVariants as op
 use Rattle.model_core.specs.declared.ops.Step.{Step}
-use Rattle.model_own.specs.OwnWrites.{has_work, LogWork, own_next, OwnUser}
+use Rattle.model_own.specs.OwnWrites.{LogWork, own_next, OwnUser}
+use Rattle.model_own.specs.ErrandFits.{has_work}
 use Rattle.redo_disk.specs.Seen.{Seen}
 use Rattle.redo_ownrule.proofs.OwnAnswers.{seat_with}
 use Rattle.redo_ownrule.proofs.OwnDevice.{has_w, only_work, the_slot}

@@ -17,7 +17,8 @@ use Rattle.model_core.specs.declared.ops.Op.{Op}
 use Rattle.model_core.specs.declared.ops.Op.TheVariants as op
 use Rattle.model_core.specs.declared.words.Word.{Word}
 use Rattle.model_core.specs.declared.words.Word.TheVariants as word
-use Rattle.model_own.specs.OwnWrites.{errand_op, has_work, LogWork, own_goes_on, own_next, OwnUser}
+use Rattle.model_own.specs.OwnWrites.{errand_op, LogWork, own_goes_on, own_next, OwnUser}
+use Rattle.model_own.specs.ErrandFits.{has_work}
 use Rattle.model_own.specs.declared.errand.ErrandStep.{ErrandStep}
 use Rattle.model_own.specs.declared.errand.ErrandStep.TheVariants as errand_step
 use Rattle.redo_disk.specs.{Call}

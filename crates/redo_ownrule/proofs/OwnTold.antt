@@ -9,7 +9,8 @@ use Rattle.model_core.specs.LogSide.{LogSide}
 use Rattle.model_core.specs.declared.ops.Answer.{Answer}
 use Rattle.model_core.specs.declared.ops.Op.{Op}
 use Rattle.model_logcore.proofs.Failures.{stored_cause}
-use Rattle.model_own.specs.OwnWrites.{has_work, own_goes_on, own_lends, own_next, OwnUser}
+use Rattle.model_own.specs.OwnWrites.{own_goes_on, own_lends, own_next, OwnUser}
+use Rattle.model_own.specs.ErrandFits.{has_work}
 use Rattle.model_ownrun.proofs.Errands.{in_hand}
 use Rattle.model_ownrun.proofs.Seats.{flusher_seat, flusher_there, writer_seat, writer_there}
 use Rattle.redo_disk.specs.Seen.{Seen}

@@ -19,8 +19,10 @@ use Rattle.model_core.specs.declared.steps.WriterStep.TheVariants as writer_step
 use Rattle.model_core.specs.declared.words.LinkBuffer.TheVariants as link_buffer
 use Rattle.model_core.specs.declared.words.Word.TheVariants as word
 use Rattle.model_own.proofs.SetsOut.{out_at}
-use Rattle.model_own.specs.OwnWrites.{after_flusher, after_writer, begins_again, errand_op, errand_took, ErrandFits, has_work, helps_at}
-use Rattle.model_own.specs.OwnWrites.{keeps_helped, loads_again, LogWork, MayHelpAt, own_checked, own_goes_on, own_next, own_stepped}
+use Rattle.model_own.specs.OwnWrites.{after_flusher, after_writer, begins_again, errand_op, errand_took, helps_at}
+use Rattle.model_own.specs.ErrandFits.{ErrandFits, has_work}
+use Rattle.model_own.specs.OwnWrites.{keeps_helped, loads_again, LogWork, own_checked, own_goes_on, own_next, own_stepped}
+use Rattle.model_own.specs.ErrandFits.{MayHelpAt}
 use Rattle.model_own.specs.OwnWrites.{OwnUser, sets_out, written}
 use Rattle.model_own.specs.declared.errand.ErrandStep.{ErrandStep}
 use Rattle.model_own.specs.declared.errand.ErrandStep.TheVariants as errand_step

@@ -17,7 +17,8 @@ use Rattle.model_core.specs.declared.steps.WriterStep.{WriterStep}
 use Rattle.model_core.specs.declared.steps.WriterStep.TheVariants as writer_step
 use Rattle.model_core.specs.declared.words.Word.TheVariants as word
 use Rattle.model_log.specs.declared.layout.TheConstants.{BLOCK_DATA}
-use Rattle.model_own.specs.OwnWrites.{after_flusher, after_writer, errand_op, errand_took, has_work}
+use Rattle.model_own.specs.OwnWrites.{after_flusher, after_writer, errand_op, errand_took}
+use Rattle.model_own.specs.ErrandFits.{has_work}
 use Rattle.model_own.specs.OwnWrites.{LogWork, own_checked, own_goes_on, own_next, own_stepped, OwnUser, sets_out, written}
 use Rattle.model_own.specs.declared.errand.ErrandStep.{ErrandStep}
 use Rattle.model_own.specs.declared.errand.ErrandStep.TheVariants as errand_step

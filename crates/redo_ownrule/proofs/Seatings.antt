@@ -11,7 +11,8 @@ use Rattle.atomic_table.specs.declared.shared.Seat.{Seat}
 use Rattle.model_core.specs.{word_count}
 use Rattle.model_core.specs.Actors as model
 use Rattle.model_core.specs.Hands.{HoldsNothing}
-use Rattle.model_own.specs.OwnWrites.{has_work, OwnUser}
+use Rattle.model_own.specs.OwnWrites.{OwnUser}
+use Rattle.model_own.specs.ErrandFits.{has_work}
 use Rattle.redo_disk.specs.{Call}
 use Rattle.redo_disk.specs.Seen.{Seen}
 use Rattle.redo_drive.specs.Views.{view_of, views_of}

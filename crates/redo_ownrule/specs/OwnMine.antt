@@ -10,7 +10,8 @@ use Rattle.model_core.specs.declared.ops.Answer.{Answer}
 use Rattle.model_core.specs.declared.ops.Answer.TheVariants as answer
 use Rattle.model_core.specs.declared.ops.Op.TheVariants as op
 use Rattle.model_core.specs.declared.ops.Step.{Step}
-use Rattle.model_own.specs.OwnWrites.{ErrandFits, has_work, LogWork, own_goes_on, own_step_of, OwnUser}
+use Rattle.model_own.specs.OwnWrites.{LogWork, own_goes_on, own_step_of, OwnUser}
+use Rattle.model_own.specs.ErrandFits.{ErrandFits, has_work}
 use Rattle.redo_disk.specs.Seen.{Seen}
 use Rattle.redo_ownrule.specs.OwnPlays.{HasWork, IsOwn, OwnMayGo, OwnShown, OwnStepped, with_work}
 use Rattle.redo_ownuser.specs.OwnFits.{AloneFits}

@@ -20,7 +20,8 @@ use Rattle.model_core.specs.declared.ops.Answer.{Answer}
 use Rattle.model_core.specs.declared.ops.Answer.TheVariants as answer
 use Rattle.model_core.specs.declared.ops.Step.{Step}
 use Rattle.model_own.specs.OwnTurn.{UserTurn}
-use Rattle.model_own.specs.OwnWrites.{ErrandFits, has_work, LogWork, own_goes_on, own_lends, own_next, OwnUser}
+use Rattle.model_own.specs.OwnWrites.{LogWork, own_goes_on, own_lends, own_next, OwnUser}
+use Rattle.model_own.specs.ErrandFits.{ErrandFits, has_work}
 use Rattle.redo_disk.specs.Seen.{Seen}
 use Rattle.redo_drive.specs.Devices.{call_answer}
 use Rattle.redo_drive.specs.Playing.{LogReady, run_data_side, run_log_side, RunOf, told_by}

@@ -11,7 +11,8 @@ use Rattle.redo_drive.specs.declared.device.Device.TheVariants.{Log}
 use Rattle.redo_logdev.specs.Part as log
 use Rattle.model_core.specs.declared.ops.Answer.{Answer}
 use Rattle.model_core.specs.declared.ops.Step.{Step}
-use Rattle.model_own.specs.OwnWrites.{ErrandFits, LogWork, own_goes_on, own_lends, own_step_of, OwnUser}
+use Rattle.model_own.specs.OwnWrites.{LogWork, own_goes_on, own_lends, own_step_of, OwnUser}
+use Rattle.model_own.specs.ErrandFits.{ErrandFits}
 use Rattle.redo_drive.specs.Playing.{MayWriteLent}
 use Rattle.redo_ownrule.specs.OwnPlays.{with_work}
 use Rattle.redo_ownuser.specs.OwnFits.{OwnAnswerFits, WorkGoesOn}

@@ -3,7 +3,8 @@ use Rattle.std.specs.Prelude.{Bool, List, None, Option, Some, [], false, map, tr
 use Rattle.model_core.specs.Actors as model
 use Rattle.model_core.specs.Hands.{HoldsNothing, IsFreeToCheck}
 use Rattle.model_core.specs.Later.{IsSameActor}
-use Rattle.model_own.specs.OwnWrites.{ErrandFits, has_work, LogWork}
+use Rattle.model_own.specs.OwnWrites.{LogWork}
+use Rattle.model_own.specs.ErrandFits.{ErrandFits, has_work}
 use Rattle.redo_drive.specs.Views.{view_of}
 use Rattle.redo_drive.specs.declared.actor.Actor.{Actor}
 use Rattle.redo_drive.specs.declared.actor.Actor.TheVariants as actor

@@ -11,7 +11,7 @@ use Rattle.redo_drive.specs.Making.{EndsWithReaders}
 use Rattle.redo_drive.specs.Startable.{MayBegin}
 use Rattle.redo_drive.specs.Views.{views_of}
 use Rattle.redo_drive.specs.declared.actor.Actor.{Actor}
-use Rattle.redo_follow.specs.Handing.{Following}
+use Rattle.redo_follow.specs.Following.{Following}
 use Rattle.redo_ownrule.specs.Players.{actor_of, AreInOrder, crew, IsAtRest, place, seated, workers}
 use Rattle.redo_ownrule.specs.Playing.{IsPlayerSeat}
 use Rattle.redo_ownrule.specs.declared.player.Player.{Player}

@@ -1,7 +1,8 @@
 -- A user's own step, where it doesn't check for a failure: its state, and whether it waits.
 use Rattle.std.proofs.Common.{Bool, ap, cond, false, refl, subst, sym, true, ℕ, ◌==◌, ◌∙◌, ◌≡◌}
 use Rattle.model_own.proofs.SetsOut.{out_at}
-use Rattle.model_own.specs.OwnWrites.{MayHelpAt, OwnUser, keeps_helped, loads_again, own_stepped, sets_out}
+use Rattle.model_own.specs.OwnWrites.{OwnUser, keeps_helped, loads_again, own_stepped, sets_out}
+use Rattle.model_own.specs.ErrandFits.{MayHelpAt}
 use Rattle.model_own.specs.declared.errand.ErrandStep.TheVariants as errand_step
 use Rattle.model_core.proofs.Rests.{rests}
 use Rattle.model_core.specs.{Actor, checked_of, heard, next, old_of, step_of, took, user_ending, user_program, user_took}

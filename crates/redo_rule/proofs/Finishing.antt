@@ -21,9 +21,10 @@ use Rattle.redo_drive.proofs.FailureCode.{small_code}
 use Rattle.redo_drive.proofs.LeftRun as left_run
 use Rattle.redo_drive.proofs.LogCount.{log_within_script}
 use Rattle.redo_drive.proofs.Told.{as_many, have_groups, history_is}
-use Rattle.redo_follow.specs.Handing.{Following}
+use Rattle.redo_follow.specs.Following.{Following}
 use Rattle.redo_drive.specs.Startable.{MayBegin}
-use Rattle.redo_drive.specs.History.{HasGroups, ListsInOrder, all_listed}
+use Rattle.redo_drive.specs.History.{ListsInOrder, all_listed}
+use Rattle.redo_drive.specs.Reserved.{HasGroups}
 use Rattle.redo_drive.specs.Lists.{listing_at}
 use Rattle.redo_drive.specs.Leaving.{LeavesWith}
 use Rattle.redo_drive.specs.Playing.{run_log_side}

@@ -11,7 +11,7 @@ use Rattle.model_core.specs.{after_of, archives, filled, Filling, Given, reader_
 use Rattle.model_running.proofs.Archiving.{took_reader}
 use Rattle.redo_drive.specs.Receiving.{filling_of, HasTaken}
 use Rattle.redo_drive.specs.declared.actor.Actor.TheVariants as own
-use Rattle.redo_follow.specs.Handing.{Following}
+use Rattle.redo_follow.specs.Following.{Following}
 use Rattle.redo_rule.specs.Readers.{HasGivenBack}
 
 module _ (r : ReaderState) where

@@ -20,7 +20,7 @@ use Rattle.model_core.specs.declared.steps.UserStep.TheVariants as user_step
 use Rattle.model_logcore.proofs.Failures.{stored_cause}
 use Rattle.model_logcore.specs.{LogGhost, UserAt, UserFits}
 use Rattle.model_logcore.specs.LogLaws.{LogLaws}
-use Rattle.model_own.specs.OwnWrites.{has_work}
+use Rattle.model_own.specs.ErrandFits.{has_work}
 use Rattle.model_pagecore.specs.DataLaws.{DataLaws}
 use Rattle.model_running.specs.Appending.{IsNoAppend}
 use Rattle.model_running.proofs.Filling.{next_filled}

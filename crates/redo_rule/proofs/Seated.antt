@@ -5,7 +5,7 @@ use lib.ListN.{get_elem?}
 use mathlib.Core.Option as maybe
 use Rattle.atomic_table.specs.Table.{Joins, Splits, State}
 use Rattle.model_core.proofs.Lists.{at_set}
-use Rattle.model_own.specs.OwnWrites.{has_work}
+use Rattle.model_own.specs.ErrandFits.{has_work}
 use Rattle.redo_disk.specs.{Call}
 use Rattle.redo_disk.specs.Seen.{Seen}
 use Rattle.redo_rule.proofs.Kept.{only}

@@ -19,7 +19,7 @@ use Rattle.redo_drive.specs.Receiving.{filling_of, follower_of, handed_by, HasGo
 use Rattle.redo_drive.specs.Views.{view_of}
 use Rattle.redo_drive.specs.declared.actor.Actor.{Actor}
 use Rattle.redo_drive.specs.declared.actor.Actor.TheVariants as own
-use Rattle.redo_follow.specs.Handing.{Following}
+use Rattle.redo_follow.specs.Following.{Following}
 use Rattle.redo_follow.specs.Lending.{with_block}
 use Rattle.redo_rule.proofs.Behind.{seat_behind, was_cleaner}
 use Rattle.redo_rule.proofs.Filled.{IsPlainOp, plain_filled, plain_hands, read_filled}

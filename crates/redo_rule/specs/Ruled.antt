@@ -4,7 +4,7 @@ use Rattle.std.specs.Prelude.{Bool, IfSome, List, None, Some, [], cond, false, i
 use lib.ListN.{get_elem?}
 use mathlib.Core.Option.{some}
 use Rattle.atomic_table.specs.Table.{State}
-use Rattle.model_own.specs.OwnWrites.{has_work}
+use Rattle.model_own.specs.ErrandFits.{has_work}
 use Rattle.model_own.specs.declared.errand.ErrandStep.TheVariants as errand_step
 use Rattle.model_core.specs.Actors as model
 use Rattle.model_theorem.specs.{IsStart}

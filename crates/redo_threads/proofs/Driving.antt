@@ -18,7 +18,7 @@ use Rattle.redo_drive.specs.Startable.{AreNewFollowers}
 use Rattle.redo_drive.specs.Views.{views_of}
 use Rattle.redo_drive.specs.declared.actor.Actor.{Actor}
 use Rattle.redo_drive.specs.declared.closed.Closed.{Closed}
-use Rattle.redo_follow.specs.Handing.{Following}
+use Rattle.redo_follow.specs.Following.{Following}
 use Rattle.redo_store.specs.declared.opened.Opened.{Opened}
 use Rattle.redo_rule.specs.Closing.{done_with, IsOwedRun}
 use Rattle.redo_rule.specs.Failing.{CodeHasCause}

@@ -15,7 +15,7 @@ use Rattle.redo_drive.specs.Views.{views_of}
 use Rattle.redo_drive.specs.declared.actor.Actor.{Actor}
 use Rattle.redo_drive.specs.declared.actor.Actor.TheVariants as own
 use Rattle.redo_drive.specs.declared.seating.TheConstants.{FIRST_FOLLOWER}
-use Rattle.redo_follow.specs.Handing.{Following}
+use Rattle.redo_follow.specs.Following.{Following}
 
 -- a place in the front of a list, and one behind it
 in_front : {A : Type 0} (xs ys : List A) (m : ℕ) (a : A) → m < length xs → get_elem? (xs ++ ys) m ≡ maybe.some a

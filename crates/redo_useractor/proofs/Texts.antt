@@ -9,7 +9,8 @@ use Rattle.model_log.specs.{GroupFits, RecordFits}
 use Rattle.model_log.specs.declared.rec.Rec.{Rec}
 use Rattle.model_log.specs.declared.rec.Rec.TheVariants.{Init, Num, Text}
 use Rattle.redo_apply.specs.{WritesWithin}
-use Rattle.redo_useractor.specs.Lines.{AreUserLines, program_lines}
+use Rattle.redo_useractor.specs.Lines.{AreUserLines}
+use Rattle.redo_useractor.specs.Program.{program_lines}
 
 pub some_texts : (shape : Shape) (log_only : Bool) (lines : List (ℕ × List Rec)) → AreUserLines shape lines → (j : ℕ) → j < length (program_lines log_only shape lines)
     → 0 < length (line_at (program_lines log_only shape lines) j).bytes

@@ -2,10 +2,12 @@ pub mod CellsStep
 pub mod Ending
 pub mod Lines
 pub mod Places
+pub mod Program
 pub mod Runs
 pub mod ToLink
 pub mod UserView
 pub mod Words
 pub mod Written
 pub use Rattle.redo_useractor.specs.Ending.{has_ended}
-pub use Rattle.redo_useractor.specs.Lines.{AreUserLines, IsUserLine, program_lines}
+pub use Rattle.redo_useractor.specs.Lines.{AreUserLines, IsUserLine}
+pub use Rattle.redo_useractor.specs.Program.{program_lines}

@@ -1,8 +1,7 @@
 -- The lines that a user may have.
-use Rattle.std.specs.Prelude.{Bool, List, Some, map, slice_get, ℕ, ◌<◌, ◌≡◌, ◌≤◌}
+use Rattle.std.specs.Prelude.{List, Some, slice_get, ℕ, ◌<◌, ◌≡◌, ◌≤◌}
 use Rattle.model_base.specs.declared.limits.TheConstants.{MAX_GROUP}
 use Rattle.model_base.specs.declared.shape.Shape.{Shape}
-use Rattle.model_core.specs.{Line, line_of}
 use Rattle.model_log.specs.{group_length, GroupFits, IsGroup}
 use Rattle.model_log.specs.declared.rec.Rec.{Rec}
 
@@ -15,7 +14,3 @@ pub record IsUserLine (shape : Shape) (line : ℕ × List Rec) : Type 0 where
 
 abbrev pub AreUserLines : Shape → List (ℕ × List Rec) → Type 0
 AreUserLines shape lines = (i : ℕ) (line : ℕ × List Rec) → slice_get lines i ≡ Some line → IsUserLine shape line
-
--- the lines as the user's program has them
-abbrev pub program_lines : Bool → Shape → List (ℕ × List Rec) → List Line
-program_lines log_only shape lines = map (λ (line : ℕ × List Rec). line_of log_only shape line.0 line.1) lines

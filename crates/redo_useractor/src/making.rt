@@ -3,7 +3,8 @@ ghost use Rattle.std.specs.Prelude.{◌≡◌, IfOk};
 ghost use Rattle.model_base.specs.{IsWithinLimits};
 ghost use Rattle.model_core.specs.{line_of, new_user};
 ghost use Rattle.model_log.specs.{run_layout};
-ghost use Rattle.redo_useractor.specs.Lines.{AreUserLines, IsUserLine, program_lines};
+ghost use Rattle.redo_useractor.specs.Lines.{AreUserLines, IsUserLine};
+ghost use Rattle.redo_useractor.specs.Program.{program_lines};
 
 use crate::actor::{Marks, UserActor};
 use crate::changes::touched_pages;

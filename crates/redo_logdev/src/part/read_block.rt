@@ -3,7 +3,8 @@ ghost use Rattle.std.specs.Prelude.{◌≡◌};
 ghost use Rattle.redo_disk.specs.{MakesCall, Reads, StillTells};
 ghost use Rattle.redo_logdev.specs.Part.{KeepsHolding, Stays};
 ghost use Rattle.redo_logdev.specs.PartConditions.{HasMarks};
-ghost use Rattle.redo_logdev.specs.ReadBlock.{block_place, GivesBlock, MayRead};
+ghost use Rattle.redo_logdev.specs.ReadBlock.{block_place, GivesBlock};
+ghost use Rattle.redo_logdev.specs.PartConditions.{MayRead};
 
 use crate::LogPart;
 use model_base::BLOCK_SIZE;

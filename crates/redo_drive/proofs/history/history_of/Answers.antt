@@ -3,7 +3,7 @@ use Rattle.std.proofs.lemmas.List.Sorted.{IsNonDecreasingBy-from_sort_by_key}
 use Rattle.std.specs.Prelude.{IsPermutation}
 use Rattle.model_report.specs.declared.entry.Entry.{Entry}
 use Rattle.redo_drive.proofs.ListGrows.{actor_added, all_actors_added, has_room_for_all}
-use Rattle.redo_drive.specs.History.{HasGroups}
+use Rattle.redo_drive.specs.Reserved.{HasGroups}
 use Rattle.redo_drive.specs.Views.{view_of}
 use Rattle.redo_drive.specs.declared.actor.Actor.{Actor}
 use Rattle.redo_drive.proofs.history.history_of.Goals as goal

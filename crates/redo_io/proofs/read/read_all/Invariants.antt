@@ -1,5 +1,5 @@
 use Rattle.std.proofs.Common.{◌≡◌, ◌≤◌, ◌-◌, length, vec_len}
-use Rattle.redo_io.specs.Source.{TakesFront}
+use Rattle.redo_io.specs.Steps.{TakesFront}
 use Rattle.redo_io.proofs.Progress.{HasRead}
 use Rattle.redo_io.specs.declared.read.TheConstants.{PIECE}
 use Rattle.redo_io.proofs.read.read_all.Given as goal

@@ -4,7 +4,8 @@ use Rattle.model_script.specs.declared.asked.Command.{Command}
 use Rattle.redo_lab.proofs.Alone.{all-left}
 use Rattle.redo_lab.proofs.Sizes.{asked_within}
 use Rattle.redo_lab.proofs.commands.done.Goals as goal
-use Rattle.redo_lab.specs.Asked.{HasAllowedNumbers, calls_archive}
+use Rattle.redo_lab.specs.Asked.{calls_archive}
+use Rattle.redo_lab.specs.Allowed.{HasAllowedNumbers}
 
 pub returns-in-Format-clause-ends : goal.returns-in-Format-clause-ends
 returns-in-Format-clause-ends g c = λ words. rw c.in-Format.is (c.format_devices.ensures.ends words _ _)

@@ -1,6 +1,7 @@
 use Rattle.std.proofs.Common.{Some, ap, inr, refl, subst, sym, ◌∙◌}
 use Rattle.redo_lab.proofs.AskedLimits.{command-of-within}
-use Rattle.redo_lab.specs.Asked.{HasAllowedNumbers, calls_archive}
+use Rattle.redo_lab.specs.Asked.{calls_archive}
+use Rattle.redo_lab.specs.Allowed.{HasAllowedNumbers}
 use Rattle.redo_lab.proofs.Alone.{all-left, nothing-ends}
 use Rattle.redo_lab.proofs.Unarchived.{never-restores, uncalled-alone}
 use Rattle.redo_lab.proofs.lab_call.lab.Goals as goal

@@ -1,5 +1,5 @@
 use Rattle.std.proofs.Common.{◌≡◌}
-use Rattle.redo_useractor.specs.Lines.{program_lines}
+use Rattle.redo_useractor.specs.Program.{program_lines}
 use Rattle.redo_useractor.proofs.making.lines_of.Given as goal
 
 abbrev pub invariant-loop-mode : goal.invariant-loop-mode

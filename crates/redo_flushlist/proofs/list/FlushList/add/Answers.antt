@@ -1,7 +1,8 @@
 use Rattle.std.proofs.Common.{◌≡◌, ◌<◌, sym, subst, List, None, arith}
 use Rattle.std.specs.Prelude.{All}
 use Rattle.redo_flushlist.specs.declared.dirty.Dirty.{Dirty}
-use Rattle.redo_flushlist.specs.Order.{Listing, IsInOrder, MayFollow, listed_oldest}
+use Rattle.redo_flushlist.specs.Order.{Listing}
+use Rattle.redo_flushlist.specs.InOrder.{IsInOrder, MayFollow, listed_oldest}
 use Rattle.redo_flushlist.proofs.Orders.{room, order-added}
 use Rattle.redo_flushlist.proofs.list.FlushList.add.Goals as goal
 

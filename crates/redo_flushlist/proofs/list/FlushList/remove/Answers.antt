@@ -2,7 +2,8 @@ use Rattle.std.proofs.Common.{◌∙◌, ap, sym, subst, List, rules, arith, ◌
 use Rattle.std.specs.Prelude.{not}
 use Rattle.std.proofs.lemmas.Fn.{filter_same}
 use Rattle.redo_flushlist.specs.declared.dirty.Dirty.{Dirty}
-use Rattle.redo_flushlist.specs.Order.{Listing, IsInOrder, without_page}
+use Rattle.redo_flushlist.specs.Order.{Listing, without_page}
+use Rattle.redo_flushlist.specs.InOrder.{IsInOrder}
 use Rattle.redo_flushlist.proofs.Orders.{order-removed}
 use Rattle.redo_flushlist.proofs.list.FlushList.remove.Goals as goal
 

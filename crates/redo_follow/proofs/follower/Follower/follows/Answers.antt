@@ -1,7 +1,8 @@
 use Rattle.std.proofs.Common.{[], ◌+◌, ◌++◌, ◌≡◌, ◌∙◌, List, ap, arith, drop, subst, sym, take, ℕ}
 use Rattle.model_core.specs.{next_piece, pending, ReaderState}
 use Rattle.model_core.specs.Lsn.{lsn}
-use Rattle.redo_follow.specs.Handing.{Followed, Following, HandsOn}
+use Rattle.redo_follow.specs.Handing.{Followed, HandsOn}
+use Rattle.redo_follow.specs.Following.{Following}
 use Rattle.redo_follow.proofs.WholeGroups.{followed_so}
 use Rattle.redo_follow.proofs.follower.Follower.follows.Goals.{then-taken-eq0, else-taken-eq0}
 use Rattle.redo_follow.proofs.follower.Follower.follows.Goals as goal

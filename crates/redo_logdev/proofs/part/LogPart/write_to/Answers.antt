@@ -8,7 +8,8 @@ use Rattle.model_parts.specs.declared.marks.TailMarks.{TailMarks}
 use Rattle.redo_disk.specs.{MakesCalls, Serve}
 use Rattle.redo_disk.specs.declared.error.DevError.{DevError}
 use Rattle.redo_disk.proofs.Told.{told-step}
-use Rattle.redo_logdev.specs.Calls.{block_writes, FailsBlocks, framed_full_blocks, full_count, last_block, written_blocks}
+use Rattle.redo_logdev.specs.Calls.{block_writes, framed_full_blocks, full_count, last_block}
+use Rattle.redo_logdev.specs.Writing.{FailsBlocks, written_blocks}
 use Rattle.redo_logdev.specs.Part.{Part, PartHolds, DiskHolds}
 use Rattle.redo_logdev.specs.PartConditions.{MayWrite}
 use Rattle.redo_logdev.proofs.Cuts.{IsCut}

@@ -7,7 +7,8 @@ use Rattle.model_running.specs.{word_marks}
 use Rattle.model_report.specs.declared.entry.Marks.{Marks}
 use Rattle.redo_drive.proofs.FailureCode.{small_code}
 use Rattle.redo_drive.proofs.Told.{as_many, have_groups, history_is}
-use Rattle.redo_drive.specs.History.{HasGroups, ListsInOrder, all_listed}
+use Rattle.redo_drive.specs.History.{ListsInOrder, all_listed}
+use Rattle.redo_drive.specs.Reserved.{HasGroups}
 use Rattle.redo_drive.specs.Views.{view_of, views_of}
 use Rattle.redo_drive.specs.declared.actor.Actor.{Actor}
 use Rattle.redo_machine.proofs.machine.Machine.finish.Goals as goal
