@@ -8,7 +8,8 @@ use Rattle.std.specs.List.{AllByRecursion}
 use native.Mathlib.Decide.{dec_le}
 use Rattle.model_base.specs.{overwritten, user_length}
 use Rattle.model_base.specs.declared.shape.Shape.{Shape}
-use Rattle.model_core.specs.Changes.{after_from, value_at, writes}
+use Rattle.model_core.specs.Changes.{after_from}
+use Rattle.model_core.specs.Writes.{value_at, writes}
 use Rattle.model_log.specs.{GroupFits, page_of, RecordFits}
 use Rattle.model_log.specs.declared.rec.Rec.{Rec}
 use Rattle.model_log.specs.declared.rec.Rec.TheVariants.{Init, Num, Text}

@@ -11,7 +11,7 @@ use Rattle.model_core.proofs.Lanes.{lane_of_zero, lane_read, lane_small, lanes_a
 use Rattle.model_core.proofs.PageSizes.{has_room}
 unfoldable use Rattle.model_core.specs.Lanes.{lane, lanes, packed}
 use Rattle.model_core.specs.Groups.{CellWrite}
-use Rattle.model_core.specs.Lanes.{frame_bytes, framed_page}
+use Rattle.model_core.specs.Packing.{frame_bytes, framed_page}
 use Rattle.model_core.specs.UserProgram.{put_lanes, same_word}
 use Rattle.model_core.specs.declared.limits.TheConstants.{FRAME_WORDS}
 

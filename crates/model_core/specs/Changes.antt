@@ -19,13 +19,6 @@ collected f (suc n) = collected f n ++ f n
 abbrev pub after_from : Shape → ℕ → ℕ → List Rec → List ℕ
 after_from shape byte p group = user_after p group (replicate (user_length shape) byte)
 
--- The group writes a user byte of page p: what stands there after it doesn't depend on what stood there before.
-abbrev pub writes : Shape → ℕ → List Rec → ℕ → Bool
-writes shape p group j = slice_index (after_from shape 0 p group) j == slice_index (after_from shape 255 p group) j
-
-abbrev pub value_at : Shape → ℕ → List Rec → ℕ → ℕ
-value_at shape p group j = slice_index (after_from shape 0 p group) j
-
 -- the cell at which a user byte stands, where two rows of user bytes agree on it
 abbrev pub cell_where_same : List ℕ → List ℕ → ℕ → List CellWrite
 cell_where_same low high j = cond (slice_index low j == slice_index high j) (record { at = USER_START + j; value = slice_index low j } ∷ []) []

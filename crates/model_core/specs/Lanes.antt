@@ -1,23 +1,9 @@
 -- The eight byte lanes of a word: lane j is worth 256^j. The byte of an lsn stands in the word of its eight, in the lane of
 -- its place there.
-use Rattle.std.specs.Prelude.{List, [], min, take, ℕ, ◌%◌, ◌++◌, ◌-◌, ◌/◌, ◌∷◌}
-use Rattle.std.specs.Int.{bytes_low_first}
+use Rattle.std.specs.Prelude.{min, ℕ, ◌%◌, ◌-◌, ◌/◌}
 use Rattle.model_core.specs.Lsn.{lsn}
 use Rattle.model_core.specs.declared.limits.TheConstants.{BUFFER_WORDS, WORD_LANES}
 use Rattle.model_log.specs.declared.layout.TheConstants.{BLOCK_DATA}
-
--- what stands in so many lanes of a word, from a lane on
-unfoldable pub lanes : ℕ → ℕ → ℕ → List ℕ
-lanes j n word = bytes_low_first j n word
-
--- the bytes of a frame's words, in turn
-abbrev pub frame_bytes : List ℕ → List ℕ
-frame_bytes [] = []
-frame_bytes (w ∷ ws) = lanes 0 WORD_LANES w ++ frame_bytes ws
-
--- the page of so many bytes that a frame holds: the first of those
-abbrev pub framed_page : ℕ → List ℕ → List ℕ
-framed_page n frame = take n (frame_bytes frame)
 
 -- of a place of the stream: the word of the log buffer in which its byte stands, and the lane there
 abbrev pub cell_of : ℕ → ℕ

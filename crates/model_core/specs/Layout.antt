@@ -1,5 +1,5 @@
 -- Where each word stands in the list of words.
-use Rattle.std.specs.Prelude.{Bool, List, [], get_or, length, ℕ, ◌*◌, ◌++◌, ◌+◌, ◌<◌, ◌∷◌, ◌≡◌}
+use Rattle.std.specs.Prelude.{Bool, List, [], ℕ, ◌*◌, ◌++◌, ◌+◌, ◌∷◌}
 use Rattle.model_core.specs.Tails.{tail_word}
 use Rattle.model_core.specs.declared.words.Word.{Word}
 use Rattle.model_core.specs.declared.words.Word.TheVariants as word
@@ -64,12 +64,6 @@ pub record PageWords : Type 0 where
   pub oldest : ℕ
   pub frame : List ℕ
 
-abbrev pub blank_words : PageWords
-blank_words = record { latch = 0; newest = 0; oldest = 0; frame = [] }
-
-abbrev pub page_words_at : List PageWords → ℕ → PageWords
-page_words_at ls p = get_or ls p blank_words
-
 abbrev pub flat_page_words : List PageWords → List ℕ
 flat_page_words [] = []
 flat_page_words (w ∷ ws) = w.latch ∷ w.newest ∷ w.oldest ∷ (w.frame ++ flat_page_words ws)
@@ -94,16 +88,6 @@ pub record SharedWords : Type 0 where
   pub firsts : List ℕ
   pub places : List ℕ
   pub page_words : List PageWords
-
-pub record IsSized (pages : ℕ) (m : SharedWords) : Type 0 where
-  pub lists : length m.lists ≡ FLUSH_LISTS
-  pub wlinks : length m.wlinks ≡ WRITTEN_LINKS
-  pub clinks : length m.clinks ≡ CLOSED_LINKS
-  pub cells : length m.cells ≡ BUFFER_WORDS
-  pub firsts : length m.firsts ≡ BUFFER_BLOCKS
-  pub places : length m.places ≡ READERS
-  pub page_words : length m.page_words ≡ pages
-  pub frames : (p : ℕ) → p < pages → length (page_words_at m.page_words p).frame ≡ FRAME_WORDS
 
 abbrev pub rows : SharedWords → List ℕ
 rows m = m.lists ++ (m.wlinks ++ (m.clinks ++ (m.cells ++ (m.firsts ++ (m.places ++ flat_page_words m.page_words)))))

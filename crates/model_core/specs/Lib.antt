@@ -28,7 +28,9 @@ pub mod NewActors
 pub mod Packing
 pub mod Program
 pub mod ReaderProgram
+pub mod Reserving
 pub mod Setup
+pub mod Sizes
 pub mod StartWords
 pub mod States
 pub mod Stream
@@ -38,6 +40,7 @@ pub mod UserProgram
 pub mod Waiting
 pub mod WordTurn
 pub mod WriterProgram
+pub mod Writes
 pub use Rattle.model_core.specs.ActorProgram.{after_of, checked_of}
 pub use Rattle.model_core.specs.Actors.{Actor, Batch, Blocks, Lent, Nothing, Room}
 pub use Rattle.model_core.specs.Advancing.{advance_next, advance_op, advance_took, ends, frees, loaded_tail, slot_at, stays_put, tail_at}
@@ -45,7 +48,8 @@ pub use Rattle.model_core.specs.Holding.{advance_holds, ChecksWithoutTail, HasHo
 pub use Rattle.model_core.specs.AnswerFits.{PageFitting, cleaner_fits, closer_fits, user_page_fits}
 pub use Rattle.model_core.specs.Answers.{code_of, has_taken, heard, old_of, oldest_in}
 pub use Rattle.model_core.specs.Archiving.{HasLost, IsLosing, LostAt}
-pub use Rattle.model_core.specs.Changes.{after_from, cell_where_same, change_on, changed_cells, changes_of, line_of, value_at, writes}
+pub use Rattle.model_core.specs.Changes.{after_from, cell_where_same, change_on, changed_cells, changes_of, line_of}
+pub use Rattle.model_core.specs.Writes.{value_at, writes}
 unfoldable pub use Rattle.model_core.specs.Changes.{collected}
 pub use Rattle.model_core.specs.CheckpointerProgram.{candidate, checkpointer_ending, checkpointer_op, checkpointer_program, checkpointer_took, checkpointer_waits, is_above, lowered}
 pub use Rattle.model_core.specs.CleanerProgram.{cleaner_ending, cleaner_op, cleaner_program, cleaner_took, cleaner_waits, end_round, finds_none, first_of_batch, next_in_round, no_page, page_loaded}
@@ -57,15 +61,17 @@ pub use Rattle.model_core.specs.ListOrder.{Each, Relaxed, oldest_of}
 pub use Rattle.model_core.specs.FlusherProgram.{flusher_ending, flusher_op, flusher_program, flusher_took, flusher_waits}
 pub use Rattle.model_core.specs.Groups.{CellWrite, Entry, KeptPage, PageChange, end_of}
 pub use Rattle.model_core.specs.Stream.{IsBound, IsLent, Tiles, byte_at, crosses, crossing, first_of, stream, sum_of}
-pub use Rattle.model_core.specs.Lanes.{cell_of, frame_bytes, framed_page, lane_of, left_in_word}
-pub use Rattle.model_core.specs.Packing.{byte_in}
+pub use Rattle.model_core.specs.Lanes.{cell_of, lane_of, left_in_word}
+pub use Rattle.model_core.specs.Packing.{frame_bytes, framed_page, byte_in}
 unfoldable pub use Rattle.model_core.specs.Lanes.{lane, lanes, packed}
-pub use Rattle.model_core.specs.Layout.{IsSized, PageWords, SharedWords, blank_words, cells_at, closed_links_at, firsts_at, flat, flat_page_words, index, page_stride, page_words_at, pages_at, rows}
+pub use Rattle.model_core.specs.Layout.{PageWords, SharedWords, cells_at, closed_links_at, firsts_at, flat, flat_page_words, index, page_stride, pages_at, rows}
+pub use Rattle.model_core.specs.Sizes.{IsSized, blank_words, page_words_at}
 pub use Rattle.model_core.specs.NamedWords.{IsWord, read, with_page_words, word_count, wrote}
 pub use Rattle.model_core.specs.Lsn.{ceiling, floor}
 unfoldable pub use Rattle.model_core.specs.Lsn.{lsn}
 pub use Rattle.model_core.specs.NewActors.{new_checkpointer, new_cleaner, new_closer, new_flusher, new_reader, new_user, new_writer}
-pub use Rattle.model_core.specs.Program.{checked, entries, entries_from, entry, filled, Fills, is_checking, lent, log_left, next, own_op, own_took, phase_log, took}
+pub use Rattle.model_core.specs.Program.{checked, entries_from, entry, filled, Fills, is_checking, lent, next, own_op, own_took, took}
+pub use Rattle.model_core.specs.Reserving.{entries, log_left, phase_log}
 pub use Rattle.model_core.specs.ReaderProgram.{AreInFront, archived, archives, block_end, Filling, followed, has_all, is_none, IsText, joined_texts, next_block, next_mark, next_piece, pending, placed_at, read_to, reader_ending, reader_op, reader_program, reader_took, reader_waits, to_append}
 pub use Rattle.model_core.specs.Setup.{IsScripted}
 pub use Rattle.model_core.specs.States.{Advance, BatchPage, CheckpointerState, CleanerState, CloserState, FlusherState, Given, Line, LoadedMarks, ReaderState, UserState, WriterState, no_advance, none_loaded}

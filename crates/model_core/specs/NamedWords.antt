@@ -4,7 +4,8 @@ use Rattle.model_core.specs.Tails.{is_held, tail_of, tail_word}
 use Rattle.model_core.specs.declared.words.Word.{Word}
 use Rattle.model_core.specs.declared.words.Word.TheVariants as word
 use Rattle.model_core.specs.declared.limits.TheConstants.{BUFFER_BLOCKS, BUFFER_WORDS, WRITTEN_LINKS, CLOSED_LINKS, FLUSH_LISTS, FRAME_WORDS, READERS}
-use Rattle.model_core.specs.Layout.{page_stride, page_words_at, pages_at, PageWords, SharedWords}
+use Rattle.model_core.specs.Layout.{page_stride, pages_at, PageWords, SharedWords}
+use Rattle.model_core.specs.Sizes.{page_words_at}
 
 -- how many words a store of so many pages has
 abbrev pub word_count : ℕ → ℕ

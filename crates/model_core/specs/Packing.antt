@@ -1,7 +1,21 @@
 -- The bytes of a word, one by one.
-use Rattle.std.specs.Prelude.{List, replicate, slice_index, ℕ, ◌++◌}
-use Rattle.std.specs.Int.{byte_at, from_le_bytes, w64}
+use Rattle.std.specs.Prelude.{List, replicate, slice_index, ℕ, ◌++◌, [], take, ◌∷◌}
+use Rattle.std.specs.Int.{byte_at, from_le_bytes, w64, bytes_low_first}
 use Rattle.model_core.specs.Lanes.{cell_of, lane_of}
+use Rattle.model_core.specs.declared.limits.TheConstants.{WORD_LANES}
+
+-- what stands in so many lanes of a word, from a lane on
+unfoldable pub lanes : ℕ → ℕ → ℕ → List ℕ
+lanes j n word = bytes_low_first j n word
+
+-- the bytes of a frame's words, in turn
+abbrev pub frame_bytes : List ℕ → List ℕ
+frame_bytes [] = []
+frame_bytes (w ∷ ws) = lanes 0 WORD_LANES w ++ frame_bytes ws
+
+-- the page of so many bytes that a frame holds: the first of those
+abbrev pub framed_page : ℕ → List ℕ → List ℕ
+framed_page n frame = take n (frame_bytes frame)
 
 -- what stands in a lane of a word
 unfoldable pub lane : ℕ → ℕ → ℕ

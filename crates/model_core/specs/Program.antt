@@ -1,5 +1,5 @@
 -- The actors with their programs: what each has, and its next Op.
-use Rattle.std.specs.Prelude.{Bool, List, [], cond, ℕ, ◌++◌, ◌+◌, ◌∷◌}
+use Rattle.std.specs.Prelude.{Bool, List, [], cond, ℕ, ◌+◌, ◌∷◌}
 use Rattle.model_core.specs.ActorProgram.{ActorProgram, checked_of}
 use Rattle.model_core.specs.Actors.{Actor, Batch, Blocks, Lent, Nothing, Room}
 use Rattle.model_core.specs.Answers.{old_of}
@@ -9,15 +9,13 @@ use Rattle.model_core.specs.CloserProgram.{closer_program}
 use Rattle.model_core.specs.FlusherProgram.{flusher_program}
 use Rattle.model_core.specs.Groups.{Entry}
 use Rattle.model_core.specs.ReaderProgram.{Filling, reader_filled, reader_fills, reader_program}
-use Rattle.model_core.specs.States.{Line, UserState}
-use Rattle.model_core.specs.UserProgram.{line, line_at, user_program}
+use Rattle.model_core.specs.States.{Line}
+use Rattle.model_core.specs.UserProgram.{line_at, user_program}
 use Rattle.model_core.specs.WriterProgram.{writer_program}
 use Rattle.model_core.specs.declared.ops.Answer.{Answer}
 use Rattle.model_core.specs.declared.ops.Op.{Op}
-use Rattle.model_core.specs.declared.steps.UserStep.{UserStep}
 use Rattle.model_core.specs.declared.words.Word.TheVariants as word
 use Rattle.model_core.specs.declared.ops.Op.TheVariants as op
-use Rattle.model_core.specs.declared.steps.UserStep.TheVariants as user_step
 use Rattle.model_core.specs.Actors as actor
 
 -- what is asked of an actor's case, its program and its state: the one place that names the program of each case
@@ -65,19 +63,6 @@ entry user k s l = record { user = user; k = k; start = s; bytes = l.bytes; chan
 abbrev pub entries_from : ℕ → List Line → ℕ → List ℕ → List Entry
 entries_from user lines k [] = []
 entries_from user lines k (s ∷ ss) = entry user k s (line_at lines k) ∷ entries_from user lines (k + 1) ss
-
-abbrev pub entries : Actor → List Entry
-entries (actor.User u) = entries_from u.user u.lines 0 u.starts
-entries _ = []
-
--- the history after a step: a reservation adds a group
-abbrev pub phase_log : List Entry → ℕ → UserState → UserStep → List Entry
-phase_log log sn u user_step.Reserve = log ++ entry u.user u.k sn (line u) ∷ []
-phase_log log sn u _ = log
-
-abbrev pub log_left : List Entry → ℕ → Actor → List Entry
-log_left log sn (actor.User u) = cond u.checks log (phase_log log sn u u.step)
-log_left log sn _ = log
 
 -- an actor with what a turn puts into it before its Op is answered, and whether that is what it may be
 abbrev pub filled : Actor → Filling → Actor

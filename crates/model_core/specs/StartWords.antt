@@ -1,7 +1,8 @@
 -- The words of a store as a run begins.
 use Rattle.std.specs.Prelude.{cond, false, slice_index, ℕ, ◌%◌, ◌+◌, ◌-◌, ◌/◌, ◌<◌, ◌==◌, ◌≡◌, ◌≤◌}
-use Rattle.model_core.specs.Lanes.{framed_page}
-use Rattle.model_core.specs.Layout.{IsSized, page_words_at, PageWords, SharedWords}
+use Rattle.model_core.specs.Packing.{framed_page}
+use Rattle.model_core.specs.Layout.{PageWords, SharedWords}
+use Rattle.model_core.specs.Sizes.{IsSized, page_words_at}
 use Rattle.model_core.specs.Lsn.{lsn}
 use Rattle.model_core.specs.Setup.{Setup}
 use Rattle.model_core.specs.declared.limits.TheConstants.{BUFFER_BLOCKS, READERS}

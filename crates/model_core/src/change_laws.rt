@@ -2,7 +2,7 @@
 ghost use Rattle.std.specs.Prelude.{ℕ, ◌≡◌, ◌<◌, List, length, slice_index, if◌then◌else◌};
 ghost use Rattle.model_base.specs.{user_length};
 ghost use Rattle.model_base.specs.declared.shape.Shape.{Shape};
-ghost use Rattle.model_core.specs.Changes.{value_at, writes};
+ghost use Rattle.model_core.specs.Writes.{value_at, writes};
 ghost use Rattle.model_log.specs.{GroupFits};
 ghost use Rattle.model_log.specs.declared.rec.Rec.{Rec};
 ghost use Rattle.model_store.specs.{user_after};

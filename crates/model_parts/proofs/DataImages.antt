@@ -10,7 +10,8 @@ use Rattle.model_device.specs.{after_write, after_writes, settled}
 use Rattle.model_device.specs.Disk.{Disk}
 use Rattle.model_device.specs.declared.write.Write.{Write}
 use Rattle.model_store.specs.{IsFair}
-use Rattle.model_parts.specs.Batch.{Fresh, IsNew, new_text, slots_write, place_writes, after_batch}
+use Rattle.model_parts.specs.Batch.{Fresh, IsNew, new_text, slots_write, place_writes}
+use Rattle.model_parts.specs.BatchKept.{after_batch}
 use Rattle.model_parts.specs.BatchFits.{IsFreshPage, IsBatch}
 use Rattle.model_parts.specs.Stored.{IsKnown, copied, KeepsPage, ImageHolds, Keeps, Stored}
 use Rattle.model_parts.specs.BatchKept.{AreNotNewer}

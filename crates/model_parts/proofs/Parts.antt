@@ -8,7 +8,8 @@ use Rattle.model_page.specs.declared.content.Content.{Content}
 use Rattle.model_device.specs.{after_write, after_writes, IsPutOrNot, settled, synced, written}
 use Rattle.model_device.specs.Disk.{Disk}
 use Rattle.model_device.specs.declared.write.Write.{Write}
-use Rattle.model_parts.specs.Batch.{Fresh, IsNew, slots_write, place_writes, after_batch}
+use Rattle.model_parts.specs.Batch.{Fresh, IsNew, slots_write, place_writes}
+use Rattle.model_parts.specs.BatchKept.{after_batch}
 use Rattle.model_parts.specs.BatchFits.{IsBatch}
 use Rattle.model_parts.specs.Steps.{written_all, ArePutOrNot, after_both, FailsBoth}
 use Rattle.model_parts.specs.Stored.{IsKnown, copied, KeepsPage, ImageHolds, IsSteady, Keeps, Stored, IsUpTo, IsLater}

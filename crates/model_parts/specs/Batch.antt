@@ -1,7 +1,6 @@
 -- The pages of a batch, and how they are written: side by side into the slots, then each into its place.
-use Rattle.std.specs.Prelude.{ℕ, ◌≡◌, ◌+◌, ◌*◌, ◌==◌, if◌then◌else◌, List, [], ◌∷◌, ◌++◌, take, drop, map, Some, slice_get}
+use Rattle.std.specs.Prelude.{ℕ, ◌≡◌, ◌+◌, ◌*◌, List, [], ◌∷◌, ◌++◌, map, Some, slice_get}
 use Rattle.model_base.specs.declared.shape.Shape.{Shape}
-use Rattle.model_base.specs.{user_length}
 use Rattle.model_page.specs.{page_text}
 use Rattle.model_page.specs.declared.content.Content.{Content}
 use Rattle.model_device.specs.declared.write.Write.{Write}
@@ -11,22 +10,10 @@ pub record Fresh : Type 0 where
   pub page : ℕ
   pub content : Content
 
--- the batch of these pairs of page and lsn, the user bytes being joined
-abbrev pub batch_of : Shape → List (ℕ × ℕ) → List ℕ → List Fresh
-batch_of shape [] users = []
-batch_of shape (pair ∷ pairs) users =
-    (record { page = pair.0; content = record { lsn = pair.1; user = take (user_length shape) users } })
-    ∷ batch_of shape pairs (drop (user_length shape) users)
-
 -- the batch has this for the page
 pub record IsNew (batch : List Fresh) (p : ℕ) (content : Content) : Type 0 where
   pub i : ℕ
   pub at : slice_get batch i ≡ Some (record { page = p; content = content })
-
--- the pages once the batch is written
-abbrev pub after_batch : List Fresh → (ℕ → Content) → ℕ → Content
-after_batch [] was p = was p
-after_batch (new ∷ batch) was p = if new.page == p then new.content else after_batch batch was p
 
 -- the bytes of a page that is to be written
 abbrev pub new_text : Shape → Fresh → List ℕ

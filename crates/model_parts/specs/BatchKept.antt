@@ -1,5 +1,5 @@
 -- What a batch leaves of the pages of a store: for who writes it, and after a crash.
-use Rattle.std.specs.Prelude.{ℕ, ◌≡◌, ◌≤◌, ◌<◌, List, length, Some}
+use Rattle.std.specs.Prelude.{ℕ, ◌≡◌, ◌≤◌, ◌<◌, List, length, Some, ◌==◌, if◌then◌else◌, [], ◌∷◌, take, drop}
 use Rattle.model_base.specs.declared.shape.Shape.{Shape}
 use Rattle.model_page.specs.{blank_page, copy_lsn, data_device_length, IsInPlace, IsKept, IsLost, slot_bytes, user_part}
 use Rattle.model_page.specs.declared.content.Content.{Content}
@@ -9,6 +9,19 @@ use Rattle.model_store.specs.{IsFair}
 use Rattle.model_store.specs.Reading.{Reading}
 use Rattle.model_parts.specs.Batch.{Fresh, IsNew}
 use Rattle.model_parts.specs.Stored.{copied, HasNothingPending, IsKnown, IsOldOrNew, IsSteady, IsUpTo, KeepsPage}
+use Rattle.model_base.specs.{user_length}
+
+-- the batch of these pairs of page and lsn, the user bytes being joined
+abbrev pub batch_of : Shape → List (ℕ × ℕ) → List ℕ → List Fresh
+batch_of shape [] users = []
+batch_of shape (pair ∷ pairs) users =
+    (record { page = pair.0; content = record { lsn = pair.1; user = take (user_length shape) users } })
+    ∷ batch_of shape pairs (drop (user_length shape) users)
+
+-- the pages once the batch is written
+abbrev pub after_batch : List Fresh → (ℕ → Content) → ℕ → Content
+after_batch [] was p = was p
+after_batch (new ∷ batch) was p = if new.page == p then new.content else after_batch batch was p
 
 -- No copy that is there is newer than the page that the batch has, or of its lsn with other user bytes.
 pub record AreNotNewer (copies : ℕ → Content → Type 0) (batch : List Fresh) : Type 0 where

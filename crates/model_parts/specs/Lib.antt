@@ -22,7 +22,8 @@ pub mod Rewritten
 pub mod Steps
 pub mod Stored
 pub mod Written
-pub use Rattle.model_parts.specs.Batch.{Fresh, IsNew, after_batch, batch_of, batch_text, new_text, place_at, place_write, place_writes, slots_write}
+pub use Rattle.model_parts.specs.Batch.{Fresh, IsNew, batch_text, new_text, place_at, place_write, place_writes, slots_write}
+pub use Rattle.model_parts.specs.BatchKept.{after_batch, batch_of, IsBefore, IsOpened, KeepsPages, read_as}
 pub use Rattle.model_parts.specs.BatchFits.{IsBatch, IsFreshPage, IsWritable}
 pub use Rattle.model_parts.specs.Changes.{IsErased, IsErasing, IsPut, IsPutting, IsUnsealed}
 pub use Rattle.model_parts.specs.Cleared.{IsCleared, IsClearing, IsInKeptRange, IsOfTail, IsOutside, IsPastKept, IsStaleTail}
@@ -43,5 +44,4 @@ pub use Rattle.model_parts.specs.Repair.{FailsPutBack, IsCopyPut, IsPutBack, IsR
 pub use Rattle.model_parts.specs.Rewritten.{IsRewriting, IsRewritten}
 pub use Rattle.model_parts.specs.Steps.{ArePutOrNot, FailsBoth, FailsOne, after_both, written_all}
 pub use Rattle.model_parts.specs.Stored.{HasNothingPending, ImageHolds, IsKnown, IsLater, IsOldOrNew, IsSteady, IsUpTo, Keeps, KeepsPage, copied}
-pub use Rattle.model_parts.specs.BatchKept.{IsBefore, IsOpened, KeepsPages, read_as}
 pub use Rattle.model_parts.specs.Written.{IsWrittenOver}

@@ -24,7 +24,7 @@ use Rattle.model_parts.proofs.Bytes.{group-bytes}
 use Rattle.model_running.proofs.Following.{AreTexts}
 use Rattle.model_running.proofs.Groups.{run_of_log, streams}
 use Rattle.model_running.proofs.Places.{sn_back}
-use Rattle.model_running.specs.History.{AreWholesOf}
+use Rattle.model_running.specs.Histories.{AreWholesOf}
 
 part : (k n long : ℕ) (xs : List ℕ) → k + n ≤ long → take n (drop k (take long xs)) ≡ take n (drop k xs)
 part k n long xs within =

@@ -13,7 +13,8 @@ use Rattle.model_running.proofs.Legality.{legal_log}
 use Rattle.model_running.proofs.Losses.{left_lines, lost_entry}
 use Rattle.model_running.proofs.Places.{bound_spans, history_spans}
 use Rattle.model_running.specs.Schedule.{HaveEnded}
-use Rattle.model_running.specs.History.{AreWholesOf, marks_in}
+use Rattle.model_running.specs.History.{marks_in}
+use Rattle.model_running.specs.Histories.{AreWholesOf}
 use Rattle.model_running.specs.Histories.{history_of, log_spans, word_marks}
 use Rattle.model_running.specs.RunOf.{run_of}
 use Rattle.model_running.specs.Script.{HasSeats, IsOfScript}

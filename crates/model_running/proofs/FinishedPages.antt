@@ -14,10 +14,11 @@ use Rattle.model_running.proofs.Groups.{line_below}
 use Rattle.model_running.proofs.PagePrefixes.{ArePageGroups, applied_none, ends_above, lsn_upto, passed_by, passed_start, user_upto}
 use Rattle.model_running.specs.FinishedPages.{ArePrefixes, FinishedPages}
 use Rattle.model_running.specs.OpenedPages.{HasItsPages, IsOpenedPage}
-use Rattle.model_running.specs.History.{AreWholesOf}
+use Rattle.model_running.specs.Histories.{AreWholesOf}
 use Rattle.model_running.specs.Histories.{history_of, word_marks}
 use Rattle.model_running.specs.RunOf.{run_of}
-use Rattle.model_running.specs.PageContents.{content_in, contents_of, new_content}
+use Rattle.model_running.specs.PageContents.{new_content}
+use Rattle.model_running.specs.OpenedPages.{content_in, contents_of}
 use Rattle.model_running.specs.Script.{IsOfScript}
 use Rattle.model_report.specs.{group_of_line, lines_of_user, wholes_of}
 use Rattle.model_report.specs.declared.entry.Marks.{Marks}

@@ -7,7 +7,7 @@ use Rattle.model_core.specs.{crosses, crossing, end_of, first_of, lsn}
 use Rattle.model_core.specs.Groups as core
 use Rattle.model_core.proofs.Lsns.{lsn_block, lsn_offset}
 use Rattle.model_core.proofs.Groups.{crosses_is}
-use Rattle.model_running.specs.History.{log_span}
+use Rattle.model_running.specs.Histories.{log_span}
 use Rattle.model_running.specs.Histories.{log_spans}
 
 same_eq : (a b : ℕ) → eqb (a * 512) (512 * b) ≡ eqb a b

@@ -9,7 +9,7 @@ use Rattle.model_core.specs.{IsBound, IsLent, lent, lsn, stream, Tiles}
 use Rattle.model_running.proofs.FirstOffsets.{first_same}
 use Rattle.model_running.proofs.Groups.{places, streams}
 use Rattle.model_running.proofs.Places.{bound_spans, sn_back}
-use Rattle.model_running.specs.History.{AreWholesOf}
+use Rattle.model_running.specs.Histories.{AreWholesOf}
 use Rattle.model_running.specs.Histories.{log_spans}
 use Rattle.model_log.proofs.BoundaryLengths.{stream_between-is}
 use Rattle.model_log.specs.{block_of, first_at, groups_of, IsBoundary, IsGivenTo, sn_of, Span, spans_of, stream_of}

@@ -6,7 +6,7 @@ use Rattle.model_base.specs.declared.shape.Shape.{Shape}
 use Rattle.model_core.specs.{answered, end_of, Line, line_at, lsn, stream, Tiles}
 use Rattle.model_core.specs.Setup.{Setup}
 use Rattle.model_running.proofs.Places.{lsn_is, sn_back, tiled_spans}
-use Rattle.model_running.specs.History.{AreWholesOf, IsWholeOf, log_span}
+use Rattle.model_running.specs.Histories.{AreWholesOf, IsWholeOf, log_span}
 use Rattle.model_running.specs.Histories.{history_of, log_spans}
 use Rattle.model_running.specs.Script.{IsLineOf, IsOfScript}
 use Rattle.model_report.specs.{group_of_line, lines_of_user, wholes_of}

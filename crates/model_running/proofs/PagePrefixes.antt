@@ -8,7 +8,7 @@ use Rattle.model_base.specs.declared.shape.Shape.{Shape}
 use Rattle.model_core.specs.{changes_of, end_of, lsn, PageChange, Tiles}
 use Rattle.model_core.proofs.Lsns.{lsn_less}
 use Rattle.model_running.proofs.CellsApply.{cells_apply, change_of_page, writes_long}
-use Rattle.model_running.specs.History.{AreWholesOf}
+use Rattle.model_running.specs.Histories.{AreWholesOf}
 use Rattle.model_log.specs.{GroupFits, Span}
 use Rattle.model_page.specs.{user_part}
 use Rattle.model_page.specs.declared.content.Content.{Content}

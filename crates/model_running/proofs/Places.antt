@@ -2,7 +2,7 @@
 use Rattle.std.proofs.Common.{Bool, List, [], ap, arith, cond, false, inl, inr, length, ltb, refl, subst, sym, ℕ, ⊎_elim, ◌%◌, ◌*◌, ◌+◌, ◌-◌, ◌/◌, ◌∙◌, ◌∷◌, ◌≡◌}
 use Rattle.std.proofs.lemmas.Bool.{le-ltb}
 use Rattle.model_core.specs.{answered, IsBound, lsn, Tiles}
-use Rattle.model_running.specs.History.{log_span}
+use Rattle.model_running.specs.Histories.{log_span}
 use Rattle.model_running.specs.Histories.{history_of, log_spans}
 use Rattle.model_report.specs.{entry_spans}
 use Rattle.model_report.specs.declared.entry.Marks.{Marks}

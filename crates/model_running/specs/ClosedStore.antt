@@ -7,8 +7,8 @@ use Rattle.model_core.specs.LogSide.{LogSide}
 use Rattle.model_core.specs.Setup.{Setup}
 use Rattle.model_device.specs.Disk.{Disk}
 use Rattle.model_running.specs.FinishedPages.{ArePrefixes}
-use Rattle.model_running.specs.History.{AreWholesOf}
-use Rattle.model_running.specs.PageContents.{content_in, contents_of}
+use Rattle.model_running.specs.Histories.{AreWholesOf}
+use Rattle.model_running.specs.OpenedPages.{content_in, contents_of}
 use Rattle.model_parts.specs.{LogHolds}
 use Rattle.model_parts.specs.declared.marks.LogMarks.{LogMarks}
 use Rattle.model_pagecore.specs.{AreApart}

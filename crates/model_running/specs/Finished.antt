@@ -7,7 +7,8 @@ use Rattle.model_core.specs.DataSide.{DataSide}
 use Rattle.model_core.specs.{Actor, Core, Entry, HasLost, index, Tiles, UserState}
 use Rattle.model_core.specs.LogSide.{LogSide}
 use Rattle.model_core.specs.Setup.{Setup}
-use Rattle.model_running.specs.History.{AreWholesOf, marks_in}
+use Rattle.model_running.specs.History.{marks_in}
+use Rattle.model_running.specs.Histories.{AreWholesOf}
 use Rattle.model_running.specs.Histories.{history_of}
 use Rattle.model_report.specs.{wholes_of}
 use Rattle.model_report.specs.declared.entry.Marks.{Marks}

@@ -3,7 +3,7 @@ use Rattle.std.specs.Prelude.{List, Option, Some, slice_get, ℕ, ◌≡◌}
 use Rattle.model_core.specs.DataSide.{DataSide}
 use Rattle.model_core.specs.{BatchPage, Core, KeptPage}
 use Rattle.model_core.specs.LogSide.{LogSide}
-use Rattle.model_running.specs.PageContents.{content_in, contents_of}
+use Rattle.model_running.specs.OpenedPages.{content_in, contents_of}
 use Rattle.model_report.specs.{wholes_of}
 use Rattle.model_page.specs.declared.content.Content.{Content}
 use Rattle.model_pagecore.specs.{AreApart}

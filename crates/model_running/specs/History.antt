@@ -1,13 +1,11 @@
 -- The history of a run: each reserved group, and how its commit stands by the marks.
-use Rattle.std.specs.Prelude.{List, [], cond, nat_lt, slice_index, ℕ, ◌∷◌, ◌≡◌}
+use Rattle.std.specs.Prelude.{List, cond, nat_lt, slice_index, ℕ}
 use Rattle.model_core.specs.{answered, end_of, index, lsn, tail_of}
 use Rattle.model_report.specs.{state_by}
 use Rattle.model_report.specs.declared.entry.Entry.{Entry}
 use Rattle.model_report.specs.declared.entry.Marks.{Marks}
 use Rattle.model_report.specs.declared.entry.State.{State}
 use Rattle.model_report.specs.declared.entry.State.TheVariants.{Lost}
-use Rattle.model_log.specs.{group_text, Span, span_of}
-use Rattle.model_log.specs.declared.group.Whole.{Whole}
 use Rattle.model_core.specs.declared.words.Word.TheVariants as word
 use Rattle.model_core.specs.Groups as core
 
@@ -26,18 +24,3 @@ marks_in ws = record {
   flushed = slice_index ws (index word.Flushed);
   ckpt = slice_index ws (index word.Ckpt);
 }
-
--- where each group of the log stands, in lsns
-abbrev pub log_span : core.Entry → Span
-log_span e = record { start = lsn e.start; end = lsn (end_of e) }
-
--- the group is this one, with its place
-pub record IsWholeOf (e : core.Entry) (whole : Whole) : Type 0 where
-  pub place : span_of whole ≡ log_span e
-  pub text : group_text whole.group ≡ e.bytes
-
--- the groups of the log, each with its place
-abbrev pub AreWholesOf : List core.Entry → List Whole → Type 0
-AreWholesOf [] [] = Unit {0}
-AreWholesOf (e ∷ log) (whole ∷ wholes) = IsWholeOf e whole × AreWholesOf log wholes
-AreWholesOf _ _ = ⊥

@@ -30,11 +30,11 @@ pub use Rattle.model_running.specs.ClosedStore.{DataTells, LogTells}
 pub use Rattle.model_running.specs.DataReady.{CanLendBatch}
 pub use Rattle.model_running.specs.Finished.{CausesAreFailures, HasFailedPart}
 pub use Rattle.model_running.specs.FinishedPages.{ArePrefixes}
-pub use Rattle.model_running.specs.History.{AreWholesOf, history_entry, marks_in}
-pub use Rattle.model_running.specs.Histories.{history_of, word_marks}
+pub use Rattle.model_running.specs.History.{history_entry, marks_in}
+pub use Rattle.model_running.specs.Histories.{AreWholesOf, history_of, word_marks}
 pub use Rattle.model_running.specs.OpenLines.{LeavesOpen}
-pub use Rattle.model_running.specs.OpenedPages.{HasItsPages}
-pub use Rattle.model_running.specs.PageContents.{content_in, contents_of, kept_content, new_content}
+pub use Rattle.model_running.specs.OpenedPages.{HasItsPages, content_in, contents_of, kept_content}
+pub use Rattle.model_running.specs.PageContents.{new_content}
 pub use Rattle.model_running.specs.PlainStore.{plain_store, tells_nothing}
 pub use Rattle.model_running.specs.RunOf.{run_of}
 pub use Rattle.model_running.specs.RunningStore.{BothHalves, IsRunning}

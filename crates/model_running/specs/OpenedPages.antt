@@ -1,9 +1,22 @@
 -- The pages of a run as it begins: those of the store that was opened.
-use Rattle.std.specs.Prelude.{Some, length, slice_get, ℕ, ◌<◌, ◌≡◌}
+use Rattle.std.specs.Prelude.{Some, length, slice_get, ℕ, ◌<◌, ◌≡◌, List, None, Option, [], if◌then◌else◌, ◌==◌, ◌∷◌}
 use Rattle.model_core.specs.Setup.{Setup}
-use Rattle.model_running.specs.PageContents.{kept_content}
 use Rattle.model_page.specs.declared.content.Content.{Content}
 use Rattle.model_theorem.specs.{Opened}
+use Rattle.model_core.specs.{BatchPage, KeptPage}
+use Rattle.model_page.specs.{user_part}
+use Rattle.model_running.specs.PageContents.{new_content}
+
+abbrev pub kept_content : KeptPage → Content
+kept_content kept = record { lsn = kept.lsn; user = user_part kept.bytes }
+
+abbrev pub contents_of : (ℕ → KeptPage) → ℕ → Content
+contents_of kept_page p = kept_content (kept_page p)
+
+-- what a batch has for a page, if it has it
+abbrev pub content_in : List BatchPage → ℕ → Option Content
+content_in [] p = None
+content_in (x ∷ xs) p = if x.page == p then Some (new_content x) else content_in xs p
 
 -- a page of the store that was opened, as the run began with it
 pub record IsOpenedPage (c : Setup) (p : ℕ) (page : Content) : Type 0 where

@@ -13,7 +13,8 @@ use Rattle.model_log.specs.declared.rec.Rec.TheVariants.{Num, Text, Init}
 use Rattle.model_page.specs.{blank_page, blank_pages}
 use Rattle.model_page.specs.declared.content.Content.{Content}
 use Rattle.model_store.specs.{applied, page_after, user_after_own}
-use Rattle.redo_apply.specs.Fits.{ArePagesOf, WritesWithin}
+use Rattle.redo_apply.specs.Fits.{ArePagesOf}
+use Rattle.redo_apply.specs.Writing.{WritesWithin}
 use Rattle.redo_apply.proofs.Records.{page_after-cons, page_after-own, page_after-other, applied-one, applied-cons}
 
 -- the first i records are applied, and the others lead where all lead

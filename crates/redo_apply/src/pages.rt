@@ -5,7 +5,8 @@ ghost use Rattle.model_base.specs.declared.shape.Shape.{Shape};
 ghost use Rattle.model_page.specs.{blank_pages};
 ghost use Rattle.model_log.specs.{page_of};
 ghost use Rattle.model_store.specs.{applied, page_after};
-ghost use Rattle.redo_apply.specs.Fits.{ArePagesOf, FitsPages, WritesWithin};
+ghost use Rattle.redo_apply.specs.Fits.{ArePagesOf};
+ghost use Rattle.redo_apply.specs.Writing.{FitsPages, WritesWithin};
 ghost use Rattle.redo_apply.specs.Replay.{AreAfterWhere, HaveLsns};
 
 use crate::record::{page_of, put_record};

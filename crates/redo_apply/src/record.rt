@@ -4,7 +4,7 @@ ghost use Rattle.std.specs.Int.{bytes_high_first};
 ghost use Rattle.model_base.specs.{overwritten};
 ghost use Rattle.model_log.specs.{page_of};
 ghost use Rattle.model_store.specs.{user_after_own};
-ghost use Rattle.redo_apply.specs.Fits.{WritesWithin};
+ghost use Rattle.redo_apply.specs.Writing.{WritesWithin};
 
 use model_base::USER_START;
 use model_log::Rec;

@@ -3,7 +3,7 @@ ghost use Rattle.std.specs.Prelude.{ℕ, List, ◌≡◌, ◌+◌, ◌++◌, ◌
 ghost use Rattle.model_base.specs.declared.shape.Shape.{Shape};
 ghost use Rattle.model_store.specs.{applied};
 ghost use Rattle.redo_apply.specs.{ArePagesOf};
-ghost use Rattle.redo_apply.specs.Fits.{FitsPages};
+ghost use Rattle.redo_apply.specs.Writing.{FitsPages};
 ghost use Rattle.redo_archive.specs.Grouped.{Aim, AreRead, HasLsnRoom, IsApplied, AreEnding};
 
 use crate::Restored;

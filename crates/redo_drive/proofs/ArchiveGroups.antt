@@ -22,7 +22,7 @@ use Rattle.model_running.proofs.Groups.{run_of_log}
 use Rattle.model_running.proofs.ReadKeeps.{LogGrows}
 use Rattle.model_running.proofs.RunBlocks.{grown}
 use Rattle.model_running.specs.{IsNoAppend}
-use Rattle.model_running.specs.History.{AreWholesOf}
+use Rattle.model_running.specs.Histories.{AreWholesOf}
 use Rattle.model_running.specs.ReadHalf.{HasRunBlock, RunBlockAt}
 use Rattle.redo_archive.specs.Part.{Part, PartArchives}
 use Rattle.redo_archiver.proofs.Longer.{part-longer}

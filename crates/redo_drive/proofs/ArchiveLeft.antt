@@ -18,7 +18,7 @@ use Rattle.model_running.proofs.Archiving.{losing_at}
 use Rattle.model_running.proofs.Finished.{finished_groups, marks_same}
 use Rattle.model_running.proofs.Groups.{run_of_log}
 use Rattle.model_running.specs.{word_marks}
-use Rattle.model_running.specs.History.{AreWholesOf}
+use Rattle.model_running.specs.Histories.{AreWholesOf}
 use Rattle.model_running.specs.ReadHalf.{ArchiverHas, HasByKind, ReadHalf, ReaderHas}
 use Rattle.model_script.specs.declared.script.ScriptLine.{ScriptLine}
 use Rattle.redo_archive.specs.Part.{Part, PartArchives}

@@ -7,7 +7,8 @@ use Rattle.redo_disk.specs.{HasCause}
 use Rattle.redo_disk.specs.Seen.{Seen}
 use Rattle.redo_disk.specs.declared.error.DevError.{DevError}
 use Rattle.redo_disk.specs.declared.error.DevError.TheVariants.{Failed, NoMemory}
-use Rattle.redo_drive.specs.Devices.{HasFailedBy, call_answer, call_code, code_of}
+use Rattle.redo_drive.specs.Devices.{call_code, code_of}
+use Rattle.redo_drive.specs.Failures.{HasFailedBy, call_answer}
 use Rattle.redo_drive.specs.declared.device.Device.{Device}
 use Rattle.redo_drive.specs.declared.device.Device.TheVariants.{Data, Log}
 

@@ -14,7 +14,7 @@ use Rattle.model_core.proofs.Lsns.{lsn_le, lsn_less}
 use Rattle.model_core.specs.{end_of, Given, lsn, UserState}
 use Rattle.model_core.specs.Actors as model
 use Rattle.model_core.specs.Groups as core
-use Rattle.model_running.specs.History.{AreWholesOf, IsWholeOf, log_span}
+use Rattle.model_running.specs.Histories.{AreWholesOf, IsWholeOf, log_span}
 use Rattle.model_running.specs.ReadHalf.{groups_upto}
 use Rattle.model_running.specs.ReadHalf as read_half
 use Rattle.model_log.specs.{Span, span_of}

@@ -20,7 +20,7 @@ use Rattle.model_running.proofs.Archiving.{none_loses}
 use Rattle.model_running.proofs.ClosedStore.{held_run}
 use Rattle.model_running.proofs.Finished.{finished_groups, finished_losses, finished_run, marks_same}
 use Rattle.model_running.proofs.Places.{bound_spans, history_spans}
-use Rattle.model_running.specs.History.{AreWholesOf}
+use Rattle.model_running.specs.Histories.{AreWholesOf}
 use Rattle.model_running.specs.Histories.{log_spans}
 use Rattle.model_running.specs.ReadHalf.{FollowerHas, groups_upto, HasByKind, ReaderHas, ReadHalf}
 use Rattle.model_logcore.specs.{LogGhost}

@@ -9,7 +9,8 @@ use Rattle.redo_disk.specs.declared.error.DevError.TheVariants.{Failed, NoMemory
 use Rattle.redo_logdev.specs.{Stays}
 use Rattle.redo_logdev.specs.Part.{Part}
 use Rattle.redo_drive.proofs.Devices.{failed_by}
-use Rattle.redo_drive.specs.Devices.{HasFailedBy, call_code}
+use Rattle.redo_drive.specs.Devices.{call_code}
+use Rattle.redo_drive.specs.Failures.{HasFailedBy}
 use Rattle.redo_drive.specs.TurnSides.{LogCalled}
 use Rattle.redo_drive.specs.declared.device.Device.TheVariants.{Log}
 

@@ -10,7 +10,8 @@ use Rattle.model_core.specs.declared.ops.Op.{Op}
 use Rattle.model_core.specs.declared.ops.Op.TheVariants as op
 use Rattle.redo_disk.specs.Seen.{Seen}
 use Rattle.redo_drive.proofs.Devices.{answer_by_code}
-use Rattle.redo_drive.specs.Devices.{call_answer, call_code}
+use Rattle.redo_drive.specs.Devices.{call_code}
+use Rattle.redo_drive.specs.Failures.{call_answer}
 use Rattle.redo_drive.specs.Lists.{Listings, lists_of}
 use Rattle.redo_drive.specs.Playing.{HasSameDevices, IsPlayed, RunOf, run_data_side, run_log_side, told_by}
 use Rattle.redo_drive.specs.declared.device.Device.TheVariants.{Data, Log}

@@ -23,6 +23,7 @@ use Rattle.redo_drive.specs.declared.device.Device.TheVariants.{Data, Log}
 use Rattle.redo_logdev.specs.PartConditions.{HasMarks}
 use Rattle.redo_logdev.specs.Part as log
 use Rattle.redo_store.specs.Part as store
+use Rattle.redo_store.specs.Holding as holding
 use Rattle.redo_words.specs.{Lends}
 use Rattle.redo_words.specs.declared.lent.Lent.{Lent}
 use Rattle.redo_words.specs.declared.lent.Lent.TheVariants as lent
@@ -81,9 +82,9 @@ write_served seen faults number Begun mark bytes firsts p q (model.Blocks kept o
 
 pub batch_served : {D : Type 0} (seen : D → Seen) (faults : ℕ) (shape : Shape) (Begun : Type 0) (pages : List (ℕ × ℕ)) (frames : List ℕ) (result : Result (Unit {0}) DevError) (d e : store.Part D) (l : model.Lent)
     → LendsBatch pages frames l → HasWholePages d.shape op.WriteBatch l → store.PartStep seen d result e
-    → ((top was : ℕ → Content) → store.PartStores seen top was [] d → IsLater top (batch_of d.shape pages frames) → store.PartKeeps seen top was (batch_of d.shape pages frames) e)
-    → ((top was : ℕ → Content) → store.PartStores seen top was [] d → IsLater top (batch_of d.shape pages frames)
-    → OnOk result (store.PartStores seen (after_batch (batch_of d.shape pages frames) top) (after_batch (batch_of d.shape pages frames) was) [] e))
+    → ((top was : ℕ → Content) → holding.PartStores seen top was [] d → IsLater top (batch_of d.shape pages frames) → holding.PartKeeps seen top was (batch_of d.shape pages frames) e)
+    → ((top was : ℕ → Content) → holding.PartStores seen top was [] d → IsLater top (batch_of d.shape pages frames)
+    → OnOk result (holding.PartStores seen (after_batch (batch_of d.shape pages frames) top) (after_batch (batch_of d.shape pages frames) was) [] e))
     → DataServed (data_part.data_side seen faults shape Begun) d l op.WriteBatch (call_code Data e.failed) e
 batch_served seen faults shape Begun pages frames result d e model.Nothing lends whole step keeps ok = absurd lends
 batch_served seen faults shape Begun pages frames result d e (model.Blocks kept offsets) lends whole step keeps ok = absurd lends
@@ -93,9 +94,9 @@ batch_served seen faults shape Begun pages frames result d e (model.Batch batch)
       result = result;
       code_is = refl;
       step = step;
-      keeps = subst (λ (f : List Fresh). (top was : ℕ → Content) → store.PartStores seen top was [] d → IsLater top f → store.PartKeeps seen top was f e) same keeps;
-      ok = subst (λ (f : List Fresh). (top was : ℕ → Content) → store.PartStores seen top was [] d → IsLater top f
-          → OnOk result (store.PartStores seen (after_batch f top) (after_batch f was) [] e)) same ok;
+      keeps = subst (λ (f : List Fresh). (top was : ℕ → Content) → holding.PartStores seen top was [] d → IsLater top f → holding.PartKeeps seen top was f e) same keeps;
+      ok = subst (λ (f : List Fresh). (top was : ℕ → Content) → holding.PartStores seen top was [] d → IsLater top f
+          → OnOk result (holding.PartStores seen (after_batch f top) (after_batch f was) [] e)) same ok;
     }
 
 -- what is lent, by what it is

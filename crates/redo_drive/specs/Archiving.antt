@@ -14,7 +14,7 @@ use Rattle.model_ends.specs.Bound.{last_lsn}
 use Rattle.model_log.specs.{IsRunOf}
 use Rattle.model_log.specs.declared.group.Whole.{Whole}
 use Rattle.model_page.specs.declared.content.Content.{Content}
-use Rattle.model_running.specs.History.{AreWholesOf}
+use Rattle.model_running.specs.Histories.{AreWholesOf}
 use Rattle.redo_archive.specs.Part.{Part, PartArchives}
 use Rattle.redo_archiver.specs.{IsAppended, IsFullBlock, KeepsPace}
 use Rattle.redo_disk.specs.Seen.{Seen}

@@ -10,7 +10,8 @@ use Rattle.model_page.specs.declared.content.Content.{Content}
 use Rattle.redo_disk.specs.Seen.{Seen}
 use Rattle.redo_disk.specs.declared.error.DevError.{DevError}
 pub use Rattle.redo_drive.specs.Asking.{fresh_batch, fresh_page}
-use Rattle.redo_drive.specs.Devices.{call_code, HasFailedBy}
+use Rattle.redo_drive.specs.Devices.{call_code}
+use Rattle.redo_drive.specs.Failures.{HasFailedBy}
 use Rattle.redo_drive.specs.declared.device.Device.TheVariants.{Data}
 use Rattle.redo_store.specs.{PartKeeps, PartStep, PartStores}
 use Rattle.redo_store.specs.Part.{Part}

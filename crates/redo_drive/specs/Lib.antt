@@ -7,6 +7,7 @@ pub mod Calls
 pub mod DataPartSide
 pub mod Devices
 pub mod Drive
+pub mod Failures
 pub mod FirstWords
 pub mod Followed
 pub mod History

@@ -8,7 +8,7 @@ use Rattle.model_parts.specs.{after_asked, after_checkpoint, after_given, after_
 use Rattle.model_parts.specs.declared.marks.LogMarks.{LogMarks}
 use Rattle.model_log.specs.declared.group.Whole.{Whole}
 use Rattle.redo_disk.specs.Seen.{Seen, StillTells}
-use Rattle.redo_drive.specs.Devices.{HasFailedBy}
+use Rattle.redo_drive.specs.Failures.{HasFailedBy}
 use Rattle.redo_drive.specs.TurnSides.{LogCalled}
 use Rattle.redo_drive.specs.declared.device.Device.TheVariants.{Log}
 use Rattle.redo_logdev.specs.{GivesBlock, KeepsHolding, KeepsNumbered, KeepsWriting, PartHolds}

@@ -23,7 +23,8 @@ use Rattle.redo_disk.specs.{Call, MakesCalls, Serve, write_at}
 use Rattle.redo_disk.specs.declared.error.DevError.{DevError}
 use Rattle.redo_logdev.specs.Calls.{block_writes, framed_full_blocks, full_count, last_block}
 use Rattle.redo_logdev.specs.Writing.{FailsBlocks, written_blocks}
-use Rattle.redo_logdev.specs.Part.{DiskHolds, Part}
+use Rattle.redo_logdev.specs.Part.{Part}
+use Rattle.redo_logdev.specs.Holding.{DiskHolds}
 use Rattle.redo_logdev.specs.PartConditions.{IsSoundLogPart, MayWrite}
 use Rattle.redo_logdev.proofs.Cuts.{count-firsts, IsCut}
 use Rattle.redo_logdev.proofs.WriteTo.{write_to-err, write_to-ok}

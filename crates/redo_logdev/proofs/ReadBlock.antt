@@ -7,9 +7,11 @@ use Rattle.model_log.specs.declared.group.Whole.{Whole}
 use Rattle.model_log.specs.{block_of, IsBoundaryBlock, IsInRound, place_in, run_layout, sector_of}
 use Rattle.model_log.proofs.Places.{sector-place}
 use Rattle.model_parts.specs.{IsWritten}
-use Rattle.redo_logdev.specs.Part.{DiskHolds, Part}
+use Rattle.redo_logdev.specs.Part.{Part}
+use Rattle.redo_logdev.specs.Holding.{DiskHolds}
 use Rattle.redo_logdev.specs.PartConditions.{IsSoundLogPart}
-use Rattle.redo_logdev.specs.ReadBlock.{block_place, HoldsBlock}
+use Rattle.redo_logdev.specs.ReadBlock.{block_place}
+use Rattle.redo_logdev.specs.Holding.{HoldsBlock}
 use Rattle.redo_logdev.specs.PartConditions.{MayRead}
 
 module _ {L : Type 0} (part : Part L) (size room lsn : ℕ)

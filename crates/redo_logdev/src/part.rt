@@ -3,7 +3,7 @@ ghost use Rattle.std.specs.Prelude.{◌≡◌, ◌≤◌, ◌<◌, ◌-◌, ◌^
 ghost use Rattle.model_base.specs.declared.limits.TheConstants.{FIRST_DATA_LSN, MAX_LOG_BLOCKS, MIN_LOG_BLOCKS};
 ghost use Rattle.model_log.specs.{IsAtDataStart, log_device_length};
 ghost use Rattle.model_parts.specs.{first_marks, first_tails, IsFresh};
-ghost use Rattle.redo_logdev.specs.Part.{PartHolds};
+ghost use Rattle.redo_logdev.specs.Holding.{PartHolds};
 
 use model_base::Shape;
 use model_log::{BLOCK_HEADER, HEADER_BLOCKS};

@@ -15,7 +15,7 @@ use Rattle.model_ends.specs.Bound.{bytes_of}
 use Rattle.model_log.specs.{IsAtDataStart}
 use Rattle.model_log.specs.declared.group.Whole.{Whole}
 use Rattle.model_logcore.specs.{sum_over_actors}
-use Rattle.model_running.specs.History.{AreWholesOf}
+use Rattle.model_running.specs.Histories.{AreWholesOf}
 use Rattle.model_script.specs.{script_end}
 use Rattle.model_script.specs.declared.script.ScriptLine.{ScriptLine}
 use Rattle.redo_archive.specs.Part.{Part, PartArchives}

@@ -22,7 +22,7 @@ use Rattle.model_running.proofs.ArchiverStays.{rises}
 use Rattle.model_running.proofs.FlatWords.{flat_left}
 use Rattle.model_running.proofs.Groups.{run_of_log}
 use Rattle.model_running.proofs.Turns.{next_words}
-use Rattle.model_running.specs.History.{AreWholesOf}
+use Rattle.model_running.specs.Histories.{AreWholesOf}
 use Rattle.redo_archive.specs.Part.{Part, PartArchives}
 use Rattle.redo_archiver.proofs.Longer.{part-longer}
 use Rattle.redo_archiver.specs.{KeepsPace}

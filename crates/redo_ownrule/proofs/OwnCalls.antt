@@ -38,7 +38,8 @@ use Rattle.redo_drive.proofs.CallsOn.{calls_then}
 use Rattle.redo_drive.proofs.Played.{CallsLog}
 use Rattle.redo_drive.proofs.ShapeStays.{served_shape}
 use Rattle.redo_drive.specs.Calls.{CallsOn}
-use Rattle.redo_drive.specs.Devices.{call_answer, call_code}
+use Rattle.redo_drive.specs.Devices.{call_code}
+use Rattle.redo_drive.specs.Failures.{call_answer}
 use Rattle.redo_drive.specs.LogPartSide as log_part
 use Rattle.redo_drive.specs.Playing.{run_log_side, RunOf, told_by}
 use Rattle.redo_drive.specs.declared.device.Device.TheVariants.{Log}

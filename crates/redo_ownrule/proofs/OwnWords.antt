@@ -3,7 +3,8 @@ use Rattle.std.proofs.Common.{Bool, Some, cond, false, length, refl, true, ℕ, 
 use Rattle.model_core.specs.{FlusherState, flusher_op, flusher_took, OnWord, UserState, writer_op, writer_took, WriterState}
 use Rattle.model_core.specs.Advancing.{advance_next, ends}
 use Rattle.model_core.specs.Hands.{user_hand}
-use Rattle.model_core.specs.Lanes.{lane_of, lanes, left_in_word}
+use Rattle.model_core.specs.Lanes.{lane_of, left_in_word}
+use Rattle.model_core.specs.Packing.{lanes}
 use Rattle.model_core.specs.Lsn.{lsn}
 use Rattle.model_core.specs.WriterProgram.{finds_no_more, has_log_space, has_whole_word, read_place, stands_outside, word_end}
 use Rattle.model_core.specs.declared.ops.Answer.TheVariants as answer

@@ -23,7 +23,7 @@ use Rattle.model_own.specs.OwnTurn.{UserTurn}
 use Rattle.model_own.specs.OwnWrites.{LogWork, own_goes_on, own_lends, own_next, OwnUser}
 use Rattle.model_own.specs.ErrandFits.{ErrandFits, has_work}
 use Rattle.redo_disk.specs.Seen.{Seen}
-use Rattle.redo_drive.specs.Devices.{call_answer}
+use Rattle.redo_drive.specs.Failures.{call_answer}
 use Rattle.redo_drive.specs.Playing.{LogReady, run_data_side, run_log_side, RunOf, told_by}
 use Rattle.redo_drive.specs.declared.device.Device.TheVariants.{Log}
 use Rattle.redo_drive.specs.declared.parts.Parts.{Parts}

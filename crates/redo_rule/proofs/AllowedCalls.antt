@@ -25,7 +25,8 @@ use Rattle.redo_drive.proofs.Played as played
 use Rattle.redo_drive.proofs.Played.{CallsLog}
 use Rattle.redo_drive.specs.Calls.{CallsOn}
 use Rattle.redo_drive.specs.Lists.{listing_at, Listings}
-use Rattle.redo_drive.specs.Devices.{call_answer, call_code, code_of}
+use Rattle.redo_drive.specs.Devices.{call_code, code_of}
+use Rattle.redo_drive.specs.Failures.{call_answer}
 use Rattle.redo_drive.specs.Playing.{HasSamePages, IsPlayed, run_data_side, run_log_side, RunOf, told_by}
 use Rattle.redo_drive.specs.declared.device.Device.TheVariants.{Data, Log}
 use Rattle.redo_drive.specs.declared.parts.Parts.{Parts}

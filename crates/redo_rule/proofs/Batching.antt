@@ -13,7 +13,8 @@ use Rattle.model_core.specs.declared.ops.Step.{Step}
 use Rattle.redo_drive.specs.DataPartSide as data_part
 use Rattle.redo_disk.specs.{Call, EndWith, MakesCalls}
 use Rattle.redo_disk.specs.Seen.{Seen}
-use Rattle.redo_drive.specs.Devices.{call_answer, call_code}
+use Rattle.redo_drive.specs.Devices.{call_code}
+use Rattle.redo_drive.specs.Failures.{call_answer}
 use Rattle.redo_drive.specs.Playing.{DataReady, HasWholePages, MayBatchLent, run_data_side, RunOf}
 use Rattle.redo_drive.specs.Receiving.{HasTaken, MarkFits}
 use Rattle.redo_drive.specs.Views.{view_of}

@@ -17,7 +17,8 @@ use Rattle.redo_disk.specs.declared.error.DevError.{DevError}
 use Rattle.redo_logdev.specs.Part as log
 use Rattle.redo_drive.specs.LogPartSide as log_part
 use Rattle.redo_drive.proofs.Played.{CallsLog}
-use Rattle.redo_drive.specs.Devices.{call_answer, call_code}
+use Rattle.redo_drive.specs.Devices.{call_code}
+use Rattle.redo_drive.specs.Failures.{call_answer}
 use Rattle.redo_drive.specs.Playing.{LogReady, MayWriteLent, run_log_side, RunOf, told_by}
 use Rattle.redo_drive.specs.Receiving.{HasTaken, MarkFits}
 use Rattle.redo_drive.specs.Views.{view_of}

@@ -8,7 +8,7 @@ use Rattle.redo_archiver.specs.{append_code}
 use Rattle.redo_disk.specs.Seen.{Seen}
 use Rattle.redo_disk.specs.declared.error.DevError.{DevError}
 use Rattle.redo_disk.specs.declared.error.DevError.TheVariants.{Failed, NoMemory}
-use Rattle.redo_drive.specs.Devices.{HasFailedBy}
+use Rattle.redo_drive.specs.Failures.{HasFailedBy}
 use Rattle.redo_drive.specs.Playing.{RunOf}
 use Rattle.redo_drive.specs.Running.{RunsWith}
 use Rattle.redo_drive.specs.declared.device.Device.TheVariants.{Data, Log}

@@ -7,7 +7,8 @@ use Rattle.redo_disk.specs.Seen.{Seen}
 use Rattle.redo_disk.specs.declared.error.DevError.{DevError}
 use Rattle.redo_disk.specs.declared.error.DevError.TheVariants.{Failed, NoMemory}
 use Rattle.redo_logdev.specs.Part as log
-use Rattle.redo_drive.specs.Devices.{HasFailedBy, code_of, device_code}
+use Rattle.redo_drive.specs.Devices.{code_of, device_code}
+use Rattle.redo_drive.specs.Failures.{HasFailedBy}
 use Rattle.redo_drive.specs.declared.device.Device.{Device}
 use Rattle.redo_drive.specs.declared.device.Device.TheVariants.{Data, Log}
 use Rattle.redo_rule.specs.Failing.{CodeHasCause}

@@ -17,7 +17,7 @@ use Rattle.model_running.specs.Watermarks.{HasMarksWithin, HasWatermarks}
 use Rattle.redo_archiver.specs.{append_code}
 use Rattle.redo_disk.specs.{Call}
 use Rattle.redo_disk.specs.Seen.{Seen}
-use Rattle.redo_drive.specs.Devices.{HasFailedBy}
+use Rattle.redo_drive.specs.Failures.{HasFailedBy}
 use Rattle.redo_logdev.specs.Part as log
 use Rattle.redo_drive.specs.Leaving.{LeavesWith}
 use Rattle.redo_drive.specs.Playing.{RunOf, run_data_side, run_log_side}

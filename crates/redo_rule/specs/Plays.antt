@@ -18,7 +18,7 @@ use Rattle.redo_archiver.specs.{append_answer}
 use Rattle.redo_disk.specs.Seen.{Seen}
 use Rattle.redo_disk.specs.declared.error.DevError.{DevError}
 use Rattle.redo_flushlist.specs.{Listing, without_page}
-use Rattle.redo_drive.specs.Devices.{call_answer}
+use Rattle.redo_drive.specs.Failures.{call_answer}
 use Rattle.redo_drive.specs.Lists.{listed_of}
 use Rattle.redo_drive.specs.Playing.{DataReady, HasWholePages, LogReady, RunOf, run_data_side, run_log_side, told_by}
 use Rattle.redo_drive.specs.Running.{groups_of, RunsWith}

@@ -10,7 +10,8 @@ use Rattle.redo_disk.proofs.Told.{told-step}
 use Rattle.redo_disk.specs.{HasSize, OnTold, WhereTold}
 use Rattle.redo_disk.specs.Seen.{Seen}
 use Rattle.redo_store.proofs.Buffered.{long-known}
-use Rattle.redo_store.specs.Part.{IsFitted, Part}
+use Rattle.redo_store.specs.Part.{Part}
+use Rattle.redo_store.specs.Holding.{IsFitted}
 
 -- a device that is as long as the store asks, on which nothing is pending, and of which this is known for one of the pages
 pub record IsReady (shape : Shape) (page : ℕ) (Known : Disk → Type 0) (disk : Disk) : Type 0 where

@@ -1,4 +1,5 @@
 pub mod Copies
+pub mod Holding
 pub mod Opened
 pub mod Part
 pub mod Places
@@ -6,5 +7,6 @@ pub mod RepairRequests
 pub mod Requests
 pub use Rattle.redo_store.specs.Copies.{IsCopyToPut}
 pub use Rattle.redo_store.specs.Opened.{IsRunnable}
-pub use Rattle.redo_store.specs.Part.{PartKeeps, PartStep, PartStores}
+pub use Rattle.redo_store.specs.Part.{PartStep}
+pub use Rattle.redo_store.specs.Holding.{PartKeeps, PartStores}
 pub use Rattle.redo_store.specs.RepairRequests.{RepairCalls}

@@ -9,7 +9,8 @@ ghost use Rattle.redo_dblwr.specs.{slots_read, stretch_read};
 ghost use Rattle.redo_disk.specs.{error_of, MakesCall, MakesCalls, put_requests, Reads, Serve};
 ghost use Rattle.redo_disk.specs.{OnTold, StillTells, WhereTold};
 ghost use Rattle.redo_store.specs.Copies.{IsCopyToPut};
-ghost use Rattle.redo_store.specs.Part.{PartStep, PartStores, PartKeeps};
+ghost use Rattle.redo_store.specs.Part.{PartStep};
+ghost use Rattle.redo_store.specs.Holding.{PartStores, PartKeeps};
 ghost use Rattle.redo_store.specs.Requests.{batch_requests};
 ghost use Rattle.redo_store.specs.RepairRequests.{RepairCalls};
 
@@ -35,7 +36,8 @@ pub struct DataPart<D: Sectors> {
 
 impl<D: Sectors> Model for DataPart<D> {
     ghost use Rattle.std.specs.Prelude.{vec_len};
-    ghost use Rattle.redo_store.specs.Part.{Part, IsFitted};
+    ghost use Rattle.redo_store.specs.Part.{Part};
+    ghost use Rattle.redo_store.specs.Holding.{IsFitted};
 
     ghost Value = { Part D };
 

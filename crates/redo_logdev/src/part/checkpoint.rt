@@ -4,7 +4,8 @@ ghost use Rattle.model_log.specs.{run_layout};
 ghost use Rattle.model_parts.specs.{after_asked, after_checkpoint, MayBeNext, next_number, tails_synced};
 ghost use Rattle.redo_disk.specs.{error_of, MakesCalls, put_requests, Serve};
 ghost use Rattle.redo_logdev.specs.Calls.{checkpoint_write};
-ghost use Rattle.redo_logdev.specs.Part.{Stays, KeepsNumbered};
+ghost use Rattle.redo_logdev.specs.Part.{Stays};
+ghost use Rattle.redo_logdev.specs.Holding.{KeepsNumbered};
 ghost use Rattle.redo_logdev.specs.PartConditions.{HasMarks};
 
 use crate::LogPart;

@@ -1,9 +1,11 @@
 // Reading a block of the run back.
 ghost use Rattle.std.specs.Prelude.{◌≡◌};
 ghost use Rattle.redo_disk.specs.{MakesCall, Reads, StillTells};
-ghost use Rattle.redo_logdev.specs.Part.{KeepsHolding, Stays};
+ghost use Rattle.redo_logdev.specs.Part.{Stays};
+ghost use Rattle.redo_logdev.specs.Holding.{KeepsHolding};
 ghost use Rattle.redo_logdev.specs.PartConditions.{HasMarks};
-ghost use Rattle.redo_logdev.specs.ReadBlock.{block_place, GivesBlock};
+ghost use Rattle.redo_logdev.specs.ReadBlock.{block_place};
+ghost use Rattle.redo_logdev.specs.Holding.{GivesBlock};
 ghost use Rattle.redo_logdev.specs.PartConditions.{MayRead};
 
 use crate::LogPart;

@@ -2,7 +2,8 @@
 ghost use Rattle.std.specs.Prelude.{◌≡◌, [], ◌∷◌, None, OnOk, OnErr};
 ghost use Rattle.model_parts.specs.{after_synced, tails_synced};
 ghost use Rattle.redo_disk.specs.{error_of, MakesCalls, Serve, ToSync};
-ghost use Rattle.redo_logdev.specs.Part.{Stays, KeepsHolding};
+ghost use Rattle.redo_logdev.specs.Part.{Stays};
+ghost use Rattle.redo_logdev.specs.Holding.{KeepsHolding};
 ghost use Rattle.redo_logdev.specs.PartConditions.{HasMarks};
 
 use crate::LogPart;

@@ -4,7 +4,7 @@ use Rattle.model_core.specs.declared.ops.Op.TheVariants as op
 use Rattle.redo_archiver.specs.Lending as archiving
 use Rattle.redo_disk.specs.declared.error.DevError.{DevError}
 use Rattle.redo_drive.proofs.Played as played
-use Rattle.redo_drive.specs.Devices.{call_answer}
+use Rattle.redo_drive.specs.Failures.{call_answer}
 use Rattle.redo_drive.specs.declared.actor.Actor.{Actor}
 use Rattle.redo_drive.specs.declared.actor.Actor.TheVariants as own
 use Rattle.redo_drive.specs.declared.device.Device.TheVariants.{Log}

@@ -3,7 +3,7 @@ use Rattle.std.proofs.lemmas.List.{drop_all}
 use Rattle.model_log.specs.{RecordFits}
 use Rattle.model_page.specs.declared.content.Content.{Content}
 use Rattle.model_store.specs.{applied}
-use Rattle.redo_apply.specs.Fits.{WritesWithin}
+use Rattle.redo_apply.specs.Writing.{WritesWithin}
 use Rattle.redo_apply.proofs.Records.{applied-none}
 use Rattle.redo_apply.proofs.Grouped.{item-at, fits-at, page-below, page-of, within-page, under-way-more, same-shape}
 use Rattle.redo_apply.proofs.pages.Pages.apply.Goals as goal

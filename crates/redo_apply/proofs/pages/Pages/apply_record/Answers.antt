@@ -2,7 +2,7 @@ use Rattle.std.proofs.Common.{◌≡◌, ◌∙◌, ◌<◌, ◌+◌, ◌-◌, �
 use Rattle.std.proofs.lemmas.List.{length-take-le, length-drop}
 use Rattle.model_log.specs.{page_of}
 use Rattle.model_page.specs.declared.content.Content.{Content}
-use Rattle.redo_apply.specs.Fits.{WritesWithin}
+use Rattle.redo_apply.specs.Writing.{WritesWithin}
 use Rattle.redo_apply.proofs.Frames.{frame-bound, length-contents}
 use Rattle.redo_apply.proofs.Applied.{page-at, frame-written, record-applied}
 use Rattle.redo_apply.proofs.pages.Pages.apply_record.Goals as goal

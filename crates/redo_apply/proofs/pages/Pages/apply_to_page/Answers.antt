@@ -3,7 +3,7 @@ use Rattle.std.specs.Prelude.{slice_get}
 use Rattle.std.proofs.lemmas.List.{drop_all}
 use Rattle.model_log.specs.{RecordFits}
 use Rattle.model_page.specs.declared.content.Content.{Content}
-use Rattle.redo_apply.specs.Fits.{WritesWithin}
+use Rattle.redo_apply.specs.Writing.{WritesWithin}
 use Rattle.redo_apply.proofs.Grouped.{item-at, fits-at, page-below, page-of, within-page, IsPageUnderWay, page-way-begins, page-way-own, page-way-other, page-way-ends, same-shape}
 use Rattle.redo_apply.proofs.pages.Pages.apply_to_page.Goals as goal
 use Rattle.redo_apply.proofs.pages.Pages.apply_to_page.Goals.{then-page_of-page, else-page_of-page}

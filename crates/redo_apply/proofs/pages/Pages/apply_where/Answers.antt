@@ -4,7 +4,7 @@ use Rattle.std.proofs.lemmas.List.{drop_all}
 use Rattle.std.proofs.lemmas.Option.{slice_get-get_or}
 use Rattle.model_log.specs.{page_of, RecordFits}
 use Rattle.model_page.specs.declared.content.Content.{Content}
-use Rattle.redo_apply.specs.Fits.{WritesWithin}
+use Rattle.redo_apply.specs.Writing.{WritesWithin}
 use Rattle.redo_apply.proofs.Grouped.{item-at, fits-at, page-below, page-of, within-page, same-shape}
 use Rattle.redo_apply.proofs.Where.{IsWhereUnderWay, where-own, where-other, where-ends}
 use Rattle.redo_apply.proofs.pages.Pages.apply_where.Goals as goal

@@ -8,7 +8,8 @@ use Rattle.model_parts.specs.declared.marks.TailMarks.{TailMarks}
 use Rattle.model_parts.proofs.Checkpoints.{WritesSector}
 use Rattle.redo_disk.specs.{write_at}
 use Rattle.redo_disk.proofs.Told.{told-step}
-use Rattle.redo_logdev.specs.Part.{Part, PartHolds, DiskHolds}
+use Rattle.redo_logdev.specs.Part.{Part}
+use Rattle.redo_logdev.specs.Holding.{PartHolds, DiskHolds}
 use Rattle.redo_logdev.proofs.Parts.{checkpoint-failed, checkpoint-made, checkpoint-write, run-is_layout}
 use Rattle.redo_logdev.proofs.part.LogPart.checkpoint.Goals as goal
 

@@ -1,6 +1,6 @@
 use Rattle.std.proofs.Common.{[], None}
 use Rattle.model_parts.specs.{first_marks, first_tails, IsFresh}
-use Rattle.redo_logdev.specs.Part.{DiskHolds}
+use Rattle.redo_logdev.specs.Holding.{DiskHolds}
 use Rattle.redo_disk.proofs.Told.{known-as}
 use Rattle.redo_logdev.proofs.Parts.{fresh-part}
 use Rattle.redo_logdev.proofs.part.LogPart.new.Goals as goal

@@ -3,7 +3,8 @@ use Rattle.std.specs.Prelude.{vec_len}
 use Rattle.model_device.specs.Disk.{Disk}
 use Rattle.model_log.specs.{IsBoundaryBlock}
 use Rattle.redo_disk.proofs.Told.{known-as}
-use Rattle.redo_logdev.specs.Part.{DiskHolds, Part}
+use Rattle.redo_logdev.specs.Part.{Part}
+use Rattle.redo_logdev.specs.Holding.{DiskHolds}
 use Rattle.redo_logdev.specs.PartConditions.{IsSoundLogPart}
 use Rattle.redo_logdev.proofs.ReadBlock.{read-there}
 use Rattle.redo_logdev.proofs.part.LogPart.read_block.Goals as goal

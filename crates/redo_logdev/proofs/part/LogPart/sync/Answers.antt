@@ -3,7 +3,8 @@ use Rattle.model_device.specs.{synced}
 use Rattle.model_device.specs.Disk.{Disk}
 use Rattle.model_parts.specs.{after_synced}
 use Rattle.model_parts.specs.declared.marks.TailMarks.{TailMarks}
-use Rattle.redo_logdev.specs.Part.{Part, PartHolds, DiskHolds}
+use Rattle.redo_logdev.specs.Part.{Part}
+use Rattle.redo_logdev.specs.Holding.{PartHolds, DiskHolds}
 use Rattle.redo_disk.proofs.Told.{told-step}
 use Rattle.redo_logdev.proofs.Parts.{sync-ok}
 use Rattle.redo_disk.specs.{MakesCalls, Serve, ToSync}

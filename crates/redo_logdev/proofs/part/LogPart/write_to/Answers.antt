@@ -10,7 +10,8 @@ use Rattle.redo_disk.specs.declared.error.DevError.{DevError}
 use Rattle.redo_disk.proofs.Told.{told-step}
 use Rattle.redo_logdev.specs.Calls.{block_writes, framed_full_blocks, full_count, last_block}
 use Rattle.redo_logdev.specs.Writing.{FailsBlocks, written_blocks}
-use Rattle.redo_logdev.specs.Part.{Part, PartHolds, DiskHolds}
+use Rattle.redo_logdev.specs.Part.{Part}
+use Rattle.redo_logdev.specs.Holding.{PartHolds, DiskHolds}
 use Rattle.redo_logdev.specs.PartConditions.{MayWrite}
 use Rattle.redo_logdev.proofs.Cuts.{IsCut}
 use Rattle.redo_logdev.proofs.Parts.{AreTexts, cut-from, ends-small, few-blocks, texts_served, texts-of, write-err, write-ok}

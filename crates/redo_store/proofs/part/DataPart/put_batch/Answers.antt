@@ -5,7 +5,8 @@ use Rattle.model_parts.specs.{batch_of, Fresh, IsBatch, IsUpTo, IsWritable, slot
 use Rattle.model_parts.specs.Stored.{Stored}
 use Rattle.redo_disk.proofs.Told.{told-step}
 use Rattle.model_parts.proofs.Parts.{tied-put, tied-put_failed}
-use Rattle.redo_store.specs.Part.{Part, PartStores}
+use Rattle.redo_store.specs.Part.{Part}
+use Rattle.redo_store.specs.Holding.{PartStores}
 use Rattle.redo_store.proofs.Buffered.{fresh-batch, live-stored, back-stored}
 use Rattle.redo_store.proofs.part.DataPart.put_batch.Goals as goal
 

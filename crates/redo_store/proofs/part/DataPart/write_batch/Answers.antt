@@ -5,7 +5,8 @@ use Rattle.model_parts.specs.{after_batch, after_both, batch_of, FailsBoth, Fres
 use Rattle.model_parts.specs.Stored.{Stored}
 use Rattle.redo_disk.proofs.Told.{told-step}
 use Rattle.model_parts.proofs.Parts.{tied-write, tied-keeps, tied-failed, before-done, before-keeps, before-failed}
-use Rattle.redo_store.specs.Part.{Part, PartStores}
+use Rattle.redo_store.specs.Part.{Part}
+use Rattle.redo_store.specs.Holding.{PartStores}
 use Rattle.redo_store.proofs.Buffered.{fresh-batch, live-stored, back-stored}
 use Rattle.redo_store.proofs.Entered.{told_batch}
 use Rattle.redo_store.proofs.part.DataPart.write_batch.Goals as goal
