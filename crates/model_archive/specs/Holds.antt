@@ -8,7 +8,8 @@ use Rattle.model_device.specs.Disk.{Disk}
 use Rattle.model_log.specs.declared.group.Whole.{Whole}
 use Rattle.model_log.specs.{block_of, blocks_between, IsBoundary, IsBoundaryBlock, IsDataLsn, IsRunOf, last_span_end, lsn_at, spans_of}
 use Rattle.model_page.specs.declared.content.Content.{Content}
-use Rattle.model_parts.specs.Held.{MayStand, NEXT_DATA}
+use Rattle.model_parts.specs.Held.{MayStand}
+use Rattle.model_parts.specs.Marks.{NEXT_DATA}
 use Rattle.model_parts.specs.Stored.{HasNothingPending}
 use Rattle.model_archive.specs.Layout.{archive_block, archive_length, mark_place, read_archive_head, read_mark}
 use Rattle.model_archive.specs.Restore.{AreBasePages}

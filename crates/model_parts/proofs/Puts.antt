@@ -14,7 +14,8 @@ use Rattle.model_log.proofs.BoundaryRound.{block-later}
 use Rattle.model_log.proofs.Places.{one-place_each, place-from, place-on, sector-place}
 use Rattle.model_parts.specs.declared.marks.LogMarks.{LogMarks}
 use Rattle.model_parts.specs.declared.marks.TailMarks.{TailMarks}
-use Rattle.model_parts.specs.Held.{AreInOrder, IsBeside, IsBlockPlace, IsFullBlock, IsHeadPlace, IsTail, IsTailBlock, LogHoldsWith, MayStand, NEXT_DATA, other_place}
+use Rattle.model_parts.specs.Held.{AreInOrder, IsBeside, IsBlockPlace, IsFullBlock, IsHeadPlace, IsTail, IsTailBlock, LogHoldsWith, MayStand, other_place}
+use Rattle.model_parts.specs.Marks.{NEXT_DATA}
 use Rattle.model_parts.proofs.LogImages.{beside-kept, header-below}
 use Rattle.model_parts.proofs.Tails.{broken-place, broken-tail, tail-is}
 use Rattle.model_parts.proofs.Torn.{AddsTorn, IsWhole}

@@ -15,10 +15,7 @@ use Rattle.model_log.specs.declared.layout.TheConstants.{BLOCK_HEADER}
 use Rattle.model_parts.specs.declared.marks.LogMarks.{LogMarks}
 use Rattle.model_parts.specs.declared.marks.TailMarks.{TailMarks}
 use Rattle.model_store.specs.{read_full, read_tail}
-
--- from the start of a block to the first data byte of the next one
-abbrev pub NEXT_DATA : ℕ
-NEXT_DATA = BLOCK_SIZE + BLOCK_HEADER
+use Rattle.model_parts.specs.Marks.{NEXT_DATA}
 
 -- What may stand in a sector of a fair image: a whole content, or, where a write covers it, bytes whose checksum doesn't
 -- fit.

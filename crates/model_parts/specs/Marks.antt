@@ -3,6 +3,11 @@ use Rattle.std.specs.Prelude.{ℕ, ◌<◌, ◌+◌, ◌-◌, ◌%◌, ◌^◌}
 use Rattle.model_log.specs.declared.layout.TheConstants.{BLOCK_HEADER, HEADER_BLOCKS}
 use Rattle.model_parts.specs.declared.marks.LogMarks.{LogMarks}
 use Rattle.model_parts.specs.declared.marks.TailMarks.{TailMarks}
+use Rattle.model_base.specs.declared.limits.TheConstants.{BLOCK_SIZE}
+
+-- from the start of a block to the first data byte of the next one
+abbrev pub NEXT_DATA : ℕ
+NEXT_DATA = BLOCK_SIZE + BLOCK_HEADER
 
 -- those of a part that starts a run there
 abbrev pub first_marks : ℕ → ℕ → LogMarks

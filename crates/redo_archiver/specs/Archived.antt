@@ -10,7 +10,7 @@ use Rattle.model_log.specs.{block_of, IsAtDataStart, IsBoundary, IsBoundaryBlock
 use Rattle.model_log.specs.declared.group.Whole.{Whole}
 use Rattle.model_log.specs.declared.layout.TheConstants.{BLOCK_HEADER}
 use Rattle.model_page.specs.declared.content.Content.{Content}
-use Rattle.model_parts.specs.Held.{NEXT_DATA}
+use Rattle.model_parts.specs.Marks.{NEXT_DATA}
 use Rattle.redo_archive.specs.Part.{Part, PartArchives}
 use Rattle.redo_archiver.specs.Appending.{append_code}
 use Rattle.redo_disk.specs.Seen.{Seen}

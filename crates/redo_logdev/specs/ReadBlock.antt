@@ -2,7 +2,7 @@
 use Rattle.std.specs.Prelude.{ℕ, ◌+◌, ◌*◌, nat_le, if◌then◌else◌}
 use Rattle.model_base.specs.declared.limits.TheConstants.{BLOCK_SIZE}
 use Rattle.model_log.specs.{place_in, run_layout}
-use Rattle.model_parts.specs.Held.{NEXT_DATA}
+use Rattle.model_parts.specs.Marks.{NEXT_DATA}
 use Rattle.redo_logdev.specs.Part.{Part}
 
 -- Where on the device it stands: in its place, where the run is written up to the first data byte of the next one, else
