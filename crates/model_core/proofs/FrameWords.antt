@@ -9,7 +9,7 @@ use Rattle.model_base.specs.{IsPageSize}
 use Rattle.model_core.proofs.Groups.{back, front}
 use Rattle.model_core.proofs.Lanes.{lane_of_zero, lane_read, lane_small, lanes_are, lanes_long}
 use Rattle.model_core.proofs.PageSizes.{has_room}
-unfoldable use Rattle.model_core.specs.Lanes.{lane, lanes, packed}
+unfoldable use Rattle.model_core.specs.Packing.{lane, lanes, packed}
 use Rattle.model_core.specs.Groups.{CellWrite}
 use Rattle.model_core.specs.Packing.{frame_bytes, framed_page}
 use Rattle.model_core.specs.UserProgram.{put_lanes, same_word}

@@ -12,7 +12,7 @@ use Rattle.model_core.specs.declared.ops.Op.TheVariants as op
 use Rattle.model_core.specs.declared.ops.Step.TheVariants as step
 use Rattle.model_core.specs.declared.steps.CleanerStep.TheVariants as cleaner_step
 use Rattle.model_core.specs.declared.limits.TheConstants.{FLUSH_LISTS, BATCH_PAGES, WORD_LANES}
-unfoldable use Rattle.model_core.specs.Lanes.{lanes}
+unfoldable use Rattle.model_core.specs.Packing.{lanes}
 
 abbrev pub no_page : BatchPage
 no_page = record { page = 0; lsn = 0; bytes = [] }

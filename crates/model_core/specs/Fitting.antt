@@ -8,7 +8,7 @@ use Rattle.model_core.specs.States.{Advance, WriterState, UserState}
 use Rattle.model_core.specs.Tails.{tail_of}
 use Rattle.model_core.specs.UserProgram.{copy_place, group_bytes, next_bytes}
 use Rattle.model_core.specs.Lanes.{lane_of, left_in_word}
-unfoldable use Rattle.model_core.specs.Lanes.{packed}
+unfoldable use Rattle.model_core.specs.Packing.{packed}
 use Rattle.model_core.specs.Lsn.{lsn}
 use Rattle.model_core.specs.WriterProgram.{full_blocks, has_whole_word, read_place}
 use Rattle.model_core.specs.declared.ops.Answer.{Answer}

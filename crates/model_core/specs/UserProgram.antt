@@ -5,7 +5,7 @@ use Rattle.model_core.specs.Advancing.{advance_next, advance_op, advance_took, f
 use Rattle.model_core.specs.Answers.{heard}
 use Rattle.model_core.specs.Groups.{PageChange, CellWrite}
 use Rattle.model_core.specs.Lanes.{cell_of, lane_of, left_in_word}
-unfoldable use Rattle.model_core.specs.Lanes.{lanes, packed}
+unfoldable use Rattle.model_core.specs.Packing.{lanes, packed}
 use Rattle.model_core.specs.Lsn.{floor, lsn}
 use Rattle.model_core.specs.States.{Line, LoadedMarks, UserState}
 use Rattle.model_core.specs.Tails.{tail_of}

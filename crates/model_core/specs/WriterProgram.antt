@@ -4,7 +4,7 @@ use Rattle.model_core.specs.ActorProgram.{ActorProgram, opposite}
 use Rattle.model_core.specs.Advancing.{advance_next, advance_op, advance_took, ends}
 use Rattle.model_core.specs.Answers.{on_call, code_of, old_of, on_take}
 use Rattle.model_core.specs.Lanes.{cell_of, lane_of, left_in_word}
-unfoldable use Rattle.model_core.specs.Lanes.{lanes}
+unfoldable use Rattle.model_core.specs.Packing.{lanes}
 use Rattle.model_core.specs.Lsn.{ceiling, lsn}
 use Rattle.model_core.specs.States.{WriterState}
 use Rattle.model_core.specs.Tails.{tail_of}

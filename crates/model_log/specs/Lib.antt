@@ -28,7 +28,8 @@ pub use Rattle.model_log.specs.Group.{IsFront, IsGroup, IsGroupText, IsUnfinishe
 pub use Rattle.model_log.specs.GroupFront.{BeginsWithGroup, GivesGroup}
 unfoldable pub use Rattle.model_log.specs.Group.{group_text, stream_of}
 pub use Rattle.model_log.specs.Head.{format_of, good_head, head_among, head_of, shape_of}
-unfoldable pub use Rattle.model_log.specs.Head.{head_text, read_head}
+unfoldable pub use Rattle.model_log.specs.HeadText.{head_text}
+unfoldable pub use Rattle.model_log.specs.Head.{read_head}
 pub use Rattle.model_log.specs.Lsn.{IsAtDataStart, IsDataLsn, block_number, block_of, data_before, lsn_at, lsn_of, sn_of, start_after, turn_of}
 pub use Rattle.model_log.specs.Record.{HasSpelling, HasText, IsByte, IsWidth, after_type, page_of, type_of, value_text}
 unfoldable pub use Rattle.model_log.specs.Record.{record_text, single_text}
