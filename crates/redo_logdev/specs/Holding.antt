@@ -11,20 +11,6 @@ use Rattle.redo_disk.specs.Seen.{Seen}
 use Rattle.redo_disk.specs.declared.error.DevError.{DevError}
 use Rattle.redo_logdev.specs.Part.{Part}
 use Rattle.model_log.specs.declared.layout.TheConstants.{BLOCK_HEADER}
-use Rattle.redo_logdev.specs.Holding.{DiskHolds}
-
--- The run's block at the lsn stands on the device: it is the newest checkpoint's or a later one, and holds a byte below
--- the stable mark.
-pub record HoldsBlock {L : Type 0} (part : Part L) (lsn : ℕ) : Type 0 where
-  pub from : part.marks.ckpt ≤ lsn
-  pub some : lsn + BLOCK_HEADER < part.marks.stable
-
--- After a good read these bytes are that block, for the written mark, if the device held the run and still tells.
-abbrev pub GivesBlock : {L : Type 0} → (L → Seen) → Part L → ℕ → Result (Unit {0}) DevError → List ℕ → Part L → Type 0
-GivesBlock seen old lsn result out new =
-    HoldsBlock old lsn → (s : ℕ) (wholes : List Whole) → OnOk result (IfSome (seen new.dev).tells (λ disk.
-    DiskHolds old.shape s wholes old.marks old.tails old.failed disk
-    → IsBoundaryBlock s wholes old.marks.written lsn out))
 
 -- what the device of a part holds of a run: more as long as no call has failed
 pub record DiskHolds (shape : Shape) (s : ℕ) (wholes : List Whole) (marks : LogMarks) (tails : TailMarks) (failed : Option DevError) (disk : Disk) : Type 0 where
@@ -48,3 +34,16 @@ KeepsHolding seen old new = (s : ℕ) (wholes : List Whole) → PartHolds seen s
 -- the same after a checkpoint, until the number goes round
 abbrev pub KeepsNumbered : {L : Type 0} → (L → Seen) → Part L → Part L → Type 0
 KeepsNumbered seen old new = HasNextNumber old.marks → KeepsHolding seen old new
+
+-- The run's block at the lsn stands on the device: it is the newest checkpoint's or a later one, and holds a byte below
+-- the stable mark.
+pub record HoldsBlock {L : Type 0} (part : Part L) (lsn : ℕ) : Type 0 where
+  pub from : part.marks.ckpt ≤ lsn
+  pub some : lsn + BLOCK_HEADER < part.marks.stable
+
+-- After a good read these bytes are that block, for the written mark, if the device held the run and still tells.
+abbrev pub GivesBlock : {L : Type 0} → (L → Seen) → Part L → ℕ → Result (Unit {0}) DevError → List ℕ → Part L → Type 0
+GivesBlock seen old lsn result out new =
+    HoldsBlock old lsn → (s : ℕ) (wholes : List Whole) → OnOk result (IfSome (seen new.dev).tells (λ disk.
+    DiskHolds old.shape s wholes old.marks old.tails old.failed disk
+    → IsBoundaryBlock s wholes old.marks.written lsn out))
