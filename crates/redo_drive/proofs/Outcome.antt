@@ -2,6 +2,7 @@
 use Rattle.std.proofs.Common.{Bool, Err, None, Ok, Option, Result, Some, ap, arith, cond, false, refl, sym, true, ℕ, ◌<◌, ◌==◌, ◌∙◌, ◌≡◌, ◌≤◌, is_some}
 use Rattle.std.specs.Prelude.{OnErr, OnOk}
 use Rattle.model_parts.specs.declared.marks.LogMarks.{LogMarks}
+use Rattle.model_parts.specs.declared.marks.TailMarks.{TailMarks}
 use Rattle.redo_disk.specs.{error_of}
 use Rattle.redo_disk.specs.Seen.{Seen}
 use Rattle.redo_disk.specs.declared.error.DevError.{DevError}
@@ -35,7 +36,8 @@ module _ {L : Type 0} (seen : L → Seen) (faults : ℕ) where
     pub cause : 0 < code → HasFailedBy seen Log faults new.dev new.failed code
     pub later : faults ≤ (seen new.dev).faults
 
-  pub outcome : (code : ℕ) (ok err : LogMarks) (old new : Part L) → faults ≤ (seen old.dev).faults → LogCalled seen code ok err old new → IsOutcome code ok err old new
+  pub outcome : (code : ℕ) (ok err : LogMarks) (old new : Part L) → faults ≤ (seen old.dev).faults → {tails : TailMarks}
+      → LogCalled seen code ok err tails old new → IsOutcome code ok err old new
   outcome code ok err old new early called = by called.result (called.code_is ∙ ap (call_code Log) called.stays.failed) called.on_ok called.on_err called.stays
     where
       by : (result : Result (Unit {0}) DevError) → code ≡ call_code Log (error_of result) → OnOk result (new.marks ≡ ok) → OnErr result (new.marks ≡ err) → Stays seen old result new → IsOutcome code ok err old new

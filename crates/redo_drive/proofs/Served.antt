@@ -45,14 +45,26 @@ off_marks : {L : Type 0} (result : Result (Unit {0}) DevError) (new : log.Part L
 off_marks (Ok done) new marks tails is = tt
 off_marks (Err fault) new marks tails is = is.marks
 
+on_tails : {L : Type 0} (result : Result (Unit {0}) DevError) (new : log.Part L) (marks : LogMarks) (tails : TailMarks)
+    → OnOk result (HasMarks new marks tails) → OnOk result (◌≡◌ {A = TailMarks} new.tails tails)
+on_tails (Ok done) new marks tails is = is.tails
+on_tails (Err fault) new marks tails is = tt
+
+off_tails : {L : Type 0} (result : Result (Unit {0}) DevError) (new : log.Part L) (marks : LogMarks) (tails : TailMarks)
+    → OnErr result (HasMarks new marks tails) → OnErr result (◌≡◌ {A = TailMarks} new.tails tails)
+off_tails (Ok done) new marks tails is = tt
+off_tails (Err fault) new marks tails is = is.tails
+
 pub log_called : {L : Type 0} (seen : L → Seen) (result : Result (Unit {0}) DevError) (old new : log.Part L) (ok err : LogMarks) (ok_tails err_tails : TailMarks)
     → OnOk result (HasMarks new ok ok_tails) → OnErr result (HasMarks new err err_tails) → log.Stays seen old result new
-    → LogCalled seen (call_code Log new.failed) ok err old new
-log_called seen result old new ok err ok_tails err_tails on_ok on_err stays = record {
+    → err_tails ≡ old.tails → LogCalled seen (call_code Log new.failed) ok err ok_tails old new
+log_called seen result old new ok err ok_tails err_tails on_ok on_err stays same = record {
   result = result;
   code_is = refl;
   on_ok = on_marks result new ok ok_tails on_ok;
   on_err = off_marks result new err err_tails on_err;
+  tails_ok = on_tails result new ok ok_tails on_ok;
+  tails_err = subst (λ (t : TailMarks). OnErr result (◌≡◌ {A = TailMarks} new.tails t)) same (off_tails result new err err_tails on_err);
   stays = stays;
 }
 

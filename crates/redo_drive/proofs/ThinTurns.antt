@@ -22,7 +22,8 @@ module _ {L D : Type 0} (log_seen : L → Seen) (data_seen : D → Seen) (run : 
   log_thin p q code Nothing (op.WriteTo t) w = absurd w
   log_thin p q code (Batch batch) (op.WriteTo t) w = absurd w
   log_thin p q code (Room bytes) (op.WriteTo t) w = absurd w
-  log_thin p q code (Room bytes) (op.ReadBlock x) w = let read : LogRead log_seen x bytes code p q = w in read.called
+  log_thin p q code (Room bytes) (op.ReadBlock x) w = let read : LogRead log_seen x bytes code p q = w in
+      record { called = read.called; given = read.given }
   log_thin p q code Nothing (op.ReadBlock x) w = absurd w
   log_thin p q code (Blocks bytes firsts) (op.ReadBlock x) w = absurd w
   log_thin p q code (Batch batch) (op.ReadBlock x) w = absurd w

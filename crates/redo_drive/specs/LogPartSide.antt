@@ -1,17 +1,18 @@
 -- The log part as the running store sees it.
-use Rattle.std.specs.Prelude.{List, [], None, is_some, ℕ, ◌%◌, ◌+◌, ◌/◌, ◌^◌, ◌<◌, ◌≡◌, ◌≢◌, ◌≤◌}
+use Rattle.std.specs.Prelude.{IfSome, List, [], None, OnOk, is_some, ℕ, ◌%◌, ◌+◌, ◌/◌, ◌^◌, ◌<◌, ◌≡◌, ◌≢◌, ◌≤◌}
 use Rattle.model_base.specs.declared.limits.TheConstants.{BLOCK_SIZE}
 use Rattle.model_core.specs.{Entry, lsn}
 use Rattle.model_core.specs.LogSide.{LogSide}
 use Rattle.model_running.specs.{AreWholesOf}
-use Rattle.model_parts.specs.{after_asked, after_checkpoint, after_given, after_synced, after_written, next_number}
+use Rattle.model_parts.specs.{after_asked, after_checkpoint, after_given, after_synced, after_written, next_number, tails_synced, tails_written}
 use Rattle.model_parts.specs.declared.marks.LogMarks.{LogMarks}
 use Rattle.model_log.specs.declared.group.Whole.{Whole}
+use Rattle.redo_disk.specs.Seen as device
 use Rattle.redo_disk.specs.Seen.{Seen, StillTells}
 use Rattle.redo_drive.specs.Failures.{HasFailedBy}
 use Rattle.redo_drive.specs.TurnSides.{LogCalled}
 use Rattle.redo_drive.specs.declared.device.Device.TheVariants.{Log}
-use Rattle.redo_logdev.specs.{GivesBlock, KeepsHolding, KeepsNumbered, KeepsWriting, PartHolds}
+use Rattle.redo_logdev.specs.{block_place, GivesBlock, KeepsHolding, KeepsNumbered, KeepsWriting, PartHolds}
 use Rattle.redo_logdev.specs.Part.{Part}
 use Rattle.model_log.specs.{IsBoundary, run_layout, spans_of}
 use Rattle.model_parts.specs.Held.{IsFullBlock}
@@ -43,20 +44,24 @@ module _ {L : Type 0} (seen : L → Seen) where
     pub groups : Begun → (wholes : List Whole) → AreWholesOf log wholes → PartHolds seen (lsn base) wholes part
 
   pub record LogWrote (mark : ℕ) (bytes firsts : List ℕ) (code : ℕ) (old new : Part L) : Type 0 where
-    pub called : LogCalled seen code (after_written mark old.marks) (after_given mark old.marks) old new
+    pub called : LogCalled seen code (after_written mark old.marks) (after_given mark old.marks)
+        (tails_written mark old.tails) old new
     pub holds : KeepsWriting seen old mark bytes firsts new
 
   pub record LogSynced (code : ℕ) (old new : Part L) : Type 0 where
-    pub called : LogCalled seen code (after_synced old.marks) old.marks old new
+    pub called : LogCalled seen code (after_synced old.marks) old.marks (tails_synced old.marks.written old.tails) old new
     pub holds : KeepsHolding seen old new
 
   pub record LogCheckpointed (lsn code : ℕ) (old new : Part L) : Type 0 where
-    pub called : LogCalled seen code (after_checkpoint (next_number old.marks.number) lsn old.marks) (after_asked lsn old.marks) old new
+    pub called : LogCalled seen code (after_checkpoint (next_number old.marks.number) lsn old.marks)
+        (after_asked lsn old.marks) (tails_synced old.marks.written old.tails) old new
     pub holds : KeepsNumbered seen old new
 
   -- A read of the block at an lsn, which gave these bytes. The device tells what it told, or nothing any more.
   pub record LogRead (lsn : ℕ) (bytes : List ℕ) (code : ℕ) (old new : Part L) : Type 0 where
-    pub called : LogCalled seen code old.marks old.marks old new
+    pub called : LogCalled seen code old.marks old.marks old.tails old new
+    pub given : OnOk called.result
+        (IfSome (seen new.dev).tells (λ disk. bytes ≡ device.part disk.reads (block_place old lsn) BLOCK_SIZE))
     pub told : StillTells (seen old.dev).tells (seen new.dev).tells
     pub holds : KeepsHolding seen old new
     pub block : GivesBlock seen old lsn called.result bytes new

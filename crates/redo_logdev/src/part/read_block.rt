@@ -1,6 +1,6 @@
 // Reading a block of the run back.
-ghost use Rattle.std.specs.Prelude.{◌≡◌};
-ghost use Rattle.redo_disk.specs.{MakesCall, Reads, StillTells};
+ghost use Rattle.std.specs.Prelude.{◌≡◌, length};
+ghost use Rattle.redo_disk.specs.{MakesCall, Reads, ReadStep};
 ghost use Rattle.redo_logdev.specs.Part.{Stays};
 ghost use Rattle.redo_logdev.specs.Holding.{KeepsHolding};
 ghost use Rattle.redo_logdev.specs.PartConditions.{HasMarks};
@@ -34,7 +34,8 @@ impl<L: Sectors> LogPart<L> {
         ensures block { GivesBlock L.seen self.old lsn result out.new self.new }
         ensures marks { HasMarks self.new self.old.marks self.old.tails }
         ensures stays { Stays L.seen self.old result self.new }
-        ensures told { StillTells (L.seen self.old.dev).tells (L.seen self.new.dev).tells }
+        ensures step { ReadStep (block_place self.old lsn) (length out.old) (L.seen self.old.dev) result out.new
+            (L.seen self.new.dev) }
         ensures call { MakesCall L.gives self.old.dev (Reads (block_place self.old lsn) out.old result out.new)
             self.new.dev }
         ensures holds { KeepsHolding L.seen self.old self.new }

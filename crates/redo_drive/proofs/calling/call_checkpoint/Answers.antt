@@ -1,4 +1,4 @@
-use Rattle.std.proofs.Common.{Option, subst, sym}
+use Rattle.std.proofs.Common.{Option, refl, subst, sym}
 use Rattle.model_parts.specs.{after_asked, after_checkpoint, next_number, tails_synced}
 use Rattle.redo_disk.specs.{MakesCalls, Serve}
 use Rattle.redo_disk.specs.declared.error.DevError.{DevError}
@@ -8,7 +8,7 @@ use Rattle.redo_drive.specs.Requests.{checkpoint_requests}
 
 pub returns-clause-checkpointed : goal.returns-clause-checkpointed
 returns-clause-checkpointed g c = let p = c.args.log.now in let e = c.checkpoint.ensures in record {
-  called = log_called g.L.Sectors.seen c.checkpoint.result p c.checkpoint.new.self (after_checkpoint (next_number p.marks.number) c.args.lsn p.marks) (after_asked c.args.lsn p.marks) (tails_synced p.marks.written p.tails) p.tails e.ok e.err e.stays;
+  called = log_called g.L.Sectors.seen c.checkpoint.result p c.checkpoint.new.self (after_checkpoint (next_number p.marks.number) c.args.lsn p.marks) (after_asked c.args.lsn p.marks) (tails_synced p.marks.written p.tails) p.tails e.ok e.err e.stays refl;
   holds = e.holds;
 }
 

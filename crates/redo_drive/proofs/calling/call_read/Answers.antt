@@ -1,4 +1,8 @@
 use Rattle.std.proofs.Common.{Option, [], arith, length, refl, subst, sym, ℕ, ◌∷◌, ◌≡◌}
+use Rattle.std.specs.Prelude.{IfSome, OnOk}
+use Rattle.model_device.specs.Disk.{Disk}
+use Rattle.model_parts.specs.declared.marks.TailMarks.{TailMarks}
+use Rattle.redo_disk.specs.Seen.{part}
 use Rattle.model_parts.specs.declared.marks.LogMarks.{LogMarks}
 use Rattle.redo_disk.proofs.Made.{call_serves}
 use Rattle.redo_disk.specs.{MakesCalls, Serve, ToRead}
@@ -14,9 +18,14 @@ returns-clause-read g c = let p = c.args.log.now in let e = c.read_block.ensures
     code_is = refl;
     on_ok = on_any c.read_block.result (◌≡◌ {A = LogMarks} c.read_block.new.self.marks p.marks) e.marks.marks;
     on_err = off_any c.read_block.result (◌≡◌ {A = LogMarks} c.read_block.new.self.marks p.marks) e.marks.marks;
+    tails_ok = on_any c.read_block.result (◌≡◌ {A = TailMarks} c.read_block.new.self.tails p.tails) e.marks.tails;
+    tails_err = off_any c.read_block.result (◌≡◌ {A = TailMarks} c.read_block.new.self.tails p.tails) e.marks.tails;
     stays = e.stays;
   };
-  told = e.told;
+  given = subst (λ (n : ℕ). OnOk c.read_block.result (IfSome (g.L.Sectors.seen c.read_block.new.self.dev).tells
+      (λ (disk : Disk). c.read_block.new.out ≡ part disk.reads (block_place p c.args.lsn) n)))
+      (omega (arith, c.fits-room)) e.step.bytes;
+  told = e.step.same;
   holds = e.holds;
   block = e.block;
 }

@@ -1,4 +1,4 @@
-use Rattle.std.proofs.Common.{Option, subst, sym}
+use Rattle.std.proofs.Common.{Option, refl, subst, sym}
 use Rattle.model_parts.specs.{after_synced, tails_synced}
 use Rattle.redo_disk.specs.{MakesCalls, Serve}
 use Rattle.redo_disk.specs.declared.error.DevError.{DevError}
@@ -8,7 +8,7 @@ use Rattle.redo_drive.specs.Requests.{sync_requests}
 
 pub returns-clause-synced : goal.returns-clause-synced
 returns-clause-synced g c = let p = c.args.log.now in let e = c.sync.ensures in record {
-  called = log_called g.L.Sectors.seen c.sync.result p c.sync.new.self (after_synced p.marks) p.marks (tails_synced p.marks.written p.tails) p.tails e.ok e.err e.stays;
+  called = log_called g.L.Sectors.seen c.sync.result p c.sync.new.self (after_synced p.marks) p.marks (tails_synced p.marks.written p.tails) p.tails e.ok e.err e.stays refl;
   holds = e.holds;
 }
 

@@ -1,4 +1,4 @@
-use Rattle.std.proofs.Common.{Option, subst, sym}
+use Rattle.std.proofs.Common.{Option, refl, subst, sym}
 use Rattle.model_parts.specs.{after_given, after_written, tails_written}
 use Rattle.redo_disk.proofs.Made.{serves_end}
 use Rattle.redo_disk.specs.{MakesCalls, Serve}
@@ -22,7 +22,7 @@ returns-clause-served g c = λ faults start first l lends.
     write_served g.L.Sectors.seen faults first.marks.number (HasBegun g.L.Sectors.seen start first) c.args.mark c.in-Blocks.bytes.now c.in-Blocks.firsts.now p c.write_to.new.self l
     (blocks_lent c.args.lent c.in-Blocks.bytes c.in-Blocks.firsts c.in-Blocks.is l lends)
     (record {
-      called = log_called g.L.Sectors.seen c.write_to.result p c.write_to.new.self (after_written c.args.mark p.marks) (after_given c.args.mark p.marks) (tails_written c.args.mark p.tails) p.tails e.ok e.err e.stays;
+      called = log_called g.L.Sectors.seen c.write_to.result p c.write_to.new.self (after_written c.args.mark p.marks) (after_given c.args.mark p.marks) (tails_written c.args.mark p.tails) p.tails e.ok e.err e.stays refl;
       holds = e.holds;
     })
 
