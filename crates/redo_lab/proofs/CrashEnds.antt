@@ -214,6 +214,7 @@ module _ (call : LabCall) (drives : Drives) (later : DrivesLater drives call.dri
             → (prefix : ReadsPrefix script opened run log_now.reads data_now.reads) → prefix.reading ≡ reading
         one log_now data_now log_now_is data_now_is prefix =
             laws.one_reading log_now.reads data_now.reads prefix.reading reading prefix.is_read (is_read log_now data_now log_now_is data_now_is)
+
         fits-on : (run : Option Ran) (log data_disk : Disk) → call.log.entry.tells ≡ Some log → call.store.entry.tells ≡ Some data_disk
             → log_was.now.tells ≢ None → data_was.now.tells ≢ None
             → Opens log.reads data_disk.reads opened.shape opened.pages opened.end

@@ -1,5 +1,5 @@
 -- The crash of the theorem, as two devices tell it that were crashed and read.
-use Rattle.std.proofs.Common.{ℕ, ◌≡◌, ◌<◌, ◌+◌, Option, Some, None, sym, subst, ◌∙◌, ⊎_elim}
+use Rattle.std.proofs.Common.{ℕ, ◌≡◌, ◌<◌, ◌+◌, Option, Some, None, sym, subst, ⊎_elim}
 use Rattle.model_base.proofs.ShapeLimits.{default_within}
 use Rattle.model_base.specs.{default_shape}
 use Rattle.model_device.specs.{Crashes}

@@ -303,11 +303,11 @@ pub ends-failed : (call : LabCall) (command : Command) (drive : Drive) (script :
 ends-failed call command drive script running laws uncrashing fault.LogDevice is unbegun some =
     let its = runs-script call command drive script running in
     ends-left call command drive script running laws is (outcome.Fault fault.LogDevice)
-    (its.past, uncrashing.fails call.log (⊎_elim (λ risen. risen) (λ passed. absurd passed) (is.armed.log_device.cause some)) some, unbegun, left-by call command drive script running laws is)
+    (its.past, uncrashing.fails call.log (⊎_elim (λ risen. risen) (λ passed. absurd (false≢true passed)) (is.armed.log_device.cause some)) some, unbegun, left-by call command drive script running laws is)
     (λ can unfailed. absurd (omega (arith, some, (uncrashing.unfailed unfailed).0.1)))
 ends-failed call command drive script running laws uncrashing fault.DataDevice is unbegun some =
     let its = runs-script call command drive script running in
     ends-left call command drive script running laws is (outcome.Fault fault.DataDevice)
-    (its.past, uncrashing.fails call.store (⊎_elim (λ risen. risen) (λ passed. absurd passed) (is.armed.data_device.cause some.0)) some.0, unbegun, left-by call command drive script running laws is)
+    (its.past, uncrashing.fails call.store (⊎_elim (λ risen. risen) (λ passed. absurd (false≢true passed)) (is.armed.data_device.cause some.0)) some.0, unbegun, left-by call command drive script running laws is)
     (λ can unfailed. absurd (omega (arith, some.0, (uncrashing.unfailed unfailed).1.1)))
 ends-failed call command drive script running laws uncrashing f is unbegun some = absurd some

@@ -88,7 +88,7 @@ run-text call command drive script run left follows IsTextOf text is_script is t
 
 -- a device that isn't stopped fails by itself
 risen-unstopped : {device : Guarded} {stage : Stage} {late : ℕ} → IsArmed None stage late device → 0 < device.fuse.mid → HasRisen device.entry.faults device.now.faults
-risen-unstopped was some = ⊎_elim (λ risen. risen) (λ passed. absurd passed) (was.cause some)
+risen-unstopped was some = ⊎_elim (λ risen. risen) (λ passed. absurd (false≢true passed)) (was.cause some)
 
 module _ (call : LabCall) (drive : Drive) (script : List ScriptLine) (played : declared.Played) (read : IsScriptRead call.source call.source_now script) (laws : Laws) where
   run-told : (IsUpTo : (mark flushed : ℕ) → Type 0) (f : Option Fault) (text : List ℕ) → ComesTo call (Run drive) drive no_stops script (Played played f)

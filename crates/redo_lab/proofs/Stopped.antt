@@ -9,9 +9,9 @@ use Rattle.model_parts.specs.{formatted_store}
 use Rattle.model_store.specs.{IsReading, IsUnused}
 use Rattle.model_store.specs.Reading.{Reading}
 use Rattle.model_theorem.specs.{AreFormatted, LosesOnlyByFailure}
-use Rattle.redo_lab.specs.Call.{BothDevices, Guarded, LabCall, mids}
+use Rattle.redo_lab.specs.Call.{Guarded, mids}
 use Rattle.redo_lab.specs.Crash.{AreArmedFirst, AreCrashedAs, IsCrashedAs}
-use Rattle.redo_lab.specs.Examples.{ArmsLate, HasNotFailed, IsAdmitted, crashed_device, failed_call, quiet_call, quiet_device, stopped_call, with_devices}
+use Rattle.redo_lab.specs.Examples.{ArmsLate, HasNotFailed, IsAdmitted, call_with, crashed_device, failed_call, quiet_call, quiet_device, stopped_call}
 
 -- a device that wasn't to be stopped and hasn't failed has failed no call
 no-failure : (pick : ℕ) (device : Guarded) → IsCrashedAs None pick device → HasNotFailed device → 0 < device.fuse.mid → ⊥
@@ -20,20 +20,20 @@ no-failure pick device is well failed =
     absurd (⊎_elim (λ more. omega (arith, well.can_count, well.well)) (λ last. omega (arith, well.can_count)) risen))
     (λ passed. false≢true passed) (is.cause failed)
 
-pub refuses-opening : (call : LabCall) (pick : ℕ) (left : List (ℕ × ℕ)) → AreCrashedAs None None pick call
-    → LosesOnlyByFailure (mids call) None left → BothDevices HasNotFailed call → ⊥
-refuses-opening call pick left are loses well =
-    let failed : 0 < call.log.fuse.mid + call.store.fuse.mid = loses.stopped refl in
-    ⊎_elim (no-failure pick call.log are.0 well.0)
-    (λ none. no-failure pick call.store are.1 well.1 (omega arith))
-    (cases_lt 0 call.log.fuse.mid)
+pub refuses-opening : (log store : Guarded) (pick : ℕ) (left : List (ℕ × ℕ)) → AreCrashedAs None None pick (call_with log store)
+    → LosesOnlyByFailure (mids (call_with log store)) None left → HasNotFailed log → HasNotFailed store → ⊥
+refuses-opening log store pick left are loses log_well store_well =
+    let failed : 0 < log.fuse.mid + store.fuse.mid = loses.stopped refl in
+    ⊎_elim (no-failure pick log are.0 log_well)
+    (λ none. no-failure pick store are.1 store_well (omega arith))
+    (cases_lt 0 log.fuse.mid)
 
 -- `one` is the law that a store is read in one way
 pub refuses-late : ((log store : List ℕ) (first second : Reading) → IsReading log store first → IsReading log store second → first ≡ second)
-    → (call : LabCall) → AreArmedFirst call → ArmsLate call → ⊥
-refuses-late one call first late =
+    → (log store : Guarded) → AreArmedFirst (call_with log store) → ArmsLate log store → ⊥
+refuses-late one log store first late =
     let formatted : AreFormatted late.log_armed late.store_armed =
-    first.unused late.log late.store late.log_tells late.store_tells late.log_still late.store_still late.unused
+    first.unused late.log_entry late.store_entry late.log_tells late.store_tells late.log_still late.store_still late.unused
     late.log_armed late.store_armed late.log_armed_is late.store_armed_is in
     let same : late.reading ≡ formatted_store default_shape =
     one late.log_armed.reads late.store_armed.reads late.reading (formatted_store default_shape) late.is_read formatted.orderly.reads in
@@ -62,9 +62,9 @@ in-use-still found log in_use is unused =
     in_use (subst (λ (d : Disk). IsUnused d.reads) (sym same) unused)
 
 -- devices in use were armed as they were handed in
-module _ (call : LabCall) (found data_bytes : List ℕ) (in_use : IsUnused found → ⊥) where
+module _ (found data_bytes : List ℕ) (in_use : IsUnused found → ⊥) where
   armed-in-use : (met : Disk) (bytes : List ℕ) (limit : Option ℕ) (passed failed faults : ℕ) → 0 < passed + failed
-      → AreArmedFirst (with_devices call (crashed_device found met bytes limit passed failed faults) (quiet_device data_bytes data_bytes))
+      → AreArmedFirst (call_with (crashed_device found met bytes limit passed failed faults) (quiet_device data_bytes data_bytes))
   armed-in-use met bytes limit passed failed faults counted = record {
     opening_counted = counted;
     told = (λ on none. cc, λ on none. cc);
@@ -72,10 +72,10 @@ module _ (call : LabCall) (found data_bytes : List ℕ) (in_use : IsUnused found
     in_use = λ log store log_is store_is log_on store_on used. ((refl, refl), omega arith, refl);
   }
 
-  pub admits-quiet : (log : List ℕ) → IsAdmitted None (quiet_call call found log data_bytes)
+  pub admits-quiet : (log : List ℕ) → IsAdmitted None (quiet_call found log data_bytes)
   admits-quiet log = ((quiet-crashed found log, quiet-crashed data_bytes data_bytes), armed-in-use (settled log) log None 1 0 0 (omega arith))
 
-  pub admits-failed : (log : List ℕ) (writes : List Write) (reads : List ℕ) → IsAdmitted None (failed_call call found log writes reads data_bytes)
+  pub admits-failed : (log : List ℕ) (writes : List Write) (reads : List ℕ) → IsAdmitted None (failed_call found log writes reads data_bytes)
   admits-failed log writes reads =
       let met : Disk = record { base = log; writes = writes; reads = reads } in (
         (
@@ -92,7 +92,7 @@ module _ (call : LabCall) (found data_bytes : List ℕ) (in_use : IsUnused found
         armed-in-use met log None 3 1 1 (omega arith),
       )
 
-  pub admits-stopped : IsAdmitted (Some 0) (stopped_call call found data_bytes)
+  pub admits-stopped : IsAdmitted (Some 0) (stopped_call found data_bytes)
   admits-stopped = (
     (
       record {

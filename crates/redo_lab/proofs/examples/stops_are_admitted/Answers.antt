@@ -2,10 +2,10 @@ use Rattle.redo_lab.proofs.Stopped.{admits-failed, admits-quiet, admits-stopped}
 use Rattle.redo_lab.proofs.examples.stops_are_admitted.Goals as goal
 
 pub returns-clause-quiet : goal.returns-clause-quiet
-returns-clause-quiet c = λ call found log data_bytes in_use. admits-quiet call found data_bytes in_use log
+returns-clause-quiet c = λ found log data_bytes in_use. admits-quiet found data_bytes in_use log
 
 pub returns-clause-failed : goal.returns-clause-failed
-returns-clause-failed c = λ call found log writes reads data_bytes in_use. admits-failed call found data_bytes in_use log writes reads
+returns-clause-failed c = λ found log writes reads data_bytes in_use. admits-failed found data_bytes in_use log writes reads
 
 pub returns-clause-stopped : goal.returns-clause-stopped
-returns-clause-stopped c = λ call log data_bytes in_use. admits-stopped call log data_bytes in_use
+returns-clause-stopped c = λ log data_bytes in_use. admits-stopped log data_bytes in_use
