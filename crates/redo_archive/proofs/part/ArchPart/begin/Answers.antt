@@ -29,3 +29,6 @@ returns-in-Ok-clause-begun g c =
       size = c.put_archive.ensures.size;
       later = omega (arith, c.put_archive.ensures.cause.later);
     }
+
+pub returns-in-Ok-clause-calls : goal.returns-in-Ok-clause-calls
+returns-in-Ok-clause-calls g c = c.in-Ok.ensures.calls
