@@ -19,8 +19,6 @@ use Rattle.model_pagecore.specs.DataLaws.{DataLaws}
 use Rattle.model_running.proofs.FlatWords.{flat_read}
 use Rattle.model_running.proofs.Turns.{keeps_turn, RunsOver}
 use Rattle.model_running.specs.RunningStore.{BothHalves, IsRunning, RunningStore}
-use Rattle.model_running.specs.PlainStore.{plain_store}
-use Rattle.model_running.specs.Schedule.{TakesTurns}
 use Rattle.model_core.specs.declared.ops.Op.TheVariants as op
 use Rattle.model_core.specs.declared.words.Word.TheVariants as word
 
@@ -104,11 +102,3 @@ pub turn_keeps : (D : LogSide) → LogLaws D → (E : DataSide) → DataLaws E �
     → IsRunning D E c new
 turn_keeps D L E EL c old new seat answer step before t =
     (turn_leaves D L E EL c old new seat answer step before t).store
-
--- so does each run of turns
-pub run_keeps : (D : LogSide) → LogLaws D → (E : DataSide) → DataLaws E → (c : Setup) (seed max n : ℕ) (first last : Core D E)
-    → IsRunning D E c first → TakesTurns (plain_store D E) seed max n first last → IsRunning D E c last
-run_keeps D L E EL c seed max zero first last before is = subst (IsRunning D E c) (sym is) before
-run_keeps D L E EL c seed max (suc n) first last before r =
-    turn_keeps D L E EL c r.before last _ r.turn.answer r.step
-    (run_keeps D L E EL c seed max n first r.before before r.earlier) r.turn.turn
