@@ -32,7 +32,7 @@ impl<A: Sectors> ArchPart<A> {
         requires limits { IsWithinLimits shape.now }
         requires run_start { IsRunStart start }
         requires its_pages { ArePagesOf shape.now pages.now }
-        ensures begun { IfOk result (IsBegun A.seen shape.now start pages.now dev) }
+        ensures begun { IfOk result (IsBegun A.seen A.gives shape.now start pages.now dev) }
         ensures fault { IfErr result (λ error. IsNotBegun A.seen shape.now dev error.0 error.1) }
     {
         let asked = pages_end(shape);

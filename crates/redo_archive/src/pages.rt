@@ -1,11 +1,12 @@
 // The pages with which a run was opened, as an archive has them.
-ghost use Rattle.std.specs.Prelude.{◌≡◌, ◌≤◌, length, IfSome, OnOk};
+ghost use Rattle.std.specs.Prelude.{◌≡◌, ◌≤◌, length, map, IfSome, None, OnOk};
 ghost use Rattle.model_archive.specs.{AreTexts, base_text, pages_end};
 ghost use Rattle.model_archive.specs.declared.layout.TheConstants.{ARCHIVE_HEADER};
 ghost use Rattle.model_base.specs.{IsWithinLimits, overwritten, user_length};
 ghost use Rattle.model_page.specs.{FitsPage, page_text};
 ghost use Rattle.redo_apply.specs.{ArePagesOf};
-ghost use Rattle.redo_disk.specs.{HasCause, HasSize, OnTold};
+ghost use Rattle.redo_archive.specs.Calls.{base_writes};
+ghost use Rattle.redo_disk.specs.{HasCause, HasSize, MakesCalls, OnTold, Serve, ToWrite};
 
 use crate::places::page_place;
 use model_base::Shape;
@@ -41,6 +42,8 @@ pub(crate) fn write_base<A: Sectors>(
         (λ old new. new.reads ≡ overwritten ARCHIVE_HEADER (base_text 0 shape.now.space pages.now) old.reads)) }
     ensures size { (A.seen device.new).size ≡ (A.seen device.old).size }
     ensures cause { HasCause (A.seen device.old).faults (A.seen device.new).faults result }
+    ensures calls { OnOk result (MakesCalls A.gives device.old device.new
+        (Serve (map ToWrite (base_writes shape.now 0 pages.now)) None)) }
 {
     let mut room = vec![in alloc; 0u8; shape.page_size as usize]?;
     let text = room.as_mut_slice();

@@ -1,10 +1,10 @@
 // Writes in a row, each so that it stays.
-ghost use Rattle.std.specs.Prelude.{◌≡◌, ◌≤◌, ◌++◌, length, IfSome, OnOk, OnErr};
+ghost use Rattle.std.specs.Prelude.{◌≡◌, ◌≤◌, ◌++◌, length, IfSome, None, OnOk, OnErr};
 ghost use Rattle.model_archive.specs.{AreTexts, base_text, begun_bytes, pages_end};
 ghost use Rattle.model_base.specs.{IsWithinLimits};
 ghost use Rattle.model_device.specs.{settled};
 ghost use Rattle.redo_apply.specs.{ArePagesOf};
-ghost use Rattle.redo_archive.specs.Calls.{after_two, FailsTwo};
+ghost use Rattle.redo_archive.specs.Calls.{after_two, begin_requests, FailsTwo};
 ghost use Rattle.redo_disk.specs.{error_of, HasCause, HasSize, IsRange, MakesCalls, OnTold, put_requests, Serve, write_at};
 
 use crate::head::fill_archive_head;
@@ -60,6 +60,8 @@ pub(crate) fn put_archive<A: Sectors>(
         (λ old new. new ≡ settled (begun_bytes shape.now start (base_text 0 shape.now.space pages.now) old.reads))) }
     ensures size { (A.seen device.new).size ≡ (A.seen device.old).size }
     ensures cause { HasCause (A.seen device.old).faults (A.seen device.new).faults result }
+    ensures calls { OnOk result (MakesCalls A.gives device.old device.new
+        (Serve (begin_requests shape.now start pages.now) None)) }
 {
     write_and_sync(device, 0, &[0; HEADER])?;
     write_base(alloc, device, shape, pages)?;

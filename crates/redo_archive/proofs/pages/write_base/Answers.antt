@@ -1,4 +1,4 @@
-use Rattle.std.proofs.Common.{◌≡◌, ◌<◌, ◌+◌, ℕ, List, length, take, Some, IfSome, refl, sym, ap, subst, ◌∙◌, ⊎_elim, arith}
+use Rattle.std.proofs.Common.{◌≡◌, ◌<◌, ◌+◌, ℕ, List, length, map, take, None, Some, IfSome, refl, sym, ap, subst, ◌∙◌, ⊎_elim, arith}
 use Rattle.std.specs.List.{slice_get}
 use Rattle.std.proofs.lemmas.Bool.{cases_lt}
 use Rattle.std.proofs.lemmas.List.{take_all}
@@ -9,9 +9,11 @@ use Rattle.model_page.specs.declared.content.Content.{Content}
 use Rattle.model_parts.proofs.Batches.{whole-page}
 use Rattle.model_store.proofs.Places.{has_place, same_some}
 use Rattle.model_archive.specs.{base_text}
-use Rattle.redo_disk.specs.{IsRange}
+use Rattle.redo_disk.specs.{IsRange, MakesCalls, Serve, ToWrite}
 use Rattle.redo_disk.proofs.Told.{told-as, told-same}
 use Rattle.redo_archive.proofs.Basing.{base-range}
+use Rattle.redo_archive.proofs.Begins.{pages-more, pages-none}
+use Rattle.redo_archive.specs.Calls.{base_writes}
 use Rattle.redo_archive.proofs.Sealing.{AreWritten, written-none, written-told}
 use Rattle.redo_archive.proofs.pages.write_base.Goals as goal
 
@@ -23,6 +25,7 @@ loop-page-init g c = record {
   size = refl;
   later = omega arith;
   fit = λ p page below there. absurd (omega arith);
+  calls = pages-none g.A.Sectors.gives c.args.device.now;
 }
 
 pub fill_base-requires-clause-count : goal.fill_base-requires-clause-count
@@ -84,6 +87,9 @@ loop-page-preserved g c =
           (subst (λ (n : ℕ). slice_get pages n ≡ Some page) same there.1) is in
           subst (λ (x : Content). FitsPage q shape.space x.lsn x.user) one
           (subst (λ (n : ℕ). FitsPage n shape.space page.lsn page.user) same own)) (cases_lt q p);
+      calls = pages-more g.A.Sectors.gives c.args.device.now c.loop-page.device c.write.new.self shape pages p
+          c.page_place.result page text c.in_ok-write.field-0 there.1 c.page_place.ensures text_is
+          c.loop-page.invariant.calls c.in_ok-write.ensures.gives;
     }
 
 pub returns-clause-ok : goal.returns-clause-ok
@@ -106,3 +112,12 @@ returns-clause-ok g c =
           ∙ ap (λ (xs : List Content). overwritten 1536 (base_text 0 shape.space xs) a.reads) whole)
           c.loop-page.invariant.told,
     )
+
+pub returns-clause-calls : goal.returns-clause-calls
+returns-clause-calls g c =
+    let pages = c.args.pages.now in
+    let whole : take c.loop-page.page pages ≡ pages =
+    take_all c.loop-page.page pages
+    (omega (arith, c.requires.its_pages.count, c.loop-page.auto.page-end, c.loop-page-test.false)) in
+    subst (λ (xs : List Content). MakesCalls g.A.Sectors.gives c.args.device.now c.loop-page.device
+    (Serve (map ToWrite (base_writes c.args.shape.now 0 xs)) None)) whole c.loop-page.invariant.calls

@@ -1,12 +1,15 @@
-use Rattle.std.proofs.Common.{◌≡◌, ℕ, List, replicate, ap, ◌∙◌, arith}
+use Rattle.std.proofs.Common.{◌≡◌, ◌++◌, ℕ, List, map, replicate, ap, subst, ◌∙◌, arith}
 use Rattle.std.proofs.lemmas.List.{length-replicate}
 use Rattle.std.proofs.lemmas.Result.{on_ok_weaker}
 use Rattle.model_base.specs.{overwritten}
 use Rattle.model_device.specs.{settled, synced, written}
 use Rattle.model_device.specs.Disk.{Disk}
-use Rattle.model_archive.specs.{archive_head_text, base_text, begun_bytes}
-use Rattle.redo_disk.specs.{write_at}
+use Rattle.model_archive.specs.{archive_head_text, base_text, begun_bytes, mark_text}
+use Rattle.redo_archive.specs.Calls.{base_writes}
+use Rattle.redo_disk.specs.{error_of, MakesCalls, put_requests, Request, Serve, ToWrite, write_at}
+use Rattle.redo_disk.proofs.Made.{serves_then}
 use Rattle.redo_disk.proofs.Told.{OnTold-then}
+use Rattle.redo_archive.proofs.Begins.{calls-ok}
 use Rattle.redo_archive.proofs.Sealing.{sized-zeroed}
 use Rattle.redo_archive.proofs.puts.put_archive.Goals as goal
 
@@ -44,3 +47,23 @@ returns-clause-ok g c =
           ∙ ap (λ (bytes : List ℕ). settled (overwritten 0 (archive_head_text start shape) (overwritten 512 bytes
           (overwritten 1536 texts (overwritten 0 zeros a.reads))))) c.fill_mark.ensures) third done,
     )) c.write_and_sync-3.ensures.ok
+
+pub returns-clause-calls : goal.returns-clause-calls
+returns-clause-calls g c =
+    let gives = g.A.Sectors.gives in
+    let shape = c.args.shape.now in
+    let old = c.args.device.now in
+    let new = c.write_and_sync-3.new.device in
+    let result = c.write_and_sync-3.result in
+    let asks : List ℕ → List ℕ → List Request =
+    λ mark head. put_requests (write_at 0 (replicate 1536 0)) ++ map ToWrite (base_writes shape 0 c.args.pages.now)
+    ++ put_requests (write_at 512 mark) ++ put_requests (write_at 0 head) in
+    let made : MakesCalls gives old new
+    (Serve (asks c.fill_mark.new.out c.fill_archive_head.new.out) (error_of result)) =
+    serves_then (serves_then (serves_then c.in_ok-write_and_sync.ensures.calls c.in_ok-write_base.ensures.calls)
+    c.in_ok-write_and_sync-2.ensures.calls) c.write_and_sync-3.ensures.calls in
+    calls-ok gives old new (asks (mark_text 0 c.args.start) (archive_head_text c.args.start shape)) result
+    (subst (λ (head : List ℕ). MakesCalls gives old new
+    (Serve (asks (mark_text 0 c.args.start) head) (error_of result))) c.fill_archive_head.ensures
+    (subst (λ (mark : List ℕ). MakesCalls gives old new
+    (Serve (asks mark c.fill_archive_head.new.out) (error_of result))) c.fill_mark.ensures made))

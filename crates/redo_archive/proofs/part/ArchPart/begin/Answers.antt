@@ -28,4 +28,5 @@ returns-in-Ok-clause-begun g c =
           c.put_archive.ensures.size refl is) c.len.ensures.told c.in-Ok.ensures.ok.1;
       size = c.put_archive.ensures.size;
       later = omega (arith, c.put_archive.ensures.cause.later);
+      calls = c.in-Ok.ensures.calls;
     }
