@@ -12,7 +12,10 @@ use Rattle.redo_drive.proofs.Served.{off_any, on_any}
 use Rattle.redo_drive.proofs.calling.call_read.Goals as goal
 
 pub returns-clause-read : goal.returns-clause-read
-returns-clause-read g c = let p = c.args.log.now in let e = c.read_block.ensures in record {
+returns-clause-read g c =
+  let p = c.args.log.now in
+  let e = c.read_block.ensures in
+  let long : length c.args.room.now ≡ 512 = omega (arith, c.fits-room) in record {
   called = record {
     result = c.read_block.result;
     code_is = refl;
@@ -24,7 +27,7 @@ returns-clause-read g c = let p = c.args.log.now in let e = c.read_block.ensures
   };
   given = subst (λ (n : ℕ). OnOk c.read_block.result (IfSome (g.L.Sectors.seen c.read_block.new.self.dev).tells
       (λ (disk : Disk). c.read_block.new.out ≡ part disk.reads (block_place p c.args.lsn) n)))
-      (omega (arith, c.fits-room)) e.step.bytes;
+      long e.step.bytes;
   told = e.step.same;
   holds = e.holds;
   block = e.block;
