@@ -173,11 +173,11 @@ module _ {L D A R : Type 0} {arch_gives : A → Call → A → Type 0} (log_seen
     actors_are = ap views_of by.actors_are ∙ ending_views;
     ends = ends_as in_run (turn_store log_seen log_gives data_seen data_gives true) (own_thin log_seen data_seen run)
         (AloneFrom (run_log_side log_seen data_seen run) (its_log_laws log_seen data_seen run)
-        (run_data_side log_seen data_seen run) (its_data_laws log_seen data_seen run) run.setup 0)
+        (run_data_side log_seen data_seen run) (its_data_laws log_seen data_seen run) run.setup)
         (λ s. refl) (λ s. refl)
         (λ old new seat how alone t.
         let law = never_idle (run_log_side log_seen data_seen run) (its_log_laws log_seen data_seen run)
-        (run_data_side log_seen data_seen run) (its_data_laws log_seen data_seen run) run.setup 0 old new seat t.answer
+        (run_data_side log_seen data_seen run) (its_data_laws log_seen data_seen run) run.setup old new seat t.answer
         how alone t.turn in (
           record {
             answer = t.answer;

@@ -17,9 +17,9 @@ AllMayRest {R} players = (i : ℕ) (p : Player R) → get_elem? players i ≡ so
 
 module _ {L D R : Type 0} where
   -- these are seats of these players, none of which writes for itself, one of each, in their order
-  pub record ArePlaying (table : TableId) (seats : List (Seat (Slot L D) (View L D))) (players : List
+  pub record ArePlaying (table : TableId) (tokens : List (Seat (Slot L D) (View L D))) (players : List
       (Player R)) : Type 0 where
-    pub seats : AreSeatsOf table false seats players
+    pub seats : AreSeatsOf table false tokens players
     pub plain : ArePlain players
 
   -- each player of the store has its seat, none writes for itself, and there is no archive
