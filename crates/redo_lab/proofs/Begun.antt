@@ -144,11 +144,11 @@ cut-well gives course cut (Some device) None = tt
 cut-well gives course cut (Some device) (Some now) = λ uncut. absurd (cut uncut)
 
 -- a run that wasn't cut met no error of the archive
-pub uncut-none : (how : RunEnd) (played : Played) (log data archive : Option DevError)
-    → IsUncut (course_of how played (ended_by log data archive)) → archive ≡ None
-uncut-none how played log data None uncut = refl
-uncut-none (Spent turns user) played log data (Some e) uncut = absurd uncut
-uncut-none Done played (Some Failed) data (Some e) uncut = absurd uncut
+pub uncut-none : (how : RunEnd) (played : Played) (log store archive : Option DevError)
+    → IsUncut (course_of how played (ended_by log store archive)) → archive ≡ None
+uncut-none how played log store None uncut = refl
+uncut-none (Spent turns user) played log store (Some e) uncut = absurd uncut
+uncut-none Done played (Some Failed) store (Some e) uncut = absurd uncut
 uncut-none Done played None (Some Failed) (Some e) uncut = absurd uncut
 uncut-none Done played None None (Some Failed) uncut = absurd uncut
 uncut-none Done played None None (Some NoMemory) uncut = absurd uncut
