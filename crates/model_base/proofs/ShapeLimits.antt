@@ -1,28 +1,80 @@
 -- The test of a shape's sizes against the facts that it tells.
-use Rattle.std.proofs.Common.{ap, arith, refl, subst, sym, true, ℕ, ◌%◌, ◌<◌, ◌∙◌, ◌≡◌, ◌≤◌}
+use Rattle.std.proofs.Common.{ap, arith, Bool, false, inl, inr, refl, subst, sym, true, true≢false, ℕ, ⊎_elim, ◌%◌, ◌<◌, ◌||◌, ◌≡◌, ◌≤◌, ◌⊎◌}
 use Rattle.std.proofs.lemmas.Bool.Decides.{nat_tests}
-use Rattle.model_base.specs.declared.limits.TheConstants.{MAX_LOG_BLOCKS, MAX_PAGES, MIN_LOG_BLOCKS, PAGE_SIZE, SLOTS}
+use Rattle.model_base.specs.declared.limits.TheConstants.{EARLY_SLOTS, MAX_EARLY_PAGES, MAX_LOG_BLOCKS, MAX_PAGES, MIN_LOG_BLOCKS, PAGE_SIZE, SLOTS}
 use Rattle.model_base.specs.declared.shape.Shape.{Shape}
-use Rattle.model_base.specs.Limits.{default_shape, is_within_limits, IsWholeSectors, IsWithinLimits, space_limit}
+use Rattle.model_base.specs.Limits.{default_shape, has_early_sizes, has_sizes, is_within_limits, IsWholeSectors, IsWithinLimits, space_limit}
 unfoldable use Rattle.model_base.specs.Limits.{IsPageSize}
 
+-- where either test passes, the one that does
+either : (first second : Bool) → (first || second) ≡ true → (first ≡ true) ⊎ (second ≡ true)
+either true second is = inl refl
+either false second is = inr is
+
+-- what the sizes of a store are, one by one
+pub sizes_facts : (shape : Shape) → has_sizes shape ≡ true → (shape.page_size ≡ PAGE_SIZE) × ((shape.pages ≤ MAX_PAGES) × (shape.slots ≡ SLOTS))
+sizes_facts shape has = (grind (arith, nat_tests), (grind (arith, nat_tests), grind (arith, nat_tests)))
+
+pub early_facts : (shape : Shape) → has_early_sizes shape ≡ true → (shape.page_size ≡ PAGE_SIZE) × ((shape.pages ≤ MAX_EARLY_PAGES) × (shape.slots ≡ EARLY_SLOTS))
+early_facts shape has = (grind (arith, nat_tests), (grind (arith, nat_tests), grind (arith, nat_tests)))
+
+-- sizes that are so pass their test
+pub sizes_true : (shape : Shape) → shape.page_size ≡ PAGE_SIZE → shape.pages ≤ MAX_PAGES → shape.slots ≡ SLOTS → has_sizes shape ≡ true
+sizes_true shape size few slots = grind (arith, nat_tests)
+
+pub early_true : (shape : Shape) → shape.page_size ≡ PAGE_SIZE → shape.pages ≤ MAX_EARLY_PAGES → shape.slots ≡ EARLY_SLOTS → has_early_sizes shape ≡ true
+early_true shape size few slots = grind (arith, nat_tests)
+
 -- a shape that passes the test keeps each limit
-pub is_within_limits_facts : (shape : Shape) → is_within_limits shape ≡ true → IsWithinLimits shape
+of_sizes : (shape : Shape) → is_within_limits shape ≡ true → (has_sizes shape ≡ true) ⊎ (has_early_sizes shape ≡ true) → IsWithinLimits shape
 unfolding IsPageSize
-is_within_limits_facts shape good = record {
-  page_size = grind (arith, nat_tests);
+of_sizes shape good (inl has) = record {
+  page_size = (sizes_facts shape has).0;
   some_pages = grind (arith, nat_tests);
-  few_pages = grind (arith, nat_tests);
+  few_pages = (sizes_facts shape has).1.0;
   space = grind (arith, nat_tests);
   many_blocks = grind (arith, nat_tests);
   few_blocks = grind (arith, nat_tests);
-  slots = grind (arith, nat_tests);
+  slots = inl (sizes_facts shape has).1.1;
+}
+of_sizes shape good (inr has) = record {
+  page_size = (early_facts shape has).0;
+  some_pages = grind (arith, nat_tests);
+  few_pages = omega (arith, (early_facts shape has).1.0);
+  space = grind (arith, nat_tests);
+  many_blocks = grind (arith, nat_tests);
+  few_blocks = grind (arith, nat_tests);
+  slots = inr ((early_facts shape has).1.1, (early_facts shape has).1.0);
 }
 
+pub is_within_limits_facts : (shape : Shape) → is_within_limits shape ≡ true → IsWithinLimits shape
+is_within_limits_facts shape good = of_sizes shape good (either (has_sizes shape) (has_early_sizes shape) (grind (arith, nat_tests)))
+
 -- limits that hold pass the test
+either-true : (first second : Bool) → (first ≡ true) ⊎ (second ≡ true) → (first || second) ≡ true
+either-true true second is = refl
+either-true false second (inl never) = absurd (true≢false (sym never))
+either-true false second (inr is) = is
+
 pub is_within_limits_true : (shape : Shape) → IsWithinLimits shape → is_within_limits shape ≡ true
 unfolding IsPageSize
-is_within_limits_true shape within = grind (arith, nat_tests)
+is_within_limits_true shape within =
+    let sizes : (has_sizes shape || has_early_sizes shape) ≡ true
+    = either-true (has_sizes shape) (has_early_sizes shape) (⊎_elim
+    (λ slots. inl (sizes_true shape within.page_size within.few_pages slots))
+    (λ early. inr (early_true shape within.page_size early.1 early.0)) within.slots) in
+    grind (arith, nat_tests)
+
+-- how many slots such a shape has
+pub record HasSlots (shape : Shape) : Type 0 where
+  pub some : 1 ≤ shape.slots
+  pub early : EARLY_SLOTS ≤ shape.slots
+  pub few : shape.slots ≤ SLOTS
+
+pub slots_within : (shape : Shape) → IsWithinLimits shape → HasSlots shape
+slots_within shape within = ⊎_elim
+    (λ slots. record { some = omega (arith, slots); early = omega (arith, slots); few = omega (arith, slots) })
+    (λ early. record { some = omega (arith, early.0); early = omega (arith, early.0); few = omega (arith, early.0) }) within.slots
 
 -- a page size that a store may have is of whole sectors
 pub page_size_facts : (n : ℕ) → IsPageSize n → IsWholeSectors n
@@ -47,7 +99,7 @@ within_limits shape size some few space many blocks slots = record {
   space = space;
   many_blocks = many;
   few_blocks = blocks;
-  slots = slots;
+  slots = inl slots;
 }
 
 pub default_page_size : IsPageSize PAGE_SIZE
