@@ -1,5 +1,5 @@
 -- The format of a run on a store of a shape, and the formats that a shape's sizes allow.
-use Rattle.std.proofs.Common.{◌≡◌, ◌≢◌, ◌==◌, ap, Bool, cond, false, refl, sym, true, ℕ, ◌∙◌, ⊎_elim}
+use Rattle.std.proofs.Common.{◌≡◌, ◌≢◌, ◌==◌, ap, Bool, cond, false, inl, inr, refl, subst, sym, true, ℕ, ◌∙◌, ◌⊎◌, ⊎_elim}
 use Rattle.std.proofs.lemmas.Bool.{eq-eqb}
 use Rattle.model_base.proofs.ShapeLimits.{early_facts, early_true, sizes_facts, sizes_true}
 use Rattle.model_base.specs.declared.shape.Shape.{Shape}
@@ -10,6 +10,10 @@ use Rattle.model_log.specs.Device.{layout_of, run_layout}
 use Rattle.model_log.specs.Head.{has_sizes_of, run_format}
 use Rattle.model_log.specs.declared.head.Format.{Format}
 use Rattle.model_log.specs.declared.head.Format.TheVariants.{One, Two, Three}
+use Rattle.model_log.specs.declared.layout.Layout.{Layout}
+
+pub two-not_one : Two ≢ One
+two-not_one is = absurd cc
 
 either-layout : (many : Bool) (shape : Shape) → layout_of (cond many Three Two) shape ≡ run_layout shape
 either-layout true shape = refl
@@ -18,6 +22,22 @@ either-layout false shape = refl
 -- the layout of a run is that of its format
 pub run_format-layout : (shape : Shape) → layout_of (run_format shape) shape ≡ run_layout shape
 run_format-layout shape = either-layout (shape.slots == SLOTS) shape
+
+-- so what holds of the one holds of the other
+pub of_run : (P : Layout → Type 0) (shape : Shape) → P (run_layout shape) → P (layout_of (run_format shape) shape)
+of_run P shape is = subst P (sym (run_format-layout shape)) is
+
+-- and so is that of each format but the first
+pub other-layout : (format : Format) (shape : Shape) → format ≢ One → layout_of format shape ≡ run_layout shape
+other-layout One shape other = absurd (other refl)
+other-layout Two shape other = refl
+other-layout Three shape other = refl
+
+-- which has tail blocks
+pub other-tails : (format : Format) (shape : Shape) → format ≢ One → (layout_of format shape).format ≢ One
+other-tails One shape other = other
+other-tails Two shape other = other
+other-tails Three shape other = two-not_one
 
 -- its format by the shape's slots
 pub full-format : (shape : Shape) → shape.slots ≡ SLOTS → run_format shape ≡ Three
@@ -44,3 +64,9 @@ format-of_run Three shape sizes other = sym (full-format shape (sizes_facts shap
 -- and a store of the first leads to runs of the second
 pub one-run : (shape : Shape) → has_sizes_of One shape ≡ true → run_format shape ≡ Two
 one-run shape sizes = early-format shape (early_facts shape sizes).1.1
+
+-- every store is of the first format or of another
+pub one-or_other : (format : Format) → (format ≡ One) ⊎ (format ≢ One)
+one-or_other One = inl refl
+one-or_other Two = inr two-not_one
+one-or_other Three = inr (λ is. absurd cc)
