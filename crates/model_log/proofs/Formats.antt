@@ -3,8 +3,8 @@ use Rattle.std.proofs.Common.{◌≡◌, ◌≢◌, ◌==◌, ap, Bool, cond, fa
 use Rattle.std.proofs.lemmas.Bool.{eq-eqb}
 use Rattle.model_base.proofs.ShapeLimits.{early_facts, early_true, sizes_facts, sizes_true}
 use Rattle.model_base.specs.declared.shape.Shape.{Shape}
-use Rattle.model_base.specs.declared.limits.TheConstants.{EARLY_SLOTS, MAX_EARLY_PAGES, SLOTS}
-use Rattle.model_base.specs.{has_early_sizes, has_sizes, IsWithinLimits}
+use Rattle.model_base.specs.declared.limits.TheConstants.{EARLY_SLOTS, SLOTS}
+use Rattle.model_base.specs.{IsWithinLimits}
 unfoldable use Rattle.model_base.specs.{IsPageSize}
 use Rattle.model_log.specs.Device.{layout_of, run_layout}
 use Rattle.model_log.specs.Head.{has_sizes_of, run_format}

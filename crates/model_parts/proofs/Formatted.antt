@@ -196,7 +196,7 @@ formatted-read shape log_bytes data_bytes limits log pages = record {
     devices = formatted-devices shape log_bytes data_bytes limits log pages;
     checkpoint = of_run (λ (l : Layout). newest_checkpoint l log_bytes ≡ Some (0, START_LSN)) shape (first-checkpoint shape log_bytes limits log);
     scan = of_run (λ (l : Layout). IsScan shape l.blocks (taken l log_bytes) START_LSN [] [] FIRST_DATA_LSN) shape
-      (empty-scan shape (run_layout shape).blocks (taken (run_layout shape) log_bytes) START_LSN (none-taken shape log_bytes limits log));
+        (empty-scan shape (run_layout shape).blocks (taken (run_layout shape) log_bytes) START_LSN (none-taken shape log_bytes limits log));
   };
   count = length-replicate shape.pages (blank_page shape);
   each = λ p page at. formatted-page shape data_bytes p page limits pages at;

@@ -3,7 +3,6 @@ use Rattle.std.proofs.Common.{◌≡◌, ◌≢◌, ◌≤◌, ◌<◌, ◌+◌,
 use Rattle.std.specs.Prelude.{nat_lt}
 use Rattle.std.proofs.lemmas.Bool.{cases_Bool}
 use Rattle.std.proofs.lemmas.Bool.Decides.{nat_tests}
-use Rattle.model_base.specs.declared.shape.Shape.{Shape}
 use Rattle.model_base.specs.{field}
 use Rattle.model_device.specs.{sector, settled}
 use Rattle.model_log.specs.declared.head.Format.{Format}
@@ -11,7 +10,7 @@ use Rattle.model_log.specs.declared.head.Format.TheVariants.{One, Two, Three}
 use Rattle.model_log.specs.declared.head.Head.{Head}
 use Rattle.model_log.specs.declared.head.Head.TheVariants.{Good}
 use Rattle.model_log.specs.declared.layout.Layout.{Layout}
-use Rattle.model_log.specs.{checkpoint_text, fits_checksum, head_of, is_checkpoint, IsInRound, layout_of, log_block, lsn_at, newer, newest_checkpoint, place_of, read_checkpoint, read_head, sector_of, header_block, run_layout, run_format}
+use Rattle.model_log.specs.{checkpoint_text, fits_checksum, head_of, is_checkpoint, IsInRound, log_block, lsn_at, newer, newest_checkpoint, place_of, read_checkpoint, read_head, sector_of, header_block, run_layout}
 use Rattle.model_log.proofs.CheckpointRound.{checkpoint-reads_back}
 use Rattle.model_log.proofs.Formats.{format-of_run, other-layout, other-tails}
 use Rattle.model_store.specs.{AreFoundIn, IsOrderly, IsReading, read_full, read_tail, taken}

@@ -109,6 +109,7 @@ tail-in_two shape most_shape image ckpt views wholes end tail aligned scan found
   in_round = subst (λ (b : ℕ). IsInRound (two shape) ckpt b) (sym found.lsn_is)
       (at-round (two shape) ckpt found.last aligned (let few : length views ≤ (two shape).blocks = scan.blocks.few in omega (arith, found.is_last)));
 }
+
 pub tail-in : (format : Format) (shape most_shape : Shape) (image : List ℕ) (ckpt : ℕ) (views : List BlockView) (wholes : List Whole) (end : ℕ) (tail : Option Tail) → ckpt % 512 ≡ 0
     → IsScan most_shape (layout_of format shape).blocks (taken (layout_of format shape) image) ckpt views wholes end → AreFoundIn (layout_of format shape) image ckpt views tail
     → IsTailIn (layout_of format shape) ckpt tail
