@@ -4,6 +4,8 @@
 pub const BLOCK_SIZE: u64 = 512;
 /// Bytes of a page of a store that is formatted without an option.
 pub const PAGE_SIZE: u32 = 4096;
+/// The other number of bytes that a page may have, but in formats 1 and 2.
+pub const LARGE_PAGE_SIZE: u32 = 16_384;
 /// The greatest number of bytes that a page may have: the offsets in records have 16 bits.
 pub const MAX_PAGE_SIZE: u32 = 65_536;
 /// The offset of a page's first user byte.
