@@ -5,7 +5,6 @@ use Rattle.model_base.proofs.ShapeLimits.{early_facts, early_true, sizes_facts, 
 use Rattle.model_base.specs.declared.shape.Shape.{Shape}
 use Rattle.model_base.specs.declared.limits.TheConstants.{EARLY_SLOTS, SLOTS}
 use Rattle.model_base.specs.{IsWithinLimits}
-unfoldable use Rattle.model_base.specs.{IsPageSize}
 use Rattle.model_log.specs.Device.{layout_of, run_layout}
 use Rattle.model_log.specs.Head.{has_sizes_of, run_format}
 use Rattle.model_log.specs.declared.head.Format.{Format}
@@ -48,22 +47,21 @@ early-format shape slots = ap (λ (n : ℕ). cond (n == SLOTS) Three Two) slots
 
 -- a shape within the limits has the sizes of that format
 pub run_format-sizes : (shape : Shape) → IsWithinLimits shape → has_sizes_of (run_format shape) shape ≡ true
-unfolding IsPageSize
 run_format-sizes shape within = ⊎_elim
     (λ slots. ap (λ (f : Format). has_sizes_of f shape) (full-format shape slots)
     ∙ sizes_true shape within.page_size within.few_pages slots)
-    (λ early. ap (λ (f : Format). has_sizes_of f shape) (early-format shape early.0)
-    ∙ early_true shape within.page_size early.1 early.0) within.slots
+    (λ early. ap (λ (f : Format). has_sizes_of f shape) (early-format shape early.slots)
+    ∙ early_true shape early) within.slots
 
 -- a store of another format than the first has that of its runs
 pub format-of_run : (format : Format) (shape : Shape) → has_sizes_of format shape ≡ true → format ≢ One → format ≡ run_format shape
 format-of_run One shape sizes other = absurd (other refl)
-format-of_run Two shape sizes other = sym (early-format shape (early_facts shape sizes).1.1)
+format-of_run Two shape sizes other = sym (early-format shape (early_facts shape sizes).slots)
 format-of_run Three shape sizes other = sym (full-format shape (sizes_facts shape sizes).1.1)
 
 -- and a store of the first leads to runs of the second
 pub one-run : (shape : Shape) → has_sizes_of One shape ≡ true → run_format shape ≡ Two
-one-run shape sizes = early-format shape (early_facts shape sizes).1.1
+one-run shape sizes = early-format shape (early_facts shape sizes).slots
 
 -- every store is of the first format or of another
 pub one-or_other : (format : Format) → (format ≡ One) ⊎ (format ≢ One)
