@@ -11,15 +11,15 @@ use Rattle.model_base.specs.declared.shape.Shape.{Shape}
 use Rattle.model_base.specs.declared.limits.TheConstants.{START_LSN}
 use Rattle.model_base.specs.{field, is_within_limits, IsWithinLimits, padded_to}
 use Rattle.model_log.specs.Block.{with_checksum, fits_checksum}
-use Rattle.model_log.specs.Head.{format_of, shape_of, read_head}
+use Rattle.model_log.specs.Head.{format_of, has_sizes_of, shape_of, read_head}
 use Rattle.model_log.specs.HeadText.{creator, format_number, head_text}
 use Rattle.model_log.specs.declared.head.Format.{Format}
-use Rattle.model_log.specs.declared.head.Format.TheVariants.{One, Two}
+use Rattle.model_log.specs.declared.head.Format.TheVariants.{One, Two, Three}
 use Rattle.model_log.specs.declared.head.Head.{Head}
 use Rattle.model_log.specs.declared.head.Head.TheVariants.{Good, OtherFormat, Unformatted}
 use Rattle.model_log.proofs.Checksums.{IsByte, bytes-bytes_high_first}
 use Rattle.model_log.proofs.Heads.{head_fields, head_text-from}
-use Rattle.model_base.proofs.ShapeLimits.{is_within_limits_true}
+use Rattle.model_base.proofs.ShapeLimits.{is_within_limits_true, slots_within}
 use Rattle.model_log.proofs.Sealed.{field-padded, length-padded, bytes-padded, fits_checksum-sealed}
 
 length-head_fields : (format : Format) (shape : Shape) → length (head_fields format shape) ≡ 68
@@ -30,6 +30,7 @@ format-head_fields : (format : Format) (shape : Shape) → field 4 0 (head_field
 unfolding head_fields
 format-head_fields One shape = refl
 format-head_fields Two shape = refl
+format-head_fields Three shape = refl
 
 start-head_fields : (format : Format) (shape : Shape) → field 8 8 (head_fields format shape) ≡ START_LSN
 unfolding head_fields
@@ -88,19 +89,20 @@ same_shape : (page_size pages space log_blocks slots : ℕ) (shape : Shape) → 
     → let read : Shape = record { page_size = page_size; pages = pages; space = space; log_blocks = log_blocks; slots = slots } in read ≡ shape
 same_shape page_size pages space log_blocks slots shape a b c d e = rw (a, b, c, d, e) refl
 
-good_when : (sound start_fits limits_fit : Bool) (found : Option Format) (format : Format) (read shape : Shape) (other : Head) → sound ≡ true → found ≡ Some format → start_fits ≡ true → limits_fit ≡ true → read ≡ shape
-    → cond sound (elim found [ None ↦ other | Some named ↦ cond (start_fits && limits_fit) (Good named read) Unformatted ]) Unformatted ≡ Good format shape
-good_when sound start_fits limits_fit found format read shape other is_sound is_found is_start is_limits same =
-    rw (is_sound, is_found, is_start, is_limits, same) refl
+good_when : (sound start_fits limits_fit : Bool) (sizes_fit : Format → Bool) (found : Option Format) (format : Format) (read shape : Shape) (other : Head) → sound ≡ true → found ≡ Some format → start_fits ≡ true → limits_fit ≡ true → sizes_fit format ≡ true → read ≡ shape
+    → cond sound (elim found [ None ↦ other | Some named ↦ cond (start_fits && limits_fit && sizes_fit named) (Good named read) Unformatted ]) Unformatted ≡ Good format shape
+good_when sound start_fits limits_fit sizes_fit found format read shape other is_sound is_found is_start is_limits is_sizes same =
+    rw (is_sound, is_found, is_start, is_limits, is_sizes, same) refl
 
 format-found : (format : Format) → format_of (format_number format) ≡ Some format
 format-found One = refl
 format-found Two = refl
+format-found Three = refl
 
 -- the header of a store is read as that
-pub head-reads_back : (format : Format) (shape : Shape) → IsWithinLimits shape → read_head (head_text format shape) ≡ Good format shape
+pub head-reads_back : (format : Format) (shape : Shape) → IsWithinLimits shape → has_sizes_of format shape ≡ true → read_head (head_text format shape) ≡ Good format shape
 unfolding read_head
-head-reads_back format shape within =
+head-reads_back format shape within sizes =
     let fields : List ℕ = head_fields format shape in
     let long : length fields ≡ 68 = length-head_fields format shape in
     let bytes : List ℕ = with_checksum (padded_to 508 fields) in
@@ -114,7 +116,7 @@ head-reads_back format shape within =
     (field-padded 4 52 fields (omega arith) (omega arith) ∙ pages-head_fields format shape (omega (arith, within.few_pages)))
     (field-padded 4 56 fields (omega arith) (omega arith) ∙ space-head_fields format shape within.space)
     (field-padded 4 60 fields (omega arith) (omega arith) ∙ log_blocks-head_fields format shape (omega (arith, within.few_blocks)))
-    (field-padded 4 64 fields (omega arith) (omega arith) ∙ slots-head_fields format shape (omega (arith, within.slots))) in
+    (field-padded 4 64 fields (omega arith) (omega arith) ∙ slots-head_fields format shape (omega (arith, (slots_within shape within).few))) in
     ap read_head (sym (head_text-from format shape fields refl))
-    ∙ good_when (fits_checksum bytes) (field 8 8 bytes == START_LSN) (is_within_limits (shape_of bytes)) (format_of (field 4 0 bytes)) format (shape_of bytes) shape (OtherFormat (field 4 0 bytes))
-    sound (ap format_of named ∙ format-found format) (eq-eqb _ _ start) (ap is_within_limits same ∙ is_within_limits_true shape within) same
+    ∙ good_when (fits_checksum bytes) (field 8 8 bytes == START_LSN) (is_within_limits (shape_of bytes)) (λ (f : Format). has_sizes_of f (shape_of bytes)) (format_of (field 4 0 bytes)) format (shape_of bytes) shape (OtherFormat (field 4 0 bytes))
+    sound (ap format_of named ∙ format-found format) (eq-eqb _ _ start) (ap is_within_limits same ∙ is_within_limits_true shape within) (ap (has_sizes_of format) same ∙ sizes) same

@@ -7,6 +7,7 @@ pub mod Checkpoints
 pub mod Checksums
 pub mod Crossings
 pub mod CutStream
+pub mod Formats
 pub mod HeadRound
 pub mod Heads
 pub mod Layouts

@@ -1,19 +1,20 @@
 -- Where things stand on a log device: the file header in block 0, a checkpoint of even number in block 1, one of odd
--- number in block 3, and then the log blocks, side by side in a ring that the log goes round. In format 2 the header
--- stands in block 2 as well, and two tail blocks stand before the ring, which is so much shorter.
+-- number in block 3, and then the log blocks, side by side in a ring that the log goes round. In formats 2 and 3 the
+-- header stands in block 2 as well, and two tail blocks stand before the ring, which is so much shorter.
 use Rattle.std.specs.Prelude.{ℕ, ◌≡◌, ◌≤◌, ◌<◌, ◌+◌, ◌-◌, ◌*◌, ◌/◌, ◌%◌, ◌⊎◌, List, take, drop}
 use Rattle.model_base.specs.declared.shape.Shape.{Shape}
 use Rattle.model_base.specs.declared.limits.TheConstants.{BLOCK_SIZE, MAX_LOG_BLOCKS, MIN_LOG_BLOCKS, START_LSN}
 use Rattle.model_log.specs.Lsn.{block_of}
 use Rattle.model_log.specs.declared.head.Format.{Format}
-use Rattle.model_log.specs.declared.head.Format.TheVariants.{One, Two}
+use Rattle.model_log.specs.declared.head.Format.TheVariants.{One, Two, Three}
 use Rattle.model_log.specs.declared.layout.Layout.{Layout}
 use Rattle.model_log.specs.declared.layout.TheConstants.{HEADER_BLOCKS, TAIL_BLOCKS}
 
--- the layout of a store of this format and shape
+-- the layout of a store of this format and shape: its format is the one of the log
 abbrev pub layout_of : Format → Shape → Layout
 layout_of One shape = record { format = One; first = HEADER_BLOCKS; blocks = shape.log_blocks }
 layout_of Two shape = record { format = Two; first = HEADER_BLOCKS + TAIL_BLOCKS; blocks = shape.log_blocks - TAIL_BLOCKS }
+layout_of Three shape = record { format = Two; first = HEADER_BLOCKS + TAIL_BLOCKS; blocks = shape.log_blocks - TAIL_BLOCKS }
 
 -- that of each run
 abbrev pub run_layout : Shape → Layout

@@ -7,12 +7,13 @@ use Rattle.model_base.specs.{padded_to}
 use Rattle.model_log.specs.Block.{with_checksum}
 use Rattle.model_log.specs.declared.layout.TheConstants.{BLOCK_DATA_END}
 use Rattle.model_log.specs.declared.head.Format.{Format}
-use Rattle.model_log.specs.declared.head.Format.TheVariants.{One, Two}
+use Rattle.model_log.specs.declared.head.Format.TheVariants.{One, Two, Three}
 
 -- the number by which a header names its format
 abbrev pub format_number : Format → ℕ
 format_number One = 1
 format_number Two = 2
+format_number Three = 3
 
 -- who made the store, in 32 bytes
 abbrev pub creator : List ℕ

@@ -27,7 +27,7 @@ pub use Rattle.model_log.specs.Fitting.{fit_of}
 pub use Rattle.model_log.specs.Group.{IsFront, IsGroup, IsGroupText, IsUnfinished, end_mark, group_length, groups_of}
 pub use Rattle.model_log.specs.GroupFront.{BeginsWithGroup, GivesGroup}
 unfoldable pub use Rattle.model_log.specs.Group.{group_text, stream_of}
-pub use Rattle.model_log.specs.Head.{format_of, good_head, head_among, head_of, shape_of}
+pub use Rattle.model_log.specs.Head.{format_of, good_head, has_sizes_of, head_among, head_of, run_format, shape_of}
 unfoldable pub use Rattle.model_log.specs.HeadText.{head_text}
 unfoldable pub use Rattle.model_log.specs.Head.{read_head}
 pub use Rattle.model_log.specs.Lsn.{IsAtDataStart, IsDataLsn, block_number, block_of, data_before, lsn_at, lsn_of, sn_of, start_after, turn_of}

@@ -8,6 +8,8 @@ pub enum Format {
     One,
     /// A block that isn't full goes to one of two tail blocks before the ring.
     Two,
+    /// The log is as in format 2; the store may have more pages, and has more doublewrite slots.
+    Three,
 }
 
 /// What the first block of a log device says, or the block that stands in for it.

@@ -9,7 +9,7 @@ ghost use Rattle.model_log.specs.declared.layout.Layout.{Layout};
 ghost use Rattle.model_log.specs.Lsn.{lsn_of, sn_of, IsDataLsn};
 ghost use Rattle.model_log.specs.Block.{length_of, block_text, is_first, read_block, data_of};
 ghost use Rattle.model_log.specs.Checkpoint.{place_of, checkpoint_text, read_checkpoint};
-ghost use Rattle.model_log.specs.Head.{read_head};
+ghost use Rattle.model_log.specs.Head.{has_sizes_of, read_head};
 ghost use Rattle.model_log.specs.HeadText.{head_text};
 ghost use Rattle.model_log.specs.declared.head.Head.TheVariants.{Good};
 ghost use Rattle.model_log.specs.declared.layout.TheConstants.{BLOCK_DATA};
@@ -42,6 +42,6 @@ pub fn checkpoint_reads_back()
 
 /// The header of a store is read as that.
 pub fn head_reads_back()
-    ensures { (format : Format) (shape : Shape) → IsWithinLimits shape
+    ensures { (format : Format) (shape : Shape) → IsWithinLimits shape → IsTrue (has_sizes_of format shape)
         → read_head (head_text format shape) ≡ Good format shape }
 {}

@@ -3,7 +3,7 @@ use Rattle.std.proofs.Common.{◌≡◌, ◌≤◌, ◌⊎◌, ℕ, inl, List, l
 use Rattle.model_device.specs.{sector}
 use Rattle.model_base.specs.declared.shape.Shape.{Shape}
 use Rattle.model_log.specs.declared.head.Format.{Format}
-use Rattle.model_log.specs.declared.head.Format.TheVariants.{One, Two}
+use Rattle.model_log.specs.declared.head.Format.TheVariants.{One, Two, Three}
 use Rattle.model_log.specs.declared.layout.Layout.{Layout}
 use Rattle.model_log.specs.{header_block, layout_of, log_block, lsn_at, sector_of}
 use Rattle.model_store.specs.{AreFoundIn, AreInPlace, IsOrderly, IsReading, IsScan, read_full, read_tail, taken, taken_from}
@@ -20,6 +20,7 @@ use Rattle.model_parts.proofs.Reread.{again-reads, same-newest}
 first-from : (format : Format) (shape : Shape) → 4 ≤ (layout_of format shape).first
 first-from One shape = omega arith
 first-from Two shape = omega arith
+first-from Three shape = omega arith
 
 block-kept : (format : Format) (shape : Shape) (old new : List ℕ) (b : ℕ) → KeepsHead old new → log_block (layout_of format shape) b new ≡ log_block (layout_of format shape) b old
 block-kept format shape old new b keeps =

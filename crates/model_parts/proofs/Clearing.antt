@@ -1,11 +1,11 @@
--- What clearing does to the sectors of a log device, in either format: which are as they were, and which are gone.
+-- What clearing does to the sectors of a log device, in each format: which are as they were, and which are gone.
 use Rattle.std.proofs.Common.{◌≡◌, ◌≢◌, ◌≤◌, ◌<◌, ◌+◌, ◌*◌, ◌/◌, ◌%◌, ◌-◌, ◌⊎◌, ℕ, zero, suc, inl, inr, List, length, take, drop, Option, Some, None, refl, sym, ap, subst, ◌∙◌, ⊎_elim, arith}
 use Rattle.std.proofs.lemmas.Bool.{cases_lt}
 use Rattle.model_base.specs.declared.shape.Shape.{Shape}
 use Rattle.model_base.specs.declared.limits.TheConstants.{START_LSN}
 use Rattle.model_log.specs.{block_of, fits_checksum, IsInRound, IsLayout, IsTailPlace, layout_of, log_block, lsn_at, place_in, ring_start, round_of, sector_of}
 use Rattle.model_log.specs.declared.head.Format.{Format}
-use Rattle.model_log.specs.declared.head.Format.TheVariants.{One, Two}
+use Rattle.model_log.specs.declared.head.Format.TheVariants.{One, Two, Three}
 use Rattle.model_log.specs.declared.layout.Layout.{Layout}
 use Rattle.model_log.proofs.Places.{one-place_each, place-from, sector-place}
 use Rattle.model_device.specs.{sector}
@@ -35,15 +35,16 @@ one-sector layout ckpt b c started b_in c_in same =
 pub at-round : (layout : Layout) (ckpt i : ℕ) → ckpt % 512 ≡ 0 → i < layout.blocks → IsInRound layout ckpt (lsn_at ckpt i)
 at-round layout ckpt i aligned below = record { aligned = omega arith; from = omega arith; below = omega arith }
 
--- in format 2 the ring stands after the tail blocks
-pub first-of : (format : Format) (shape : Shape) → (layout_of format shape).format ≡ Two → (layout_of format shape).first ≡ 6
-first-of One shape is = absurd cc
-first-of Two shape is = refl
+-- in formats 2 and 3 the ring stands after the tail blocks
+pub first-of : (format : Format) (shape : Shape) → (layout_of format shape).format ≢ One → (layout_of format shape).first ≡ 6
+first-of One shape other = absurd (other refl)
+first-of Two shape other = refl
+first-of Three shape other = refl
 
 -- a log that is read from the checkpoint on, and where the run starts after it
 pub record IsLog (layout : Layout) (ckpt start : ℕ) : Type 0 where
   pub is_layout : IsLayout layout
-  pub first : layout.format ≡ Two → layout.first ≡ 6
+  pub first : layout.format ≢ One → layout.first ≡ 6
   pub aligned : ckpt % 512 ≡ 0
   pub started : START_LSN ≤ ckpt
   pub place : start % 512 ≡ 12

@@ -10,7 +10,7 @@ use Rattle.model_base.specs.declared.shape.Shape.{Shape}
 use Rattle.model_base.specs.declared.limits.TheConstants.{BLOCK_SIZE, FIRST_DATA_LSN, MIN_LOG_BLOCKS, START_LSN}
 use Rattle.model_device.specs.{sector, settled}
 use Rattle.model_device.specs.Disk.{Disk}
-use Rattle.model_log.specs.{checkpoint_text, fits_checksum, head_of, head_text, IsLayout, log_block, log_device_length, newer, newest_checkpoint, place_in, read_block, read_checkpoint, read_head, ring_start, round_of, run_layout, sector_of}
+use Rattle.model_log.specs.{checkpoint_text, fits_checksum, head_of, head_text, IsLayout, log_block, log_device_length, newer, newest_checkpoint, place_in, read_block, read_checkpoint, read_head, ring_start, round_of, run_layout, sector_of, run_format}
 use Rattle.model_log.specs.declared.head.Format.TheVariants.{Two}
 use Rattle.model_log.specs.declared.head.Head.{Head}
 use Rattle.model_log.specs.declared.head.Head.TheVariants.{Good, Unformatted}
@@ -20,9 +20,10 @@ use Rattle.model_log.proofs.CheckpointRound.{checkpoint-reads_back}
 use Rattle.model_log.proofs.HeadRound.{head-reads_back}
 use Rattle.model_log.proofs.Layouts.{has-blocks, is_layout_of}
 use Rattle.model_log.proofs.Places.{HasBlocks, place-from, place-within, sector-place}
+use Rattle.model_log.proofs.Formats.{of_run, run_format-sizes}
 use Rattle.model_page.specs.{blank_page, copy_lsn, copy_lsn_by, data_device_length, IsInPlace, page_check, place_lsn_by, stretch_at, user_part}
 use Rattle.model_page.specs.declared.content.Content.{Content}
-use Rattle.model_store.specs.{HasDevices, IsOrderly, IsReading, IsReadPage, IsUnused, Refuses, taken}
+use Rattle.model_store.specs.{HasDevices, IsOrderly, IsReading, IsReadPage, IsUnused, Refuses, taken, IsScan}
 use Rattle.model_store.specs.declared.refusal.Refusal.TheVariants.{NotFormatted}
 use Rattle.model_store.proofs.Sources.{empty-scan}
 use Rattle.model_store.proofs.Taking.{taken-none}
@@ -55,19 +56,19 @@ zeros-refused log_bytes data_bytes long unused =
 -- A log that is formatted but for its second header block. Whatever stands in that one, the first one is read.
 pub record IsBegunLog (shape : Shape) (bytes : List ℕ) : Type 0 where
   pub long : log_device_length shape ≤ length bytes
-  pub first : sector 0 bytes ≡ head_text Two shape
+  pub first : sector 0 bytes ≡ head_text (run_format shape) shape
   pub checkpoint : sector 1 bytes ≡ checkpoint_text 0 START_LSN (run_layout shape)
   pub blocks : (k : ℕ) → 3 ≤ k → 512 * k < log_device_length shape → sector k bytes ≡ zero_block
 
 pub formatted-begun : (shape : Shape) (bytes : List ℕ) → IsFormattedLog shape bytes → IsBegunLog shape bytes
 formatted-begun shape bytes is = record { long = is.long; first = is.heads 0 (inl refl); checkpoint = is.checkpoint; blocks = is.blocks }
 
-unformatted-good : (shape : Shape) (head : Head) → head ≡ Unformatted → head ≡ Good Two shape → ⊥
-unformatted-good shape head none good = let both : Unformatted ≡ Good Two shape = sym none ∙ good in absurd cc
+unformatted-good : (shape : Shape) (head : Head) → head ≡ Unformatted → head ≡ Good (run_format shape) shape → ⊥
+unformatted-good shape head none good = let both : Unformatted ≡ Good (run_format shape) shape = sym none ∙ good in absurd cc
 
-formatted-head : (shape : Shape) (log : List ℕ) → IsWithinLimits shape → IsBegunLog shape log → head_of log ≡ Good Two shape
+formatted-head : (shape : Shape) (log : List ℕ) → IsWithinLimits shape → IsBegunLog shape log → head_of log ≡ Good (run_format shape) shape
 formatted-head shape log limits is =
-    let first : read_head (sector 0 log) ≡ Good Two shape = ap read_head is.first ∙ head-reads_back Two shape limits in
+    let first : read_head (sector 0 log) ≡ Good (run_format shape) shape = ap read_head is.first ∙ head-reads_back (run_format shape) shape limits (run_format-sizes shape limits) in
     ⊎_elim (λ fits. ap (λ t. cond t (read_head (sector 0 log)) (read_head (sector 2 log))) fits ∙ first)
     (λ broken. absurd (unformatted-good shape (read_head (sector 0 log)) (unsealed-head (sector 0 log) broken) first)) (cases_Bool (fits_checksum (sector 0 log)))
 
@@ -175,7 +176,7 @@ slice_get-replicate (suc n) (suc p) x y e =
 -- SO BOTH ARE READ.
 
 formatted-devices : (shape : Shape) (log_bytes data_bytes : List ℕ) → IsWithinLimits shape → IsBegunLog shape log_bytes → IsFormattedData shape data_bytes
-    → HasDevices log_bytes data_bytes Two shape
+    → HasDevices log_bytes data_bytes (run_format shape) shape
 formatted-devices shape log_bytes data_bytes limits log pages = record {
   head = record { long = omega (arith, log.long); head = formatted-head shape log_bytes limits log };
   log_long = log.long;
@@ -193,8 +194,9 @@ formatted-read : (shape : Shape) (log_bytes data_bytes : List ℕ) → IsWithinL
 formatted-read shape log_bytes data_bytes limits log pages = record {
   scan = record {
     devices = formatted-devices shape log_bytes data_bytes limits log pages;
-    checkpoint = first-checkpoint shape log_bytes limits log;
-    scan = empty-scan shape (run_layout shape).blocks (taken (run_layout shape) log_bytes) START_LSN (none-taken shape log_bytes limits log);
+    checkpoint = of_run (λ (l : Layout). newest_checkpoint l log_bytes ≡ Some (0, START_LSN)) shape (first-checkpoint shape log_bytes limits log);
+    scan = of_run (λ (l : Layout). IsScan shape l.blocks (taken l log_bytes) START_LSN [] [] FIRST_DATA_LSN) shape
+        (empty-scan shape (run_layout shape).blocks (taken (run_layout shape) log_bytes) START_LSN (none-taken shape log_bytes limits log));
   };
   count = length-replicate shape.pages (blank_page shape);
   each = λ p page at. formatted-page shape data_bytes p page limits pages at;

@@ -3,20 +3,21 @@ use Rattle.std.proofs.Common.{◌≡◌, ◌≢◌, ◌≤◌, ◌<◌, ◌+◌,
 use Rattle.std.specs.Prelude.{nat_lt}
 use Rattle.std.proofs.lemmas.Bool.{cases_Bool}
 use Rattle.std.proofs.lemmas.Bool.Decides.{nat_tests}
-use Rattle.model_base.specs.declared.shape.Shape.{Shape}
 use Rattle.model_base.specs.{field}
 use Rattle.model_device.specs.{sector, settled}
 use Rattle.model_log.specs.declared.head.Format.{Format}
-use Rattle.model_log.specs.declared.head.Format.TheVariants.{One, Two}
+use Rattle.model_log.specs.declared.head.Format.TheVariants.{One, Two, Three}
 use Rattle.model_log.specs.declared.head.Head.{Head}
 use Rattle.model_log.specs.declared.head.Head.TheVariants.{Good}
 use Rattle.model_log.specs.declared.layout.Layout.{Layout}
-use Rattle.model_log.specs.{checkpoint_text, fits_checksum, head_of, is_checkpoint, IsInRound, layout_of, log_block, lsn_at, newer, newest_checkpoint, place_of, read_checkpoint, read_head, sector_of}
+use Rattle.model_log.specs.{checkpoint_text, fits_checksum, head_of, is_checkpoint, IsInRound, log_block, lsn_at, newer, newest_checkpoint, place_of, read_checkpoint, read_head, sector_of, header_block, run_layout}
 use Rattle.model_log.proofs.CheckpointRound.{checkpoint-reads_back}
+use Rattle.model_log.proofs.Formats.{format-of_run, other-layout, other-tails}
 use Rattle.model_store.specs.{AreFoundIn, IsOrderly, IsReading, read_full, read_tail, taken}
 use Rattle.model_store.specs.Reading.{Reading}
 use Rattle.model_store.specs.declared.tail.Tail.{Tail}
 use Rattle.model_store.proofs.Taking.{taken-same, unread-full}
+use Rattle.model_store.proofs.Heads.{head-sizes}
 use Rattle.model_parts.specs.Changes.{IsPut, IsPutting, IsUnsealed}
 use Rattle.model_parts.specs.Cleared.{IsCleared}
 use Rattle.model_parts.specs.Held.{IsHeadPlace, other_place}
@@ -118,9 +119,7 @@ newest-put layout old new number ckpt lsn newest others own =
 pub some-taken : (format : Format) → 1 ≤ numbers_taken format
 some-taken One = omega arith
 some-taken Two = omega arith
-
-is-two : (format : Format) (shape : Shape) → format ≡ Two → (layout_of format shape).format ≡ Two
-is-two format shape is = subst (λ (f : Format). (layout_of f shape).format ≡ Two) (sym is) refl
+some-taken Three = omega arith
 
 -- THE CLEARED LOG.
 
@@ -238,7 +237,7 @@ marked-next opened log_bytes data_bytes old_log new_log tail orderly found clear
     (cleared-none opened log_bytes data_bytes old_log tail orderly.reads found cleared) put.others put.same_length put.at
 
 pub marked-fresh : (opened : Reading) (log_bytes data_bytes old_log new_log : List ℕ) (tail : Option Tail) → IsOrderly log_bytes data_bytes opened
-    → AreFoundIn (found_layout opened) log_bytes opened.ckpt opened.views tail → sector 2 log_bytes ≡ sector 0 log_bytes → opened.format ≡ Two
+    → AreFoundIn (found_layout opened) log_bytes opened.ckpt opened.views tail → sector 2 log_bytes ≡ sector 0 log_bytes → opened.format ≢ One
     → IsCleared (found_layout opened) opened.ckpt (start_of opened) tail log_bytes old_log
     → IsPut (place_of (opened.number + 1)) (checkpoint_text (opened.number + 1) (start_block opened) (found_layout opened)) old_log new_log
     → IsFresh opened.shape (start_of opened) (opened.number + 1) (settled new_log)
@@ -249,6 +248,8 @@ marked-fresh opened log_bytes data_bytes old_log new_log tail orderly found alik
     let k : ℕ = place_of (opened.number + 1) in
     let at = checkpoint-place (opened.number + 1) in
     let first : 4 ≤ layout.first = log.log.is_layout.after_header in
+    let run : layout ≡ run_layout opened.shape = other-layout opened.format opened.shape format in
+    let sizes = head-sizes (header_block 0 log_bytes) (header_block 2 log_bytes) opened.format opened.shape orderly.reads.scan.devices.head.head in
     let next : IsNextFound opened opened.format (opened.number + 1) new_log = marked-next opened log_bytes data_bytes old_log new_log tail orderly found cleared put in
     let unread : (b : ℕ) → IsInRound layout (start_block opened) b → read_full b (sector (sector_of layout b) new_log) ≡ None = λ b in_round.
     ap (read_full b) (sym (block-sector layout b new_log) ∙ put-block layout k b old_log new_log (omega (arith, at.1)) put.others)
@@ -257,12 +258,12 @@ marked-fresh opened log_bytes data_bytes old_log new_log tail orderly found alik
     (gone-from opened.format opened.shape layout.blocks opened.ckpt (start_of opened) opened.views opened.wholes opened.end tail log_bytes old_log log.log is log.among orderly.reads.scan.scan found cleared) b in_round) in
     record {
       long = next.long;
-      heads = λ j place. marked-heads opened log_bytes data_bytes old_log new_log tail orderly.reads found alike cleared put.others j place ∙ ap (λ (f : Format). Good f opened.shape) format;
+      heads = λ j place. marked-heads opened log_bytes data_bytes old_log new_log tail orderly.reads found alike cleared put.others j place ∙ ap (λ (f : Format). Good f opened.shape) (format-of_run opened.format opened.shape sizes format);
       nothing_pending = refl;
-      newest = subst (λ (f : Format). newest_checkpoint (layout_of f opened.shape) new_log ≡ Some (opened.number + 1, start_block opened)) format next.newest;
-      unread = subst (λ (f : Format). (b : ℕ) → IsInRound (layout_of f opened.shape) (start_block opened) b → read_full b (sector (sector_of (layout_of f opened.shape) b) new_log) ≡ None) format unread;
+      newest = subst (λ (l : Layout). newest_checkpoint l new_log ≡ Some (opened.number + 1, start_block opened)) run next.newest;
+      unread = subst (λ (l : Layout). (b : ℕ) → IsInRound l (start_block opened) b → read_full b (sector (sector_of l b) new_log) ≡ None) run unread;
       no_tail = λ j place b aligned from. (
           let four : 4 ≤ j = ⊎_elim (λ e. omega arith) (λ o. omega arith) place in
           ap (read_tail b) (put.others j (λ same. omega (arith, at.1)))
-          ∙ tail-gone layout opened.ckpt (start_of opened) j b opened.views tail log_bytes old_log (is-two opened.format opened.shape format) log.log is found cleared place aligned from);
+          ∙ tail-gone layout opened.ckpt (start_of opened) j b opened.views tail log_bytes old_log (other-tails opened.format opened.shape format) log.log is found cleared place aligned from);
     }

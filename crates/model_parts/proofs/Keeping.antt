@@ -1,11 +1,13 @@
 -- What opening leaves on the two devices, step by step, is read with the opened pages.
-use Rattle.std.proofs.Common.{◌≡◌, ◌%◌, ℕ, ◌+◌, inl, inr, false, List, [], refl, sym, ap, subst, ◌∙◌, Option, arith}
+use Rattle.std.proofs.Common.{◌≡◌, ◌%◌, ℕ, ◌+◌, inl, inr, false, List, [], refl, sym, ap, subst, ◌∙◌, Option, arith, Some, None}
 use Rattle.model_device.specs.{IsImage, sector, settled}
 use Rattle.model_device.specs.Disk.{Disk}
 use Rattle.model_device.proofs.Images.{settled_images}
-use Rattle.model_log.specs.{checkpoint_text, IsInRound, place_of, run_layout}
-use Rattle.model_log.specs.declared.head.Format.TheVariants.{One, Two}
-use Rattle.model_store.specs.{AreFoundIn, IsFair, IsFairLog, IsOrderly, IsReading, read_full}
+use Rattle.model_log.specs.{checkpoint_text, IsInRound, place_of, run_layout, run_format, newest_checkpoint}
+use Rattle.model_log.specs.declared.head.Format.TheVariants.{One}
+use Rattle.model_log.proofs.Formats.{of_run}
+use Rattle.model_log.specs.declared.layout.Layout.{Layout}
+use Rattle.model_store.specs.{AreFoundIn, IsFair, IsFairLog, IsOrderly, IsReading, read_full, taken}
 use Rattle.model_store.specs.Reading.{Reading}
 use Rattle.model_store.specs.declared.tail.Tail.{Tail}
 use Rattle.model_store.proofs.Taking.{taken-none_two}
@@ -68,7 +70,7 @@ migrating-keeps opened log_bytes data_bytes old_log marked tail log_disk data_di
 -- the log is read from the last checkpoint of opening on
 fresh-next : (opened : Reading) (log_bytes data_bytes : List ℕ) (disk : Disk) → IsReading log_bytes data_bytes opened
     → IsFresh opened.shape (start_of opened) (opened.number + numbers_taken opened.format) disk
-    → IsNextFound opened Two (opened.number + numbers_taken opened.format) disk.reads
+    → IsNextFound opened (run_format opened.shape) (opened.number + numbers_taken opened.format) disk.reads
 fresh-next opened log_bytes data_bytes disk reads fresh =
     let log : IsLogRead log_bytes opened = log-read log_bytes data_bytes opened reads in
     let lsn : ℕ = start_block opened in
@@ -76,12 +78,12 @@ fresh-next opened log_bytes data_bytes disk reads fresh =
     let here : IsInRound (run_layout opened.shape) lsn lsn = record { aligned = aligned; from = omega arith; below = omega (arith, log.limits.many_blocks) } in
     record {
       long = fresh.long;
-      head = head-first disk.reads Two opened.shape (fresh.heads 0 (inl refl));
+      head = head-first disk.reads (run_format opened.shape) opened.shape (fresh.heads 0 (inl refl));
       later = (let some = some-taken opened.format in omega arith);
       up_to = omega arith;
-      newest = fresh.newest;
-      none = taken-none_two (run_layout opened.shape) disk.reads lsn refl (ap (read_full lsn) (block-sector (run_layout opened.shape) lsn disk.reads) ∙ fresh.unread lsn here)
-          (fresh.no_tail 4 (inl refl) lsn aligned (omega arith)) (fresh.no_tail 5 (inr refl) lsn aligned (omega arith));
+      newest = of_run (λ (l : Layout). newest_checkpoint l disk.reads ≡ Some (opened.number + numbers_taken opened.format, lsn)) opened.shape fresh.newest;
+      none = of_run (λ (l : Layout). taken l disk.reads lsn ≡ None) opened.shape (taken-none_two (run_layout opened.shape) disk.reads lsn refl (ap (read_full lsn) (block-sector (run_layout opened.shape) lsn disk.reads) ∙ fresh.unread lsn here)
+          (fresh.no_tail 4 (inl refl) lsn aligned (omega arith)) (fresh.no_tail 5 (inr refl) lsn aligned (omega arith)));
     }
 
 fresh-image : (disk : Disk) (image : List ℕ) → disk ≡ settled disk.reads → IsFairLog disk image → image ≡ disk.reads
@@ -92,7 +94,7 @@ pub ready-keeps : (opened : Reading) (log_bytes data_bytes : List ℕ) (log_disk
 ready-keeps opened log_bytes data_bytes log_disk data_disk orderly ready log data_image is fair =
     let log_is : log ≡ log_disk.reads = fresh-image log_disk log ready.log.nothing_pending is in
     subst (λ (bytes : List ℕ). ReadsOpened opened bytes data_image) (sym log_is)
-    (next-reads opened Two (opened.number + numbers_taken opened.format) log_bytes data_bytes log_disk.reads data_image orderly.reads
+    (next-reads opened (run_format opened.shape) (opened.number + numbers_taken opened.format) log_bytes data_bytes log_disk.reads data_image orderly.reads
     (fresh-next opened log_bytes data_bytes log_disk orderly.reads ready.log) (stored-image opened data_disk data_image orderly.reads.count ready.pages fair))
 
 -- BEFORE THE FIRST STEP.

@@ -1,4 +1,4 @@
--- A log of which blocks are being cleared away gives less, in either format.
+-- A log of which blocks are being cleared away gives less, in each format.
 use Rattle.std.proofs.Common.{◌≡◌, ◌≤◌, ◌<◌, ◌%◌, ℕ, inl, inr, Bool, true, false, cond, List, length, Option, Some, None, refl, sym, ap, subst, ◌∙◌, ⊎_elim, arith}
 use Rattle.std.specs.Prelude.{nat_lt}
 use Rattle.std.specs.Option.{option_map}
@@ -8,8 +8,9 @@ use Rattle.model_log.specs.declared.group.Whole.{Whole}
 use Rattle.model_log.specs.{block_of, header_block, is_full, IsInRound, layout_of, log_block, lsn_at, read_block, sector_of}
 use Rattle.model_log.specs.declared.block.BlockView.{BlockView}
 use Rattle.model_log.specs.declared.head.Format.{Format}
-use Rattle.model_log.specs.declared.head.Format.TheVariants.{One, Two}
+use Rattle.model_log.specs.declared.head.Format.TheVariants.{One, Two, Three}
 use Rattle.model_log.specs.declared.layout.Layout.{Layout}
+use Rattle.model_log.proofs.Formats.{two-not_one}
 use Rattle.model_device.specs.{sector}
 use Rattle.model_store.specs.{AreFoundIn, AreInPlace, IsInTail, IsScan, read_full, read_tail, Taken, taken, taken_among, taken_from, view_at}
 use Rattle.model_store.specs.declared.tail.Tail.{Tail}
@@ -22,11 +23,11 @@ use Rattle.model_parts.proofs.Dropping.{Drops}
 use Rattle.model_parts.proofs.Stages.{among-full, among-tails, blocks-drop, blocks-drop_five, blocks-drop_four, BlocksGo, EndsInPlace, EndsInTail, IsInPlace, IsTaken, Looked, MayGo, source_of, TailBlocksGo, tails-drop, tails-drop_five, tails-drop_four, TailsGo}
 use Rattle.model_parts.proofs.Unread.{unsealed-unread}
 
--- the layout of format 2
+-- the layout of formats 2 and 3
 abbrev two : Shape → Layout
 two shape = layout_of Two shape
 
--- what the scan of a log of format 2 looks at
+-- what the scan of such a log looks at
 abbrev looked : Shape → List ℕ → Looked
 looked shape image = record {
   place = λ b. log_block (two shape) b image;
@@ -99,17 +100,23 @@ ends-in_tail shape image ckpt views tail which is same = record {
 
 -- THE BLOCK THAT WAS TAKEN FROM A TAIL BLOCK is in the round.
 
-pub tail-in : (format : Format) (shape most_shape : Shape) (image : List ℕ) (ckpt : ℕ) (views : List BlockView) (wholes : List Whole) (end : ℕ) (tail : Option Tail) → ckpt % 512 ≡ 0
-    → IsScan most_shape (layout_of format shape).blocks (taken (layout_of format shape) image) ckpt views wholes end → AreFoundIn (layout_of format shape) image ckpt views tail
-    → IsTailIn (layout_of format shape) ckpt tail
-tail-in format shape most_shape image ckpt views wholes end None aligned scan found = tt
-tail-in One shape most_shape image ckpt views wholes end (Some tail) aligned scan found = let other : One ≡ Two = found.format in absurd cc
-tail-in Two shape most_shape image ckpt views wholes end (Some tail) aligned scan found = record {
+tail-in_two : (shape most_shape : Shape) (image : List ℕ) (ckpt : ℕ) (views : List BlockView) (wholes : List Whole) (end : ℕ) (tail : Tail) → ckpt % 512 ≡ 0
+    → IsScan most_shape (two shape).blocks (taken (two shape) image) ckpt views wholes end → AreFoundIn (two shape) image ckpt views (Some tail)
+    → IsTailIn (two shape) ckpt (Some tail)
+tail-in_two shape most_shape image ckpt views wholes end tail aligned scan found = record {
   place = found.place;
   before = refl;
   in_round = subst (λ (b : ℕ). IsInRound (two shape) ckpt b) (sym found.lsn_is)
       (at-round (two shape) ckpt found.last aligned (let few : length views ≤ (two shape).blocks = scan.blocks.few in omega (arith, found.is_last)));
 }
+
+pub tail-in : (format : Format) (shape most_shape : Shape) (image : List ℕ) (ckpt : ℕ) (views : List BlockView) (wholes : List Whole) (end : ℕ) (tail : Option Tail) → ckpt % 512 ≡ 0
+    → IsScan most_shape (layout_of format shape).blocks (taken (layout_of format shape) image) ckpt views wholes end → AreFoundIn (layout_of format shape) image ckpt views tail
+    → IsTailIn (layout_of format shape) ckpt tail
+tail-in format shape most_shape image ckpt views wholes end None aligned scan found = tt
+tail-in One shape most_shape image ckpt views wholes end (Some tail) aligned scan found = absurd (found.format refl)
+tail-in Two shape most_shape image ckpt views wholes end (Some tail) aligned scan found = tail-in_two shape most_shape image ckpt views wholes end tail aligned scan found
+tail-in Three shape most_shape image ckpt views wholes end (Some tail) aligned scan found = tail-in_two shape most_shape image ckpt views wholes end tail aligned scan found
 
 -- IN FORMAT 1 the blocks stand in their places.
 
@@ -119,7 +126,7 @@ one-drops shape n ckpt start old new log clearing =
     let layout : Layout = layout_of One shape in
     let Stale : ℕ → Type 0 = IsStaleTail layout None in
     let Past : ℕ → Type 0 = IsPastKept layout ckpt start None in
-    let none : (k : ℕ) → Stale k → ⊥ = λ k stale. (let other : One ≡ Two = stale.format in absurd cc) in
+    let none : (k : ℕ) → Stale k → ⊥ = λ k stale. absurd (stale.format refl) in
     let place : (b : ℕ) → log_block layout b new ≡ sector (sector_of layout b) new = λ b. block-sector layout b new in
     let may : (b : ℕ) → MayGo (log_block layout b old) (log_block layout b new) = λ b.
     subst (λ (x : List ℕ). MayGo x (log_block layout b new)) (sym (block-sector layout b old))
@@ -184,8 +191,8 @@ blocks-go : (shape : Shape) (ckpt n start : ℕ) (old middle new : List ℕ) →
 blocks-go shape ckpt n start old middle new few log first then = record {
   kept = λ i below before. place-kept shape ckpt start (lsn_at ckpt i) None old middle new log tt first then (at-round (two shape) ckpt i log.aligned (omega arith)) before tt;
   place = λ i within. place-goes_on shape ckpt start (lsn_at ckpt i) None old middle new log first then;
-  four = stale-gone shape ckpt start 4 None old middle new first then (record { format = refl; place = inl refl; not_taken = λ none. none });
-  five = stale-gone shape ckpt start 5 None old middle new first then (record { format = refl; place = inr refl; not_taken = λ none. none });
+  four = stale-gone shape ckpt start 4 None old middle new first then (record { format = two-not_one; place = inl refl; not_taken = λ none. none });
+  five = stale-gone shape ckpt start 5 None old middle new first then (record { format = two-not_one; place = inr refl; not_taken = λ none. none });
 }
 
 lsn-other : (ckpt m i : ℕ) (tail : Tail) → tail.lsn ≡ lsn_at ckpt m → i < m → lsn_at ckpt i ≡ tail.lsn → ⊥
@@ -218,7 +225,7 @@ two-drops : (shape most_shape : Shape) (ckpt start : ℕ) (views : List BlockVie
     → Drops (length views) (two shape).blocks ckpt start (taken (two shape) old) (taken (two shape) new)
 two-drops shape most_shape ckpt start views wholes end None old new log scan found clearing =
     let n : ℕ = length views in
-    let ends : EndsInPlace (looked shape old) ckpt n (two shape).blocks = ends-in_place shape most_shape old ckpt views wholes end scan (found refl) in
+    let ends : EndsInPlace (looked shape old) ckpt n (two shape).blocks = ends-in_place shape most_shape old ckpt views wholes end scan (found two-not_one) in
     ⊎_elim (λ erasing. tails-drop ckpt n (two shape).blocks start (looked shape old) (looked shape new) ends (tails-go shape ckpt start None old new log erasing))
     (λ later. blocks-drop ckpt n (two shape).blocks start (looked shape old) (looked shape new) ends
     (blocks-go shape ckpt n start old later.0 new scan.blocks.few log later.1 later.2)) clearing
@@ -233,13 +240,13 @@ two-drops shape most_shape ckpt start views wholes end (Some tail) old new log s
     (tails-go shape ckpt start (Some tail) old new log erasing) (taken-stays shape tail 4 old new four erasing))
     (λ later. blocks-drop_four ckpt n found.last most start (looked shape old) (looked shape new) log.aligned few (ends-in_tail shape old ckpt views tail 4 found four)
     (tail-goes shape ckpt found.last start 4 5 tail old later.0 new few log is four found.lsn_is
-    (record { format = refl; place = inr refl; not_taken = λ five. omega arith }) later.1 later.2)) clearing)
+    (record { format = two-not_one; place = inr refl; not_taken = λ five. omega arith }) later.1 later.2)) clearing)
     (λ five. ⊎_elim
     (λ erasing. tails-drop_five ckpt n found.last most start (looked shape old) (looked shape new) log.aligned (ends-in_tail shape old ckpt views tail 5 found five)
     (tails-go shape ckpt start (Some tail) old new log erasing) (taken-stays shape tail 5 old new five erasing))
     (λ later. blocks-drop_five ckpt n found.last most start (looked shape old) (looked shape new) log.aligned few (ends-in_tail shape old ckpt views tail 5 found five)
     (tail-goes shape ckpt found.last start 5 4 tail old later.0 new few log is five found.lsn_is
-    (record { format = refl; place = inl refl; not_taken = λ four. omega arith }) later.1 later.2)) clearing)
+    (record { format = two-not_one; place = inl refl; not_taken = λ four. omega arith }) later.1 later.2)) clearing)
     found.place
 
 pub clearing-drops : (format : Format) (shape most_shape : Shape) (ckpt start : ℕ) (views : List BlockView) (wholes : List Whole) (end : ℕ) (tail : Option Tail) (old new : List ℕ)
@@ -247,6 +254,8 @@ pub clearing-drops : (format : Format) (shape most_shape : Shape) (ckpt start : 
     → AreFoundIn (layout_of format shape) old ckpt views tail → IsClearing (layout_of format shape) ckpt start tail old new
     → Drops (length views) (layout_of format shape).blocks ckpt start (taken (layout_of format shape) old) (taken (layout_of format shape) new)
 clearing-drops One shape most_shape ckpt start views wholes end None old new log scan found clearing = one-drops shape (length views) ckpt start old new log clearing
-clearing-drops One shape most_shape ckpt start views wholes end (Some tail) old new log scan found clearing = let other : One ≡ Two = found.format in absurd cc
+clearing-drops One shape most_shape ckpt start views wholes end (Some tail) old new log scan found clearing = absurd (found.format refl)
 clearing-drops Two shape most_shape ckpt start views wholes end tail old new log scan found clearing =
+    two-drops shape most_shape ckpt start views wholes end tail old new log scan found clearing
+clearing-drops Three shape most_shape ckpt start views wholes end tail old new log scan found clearing =
     two-drops shape most_shape ckpt start views wholes end tail old new log scan found clearing

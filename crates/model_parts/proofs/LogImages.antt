@@ -13,7 +13,7 @@ use Rattle.model_log.specs.declared.head.Head.{Head}
 use Rattle.model_log.specs.declared.head.Head.TheVariants.{Good}
 use Rattle.model_log.specs.declared.layout.Layout.{Layout}
 use Rattle.model_log.specs.declared.layout.TheConstants.{HEADER_BLOCKS}
-use Rattle.model_log.specs.{fits_checksum, IsAtDataStart, IsBoundary, IsInRound, IsRunOf, log_block, log_device_length, newer, newest_checkpoint, place_of, read_checkpoint, read_head, round_of, run_layout, sector_of, spans_of}
+use Rattle.model_log.specs.{fits_checksum, IsAtDataStart, IsBoundary, IsInRound, IsRunOf, log_block, log_device_length, newer, newest_checkpoint, place_of, read_checkpoint, read_head, round_of, run_layout, sector_of, spans_of, run_format}
 use Rattle.model_log.proofs.Places.{HasBlocks, place-round, place-within, sector-place}
 use Rattle.model_log.proofs.Runs.{boundary-reached, data-start}
 use Rattle.model_store.specs.{HasHead, if_full, IsFairLog, read_tail, taken, taken_among}
@@ -174,7 +174,7 @@ below-no b limit less = grind (arith, nat_tests)
 pub record ImageHolds (shape : Shape) (s : ℕ) (wholes : List Whole) (marks : LogMarks) (kept : ℕ) (image : List ℕ) : Type 0 where
   pub number : ℕ
   pub ckpt : ℕ
-  pub head : HasHead image Two shape
+  pub head : HasHead image (run_format shape) shape
   pub newest : newest_checkpoint (run_layout shape) image ≡ Some (number, ckpt)
   pub aligned : ckpt % 512 ≡ 0
   pub from : marks.ckpt ≤ ckpt
@@ -214,7 +214,7 @@ image-holds shape s wholes marks tails disk image blocks run small holds fair =
       ckpt = newest.ckpt;
       head = record {
         long = omega (arith, fair.possible.same_length);
-        head = either-head (fits_checksum (sector 0 image)) (read_head (sector 0 image)) (read_head (sector 2 image)) (Good Two shape)
+        head = either-head (fits_checksum (sector 0 image)) (read_head (sector 0 image)) (read_head (sector 2 image)) (Good (run_format shape) shape)
             (holds.heads 0 (inl refl) (sector 0 image) (stand 0 (omega (arith, blocks.some)))) (holds.heads 2 (inr refl) (sector 2 image) (stand 2 (omega (arith, blocks.some))));
       };
       newest = newest.is;

@@ -6,15 +6,16 @@ use Rattle.model_base.specs.declared.limits.TheConstants.{MIN_LOG_BLOCKS}
 use Rattle.model_base.specs.{IsWithinLimits}
 use Rattle.model_device.specs.{sector, settled}
 use Rattle.model_log.specs.declared.head.Format.{Format}
-use Rattle.model_log.specs.declared.head.Format.TheVariants.{One, Two}
+use Rattle.model_log.specs.declared.head.Format.TheVariants.{One, Two, Three}
 use Rattle.model_log.specs.declared.head.Head.{Head}
 use Rattle.model_log.specs.declared.head.Head.TheVariants.{Good, Unformatted}
 use Rattle.model_log.specs.declared.layout.Layout.{Layout}
-use Rattle.model_log.specs.{checkpoint_text, fits_checksum, head_of, head_text, IsLayout, IsTailPlace, layout_of, log_block, log_device_length, newest_checkpoint, place_in, place_of, read_checkpoint, read_head, ring_start, round_of, run_layout, sector_of}
+use Rattle.model_log.specs.{checkpoint_text, fits_checksum, head_of, head_text, IsLayout, IsTailPlace, layout_of, log_block, log_device_length, newest_checkpoint, place_in, place_of, read_checkpoint, read_head, ring_start, round_of, run_layout, sector_of, run_format}
 use Rattle.model_log.proofs.CheckpointRound.{checkpoint-reads_back}
 use Rattle.model_log.proofs.HeadRound.{head-reads_back}
 use Rattle.model_log.proofs.Layouts.{has-blocks, is_layout_of}
 use Rattle.model_log.proofs.Places.{place-within, sector-place}
+use Rattle.model_log.proofs.Formats.{of_run, run_format-sizes}
 use Rattle.model_store.specs.{AreFoundIn, IsOrderly, read_full, read_tail, taken}
 use Rattle.model_store.specs.Reading.{Reading}
 use Rattle.model_store.specs.declared.tail.Tail.{Tail}
@@ -32,11 +33,12 @@ use Rattle.model_parts.proofs.Newest.{at-one, checkpoint-place, IsAt, IsOldOrAt,
 use Rattle.model_parts.proofs.Reread.{has-next, HasNext, IsFoundAgain, IsLogRead, IsNextFound, log-read, next-reads}
 use Rattle.model_parts.proofs.Unread.{unsealed-checkpoint, unsealed-full, unsealed-head, unsealed-tail, unsealed-unread}
 
--- THE LOG BLOCKS, in either format, are those after the header blocks.
+-- THE LOG BLOCKS, in each format, are those after the header blocks.
 
 ring-count : (format : Format) (shape : Shape) → MIN_LOG_BLOCKS ≤ shape.log_blocks → (layout_of format shape).first + (layout_of format shape).blocks ≡ 4 + shape.log_blocks
 ring-count One shape many = omega arith
 ring-count Two shape many = omega arith
+ring-count Three shape many = omega arith
 
 pub log-sector : (format : Format) (shape : Shape) (b : ℕ) → IsWithinLimits shape → IsLogSector shape (sector_of (layout_of format shape) b)
 log-sector format shape b limits =
@@ -174,11 +176,11 @@ before-head opened marked image log format is =
       };
     }
 
--- FROM THEN ON block 2 has the header of format 2, and the log blocks are gone.
+-- FROM THEN ON block 2 has the header of the run's format, and the log blocks are gone.
 
 record IsPastHead (opened : Reading) (image : List ℕ) : Type 0 where
   long : log_device_length opened.shape ≤ length image
-  head : head_of image ≡ Good Two opened.shape
+  head : head_of image ≡ Good (run_format opened.shape) opened.shape
   own : sector (place_of (opened.number + 1)) image ≡ checkpoint_text (opened.number + 1) (start_block opened) (found_layout opened)
   next : sector (place_of opened.number) image ≡ next_text opened
   gone : AreGone opened.shape image
@@ -221,16 +223,16 @@ past-head opened marked image log format is =
     let layout : Layout = run_layout opened.shape in
     let lsn : ℕ = start_block opened in
     record {
-      format = Two;
+      format = run_format opened.shape;
       number = opened.number + 2;
       found = record {
         long = is.long;
         head = is.head;
         later = omega arith;
         up_to = (let two : numbers_taken opened.format ≡ 2 = two-taken opened.format format in omega arith);
-        newest = past-newest opened marked image log is;
-        none = taken-none_two layout image lsn refl (ap (read_full lsn) (block-sector layout lsn image) ∙ gone-full opened.shape lsn image log.limits is.gone)
-            (gone-tail opened.shape 4 lsn image log.limits is.gone (inl refl)) (gone-tail opened.shape 5 lsn image log.limits is.gone (inr refl));
+        newest = of_run (λ (l : Layout). newest_checkpoint l image ≡ Some (opened.number + 2, lsn)) opened.shape (past-newest opened marked image log is);
+        none = of_run (λ (l : Layout). taken l image lsn ≡ None) opened.shape (taken-none_two layout image lsn refl (ap (read_full lsn) (block-sector layout lsn image) ∙ gone-full opened.shape lsn image log.limits is.gone)
+            (gone-tail opened.shape 4 lsn image log.limits is.gone (inl refl)) (gone-tail opened.shape 5 lsn image log.limits is.gone (inr refl)));
       };
     }
 
@@ -348,7 +350,7 @@ migrating-next opened marked image log format head migrating =
     (λ full. inr (inr (subst (λ (j : ℕ). sector j image ≡ text) there full))) more) put.at)))
     (λ later. ⊎_elim
     (λ third.
-    let put : IsPutting 2 (head_text Two opened.shape) third.1 image = third.4 in
+    let put : IsPutting 2 (head_text (run_format opened.shape) opened.shape) third.1 image = third.4 in
     let is : IsStrippedNext opened third.1 = put-next opened third.0 third.1 (stripped opened marked third.0 log third.2) third.3 in
     let now : IsStrippedNext opened image = put-head opened 2 third.1 image (inr refl) is put.same_length put.others in
     let at = checkpoint-place (n + 2) in
@@ -357,14 +359,14 @@ migrating-next opened marked image log format head migrating =
     before (stripped-before opened marked image log format now.stripped own_head (inr (inr now.next))))
     (λ fourth.
     let nearly : IsNearlyMigrated opened.shape (n + 2) (start_block opened) marked fourth.0 = fourth.1 in
-    let put : IsPutting 0 (head_text Two opened.shape) fourth.0 image = fourth.2 in
+    let put : IsPutting 0 (head_text (run_format opened.shape) opened.shape) fourth.0 image = fourth.2 in
     let is : IsStrippedNext opened nearly.marked = put-next opened nearly.erased nearly.marked (stripped opened marked nearly.erased log nearly.is_erased) nearly.is_marked in
     let headed : IsStrippedNext opened fourth.0 = put-head opened 2 nearly.marked fourth.0 (inr refl) is nearly.headed.same_length nearly.headed.others in
     let now : IsStrippedNext opened image = put-head opened 0 fourth.0 image (inl refl) headed put.same_length put.others in
     let at = checkpoint-place (n + 2) in
-    let good : read_head (head_text Two opened.shape) ≡ Good Two opened.shape = head-reads_back Two opened.shape log.limits in
-    let second : read_head (sector 2 image) ≡ Good Two opened.shape = ap read_head (put.others 2 (λ same. omega arith) ∙ nearly.headed.at) ∙ good in
-    let past : head_of image ≡ Good Two opened.shape → IsNextSome opened image = λ head_is. past-head opened marked image log format (record {
+    let good : read_head (head_text (run_format opened.shape) opened.shape) ≡ Good (run_format opened.shape) opened.shape = head-reads_back (run_format opened.shape) opened.shape log.limits (run_format-sizes opened.shape log.limits) in
+    let second : read_head (sector 2 image) ≡ Good (run_format opened.shape) opened.shape = ap read_head (put.others 2 (λ same. omega arith) ∙ nearly.headed.at) ∙ good in
+    let past : head_of image ≡ Good (run_format opened.shape) opened.shape → IsNextSome opened image = λ head_is. past-head opened marked image log format (record {
       long = now.stripped.long;
       head = head_is;
       own = now.stripped.own;
@@ -378,7 +380,7 @@ migrating-next opened marked image log format head migrating =
     before (stripped-before opened marked image log format now.stripped own_head (inr (inr now.next))))
     (λ more. ⊎_elim
     (λ broken. past (ap (λ t. cond t (read_head (sector 0 image)) (read_head (sector 2 image))) broken ∙ second))
-    (λ full. past (head-first image Two opened.shape (ap read_head full ∙ good))) more) put.at) later) rest) migrating
+    (λ full. past (head-first image (run_format opened.shape) opened.shape (ap read_head full ∙ good))) more) put.at) later) rest) migrating
 
 -- AS LAWS.
 
@@ -405,16 +407,16 @@ migrated-fresh opened log_bytes data_bytes old_log marked new_log tail orderly f
     let is : IsStrippedNext opened nearly.marked = put-next opened nearly.erased nearly.marked (stripped opened marked nearly.erased log nearly.is_erased) nearly.is_marked in
     let headed : IsStrippedNext opened migrated.headed = put-head opened 2 nearly.marked migrated.headed (inr refl) is nearly.headed.same_length nearly.headed.others in
     let now : IsStrippedNext opened new_log = put-head opened 0 migrated.headed new_log (inl refl) headed migrated.first.same_length migrated.first.others in
-    let good : read_head (head_text Two opened.shape) ≡ Good Two opened.shape = head-reads_back Two opened.shape log.limits in
-    let zero : read_head (sector 0 new_log) ≡ Good Two opened.shape = ap read_head migrated.first.at ∙ good in
-    let second : read_head (sector 2 new_log) ≡ Good Two opened.shape = ap read_head (migrated.first.others 2 (λ same. omega arith) ∙ nearly.headed.at) ∙ good in
+    let good : read_head (head_text (run_format opened.shape) opened.shape) ≡ Good (run_format opened.shape) opened.shape = head-reads_back (run_format opened.shape) opened.shape log.limits (run_format-sizes opened.shape log.limits) in
+    let zero : read_head (sector 0 new_log) ≡ Good (run_format opened.shape) opened.shape = ap read_head migrated.first.at ∙ good in
+    let second : read_head (sector 2 new_log) ≡ Good (run_format opened.shape) opened.shape = ap read_head (migrated.first.others 2 (λ same. omega arith) ∙ nearly.headed.at) ∙ good in
     record {
       long = now.stripped.long;
       heads = λ j place. ⊎_elim (λ e. ap (λ (i : ℕ). read_head (sector i new_log)) e ∙ zero) (λ o. ap (λ (i : ℕ). read_head (sector i new_log)) o ∙ second) place;
       nothing_pending = refl;
       newest = past-newest opened marked new_log log (record {
         long = now.stripped.long;
-        head = head-first new_log Two opened.shape zero;
+        head = head-first new_log (run_format opened.shape) opened.shape zero;
         own = now.stripped.own;
         next = now.next;
         gone = now.stripped.gone;

@@ -1,5 +1,5 @@
 -- Once a log is cleared, nothing is read of it from where the run starts on.
-use Rattle.std.proofs.Common.{◌≡◌, ◌≤◌, ◌<◌, ◌+◌, ◌-◌, ◌*◌, ◌/◌, ◌%◌, ◌⊎◌, ℕ, inl, inr, Bool, true, false, cond, List, length, take, drop, Option, Some, None, refl, sym, ap, subst, ◌∙◌, ⊎_elim, arith}
+use Rattle.std.proofs.Common.{◌≡◌, ◌≤◌, ◌<◌, ◌+◌, ◌-◌, ◌*◌, ◌/◌, ◌%◌, ◌⊎◌, ℕ, inl, inr, Bool, true, false, cond, List, length, take, drop, Option, Some, None, refl, sym, ap, subst, ◌∙◌, ⊎_elim, arith, ◌≢◌}
 use Rattle.std.specs.Prelude.{nat_lt}
 use Rattle.std.specs.Option.{option_map}
 use Rattle.std.proofs.lemmas.Bool.{cases_lt}
@@ -9,11 +9,12 @@ use Rattle.model_device.specs.{sector}
 use Rattle.model_log.specs.declared.block.BlockView.{BlockView}
 use Rattle.model_log.specs.declared.group.Whole.{Whole}
 use Rattle.model_log.specs.declared.head.Format.{Format}
-use Rattle.model_log.specs.declared.head.Format.TheVariants.{One, Two}
+use Rattle.model_log.specs.declared.head.Format.TheVariants.{One, Two, Three}
 use Rattle.model_log.specs.declared.layout.Layout.{Layout}
 use Rattle.model_log.specs.{block_of, header_block, IsInRound, IsTailPlace, layout_of, log_block, lsn_at, place_in, read_block, round_of, sector_of}
 use Rattle.model_log.proofs.Layouts.{has-blocks}
 use Rattle.model_log.proofs.Places.{HasBlocks, place-round}
+use Rattle.model_log.proofs.Formats.{two-not_one}
 use Rattle.model_store.specs.{AreFoundIn, IsScan, read_tail, Taken, taken, taken_from}
 use Rattle.model_store.specs.declared.tail.Tail.{Tail}
 use Rattle.model_store.proofs.Places.{has_place}
@@ -42,12 +43,20 @@ fits-there One shape most ckpt i views wholes end tail image scan found below ot
     let view = has_place views i below in
     (view.0, one-view (nat_lt b LSN_LIMIT) (log_block (layout_of One shape) b image) (read_block b (log_block (layout_of One shape) b image)) view.0 (scan.blocks.each i view.0 view.1))
 fits-there Two shape most ckpt i views wholes end None image scan found below other =
-    let full = found refl i below in
+    let full = found two-not_one i below in
     (full.0, (from-full (read_block (lsn_at ckpt i) (log_block (layout_of Two shape) (lsn_at ckpt i) image)) full.0 full.1).0)
 fits-there Two shape most ckpt i views wholes end (Some tail) image scan found below other =
     ⊎_elim (λ early.
     let full = found.before i early in
     (full.0, (from-full (read_block (lsn_at ckpt i) (log_block (layout_of Two shape) (lsn_at ckpt i) image)) full.0 full.1).0))
+    (λ late. absurd (other (let same : i ≡ found.last = omega (arith, found.is_last) in ap (lsn_at ckpt) same ∙ sym found.lsn_is))) (cases_lt i found.last)
+fits-there Three shape most ckpt i views wholes end None image scan found below other =
+    let full = found two-not_one i below in
+    (full.0, (from-full (read_block (lsn_at ckpt i) (log_block (layout_of Three shape) (lsn_at ckpt i) image)) full.0 full.1).0)
+fits-there Three shape most ckpt i views wholes end (Some tail) image scan found below other =
+    ⊎_elim (λ early.
+    let full = found.before i early in
+    (full.0, (from-full (read_block (lsn_at ckpt i) (log_block (layout_of Three shape) (lsn_at ckpt i) image)) full.0 full.1).0))
     (λ late. absurd (other (let same : i ≡ found.last = omega (arith, found.is_last) in ap (lsn_at ckpt) same ∙ sym found.lsn_is))) (cases_lt i found.last)
 
 -- WHAT STANDS IN THE RING once the log is cleared: below the start blocks that fit there, or nothing, and from there on
@@ -129,7 +138,7 @@ stale-unread : (layout : Layout) (ckpt start k b : ℕ) (tail : Option Tail) (ol
 stale-unread layout ckpt start k b tail old new log is cleared stale =
     ap (read_tail b) (cleared.then.others k (stale-not_past layout ckpt start k tail log is stale)) ∙ unsealed-tail b (sector k cleared.middle) (cleared.first.gone k stale)
 
-pub tail-gone : (layout : Layout) (ckpt start k b : ℕ) (views : List BlockView) (tail : Option Tail) (old new : List ℕ) → layout.format ≡ Two → IsLog layout ckpt start
+pub tail-gone : (layout : Layout) (ckpt start k b : ℕ) (views : List BlockView) (tail : Option Tail) (old new : List ℕ) → layout.format ≢ One → IsLog layout ckpt start
     → IsTailIn layout ckpt tail → AreFoundIn layout old ckpt views tail → IsCleared layout ckpt start tail old new
     → IsTailPlace k → b % 512 ≡ 0 → start - 12 ≤ b → read_tail b (sector k new) ≡ None
 tail-gone layout ckpt start k b views None old new format log is found cleared place aligned from =
@@ -167,5 +176,12 @@ none-taken Two shape most ckpt start views wholes end tail old new log is among 
     (unread-full (start - 12) (log_block (layout_of Two shape) (start - 12) new)
     (round-gone (layout_of Two shape) ckpt start new log (gone-from Two shape most ckpt start views wholes end tail old new log is among scan found cleared) (start - 12)
     (record { aligned = omega (arith, log.place); from = omega arith; below = omega (arith, log.is_layout.many_blocks) })))
-    (tail-gone (layout_of Two shape) ckpt start 4 (start - 12) views tail old new refl log is found cleared (inl refl) (omega (arith, log.place)) (omega arith))
-    (tail-gone (layout_of Two shape) ckpt start 5 (start - 12) views tail old new refl log is found cleared (inr refl) (omega (arith, log.place)) (omega arith))
+    (tail-gone (layout_of Two shape) ckpt start 4 (start - 12) views tail old new two-not_one log is found cleared (inl refl) (omega (arith, log.place)) (omega arith))
+    (tail-gone (layout_of Two shape) ckpt start 5 (start - 12) views tail old new two-not_one log is found cleared (inr refl) (omega (arith, log.place)) (omega arith))
+none-taken Three shape most ckpt start views wholes end tail old new log is among scan found cleared =
+    taken-none_two (layout_of Three shape) new (start - 12) refl
+    (unread-full (start - 12) (log_block (layout_of Three shape) (start - 12) new)
+    (round-gone (layout_of Three shape) ckpt start new log (gone-from Three shape most ckpt start views wholes end tail old new log is among scan found cleared) (start - 12)
+    (record { aligned = omega (arith, log.place); from = omega arith; below = omega (arith, log.is_layout.many_blocks) })))
+    (tail-gone (layout_of Three shape) ckpt start 4 (start - 12) views tail old new two-not_one log is found cleared (inl refl) (omega (arith, log.place)) (omega arith))
+    (tail-gone (layout_of Three shape) ckpt start 5 (start - 12) views tail old new two-not_one log is found cleared (inr refl) (omega (arith, log.place)) (omega arith))

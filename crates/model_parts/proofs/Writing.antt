@@ -11,10 +11,9 @@ use Rattle.model_device.specs.declared.write.Write.{Write}
 use Rattle.model_device.proofs.Images.{sector-after_write}
 use Rattle.model_device.proofs.Overwritten.{length-overwritten, part-overwritten_inside}
 use Rattle.model_log.specs.declared.group.Whole.{Whole}
-use Rattle.model_log.specs.declared.head.Format.TheVariants.{Two}
 use Rattle.model_log.specs.declared.head.Head.TheVariants.{Good}
 use Rattle.model_log.specs.declared.layout.Layout.{Layout}
-use Rattle.model_log.specs.{block_of, IsBoundary, IsBoundaryBlock, IsInRound, IsTailPlace, log_device_length, other_tail, place_in, place_of, read_checkpoint, read_head, round_of, run_layout, sector_of, spans_of}
+use Rattle.model_log.specs.{block_of, IsBoundary, IsBoundaryBlock, IsInRound, IsTailPlace, log_device_length, other_tail, place_in, place_of, read_checkpoint, read_head, round_of, run_layout, sector_of, spans_of, run_format}
 use Rattle.model_log.proofs.Places.{place-on, sector-place}
 use Rattle.model_log.proofs.Runs.{boundary-reached, data-start}
 use Rattle.model_store.specs.{read_full}
@@ -36,7 +35,7 @@ IsPlaceUpTo s wholes mark p b bytes = IsFullBlock s wholes mark b bytes ⊎ ((p 
 pub record IsWriting (shape : Shape) (s : ℕ) (wholes : List Whole) (marks : LogMarks) (tails : TailMarks) (mark p : ℕ) (disk : Disk) : Type 0 where
   pub holds : LogHoldsWith shape s wholes (after_given mark marks) tails disk
   pub long : log_device_length shape ≤ length disk.reads
-  pub heads : (k : ℕ) → IsHeadPlace k → read_head (sector k disk.reads) ≡ Good Two shape
+  pub heads : (k : ℕ) → IsHeadPlace k → read_head (sector k disk.reads) ≡ Good (run_format shape) shape
   pub later : marks.written ≤ mark
   pub place : IsTailPlace tails.newest
   pub blocks : (b : ℕ) → IsInRound (run_layout shape) marks.ckpt b → IsPlaceUpTo s wholes mark p b (sector (sector_of (run_layout shape) b) disk.reads)

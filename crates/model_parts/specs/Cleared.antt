@@ -1,8 +1,8 @@
 -- The log device while a store is opened: every log block outside a kept range is cleared away, so that none of them can
 -- fit later by its number, and those go that hold only an unfinished group.
-use Rattle.std.specs.Prelude.{ℕ, ◌≡◌, ◌≤◌, ◌<◌, ◌⊎◌, List, Option, Some, None}
+use Rattle.std.specs.Prelude.{ℕ, ◌≡◌, ◌≢◌, ◌≤◌, ◌<◌, ◌⊎◌, List, Option, Some, None}
 use Rattle.model_log.specs.{block_of, IsInRound, IsTailPlace, sector_of}
-use Rattle.model_log.specs.declared.head.Format.TheVariants.{Two}
+use Rattle.model_log.specs.declared.head.Format.TheVariants.{One}
 use Rattle.model_log.specs.declared.layout.Layout.{Layout}
 use Rattle.model_store.specs.{IsTakenTail}
 use Rattle.model_store.specs.declared.tail.Tail.{Tail}
@@ -20,7 +20,7 @@ pub record IsOutside (layout : Layout) (ckpt start b : ℕ) : Type 0 where
 
 -- what is cleared first: each tail block but the one that was taken
 pub record IsStaleTail (layout : Layout) (tail : Option Tail) (k : ℕ) : Type 0 where
-  pub format : layout.format ≡ Two
+  pub format : layout.format ≢ One
   pub place : IsTailPlace k
   pub not_taken : IsTakenTail tail k → ⊥
 

@@ -4,7 +4,7 @@ use Rattle.model_base.specs.declared.shape.Shape.{Shape}
 use Rattle.model_base.specs.declared.limits.TheConstants.{START_LSN}
 use Rattle.model_device.specs.{IsImage}
 use Rattle.model_device.specs.Disk.{Disk}
-use Rattle.model_log.specs.declared.head.Format.TheVariants.{Two}
+use Rattle.model_log.specs.{run_format}
 use Rattle.model_log.specs.declared.layout.TheConstants.{BLOCK_HEADER}
 use Rattle.model_page.specs.{blank_pages}
 use Rattle.model_store.specs.{IsFairLog, IsOrderly, Refuses}
@@ -15,7 +15,7 @@ use Rattle.model_parts.specs.Found.{KeepsHead}
 -- what is read of both: an empty log from the first checkpoint on, and blank pages
 abbrev pub formatted_store : Shape → Reading
 formatted_store shape = record {
-  format = Two;
+  format = run_format shape;
   shape = shape;
   number = 0;
   ckpt = START_LSN;

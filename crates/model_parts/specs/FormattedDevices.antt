@@ -4,8 +4,7 @@ use Rattle.model_base.specs.declared.shape.Shape.{Shape}
 use Rattle.model_base.specs.declared.limits.TheConstants.{BLOCK_SIZE, START_LSN}
 use Rattle.model_device.specs.{sector}
 use Rattle.model_device.specs.Disk.{Disk}
-use Rattle.model_log.specs.{checkpoint_text, head_text, log_device_length, run_layout}
-use Rattle.model_log.specs.declared.head.Format.TheVariants.{Two}
+use Rattle.model_log.specs.{checkpoint_text, head_text, log_device_length, run_format, run_layout}
 use Rattle.model_page.specs.{data_device_length}
 use Rattle.model_parts.specs.AtRest.{IsAtRest}
 use Rattle.model_parts.specs.Held.{IsHeadPlace}
@@ -17,7 +16,7 @@ zero_block = replicate BLOCK_SIZE 0
 -- the bytes of the log device: the header in its two blocks, the first checkpoint, and zeros in all other blocks
 pub record IsFormattedLog (shape : Shape) (bytes : List ℕ) : Type 0 where
   pub long : log_device_length shape ≤ length bytes
-  pub heads : (k : ℕ) → IsHeadPlace k → sector k bytes ≡ head_text Two shape
+  pub heads : (k : ℕ) → IsHeadPlace k → sector k bytes ≡ head_text (run_format shape) shape
   pub checkpoint : sector 1 bytes ≡ checkpoint_text 0 START_LSN (run_layout shape)
   pub blocks : (k : ℕ) → 3 ≤ k → BLOCK_SIZE * k < log_device_length shape → sector k bytes ≡ zero_block
 

@@ -7,8 +7,7 @@ use Rattle.model_device.specs.{AreSectorWrites, IsCovered, sector}
 use Rattle.model_device.specs.Disk.{Disk}
 use Rattle.model_device.specs.MayHold.{MayHold}
 use Rattle.model_log.specs.declared.group.Whole.{Whole}
-use Rattle.model_log.specs.{block_of, fits_checksum, IsAtDataStart, IsBoundary, IsBoundaryBlock, IsInRound, IsRunOf, IsTailPlace, log_device_length, place_of, read_checkpoint, read_head, round_of, run_layout, sector_of, spans_of, turn_of}
-use Rattle.model_log.specs.declared.head.Format.TheVariants.{Two}
+use Rattle.model_log.specs.{block_of, fits_checksum, IsAtDataStart, IsBoundary, IsBoundaryBlock, IsInRound, IsRunOf, IsTailPlace, log_device_length, place_of, read_checkpoint, read_head, round_of, run_format, run_layout, sector_of, spans_of, turn_of}
 use Rattle.model_log.specs.declared.head.Head.TheVariants.{Good}
 use Rattle.model_log.specs.declared.layout.Layout.{Layout}
 use Rattle.model_log.specs.declared.layout.TheConstants.{BLOCK_HEADER}
@@ -111,7 +110,7 @@ IsBeside marks (Some other) = (other.0 < marks.number) ⊎ IsAskedFor marks othe
 pub record LogHoldsWith (shape : Shape) (s : ℕ) (wholes : List Whole) (marks : LogMarks) (tails : TailMarks) (disk : Disk) : Type 0 where
   pub long : log_device_length shape ≤ length disk.base
   pub sectors : AreSectorWrites (length disk.base) disk.writes
-  pub heads : (k : ℕ) → IsHeadPlace k → (bytes : List ℕ) → MayStand disk k bytes → read_head bytes ≡ Good Two shape
+  pub heads : (k : ℕ) → IsHeadPlace k → (bytes : List ℕ) → MayStand disk k bytes → read_head bytes ≡ Good (run_format shape) shape
   pub order : AreInOrder (run_layout shape) s wholes marks
   pub kept : IsKeptMark s wholes marks tails
   pub blocks : (b : ℕ) → IsInRound (run_layout shape) marks.ckpt b → (bytes : List ℕ) → MayStand disk (sector_of (run_layout shape) b) bytes
@@ -131,7 +130,7 @@ pub record LogHolds (shape : Shape) (s : ℕ) (wholes : List Whole) (marks : Log
 -- What reads give while no call has failed is more: the run below the written mark. So a sync makes it the stable one.
 pub record IsWritten (shape : Shape) (s : ℕ) (wholes : List Whole) (marks : LogMarks) (tails : TailMarks) (disk : Disk) : Type 0 where
   pub long : log_device_length shape ≤ length disk.reads
-  pub heads : (k : ℕ) → IsHeadPlace k → read_head (sector k disk.reads) ≡ Good Two shape
+  pub heads : (k : ℕ) → IsHeadPlace k → read_head (sector k disk.reads) ≡ Good (run_format shape) shape
   pub all_given : marks.given ≡ marks.written
   pub place : IsTailPlace tails.newest
   pub blocks : (b : ℕ) → IsInRound (run_layout shape) marks.ckpt b

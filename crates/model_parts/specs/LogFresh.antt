@@ -4,8 +4,7 @@ use Rattle.model_base.specs.declared.limits.TheConstants.{BLOCK_SIZE}
 use Rattle.model_base.specs.declared.shape.Shape.{Shape}
 use Rattle.model_device.specs.{sector, settled}
 use Rattle.model_device.specs.Disk.{Disk}
-use Rattle.model_log.specs.{IsInRound, IsTailPlace, log_device_length, newest_checkpoint, read_head, run_layout, sector_of}
-use Rattle.model_log.specs.declared.head.Format.TheVariants.{Two}
+use Rattle.model_log.specs.{IsInRound, IsTailPlace, log_device_length, newest_checkpoint, read_head, run_format, run_layout, sector_of}
 use Rattle.model_log.specs.declared.head.Head.TheVariants.{Good}
 use Rattle.model_log.specs.declared.layout.TheConstants.{BLOCK_HEADER}
 use Rattle.model_parts.specs.Held.{IsHeadPlace}
@@ -16,7 +15,7 @@ use Rattle.model_store.specs.{read_full, read_tail}
 -- far.
 pub record IsFresh (shape : Shape) (start number : ℕ) (disk : Disk) : Type 0 where
   pub long : log_device_length shape ≤ length disk.reads
-  pub heads : (k : ℕ) → IsHeadPlace k → read_head (sector k disk.reads) ≡ Good Two shape
+  pub heads : (k : ℕ) → IsHeadPlace k → read_head (sector k disk.reads) ≡ Good (run_format shape) shape
   pub nothing_pending : disk ≡ settled disk.reads
   pub newest : newest_checkpoint (run_layout shape) disk.reads ≡ Some (number, start - BLOCK_HEADER)
   pub unread : (b : ℕ) → IsInRound (run_layout shape) (start - BLOCK_HEADER) b

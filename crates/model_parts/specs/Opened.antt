@@ -3,7 +3,7 @@ use Rattle.std.specs.Prelude.{ℕ, ◌≡◌, ◌≤◌, ◌<◌, ◌+◌, ◌-�
 use Rattle.model_device.specs.Disk.{Disk}
 use Rattle.model_log.specs.{layout_of, start_after}
 use Rattle.model_log.specs.declared.head.Format.{Format}
-use Rattle.model_log.specs.declared.head.Format.TheVariants.{One, Two}
+use Rattle.model_log.specs.declared.head.Format.TheVariants.{One, Two, Three}
 use Rattle.model_log.specs.declared.layout.Layout.{Layout}
 use Rattle.model_log.specs.declared.layout.TheConstants.{BLOCK_HEADER}
 use Rattle.model_parts.specs.AtRest.{IsAtRest}
@@ -27,6 +27,7 @@ start_block opened = start_of opened - BLOCK_HEADER
 abbrev pub numbers_taken : Format → ℕ
 numbers_taken One = 2
 numbers_taken Two = 1
+numbers_taken Three = 1
 
 -- the layout by which the store was found
 abbrev pub found_layout : Reading → Layout

@@ -3,8 +3,7 @@ use Rattle.std.specs.Prelude.{ℕ, ◌≡◌, ◌≤◌, ◌<◌, ◌^◌, List,
 use Rattle.std.specs.List.{AllByRecursion}
 use Rattle.model_base.specs.declared.shape.Shape.{Shape}
 use Rattle.model_base.specs.declared.limits.TheConstants.{LSN_LIMIT}
-use Rattle.model_log.specs.{groups_of, IsBoundary, last_span_end, newest_checkpoint, run_layout, spans_of}
-use Rattle.model_log.specs.declared.head.Format.TheVariants.{Two}
+use Rattle.model_log.specs.{groups_of, IsBoundary, last_span_end, newest_checkpoint, run_format, run_layout, spans_of}
 use Rattle.model_log.specs.declared.group.Whole.{Whole}
 use Rattle.model_log.specs.declared.block.BlockView.{BlockView}
 use Rattle.model_store.specs.{HasHead, IsBadRecord, IsScan, IsStorable, Source, taken}
@@ -35,7 +34,7 @@ pub record ScansTo (shape : Shape) (most s : ℕ) (wholes : List Whole) (low hig
 pub record CrashReads (shape : Shape) (s : ℕ) (wholes : List Whole) (marks : LogMarks) (image : List ℕ) : Type 0 where
   pub number : ℕ
   pub ckpt : ℕ
-  pub head : HasHead image Two shape
+  pub head : HasHead image (run_format shape) shape
   pub newest : newest_checkpoint (run_layout shape) image ≡ Some (number, ckpt)
   pub from : marks.ckpt ≤ ckpt
   pub up_to : ckpt ≤ marks.asked

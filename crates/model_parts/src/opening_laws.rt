@@ -1,11 +1,11 @@
 // What holds of every store while it is opened.
-ghost use Rattle.std.specs.Prelude.{◌≡◌, ◌+◌, ℕ, List, [], length, false, Option};
+ghost use Rattle.std.specs.Prelude.{◌≡◌, ◌≢◌, ◌+◌, ℕ, List, [], length, false, Option};
 ghost use Rattle.model_base.specs.{IsWithinLimits};
 ghost use Rattle.model_base.specs.declared.shape.Shape.{Shape};
 ghost use Rattle.model_device.specs.{Crashes, sector, settled};
 ghost use Rattle.model_device.specs.Disk.{Disk};
 ghost use Rattle.model_log.specs.{checkpoint_text, place_of};
-ghost use Rattle.model_log.specs.declared.head.Format.TheVariants.{One, Two};
+ghost use Rattle.model_log.specs.declared.head.Format.TheVariants.{One};
 ghost use Rattle.model_page.specs.declared.content.Content.{Content};
 ghost use Rattle.model_parts.specs.Again.{HasRoom, OpensAgain};
 ghost use Rattle.model_parts.specs.Batch.{Fresh};
@@ -59,11 +59,11 @@ pub fn marking_reads()
         → IsRewritten opened new_data → ReadsOpened opened new_log new_data }
 {}
 
-/// And once it stays, a run can start on the log device, by format 2.
+/// And once it stays, a run can start on the log device, by format 2 or 3.
 pub fn marked_is_fresh()
     ensures { (opened : Reading) (log_bytes data_bytes old_log new_log : List ℕ) (tail : Option Tail)
         → IsOrderly log_bytes data_bytes opened → AreFoundIn (found_layout opened) log_bytes opened.ckpt opened.views tail
-        → sector 2 log_bytes ≡ sector 0 log_bytes → opened.format ≡ Two
+        → sector 2 log_bytes ≡ sector 0 log_bytes → opened.format ≢ One
         → IsCleared (found_layout opened) opened.ckpt (start_of opened) tail log_bytes old_log
         → IsPut (place_of (opened.number + 1)) (checkpoint_text (opened.number + 1) (start_block opened) (found_layout opened))
         old_log new_log

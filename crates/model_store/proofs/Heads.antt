@@ -5,28 +5,47 @@ use Rattle.model_base.specs.declared.shape.Shape.{Shape}
 use Rattle.model_base.specs.declared.limits.TheConstants.{START_LSN}
 use Rattle.model_base.specs.{field, is_within_limits, IsWithinLimits}
 use Rattle.model_base.proofs.ShapeLimits.{is_within_limits_facts}
-use Rattle.model_log.specs.{fits_checksum, format_of, head_among, header_block, is_checkpoint, newer, newest_checkpoint, place_in, place_of, read_checkpoint, read_head, shape_of}
+use Rattle.model_log.specs.{fits_checksum, format_of, has_sizes_of, head_among, header_block, is_checkpoint, newer, newest_checkpoint, place_in, place_of, read_checkpoint, read_head, shape_of}
 use Rattle.model_log.specs.declared.head.Format.{Format}
 use Rattle.model_log.specs.declared.head.Head.{Head}
 use Rattle.model_log.specs.declared.layout.Layout.{Layout}
 use Rattle.model_log.specs.declared.head.Head.TheVariants.{Good, OtherFormat, Unformatted}
 
 -- what is good passed every test
-good_parts : (sum start limits : Bool) (found : Option Format) (n : ℕ) (read shape : Shape) (format : Format)
-    → cond sum (elim found [ None ↦ OtherFormat n | Some named ↦ cond (start && limits) (Good named read) Unformatted ]) Unformatted ≡ Good format shape
-    → (limits ≡ true) × (read ≡ shape)
-good_parts true true true (Some named) n read shape format e = (refl, cc)
-good_parts true true false (Some named) n read shape format e = cc
-good_parts true false limits (Some named) n read shape format e = cc
-good_parts true start limits None n read shape format e = cc
-good_parts false start limits found n read shape format e = cc
+good_named : (start limits sizes : Bool) (named : Format) (read shape : Shape) (format : Format)
+    → cond (start && limits && sizes) (Good named read) Unformatted ≡ Good format shape
+    → (limits ≡ true) × ((sizes ≡ true) × ((named ≡ format) × (read ≡ shape)))
+good_named true true true named read shape format e = (refl, (refl, (cc, cc)))
+good_named true true false named read shape format e = cc
+good_named true false sizes named read shape format e = cc
+good_named false limits sizes named read shape format e = cc
+
+good_parts : (sum start limits : Bool) (sizes : Format → Bool) (found : Option Format) (n : ℕ) (read shape : Shape) (format : Format)
+    → cond sum (elim found [ None ↦ OtherFormat n | Some named ↦ cond (start && limits && sizes named) (Good named read) Unformatted ]) Unformatted ≡ Good format shape
+    → (limits ≡ true) × ((sizes format ≡ true) × (read ≡ shape))
+good_parts true start limits sizes (Some named) n read shape format e =
+    let parts = good_named start limits (sizes named) named read shape format e in
+    (parts.0, (subst (λ (f : Format). sizes f ≡ true) parts.1.1.0 parts.1.0, parts.1.1.1))
+good_parts true start limits sizes None n read shape format e = cc
+good_parts false start limits sizes found n read shape format e = cc
+
+good-tests : (bytes : List ℕ) (format : Format) (shape : Shape) → read_head bytes ≡ Good format shape
+    → (is_within_limits (shape_of bytes) ≡ true) × ((has_sizes_of format (shape_of bytes) ≡ true) × (shape_of bytes ≡ shape))
+unfolding read_head
+good-tests bytes format shape e =
+    good_parts (fits_checksum bytes) (eqb (field 8 8 bytes) START_LSN) (is_within_limits (shape_of bytes)) (λ (f : Format). has_sizes_of f (shape_of bytes)) (format_of (field 4 0 bytes)) (field 4 0 bytes) (shape_of bytes) shape format e
 
 -- a header that is good names sizes that a store may have
 pub good-limits : (bytes : List ℕ) (format : Format) (shape : Shape) → read_head bytes ≡ Good format shape → IsWithinLimits shape
-unfolding read_head
 good-limits bytes format shape e =
-    let parts = good_parts (fits_checksum bytes) (eqb (field 8 8 bytes) START_LSN) (is_within_limits (shape_of bytes)) (format_of (field 4 0 bytes)) (field 4 0 bytes) (shape_of bytes) shape format e in
-    subst (λ (s : Shape). IsWithinLimits s) parts.1 (is_within_limits_facts (shape_of bytes) parts.0)
+    let parts = good-tests bytes format shape e in
+    subst (λ (s : Shape). IsWithinLimits s) parts.1.1 (is_within_limits_facts (shape_of bytes) parts.0)
+
+-- and these are sizes of its format
+pub good-sizes : (bytes : List ℕ) (format : Format) (shape : Shape) → read_head bytes ≡ Good format shape → has_sizes_of format shape ≡ true
+good-sizes bytes format shape e =
+    let parts = good-tests bytes format shape e in
+    subst (λ (s : Shape). has_sizes_of format s ≡ true) parts.1.1 parts.1.0
 
 either-head : (sound : Bool) (first second head : Head) → cond sound first second ≡ head → (first ≡ head) ⊎ (second ≡ head)
 either-head true first second head is = inl is
@@ -36,6 +55,11 @@ either-head false first second head is = inr is
 pub head-limits : (first second : List ℕ) (format : Format) (shape : Shape) → head_among first second ≡ Good format shape → IsWithinLimits shape
 head-limits first second format shape is =
     ⊎_elim (λ one. good-limits first format shape one) (λ two. good-limits second format shape two)
+    (either-head (fits_checksum first) (read_head first) (read_head second) (Good format shape) is)
+
+pub head-sizes : (first second : List ℕ) (format : Format) (shape : Shape) → head_among first second ≡ Good format shape → has_sizes_of format shape ≡ true
+head-sizes first second format shape is =
+    ⊎_elim (λ one. good-sizes first format shape one) (λ two. good-sizes second format shape two)
     (either-head (fits_checksum first) (read_head first) (read_head second) (Good format shape) is)
 
 checkpoint_parts : (a b : Bool) (lsn : ℕ) (f : Bool) → (a && b && eqb (lsn % 512) 0 && leb START_LSN lsn && ltb lsn (2 ^ 60) && f) ≡ true

@@ -8,7 +8,7 @@ use Rattle.model_base.specs.{IsWithinLimits}
 use Rattle.model_log.specs.{data_of, header_block, is_full, IsLayout, layout_of, log_block, log_device_length, place_in, read_block, ring_start, round_of, turn_of}
 use Rattle.model_log.specs.declared.block.BlockView.{BlockView}
 use Rattle.model_log.specs.declared.head.Format.{Format}
-use Rattle.model_log.specs.declared.head.Format.TheVariants.{One, Two}
+use Rattle.model_log.specs.declared.head.Format.TheVariants.{One, Two, Three}
 use Rattle.model_log.specs.declared.layout.Layout.{Layout}
 use Rattle.model_log.specs.declared.layout.TheConstants.{BLOCK_DATA}
 use Rattle.model_log.proofs.Layouts.{has-blocks, is_layout_of}
@@ -121,6 +121,8 @@ unread-among : (format : Format) (lsn : ℕ) (place four five : List ℕ) → re
 unread-among One lsn place four five no_place no_four no_five = ap (taken_from place) no_place
 unread-among Two lsn place four five no_place no_four no_five =
     among-none lsn place four five (unread-full lsn place no_place) (unread-tail lsn four no_four) (unread-tail lsn five no_five)
+unread-among Three lsn place four five no_place no_four no_five =
+    among-none lsn place four five (unread-full lsn place no_place) (unread-tail lsn four no_four) (unread-tail lsn five no_five)
 
 -- in either where none of the three blocks fits
 pub taken-none : (layout : Layout) (image : List ℕ) (lsn : ℕ) → read_block lsn (log_block layout lsn image) ≡ None
@@ -170,6 +172,8 @@ among-off : (format : Format) (lsn : ℕ) (place four five : List ℕ) (block : 
 among-off One lsn place four five block long long_four long_five is = read-off lsn place (read_block lsn place) block long (λ view at. at) is
 among-off Two lsn place four five block long long_four long_five is =
     place-off lsn place four five (read_full lsn place) block long long_four long_five (λ view at. (from-full (read_block lsn place) view at).0) is
+among-off Three lsn place four five block long long_four long_five is =
+    place-off lsn place four five (read_full lsn place) block long long_four long_five (λ view at. (from-full (read_block lsn place) view at).0) is
 
 limit-off : (t : Bool) (x : Option Taken) (block : Taken) → cond t x None ≡ Some block → x ≡ Some block
 limit-off true x block is = is
@@ -215,6 +219,7 @@ log-sound layout image is_layout long =
 ring-ends : (format : Format) (shape : Shape) → MIN_LOG_BLOCKS ≤ shape.log_blocks → ring_start (layout_of format shape) + round_of (layout_of format shape) ≡ log_device_length shape
 ring-ends One shape many = omega arith
 ring-ends Two shape many = omega arith
+ring-ends Three shape many = omega arith
 
 pub store-sound : (format : Format) (shape : Shape) (image : List ℕ) → IsWithinLimits shape → log_device_length shape ≤ length image
     → IsSoundSource (taken (layout_of format shape) image)

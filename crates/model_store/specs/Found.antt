@@ -1,8 +1,8 @@
 -- Where the blocks stand that the scan of a log took: in their places, but the last of them may stand in a tail block.
-use Rattle.std.specs.Prelude.{ℕ, suc, ◌≡◌, ◌<◌, List, length, Option, Some, None}
+use Rattle.std.specs.Prelude.{ℕ, suc, ◌≡◌, ◌≢◌, ◌<◌, List, length, Option, Some, None}
 use Rattle.model_log.specs.{header_block, IsTailPlace, log_block, lsn_at}
 use Rattle.model_log.specs.declared.block.BlockView.{BlockView}
-use Rattle.model_log.specs.declared.head.Format.TheVariants.{Two}
+use Rattle.model_log.specs.declared.head.Format.TheVariants.{One}
 use Rattle.model_log.specs.declared.layout.Layout.{Layout}
 use Rattle.model_store.specs.Scan.{taken_from}
 use Rattle.model_store.specs.Taking.{read_full, read_tail, taken}
@@ -15,7 +15,7 @@ AreInPlace layout image ckpt n =
 
 -- the last of the blocks that the scan took stands in the tail block, and the others in their places
 pub record IsInTail (layout : Layout) (image : List ℕ) (ckpt : ℕ) (views : List BlockView) (tail : Tail) : Type 0 where
-  pub format : layout.format ≡ Two
+  pub format : layout.format ≢ One
   pub place : IsTailPlace tail.which
   pub last : ℕ
   pub is_last : suc last ≡ length views
@@ -28,7 +28,7 @@ pub record IsInTail (layout : Layout) (image : List ℕ) (ckpt : ℕ) (views : L
 
 -- where the blocks stand that the scan took
 abbrev pub AreFoundIn : Layout → List ℕ → ℕ → List BlockView → Option Tail → Type 0
-AreFoundIn layout image ckpt views None = layout.format ≡ Two → AreInPlace layout image ckpt (length views)
+AreFoundIn layout image ckpt views None = layout.format ≢ One → AreInPlace layout image ckpt (length views)
 AreFoundIn layout image ckpt views (Some tail) = IsInTail layout image ckpt views tail
 
 -- the block is that tail block

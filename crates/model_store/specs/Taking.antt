@@ -1,11 +1,12 @@
--- Which block the scan of a log device takes at an lsn. In format 1 it is the one in its place, if it fits. In format 2 it
--- is the one in its place, if it fits and is full; else of the tail blocks that fit the one with the greater length.
+-- Which block the scan of a log device takes at an lsn. In format 1 it is the one in its place, if it fits. In formats
+-- 2 and 3 it is the one in its place, if it fits and is full; else of the tail blocks that fit the one with the greater
+-- length.
 use Rattle.std.specs.Prelude.{ℕ, ◌==◌, nat_lt, if◌then◌else◌, List, Option, Some, None}
 use Rattle.model_base.specs.declared.limits.TheConstants.{LSN_LIMIT}
 use Rattle.model_log.specs.{header_block, is_full, log_block, read_block, turn_of}
 use Rattle.model_log.specs.declared.block.BlockView.{BlockView}
 use Rattle.model_log.specs.declared.head.Format.{Format}
-use Rattle.model_log.specs.declared.head.Format.TheVariants.{One, Two}
+use Rattle.model_log.specs.declared.head.Format.TheVariants.{One, Two, Three}
 use Rattle.model_log.specs.declared.layout.Layout.{Layout}
 use Rattle.model_store.specs.Scan.{Source, Taken, taken_from}
 
@@ -43,6 +44,8 @@ in_place_or bytes (Some view) tail = taken_from bytes (Some view)
 abbrev pub taken_among : Format → ℕ → List ℕ → List ℕ → List ℕ → Option Taken
 taken_among One lsn place four five = taken_from place (read_block lsn place)
 taken_among Two lsn place four five =
+    in_place_or place (read_full lsn place) (longer four five (read_tail lsn four) (read_tail lsn five))
+taken_among Three lsn place four five =
     in_place_or place (read_full lsn place) (longer four five (read_tail lsn four) (read_tail lsn five))
 
 -- what the scan of a log device takes: none at the lsn limit or above
