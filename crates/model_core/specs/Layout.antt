@@ -6,7 +6,28 @@ use Rattle.model_core.specs.declared.words.Word.{Word}
 use Rattle.model_core.specs.declared.words.Word.TheVariants as word
 use Rattle.model_core.specs.declared.limits.TheConstants.{BUFFER_BLOCKS, BUFFER_WORDS, WRITTEN_LINKS, CLOSED_LINKS, FLUSH_LISTS, READERS, WORD_LANES}
 
--- where each kind of word begins
+-- where each word stands of which there is one, and where each kind of word begins
+abbrev pub sn_at : ℕ
+sn_at = 0
+
+abbrev pub write_at : ℕ
+write_at = 1
+
+abbrev pub wtail_at : ℕ
+wtail_at = 2
+
+abbrev pub flushed_at : ℕ
+flushed_at = 3
+
+abbrev pub ckpt_at : ℕ
+ckpt_at = 4
+
+abbrev pub ctail_at : ℕ
+ctail_at = 5
+
+abbrev pub failed_at : ℕ
+failed_at = 6
+
 abbrev pub device_at : ℕ
 device_at = 7
 
@@ -42,14 +63,14 @@ abbrev pub page_stride : Layout → ℕ
 page_stride layout = frame_at + frame_words layout.page_size
 
 abbrev pub index : Layout → Word → ℕ
-index layout word.Sn = 0
-index layout word.Write = 1
-index layout word.Wtail = 2
-index layout word.Flushed = 3
-index layout word.Ckpt = 4
-index layout word.Ctail = 5
-index layout word.Failed = 6
-index layout word.Device = 7
+index layout word.Sn = sn_at
+index layout word.Write = write_at
+index layout word.Wtail = wtail_at
+index layout word.Flushed = flushed_at
+index layout word.Ckpt = ckpt_at
+index layout word.Ctail = ctail_at
+index layout word.Failed = failed_at
+index layout word.Device = device_at
 index layout (word.List i) = lists_at + i
 index layout (word.Wlink i) = written_links_at + i
 index layout (word.Clink i) = closed_links_at + i

@@ -64,7 +64,7 @@ pub use Rattle.model_core.specs.Stream.{IsBound, IsLent, Tiles, byte_at, crosses
 pub use Rattle.model_core.specs.Lanes.{cell_of, lane_of, left_in_word}
 pub use Rattle.model_core.specs.Packing.{frame_bytes, framed_page, byte_in}
 unfoldable pub use Rattle.model_core.specs.Packing.{lane, lanes, packed}
-pub use Rattle.model_core.specs.Layout.{PageWords, SharedWords, cells_at, closed_links_at, firsts_at, flat, flat_page_words, frame_words, index, page_stride, pages_at, rows}
+pub use Rattle.model_core.specs.Layout.{PageWords, SharedWords, cells_at, ckpt_at, closed_links_at, firsts_at, flat, flat_page_words, flushed_at, frame_words, index, page_stride, pages_at, rows, sn_at, write_at, wtail_at}
 pub use Rattle.model_core.specs.Sizes.{IsSized, blank_words, page_words_at}
 pub use Rattle.model_core.specs.NamedWords.{IsWord, read, with_page_words, word_count, wrote}
 pub use Rattle.model_core.specs.Lsn.{ceiling, floor}
